@@ -1,0 +1,5 @@
+-- Document 01, "The bundle handed in": reading a bundle's words (1, 3), what an object word states (4), a bundle written.
+-- Assumes nothing.
+pub mod Bundle
+pub mod Encoding
+pub mod Written
