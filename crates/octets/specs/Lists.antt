@@ -1,6 +1,6 @@
 -- Lists of anything: joined, filtered, tested, summed.
 -- Assumes nothing.
-use mathlib.Core.Bool.{Bool, true, false, _&&_, _||_}
+use mathlib.Core.Bool.{Bool, true, false, not}
 use mathlib.Core.List.{List, [], _∷_, _++_}
 use Prim.Native.Nat.{ℕ, suc, _+_}
 use lib.Dec.{eqb}
@@ -40,3 +40,7 @@ has ns x = any (eqb x) ns
 unfoldable pub distinct : List ℕ → Bool
 distinct [] = true
 distinct (n ∷ ns) = elim (has ns n) [ true ↦ false | false ↦ distinct ns ]
+
+-- both numbers are zero or both are not
+unfoldable pub zeroTogether : ℕ → ℕ → Bool
+zeroTogether a b = elim (eqb a 0) [ true ↦ eqb b 0 | false ↦ not (eqb b 0) ]

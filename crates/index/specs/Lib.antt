@@ -1,0 +1,7 @@
+-- Document 01, "Rows of an input that is a package" and "The index written": indexes of both forms, probing, rows judged, an index written.
+-- Assumes nothing.
+pub mod Columns
+pub mod Index
+pub mod Probing
+pub mod Rows
+pub mod Written

@@ -1,0 +1,86 @@
+-- A unit, read from the part of its section that starts at it: header (11), identity (12), identity 0 (13).
+-- Assumes nothing.
+use mathlib.Core.Bool.{Bool, true, false, not, _||_}
+use mathlib.Core.List.{List}
+use Prim.Native.Nat.{ℕ, _+_}
+use lib.Dec.{eqb, leb, ltb}
+use lib.ListN.{length, take, drop, getD}
+use Rattle.octets.specs.Octets.{numberAt}
+use Rattle.octets.specs.Checked.{Check, pass, refuse, _>>=_, require}
+use Rattle.bundle.specs.Encoding.{Encoding}
+use Rattle.unit.specs.Root.{rootIdentity}
+
+-- the table that a unit is handed in for, 1 compilation or 2 type, and its identity
+pub record Identity : Type 0 where
+  pub table : ℕ
+  pub identity : ℕ
+
+pub record UnitRead : Type 0 where
+  pub size : ℕ
+  pub table : ℕ
+  pub identity : ℕ
+
+-- the bytes of the length field
+unfoldable pub lengthField : Encoding → ℕ
+lengthField e = elim (eqb (e .width) 4) [ true ↦ 4 | false ↦ 12 ]
+
+-- the size of the whole unit; FFFFFFFF starts width 8, FFFFFFF0 to FFFFFFFE are refused
+unfoldable pub unitSize : Encoding → List ℕ → Check ℕ
+unitSize e s = do
+  _ ← require (leb (lengthField e) (length s)) 11
+  let word = numberAt (e .big) 4 s 0
+  elim (eqb (e .width) 4) [
+    | true ↦ require (ltb word 0xFFFF_FFF0) 11 >>= λ _. pass (4 + word)
+    | false ↦ require (eqb word 0xFFFF_FFFF) 11 >>= λ _. pass (12 + numberAt (e .big) 8 s 4)
+  ]
+
+-- the header fields common to all types. Version 4: version, abbrev offset, address size. Version 5: version, type, address size, abbrev offset
+unfoldable pub isFive : Encoding → Bool
+isFive e = eqb (e .version) 5
+
+unfoldable pub addressPlace : Encoding → ℕ
+addressPlace e = elim (isFive e) [ true ↦ lengthField e + 3 | false ↦ lengthField e + 2 + e .width ]
+
+unfoldable pub commonSize : Encoding → ℕ
+commonSize e = elim (isFive e) [ true ↦ lengthField e + 4 + e .width | false ↦ lengthField e + 3 + e .width ]
+
+-- a number of 8 bytes behind the common fields; so many bytes of header follow them
+unfoldable pub behindCommon : Encoding → ℕ → ℕ → List ℕ → Check Identity
+behindCommon e table n u = do
+  _ ← require (leb (commonSize e + n) (length u)) 11
+  pass (record { table = table; identity = numberAt (e .big) 8 u (commonSize e) })
+
+-- version 5: types 4 and 5 carry a compilation identity, 2 and 6 a type signature and a type offset; other types give 12
+unfoldable pub identityFive : Encoding → ℕ → List ℕ → Check Identity
+identityFive e type u =
+    elim (eqb type 4 || eqb type 5) [
+      | true ↦ behindCommon e 1 8 u
+      | false ↦ elim (eqb type 2 || eqb type 6) [ true ↦ behindCommon e 2 (8 + e .width) u | false ↦ refuse 12 ]
+    ]
+
+-- version 4: in info the root's, in types the signature, with a type offset behind it
+unfoldable pub identityFour : Encoding → ℕ → List ℕ → List ℕ → Check Identity
+identityFour e home abbreviations u =
+    elim (eqb home 1) [
+      | true ↦ rootIdentity e (drop (numberAt (e .big) (e .width) u (lengthField e + 2)) abbreviations) (drop (commonSize e) u)
+          >>= λ x. pass (record { table = 1; identity = x })
+      | false ↦ behindCommon e 2 (8 + e .width) u
+    ]
+
+-- home is the section's code, 1 info or 2 types; u is the unit's own bytes
+unfoldable pub identityOf : Encoding → ℕ → List ℕ → List ℕ → Check Identity
+identityOf e home abbreviations u =
+    elim (isFive e) [ true ↦ identityFive e (getD u (lengthField e + 2) 0) u | false ↦ identityFour e home abbreviations u ]
+
+-- s is the section from the unit's start on
+unfoldable pub unitOf : Encoding → ℕ → List ℕ → List ℕ → Check UnitRead
+unitOf e home abbreviations s = do
+  size ← unitSize e s
+  _ ← require (leb size (length s)) 11
+  let u = take size s
+  _ ← require (leb (commonSize e) (length u)) 11
+  _ ← require (eqb (numberAt (e .big) 2 u (lengthField e)) (e .version)) 11
+  _ ← require (eqb (getD u (addressPlace e) 0) (e .address)) 11
+  i ← identityOf e home abbreviations u
+  _ ← require (not (eqb (i .identity) 0)) 13
+  pass (record { size = size; table = i .table; identity = i .identity })
