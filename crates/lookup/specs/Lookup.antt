@@ -13,7 +13,7 @@ use Rattle.bundle.specs.Bundle.{Part, Object, Bundle, bundleOf, lengthGood, cou
 use Rattle.bundle.specs.Encoding.{Encoding, encodingOf, encodingGood}
 use Rattle.strings.specs.Strings.{stringAt}
 use Rattle.index.specs.Index.{Index, Contribution, indexOf, cellOf}
-use Rattle.index.specs.Probing.{Probe, probe} as probing
+use Rattle.index.specs.Probing.{Probe, probe, found as at, absent as nowhere}
 
 pub data Found : Type 0 where
   refused : ℕ → Found
@@ -21,3 +21,130 @@ pub data Found : Type 0 where
   absent : ℕ → Found
   -- start in the package, length, looks; start 0 where the column is missing
   part : ℕ → ℕ → ℕ → Found
+
+-- a package, with its one object's encoding and sections, if it has one
+pub record Package : Type 0 where
+  pub encoding : Encoding
+  pub parts : List Part
+  pub cuIndex : Option Index
+  pub tuIndex : Option Index
+
+unfoldable pub codes : List ℕ
+codes = 1 ∷ 2 ∷ 3 ∷ 4 ∷ 5 ∷ 6 ∷ 7 ∷ 8 ∷ 9 ∷ 10 ∷ 11 ∷ 12 ∷ 13 ∷ []
+
+-- an index that is there, "ill-formed by the form that its start names"
+unfoldable pub packageIndex : Bool → List ℕ → List Part → ℕ → Check (Option Index)
+packageIndex big p ps c =
+    elim (firstPart ps c) [ some s ↦ renumbered 21 (indexOf big (body p ps c)) >>= λ i. pass (some i) | none ↦ pass none ]
+
+-- 21: an object word that 4 refuses, a repeated section, or an index ill-formed
+unfoldable pub objectJudged : Bool → List ℕ → Object → Check Package
+objectJudged big p o = do
+  let e = encodingOf big (o .word)
+  _ ← require (encodingGood e) 21
+  _ ← require (all (λ c. leb (count (o .parts) c) 1) codes) 21
+  cu ← packageIndex big p (o .parts) 12
+  tu ← packageIndex big p (o .parts) 13
+  pass (record { encoding = e; parts = o .parts; cuIndex = cu; tuIndex = tu })
+
+-- 21: more than one object
+unfoldable pub objectsJudged : Bool → List ℕ → List Object → Check Package
+objectsJudged big p [] = pass (record { encoding = encodingOf big 0; parts = []; cuIndex = none; tuIndex = none })
+objectsJudged big p (o ∷ []) = objectJudged big p o
+objectsJudged big p (o ∷ q ∷ os) = refuse 21
+
+-- 21: the length, the word format
+unfoldable pub packageOf : List ℕ → Check Package
+packageOf p = do
+  _ ← require (lengthGood 117_440_512 p) 21
+  b ← renumbered 21 (bundleOf p)
+  objectsJudged (b .big) p (b .objects)
+
+-- 22: the version given is 2 or 5, and that of each index present
+unfoldable pub hasVersion : ℕ → Option Index → Bool
+hasVersion version (some i) = eqb (i .version) version
+hasVersion version none = true
+
+unfoldable pub versionGood : Package → ℕ → Bool
+versionGood k version = (eqb version 2 || eqb version 5) && hasVersion version (k .cuIndex) && hasVersion version (k .tuIndex)
+
+-- 23: table 1, compilation, or 2, type
+unfoldable pub tableGood : ℕ → Bool
+tableGood table = eqb table 1 || eqb table 2
+
+unfoldable pub indexFor : Package → ℕ → Option Index
+indexFor k table = elim (eqb table 1) [ true ↦ k .cuIndex | false ↦ k .tuIndex ]
+
+-- a place in the package
+pub record Place : Type 0 where
+  pub start : ℕ
+  pub size : ℕ
+
+-- 24: a part ends outside its section, or the column's section is missing in the package
+unfoldable pub placeIn : Option Part → Contribution → Check Place
+placeIn none c = refuse 24
+placeIn (some s) c = do
+  _ ← require (leb (c .offset + c .size) (s .size)) 24
+  pass (record { start = s .start + c .offset; size = c .size })
+
+-- "a missing column an empty part"
+unfoldable pub cellPlace : List Part → ℕ → Option Contribution → Check Place
+cellPlace ps code none = pass (record { start = 0; size = 0 })
+cellPlace ps code (some c) = placeIn (firstPart ps code) c
+
+unfoldable pub partPlace : Package → Index → ℕ → ℕ → Check Place
+partPlace k i row code = cellPlace (k .parts) code (cellOf i row code)
+
+-- what is found at the row where a search ends
+unfoldable pub atRow : Index → Probe → (ℕ → Check Place) → Check Found
+atRow i (nowhere looks) answer = pass (absent looks)
+atRow i (at slot looks) answer = answer (getD (i .rows) slot 0) >>= λ p. pass (part (p .start) (p .size) looks)
+
+-- "A missing index gives absent after 0 looks"
+unfoldable pub inTable : Option Index → ℕ → (Index → ℕ → Check Place) → Check Found
+inTable none identity answer = pass (absent 0)
+inTable (some i) identity answer = atRow i (probe i identity) (answer i)
+
+-- "A refusal returns an empty part and 0 looks."
+unfoldable pub answered : Check Found → Found
+answered (pass f) = f
+answered (refuse n) = refused n
+
+unfoldable pub partJudged : List ℕ → ℕ → ℕ → ℕ → ℕ → Check Found
+partJudged p version table identity code = do
+  k ← packageOf p
+  _ ← require (versionGood k version) 22
+  _ ← require (tableGood table && leb 1 code && leb code 10) 23
+  inTable (indexFor k table) identity (λ i row. partPlace k i row code)
+
+unfoldable pub lookedUp : List ℕ → ℕ → ℕ → ℕ → ℕ → Found
+lookedUp p version table identity code = answered (partJudged p version table identity code)
+
+-- ---- strings
+-- "in version 5 entries start behind the header's 8 or 16 bytes, which are not judged"
+unfoldable pub entriesStart : ℕ → Encoding → ℕ
+entriesStart version e = elim (eqb version 5) [ true ↦ e .width + e .width | false ↦ 0 ]
+
+unfoldable pub startOf : Option Part → ℕ
+startOf (some s) = s .start
+startOf none = 0
+
+-- 25, no such entry in the str_offsets part; 26, no string there
+unfoldable pub stringPlace : List ℕ → Package → ℕ → ℕ → Place → Check Place
+stringPlace p k version entry s = do
+  let width = k .encoding .width
+  let first = entriesStart version (k .encoding)
+  _ ← require (ltb entry ((s .size - first) / width)) 25
+  let offset = numberAt (k .encoding .big) width p (s .start + first + entry * width)
+  string ← stringAt 26 (body p (k .parts) 11) offset
+  pass (record { start = startOf (firstPart (k .parts) 11) + offset; size = length string })
+
+unfoldable pub stringJudged : List ℕ → ℕ → ℕ → ℕ → ℕ → Check Found
+stringJudged p version table identity entry = do
+  k ← packageOf p
+  _ ← require (versionGood k version) 22
+  _ ← require (tableGood table) 23
+  inTable (indexFor k table) identity (λ i row. partPlace k i row 6 >>= stringPlace p k version entry)
+
+unfoldable pub stringFound : List ℕ → ℕ → ℕ → ℕ → ℕ → Found
+stringFound p version table identity entry = answered (stringJudged p version table identity entry)

@@ -67,15 +67,15 @@ unitAt i bases earlier here home at s = do
     | false ↦ contributionsOf i here home at u
   ]
   pass
-    (record {
-      table = u .table;
-      identity = u .identity;
-      home = home;
-      bytes = take (u .size) s;
-      input = i;
-      contributions = contributions;
-      bases = bases;
-    })
+      (record {
+        table = u .table;
+        identity = u .identity;
+        home = home;
+        bytes = take (u .size) s;
+        input = i;
+        contributions = contributions;
+        bases = bases;
+      })
 
 -- the units of a section, behind those of this object that are filed; the first argument bounds the number of steps
 unfoldable pub unitsFrom : ℕ → Input → BySection ℕ → List Filed → List Filed → ℕ → ℕ → List ℕ → Check (List Filed)

@@ -40,21 +40,22 @@ valueOf e form s =
       | false ↦ plainValue e form s
     ]
 
--- an attribute's identity, where it is the one that states it
+-- the identity once an attribute is passed: only the first attribute 2131 states it
 unfoldable pub identityAt : Encoding → ℕ → Value → List ℕ → Option ℕ → Check (Option ℕ)
-identityAt e name v s later =
+identityAt e name v s (some x) = pass (some x)
+identityAt e name v s none =
     elim (eqb name 0x2131) [
       | true ↦ require (eqb (v .form) 7) 12 >>= λ _. pass (some (numberAt (e .big) 8 s (v .start)))
-      | false ↦ pass later
+      | false ↦ pass none
     ]
 
--- the identity that the first attribute 2131 states; all values end in s
-unfoldable pub identityIn : Encoding → List Attribute → List ℕ → Check (Option ℕ)
-identityIn e [] s = pass none
-identityIn e (a ∷ «as») s = do
+-- the identity that attributes state, whose values all end in s, where those before them state seen
+unfoldable pub identityIn : Encoding → List Attribute → List ℕ → Option ℕ → Check (Option ℕ)
+identityIn e [] s seen = pass seen
+identityIn e (a ∷ «as») s seen = do
   v ← valueOf e (a .form) s
-  later ← identityIn e «as» (drop (v .start + v .size) s)
-  identityAt e (a .name) v s later
+  x ← identityAt e (a .name) v s seen
+  identityIn e «as» (drop (v .start + v .size) s) x
 
 -- the root's tag is a compile or a type unit's
 unfoldable pub rootTag : ℕ → Bool
@@ -67,5 +68,5 @@ rootIdentity e table s = do
   code ← unsigned s
   root ← needed (declarationOf ds (code .0))
   _ ← require (rootTag (root .tag)) 12
-  found ← identityIn e (root .attributes) (drop (code .1) s)
+  found ← identityIn e (root .attributes) (drop (code .1) s) none
   needed found
