@@ -2,4 +2,5 @@
 -- Assumes nothing.
 pub mod Bundle
 pub mod Encoding
+pub mod Encoded
 pub mod Written

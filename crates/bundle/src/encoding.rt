@@ -1,0 +1,65 @@
+// What an object word states, in a form that holds only what refusal 4 lets pass.
+ghost use mathlib.Core.Path.{_≡_};
+ghost use Rattle.bundle.specs.Encoded.{encodingIs, wordRead};
+ghost use Rattle.bundle.specs.Encoding.{Encoding, encodingOf};
+
+// The byte order of the data, version 5 or else 4, offsets of 8 bytes or else 4, addresses of 8 bytes or else 4.
+pub struct ObjectEncoding {
+    pub big: bool,
+    pub five: bool,
+    pub wide: bool,
+    pub long: bool,
+}
+
+pub enum WordRead {
+    Good(ObjectEncoding),
+    // refusal 4
+    Bad,
+}
+
+pub fn version(e: ObjectEncoding) -> u32
+    ensures { λ r. ⌜ r ≡ encodingIs e .version ⌝ }
+{
+    if e.five { 5 } else { 4 }
+}
+
+pub fn width(e: ObjectEncoding) -> usize
+    ensures { λ r. ⌜ r ≡ encodingIs e .width ⌝ }
+{
+    if e.wide { 8 } else { 4 }
+}
+
+pub fn address(e: ObjectEncoding) -> usize
+    ensures { λ r. ⌜ r ≡ encodingIs e .address ⌝ }
+{
+    if e.long { 8 } else { 4 }
+}
+
+pub fn read_word(big: bool, word: u32) -> WordRead
+    ensures { λ r. ⌜ r ≡ wordRead (encodingOf big word) ⌝ }
+{
+    let version = word % 256;
+    let width = word / 256 % 256;
+    let address = word / 0x1_0000 % 256;
+    if version != 4 {
+        if version != 5 {
+            return WordRead::Bad;
+        }
+    }
+    if width != 4 {
+        if width != 8 {
+            return WordRead::Bad;
+        }
+    }
+    if address != 4 {
+        if address != 8 {
+            return WordRead::Bad;
+        }
+    }
+    WordRead::Good(ObjectEncoding {
+        big,
+        five: version == 5,
+        wide: width == 8,
+        long: address == 8,
+    })
+}
