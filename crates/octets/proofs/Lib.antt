@@ -2,3 +2,5 @@
 -- Assumes nothing.
 pub mod Checks
 pub mod Parts
+pub mod Numbers
+pub mod Tables
