@@ -4,3 +4,6 @@ pub mod Checks
 pub mod Parts
 pub mod Numbers
 pub mod Tables
+pub mod Placed
+pub mod Regions
+pub mod Lists
