@@ -7,3 +7,5 @@ pub mod Tables
 pub mod Placed
 pub mod Regions
 pub mod Lists
+pub mod Elements
+pub mod Joined
