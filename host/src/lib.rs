@@ -1,0 +1,7 @@
+//! The host of the verified packer: what is needed to test it from outside.
+//!
+//! `reference` says what document 01 says, in plain Rust written from the document alone. `vectors` reads questions with
+//! their answers.
+
+pub mod reference;
+pub mod vectors;
