@@ -14,6 +14,7 @@ mod strings;
 mod unit;
 
 pub use bundle::{Bundle, Encoding, Object, Section};
+pub use bytes::{number, put};
 pub use index::{place, slot_count, Index, Probe};
 pub use lookup::{lookup, lookup_string, Found};
 pub use pack::{pack, Packed, LONGEST_BUNDLE};

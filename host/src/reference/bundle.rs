@@ -59,7 +59,7 @@ impl<'a> Object<'a> {
 
 /// What 1 and 21 ask of a length.
 pub fn length_is_good(length: usize, most: usize) -> bool {
-    (8..=most).contains(&length) && length % 4 == 0
+    (8..=most).contains(&length) && length.is_multiple_of(4)
 }
 
 fn word(bytes: &[u8], at: usize) -> Option<u32> {
