@@ -5,7 +5,7 @@
 //! ones it is only counted what thorin says.
 
 use barthovin::generate::{call, Random};
-use barthovin::reference::{pack, Packed};
+use barthovin::reference::{pack, Bundle, Packed};
 use std::collections::BTreeMap;
 use std::io::{Read, Write};
 use std::process::{ChildStdin, ChildStdout, Command, Stdio};
@@ -41,11 +41,30 @@ struct Tally {
     counts: BTreeMap<u32, [u64; 3]>,
     differences: u64,
     smallest: Option<Vec<u8>>,
+    /// Accepted bundles of several objects, with an index, and with a type skipped.
+    several: u64,
+    indexed: u64,
+    skipped: u64,
+}
+
+/// The bytes of all units of a bundle.
+fn unit_bytes(bundle: &Bundle) -> usize {
+    let sections = bundle.objects.iter().flat_map(|o| &o.sections);
+    sections.filter(|s| s.code <= 2).map(|s| s.bytes.len()).sum()
 }
 
 impl Tally {
     fn note(&mut self, number: u32, tag: u8) {
         self.counts.entry(number).or_default()[usize::from(tag.min(2))] += 1;
+    }
+
+    /// What kind of accepted bundle it is.
+    fn note_kind(&mut self, bundle: &[u8], package: &[u8]) {
+        let (Some(bundle), Some(package)) = (Bundle::read(bundle), Bundle::read(package)) else { return };
+        let indexed = bundle.objects.iter().any(|o| o.count(12) + o.count(13) > 0);
+        self.several += u64::from(bundle.objects.len() > 1);
+        self.indexed += u64::from(indexed);
+        self.skipped += u64::from(unit_bytes(&package) < unit_bytes(&bundle));
     }
 
     fn differs(&mut self, bundle: Vec<u8>) {
@@ -60,6 +79,8 @@ impl Tally {
         for (number, [package, error, panic]) in &self.counts {
             println!("{number:6} {package:8} {error:8} {panic:8}");
         }
+        let (several, indexed, skipped) = (self.several, self.indexed, self.skipped);
+        println!("accepted: {several} of several objects, {indexed} with an index, {skipped} with a type skipped");
         println!("{} accepted bundles differ", self.differences);
         if let Some(bundle) = &self.smallest {
             let word = |w: &[u8]| format!("{:08X}", w.iter().rev().fold(0u32, |v, b| v << 8 | u32::from(*b)));
@@ -80,6 +101,7 @@ fn compare(oracle: &mut Oracle, wanted: u64, seed: u64) -> std::io::Result<Tally
             Packed::Made(package) => {
                 accepted += 1;
                 tally.note(0, tag);
+                tally.note_kind(&bundle, &package);
                 if tag != 0 || bytes != package {
                     tally.differs(bundle);
                 }
