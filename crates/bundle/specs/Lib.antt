@@ -3,3 +3,4 @@
 pub mod Bundle
 pub mod Encoding
 pub mod Written
+pub mod Next
