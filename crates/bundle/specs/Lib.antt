@@ -4,3 +4,4 @@ pub mod Bundle
 pub mod Encoding
 pub mod Written
 pub mod Next
+pub mod Scan

@@ -7,3 +7,11 @@ pub enum Item {
     End,
     Broken,
 }
+
+// An object's sections by code: how many there are and where the first lies, 0 and 0 where there is none; and the place behind the last one.
+pub struct Scan {
+    pub count: [usize; 14],
+    pub start: [usize; 14],
+    pub size: [usize; 14],
+    pub next: usize,
+}
