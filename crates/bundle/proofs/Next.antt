@@ -101,6 +101,14 @@ module _ (b : List ℕ) (at : ℕ) where
         short = f .short;
       }
 
+  pub section-step : (p : Part) (n : ℕ) → stepHere b at ≡ more (section p) n → SectionHere b at (p .code) (p .start) (p .size) (at + 4 + n)
+  unfolding stepHere nextOf
+  section-step p n e = section-here (p .code) (p .start) (p .size) (at + 4 + n) (ap (nextOf at) (sym e))
+
+  pub object-step : (w n : ℕ) → stepHere b at ≡ more (object w) n → ObjectHere b at w (at + 4 + n)
+  unfolding stepHere nextOf
+  object-step w n e = object-here w (at + 4 + n) (ap (nextOf at) (sym e))
+
   pub end-here : End ≡ nextOf at (stepAt at (drop at b)) → stepHere b at ≡ end
   unfolding stepHere
   end-here e = told-end at (stepAt at (drop at b)) e

@@ -104,3 +104,20 @@ module _ (b : List ℕ) (at : ℕ) (left : List Item) (e : here b at ≡ pass le
       go : (c : Check (List Item)) → before i c ≡ pass left → (rest : List Item) × (left ≡ i ∷ rest) × (c ≡ pass rest)
       go (pass is) f = (is, cc, refl)
       go (refuse n) f = absurd (let z : _≡_ {A = ℕ} 0 1 = cc in omega arith)
+
+-- the same, where what is left is known
+pub left-cons : (b : List ℕ) (at : ℕ) (i : Item) (rest : List Item) → here b at ≡ pass (i ∷ rest)
+    → (n : ℕ) × (stepHere b at ≡ more i n) × (here b (at + 4 + n) ≡ pass rest)
+left-cons b at i rest e = go (stepHere b at) refl
+  where
+    same : (j : Item) (n : ℕ) → stepHere b at ≡ more j n → (r : List Item) × (i ∷ rest ≡ j ∷ r) × (here b (at + 4 + n) ≡ pass r)
+        → (n : ℕ) × (stepHere b at ≡ more i n) × (here b (at + 4 + n) ≡ pass rest)
+    same j n s (r, q, h) =
+        let item : j ≡ i = cc in
+        let tail : r ≡ rest = cc in
+        (n, s ∙ ap (λ (k : Item). more k n) item, h ∙ ap pass tail)
+
+    go : (st : Step) → stepHere b at ≡ st → (n : ℕ) × (stepHere b at ≡ more i n) × (here b (at + 4 + n) ≡ pass rest)
+    go (more j n) s = same j n s (left-more b at (i ∷ rest) e j n s)
+    go end s = absurd (let f = left-end b at (i ∷ rest) e s in let z : _≡_ {A = ℕ} 0 1 = cc in omega arith)
+    go broken s = absurd (left-broken b at (i ∷ rest) e s)

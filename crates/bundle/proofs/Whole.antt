@@ -72,9 +72,11 @@ readable b u e = head (headGood (numberAt false 4 b 0)) (sym (by-head b) ∙ e)
         → (require t 3 >>= (λ _. pass (record { big = eqb (numberAt false 4 b 0) 0xF000_0001; objects = objectsOf is }))) ≡ pass u → Readable b u
     first is h true f p = record { all = is; left = h; first = f; objects = cc }
     first is h false f p = absurd (let z : _≡_ {A = ℕ} 0 1 = cc in omega arith)
+
     rest : (c : Check (List Item)) → here b 4 ≡ c → behindHead (eqb (numberAt false 4 b 0) 0xF000_0001) c ≡ pass u → Readable b u
     rest (pass is) h p = first is h (objectFirst is) refl p
     rest (refuse n) h p = absurd (let z : _≡_ {A = ℕ} 0 1 = cc in omega arith)
+
     head : (t : Bool) → (require t 3 >>= (λ _. behindHead (eqb (numberAt false 4 b 0) 0xF000_0001) (here b 4))) ≡ pass u → Readable b u
     head true p = rest (here b 4) refl p
     head false p = absurd (let z : _≡_ {A = ℕ} 0 1 = cc in omega arith)
