@@ -1,4 +1,21 @@
 // Reading and writing the words of a bundle.
+ghost use mathlib.Core.Path.{_≡_};
+ghost use mathlib.Core.Bool.{Bool, _||_};
+ghost use Prim.Native.Nat.{ℕ, _+_, _*_, _-_, _/_, _%_, _≤_, _<_};
+ghost use lib.Dec.{eqb};
+ghost use lib.ListN.{length, drop};
+ghost use Rattle.bundle.specs.Bundle.{
+    filledUp,
+    objectStep,
+    sectionStep,
+    endStep,
+    stepAt,
+    items,
+    bundleOf,
+    lengthGood,
+};
+ghost use Rattle.bundle.specs.Encoding.{encodingGood};
+ghost use Rattle.bundle.specs.Next.{nextOf, ends, wordsOf, itemsGood, stating, statedBy};
 
 // What stands at a place of a bundle, with the place behind it; of a section also its code, and where its bytes lie.
 pub enum Item {
@@ -8,10 +25,105 @@ pub enum Item {
     Broken,
 }
 
+// Whether the words of a bundle can be read, and whether its data is big-endian.
+pub enum Words {
+    Readable(bool),
+    Broken,
+}
+
 // An object's sections by code: how many there are and where the first lies, 0 and 0 where there is none; and the place behind the last one.
 pub struct Scan {
     pub count: [usize; 14],
     pub start: [usize; 14],
     pub size: [usize; 14],
     pub next: usize,
+}
+
+// What an object word states, and whether 4 lets it pass.
+pub struct Encoding {
+    pub version: u32,
+    pub width: u32,
+    pub address: u32,
+    pub good: bool,
+}
+
+// 1 and 21: whether a length is 8 or more, within the limit and a multiple of 4.
+pub fn length_good(limit: usize, b: &[u8]) -> bool
+    ensures { λ r. ⌜ r ≡ lengthGood limit (now (b .entry)) ⌝ }
+{
+    if b.len() < 8 {
+        return false;
+    }
+    if limit < b.len() {
+        return false;
+    }
+    b.len() % 4 == 0
+}
+
+fn one_of(x: u32, a: u32, b: u32) -> bool
+    ensures { λ r. ⌜ r ≡ (eqb x a || eqb x b) ⌝ }
+{
+    if x == a {
+        return true;
+    }
+    x == b
+}
+
+fn encoding_good(version: u32, width: u32, address: u32) -> bool
+    ensures { λ r. ⌜ r ≡ encodingGood (stating version width address) ⌝ }
+{
+    if !one_of(version, 4, 5) {
+        return false;
+    }
+    if !one_of(width, 4, 8) {
+        return false;
+    }
+    one_of(address, 4, 8)
+}
+
+pub fn object_encoding(word: u32) -> Encoding
+    ensures { λ r. ⌜ r ≡ statedBy word ⌝ }
+{
+    let version = word % 256;
+    let width = word / 256 % 256;
+    let address = word / 0x1_0000 % 256;
+    Encoding {
+        version: version,
+        width: width,
+        address: address,
+        good: encoding_good(version, width, address),
+    }
+}
+
+// A length filled up to whole words.
+fn filled_up(n: usize) -> usize
+    requires { ⌜ n < 0x80_0000 ⌝ }
+    ensures { λ r. ⌜ r ≡ filledUp n ⌝ }
+{
+    (n + 3) / 4 * 4
+}
+
+// The item that a word of kind 1 starts. The caller has seen that the word lies in the bundle.
+fn object_item(at: usize, rest: u32) -> Item
+    requires { ⌜ (at + 4 < 0x1_0000_0000_0000_0000) × (rest < 0x1000_0000) ⌝ }
+    ensures { λ r. ⌜ r ≡ nextOf at (objectStep rest) ⌝ }
+{
+    if 0x100_0000 <= rest {
+        return Item::Broken;
+    }
+    Item::Object(0x1000_0000 + rest, at + 4)
+}
+
+// What a word of kind 3 ends. The caller has seen that the word lies in the bundle.
+fn end_item(b: &[u8], at: usize, rest: usize) -> Item
+    requires { ⌜ (at + 4 ≤ length (now b)) × (rest < 0x1000_0000) ⌝ }
+    ensures { λ r. ⌜ r ≡ nextOf at (endStep at (drop at (now (b .entry))) rest) ⌝ }
+{
+    if b.len() - at != 4 {
+        return Item::Broken;
+    }
+    if 4 * rest != at + 4 {
+        return Item::Broken;
+    }
+    Item::End
 }

@@ -1,0 +1,17 @@
+use borrow.Author.Needs.{needs}
+use Rattle.bundle.proofs.object_encoding.Statement.{statement}
+use Rattle.bundle.proofs.object_encoding.Tie as tie
+use Rattle.bundle.proofs.object_encoding.Reads as reads
+use Rattle.bundle.proofs.object_encoding.Lts as lts
+use Rattle.bundle.proofs.encoding_good.Reads as encoding-good-reads
+
+-- src/lib.rt:94:15
+encoding-good-requires : tie.Need-encoding-good-requires
+encoding-good-requires c κs = search needs
+
+-- src/lib.rt:84:1
+returns : tie.Need-returns
+returns c = ?
+
+pub object-encoding-spec : {M : Type 1} → statement M
+object-encoding-spec = tie.close (tie.spec encoding-good-requires returns)
