@@ -47,6 +47,11 @@ pub same-sym : (s t : List ℕ) → same s t ≡ same t s
 same-sym s t =
     ⊎-elim (λ p. p ∙ sym (eq-same t s (sym (same-eq s t p)))) (λ p. p ∙ sym (ne-same t s (λ e. same-ne s t p (sym e)))) (known (same s t))
 
+-- an answer that says so both ways is `same`
+pub same-both : (r : Bool) (s t : List ℕ) → (r ≡ true → s ≡ t) → (s ≡ t → r ≡ true) → r ≡ same s t
+same-both true s t f g = sym (eq-same s t (f refl))
+same-both false s t f g = sym (ne-same s t (λ e. true-false (g e) refl))
+
 -- ---- all
 module _ {A : Type 0} (f : A → Bool) where
   pub all-cons : (x : A) (xs : List A) → f x ≡ true → all f (x ∷ xs) ≡ all f xs

@@ -106,6 +106,13 @@ pub numberAt-lt : (big : Bool) (w : ℕ) (s : List ℕ) (at : ℕ) → Bytes s �
 unfolding numberAt
 numberAt-lt big w s at h = number-lt-width big (part s at w) w (length-part-le s at w) (bytes-part s at w h)
 
+-- eight bytes state a number of 64 bits, in either order
+pub little-lt64 : (bs : List ℕ) → Bytes bs → length bs ≤ 8 → little bs < 2 ^ 64
+little-lt64 bs h l = lt-of-lt-of-le (little-lt bs h) (pow-le-pow-right (lit< tt) l)
+
+pub bigFrom-lt64 : (bs : List ℕ) → Bytes bs → length bs ≤ 8 → bigFrom 0 bs < 2 ^ 64
+bigFrom-lt64 bs h l = lt-of-lt-of-le (bigFrom-lt 0 bs h) (rw one-mul (pow-le-pow-right (lit< tt) l))
+
 -- ---- a turn of a loop that reads: from the front, and from the back
 pub big-turn : (n : ℕ) (s : List ℕ) (i : ℕ) → i < length s → bigFrom n (drop i s) ≡ bigFrom (n * 256 + getD s i 0) (drop (i + 1) s)
 unfolding bigFrom

@@ -7,7 +7,8 @@ use native.Mathlib.Nat.{sub-zero, zero-sub, suc-sub-suc, add-zero, le-add-right}
 use native.Mathlib.Omega.{arith}
 use native.Mathlib.Numerals.{add-one, add-two}
 use lib.ListN.{length, take, drop, set, getD, length-append, length-take, length-drop, length-replicate, drop-of-length-le, take-append-drop, replicate-append-replicate}
-use lib.Seq.{append-snoc, take-suc-set, drop-set-lt, take-set-le, set-split, sets-eq, take-take, take-append-le, drop-drop, take-at, drop-at, drop-append-add, length-take-le}
+use lib.Seq.{drop-length, append-snoc, take-suc-set, drop-set-lt, take-set-le, set-split, sets-eq, take-take, take-append-le, drop-drop, take-at, drop-at, drop-append-add, length-take-le}
+use borrow.Author.Fill.{fill-none, fill-more}
 use Rattle.octets.specs.Octets.{placed, padded, zeros, littleOf, bigOf}
 use Rattle.octets.proofs.Numbers.{Bytes, bytes-take, bytes-drop, bytes-append, bytes-zeros, length-bigOf}
 
@@ -41,6 +42,18 @@ getD-zeros (suc n) (suc i) = getD-zeros n i
 pub zeros-none : zeros 0 ≡ []
 unfolding zeros
 zeros-none = refl
+
+-- a turn of a loop that clears
+pub clear-none : (d : List ℕ) → d ≡ zeros 0 ++ drop 0 d
+unfolding zeros
+clear-none d = fill-none d 0
+
+pub clear-more : (i : ℕ) (d : List ℕ) → i < length d → set (zeros i ++ drop i d) i 0 ≡ zeros (i + 1) ++ drop (i + 1) d
+unfolding zeros
+clear-more i d h = fill-more i 0 d h
+
+pub clear-end : (i : ℕ) (d : List ℕ) → i ≡ length d → zeros i ++ drop i d ≡ zeros (length d)
+clear-end i d e = rw (e, drop-length d) (append-nil (zeros (length d)))
 
 -- ---- length and elements
 pub length-placed : (d : List ℕ) (at : ℕ) (x : List ℕ) → at + length x ≤ length d → length (placed d at x) ≡ length d
