@@ -33,6 +33,10 @@ pub filledUp-le : (n : ℕ) → n ≤ filledUp n
 unfolding filledUp
 filledUp-le n = omega arith
 
+pub filledUp-most : (n : ℕ) → filledUp n ≤ n + 3
+unfolding filledUp
+filledUp-most n = omega arith
+
 pub filledUp-whole : (n : ℕ) → filledUp n % 4 ≡ 0
 unfolding filledUp
 filledUp-whole n = omega arith

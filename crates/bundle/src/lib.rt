@@ -127,3 +127,52 @@ fn end_item(b: &[u8], at: usize, rest: usize) -> Item
     }
     Item::End
 }
+
+// The item that a word of kind 2 starts. The caller has seen that the word lies in the bundle.
+fn section_item(b: &[u8], at: usize, code: u32, size: usize) -> Item
+    requires { ⌜ (at + 4 ≤ length (now b)) × (size < 0x80_0000) ⌝ }
+    ensures { λ r. ⌜ r ≡ nextOf at (sectionStep at (drop at (now (b .entry))) code size) ⌝ }
+{
+    if code < 1 {
+        return Item::Broken;
+    }
+    if 13 < code {
+        return Item::Broken;
+    }
+    let filled = filled_up(size);
+    if b.len() - at < 4 + filled {
+        return Item::Broken;
+    }
+    let start = at + 4;
+    let from = start + size;
+    let next = start + filled;
+    if octets::all_zero(&b[from..next]) {
+        return Item::Section(code, start, size, next);
+    }
+    Item::Broken
+}
+
+// What stands at a place of a bundle.
+pub fn next_item(b: &[u8], at: usize) -> Item
+    ensures { λ r. ⌜ r ≡ nextOf at (stepAt at (drop at (now (b .entry)))) ⌝ }
+{
+    if b.len() <= at {
+        return Item::Broken;
+    }
+    if b.len() - at < 4 {
+        return Item::Broken;
+    }
+    let word = octets::word_at(b, at);
+    let kind = word / 0x1000_0000;
+    let rest = word % 0x1000_0000;
+    if kind == 1 {
+        return object_item(at, rest);
+    }
+    if kind == 2 {
+        return section_item(b, at, rest / 0x80_0000, octets::wide(rest % 0x80_0000));
+    }
+    if kind == 3 {
+        return end_item(b, at, octets::wide(rest));
+    }
+    Item::Broken
+}

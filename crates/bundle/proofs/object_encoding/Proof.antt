@@ -1,3 +1,9 @@
+-- `bundle::object_encoding` meets its contract.
+-- Assumes nothing.
+use mathlib.Core.Path.{_≡_, refl, ap, sym, _∙_}
+use native.Mathlib.Omega.{arith}
+use Rattle.bundle.specs.Encoding.{encodingOf}
+use Rattle.bundle.specs.Next.{stating, statedBy}
 use borrow.Author.Needs.{needs}
 use Rattle.bundle.proofs.object_encoding.Statement.{statement}
 use Rattle.bundle.proofs.object_encoding.Tie as tie
@@ -11,7 +17,8 @@ encoding-good-requires c κs = search needs
 
 -- src/lib.rt:84:1
 returns : tie.Need-returns
-returns c = ?
+unfolding statedBy stating encodingOf
+returns c = rw (c .encoding-good .ensures)
 
 pub object-encoding-spec : {M : Type 1} → statement M
 object-encoding-spec = tie.close (tie.spec encoding-good-requires returns)
