@@ -176,3 +176,66 @@ pub fn next_item(b: &[u8], at: usize) -> Item
     }
     Item::Broken
 }
+
+// Whether the items from a place on reach the bundle's end.
+fn reach_end(b: &[u8], from: usize) -> bool
+    ensures { λ r. ⌜ r ≡ ends (items from (drop from (now (b .entry)))) ⌝ }
+{
+    let mut at = from;
+    loop {
+        match next_item(b, at) {
+            Item::Object(_, next) => {
+                at = next;
+            }
+            Item::Section(_, _, _, next) => {
+                at = next;
+            }
+            Item::End => {
+                return true;
+            }
+            Item::Broken => {
+                return false;
+            }
+        }
+    }
+}
+
+// The items behind the head reach the bundle's end, and none of them is a section before any object.
+fn items_good(b: &[u8]) -> bool
+    ensures { λ r. ⌜ r ≡ itemsGood (items 4 (drop 4 (now (b .entry)))) ⌝ }
+{
+    match next_item(b, 4) {
+        Item::Object(_, next) => {
+            return reach_end(b, next);
+        }
+        Item::Section(_, _, _, _) => {
+            return false;
+        }
+        Item::End => {
+            return true;
+        }
+        Item::Broken => {
+            return false;
+        }
+    }
+}
+
+// 3: whether the words of a bundle are well formed, and its byte order.
+pub fn check_words(b: &[u8]) -> Words
+    ensures { λ r. ⌜ r ≡ wordsOf (bundleOf (now (b .entry))) ⌝ }
+{
+    if b.len() < 4 {
+        return Words::Broken;
+    }
+    let head = octets::word_at(b, 0);
+    if head < 0xF000_0000 {
+        return Words::Broken;
+    }
+    if 0xF000_0001 < head {
+        return Words::Broken;
+    }
+    if items_good(b) {
+        return Words::Readable(head == 0xF000_0001);
+    }
+    Words::Broken
+}
