@@ -5,14 +5,14 @@ ghost use Prim.Native.Nat.{ℕ, _+_, _*_, _-_, _/_, _%_, _≤_, _<_};
 ghost use lib.Dec.{eqb};
 ghost use lib.ListN.{length, drop};
 ghost use Rattle.bundle.specs.Bundle.{
-    filledUp,
-    objectStep,
-    sectionStep,
-    endStep,
-    stepAt,
-    items,
-    bundleOf,
-    lengthGood,
+  filledUp,
+  objectStep,
+  sectionStep,
+  endStep,
+  stepAt,
+  items,
+  bundleOf,
+  lengthGood,
 };
 ghost use Rattle.bundle.specs.Encoding.{encodingGood};
 ghost use Rattle.bundle.specs.Next.{nextOf, ends, wordsOf, itemsGood, stating, statedBy};

@@ -15,7 +15,7 @@ use Rattle.octets.proofs.word_at.Reads as word-at-reads
 
 -- src/lib.rt:228:9
 returns : tie.Need-returns
-returns c = 
+returns c =
     let b = now (c .before .before .args .b) in
     let h = head-short b (λ i. c .before .shared-slice-known .given i .fits) (c .if1 .taken) in
     words-head b (λ z. omega arith) (λ z. omega arith)
@@ -26,14 +26,14 @@ word-at-requires c κs = search needs
 
 -- src/lib.rt:232:9
 returns-2 : tie.Need-returns-2
-returns-2 c = 
+returns-2 c =
     let w = c .before in
     let b = now (w .before .before .before .args .b) in
     words-head b (λ z. omega (arith, w .word-at .ensures)) (λ z. omega (arith, w .word-at .ensures))
 
 -- src/lib.rt:235:9
 returns-3 : tie.Need-returns-3
-returns-3 c = 
+returns-3 c =
     let w = c .before .before in
     let b = now (w .before .before .before .args .b) in
     words-head b (λ z. omega (arith, w .word-at .ensures)) (λ z. omega (arith, w .word-at .ensures))
@@ -44,13 +44,13 @@ items-good-requires c κs = search needs
 
 -- src/lib.rt:238:9
 returns-4 : tie.Need-returns-4
-returns-4 c = 
+returns-4 c =
     let w = c .before .before .before .before in
     words-good _ _ (sym (w .word-at .ensures) ∙ head-either (w .word-at .result) (c .before .before .before .if2 .left) (c .before .before .if3 .left)) (sym (c .before .items-good .ensures) ∙ c .if4 .taken)
 
 -- src/lib.rt:224:1
 returns-5 : tie.Need-returns-5
-returns-5 c = 
+returns-5 c =
     let w = c .before .before .before .before in
     words-bad _ _ (sym (w .word-at .ensures) ∙ head-either (w .word-at .result) (c .before .before .before .if2 .left) (c .before .before .if3 .left)) (sym (c .before .items-good .ensures) ∙ c .if4 .left)
 

@@ -27,7 +27,7 @@ reach-end-requires c κs = search needs
 
 -- src/lib.rt:209:13
 returns : tie.Need-returns
-returns c = 
+returns c =
     let n = c .before .before .next .given in
     let i = c .before .before .before .before in
     c .reach-end .ensures ∙ good-object (now (i .before .before .args .b)) 4 _ _ (sym (n .1) ∙ i .next-item .ensures)

@@ -53,7 +53,7 @@ section-item-requires c κs = search needs
 
 -- src/lib.rt:172:9
 returns-4 : tie.Need-returns-4
-returns-4 c = 
+returns-4 c =
     let w = c .before .before .before .before in
     let a = w .before .before .before .before .args in
     c .section-item .ensures ∙ ap (λ (n : ℕ). nextOf (a .at) (sectionStep (a .at) (drop (a .at) (now (a .b))) (w .word-at .result % 0x1000_0000 / 0x80_0000) n)) (c .before .wide .ensures)
@@ -69,7 +69,7 @@ end-item-requires c κs = search needs
 
 -- src/lib.rt:175:9
 returns-5 : tie.Need-returns-5
-returns-5 c = 
+returns-5 c =
     let w = c .before .before .before .before .before in
     let a = w .before .before .before .before .args in
     c .end-item .ensures ∙ ap (λ (n : ℕ). nextOf (a .at) (endStep (a .at) (drop (a .at) (now (a .b))) n)) (c .before .wide2 .ensures)

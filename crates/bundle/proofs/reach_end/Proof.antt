@@ -36,7 +36,7 @@ enum-known-next c = search needs
 
 -- src/lib.rt:185:5
 loop-less : tie.Need-loop-less Inv-loop μ-loop
-loop-less c = 
+loop-less c =
     let n = c .before .next .given in
     let i = c .before .before .before in
     let l = i .before in
@@ -47,7 +47,7 @@ loop-less c =
 
 -- src/lib.rt:185:5
 loop-again : tie.Need-loop-again Inv-loop μ-loop
-loop-again c = 
+loop-again c =
     let n = c .before .next .given in
     let i = c .before .before .before in
     let l = i .before in
@@ -61,7 +61,7 @@ enum-known-next-2 c = search needs
 
 -- src/lib.rt:185:5
 loop-less-2 : tie.Need-loop-less-2 Inv-loop μ-loop
-loop-less-2 c = 
+loop-less-2 c =
     let n = c .before .next2 .given in
     let i = c .before .before .before in
     let l = i .before in
@@ -72,7 +72,7 @@ loop-less-2 c =
 
 -- src/lib.rt:185:5
 loop-again-2 : tie.Need-loop-again-2 Inv-loop μ-loop
-loop-again-2 c = 
+loop-again-2 c =
     let n = c .before .next2 .given in
     let i = c .before .before .before in
     let l = i .before in

@@ -55,7 +55,7 @@ add-if3 c = omega (arith, c .filled-up .ensures, filledUp-most (c .before .befor
 
 -- src/lib.rt:144:9
 returns-3 : tie.Need-returns-3
-returns-3 c = 
+returns-3 c =
     let f = c .before in
     let a = f .before .before .before .before .args in
     too-long (now (a .b)) (a .at) (a .code) (a .size) (f .before .before .if1 .left) (f .before .if2 .left) (omega (arith, f .filled-up .ensures))
@@ -90,14 +90,14 @@ all-zero-requires c κs = search needs
 
 -- src/lib.rt:150:9
 returns-4 : tie.Need-returns-4
-returns-4 c = 
+returns-4 c =
     let e = c .before .before .before in
     let a = e .before .before .before .before .before .args in
     rw (e .before .filled-up .ensures) (section-answer (now (a .b)) (a .at) (a .code) (a .size) (e .before .before .before .if1 .left) (e .before .before .if2 .left) (fits e) (sym (zeros-there (c .before)) ∙ c .if4 .taken))
 
 -- src/lib.rt:132:1
 returns-5 : tie.Need-returns-5
-returns-5 c = 
+returns-5 c =
     let e = c .before .before .before in
     let a = e .before .before .before .before .before .args in
     unfilled (now (a .b)) (a .at) (a .code) (a .size) (e .before .before .before .if1 .left) (e .before .before .if2 .left) (fits e) (sym (zeros-there (c .before)) ∙ c .if4 .left)
