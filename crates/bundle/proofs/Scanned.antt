@@ -55,6 +55,25 @@ byCode-set f g c v h e o =
 byCode-same : (f g : ℕ → ℕ) → ((d : ℕ) → f d ≡ g d) → byCode f ≡ byCode g
 byCode-same f g o = ap byCode (λ i d. o d i)
 
+-- the cases of `noted`
+module _ (s : Scan) (code start size next : ℕ) where
+  pub noted-first : getD (s .count) code 0 ≡ 0
+      → record { count = set (s .count) code (getD (s .count) code 0 + 1); start = set (s .start) code start; size = set (s .size) code size; next = next } ≡ noted s code start size next
+  unfolding noted
+  noted-first e = rw (noted, eq-eqb (getD (s .count) code 0) 0 e)
+
+  pub noted-again : (getD (s .count) code 0 ≡ 0 → ⊥)
+      → record { count = set (s .count) code (getD (s .count) code 0 + 1); start = s .start; size = s .size; next = next } ≡ noted s code start size next
+  unfolding noted
+  noted-again f = rw (noted, ne-eqb (getD (s .count) code 0) 0 f)
+
+  pub noted-next : noted s code start size next .next ≡ next
+  noted-next =
+      elim (ℕ-discrete (getD (s .count) code 0) 0) [
+        | yes e ↦ sym (ap (λ (z : Scan). z .next) (noted-first e))
+        | no f ↦ sym (ap (λ (z : Scan). z .next) (noted-again f))
+      ]
+
 -- one section more
 module _ (ps : List Part) (p : Part) where
   pub count-more : (c : ℕ) → p .code ≡ c → count (ps ++ (p ∷ [])) c ≡ count ps c + 1

@@ -4,7 +4,7 @@ use mathlib.Core.Path.{_≡_}
 use mathlib.Core.Bool.{true, false}
 use mathlib.Core.List.{List, [], _∷_}
 use mathlib.Core.Option.{Option, some, none}
-use Prim.Native.Nat.{ℕ, zero, suc, _+_}
+use Prim.Native.Nat.{ℕ, zero, suc, _+_, _<_}
 use lib.Dec.{eqb}
 use lib.ListN.{drop, getD, set}
 use Rattle.octets.specs.Checked.{Check, pass, refuse}
@@ -61,3 +61,8 @@ noted s code start size next =
 pub record Reaches (b : List ℕ) (at : ℕ) : Type 0 where
   pub ahead : List Item
   pub left : items at (drop at b) ≡ pass ahead
+
+-- a section of the code can be counted
+pub record Notable (s : Scan) (code : ℕ) : Type 0 where
+  pub good : code < 14
+  pub small : getD (s .count) code 0 < 0xFFFF_FFFF_FFFF_FFFF

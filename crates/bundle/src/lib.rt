@@ -1,6 +1,7 @@
 // Reading and writing the words of a bundle.
 ghost use mathlib.Core.Path.{_≡_};
 ghost use mathlib.Core.Bool.{Bool, _||_};
+ghost use mathlib.Core.List.{[]};
 ghost use Prim.Native.Nat.{ℕ, _+_, _*_, _-_, _/_, _%_, _≤_, _<_};
 ghost use lib.Dec.{eqb};
 ghost use lib.ListN.{length, drop};
@@ -15,6 +16,7 @@ ghost use Rattle.bundle.specs.Bundle.{
   lengthGood,
 };
 ghost use Rattle.bundle.specs.Encoding.{encodingGood};
+ghost use Rattle.bundle.specs.Scan.{Notable, Reaches, sectionsOf, scanOf, noted};
 ghost use Rattle.bundle.specs.Next.{nextOf, ends, wordsOf, itemsGood, stating, statedBy};
 
 // What stands at a place of a bundle, with the place behind it; of a section also its code, and where its bytes lie.
@@ -238,4 +240,58 @@ pub fn check_words(b: &[u8]) -> Words
         return Words::Readable(head == 0xF000_0001);
     }
     Words::Broken
+}
+
+// A scan that starts at a place.
+fn no_sections(from: usize) -> Scan
+    ensures { λ r. ⌜ r ≡ scanOf from [] ⌝ }
+{
+    Scan {
+        count: [0; 14],
+        start: [0; 14],
+        size: [0; 14],
+        next: from,
+    }
+}
+
+// A scan with one section more. The caller has a code that is good, and has counted fewer sections than a bundle has bytes.
+fn note_section(scan: Scan, code: usize, start: usize, size: usize, next: usize) -> Scan
+    requires { ⌜ Notable scan code ⌝ }
+    ensures { λ r. ⌜ r ≡ noted scan code start size next ⌝ }
+{
+    let mut s = scan;
+    let n = s.count[code];
+    s.next = next;
+    s.count[code] = n + 1;
+    if n == 0 {
+        s.start[code] = start;
+        s.size[code] = size;
+        return s;
+    }
+    s
+}
+
+// The sections of the object whose word ends at a place. The caller has checked the words of the bundle.
+pub fn scan_object(b: &[u8], from: usize) -> Scan
+    requires { ⌜ Reaches (now b) from ⌝ }
+    ensures { λ r. ⌜ r ≡ scanOf from (sectionsOf (items from (drop from (now (b .entry))))) ⌝ }
+{
+    let mut scan = no_sections(from);
+    loop {
+        let at = scan.next;
+        match next_item(b, at) {
+            Item::Section(code, start, size, next) => {
+                scan = note_section(scan, octets::wide(code), start, size, next);
+            }
+            Item::Object(_, _) => {
+                return scan;
+            }
+            Item::End => {
+                return scan;
+            }
+            Item::Broken => {
+                return scan;
+            }
+        }
+    }
 }
