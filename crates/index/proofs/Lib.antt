@@ -1,0 +1,5 @@
+-- Laws of indexes: probing, placing, and an index written and read back.
+-- Assumes nothing.
+pub mod Slots
+pub mod Orbit
+pub mod LawCounts
