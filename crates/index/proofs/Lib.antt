@@ -3,3 +3,4 @@
 pub mod Slots
 pub mod Orbit
 pub mod LawCounts
+pub mod Placing
