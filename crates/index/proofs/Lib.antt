@@ -4,3 +4,6 @@ pub mod Slots
 pub mod Orbit
 pub mod LawCounts
 pub mod Placing
+pub mod LawLooks
+pub mod LawPlaced
+pub mod Found
