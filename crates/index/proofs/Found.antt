@@ -1,24 +1,21 @@
 -- What is placed is found, and nothing else: after `slotsOf xs`, a search for each of xs ends at its slot, and for anything else at an unused slot.
 -- Assumes nothing.
 use mathlib.Core.Path.{_≡_, refl, sym, ap, _∙_}
-use mathlib.Core.Bool.{true}
-use mathlib.Core.List.{List, [], _∷_}
+use mathlib.Core.List.{List}
 use Prim.Native.Nat.{ℕ, zero, suc, _+_, _-_, _^_, _<_, _≤_}
 use native.Mathlib.Nat.{not-suc-le-zero}
 use native.Mathlib.Omega.{arith}
-use native.Mathlib.Decide.{decLt}
-use lib.ListN.{length, getD, drop, replicate, drop-of-length-le}
+use lib.ListN.{length, getD, drop, drop-of-length-le}
 use lib.Seq.{drop-cons}
 use Rattle.octets.specs.Octets.{zeros}
-use Rattle.octets.specs.Lists.{zeroTogether}
-use Rattle.octets.specs.Checked.{Check, pass}
+use Rattle.octets.specs.Checked.{pass}
 use Rattle.octets.proofs.Checks.{then-pass, pass-inj}
 use Rattle.index.specs.Probing.{found, absent, search, slotsFor, Slots, place, placeAll, unused, slotsOf}
 use Rattle.index.proofs.Slots.{PowerOfTwo, slotsFor-power, slotsFor-gt}
 use Rattle.index.proofs.LawCounts.{First}
-use Rattle.index.proofs.Placing.{probed, put, Counted, free-slot, place-is, counted-unused}
-use Rattle.index.proofs.LawLooks.{Passed, search-found, search-absent}
-use Rattle.index.proofs.LawPlaced.{Distinct, NonZero, Kept, UsedBy, Placed, placed-more}
+use Rattle.index.proofs.Placing.{probed, put, free-slot, place-is, counted-unused}
+use Rattle.index.proofs.LawLooks.{search-found, search-absent}
+use Rattle.index.proofs.LawPlaced.{Distinct, Kept, Placed, placed-more}
 
 -- ---- all are placed
 module _ (n : ℕ) (p : PowerOfTwo n) (xs : List ℕ) (different : Distinct xs) (few : length xs < n) where

@@ -1,15 +1,15 @@
 -- A law for each case of a look, and what a search finds by the slots that it passes.
 -- Assumes nothing.
-use mathlib.Core.Path.{_≡_, refl, sym, ap, _∙_}
+use mathlib.Core.Path.{_≡_, sym, ap, _∙_}
 use mathlib.Core.List.{List}
 use Prim.Native.Nat.{ℕ, zero, suc, _+_, _-_, _%_, _<_, _≤_}
-use native.Mathlib.Nat.{mod-lt, suc-add, zero-add}
+use native.Mathlib.Nat.{mod-lt, zero-add}
 use native.Mathlib.Omega.{arith}
 use native.Mathlib.Decide.{ℕ-discrete}
 use lib.ListN.{length, getD}
 use borrow.Author.Tests.{eq-eqb, ne-eqb}
 use Rattle.index.specs.Probing.{Probe, found, absent, firstSlot, stride, look, search}
-use Rattle.index.proofs.Slots.{PowerOfTwo, positive, firstSlot-lt}
+use Rattle.index.proofs.Slots.{PowerOfTwo, firstSlot-lt}
 use Rattle.index.proofs.Orbit.{slotAt, slotAt-zero, slotAt-next}
 use Rattle.index.proofs.Placing.{probed}
 

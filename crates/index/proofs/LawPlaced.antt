@@ -1,25 +1,19 @@
 -- Where identities lie that were placed: each behind slots that others use.
 -- Assumes nothing.
-use mathlib.Core.Path.{_≡_, refl, sym, ap, _∙_}
+use mathlib.Core.Path.{_≡_, sym, ap, _∙_}
 use mathlib.Core.Bool.{true}
-use mathlib.Core.List.{List, [], _∷_}
-use Prim.Native.Nat.{ℕ, zero, suc, _+_, _^_, _<_, _≤_}
-use native.Mathlib.Nat.{not-suc-le-zero}
+use mathlib.Core.List.{List}
+use Prim.Native.Nat.{ℕ, zero, suc, _+_, _<_}
 use native.Mathlib.Omega.{arith}
-use native.Mathlib.Numerals.{add-one}
-use native.Mathlib.Decide.{ℕ-discrete, decLt}
-use lib.ListN.{length, getD, set, drop, getD-replicate, drop-of-length-le}
-use lib.Seq.{getD-set-same, getD-set-other, drop-cons}
-use Rattle.octets.specs.Octets.{zeros}
+use native.Mathlib.Decide.{ℕ-discrete}
+use lib.ListN.{length, getD}
+use lib.Seq.{getD-set-same, getD-set-other}
 use Rattle.octets.specs.Lists.{distinct}
-use Rattle.octets.specs.Checked.{Check, pass}
-use Rattle.octets.proofs.Checks.{then-pass, pass-inj}
 use Rattle.octets.proofs.Elements.{distinct-at}
-use Rattle.index.specs.Probing.{found, absent, search, slotsFor, Slots, place, placeAll, unused, slotsOf}
-use Rattle.index.proofs.Slots.{PowerOfTwo, slotsFor-power, slotsFor-gt}
-use Rattle.index.proofs.LawCounts.{First}
-use Rattle.index.proofs.Placing.{probed, probed-lt, put, Counted, Free, free-slot, place-is, counted-put, counted-unused}
-use Rattle.index.proofs.LawLooks.{Passed, search-found, search-absent}
+use Rattle.index.specs.Probing.{Slots}
+use Rattle.index.proofs.Slots.{PowerOfTwo}
+use Rattle.index.proofs.Placing.{probed, probed-lt, put, Counted, Free, counted-put}
+use Rattle.index.proofs.LawLooks.{Passed}
 
 -- no number twice, and none zero, by places
 abbrev pub Distinct : List ℕ → Type 0

@@ -7,3 +7,4 @@ pub mod Placing
 pub mod LawLooks
 pub mod LawPlaced
 pub mod Found
+pub mod LawColumns

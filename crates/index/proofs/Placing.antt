@@ -2,14 +2,14 @@
 -- Assumes nothing.
 use mathlib.Core.Path.{_≡_, refl, sym, ap, _∙_}
 use mathlib.Core.List.{List, [], _∷_}
-use mathlib.Core.Option.{Option, some, none}
+use mathlib.Core.Option.{some}
 use Prim.Native.Nat.{ℕ, zero, suc, _+_, _%_, _^_, _<_, _≤_}
 use native.Mathlib.Nat.{not-suc-le-zero, le-of-suc-le-suc, mod-lt}
 use native.Mathlib.Omega.{arith}
 use lib.ListN.{length, getD, set, length-set, length-replicate}
 use borrow.Author.Tests.{eq-eqb, ne-eqb}
 use Rattle.octets.specs.Octets.{zeros}
-use Rattle.octets.specs.Checked.{Check, pass, refuse, _>>=_}
+use Rattle.octets.specs.Checked.{pass}
 use Rattle.octets.proofs.Checks.{then-pass}
 use Rattle.index.specs.Probing.{firstSlot, stride, slotsFor, Slots, freeFrom, placeAt, place, placeAll, unused, slotsOf}
 use Rattle.index.proofs.Slots.{PowerOfTwo, positive, firstSlot-lt, stride-odd, slotsFor-power, slotsFor-gt}
