@@ -8,3 +8,4 @@ pub mod LawLooks
 pub mod LawPlaced
 pub mod Found
 pub mod LawColumns
+pub mod LawPlaces
