@@ -9,3 +9,5 @@ pub mod LawPlaced
 pub mod Found
 pub mod LawColumns
 pub mod LawPlaces
+pub mod LawGrid
+pub mod LawSlotsGood
