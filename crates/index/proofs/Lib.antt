@@ -11,3 +11,4 @@ pub mod LawColumns
 pub mod LawPlaces
 pub mod LawGrid
 pub mod LawSlotsGood
+pub mod LawBytes
