@@ -12,3 +12,5 @@ pub mod LawPlaces
 pub mod LawGrid
 pub mod LawSlotsGood
 pub mod LawBytes
+pub mod LawRead
+pub mod RoundTrip
