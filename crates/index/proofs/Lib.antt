@@ -14,3 +14,4 @@ pub mod LawSlotsGood
 pub mod LawBytes
 pub mod LawRead
 pub mod RoundTrip
+pub mod LawCells
