@@ -15,3 +15,4 @@ pub mod LawBytes
 pub mod LawRead
 pub mod RoundTrip
 pub mod LawCells
+pub mod LawWhole
