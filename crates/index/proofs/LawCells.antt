@@ -1,10 +1,10 @@
 -- Cells of an index that was written: a row's own contribution, zeros where only other rows have one, none where no row has it or the form has no column.
 -- Assumes nothing.
-use mathlib.Core.Path.{_≡_, refl, sym, ap, _∙_}
+use mathlib.Core.Path.{_≡_, refl, ap, _∙_}
 use mathlib.Core.Bool.{Bool, true, false}
-use mathlib.Core.List.{List, map}
+use mathlib.Core.List.{List}
 use mathlib.Core.Option.{Option, some, none}
-use Prim.Native.Nat.{ℕ, _+_, _*_, _-_, _<_}
+use Prim.Native.Nat.{ℕ, _+_, _-_, _<_}
 use native.Mathlib.Omega.{arith}
 use lib.ListN.{length, getD, length-map}
 use Rattle.octets.specs.Lists.{any}
@@ -13,8 +13,8 @@ use Rattle.index.specs.Columns.{Column, columnsOf, columnIn}
 use Rattle.index.specs.Index.{Index, Contribution, placeOf, cellAt, cellOf}
 use Rattle.index.specs.Probing.{Slots}
 use Rattle.index.specs.Rows.{isSome}
-use Rattle.index.specs.Written.{Row, presentColumns, offsetOf, sizeOf, grid}
-use Rattle.index.proofs.LawColumns.{formOf, codesOf, columnsOf-form, columns-distinct}
+use Rattle.index.specs.Written.{Row, presentColumns, offsetOf, sizeOf}
+use Rattle.index.proofs.LawColumns.{codesOf, columnsOf-form, columns-distinct}
 use Rattle.index.proofs.LawPlaces.{noColumn, At, column-there, column-missing}
 use Rattle.index.proofs.LawGrid.{noRow, grid-at}
 use Rattle.index.proofs.RoundTrip.{written}

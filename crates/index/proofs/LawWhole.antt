@@ -1,19 +1,18 @@
 -- An index from rows to answers: written, read back, and probed: each row's identity is found with its row number, anything else is absent.
 -- Assumes nothing.
 use mathlib.Core.Path.{_≡_, refl, sym, ap, _∙_}
-use mathlib.Core.Logic.{⊎-elim}
 use mathlib.Core.Bool.{Bool, true, false}
-use mathlib.Core.List.{List, [], _∷_, map}
+use mathlib.Core.List.{List, [], _∷_}
 use Prim.Native.Nat.{ℕ, _+_, _*_, _^_, _<_, _≤_}
 use native.Mathlib.Nat.{not-suc-le-zero}
 use native.Mathlib.Omega.{arith}
 use lib.ListN.{length, getD, length-map}
 use Rattle.octets.specs.Lists.{has, distinct}
-use Rattle.octets.specs.Checked.{Check, pass, refuse, _>>=_}
+use Rattle.octets.specs.Checked.{pass, refuse}
 use Rattle.octets.proofs.Checks.{pass-inj, then-pass, bind-pass, known}
-use Rattle.octets.proofs.Elements.{has-at, has-not-at}
+use Rattle.octets.proofs.Elements.{has-not-at}
 use Rattle.index.specs.Index.{Index, indexOf}
-use Rattle.index.specs.Probing.{Probe, found, absent, search, probe, Slots, slotsOf, slotsFor}
+use Rattle.index.specs.Probing.{found, absent, probe, Slots, slotsOf, slotsFor}
 use Rattle.index.specs.Rows.{rowOf}
 use Rattle.index.specs.Written.{Row, presentColumns, indexWith, indexBytes}
 use Rattle.index.proofs.Placing.{slotsOf-passes}
