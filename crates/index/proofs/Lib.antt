@@ -1,0 +1,5 @@
+-- Laws of the definitions, which the proofs of the code cite.
+-- Assumes nothing.
+pub mod Masks
+pub mod Heads
+pub mod Looks
