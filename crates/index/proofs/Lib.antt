@@ -13,3 +13,8 @@ pub mod LawPlaces
 pub mod LawGrid
 pub mod LawSlotsGood
 pub mod LawBytes
+-- Laws of the definitions, which the proofs of the code cite.
+-- Assumes nothing.
+pub mod Masks
+pub mod Heads
+pub mod Looks
