@@ -13,6 +13,10 @@ pub mod LawPlaces
 pub mod LawGrid
 pub mod LawSlotsGood
 pub mod LawBytes
+pub mod LawRead
+pub mod RoundTrip
+pub mod LawCells
+pub mod LawWhole
 -- Laws of the definitions, which the proofs of the code cite.
 -- Assumes nothing.
 pub mod Masks
