@@ -17,3 +17,8 @@ pub mod LawRead
 pub mod RoundTrip
 pub mod LawCells
 pub mod LawWhole
+-- Laws of the definitions, which the proofs of the code cite.
+-- Assumes nothing.
+pub mod Masks
+pub mod Heads
+pub mod Looks
