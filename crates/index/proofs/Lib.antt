@@ -3,3 +3,4 @@
 pub mod Masks
 pub mod Heads
 pub mod Looks
+pub mod Codes
