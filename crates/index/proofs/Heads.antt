@@ -133,3 +133,20 @@ module _ (big : Bool) (s : List ℕ) (h : IndexHead) (r : ReadWell big s h) wher
 
   pub read-is : indexOf big s ≡ pass (indexIn big s h)
   read-is = well big s h r .is
+
+-- the same as bounds
+module _ (big : Bool) (s : List ℕ) (h : IndexHead) {i : ℕ} where
+  pub in-codes : i < h .columns → i < length (indexIn big s h .codes)
+  in-codes g = rw (codes-length big s h) g
+
+  pub past-codes : h .columns ≤ i → length (indexIn big s h .codes) ≤ i
+  past-codes g = rw (codes-length big s h) g
+
+  pub in-rows : i < h .slots → i < length (indexIn big s h .rows)
+  in-rows g = rw (rows-length big s h) g
+
+  pub in-identities : i < h .slots → i < length (indexIn big s h .identities)
+  in-identities g = rw (identities-length big s h) g
+
+  pub past-identities : h .slots ≤ i → length (indexIn big s h .identities) ≤ i
+  past-identities g = rw (identities-length big s h) g

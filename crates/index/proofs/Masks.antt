@@ -64,3 +64,13 @@ power-from (suc k) p n h =
 pub least-power : (n : ℕ) → PowerOfTwo (leastPower n)
 unfolding leastPower
 least-power n = power-from 32 1 n (record { power = 0; is = refl })
+
+-- as a loop counts the doublings that are left
+pub power-left : (left p n : ℕ) → 0 < left → p < n → powerFrom (left - 1) (2 * p) n ≡ powerFrom left p n
+power-left zero p n h g = absurd (omega arith)
+power-left (suc k) p n h g = let e : suc k - 1 ≡ k = omega arith in rw e (sym (power-more k p n g))
+
+pub power-end : (left p n : ℕ) → left ≤ 0 → p ≡ powerFrom left p n
+unfolding powerFrom
+power-end zero p n h = refl
+power-end (suc k) p n h = absurd (omega arith)

@@ -111,13 +111,11 @@ fn columns_most(version: u32) -> usize
 fn code_good(version: u32, c: usize) -> bool
     ensures { λ r. ⌜ r ≡ codeGood version c ⌝ }
 {
-    if version == 5 {
-        if c == 2 {
-            return false;
-        }
-    }
     if c < 1 {
         return false;
+    }
+    if c == 2 {
+        return version != 5;
     }
     c <= 8
 }
@@ -126,9 +124,11 @@ fn codes_good(big: bool, s: &[u8], head: IndexHead) -> bool
     requires { ⌜ Sized (now s) head ⌝ }
     ensures { λ r. ⌜ r ≡ all (codeGood (head .version)) (indexIn big (now (s .entry)) head .codes) ⌝ }
 {
+    let version = head.version;
+    let columns = head.columns;
     let mut i = 0;
-    while i < head.columns {
-        if !code_good(head.version, code_at(big, s, head, i)) {
+    while i < columns {
+        if !code_good(version, code_at(big, s, head, i)) {
             return false;
         }
         i += 1;
@@ -141,8 +141,9 @@ fn has_code(big: bool, s: &[u8], head: IndexHead, from: usize, c: usize) -> bool
     requires { ⌜ (Sized (now s) head) × (from ≤ head .columns) ⌝ }
     ensures { λ r. ⌜ r ≡ has (drop «from» (indexIn big (now (s .entry)) head .codes)) c ⌝ }
 {
+    let columns = head.columns;
     let mut i = from;
-    while i < head.columns {
+    while i < columns {
         if c == code_at(big, s, head, i) {
             return true;
         }
@@ -155,8 +156,9 @@ fn codes_distinct(big: bool, s: &[u8], head: IndexHead) -> bool
     requires { ⌜ Sized (now s) head ⌝ }
     ensures { λ r. ⌜ r ≡ distinct (indexIn big (now (s .entry)) head .codes) ⌝ }
 {
+    let columns = head.columns;
     let mut i = 0;
-    while i < head.columns {
+    while i < columns {
         let c = code_at(big, s, head, i);
         i += 1;
         if has_code(big, s, head, i, c) {
@@ -179,10 +181,12 @@ fn slots_good(big: bool, s: &[u8], head: IndexHead) -> bool
     requires { ⌜ Sized (now s) head ⌝ }
     ensures { λ r. ⌜ r ≡ slotsGood (head .units) (indexIn big (now (s .entry)) head .identities) (indexIn big (now (s .entry)) head .rows) ⌝ }
 {
+    let units = head.units;
+    let slots = head.slots;
     let mut i = 0;
-    while i < head.slots {
+    while i < slots {
         let row = row_at(big, s, head, i);
-        if row > head.units {
+        if row > units {
             return false;
         }
         if !zero_together(row, identity_at(big, s, head, i)) {
