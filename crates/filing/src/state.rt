@@ -1,15 +1,10 @@
 // What is known of the objects that are filed, by value. Rows, identities seen, strings and unit places stand in work.
+use places::Kept;
 
 // A table: how many rows it has, and which columns some row has.
 pub struct Table {
     pub count: usize,
     pub has: [bool; 8],
-}
-
-// The kept units of info, or of types: how many there are, and how many bytes they have together.
-pub struct Kept {
-    pub count: usize,
-    pub bytes: usize,
 }
 
 // The bases say how many bytes of each section the objects have together.
