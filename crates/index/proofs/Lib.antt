@@ -16,3 +16,4 @@ pub mod LawRead
 pub mod RoundTrip
 pub mod LawCells
 pub mod LawWhole
+pub mod LawExact
