@@ -17,3 +17,4 @@ pub mod LawRead
 pub mod RoundTrip
 pub mod LawCells
 pub mod LawWhole
+pub mod LawExact
