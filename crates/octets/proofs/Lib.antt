@@ -10,3 +10,5 @@ pub mod Regions
 pub mod Lists
 pub mod Elements
 pub mod Joined
+pub mod Mapped
+pub mod Stores
