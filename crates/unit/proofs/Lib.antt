@@ -2,3 +2,4 @@
 -- Assumes nothing.
 pub mod Entries
 pub mod Sizes
+pub mod Fields

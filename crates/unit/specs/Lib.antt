@@ -5,3 +5,4 @@ pub mod Widths
 pub mod Abbreviations
 pub mod Root
 pub mod UnitRead
+pub mod Headers
