@@ -1,0 +1,5 @@
+-- Laws of units, and the proofs of their readers.
+-- Assumes nothing.
+pub mod Entries
+pub mod Sizes
+pub mod Fields
