@@ -10,15 +10,11 @@ use native.Mathlib.Decide.{ℕ-discrete}
 use lib.ListN.{length}
 use Rattle.octets.specs.Checked.{pass}
 use Rattle.bundle.specs.Bundle.{Part, Item, object, section, Step, more, end, broken, Object, Bundle, filledUp, leading, objectsOf, firstPart, bundleOf}
+use Rattle.bundle.proofs.Every.{Every, nothing, also}
 use Rattle.bundle.proofs.Passed.{here, stepHere, here-end, here-broken, left-broken, left-more, left-cons, pass-only}
 use Rattle.bundle.proofs.Next.{ObjectHere, SectionHere, object-step, section-step, end-last}
 use Rattle.bundle.proofs.Sections.{first-same, first-other}
 use Rattle.bundle.proofs.Whole.{Readable, readable}
-
--- each one of a list
-pub data Every {A : Type 0} (P : A → Type 0) : List A → Type 0 where
-  nothing : Every P []
-  also : {x : A} {xs : List A} → P x → Every P xs → Every P (x ∷ xs)
 
 -- a section lies in the bundle, at a place that is a multiple of 4, behind the head and an object word
 pub record Lies (b : List ℕ) (p : Part) : Type 0 where
