@@ -1,20 +1,20 @@
 -- Passes over a bundle that can be read: over one object's sections, and over the objects. Each law takes an answer of `next_item`.
 -- Assumes nothing.
 use mathlib.Core.Path.{_≡_, refl, ap, sym, _∙_}
-use mathlib.Core.Bool.{Bool, true, false}
+use mathlib.Core.Bool.{true, false}
 use mathlib.Core.List.{List, [], _∷_, _++_, append-nil, append-assoc}
 use Prim.Native.Nat.{ℕ, _+_}
 use native.Mathlib.Omega.{arith}
 use lib.ListN.{drop}
-use Rattle.octets.specs.Checked.{Check, pass, refuse}
-use Rattle.bundle.specs.Bundle.{Part, Item, object, section, Object, Bundle, more, end, broken, stepAt, filledUp, leading, objectsOf, objectFirst, bundleOf}
+use Rattle.octets.specs.Checked.{pass}
+use Rattle.bundle.specs.Bundle.{Part, Item, object, section, Object, Bundle, more, end, stepAt, filledUp, leading, objectsOf, objectFirst, bundleOf}
 use Rattle.bundle.specs.Next.{nextOf}
-use Rattle.bundle.specs.Scan.{placeBehind, sectionsOf}
+use Rattle.bundle.specs.Scan.{placeBehind}
 use Rattle.bundle.specs.declared.Item.the-variants.{Object as AnObject, Section as ASection, End, Broken}
 use Rattle.bundle.proofs.Passed.{here, stepHere, left-broken, left-end, left-more, left-cons}
-use Rattle.bundle.proofs.Next.{ObjectHere, SectionHere, object-here, section-here, section-step, end-here, broken-here}
+use Rattle.bundle.proofs.Next.{object-here, section-here, section-step, end-here, broken-here}
 use Rattle.bundle.proofs.Items.{behind, behind-objects, behind-first}
-use Rattle.bundle.proofs.Whole.{Readable, readable}
+use Rattle.bundle.proofs.Whole.{readable}
 
 -- the items at the place where the leading sections end
 pub here-behind : (b : List ℕ) (at : ℕ) (is : List Item) → here b at ≡ pass is → here b (placeBehind at (leading is)) ≡ pass (behind is)

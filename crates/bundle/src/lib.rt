@@ -333,10 +333,10 @@ pub fn put_section(code: u32, s: &[u8], d: &mut [u8], at: usize) -> usize
     ensures output { λ _. ⌜ now (d .exit) ≡ placed (now (d .entry)) at (wordBytes (0x2000_0000 + code * 0x80_0000 + length (now (s .entry))) ++ now (s .entry)) ⌝ }
 {
     let size = s.len();
-    let filled = filled_up(size);
+    let room = filled_up(size);
     put_section_word(code, size, d, at);
     octets::put_bytes(d, at + 4, s);
-    at + 4 + filled
+    at + 4 + room
 }
 
 // The end word behind this many bytes, which the caller keeps below the limit of a package.

@@ -1,21 +1,14 @@
 -- `bundle::object_encoding` meets its contract.
 -- Assumes nothing.
-use mathlib.Core.Path.{_≡_, refl, ap, sym, _∙_}
-use native.Mathlib.Omega.{arith}
 use Rattle.bundle.specs.Encoding.{encodingOf}
 use Rattle.bundle.specs.Next.{stating, statedBy}
 use borrow.Author.Needs.{needs}
 use Rattle.bundle.proofs.object_encoding.Statement.{statement}
 use Rattle.bundle.proofs.object_encoding.Tie as tie
-use Rattle.bundle.proofs.object_encoding.Reads as reads
-use Rattle.bundle.proofs.object_encoding.Lts as lts
-use Rattle.bundle.proofs.encoding_good.Reads as encoding-good-reads
 
--- src/lib.rt:94:15
 encoding-good-requires : tie.Need-encoding-good-requires
 encoding-good-requires c κs = search needs
 
--- src/lib.rt:84:1
 returns : tie.Need-returns
 unfolding statedBy stating encodingOf
 returns c = rw (c .encoding-good .ensures)
