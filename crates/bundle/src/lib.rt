@@ -18,7 +18,7 @@ ghost use Rattle.bundle.specs.Bundle.{
   lengthGood,
 };
 ghost use Rattle.bundle.specs.Encoding.{encodingGood};
-ghost use Rattle.bundle.specs.Scan.{Notable, Reaches, sectionsOf, scanOf, noted};
+ghost use Rattle.bundle.specs.Scan.{Notable, Reaches, sectionsOf, scanOf, noted, unitSectionOf};
 ghost use Rattle.bundle.specs.Next.{nextOf, ends, wordsOf, itemsGood, stating, statedBy};
 
 // What stands at a place of a bundle, with the place behind it; of a section also its code, and where its bytes lie.
@@ -41,6 +41,12 @@ pub struct Scan {
     pub start: [usize; 14],
     pub size: [usize; 14],
     pub next: usize,
+}
+
+// An info or types section: its code, where its bytes lie, and the place behind it.
+pub enum UnitSection {
+    Found(u32, usize, usize, usize),
+    Done,
 }
 
 // What an object word states, and whether 4 lets it pass.
@@ -293,6 +299,33 @@ pub fn scan_object(b: &[u8], from: usize) -> Scan
             }
             Item::Broken => {
                 return scan;
+            }
+        }
+    }
+}
+
+// The next info or types section of an object, from a place behind its word on. The caller has checked the words of the bundle.
+pub fn next_unit_section(b: &[u8], from: usize) -> UnitSection
+    requires { ⌜ Reaches (now b) from ⌝ }
+    ensures { λ r. ⌜ r ≡ unitSectionOf (sectionsOf (items from (drop from (now (b .entry))))) ⌝ }
+{
+    let mut at = from;
+    loop {
+        match next_item(b, at) {
+            Item::Section(code, start, size, next) => {
+                if code < 3 {
+                    return UnitSection::Found(code, start, size, next);
+                }
+                at = next;
+            }
+            Item::Object(_, _) => {
+                return UnitSection::Done;
+            }
+            Item::End => {
+                return UnitSection::Done;
+            }
+            Item::Broken => {
+                return UnitSection::Done;
             }
         }
     }
