@@ -1,25 +1,23 @@
 -- A walk over the sections of one object that hold units, in the order of the bundle.
 -- Assumes nothing.
 use mathlib.Core.Path.{_≡_, refl, ap, sym, _∙_}
-use mathlib.Core.Bool.{Bool, true, false, _||_}
+use mathlib.Core.Bool.{Bool, true, false}
 use mathlib.Core.List.{List, [], _∷_, _++_, append-nil, append-assoc}
 use Prim.Native.Nat.{ℕ, _+_, _≤_, _<_}
 use native.Mathlib.Omega.{arith}
-use native.Mathlib.Decide.{decLe, ℕ-discrete}
-use lib.Dec.{eqb}
+use native.Mathlib.Decide.{ℕ-discrete}
 use lib.ListN.{length, drop}
 use borrow.Author.Tests.{eq-eqb, ne-eqb}
 use Rattle.octets.specs.Lists.{those}
-use Rattle.octets.specs.Checked.{Check, pass, refuse}
+use Rattle.octets.specs.Checked.{Check, pass}
 use Rattle.octets.proofs.Lists.{those-keeps, those-skips}
 use Rattle.bundle.specs.Bundle.{Part, Item, object, section, more, filledUp, stepAt, items, leading}
 use Rattle.bundle.specs.Next.{nextOf}
 use Rattle.bundle.specs.Scan.{Reaches, sectionsOf, holdsUnits, unitParts, unitSectionOf}
 use Rattle.bundle.specs.declared.Item.the-variants.{Object, Section, End, Broken}
-use Rattle.bundle.specs.declared.UnitSection.{UnitSection}
 use Rattle.bundle.specs.declared.UnitSection.the-variants.{Found, Done}
 use Rattle.bundle.proofs.Passed.{here, stepHere, left-broken, left-end, left-more, left-cons}
-use Rattle.bundle.proofs.Next.{SectionHere, object-here, section-here, section-step, end-here, broken-here}
+use Rattle.bundle.proofs.Next.{object-here, section-here, section-step, end-here, broken-here}
 
 module _ (p : Part) where
   pub units-yes : 1 ≤ p .code → p .code < 3 → holdsUnits p ≡ true

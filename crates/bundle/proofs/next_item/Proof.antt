@@ -1,12 +1,8 @@
 -- `bundle::next_item` meets its contract.
 -- Assumes nothing.
-use mathlib.Core.Path.{ap, _∙_}
-use Prim.Native.Nat.{ℕ, _/_, _%_}
+use mathlib.Core.Path.{_∙_}
 use native.Mathlib.Omega.{arith}
-use lib.ListN.{drop}
 use denote.Ref.{now}
-use Rattle.bundle.specs.Bundle.{sectionStep, endStep}
-use Rattle.bundle.specs.Next.{nextOf}
 use Rattle.bundle.proofs.Answers.{no-word, an-object, a-section, an-end, another}
 use borrow.Author.Needs.{needs}
 use Rattle.bundle.proofs.next_item.Statement.{statement}
