@@ -1,4 +1,6 @@
 -- Laws that tie the words of a table to its rows, and the proofs of the code.
 -- Assumes nothing.
 pub mod LawStored
+pub mod LawRows
 pub mod LawLoops
+pub mod LawSeen

@@ -5,8 +5,11 @@ ghost use lib.ListN.{length};
 ghost use Rattle.rows.specs.Layout.{columnsFor, sectionAt, codeAt};
 
 const SECTIONS_FOUR: [usize; 8] = [1, 2, 3, 4, 5, 6, 7, 8];
+
 const SECTIONS_FIVE: [usize; 8] = [1, 3, 4, 9, 10, 6, 8, 0];
+
 const CODES_FOUR: [u32; 8] = [1, 2, 3, 4, 5, 6, 7, 8];
+
 const CODES_FIVE: [u32; 8] = [1, 3, 4, 5, 8, 6, 7, 0];
 
 pub fn column_count(five: bool) -> usize

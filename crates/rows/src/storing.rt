@@ -12,7 +12,6 @@ ghost use Rattle.rows.specs.Layout.{
   identityIn,
   identityFor,
 };
-
 use crate::Cells;
 
 // Stores two words at a place. Callers keep both below 2 to the power 32.

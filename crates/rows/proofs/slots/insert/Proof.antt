@@ -35,8 +35,8 @@ loop-holds c = (refl, free-start _ _ _ _ (c .before .before .before .pre .0) (c 
 -- src/slots.rt:54:12
 word-requires : tie.Need-word-requires Inv-loop μ-loop
 word-requires c κs =
-      let l = c .before .before in
-      seek-inside (l .loop .inv .0) (l .loop .inv .1)
+    let l = c .before .before in
+    seek-inside (l .loop .inv .0) (l .loop .inv .1)
 
 -- src/slots.rt:55:25
 narrow-requires : tie.Need-narrow-requires Inv-loop μ-loop
@@ -45,33 +45,33 @@ narrow-requires c κs = omega arith
 -- src/slots.rt:55:13
 mul-slots : tie.Need-mul-slots Inv-loop μ-loop
 mul-slots c =
-      let l = c .before .before .before .before .before in
-      omega (arith, l .loop .inv .1 .inside)
+    let l = c .before .before .before .before .before in
+    omega (arith, l .loop .inv .1 .inside)
 
 -- src/slots.rt:55:13
 slice-write-slots : tie.Need-slice-write-slots Inv-loop μ-loop
 slice-write-slots c =
-      let l = c .before .before .before .before .before in
-      seek-inside (l .loop .inv .0) (l .loop .inv .1)
+    let l = c .before .before .before .before .before in
+    seek-inside (l .loop .inv .0) (l .loop .inv .1)
 
 -- src/slots.rt:56:13
 same-length : tie.Need-same-length Inv-loop μ-loop
 same-length c =
-      let l = c .before .before .before .before .before in
-      simp length-set (ap length (l .loop .inv .0))
+    let l = c .before .before .before .before .before in
+    simp length-set (ap length (l .loop .inv .0))
 
 -- src/slots.rt:56:13
 returns : tie.Need-returns Inv-loop μ-loop
 returns c =
-      let i = c .before .before .before .before in
-      insert-some (i .before .loop .inv .0) (i .before .loop .inv .1) (i .loop-test .taken) (c .before .before .word .ensures) (c .before .if1 .taken) (c .narrow .ensures)
+    let i = c .before .before .before .before in
+    insert-some (i .before .loop .inv .0) (i .before .loop .inv .1) (i .loop-test .taken) (c .before .before .word .ensures) (c .before .if1 .taken) (c .narrow .ensures)
 
 -- src/slots.rt:58:15
 add-at : tie.Need-add-at Inv-loop μ-loop
 add-at c =
-      let s = c .before .before .before .before .before .before in
-      let a = s .before .before in
-      omega (arith, s .stride .ensures, stride-le (a .args .x) _ (a .pre .0))
+    let s = c .before .before .before .before .before .before in
+    let a = s .before .before in
+    omega (arith, s .stride .ensures, stride-le (a .args .x) _ (a .pre .0))
 
 -- src/slots.rt:58:14
 rem-at : tie.Need-rem-at Inv-loop μ-loop
@@ -88,8 +88,8 @@ loop-less c = omega arith
 -- src/slots.rt:53:5
 loop-again : tie.Need-loop-again Inv-loop μ-loop
 loop-again c =
-      let i = c .before .before .before in
-      (i .before .loop .inv .0, insert-on (i .before .loop .inv .0) (i .before .loop .inv .1) (i .loop-test .taken) (c .before .word .ensures) (c .if1 .left))
+    let i = c .before .before .before in
+    (i .before .loop .inv .0, insert-on (i .before .loop .inv .0) (i .before .loop .inv .1) (i .loop-test .taken) (c .before .word .ensures) (c .if1 .left))
 
 -- src/slots.rt:44:1
 same-length-2 : tie.Need-same-length-2 Inv-loop μ-loop

@@ -46,28 +46,28 @@ word-requires c κs = c .before .loop .inv .inside
 -- src/slots.rt:33:13
 returns : tie.Need-returns Inv-loop μ-loop
 returns c =
-      let i = c .before .before in
-      known-unused (i .before .loop .inv) (i .loop-test .taken) (c .before .word .ensures) (c .if1 .taken)
+    let i = c .before .before in
+    known-unused (i .before .loop .inv) (i .loop-test .taken) (c .before .word .ensures) (c .if1 .taken)
 
 -- src/slots.rt:35:12
 identity-for-requires : tie.Need-identity-for-requires Inv-loop μ-loop
 identity-for-requires c κs =
-      let p = c .before .before .before .before .before .before .before .before .pre in
-      row-fits _ _ (p .1) (p .2) (c .before .word .ensures)
+    let p = c .before .before .before .before .before .before .before .before .pre in
+    row-fits _ _ (p .1) (p .2) (c .before .word .ensures)
 
 -- src/slots.rt:36:13
 returns-2 : tie.Need-returns-2 Inv-loop μ-loop
 returns-2 c =
-      let w = c .before .before .before in
-      let i = w .before in
-      known-found (i .before .loop .inv) (i .loop-test .taken) (w .word .ensures) (c .before .before .if1 .left) (c .before .identity-for .ensures) (c .if2 .taken)
+    let w = c .before .before .before in
+    let i = w .before in
+    known-found (i .before .loop .inv) (i .loop-test .taken) (w .word .ensures) (c .before .before .if1 .left) (c .before .identity-for .ensures) (c .if2 .taken)
 
 -- src/slots.rt:38:15
 add-at : tie.Need-add-at Inv-loop μ-loop
 add-at c =
-      let s = c .before .before .before .before .before .before .before in
-      let a = s .before .before .before in
-      omega (arith, s .stride .ensures, stride-le (a .args .x) _ (a .pre .0))
+    let s = c .before .before .before .before .before .before .before in
+    let a = s .before .before .before in
+    omega (arith, s .stride .ensures, stride-le (a .args .x) _ (a .pre .0))
 
 -- src/slots.rt:38:14
 rem-at : tie.Need-rem-at Inv-loop μ-loop
@@ -80,9 +80,9 @@ loop-less c = omega arith
 -- src/slots.rt:29:5
 loop-again : tie.Need-loop-again Inv-loop μ-loop
 loop-again c =
-      let w = c .before .before .before in
-      let i = w .before in
-      known-on (i .before .loop .inv) (i .loop-test .taken) (w .word .ensures) (c .before .before .if1 .left) (c .before .identity-for .ensures) (c .if2 .left)
+    let w = c .before .before .before in
+    let i = w .before in
+    known-on (i .before .loop .inv) (i .loop-test .taken) (w .word .ensures) (c .before .before .if1 .left) (c .before .identity-for .ensures) (c .if2 .left)
 
 -- src/slots.rt:21:1
 returns-3 : tie.Need-returns-3 Inv-loop μ-loop

@@ -47,16 +47,16 @@ wide64-requires-2 c κs = search needs
 -- src/storing.rt:47:36
 mul-result : tie.Need-mul-result
 mul-result c =
-      let k = c .before .shared-slice-known3 in
-      let i = c .before .before .before .before .before .args .i in
-      omega (arith, k .given (18 * i + 1), c .wide642 .ensures)
+    let k = c .before .shared-slice-known3 in
+    let i = c .before .before .before .before .before .args .i in
+    omega (arith, k .given (18 * i + 1), c .wide642 .ensures)
 
 -- src/storing.rt:47:5
 add-result : tie.Need-add-result
 add-result c =
-      let k = c .before .shared-slice-known3 in
-      let i = c .before .before .before .before .before .args .i in
-      omega (arith, k .given (18 * i + 1), k .given (18 * i), c .wide642 .ensures, c .before .before .wide64 .ensures)
+    let k = c .before .shared-slice-known3 in
+    let i = c .before .before .before .before .before .args .i in
+    omega (arith, k .given (18 * i + 1), k .given (18 * i), c .wide642 .ensures, c .before .before .wide64 .ensures)
 
 -- src/storing.rt:43:1
 returns : tie.Need-returns

@@ -63,8 +63,8 @@ add-store-pair c = omega arith
 -- src/storing.rt:38:9
 store-pair-requires : tie.Need-store-pair-requires Inv-loop μ-loop
 store-pair-requires c κs =
-      let f = c .before .before .before .before .before .before .before .before .pre .1 in
-      (omega arith, f .offset _, f .size _)
+    let f = c .before .before .before .before .before .before .before .before .pre .1 in
+    (omega arith, f .offset _, f .size _)
 
 -- src/storing.rt:39:9
 add-k : tie.Need-add-k Inv-loop μ-loop
@@ -77,8 +77,8 @@ loop-less c = omega arith
 -- src/storing.rt:34:5
 loop-again : tie.Need-loop-again Inv-loop μ-loop
 loop-again c =
-      let l = c .before .before .before .before .before .before .before .before in
-      (omega arith, omega arith, l .loop .inv .2, cells-more _ _ _ _ _ _ _ _ (l .loop .inv .3) (omega arith) (c .before .before .before .before .before .before .section-at .ensures) (c .before .before .store-pair .ensures))
+    let l = c .before .before .before .before .before .before .before .before in
+    (omega arith, omega arith, l .loop .inv .2, cells-more _ _ _ _ _ _ _ _ (l .loop .inv .3) (omega arith) (c .before .before .before .before .before .before .section-at .ensures) (c .before .before .store-pair .ensures))
 
 -- src/storing.rt:28:1
 same-length : tie.Need-same-length Inv-loop μ-loop
@@ -87,8 +87,8 @@ same-length c = omega arith
 -- src/storing.rt:28:1
 returns : tie.Need-returns Inv-loop μ-loop
 returns c =
-      let l = c .before in
-      cells-all _ _ _ _ _ _ _ (omega arith) (l .loop .inv .3)
+    let l = c .before in
+    cells-all _ _ _ _ _ _ _ (omega arith) (l .loop .inv .3)
 
 pub store-cells-spec : {M : Type 1} → statement M
 store-cells-spec =

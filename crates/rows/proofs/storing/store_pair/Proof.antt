@@ -44,8 +44,8 @@ same-length c = search needs
 -- src/storing.rt:19:1
 returns : tie.Need-returns
 returns c =
-      let a = c .before .before .before in
-      rw (c .narrow2 .ensures, c .before .narrow .ensures) (placed-two (now (a .args .rows)) (a .args .at) (a .args .first) (a .args .second) (a .pre .0))
+    let a = c .before .before .before in
+    rw (c .narrow2 .ensures, c .before .narrow .ensures) (placed-two (now (a .args .rows)) (a .args .at) (a .args .first) (a .args .second) (a .pre .0))
 
 pub store-pair-spec : {M : Type 1} → statement M
 store-pair-spec =

@@ -40,10 +40,10 @@ same-length c = search needs
 -- src/storing.rt:44:1
 returns : tie.Need-returns
 returns c =
-      let p = c .before .before .before .before .before .before in
-      let z = p .before .before in
-      let a = z .before .before .before in
-      row-stored _ _ _ _ _ _ _ _ _ (a .pre .0) (z .before .size .ensures) (z .size2 .ensures) (p .store-pair .ensures) (c .before .before .store-cells .ensures)
+    let p = c .before .before .before .before .before .before in
+    let z = p .before .before in
+    let a = z .before .before .before in
+    row-stored _ _ _ _ _ _ _ _ _ (a .pre .0) (z .before .size .ensures) (z .size2 .ensures) (p .store-pair .ensures) (c .before .before .store-cells .ensures)
 
 pub store-row-spec : {M : Type 1} → statement M
 store-row-spec =
