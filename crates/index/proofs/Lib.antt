@@ -22,3 +22,4 @@ pub mod LawWhole
 pub mod Masks
 pub mod Heads
 pub mod Looks
+pub mod LawMore
