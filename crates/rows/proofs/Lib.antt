@@ -3,4 +3,5 @@
 pub mod LawStored
 pub mod LawRows
 pub mod LawLoops
+pub mod LawPlacing
 pub mod LawSeen
