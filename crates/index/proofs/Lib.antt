@@ -24,3 +24,4 @@ pub mod Heads
 pub mod Looks
 pub mod Codes
 pub mod LawExact
+pub mod LawMore
