@@ -1,0 +1,11 @@
+-- Laws of the definitions of this crate, which every later proof cites.
+-- Assumes nothing.
+pub mod Checks
+pub mod Parts
+pub mod Numbers
+pub mod Tables
+pub mod Placed
+pub mod Regions
+pub mod Lists
+pub mod Elements
+pub mod Joined
