@@ -1,5 +1,5 @@
 -- Laws of strings: the table of first uses, strings at offsets, the sections written.
 -- Assumes nothing.
 pub mod Table
-
+pub mod Ends
 
