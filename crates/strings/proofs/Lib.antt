@@ -2,4 +2,4 @@
 -- Assumes nothing.
 pub mod Table
 pub mod Ends
-
+pub mod Offsets
