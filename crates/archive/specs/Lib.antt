@@ -1,0 +1,2 @@
+-- Demand 3, over all definitions.
+-- Assumes nothing.
