@@ -5,3 +5,4 @@ pub mod Table
 pub mod Ends
 pub mod Offsets
 pub mod Sections
+pub mod Remapped
