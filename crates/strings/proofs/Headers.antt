@@ -5,6 +5,7 @@ use mathlib.Core.Logic.{⊎-elim}
 use mathlib.Core.Bool.{Bool, true, false, _&&_}
 use mathlib.Core.List.{List, [], _∷_}
 use Prim.Native.Nat.{ℕ, suc, _+_, _*_, _-_, _/_, _%_, _<_, _≤_}
+use native.Mathlib.Nat.{zero-div}
 use native.Mathlib.Omega.{arith}
 use native.Mathlib.Numerals.{add-one}
 use lib.Dec.{eqb, leb}
@@ -118,6 +119,13 @@ module _ (e : Encoding) (s : List ℕ) where
     well-formed t g =
         rw (p, q)
         (ap Count (sym (length-entriesIn e s)) ∙ sym (ap entriesRead (whole-entries e s (record { header = t; even = rw (p, q) at g }))))
+
+    -- how many there are
+    pub count-is : (length s - h) / w ≡ length (entriesIn e s)
+    count-is = rw (p, q) (sym (length-entriesIn e s))
+
+    pub count-none : length s < h → 0 ≡ length (entriesIn e s)
+    count-none l = let z : length s - h ≡ 0 = omega arith in sym (zero-div w) ∙ (rw z at count-is)
 
     -- where an entry ends
     pub entry-ends : (k : ℕ) → Sound e → k < length (entriesIn e s) → h + w * k + w ≤ length s

@@ -18,7 +18,7 @@ use Rattle.octets.proofs.Lists.{same-eq, same-refl, any-cons, any-stops}
 use Rattle.octets.proofs.Parts.{part-append-front}
 use Rattle.octets.proofs.Joined.{map-append, joined-append, joined-one, sum-append}
 use Rattle.strings.specs.Strings.{put, putAll, firstUses, ended, strOf, offsetIn, upToZero, stringAt}
-use Rattle.strings.proofs.Table.{isIn, put-grows, putAll-grows, put-known, put-new, used-in, Distinct}
+use Rattle.strings.proofs.FirstUses.{isIn, put-grows, putAll-grows, put-known, put-new, used-in, Distinct}
 use Rattle.strings.proofs.Ends.{NoZero, upTo-ended}
 
 -- ---- the str section

@@ -14,7 +14,7 @@ use Rattle.octets.proofs.Tables.{length-numbersOf, numbersIn-numbersOf}
 use Rattle.bundle.specs.Encoding.{Encoding}
 use Rattle.strings.specs.Strings.{headerSize, entriesIn, entriesOf, strOf, offsetIn, remapped, stringsAt, stringAt, firstUses}
 use Rattle.strings.proofs.Offsets.{offset-le, string-in-strOf}
-use Rattle.strings.proofs.Table.{isIn}
+use Rattle.strings.proofs.FirstUses.{isIn}
 use Rattle.strings.proofs.Ends.{NoZero, length-stringsAt, stringsAt-at, stringAt-is}
 use Rattle.strings.proofs.Sections.{Sound, Whole, header-within, whole-length, length-entriesIn, entries-whole}
 
