@@ -180,3 +180,32 @@ pub reading-more : (start n : ℕ) (s : List ℕ) (i : ℕ) → start ≤ i → 
 reading-more start n s i h g e =
     let z : i - start + 1 ≡ i + 1 - start = omega arith in
     read-turn start (i - start) n s i g e ∙ ap (λ (k : ℕ). readOn start k (upToZero n (drop (i + 1) s))) z
+
+-- ---- the string of an entry, by its place in the bundle
+-- what was read in a part that starts at base
+pub moved : (base start size : ℕ) (m : Check (List ℕ)) → At start size ≡ stringRead start m → At (base + start) size ≡ stringRead (base + start) m
+unfolding stringRead
+moved base start size (pass t) e = let n : size ≡ length t = cc in ap (At (base + start)) n
+moved base start size (refuse n) e = absurd (let z : _≡_ {A = ℕ} 0 1 = cc in omega arith)
+
+-- where it starts is the offset
+pub starts-at : (start size offset : ℕ) (m : Check (List ℕ)) → At start size ≡ stringRead offset m → start ≡ offset
+unfolding stringRead
+starts-at start size offset (pass t) e = cc
+starts-at start size offset (refuse n) e = absurd (let z : _≡_ {A = ℕ} 0 1 = cc in omega arith)
+
+pub read-missing : (start : ℕ) (m : Check (List ℕ)) → Missing ≡ stringRead start m → (n : ℕ) × (m ≡ refuse n)
+unfolding stringRead
+read-missing start (pass t) e = absurd (let z : _≡_ {A = ℕ} 0 1 = cc in omega arith)
+read-missing start (refuse n) e = (n, refl)
+
+pub read-string : (at size start : ℕ) (m : Check (List ℕ)) → At at size ≡ stringRead start m → (t : List ℕ) × (m ≡ pass t) × (at ≡ start) × (size ≡ length t)
+unfolding stringRead
+read-string at size start (pass t) e = (t, refl, cc, cc)
+read-string at size start (refuse n) e = absurd (let z : _≡_ {A = ℕ} 0 1 = cc in omega arith)
+
+-- a missing string is missing wherever its part starts
+pub missing-moved : (start other : ℕ) (m : Check (List ℕ)) → Missing ≡ stringRead start m → Missing ≡ stringRead other m
+unfolding stringRead
+missing-moved start other (pass t) e = absurd (let z : _≡_ {A = ℕ} 0 1 = cc in omega arith)
+missing-moved start other (refuse n) e = refl

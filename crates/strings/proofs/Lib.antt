@@ -9,3 +9,5 @@ pub mod Remapped
 pub mod Headers
 pub mod Holding
 pub mod Keeping
+pub mod Places
+pub mod Adding

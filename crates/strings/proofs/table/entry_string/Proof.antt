@@ -1,3 +1,15 @@
+use Rattle.strings.proofs.Places.{entry-cut, entry-missing, entry-read, entry-start}
+use Rattle.bundle.specs.Encoded.{encodingIs}
+-- `entry_string` meets its contract.
+-- Assumes nothing.
+use mathlib.Core.Path.{_≡_, sym, ap, _∙_}
+use Prim.Native.Nat.{_+_, _≤_}
+use native.Mathlib.Omega.{arith}
+use denote.Ref.{now}
+use lib.ListN.{length}
+use Rattle.octets.proofs.Parts.{part-cut}
+use Rattle.strings.specs.Kept.{Inside, bytesAt}
+use Rattle.strings.proofs.Headers.{moved, starts-at, missing-moved}
 use borrow.Author.Needs.{needs}
 use Rattle.strings.proofs.table.entry_string.Statement.{statement}
 use Rattle.strings.proofs.table.entry_string.Tie as tie
@@ -8,7 +20,8 @@ use Rattle.strings.proofs.entries.string_at.Reads as string-at-reads
 
 -- src/table.rt:135:16
 add-last : tie.Need-add-last
-add-last c = ?
+unfolding Inside
+add-last c = omega (arith, c .before .before .pre .0)
 
 -- src/table.rt:136:39
 sub-entry-at : tie.Need-sub-entry-at
@@ -20,15 +33,19 @@ part-entry-at-start c = search needs
 
 -- src/table.rt:136:39
 part-entry-at-end : tie.Need-part-entry-at-end
-part-entry-at-end c = ?
+unfolding Inside
+part-entry-at-end c = omega (arith, c .before .before .pre .0)
 
 -- src/table.rt:136:9
 entry-at-requires : tie.Need-entry-at-requires
-entry-at-requires c κs = ?
+entry-at-requires c κs =
+    let a = c .before .before .before in
+    entry-cut (encodingIs (a .args .e)) (now (a .args .b)) (a .args .offsets) (a .args .strings) (a .args .k) (a .pre .2)
 
 -- src/table.rt:138:15
 add-end : tie.Need-add-end
-add-end c = ?
+unfolding Inside
+add-end c = omega (arith, c .before .before .before .before .before .pre .1)
 
 -- src/table.rt:139:58
 sub-string-at : tie.Need-sub-string-at
@@ -40,7 +57,8 @@ part-string-at-start c = search needs
 
 -- src/table.rt:139:58
 part-string-at-end : tie.Need-part-string-at-end
-part-string-at-end c = ?
+unfolding Inside
+part-string-at-end c = omega (arith, c .before .before .before .before .before .pre .1)
 
 -- src/table.rt:139:39
 string-at-requires : tie.Need-string-at-requires
@@ -56,15 +74,27 @@ enum-told c = search needs
 
 -- src/table.rt:140:9
 returns : tie.Need-returns
-returns c = ?
+returns c =
+    let s = c .before .before in
+    let r = s .before .before .before in
+    let a = r .before .before .before .before in
+    entry-missing (encodingIs (a .args .e)) (now (a .args .b)) (a .args .offsets) (a .args .strings) (a .args .k) _ _ (r .entry-at .ensures) (s .string-at .ensures 9) (c .enum-told .given .1)
 
 -- src/table.rt:142:20
 add-t14 : tie.Need-add-t14
-add-t14 c = ?
+add-t14 c =
+    let s = c .before .before .before in
+    let r = s .before .before .before in
+    let a = r .before .before .before .before in
+    omega (arith, entry-start (encodingIs (a .args .e)) (now (a .args .b)) (a .args .offsets) (a .args .strings) (a .args .k) _ _ (r .entry-at .ensures) (s .string-at .ensures 9) _ _ (a .pre .1) (c .before .start .given .1))
 
 -- src/table.rt:124:1
 returns-2 : tie.Need-returns-2
-returns-2 c = ?
+returns-2 c =
+    let s = c .before .before .before in
+    let r = s .before .before .before in
+    let a = r .before .before .before .before in
+    entry-read (encodingIs (a .args .e)) (now (a .args .b)) (a .args .offsets) (a .args .strings) (a .args .k) _ _ (r .entry-at .ensures) (s .string-at .ensures 9) _ _ (c .before .start .given .1)
 
 pub entry-string-spec : {M : Type 1} → statement M
 entry-string-spec =
