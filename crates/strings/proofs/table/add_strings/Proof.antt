@@ -84,9 +84,21 @@ returns c =
     let m = read-missing _ _ (sym (c .enum-told .given .1) ∙ c .before .before .entry-string .ensures) in
     λ ts k. adding-missing _ _ ts _ _ _ (m .0) (rw (← counted (i .before .before)) (i .loop-test .taken)) (m .1)
 
+named : (c : tie.After-start Inv-loop μ-loop)
+    → (let l = c .before .before .before .before in let a = l .before .before .before .before .before .before .args in Named (encodingIs (a .e)) (now (a .b)) (a .offsets) (a .strings) (l .loop .k) (c .start .given .0 .0) (c .start .given .0 .1 .0))
+named c =
+    let l = c .before .before .before .before in
+    let a = l .before .before .before .before .before .before in
+    entry-named (encodingIs (a .args .e)) (now (a .args .b)) (a .args .offsets) (a .args .strings) (l .loop .k) _ _ (a .pre .2) (sym (c .start .given .1) ∙ c .before .before .entry-string .ensures)
+
 -- src/table.rt:166:9
 get-or-insert-requires : tie.Need-get-or-insert-requires Inv-loop μ-loop
-get-or-insert-requires c κs = ?
+get-or-insert-requires c κs =
+    let n = named (c .before .before) in
+    let l = c .before .before .before .before .before .before in
+    let a = l .before .before .before .before .before .before in
+    let d = l .loop .inv .3 (a .pre .4 .0) (a .pre .4 .1) in
+    (a .pre .0, n .fits, omega (arith, l .loop .inv .1, l .loop .inv .2, a .pre .3, counted (l .before), c .before .before .before .before .before .loop-test .taken), (putAll (a .pre .4 .0) (d .used), d .kept))
 
 -- src/table.rt:167:9
 add-k : tie.Need-add-k Inv-loop μ-loop
@@ -98,7 +110,17 @@ loop-less c = omega arith
 
 -- src/table.rt:162:5
 loop-again : tie.Need-loop-again Inv-loop μ-loop
-loop-again c = ?
+loop-again c =
+    let g = c .before .before in
+    let n = named (g .before .before .before) in
+    let i = g .before .before .before .before .before .before in
+    let l = i .before in
+    (
+      omega arith,
+      g .get-or-insert .kept .1 .1 .1 .0 ∙ l .loop .inv .1,
+      omega (arith, g .get-or-insert .ensures .1, l .loop .inv .2),
+      λ ts k. (let d = l .loop .inv .3 ts k in adding-more _ _ _ ts _ _ _ d _ _ (n .string) _ _ (rw (counted (l .before)) at (i .loop-test .taken)) (n .named) (n .bytes) (g .get-or-insert .ensures .0 (putAll ts (d .used)) (d .kept))),
+    )
 
 -- src/table.rt:146:1
 same-length-2 : tie.Need-same-length-2 Inv-loop μ-loop
