@@ -25,7 +25,7 @@ use Rattle.strings.specs.declared.entries.Entries.the-variants.{Count, I
 use Rattle.strings.specs.declared.entries.StringRead.{StringRead}
 use Rattle.strings.specs.declared.entries.StringRead.the-variants.{At, Missing}
 use Rattle.strings.proofs.Ends.{upTo-none, upTo-zero, upTo-more, stringAt-beyond}
-use Rattle.strings.proofs.Sections.{true-narrow, true-wide, true-four, header-five, header-four, whole-entries, entries-false, entries-odd, length-entriesIn, Sound, entry-within, entriesIn-at}
+use Rattle.strings.proofs.StrOffsets.{true-narrow, true-wide, true-four, header-five, header-four, whole-entries, entries-false, entries-odd, length-entriesIn, Sound, entry-within, entriesIn-at}
 
 -- ---- what the code holds of an encoding
 module _ (e : ObjectEncoding) where

@@ -4,10 +4,11 @@ pub mod Examples
 pub mod FirstUses
 pub mod Ends
 pub mod Offsets
-pub mod Sections
+pub mod StrOffsets
 pub mod Remapped
 pub mod Headers
 pub mod Holding
 pub mod Keeping
 pub mod Places
 pub mod Adding
+pub mod Writing

@@ -16,7 +16,7 @@ use Rattle.strings.specs.Strings.{headerSize, entriesIn, entriesOf, strO
 use Rattle.strings.proofs.Offsets.{offset-le, string-in-strOf}
 use Rattle.strings.proofs.FirstUses.{isIn}
 use Rattle.strings.proofs.Ends.{NoZero, length-stringsAt, stringsAt-at, stringAt-is}
-use Rattle.strings.proofs.Sections.{Sound, Whole, header-within, whole-length, length-entriesIn, entries-whole}
+use Rattle.strings.proofs.StrOffsets.{Sound, Whole, header-within, whole-length, length-entriesIn, entries-whole}
 
 pub length-map : {A B : Type 0} (f : A → B) (xs : List A) → length (map f xs) ≡ length xs
 length-map f [] = refl

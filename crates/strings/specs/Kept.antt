@@ -9,7 +9,8 @@ use lib.ListN.{length, take, getD}
 use Rattle.octets.specs.Octets.{part}
 use Rattle.octets.specs.Lists.{any, same}
 use Rattle.octets.specs.Checked.{Check, pass, refuse}
-use Rattle.strings.specs.Strings.{putAll, strOf, offsetIn}
+use Rattle.bundle.specs.Encoding.{Encoding}
+use Rattle.strings.specs.Strings.{entriesIn, entriesOf, stringsAt, putAll, strOf, offsetIn}
 use Rattle.strings.specs.declared.table.Found.{Found}
 use Rattle.strings.specs.declared.table.Found.the-variants.{At, Missing}
 use Rattle.strings.specs.declared.table.Added.{Added}
@@ -52,3 +53,10 @@ foundIn table s = elim (any (same s) table) [ true ↦ At (offsetIn table s) | f
 pub record AddedIs (b region : List ℕ) (table : List (List ℕ)) (strings : Check (List (List ℕ))) (r : Added) : Type 0 where
   pub kept : (t : StringTable) → r ≡ Table t → (used : List (List ℕ)) × (strings ≡ pass used) × Kept b region t (putAll table used)
   pub missing : r ≡ NoString → strings ≡ refuse 9
+
+-- an object's str_offsets and str at places of the bundle, which 8 and 9 let pass, and the strings used
+pub record Judged (e : Encoding) (b : List ℕ) (offsets strings : Place) (used : List (List ℕ)) : Type 0 where
+  pub offsets-inside : Inside b offsets
+  pub strings-inside : Inside b strings
+  pub entries : entriesOf e (bytesAt b offsets) ≡ pass (entriesIn e (bytesAt b offsets))
+  pub strings-are : stringsAt (bytesAt b strings) (entriesIn e (bytesAt b offsets)) ≡ pass used

@@ -9,7 +9,7 @@ use denote.Ref.{now}
 use lib.ListN.{length}
 use Rattle.bundle.specs.Encoded.{encodingIs}
 use Rattle.strings.specs.Strings.{headerTrue}
-use Rattle.strings.proofs.Sections.{sound, header-within}
+use Rattle.strings.proofs.StrOffsets.{sound, header-within}
 use Rattle.strings.proofs.Headers.{ill-header, ill-rest, well-formed}
 use borrow.Author.Needs.{needs}
 use Rattle.strings.proofs.entries.check_entries.Statement.{statement}

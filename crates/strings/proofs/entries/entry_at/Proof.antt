@@ -5,7 +5,7 @@ use native.Mathlib.Omega.{arith}
 use denote.Ref.{now}
 use lib.ListN.{length}
 use Rattle.bundle.specs.Encoded.{encodingIs}
-use Rattle.strings.proofs.Sections.{sound}
+use Rattle.strings.proofs.StrOffsets.{sound}
 use Rattle.strings.proofs.Headers.{entry-ends, entry-is}
 use borrow.Author.Needs.{needs}
 use Rattle.strings.proofs.entries.entry_at.Statement.{statement}

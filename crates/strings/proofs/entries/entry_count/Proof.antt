@@ -1,7 +1,7 @@
 -- `entry_count` meets its contract.
 -- Assumes nothing.
 use native.Mathlib.Omega.{arith}
-use Rattle.strings.proofs.Sections.{sound}
+use Rattle.strings.proofs.StrOffsets.{sound}
 use Rattle.strings.proofs.Headers.{count-is, count-none}
 use borrow.Author.Needs.{needs}
 use Rattle.strings.proofs.entries.entry_count.Statement.{statement}

@@ -3,7 +3,7 @@
 use mathlib.Core.Path.{_≡_, ap, _∙_}
 use Prim.Native.Nat.{ℕ, _+_}
 use native.Mathlib.Omega.{arith}
-use Rattle.strings.proofs.Sections.{sound}
+use Rattle.strings.proofs.StrOffsets.{sound}
 use Rattle.strings.proofs.Headers.{size-five, size-four}
 use borrow.Author.Needs.{needs}
 use Rattle.strings.proofs.entries.header_size.Statement.{statement}

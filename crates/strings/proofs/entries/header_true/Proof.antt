@@ -1,7 +1,7 @@
 -- `header_true` meets its contract.
 -- Assumes nothing.
 use mathlib.Core.Path.{sym}
-use Rattle.strings.proofs.Sections.{true-four}
+use Rattle.strings.proofs.StrOffsets.{true-four}
 use Rattle.strings.proofs.Headers.{not-five}
 use borrow.Author.Needs.{needs}
 use Rattle.strings.proofs.entries.header_true.Statement.{statement}

@@ -1,0 +1,30 @@
+use borrow.Author.Needs.{needs}
+use Rattle.strings.proofs.sections.offset_of.Statement.{statement}
+use Rattle.strings.proofs.sections.offset_of.Tie as tie
+use Rattle.strings.proofs.sections.offset_of.Reads as reads
+use Rattle.strings.proofs.sections.offset_of.Lts as lts
+use Rattle.strings.proofs.table.find_string.Reads as find-string-reads
+
+-- src/sections.rt:22:29
+find-string-requires : tie.Need-find-string-requires
+find-string-requires c κs = ?
+
+-- src/sections.rt:22:19
+enum-known-offset : tie.Need-enum-known-offset
+enum-known-offset c = search needs
+
+-- src/sections.rt:23:9
+enum-told : tie.Need-enum-told
+enum-told c = search needs
+
+-- src/sections.rt:23:9
+returns : tie.Need-returns
+returns c = ?
+
+-- src/sections.rt:17:1
+returns-2 : tie.Need-returns-2
+returns-2 c = ?
+
+pub offset-of-spec : {M : Type 1} → statement M
+offset-of-spec =
+    tie.close (tie.spec find-string-requires enum-known-offset enum-told returns returns-2)
