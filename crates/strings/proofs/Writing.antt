@@ -137,3 +137,10 @@ written-none table d at = sym (ap (placed d at) strOf-none ∙ placed-none d at)
 
 pub written-all : (b region : List ℕ) (n : ℕ) (table : List (List ℕ)) (i : ℕ) (d₀ : List ℕ) (at : ℕ) → Held b region n table → n ≤ i → placed d₀ at (strOf (take i table)) ≡ placed d₀ at (strOf table)
 written-all b region n table i d₀ at k h = ap (λ (z : List (List ℕ)). placed d₀ at (strOf z)) (take-all i table (omega (arith, k .count)))
+
+-- ---- room, by the values that the code has
+pub entry-room : (w v at n room i o len : ℕ) → w ≡ v → i < n → at + v * n ≤ room → len ≡ room → o ≡ at + w * i → at + w * i + w ≤ len
+entry-room w v at n room i o len e h g l p = rw (l, e) (entry-fits v n at room i h g)
+
+pub remap-room : (w n count at h size room len : ℕ) → count ≡ n → h + w * n ≡ size → at + size ≤ room → len ≡ room → at + h + w * count ≤ len
+remap-room w n count at h size room len e g k l = rw e (omega arith)

@@ -1,3 +1,6 @@
+-- `put_string` meets its contract.
+-- Assumes nothing.
+use Rattle.strings.proofs.Writing.{ended-is}
 use borrow.Author.Needs.{needs}
 use Rattle.strings.proofs.sections.put_string.Statement.{statement}
 use Rattle.strings.proofs.sections.put_string.Tie as tie
@@ -40,7 +43,11 @@ same-length c = search needs
 
 -- src/sections.rt:97:1
 returns : tie.Need-returns
-returns c = ?
+returns c =
+    let y = c .before .before in
+    let x = y .before .before .before .before in
+    let a = x .before .before .before .before .before in
+    ended-is _ _ _ _ _ _ _ (a .pre .0) (a .pre .1) (x .put-bytes .ensures) (y .put-byte .ensures)
 
 pub put-string-spec : {M : Type 1} → statement M
 put-string-spec =
