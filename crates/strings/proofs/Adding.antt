@@ -1,16 +1,15 @@
 -- Adding the strings of an object's entries one by one.
 -- Assumes nothing.
-use mathlib.Core.Path.{_≡_, refl, sym, ap, _∙_}
+use mathlib.Core.Path.{_≡_, sym, ap, _∙_}
 use mathlib.Core.List.{List, [], _∷_, _++_}
 use Prim.Native.Nat.{ℕ, _+_, _<_, _≤_}
 use native.Mathlib.Omega.{arith}
 use lib.ListN.{length, take, getD}
 use lib.Seq.{take-all}
 use Rattle.octets.specs.Octets.{part}
-use Rattle.octets.specs.Checked.{Check, pass, refuse}
+use Rattle.octets.specs.Checked.{pass, refuse}
 use Rattle.strings.specs.Strings.{stringAt, stringsAt, put, putAll}
 use Rattle.strings.specs.Kept.{Kept, AddedIs}
-use Rattle.strings.specs.declared.table.Added.{Added}
 use Rattle.strings.specs.declared.table.Added.the-variants.{Table, NoString}
 use Rattle.strings.specs.declared.table.StringTable.{StringTable}
 use Rattle.strings.proofs.FirstUses.{putAll-snoc}

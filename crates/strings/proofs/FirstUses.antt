@@ -2,7 +2,7 @@
 -- Assumes nothing.
 use mathlib.Core.Path.{_≡_, refl, sym, ap, _∙_}
 use mathlib.Core.Logic.{⊎-elim}
-use mathlib.Core.Bool.{Bool, true, false, _||_}
+use mathlib.Core.Bool.{Bool, true, false}
 use mathlib.Core.List.{List, [], _∷_, _++_, append-nil, append-assoc}
 use Prim.Native.Nat.{ℕ, zero, suc, _+_, _<_, _≤_}
 use native.Mathlib.Nat.{not-suc-le-zero, le-of-suc-le-suc}
@@ -10,7 +10,7 @@ use native.Mathlib.Omega.{arith}
 use lib.ListN.{length, getD, length-append}
 use Rattle.octets.specs.Lists.{any, same}
 use Rattle.octets.proofs.Checks.{true-false, known, or-left, or-right, or-neither}
-use Rattle.octets.proofs.Lists.{same-refl, same-eq, same-sym, any-cons, any-stops, any-append, any-none-head, any-none-tail}
+use Rattle.octets.proofs.Lists.{same-refl, same-sym, any-cons, any-stops, any-append, any-none-head, any-none-tail}
 use Rattle.octets.proofs.Elements.{any-at}
 use Rattle.strings.specs.Strings.{put, putAll, firstUses}
 

@@ -1,9 +1,8 @@
 -- The cases of a header and of entries as the code tests them, and of a string read byte by byte.
 -- Assumes nothing.
-use mathlib.Core.Path.{_≡_, refl, sym, ap, ap₂, _∙_}
-use mathlib.Core.Logic.{⊎-elim}
+use mathlib.Core.Path.{_≡_, refl, sym, ap, _∙_}
 use mathlib.Core.Bool.{Bool, true, false, _&&_}
-use mathlib.Core.List.{List, [], _∷_}
+use mathlib.Core.List.{List, _∷_}
 use Prim.Native.Nat.{ℕ, suc, _+_, _*_, _-_, _/_, _%_, _<_, _≤_}
 use native.Mathlib.Nat.{zero-div}
 use native.Mathlib.Omega.{arith}
@@ -14,18 +13,17 @@ use lib.Seq.{drop-cons}
 use borrow.Author.Tests.{lt-leb, le-leb, eq-eqb, ne-eqb}
 use Rattle.octets.specs.Octets.{numberAt}
 use Rattle.octets.specs.Checked.{Check, pass, refuse, _>>=_}
-use Rattle.octets.proofs.Checks.{true-false, not-left, not-right}
+use Rattle.octets.proofs.Checks.{not-left, not-right}
 use Rattle.bundle.specs.Encoding.{Encoding}
 use Rattle.bundle.specs.Encoded.{four, encodingIs}
 use Rattle.bundle.specs.declared.encoding.ObjectEncoding.{ObjectEncoding}
 use Rattle.strings.specs.Strings.{headerSize, headerTrue, entriesIn, entriesOf, upToZero, stringAt}
 use Rattle.strings.specs.Answers.{entriesRead, stringRead}
-use Rattle.strings.specs.declared.entries.Entries.{Entries}
 use Rattle.strings.specs.declared.entries.Entries.the-variants.{Count, IllFormed}
 use Rattle.strings.specs.declared.entries.StringRead.{StringRead}
 use Rattle.strings.specs.declared.entries.StringRead.the-variants.{At, Missing}
 use Rattle.strings.proofs.Ends.{upTo-none, upTo-zero, upTo-more, stringAt-beyond}
-use Rattle.strings.proofs.StrOffsets.{true-narrow, true-wide, true-four, header-five, header-four, whole-entries, entries-false, entries-odd, length-entriesIn, Sound, entry-within, entriesIn-at}
+use Rattle.strings.proofs.StrOffsets.{true-narrow, true-wide, header-five, header-four, whole-entries, entries-false, entries-odd, length-entriesIn, Sound, entry-within, entriesIn-at}
 
 -- ---- what the code holds of an encoding
 module _ (e : ObjectEncoding) where

@@ -7,23 +7,19 @@ use mathlib.Core.List.{List, [], _∷_, _++_}
 use Prim.Native.Nat.{ℕ, suc, _+_, _*_, _-_, _<_, _≤_}
 use native.Mathlib.Decide.{decLe}
 use native.Mathlib.Omega.{arith}
-use lib.Dec.{ltb}
 use lib.ListN.{length, take, drop, getD, length-append, List·getD-append}
-use lib.Seq.{take-append-le, getD-at, take-all, take-at}
-use borrow.Author.Tests.{ltb-true, ltb-false, lt-ltb, le-ltb}
+use lib.Seq.{take-append-le, getD-at, take-at}
 use Rattle.octets.specs.Octets.{part, placed}
-use Rattle.octets.specs.Lists.{any, same}
-use Rattle.octets.proofs.Checks.{true-false, known}
-use Rattle.octets.proofs.Parts.{length-part, part-cut}
+use Rattle.octets.specs.Lists.{same}
+use Rattle.octets.proofs.Checks.{known}
+use Rattle.octets.proofs.Parts.{part-cut}
 use Rattle.octets.proofs.Placed.{length-placed}
 use Rattle.octets.proofs.Regions.{getD-placed, getD-before}
-use Rattle.strings.specs.Strings.{put, strOf, offsetIn}
-use Rattle.strings.specs.Kept.{RowHeld, Held, Kept, foundIn}
-use Rattle.strings.specs.declared.table.Found.{Found}
+use Rattle.strings.specs.Strings.{strOf, offsetIn}
+use Rattle.strings.specs.Kept.{RowHeld, Held, foundIn}
 use Rattle.strings.specs.declared.table.Found.the-variants.{At, Missing}
-use Rattle.strings.specs.declared.table.StringTable.{StringTable}
-use Rattle.strings.proofs.FirstUses.{isIn, put-known, put-new, length-put, put-grows}
-use Rattle.strings.proofs.Offsets.{strOf-none, in-turn, offset-turn, in-here, offset-found, in-end, length-strOf-snoc, put-longer}
+use Rattle.strings.proofs.FirstUses.{isIn}
+use Rattle.strings.proofs.Offsets.{strOf-none, in-turn, offset-turn, in-here, offset-found, in-end}
 
 -- ---- a search
 pub found-known : (table : List (List ℕ)) (s : List ℕ) → isIn table s ≡ true → foundIn table s ≡ At (offsetIn table s)
@@ -81,7 +77,7 @@ pub held-none : (b region : List ℕ) → Held b region 0 []
 held-none b region = record { count = refl; room = omega arith; rows = λ i h. absurd (omega arith) }
 
 module _ (b region : List ℕ) (n : ℕ) (table : List (List ℕ)) (k : Held b region n table) (start size offset : ℕ) (room : 3 * n + 3 ≤ length region) (fits : start + size ≤ length b)
-  (at-end : offset ≡ length (strOf table)) where
+    (at-end : offset ≡ length (strOf table)) where
   new : List (List ℕ)
   new = table ++ (part b start size ∷ [])
 

@@ -1,22 +1,20 @@
 -- The state of the table of kept strings: what putting one string leaves, and what adding an object's strings answers.
 -- Assumes nothing.
 use mathlib.Core.Path.{_≡_, refl, sym, ap, _∙_}
-use mathlib.Core.Bool.{Bool, true, false}
-use mathlib.Core.List.{List, [], _∷_, _++_}
+use mathlib.Core.Bool.{true, false}
+use mathlib.Core.List.{List, [], _∷_}
 use Prim.Native.Nat.{ℕ, _+_, _*_, _-_, _<_, _≤_}
 use native.Mathlib.Omega.{arith}
-use lib.Dec.{ltb}
 use lib.ListN.{length, length-append}
 use borrow.Author.Tests.{ltb-true, ltb-false, lt-ltb, le-ltb}
 use Rattle.octets.specs.Octets.{part, placed}
 use Rattle.octets.proofs.Checks.{true-false}
 use Rattle.octets.proofs.Parts.{length-part}
 use Rattle.strings.specs.Strings.{put, strOf}
-use Rattle.strings.specs.Kept.{Held, Kept, foundIn}
-use Rattle.strings.specs.declared.table.Found.{Found}
+use Rattle.strings.specs.Kept.{Kept, foundIn}
 use Rattle.strings.specs.declared.table.Found.the-variants.{At, Missing}
 use Rattle.strings.specs.declared.table.StringTable.{StringTable}
-use Rattle.strings.proofs.FirstUses.{isIn, put-known, put-new, put-grows}
+use Rattle.strings.proofs.FirstUses.{put-known, put-new, put-grows}
 use Rattle.strings.proofs.Offsets.{strOf-none, length-strOf-snoc, put-longer}
 use Rattle.strings.proofs.Holding.{held-none, held-more, known-found, none-found}
 

@@ -2,23 +2,20 @@
 -- Assumes nothing.
 use mathlib.Core.Path.{_≡_, refl, sym, ap, _∙_}
 use mathlib.Core.Logic.{⊎-elim}
-use mathlib.Core.Bool.{Bool, true, false}
+use mathlib.Core.Bool.{true, false}
 use mathlib.Core.List.{List, [], _∷_, _++_, map, append-nil, append-assoc}
 use Prim.Native.Nat.{ℕ, zero, suc, _+_, _<_, _≤_}
-use native.Mathlib.Nat.{not-suc-le-zero, le-of-suc-le-suc}
 use native.Mathlib.Omega.{arith}
 use native.Mathlib.Numerals.{add-one}
 use lib.ListN.{length, take, drop, getD, length-append, drop-of-length-le}
 use lib.Seq.{drop-cons, take-suc, drop-append-add}
-use Rattle.octets.specs.Octets.{part}
 use Rattle.octets.specs.Lists.{any, same, joined, sum}
-use Rattle.octets.specs.Checked.{Check, pass}
+use Rattle.octets.specs.Checked.{pass}
 use Rattle.octets.proofs.Checks.{true-false, known}
 use Rattle.octets.proofs.Lists.{same-eq, same-refl, any-cons, any-stops}
-use Rattle.octets.proofs.Parts.{part-append-front}
-use Rattle.octets.proofs.Joined.{map-append, joined-append, joined-one, sum-append}
+use Rattle.octets.proofs.Joined.{map-append, joined-append}
 use Rattle.strings.specs.Strings.{put, putAll, firstUses, ended, strOf, offsetIn, upToZero, stringAt}
-use Rattle.strings.proofs.FirstUses.{isIn, put-grows, putAll-grows, put-known, put-new, used-in, Distinct}
+use Rattle.strings.proofs.FirstUses.{isIn, put-grows, putAll-grows, put-new, used-in}
 use Rattle.strings.proofs.Ends.{NoZero, upTo-ended}
 
 -- ---- the str section
@@ -93,7 +90,7 @@ offset-append [] more s e = absurd (true-false e refl)
 offset-append (t ∷ ts) more s e =
     ⊎-elim (λ p. offset-here t (ts ++ more) s p ∙ sym (offset-here t ts s p))
     (λ p.
-      offset-next t (ts ++ more) s p ∙ ap (λ (k : ℕ). length t + 1 + k) (offset-append ts more s (sym (any-cons (same s) t ts p) ∙ e)) ∙ sym (offset-next t ts s p))
+    offset-next t (ts ++ more) s p ∙ ap (λ (k : ℕ). length t + 1 + k) (offset-append ts more s (sym (any-cons (same s) t ts p) ∙ e)) ∙ sym (offset-next t ts s p))
     (known (same s t))
 
 pub offset-put : (table : List (List ℕ)) (t s : List ℕ) → isIn table s ≡ true → offsetIn (put table t) s ≡ offsetIn table s
@@ -109,7 +106,7 @@ offset-absent [] s e = rw strOf-none
 offset-absent (t ∷ ts) s e =
     ⊎-elim (λ p. absurd (true-false (any-stops (same s) t ts p) e))
     (λ p.
-      offset-next t ts s p ∙ ap (λ (k : ℕ). length t + 1 + k) (offset-absent ts s (sym (any-cons (same s) t ts p) ∙ e)) ∙ sym (length-strOf-cons t ts))
+    offset-next t ts s p ∙ ap (λ (k : ℕ). length t + 1 + k) (offset-absent ts s (sym (any-cons (same s) t ts p) ∙ e)) ∙ sym (length-strOf-cons t ts))
     (known (same s t))
 
 pub offset-new : (table : List (List ℕ)) (s : List ℕ) → isIn table s ≡ false → offsetIn (put table s) s ≡ length (strOf table)
@@ -141,8 +138,8 @@ strOf-at [] s e = absurd (true-false e refl)
 strOf-at (t ∷ ts) s e =
     ⊎-elim (λ p. (strOf ts, rw (offset-here t ts s p, strOf-cons t ts, ← same-eq s t p) (append-assoc s (0 ∷ []) (strOf ts))))
     (λ p.
-      let r = strOf-at ts s (sym (any-cons (same s) t ts p) ∙ e) in
-      (r .0, rw (offset-next t ts s p, strOf-cons t ts, ← length-ended t) (drop-append-add (ended t) (strOf ts) (offsetIn ts s) ∙ r .1))) (known (same s t))
+    let r = strOf-at ts s (sym (any-cons (same s) t ts p) ∙ e) in
+    (r .0, rw (offset-next t ts s p, strOf-cons t ts, ← length-ended t) (drop-append-add (ended t) (strOf ts) (offsetIn ts s) ∙ r .1))) (known (same s t))
 
 pub string-in-strOf : (n : ℕ) (table : List (List ℕ)) (s : List ℕ) → isIn table s ≡ true → NoZero s → stringAt n (strOf table) (offsetIn table s) ≡ pass s
 unfolding stringAt

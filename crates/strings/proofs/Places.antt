@@ -6,7 +6,7 @@ use Prim.Native.Nat.{ℕ, _+_, _-_, _<_, _≤_}
 use native.Mathlib.Omega.{arith}
 use lib.ListN.{length, take, drop, getD}
 use Rattle.octets.specs.Octets.{part}
-use Rattle.octets.specs.Checked.{Check, pass, refuse}
+use Rattle.octets.specs.Checked.{pass}
 use Rattle.octets.proofs.Parts.{part-cut, part-part, length-part}
 use Rattle.bundle.specs.Encoding.{Encoding}
 use Rattle.strings.specs.Strings.{entriesIn, stringAt}
@@ -15,8 +15,8 @@ use Rattle.strings.specs.Kept.{Inside, bytesAt}
 use Rattle.strings.specs.declared.entries.StringRead.{StringRead}
 use Rattle.strings.specs.declared.entries.StringRead.the-variants.{At, Missing}
 use Rattle.strings.specs.declared.table.Place.{Place}
-use Rattle.strings.proofs.Ends.{stringAt-is, StringIs}
-use Rattle.strings.proofs.Headers.{moved, starts-at, missing-moved, read-missing, read-string}
+use Rattle.strings.proofs.Ends.{stringAt-is}
+use Rattle.strings.proofs.Headers.{moved, starts-at, missing-moved, read-string}
 
 -- a part as the code cuts it
 abbrev pub cut : List ℕ → Place → List ℕ

@@ -1,26 +1,24 @@
 -- Laws of a str_offsets section: its entries, its length, and what is read back of the one that is written.
 -- Assumes nothing.
-use mathlib.Core.Path.{_≡_, refl, sym, ap, _∙_}
+use mathlib.Core.Path.{_≡_, refl, sym, _∙_}
 use mathlib.Core.Logic.{_⊎_, inl, inr, ⊎-elim}
 use mathlib.Core.Bool.{Bool, true, false, _&&_}
-use mathlib.Core.List.{List, [], _∷_, _++_, map}
-use Prim.Native.Nat.{ℕ, zero, suc, _+_, _*_, _-_, _/_, _%_, _^_, _<_, _≤_}
-use native.Mathlib.Nat.{not-suc-le-zero, le-of-suc-le-suc, mul-suc, mul-zero, mul-div-le, mul-le-mul-left, mul-le-mul-right, div-add-mod, mul-div-cancel-left, le-trans, lt-of-le-of-lt}
+use mathlib.Core.List.{List}
+use Prim.Native.Nat.{ℕ, _+_, _*_, _-_, _/_, _%_, _<_, _≤_}
+use native.Mathlib.Nat.{mul-suc, mul-div-le, mul-le-mul-left, mul-le-mul-right, div-add-mod}
 use native.Mathlib.Omega.{arith}
 use lib.Dec.{eqb, leb}
-use lib.ListN.{length, take, drop, getD, length-append, length-drop}
-use lib.Seq.{length-take-le, drop-at, take-at}
+use lib.ListN.{length, drop, getD}
 use borrow.Author.Tests.{leb-true, eqb-true, eq-eqb, ne-eqb, eqb-false}
-use Rattle.octets.specs.Octets.{numberAt, numbersIn, numbersOf, bytesOf}
-use Rattle.octets.specs.Checked.{Check, pass, refuse, _>>=_, require}
-use Rattle.octets.proofs.Checks.{true-false, pass-refuse, pass-inj, refuse-inj, known, fails, passes, require-pass, require-refuse, and-left}
+use Rattle.octets.specs.Octets.{numberAt}
+use Rattle.octets.specs.Checked.{pass, refuse, _>>=_, require}
+use Rattle.octets.proofs.Checks.{pass-refuse, pass-inj, refuse-inj, known, fails, passes, require-pass, and-left}
 use Rattle.octets.proofs.Numbers.{numberAt-drop}
-use Rattle.octets.proofs.Tables.{length-numbersIn, numbersIn-at, length-numbersOf, numbersIn-numbersOf}
+use Rattle.octets.proofs.Tables.{length-numbersIn, numbersIn-at}
 use Rattle.bundle.specs.Encoding.{Encoding}
 use Rattle.bundle.specs.Encoded.{four, encodingIs}
 use Rattle.bundle.specs.declared.encoding.ObjectEncoding.{ObjectEncoding}
-use Rattle.strings.specs.Strings.{headerSize, headerTrue, entriesIn, entriesOf, strOf, offsetIn, remapped}
-use Rattle.strings.proofs.Offsets.{offset-le}
+use Rattle.strings.specs.Strings.{headerSize, headerTrue, entriesIn, entriesOf}
 
 -- ---- the width of what the code holds
 four-cases : (t : Bool) → (four t 8 ≡ 4) ⊎ (four t 8 ≡ 8)
@@ -71,15 +69,15 @@ pub header-within : (e : Encoding) (s : List ℕ) → Sound e → headerTrue e s
 header-within e s w t =
     ⊎-elim
     (λ v.
-      let h = header-five e (eqb-true (e .version) 5 v) in
-      ⊎-elim
-      (λ n.
-        let n4 = eqb-true (e .width) 4 n in
-        let p = first-of-four _ _ _ _ (sym (true-narrow e s (eqb-true (e .version) 5 v) n4) ∙ t) in
-        omega (arith, leb-true 8 (length s) p))
-      (λ n.
-        let p = first-of-four _ _ _ _ (and-left _ _ (sym (true-wide e s (eqb-true (e .version) 5 v) (eqb-false (e .width) 4 n)) ∙ t)) in
-        omega (arith, leb-true 16 (length s) p, w .high)) (known (eqb (e .width) 4)))
+    let h = header-five e (eqb-true (e .version) 5 v) in
+    ⊎-elim
+    (λ n.
+    let n4 = eqb-true (e .width) 4 n in
+    let p = first-of-four _ _ _ _ (sym (true-narrow e s (eqb-true (e .version) 5 v) n4) ∙ t) in
+    omega (arith, leb-true 8 (length s) p))
+    (λ n.
+    let p = first-of-four _ _ _ _ (and-left _ _ (sym (true-wide e s (eqb-true (e .version) 5 v) (eqb-false (e .width) 4 n)) ∙ t)) in
+    omega (arith, leb-true 16 (length s) p, w .high)) (known (eqb (e .width) 4)))
     (λ v. let h = header-four e (eqb-false (e .version) 5 v) in omega arith) (known (eqb (e .version) 5))
 
 -- ---- entries
@@ -137,8 +135,8 @@ pub entries-refused : (e : Encoding) (s : List ℕ) (n : ℕ) → entriesOf e s 
 entries-refused e s n p =
     ⊎-elim
     (λ h.
-      ⊎-elim (λ g. absurd (pass-refuse _ n (sym (whole-entries e s (record { header = h; even = eqb-true _ _ g })) ∙ p)))
-      (λ g. refuse-inj (sym p ∙ entries-odd e s h (eqb-false _ _ g))) (known (eqb ((length s - headerSize e) % e .width) 0)))
+    ⊎-elim (λ g. absurd (pass-refuse _ n (sym (whole-entries e s (record { header = h; even = eqb-true _ _ g })) ∙ p)))
+    (λ g. refuse-inj (sym p ∙ entries-odd e s h (eqb-false _ _ g))) (known (eqb ((length s - headerSize e) % e .width) 0)))
     (λ h. refuse-inj (sym p ∙ entries-false e s h)) (known (headerTrue e s))
 
 -- header and entries are the section

@@ -1,22 +1,21 @@
 -- The sections written from the table of kept strings.
 -- Assumes nothing.
-use mathlib.Core.Path.{_≡_, refl, sym, ap, ap₂, _∙_}
-use mathlib.Core.Bool.{Bool, false}
+use mathlib.Core.Path.{_≡_, sym, ap, ap₂, _∙_}
+use mathlib.Core.Bool.{Bool}
 use mathlib.Core.List.{List, [], _∷_, _++_, map}
-use Prim.Native.Nat.{ℕ, suc, _+_, _*_, _-_, _<_, _≤_}
+use Prim.Native.Nat.{ℕ, _+_, _*_, _-_, _<_, _≤_}
 use native.Mathlib.Omega.{arith}
-use native.Mathlib.Nat.{mul-zero, add-zero}
 use lib.ListN.{length, take, drop, getD, drop-of-length-le}
 use lib.Seq.{ext-getD, take-all, take-take}
 use Rattle.octets.specs.Octets.{part, placed, bytesOf, numbersOf}
-use Rattle.octets.specs.Checked.{Check, pass, refuse}
+use Rattle.octets.specs.Checked.{pass, refuse}
 use Rattle.octets.proofs.Checks.{pass-inj, pass-refuse}
 use Rattle.octets.proofs.Parts.{part-cut, length-part}
-use Rattle.octets.proofs.Placed.{placed-none, placed-placed, length-placed}
-use Rattle.octets.proofs.Regions.{numbers-step, entry-fits, entry-next}
+use Rattle.octets.proofs.Placed.{placed-none, placed-placed}
+use Rattle.octets.proofs.Regions.{numbers-step, entry-fits}
 use Rattle.bundle.specs.Encoding.{Encoding}
-use Rattle.strings.specs.Strings.{headerSize, entriesIn, entriesOf, stringAt, stringsAt, ended, strOf, offsetIn, remapped}
-use Rattle.strings.specs.Kept.{RowHeld, Held, Kept, Judged, Inside, bytesAt, foundIn}
+use Rattle.strings.specs.Strings.{headerSize, entriesIn, stringAt, ended, strOf, offsetIn, remapped}
+use Rattle.strings.specs.Kept.{Held, Judged, Inside, bytesAt, foundIn}
 use Rattle.strings.specs.declared.table.Found.the-variants.{At, Missing}
 use Rattle.strings.specs.declared.table.Place.{Place}
 use Rattle.strings.proofs.Ends.{length-stringsAt, stringsAt-at}

@@ -8,10 +8,12 @@ ghost use Rattle.octets.specs.Octets.{part, placed, numbersOf};
 ghost use Rattle.bundle.specs.Encoded.{encodingIs};
 ghost use Rattle.strings.specs.Strings.{ended, strOf, offsetIn, remapped};
 ghost use Rattle.strings.specs.Kept.{Held, Kept, Judged};
-use bundle::encoding::ObjectEncoding;
 use crate::entries;
 use crate::entries::StringRead;
-use crate::table::{Found, Place, StringTable};
+use crate::table::Found;
+use crate::table::Place;
+use crate::table::StringTable;
+use bundle::encoding::ObjectEncoding;
 
 // Where a string of the bundle stands in str: behind them all where it is none of the table's.
 fn offset_of(b: &[u8], table: &[u32], t: StringTable, start: usize, size: usize) -> usize

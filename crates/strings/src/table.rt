@@ -18,9 +18,9 @@ ghost use Rattle.strings.specs.Kept.{
   foundIn,
   AddedIs,
 };
-use bundle::encoding::ObjectEncoding;
 use crate::entries;
 use crate::entries::StringRead;
+use bundle::encoding::ObjectEncoding;
 
 // A part of the bundle.
 pub struct Place {

@@ -6,32 +6,22 @@ use Rattle.strings.proofs.Headers.{count-is, count-none}
 use borrow.Author.Needs.{needs}
 use Rattle.strings.proofs.entries.entry_count.Statement.{statement}
 use Rattle.strings.proofs.entries.entry_count.Tie as tie
-use Rattle.strings.proofs.entries.entry_count.Reads as reads
-use Rattle.strings.proofs.entries.entry_count.Lts as lts
-use Rattle.bundle.proofs.encoding.width.Reads as width-reads
-use Rattle.strings.proofs.entries.header_size.Reads as header-size-reads
 
--- src/entries.rt:118:9
 header-size-requires : tie.Need-header-size-requires
 header-size-requires c κs = search needs
 
--- src/entries.rt:119:9
 width-requires : tie.Need-width-requires
 width-requires c κs = search needs
 
--- src/entries.rt:121:9
 returns : tie.Need-returns
 returns c = count-none _ _ _ _ (c .before .before .header-size .ensures) (c .before .width .ensures) (c .if1 .taken)
 
--- src/entries.rt:123:6
 sub-result : tie.Need-sub-result
 sub-result c = search needs
 
--- src/entries.rt:123:5
 div-result : tie.Need-div-result
 div-result c = omega (arith, c .before .width .ensures, sound (c .before .before .before .before .args .e) .low)
 
--- src/entries.rt:115:1
 returns-2 : tie.Need-returns-2
 returns-2 c = count-is _ _ _ _ (c .before .before .header-size .ensures) (c .before .width .ensures)
 

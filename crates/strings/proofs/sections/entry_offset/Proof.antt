@@ -1,6 +1,6 @@
 -- `entry_offset` meets its contract.
 -- Assumes nothing.
-use mathlib.Core.Path.{_≡_, sym, ap, _∙_}
+use mathlib.Core.Path.{sym, _∙_}
 use mathlib.Core.List.{List}
 use Prim.Native.Nat.{ℕ, _<_}
 use denote.Ref.{now}
@@ -13,11 +13,6 @@ use Rattle.strings.proofs.Writing.{judged-count, judged-unique, judged-
 use borrow.Author.Needs.{needs}
 use Rattle.strings.proofs.sections.entry_offset.Statement.{statement}
 use Rattle.strings.proofs.sections.entry_offset.Tie as tie
-use Rattle.strings.proofs.sections.entry_offset.Reads as reads
-use Rattle.strings.proofs.sections.entry_offset.Lts as lts
-use Rattle.octets.proofs.long.Reads as long-reads
-use Rattle.strings.proofs.sections.offset_of.Reads as offset-of-reads
-use Rattle.strings.proofs.table.entry_string.Reads as entry-string-reads
 
 within : (c : tie.Start) (used : List (List ℕ)) → Judged (encodingIs (c .args .e)) (now (c .args .b)) (c .args .offsets) (c .args .strings) used → c .args .k < length used
 within c used j = rw (judged-unique _ _ _ _ (c .pre .2 .0) (c .pre .2 .1) used j) at (c .pre .2 .2)
@@ -29,21 +24,17 @@ named c =
     let a = s .before .before .before in
     entry-named (encodingIs (a .args .e)) (now (a .args .b)) (a .args .offsets) (a .args .strings) (a .args .k) _ _ (a .pre .2 .1 .strings-inside) (sym (c .start .given .1) ∙ s .entry-string .ensures)
 
--- src/sections.rt:41:39
 entry-string-requires : tie.Need-entry-string-requires
 entry-string-requires c κs =
     let p = c .before .before .pre in
     (p .2 .1 .offsets-inside, p .2 .1 .strings-inside, rw (judged-count _ _ _ _ (p .2 .0) (p .2 .1)) at (p .2 .2))
 
--- src/sections.rt:41:24
 enum-known-start : tie.Need-enum-known-start
 enum-known-start c = search needs
 
--- src/sections.rt:42:9
 enum-told : tie.Need-enum-told
 enum-told c = search needs
 
--- src/sections.rt:42:9
 returns : tie.Need-returns
 returns c =
     let s = c .before .before in
@@ -51,17 +42,14 @@ returns c =
     let m = read-missing _ _ (sym (c .enum-told .given .1) ∙ s .entry-string .ensures) in
     λ ts used k j. absurd (judged-named _ _ _ _ used j _ (within a used j) (m .0) (m .1))
 
--- src/sections.rt:44:18
 offset-of-requires : tie.Need-offset-of-requires
 offset-of-requires c κs =
     let a = c .before .before .before .before .before .before in
     (named (c .before) .fits, a .pre .0, a .pre .1)
 
--- src/sections.rt:44:5
 long-requires : tie.Need-long-requires
 long-requires c κs = search needs
 
--- src/sections.rt:29:1
 returns-2 : tie.Need-returns-2
 returns-2 c =
     let n = named (c .before .before .before) in

@@ -5,32 +5,24 @@ use Rattle.strings.proofs.Writing.{found-offset, none-offset}
 use borrow.Author.Needs.{needs}
 use Rattle.strings.proofs.sections.offset_of.Statement.{statement}
 use Rattle.strings.proofs.sections.offset_of.Tie as tie
-use Rattle.strings.proofs.sections.offset_of.Reads as reads
-use Rattle.strings.proofs.sections.offset_of.Lts as lts
-use Rattle.strings.proofs.table.find_string.Reads as find-string-reads
 
--- src/sections.rt:22:29
 find-string-requires : tie.Need-find-string-requires
 find-string-requires c κs =
     let a = c .before .before in
     (a .pre .0, (a .pre .2 .0, a .pre .2 .1 .held (a .pre .1)))
 
--- src/sections.rt:22:19
 enum-known-offset : tie.Need-enum-known-offset
 enum-known-offset c = search needs
 
--- src/sections.rt:23:9
 enum-told : tie.Need-enum-told
 enum-told c = search needs
 
--- src/sections.rt:23:9
 returns : tie.Need-returns
 returns c =
     let f = c .before .before in
     let a = f .before .before .before in
     λ ts k. none-offset ts _ _ (sym (c .enum-told .given .1) ∙ f .find-string .ensures ts (k .held (a .pre .1))) (k .size (a .pre .1))
 
--- src/sections.rt:17:1
 returns-2 : tie.Need-returns-2
 returns-2 c =
     let f = c .before .before .before in

@@ -2,7 +2,7 @@
 -- Assumes nothing.
 use mathlib.Core.Path.{_≡_, refl, sym, ap, _∙_}
 use mathlib.Core.List.{List, map}
-use Prim.Native.Nat.{ℕ, _+_, _*_, _-_, _<_, _≤_}
+use Prim.Native.Nat.{ℕ, _+_, _*_, _-_, _≤_}
 use native.Mathlib.Omega.{arith}
 use denote.Ref.{now}
 use lib.ListN.{length, drop}
@@ -14,11 +14,6 @@ use Rattle.strings.specs.Kept.{Kept, Judged}
 use Rattle.strings.proofs.Writing.{judged-unique, entries-turn, entries-end, entry-room}
 use Rattle.strings.proofs.sections.put_entries.Statement.{statement}
 use Rattle.strings.proofs.sections.put_entries.Tie as tie
-use Rattle.strings.proofs.sections.put_entries.Reads as reads
-use Rattle.strings.proofs.sections.put_entries.Lts as lts
-use Rattle.bundle.proofs.encoding.width.Reads as width-reads
-use Rattle.octets.proofs.put_number.Reads as put-number-reads
-use Rattle.strings.proofs.sections.entry_offset.Reads as entry-offset-reads
 
 abbrev Inv-loop : tie.InvT-loop
 Inv-loop e b offsets strings table t count d₀ at w k₀ o₀ d k o = (k ≤ count) × (o ≡ at + w * k) × (length d ≡ length d₀) × ((ts used : List (List ℕ)) → Kept b table t ts → Judged (encodingIs e) b offsets strings used → placed d o (numbersOf (encodingIs e .big) w (drop k (map (offsetIn ts) used))) ≡ placed d₀ at (numbersOf (encodingIs e .big) w (map (offsetIn ts) used)))
@@ -36,39 +31,31 @@ room c =
     let a = l .before .before .before .before .before in
     entry-room _ _ _ _ _ _ _ _ (l .before .width .ensures) (c .loop-test .taken) (a .pre .3) (l .loop .inv .2) (l .loop .inv .1)
 
--- src/sections.rt:62:9
 width-requires : tie.Need-width-requires Inv-loop μ-loop
 width-requires c κs = tt
 
--- src/sections.rt:65:5
 loop-holds : tie.Need-loop-holds Inv-loop μ-loop
 loop-holds c = (omega arith, omega arith, refl, λ ts used k j. refl)
 
--- src/sections.rt:66:13
 entry-offset-requires : tie.Need-entry-offset-requires Inv-loop μ-loop
 entry-offset-requires c κs =
     let p = c .before .before .before .before .before .before .pre in
     (p .0, p .1, (p .2 .0, p .2 .1, omega (arith, p .2 .2, c .loop-test .taken)))
 
--- src/sections.rt:67:9
 put-number-requires : tie.Need-put-number-requires Inv-loop μ-loop
 put-number-requires c κs = omega (arith, room (c .before .before), c .before .before .before .loop .inv .1)
 
--- src/sections.rt:68:9
 add-k : tie.Need-add-k Inv-loop μ-loop
 add-k c = omega arith
 
--- src/sections.rt:69:9
 add-o : tie.Need-add-o Inv-loop μ-loop
 add-o c =
     let i = c .before .before .before .before .before in
     omega (arith, room i, i .before .loop .inv, i .before .before .before .before .before .before .good)
 
--- src/sections.rt:65:5
 loop-less : tie.Need-loop-less Inv-loop μ-loop
 loop-less c = omega arith
 
--- src/sections.rt:65:5
 loop-again : tie.Need-loop-again Inv-loop μ-loop
 unfolding encodingIs
 loop-again c =
@@ -76,19 +63,16 @@ loop-again c =
     let i = g .before .before .before in
     let l = i .before in
     let v = l .loop .inv in
-    let a = l .before .before .before .before .before in
-    (
+    let a = l .before .before .before .before .before in (
       omega arith,
       ap (λ (n : ℕ). n + l .before .width .result) (v .1) ∙ entry-next _ _ _,
       g .put-number .kept .1 .1 .1 .0 ∙ v .2,
       λ ts used k j. entries-turn _ _ ts used _ _ _ _ _ _ (rw (counted a used j) at (i .loop-test .taken)) (room i) (v .1) (g .before .before .entry-offset .ensures ts used k j) (g .put-number .ensures) ∙ v .3 ts used k j,
     )
 
--- src/sections.rt:48:1
 same-length : tie.Need-same-length Inv-loop μ-loop
 same-length c = c .before .loop .inv .2
 
--- src/sections.rt:48:1
 returns : tie.Need-returns Inv-loop μ-loop
 returns c =
     let l = c .before in

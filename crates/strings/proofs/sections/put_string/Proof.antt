@@ -4,44 +4,31 @@ use Rattle.strings.proofs.Writing.{ended-is}
 use borrow.Author.Needs.{needs}
 use Rattle.strings.proofs.sections.put_string.Statement.{statement}
 use Rattle.strings.proofs.sections.put_string.Tie as tie
-use Rattle.strings.proofs.sections.put_string.Reads as reads
-use Rattle.strings.proofs.sections.put_string.Lts as lts
-use Rattle.octets.proofs.put_byte.Reads as put-byte-reads
-use Rattle.octets.proofs.put_bytes.Reads as put-bytes-reads
 
--- src/sections.rt:101:15
 add-end : tie.Need-add-end
 add-end c = search needs
 
--- src/sections.rt:102:30
 sub-put-bytes : tie.Need-sub-put-bytes
 sub-put-bytes c = search needs
 
--- src/sections.rt:102:30
 part-put-bytes-start : tie.Need-part-put-bytes-start
 part-put-bytes-start c = search needs
 
--- src/sections.rt:102:30
 part-put-bytes-end : tie.Need-part-put-bytes-end
 part-put-bytes-end c = search needs
 
--- src/sections.rt:102:5
 put-bytes-requires : tie.Need-put-bytes-requires
 put-bytes-requires c κs = search needs
 
--- src/sections.rt:103:25
 add-put-byte : tie.Need-add-put-byte
 add-put-byte c = search needs
 
--- src/sections.rt:103:5
 put-byte-requires : tie.Need-put-byte-requires
 put-byte-requires c κs = search needs
 
--- src/sections.rt:97:1
 same-length : tie.Need-same-length
 same-length c = search needs
 
--- src/sections.rt:97:1
 returns : tie.Need-returns
 returns c =
     let y = c .before .before in

@@ -2,7 +2,7 @@
 -- Assumes nothing.
 use mathlib.Core.Path.{_≡_, sym, ap, _∙_}
 use mathlib.Core.List.{List}
-use Prim.Native.Nat.{ℕ, _+_, _*_, _-_, _<_, _≤_}
+use Prim.Native.Nat.{ℕ, _+_, _≤_}
 use native.Mathlib.Omega.{arith}
 use denote.Ref.{now}
 use lib.ListN.{length, length-take, length-drop}
@@ -15,12 +15,6 @@ use Rattle.strings.proofs.Writing.{header-inside, header-entries, remap
 use borrow.Author.Needs.{needs}
 use Rattle.strings.proofs.sections.remap_str_offsets.Statement.{statement}
 use Rattle.strings.proofs.sections.remap_str_offsets.Tie as tie
-use Rattle.strings.proofs.sections.remap_str_offsets.Reads as reads
-use Rattle.strings.proofs.sections.remap_str_offsets.Lts as lts
-use Rattle.octets.proofs.put_bytes.Reads as put-bytes-reads
-use Rattle.strings.proofs.entries.entry_count.Reads as entry-count-reads
-use Rattle.strings.proofs.entries.header_size.Reads as header-size-reads
-use Rattle.strings.proofs.sections.put_entries.Reads as put-entries-reads
 
 inside : (c : tie.After-header-size) → (let a = c .before .before .before .before .args in (c .header-size .result ≤ a .offsets .size) × (a .offsets .start + a .offsets .size ≤ length (now (a .b))))
 unfolding Inside
@@ -34,79 +28,63 @@ counted c =
     c .entry-count .ensures ∙ ap (λ (z : List ℕ). length (entriesIn (encodingIs (a .args .e)) z)) (cut-is (now (a .args .b)) (a .args .offsets))
     ∙ sym (judged-count _ _ _ _ (a .pre .2 .0) (a .pre .2 .1))
 
--- src/sections.rt:87:9
 header-size-requires : tie.Need-header-size-requires
 header-size-requires c κs = search needs
 
--- src/sections.rt:89:22
 add-header-end : tie.Need-add-header-end
 add-header-end c = omega (arith, inside c, c .before .before .before .before .good)
 
--- src/sections.rt:90:16
 add-last : tie.Need-add-last
 add-last c = omega (arith, inside (c .before), c .before .before .before .before .before .good)
 
--- src/sections.rt:91:41
 sub-entry-count : tie.Need-sub-entry-count
 sub-entry-count c = search needs
 
--- src/sections.rt:91:41
 part-entry-count-start : tie.Need-part-entry-count-start
 part-entry-count-start c = search needs
 
--- src/sections.rt:91:41
 part-entry-count-end : tie.Need-part-entry-count-end
 part-entry-count-end c = omega (arith, inside (c .before))
 
--- src/sections.rt:91:9
 entry-count-requires : tie.Need-entry-count-requires
 entry-count-requires c κs = search needs
 
--- src/sections.rt:92:30
 sub-put-bytes : tie.Need-sub-put-bytes
 sub-put-bytes c = search needs
 
--- src/sections.rt:92:30
 part-put-bytes-start : tie.Need-part-put-bytes-start
 part-put-bytes-start c = search needs
 
--- src/sections.rt:92:30
 part-put-bytes-end : tie.Need-part-put-bytes-end
 part-put-bytes-end c = omega (arith, inside (c .before .before .before .before))
 
--- src/sections.rt:92:5
 put-bytes-requires : tie.Need-put-bytes-requires
 put-bytes-requires c κs =
     let k = inside (c .before .before .before .before .before) in
     simp (length-take, length-drop) (omega (arith, k, c .before .before .before .before .before .before .before .before .before .pre .3))
 
--- src/sections.rt:93:61
 add-put-entries : tie.Need-add-put-entries
 add-put-entries c =
     let s = c .before .before .before .before .before .before .before .before .before in
     let a = s .before .before .before .before in
     omega (arith, inside s, a .pre .3, a .good)
 
--- src/sections.rt:93:5
 put-entries-requires : tie.Need-put-entries-requires
 put-entries-requires c κs =
     let x = c .before .before .before in
     let n = x .before .before .before in
     let s = n .before .before .before in
     let a = s .before .before .before .before in
-    let j = a .pre .2 .1 in
-    (
+    let j = a .pre .2 .1 in (
       a .pre .0,
       a .pre .1,
       (a .pre .2 .0, j, counted n),
       remap-room _ _ _ _ _ _ _ _ (counted n) (header-entries (encodingIs (a .args .e)) (sound (a .args .e)) _ _ _ _ j _ (s .header-size .ensures)) (a .pre .3) (x .put-bytes .kept .0),
     )
 
--- src/sections.rt:74:1
 same-length : tie.Need-same-length
 same-length c = search needs
 
--- src/sections.rt:74:1
 returns : tie.Need-returns
 returns c =
     let y = c .before .before in

@@ -1,8 +1,8 @@
 -- `write_strings` meets its contract. The loop: the strings of the rows passed are written.
 -- Assumes nothing.
-use mathlib.Core.Path.{_≡_, refl, sym, ap, _∙_}
+use mathlib.Core.Path.{_≡_, refl, _∙_}
 use mathlib.Core.List.{List}
-use Prim.Native.Nat.{ℕ, _+_, _*_, _-_, _<_, _≤_}
+use Prim.Native.Nat.{ℕ, _+_, _*_, _-_, _≤_}
 use native.Mathlib.Omega.{arith}
 use denote.Ref.{now}
 use lib.ListN.{length, take}
@@ -13,10 +13,6 @@ use Rattle.strings.proofs.Holding.{row-room, row-fits}
 use Rattle.strings.proofs.Writing.{held-unique, written-room, written-more, written-none, written-all}
 use Rattle.strings.proofs.sections.write_strings.Statement.{statement}
 use Rattle.strings.proofs.sections.write_strings.Tie as tie
-use Rattle.strings.proofs.sections.write_strings.Reads as reads
-use Rattle.strings.proofs.sections.write_strings.Lts as lts
-use Rattle.octets.proofs.word.Reads as word-reads
-use Rattle.strings.proofs.sections.put_string.Reads as put-string-reads
 
 abbrev Inv-loop : tie.InvT-loop
 Inv-loop b table count d₀ at i₀ d i = (i ≤ count) × (length d ≡ length d₀) × ((ts : List (List ℕ)) → Held b table count ts → d ≡ placed d₀ at (strOf (take i ts)))
@@ -27,88 +23,70 @@ abbrev μ-loop : tie.MeasureT-loop
 room : (c : tie.In-loop Inv-loop μ-loop) → 3 * c .before .loop .i + 3 ≤ length (now (c .before .before .before .before .before .args .table))
 room c = let a = c .before .before .before .before .before in row-room _ _ _ _ (a .pre .1) _ (c .loop-test .taken)
 
--- src/sections.rt:112:5
 loop-holds : tie.Need-loop-holds Inv-loop μ-loop
 loop-holds c = (omega arith, refl, λ ts k. written-none ts _ _)
 
--- src/sections.rt:113:41
 mul-word : tie.Need-mul-word Inv-loop μ-loop
 mul-word c = omega (arith, room c)
 
--- src/sections.rt:113:13
 word-requires : tie.Need-word-requires Inv-loop μ-loop
 word-requires c κs = omega (arith, room c)
 
--- src/sections.rt:114:40
 mul-word-2 : tie.Need-mul-word-2 Inv-loop μ-loop
 mul-word-2 c = omega (arith, room (c .before))
 
--- src/sections.rt:114:40
 add-word : tie.Need-add-word Inv-loop μ-loop
 add-word c = omega (arith, room (c .before))
 
--- src/sections.rt:114:13
 word-requires-2 : tie.Need-word-requires-2 Inv-loop μ-loop
 word-requires-2 c κs = omega (arith, room (c .before))
 
--- src/sections.rt:115:42
 mul-word-3 : tie.Need-mul-word-3 Inv-loop μ-loop
 mul-word-3 c = omega (arith, room (c .before .before))
 
--- src/sections.rt:115:42
 add-word-2 : tie.Need-add-word-2 Inv-loop μ-loop
 add-word-2 c = omega (arith, room (c .before .before))
 
--- src/sections.rt:115:13
 word-requires-3 : tie.Need-word-requires-3 Inv-loop μ-loop
 word-requires-3 c κs = omega (arith, room (c .before .before))
 
--- src/sections.rt:116:39
 add-put-string : tie.Need-add-put-string Inv-loop μ-loop
 add-put-string c =
     let i = c .before .before .before .before in
     let a = i .before .before .before .before .before in
     omega (arith, written-room _ _ _ _ (a .pre .1) _ (i .loop-test .taken) (now (a .args .d)) (a .args .at) (a .pre .2), c .before .word3 .ensures, a .good)
 
--- src/sections.rt:116:9
 put-string-requires : tie.Need-put-string-requires Inv-loop μ-loop
 put-string-requires c κs =
     let i = c .before .before .before .before in
     let a = i .before .before .before .before .before in
     let s = c .before .before .before .word .ensures in
-    let n = c .before .before .word2 .ensures in
-    (
+    let n = c .before .before .word2 .ensures in (
       omega (arith, row-fits _ _ _ _ (a .pre .1) _ (i .loop-test .taken)),
       omega (arith, written-room _ _ _ _ (a .pre .1) _ (i .loop-test .taken) (now (a .args .d)) (a .args .at) (a .pre .2), c .before .word3 .ensures, i .before .loop .inv .1),
     )
 
--- src/sections.rt:117:9
 add-i : tie.Need-add-i Inv-loop μ-loop
 add-i c = omega arith
 
--- src/sections.rt:112:5
 loop-less : tie.Need-loop-less Inv-loop μ-loop
 loop-less c = omega arith
 
--- src/sections.rt:112:5
 loop-again : tie.Need-loop-again Inv-loop μ-loop
 loop-again c =
     let g = c .before .before in
     let w = g .before .before in
     let i = w .before .before .before in
     let l = i .before in
-    let a = l .before .before .before .before in
-    (
+    let a = l .before .before .before .before in (
       omega arith,
       g .put-string .kept .1 .1 .1 .0 ∙ l .loop .inv .1,
       λ ts k. written-more _ _ _ ts k _ (i .loop-test .taken) _ _ (rw (held-unique _ _ _ (a .pre .0) ts (a .pre .1) k) at (a .pre .2)) _ _ _ _ _ (l .loop .inv .2 ts k) (w .before .before .word .ensures) (w .before .word2 .ensures) (w .word3 .ensures) (g .put-string .ensures),
     )
 
--- src/sections.rt:107:1
 same-length : tie.Need-same-length Inv-loop μ-loop
 same-length c = c .before .loop .inv .1
 
--- src/sections.rt:107:1
 returns : tie.Need-returns Inv-loop μ-loop
 returns c =
     let l = c .before in

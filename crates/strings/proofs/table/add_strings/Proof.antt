@@ -2,7 +2,7 @@
 -- Assumes nothing.
 use mathlib.Core.Path.{_≡_, refl, sym, ap, _∙_}
 use mathlib.Core.List.{List}
-use Prim.Native.Nat.{ℕ, _+_, _*_, _-_, _≤_, _<_}
+use Prim.Native.Nat.{ℕ, _+_, _-_, _≤_}
 use native.Mathlib.Omega.{arith}
 use denote.Ref.{now}
 use lib.ListN.{length}
@@ -15,11 +15,6 @@ use Rattle.strings.proofs.Adding.{Adding, adding-none, adding-more, add
 use borrow.Author.Needs.{needs}
 use Rattle.strings.proofs.table.add_strings.Statement.{statement}
 use Rattle.strings.proofs.table.add_strings.Tie as tie
-use Rattle.strings.proofs.table.add_strings.Reads as reads
-use Rattle.strings.proofs.table.add_strings.Lts as lts
-use Rattle.strings.proofs.entries.entry_count.Reads as entry-count-reads
-use Rattle.strings.proofs.table.entry_string.Reads as entry-string-reads
-use Rattle.strings.proofs.table.get_or_insert.Reads as get-or-insert-reads
 
 abbrev Inv-loop : tie.InvT-loop
 Inv-loop e b offsets strings table₀ first last count kept₀ k₀ table kept k = (k ≤ count) × (length table ≡ length table₀) × (kept .count ≤ kept₀ .count + k) × ((ts : List (List ℕ)) → Kept b table₀ kept₀ ts → Adding b table kept ts (bytesAt b strings) (entriesIn (encodingIs e) (bytesAt b offsets)) k)
@@ -35,48 +30,38 @@ add-last : tie.Need-add-last Inv-loop μ-loop
 unfolding Inside
 add-last c = omega (arith, c .before .before .before .pre .1)
 
--- src/table.rt:159:41
 sub-entry-count : tie.Need-sub-entry-count Inv-loop μ-loop
 unfolding Inside
 sub-entry-count c = omega (arith, c .before .before .before .pre .1)
 
--- src/table.rt:159:41
 part-entry-count-start : tie.Need-part-entry-count-start Inv-loop μ-loop
 unfolding Inside
 part-entry-count-start c = omega (arith, c .before .before .before .pre .1)
 
--- src/table.rt:159:41
 part-entry-count-end : tie.Need-part-entry-count-end Inv-loop μ-loop
 unfolding Inside
 part-entry-count-end c = omega (arith, c .before .before .before .pre .1)
 
--- src/table.rt:159:9
 entry-count-requires : tie.Need-entry-count-requires Inv-loop μ-loop
 entry-count-requires c κs = tt
 
--- src/table.rt:162:5
 loop-holds : tie.Need-loop-holds Inv-loop μ-loop
 loop-holds c = (omega arith, refl, omega arith, λ ts k. adding-none _ _ _ ts _ _ k)
 
--- src/table.rt:163:43
 entry-string-requires : tie.Need-entry-string-requires Inv-loop μ-loop
 entry-string-requires c κs =
     let a = c .before .before .before .before .before .before .before in
     (a .pre .1, a .pre .2, rw (← counted (c .before .before)) (c .loop-test .taken))
 
--- src/table.rt:163:28
 enum-known-start : tie.Need-enum-known-start Inv-loop μ-loop
 enum-known-start c = search needs
 
--- src/table.rt:164:13
 enum-told : tie.Need-enum-told Inv-loop μ-loop
 enum-told c = search needs
 
--- src/table.rt:164:13
 same-length : tie.Need-same-length Inv-loop μ-loop
 same-length c = c .before .before .before .before .loop .inv .1
 
--- src/table.rt:164:13
 returns : tie.Need-returns Inv-loop μ-loop
 returns c =
     let i = c .before .before .before in
@@ -91,7 +76,6 @@ named c =
     let a = l .before .before .before .before .before .before in
     entry-named (encodingIs (a .args .e)) (now (a .args .b)) (a .args .offsets) (a .args .strings) (l .loop .k) _ _ (a .pre .2) (sym (c .start .given .1) ∙ c .before .before .entry-string .ensures)
 
--- src/table.rt:166:9
 get-or-insert-requires : tie.Need-get-or-insert-requires Inv-loop μ-loop
 get-or-insert-requires c κs =
     let n = named (c .before .before) in
@@ -100,33 +84,27 @@ get-or-insert-requires c κs =
     let d = l .loop .inv .3 (a .pre .4 .0) (a .pre .4 .1) in
     (a .pre .0, n .fits, omega (arith, l .loop .inv .1, l .loop .inv .2, a .pre .3, counted (l .before), c .before .before .before .before .before .loop-test .taken), (putAll (a .pre .4 .0) (d .used), d .kept))
 
--- src/table.rt:167:9
 add-k : tie.Need-add-k Inv-loop μ-loop
 add-k c = omega arith
 
--- src/table.rt:162:5
 loop-less : tie.Need-loop-less Inv-loop μ-loop
 loop-less c = omega arith
 
--- src/table.rt:162:5
 loop-again : tie.Need-loop-again Inv-loop μ-loop
 loop-again c =
     let g = c .before .before in
     let n = named (g .before .before .before) in
     let i = g .before .before .before .before .before .before in
-    let l = i .before in
-    (
+    let l = i .before in (
       omega arith,
       g .get-or-insert .kept .1 .1 .1 .0 ∙ l .loop .inv .1,
       omega (arith, g .get-or-insert .ensures .1, l .loop .inv .2),
       λ ts k. (let d = l .loop .inv .3 ts k in adding-more _ _ _ ts _ _ _ d _ _ (n .string) _ _ (rw (counted (l .before)) at (i .loop-test .taken)) (n .named) (n .bytes) (g .get-or-insert .ensures .0 (putAll ts (d .used)) (d .kept))),
     )
 
--- src/table.rt:146:1
 same-length-2 : tie.Need-same-length-2 Inv-loop μ-loop
 same-length-2 c = c .before .loop .inv .1
 
--- src/table.rt:146:1
 returns-2 : tie.Need-returns-2 Inv-loop μ-loop
 returns-2 c =
     let l = c .before in

@@ -2,77 +2,55 @@ use Rattle.strings.proofs.Places.{entry-cut, entry-missing, entry-read,
 use Rattle.bundle.specs.Encoded.{encodingIs}
 -- `entry_string` meets its contract.
 -- Assumes nothing.
-use mathlib.Core.Path.{_≡_, sym, ap, _∙_}
-use Prim.Native.Nat.{_+_, _≤_}
 use native.Mathlib.Omega.{arith}
 use denote.Ref.{now}
-use lib.ListN.{length}
-use Rattle.octets.proofs.Parts.{part-cut}
-use Rattle.strings.specs.Kept.{Inside, bytesAt}
-use Rattle.strings.proofs.Headers.{moved, starts-at, missing-moved}
+use Rattle.strings.specs.Kept.{Inside}
 use borrow.Author.Needs.{needs}
 use Rattle.strings.proofs.table.entry_string.Statement.{statement}
 use Rattle.strings.proofs.table.entry_string.Tie as tie
-use Rattle.strings.proofs.table.entry_string.Reads as reads
-use Rattle.strings.proofs.table.entry_string.Lts as lts
-use Rattle.strings.proofs.entries.entry_at.Reads as entry-at-reads
-use Rattle.strings.proofs.entries.string_at.Reads as string-at-reads
 
--- src/table.rt:135:16
 add-last : tie.Need-add-last
 unfolding Inside
 add-last c = omega (arith, c .before .before .pre .0)
 
--- src/table.rt:136:39
 sub-entry-at : tie.Need-sub-entry-at
 sub-entry-at c = search needs
 
--- src/table.rt:136:39
 part-entry-at-start : tie.Need-part-entry-at-start
 part-entry-at-start c = search needs
 
--- src/table.rt:136:39
 part-entry-at-end : tie.Need-part-entry-at-end
 unfolding Inside
 part-entry-at-end c = omega (arith, c .before .before .pre .0)
 
--- src/table.rt:136:9
 entry-at-requires : tie.Need-entry-at-requires
 entry-at-requires c κs =
     let a = c .before .before .before in
     entry-cut (encodingIs (a .args .e)) (now (a .args .b)) (a .args .offsets) (a .args .strings) (a .args .k) (a .pre .2)
 
--- src/table.rt:138:15
 add-end : tie.Need-add-end
 unfolding Inside
 add-end c = omega (arith, c .before .before .before .before .before .pre .1)
 
--- src/table.rt:139:58
 sub-string-at : tie.Need-sub-string-at
 sub-string-at c = search needs
 
--- src/table.rt:139:58
 part-string-at-start : tie.Need-part-string-at-start
 part-string-at-start c = search needs
 
--- src/table.rt:139:58
 part-string-at-end : tie.Need-part-string-at-end
 unfolding Inside
 part-string-at-end c = omega (arith, c .before .before .before .before .before .pre .1)
 
--- src/table.rt:139:39
 string-at-requires : tie.Need-string-at-requires
 string-at-requires c κs = search needs
 
--- src/table.rt:139:24
 enum-known-start : tie.Need-enum-known-start
 enum-known-start c = search needs
 
--- src/table.rt:140:9
 enum-told : tie.Need-enum-told
 enum-told c = search needs
 
--- src/table.rt:140:9
 returns : tie.Need-returns
 returns c =
     let s = c .before .before in
@@ -80,7 +58,6 @@ returns c =
     let a = r .before .before .before .before in
     entry-missing (encodingIs (a .args .e)) (now (a .args .b)) (a .args .offsets) (a .args .strings) (a .args .k) _ _ (r .entry-at .ensures) (s .string-at .ensures 9) (c .enum-told .given .1)
 
--- src/table.rt:142:20
 add-t14 : tie.Need-add-t14
 add-t14 c =
     let s = c .before .before .before in
@@ -88,7 +65,6 @@ add-t14 c =
     let a = r .before .before .before .before in
     omega (arith, entry-start (encodingIs (a .args .e)) (now (a .args .b)) (a .args .offsets) (a .args .strings) (a .args .k) _ _ (r .entry-at .ensures) (s .string-at .ensures 9) _ _ (a .pre .1) (c .before .start .given .1))
 
--- src/table.rt:124:1
 returns-2 : tie.Need-returns-2
 returns-2 c =
     let s = c .before .before .before in

@@ -1,4 +1,3 @@
-use Prim.Native.Nat.{_<_}
 use lib.ListN.{length}
 use Rattle.strings.proofs.Holding.{row-room, row-fits}
 -- `find_string` meets its contract. The loop: none of the strings passed is the one that is looked for.
@@ -8,14 +7,10 @@ use Prim.Native.Nat.{ℕ, _+_, _*_, _-_, _≤_}
 use native.Mathlib.Omega.{arith}
 use denote.Ref.{now}
 use Rattle.octets.specs.Octets.{part}
-use Rattle.strings.specs.Kept.{Held, RowHeld}
+use Rattle.strings.specs.Kept.{Held}
 use Rattle.strings.proofs.Holding.{Looking, looking-none, looking-more, looking-found, looking-end}
 use Rattle.strings.proofs.table.find_string.Statement.{statement}
 use Rattle.strings.proofs.table.find_string.Tie as tie
-use Rattle.strings.proofs.table.find_string.Reads as reads
-use Rattle.strings.proofs.table.find_string.Lts as lts
-use Rattle.octets.proofs.word.Reads as word-reads
-use Rattle.strings.proofs.table.row_same.Reads as row-same-reads
 
 abbrev Inv-loop : tie.InvT-loop
 Inv-loop b table count start size i₀ i = (i ≤ count) × ((ts : List (List ℕ)) → Held b table count ts → Looking ts (part b start size) i)
@@ -29,45 +24,36 @@ room c = let a = c .before .before .before .before in row-room _ _ _ _ (a .pre .
 loop-holds : tie.Need-loop-holds Inv-loop μ-loop
 loop-holds c = (omega arith, λ ts k. looking-none ts _)
 
--- src/table.rt:70:12
 row-same-requires : tie.Need-row-same-requires Inv-loop μ-loop
 row-same-requires c κs =
     let a = c .before .before .before .before in
     (room c, a .pre .0, row-fits _ _ _ _ (a .pre .1 .1) _ (c .loop-test .taken))
 
--- src/table.rt:71:50
 mul-word : tie.Need-mul-word Inv-loop μ-loop
 mul-word c = omega (arith, room (c .before .before))
 
--- src/table.rt:71:50
 add-word : tie.Need-add-word Inv-loop μ-loop
 add-word c = omega (arith, room (c .before .before))
 
--- src/table.rt:71:30
 word-requires : tie.Need-word-requires Inv-loop μ-loop
 word-requires c κs = omega (arith, room (c .before .before))
 
--- src/table.rt:71:13
 returns : tie.Need-returns Inv-loop μ-loop
 returns c =
     let i = c .before .before .before in
     λ ts k. looking-found _ _ _ ts k _ _ (i .before .loop .inv .1 ts k) (i .loop-test .taken) _ (c .before .before .row-same .ensures) _ (c .word .ensures) (c .before .if1 .taken)
 
--- src/table.rt:73:9
 add-i : tie.Need-add-i Inv-loop μ-loop
 add-i c = omega arith
 
--- src/table.rt:69:5
 loop-less : tie.Need-loop-less Inv-loop μ-loop
 loop-less c = omega arith
 
--- src/table.rt:69:5
 loop-again : tie.Need-loop-again Inv-loop μ-loop
 loop-again c =
     let i = c .before .before in
     (omega arith, λ ts k. looking-more _ _ _ ts k _ _ (i .before .loop .inv .1 ts k) (i .loop-test .taken) _ (c .before .row-same .ensures) (c .if1 .left))
 
--- src/table.rt:64:1
 returns-2 : tie.Need-returns-2 Inv-loop μ-loop
 returns-2 c = λ ts k. looking-end _ _ _ ts k _ _ (c .before .loop .inv .1 ts k) (c .loop-test .left)
 

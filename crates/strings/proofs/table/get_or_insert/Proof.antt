@@ -1,36 +1,26 @@
 -- `get_or_insert` meets its contract.
 -- Assumes nothing.
-use mathlib.Core.Path.{_≡_, sym, _∙_}
+use mathlib.Core.Path.{sym, _∙_}
 use native.Mathlib.Omega.{arith}
-use denote.Ref.{now}
 use Rattle.strings.proofs.Keeping.{kept-within, kept-over, kept-known, kept-passes, kept-new}
 use borrow.Author.Needs.{needs}
 use Rattle.strings.proofs.table.get_or_insert.Statement.{statement}
 use Rattle.strings.proofs.table.get_or_insert.Tie as tie
-use Rattle.strings.proofs.table.get_or_insert.Reads as reads
-use Rattle.strings.proofs.table.get_or_insert.Lts as lts
-use Rattle.strings.proofs.table.find_string.Reads as find-string-reads
-use Rattle.strings.proofs.table.set_row.Reads as set-row-reads
 
--- src/table.rt:101:9
 returns : tie.Need-returns
 returns c = (λ ts k. kept-over _ _ _ ts k _ _ (c .if1 .taken), omega arith)
 
--- src/table.rt:105:27
 find-string-requires : tie.Need-find-string-requires
 find-string-requires c κs =
     let a = c .before .before .before .before in
     (a .pre .1, (a .pre .3 .0, a .pre .3 .1 .held (c .before .if1 .left)))
 
--- src/table.rt:106:9
 enum-told : tie.Need-enum-told
 enum-told c = search needs
 
--- src/table.rt:106:9
 same-length : tie.Need-same-length
 same-length c = search needs
 
--- src/table.rt:106:9
 returns-2 : tie.Need-returns-2
 returns-2 c =
     let f = c .before .before in
@@ -39,18 +29,15 @@ returns-2 c =
 enum-told-2 : tie.Need-enum-told-2
 enum-told-2 c = search needs
 
--- src/table.rt:108:8
 sub-if2 : tie.Need-sub-if2
 sub-if2 c =
     let f = c .before .before in
     let a = f .before .before .before .before .before in
     omega (arith, kept-within _ _ _ _ (a .pre .3 .1) (f .before .before .if1 .left))
 
--- src/table.rt:109:9
 same-length-2 : tie.Need-same-length-2
 same-length-2 c = search needs
 
--- src/table.rt:109:9
 returns-3 : tie.Need-returns-3
 returns-3 c =
     let f = c .before .before .before in
@@ -58,27 +45,21 @@ returns-3 c =
     let off = f .before .before .if1 .left in
     (λ ts k. kept-passes _ _ _ ts k off _ _ (a .pre .1) (sym (c .before .enum-told2 .given .1) ∙ f .find-string .ensures ts (k .held off)) (c .if2 .taken), omega arith)
 
--- src/table.rt:115:5
 set-row-requires : tie.Need-set-row-requires
 set-row-requires c κs = search needs
 
--- src/table.rt:117:16
 add-t12 : tie.Need-add-t12
 add-t12 c = search needs
 
--- src/table.rt:118:15
 add-t16 : tie.Need-add-t16
 add-t16 c = search needs
 
--- src/table.rt:118:15
 add-t17 : tie.Need-add-t17
 add-t17 c = search needs
 
--- src/table.rt:89:1
 same-length-3 : tie.Need-same-length-3
 same-length-3 c = search needs
 
--- src/table.rt:89:1
 returns-4 : tie.Need-returns-4
 returns-4 c =
     let s = c .before .before in
