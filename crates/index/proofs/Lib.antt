@@ -6,3 +6,4 @@ pub mod Looks
 pub mod Codes
 pub mod WellFormed
 pub mod Places
+pub mod Ends
