@@ -25,3 +25,6 @@ pub mod Looks
 pub mod Codes
 pub mod LawExact
 pub mod LawMore
+pub mod WellFormed
+pub mod Places
+pub mod Ends
