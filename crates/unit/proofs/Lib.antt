@@ -1,0 +1,3 @@
+-- Laws of the definitions of units.
+-- Assumes nothing.
+pub mod UnitFacts
