@@ -1,0 +1,3 @@
+-- Laws of the definitions of indexes.
+-- Assumes nothing.
+pub mod Contributions
