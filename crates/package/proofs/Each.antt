@@ -52,3 +52,18 @@ module _ {A : Type 0} {P : A → Type 0} where
 pub each-map : {A B : Type 0} (P : B → Type 0) (f : A → B) (xs : List A) → Each (λ (x : A). P (f x)) xs → Each P (map f xs)
 each-map P f [] e = none
 each-map P f (x ∷ xs) e = more (each-head e) (each-map P f xs (each-tail e))
+
+pub each-both : {A : Type 0} {P Q : A → Type 0} {xs : List A} → Each P xs → Each Q xs → Each (λ x. P x × Q x) xs
+each-both none f = none
+each-both (more p e) f = more (p, each-head f) (each-both e (each-tail f))
+
+pub each-all : {A : Type 0} {P : A → Type 0} → ((x : A) → P x) → (xs : List A) → Each P xs
+each-all h [] = none
+each-all h (x ∷ xs) = more (h x) (each-all h xs)
+
+-- those that pass a test pass it
+pub each-passed : {A : Type 0} (f : A → Bool) (xs : List A) → Each (λ x. f x ≡ true) (those f xs)
+unfolding those
+each-passed f [] = none
+each-passed f (x ∷ xs) =
+    ⊎-elim (λ (t : f x ≡ true). rw (those-keeps f x xs t) (more t (each-passed f xs))) (λ (t : f x ≡ false). rw (those-skips f x xs t) (each-passed f xs)) (known (f x))
