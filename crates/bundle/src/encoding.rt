@@ -1,7 +1,9 @@
 // What an object word states, in a form that holds only what refusal 4 lets pass.
+ghost use lib.Dec.{eqb};
+ghost use mathlib.Core.Bool.{_||_, not};
 ghost use mathlib.Core.Path.{_≡_};
 ghost use Rattle.bundle.specs.Encoded.{encodingIs, wordRead};
-ghost use Rattle.bundle.specs.Encoding.{Encoding, encodingOf};
+ghost use Rattle.bundle.specs.Encoding.{encodingOf};
 
 // The byte order of the data, version 5 or else 4, offsets of 8 bytes or else 4, addresses of 8 bytes or else 4.
 pub struct ObjectEncoding {
@@ -35,26 +37,32 @@ pub fn address(e: ObjectEncoding) -> usize
     if e.long { 8 } else { 4 }
 }
 
+fn is_neither(n: u32, a: u32, b: u32) -> bool
+    ensures { λ r. ⌜ (eqb n a || eqb n b) ≡ not r ⌝ }
+{
+    if n == a {
+        return false;
+    }
+    if n == b {
+        return false;
+    }
+    true
+}
+
 pub fn read_word(big: bool, word: u32) -> WordRead
     ensures { λ r. ⌜ r ≡ wordRead (encodingOf big word) ⌝ }
 {
     let version = word % 256;
     let width = word / 256 % 256;
     let address = word / 0x1_0000 % 256;
-    if version != 4 {
-        if version != 5 {
-            return WordRead::Bad;
-        }
+    if is_neither(version, 4, 5) {
+        return WordRead::Bad;
     }
-    if width != 4 {
-        if width != 8 {
-            return WordRead::Bad;
-        }
+    if is_neither(width, 4, 8) {
+        return WordRead::Bad;
     }
-    if address != 4 {
-        if address != 8 {
-            return WordRead::Bad;
-        }
+    if is_neither(address, 4, 8) {
+        return WordRead::Bad;
     }
     WordRead::Good(ObjectEncoding {
         big,

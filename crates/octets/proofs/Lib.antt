@@ -9,3 +9,5 @@ pub mod Regions
 pub mod Lists
 pub mod Elements
 pub mod Joined
+pub mod Mapped
+pub mod Stores

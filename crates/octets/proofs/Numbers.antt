@@ -1,6 +1,6 @@
 -- Laws of one number in bytes, for every width and both byte orders: its bound, its place, what is written is read back.
 -- Assumes nothing.
-use mathlib.Core.Path.{_≡_, refl, ap, _∙_}
+use mathlib.Core.Path.{_≡_, sym, refl, ap, _∙_}
 use mathlib.Core.Bool.{Bool, true, false}
 use mathlib.Core.List.{List, [], _∷_, _++_}
 use Prim.Native.Nat.{ℕ, zero, suc, _+_, _*_, _/_, _%_, _^_, _<_, _≤_}
@@ -9,9 +9,9 @@ use native.Mathlib.Omega.{arith}
 use native.Mathlib.Numerals.{add-one}
 use lib.Dec.{lit<}
 use lib.ListN.{length, getD, take, drop, length-append, drop-of-length-le}
-use lib.Seq.{drop-cons, getD-drop}
+use lib.Seq.{take-suc, take-all, length-take-le, drop-cons, getD-drop}
 use Rattle.octets.specs.Octets.{part, little, bigFrom, number, numberAt, littleOf, bigOf, bytesOf, zeros}
-use Rattle.octets.proofs.Parts.{part-part, part-drop, part-append-front, part-append-behind, part-middle, length-part-le}
+use Rattle.octets.proofs.Parts.{length-part, part-part, part-drop, part-append-front, part-append-behind, part-middle, length-part-le}
 
 -- ---- bytes are below 256
 abbrev pub Bytes : List ℕ → Type 0
@@ -201,3 +201,35 @@ numberAt-round big w n p q at l h = ap (number big) (part-middle p (bytesOf big 
 
 pub numberAt-first : (big : Bool) (w n : ℕ) (q : List ℕ) → n < 256 ^ w → numberAt big w (bytesOf big w n ++ q) 0 ≡ n
 numberAt-first big w n q h = numberAt-round big w n [] q 0 refl h
+
+-- ---- what is read is written back
+little-back : (bs : List ℕ) → Bytes bs → littleOf (length bs) (little bs) ≡ bs
+unfolding little littleOf
+little-back [] h = refl
+little-back (b ∷ bs) h =
+    let low : (b + 256 * little bs) % 256 ≡ b = omega (arith, h 0) in
+    let rest : (b + 256 * little bs) / 256 ≡ little bs = omega (arith, h 0) in
+    rw (low, rest) (ap (λ (z : List ℕ). b ∷ z) (little-back bs (bytes-tail b bs h)))
+
+big-back : (w : ℕ) (bs : List ℕ) → length bs ≡ w → Bytes bs → bigOf w (bigFrom 0 bs) ≡ bs
+unfolding bigFrom bigOf
+big-back zero [] e h = refl
+big-back zero (b ∷ bs) e h = absurd (omega arith)
+big-back (suc w) bs e h =
+    let p = take w bs in
+    let b = getD bs w 0 in
+    let whole : p ++ (b ∷ []) ≡ bs = sym (take-suc bs w 0 (omega arith)) ∙ take-all (suc w) bs (omega arith) in
+    let value : bigFrom 0 bs ≡ bigFrom 0 p * 256 + b = ap (bigFrom 0) (sym whole) ∙ bigFrom-append 0 p (b ∷ []) in
+    let low : (bigFrom 0 p * 256 + b) % 256 ≡ b = omega (arith, h w) in
+    let rest : (bigFrom 0 p * 256 + b) / 256 ≡ bigFrom 0 p = omega (arith, h w) in
+    let front : bigOf w (bigFrom 0 p) ≡ p = big-back w p (length-take-le w bs (omega arith)) (bytes-take w bs h) in
+    rw (value, low, rest, front) whole
+
+pub bytesOf-number : (big : Bool) (w : ℕ) (bs : List ℕ) → length bs ≡ w → Bytes bs → bytesOf big w (number big bs) ≡ bs
+unfolding number bytesOf
+bytesOf-number true w bs e h = big-back w bs e h
+bytesOf-number false w bs e h = ap (λ (k : ℕ). littleOf k (little bs)) (sym e) ∙ little-back bs h
+
+pub bytesOf-numberAt : (big : Bool) (w : ℕ) (s : List ℕ) (at : ℕ) → at + w ≤ length s → Bytes s → bytesOf big w (numberAt big w s at) ≡ part s at w
+unfolding numberAt
+bytesOf-numberAt big w s at h b = bytesOf-number big w (part s at w) (length-part s at w h) (bytes-part s at w b)

@@ -129,3 +129,11 @@ split-part s a n = sym (take-append-drop a s) ∙ ap (λ (z : List ℕ). take a 
 pub part-cut : (s : List ℕ) (a n : ℕ) → take (a + n - a) (drop a s) ≡ part s a n
 unfolding part
 part-cut s a n = let e : a + n - a ≡ n = omega arith in rw e
+
+pub part-is : (s : List ℕ) (a n : ℕ) → take n (drop a s) ≡ part s a n
+unfolding part
+part-is s a n = refl
+
+-- &s[a..]
+pub cut-rest : (s : List ℕ) (a : ℕ) → take (length s - a) (drop a s) ≡ drop a s
+cut-rest s a = take-all (length s - a) (drop a s) (simp length-drop (omega arith))

@@ -1,0 +1,42 @@
+-- Document 01's worked examples of slots and probing, its order of columns, and an index of version 5.
+-- Assumes nothing.
+use mathlib.Core.Path.{_≡_, refl}
+use mathlib.Core.Bool.{true}
+use mathlib.Core.List.{List, [], _∷_, map}
+use mathlib.Core.Option.{some}
+use Prim.Native.Nat.{ℕ}
+use Rattle.octets.specs.Octets.{zeros, bigOf, bytesOf, numbersOf}
+use Rattle.octets.specs.Lists.{joined, those, any}
+use Rattle.octets.specs.Checked.{pass, _>>=_}
+use Rattle.index.specs.Columns.{columnsFive, columnsOf}
+use Rattle.index.specs.Index.{powerFrom, leastPower}
+use Rattle.index.specs.Probing.{Slots, found, absent, firstSlot, stride, look, search, slotsFor, freeFrom, placeAt, place, placeAll, unused, slotsOf}
+use Rattle.index.specs.Rows.{isSome}
+use Rattle.index.specs.Written.{Row, presentColumns, offsetOf, sizeOf, grid, startBytes, indexWith, indexBytes}
+
+-- identities 1 and 5 in 4 slots
+abbrev pub four : Slots
+four = record { identities = 0 ∷ 1 ∷ 5 ∷ 0 ∷ []; rows = 0 ∷ 1 ∷ 2 ∷ 0 ∷ [] }
+
+-- a unit of identity 1 that has of each section as many bytes as its code says
+abbrev pub everywhere : Row
+everywhere = record { identity = 1; cells = λ c. some (record { offset = 0; size = c }) }
+
+abbrev pub Examples : Type 0
+Examples =
+    -- n to slots
+    (map slotsFor (1 ∷ 2 ∷ 3 ∷ 4 ∷ 5 ∷ 6 ∷ 11 ∷ 12 ∷ []) ≡ 2 ∷ 4 ∷ 4 ∷ 8 ∷ 8 ∷ 16 ∷ 16 ∷ 32 ∷ [])
+    -- identities 1 and 5 lie in slots 1 and 2 of 4
+    × (slotsOf (1 ∷ 5 ∷ []) ≡ pass four)
+    -- looking for 9 ends as absent after 3 looks
+    × (search (four .rows) (four .identities) 9 ≡ absent 3)
+    × (search (four .rows) (four .identities) 5 ≡ found 2 2)
+    -- version 5, big-endian: 16-bit 5 and 0, columns in document 01's order, rows from 1
+    × (indexBytes true 5 (everywhere ∷ [])
+    ≡ pass
+    (numbersOf true 4
+    (0x5_0000 ∷ 7 ∷ 1 ∷ 2 ∷ 0 ∷ 0 ∷ 0 ∷ 1 ∷ 0 ∷ 1 ∷ 1 ∷ 3 ∷ 4 ∷ 5 ∷ 8 ∷ 6 ∷ 7 ∷ 0 ∷ 0 ∷ 0 ∷ 0 ∷ 0 ∷ 0 ∷ 0 ∷ 1 ∷ 3 ∷ 4 ∷ 9 ∷ 10 ∷ 6 ∷ 8 ∷ [])))
+
+pub examples : Examples
+unfolding powerFrom leastPower slotsFor firstSlot stride look search freeFrom placeAt place placeAll unused slotsOf zeros bigOf bytesOf numbersOf joined those any _>>=_ columnsFive columnsOf isSome presentColumns offsetOf sizeOf grid startBytes indexWith indexBytes
+examples = (refl, refl, refl, refl, refl)
