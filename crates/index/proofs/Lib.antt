@@ -1,9 +1,7 @@
--- Laws of the definitions of indexes.
+-- Laws of indexes: probing, placing, contributions, and an index written and read back.
 -- Assumes nothing.
 pub mod Contributions
 pub mod Examples
--- Laws of indexes: probing, placing, and an index written and read back.
--- Assumes nothing.
 pub mod Slots
 pub mod Orbit
 pub mod LawCounts
