@@ -6,3 +6,4 @@ pub mod Ends
 pub mod Offsets
 pub mod Sections
 pub mod Remapped
+pub mod PartEntries
