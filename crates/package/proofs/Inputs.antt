@@ -119,7 +119,7 @@ pub record StringFacts (e : Encoding) (offsets str : List ℕ) (used : List (Lis
   pub shape : (offsets ≡ []) ⊎ ((headerTrue e offsets ≡ true) × ((length offsets - headerSize e) % e .width ≡ 0))
   pub strings : stringsAt str (entriesIn e offsets) ≡ pass used
 
-no-entries : (e : Encoding) → entriesIn e [] ≡ []
+pub no-entries : (e : Encoding) → entriesIn e [] ≡ []
 unfolding entriesIn numbersIn
 no-entries e = rw (none-of (headerSize e) (e .width))
   where

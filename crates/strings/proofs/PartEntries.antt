@@ -25,8 +25,8 @@ module _ (e : Encoding) (ok : Sound e) (s : List ℕ) (m size : ℕ) (fits : e .
   part-length = length-part s (e .width * m) size fits
 
   module _ (j : ℕ) (h : j < length (entriesIn e (part s (e .width * m) size))) where
-    ends : headerSize e + e .width * j + e .width ≤ size
-    ends = omega (arith, entry-within e (part s (e .width * m) size) j ok h, part-length)
+    pub entry-ends : headerSize e + e .width * j + e .width ≤ size
+    entry-ends = omega (arith, entry-within e (part s (e .width * m) size) j ok h, part-length)
 
     place : e .width * m + (headerSize e + e .width * j) ≡ headerSize e + e .width * (m + j)
     place = omega (arith, mul-add (e .width) m j)
@@ -34,13 +34,13 @@ module _ (e : Encoding) (ok : Sound e) (s : List ℕ) (m size : ℕ) (fits : e .
     pub part-entry-within : m + j < length (entriesIn e s)
     part-entry-within =
         let w : 0 < e .width = omega (arith, ok .low) in
-        let far : (m + j + 1) * e .width ≤ length s - headerSize e = omega (arith, ends, place, mul-comm (m + j + 1) (e .width), mul-add (e .width) (m + j) 1) in
+        let far : (m + j + 1) * e .width ≤ length s - headerSize e = omega (arith, entry-ends, place, mul-comm (m + j + 1) (e .width), mul-add (e .width) (m + j) 1) in
         omega (arith, length-entriesIn e s, le-div-iff-mul-le w .1 far)
 
     pub part-entry : getD (entriesIn e (part s (e .width * m) size)) j 0 ≡ getD (entriesIn e s) (m + j) 0
     part-entry =
         entriesIn-at e (part s (e .width * m) size) j h
-        ∙ numberAt-part (e .big) (e .width) s (e .width * m) size (headerSize e + e .width * j) ends
+        ∙ numberAt-part (e .big) (e .width) s (e .width * m) size (headerSize e + e .width * j) entry-ends
         ∙ ap (numberAt (e .big) (e .width) s) place
         ∙ sym (entriesIn-at e s (m + j) part-entry-within)
 
