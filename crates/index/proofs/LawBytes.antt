@@ -1,22 +1,21 @@
 -- The bytes of an index: where each table starts, and what is read there.
 -- Assumes nothing.
-use mathlib.Core.Path.{_≡_, refl, sym, ap, _∙_}
+use mathlib.Core.Path.{_≡_, refl, _∙_}
 use mathlib.Core.Logic.{⊎-elim}
 use mathlib.Core.Bool.{Bool, true, false, _&&_, _||_}
-use mathlib.Core.List.{List, [], _∷_, _++_, map, append-assoc, append-nil}
-use Prim.Native.Nat.{ℕ, zero, suc, _+_, _*_, _^_, _<_, _≤_}
+use mathlib.Core.List.{List, _++_}
+use Prim.Native.Nat.{ℕ, _+_, _*_, _^_}
 use native.Mathlib.Omega.{arith}
 use lib.Dec.{eqb, leb, ltb}
-use lib.ListN.{length, getD, drop, length-append}
+use lib.ListN.{length, drop, length-append}
 use lib.Seq.{drop-at}
 use Rattle.octets.specs.Octets.{part, little, bigFrom, number, numberAt, numbersIn, littleOf, bigOf, bytesOf, numbersOf}
 use Rattle.octets.specs.Lists.{all, distinct}
-use Rattle.octets.specs.Checked.{Check, pass, refuse, _>>=_, require}
+use Rattle.octets.specs.Checked.{pass}
 use Rattle.octets.proofs.Checks.{passes}
 use Rattle.octets.proofs.Numbers.{length-bytesOf}
-use Rattle.octets.proofs.Tables.{length-numbersOf, numbersIn-round, entry-at}
-use Rattle.index.specs.Columns.{Column}
-use Rattle.index.specs.Index.{Index, versionOf, columnsMost, codeGood, leastPower, slotsGood, layout, indexOf}
+use Rattle.octets.proofs.Tables.{numbersIn-round}
+use Rattle.index.specs.Index.{versionOf, columnsMost, codeGood, leastPower, slotsGood, layout, indexOf}
 use Rattle.index.specs.Written.{startBytes}
 use Rattle.index.proofs.LawColumns.{formOf, forms}
 use Rattle.index.proofs.LawGrid.{Below}

@@ -4,19 +4,17 @@ use mathlib.Core.Path.{_≡_, refl, sym, ap, _∙_}
 use mathlib.Core.Logic.{_⊎_, inl, inr, ⊎-elim}
 use mathlib.Core.Bool.{Bool, true, false}
 use mathlib.Core.List.{List, [], _∷_, map}
-use mathlib.Core.Option.{Option, some, none}
-use Prim.Native.Nat.{ℕ, zero, suc, _+_, _<_, _≤_}
-use native.Mathlib.Nat.{not-suc-le-zero, le-of-suc-le-suc}
+use mathlib.Core.Option.{none}
+use Prim.Native.Nat.{ℕ, _≤_}
 use native.Mathlib.Omega.{arith}
-use lib.Dec.{eqb, leb}
-use lib.ListN.{length, getD}
-use borrow.Author.Tests.{eqb-true, eqb-false, eq-eqb, ne-eqb}
+use lib.Dec.{eqb}
+use lib.ListN.{length}
 use Rattle.octets.specs.Lists.{those, all, any, has, distinct}
 use Rattle.octets.proofs.Checks.{true-false, known}
-use Rattle.octets.proofs.Lists.{all-cons, all-head, all-tail, those-keeps, those-skips, length-those}
-use Rattle.octets.proofs.Elements.{has-cons, has-skips, has-not-at, distinct-cons, distinct-head, distinct-tail}
-use Rattle.index.specs.Columns.{Column, columnsFour, columnsFive, columnsOf, columnIn}
-use Rattle.index.specs.Index.{columnsMost, codeGood, placeOf}
+use Rattle.octets.proofs.Lists.{all-cons, all-head, all-tail, those-keeps, those-skips}
+use Rattle.octets.proofs.Elements.{has-cons, has-skips, distinct-cons, distinct-head, distinct-tail}
+use Rattle.index.specs.Columns.{Column, columnsFour, columnsFive, columnsOf}
+use Rattle.index.specs.Index.{columnsMost, codeGood}
 
 -- the index's own version: 5 for 5, else 2
 unfoldable pub formOf : ℕ → ℕ

@@ -1,9 +1,9 @@
 -- A grid of numbers, one for each row and column: its length, its entries, and bounds of numbers in lists.
 -- Assumes nothing.
-use mathlib.Core.Path.{_≡_, refl, sym, ap, _∙_}
+use mathlib.Core.Path.{_≡_, refl, _∙_}
 use mathlib.Core.List.{List, [], _∷_, _++_, map}
 use mathlib.Core.Option.{Option, none}
-use Prim.Native.Nat.{ℕ, zero, suc, _+_, _*_, _^_, _<_, _≤_}
+use Prim.Native.Nat.{ℕ, zero, suc, _+_, _*_, _<_}
 use native.Mathlib.Nat.{not-suc-le-zero, le-of-suc-le-suc, suc-mul, zero-mul, mul-comm}
 use native.Mathlib.Omega.{arith}
 use lib.ListN.{length, getD, length-map, List·getD-append}
@@ -12,7 +12,7 @@ use Rattle.octets.specs.Lists.{joined}
 use Rattle.octets.proofs.Joined.{length-joined-even}
 use Rattle.index.specs.Columns.{Column}
 use Rattle.index.specs.Index.{Contribution}
-use Rattle.index.specs.Written.{Row, offsetOf, sizeOf, grid}
+use Rattle.index.specs.Written.{Row, grid}
 use Rattle.index.proofs.LawPlaces.{noColumn}
 
 -- what stands behind the last row

@@ -1,17 +1,16 @@
 -- Where a section's column stands among those that are there.
 -- Assumes nothing.
 use mathlib.Core.Path.{_≡_, refl, sym, ap, _∙_}
-use mathlib.Core.Logic.{_⊎_, inl, inr, ⊎-elim}
+use mathlib.Core.Logic.{_⊎_, inl, inr}
 use mathlib.Core.Bool.{Bool, true, false}
-use mathlib.Core.List.{List, [], _∷_, map}
-use mathlib.Core.Option.{Option, some, none}
-use Prim.Native.Nat.{ℕ, zero, suc, _+_, _<_, _≤_}
+use mathlib.Core.List.{List, [], _∷_}
+use mathlib.Core.Option.{some, none}
+use Prim.Native.Nat.{ℕ, suc, _<_}
 use native.Mathlib.Omega.{arith}
 use native.Mathlib.Decide.{ℕ-discrete}
-use lib.Dec.{eqb}
 use lib.ListN.{length, getD}
-use borrow.Author.Tests.{eqb-true, eq-eqb, ne-eqb}
-use Rattle.octets.specs.Lists.{those, has, any, distinct}
+use borrow.Author.Tests.{eq-eqb, ne-eqb}
+use Rattle.octets.specs.Lists.{those, has, distinct}
 use Rattle.octets.proofs.Checks.{true-false, known}
 use Rattle.octets.proofs.Lists.{those-keeps, those-skips}
 use Rattle.octets.proofs.Elements.{has-cons, has-skips, distinct-head, distinct-tail}

@@ -1,35 +1,20 @@
 -- Each table of an index written is read back from its place.
 -- Assumes nothing.
-use mathlib.Core.Path.{_≡_, refl, sym, ap, _∙_}
-use mathlib.Core.Logic.{⊎-elim}
-use mathlib.Core.Bool.{Bool, true, false, _&&_, _||_}
-use mathlib.Core.List.{List, [], _∷_, _++_, map, append-assoc, append-nil}
-use Prim.Native.Nat.{ℕ, zero, suc, _+_, _*_, _^_, _<_, _≤_}
-use native.Mathlib.Nat.{not-suc-le-zero, le-of-suc-le-suc}
+use mathlib.Core.Path.{_≡_, ap, _∙_}
+use mathlib.Core.Bool.{Bool}
+use mathlib.Core.List.{List, [], _∷_, _++_, append-assoc, append-nil}
+use Prim.Native.Nat.{ℕ, _+_, _*_, _^_, _<_}
 use native.Mathlib.Omega.{arith}
-use native.Mathlib.Decide.{decLt}
-use lib.Dec.{eqb, leb, ltb}
-use lib.ListN.{length, getD, drop, length-append, length-map, List·getD-eq-default}
-use borrow.Author.Tests.{le-leb, leb-true, lt-ltb, eq-eqb}
+use lib.ListN.{length, getD, drop, length-append, length-map}
 use Rattle.octets.specs.Octets.{numberAt, numbersIn, numbersOf}
-use Rattle.octets.specs.Lists.{those, all, any, distinct}
-use Rattle.octets.specs.Checked.{Check, pass}
-use Rattle.octets.proofs.Checks.{true-false, known, and-both, and-right, or-left, or-right}
-use Rattle.octets.proofs.Lists.{length-those}
-use Rattle.octets.proofs.Elements.{all-at}
 use Rattle.octets.proofs.Tables.{length-numbersOf, entry-at}
-use Rattle.index.specs.Columns.{Column, columnsOf}
-use Rattle.index.specs.Index.{Index, versionOf, columnsMost, codeGood, leastPower, slotsGood, layout, indexOf}
-use Rattle.index.specs.Probing.{Slots, slotsOf, slotsFor}
-use Rattle.index.specs.Rows.{isSome}
-use Rattle.index.specs.Written.{Row, presentColumns, offsetOf, sizeOf, grid, startBytes, indexWith}
-use Rattle.index.proofs.Slots.{slotsFor-gt, slotsFor-fits, leastPower-slotsFor}
-use Rattle.index.proofs.LawPlaced.{Distinct, NonZero, Placed}
-use Rattle.index.proofs.Found.{placed-is}
-use Rattle.index.proofs.LawColumns.{formOf, forms, codesOf, columns-good, columns-distinct, columns-most, codes-all, codes-distinct}
-use Rattle.index.proofs.LawGrid.{noRow, identitiesOf, getD-map, Below, length-grid, grid-below}
-use Rattle.index.proofs.LawSlotsGood.{rows-le, identities-below, placed-good}
-use Rattle.index.proofs.LawBytes.{start-version, length-start, numbers-behind, indexOf-passes}
+use Rattle.index.specs.Columns.{Column}
+use Rattle.index.specs.Index.{versionOf}
+use Rattle.index.specs.Probing.{Slots}
+use Rattle.index.specs.Written.{Row, offsetOf, sizeOf, grid, startBytes, indexWith}
+use Rattle.index.proofs.LawColumns.{formOf, codesOf}
+use Rattle.index.proofs.LawGrid.{Below, length-grid}
+use Rattle.index.proofs.LawBytes.{start-version, length-start, numbers-behind}
 
 -- ---- seven lists one behind the other
 module _ (a h i r c o z : List ℕ) where

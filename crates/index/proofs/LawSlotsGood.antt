@@ -1,19 +1,19 @@
 -- The slots of a written index are good: row numbers up to the units, zero where the identity is and only there.
 -- Assumes nothing.
-use mathlib.Core.Path.{_≡_, refl, sym, ap, _∙_}
-use mathlib.Core.Bool.{Bool, true, false, not, _&&_}
+use mathlib.Core.Path.{_≡_, refl, sym, _∙_}
+use mathlib.Core.Bool.{true}
 use mathlib.Core.List.{List, [], _∷_}
-use Prim.Native.Nat.{ℕ, zero, suc, _+_, _<_, _≤_}
+use Prim.Native.Nat.{ℕ, zero, suc, _≤_}
 use native.Mathlib.Omega.{arith}
 use native.Mathlib.Decide.{ℕ-discrete}
-use lib.Dec.{eqb, leb}
+use lib.Dec.{leb}
 use lib.ListN.{length, getD}
 use borrow.Author.Tests.{le-leb, eq-eqb, ne-eqb}
 use Rattle.octets.specs.Lists.{zeroTogether}
 use Rattle.octets.proofs.Checks.{and-both}
 use Rattle.index.specs.Index.{slotsGood}
 use Rattle.index.specs.Probing.{Slots}
-use Rattle.index.proofs.LawPlaced.{NonZero, UsedBy, Placed}
+use Rattle.index.proofs.LawPlaced.{NonZero, Placed}
 use Rattle.index.proofs.LawGrid.{Below}
 
 together : (a b : ℕ) → (a ≡ 0 → b ≡ 0) → ((a ≡ 0 → ⊥) → b ≡ 0 → ⊥) → zeroTogether a b ≡ true

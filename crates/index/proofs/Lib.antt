@@ -16,3 +16,6 @@ pub mod LawSlotsGood
 pub mod LawBytes
 pub mod LawRead
 pub mod RoundTrip
+pub mod LawCells
+pub mod LawWhole
+pub mod LawExact

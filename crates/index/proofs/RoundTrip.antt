@@ -1,35 +1,32 @@
 -- An index written is read back: `indexOf` of the bytes written gives the slots, the columns and the cells that went in.
 -- Assumes nothing.
-use mathlib.Core.Path.{_≡_, refl, sym, ap, _∙_}
+use mathlib.Core.Path.{_≡_, sym, ap, _∙_}
 use mathlib.Core.Logic.{⊎-elim}
 use mathlib.Core.Bool.{Bool, true, false, _&&_, _||_}
-use mathlib.Core.List.{List, [], _∷_, _++_, map, append-assoc, append-nil}
+use mathlib.Core.List.{List, [], _∷_}
 use Prim.Native.Nat.{ℕ, zero, suc, _+_, _*_, _^_, _<_, _≤_}
-use native.Mathlib.Nat.{not-suc-le-zero, le-of-suc-le-suc}
 use native.Mathlib.Omega.{arith}
 use native.Mathlib.Decide.{decLt}
 use lib.Dec.{eqb, leb, ltb}
-use lib.ListN.{length, getD, drop, length-append, length-map, List·getD-eq-default}
+use lib.ListN.{length, getD, length-map, List·getD-eq-default}
 use borrow.Author.Tests.{le-leb, leb-true, lt-ltb, eq-eqb}
-use Rattle.octets.specs.Octets.{numberAt, numbersIn, numbersOf}
-use Rattle.octets.specs.Lists.{those, all, any, distinct}
-use Rattle.octets.specs.Checked.{Check, pass}
-use Rattle.octets.proofs.Checks.{true-false, known, and-both, and-right, or-left, or-right}
+use Rattle.octets.specs.Lists.{all, any, distinct}
+use Rattle.octets.specs.Checked.{pass}
+use Rattle.octets.proofs.Checks.{true-false, known, and-both, and-right}
 use Rattle.octets.proofs.Lists.{length-those}
 use Rattle.octets.proofs.Elements.{all-at}
-use Rattle.octets.proofs.Tables.{length-numbersOf, entry-at}
 use Rattle.index.specs.Columns.{Column, columnsOf}
-use Rattle.index.specs.Index.{Index, versionOf, columnsMost, codeGood, leastPower, slotsGood, layout, indexOf}
+use Rattle.index.specs.Index.{Index, columnsMost, codeGood, leastPower, slotsGood, layout, indexOf}
 use Rattle.index.specs.Probing.{Slots, slotsOf, slotsFor}
 use Rattle.index.specs.Rows.{isSome}
-use Rattle.index.specs.Written.{Row, presentColumns, offsetOf, sizeOf, grid, startBytes, indexWith}
+use Rattle.index.specs.Written.{Row, presentColumns, offsetOf, sizeOf, grid, indexWith}
 use Rattle.index.proofs.Slots.{slotsFor-gt, slotsFor-fits, leastPower-slotsFor}
 use Rattle.index.proofs.LawPlaced.{Distinct, NonZero, Placed}
 use Rattle.index.proofs.Found.{placed-is}
 use Rattle.index.proofs.LawColumns.{formOf, forms, codesOf, columns-good, columns-distinct, columns-most, codes-all, codes-distinct}
-use Rattle.index.proofs.LawGrid.{noRow, identitiesOf, getD-map, Below, length-grid, grid-below}
+use Rattle.index.proofs.LawGrid.{noRow, identitiesOf, getD-map, Below, grid-below}
 use Rattle.index.proofs.LawSlotsGood.{rows-le, identities-below, placed-good}
-use Rattle.index.proofs.LawBytes.{start-version, length-start, numbers-behind, indexOf-passes}
+use Rattle.index.proofs.LawBytes.{indexOf-passes}
 use Rattle.index.proofs.LawRead.{length-index, version-read, count-read, identities-read, rows-read, codes-read, offsets-read, sizes-read}
 
 -- the index that is written, as it is read back
