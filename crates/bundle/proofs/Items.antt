@@ -56,3 +56,10 @@ pub objects-sections : (ps : List Part) (is : List Item) → objectsOf (map sect
 unfolding objectsOf
 objects-sections [] is = refl
 objects-sections (p ∷ ps) is = objects-sections ps is
+
+-- nothing leads where an object is first
+pub leading-none : (is : List Item) → objectFirst is ≡ true → leading is ≡ []
+unfolding leading objectFirst
+leading-none [] e = refl
+leading-none (object w ∷ is) e = refl
+leading-none (section p ∷ is) e = absurd (let z : _≡_ {A = ℕ} 0 1 = cc in omega arith)

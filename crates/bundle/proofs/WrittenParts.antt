@@ -8,40 +8,20 @@ use mathlib.Core.Option.{Option, some, none}
 use Prim.Native.Nat.{ℕ, _+_, _-_, _*_, _/_, _≤_}
 use native.Mathlib.Omega.{arith}
 use lib.Dec.{eqb, leb}
-use lib.ListN.{length, length-append, length-replicate}
+use lib.ListN.{length, length-append}
 use borrow.Author.Tests.{eqb-true, eqb-false, eq-eqb, ne-eqb, le-leb, lt-leb}
-use Rattle.octets.specs.Octets.{part, bytesOf, zeros}
+use Rattle.octets.specs.Octets.{part, zeros}
 use Rattle.octets.specs.Lists.{joined, those, any, has, distinct}
 use Rattle.octets.proofs.Checks.{known, true-false}
 use Rattle.octets.proofs.Lists.{any-cons, any-stops, those-keeps, those-skips}
 use Rattle.octets.proofs.Elements.{has-cons, has-skips, distinct-cons, distinct-head, distinct-tail}
-use Rattle.octets.proofs.Numbers.{length-bytesOf}
 use Rattle.octets.proofs.Parts.{part-append-behind, part-append-front, part-whole}
 use Rattle.bundle.specs.Bundle.{Part, filledUp, firstPart, partsOf, count}
 use Rattle.bundle.specs.Written.{Section, wordBytes, sectionBytes}
-
--- ---- lengths
-pub filled-le : (n : ℕ) → n ≤ filledUp n
-unfolding filledUp
-filled-le n = omega arith
-
-pub length-word : (w : ℕ) → length (wordBytes w) ≡ 4
-unfolding wordBytes
-length-word w = length-bytesOf false 4 w
-
-pub length-section : (s : Section) → length (sectionBytes s) ≡ 4 + filledUp (length (s .bytes))
-unfolding sectionBytes zeros
-length-section s =
-    let n = length (s .bytes) in
-    let word = wordBytes (0x2000_0000 + s .code * 0x80_0000 + n) in
-    length-append (word ++ s .bytes) (zeros (filledUp n - n))
-    ∙ omega (arith, length-append word (s .bytes), length-word (0x2000_0000 + s .code * 0x80_0000 + n), length-replicate {A = ℕ} (filledUp n - n) 0, filled-le n)
+use Rattle.bundle.proofs.Putting.{length-word, length-section}
+use Rattle.bundle.proofs.RoundTrip.{partsFrom}
 
 -- ---- sections by code
-unfoldable pub partsFrom : ℕ → List Section → List Part
-partsFrom at [] = []
-partsFrom at (s ∷ ss) = record { code = s .code; start = at + 4; size = length (s .bytes) } ∷ partsFrom (at + 4 + filledUp (length (s .bytes))) ss
-
 unfoldable pub isOf : ℕ → Section → Bool
 isOf c s = eqb (s .code) c
 
@@ -125,20 +105,20 @@ section-in x (s ∷ ss) rest c e =
       lies = record { code = s .code; start = length x + 4; size = length (s .bytes) };
       is = first-part-here (length x) s ss c t;
       size = refl;
-      bytes = own-bytes x s (all ++ rest)
+      bytes = own-bytes x s (all ++ rest);
     }))
     (λ (t : isOf c s ≡ false).
-        let r = section-in (x ++ sectionBytes s) ss rest c (sym (any-cons (isOf c) s ss t) ∙ e) in
-        let far : length (x ++ sectionBytes s) ≡ length x + 4 + filledUp (length (s .bytes)) = length-append x (sectionBytes s) ∙ omega (arith, length-section s) in
-        let same : (x ++ sectionBytes s) ++ (all ++ rest) ≡ x ++ ((sectionBytes s ++ all) ++ rest) =
-              append-assoc x (sectionBytes s) (all ++ rest) ∙ ap (λ (l : List ℕ). x ++ l) (sym (append-assoc (sectionBytes s) all rest)) in
-        record {
-          lies = r .lies;
-          is = first-part-later (length x) s ss c t ∙ ap (λ (n : ℕ). firstPart (partsFrom n ss) c) (sym far) ∙ r .is;
-          size = r .size ∙ ap length (sym (bytes-later s ss c t));
-          bytes = ap (λ (l : List ℕ). part l (r .lies .start) (length (bytesIn (s ∷ ss) c))) (sym same)
-              ∙ ap (λ (l : List ℕ). part ((x ++ sectionBytes s) ++ (all ++ rest)) (r .lies .start) (length l)) (bytes-later s ss c t) ∙ r .bytes ∙ sym (bytes-later s ss c t)
-        })
+    let r = section-in (x ++ sectionBytes s) ss rest c (sym (any-cons (isOf c) s ss t) ∙ e) in
+    let far : length (x ++ sectionBytes s) ≡ length x + 4 + filledUp (length (s .bytes)) = length-append x (sectionBytes s) ∙ omega (arith, length-section s) in
+    let same : (x ++ sectionBytes s) ++ (all ++ rest) ≡ x ++ ((sectionBytes s ++ all) ++ rest) =
+    append-assoc x (sectionBytes s) (all ++ rest) ∙ ap (λ (l : List ℕ). x ++ l) (sym (append-assoc (sectionBytes s) all rest)) in
+    record {
+      lies = r .lies;
+      is = first-part-later (length x) s ss c t ∙ ap (λ (n : ℕ). firstPart (partsFrom n ss) c) (sym far) ∙ r .is;
+      size = r .size ∙ ap length (sym (bytes-later s ss c t));
+      bytes = ap (λ (l : List ℕ). part l (r .lies .start) (length (bytesIn (s ∷ ss) c))) (sym same)
+          ∙ ap (λ (l : List ℕ). part ((x ++ sectionBytes s) ++ (all ++ rest)) (r .lies .start) (length l)) (bytes-later s ss c t) ∙ r .bytes ∙ sym (bytes-later s ss c t);
+    })
     (known (isOf c s))
 
 -- ---- each code once
@@ -175,7 +155,10 @@ pub count-once : (at : ℕ) (ss : List Section) (c : ℕ) → distinct (codesOf 
 unfolding partsFrom count partsOf those
 count-once at [] c d = omega arith
 count-once at (s ∷ ss) c d = ⊎-elim
-    (λ (t : isOf c s ≡ true). omega (arith, count-here at s ss c t,
-        count-none (at + 4 + filledUp (length (s .bytes))) ss c (subst (λ (n : ℕ). has (codesOf ss) n ≡ false) (code-is s c t) (distinct-head (s .code) (codesOf ss) d))))
+    (λ (t : isOf c s ≡ true). omega (
+      arith,
+      count-here at s ss c t,
+      count-none (at + 4 + filledUp (length (s .bytes))) ss c (subst (λ (n : ℕ). has (codesOf ss) n ≡ false) (code-is s c t) (distinct-head (s .code) (codesOf ss) d)),
+    ))
     (λ (t : isOf c s ≡ false). omega (arith, count-later at s ss c t, count-once (at + 4 + filledUp (length (s .bytes))) ss c (distinct-tail (s .code) (codesOf ss) d)))
     (known (isOf c s))

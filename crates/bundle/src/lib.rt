@@ -3,7 +3,9 @@ pub mod encoding;
 
 ghost use mathlib.Core.Path.{_≡_};
 ghost use mathlib.Core.Bool.{Bool};
-ghost use mathlib.Core.List.{[]};
+ghost use mathlib.Core.List.{[], _++_};
+ghost use Rattle.octets.specs.Octets.{placed};
+ghost use Rattle.bundle.specs.Written.{wordBytes, headBytes, endBytes};
 ghost use Prim.Native.Nat.{ℕ, _+_, _*_, _-_, _/_, _%_, _≤_, _<_};
 ghost use lib.ListN.{length, drop};
 ghost use Rattle.bundle.specs.Bundle.{
@@ -251,4 +253,54 @@ pub fn scan_object(b: &[u8], from: usize) -> Scan
             }
         }
     }
+}
+
+// ---- a bundle written, into an output that is zero behind. The caller has measured it, so that each part fits.
+pub fn put_head(big_endian: bool, d: &mut [u8])
+    requires { ⌜ 4 ≤ length (now d) ⌝ }
+    ensures { λ _. ⌜ now (d .exit) ≡ placed (now (d .entry)) 0 (headBytes «big_endian») ⌝ }
+{
+    if big_endian {
+        octets::put_word(0xF000_0001, d, 0);
+        return;
+    }
+    octets::put_word(0xF000_0000, d, 0);
+}
+
+pub fn put_object(word: u32, d: &mut [u8], at: usize)
+    requires { ⌜ at + 4 ≤ length (now d) ⌝ }
+    ensures { λ _. ⌜ now (d .exit) ≡ placed (now (d .entry)) at (wordBytes word) ⌝ }
+{
+    octets::put_word(word, d, at);
+}
+
+// The word of a section whose bytes the caller stores behind it.
+pub fn put_section_word(code: u32, size: usize, d: &mut [u8], at: usize)
+    requires { ⌜ (code < 32) × (size < 0x80_0000) × (at + 4 ≤ length (now d)) ⌝ }
+    ensures { λ _. ⌜ now (d .exit) ≡ placed (now (d .entry)) at (wordBytes (0x2000_0000 + code * 0x80_0000 + size)) ⌝ }
+{
+    let n = octets::narrow(size);
+    octets::put_word(0x2000_0000 + code * 0x80_0000 + n, d, at);
+}
+
+// A section of these bytes; the zeros that fill up its last word stand there. Returns the place behind it.
+pub fn put_section(code: u32, s: &[u8], d: &mut [u8], at: usize) -> usize
+    requires { ⌜ (code < 32) × (length (now s) < 0x80_0000) × (at + 4 + filledUp (length (now s)) ≤ length (now d)) ⌝ }
+    ensures next { λ r. ⌜ r ≡ at + 4 + filledUp (length (now (s .entry))) ⌝ }
+    ensures output { λ _. ⌜ now (d .exit) ≡ placed (now (d .entry)) at (wordBytes (0x2000_0000 + code * 0x80_0000 + length (now (s .entry))) ++ now (s .entry)) ⌝ }
+{
+    let size = s.len();
+    let filled = filled_up(size);
+    put_section_word(code, size, d, at);
+    octets::put_bytes(d, at + 4, s);
+    at + 4 + filled
+}
+
+// The end word behind this many bytes, which the caller keeps below the limit of a package.
+pub fn put_end(d: &mut [u8], at: usize)
+    requires { ⌜ (at < 0x4000_0000) × (at + 4 ≤ length (now d)) ⌝ }
+    ensures { λ _. ⌜ now (d .exit) ≡ placed (now (d .entry)) at (endBytes at) ⌝ }
+{
+    let words = octets::narrow((at + 4) / 4);
+    octets::put_word(0x3000_0000 + words, d, at);
 }

@@ -78,7 +78,7 @@ judged-accepted b w p q =
       cuIs = r .2;
       tuIs = r .3;
       small = ap (all (λ (s : Section). leb (length (s .bytes)) 8_388_607)) (r .4) ∙ small .0;
-      is = sym (ap (λ (l : List Section). written (k .0 .big) (packageObjects (k .0 .objects) l)) (r .4) ∙ pass-inj (small .1))
+      is = sym (ap (λ (l : List Section). written (k .0 .big) (packageObjects (k .0 .objects) l)) (r .4) ∙ pass-inj (small .1));
     }
 
 pub packed-accepted : (b : List ℕ) (w o : ℕ) (p : List ℕ) → packed b w o ≡ made p → Accepted b p
@@ -100,8 +100,8 @@ unfolding those nonEmpty
 small-those [] e = none
 small-those (s ∷ ss) e = ⊎-elim
     (λ (t : nonEmpty s ≡ true).
-        let r = rw (those-keeps nonEmpty s ss t) at e in
-        more (leb-true _ _ (all-head (λ (x : Section). leb (length (x .bytes)) 8_388_607) s (those nonEmpty ss) r)) (small-those ss (all-tail (λ (x : Section). leb (length (x .bytes)) 8_388_607) s (those nonEmpty ss) r)))
+    let r = rw (those-keeps nonEmpty s ss t) at e in
+    more (leb-true _ _ (all-head (λ (x : Section). leb (length (x .bytes)) 8_388_607) s (those nonEmpty ss) r)) (small-those ss (all-tail (λ (x : Section). leb (length (x .bytes)) 8_388_607) s (those nonEmpty ss) r)))
     (λ (t : nonEmpty s ≡ false). more (omega (arith, leb-false 1 (length (s .bytes)) t)) (small-those ss (rw (those-skips nonEmpty s ss t) at e)))
     (known (nonEmpty s))
 
