@@ -20,7 +20,7 @@ use Rattle.bundle.specs.Written.{Section, Sections, written}
 use Rattle.index.specs.Written.{indexBytes}
 use Rattle.package.specs.Filing.{Filing, filingOf, firstWord, kept}
 use Rattle.package.specs.Pack.{rowsOf, nonEmpty, sectionList, packageSections, packageObjects, judged, answered, packed, made, refused, short, Answer, handedIn}
-use Rattle.package.proofs.Each.{Each, none, more}
+use Rattle.bundle.proofs.Every.{Every, nothing, also}
 use Rattle.package.proofs.Filing.{FilingFacts, filing-facts}
 
 abbrev pub versionOf : Bundle → ℕ
@@ -95,15 +95,15 @@ module _ (b p : List ℕ) (a : Accepted b p) where
   accepted-facts h = filing-facts b (a .bundle .big) (firstWord (a .bundle .objects)) h (λ c. 0) [] (a .bundle .objects) (a .filing) (a .filed)
 
 -- ---- 19: every section, also an empty one
-small-those : (ss : List Section) → all (λ s. leb (length (s .bytes)) 8_388_607) (those nonEmpty ss) ≡ true → Each (λ s. length (s .bytes) ≤ 8_388_607) ss
+small-those : (ss : List Section) → all (λ s. leb (length (s .bytes)) 8_388_607) (those nonEmpty ss) ≡ true → Every (λ s. length (s .bytes) ≤ 8_388_607) ss
 unfolding those nonEmpty
-small-those [] e = none
+small-those [] e = nothing
 small-those (s ∷ ss) e = ⊎-elim
     (λ (t : nonEmpty s ≡ true).
     let r = rw (those-keeps nonEmpty s ss t) at e in
-    more (leb-true _ _ (all-head (λ (x : Section). leb (length (x .bytes)) 8_388_607) s (those nonEmpty ss) r)) (small-those ss (all-tail (λ (x : Section). leb (length (x .bytes)) 8_388_607) s (those nonEmpty ss) r)))
-    (λ (t : nonEmpty s ≡ false). more (omega (arith, leb-false 1 (length (s .bytes)) t)) (small-those ss (rw (those-skips nonEmpty s ss t) at e)))
+    also (leb-true _ _ (all-head (λ (x : Section). leb (length (x .bytes)) 8_388_607) s (those nonEmpty ss) r)) (small-those ss (all-tail (λ (x : Section). leb (length (x .bytes)) 8_388_607) s (those nonEmpty ss) r)))
+    (λ (t : nonEmpty s ≡ false). also (omega (arith, leb-false 1 (length (s .bytes)) t)) (small-those ss (rw (those-skips nonEmpty s ss t) at e)))
     (known (nonEmpty s))
 
-pub sections-small : (b p : List ℕ) (a : Accepted b p) → Each (λ s. length (s .bytes) ≤ 8_388_607) (sectionList (a .filing) (a .cu) (a .tu))
+pub sections-small : (b p : List ℕ) (a : Accepted b p) → Every (λ s. length (s .bytes) ≤ 8_388_607) (sectionList (a .filing) (a .cu) (a .tu))
 sections-small b p a = small-those (sectionList (a .filing) (a .cu) (a .tu)) (a .small)

@@ -24,7 +24,8 @@ use Rattle.index.specs.Rows.{BySection, rowContributions, wholeContributions}
 use Rattle.index.proofs.Contributions.{Contributed, Whole, whole-contributed, row-contributed}
 use Rattle.package.specs.Input.{Input, inputOf}
 use Rattle.package.specs.Filing.{Filed, Filing, isUnder, indexFor, sums, lengths, contributionsOf, skipped, unitAt, unitsFrom, unitsIn, grown, filingFrom}
-use Rattle.package.proofs.Each.{Each, none as nothing, more, each-head, each-tail, each-append, each-snoc, each-so}
+use Rattle.bundle.proofs.Every.{Every, nothing, also}
+use Rattle.package.proofs.Each.{each-head, each-tail, each-append, each-snoc, each-so}
 use Rattle.package.proofs.Inputs.{InputFacts, UnitSection, input-facts}
 
 -- ---- contributions
@@ -126,18 +127,18 @@ module _ (e : Encoding) (i : Input) (facts : InputFacts e i) (bases : BySection 
           (known (any (isUnder (r .table) (r .identity)) (earlier ++ here)))
 
   units-from : (home : ℕ) → (home ≡ 1) ⊎ (home ≡ 2) → (home ≡ 2 → e .version ≡ 5 → ⊥) → (k : ℕ) (here : List Filed) (at : ℕ) (s : List ℕ) (us : List Filed)
-      → Bytes s → Each (Of e i bases) here → unitsFrom k i bases earlier here home at s ≡ pass us → Each (Of e i bases) us
+      → Bytes s → Every (Of e i bases) here → unitsFrom k i bases earlier here home at s ≡ pass us → Every (Of e i bases) us
   unfolding unitsFrom
   units-from home t v zero here at s us h g q = absurd (pass-refuse us 11 (sym q))
-  units-from home t v (suc k) here at [] us h g q = subst (Each (Of e i bases)) (pass-inj q) g
+  units-from home t v (suc k) here at [] us h g q = subst (Every (Of e i bases)) (pass-inj q) g
   units-from home t v (suc k) here at (b ∷ s) us h g q =
       let r = bind-pass (unitAt i bases earlier here home at (b ∷ s)) _ us q in
       units-from home t v k (here ++ (r .0 ∷ [])) (at + length (r .0 .bytes)) (drop (length (r .0 .bytes)) (b ∷ s)) us (bytes-drop (length (r .0 .bytes)) (b ∷ s) h)
       (each-snoc here (r .0) g (unit-of here home at (b ∷ s) (r .0) h t v (r .1))) (r .2)
 
-  pub units-in : (ss : List Section) (here us : List Filed) → Each (UnitSection e) ss → Each (Of e i bases) here → unitsIn i bases earlier here ss ≡ pass us → Each (Of e i bases) us
+  pub units-in : (ss : List Section) (here us : List Filed) → Every (UnitSection e) ss → Every (Of e i bases) here → unitsIn i bases earlier here ss ≡ pass us → Every (Of e i bases) us
   unfolding unitsIn
-  units-in [] here us f g q = subst (Each (Of e i bases)) (pass-inj q) g
+  units-in [] here us f g q = subst (Every (Of e i bases)) (pass-inj q) g
   units-in (s ∷ ss) here us f g q =
       let r = bind-pass (unitsFrom (suc (length (s .bytes))) i bases earlier here (s .code) 0 (s .bytes)) _ us q in
       let h = each-head f in
@@ -156,9 +157,9 @@ pub record Lies (base : BySection ℕ) (inputs : List Input) (u : Filed) : Type 
   pub begins : (c : ℕ) → u .bases c ≡ base c + lengthsIn before c
 
 pub record FilingFacts (e : Encoding) (base : BySection ℕ) (f : Filing) : Type 0 where
-  pub inputs : Each (InputFacts e) (f .inputs)
-  pub units : Each (Good e) (f .units)
-  pub lie : Each (Lies base (f .inputs)) (f .units)
+  pub inputs : Every (InputFacts e) (f .inputs)
+  pub units : Every (Good e) (f .units)
+  pub lie : Every (Lies base (f .inputs)) (f .units)
 
 lies-here : (e : Encoding) (i : Input) (base : BySection ℕ) (is : List Input) (u : Filed) → Of e i base u → Lies base (i ∷ is) u
 unfolding lengthsIn sum
@@ -187,7 +188,7 @@ filing-facts b big first h base earlier (o ∷ os) f q =
     let later = filing-facts b big first h (grown base (i .0)) (earlier ++ here .0) os (rest .0) (rest .1) in
     subst (FilingFacts e base) (pass-inj (rest .2))
     (record {
-      inputs = more facts (later .inputs);
+      inputs = also facts (later .inputs);
       units = each-append (each-so (λ u r. r .good) units) (later .units);
       lie = each-append (each-so (λ u r. lies-here e (i .0) base (rest .0 .inputs) u r) units) (each-so (λ u r. lies-later (i .0) base (rest .0 .inputs) u r) (later .lie));
     })

@@ -26,7 +26,8 @@ use Rattle.index.specs.Rows.{BySection}
 use Rattle.index.proofs.Contributions.{all-has}
 use Rattle.package.specs.Input.{Input, present, repeated, wrongEdition, onlyOnce, editionGood, complete, usedStrings, inputIndex, unitSections, inputOf}
 use Rattle.package.specs.Filing.{indexFor}
-use Rattle.package.proofs.Each.{Each, none as nothing, more, each-head, each-tail, each-those, each-map, each-so, each-both, each-all, each-passed}
+use Rattle.bundle.proofs.Every.{Every, nothing, also}
+use Rattle.package.proofs.Each.{each-head, each-tail, each-those, each-map, each-so, each-both, each-all, each-passed}
 
 -- ---- sections that are there and that aren't
 parts-here : (p : Part) (ps : List Part) (c : ℕ) → eqb (p .code) c ≡ true → 1 ≤ count (p ∷ ps) c
@@ -53,11 +54,11 @@ pub absent-body : (b : List ℕ) (ps : List Part) (c : ℕ) → present ps c ≡
 unfolding body
 absent-body b ps c e = rw (body, first-absent ps c (absent-count ps c e))
 
-each-absent : (ps : List Part) (c : ℕ) → count ps c ≡ 0 → Each (λ p. eqb (p .code) c ≡ false) ps
+each-absent : (ps : List Part) (c : ℕ) → count ps c ≡ 0 → Every (λ p. eqb (p .code) c ≡ false) ps
 each-absent [] c e = nothing
 each-absent (p ∷ ps) c e = ⊎-elim
     (λ (t : eqb (p .code) c ≡ true). absurd (omega (arith, parts-here p ps c t)))
-    (λ (t : eqb (p .code) c ≡ false). more t (each-absent ps c (sym (parts-later p ps c t) ∙ e)))
+    (λ (t : eqb (p .code) c ≡ false). also t (each-absent ps c (sym (parts-later p ps c t) ∙ e)))
     (known (eqb (p .code) c))
 
 pub bytes-body : (b : List ℕ) (ps : List Part) (c : ℕ) → Bytes b → Bytes (body b ps c)
@@ -92,7 +93,7 @@ pub record UnitSection (e : Encoding) (s : Section) : Type 0 where
   pub four : s .code ≡ 2 → e .version ≡ 5 → ⊥
   pub areBytes : Bytes (s .bytes)
 
-unit-codes : (e : Encoding) (ps : List Part) → editionGood e ps ≡ true → Each (λ p. p .code ≡ 2 → e .version ≡ 5 → ⊥) ps
+unit-codes : (e : Encoding) (ps : List Part) → editionGood e ps ≡ true → Every (λ p. p .code ≡ 2 → e .version ≡ 5 → ⊥) ps
 unfolding has any
 unit-codes e ps h = ⊎-elim
     (λ (t : eqb (e .version) 5 ≡ true). each-so (λ p n z v. eqb-false (p .code) 2 n z)
@@ -100,7 +101,7 @@ unit-codes e ps h = ⊎-elim
     (λ (t : eqb (e .version) 5 ≡ false). each-all (λ p z v. eqb-false (e .version) 5 t v) ps)
     (known (eqb (e .version) 5))
 
-pub unit-sections : (b : List ℕ) (e : Encoding) (ps : List Part) → Bytes b → editionGood e ps ≡ true → Each (UnitSection e) (unitSections b ps)
+pub unit-sections : (b : List ℕ) (e : Encoding) (ps : List Part) → Bytes b → editionGood e ps ≡ true → Every (UnitSection e) (unitSections b ps)
 unfolding unitSections
 unit-sections b e ps h g =
     let f : Part → Bool = λ p. eqb (p .code) 1 || eqb (p .code) 2 in
@@ -153,7 +154,7 @@ pub record InputFacts (e : Encoding) (i : Input) : Type 0 where
   -- sections of the wrong edition are empty, and version 5 has no indexes
   pub edition : (c : ℕ) → has (wrongEdition e) c ≡ true → i .bytes c ≡ []
   pub indexes : (table : ℕ) (x : Index) → indexFor i table ≡ some x → e .version ≡ 5 → ⊥
-  pub sections : Each (UnitSection e) (i .units)
+  pub sections : Every (UnitSection e) (i .units)
   pub strings : StringFacts e (i .bytes 6) (i .bytes 11) (i .used)
 
 some-none : {A : Type 0} {a : A} {P : Type 0} → some a ≡ none → P

@@ -15,7 +15,8 @@ use Rattle.octets.proofs.Lists.{any-cons, any-stops, any-append, those-append, 
 use Rattle.octets.proofs.Elements.{distinct-snoc, has-cons, has-skips}
 use Rattle.octets.proofs.Joined.{map-append}
 use Rattle.package.specs.Filing.{Filed, isUnder, keep, keepAll, kept}
-use Rattle.package.proofs.Each.{Each, none as nothing, more, each-append, each-snoc, each-head, each-tail}
+use Rattle.bundle.proofs.Every.{Every, nothing, also}
+use Rattle.package.proofs.Each.{each-append, each-snoc, each-head, each-tail}
 
 -- ---- the first unit of a table and an identity
 unfoldable pub firstUnder : ℕ → ℕ → List Filed → Option Filed
@@ -166,16 +167,16 @@ any-kept t x us = ⊎-elim
     clash p q = let z : _≡_ {A = ℕ} 0 1 = cc in absurd (omega arith)
 
 -- ---- what holds of each unit holds of each kept one
-each-keep : {P : Filed → Type 0} (ks : List Filed) (u : Filed) → Each P ks → P u → Each P (keep ks u)
+each-keep : {P : Filed → Type 0} (ks : List Filed) (u : Filed) → Every P ks → P u → Every P (keep ks u)
 each-keep ks u e p =
     ⊎-elim (λ h. rw (keep-known ks u h) e) (λ h. rw (keep-new ks u h) (each-snoc ks u e p)) (known (any (isUnder (u .table) (u .identity)) ks))
 
-each-keepAll : {P : Filed → Type 0} (ks us : List Filed) → Each P ks → Each P us → Each P (keepAll ks us)
+each-keepAll : {P : Filed → Type 0} (ks us : List Filed) → Every P ks → Every P us → Every P (keepAll ks us)
 unfolding keepAll
 each-keepAll ks [] e f = e
 each-keepAll ks (u ∷ us) e f = each-keepAll (keep ks u) us (each-keep ks u e (each-head f)) (each-tail f)
 
-pub each-kept : {P : Filed → Type 0} (us : List Filed) → Each P us → Each P (kept us)
+pub each-kept : {P : Filed → Type 0} (us : List Filed) → Every P us → Every P (kept us)
 unfolding kept
 each-kept us e = each-keepAll [] us nothing e
 

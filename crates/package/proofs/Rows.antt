@@ -23,7 +23,7 @@ use Rattle.index.specs.Written.{Row}
 use Rattle.package.specs.Input.{Input}
 use Rattle.package.specs.Filing.{Filed}
 use Rattle.package.specs.Pack.{cells, Entry, longer, entriesFrom, rowsOf, unitBytes}
-use Rattle.package.proofs.Each.{Each, none as nothing, more}
+use Rattle.bundle.proofs.Every.{Every, nothing, also}
 use Rattle.package.proofs.Kept.{identitiesIn, identities-here, identities-later}
 
 -- ---- bytes of info and types before a unit
@@ -149,23 +149,23 @@ row-stands pre u post t e =
 -- what holds of the row of each unit, wherever it stands, holds of each row
 each-from : (P : Row → Type 0) (t : ℕ) (pre post : List Filed)
     → ((xs : List Filed) (u : Filed) (ys : List Filed) → pre ++ post ≡ xs ++ (u ∷ ys) → P (rowAt (behindAll nothingBefore xs) u))
-    → Each P (rowsFrom (behindAll nothingBefore pre) post t)
+    → Every P (rowsFrom (behindAll nothingBefore pre) post t)
 unfolding rowsFrom entriesFrom those behindAll
 each-from P t pre [] h = nothing
 each-from P t pre (u ∷ us) h =
-    let next : Each P (rowsFrom (behindAll nothingBefore (pre ++ (u ∷ []))) us t) =
+    let next : Every P (rowsFrom (behindAll nothingBefore (pre ++ (u ∷ []))) us t) =
     each-from P t (pre ++ (u ∷ [])) us (λ xs v ys e. h xs v ys (sym (append-assoc pre (u ∷ []) us) ∙ e)) in
-    let later : Each P (rowsFrom (longer (behindAll nothingBefore pre) (u .home) (length (u .bytes))) us t) =
-    subst (λ (b : BySection ℕ). Each P (rowsFrom b us t)) (behind-append nothingBefore pre (u ∷ [])) next in
+    let later : Every P (rowsFrom (longer (behindAll nothingBefore pre) (u .home) (length (u .bytes))) us t) =
+    subst (λ (b : BySection ℕ). Every P (rowsFrom b us t)) (behind-append nothingBefore pre (u ∷ [])) next in
     ⊎-elim
-    (λ (g : eqb (u .table) t ≡ true). subst (Each P) (sym (rows-here (behindAll nothingBefore pre) u us t (eqb-true _ _ g))) (more (h pre u us refl) later))
-    (λ (g : eqb (u .table) t ≡ false). subst (Each P) (sym (rows-later (behindAll nothingBefore pre) u us t (eqb-false _ _ g))) later)
+    (λ (g : eqb (u .table) t ≡ true). subst (Every P) (sym (rows-here (behindAll nothingBefore pre) u us t (eqb-true _ _ g))) (also (h pre u us refl) later))
+    (λ (g : eqb (u .table) t ≡ false). subst (Every P) (sym (rows-later (behindAll nothingBefore pre) u us t (eqb-false _ _ g))) later)
     (known (eqb (u .table) t))
 
 pub each-row : (P : Row → Type 0) (t : ℕ) (ks : List Filed)
-    → ((xs : List Filed) (u : Filed) (ys : List Filed) → ks ≡ xs ++ (u ∷ ys) → P (rowAt (behindAll nothingBefore xs) u)) → Each P (rowsOf ks t)
+    → ((xs : List Filed) (u : Filed) (ys : List Filed) → ks ≡ xs ++ (u ∷ ys) → P (rowAt (behindAll nothingBefore xs) u)) → Every P (rowsOf ks t)
 unfolding behindAll
-each-row P t ks h = subst (Each P) (sym (rows-are ks t)) (each-from P t [] ks h)
+each-row P t ks h = subst (Every P) (sym (rows-are ks t)) (each-from P t [] ks h)
 
 -- ---- a unit's own bytes
 pub unit-part : (pre : List Filed) (u : Filed) (post : List Filed)

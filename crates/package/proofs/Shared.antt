@@ -15,7 +15,8 @@ use Rattle.octets.proofs.Parts.{part-append-behind, part-append-front}
 use Rattle.strings.specs.Strings.{remapped}
 use Rattle.package.specs.Input.{Input}
 use Rattle.package.specs.Pack.{sharedBytes}
-use Rattle.package.proofs.Each.{Each, none, more, each-head, each-tail, each-left, each-middle}
+use Rattle.bundle.proofs.Every.{Every, nothing, also}
+use Rattle.package.proofs.Each.{each-head, each-tail, each-left, each-middle}
 use Rattle.package.proofs.Filing.{lengthsIn}
 
 -- what an object gives to shared section c
@@ -47,14 +48,14 @@ shared-given table is c = from (eqb c 6) refl
 abbrev pub Sized : List (List ℕ) → Input → Type 0
 Sized table i = (c : ℕ) → length (given table c i) ≡ length (i .bytes c)
 
-pub length-given : (table : List (List ℕ)) (is : List Input) (c : ℕ) → Each (Sized table) is → length (joined (map (given table c) is)) ≡ lengthsIn is c
+pub length-given : (table : List (List ℕ)) (is : List Input) (c : ℕ) → Every (Sized table) is → length (joined (map (given table c) is)) ≡ lengthsIn is c
 unfolding joined lengthsIn sum
 length-given table [] c e = refl
 length-given table (i ∷ is) c e =
     length-append (given table c i) (joined (map (given table c) is)) ∙ omega (arith, each-head e c, length-given table is c (each-tail e))
 
 -- object i stands behind others
-module _ (table : List (List ℕ)) (before : List Input) (i : Input) (behind : List Input) (sized : Each (Sized table) (before ++ (i ∷ behind))) (c : ℕ) where
+module _ (table : List (List ℕ)) (before : List Input) (i : Input) (behind : List Input) (sized : Every (Sized table) (before ++ (i ∷ behind))) (c : ℕ) where
   shared-split : sharedBytes table (before ++ (i ∷ behind)) c ≡ joined (map (given table c) before) ++ (given table c i ++ joined (map (given table c) behind))
   unfolding joined
   shared-split =

@@ -28,7 +28,8 @@ use Rattle.index.proofs.Contributions.{Contributed}
 use Rattle.package.specs.Input.{Input}
 use Rattle.package.specs.Filing.{Filed, lengths, contributed, entriesOfUnit}
 use Rattle.package.specs.Pack.{allUsed, stringTable}
-use Rattle.package.proofs.Each.{Each, each-so}
+use Rattle.bundle.proofs.Every.{Every, nothing, also}
+use Rattle.package.proofs.Each.{each-so}
 use Rattle.package.proofs.Inputs.{InputFacts, StringFacts, no-entries}
 use Rattle.package.proofs.Shared.{given, given-strings, given-bytes, Sized}
 use Rattle.package.proofs.Filing.{Good, Lies}
