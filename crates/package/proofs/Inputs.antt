@@ -79,11 +79,11 @@ no-wrong-edition e ps c h g =
     let n = not (present ps 13 && repeated ps 2) in
     not-true (present ps c) (all-has (λ d. not (present ps d)) (wrongEdition e) c (and-left a b (and-left (a && b) m (and-left (a && b && m) n h))) g)
 
-wrong-five : (e : Encoding) (c : ℕ) → e .version ≡ 5 → has (2 ∷ 5 ∷ 7 ∷ 12 ∷ 13 ∷ []) c ≡ true → has (wrongEdition e) c ≡ true
+pub wrong-five : (e : Encoding) (c : ℕ) → e .version ≡ 5 → has (2 ∷ 5 ∷ 7 ∷ 12 ∷ 13 ∷ []) c ≡ true → has (wrongEdition e) c ≡ true
 unfolding wrongEdition
 wrong-five e c v h = rw (wrongEdition, eq-eqb (e .version) 5 v) h
 
-wrong-four : (e : Encoding) (c : ℕ) → (e .version ≡ 5 → ⊥) → has (9 ∷ 10 ∷ []) c ≡ true → has (wrongEdition e) c ≡ true
+pub wrong-four : (e : Encoding) (c : ℕ) → (e .version ≡ 5 → ⊥) → has (9 ∷ 10 ∷ []) c ≡ true → has (wrongEdition e) c ≡ true
 unfolding wrongEdition
 wrong-four e c v h = rw (wrongEdition, ne-eqb (e .version) 5 v) h
 
