@@ -1,1 +1,4 @@
+-- The worked examples, and the proof of demand 3.
+-- Assumes nothing.
 pub mod Examples
+pub mod Read
