@@ -2,3 +2,4 @@
 -- Assumes nothing.
 pub mod Examples
 pub mod Read
+pub mod Places

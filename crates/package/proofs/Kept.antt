@@ -1,6 +1,6 @@
 -- The kept units: the first of each table and identity, and nothing else.
 -- Assumes nothing.
-use mathlib.Core.Path.{_≡_, refl, sym, ap, _∙_}
+use mathlib.Core.Path.{_≡_, refl, sym, ap, _∙_, subst}
 use mathlib.Core.Logic.{_⊎_, inl, inr, ⊎-elim}
 use mathlib.Core.Bool.{Bool, true, false, _&&_, _||_}
 use mathlib.Core.List.{List, [], _∷_, _++_, map, append-assoc, append-nil}
@@ -242,3 +242,11 @@ distinct-keepAll t ks (u ∷ us) e = distinct-keepAll t (keep ks u) us (distinct
 pub distinct-kept : (t : ℕ) (us : List Filed) → distinct (identitiesIn t (kept us)) ≡ true
 unfolding kept distinct identitiesIn those
 distinct-kept t us = distinct-keepAll t [] us refl
+
+-- the first of all stands among the kept ones, as the first there too
+pub kept-first : (t x : ℕ) (us : List Filed) (u : Filed) → First t x us u → First t x (kept us) u
+kept-first t x us u f =
+    let r = first-stands t x (kept us) (any-kept t x us ∙ first-any t x us u f) in
+    let same : some (r .0) ≡ some u = sym (first-is t x (kept us) (r .0) (r .1)) ∙ first-kept t x us ∙ first-is t x us u f in
+    let z : r .0 ≡ u = cc in
+    subst (First t x (kept us)) z (r .1)
