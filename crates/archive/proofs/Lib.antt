@@ -3,3 +3,4 @@
 pub mod Examples
 pub mod Read
 pub mod Places
+pub mod Units

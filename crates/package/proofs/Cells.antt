@@ -127,7 +127,7 @@ module _ (e : Encoding) (f : Filing) (cu tu : List ℕ) (facts : FilingFacts e n
   pub sized : Every (Sized (stringTable (f .inputs))) (f .inputs)
   sized = each-so (λ i g. input-sized e (stringTable (f .inputs)) i g) (facts .inputs)
 
-  home-bytes : (u : Filed) → Good e u → section (u .home) ≡ unitBytes ks (u .home)
+  pub home-bytes : (u : Filed) → Good e u → section (u .home) ≡ unitBytes ks (u .home)
   home-bytes u g = ⊎-elim
       (λ (t : u .home ≡ 1). subst (λ (c : ℕ). section c ≡ unitBytes ks c) (sym t) (info-bytes f cu tu))
       (λ (t : u .home ≡ 2). subst (λ (c : ℕ). section c ≡ unitBytes ks c) (sym t) (types-bytes f cu tu))
