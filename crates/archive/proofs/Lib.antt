@@ -4,3 +4,4 @@ pub mod Examples
 pub mod Read
 pub mod Places
 pub mod Units
+pub mod Judged
