@@ -5,3 +5,4 @@ pub mod Read
 pub mod Places
 pub mod Units
 pub mod Judged
+pub mod StringPlaces

@@ -68,7 +68,7 @@ nothing-read b p a q =
     ∙ then-pass (renumbered 21 (bundleOf p)) _ (record { big = a .bundle .big; objects = [] }) (renumbered-pass 21 (bundleOf p) _ (none-read b p a q))
 
 -- ---- with objects
-body-is : (p : List ℕ) (ps : List Part) (c : ℕ) (s : List ℕ) → SectionIn p ps c s → body p ps c ≡ s
+pub body-is : (p : List ℕ) (ps : List Part) (c : ℕ) (s : List ℕ) → SectionIn p ps c s → body p ps c ≡ s
 unfolding body
 body-is p ps c s r = rw (body, r .is, r .size) (r .bytes)
 

@@ -141,7 +141,7 @@ module _ (b p : List ℕ) (a : Accepted b p) (h : Bytes b) (o : Object) (os : Li
   pub none-place : (c : ℕ) → (c ≡ u .home → ⊥) → u .contributions c ≡ none → Lying c []
   none-place c n r = place-not b p a h o os q t i rowOfUnit row-within c (row-cell c ∙ cell-none u (behindAll nothingBefore xs (u .home)) c n r)
 
-  given-length : (c : ℕ) (d : Contribution) → u .contributions c ≡ some d → length (bytesAt (given strings c (u .input)) (d .offset) (d .size)) ≡ length (contributed u c)
+  pub given-length : (c : ℕ) (d : Contribution) → u .contributions c ≡ some d → length (bytesAt (given strings c (u .input)) (d .offset) (d .size)) ≡ length (contributed u c)
   unfolding lengths
   given-length c d r =
       let k = good .contributes c d r .0 in
