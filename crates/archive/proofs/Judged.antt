@@ -29,7 +29,7 @@ use Rattle.package.proofs.Accepted.{Accepted, handed-in}
 use Rattle.package.proofs.Tables.{indexOfTable, rows-named}
 use Rattle.lookup.specs.Lookup.{Found, refused, absent, part, Package, packageOf, hasVersion, versionGood, tableGood, indexFor, Place, partPlace, atRow, inTable, answered, partJudged, lookedUp, stringPlace, stringJudged, stringFound}
 use Rattle.archive.specs.Theorem as theorem
-use Rattle.archive.specs.Theorem.{isVersionOf, isIndexVersion, slotsWritten, slotsFor, looks, looksOf}
+use Rattle.archive.specs.Theorem.{isVersionOf, isIndexVersion, slotsWritten, slotsOfTable, looks, looksOf}
 use Rattle.archive.proofs.Read.{rowsIn, versionIn, Table, empty, full}
 
 -- ---- the order of the refusals
@@ -83,7 +83,7 @@ module _ (b p : List ℕ) (a : Accepted b p) (t : ℕ) where
   unfolding theorem.identitiesOf identitiesIn
   identities-are = ap (λ (us : List Filed). identitiesIn t (kept us)) (handed-in b p a) ∙ sym (rows-named (kept (a .filing .units)) t)
 
-  pub no-slots : rowsIn a t ≡ [] → (theorem.identitiesOf b t ≡ []) × (slotsFor b t ≡ record { identities = []; rows = [] })
+  pub no-slots : rowsIn a t ≡ [] → (theorem.identitiesOf b t ≡ []) × (slotsOfTable b t ≡ record { identities = []; rows = [] })
   unfolding slotsWritten
   no-slots z =
       let e : theorem.identitiesOf b t ≡ [] = identities-are ∙ ap identitiesOf z in
@@ -94,7 +94,7 @@ module _ (b p : List ℕ) (a : Accepted b p) (t : ℕ) where
   some-slots [] s n e = absurd (omega arith)
   some-slots (x ∷ xs) s n e = rw (slotsWritten, e)
 
-  pub slots-are : 0 < length (rowsIn a t) → (i : Indexed (a .bundle .big) (versionIn a) (rowsIn a t) (indexOfTable a t)) → slotsFor b t ≡ i .slots
+  pub slots-are : 0 < length (rowsIn a t) → (i : Indexed (a .bundle .big) (versionIn a) (rowsIn a t) (indexOfTable a t)) → slotsOfTable b t ≡ i .slots
   slots-are n i =
       ap slotsWritten identities-are
       ∙ some-slots (identitiesOf (rowsIn a t)) (i .slots) (omega (arith, length-map (rowsIn a t) (λ (r : Row). r .identity))) (i .slots-are)

@@ -6,3 +6,5 @@ pub mod Places
 pub mod Units
 pub mod Judged
 pub mod StringPlaces
+pub mod Absences
+pub mod Demand3

