@@ -19,10 +19,11 @@ use Rattle.octets.proofs.Lists.{any-stops}
 use Rattle.octets.proofs.Numbers.{Bytes}
 use Rattle.bundle.specs.Bundle.{Part, Object}
 use Rattle.bundle.specs.Encoding.{Encoding, encodingOf}
+use Rattle.bundle.proofs.Every.{Every}
 use Rattle.bundle.proofs.RoundTrip.{partsFrom}
 use Rattle.strings.specs.Strings.{stringAt}
 use Rattle.index.specs.Index.{Index, cellOf}
-use Rattle.index.specs.Probing.{Slots, found, absent as nowhere, probe, search}
+use Rattle.index.specs.Probing.{Probe, Slots, found, absent as nowhere, probe, search}
 use Rattle.index.specs.Written.{Row}
 use Rattle.index.proofs.Orbit.{slotAt}
 use Rattle.index.proofs.Placing.{probed}
@@ -49,6 +50,7 @@ use Rattle.archive.proofs.Units.{row-within, row-identity, AtCode, at-c
 use Rattle.archive.proofs.Judged.{part-judged, string-judged, part-refused, string-refused, ends-nowhere, ends-found, ends-refused, no-slots, slots-are, looks-none, looks-some, version-none, version-form, version-good, version-wrong}
 use Rattle.archive.proofs.StringPlaces.{its-string, no-other}
 use Rattle.archive.proofs.Absences.{objects-or, no-units, rows-have, some-rows, Reads, reads, absent-is, absent-ends}
+use Rattle.archive.proofs.Firsts.{handed-of, the-code, the-part, the-string, no-string}
 
 part-absent : {P : Type 0} (s l n m : ℕ) → part s l n ≡ absent m → P
 part-absent s l n m e = let z : _≡_ {A = ℕ} 0 1 = cc in absurd (omega arith)
@@ -60,129 +62,107 @@ absent-refusal : {P : Type 0} (n m : ℕ) → absent n ≡ refused m → P
 absent-refusal n m e = let z : _≡_ {A = ℕ} 0 1 = cc in absurd (omega arith)
 
 module _ (b p : List ℕ) (a : Accepted b p) (h : Bytes b) where
-  abbrev units : List Filed
-  units = a .filing .units
+  -- some first unit is under what is handed in
+  some-first : (t x : ℕ) → IsHandedIn b t x → (u : Filed) × IsFirst b t x u
+  some-first t x e =
+      let r = first-stands t x (handedIn b) e in
+      (r .0, record { before = r .1 .before; behind = r .1 .behind; stands = r .1 .stands; under = r .1 .under; noneBefore = r .1 .alone })
 
-  -- ---- the first unit under an identity
-  first-of : (t x : ℕ) (u : Filed) → IsFirst b t x u → First t x units u
-  first-of t x u f = record { before = f .before; behind = f .behind; stands = sym (handed-in b p a) ∙ f .stands; under = f .under; alone = f .noneBefore }
+  found-exactly : theorem.FoundExactlyWhenHandedIn b p
+  found-exactly v t x code q c =
+      ( (λ (i : IsPart (lookedUp p v t x code) (looks b t x)). ⊎-elim
+          (λ (e : any (isUnder t x) (handedIn b) ≡ true). e)
+          (λ (e : any (isUnder t x) (handedIn b) ≡ false). part-absent (i .0) (i .1) (looks b t x) (looks b t x) (sym (i .2) ∙ absent-is b p a h v t x code 0 q c e .0))
+          (known (any (isUnder t x) (handedIn b))))
+      , (λ e. let u = some-first t x e in
+          let r = the-part b p a h v t x (u .0) q (u .1) code c in
+          (r .0, length (the-code b p a h v t x (u .0) q (u .1) code .bytes), r .1)) )
 
-  handed-of : (t x : ℕ) (u : Filed) → IsFirst b t x u → any (isUnder t x) (handedIn b) ≡ true
-  handed-of t x u f = ap (any (isUnder t x)) (handed-in b p a) ∙ first-any t x units u (first-of t x u f)
+  first-unit : theorem.TheFirstUnit b p
+  first-unit v t x code u q c f n =
+      subst (Holds p (lookedUp p v t x code) (looks b t x)) (the-code b p a h v t x u q f code .handed n) (the-part b p a h v t x u q f code c)
 
-  -- with objects, the index of its table was written
-  record Stands (v t x : ℕ) (u : Filed) : Type 0 where
-    k : Package
-    read : packageOf p ≡ pass k
-    good : versionGood k v ≡ true
-    o : Object
-    os : List Object
-    objects : a .bundle .objects ≡ o ∷ os
-    encoding : k .encoding ≡ encodingIn b p a h
-    parts : k .parts ≡ partsFrom 8 (sectionsOf b p a)
-    form : v ≡ formOf (versionIn a)
-    i : Indexed (a .bundle .big) (versionIn a) (rowsIn a t) (indexOfTable a t)
-    index : indexFor k t ≡ some (written (versionIn a) (rowsIn a t) (i .slots))
-    xs : List Filed
-    ys : List Filed
-    stands : kept units ≡ xs ++ (u ∷ ys)
-    own : u .table ≡ t
-    hit : FoundIn (i .slots .rows) (i .slots .identities) x (length (rowsOf xs t) + 1)
-    looked : looks b t x ≡ hit .looks
+  first-length : theorem.TheFirstUnitInLength b p
+  first-length v t x u q f =
+      let r = the-part b p a h v t x u q f 6 (record { from = omega arith; to = omega arith }) in
+      (r .0, r .1 ∙ ap (λ (n : ℕ). part (r .0) n (looks b t x)) (the-code b p a h v t x u q f 6 .long))
 
-  full-index : (t : ℕ) (o : Option Index) → Table a t o → 0 < length (rowsIn a t)
-      → (i : Indexed (a .bundle .big) (versionIn a) (rowsIn a t) (indexOfTable a t)) × (o ≡ some (written (versionIn a) (rowsIn a t) (i .slots)))
-  full-index t none (empty z) n = absurd (omega (arith, ap length z))
-  full-index t (some j) (full n i) m = (i, refl)
+  its-strings : theorem.ItsStrings b p
+  its-strings v t x k u q f m = the-string b p a h v t x u q f k m
 
-  stands-of : (v t x : ℕ) (u : Filed) → Asked b v t → IsFirst b t x u → Stands v t x u
-  unfolding written looksOf any
-  stands-of v t x u q f =
-      let r = reads b p a h v t q in
-      let n = some-rows b p a h t x (handed-of t x u f) in
-      let i = full-index t (indexFor (r .k) t) (r .table-read) n in
-      let s = kept-first t x units u (first-of t x u f) in
-      let own = under-table t x u (f .under) in
-      ⊎-elim
-      (λ (z : units ≡ []). absurd (true-false (handed-of t x u f) (ap (any (isUnder t x)) (handed-in b p a ∙ z))))
-      (λ (z : (o : Object) × (os : List Object) × (a .bundle .objects ≡ o ∷ os) × (r .k .encoding ≡ encodingIn b p a h) × (r .k .parts ≡ partsFrom 8 (sectionsOf b p a)) × (v ≡ formOf (versionIn a))).
-      let w = row-within b p a h (z .0) (z .1) (z .2) t (i .0) (s .before) u (s .behind) (s .stands) own in
-      let name = row-identity b p a h (z .0) (z .1) (z .2) t (i .0) (s .before) u (s .behind) (s .stands) own ∙ under-identity t x u (f .under) in
-      let hit = subst (λ (y : ℕ). FoundIn (i .0 .slots .rows) (i .0 .slots .identities) y (length (rowsOf (s .before) t) + 1)) name (i .0 .finds (length (rowsOf (s .before) t)) w) in
-      record {
-        k = r .k;
-        read = r .read;
-        good = r .good;
-        o = z .0;
-        os = z .1;
-        objects = z .2;
-        encoding = z .3;
-        parts = z .4;
-        form = z .5;
-        i = i .0;
-        index = i .1;
-        xs = s .before;
-        ys = s .behind;
-        stands = s .stands;
-        own = own;
-        hit = hit;
-        looked = looks-some b p a t x n (i .0) ∙ ap looksOf (hit .is);
-      })
-      (r .objects)
+  no-other-string : theorem.NoOtherString b p
+  no-other-string v t x k u q f m = no-string b p a h v t x u q f k m
 
-  -- ---- parts
-  module _ (v t x : ℕ) (u : Filed) (q : Asked b v t) (f : IsFirst b t x u) where
-    s : Stands v t x u
-    s = stands-of v t x u q f
+  looks-most : theorem.LooksAtMostSlots b
+  unfolding looks looksOf looksIn
+  looks-most t x =
+      let s = slotsOfTable b t in
+      same (search (s .rows) (s .identities) x) (length (s .rows)) (search-looks (s .rows) (s .identities) x)
+    where
+      same : (q : Probe) (n : ℕ) → looksIn q ≤ n → looksOf q ≤ n
+      same (found slot m) n l = l
+      same (nowhere m) n l = l
 
-    abbrev index : Index
-    index = written (versionIn a) (rowsIn a t) (s .i .slots)
+  -- ---- the other version
+  some-table : (us : List Filed) → handedIn b ≡ us → (us ≡ [] → ⊥) → (t : ℕ) × ((t ≡ 1) ⊎ (t ≡ 2)) × (0 < length (rowsIn a t))
+  some-table [] e n = absurd (n refl)
+  some-table (u ∷ us) e n =
+      let g = each-head (subst (Every (Good (encodingIn b p a h))) (sym (handed-in b p a) ∙ e) (facts-of b p a h .units)) in
+      let here : any (isUnder (u .table) (u .identity)) (handedIn b) ≡ true = ap (any (isUnder (u .table) (u .identity))) e ∙ any-stops (isUnder (u .table) (u .identity)) u us (under-own (u .table) (u .identity) u refl refl) in
+      (u .table, g .tables, some-rows b p a h (u .table) (u .identity) here)
 
-    abbrev row : ℕ
-    row = length (rowsOf (s .xs) t) + 1
+  other-version : theorem.TheOtherVersion b p
+  other-version v t x code k e n = ⊎-elim
+      (λ (z : a .bundle .objects ≡ []). absurd (n (handed-in b p a ∙ no-units b p a h z)))
+      (λ (z : (o : Object) × (os : List Object) × (a .bundle .objects ≡ o ∷ os)).
+          let one = table b p a h 1 (inl refl) in
+          let two = table b p a h 2 (inr refl) in
+          let whole : Package = record { encoding = encodingOf (a .bundle .big) (z .0 .word); parts = partsFrom 8 (sectionsOf b p a); cuIndex = one .0; tuIndex = two .0 } in
+          let read : packageOf p ≡ pass whole = package-is b p a h (z .0) (z .1) (z .2) (one .0) (two .0) (one .1) (two .1) in
+          let other : v ≡ formOf (versionIn a) → ⊥ = eqb-false v (formOf (versionIn a)) (sym (version-form b p a v (z .0) (z .1) (z .2)) ∙ e) in
+          let wrong = version-wrong b p a v whole (one .1) (two .1) other (rows-of (some-table (handedIn b) refl n)) in
+          (part-refused p whole read v wrong t x code, string-refused p whole read v wrong t x k))
+      (objects-or (a .bundle .objects))
+    where
+      rows-of : (t : ℕ) × ((t ≡ 1) ⊎ (t ≡ 2)) × (0 < length (rowsIn a t)) → (0 < length (rowsIn a 1)) ⊎ (0 < length (rowsIn a 2))
+      rows-of s = ⊎-elim
+          (λ (y : s .0 ≡ 1). inl (subst (λ (n : ℕ). 0 < length (rowsIn a n)) y (s .2)))
+          (λ (y : s .0 ≡ 2). inr (subst (λ (n : ℕ). 0 < length (rowsIn a n)) y (s .2))) (s .1)
 
-    -- an answer at its row is the lookup's
-    probed-is : probe index x ≡ found (s .hit .slot) (s .hit .looks)
-    unfolding written
-    probed-is = probe-found index x row (s .hit)
+  -- ---- no refusal
+  neither-refuses : theorem.NeitherRefuses b p
+  neither-refuses v t x code k n q c = ⊎-elim
+      (λ (e : any (isUnder t x) (handedIn b) ≡ true).
+          let u = some-first t x e in
+          let r = the-part b p a h v t x (u .0) q (u .1) code c in
+          ( (λ z. part-refusal (r .0) (length (the-code b p a h v t x (u .0) q (u .1) code .bytes)) (looks b t x) n (sym (r .1) ∙ z))
+          , (λ z. string-number u z) ))
+      (λ (e : any (isUnder t x) (handedIn b) ≡ false).
+          let r = absent-is b p a h v t x code k q c e in
+          ((λ z. absent-refusal (looks b t x) n (sym (r .0) ∙ z)), (λ z. absent-refusal (looks b t x) n (sym (r .1) ∙ z))))
+      (known (any (isUnder t x) (handedIn b)))
+    where
+      refusal-number : (m n : ℕ) → refused m ≡ refused n → n ≡ m
+      refusal-number m n e = cc
+      string-number : (u : (u : Filed) × IsFirst b t x u) → stringFound p v t x k ≡ refused n → n ≡ 25
+      string-number u z = elim (decLt k (length (entriesOfUnit (u .0)))) [
+        | yes m ↦ (let r = the-string b p a h v t x (u .0) q (u .1) k m in part-refusal (r .2 .0) (length (r .0)) (looks b t x) n (sym (r .2 .1) ∙ z))
+        | no m ↦ refusal-number 25 n (sym (no-string b p a h v t x (u .0) q (u .1) k (omega arith)) ∙ z)
+      ]
 
-    found-row : getD (index .rows) (s .hit .slot) 0 ≡ row
-    unfolding written
-    found-row = s .hit .row-there
+  pub from-bundle-to-answer : FromBundleToAnswer b p
+  from-bundle-to-answer = record {
+    foundExactlyWhenHandedIn = found-exactly;
+    theFirstUnit = first-unit;
+    theFirstUnitInLength = first-length;
+    itsStrings = its-strings;
+    noOtherString = no-other-string;
+    absentIsAbsent = absent-is b p a h;
+    absentEnds = absent-ends b p a h;
+    looksAtMostSlots = looks-most;
+    theOtherVersion = other-version;
+    neitherRefuses = neither-refuses
+  }
 
-    ends-at : (answer : Index → ℕ → Check Place) (bytes : List ℕ) → PlaceOf p (answer index row) bytes
-        → Holds p (answered (inTable (indexFor (s .k) t) x answer)) (looks b t x) bytes
-    ends-at answer bytes r = (
-      r .start,
-      ap (λ (o : Option Index). answered (inTable o x answer)) (s .index)
-          ∙ ends-found index x (s .hit .slot) (s .hit .looks) row answer (record { start = r .start; size = length bytes }) probed-is found-row (r .is)
-          ∙ ap (part (r .start) (length bytes)) (sym (s .looked)),
-      r .holds,
-    )
-
-    the-code : (code : ℕ) → AtCode b p a h (s .o) (s .os) (s .objects) t (s .i) (s .xs) u (s .ys) (s .stands) (s .own) code
-    the-code code = at-code b p a h (s .o) (s .os) (s .objects) t (s .i) (s .xs) u (s .ys) (s .stands) (s .own) code
-
-    the-part : (code : ℕ) → IsCode code → Holds p (lookedUp p v t x code) (looks b t x) (the-code code .bytes)
-    unfolding partPlace
-    the-part code c =
-        let r = the-code code in
-        subst (λ (z : Found). Holds p z (looks b t x) (r .bytes)) (sym (part-judged p (s .k) (s .read) v (s .good) t (q .tables) x code (c .from) (c .to)))
-        (ends-at (λ i n. partPlace (s .k) i n code) (r .bytes) (subst (λ (l : List Part). PlaceOf p (cellPlace l code (cellOf index row code)) (r .bytes)) (sym (s .parts)) (r .place)))
-
-    the-string : (n : ℕ) → n < length (entriesOfUnit u)
-        → (string : List ℕ) × (stringAt 9 (u .input .bytes 11) (getD (entriesOfUnit u) n 0) ≡ pass string) × Holds p (stringFound p v t x n) (looks b t x) string
-    the-string n m =
-        let r = its-string b p a h (s .o) (s .os) (s .objects) t (s .i) (s .xs) u (s .ys) (s .stands) (s .own) (s .k) (s .encoding) (s .parts) v (s .form) n m in (
-          r .0,
-          r .1,
-          subst (λ (z : Found). Holds p z (looks b t x) (r .0)) (sym (string-judged p (s .k) (s .read) v (s .good) t (q .tables) x n))
-              (ends-at (λ i m. partPlace (s .k) i m 6 >>= stringPlace p (s .k) v n) (r .0) (r .2)),
-        )
-
-    no-string : (n : ℕ) → length (entriesOfUnit u) ≤ n → stringFound p v t x n ≡ refused 25
-    no-string n m =
-        string-judged p (s .k) (s .read) v (s .good) t (q .tables) x n
-        ∙ ap (λ (o : Option Index). answered (inTable o x (λ i m. partPlace (s .k) i m 6 >>= stringPlace p (s .k) v n))) (s .index)
-        ∙ ends-refused index x (s .hit .slot) (s .hit .looks) row 25 (λ i m. partPlace (s .k) i m 6 >>= stringPlace p (s .k) v n) probed-is found-row
-        (no-other b p a h (s .o) (s .os) (s .objects) t (s .i) (s .xs) u (s .ys) (s .stands) (s .own) (s .k) (s .encoding) (s .parts) v (s .form) n m)
+pub demand3 : Demand3
+demand3 b w o p h q = from-bundle-to-answer b p (packed-accepted b w o p q) h

@@ -7,4 +7,5 @@ pub mod Units
 pub mod Judged
 pub mod StringPlaces
 pub mod Absences
+pub mod Firsts
 pub mod Demand3
