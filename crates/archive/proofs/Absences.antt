@@ -1,53 +1,40 @@
 -- The package as the lookups read it, for what is asked; and what is not handed in is absent.
 -- Assumes nothing.
 use mathlib.Core.Path.{_≡_, refl, sym, ap, _∙_, subst}
-use mathlib.Core.Logic.{_⊎_, inl, inr, ⊎-elim, _↔_}
-use mathlib.Core.Bool.{Bool, true, false, _&&_, _||_}
-use mathlib.Core.List.{List, [], _∷_, _++_}
+use mathlib.Core.Logic.{_⊎_, inl, inr, ⊎-elim}
+use mathlib.Core.Bool.{true, false, _&&_, _||_}
+use mathlib.Core.List.{List, [], _∷_}
 use mathlib.Core.Option.{Option, some, none}
-use Prim.Native.Nat.{ℕ, _+_, _-_, _%_, _<_, _≤_}
-use native.Mathlib.Decide.{decLt}
-use native.Mathlib.Omega.{arith}
+use Prim.Native.Nat.{ℕ, _-_, _<_, _≤_}
 use lib.Dec.{eqb}
 use lib.ListN.{length, getD}
-use borrow.Author.Tests.{eqb-true, eqb-false}
-use Rattle.octets.specs.Octets.{part as bytesAt}
+use borrow.Author.Tests.{eqb-true}
 use Rattle.octets.specs.Lists.{any, has, those}
-use Rattle.octets.specs.Checked.{Check, pass, _>>=_}
-use Rattle.octets.proofs.Checks.{known, true-false, pass-inj, and-both}
-use Rattle.octets.proofs.Lists.{any-stops}
+use Rattle.octets.specs.Checked.{Check, pass}
+use Rattle.octets.proofs.Checks.{true-false, pass-inj, and-both}
 use Rattle.octets.proofs.Numbers.{Bytes}
-use Rattle.bundle.specs.Bundle.{Part, Object}
-use Rattle.bundle.specs.Encoding.{Encoding, encodingOf}
+use Rattle.bundle.specs.Bundle.{Object}
+use Rattle.bundle.specs.Encoding.{encodingOf}
 use Rattle.bundle.proofs.RoundTrip.{partsFrom}
-use Rattle.strings.specs.Strings.{stringAt}
-use Rattle.index.specs.Index.{Index, cellOf}
-use Rattle.index.specs.Probing.{Slots, found, absent as nowhere, probe, search}
+use Rattle.index.specs.Index.{Index}
 use Rattle.index.specs.Written.{Row}
 use Rattle.index.proofs.Orbit.{slotAt}
 use Rattle.index.proofs.Placing.{probed}
-use Rattle.index.proofs.Found.{FoundIn, AbsentIn}
 use Rattle.index.proofs.LawColumns.{formOf}
-use Rattle.index.proofs.LawGrid.{noRow, identitiesOf}
-use Rattle.index.proofs.LawLooks.{looksOf as looksIn, search-looks}
-use Rattle.index.proofs.LawWhole.{Indexed, probe-found, probe-absent}
+use Rattle.index.proofs.LawGrid.{identitiesOf}
+use Rattle.index.proofs.LawWhole.{probe-absent}
 use Rattle.index.proofs.RoundTrip.{written}
-use Rattle.package.specs.Filing.{Filed, Filing, isUnder, filingOf, filingFrom, firstWord, keepAll, kept, entriesOfUnit}
-use Rattle.package.specs.Pack.{packed, made, handedIn, rowsOf, entriesFrom}
-use Rattle.package.proofs.Each.{each-head}
-use Rattle.package.proofs.Kept.{First, first-stands, first-any, kept-first, any-kept, has-identity, under-table, under-identity, under-own}
-use Rattle.package.proofs.Filing.{Good}
-use Rattle.package.proofs.Accepted.{Accepted, packed-accepted, handed-in}
+use Rattle.package.specs.Filing.{Filed, Filing, isUnder, filingOf, filingFrom, firstWord, keepAll, kept}
+use Rattle.package.specs.Pack.{handedIn, rowsOf, entriesFrom}
+use Rattle.package.proofs.Kept.{any-kept, has-identity}
+use Rattle.package.proofs.Accepted.{Accepted, handed-in}
 use Rattle.package.proofs.PackageRead.{sectionsOf}
-use Rattle.package.proofs.Tables.{indexOfTable, rows-named, encodingIn, facts-of}
-use Rattle.lookup.specs.Lookup.{Found, refused, absent, part, Package, packageOf, versionGood, hasVersion, indexFor, Place, cellPlace, partPlace, inTable, answered, lookedUp, stringPlace, stringFound}
+use Rattle.package.proofs.Tables.{rows-named, encodingIn}
+use Rattle.lookup.specs.Lookup.{absent, Package, packageOf, versionGood, hasVersion, indexFor, Place, inTable, answered}
 use Rattle.archive.specs.Theorem as theorem
-use Rattle.archive.specs.Theorem.{isIndexVersion, Asked, IsCode, IsHandedIn, IsFirst, handedPart, slotsOfTable, looksOf, looks, slotAfter, IsPart, Holds, FromBundleToAnswer, Demand3}
+use Rattle.archive.specs.Theorem.{Asked, slotsOfTable, looksOf, looks, slotAfter}
 use Rattle.archive.proofs.Read.{rowsIn, versionIn, Table, empty, full, empty-or, table, nothing-read, package-is}
-use Rattle.archive.proofs.Places.{PlaceOf}
-use Rattle.archive.proofs.Units.{row-within, row-identity, AtCode, at-code}
-use Rattle.archive.proofs.Judged.{part-judged, string-judged, part-refused, string-refused, ends-nowhere, ends-found, ends-refused, no-slots, slots-are, looks-none, looks-some, version-none, version-form, version-good, version-wrong}
-use Rattle.archive.proofs.StringPlaces.{its-string, no-other}
+use Rattle.archive.proofs.Judged.{part-judged, string-judged, ends-nowhere, no-slots, slots-are, looks-none, looks-some, version-none, version-form, version-good}
 
 -- objects, or none
 pub objects-or : (os : List Object) → (os ≡ []) ⊎ ((o : Object) × (rest : List Object) × (os ≡ o ∷ rest))

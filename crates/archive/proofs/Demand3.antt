@@ -1,56 +1,42 @@
 -- Demand 3, proved.
 -- Assumes nothing.
 use mathlib.Core.Path.{_≡_, refl, sym, ap, _∙_, subst}
-use mathlib.Core.Logic.{_⊎_, inl, inr, ⊎-elim, _↔_}
-use mathlib.Core.Bool.{Bool, true, false, _&&_, _||_}
-use mathlib.Core.List.{List, [], _∷_, _++_}
-use mathlib.Core.Option.{Option, some, none}
-use Prim.Native.Nat.{ℕ, _+_, _-_, _%_, _<_, _≤_}
+use mathlib.Core.Logic.{_⊎_, inl, inr, ⊎-elim}
+use mathlib.Core.Bool.{true, false}
+use mathlib.Core.List.{List, [], _∷_}
+use mathlib.Core.Option.{some}
+use Prim.Native.Nat.{ℕ, _<_, _≤_}
 use native.Mathlib.Decide.{decLt}
 use native.Mathlib.Omega.{arith}
-use lib.Dec.{eqb}
-use lib.ListN.{length, getD}
-use borrow.Author.Tests.{eqb-true, eqb-false}
-use Rattle.octets.specs.Octets.{part as bytesAt}
-use Rattle.octets.specs.Lists.{any, has, those}
-use Rattle.octets.specs.Checked.{Check, pass, _>>=_}
-use Rattle.octets.proofs.Checks.{known, true-false, pass-inj, and-both}
+use lib.ListN.{length}
+use borrow.Author.Tests.{eqb-false}
+use Rattle.octets.specs.Lists.{any}
+use Rattle.octets.specs.Checked.{pass}
+use Rattle.octets.proofs.Checks.{known}
 use Rattle.octets.proofs.Lists.{any-stops}
 use Rattle.octets.proofs.Numbers.{Bytes}
-use Rattle.bundle.specs.Bundle.{Part, Object}
-use Rattle.bundle.specs.Encoding.{Encoding, encodingOf}
+use Rattle.bundle.specs.Bundle.{Object}
+use Rattle.bundle.specs.Encoding.{encodingOf}
 use Rattle.bundle.proofs.Every.{Every}
 use Rattle.bundle.proofs.RoundTrip.{partsFrom}
-use Rattle.strings.specs.Strings.{stringAt}
-use Rattle.index.specs.Index.{Index, cellOf}
-use Rattle.index.specs.Probing.{Probe, Slots, found, absent as nowhere, probe, search}
-use Rattle.index.specs.Written.{Row}
-use Rattle.index.proofs.Orbit.{slotAt}
-use Rattle.index.proofs.Placing.{probed}
-use Rattle.index.proofs.Found.{FoundIn, AbsentIn}
+use Rattle.index.specs.Probing.{Probe, found, absent as nowhere, search}
 use Rattle.index.proofs.LawColumns.{formOf}
-use Rattle.index.proofs.LawGrid.{noRow, identitiesOf}
 use Rattle.index.proofs.LawLooks.{looksOf as looksIn, search-looks}
-use Rattle.index.proofs.LawWhole.{Indexed, probe-found, probe-absent}
-use Rattle.index.proofs.RoundTrip.{written}
-use Rattle.package.specs.Filing.{Filed, Filing, isUnder, filingOf, filingFrom, firstWord, keepAll, kept, entriesOfUnit}
-use Rattle.package.specs.Pack.{packed, made, handedIn, rowsOf, entriesFrom}
+use Rattle.package.specs.Filing.{Filed, isUnder, entriesOfUnit}
+use Rattle.package.specs.Pack.{handedIn}
 use Rattle.package.proofs.Each.{each-head}
-use Rattle.package.proofs.Kept.{First, first-stands, first-any, kept-first, any-kept, has-identity, under-table, under-identity, under-own}
+use Rattle.package.proofs.Kept.{first-stands, under-own}
 use Rattle.package.proofs.Filing.{Good}
 use Rattle.package.proofs.Accepted.{Accepted, packed-accepted, handed-in}
 use Rattle.package.proofs.PackageRead.{sectionsOf}
-use Rattle.package.proofs.Tables.{indexOfTable, rows-named, encodingIn, facts-of}
-use Rattle.lookup.specs.Lookup.{Found, refused, absent, part, Package, packageOf, versionGood, hasVersion, indexFor, Place, cellPlace, partPlace, inTable, answered, lookedUp, stringPlace, stringFound}
+use Rattle.package.proofs.Tables.{encodingIn, facts-of}
+use Rattle.lookup.specs.Lookup.{refused, absent, part, Package, packageOf, lookedUp, stringFound}
 use Rattle.archive.specs.Theorem as theorem
-use Rattle.archive.specs.Theorem.{isIndexVersion, Asked, IsCode, IsHandedIn, IsFirst, handedPart, slotsOfTable, looksOf, looks, slotAfter, IsPart, Holds, FromBundleToAnswer, Demand3}
-use Rattle.archive.proofs.Read.{rowsIn, versionIn, Table, empty, full, empty-or, table, nothing-read, package-is}
-use Rattle.archive.proofs.Places.{PlaceOf}
-use Rattle.archive.proofs.Units.{row-within, row-identity, AtCode, at-code}
-use Rattle.archive.proofs.Judged.{part-judged, string-judged, part-refused, string-refused, ends-nowhere, ends-found, ends-refused, no-slots, slots-are, looks-none, looks-some, version-none, version-form, version-good, version-wrong}
-use Rattle.archive.proofs.StringPlaces.{its-string, no-other}
-use Rattle.archive.proofs.Absences.{objects-or, no-units, rows-have, some-rows, Reads, reads, absent-is, absent-ends}
-use Rattle.archive.proofs.Firsts.{handed-of, the-code, the-part, the-string, no-string}
+use Rattle.archive.specs.Theorem.{IsHandedIn, IsFirst, slotsOfTable, looksOf, looks, IsPart, Holds, FromBundleToAnswer, Demand3}
+use Rattle.archive.proofs.Read.{rowsIn, versionIn, table, package-is}
+use Rattle.archive.proofs.Judged.{part-refused, string-refused, version-form, version-wrong}
+use Rattle.archive.proofs.Absences.{objects-or, no-units, some-rows, absent-is, absent-ends}
+use Rattle.archive.proofs.Firsts.{the-code, the-part, the-string, no-string}
 
 part-absent : {P : Type 0} (s l n m : ℕ) → part s l n ≡ absent m → P
 part-absent s l n m e = let z : _≡_ {A = ℕ} 0 1 = cc in absurd (omega arith)
@@ -69,14 +55,15 @@ module _ (b p : List ℕ) (a : Accepted b p) (h : Bytes b) where
       (r .0, record { before = r .1 .before; behind = r .1 .behind; stands = r .1 .stands; under = r .1 .under; noneBefore = r .1 .alone })
 
   found-exactly : theorem.FoundExactlyWhenHandedIn b p
-  found-exactly v t x code q c =
-      ( (λ (i : IsPart (lookedUp p v t x code) (looks b t x)). ⊎-elim
-          (λ (e : any (isUnder t x) (handedIn b) ≡ true). e)
-          (λ (e : any (isUnder t x) (handedIn b) ≡ false). part-absent (i .0) (i .1) (looks b t x) (looks b t x) (sym (i .2) ∙ absent-is b p a h v t x code 0 q c e .0))
-          (known (any (isUnder t x) (handedIn b))))
-      , (λ e. let u = some-first t x e in
-          let r = the-part b p a h v t x (u .0) q (u .1) code c in
-          (r .0, length (the-code b p a h v t x (u .0) q (u .1) code .bytes), r .1)) )
+  found-exactly v t x code q c = (
+    (λ (i : IsPart (lookedUp p v t x code) (looks b t x)). ⊎-elim
+        (λ (e : any (isUnder t x) (handedIn b) ≡ true). e)
+        (λ (e : any (isUnder t x) (handedIn b) ≡ false). part-absent (i .0) (i .1) (looks b t x) (looks b t x) (sym (i .2) ∙ absent-is b p a h v t x code 0 q c e .0))
+        (known (any (isUnder t x) (handedIn b)))),
+    (λ e. let u = some-first t x e in
+        let r = the-part b p a h v t x (u .0) q (u .1) code c in
+        (r .0, length (the-code b p a h v t x (u .0) q (u .1) code .bytes), r .1)),
+  )
 
   first-unit : theorem.TheFirstUnit b p
   first-unit v t x code u q c f n =
@@ -115,13 +102,13 @@ module _ (b p : List ℕ) (a : Accepted b p) (h : Bytes b) where
   other-version v t x code k e n = ⊎-elim
       (λ (z : a .bundle .objects ≡ []). absurd (n (handed-in b p a ∙ no-units b p a h z)))
       (λ (z : (o : Object) × (os : List Object) × (a .bundle .objects ≡ o ∷ os)).
-          let one = table b p a h 1 (inl refl) in
-          let two = table b p a h 2 (inr refl) in
-          let whole : Package = record { encoding = encodingOf (a .bundle .big) (z .0 .word); parts = partsFrom 8 (sectionsOf b p a); cuIndex = one .0; tuIndex = two .0 } in
-          let read : packageOf p ≡ pass whole = package-is b p a h (z .0) (z .1) (z .2) (one .0) (two .0) (one .1) (two .1) in
-          let other : v ≡ formOf (versionIn a) → ⊥ = eqb-false v (formOf (versionIn a)) (sym (version-form b p a v (z .0) (z .1) (z .2)) ∙ e) in
-          let wrong = version-wrong b p a v whole (one .1) (two .1) other (rows-of (some-table (handedIn b) refl n)) in
-          (part-refused p whole read v wrong t x code, string-refused p whole read v wrong t x k))
+      let one = table b p a h 1 (inl refl) in
+      let two = table b p a h 2 (inr refl) in
+      let whole : Package = record { encoding = encodingOf (a .bundle .big) (z .0 .word); parts = partsFrom 8 (sectionsOf b p a); cuIndex = one .0; tuIndex = two .0 } in
+      let read : packageOf p ≡ pass whole = package-is b p a h (z .0) (z .1) (z .2) (one .0) (two .0) (one .1) (two .1) in
+      let other : v ≡ formOf (versionIn a) → ⊥ = eqb-false v (formOf (versionIn a)) (sym (version-form b p a v (z .0) (z .1) (z .2)) ∙ e) in
+      let wrong = version-wrong b p a v whole (one .1) (two .1) other (rows-of (some-table (handedIn b) refl n)) in
+      (part-refused p whole read v wrong t x code, string-refused p whole read v wrong t x k))
       (objects-or (a .bundle .objects))
     where
       rows-of : (t : ℕ) × ((t ≡ 1) ⊎ (t ≡ 2)) × (0 < length (rowsIn a t)) → (0 < length (rowsIn a 1)) ⊎ (0 < length (rowsIn a 2))
@@ -133,17 +120,19 @@ module _ (b p : List ℕ) (a : Accepted b p) (h : Bytes b) where
   neither-refuses : theorem.NeitherRefuses b p
   neither-refuses v t x code k n q c = ⊎-elim
       (λ (e : any (isUnder t x) (handedIn b) ≡ true).
-          let u = some-first t x e in
-          let r = the-part b p a h v t x (u .0) q (u .1) code c in
-          ( (λ z. part-refusal (r .0) (length (the-code b p a h v t x (u .0) q (u .1) code .bytes)) (looks b t x) n (sym (r .1) ∙ z))
-          , (λ z. string-number u z) ))
+      let u = some-first t x e in
+      let r = the-part b p a h v t x (u .0) q (u .1) code c in (
+        (λ z. part-refusal (r .0) (length (the-code b p a h v t x (u .0) q (u .1) code .bytes)) (looks b t x) n (sym (r .1) ∙ z)),
+        (λ z. string-number u z),
+      ))
       (λ (e : any (isUnder t x) (handedIn b) ≡ false).
-          let r = absent-is b p a h v t x code k q c e in
-          ((λ z. absent-refusal (looks b t x) n (sym (r .0) ∙ z)), (λ z. absent-refusal (looks b t x) n (sym (r .1) ∙ z))))
+      let r = absent-is b p a h v t x code k q c e in
+      ((λ z. absent-refusal (looks b t x) n (sym (r .0) ∙ z)), (λ z. absent-refusal (looks b t x) n (sym (r .1) ∙ z))))
       (known (any (isUnder t x) (handedIn b)))
     where
       refusal-number : (m n : ℕ) → refused m ≡ refused n → n ≡ m
       refusal-number m n e = cc
+
       string-number : (u : (u : Filed) × IsFirst b t x u) → stringFound p v t x k ≡ refused n → n ≡ 25
       string-number u z = elim (decLt k (length (entriesOfUnit (u .0)))) [
         | yes m ↦ (let r = the-string b p a h v t x (u .0) q (u .1) k m in part-refusal (r .2 .0) (length (r .0)) (looks b t x) n (sym (r .2 .1) ∙ z))
@@ -161,7 +150,7 @@ module _ (b p : List ℕ) (a : Accepted b p) (h : Bytes b) where
     absentEnds = absent-ends b p a h;
     looksAtMostSlots = looks-most;
     theOtherVersion = other-version;
-    neitherRefuses = neither-refuses
+    neitherRefuses = neither-refuses;
   }
 
 pub demand3 : Demand3

@@ -1,54 +1,41 @@
 -- What is handed in is found: the first unit's parts and strings.
 -- Assumes nothing.
 use mathlib.Core.Path.{_≡_, refl, sym, ap, _∙_, subst}
-use mathlib.Core.Logic.{_⊎_, inl, inr, ⊎-elim, _↔_}
-use mathlib.Core.Bool.{Bool, true, false, _&&_, _||_}
+use mathlib.Core.Logic.{⊎-elim}
+use mathlib.Core.Bool.{true}
 use mathlib.Core.List.{List, [], _∷_, _++_}
 use mathlib.Core.Option.{Option, some, none}
-use Prim.Native.Nat.{ℕ, _+_, _-_, _%_, _<_, _≤_}
-use native.Mathlib.Decide.{decLt}
+use Prim.Native.Nat.{ℕ, _+_, _<_, _≤_}
 use native.Mathlib.Omega.{arith}
-use lib.Dec.{eqb}
 use lib.ListN.{length, getD}
-use borrow.Author.Tests.{eqb-true, eqb-false}
-use Rattle.octets.specs.Octets.{part as bytesAt}
-use Rattle.octets.specs.Lists.{any, has, those}
+use Rattle.octets.specs.Lists.{any}
 use Rattle.octets.specs.Checked.{Check, pass, _>>=_}
-use Rattle.octets.proofs.Checks.{known, true-false, pass-inj, and-both}
-use Rattle.octets.proofs.Lists.{any-stops}
+use Rattle.octets.proofs.Checks.{true-false}
 use Rattle.octets.proofs.Numbers.{Bytes}
 use Rattle.bundle.specs.Bundle.{Part, Object}
-use Rattle.bundle.specs.Encoding.{Encoding, encodingOf}
 use Rattle.bundle.proofs.RoundTrip.{partsFrom}
 use Rattle.strings.specs.Strings.{stringAt}
 use Rattle.index.specs.Index.{Index, cellOf}
-use Rattle.index.specs.Probing.{Slots, found, absent as nowhere, probe, search}
-use Rattle.index.specs.Written.{Row}
-use Rattle.index.proofs.Orbit.{slotAt}
-use Rattle.index.proofs.Placing.{probed}
-use Rattle.index.proofs.Found.{FoundIn, AbsentIn}
+use Rattle.index.specs.Probing.{found, probe}
+use Rattle.index.proofs.Found.{FoundIn}
 use Rattle.index.proofs.LawColumns.{formOf}
-use Rattle.index.proofs.LawGrid.{noRow, identitiesOf}
-use Rattle.index.proofs.LawLooks.{looksOf as looksIn, search-looks}
-use Rattle.index.proofs.LawWhole.{Indexed, probe-found, probe-absent}
+use Rattle.index.proofs.LawWhole.{Indexed, probe-found}
 use Rattle.index.proofs.RoundTrip.{written}
-use Rattle.package.specs.Filing.{Filed, Filing, isUnder, filingOf, filingFrom, firstWord, keepAll, kept, entriesOfUnit}
-use Rattle.package.specs.Pack.{packed, made, handedIn, rowsOf, entriesFrom}
-use Rattle.package.proofs.Each.{each-head}
-use Rattle.package.proofs.Kept.{First, first-stands, first-any, kept-first, any-kept, has-identity, under-table, under-identity, under-own}
-use Rattle.package.proofs.Filing.{Good}
-use Rattle.package.proofs.Accepted.{Accepted, packed-accepted, handed-in}
+use Rattle.package.specs.Filing.{Filed, isUnder, kept, entriesOfUnit}
+use Rattle.package.specs.Pack.{handedIn, rowsOf}
+use Rattle.package.proofs.Kept.{First, first-any, kept-first, under-table, under-identity}
+use Rattle.package.proofs.Accepted.{Accepted, handed-in}
 use Rattle.package.proofs.PackageRead.{sectionsOf}
-use Rattle.package.proofs.Tables.{indexOfTable, rows-named, encodingIn, facts-of}
-use Rattle.lookup.specs.Lookup.{Found, refused, absent, part, Package, packageOf, versionGood, hasVersion, indexFor, Place, cellPlace, partPlace, inTable, answered, lookedUp, stringPlace, stringFound}
+use Rattle.package.proofs.Tables.{indexOfTable, encodingIn}
+use Rattle.lookup.specs.Lookup.{Found, refused, part, Package, packageOf, versionGood, indexFor, Place, cellPlace, partPlace, inTable, answered, lookedUp, stringPlace, stringFound}
 use Rattle.archive.specs.Theorem as theorem
-use Rattle.archive.specs.Theorem.{isIndexVersion, Asked, IsCode, IsHandedIn, IsFirst, handedPart, slotsOfTable, looksOf, looks, slotAfter, IsPart, Holds, FromBundleToAnswer, Demand3}
-use Rattle.archive.proofs.Read.{rowsIn, versionIn, Table, empty, full, empty-or, table, nothing-read, package-is}
+use Rattle.archive.specs.Theorem.{Asked, IsCode, IsFirst, looksOf, looks, Holds}
+use Rattle.archive.proofs.Read.{rowsIn, versionIn, Table, empty, full, table}
 use Rattle.archive.proofs.Places.{PlaceOf}
 use Rattle.archive.proofs.Units.{row-within, row-identity, AtCode, at-code}
-use Rattle.archive.proofs.Judged.{part-judged, string-judged, part-refused, string-refused, ends-nowhere, ends-found, ends-refused, no-slots, slots-are, looks-none, looks-some, version-none, version-form, version-good, version-wrong}
+use Rattle.archive.proofs.Judged.{part-judged, string-judged, ends-found, ends-refused, looks-some}
 use Rattle.archive.proofs.StringPlaces.{its-string, no-other}
-use Rattle.archive.proofs.Absences.{objects-or, no-units, rows-have, some-rows, Reads, reads, absent-is, absent-ends}
+use Rattle.archive.proofs.Absences.{some-rows, reads}
 
 module _ (b p : List ℕ) (a : Accepted b p) (h : Bytes b) where
   abbrev units : List Filed

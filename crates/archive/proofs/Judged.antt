@@ -1,21 +1,20 @@
 -- The lookups on a package that can be read, by the version and the table asked for, and what probing says.
 -- Assumes nothing.
-use mathlib.Core.Path.{_≡_, refl, sym, ap, _∙_, subst}
-use mathlib.Core.Logic.{_⊎_, inl, inr, ⊎-elim}
-use mathlib.Core.Bool.{Bool, true, false, _&&_, _||_}
-use mathlib.Core.List.{List, [], _∷_, _++_, map}
+use mathlib.Core.Path.{_≡_, refl, sym, ap, _∙_}
+use mathlib.Core.Logic.{_⊎_, ⊎-elim}
+use mathlib.Core.Bool.{true, false, _&&_, _||_}
+use mathlib.Core.List.{List, [], _∷_}
 use mathlib.Core.Option.{Option, some, none}
-use Prim.Native.Nat.{ℕ, _+_, _*_, _-_, _%_, _<_, _≤_}
+use Prim.Native.Nat.{ℕ, _%_, _<_, _≤_}
 use native.Mathlib.Omega.{arith}
 use lib.Dec.{eqb, leb}
 use lib.ListN.{length, getD, length-map}
-use borrow.Author.Tests.{eqb-true, eqb-false, eq-eqb, ne-eqb, le-leb}
-use Rattle.octets.specs.Lists.{those}
-use Rattle.octets.specs.Checked.{Check, pass, refuse, _>>=_, require}
-use Rattle.octets.proofs.Checks.{passes, fails, then-pass, then-refuse, known, and-both, not-left, not-right, or-left, or-right, or-cases, true-false}
-use Rattle.bundle.specs.Bundle.{Object, Bundle, bundleOf}
+use borrow.Author.Tests.{eq-eqb, ne-eqb, le-leb}
+use Rattle.octets.specs.Checked.{Check, pass, refuse, _>>=_}
+use Rattle.octets.proofs.Checks.{passes, fails, then-pass, then-refuse, known, and-both, not-left, not-right, or-left, or-right}
+use Rattle.bundle.specs.Bundle.{Object}
 use Rattle.index.specs.Index.{Index}
-use Rattle.index.specs.Probing.{Probe, found, absent as nowhere, probe, look, search, Slots, slotsOf, firstSlot, stride}
+use Rattle.index.specs.Probing.{Probe, found, absent as nowhere, probe, look, search, Slots, slotsOf}
 use Rattle.index.specs.Written.{Row}
 use Rattle.index.proofs.LawColumns.{formOf, forms}
 use Rattle.index.proofs.LawGrid.{identitiesOf}
@@ -23,11 +22,10 @@ use Rattle.index.proofs.LawWhole.{Indexed}
 use Rattle.index.proofs.LawExact.{written-version}
 use Rattle.index.proofs.RoundTrip.{written}
 use Rattle.package.specs.Filing.{Filed, firstWord, kept}
-use Rattle.package.specs.Pack.{rowsOf, handedIn}
 use Rattle.package.proofs.Kept.{identitiesIn}
 use Rattle.package.proofs.Accepted.{Accepted, handed-in}
 use Rattle.package.proofs.Tables.{indexOfTable, rows-named}
-use Rattle.lookup.specs.Lookup.{Found, refused, absent, part, Package, packageOf, hasVersion, versionGood, tableGood, indexFor, Place, partPlace, atRow, inTable, answered, partJudged, lookedUp, stringPlace, stringJudged, stringFound}
+use Rattle.lookup.specs.Lookup.{refused, absent, part, Package, packageOf, hasVersion, versionGood, tableGood, indexFor, Place, partPlace, atRow, inTable, answered, partJudged, lookedUp, stringPlace, stringJudged, stringFound}
 use Rattle.archive.specs.Theorem as theorem
 use Rattle.archive.specs.Theorem.{isVersionOf, isIndexVersion, slotsWritten, slotsOfTable, looks, looksOf}
 use Rattle.archive.proofs.Read.{rowsIn, versionIn, Table, empty, full}

@@ -1,29 +1,26 @@
 -- Where the lookups find what a row's cells name.
 -- Assumes nothing.
 use mathlib.Core.Path.{_≡_, refl, sym, ap, _∙_, subst}
-use mathlib.Core.Logic.{_⊎_, inl, inr, ⊎-elim}
-use mathlib.Core.Bool.{Bool, true, false}
-use mathlib.Core.List.{List, [], _∷_, _++_}
+use mathlib.Core.Logic.{⊎-elim}
+use mathlib.Core.Bool.{true, false}
+use mathlib.Core.List.{List, [], _∷_}
 use mathlib.Core.Option.{Option, some, none}
-use Prim.Native.Nat.{ℕ, _+_, _*_, _%_, _<_, _≤_}
+use Prim.Native.Nat.{ℕ, _+_, _<_, _≤_}
 use native.Mathlib.Omega.{arith}
-use lib.Dec.{eqb, leb}
-use lib.ListN.{length, getD, length-append}
-use lib.Seq.{getD-append-seam}
+use lib.Dec.{leb}
+use lib.ListN.{length, getD}
 use borrow.Author.Tests.{le-leb}
 use Rattle.octets.specs.Octets.{part as bytesAt}
 use Rattle.octets.specs.Lists.{any}
-use Rattle.octets.specs.Checked.{Check, pass, refuse, _>>=_, require}
+use Rattle.octets.specs.Checked.{Check, pass}
 use Rattle.octets.proofs.Checks.{passes, known, true-false}
 use Rattle.octets.proofs.Elements.{at-any}
 use Rattle.octets.proofs.Numbers.{Bytes}
 use Rattle.octets.proofs.Parts.{part-part, length-part, part-none}
 use Rattle.bundle.specs.Bundle.{Part, Object, firstPart}
-use Rattle.bundle.specs.Encoding.{Encoding, encodingOf}
-use Rattle.bundle.proofs.Every.{Every}
+use Rattle.bundle.specs.Encoding.{encodingOf}
 use Rattle.bundle.proofs.RoundTrip.{partsFrom}
 use Rattle.bundle.proofs.WrittenParts.{bytesIn, SectionIn}
-use Rattle.index.specs.Columns.{columnsOf, columnIn}
 use Rattle.index.specs.Index.{Index, Contribution, cellOf}
 use Rattle.index.specs.Rows.{isSome}
 use Rattle.index.specs.Written.{Row}
@@ -31,8 +28,7 @@ use Rattle.index.proofs.LawGrid.{noRow}
 use Rattle.index.proofs.LawWhole.{Indexed}
 use Rattle.index.proofs.LawCells.{anyHas, cell-own, cell-zero, cell-absent}
 use Rattle.index.proofs.RoundTrip.{written}
-use Rattle.package.specs.Filing.{firstWord, kept}
-use Rattle.package.specs.Pack.{rowsOf, sectionList}
+use Rattle.package.specs.Pack.{sectionList}
 use Rattle.package.proofs.Cells.{CellFacts, rows-good}
 use Rattle.package.proofs.Accepted.{Accepted}
 use Rattle.package.proofs.PackageRead.{sectionsOf, section-there}

@@ -1,28 +1,26 @@
 -- The package of an accepted bundle as the lookups read it.
 -- Assumes nothing.
-use mathlib.Core.Path.{_≡_, refl, sym, ap, _∙_, subst}
+use mathlib.Core.Path.{_≡_, refl, ap, _∙_}
 use mathlib.Core.Logic.{_⊎_, inl, inr, ⊎-elim}
-use mathlib.Core.Bool.{Bool, true, false, _&&_, _||_}
+use mathlib.Core.Bool.{Bool, true, _&&_}
 use mathlib.Core.List.{List, [], _∷_}
 use mathlib.Core.Option.{Option, some, none}
-use Prim.Native.Nat.{ℕ, _+_, _*_, _%_, _<_, _≤_}
+use Prim.Native.Nat.{ℕ, _%_, _<_}
 use native.Mathlib.Omega.{arith}
 use lib.Dec.{eqb, leb}
 use lib.ListN.{length}
 use borrow.Author.Tests.{le-leb, eq-eqb}
-use Rattle.octets.specs.Octets.{part as bytesAt}
 use Rattle.octets.specs.Lists.{all}
-use Rattle.octets.specs.Checked.{Check, pass, refuse, _>>=_, require, renumbered}
+use Rattle.octets.specs.Checked.{pass, renumbered}
 use Rattle.octets.proofs.Checks.{passes, then-pass, renumbered-pass, and-both}
 use Rattle.octets.proofs.Lists.{all-cons}
 use Rattle.octets.proofs.Numbers.{Bytes}
 use Rattle.bundle.specs.Bundle.{Part, Object, bundleOf, lengthGood, count, firstPart, body}
-use Rattle.bundle.specs.Encoding.{Encoding, encodingOf, encodingGood}
+use Rattle.bundle.specs.Encoding.{encodingOf, encodingGood}
 use Rattle.bundle.proofs.RoundTrip.{partsFrom}
 use Rattle.bundle.proofs.WrittenParts.{bytesIn, SectionIn}
 use Rattle.index.specs.Index.{Index, indexOf}
-use Rattle.index.specs.Probing.{slotsFor}
-use Rattle.index.specs.Written.{Row, presentColumns}
+use Rattle.index.specs.Written.{Row}
 use Rattle.index.proofs.RoundTrip.{written}
 use Rattle.index.proofs.LawWhole.{Indexed}
 use Rattle.package.specs.Filing.{firstWord, kept}

@@ -1,18 +1,18 @@
 -- The strings of a kept unit in the package: each entry's string, and no other entry.
 -- Assumes nothing.
 use mathlib.Core.Path.{_≡_, refl, sym, ap, _∙_, subst}
-use mathlib.Core.Logic.{_⊎_, inl, inr, ⊎-elim}
-use mathlib.Core.Bool.{Bool, true, false}
+use mathlib.Core.Logic.{⊎-elim}
+use mathlib.Core.Bool.{true, false}
 use mathlib.Core.List.{List, [], _∷_, _++_}
 use mathlib.Core.Option.{Option, some, none}
-use Prim.Native.Nat.{ℕ, _+_, _*_, _-_, _/_, _%_, _<_, _≤_}
+use Prim.Native.Nat.{ℕ, _+_, _*_, _-_, _/_, _<_, _≤_}
 use native.Mathlib.Nat.{mul-comm, zero-div}
 use native.Mathlib.Omega.{arith}
 use lib.Dec.{eqb, ltb}
 use lib.ListN.{length, getD}
-use borrow.Author.Tests.{eqb-true, lt-ltb, le-ltb}
+use borrow.Author.Tests.{lt-ltb, le-ltb}
 use Rattle.octets.specs.Octets.{part as bytesAt, numberAt}
-use Rattle.octets.specs.Checked.{Check, pass, refuse, _>>=_, require}
+use Rattle.octets.specs.Checked.{Check, pass, refuse, _>>=_}
 use Rattle.octets.proofs.Checks.{passes, fails, then-pass, known}
 use Rattle.octets.proofs.Numbers.{Bytes, numberAt-part}
 use Rattle.octets.proofs.Parts.{part-part, length-part}
@@ -20,17 +20,16 @@ use Rattle.bundle.specs.Bundle.{Part, Object, firstPart, body}
 use Rattle.bundle.specs.Encoding.{Encoding, encodingOf}
 use Rattle.bundle.proofs.RoundTrip.{partsFrom}
 use Rattle.bundle.proofs.WrittenParts.{bytesIn, SectionIn}
-use Rattle.strings.specs.Strings.{headerSize, entriesIn, stringAt, strOf}
+use Rattle.strings.specs.Strings.{headerSize, stringAt, strOf}
 use Rattle.strings.proofs.Sections.{length-entriesIn}
-use Rattle.strings.proofs.Ends.{StringIs, stringAt-is}
+use Rattle.strings.proofs.Ends.{stringAt-is}
 use Rattle.index.specs.Index.{Index, Contribution, cellOf}
 use Rattle.index.proofs.LawColumns.{formOf}
 use Rattle.index.proofs.LawWhole.{Indexed}
 use Rattle.index.proofs.RoundTrip.{written}
-use Rattle.package.specs.Filing.{Filed, firstWord, kept, lengths, contributed, entriesOfUnit}
+use Rattle.package.specs.Filing.{Filed, kept, lengths, contributed, entriesOfUnit}
 use Rattle.package.specs.Pack.{rowsOf, sectionList, stringTable}
-use Rattle.package.proofs.Filing.{Good}
-use Rattle.package.proofs.Shared.{given, Sized}
+use Rattle.package.proofs.Shared.{given}
 use Rattle.package.proofs.UnitStrings.{NamesString, unit-string, entries-are, part-contributed, none-contributed}
 use Rattle.package.proofs.Sections.{str-bytes}
 use Rattle.package.proofs.Accepted.{Accepted}

@@ -1,8 +1,8 @@
 -- The parts of a kept unit in the package: its own bytes, its contributions, and nothing where it has none.
 -- Assumes nothing.
 use mathlib.Core.Path.{_≡_, refl, sym, ap, _∙_, subst}
-use mathlib.Core.Logic.{_⊎_, inl, inr, ⊎-elim}
-use mathlib.Core.Bool.{Bool, true, false}
+use mathlib.Core.Logic.{⊎-elim}
+use mathlib.Core.Bool.{true, false}
 use mathlib.Core.List.{List, [], _∷_, _++_}
 use mathlib.Core.Option.{Option, some, none}
 use Prim.Native.Nat.{ℕ, _+_, _<_, _≤_}
@@ -12,25 +12,23 @@ use lib.ListN.{length, getD, length-append}
 use lib.Seq.{getD-append-seam}
 use borrow.Author.Tests.{eqb-true, eqb-false, eq-eqb, ne-eqb, le-leb, leb-true}
 use Rattle.octets.specs.Octets.{part as bytesAt}
-use Rattle.octets.specs.Lists.{any, has, all}
-use Rattle.octets.specs.Checked.{Check, pass}
+use Rattle.octets.specs.Lists.{has, all}
 use Rattle.octets.proofs.Checks.{known}
 use Rattle.octets.proofs.Numbers.{Bytes}
 use Rattle.octets.proofs.Parts.{length-part}
 use Rattle.bundle.specs.Bundle.{Object}
-use Rattle.bundle.specs.Encoding.{Encoding, encodingOf}
 use Rattle.bundle.proofs.Every.{Every}
 use Rattle.bundle.proofs.RoundTrip.{partsFrom}
 use Rattle.bundle.proofs.WrittenParts.{bytesIn}
 use Rattle.index.specs.Index.{Contribution, cellOf}
 use Rattle.index.specs.Rows.{shared}
 use Rattle.index.specs.Written.{Row}
-use Rattle.index.proofs.Contributions.{all-has, Contributed}
+use Rattle.index.proofs.Contributions.{all-has}
 use Rattle.index.proofs.LawGrid.{noRow}
 use Rattle.index.proofs.LawWhole.{Indexed}
 use Rattle.index.proofs.RoundTrip.{written}
 use Rattle.package.specs.Input.{Input}
-use Rattle.package.specs.Filing.{Filed, firstWord, kept, lengths, contributed}
+use Rattle.package.specs.Filing.{Filed, kept, lengths, contributed}
 use Rattle.package.specs.Pack.{cells, longer, rowsOf, sectionList, sharedBytes, stringTable, unitBytes}
 use Rattle.package.proofs.Each.{each-middle}
 use Rattle.package.proofs.Filing.{Good, Lies, lengthsIn}

@@ -4,17 +4,17 @@ use mathlib.Core.Path.{_≡_, refl, sym, ap, _∙_, subst}
 use mathlib.Core.Logic.{⊎-elim}
 use mathlib.Core.Bool.{Bool, true, false}
 use mathlib.Core.List.{List, [], _∷_, _++_, map, append-assoc}
-use mathlib.Core.Option.{Option, some, none}
-use Prim.Native.Nat.{ℕ, _+_, _-_, _*_, _/_, _≤_}
+use mathlib.Core.Option.{some, none}
+use Prim.Native.Nat.{ℕ, _+_, _-_, _*_, _≤_}
 use native.Mathlib.Omega.{arith}
-use lib.Dec.{eqb, leb}
+use lib.Dec.{eqb}
 use lib.ListN.{length, length-append}
-use borrow.Author.Tests.{eqb-true, eqb-false, eq-eqb, ne-eqb, le-leb, lt-leb}
+use borrow.Author.Tests.{eqb-true, eqb-false}
 use Rattle.octets.specs.Octets.{part, zeros}
 use Rattle.octets.specs.Lists.{joined, those, any, has, distinct}
 use Rattle.octets.proofs.Checks.{known, true-false}
 use Rattle.octets.proofs.Lists.{any-cons, any-stops, those-keeps, those-skips}
-use Rattle.octets.proofs.Elements.{has-cons, has-skips, distinct-cons, distinct-head, distinct-tail}
+use Rattle.octets.proofs.Elements.{has-cons, has-skips, distinct-head, distinct-tail}
 use Rattle.octets.proofs.Parts.{part-append-behind, part-append-front, part-whole}
 use Rattle.bundle.specs.Bundle.{Part, filledUp, firstPart, partsOf, count}
 use Rattle.bundle.specs.Written.{Section, wordBytes, sectionBytes}

@@ -10,7 +10,7 @@ use native.Mathlib.Omega.{arith}
 use lib.Dec.{eqb, leb}
 use borrow.Author.Tests.{eqb-true, eqb-false, eq-eqb, leb-true, not-true}
 use Rattle.octets.specs.Lists.{all, any, those, has}
-use Rattle.octets.specs.Checked.{Check, pass, refuse, _>>=_, require}
+use Rattle.octets.specs.Checked.{pass}
 use Rattle.octets.proofs.Checks.{bind-pass, require-pass, pass-inj, known, true-false, and-left, and-right, or-cases}
 use Rattle.octets.proofs.Lists.{all-head, all-tail, any-cases, any-stops, any-more, those-keeps, those-skips}
 use Rattle.index.specs.Index.{Index, Contribution, cellOf}

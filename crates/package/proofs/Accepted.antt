@@ -1,6 +1,6 @@
 -- What an accepted bundle's package is made of.
 -- Assumes nothing.
-use mathlib.Core.Path.{_≡_, refl, sym, ap, _∙_}
+use mathlib.Core.Path.{_≡_, sym, ap, _∙_}
 use mathlib.Core.Logic.{⊎-elim}
 use mathlib.Core.Bool.{Bool, true, false}
 use mathlib.Core.List.{List, [], _∷_}
@@ -10,16 +10,16 @@ use lib.Dec.{leb}
 use lib.ListN.{length}
 use borrow.Author.Tests.{leb-true, leb-false}
 use Rattle.octets.specs.Lists.{those, all}
-use Rattle.octets.specs.Checked.{Check, pass, refuse, _>>=_, require}
+use Rattle.octets.specs.Checked.{Check, pass, refuse}
 use Rattle.octets.proofs.Checks.{bind-pass, require-pass, pass-inj, known, then-pass}
 use Rattle.octets.proofs.Lists.{all-head, all-tail, those-keeps, those-skips}
 use Rattle.octets.proofs.Numbers.{Bytes}
-use Rattle.bundle.specs.Bundle.{Object, Bundle, bundleOf, lengthGood}
-use Rattle.bundle.specs.Encoding.{Encoding, encodingOf}
-use Rattle.bundle.specs.Written.{Section, Sections, written}
+use Rattle.bundle.specs.Bundle.{Bundle, bundleOf, lengthGood}
+use Rattle.bundle.specs.Encoding.{encodingOf}
+use Rattle.bundle.specs.Written.{Section, written}
 use Rattle.index.specs.Written.{indexBytes}
 use Rattle.package.specs.Filing.{Filing, filingOf, firstWord, kept}
-use Rattle.package.specs.Pack.{rowsOf, nonEmpty, sectionList, packageSections, packageObjects, judged, answered, packed, made, refused, short, Answer, handedIn}
+use Rattle.package.specs.Pack.{rowsOf, nonEmpty, sectionList, packageSections, packageObjects, judged, answered, packed, made, handedIn}
 use Rattle.bundle.proofs.Every.{Every, nothing, also}
 use Rattle.package.proofs.Filing.{FilingFacts, filing-facts}
 

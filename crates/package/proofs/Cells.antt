@@ -2,39 +2,33 @@
 -- Assumes nothing.
 use mathlib.Core.Path.{_≡_, refl, sym, ap, _∙_, subst}
 use mathlib.Core.Logic.{_⊎_, inl, inr, ⊎-elim}
-use mathlib.Core.Bool.{Bool, true, false}
-use mathlib.Core.List.{List, [], _∷_, _++_, map}
+use mathlib.Core.Bool.{true, false}
+use mathlib.Core.List.{List, [], _∷_, _++_}
 use mathlib.Core.Option.{Option, some, none}
-use Prim.Native.Nat.{ℕ, zero, suc, _+_, _*_, _^_, _<_, _≤_}
-use native.Mathlib.Nat.{not-suc-le-zero, le-of-suc-le-suc}
+use Prim.Native.Nat.{ℕ, _+_, _^_, _<_, _≤_}
 use native.Mathlib.Omega.{arith}
 use lib.Dec.{eqb}
-use lib.ListN.{length, getD, length-append, length-map}
+use lib.ListN.{length}
 use borrow.Author.Tests.{eqb-true, eqb-false, eq-eqb, ne-eqb}
-use Rattle.octets.specs.Lists.{has, any, those, distinct}
+use Rattle.octets.specs.Lists.{has, any}
 use Rattle.octets.proofs.Checks.{known, true-false}
-use Rattle.octets.proofs.Lists.{any-cases, length-those}
-use Rattle.octets.proofs.Elements.{not-has}
-use Rattle.bundle.specs.Encoding.{Encoding, encodingGood}
+use Rattle.octets.proofs.Lists.{any-cases}
+use Rattle.bundle.specs.Encoding.{Encoding}
 use Rattle.bundle.proofs.Every.{Every, nothing, also}
 use Rattle.bundle.proofs.WrittenParts.{bytesIn}
 use Rattle.index.specs.Columns.{Column, columnsOf, columnsFour, columnsFive, columnIn}
 use Rattle.index.specs.Index.{Contribution}
 use Rattle.index.specs.Rows.{BySection, shared}
-use Rattle.index.specs.Written.{Row, offsetOf, sizeOf}
-use Rattle.index.proofs.Contributions.{Contributed}
+use Rattle.index.specs.Written.{Row}
 use Rattle.index.proofs.LawColumns.{formOf, forms}
-use Rattle.index.proofs.LawGrid.{noRow, identitiesOf}
-use Rattle.index.proofs.RoundTrip.{RowFits, RowsFit}
-use Rattle.index.proofs.LawWhole.{Writable, writable}
 use Rattle.package.specs.Input.{Input, wrongEdition}
 use Rattle.package.specs.Filing.{Filed, Filing, lengths, kept}
 use Rattle.package.specs.Pack.{cells, rowsOf, unitBytes, sharedBytes, stringTable, sectionList}
 use Rattle.package.proofs.Each.{each-head, each-tail, each-middle, each-so}
-use Rattle.package.proofs.Kept.{each-kept, identitiesIn, distinct-kept}
+use Rattle.package.proofs.Kept.{each-kept}
 use Rattle.package.proofs.Inputs.{InputFacts, wrong-five, wrong-four}
 use Rattle.package.proofs.Filing.{Good, Lies, FilingFacts, lengthsIn}
-use Rattle.package.proofs.Rows.{rowAt, rowsFrom, rows-are, rows-identities, behindAll, nothingBefore, behind-at, each-row, unit-within, unit-here, unit-later}
+use Rattle.package.proofs.Rows.{rowAt, behindAll, nothingBefore, each-row, unit-within}
 use Rattle.package.proofs.Shared.{Sized, shared-within}
 use Rattle.package.proofs.UnitStrings.{input-sized}
 use Rattle.package.proofs.Sections.{info-bytes, types-bytes, shared-bytes}

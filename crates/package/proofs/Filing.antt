@@ -1,7 +1,7 @@
 -- What is known of each unit that was filed, and where its object's sections lie.
 -- Assumes nothing.
 use mathlib.Core.Path.{_≡_, refl, sym, ap, _∙_, subst}
-use mathlib.Core.Logic.{_⊎_, inl, inr, ⊎-elim}
+use mathlib.Core.Logic.{_⊎_, ⊎-elim}
 use mathlib.Core.Bool.{Bool, true, false}
 use mathlib.Core.List.{List, [], _∷_, _++_, map}
 use mathlib.Core.Option.{Option, some, none}
@@ -11,7 +11,7 @@ use lib.Dec.{eqb}
 use lib.ListN.{length, take, drop}
 use lib.Seq.{length-take-le}
 use Rattle.octets.specs.Lists.{any, sum}
-use Rattle.octets.specs.Checked.{Check, pass, refuse, _>>=_, require}
+use Rattle.octets.specs.Checked.{Check, pass}
 use Rattle.octets.proofs.Checks.{bind-pass, pass-inj, pass-refuse, known}
 use Rattle.octets.proofs.Numbers.{Bytes, bytes-drop}
 use Rattle.bundle.specs.Bundle.{Object}

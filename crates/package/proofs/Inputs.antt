@@ -3,31 +3,31 @@
 use mathlib.Core.Path.{_≡_, refl, sym, ap, _∙_, subst}
 use mathlib.Core.Logic.{_⊎_, inl, inr, ⊎-elim}
 use mathlib.Core.Bool.{Bool, true, false, not, _&&_, _||_}
-use mathlib.Core.List.{List, [], _∷_, map}
+use mathlib.Core.List.{List, [], _∷_}
 use mathlib.Core.Option.{Option, some, none}
-use Prim.Native.Nat.{ℕ, zero, suc, _+_, _-_, _/_, _%_, _<_, _≤_}
+use Prim.Native.Nat.{ℕ, _-_, _/_, _%_, _≤_}
 use native.Mathlib.Nat.{zero-div}
 use native.Mathlib.Omega.{arith}
-use lib.Dec.{eqb, leb}
+use lib.Dec.{eqb}
 use lib.ListN.{length}
-use borrow.Author.Tests.{eqb-true, eqb-false, eq-eqb, ne-eqb, leb-true, leb-false, not-true}
+use borrow.Author.Tests.{eqb-true, eqb-false, eq-eqb, ne-eqb, leb-false, not-true}
 use Rattle.octets.specs.Octets.{part, numbersIn}
 use Rattle.octets.specs.Lists.{all, any, those, has}
-use Rattle.octets.specs.Checked.{Check, pass, refuse, _>>=_, require}
-use Rattle.octets.proofs.Checks.{bind-pass, require-pass, pass-inj, known, true-false, and-left, and-right, or-cases}
+use Rattle.octets.specs.Checked.{pass}
+use Rattle.octets.proofs.Checks.{bind-pass, require-pass, pass-inj, known, and-left, or-cases}
 use Rattle.octets.proofs.Lists.{those-keeps, those-skips}
 use Rattle.octets.proofs.Numbers.{Bytes, bytes-none, bytes-part}
 use Rattle.bundle.specs.Bundle.{Part, Object, partsOf, count, firstPart, body}
 use Rattle.bundle.specs.Encoding.{Encoding, encodingOf, encodingGood}
 use Rattle.bundle.specs.Written.{Section}
 use Rattle.strings.specs.Strings.{headerSize, headerTrue, entriesIn, entriesOf, stringsAt}
-use Rattle.index.specs.Index.{Index, indexOf}
+use Rattle.index.specs.Index.{Index}
 use Rattle.index.specs.Rows.{BySection}
 use Rattle.index.proofs.Contributions.{all-has}
 use Rattle.package.specs.Input.{Input, present, repeated, wrongEdition, onlyOnce, editionGood, complete, usedStrings, inputIndex, unitSections, inputOf}
 use Rattle.package.specs.Filing.{indexFor}
 use Rattle.bundle.proofs.Every.{Every, nothing, also}
-use Rattle.package.proofs.Each.{each-head, each-tail, each-those, each-map, each-so, each-both, each-all, each-passed}
+use Rattle.package.proofs.Each.{each-those, each-map, each-so, each-both, each-all, each-passed}
 
 -- ---- sections that are there and that aren't
 parts-here : (p : Part) (ps : List Part) (c : ℕ) → eqb (p .code) c ≡ true → 1 ≤ count (p ∷ ps) c

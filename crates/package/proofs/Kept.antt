@@ -2,7 +2,7 @@
 -- Assumes nothing.
 use mathlib.Core.Path.{_≡_, refl, sym, ap, _∙_, subst}
 use mathlib.Core.Logic.{_⊎_, inl, inr, ⊎-elim}
-use mathlib.Core.Bool.{Bool, true, false, _&&_, _||_}
+use mathlib.Core.Bool.{true, false}
 use mathlib.Core.List.{List, [], _∷_, _++_, map, append-assoc, append-nil}
 use mathlib.Core.Option.{Option, some, none}
 use Prim.Native.Nat.{ℕ}
@@ -11,12 +11,12 @@ use lib.Dec.{eqb}
 use borrow.Author.Tests.{eqb-true, eqb-false, eq-eqb, ne-eqb}
 use Rattle.octets.specs.Lists.{any, those, has, distinct}
 use Rattle.octets.proofs.Checks.{known, true-false, and-both, and-left, and-right, not-left, not-right}
-use Rattle.octets.proofs.Lists.{any-cons, any-stops, any-append, those-append, those-keeps, those-skips}
+use Rattle.octets.proofs.Lists.{any-cons, any-stops, those-append, those-keeps, those-skips}
 use Rattle.octets.proofs.Elements.{distinct-snoc, has-cons, has-skips}
 use Rattle.octets.proofs.Joined.{map-append}
 use Rattle.package.specs.Filing.{Filed, isUnder, keep, keepAll, kept}
-use Rattle.bundle.proofs.Every.{Every, nothing, also}
-use Rattle.package.proofs.Each.{each-append, each-snoc, each-head, each-tail}
+use Rattle.bundle.proofs.Every.{Every, nothing}
+use Rattle.package.proofs.Each.{each-snoc, each-head, each-tail}
 
 -- ---- the first unit of a table and an identity
 unfoldable pub firstUnder : ℕ → ℕ → List Filed → Option Filed

@@ -1,10 +1,9 @@
 -- The package of an accepted bundle is a bundle that can be read: its length, its object, and where its sections lie.
 -- Assumes nothing.
 use mathlib.Core.Path.{_≡_, refl, sym, ap, _∙_, subst}
-use mathlib.Core.Logic.{⊎-elim}
-use mathlib.Core.Bool.{Bool, true, false, _&&_}
+use mathlib.Core.Bool.{Bool, true, _&&_}
 use mathlib.Core.List.{List, [], _∷_, _++_, map, append-assoc, append-nil}
-use mathlib.Core.Option.{Option, some, none}
+use mathlib.Core.Option.{none}
 use Prim.Native.Nat.{ℕ, _+_, _*_, _%_, _/_, _<_, _≤_}
 use native.Mathlib.Omega.{arith}
 use lib.Dec.{eqb, leb}
@@ -12,25 +11,25 @@ use lib.ListN.{length, length-append}
 use borrow.Author.Tests.{leb-true, le-leb, lt-leb, eq-eqb}
 use Rattle.octets.specs.Lists.{joined, those, all, any, sum}
 use Rattle.octets.specs.Checked.{pass}
-use Rattle.octets.proofs.Checks.{bind-pass, known, and-both, and-left, and-right}
-use Rattle.octets.proofs.Lists.{those-keeps, those-skips, all-head, all-tail, length-those}
+use Rattle.octets.proofs.Checks.{bind-pass, and-both, and-left, and-right}
+use Rattle.octets.proofs.Lists.{all-head, all-tail, length-those}
 use Rattle.octets.proofs.Numbers.{Bytes}
-use Rattle.bundle.specs.Bundle.{Part, Object, Bundle, bundleOf, filledUp, firstPart, count, lengthGood}
+use Rattle.bundle.specs.Bundle.{Part, Object, bundleOf, filledUp, firstPart, count, lengthGood}
 use Rattle.bundle.specs.Encoding.{encodingOf, encodingGood}
 use Rattle.bundle.specs.Written.{Section, Sections, wordBytes, headBytes, sectionBytes, objectBytes, endBytes, written}
 use Rattle.bundle.proofs.Every.{Every, nothing, also}
 use Rattle.bundle.proofs.Putting.{length-word, length-head}
 use Rattle.bundle.proofs.Lies.{Stands, bundle-stands}
-use Rattle.bundle.proofs.RoundTrip.{Storable, Storables, partsFrom, objectsFrom, objects-whole, length-written, written-bundle}
+use Rattle.bundle.proofs.RoundTrip.{Storable, partsFrom, objectsFrom, objects-whole, length-written, written-bundle}
 use Rattle.bundle.proofs.Sizes.{sectionSize, objectSize, written-size}
 use Rattle.bundle.proofs.WrittenParts.{isOf, bytesIn, no-part, SectionIn, section-in, codesOf, count-once}
 use Rattle.package.specs.Input.{inputOf}
-use Rattle.package.specs.Filing.{Filing, filingFrom, filingOf, firstWord}
+use Rattle.package.specs.Filing.{filingFrom, filingOf, firstWord}
 use Rattle.package.specs.Pack.{nonEmpty, sectionList, packageObjects}
 use Rattle.package.proofs.Each.{each-head, each-tail, each-those}
 use Rattle.package.proofs.Inputs.{input-facts}
 use Rattle.package.proofs.Accepted.{Accepted, sections-small}
-use Rattle.package.proofs.Sections.{codes-distinct, Left, left, list-distinct}
+use Rattle.package.proofs.Sections.{codes-distinct, left, list-distinct}
 
 -- ---- what can be stored
 abbrev inRange : ℕ → Bool

@@ -4,23 +4,19 @@ use mathlib.Core.Path.{_≡_, refl, sym, ap, _∙_, subst}
 use mathlib.Core.Logic.{⊎-elim}
 use mathlib.Core.Bool.{Bool, true, false}
 use mathlib.Core.List.{List, [], _∷_, _++_, map, append-assoc}
-use mathlib.Core.Option.{Option, some, none}
-use Prim.Native.Nat.{ℕ, _+_, _<_, _≤_}
-use native.Mathlib.Nat.{zero-add}
+use Prim.Native.Nat.{ℕ, _+_, _≤_}
 use native.Mathlib.Omega.{arith}
 use lib.Dec.{eqb}
 use lib.ListN.{length, length-append}
 use borrow.Author.Tests.{eqb-true, eqb-false, eq-eqb, ne-eqb}
 use Rattle.octets.specs.Octets.{part}
-use Rattle.octets.specs.Lists.{joined, those, sum}
+use Rattle.octets.specs.Lists.{joined, those}
 use Rattle.octets.proofs.Checks.{known}
 use Rattle.octets.proofs.Lists.{those-append, those-keeps, those-skips}
 use Rattle.octets.proofs.Joined.{map-append, joined-append}
 use Rattle.octets.proofs.Parts.{part-append-behind, part-append-front, part-whole}
-use Rattle.index.specs.Index.{Contribution}
 use Rattle.index.specs.Rows.{BySection}
 use Rattle.index.specs.Written.{Row}
-use Rattle.package.specs.Input.{Input}
 use Rattle.package.specs.Filing.{Filed}
 use Rattle.package.specs.Pack.{cells, Entry, longer, entriesFrom, rowsOf, unitBytes}
 use Rattle.bundle.proofs.Every.{Every, nothing, also}

@@ -1,32 +1,27 @@
 -- The sections of the package by code: where each lies in it, and how long they are together.
 -- Assumes nothing.
 use mathlib.Core.Path.{_≡_, refl, sym, ap, _∙_, subst}
-use mathlib.Core.Logic.{_⊎_, inl, inr, ⊎-elim}
-use mathlib.Core.Bool.{Bool, true, false, _&&_}
-use mathlib.Core.List.{List, [], _∷_, _++_, map, append-assoc, append-nil}
-use mathlib.Core.Option.{Option, some, none}
-use Prim.Native.Nat.{ℕ, _+_, _*_, _%_, _/_, _<_, _≤_}
+use mathlib.Core.Logic.{⊎-elim}
+use mathlib.Core.Bool.{Bool, true, false}
+use mathlib.Core.List.{List, [], _∷_}
+use mathlib.Core.Option.{some}
+use Prim.Native.Nat.{ℕ}
 use native.Mathlib.Omega.{arith}
 use lib.Dec.{eqb, leb}
-use lib.ListN.{length, length-append}
-use borrow.Author.Tests.{eqb-true, leb-true, leb-false, le-leb, lt-leb}
-use Rattle.octets.specs.Lists.{joined, those, all, any, has, distinct, sum}
-use Rattle.octets.proofs.Checks.{known, true-false, and-left, and-right}
-use Rattle.octets.proofs.Lists.{those-keeps, those-skips, all-head, all-tail, any-stops, any-cons, any-cases, length-those}
+use lib.ListN.{length}
+use borrow.Author.Tests.{eqb-true, leb-false}
+use Rattle.octets.specs.Lists.{those, all, any, has, distinct}
+use Rattle.octets.proofs.Checks.{known, true-false}
+use Rattle.octets.proofs.Lists.{those-keeps, those-skips, any-stops, any-cons, any-cases}
 use Rattle.octets.proofs.Elements.{has-cons, has-skips, distinct-cons, distinct-head, distinct-tail}
-use Rattle.octets.proofs.Joined.{joined-one}
-use Rattle.bundle.specs.Bundle.{Part, Object, filledUp, firstPart, count}
-use Rattle.bundle.specs.Written.{Section, Sections, wordBytes, headBytes, sectionBytes, objectBytes, endBytes, written}
+use Rattle.bundle.specs.Written.{Section}
 use Rattle.bundle.proofs.Every.{Every, nothing, also}
-use Rattle.bundle.proofs.Putting.{length-word, length-head}
-use Rattle.bundle.proofs.RoundTrip.{Storable, Storables, partsFrom}
-use Rattle.bundle.proofs.Sizes.{sectionSize, objectSize, written-size}
-use Rattle.bundle.proofs.WrittenParts.{isOf, code-is, code-not, bytesIn, bytes-here, bytes-later, bytes-none, no-part, SectionIn, section-in, codesOf, any-code, count-once}
+use Rattle.bundle.proofs.WrittenParts.{isOf, code-is, bytesIn, bytes-here, bytes-later, bytes-none, codesOf, any-code}
 use Rattle.strings.specs.Strings.{strOf}
 use Rattle.index.specs.Rows.{shared}
 use Rattle.package.specs.Filing.{Filing, kept}
-use Rattle.package.specs.Pack.{unitBytes, sharedBytes, stringTable, nonEmpty, sectionList, packageObjects}
-use Rattle.package.proofs.Each.{each-head, each-tail, each-those}
+use Rattle.package.specs.Pack.{unitBytes, sharedBytes, stringTable, nonEmpty, sectionList}
+use Rattle.package.proofs.Each.{each-head, each-tail}
 
 -- ---- sections that are not empty
 module _ (g : Section → Bool) where

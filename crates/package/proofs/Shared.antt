@@ -1,21 +1,21 @@
 -- The shared sections of the package: where an object's section lies in them, and a unit's contribution.
 -- Assumes nothing.
-use mathlib.Core.Path.{_≡_, refl, sym, ap, _∙_, subst}
+use mathlib.Core.Path.{_≡_, refl, sym, ap, _∙_}
 use mathlib.Core.Bool.{Bool, true, false}
 use mathlib.Core.List.{List, [], _∷_, _++_, map}
 use Prim.Native.Nat.{ℕ, _+_, _≤_}
 use native.Mathlib.Omega.{arith}
 use lib.Dec.{eqb}
 use lib.ListN.{length, length-append}
-use borrow.Author.Tests.{eq-eqb, ne-eqb}
+use borrow.Author.Tests.{ne-eqb}
 use Rattle.octets.specs.Octets.{part}
 use Rattle.octets.specs.Lists.{joined, sum}
-use Rattle.octets.proofs.Joined.{map-append, joined-append, length-joined}
+use Rattle.octets.proofs.Joined.{map-append, joined-append}
 use Rattle.octets.proofs.Parts.{part-append-behind, part-append-front}
 use Rattle.strings.specs.Strings.{remapped}
 use Rattle.package.specs.Input.{Input}
 use Rattle.package.specs.Pack.{sharedBytes}
-use Rattle.bundle.proofs.Every.{Every, nothing, also}
+use Rattle.bundle.proofs.Every.{Every, nothing}
 use Rattle.package.proofs.Each.{each-head, each-tail, each-left, each-middle}
 use Rattle.package.proofs.Filing.{lengthsIn}
 

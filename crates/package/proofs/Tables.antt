@@ -1,9 +1,9 @@
 -- Both indexes of the package: their rows can be written, and what is written is read back, finds them and misses others.
 -- Assumes nothing.
 use mathlib.Core.Path.{_≡_, refl, sym, ap, _∙_, subst}
-use mathlib.Core.Logic.{_⊎_, inl, inr, ⊎-elim}
+use mathlib.Core.Logic.{_⊎_, ⊎-elim}
 use mathlib.Core.Bool.{Bool, true, false}
-use mathlib.Core.List.{List, [], _∷_, _++_, map}
+use mathlib.Core.List.{List, [], _∷_, map}
 use mathlib.Core.Option.{Option, some, none}
 use Prim.Native.Nat.{ℕ, zero, suc, _+_, _*_, _%_, _^_, _<_, _≤_}
 use native.Mathlib.Nat.{not-suc-le-zero, le-of-suc-le-suc}
@@ -17,14 +17,13 @@ use Rattle.octets.proofs.Lists.{length-those}
 use Rattle.octets.proofs.Numbers.{Bytes}
 use Rattle.bundle.specs.Encoding.{Encoding, encodingOf}
 use Rattle.bundle.specs.Written.{Section}
-use Rattle.bundle.proofs.Every.{Every, nothing, also}
+use Rattle.bundle.proofs.Every.{Every, nothing}
 use Rattle.bundle.proofs.WrittenParts.{isOf, bytesIn, bytes-here, bytes-later}
 use Rattle.index.specs.Index.{Contribution}
-use Rattle.index.specs.Rows.{BySection}
 use Rattle.index.specs.Written.{Row, offsetOf, sizeOf, indexBytes}
 use Rattle.index.proofs.LawGrid.{noRow, identitiesOf, getD-map}
 use Rattle.index.proofs.LawPlaced.{distinct-is}
-use Rattle.index.proofs.RoundTrip.{RowFits, RowsFit}
+use Rattle.index.proofs.RoundTrip.{RowsFit}
 use Rattle.index.proofs.LawWhole.{Writable, Indexed, indexed}
 use Rattle.package.specs.Filing.{Filed, Filing, firstWord, kept}
 use Rattle.package.specs.Pack.{rowsOf, unitBytes, sectionList}

@@ -2,24 +2,23 @@
 -- Assumes nothing.
 use mathlib.Core.Path.{_≡_, refl, sym, ap, _∙_, subst}
 use mathlib.Core.Logic.{_⊎_, inl, inr, ⊎-elim}
-use mathlib.Core.Bool.{Bool, true, false, _&&_, _||_}
+use mathlib.Core.Bool.{true, false, _&&_, _||_}
 use mathlib.Core.List.{List, [], _∷_, _++_, append-assoc}
-use mathlib.Core.Option.{Option, some, none}
-use Prim.Native.Nat.{ℕ, _+_, _*_, _-_, _/_, _%_, _^_, _<_, _≤_}
+use mathlib.Core.Option.{some, none}
+use Prim.Native.Nat.{ℕ, _+_, _*_, _/_, _%_, _^_, _<_, _≤_}
 use native.Mathlib.Nat.{mul-zero, mul-add, div-add-mod, pow-le-pow-right, lt-of-lt-of-le}
 use native.Mathlib.Omega.{arith}
 use lib.Dec.{eqb}
-use lib.ListN.{length, getD, take, length-append, List·getD-append}
+use lib.ListN.{length, getD, length-append, List·getD-append}
 use lib.Seq.{getD-append-add, take-nil}
 use borrow.Author.Tests.{eqb-true, eqb-false}
 use Rattle.octets.specs.Octets.{part, numberAt, numbersOf}
-use Rattle.octets.specs.Checked.{Check, pass}
+use Rattle.octets.specs.Checked.{pass}
 use Rattle.octets.proofs.Checks.{known, and-left, and-right, or-cases, pass-inj}
-use Rattle.octets.proofs.Parts.{part-whole}
 use Rattle.bundle.specs.Encoding.{Encoding, encodingGood}
-use Rattle.strings.specs.Strings.{headerSize, headerTrue, entriesIn, stringsAt, stringAt, strOf, firstUses, remapped}
+use Rattle.strings.specs.Strings.{headerSize, entriesIn, stringsAt, stringAt, strOf, firstUses, remapped}
 use Rattle.strings.proofs.Table.{isIn, used-in}
-use Rattle.strings.proofs.Sections.{Sound, Whole as WholeEntries, length-entriesIn}
+use Rattle.strings.proofs.Sections.{Sound, Whole as WholeEntries}
 use Rattle.strings.proofs.Ends.{length-stringsAt}
 use Rattle.strings.proofs.Remapped.{length-remapped}
 use Rattle.strings.proofs.PartEntries.{entry-ends, part-entry, part-entry-within, entry-string, remapped-names}
@@ -28,11 +27,10 @@ use Rattle.index.proofs.Contributions.{Contributed}
 use Rattle.package.specs.Input.{Input}
 use Rattle.package.specs.Filing.{Filed, lengths, contributed, entriesOfUnit}
 use Rattle.package.specs.Pack.{allUsed, stringTable}
-use Rattle.bundle.proofs.Every.{Every, nothing, also}
-use Rattle.package.proofs.Each.{each-so}
+use Rattle.bundle.proofs.Every.{nothing}
 use Rattle.package.proofs.Inputs.{InputFacts, StringFacts, no-entries}
 use Rattle.package.proofs.Shared.{given, given-strings, given-bytes, Sized}
-use Rattle.package.proofs.Filing.{Good, Lies}
+use Rattle.package.proofs.Filing.{Good}
 
 -- ---- what 4 lets pass
 pub good-versions : (e : Encoding) → encodingGood e ≡ true → (e .version ≡ 4) ⊎ (e .version ≡ 5)

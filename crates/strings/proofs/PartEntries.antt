@@ -1,14 +1,14 @@
 -- Entries of a part of a str_offsets section, and the numbers that stand for them in the section written.
 -- Assumes nothing.
-use mathlib.Core.Path.{_≡_, refl, sym, ap, _∙_}
+use mathlib.Core.Path.{_≡_, sym, ap, _∙_}
 use mathlib.Core.Bool.{true}
-use mathlib.Core.List.{List, [], _∷_, map}
-use Prim.Native.Nat.{ℕ, _+_, _*_, _-_, _/_, _^_, _<_, _≤_}
-use native.Mathlib.Nat.{le-div-iff-mul-le, mul-comm, mul-add, mul-suc}
+use mathlib.Core.List.{List, []}
+use Prim.Native.Nat.{ℕ, _+_, _*_, _-_, _^_, _<_, _≤_}
+use native.Mathlib.Nat.{le-div-iff-mul-le, mul-comm, mul-add}
 use native.Mathlib.Omega.{arith}
 use lib.ListN.{length, getD}
 use Rattle.octets.specs.Octets.{part, numberAt}
-use Rattle.octets.specs.Checked.{Check, pass}
+use Rattle.octets.specs.Checked.{pass}
 use Rattle.octets.proofs.Parts.{length-part}
 use Rattle.octets.proofs.Numbers.{numberAt-part}
 use Rattle.bundle.specs.Encoding.{Encoding}
@@ -17,7 +17,7 @@ use Rattle.strings.proofs.Table.{isIn}
 use Rattle.strings.proofs.Ends.{length-stringsAt, stringsAt-at, stringAt-is}
 use Rattle.strings.proofs.Offsets.{string-in-strOf}
 use Rattle.strings.proofs.Sections.{Sound, Whole, length-entriesIn, entriesIn-at, entry-within}
-use Rattle.strings.proofs.Remapped.{length-map, getD-map, length-remapped, remapped-entries}
+use Rattle.strings.proofs.Remapped.{length-map, getD-map, remapped-entries}
 
 -- ---- a part that begins behind m entries
 module _ (e : Encoding) (ok : Sound e) (s : List ℕ) (m size : ℕ) (fits : e .width * m + size ≤ length s) where

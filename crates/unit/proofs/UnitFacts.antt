@@ -1,8 +1,8 @@
 -- What is known of a unit that was read: its size, its table, its identity.
 -- Assumes nothing.
-use mathlib.Core.Path.{_≡_, refl, sym, ap, _∙_, subst}
+use mathlib.Core.Path.{_≡_, refl, sym, subst}
 use mathlib.Core.Logic.{_⊎_, inl, inr, ⊎-elim}
-use mathlib.Core.Bool.{Bool, true, false, not, _||_}
+use mathlib.Core.Bool.{true, false, not, _||_}
 use mathlib.Core.List.{List, [], _∷_}
 use mathlib.Core.Option.{Option, some, none}
 use Prim.Native.Nat.{ℕ, _+_, _^_, _<_, _≤_}
@@ -11,7 +11,7 @@ use lib.Dec.{eqb, leb, ltb}
 use lib.ListN.{length, take, drop, getD}
 use borrow.Author.Tests.{eqb-false, leb-true, not-true}
 use Rattle.octets.specs.Octets.{numberAt}
-use Rattle.octets.specs.Checked.{Check, pass, refuse, _>>=_, require}
+use Rattle.octets.specs.Checked.{pass, _>>=_, require}
 use Rattle.octets.proofs.Checks.{bind-pass, require-pass, pass-inj, pass-refuse, known}
 use Rattle.octets.proofs.Numbers.{Bytes, bytes-drop, bytes-take, numberAt-lt}
 use Rattle.bundle.specs.Encoding.{Encoding}
