@@ -1,6 +1,7 @@
-pub mod Examples
--- Laws of indexes: probing, placing, and an index written and read back.
+-- Laws of indexes: probing, placing, contributions, and an index written and read back.
 -- Assumes nothing.
+pub mod Contributions
+pub mod Examples
 pub mod Slots
 pub mod Orbit
 pub mod LawCounts
