@@ -12,3 +12,4 @@ pub mod Keeping
 pub mod Places
 pub mod Adding
 pub mod Writing
+pub mod Callers

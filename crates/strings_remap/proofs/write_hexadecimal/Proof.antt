@@ -11,43 +11,43 @@ Inv-loop s i₀ i = ?
 abbrev μ-loop : tie.MeasureT-loop
 μ-loop s i₀ i = ?
 
--- src/main.rt:92:5
+-- src/main.rt:90:5
 loop-holds : tie.Need-loop-holds Inv-loop μ-loop
 loop-holds c = ?
 
--- src/main.rt:93:17
+-- src/main.rt:91:17
 shared-slice-read-b : tie.Need-shared-slice-read-b Inv-loop μ-loop
 shared-slice-read-b c = ?
 
--- src/main.rt:94:40
+-- src/main.rt:92:40
 digit-requires : tie.Need-digit-requires Inv-loop μ-loop
 digit-requires c κs = ?
 
--- src/main.rt:94:55
+-- src/main.rt:92:55
 digit-requires-2 : tie.Need-digit-requires-2 Inv-loop μ-loop
 digit-requires-2 c κs = ?
 
--- src/main.rt:94:38
+-- src/main.rt:92:38
 slice-aggregate-write-all : tie.Need-slice-aggregate-write-all Inv-loop μ-loop
 slice-aggregate-write-all c = ?
 
--- src/main.rt:94:9
+-- src/main.rt:92:9
 write-all-requires : tie.Need-write-all-requires Inv-loop μ-loop
 write-all-requires c κs = ?
 
--- src/main.rt:95:9
+-- src/main.rt:93:9
 add-i : tie.Need-add-i Inv-loop μ-loop
 add-i c = ?
 
--- src/main.rt:92:5
+-- src/main.rt:90:5
 loop-less : tie.Need-loop-less Inv-loop μ-loop
 loop-less c = ?
 
--- src/main.rt:92:5
+-- src/main.rt:90:5
 loop-again : tie.Need-loop-again Inv-loop μ-loop
 loop-again c = ?
 
--- src/main.rt:90:1
+-- src/main.rt:88:1
 returns : tie.Need-returns Inv-loop μ-loop
 returns c = ?
 

@@ -6,27 +6,27 @@ use Rattle.strings_remap.proofs.write_sections.Lts as lts
 use Rattle.strings.proofs.sections.remap_str_offsets.Reads as remap-str-offsets-reads
 use Rattle.strings.proofs.sections.write_strings.Reads as write-strings-reads
 
--- src/main.rt:38:9
+-- src/main.rt:37:9
 returns : tie.Need-returns
-returns c = ?
+returns c = search needs
 
--- src/main.rt:41:8
+-- src/main.rt:40:8
 sub-if2 : tie.Need-sub-if2
 sub-if2 c = search needs
 
--- src/main.rt:42:9
+-- src/main.rt:41:9
 returns-2 : tie.Need-returns-2
-returns-2 c = ?
+returns-2 c = search needs
 
--- src/main.rt:45:5
+-- src/main.rt:44:5
 remap-str-offsets-requires : tie.Need-remap-str-offsets-requires
 remap-str-offsets-requires c κs = search needs
 
--- src/main.rt:46:5
+-- src/main.rt:45:5
 write-strings-requires : tie.Need-write-strings-requires
 write-strings-requires c κs = ?
 
--- src/main.rt:47:27
+-- src/main.rt:46:27
 add-t11 : tie.Need-add-t11
 add-t11 c = search needs
 
@@ -36,7 +36,7 @@ same-length c = search needs
 
 -- src/main.rt:24:1
 returns-3 : tie.Need-returns-3
-returns-3 c = ?
+returns-3 c = search needs
 
 pub write-sections-spec : {M : Type 1} → statement M
 write-sections-spec =
