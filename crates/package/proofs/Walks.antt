@@ -64,7 +64,7 @@ module _ (i : Input) (bases : BySection ℕ) (earlier : List Filed) (home : ℕ)
   -- ---- any two bounds that are large enough give the same
   next-same : (k j : ℕ) (here : List Filed) (at : ℕ) (b : ℕ) (s : List ℕ) (m : Check Filed) → unitAt i bases earlier here home at (b ∷ s) ≡ m
       → ((u : Filed) → 1 ≤ length (u .bytes) → unitsFrom k i bases earlier (here ++ (u ∷ [])) home (at + length (u .bytes)) (drop (length (u .bytes)) (b ∷ s))
-        ≡ unitsFrom j i bases earlier (here ++ (u ∷ [])) home (at + length (u .bytes)) (drop (length (u .bytes)) (b ∷ s)))
+      ≡ unitsFrom j i bases earlier (here ++ (u ∷ [])) home (at + length (u .bytes)) (drop (length (u .bytes)) (b ∷ s)))
       → unitsFrom (suc k) i bases earlier here home at (b ∷ s) ≡ unitsFrom (suc j) i bases earlier here home at (b ∷ s)
   unfolding unitsFrom
   next-same k j here at b s (pass u) e same =
