@@ -1,3 +1,6 @@
+-- `write_sections` meets its contract.
+-- Assumes nothing.
+use native.Mathlib.Omega.{arith}
 use borrow.Author.Needs.{needs}
 use Rattle.strings_remap.proofs.write_sections.Statement.{statement}
 use Rattle.strings_remap.proofs.write_sections.Tie as tie
@@ -24,7 +27,12 @@ remap-str-offsets-requires c κs = search needs
 
 -- src/main.rt:45:5
 write-strings-requires : tie.Need-write-strings-requires
-write-strings-requires c κs = ?
+write-strings-requires c κs =
+    let g = c .before .before .before in
+    let i = g .before .before in
+    let a = i .before .before .before .before .before in
+    let k = a .pre .1 .1 in
+    (a .pre .1 .0, k .held (a .pre .0), omega (arith, k .size (a .pre .0), g .remap-str-offsets .kept .1 .1 .1 .1 .1 .1 .0, i .if2 .left, i .before .if1 .left))
 
 -- src/main.rt:46:27
 add-t11 : tie.Need-add-t11
