@@ -106,8 +106,7 @@ write-sections-requires c κs =
     let g = k .before .before .before .before in
     let n = g .before .before .before .before in
     let a = n .before .before .before .before .before .before .before .before in
-    let d = g .add-strings .ensures [] (kept-none _ _) .kept _ (k .kept .given .1) in
-    (
+    let d = g .add-strings .ensures [] (kept-none _ _) .kept _ (k .kept .given .1) in (
       c .before .before .if2 .left,
       (putAll [] (d .0), d .2),
       (d .0, record { offsets-inside = a .pre .1; strings-inside = a .pre .2; entries = counted n .1; strings-are = d .1 }),
