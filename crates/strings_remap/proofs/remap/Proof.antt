@@ -2,7 +2,7 @@
 -- Assumes nothing.
 use mathlib.Core.Path.{_≡_, sym, ap, _∙_}
 use mathlib.Core.List.{List, []}
-use Prim.Native.Nat.{ℕ, _+_}
+use Prim.Native.Nat.{ℕ}
 use native.Mathlib.Omega.{arith}
 use denote.Ref.{now}
 use lib.ListN.{length}
@@ -17,11 +17,6 @@ use Rattle.strings.proofs.Callers.{entries-counted}
 use borrow.Author.Needs.{needs}
 use Rattle.strings_remap.proofs.remap.Statement.{statement}
 use Rattle.strings_remap.proofs.remap.Tie as tie
-use Rattle.strings_remap.proofs.remap.Reads as reads
-use Rattle.strings_remap.proofs.remap.Lts as lts
-use Rattle.strings.proofs.entries.check_entries.Reads as check-entries-reads
-use Rattle.strings.proofs.table.add_strings.Reads as add-strings-reads
-use Rattle.strings_remap.proofs.write_sections.Reads as write-sections-reads
 
 counted : (c : tie.After-n)
     → (let a = c .before .before .before .before .before .before .before .before .args in let s = bytesAt (now (a .b)) (a .offsets) in (c .n .given .0 .0 ≡ length (entriesIn (encodingIs (a .e)) s)) × (entriesOf (encodingIs (a .e)) s ≡ pass (entriesIn (encodingIs (a .e)) s)))
@@ -30,76 +25,59 @@ counted c =
     let a = k .before .before .before .before .before .before .args in
     entries-counted _ _ _ (sym (c .n .given .1) ∙ k .check-entries .ensures ∙ ap (λ (z : List ℕ). entriesRead (entriesOf (encodingIs (a .e)) z)) (cut-is (now (a .b)) (a .offsets)))
 
--- src/main.rt:60:16
 add-last : tie.Need-add-last
 unfolding Inside
 add-last c = omega (arith, c .before .before .before .before .pre .1)
 
--- src/main.rt:61:64
 sub-check-entries : tie.Need-sub-check-entries
 sub-check-entries c = search needs
 
--- src/main.rt:61:64
 part-check-entries-start : tie.Need-part-check-entries-start
 part-check-entries-start c = search needs
 
--- src/main.rt:61:64
 part-check-entries-end : tie.Need-part-check-entries-end
 unfolding Inside
 part-check-entries-end c = omega (arith, c .before .before .before .before .pre .1)
 
--- src/main.rt:61:29
 check-entries-requires : tie.Need-check-entries-requires
 check-entries-requires c κs = search needs
 
--- src/main.rt:61:24
 enum-known-n : tie.Need-enum-known-n
 enum-known-n c = search needs
 
--- src/main.rt:62:9
 enum-told : tie.Need-enum-told
 enum-told c = search needs
 
--- src/main.rt:62:9
 returns : tie.Need-returns
 returns c = search needs
 
--- src/main.rt:65:9
 returns-2 : tie.Need-returns-2
 returns-2 c = search needs
 
--- src/main.rt:72:30
 add-strings-requires : tie.Need-add-strings-requires
 add-strings-requires c κs =
     let n = c .before .before .before in
     let a = n .before .before .before .before .before .before .before .before in
     (a .pre .0, a .pre .1, a .pre .2, omega (arith, counted n .0, c .before .if1 .left), ([], kept-none _ _))
 
--- src/main.rt:72:22
 enum-known-kept : tie.Need-enum-known-kept
 enum-known-kept c = search needs
 
--- src/main.rt:73:9
 enum-told-2 : tie.Need-enum-told-2
 enum-told-2 c = search needs
 
--- src/main.rt:73:9
 same-length : tie.Need-same-length
 same-length c = search needs
 
--- src/main.rt:73:9
 returns-3 : tie.Need-returns-3
 returns-3 c = search needs
 
--- src/main.rt:76:9
 same-length-2 : tie.Need-same-length-2
 same-length-2 c = search needs
 
--- src/main.rt:76:9
 returns-4 : tie.Need-returns-4
 returns-4 c = search needs
 
--- src/main.rt:78:5
 write-sections-requires : tie.Need-write-sections-requires
 write-sections-requires c κs =
     let k = c .before .before .before .before in
@@ -112,15 +90,12 @@ write-sections-requires c κs =
       (d .0, record { offsets-inside = a .pre .1; strings-inside = a .pre .2; entries = counted n .1; strings-are = d .1 }),
     )
 
--- src/main.rt:49:1
 same-length-3 : tie.Need-same-length-3
 same-length-3 c = search needs
 
--- src/main.rt:49:1
 same-length-4 : tie.Need-same-length-4
 same-length-4 c = search needs
 
--- src/main.rt:49:1
 returns-5 : tie.Need-returns-5
 returns-5 c = search needs
 

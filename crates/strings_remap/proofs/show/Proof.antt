@@ -10,13 +10,6 @@ use Rattle.strings.proofs.StrOffsets.{sound}
 use borrow.Author.Needs.{needs}
 use Rattle.strings_remap.proofs.show.Statement.{statement}
 use Rattle.strings_remap.proofs.show.Tie as tie
-use Rattle.strings_remap.proofs.show.Reads as reads
-use Rattle.strings_remap.proofs.show.Lts as lts
-use Rattle.bundle.proofs.encoding.width.Reads as width-reads
-use Rattle.io.proofs.write_all.Reads as write-all-reads
-use Rattle.octets.proofs.put_bytes.Reads as put-bytes-reads
-use Rattle.octets.proofs.put_numbers.Reads as put-numbers-reads
-use Rattle.strings_remap.proofs.tell.Reads as tell-reads
 
 narrow : (c : tie.After-width) → c .width .result ≤ 8
 narrow c = omega (arith, c .width .ensures, sound (c .before .before .before .before .before .before .before .before .before .before .before .args .e) .high)
@@ -26,76 +19,59 @@ bound c =
     let n = length (now (c .before .before .before .before .before .before .before .before .before .before .before .args .entries)) in
     omega (arith, mul-le-mul-right n (narrow c), c .before .before .if2 .left)
 
--- src/main.rt:141:5
 write-all-requires : tie.Need-write-all-requires
 write-all-requires c κs = search needs
 
--- src/main.rt:142:34
 slice-aggregate-write-all : tie.Need-slice-aggregate-write-all
 slice-aggregate-write-all c = search needs
 
--- src/main.rt:142:5
 write-all-requires-2 : tie.Need-write-all-requires-2
 write-all-requires-2 c κs = search needs
 
--- src/main.rt:144:9
 returns : tie.Need-returns
 returns c = search needs
 
--- src/main.rt:147:9
 returns-2 : tie.Need-returns-2
 returns-2 c = search needs
 
--- src/main.rt:150:9
 returns-3 : tie.Need-returns-3
 returns-3 c = search needs
 
--- src/main.rt:152:9
 width-requires : tie.Need-width-requires
 width-requires c κs = search needs
 
--- src/main.rt:154:20
 mul-end : tie.Need-mul-end
 mul-end c = omega (arith, bound c)
 
--- src/main.rt:154:15
 add-end : tie.Need-add-end
 add-end c = omega (arith, bound c, c .before .before .before .if1 .left)
 
--- src/main.rt:156:23
 slice-aggregate-put-bytes : tie.Need-slice-aggregate-put-bytes
 slice-aggregate-put-bytes c = search needs
 
--- src/main.rt:156:5
 put-bytes-requires : tie.Need-put-bytes-requires
 put-bytes-requires c κs = search needs
 
--- src/main.rt:157:44
 slice-aggregate-put-numbers : tie.Need-slice-aggregate-put-numbers
 slice-aggregate-put-numbers c = search needs
 
--- src/main.rt:157:5
 put-numbers-requires : tie.Need-put-numbers-requires
 put-numbers-requires c κs =
     let w = c .before .before .before .before in
     (narrow w, omega (arith, bound w, w .before .before .before .if1 .left, c .before .before .put-bytes .kept .0))
 
--- src/main.rt:158:23
 slice-aggregate-put-bytes-2 : tie.Need-slice-aggregate-put-bytes-2
 slice-aggregate-put-bytes-2 c = search needs
 
--- src/main.rt:158:5
 put-bytes-requires-2 : tie.Need-put-bytes-requires-2
 put-bytes-requires-2 c κs =
     let p = c .before .before .before .before .before in
     let w = p .before .before in
     omega (arith, bound w, w .before .before .before .if1 .left, w .before .if3 .left, p .put-bytes .kept .0, c .before .before .put-numbers .kept .1 .1 .1 .0)
 
--- src/main.rt:161:9
 slice-aggregate-tell : tie.Need-slice-aggregate-tell
 slice-aggregate-tell c = search needs
 
--- src/main.rt:159:5
 tell-requires : tie.Need-tell-requires
 unfolding Inside
 tell-requires c κs =
@@ -107,7 +83,6 @@ tell-requires c κs =
     let n = p .put-bytes .kept .0 in
     (omega arith, omega (arith, bound w, w .before .before .before .if1 .left), omega (arith, bound w, w .before .before .before .if1 .left, w .before .if3 .left))
 
--- src/main.rt:140:1
 returns-4 : tie.Need-returns-4
 returns-4 c = search needs
 

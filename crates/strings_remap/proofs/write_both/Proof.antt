@@ -7,49 +7,34 @@ use lib.Seq.{length-take-le}
 use borrow.Author.Needs.{needs}
 use Rattle.strings_remap.proofs.write_both.Statement.{statement}
 use Rattle.strings_remap.proofs.write_both.Tie as tie
-use Rattle.strings_remap.proofs.write_both.Reads as reads
-use Rattle.strings_remap.proofs.write_both.Lts as lts
-use Rattle.io.proofs.write_all.Reads as write-all-reads
-use Rattle.strings_remap.proofs.write_hexadecimal.Reads as write-hexadecimal-reads
-use Rattle.strings_remap.proofs.write_text.Reads as write-text-reads
 
--- src/main.rt:112:31
 slice-aggregate-write-hexadecimal : tie.Need-slice-aggregate-write-hexadecimal
 slice-aggregate-write-hexadecimal c = let a = c .before .before .before .before .args in sym (length-take-le (a .at) (now (a .output)) (omega arith))
 
--- src/main.rt:112:13
 write-hexadecimal-requires : tie.Need-write-hexadecimal-requires
 write-hexadecimal-requires c κs = search needs
 
--- src/main.rt:113:42
 slice-aggregate-write-all : tie.Need-slice-aggregate-write-all
 slice-aggregate-write-all c = search needs
 
--- src/main.rt:113:13
 write-all-requires : tie.Need-write-all-requires
 write-all-requires c κs = search needs
 
--- src/main.rt:114:24
 part-write-text-start : tie.Need-part-write-text-start
 part-write-text-start c = search needs
 
--- src/main.rt:114:24
 part-write-text-end : tie.Need-part-write-text-end
 part-write-text-end c = search needs
 
--- src/main.rt:114:13
 write-text-requires : tie.Need-write-text-requires
 write-text-requires c κs = search needs
 
--- src/main.rt:109:1
 returns : tie.Need-returns
 returns c = search needs
 
--- src/main.rt:109:1
 returns-2 : tie.Need-returns-2
 returns-2 c = search needs
 
--- src/main.rt:109:1
 returns-3 : tie.Need-returns-3
 returns-3 c = search needs
 
