@@ -7,3 +7,5 @@ pub mod Codes
 pub mod WellFormed
 pub mod Places
 pub mod Ends
+pub mod Judgements
+pub mod Filled

@@ -1,0 +1,79 @@
+use Rattle.index.proofs.judging.cells_in_step.Statement.{statement}
+use Rattle.index.proofs.judging.cells_in_step.Tie as tie
+use Rattle.index.proofs.judging.cells_in_step.Reads as reads
+use Rattle.index.proofs.judging.cells_in_step.Lts as lts
+use Rattle.index.proofs.cells.cell_of.Reads as cell-of-reads
+use Rattle.index.proofs.judging.step_needed.Reads as step-needed-reads
+
+abbrev Inv-loop : tie.InvT-loop
+Inv-loop big s head row width lengths sums c₀ c = ?
+
+abbrev μ-loop : tie.MeasureT-loop
+μ-loop big s head row width lengths sums c₀ c = ?
+
+-- src/judging.rt:168:5
+loop-holds : tie.Need-loop-holds Inv-loop μ-loop
+loop-holds c = ?
+
+-- src/judging.rt:169:13
+cell-of-requires : tie.Need-cell-of-requires Inv-loop μ-loop
+cell-of-requires c κs = ?
+
+-- src/judging.rt:170:32
+mul-step-needed : tie.Need-mul-step-needed Inv-loop μ-loop
+mul-step-needed c = ?
+
+-- src/judging.rt:170:32
+array-read-step-needed : tie.Need-array-read-step-needed Inv-loop μ-loop
+array-read-step-needed c = ?
+
+-- src/judging.rt:170:44
+mul-step-needed-2 : tie.Need-mul-step-needed-2 Inv-loop μ-loop
+mul-step-needed-2 c = ?
+
+-- src/judging.rt:170:44
+array-read-step-needed-2 : tie.Need-array-read-step-needed-2 Inv-loop μ-loop
+array-read-step-needed-2 c = ?
+
+-- src/judging.rt:170:13
+step-needed-requires : tie.Need-step-needed-requires Inv-loop μ-loop
+step-needed-requires c κs = ?
+
+-- src/judging.rt:171:13
+returns : tie.Need-returns Inv-loop μ-loop
+returns c = ?
+
+-- src/judging.rt:173:9
+add-c : tie.Need-add-c Inv-loop μ-loop
+add-c c = ?
+
+-- src/judging.rt:168:5
+loop-less : tie.Need-loop-less Inv-loop μ-loop
+loop-less c = ?
+
+-- src/judging.rt:168:5
+loop-again : tie.Need-loop-again Inv-loop μ-loop
+loop-again c = ?
+
+-- src/judging.rt:155:1
+returns-2 : tie.Need-returns-2 Inv-loop μ-loop
+returns-2 c = ?
+
+pub cells-in-step-spec : {M : Type 1} → statement M
+cells-in-step-spec =
+    tie.close
+    (tie.spec
+    Inv-loop
+    μ-loop
+    loop-holds
+    cell-of-requires
+    mul-step-needed
+    array-read-step-needed
+    mul-step-needed-2
+    array-read-step-needed-2
+    step-needed-requires
+    returns
+    add-c
+    loop-less
+    loop-again
+    returns-2)

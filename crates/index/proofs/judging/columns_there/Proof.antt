@@ -1,0 +1,69 @@
+use Rattle.index.proofs.judging.columns_there.Statement.{statement}
+use Rattle.index.proofs.judging.columns_there.Tie as tie
+use Rattle.index.proofs.judging.columns_there.Reads as reads
+use Rattle.index.proofs.judging.columns_there.Lts as lts
+use Rattle.index.proofs.cells.cell_of.Reads as cell-of-reads
+use Rattle.index.proofs.judging.cell_needed.Reads as cell-needed-reads
+
+abbrev Inv-loop : tie.InvT-loop
+Inv-loop big s head row lengths c₀ c = ?
+
+abbrev μ-loop : tie.MeasureT-loop
+μ-loop big s head row lengths c₀ c = ?
+
+-- src/judging.rt:145:5
+loop-holds : tie.Need-loop-holds Inv-loop μ-loop
+loop-holds c = ?
+
+-- src/judging.rt:146:13
+cell-of-requires : tie.Need-cell-of-requires Inv-loop μ-loop
+cell-of-requires c κs = ?
+
+-- src/judging.rt:147:25
+mul-cell-needed : tie.Need-mul-cell-needed Inv-loop μ-loop
+mul-cell-needed c = ?
+
+-- src/judging.rt:147:25
+array-read-cell-needed : tie.Need-array-read-cell-needed Inv-loop μ-loop
+array-read-cell-needed c = ?
+
+-- src/judging.rt:147:13
+cell-needed-requires : tie.Need-cell-needed-requires Inv-loop μ-loop
+cell-needed-requires c κs = ?
+
+-- src/judging.rt:148:13
+returns : tie.Need-returns Inv-loop μ-loop
+returns c = ?
+
+-- src/judging.rt:150:9
+add-c : tie.Need-add-c Inv-loop μ-loop
+add-c c = ?
+
+-- src/judging.rt:145:5
+loop-less : tie.Need-loop-less Inv-loop μ-loop
+loop-less c = ?
+
+-- src/judging.rt:145:5
+loop-again : tie.Need-loop-again Inv-loop μ-loop
+loop-again c = ?
+
+-- src/judging.rt:140:1
+returns-2 : tie.Need-returns-2 Inv-loop μ-loop
+returns-2 c = ?
+
+pub columns-there-spec : {M : Type 1} → statement M
+columns-there-spec =
+    tie.close
+    (tie.spec
+    Inv-loop
+    μ-loop
+    loop-holds
+    cell-of-requires
+    mul-cell-needed
+    array-read-cell-needed
+    cell-needed-requires
+    returns
+    add-c
+    loop-less
+    loop-again
+    returns-2)
