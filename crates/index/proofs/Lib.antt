@@ -9,3 +9,5 @@ pub mod Places
 pub mod Ends
 pub mod Judgements
 pub mod Filled
+pub mod Columned
+pub mod RowAnswers

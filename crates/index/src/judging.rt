@@ -212,3 +212,44 @@ fn refused(code: u32) -> RowJudged
         contributions,
     }
 }
+
+// A unit of identity x that stands at a place of the section home. Callers have read the index well; the width is 4 or 8.
+pub fn judge_row(
+    big: bool,
+    s: &[u8],
+    head: IndexHead,
+    width: usize,
+    lengths: [usize; 14],
+    sums: [usize; 14],
+    x: u64,
+    home: usize,
+    at: usize,
+    size: usize,
+) -> RowJudged
+    requires { ⌜ (ReadWell big (now s) head) × (0 < width) ⌝ }
+    ensures code { λ r. ⌜ r .code ≡ codeGiven (rowContributions (indexIn big (now (s .entry)) head) width (byCode lengths) (byCode sums) x home at size) ⌝ }
+    ensures contributions { λ r. ⌜ ContributionsAre (r .contributions) (contributionsGiven (rowContributions (indexIn big (now (s .entry)) head) width (byCode lengths) (byCode sums) x home at size)) ⌝ }
+{
+    let Probed::Found(slot, _) = crate::probing::find(big, s, head, x) else {
+        return refused(15);
+    };
+    let row = crate::reading::row_at(big, s, head, slot);
+    let own = crate::cells::cell_of(big, s, head, row, home);
+    if let Cell::Missing = own {
+        return refused(15);
+    }
+    if !columns_there(big, s, head, row, lengths) {
+        return refused(15);
+    }
+    if !own_place(at, size, own) {
+        return refused(16);
+    }
+    if !cells_in_step(big, s, head, row, width, lengths, sums) {
+        return refused(16);
+    }
+    let contributions = row_cells(big, s, head, row, lengths);
+    RowJudged {
+        code: 0,
+        contributions,
+    }
+}
