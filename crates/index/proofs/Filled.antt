@@ -1,5 +1,6 @@
 -- Contributions filled in code by code.
 -- Assumes nothing.
+-- ---- which codes are needed
 use mathlib.Core.Path.{_≡_, refl, sym, ap, _∙_}
 use mathlib.Core.Bool.{Bool, true, false, not, _&&_}
 use mathlib.Core.List.{List, [], _∷_}
@@ -9,24 +10,23 @@ use Prim.Native.Nat.{ℕ, zero, suc, _+_, _-_, _<_, _≤_}
 use native.Mathlib.Omega.{arith}
 use native.Mathlib.Decide.{ℕ-discrete, decLe}
 use lib.Dec.{eqb, ltb}
-use lib.ListN.{length, getD, set, replicate, length-set}
+use lib.ListN.{getD, set, replicate, length-set}
 use lib.Seq.{getD-set-same, getD-set-other}
 use borrow.Author.Tests.{eq-eqb, ne-eqb, lt-ltb, le-ltb}
 use Rattle.octets.specs.Lists.{those, has, any}
-use Rattle.octets.proofs.Checks.{known, not-left, not-right, true-false}
+use Rattle.octets.proofs.Checks.{known, not-left, not-right}
 use Rattle.octets.proofs.Lists.{those-keeps, those-skips}
 use Rattle.octets.proofs.Elements.{has-at, not-has, has-cons, has-skips}
 use Rattle.index.specs.Index.{Contribution}
 use Rattle.index.specs.Rows.{BySection, shared, neededCodes, isSome, wholeContributions}
 use Rattle.index.specs.Written.{offsetOf, sizeOf}
 use Rattle.index.specs.Cells.{cellFound}
-use Rattle.index.specs.Contributed.{Whole, ContributionsAre, withCell, chosen}
+use Rattle.index.specs.Contributed.{ContributionsAre, withCell, chosen}
 use Rattle.index.specs.declared.cells.Cell.{Cell}
 use Rattle.index.specs.declared.cells.Cell.the-variants.{Is, Missing}
 use Rattle.index.specs.declared.judging.Contributions.{Contributions}
 use Rattle.index.proofs.Judgements.{shared-at}
 
--- ---- which codes are needed
 has-those : (p : ℕ → Bool) (xs : List ℕ) (s : ℕ) → has (those p xs) s ≡ (has xs s && p s)
 unfolding those has any
 has-those p [] s = refl

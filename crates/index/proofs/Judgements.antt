@@ -1,23 +1,20 @@
 -- Tests of one cell, by case; and loops over the shared sections' codes.
 -- Assumes nothing.
+-- ---- one cell
 use mathlib.Core.Path.{_≡_, refl, sym, ap, _∙_}
-use mathlib.Core.Bool.{Bool, true, false, not, _&&_, _||_}
-use mathlib.Core.List.{List, [], _∷_}
+use mathlib.Core.Bool.{Bool, true, false, not, _||_}
+use mathlib.Core.List.{List, _∷_}
 use mathlib.Core.Logic.{⊎-elim}
 use mathlib.Core.Option.{Option, some, none}
 use Prim.Native.Nat.{ℕ, zero, suc, _+_, _-_, _%_, _<_, _≤_}
 use native.Mathlib.Omega.{arith}
-use native.Mathlib.Nat.{not-suc-le-zero}
-use native.Mathlib.Numerals.{add-one}
-use native.Mathlib.Decide.{ℕ-discrete}
-use lib.Dec.{eqb, leb}
+use lib.Dec.{eqb}
 use lib.ListN.{length, getD, drop, drop-of-length-le}
 use lib.Seq.{drop-cons}
 use borrow.Author.Tests.{eq-eqb, ne-eqb, le-leb, lt-leb}
-use Rattle.octets.specs.Lists.{all, any, those, has}
-use Rattle.octets.proofs.Checks.{known, not-left, not-right, true-false}
+use Rattle.octets.specs.Lists.{all, those}
+use Rattle.octets.proofs.Checks.{known, true-false}
 use Rattle.octets.proofs.Lists.{all-cons, all-stops, those-keeps, those-skips}
-use Rattle.octets.proofs.Elements.{has-at, not-has, has-cons, has-skips}
 use Rattle.index.specs.Index.{Contribution}
 use Rattle.index.specs.Rows.{BySection, shared, neededCodes, isSome, cellIs, ownPlace, inStep}
 use Rattle.index.specs.Cells.{cellFound}
@@ -25,7 +22,6 @@ use Rattle.index.specs.Contributed.{isCell, ownCell, wholeEntries, stepC
 use Rattle.index.specs.declared.cells.Cell.{Cell}
 use Rattle.index.specs.declared.cells.Cell.the-variants.{Is, Missing}
 
--- ---- one cell
 pub needed-empty : (n : ℕ) (t : Bool) → n ≡ 0 → true ≡ (eqb n 0 || t)
 needed-empty n t e = rw (eq-eqb n 0 e)
 

@@ -1,20 +1,20 @@
 -- A kept unit's row: the answer where each test fails, and where all pass.
 -- Assumes nothing.
+-- ---- what an answer says of the code's
 use mathlib.Core.Path.{_≡_, refl, sym, ap, _∙_}
 use mathlib.Core.Bool.{Bool, true, false}
 use mathlib.Core.List.{List, _∷_}
-use mathlib.Core.Logic.{⊎-elim}
-use mathlib.Core.Option.{Option, some, none}
+use mathlib.Core.Option.{Option, none}
 use Prim.Native.Nat.{ℕ}
 use native.Mathlib.Omega.{arith}
 use lib.ListN.{getD}
 use Rattle.octets.specs.Lists.{all}
 use Rattle.octets.specs.Checked.{Check, pass, refuse, _>>=_, require}
-use Rattle.octets.proofs.Checks.{passes, fails, then-pass, then-refuse, known}
+use Rattle.octets.proofs.Checks.{passes, fails, then-pass, then-refuse}
 use Rattle.octets.proofs.Lists.{all-cons, all-stops}
 use Rattle.index.specs.Index.{Index, Contribution, cellOf}
 use Rattle.index.specs.Probing.{Probe, found, absent, probe}
-use Rattle.index.specs.Rows.{BySection, neededCodes, isSome, rowOf, cellIs, ownPlace, inStep, rowContributions}
+use Rattle.index.specs.Rows.{BySection, neededCodes, rowOf, cellIs, ownPlace, rowContributions}
 use Rattle.index.specs.Held.{probedOf}
 use Rattle.index.specs.Cells.{cellFound}
 use Rattle.index.specs.Contributed.{byCode, isCell, ownCell, chosen, ContributionsAre, codeGiven, contributionsGiven}
@@ -26,7 +26,6 @@ use Rattle.index.specs.declared.judging.RowJudged.{RowJudged}
 use Rattle.index.proofs.Judgements.{is-cell, own-cell, cell-there, cell-missing}
 use Rattle.index.proofs.Columned.{There, Steps}
 
--- ---- what an answer says of the code's
 abbrev pub Answers : RowJudged → Check (BySection (Option Contribution)) → Type 0
 Answers r m = (r .code ≡ codeGiven m) × (ContributionsAre (r .contributions) (contributionsGiven m))
 

@@ -28,7 +28,6 @@ ghost use Rattle.index.specs.Contributed.{
   codeGiven,
   contributionsGiven,
 };
-
 use crate::cells::Cell;
 use crate::probing::Probed;
 use crate::reading::IndexHead;
@@ -175,7 +174,13 @@ fn cells_in_step(
     true
 }
 
-fn row_cells(big: bool, s: &[u8], head: IndexHead, row: usize, lengths: [usize; 14]) -> Contributions
+fn row_cells(
+    big: bool,
+    s: &[u8],
+    head: IndexHead,
+    row: usize,
+    lengths: [usize; 14],
+) -> Contributions
     requires { ⌜ (Sized (now s) head) × (0 < row) × (row ≤ head .units) ⌝ }
     ensures { λ r. ⌜ ContributionsAre r (chosen (byCode lengths) (cellOf (indexIn big (now (s .entry)) head) row)) ⌝ }
 {

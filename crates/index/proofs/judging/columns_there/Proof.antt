@@ -1,19 +1,17 @@
-use Rattle.index.proofs.Columned.{There, codes-start, codes-end, there-on, there-stops}
+-- `index::judging::columns_there` meets its contract.
+-- Assumes nothing.
+use mathlib.Core.Path.{_≡_, sym, _∙_}
+use Prim.Native.Nat.{_-_, _≤_}
+use native.Mathlib.Omega.{arith}
 use borrow.Author.Tests.{not-true, not-false}
-use Rattle.index.proofs.Judgements.{ahead}
+use Rattle.octets.specs.Lists.{all}
 use Rattle.index.specs.Contributed.{byCode}
 use Rattle.index.specs.Rows.{neededCodes}
 use Rattle.index.specs.Held.{indexIn}
-use Rattle.octets.specs.Lists.{all}
-use native.Mathlib.Omega.{arith}
-use Prim.Native.Nat.{_-_, _≤_}
-use mathlib.Core.Path.{_≡_, refl, sym, ap, _∙_}
+use Rattle.index.proofs.Columned.{There, codes-start, codes-end, there-on, there-stops}
+use Rattle.index.proofs.Judgements.{ahead}
 use Rattle.index.proofs.judging.columns_there.Statement.{statement}
 use Rattle.index.proofs.judging.columns_there.Tie as tie
-use Rattle.index.proofs.judging.columns_there.Reads as reads
-use Rattle.index.proofs.judging.columns_there.Lts as lts
-use Rattle.index.proofs.cells.cell_of.Reads as cell-of-reads
-use Rattle.index.proofs.judging.cell_needed.Reads as cell-needed-reads
 
 abbrev Inv-loop : tie.InvT-loop
 Inv-loop big s head row lengths c₀ c = (3 ≤ c) × (all (There (indexIn big s head) row) (ahead (byCode lengths) c) ≡ all (There (indexIn big s head) row) (neededCodes (byCode lengths)))
@@ -21,43 +19,33 @@ Inv-loop big s head row lengths c₀ c = (3 ≤ c) × (all (There (indexIn big s
 abbrev μ-loop : tie.MeasureT-loop
 μ-loop big s head row lengths c₀ c = 11 - c
 
--- src/judging.rt:145:5
 loop-holds : tie.Need-loop-holds Inv-loop μ-loop
 loop-holds c = (omega arith, codes-start _ _)
 
--- src/judging.rt:146:13
 cell-of-requires : tie.Need-cell-of-requires Inv-loop μ-loop
 cell-of-requires c κs = c .before .before .before .pre
 
--- src/judging.rt:147:25
 mul-cell-needed : tie.Need-mul-cell-needed Inv-loop μ-loop
 mul-cell-needed c = omega arith
 
--- src/judging.rt:147:25
 array-read-cell-needed : tie.Need-array-read-cell-needed Inv-loop μ-loop
 array-read-cell-needed c = omega arith
 
--- src/judging.rt:147:13
 cell-needed-requires : tie.Need-cell-needed-requires Inv-loop μ-loop
 cell-needed-requires c κs = tt
 
--- src/judging.rt:148:13
 returns : tie.Need-returns Inv-loop μ-loop
 returns c = there-stops _ _ _ _ _ (c .before .before .cell-of .ensures) (c .before .before .before .before .loop .inv .0) (c .before .before .before .loop-test .taken) (sym (not-true (c .before .cell-needed .result) (c .if1 .taken)) ∙ c .before .cell-needed .ensures) ∙ c .before .before .before .before .loop .inv .1
 
--- src/judging.rt:150:9
 add-c : tie.Need-add-c Inv-loop μ-loop
 add-c c = omega arith
 
--- src/judging.rt:145:5
 loop-less : tie.Need-loop-less Inv-loop μ-loop
 loop-less c = omega arith
 
--- src/judging.rt:145:5
 loop-again : tie.Need-loop-again Inv-loop μ-loop
 loop-again c = (omega arith, there-on _ _ _ _ _ (c .before .before .cell-of .ensures) (c .before .before .before .before .loop .inv .0) (c .before .before .before .loop-test .taken) (sym (not-false (c .before .cell-needed .result) (c .if1 .left)) ∙ c .before .cell-needed .ensures) ∙ c .before .before .before .before .loop .inv .1)
 
--- src/judging.rt:140:1
 returns-2 : tie.Need-returns-2 Inv-loop μ-loop
 returns-2 c = codes-end _ _ _ _ (c .loop-test .left) (c .before .loop .inv .1)
 

@@ -1,47 +1,37 @@
-use Rattle.index.proofs.Filled.{with-empty, with-missing, with-cell}
+-- `index::judging::with_cell` meets its contract.
+-- Assumes nothing.
 use borrow.Author.Needs.{needs}
+use Rattle.index.proofs.Filled.{with-empty, with-missing, with-cell}
 use Rattle.index.proofs.judging.with_cell.Statement.{statement}
 use Rattle.index.proofs.judging.with_cell.Tie as tie
-use Rattle.index.proofs.judging.with_cell.Reads as reads
-use Rattle.index.proofs.judging.with_cell.Lts as lts
 
--- src/judging.rt:127:9
 returns : tie.Need-returns
 returns c = with-empty _ _ _ _ (c .if1 .taken)
 
--- src/judging.rt:129:18
 enum-known-cell : tie.Need-enum-known-cell
 enum-known-cell c = search needs
 
--- src/judging.rt:130:9
 enum-told : tie.Need-enum-told
 enum-told c = search needs
 
--- src/judging.rt:130:9
 returns-2 : tie.Need-returns-2
 returns-2 c = with-missing _ _ _ _ (c .enum-told .given .1)
 
--- src/judging.rt:133:5
 element-write-more : tie.Need-element-write-more
 element-write-more c = search needs
 
--- src/judging.rt:134:5
 mul-more : tie.Need-mul-more
 mul-more c = search needs
 
--- src/judging.rt:134:5
 element-write-more-2 : tie.Need-element-write-more-2
 element-write-more-2 c = search needs
 
--- src/judging.rt:135:5
 mul-more-2 : tie.Need-mul-more-2
 mul-more-2 c = search needs
 
--- src/judging.rt:135:5
 element-write-more-3 : tie.Need-element-write-more-3
 element-write-more-3 c = search needs
 
--- src/judging.rt:122:1
 returns-3 : tie.Need-returns-3
 returns-3 c = with-cell _ _ _ _ _ _ (c .before .before .before .if1 .left) (c .before .cell .given .1)
 
