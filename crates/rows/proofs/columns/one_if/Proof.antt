@@ -1,0 +1,15 @@
+use Rattle.rows.proofs.columns.one_if.Statement.{statement}
+use Rattle.rows.proofs.columns.one_if.Tie as tie
+use Rattle.rows.proofs.columns.one_if.Reads as reads
+use Rattle.rows.proofs.columns.one_if.Lts as lts
+
+-- src/columns.rt:86:9
+returns : tie.Need-returns
+returns c = ?
+
+-- src/columns.rt:82:1
+returns-2 : tie.Need-returns-2
+returns-2 c = ?
+
+pub one-if-spec : {M : Type 1} → statement M
+one-if-spec = tie.close (tie.spec returns returns-2)
