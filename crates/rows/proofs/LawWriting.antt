@@ -4,7 +4,7 @@ use mathlib.Core.Path.{_≡_, refl, sym, ap, ap₂, _∙_}
 use mathlib.Core.Bool.{Bool, true, false}
 use mathlib.Core.List.{List, [], _∷_, _++_, map}
 use Prim.Native.Nat.{ℕ, zero, suc, _+_, _*_, _-_, _≤_, _<_}
-use native.Mathlib.Nat.{mul-add, mul-zero}
+use native.Mathlib.Nat.{mul-add, mul-zero, sub-zero}
 use native.Mathlib.Numerals.{add-one}
 use native.Mathlib.Omega.{arith}
 use lib.ListN.{length, getD, drop, length-append, length-map, drop-of-length-le}
@@ -115,6 +115,9 @@ module _ (five : Bool) (has : List Bool) (w : List ℕ) (which : ℕ) where
       → gridFrom five has w which i (n - i) ≡ cellsFrom has w (18 * i + which) 0 (length (columnsFor five)) ++ gridFrom five has w which (i + 1) (n - (i + 1))
   unfolding gridFrom
   grid-turn i n h = rw (one n i h)
+
+  pub grid-all : (n : ℕ) → gridFrom five has w which 0 (n - 0) ≡ gridFrom five has w which 0 n
+  grid-all n = rw sub-zero
 
   pub grid-end : (i n : ℕ) → n ≤ i → gridFrom five has w which i (n - i) ≡ []
   unfolding gridFrom

@@ -1,3 +1,5 @@
+use Rattle.rows.proofs.LawPieces.{slots-written}
+use mathlib.Core.Path.{refl}
 use borrow.Author.Needs.{needs}
 use Rattle.rows.proofs.writing.put_slots.Statement.{statement}
 use Rattle.rows.proofs.writing.put_slots.Tie as tie
@@ -28,7 +30,11 @@ same-length c = search needs
 
 -- src/writing.rt:66:1
 returns : tie.Need-returns
-returns c = ?
+returns c =
+      let p = c .before .before in
+      let q = p .before .before .before .before in
+      let a = q .before .before .before .before .before in
+      slots-written _ _ _ _ _ _ _ _ (a .pre .2) refl (q .put-identities .ensures) (p .put-numbers .ensures)
 
 pub put-slots-spec : {M : Type 1} → statement M
 put-slots-spec =
