@@ -1,11 +1,12 @@
 -- Where the numbers of an index lie, and what its head tells.
 -- Assumes nothing.
+-- number k of a table that starts at a place
 use mathlib.Core.Path.{_≡_, refl, sym, ap, _∙_}
-use mathlib.Core.Bool.{Bool, true, false, _&&_, _||_}
+use mathlib.Core.Bool.{Bool, true, _||_}
 use mathlib.Core.List.{List}
 use Prim.Native.Nat.{ℕ, _+_, _*_, _<_, _≤_}
 use native.Mathlib.Omega.{arith}
-use lib.Dec.{eqb, leb, ltb}
+use lib.Dec.{eqb, ltb}
 use lib.ListN.{length, drop, getD}
 use borrow.Author.Tests.{ltb-true, leb-true, eqb-true}
 use Rattle.octets.specs.Octets.{numberAt, numbersIn}
@@ -15,13 +16,11 @@ use Rattle.octets.proofs.Checks.{require-pass, and-left, and-right, pass-inj}
 use Rattle.octets.proofs.Numbers.{numberAt-drop}
 use Rattle.octets.proofs.Tables.{length-numbersIn, numbersIn-at}
 use Rattle.index.specs.Index.{Index, indexOf, layout, versionOf, columnsMost, codeGood, leastPower, slotsGood}
-use Rattle.index.specs.Held.{PowerOfTwo, Sized, ReadWell, headOf, indexIn, indexRead}
+use Rattle.index.specs.Held.{PowerOfTwo, Sized, ReadWell, headOf, stated, indexIn, indexRead}
 use Rattle.index.specs.declared.reading.IndexHead.{IndexHead}
-use Rattle.index.specs.declared.reading.IndexRead.{IndexRead}
-use Rattle.index.specs.declared.reading.IndexRead.the-variants.{Good, Bad}
+use Rattle.index.specs.declared.reading.IndexRead.the-variants.{Good}
 use Rattle.index.proofs.Masks.{least-power}
 
--- number k of a table that starts at a place
 pub table-at : (big : Bool) (w n : ℕ) (s : List ℕ) (a k : ℕ) → k < n → numberAt big w s (a + w * k) ≡ getD (numbersIn big w n (drop a s)) k 0
 table-at big w n s a k h = sym (numbersIn-at big w n (drop a s) k h ∙ numberAt-drop big w s a (w * k))
 
@@ -60,10 +59,6 @@ module _ (big : Bool) (s : List ℕ) (h : IndexHead) where
   pub codes-length : length (indexIn big s h .codes) ≡ h .columns
   unfolding indexIn layout
   codes-length = length-numbersIn big 4 (h .columns) (drop (16 + 12 * h .slots) s)
-
--- what the section itself states
-unfoldable pub stated : Bool → List ℕ → IndexHead
-stated big s = record { version = versionOf big s; columns = numberAt big 4 s 4; units = numberAt big 4 s 8; slots = numberAt big 4 s 12 }
 
 pub record WellFormed (big : Bool) (s : List ℕ) (h : IndexHead) : Type 0 where
   pub head : h ≡ stated big s
@@ -133,3 +128,25 @@ module _ (big : Bool) (s : List ℕ) (h : IndexHead) (r : ReadWell big s h) wher
 
   pub read-is : indexOf big s ≡ pass (indexIn big s h)
   read-is = well big s h r .is
+
+-- the same as bounds
+module _ (big : Bool) (s : List ℕ) (h : IndexHead) {i : ℕ} where
+  pub in-codes : i < h .columns → i < length (indexIn big s h .codes)
+  in-codes g = rw (codes-length big s h) g
+
+  pub past-codes : h .columns ≤ i → length (indexIn big s h .codes) ≤ i
+  past-codes g = rw (codes-length big s h) g
+
+  pub in-rows : i < h .slots → i < length (indexIn big s h .rows)
+  in-rows g = rw (rows-length big s h) g
+
+  pub in-identities : i < h .slots → i < length (indexIn big s h .identities)
+  in-identities g = rw (identities-length big s h) g
+
+  pub past-identities : h .slots ≤ i → length (indexIn big s h .identities) ≤ i
+  past-identities g = rw (identities-length big s h) g
+
+pub stated-is : (big : Bool) (s : List ℕ) (v c u n : ℕ) → v ≡ versionOf big s → c ≡ numberAt big 4 s 4 → u ≡ numberAt big 4 s 8 → n ≡ numberAt big 4 s 12
+    → _≡_ {A = IndexHead} (record { version = v; columns = c; units = u; slots = n }) (stated big s)
+unfolding stated
+stated-is big s v c u n p q r t = rw (p, q, r, t)

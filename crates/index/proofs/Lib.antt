@@ -23,3 +23,11 @@ pub mod Masks
 pub mod Heads
 pub mod Looks
 pub mod LawMore
+pub mod Codes
+pub mod WellFormed
+pub mod Places
+pub mod Ends
+pub mod Judgements
+pub mod Filled
+pub mod Columned
+pub mod RowAnswers

@@ -1,12 +1,11 @@
 -- Masks of powers of two are remainders, and `| 1` makes odd.
 -- Assumes nothing.
-use mathlib.Core.Path.{_≡_, refl, sym, ap, _∙_}
+use mathlib.Core.Path.{_≡_, refl, sym, _∙_}
 use Prim.Native.Nat.{ℕ, zero, suc, _+_, _*_, _-_, _/_, _%_, _^_, _<_, _≤_}
 use native.Mathlib.Nat.{mod-lt, pow-succ'}
 use native.Mathlib.Omega.{arith}
 use native.Mathlib.Decide.{decLe}
 use lib.Bits.{bitAnd, bitOr, and-mask, or-step, or-zero-r}
-use lib.Dec.{leb}
 use lib.Pow.{pow-pos}
 use borrow.Author.Tests.{le-leb, lt-leb}
 use Rattle.index.specs.Index.{powerFrom, leastPower}
@@ -64,3 +63,13 @@ power-from (suc k) p n h =
 pub least-power : (n : ℕ) → PowerOfTwo (leastPower n)
 unfolding leastPower
 least-power n = power-from 32 1 n (record { power = 0; is = refl })
+
+-- as a loop counts the doublings that are left
+pub power-left : (left p n : ℕ) → 0 < left → p < n → powerFrom (left - 1) (2 * p) n ≡ powerFrom left p n
+power-left zero p n h g = absurd (omega arith)
+power-left (suc k) p n h g = let e : suc k - 1 ≡ k = omega arith in rw e (sym (power-more k p n g))
+
+pub power-end : (left p n : ℕ) → left ≤ 0 → p ≡ powerFrom left p n
+unfolding powerFrom
+power-end zero p n h = refl
+power-end (suc k) p n h = absurd (omega arith)

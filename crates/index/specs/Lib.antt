@@ -6,3 +6,5 @@ pub mod Probing
 pub mod Rows
 pub mod Written
 pub mod Held
+pub mod Cells
+pub mod Contributed
