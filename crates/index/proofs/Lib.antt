@@ -31,3 +31,4 @@ pub mod Judgements
 pub mod Filled
 pub mod Columned
 pub mod RowAnswers
+pub mod LawExact
