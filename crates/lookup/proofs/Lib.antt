@@ -1,0 +1,6 @@
+-- Laws of the lookups: each case of each definition, and what is known of an answer.
+-- Assumes nothing.
+pub mod Opening
+pub mod Tables
+pub mod Places
+pub mod Answered
