@@ -4,3 +4,5 @@ pub mod Bundle
 pub mod Encoding
 pub mod Encoded
 pub mod Written
+pub mod Next
+pub mod Scan

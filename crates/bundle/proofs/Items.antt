@@ -1,0 +1,58 @@
+-- Items taken apart: the sections before the next object, what stands behind them, the objects.
+-- Assumes nothing.
+use mathlib.Core.Path.{_≡_, refl, ap, sym, _∙_}
+use mathlib.Core.Bool.{Bool, true, false}
+use mathlib.Core.List.{List, [], _∷_, _++_, map}
+use Prim.Native.Nat.{ℕ, _+_}
+use native.Mathlib.Omega.{arith}
+use Rattle.bundle.specs.Bundle.{Part, Item, object, section, Object, leading, objectsOf, objectFirst}
+
+-- what stands behind the leading sections
+unfoldable pub behind : List Item → List Item
+behind [] = []
+behind (object w ∷ is) = object w ∷ is
+behind (section p ∷ is) = behind is
+
+pub behind-objects : (is : List Item) → objectsOf (behind is) ≡ objectsOf is
+unfolding behind objectsOf
+behind-objects [] = refl
+behind-objects (object w ∷ is) = refl
+behind-objects (section p ∷ is) = behind-objects is
+
+pub behind-first : (is : List Item) → objectFirst (behind is) ≡ true
+unfolding behind objectFirst
+behind-first [] = refl
+behind-first (object w ∷ is) = refl
+behind-first (section p ∷ is) = behind-first is
+
+pub behind-split : (is : List Item) → map section (leading is) ++ behind is ≡ is
+unfolding behind leading
+behind-split [] = refl
+behind-split (object w ∷ is) = refl
+behind-split (section p ∷ is) = ap (λ (l : List Item). section p ∷ l) (behind-split is)
+
+-- where the second list starts with an object or is empty, nothing reaches over the seam
+pub leading-append : (xs ys : List Item) → objectFirst ys ≡ true → leading (xs ++ ys) ≡ leading xs
+unfolding leading objectFirst
+leading-append [] [] e = refl
+leading-append [] (object w ∷ ys) e = refl
+leading-append [] (section p ∷ ys) e = absurd (let z : _≡_ {A = ℕ} 0 1 = cc in omega arith)
+leading-append (object w ∷ xs) ys e = refl
+leading-append (section p ∷ xs) ys e = ap (λ (l : List Part). p ∷ l) (leading-append xs ys e)
+
+pub objects-append : (xs ys : List Item) → objectFirst ys ≡ true → objectsOf (xs ++ ys) ≡ objectsOf xs ++ objectsOf ys
+unfolding objectsOf
+objects-append [] ys e = refl
+objects-append (object w ∷ xs) ys e = rw (leading-append xs ys e, objects-append xs ys e)
+objects-append (section p ∷ xs) ys e = objects-append xs ys e
+
+-- sections that another section follows
+pub leading-sections : (ps : List Part) (is : List Item) → leading (map section ps ++ is) ≡ ps ++ leading is
+unfolding leading
+leading-sections [] is = refl
+leading-sections (p ∷ ps) is = ap (λ (l : List Part). p ∷ l) (leading-sections ps is)
+
+pub objects-sections : (ps : List Part) (is : List Item) → objectsOf (map section ps ++ is) ≡ objectsOf is
+unfolding objectsOf
+objects-sections [] is = refl
+objects-sections (p ∷ ps) is = objects-sections ps is
