@@ -1,1 +1,7 @@
 pub mod Examples
+-- Laws of the definitions, which the proofs of the code cite.
+-- Assumes nothing.
+pub mod Masks
+pub mod Heads
+pub mod Looks
+pub mod Codes

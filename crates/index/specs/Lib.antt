@@ -5,3 +5,4 @@ pub mod Index
 pub mod Probing
 pub mod Rows
 pub mod Written
+pub mod Held

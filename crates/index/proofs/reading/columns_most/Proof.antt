@@ -1,0 +1,16 @@
+use Rattle.index.proofs.Codes.{most-five, most-four}
+use Rattle.index.proofs.reading.columns_most.Statement.{statement}
+use Rattle.index.proofs.reading.columns_most.Tie as tie
+use Rattle.index.proofs.reading.columns_most.Reads as reads
+use Rattle.index.proofs.reading.columns_most.Lts as lts
+
+-- src/reading.rt:106:9
+returns : tie.Need-returns
+returns c = most-five _ (c .if1 .taken)
+
+-- src/reading.rt:102:1
+returns-2 : tie.Need-returns-2
+returns-2 c = most-four _ (c .if1 .left)
+
+pub columns-most-spec : {M : Type 1} → statement M
+columns-most-spec = tie.close (tie.spec returns returns-2)

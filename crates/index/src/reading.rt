@@ -1,0 +1,242 @@
+// An index read: well formed or not, and the numbers that it holds. Its arrays are not copied: callers keep the section's bytes beside the head.
+ghost use mathlib.Core.Path.{_≡_};
+ghost use Prim.Native.Nat.{_*_, _<_, _≤_};
+ghost use lib.ListN.{length, drop, getD};
+ghost use Rattle.octets.specs.Lists.{all, has, distinct, zeroTogether};
+ghost use Rattle.index.specs.Index.{
+  versionOf,
+  columnsMost,
+  codeGood,
+  leastPower,
+  slotsGood,
+  indexOf,
+};
+ghost use Rattle.index.specs.Held.{Sized, indexIn, indexRead};
+
+pub struct IndexHead {
+    // 2 or 5
+    pub version: u32,
+    pub columns: usize,
+    pub units: usize,
+    pub slots: usize,
+}
+
+pub enum IndexRead {
+    Good(IndexHead),
+    // refusal 10 in packing, 21 in a lookup
+    Bad,
+}
+
+// ---- the numbers that it holds. Callers have judged the section's length.
+pub fn identity_at(big: bool, s: &[u8], head: IndexHead, k: usize) -> u64
+    requires { ⌜ (Sized (now s) head) × (k < head .slots) ⌝ }
+    ensures { λ r. ⌜ r ≡ getD (indexIn big (now (s .entry)) head .identities) k 0 ⌝ }
+{
+    octets::u64_at(big, s, 16 + 8 * k)
+}
+
+pub fn row_at(big: bool, s: &[u8], head: IndexHead, k: usize) -> usize
+    requires { ⌜ (Sized (now s) head) × (k < head .slots) ⌝ }
+    ensures { λ r. ⌜ r ≡ getD (indexIn big (now (s .entry)) head .rows) k 0 ⌝ }
+{
+    octets::wide(octets::u32_at(big, s, 16 + 8 * head.slots + 4 * k))
+}
+
+pub fn code_at(big: bool, s: &[u8], head: IndexHead, k: usize) -> usize
+    requires { ⌜ (Sized (now s) head) × (k < head .columns) ⌝ }
+    ensures { λ r. ⌜ r ≡ getD (indexIn big (now (s .entry)) head .codes) k 0 ⌝ }
+{
+    octets::wide(octets::u32_at(big, s, 16 + 12 * head.slots + 4 * k))
+}
+
+// Number k of the offsets, and of the sizes, row by row.
+pub fn offset_at(big: bool, s: &[u8], head: IndexHead, k: usize) -> usize
+    requires { ⌜ (Sized (now s) head) × (k < head .units * head .columns) ⌝ }
+    ensures { λ r. ⌜ r ≡ getD (indexIn big (now (s .entry)) head .offsets) k 0 ⌝ }
+{
+    octets::wide(octets::u32_at(big, s, 16 + 12 * head.slots + 4 * head.columns + 4 * k))
+}
+
+pub fn size_at(big: bool, s: &[u8], head: IndexHead, k: usize) -> usize
+    requires { ⌜ (Sized (now s) head) × (k < head .units * head .columns) ⌝ }
+    ensures { λ r. ⌜ r ≡ getD (indexIn big (now (s .entry)) head .sizes) k 0 ⌝ }
+{
+    let cells = head.units * head.columns;
+    octets::wide(octets::u32_at(big, s, 16 + 12 * head.slots + 4 * head.columns + 4 * cells + 4 * k))
+}
+
+// ---- well formed or not
+// The least power of two not below n, for an n of 32 bits.
+pub fn least_power(n: usize) -> usize
+    ensures { λ r. ⌜ r ≡ leastPower n ⌝ }
+{
+    let mut p: usize = 1;
+    let mut left: usize = 32;
+    while 0 < left {
+        if n <= p {
+            return p;
+        }
+        p = 2 * p;
+        left -= 1;
+    }
+    p
+}
+
+// 0 where the start names neither form. The caller has tested that there is a start.
+fn version_of(big: bool, s: &[u8]) -> u32
+    requires { ⌜ 4 ≤ length (now s) ⌝ }
+    ensures { λ r. ⌜ r ≡ versionOf big (now (s .entry)) ⌝ }
+{
+    if octets::u32_at(big, s, 0) == 2 {
+        return 2;
+    }
+    if octets::u16_at(big, s, 0) != 5 {
+        return 0;
+    }
+    if octets::u16_at(big, s, 2) != 0 {
+        return 0;
+    }
+    5
+}
+
+fn columns_most(version: u32) -> usize
+    ensures { λ r. ⌜ r ≡ columnsMost version ⌝ }
+{
+    if version == 5 {
+        return 7;
+    }
+    8
+}
+
+fn code_good(version: u32, c: usize) -> bool
+    ensures { λ r. ⌜ r ≡ codeGood version c ⌝ }
+{
+    if c < 1 {
+        return false;
+    }
+    if c == 2 {
+        return version != 5;
+    }
+    c <= 8
+}
+
+fn codes_good(big: bool, s: &[u8], head: IndexHead) -> bool
+    requires { ⌜ Sized (now s) head ⌝ }
+    ensures { λ r. ⌜ r ≡ all (codeGood (head .version)) (indexIn big (now (s .entry)) head .codes) ⌝ }
+{
+    let version = head.version;
+    let columns = head.columns;
+    let mut i = 0;
+    while i < columns {
+        if !code_good(version, code_at(big, s, head, i)) {
+            return false;
+        }
+        i += 1;
+    }
+    true
+}
+
+// Whether one of the codes from a place on is c.
+fn has_code(big: bool, s: &[u8], head: IndexHead, from: usize, c: usize) -> bool
+    requires { ⌜ (Sized (now s) head) × (from ≤ head .columns) ⌝ }
+    ensures { λ r. ⌜ r ≡ has (drop «from» (indexIn big (now (s .entry)) head .codes)) c ⌝ }
+{
+    let columns = head.columns;
+    let mut i = from;
+    while i < columns {
+        if c == code_at(big, s, head, i) {
+            return true;
+        }
+        i += 1;
+    }
+    false
+}
+
+fn codes_distinct(big: bool, s: &[u8], head: IndexHead) -> bool
+    requires { ⌜ Sized (now s) head ⌝ }
+    ensures { λ r. ⌜ r ≡ distinct (indexIn big (now (s .entry)) head .codes) ⌝ }
+{
+    let columns = head.columns;
+    let mut i = 0;
+    while i < columns {
+        let c = code_at(big, s, head, i);
+        i += 1;
+        if has_code(big, s, head, i, c) {
+            return false;
+        }
+    }
+    true
+}
+
+fn zero_together(row: usize, identity: u64) -> bool
+    ensures { λ r. ⌜ r ≡ zeroTogether row identity ⌝ }
+{
+    if row == 0 {
+        return identity == 0;
+    }
+    identity != 0
+}
+
+fn slots_good(big: bool, s: &[u8], head: IndexHead) -> bool
+    requires { ⌜ Sized (now s) head ⌝ }
+    ensures { λ r. ⌜ r ≡ slotsGood (head .units) (indexIn big (now (s .entry)) head .identities) (indexIn big (now (s .entry)) head .rows) ⌝ }
+{
+    let units = head.units;
+    let slots = head.slots;
+    let mut i = 0;
+    while i < slots {
+        let row = row_at(big, s, head, i);
+        if row > units {
+            return false;
+        }
+        if !zero_together(row, identity_at(big, s, head, i)) {
+            return false;
+        }
+        i += 1;
+    }
+    true
+}
+
+// The sums stay below 64 bits, since each number has 32.
+pub fn read_index(big: bool, s: &[u8]) -> IndexRead
+    ensures { λ r. ⌜ r ≡ indexRead (indexOf big (now (s .entry))) ⌝ }
+{
+    if s.len() < 16 {
+        return IndexRead::Bad;
+    }
+    let version = version_of(big, s);
+    let columns = octets::wide(octets::u32_at(big, s, 4));
+    let units = octets::wide(octets::u32_at(big, s, 8));
+    let slots = octets::wide(octets::u32_at(big, s, 12));
+    if version == 0 {
+        return IndexRead::Bad;
+    }
+    if columns > columns_most(version) {
+        return IndexRead::Bad;
+    }
+    if slots <= units {
+        return IndexRead::Bad;
+    }
+    if least_power(slots) != slots {
+        return IndexRead::Bad;
+    }
+    if s.len() != 16 + 12 * slots + 4 * columns + 8 * (units * columns) {
+        return IndexRead::Bad;
+    }
+    let head = IndexHead {
+        version,
+        columns,
+        units,
+        slots,
+    };
+    if !codes_good(big, s, head) {
+        return IndexRead::Bad;
+    }
+    if !codes_distinct(big, s, head) {
+        return IndexRead::Bad;
+    }
+    if !slots_good(big, s, head) {
+        return IndexRead::Bad;
+    }
+    IndexRead::Good(head)
+}
