@@ -1,6 +1,7 @@
 -- Laws of the lookups: each case of each definition, and what is known of an answer.
 -- Assumes nothing.
-pub mod Opening
+pub mod Packages
 pub mod Tables
 pub mod Places
 pub mod Answered
+pub mod Singles

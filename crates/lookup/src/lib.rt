@@ -1,1 +1,2 @@
-// Definitions only.
+// Looking up a part or a string in a package, which may be any bytes.
+pub mod opening;
