@@ -5,3 +5,4 @@ pub mod Masks
 pub mod Heads
 pub mod Looks
 pub mod Codes
+pub mod WellFormed
