@@ -2,7 +2,6 @@
 ghost use mathlib.Core.Path.{_≡_};
 ghost use Rattle.index.specs.Probing.{firstSlot, stride, probe};
 ghost use Rattle.index.specs.Held.{PowerOfTwo, ReadWell, indexIn, probedOf};
-
 use crate::reading::IndexHead;
 
 // Callers hold a number of slots that was judged, or chosen, to be a power of two.

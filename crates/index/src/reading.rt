@@ -62,7 +62,11 @@ pub fn size_at(big: bool, s: &[u8], head: IndexHead, k: usize) -> usize
     ensures { λ r. ⌜ r ≡ getD (indexIn big (now (s .entry)) head .sizes) k 0 ⌝ }
 {
     let cells = head.units * head.columns;
-    octets::wide(octets::u32_at(big, s, 16 + 12 * head.slots + 4 * head.columns + 4 * cells + 4 * k))
+    octets::wide(octets::u32_at(
+        big,
+        s,
+        16 + 12 * head.slots + 4 * head.columns + 4 * cells + 4 * k,
+    ))
 }
 
 // ---- well formed or not

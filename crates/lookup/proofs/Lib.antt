@@ -5,3 +5,5 @@ pub mod Tables
 pub mod Places
 pub mod Answered
 pub mod Singles
+pub mod Opened
+pub mod Entering

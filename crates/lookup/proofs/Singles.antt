@@ -6,10 +6,10 @@ use mathlib.Core.List.{List, [], _∷_}
 use Prim.Native.Nat.{ℕ, zero, suc, _+_, _-_, _≤_, _<_}
 use native.Mathlib.Omega.{arith}
 use lib.Dec.{leb}
-use lib.ListN.{length, drop, getD, drop-of-length-le}
+use lib.ListN.{length, drop, getD}
 use borrow.Author.Tests.{le-leb, lt-leb}
 use Rattle.octets.specs.Lists.{all}
-use Rattle.octets.proofs.Elements.{all-turn, all-turn-stops}
+use Rattle.octets.proofs.Elements.{all-turn, all-turn-stops, all-end}
 use Rattle.bundle.specs.Bundle.{Part, count}
 use Rattle.bundle.specs.Scan.{numbered, byCode}
 use Rattle.bundle.proofs.Scanned.{byCode-at}
@@ -50,8 +50,8 @@ module _ (counts : List ℕ) where
         ∙ ap (λ (n : ℕ). all (λ c. leb (getD counts c 0) 1) (drop n codes)) e)
 
   pub single-end : (code : ℕ) → 14 ≤ code → true ≡ singleFrom counts code
-  unfolding singleFrom all
-  single-end code h = sym (ap (all (λ c. leb (getD counts c 0) 1)) (drop-of-length-le codes (omega (arith, codes-length))))
+  unfolding singleFrom
+  single-end code h = sym (all-end (λ c. leb (getD counts c 0) 1) codes (code - 1) (omega (arith, codes-length)))
 
 -- the counts of a scan
 pub single-scan : (ps : List Part) → single (byCode (count ps)) ≡ all (λ c. leb (count ps c) 1) codes

@@ -4,17 +4,21 @@ use mathlib.Core.Path.{_≡_}
 use mathlib.Core.Bool.{Bool, true, false}
 use mathlib.Core.List.{List, [], _∷_}
 use mathlib.Core.Option.{Option, some, none}
-use Prim.Native.Nat.{ℕ}
+use Prim.Native.Nat.{ℕ, _+_, _≤_}
 use lib.Dec.{eqb, leb}
-use lib.ListN.{getD}
+use lib.ListN.{length, drop, getD}
 use Rattle.octets.specs.Lists.{all}
 use Rattle.octets.specs.Checked.{Check, pass, refuse}
 use Rattle.bundle.specs.Encoding.{Encoding, encodingOf}
-use Rattle.bundle.specs.Scan.{scanOf}
+use Rattle.bundle.specs.Bundle.{Part, Bundle, bundleOf, lengthGood, stepAt}
+use Rattle.bundle.specs.Next.{nextOf}
+use Rattle.bundle.specs.Scan.{scanOf, startOf, sizeOf}
+use Rattle.bundle.specs.declared.Scan.{Scan}
+use Rattle.bundle.specs.declared.Item.the-variants.{Object}
 use Rattle.bundle.specs.declared.encoding.ObjectEncoding.{ObjectEncoding}
 use Rattle.index.specs.Index.{Index}
 use Rattle.index.specs.Held.{headOf}
-use Rattle.lookup.specs.Lookup.{Package, codes, packageOf}
+use Rattle.lookup.specs.Lookup.{Package, codes, objectJudged, packageOf}
 use Rattle.lookup.specs.declared.opening.PackageHead.{PackageHead}
 use Rattle.lookup.specs.declared.opening.PackageIndex.{PackageIndex}
 use Rattle.lookup.specs.declared.opening.PackageIndex.the-variants.{Present, Missing, IllFormed}
@@ -49,3 +53,23 @@ single counts = all (λ c. leb (getD counts c 0) 1) codes
 -- an index of which there are so many
 unfoldable pub indexBy : ℕ → Check Index → PackageIndex
 indexBy count m = elim (eqb count 0) [ true ↦ Missing | false ↦ elim m [ pass i ↦ Present (headOf i) | refuse n ↦ IllFormed ] ]
+
+unfoldable pub indexGood : PackageIndex → Bool
+indexGood (Present h) = true
+indexGood Missing = true
+indexGood IllFormed = false
+
+-- the package is its one object, of that word and those sections
+pub record Alone (p : List ℕ) (big : Bool) (word : ℕ) (sections : Scan) : Type 0 where
+  pub parts : List Part
+  pub scan : sections ≡ scanOf 8 parts
+  pub within : (c : ℕ) → startOf parts c + sizeOf parts c ≤ length p
+  pub is : packageOf p ≡ objectJudged big p (record { word = word; parts = parts })
+
+-- its length and its words have passed, and an object of that word stands first
+pub record Entering (p : List ℕ) (big : Bool) (word : ℕ) : Type 0 where
+  pub long : lengthGood 117_440_512 p ≡ true
+  pub bundle : Bundle
+  pub read : bundleOf p ≡ pass bundle
+  pub order : bundle .big ≡ big
+  pub first : Object word 8 ≡ nextOf 4 (stepAt 4 (drop 4 p))

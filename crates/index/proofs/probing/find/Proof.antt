@@ -32,7 +32,7 @@ first-slot-requires c κs = read-power _ _ _ (c .before .before .pre)
 
 -- src/probing.rt:39:5
 loop-holds : tie.Need-loop-holds Inv-loop μ-loop
-loop-holds c = 
+loop-holds c =
     let a = c .before .before .before in
     let p = read-power _ _ _ (a .pre) in
     (omega arith, rw (c .first-slot .ensures) (firstSlot-lt _ _ p), probe-start _ _ _ _ _ (rows-length _ _ _) (c .first-slot .ensures) (c .before .stride .ensures))
@@ -47,7 +47,7 @@ row-at-requires c κs = (read-sized _ _ _ (c .before .before .before .before .be
 
 -- src/probing.rt:42:13
 returns : tie.Need-returns Inv-loop μ-loop
-returns c = 
+returns c =
     let i = c .before .before in
     search-unused _ _ _ _ _ _ _ _ _ (rows-length _ _ _) (i .loop-test .taken) (c .before .row-at .ensures) (i .before .loop .inv .2) (c .if1 .taken)
 
@@ -57,13 +57,13 @@ identity-at-requires c κs = (read-sized _ _ _ (c .before .before .before .befor
 
 -- src/probing.rt:45:13
 returns-2 : tie.Need-returns-2 Inv-loop μ-loop
-returns-2 c = 
+returns-2 c =
     let i = c .before .before .before .before in
     search-found _ _ _ _ _ _ _ _ _ (rows-length _ _ _) (i .loop-test .taken) (c .before .before .before .row-at .ensures) (i .before .loop .inv .2) (c .before .before .if1 .left) _ (c .before .identity-at .ensures) (c .if2 .taken)
 
 -- src/probing.rt:47:15
 add-at : tie.Need-add-at Inv-loop μ-loop
-add-at c = 
+add-at c =
     let i = c .before .before .before .before .before in
     let a = i .before .before .before .before in
     let p = read-power _ _ _ (a .pre) in
@@ -80,7 +80,7 @@ loop-less c = omega arith
 
 -- src/probing.rt:39:5
 loop-again : tie.Need-loop-again Inv-loop μ-loop
-loop-again c = 
+loop-again c =
     let i = c .before .before .before .before in (
       omega arith,
       mod-lt _ (omega arith),

@@ -16,7 +16,7 @@ without-object-requires c κs = search needs
 -- src/opening.rt:51:1
 returns : tie.Need-returns
 unfolding closed
-returns c = ?
+returns c = c .without-object .ensures
 
 pub refused-spec : {M : Type 1} → statement M
 refused-spec = tie.close (tie.spec without-object-requires returns)

@@ -16,7 +16,7 @@ no-sections-requires c κs = search needs
 -- src/opening.rt:34:1
 returns : tie.Need-returns
 unfolding empty coded encodingOf
-returns c = ?
+returns c = rw (c .no-sections .ensures)
 
 pub without-object-spec : {M : Type 1} → statement M
 without-object-spec = tie.close (tie.spec no-sections-requires returns)
