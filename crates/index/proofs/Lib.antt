@@ -6,3 +6,5 @@ pub mod Heads
 pub mod Looks
 pub mod Codes
 pub mod WellFormed
+pub mod Places
+pub mod Ends
