@@ -13,6 +13,7 @@ use Rattle.octets.proofs.Checks.{fails, passes, then-pass, then-refuse}
 use Rattle.index.specs.Index.{Index}
 use Rattle.index.specs.Probing.{Probe, probe, found as at, absent as nowhere}
 use Rattle.lookup.specs.Lookup.{Found, refused, absent, part, Package, packageOf, versionGood, tableGood, indexFor, Place, partPlace, atRow, inTable, answered, partJudged, lookedUp, stringPlace, stringJudged, stringFound}
+use Rattle.lookup.specs.Answers.{partIn, stringIn}
 
 -- ---- a search in a table
 module _ (x : ℕ) (answer : Index → ℕ → Check Place) where
@@ -35,13 +36,6 @@ module _ (x : ℕ) (answer : Index → ℕ → Check Place) where
 
       pub row-placed : (s : Place) → answer i (getD (i .rows) slot 0) ≡ pass s → inTable o x answer ≡ pass (part (s .start) (s .size) looks)
       row-placed s g = row-found ∙ then-pass _ _ _ g
-
--- the part of a section, in the index of a table
-unfoldable pub partIn : Package → ℕ → ℕ → ℕ → Check Found
-partIn k table x code = inTable (indexFor k table) x (λ i row. partPlace k i row code)
-
-unfoldable pub stringIn : List ℕ → Package → ℕ → ℕ → ℕ → ℕ → Check Found
-stringIn p k version table x entry = inTable (indexFor k table) x (λ i row. partPlace k i row 6 >>= stringPlace p k version entry)
 
 -- a string is looked for in the part of section 6, where that is found
 unfoldable pub thenString : List ℕ → Package → ℕ → ℕ → Check Found → Check Found

@@ -7,3 +7,5 @@ pub mod Answered
 pub mod Singles
 pub mod Opened
 pub mod Entering
+pub mod Asked
+pub mod Known

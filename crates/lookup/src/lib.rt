@@ -1,2 +1,3 @@
 // Looking up a part or a string in a package, which may be any bytes.
 pub mod opening;
+pub mod searching;
