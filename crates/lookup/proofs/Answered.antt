@@ -27,7 +27,7 @@ module _ (x : ℕ) (answer : Index → ℕ → Check Place) where
     row-absent looks f = rw (e, inTable, f, atRow)
 
     module _ (slot looks : ℕ) (f : probe i x ≡ at slot looks) where
-      row-found : inTable o x answer ≡ (answer i (getD (i .rows) slot 0) >>= λ p. pass (part (p .start) (p .size) looks))
+      pub row-found : inTable o x answer ≡ (answer i (getD (i .rows) slot 0) >>= λ p. pass (part (p .start) (p .size) looks))
       unfolding inTable atRow
       row-found = rw (e, inTable, f, atRow)
 

@@ -118,6 +118,7 @@ place-by ps c x = go (firstPart ps c) refl
     by : (n : ℕ) → (n ≡ 0 → ⊥) → (s : BundlePart) (t : Bool) → leb (x .offset + x .size) (s .size) ≡ t → placeBy n (s .start) (s .size) (x .offset) (x .size) ≡ placeIn (some s) x
     by n f s true h = rw (placeBy, ne-eqb n 0 f, h)
     by n f s false h = rw (placeBy, ne-eqb n 0 f, h)
+
     go : (o : Option BundlePart) → firstPart ps c ≡ o → placeBy (count ps c) (startIn (firstPart ps c)) (sizeIn (firstPart ps c)) (x .offset) (x .size) ≡ placeIn (firstPart ps c) x
     go none e = rw (placeBy, eq-eqb (count ps c) 0 (counted-none c ps e), e)
     go (some s) e = ap (λ (o : Option BundlePart). placeBy (count ps c) (startIn o) (sizeIn o) (x .offset) (x .size)) e

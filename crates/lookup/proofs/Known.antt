@@ -124,6 +124,7 @@ found-at k table x code a n looks e = go (indexFor k table) refl (answered-part 
         let sa : q .start ≡ a = cc in
         let sn : q .size ≡ n = cc in
         record { index = i; slot = slot; there = f; ends = g ∙ ap (at slot) sl; placed = m ∙ ap pass (λ j. record { start = sa j; size = sn j }) }
+
     go : (o : Option Index) → indexFor k table ≡ o → inTable o x (λ i z. partPlace k i z code) ≡ pass (part a n looks) → FoundAt k table x code a n looks
     go none f h = absurd (let z : _≡_ {A = ℕ} 0 1 = cc in omega arith)
     go (some i) f h = row i f (probe i x) refl h
@@ -142,6 +143,7 @@ part-within p k i row code q e f = go (cellOf i row code) refl f
         let a : s .start + c .offset ≡ q .start = ap (λ (z : Place). z .start) (pass-inj r) in
         let n : c .size ≡ q .size = ap (λ (z : Place). z .size) (pass-inj r) in
         omega arith
+
     go : (o : Option Contribution) → cellOf i row code ≡ o → cellPlace (k .parts) code o ≡ pass q → q .start + q .size ≤ length p
     go none g h =
         let a : 0 ≡ q .start = ap (λ (z : Place). z .start) (pass-inj h) in

@@ -9,3 +9,4 @@ pub mod Opened
 pub mod Entering
 pub mod Asked
 pub mod Known
+pub mod Searches

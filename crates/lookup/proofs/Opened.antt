@@ -113,6 +113,20 @@ word-good e w h = go (encodingGood e) refl
     go true g = (g, (let f = rw (wordRead, g) at h in cc))
     go false g = absurd (let f = rw (wordRead, g) at h in let z : _≡_ {A = ℕ} 0 1 = cc in omega arith)
 
+-- ---- what a scan says of a code
+module _ (s : Scan) (ps : List Part) (from : ℕ) (e : s ≡ scanOf from ps) (c : ℕ) (h : c < 14) where
+  pub scan-count : getD (s .count) c 0 ≡ count ps c
+  unfolding scanOf
+  scan-count = ap (λ (z : Scan). getD (z .count) c 0) e ∙ byCode-at (count ps) c h
+
+  pub scan-start : getD (s .start) c 0 ≡ startOf ps c
+  unfolding scanOf
+  scan-start = ap (λ (z : Scan). getD (z .start) c 0) e ∙ byCode-at (startOf ps) c h
+
+  pub scan-size : getD (s .size) c 0 ≡ sizeOf ps c
+  unfolding scanOf
+  scan-size = ap (λ (z : Scan). getD (z .size) c 0) e ∙ byCode-at (sizeOf ps) c h
+
 -- ---- its one object
 module _ (p : List ℕ) (big : Bool) (word : ℕ) (sections : Scan) (a : Alone p big word sections) where
   one : B.Object
@@ -122,20 +136,8 @@ module _ (p : List ℕ) (big : Bool) (word : ℕ) (sections : Scan) (a : Alone p
   unfolding opened
   shut e = sym (ap opened (a .is ∙ e))
 
-  count-at : (c : ℕ) → c < 14 → getD (sections .count) c 0 ≡ count (a .parts) c
-  unfolding scanOf
-  count-at c h = ap (λ (s : Scan). getD (s .count) c 0) (a .scan) ∙ byCode-at (count (a .parts)) c h
-
-  start-at : (c : ℕ) → c < 14 → getD (sections .start) c 0 ≡ startOf (a .parts) c
-  unfolding scanOf
-  start-at c h = ap (λ (s : Scan). getD (s .start) c 0) (a .scan) ∙ byCode-at (startOf (a .parts)) c h
-
-  size-at : (c : ℕ) → c < 14 → getD (sections .size) c 0 ≡ sizeOf (a .parts) c
-  unfolding scanOf
-  size-at c h = ap (λ (s : Scan). getD (s .size) c 0) (a .scan) ∙ byCode-at (sizeOf (a .parts)) c h
-
   pub alone-within : (c : ℕ) → c < 14 → getD (sections .start) c 0 + getD (sections .size) c 0 ≤ length p
-  alone-within c h = rw (start-at c h, size-at c h) (a .within c)
+  alone-within c h = rw (scan-start sections (a .parts) 8 (a .scan) c h, scan-size sections (a .parts) 8 (a .scan) c h) (a .within c)
 
   pub alone-word : BadWord ≡ wordRead (encodingOf big word) → closed ≡ opened (packageOf p)
   alone-word e = shut (P.object-word big p _ (word-bad (encodingOf big word) e))
@@ -154,7 +156,7 @@ module _ (p : List ℕ) (big : Bool) (word : ℕ) (sections : Scan) (a : Alone p
     module _ (f : single (sections .count) ≡ true) where
       checked : (c : ℕ) (i : PackageIndex) → c < 14 → i ≡ indexBy (getD (sections .count) c 0) (indexOf big (part p (getD (sections .start) c 0) (getD (sections .size) c 0)))
           → i ≡ indexChecked (packageIndex big p (a .parts) c)
-      checked c i h g = g ∙ rw (count-at c h, start-at c h, size-at c h) (index-checked big p (a .parts) c)
+      checked c i h g = g ∙ rw (scan-count sections (a .parts) 8 (a .scan) c h, scan-start sections (a .parts) 8 (a .scan) c h, scan-size sections (a .parts) 8 (a .scan) c h) (index-checked big p (a .parts) c)
 
       module _ (cu : PackageIndex) (c : cu ≡ indexBy (getD (sections .count) 12 0) (indexOf big (part p (getD (sections .start) 12 0) (getD (sections .size) 12 0)))) where
         pub alone-cu : indexGood cu ≡ false → closed ≡ opened (packageOf p)

@@ -30,10 +30,9 @@ ghost use Rattle.lookup.specs.Answers.{
   versionBy,
 };
 ghost use Rattle.lookup.specs.declared.opening.PackageIndex.the-variants.{Present};
-
-use bundle::encoding::ObjectEncoding;
 use crate::opening::PackageHead;
 use crate::opening::PackageIndex;
+use bundle::encoding::ObjectEncoding;
 use index::cells::Cell;
 use index::probing::Probed;
 use index::reading::IndexHead;
@@ -124,7 +123,14 @@ fn section_bytes<'a>(package: &'a [u8], head: PackageHead, code: usize) -> &'a [
 }
 
 // 24: a contribution to a section of which there are so many, and which lies there. The numbers of a contribution have 32 bits.
-fn place_in(count: usize, start: usize, size: usize, offset: usize, length: usize, looks: usize) -> Located
+fn place_in(
+    count: usize,
+    start: usize,
+    size: usize,
+    offset: usize,
+    length: usize,
+    looks: usize,
+) -> Located
     requires { ⌜ (start + size < 2 ^ 64) × (offset < 2 ^ 32) × (length < 2 ^ 32) ⌝ }
     ensures { λ r. ⌜ r ≡ locatedOf (answered (after looks (placeBy count start size offset length))) ⌝ }
 {
@@ -138,7 +144,15 @@ fn place_in(count: usize, start: usize, size: usize, offset: usize, length: usiz
 }
 
 // The part of a row's section. The caller has found the row in the slot, in the index whose bytes are s.
-fn row_part(package: &[u8], head: PackageHead, s: &[u8], index_head: IndexHead, slot: usize, section: usize, looks: usize) -> Located
+fn row_part(
+    package: &[u8],
+    head: PackageHead,
+    s: &[u8],
+    index_head: IndexHead,
+    slot: usize,
+    section: usize,
+    looks: usize,
+) -> Located
     requires { ⌜ (Opened (now «package») head) × (section < 14) × (RowHere (head .encoding .big) (now s) «index_head» slot) ⌝ }
     ensures { λ r. ⌜ r ≡ locatedOf (answered (after looks (rowPlace (now («package» .entry)) (head .encoding .big) (now (s .entry)) «index_head» slot section))) ⌝ }
 {
@@ -148,14 +162,28 @@ fn row_part(package: &[u8], head: PackageHead, s: &[u8], index_head: IndexHead, 
     match index::cells::cell_of(big, s, index_head, row, section) {
         Cell::Is(offset, size) => {
             let sections = head.sections;
-            place_in(sections.count[section], sections.start[section], sections.size[section], offset, size, looks)
+            place_in(
+                sections.count[section],
+                sections.start[section],
+                sections.size[section],
+                offset,
+                size,
+                looks,
+            )
         }
         Cell::Missing => Located::Part(0, 0, looks),
     }
 }
 
 // The part of a section in an index that is there.
-fn search_index(package: &[u8], head: PackageHead, table: u32, index_head: IndexHead, identity: u64, section: usize) -> Located
+fn search_index(
+    package: &[u8],
+    head: PackageHead,
+    table: u32,
+    index_head: IndexHead,
+    identity: u64,
+    section: usize,
+) -> Located
     requires { ⌜ (Opened (now «package») head) × (Present «index_head» ≡ tableIndex head table) × (section < 14) ⌝ }
     ensures { λ r. ⌜ r ≡ locatedOf (answered (partIn (packageIn (now («package» .entry))) table identity section)) ⌝ }
 {
@@ -169,12 +197,25 @@ fn search_index(package: &[u8], head: PackageHead, table: u32, index_head: Index
 }
 
 // The part of a section in the index of a table. The caller has opened the package.
-fn locate_part(package: &[u8], head: PackageHead, table: u32, identity: u64, section: usize) -> Located
+fn locate_part(
+    package: &[u8],
+    head: PackageHead,
+    table: u32,
+    identity: u64,
+    section: usize,
+) -> Located
     requires { ⌜ (Opened (now «package») head) × (section < 14) ⌝ }
     ensures { λ r. ⌜ r ≡ locatedOf (answered (partIn (packageIn (now («package» .entry))) table identity section)) ⌝ }
 {
     match index_for(head, table) {
-        PackageIndex::Present(index_head) => search_index(package, head, table, index_head, identity, section),
+        PackageIndex::Present(index_head) => search_index(
+            package,
+            head,
+            table,
+            index_head,
+            identity,
+            section,
+        ),
         PackageIndex::Missing => Located::Absent(0),
         PackageIndex::IllFormed => Located::Absent(0),
     }
@@ -229,7 +270,15 @@ fn locate_text(package: &[u8], head: PackageHead, offset: u64, looks: usize) -> 
 }
 
 // 25: the string of an entry in a part of str_offsets. The caller has found the part in the package.
-fn locate_entry(package: &[u8], head: PackageHead, version: u32, entry: u64, start: usize, size: usize, looks: usize) -> Located
+fn locate_entry(
+    package: &[u8],
+    head: PackageHead,
+    version: u32,
+    entry: u64,
+    start: usize,
+    size: usize,
+    looks: usize,
+) -> Located
     requires { ⌜ (Opened (now «package») head) × (start + size ≤ length (now «package»)) × (encodingGood (packageIn (now «package») .encoding) ≡ true) ⌝ }
     ensures { λ r. ⌜ r ≡ locatedOf (answered (after looks (entryPlace (now («package» .entry)) version entry start size))) ⌝ }
 {
@@ -263,7 +312,15 @@ pub fn locate_string(package: &[u8], version: u32, table: u32, identity: u64, en
         return Located::Refused(23);
     }
     match locate_part(package, head, table, identity, 6) {
-        Located::Part(start, size, looks) => locate_entry(package, head, version, entry, start, size, looks),
+        Located::Part(start, size, looks) => locate_entry(
+            package,
+            head,
+            version,
+            entry,
+            start,
+            size,
+            looks,
+        ),
         Located::Absent(looks) => Located::Absent(looks),
         Located::Refused(number) => Located::Refused(number),
     }

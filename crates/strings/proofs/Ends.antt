@@ -71,8 +71,8 @@ upTo-is n [] t e = absurd (pass-refuse t n (sym e ∙ upTo-none n))
 upTo-is n (b ∷ s) t e =
     ⊎-elim (λ p. ended-none b s t (eqb-true b 0 p) (pass-inj (sym (upTo-zero n b s (eqb-true b 0 p)) ∙ e)))
     (λ p.
-      let r = bind-pass (upToZero n s) (λ u. pass (b ∷ u)) t (sym (upTo-more n b s (eqb-false b 0 p)) ∙ e) in
-      ended-more b s t (r .0) (eqb-false b 0 p) (upTo-is n s (r .0) (r .1)) (pass-inj (r .2))) (known (eqb b 0))
+    let r = bind-pass (upToZero n s) (λ u. pass (b ∷ u)) t (sym (upTo-more n b s (eqb-false b 0 p)) ∙ e) in
+    ended-more b s t (r .0) (eqb-false b 0 p) (upTo-is n s (r .0) (r .1)) (pass-inj (r .2))) (known (eqb b 0))
 
 -- a refusal has the number that was handed in
 pub upTo-refused : (n m : ℕ) (s : List ℕ) → upToZero n s ≡ refuse m → n ≡ m
@@ -80,8 +80,8 @@ upTo-refused n m [] e = refuse-inj (sym (upTo-none n) ∙ e)
 upTo-refused n m (b ∷ s) e =
     ⊎-elim (λ p. absurd (pass-refuse [] m (sym (upTo-zero n b s (eqb-true b 0 p)) ∙ e)))
     (λ p.
-      ⊎-elim (λ r. upTo-refused n m s r) (λ r. absurd (pass-refuse (b ∷ r .0) m (r .2)))
-      (bind-refuse (upToZero n s) (λ u. pass (b ∷ u)) m (sym (upTo-more n b s (eqb-false b 0 p)) ∙ e))) (known (eqb b 0))
+    ⊎-elim (λ r. upTo-refused n m s r) (λ r. absurd (pass-refuse (b ∷ r .0) m (r .2)))
+    (bind-refuse (upToZero n s) (λ u. pass (b ∷ u)) m (sym (upTo-more n b s (eqb-false b 0 p)) ∙ e))) (known (eqb b 0))
 
 -- the number changes nothing else
 pub upTo-other : (n m : ℕ) (s t : List ℕ) → upToZero n s ≡ pass t → upToZero m s ≡ pass t
@@ -89,9 +89,9 @@ upTo-other n m [] t e = absurd (pass-refuse t n (sym e ∙ upTo-none n))
 upTo-other n m (b ∷ s) t e =
     ⊎-elim (λ p. upTo-zero m b s (eqb-true b 0 p) ∙ sym (upTo-zero n b s (eqb-true b 0 p)) ∙ e)
     (λ p.
-      let h = eqb-false b 0 p in
-      let r = bind-pass (upToZero n s) (λ u. pass (b ∷ u)) t (sym (upTo-more n b s h) ∙ e) in
-      upTo-more m b s h ∙ then-pass (upToZero m s) (λ u. pass (b ∷ u)) (r .0) (upTo-other n m s (r .0) (r .1)) ∙ r .2) (known (eqb b 0))
+    let h = eqb-false b 0 p in
+    let r = bind-pass (upToZero n s) (λ u. pass (b ∷ u)) t (sym (upTo-more n b s h) ∙ e) in
+    upTo-more m b s h ∙ then-pass (upToZero m s) (λ u. pass (b ∷ u)) (r .0) (upTo-other n m s (r .0) (r .1)) ∙ r .2) (known (eqb b 0))
 
 -- ---- at an offset
 pub record StringIs (s : List ℕ) (offset : ℕ) (t : List ℕ) : Type 0 where
@@ -170,8 +170,8 @@ stringsAt-refused str [] n e = absurd (pass-refuse [] n e)
 stringsAt-refused str (o ∷ os) n e =
     ⊎-elim (λ p. sym (stringAt-refused 9 n str o p))
     (λ p.
-      ⊎-elim (λ q. stringsAt-refused str os n q) (λ q. absurd (pass-refuse (p .0 ∷ q .0) n (q .2)))
-      (bind-refuse (stringsAt str os) (λ ts. pass (p .0 ∷ ts)) n (p .2)))
+    ⊎-elim (λ q. stringsAt-refused str os n q) (λ q. absurd (pass-refuse (p .0 ∷ q .0) n (q .2)))
+    (bind-refuse (stringsAt str os) (λ ts. pass (p .0 ∷ ts)) n (p .2)))
     (bind-refuse (stringAt 9 str o) (λ t. stringsAt str os >>= λ ts. pass (t ∷ ts)) n e)
 
 pub judged : {A : Type 0} (m : Check A) → ((a : A) × (m ≡ pass a)) ⊎ ((n : ℕ) × (m ≡ refuse n))

@@ -71,15 +71,15 @@ pub header-within : (e : Encoding) (s : List ℕ) → Sound e → headerTrue e s
 header-within e s w t =
     ⊎-elim
     (λ v.
-      let h = header-five e (eqb-true (e .version) 5 v) in
-      ⊎-elim
-      (λ n.
-        let n4 = eqb-true (e .width) 4 n in
-        let p = first-of-four _ _ _ _ (sym (true-narrow e s (eqb-true (e .version) 5 v) n4) ∙ t) in
-        omega (arith, leb-true 8 (length s) p))
-      (λ n.
-        let p = first-of-four _ _ _ _ (and-left _ _ (sym (true-wide e s (eqb-true (e .version) 5 v) (eqb-false (e .width) 4 n)) ∙ t)) in
-        omega (arith, leb-true 16 (length s) p, w .high)) (known (eqb (e .width) 4)))
+    let h = header-five e (eqb-true (e .version) 5 v) in
+    ⊎-elim
+    (λ n.
+    let n4 = eqb-true (e .width) 4 n in
+    let p = first-of-four _ _ _ _ (sym (true-narrow e s (eqb-true (e .version) 5 v) n4) ∙ t) in
+    omega (arith, leb-true 8 (length s) p))
+    (λ n.
+    let p = first-of-four _ _ _ _ (and-left _ _ (sym (true-wide e s (eqb-true (e .version) 5 v) (eqb-false (e .width) 4 n)) ∙ t)) in
+    omega (arith, leb-true 16 (length s) p, w .high)) (known (eqb (e .width) 4)))
     (λ v. let h = header-four e (eqb-false (e .version) 5 v) in omega arith) (known (eqb (e .version) 5))
 
 -- ---- entries
@@ -137,8 +137,8 @@ pub entries-refused : (e : Encoding) (s : List ℕ) (n : ℕ) → entriesOf e s 
 entries-refused e s n p =
     ⊎-elim
     (λ h.
-      ⊎-elim (λ g. absurd (pass-refuse _ n (sym (whole-entries e s (record { header = h; even = eqb-true _ _ g })) ∙ p)))
-      (λ g. refuse-inj (sym p ∙ entries-odd e s h (eqb-false _ _ g))) (known (eqb ((length s - headerSize e) % e .width) 0)))
+    ⊎-elim (λ g. absurd (pass-refuse _ n (sym (whole-entries e s (record { header = h; even = eqb-true _ _ g })) ∙ p)))
+    (λ g. refuse-inj (sym p ∙ entries-odd e s h (eqb-false _ _ g))) (known (eqb ((length s - headerSize e) % e .width) 0)))
     (λ h. refuse-inj (sym p ∙ entries-false e s h)) (known (headerTrue e s))
 
 -- header and entries are the section

@@ -1,3 +1,8 @@
+-- `lookup::searching::has_version` meets its contract.
+-- Assumes nothing.
+use Rattle.lookup.proofs.Asked as asked
+use borrow.Author.Tests.{not-true, not-false}
+use mathlib.Core.Path.{_≡_, refl, ap, sym, _∙_}
 use borrow.Author.Needs.{needs}
 use Rattle.lookup.proofs.searching.has_version.Statement.{statement}
 use Rattle.lookup.proofs.searching.has_version.Tie as tie
@@ -12,7 +17,7 @@ is-version-requires c κs = search needs
 
 -- src/searching.rt:74:9
 returns : tie.Need-returns
-returns c = ?
+returns c = asked.by-unknown _ _ (sym (c .before .is-version .ensures) ∙ not-true _ (c .if1 .taken))
 
 -- src/searching.rt:77:9
 index-has-requires : tie.Need-index-has-requires
@@ -20,7 +25,7 @@ index-has-requires c κs = search needs
 
 -- src/searching.rt:78:9
 returns-2 : tie.Need-returns-2
-returns-2 c = ?
+returns-2 c = asked.by-cu _ _ (sym (c .before .before .before .is-version .ensures) ∙ not-false _ (c .before .before .if1 .left)) (sym (c .before .index-has .ensures) ∙ not-true _ (c .if2 .taken))
 
 -- src/searching.rt:81:5
 index-has-requires-2 : tie.Need-index-has-requires-2
@@ -28,7 +33,7 @@ index-has-requires-2 c κs = search needs
 
 -- src/searching.rt:70:1
 returns-3 : tie.Need-returns-3
-returns-3 c = ?
+returns-3 c = c .index-has2 .ensures ∙ asked.by-tu _ _ (sym (c .before .before .before .before .is-version .ensures) ∙ not-false _ (c .before .before .before .if1 .left)) (sym (c .before .before .index-has .ensures) ∙ not-false _ (c .before .if2 .left))
 
 pub has-version-spec : {M : Type 1} → statement M
 has-version-spec =

@@ -1,3 +1,7 @@
+-- `lookup::searching::locate_part` meets its contract.
+-- Assumes nothing.
+use Rattle.lookup.proofs.Searches as searches
+use mathlib.Core.Path.{_≡_, refl, ap, sym, _∙_}
 use borrow.Author.Needs.{needs}
 use Rattle.lookup.proofs.searching.locate_part.Statement.{statement}
 use Rattle.lookup.proofs.searching.locate_part.Tie as tie
@@ -16,7 +20,9 @@ enum-known-index-head c = search needs
 
 -- src/searching.rt:177:46
 search-index-requires : tie.Need-search-index-requires
-search-index-requires c κs = ?
+search-index-requires c κs =
+    let a = c .before .before .before .before .before in
+    (a .pre .0, sym (c .before .index-head .given .1) ∙ c .before .before .before .index-for .ensures, a .pre .1)
 
 -- src/searching.rt:178:34
 enum-told : tie.Need-enum-told
@@ -32,11 +38,11 @@ returns c = search needs
 
 -- src/searching.rt:172:1
 returns-2 : tie.Need-returns-2
-returns-2 c = ?
+returns-2 c = searches.part-none _ _ (c .before .before .before .before .pre .0) _ _ _ (sym (c .enum-told .given .1) ∙ c .before .before .index-for .ensures)
 
 -- src/searching.rt:172:1
 returns-3 : tie.Need-returns-3
-returns-3 c = ?
+returns-3 c = absurd (searches.table-never _ _ (c .before .before .before .before .pre .0) _ (sym (c .enum-told2 .given .1) ∙ c .before .before .index-for .ensures))
 
 pub locate-part-spec : {M : Type 1} → statement M
 locate-part-spec =

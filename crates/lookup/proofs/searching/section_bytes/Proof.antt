@@ -1,3 +1,8 @@
+-- `lookup::searching::section_bytes` meets its contract.
+-- Assumes nothing.
+use denote.Ref.{now}
+use native.Mathlib.Omega.{arith}
+use Rattle.lookup.proofs.Searches as searches
 use borrow.Author.Needs.{needs}
 use Rattle.lookup.proofs.searching.section_bytes.Statement.{statement}
 use Rattle.lookup.proofs.searching.section_bytes.Tie as tie
@@ -22,7 +27,9 @@ element-copy-out-end c = search needs
 
 -- src/searching.rt:114:15
 add-end : tie.Need-add-end
-add-end c = ?
+add-end c =
+    let a = c .before .before .before in
+    omega (arith, searches.section-fits (now (a .args .«package»)) (a .args .head) (a .pre .0) (a .args .code) (a .pre .1))
 
 -- src/searching.rt:115:5
 sub-result : tie.Need-sub-result
@@ -34,11 +41,13 @@ part-result-start c = search needs
 
 -- src/searching.rt:115:5
 part-result-end : tie.Need-part-result-end
-part-result-end c = ?
+part-result-end c =
+    let a = c .before .before .before in
+    omega (arith, searches.section-fits (now (a .args .«package»)) (a .args .head) (a .pre .0) (a .args .code) (a .pre .1))
 
 -- src/searching.rt:108:1
 returns : tie.Need-returns
-returns c = ?
+returns c = searches.section-is _ _ (c .before .before .before .before .pre .0) _ (c .before .before .before .before .pre .1)
 
 pub section-bytes-spec : {M : Type 1} → statement M
 section-bytes-spec =
