@@ -85,7 +85,7 @@ module _ (p : List ℕ) (k : Package) (version table x entry : ℕ) where
       go (pass (part a l m)) h = absurd (let z : _≡_ {A = ℕ} 0 1 = cc in omega arith)
 
   module _ (start size looks : ℕ) (e : answered (partIn k table x 6) ≡ part start size looks) where
-    string-part : stringIn p k version table x entry ≡ (stringPlace p k version entry (record { start = start; size = size }) >>= λ q. pass (part (q .start) (q .size) looks))
+    pub string-part : stringIn p k version table x entry ≡ (stringPlace p k version entry (record { start = start; size = size }) >>= λ q. pass (part (q .start) (q .size) looks))
     unfolding thenString answered
     string-part = string-in ∙ go (partIn k table x 6) e
       where

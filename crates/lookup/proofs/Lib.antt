@@ -10,3 +10,5 @@ pub mod Entering
 pub mod Asked
 pub mod Known
 pub mod Searches
+pub mod Lookups
+pub mod Texts

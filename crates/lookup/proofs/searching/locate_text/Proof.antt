@@ -1,3 +1,9 @@
+-- `lookup::searching::locate_text` meets its contract.
+-- Assumes nothing.
+use Rattle.lookup.proofs.Texts as texts
+use denote.Ref.{now}
+use native.Mathlib.Omega.{arith}
+use mathlib.Core.Path.{_≡_, refl, ap, sym, _∙_}
 use borrow.Author.Needs.{needs}
 use Rattle.lookup.proofs.searching.locate_text.Statement.{statement}
 use Rattle.lookup.proofs.searching.locate_text.Tie as tie
@@ -24,7 +30,10 @@ enum-known-at c = search needs
 
 -- src/searching.rt:226:53
 add-t15 : tie.Need-add-t15
-add-t15 c = ?
+add-t15 c =
+    let a = c .before .before .before .before .before .before .before .before in
+    let r = c .before .at .given in
+    omega (arith, texts.text-fits (now (a .args .«package»)) (a .args .head) (a .pre) _ (c .before .before .before .before .before .before .section-bytes .ensures) _ (a .args .looks) _ _ _ (sym (r .1) ∙ c .before .before .before .string-at .ensures 26) refl)
 
 -- src/searching.rt:227:32
 enum-told : tie.Need-enum-told
@@ -32,11 +41,16 @@ enum-told c = search needs
 
 -- src/searching.rt:218:1
 returns : tie.Need-returns
-returns c = ?
+returns c =
+    let a = c .before .before .before .before .before .before .before .before in
+    let r = c .before .at .given in
+    texts.text-found (now (a .args .«package»)) (a .args .head) (a .pre) _ (c .before .before .before .before .before .before .section-bytes .ensures) _ _ _ _ _ (sym (r .1) ∙ c .before .before .before .string-at .ensures 26) refl
 
 -- src/searching.rt:218:1
 returns-2 : tie.Need-returns-2
-returns-2 c = ?
+returns-2 c =
+    let a = c .before .before .before .before .before .before .before in
+    texts.text-missing (now (a .args .«package»)) (a .args .head) (a .pre) _ (c .before .before .before .before .before .section-bytes .ensures) _ _ (sym (c .enum-told .given .1) ∙ c .before .before .string-at .ensures 26)
 
 pub locate-text-spec : {M : Type 1} → statement M
 locate-text-spec =
