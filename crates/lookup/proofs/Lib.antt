@@ -12,3 +12,4 @@ pub mod Known
 pub mod Searches
 pub mod Lookups
 pub mod Texts
+pub mod Bounds

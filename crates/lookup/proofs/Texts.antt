@@ -65,13 +65,14 @@ entry-inside w n k e h = ⊎-elim (λ f. go4 f h) (λ f. go8 f h) e
   where
     go4 : w ≡ 4 → k < n / w → k * w + w ≤ n
     go4 f l = rw f (let m : k < n / 4 = rw f at l in omega arith)
+
     go8 : w ≡ 8 → k < n / w → k * w + w ≤ n
     go8 f l = rw f (let m : k < n / 8 = rw f at l in omega arith)
 
 none-inside : (w k : ℕ) → (w ≡ 4) ⊎ (w ≡ 8) → 0 / w ≤ k
 none-inside w k e = ⊎-elim (λ f. rw f (omega arith)) (λ f. rw f (omega arith)) e
 
-start-in : (o : Option BundlePart) → startOf o ≡ Scans.startIn o
+pub start-in : (o : Option BundlePart) → startOf o ≡ Scans.startIn o
 unfolding startOf Scans.startIn
 start-in (some s) = refl
 start-in none = refl

@@ -7,6 +7,7 @@ use mathlib.Core.Option.{Option, some, none}
 use Prim.Native.Nat.{ℕ, _+_, _≤_, _<_}
 use lib.Dec.{eqb, leb}
 use lib.ListN.{length, drop, getD}
+use Rattle.octets.specs.Octets.{part as cut}
 use Rattle.octets.specs.Lists.{all}
 use Rattle.octets.specs.Checked.{Check, pass, refuse, _>>=_}
 use Rattle.bundle.specs.Encoding.{Encoding, encodingOf}
@@ -24,6 +25,7 @@ use Rattle.lookup.specs.Lookup.{Found, refused, absent, part, Package, c
 use Rattle.lookup.specs.declared.opening.PackageHead.{PackageHead}
 use Rattle.lookup.specs.declared.opening.PackageIndex.{PackageIndex}
 use Rattle.lookup.specs.declared.opening.PackageIndex.the-variants.{Present, Missing, IllFormed}
+use Rattle.lookup.specs.declared.answering.Answer.{Answer}
 use Rattle.lookup.specs.declared.searching.Located.{Located}
 use Rattle.lookup.specs.declared.searching.Located.the-variants.{Part, Absent, Refused}
 
@@ -152,3 +154,17 @@ unfoldable pub locatedOf : Found → Located
 locatedOf (refused n) = Refused n
 locatedOf (absent looks) = Absent looks
 locatedOf (part start size looks) = Part start size looks
+
+-- the number of each case and its values, as a caller is told them: 0 found, 1 absent, else the refusal with zeros
+unfoldable pub numbered : Found → Answer
+numbered (part start size looks) = record { code = 0; start = start; length = size; looks = looks }
+numbered (absent looks) = record { code = 1; start = 0; length = 0; looks = looks }
+numbered (refused n) = record { code = n; start = 0; length = 0; looks = 0 }
+
+-- the bytes of the package that an answer names, none where nothing is found
+unfoldable pub bytesIn : List ℕ → Answer → List ℕ
+bytesIn p a = cut p (a .start) (a .length)
+
+-- what stands beside them: the code and the looks
+unfoldable pub beside : Answer → List ℕ
+beside a = a .code ∷ a .looks ∷ []

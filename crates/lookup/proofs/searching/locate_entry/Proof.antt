@@ -22,8 +22,8 @@ use Rattle.octets.proofs.size.Reads as size-reads
 -- the entry lies in the package
 fits : (c : tie.After-size)
     → c .before .before .before .before .before .before .before .before .args .start + c .before .before .before .before .entries-start .result + c .size .result * c .before .before .before .before .before .width .result
-        + c .before .before .before .before .before .width .result
-        ≤ length (now (c .before .before .before .before .before .before .before .before .args .«package»))
+    + c .before .before .before .before .before .width .result
+    ≤ length (now (c .before .before .before .before .before .before .before .before .args .«package»))
 fits c = texts.entry-fits (now (c .before .before .before .before .before .before .before .before .args .«package»)) (c .before .before .before .before .before .before .before .before .args .head) (c .before .before .before .before .before .before .before .before .pre .0) (c .before .before .before .before .before .before .before .before .pre .2) (c .before .before .before .before .before .before .before .before .args .version) (c .before .before .before .before .before .before .before .before .args .entry) (c .before .before .before .before .before .before .before .before .args .start) (c .before .before .before .before .before .before .before .before .args .size) (c .before .before .before .before .before .before .before .before .args .looks) _ _ (c .before .before .before .before .before .width .ensures) (c .before .before .before .before .entries-start .ensures) _ _ (c .before .before .long .ensures) (c .size .ensures) (c .before .if2 .left) (c .before .before .before .if1 .left) (c .before .before .before .before .before .before .before .before .pre .1)
 
 -- src/searching.rt:237:9
