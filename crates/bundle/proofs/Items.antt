@@ -1,11 +1,11 @@
 -- Items taken apart: the sections before the next object, what stands behind them, the objects.
 -- Assumes nothing.
-use mathlib.Core.Path.{_≡_, refl, ap, sym, _∙_}
-use mathlib.Core.Bool.{Bool, true, false}
+use mathlib.Core.Path.{_≡_, refl, ap}
+use mathlib.Core.Bool.{true}
 use mathlib.Core.List.{List, [], _∷_, _++_, map}
 use Prim.Native.Nat.{ℕ, _+_}
 use native.Mathlib.Omega.{arith}
-use Rattle.bundle.specs.Bundle.{Part, Item, object, section, Object, leading, objectsOf, objectFirst}
+use Rattle.bundle.specs.Bundle.{Part, Item, object, section, leading, objectsOf, objectFirst}
 
 -- what stands behind the leading sections
 unfoldable pub behind : List Item → List Item
@@ -56,3 +56,10 @@ pub objects-sections : (ps : List Part) (is : List Item) → objectsOf (map sect
 unfolding objectsOf
 objects-sections [] is = refl
 objects-sections (p ∷ ps) is = objects-sections ps is
+
+-- nothing leads where an object is first
+pub leading-none : (is : List Item) → objectFirst is ≡ true → leading is ≡ []
+unfolding leading objectFirst
+leading-none [] e = refl
+leading-none (object w ∷ is) e = refl
+leading-none (section p ∷ is) e = absurd (let z : _≡_ {A = ℕ} 0 1 = cc in omega arith)

@@ -25,7 +25,7 @@ prepend done (refuse n) = refuse n
 pub record Passed (b : List ℕ) (from at : ℕ) (done : List Item) : Type 0 where
   pub is : prepend done (here b at) ≡ here b from
 
-prepend-nil : (c : Check (List Item)) → prepend [] c ≡ c
+pub prepend-nil : (c : Check (List Item)) → prepend [] c ≡ c
 unfolding prepend
 prepend-nil (pass is) = refl
 prepend-nil (refuse n) = refl
@@ -35,10 +35,15 @@ unfolding prepend before
 prepend-before done i (pass is) = ap pass (append-assoc done (i ∷ []) is)
 prepend-before done i (refuse n) = refl
 
-prepend-prepend : (xs ys : List Item) (c : Check (List Item)) → prepend (xs ++ ys) c ≡ prepend xs (prepend ys c)
+pub prepend-prepend : (xs ys : List Item) (c : Check (List Item)) → prepend (xs ++ ys) c ≡ prepend xs (prepend ys c)
 unfolding prepend
 prepend-prepend xs ys (pass is) = ap pass (append-assoc xs ys is)
 prepend-prepend xs ys (refuse n) = refl
+
+pub prepend-cons : (i : Item) (xs : List Item) (c : Check (List Item)) → before i (prepend xs c) ≡ prepend (i ∷ xs) c
+unfolding prepend before
+prepend-cons i xs (pass is) = refl
+prepend-cons i xs (refuse n) = refl
 
 front : (done is : List Item) (c : Check (List Item)) → prepend done c ≡ pass is → (rest : List Item) × (c ≡ pass rest) × (is ≡ done ++ rest)
 unfolding prepend

@@ -1,9 +1,12 @@
-// Reading and writing the words of a bundle: the one that is handed in, and the package, which is one too.
+// Reading and writing the words of a bundle.
+pub mod encoding;
+
 ghost use mathlib.Core.Path.{_≡_};
-ghost use mathlib.Core.Bool.{Bool, _||_};
-ghost use mathlib.Core.List.{[]};
+ghost use mathlib.Core.Bool.{Bool};
+ghost use mathlib.Core.List.{[], _++_};
+ghost use Rattle.octets.specs.Octets.{placed};
+ghost use Rattle.bundle.specs.Written.{wordBytes, headBytes, endBytes};
 ghost use Prim.Native.Nat.{ℕ, _+_, _*_, _-_, _/_, _%_, _≤_, _<_};
-ghost use lib.Dec.{eqb};
 ghost use lib.ListN.{length, drop};
 ghost use Rattle.bundle.specs.Bundle.{
   filledUp,
@@ -15,10 +18,8 @@ ghost use Rattle.bundle.specs.Bundle.{
   bundleOf,
   lengthGood,
 };
-ghost use Rattle.bundle.specs.Scan.{Notable, Reaches, sectionsOf, scanOf, noted};
+ghost use Rattle.bundle.specs.Scan.{Notable, Reaches, sectionsOf, scanOf, noted, unitSectionOf};
 ghost use Rattle.bundle.specs.Next.{nextOf, ends, wordsOf, itemsGood};
-
-pub mod encoding;
 
 // What stands at a place of a bundle, with the place behind it; of a section also its code, and where its bytes lie.
 pub enum Item {
@@ -40,6 +41,12 @@ pub struct Scan {
     pub start: [usize; 14],
     pub size: [usize; 14],
     pub next: usize,
+}
+
+// An info or types section: its code, where its bytes lie, and the place behind it.
+pub enum UnitSection {
+    Found(u32, usize, usize, usize),
+    Done,
 }
 
 // 1 and 21: whether a length is 8 or more, within the limit and a multiple of 4.
@@ -252,4 +259,81 @@ pub fn scan_object(b: &[u8], from: usize) -> Scan
             }
         }
     }
+}
+
+// The next info or types section of an object, from a place behind its word on. The caller has checked the words of the bundle.
+pub fn next_unit_section(b: &[u8], from: usize) -> UnitSection
+    requires { ⌜ Reaches (now b) from ⌝ }
+    ensures { λ r. ⌜ r ≡ unitSectionOf (sectionsOf (items from (drop from (now (b .entry))))) ⌝ }
+{
+    let mut at = from;
+    loop {
+        match next_item(b, at) {
+            Item::Section(code, start, size, next) => {
+                if code < 3 {
+                    return UnitSection::Found(code, start, size, next);
+                }
+                at = next;
+            }
+            Item::Object(_, _) => {
+                return UnitSection::Done;
+            }
+            Item::End => {
+                return UnitSection::Done;
+            }
+            Item::Broken => {
+                return UnitSection::Done;
+            }
+        }
+    }
+}
+
+// ---- a bundle written, into an output that is zero behind. The caller has measured it, so that each part fits.
+pub fn put_head(big_endian: bool, d: &mut [u8])
+    requires { ⌜ 4 ≤ length (now d) ⌝ }
+    ensures { λ _. ⌜ now (d .exit) ≡ placed (now (d .entry)) 0 (headBytes «big_endian») ⌝ }
+{
+    if big_endian {
+        octets::put_word(0xF000_0001, d, 0);
+        return;
+    }
+    octets::put_word(0xF000_0000, d, 0);
+}
+
+pub fn put_object(word: u32, d: &mut [u8], at: usize)
+    requires { ⌜ at + 4 ≤ length (now d) ⌝ }
+    ensures { λ _. ⌜ now (d .exit) ≡ placed (now (d .entry)) at (wordBytes word) ⌝ }
+{
+    octets::put_word(word, d, at);
+}
+
+// The word of a section whose bytes the caller stores behind it.
+pub fn put_section_word(code: u32, size: usize, d: &mut [u8], at: usize)
+    requires { ⌜ (code < 32) × (size < 0x80_0000) × (at + 4 ≤ length (now d)) ⌝ }
+    ensures { λ _. ⌜ now (d .exit) ≡ placed (now (d .entry)) at (wordBytes (0x2000_0000 + code * 0x80_0000 + size)) ⌝ }
+{
+    let n = octets::narrow(size);
+    octets::put_word(0x2000_0000 + code * 0x80_0000 + n, d, at);
+}
+
+// A section of these bytes; the zeros that fill up its last word stand there. Returns the place behind it.
+pub fn put_section(code: u32, s: &[u8], d: &mut [u8], at: usize) -> usize
+    requires { ⌜ (code < 32) × (length (now s) < 0x80_0000) × (at + 4 + filledUp (length (now s)) ≤ length (now d)) ⌝ }
+    ensures next { λ r. ⌜ r ≡ at + 4 + filledUp (length (now (s .entry))) ⌝ }
+    ensures output { λ _. ⌜ now (d .exit) ≡ placed (now (d .entry)) at (wordBytes (0x2000_0000 + code * 0x80_0000 + length (now (s .entry))) ++ now (s .entry)) ⌝ }
+{
+    let size = s.len();
+    let room = filled_up(size);
+    put_section_word(code, size, d, at);
+    octets::put_bytes(d, at + 4, s);
+    at + 4 + room
+}
+
+// The end word behind this many bytes, which the caller keeps below the limit of a package.
+pub fn put_end(d: &mut [u8], at: usize)
+    requires { ⌜ (at < 0x4000_0000) × (at + 4 ≤ length (now d)) ⌝ }
+    ensures { λ _. ⌜ now (d .exit) ≡ placed (now (d .entry)) at (endBytes at) ⌝ }
+{
+    let words = octets::narrow((at + 4) / 4);
+    octets::put_word(0x3000_0000 + words, d, at);
 }

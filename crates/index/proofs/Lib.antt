@@ -1,10 +1,29 @@
-pub mod Examples
--- Laws of the definitions, which the proofs of the code cite.
+-- Laws of indexes: probing, placing, contributions, an index written and read back; and what the proofs of the code cite.
 -- Assumes nothing.
+pub mod Contributions
+pub mod Examples
+pub mod Slots
+pub mod Orbit
+pub mod LawCounts
+pub mod Placing
+pub mod LawLooks
+pub mod LawPlaced
+pub mod Found
+pub mod LawColumns
+pub mod LawPlaces
+pub mod LawGrid
+pub mod LawSlotsGood
+pub mod LawBytes
+pub mod LawRead
+pub mod RoundTrip
+pub mod LawCells
+pub mod LawWhole
 pub mod Masks
 pub mod Heads
 pub mod Looks
 pub mod Codes
+pub mod LawExact
+pub mod LawMore
 pub mod WellFormed
 pub mod Places
 pub mod Ends

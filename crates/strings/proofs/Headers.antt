@@ -1,10 +1,10 @@
 -- The cases of a header and of entries as the code tests them, and of a string read byte by byte.
 -- Assumes nothing.
-use mathlib.Core.Path.{_≡_, refl, sym, ap, ap₂, _∙_}
-use mathlib.Core.Logic.{⊎-elim}
+use mathlib.Core.Path.{_≡_, refl, sym, ap, _∙_}
 use mathlib.Core.Bool.{Bool, true, false, _&&_}
-use mathlib.Core.List.{List, [], _∷_}
+use mathlib.Core.List.{List, _∷_}
 use Prim.Native.Nat.{ℕ, suc, _+_, _*_, _-_, _/_, _%_, _<_, _≤_}
+use native.Mathlib.Nat.{zero-div}
 use native.Mathlib.Omega.{arith}
 use native.Mathlib.Numerals.{add-one}
 use lib.Dec.{eqb, leb}
@@ -13,18 +13,17 @@ use lib.Seq.{drop-cons}
 use borrow.Author.Tests.{lt-leb, le-leb, eq-eqb, ne-eqb}
 use Rattle.octets.specs.Octets.{numberAt}
 use Rattle.octets.specs.Checked.{Check, pass, refuse, _>>=_}
-use Rattle.octets.proofs.Checks.{true-false, not-left, not-right}
+use Rattle.octets.proofs.Checks.{not-left, not-right}
 use Rattle.bundle.specs.Encoding.{Encoding}
 use Rattle.bundle.specs.Encoded.{four, encodingIs}
 use Rattle.bundle.specs.declared.encoding.ObjectEncoding.{ObjectEncoding}
 use Rattle.strings.specs.Strings.{headerSize, headerTrue, entriesIn, entriesOf, upToZero, stringAt}
 use Rattle.strings.specs.Answers.{entriesRead, stringRead}
-use Rattle.strings.specs.declared.entries.Entries.{Entries}
 use Rattle.strings.specs.declared.entries.Entries.the-variants.{Count, IllFormed}
 use Rattle.strings.specs.declared.entries.StringRead.{StringRead}
 use Rattle.strings.specs.declared.entries.StringRead.the-variants.{At, Missing}
 use Rattle.strings.proofs.Ends.{upTo-none, upTo-zero, upTo-more, stringAt-beyond}
-use Rattle.strings.proofs.Sections.{true-narrow, true-wide, true-four, header-five, header-four, whole-entries, entries-false, entries-odd, length-entriesIn, Sound, entry-within, entriesIn-at}
+use Rattle.strings.proofs.StrOffsets.{true-narrow, true-wide, header-five, header-four, whole-entries, entries-false, entries-odd, length-entriesIn, Sound, entry-within, entriesIn-at}
 
 -- ---- what the code holds of an encoding
 module _ (e : ObjectEncoding) where
@@ -119,6 +118,13 @@ module _ (e : Encoding) (s : List ℕ) where
         rw (p, q)
         (ap Count (sym (length-entriesIn e s)) ∙ sym (ap entriesRead (whole-entries e s (record { header = t; even = rw (p, q) at g }))))
 
+    -- how many there are
+    pub count-is : (length s - h) / w ≡ length (entriesIn e s)
+    count-is = rw (p, q) (sym (length-entriesIn e s))
+
+    pub count-none : length s < h → 0 ≡ length (entriesIn e s)
+    count-none l = let z : length s - h ≡ 0 = omega arith in sym (zero-div w) ∙ (rw z at count-is)
+
     -- where an entry ends
     pub entry-ends : (k : ℕ) → Sound e → k < length (entriesIn e s) → h + w * k + w ≤ length s
     entry-ends k ok l = rw (p, q) (entry-within e s k ok l)
@@ -172,3 +178,32 @@ pub reading-more : (start n : ℕ) (s : List ℕ) (i : ℕ) → start ≤ i → 
 reading-more start n s i h g e =
     let z : i - start + 1 ≡ i + 1 - start = omega arith in
     read-turn start (i - start) n s i g e ∙ ap (λ (k : ℕ). readOn start k (upToZero n (drop (i + 1) s))) z
+
+-- ---- the string of an entry, by its place in the bundle
+-- what was read in a part that starts at base
+pub moved : (base start size : ℕ) (m : Check (List ℕ)) → At start size ≡ stringRead start m → At (base + start) size ≡ stringRead (base + start) m
+unfolding stringRead
+moved base start size (pass t) e = let n : size ≡ length t = cc in ap (At (base + start)) n
+moved base start size (refuse n) e = absurd (let z : _≡_ {A = ℕ} 0 1 = cc in omega arith)
+
+-- where it starts is the offset
+pub starts-at : (start size offset : ℕ) (m : Check (List ℕ)) → At start size ≡ stringRead offset m → start ≡ offset
+unfolding stringRead
+starts-at start size offset (pass t) e = cc
+starts-at start size offset (refuse n) e = absurd (let z : _≡_ {A = ℕ} 0 1 = cc in omega arith)
+
+pub read-missing : (start : ℕ) (m : Check (List ℕ)) → Missing ≡ stringRead start m → (n : ℕ) × (m ≡ refuse n)
+unfolding stringRead
+read-missing start (pass t) e = absurd (let z : _≡_ {A = ℕ} 0 1 = cc in omega arith)
+read-missing start (refuse n) e = (n, refl)
+
+pub read-string : (at size start : ℕ) (m : Check (List ℕ)) → At at size ≡ stringRead start m → (t : List ℕ) × (m ≡ pass t) × (at ≡ start) × (size ≡ length t)
+unfolding stringRead
+read-string at size start (pass t) e = (t, refl, cc, cc)
+read-string at size start (refuse n) e = absurd (let z : _≡_ {A = ℕ} 0 1 = cc in omega arith)
+
+-- a missing string is missing wherever its part starts
+pub missing-moved : (start other : ℕ) (m : Check (List ℕ)) → Missing ≡ stringRead start m → Missing ≡ stringRead other m
+unfolding stringRead
+missing-moved start other (pass t) e = absurd (let z : _≡_ {A = ℕ} 0 1 = cc in omega arith)
+missing-moved start other (refuse n) e = refl

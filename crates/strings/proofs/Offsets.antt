@@ -2,23 +2,20 @@
 -- Assumes nothing.
 use mathlib.Core.Path.{_≡_, refl, sym, ap, _∙_}
 use mathlib.Core.Logic.{⊎-elim}
-use mathlib.Core.Bool.{Bool, true, false}
+use mathlib.Core.Bool.{true, false}
 use mathlib.Core.List.{List, [], _∷_, _++_, map, append-nil, append-assoc}
 use Prim.Native.Nat.{ℕ, zero, suc, _+_, _<_, _≤_}
-use native.Mathlib.Nat.{not-suc-le-zero, le-of-suc-le-suc}
 use native.Mathlib.Omega.{arith}
 use native.Mathlib.Numerals.{add-one}
 use lib.ListN.{length, take, drop, getD, length-append, drop-of-length-le}
 use lib.Seq.{drop-cons, take-suc, drop-append-add}
-use Rattle.octets.specs.Octets.{part}
 use Rattle.octets.specs.Lists.{any, same, joined, sum}
-use Rattle.octets.specs.Checked.{Check, pass}
+use Rattle.octets.specs.Checked.{pass}
 use Rattle.octets.proofs.Checks.{true-false, known}
 use Rattle.octets.proofs.Lists.{same-eq, same-refl, any-cons, any-stops}
-use Rattle.octets.proofs.Parts.{part-append-front}
-use Rattle.octets.proofs.Joined.{map-append, joined-append, joined-one, sum-append}
+use Rattle.octets.proofs.Joined.{map-append, joined-append}
 use Rattle.strings.specs.Strings.{put, putAll, firstUses, ended, strOf, offsetIn, upToZero, stringAt}
-use Rattle.strings.proofs.Table.{isIn, put-grows, putAll-grows, put-known, put-new, used-in, Distinct}
+use Rattle.strings.proofs.FirstUses.{isIn, put-grows, putAll-grows, put-new, used-in}
 use Rattle.strings.proofs.Ends.{NoZero, upTo-ended}
 
 -- ---- the str section

@@ -2,21 +2,21 @@
 -- Assumes nothing.
 use mathlib.Core.Path.{_≡_, refl, sym, ap, _∙_}
 use mathlib.Core.Bool.{true}
-use mathlib.Core.List.{List, [], _∷_, _++_, map}
-use Prim.Native.Nat.{ℕ, zero, suc, _+_, _*_, _-_, _/_, _^_, _<_, _≤_}
-use native.Mathlib.Nat.{not-suc-le-zero, le-of-suc-le-suc, mul-div-cancel-left, lt-of-le-of-lt}
+use mathlib.Core.List.{List, [], _∷_, map}
+use Prim.Native.Nat.{ℕ, zero, suc, _-_, _/_, _^_, _<_, _≤_}
+use native.Mathlib.Nat.{not-suc-le-zero, le-of-suc-le-suc, lt-of-le-of-lt}
 use native.Mathlib.Omega.{arith}
-use lib.ListN.{length, take, drop, getD, length-append}
+use lib.ListN.{length, take, getD, length-append}
 use lib.Seq.{length-take-le, drop-at, take-at}
-use Rattle.octets.specs.Octets.{numberAt, numbersIn, numbersOf}
-use Rattle.octets.specs.Checked.{Check, pass}
+use Rattle.octets.specs.Octets.{numbersOf}
+use Rattle.octets.specs.Checked.{pass}
 use Rattle.octets.proofs.Tables.{length-numbersOf, numbersIn-numbersOf}
 use Rattle.bundle.specs.Encoding.{Encoding}
-use Rattle.strings.specs.Strings.{headerSize, entriesIn, entriesOf, strOf, offsetIn, remapped, stringsAt, stringAt, firstUses}
+use Rattle.strings.specs.Strings.{headerSize, entriesIn, entriesOf, strOf, offsetIn, remapped, stringsAt, stringAt}
 use Rattle.strings.proofs.Offsets.{offset-le, string-in-strOf}
-use Rattle.strings.proofs.Table.{isIn}
-use Rattle.strings.proofs.Ends.{NoZero, length-stringsAt, stringsAt-at, stringAt-is}
-use Rattle.strings.proofs.Sections.{Sound, Whole, header-within, whole-length, length-entriesIn, entries-whole}
+use Rattle.strings.proofs.FirstUses.{isIn}
+use Rattle.strings.proofs.Ends.{length-stringsAt, stringsAt-at, stringAt-is}
+use Rattle.strings.proofs.StrOffsets.{Sound, Whole, header-within, whole-length, length-entriesIn, entries-whole}
 
 pub length-map : {A B : Type 0} (f : A → B) (xs : List A) → length (map f xs) ≡ length xs
 length-map f [] = refl

@@ -2,3 +2,4 @@
 -- Assumes nothing.
 pub mod Strings
 pub mod Answers
+pub mod Kept

@@ -111,6 +111,18 @@ pub fn check_entries(e: ObjectEncoding, s: &[u8]) -> Entries
     Entries::Count(rest / w)
 }
 
+// How many whole entries a section has, which is judged or, in a lookup, isn't.
+pub fn entry_count(e: ObjectEncoding, s: &[u8]) -> usize
+    ensures { λ r. ⌜ r ≡ length (entriesIn (encodingIs e) (now (s .entry))) ⌝ }
+{
+    let h = header_size(e);
+    let w = bundle::encoding::width(e);
+    if s.len() < h {
+        return 0;
+    }
+    (s.len() - h) / w
+}
+
 // Entry k, which the caller knows to be one of them.
 pub fn entry_at(e: ObjectEncoding, s: &[u8], k: usize) -> u64
     requires { ⌜ k < length (entriesIn (encodingIs e) (now s)) ⌝ }

@@ -1,24 +1,18 @@
 -- `check_entries` meets its contract.
 -- Assumes nothing.
-use mathlib.Core.Path.{_≡_, sym, ap, _∙_}
+use mathlib.Core.Path.{_≡_, sym, _∙_}
 use mathlib.Core.Bool.{true}
 use borrow.Author.Tests.{not-true, not-false}
-use Prim.Native.Nat.{ℕ, _<_, _≤_}
+use Prim.Native.Nat.{_<_}
 use native.Mathlib.Omega.{arith}
 use denote.Ref.{now}
-use lib.ListN.{length}
 use Rattle.bundle.specs.Encoded.{encodingIs}
 use Rattle.strings.specs.Strings.{headerTrue}
-use Rattle.strings.proofs.Sections.{sound, header-within}
+use Rattle.strings.proofs.StrOffsets.{sound, header-within}
 use Rattle.strings.proofs.Headers.{ill-header, ill-rest, well-formed}
 use borrow.Author.Needs.{needs}
 use Rattle.strings.proofs.entries.check_entries.Statement.{statement}
 use Rattle.strings.proofs.entries.check_entries.Tie as tie
-use Rattle.strings.proofs.entries.check_entries.Reads as reads
-use Rattle.strings.proofs.entries.check_entries.Lts as lts
-use Rattle.bundle.proofs.encoding.width.Reads as width-reads
-use Rattle.strings.proofs.entries.header_size.Reads as header-size-reads
-use Rattle.strings.proofs.entries.header_true.Reads as header-true-reads
 
 header-true : (c : tie.Else1) → headerTrue (encodingIs (c .before .before .before .args .e)) (now (c .before .before .before .args .s)) ≡ true
 header-true c = sym (c .before .header-true .ensures) ∙ not-false _ (c .if1 .left)
@@ -26,43 +20,34 @@ header-true c = sym (c .before .header-true .ensures) ∙ not-false _ (c .if1 .l
 positive : (c : tie.After-width) → 0 < c .width .result
 positive c = omega (arith, c .width .ensures, sound (c .before .before .before .before .before .args .e) .low)
 
--- src/entries.rt:103:9
 header-true-requires : tie.Need-header-true-requires
 header-true-requires c κs = search needs
 
--- src/entries.rt:104:9
 returns : tie.Need-returns
 returns c = ill-header _ _ (sym (c .before .header-true .ensures) ∙ not-true _ (c .if1 .taken))
 
--- src/entries.rt:106:26
 header-size-requires : tie.Need-header-size-requires
 header-size-requires c κs = search needs
 
--- src/entries.rt:106:16
 sub-rest : tie.Need-sub-rest
 sub-rest c =
     let a = c .before .before .before .before .args in
     omega (arith, c .header-size .ensures, header-within (encodingIs (a .e)) (now (a .s)) (sound (a .e)) (header-true (c .before)))
 
--- src/entries.rt:107:9
 width-requires : tie.Need-width-requires
 width-requires c κs = search needs
 
--- src/entries.rt:108:8
 rem-if2 : tie.Need-rem-if2
 rem-if2 c = positive c
 
--- src/entries.rt:109:9
 returns-2 : tie.Need-returns-2
 returns-2 c =
     let k = c .before .before in
     ill-rest _ _ _ _ (k .header-size .ensures) (c .before .width .ensures) (header-true (k .before)) (c .if2 .taken)
 
--- src/entries.rt:111:20
 div-t8 : tie.Need-div-t8
 div-t8 c = positive (c .before)
 
--- src/entries.rt:100:1
 returns-3 : tie.Need-returns-3
 returns-3 c =
     let k = c .before .before in

@@ -1,30 +1,23 @@
 -- `header_size` meets its contract.
 -- Assumes nothing.
-use mathlib.Core.Path.{_≡_, ap, _∙_}
+use mathlib.Core.Path.{ap, _∙_}
 use Prim.Native.Nat.{ℕ, _+_}
 use native.Mathlib.Omega.{arith}
-use Rattle.strings.proofs.Sections.{sound}
+use Rattle.strings.proofs.StrOffsets.{sound}
 use Rattle.strings.proofs.Headers.{size-five, size-four}
 use borrow.Author.Needs.{needs}
 use Rattle.strings.proofs.entries.header_size.Statement.{statement}
 use Rattle.strings.proofs.entries.header_size.Tie as tie
-use Rattle.strings.proofs.entries.header_size.Reads as reads
-use Rattle.strings.proofs.entries.header_size.Lts as lts
-use Rattle.bundle.proofs.encoding.width.Reads as width-reads
 
--- src/entries.rt:36:9
 width-requires : tie.Need-width-requires
 width-requires c κs = search needs
 
--- src/entries.rt:38:16
 add-result : tie.Need-add-result
 add-result c = omega (arith, c .before .width .ensures, sound (c .before .before .args .e) .high)
 
--- src/entries.rt:38:9
 returns : tie.Need-returns
 returns c = ap (λ (n : ℕ). n + n) (c .before .width .ensures) ∙ size-five (c .before .before .args .e) (c .if1 .taken)
 
--- src/entries.rt:33:1
 returns-2 : tie.Need-returns-2
 returns-2 c = size-four (c .before .before .args .e) (c .if1 .left)
 

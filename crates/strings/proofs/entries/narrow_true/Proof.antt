@@ -5,42 +5,30 @@ use Rattle.strings.proofs.Headers.{narrow-short, narrow-rest, narrow-al
 use borrow.Author.Needs.{needs}
 use Rattle.strings.proofs.entries.narrow_true.Statement.{statement}
 use Rattle.strings.proofs.entries.narrow_true.Tie as tie
-use Rattle.strings.proofs.entries.narrow_true.Reads as reads
-use Rattle.strings.proofs.entries.narrow_true.Lts as lts
-use Rattle.octets.proofs.long.Reads as long-reads
-use Rattle.octets.proofs.number_at.Reads as number-at-reads
-use Rattle.strings.proofs.entries.version_true.Reads as version-true-reads
 
--- src/entries.rt:60:9
 returns : tie.Need-returns
 returns c =
     let a = c .before .before in
     narrow-short _ _ (a .pre .0) (a .pre .1) (c .if1 .taken)
 
--- src/entries.rt:62:9
 number-at-requires : tie.Need-number-at-requires
 number-at-requires c κs = search needs
 
--- src/entries.rt:63:29
 sub-long : tie.Need-sub-long
 sub-long c = search needs
 
--- src/entries.rt:63:16
 long-requires : tie.Need-long-requires
 long-requires c κs = search needs
 
--- src/entries.rt:64:9
 returns-2 : tie.Need-returns-2
 returns-2 c =
     let n = c .before .before in
     let a = n .before .before .before in
     narrow-rest _ _ (a .pre .0) (a .pre .1) _ (n .number-at .ensures) (λ z. c .if2 .taken (z ∙ sym (c .before .long .ensures)))
 
--- src/entries.rt:66:5
 version-true-requires : tie.Need-version-true-requires
 version-true-requires c κs = search needs
 
--- src/entries.rt:55:1
 returns-3 : tie.Need-returns-3
 returns-3 c =
     let n = c .before .before .before in

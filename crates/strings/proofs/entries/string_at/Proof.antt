@@ -1,7 +1,7 @@
 -- `string_at` meets its contract. The loop: what is left up to a zero byte gives the answer, with the bytes passed before it.
 -- Assumes nothing.
-use mathlib.Core.Path.{_≡_, sym, ap, _∙_}
-use Prim.Native.Nat.{ℕ, _+_, _-_, _≤_}
+use mathlib.Core.Path.{_≡_, sym, _∙_}
+use Prim.Native.Nat.{ℕ, _-_, _≤_}
 use native.Mathlib.Omega.{arith}
 use lib.ListN.{length, drop}
 use Rattle.strings.specs.Strings.{upToZero, stringAt}
@@ -9,10 +9,6 @@ use Rattle.strings.specs.Answers.{stringRead}
 use Rattle.strings.proofs.Headers.{readOn, reading-first, read-zero, reading-more, read-end, read-beyond}
 use Rattle.strings.proofs.entries.string_at.Statement.{statement}
 use Rattle.strings.proofs.entries.string_at.Tie as tie
-use Rattle.strings.proofs.entries.string_at.Reads as reads
-use Rattle.strings.proofs.entries.string_at.Lts as lts
-use Rattle.octets.proofs.long.Reads as long-reads
-use Rattle.octets.proofs.size.Reads as size-reads
 
 abbrev Inv-loop : tie.InvT-loop
 Inv-loop s offset start end₀ end = (start ≡ offset) × (start ≤ end) × (end ≤ length s) × ((n : ℕ) → readOn start (end - start) (upToZero n (drop end s)) ≡ stringRead offset (stringAt n s offset))
@@ -20,53 +16,42 @@ Inv-loop s offset start end₀ end = (start ≡ offset) × (start ≤ end) × (e
 abbrev μ-loop : tie.MeasureT-loop
 μ-loop s offset start end₀ end = length s - end
 
--- src/entries.rt:128:8
 long-requires : tie.Need-long-requires Inv-loop μ-loop
 long-requires c κs = tt
 
--- src/entries.rt:129:9
 returns : tie.Need-returns Inv-loop μ-loop
 returns c = λ n. read-beyond n _ _ (omega (arith, c .before .long .ensures))
 
--- src/entries.rt:131:9
 size-requires : tie.Need-size-requires Inv-loop μ-loop
 size-requires c κs = tt
 
--- src/entries.rt:133:5
 loop-holds : tie.Need-loop-holds Inv-loop μ-loop
 loop-holds c =
     let k = c .before .before in
     (c .size .ensures, omega arith, omega (arith, k .long .ensures, c .size .ensures), λ n. reading-first n _ _ _ (c .size .ensures))
 
--- src/entries.rt:134:12
 shared-slice-read-if2 : tie.Need-shared-slice-read-if2 Inv-loop μ-loop
 shared-slice-read-if2 c = omega arith
 
--- src/entries.rt:135:42
 sub-t12 : tie.Need-sub-t12 Inv-loop μ-loop
 sub-t12 c = omega arith
 
--- src/entries.rt:135:13
 returns-2 : tie.Need-returns-2 Inv-loop μ-loop
 returns-2 c =
     let l = c .before .before .before in
     λ n. sym (read-zero _ _ n _ _ (c .before .before .loop-test .taken) (c .if2 .taken)) ∙ l .loop .inv .3 n
 
--- src/entries.rt:137:9
 add-end : tie.Need-add-end Inv-loop μ-loop
 add-end c = omega arith
 
--- src/entries.rt:133:5
 loop-less : tie.Need-loop-less Inv-loop μ-loop
 loop-less c = omega arith
 
--- src/entries.rt:133:5
 loop-again : tie.Need-loop-again Inv-loop μ-loop
 loop-again c =
     let l = c .before .before .before in
     (l .loop .inv .0, omega arith, omega arith, λ n. sym (reading-more _ n _ _ (l .loop .inv .1) (c .before .before .loop-test .taken) (c .if2 .left)) ∙ l .loop .inv .3 n)
 
--- src/entries.rt:125:1
 returns-3 : tie.Need-returns-3 Inv-loop μ-loop
 returns-3 c =
     let l = c .before in

@@ -11,27 +11,19 @@ use Rattle.octets.proofs.Checks.{not-left}
 use borrow.Author.Needs.{needs}
 use Rattle.strings.proofs.entries.version_true.Statement.{statement}
 use Rattle.strings.proofs.entries.version_true.Tie as tie
-use Rattle.strings.proofs.entries.version_true.Reads as reads
-use Rattle.strings.proofs.entries.version_true.Lts as lts
-use Rattle.octets.proofs.u16_at.Reads as u16-at-reads
 
--- src/entries.rt:48:8
 u16-at-requires : tie.Need-u16-at-requires
 u16-at-requires c κs = search needs
 
--- src/entries.rt:49:9
 returns : tie.Need-returns
 returns c = sym (not-left _ _ (ne-eqb _ 5 (λ z. c .if1 .taken (c .before .u16-at .ensures ∙ z))))
 
--- src/entries.rt:51:28
 add-u16-at : tie.Need-add-u16-at
 add-u16-at c = search needs
 
--- src/entries.rt:51:5
 u16-at-requires-2 : tie.Need-u16-at-requires-2
 u16-at-requires-2 c κs = search needs
 
--- src/entries.rt:44:1
 returns-2 : tie.Need-returns-2
 returns-2 c =
     let p = c .before .before .u16-at .ensures in

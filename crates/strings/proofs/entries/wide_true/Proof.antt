@@ -5,52 +5,38 @@ use Rattle.strings.proofs.Headers.{wide-short, wide-mark, wide-rest, wi
 use borrow.Author.Needs.{needs}
 use Rattle.strings.proofs.entries.wide_true.Statement.{statement}
 use Rattle.strings.proofs.entries.wide_true.Tie as tie
-use Rattle.strings.proofs.entries.wide_true.Reads as reads
-use Rattle.strings.proofs.entries.wide_true.Lts as lts
-use Rattle.octets.proofs.long.Reads as long-reads
-use Rattle.octets.proofs.number_at.Reads as number-at-reads
-use Rattle.strings.proofs.entries.version_true.Reads as version-true-reads
 
--- src/entries.rt:75:9
 returns : tie.Need-returns
 returns c =
     let a = c .before .before in
     wide-short _ _ (a .pre .0) (a .pre .1) (c .if1 .taken)
 
--- src/entries.rt:77:8
 number-at-requires : tie.Need-number-at-requires
 number-at-requires c κs = search needs
 
--- src/entries.rt:78:9
 returns-2 : tie.Need-returns-2
 returns-2 c =
     let a = c .before .before .before .before in
     wide-mark _ _ (a .pre .0) (a .pre .1) _ (c .before .number-at .ensures) (c .if2 .taken)
 
--- src/entries.rt:80:9
 number-at-requires-2 : tie.Need-number-at-requires-2
 number-at-requires-2 c κs = search needs
 
--- src/entries.rt:81:29
 sub-long : tie.Need-sub-long
 sub-long c = search needs
 
--- src/entries.rt:81:16
 long-requires : tie.Need-long-requires
 long-requires c κs = search needs
 
--- src/entries.rt:82:9
 returns-3 : tie.Need-returns-3
 returns-3 c =
     let n = c .before .before in
     let a = n .before .before .before .before .before in
     wide-rest _ _ (a .pre .0) (a .pre .1) _ (n .number-at2 .ensures) (λ z. c .if3 .taken (z ∙ sym (c .before .long .ensures)))
 
--- src/entries.rt:84:5
 version-true-requires : tie.Need-version-true-requires
 version-true-requires c κs = search needs
 
--- src/entries.rt:70:1
 returns-4 : tie.Need-returns-4
 returns-4 c =
     let n = c .before .before .before in

@@ -1,0 +1,131 @@
+-- What is placed is found, and nothing else: after `slotsOf xs`, a search for each of xs ends at its slot, and for anything else at an unused slot.
+-- Assumes nothing.
+use mathlib.Core.Path.{_≡_, refl, sym, ap, _∙_}
+use mathlib.Core.List.{List}
+use Prim.Native.Nat.{ℕ, zero, suc, _+_, _-_, _^_, _<_, _≤_}
+use native.Mathlib.Nat.{not-suc-le-zero}
+use native.Mathlib.Omega.{arith}
+use lib.ListN.{length, getD, drop, drop-of-length-le}
+use lib.Seq.{drop-cons}
+use Rattle.octets.specs.Octets.{zeros}
+use Rattle.octets.specs.Checked.{pass}
+use Rattle.octets.proofs.Checks.{then-pass, pass-inj}
+use Rattle.index.specs.Probing.{found, absent, search, slotsFor, Slots, place, placeAll, unused, slotsOf}
+use Rattle.index.proofs.Slots.{PowerOfTwo, slotsFor-power, slotsFor-gt}
+use Rattle.index.proofs.LawCounts.{First}
+use Rattle.index.proofs.Placing.{probed, put, free-slot, place-is, counted-unused}
+use Rattle.index.proofs.LawLooks.{search-found, search-absent}
+use Rattle.index.proofs.LawPlaced.{Distinct, Kept, Placed, placed-more}
+
+-- ---- all are placed
+module _ (n : ℕ) (p : PowerOfTwo n) (xs : List ℕ) (different : Distinct xs) (few : length xs < n) where
+  pub placed-all : (k m : ℕ) (t : Slots) → m + k ≡ length xs → Placed n xs m t → (u : Slots) × (placeAll t (m + 1) (drop m xs) ≡ pass u) × Placed n xs (length xs) u
+  unfolding placeAll
+  placed-all zero m t e s = let q : m ≡ length xs = omega arith in (t, let g : length xs ≤ m = omega arith in rw (drop-of-length-le xs g), rw (← q) s)
+  placed-all (suc k) m t e s =
+      let f = free-slot n m p t (s .counted) (getD xs m 0) (omega arith) in
+      let u = put t (probed n (getD xs m 0) (f .steps)) (m + 1) (getD xs m 0) in
+      let r = placed-all k (suc m) u (omega arith) (placed-more n p xs different m t s (omega arith) f) in
+      let next : suc m + 1 ≡ m + 1 + 1 = omega arith in (
+        r .0,
+        ap (placeAll t (m + 1)) (drop-cons xs m 0 (omega arith))
+            ∙ then-pass (place t (m + 1) (getD xs m 0)) (λ v. placeAll v (m + 1 + 1) (drop (suc m) xs)) u (place-is n m p t (s .counted) (getD xs m 0) (m + 1) f)
+            ∙ ap (λ (z : ℕ). placeAll u z (drop (suc m) xs)) (sym next) ∙ r .1,
+        r .2,
+      )
+
+zeros-at : (n i : ℕ) → getD (zeros n) i 0 ≡ 0
+unfolding zeros
+zeros-at zero i = refl
+zeros-at (suc n) zero = refl
+zeros-at (suc n) (suc i) = zeros-at n i
+
+pub placed-none : (n : ℕ) (xs : List ℕ) → Placed n xs 0 (unused n)
+unfolding unused
+placed-none n xs =
+    record {
+      counted = counted-unused n;
+      unused-zero = λ i e. zeros-at n i;
+      used-by = λ i g. absurd (g (zeros-at n i));
+      kept = λ i h. absurd (not-suc-le-zero h);
+    }
+
+pub slots-placed : (xs : List ℕ) → Distinct xs → length xs ≤ 2 ^ 31 → (t : Slots) × (slotsOf xs ≡ pass t) × Placed (slotsFor (length xs)) xs (length xs) t
+unfolding slotsOf
+slots-placed xs different h =
+    let n = slotsFor (length xs) in
+    placed-all n (slotsFor-power (length xs)) xs different (slotsFor-gt (length xs) h) (length xs) 0 (unused n) (omega arith) (placed-none n xs)
+
+pub placed-is : (xs : List ℕ) (t : Slots) → Distinct xs → length xs ≤ 2 ^ 31 → slotsOf xs ≡ pass t → Placed (slotsFor (length xs)) xs (length xs) t
+placed-is xs t different h e =
+    let r = slots-placed xs different h in
+    let q : r .0 ≡ t = pass-inj (sym (r .1) ∙ e) in
+    rw q at (r .2)
+
+-- ---- searches
+-- found, with the row number of its slot
+pub record FoundIn (rows ids : List ℕ) (x row : ℕ) : Type 0 where
+  pub slot : ℕ
+  pub looks : ℕ
+  pub is : search rows ids x ≡ found slot looks
+  pub row-there : getD rows slot 0 ≡ row
+  pub some-looks : 1 ≤ looks
+  pub within : looks ≤ length rows
+
+-- absent, since the last look is at an unused slot
+pub record AbsentIn (rows ids : List ℕ) (x : ℕ) : Type 0 where
+  pub looks : ℕ
+  pub is : search rows ids x ≡ absent looks
+  pub ends : getD rows (probed (length rows) x (looks - 1)) 0 ≡ 0
+  pub some-looks : 1 ≤ looks
+  pub within : looks ≤ length rows
+
+kept-found : (t : Slots) (x row : ℕ) → PowerOfTwo (length (t .rows)) → (row ≡ 0 → ⊥) → Kept (length (t .rows)) t x row → FoundIn (t .rows) (t .identities) x row
+kept-found t x row p g k =
+    record {
+      slot = probed (length (t .rows)) x (k .steps);
+      looks = k .steps + 1;
+      is = search-found (t .rows) (t .identities) x (k .steps) p (k .within) (k .passed) (λ z. g (sym (k .row-there) ∙ z)) (k .identity-there);
+      row-there = k .row-there;
+      some-looks = omega arith;
+      within = omega (arith, k .within);
+    }
+
+module _ (n : ℕ) (p : PowerOfTwo n) (xs : List ℕ) (t : Slots) (s : Placed n xs (length xs) t) where
+  power-here : PowerOfTwo (length (t .rows))
+  power-here = rw (s .counted .rows-are) p
+
+  pub placed-found : (i : ℕ) → i < length xs → FoundIn (t .rows) (t .identities) (getD xs i 0) (i + 1)
+  placed-found i h = kept-found t (getD xs i 0) (i + 1) power-here (λ z. omega arith) (rw (s .counted .rows-are) (s .kept i h))
+
+  absent-there : (x : ℕ) → ((i : ℕ) → i < length xs → getD xs i 0 ≡ x → ⊥) → First (λ j. getD (t .rows) (probed (length (t .rows)) x j) 0) (length (t .rows))
+      → AbsentIn (t .rows) (t .identities) x
+  absent-there x other f =
+      let e : f .steps + 1 - 1 ≡ f .steps = omega arith in
+      let strange : (j : ℕ) → j < f .steps → getD (t .identities) (probed (length (t .rows)) x j) 0 ≡ x → ⊥ =
+      λ j h q. let b = s .used-by (probed (length (t .rows)) x j) (f .before j h) in other (b .row) (b .within) (sym (b .identity-there) ∙ q) in
+      record {
+        looks = f .steps + 1;
+        is = search-absent (t .rows) (t .identities) x (f .steps) power-here (f .within) (record { used-there = f .before; other = strange }) (f .zero-there);
+        ends = rw e (f .zero-there);
+        some-looks = omega arith;
+        within = omega (arith, f .within);
+      }
+
+  pub placed-absent : length xs < n → (x : ℕ) → ((i : ℕ) → i < length xs → getD xs i 0 ≡ x → ⊥) → AbsentIn (t .rows) (t .identities) x
+  placed-absent few x other =
+      absent-there x other (free-slot (length (t .rows)) (length xs) power-here t (rw (s .counted .rows-are) (s .counted)) x (rw (s .counted .rows-are) few))
+
+-- ---- the laws of `slotsOf`
+module _ (xs : List ℕ) (t : Slots) (different : Distinct xs) (h : length xs ≤ 2 ^ 31) (e : slotsOf xs ≡ pass t) where
+  pub length-rows : length (t .rows) ≡ slotsFor (length xs)
+  length-rows = placed-is xs t different h e .counted .rows-are
+
+  pub length-identities : length (t .identities) ≡ slotsFor (length xs)
+  length-identities = placed-is xs t different h e .counted .identities-are
+
+  pub slots-found : (i : ℕ) → i < length xs → FoundIn (t .rows) (t .identities) (getD xs i 0) (i + 1)
+  slots-found = placed-found (slotsFor (length xs)) (slotsFor-power (length xs)) xs t (placed-is xs t different h e)
+
+  pub slots-absent : (x : ℕ) → ((i : ℕ) → i < length xs → getD xs i 0 ≡ x → ⊥) → AbsentIn (t .rows) (t .identities) x
+  slots-absent = placed-absent (slotsFor (length xs)) (slotsFor-power (length xs)) xs t (placed-is xs t different h e) (slotsFor-gt (length xs) h)

@@ -1,0 +1,119 @@
+-- An index from rows to answers: written, read back, and probed: each row's identity is found with its row number, anything else is absent.
+-- Assumes nothing.
+use mathlib.Core.Path.{_≡_, refl, sym, ap, _∙_}
+use mathlib.Core.Bool.{Bool, true, false}
+use mathlib.Core.List.{List, [], _∷_}
+use Prim.Native.Nat.{ℕ, _+_, _*_, _^_, _<_, _≤_}
+use native.Mathlib.Nat.{not-suc-le-zero}
+use native.Mathlib.Omega.{arith}
+use lib.ListN.{length, getD, length-map}
+use Rattle.octets.specs.Lists.{has, distinct}
+use Rattle.octets.specs.Checked.{pass, refuse}
+use Rattle.octets.proofs.Checks.{pass-inj, then-pass, bind-pass, known}
+use Rattle.octets.proofs.Elements.{has-not-at}
+use Rattle.index.specs.Index.{Index, indexOf}
+use Rattle.index.specs.Probing.{found, absent, probe, Slots, slotsOf, slotsFor}
+use Rattle.index.specs.Rows.{rowOf}
+use Rattle.index.specs.Written.{Row, presentColumns, indexWith, indexBytes}
+use Rattle.index.proofs.Placing.{slotsOf-passes}
+use Rattle.index.proofs.LawPlaced.{Distinct, NonZero, distinct-is}
+use Rattle.index.proofs.Found.{FoundIn, AbsentIn, length-rows, length-identities, slots-found, slots-absent}
+use Rattle.index.proofs.LawGrid.{noRow, identitiesOf, getD-map}
+use Rattle.index.proofs.LawRead.{length-index}
+use Rattle.index.proofs.RoundTrip.{written, RowsFit, round-trip}
+
+-- ---- probing an index
+module _ (i : Index) (x row : ℕ) (f : FoundIn (i .rows) (i .identities) x row) where
+  pub probe-found : probe i x ≡ found (f .slot) (f .looks)
+  unfolding probe
+  probe-found = f .is
+
+  pub row-found : rowOf i (probe i x) ≡ pass row
+  unfolding rowOf
+  row-found = ap (rowOf i) probe-found ∙ ap pass (f .row-there)
+
+module _ (i : Index) (x : ℕ) (a : AbsentIn (i .rows) (i .identities) x) where
+  pub probe-absent : probe i x ≡ absent (a .looks)
+  unfolding probe
+  probe-absent = a .is
+
+  pub row-absent : rowOf i (probe i x) ≡ refuse 15
+  unfolding rowOf
+  row-absent = ap (rowOf i) probe-absent
+
+-- ---- bytes written
+pub indexBytes-is : (big : Bool) (version : ℕ) (rs : List Row) (s : List ℕ) → 0 < length rs → indexBytes big version rs ≡ pass s
+    → (t : Slots) × (slotsOf (identitiesOf rs) ≡ pass t) × (s ≡ indexWith big version (presentColumns version rs) rs t)
+unfolding indexBytes
+indexBytes-is big version [] s h e = absurd (not-suc-le-zero h)
+indexBytes-is big version (r ∷ rs) s h e =
+    let b = bind-pass (slotsOf (identitiesOf (r ∷ rs))) (λ t. pass (indexWith big version (presentColumns version (r ∷ rs)) (r ∷ rs) t)) s e in
+    (b .0, b .1, sym (pass-inj (b .2)))
+
+-- packing never runs out of slots
+pub indexBytes-passes : (big : Bool) (version : ℕ) (rs : List Row) → length rs ≤ 2 ^ 31 → (s : List ℕ) × (indexBytes big version rs ≡ pass s)
+unfolding indexBytes
+indexBytes-passes big version [] h = ([], refl)
+indexBytes-passes big version (r ∷ rs) h =
+    let p = slotsOf-passes (identitiesOf (r ∷ rs)) (omega (arith, length-map (r ∷ rs) (λ q. q .identity))) in (
+      indexWith big version (presentColumns version (r ∷ rs)) (r ∷ rs) (p .0),
+      then-pass (slotsOf (identitiesOf (r ∷ rs))) (λ t. pass (indexWith big version (presentColumns version (r ∷ rs)) (r ∷ rs) t)) (p .0) (p .1),
+    )
+
+-- ---- rows that an index can hold
+pub record Writable (rs : List Row) : Type 0 where
+  pub fits : RowsFit rs
+  pub few : length rs ≤ 2 ^ 30
+  pub different : Distinct (identitiesOf rs)
+  pub nonzero : NonZero (identitiesOf rs)
+
+pub nonzero-is : (xs : List ℕ) → has xs 0 ≡ false → NonZero xs
+nonzero-is xs e i h q = has-not-at xs 0 i e h q
+
+-- by the tests of lists
+pub writable : (rs : List Row) → RowsFit rs → length rs ≤ 2 ^ 30 → distinct (identitiesOf rs) ≡ true → has (identitiesOf rs) 0 ≡ false → Writable rs
+writable rs f l d z = record { fits = f; few = l; different = distinct-is (identitiesOf rs) d; nonzero = nonzero-is (identitiesOf rs) z }
+
+-- ---- all of it
+-- what is known of an index whose bytes were written from rows
+pub record Indexed (big : Bool) (version : ℕ) (rs : List Row) (s : List ℕ) : Type 0 where
+  pub slots : Slots
+  pub slots-are : slotsOf (identitiesOf rs) ≡ pass slots
+  pub bytes-are : s ≡ indexWith big version (presentColumns version rs) rs slots
+  pub length-is : length s ≡ 16 + 12 * slotsFor (length rs) + 4 * length (presentColumns version rs) + 8 * (length rs * length (presentColumns version rs))
+  pub reads : indexOf big s ≡ pass (written version rs slots)
+  pub slot-count : length (written version rs slots .rows) ≡ slotsFor (length rs)
+  pub finds : (k : ℕ) → k < length rs → FoundIn (written version rs slots .rows) (written version rs slots .identities) (getD rs k noRow .identity) (k + 1)
+  pub misses : (x : ℕ) → has (identitiesOf rs) x ≡ false → AbsentIn (written version rs slots .rows) (written version rs slots .identities) x
+
+module _ (big : Bool) (version : ℕ) (rs : List Row) (w : Writable rs) (t : Slots) (e : slotsOf (identitiesOf rs) ≡ pass t) where
+  same-length : length (identitiesOf rs) ≡ length rs
+  same-length = length-map rs (λ q. q .identity)
+
+  few : length (identitiesOf rs) ≤ 2 ^ 31
+  few = omega (arith, same-length, w .few)
+
+  rows-count : length (t .rows) ≡ slotsFor (length rs)
+  rows-count = length-rows (identitiesOf rs) t (w .different) few e ∙ ap slotsFor same-length
+
+  identities-count : length (t .identities) ≡ slotsFor (length rs)
+  identities-count = length-identities (identitiesOf rs) t (w .different) few e ∙ ap slotsFor same-length
+
+  pub indexed-slots : Indexed big version rs (indexWith big version (presentColumns version rs) rs t)
+  unfolding written
+  indexed-slots =
+      record {
+        slots = t;
+        slots-are = e;
+        bytes-are = refl;
+        length-is = length-index big version (presentColumns version rs) rs t (slotsFor (length rs)) identities-count rows-count;
+        reads = round-trip big version rs t (w .fits) (w .few) (w .different) (w .nonzero) e;
+        slot-count = rows-count;
+        finds = λ k h. rw (getD-map (λ q. q .identity) rs k noRow h) at (slots-found (identitiesOf rs) t (w .different) few e k (omega (arith, same-length)));
+        misses = λ x g. slots-absent (identitiesOf rs) t (w .different) few e x (λ i h. has-not-at (identitiesOf rs) x i g h);
+      }
+
+pub indexed : (big : Bool) (version : ℕ) (rs : List Row) (s : List ℕ) → Writable rs → 0 < length rs → indexBytes big version rs ≡ pass s → Indexed big version rs s
+indexed big version rs s w h e =
+    let b = indexBytes-is big version rs s h e in
+    rw (b .2) (indexed-slots big version rs w (b .0) (b .1))

@@ -1,0 +1,171 @@
+-- The number of slots: a power of two, above the number of units, at most three times as large. Masks are remainders, and strides odd.
+-- Assumes nothing.
+use mathlib.Core.Path.{_≡_, refl, sym, ap, _∙_}
+use mathlib.Core.Logic.{_⊎_, inl, inr, ⊎-elim}
+use Prim.Native.Nat.{ℕ, zero, suc, _+_, _*_, _-_, _/_, _%_, _^_, _<_, _≤_}
+use native.Mathlib.Nat.{one-mul, mul-one, mul-assoc, mul-left-comm, mul-le-mul-right, pow-succ', mod-lt, not-suc-le-zero, le-of-suc-le-suc}
+use native.Mathlib.Omega.{arith}
+use native.Mathlib.Decide.{decLe, decLt}
+use lib.Bits.{bitAnd, bitOr, and-mask, or-step, or-zero-r}
+use lib.Pow.{pow-pos}
+use borrow.Author.Tests.{le-leb, lt-leb, lt-ltb, le-ltb}
+use Rattle.index.specs.Index.{powerFrom, leastPower}
+use Rattle.index.specs.Probing.{firstSlot, stride, slotsFor}
+
+pub record PowerOfTwo (n : ℕ) : Type 0 where
+  pub power : ℕ
+  pub is : n ≡ 2 ^ power
+
+pub positive : {n : ℕ} → PowerOfTwo n → 0 < n
+positive p = rw (p .is) (pow-pos (p .power))
+
+-- ---- masks
+pub masked : (x n : ℕ) → PowerOfTwo n → bitAnd x (n - 1) ≡ x % n
+masked x n p = rw (p .is) (and-mask x (p .power))
+
+pub odd-or : (y : ℕ) → bitOr y 1 ≡ y / 2 * 2 + 1
+odd-or y = or-step y 1 ∙ rw or-zero-r (omega arith)
+
+pub firstSlot-is : (x n : ℕ) → PowerOfTwo n → firstSlot x n ≡ x % n
+unfolding firstSlot
+firstSlot-is x n p = masked x n p
+
+pub firstSlot-lt : (x n : ℕ) → PowerOfTwo n → firstSlot x n < n
+firstSlot-lt x n p = rw (firstSlot-is x n p) (mod-lt x (positive p))
+
+pub stride-is : (x n : ℕ) → PowerOfTwo n → stride x n ≡ x / 2 ^ 32 % n / 2 * 2 + 1
+unfolding stride
+stride-is x n p = rw (masked (x / 2 ^ 32) n p) (odd-or (x / 2 ^ 32 % n))
+
+pub stride-odd : (x n : ℕ) → stride x n % 2 ≡ 1
+unfolding stride
+stride-odd x n = rw (odd-or (bitAnd (x / 2 ^ 32) (n - 1))) (omega arith)
+
+-- ---- the least power of two, doubling by doubling
+module _ (k p n : ℕ) where
+  pub power-here : n ≤ p → powerFrom (suc k) p n ≡ p
+  unfolding powerFrom
+  power-here h = rw (powerFrom, le-leb n p h)
+
+  pub power-on : p < n → powerFrom (suc k) p n ≡ powerFrom k (2 * p) n
+  unfolding powerFrom
+  power-on h = rw (powerFrom, lt-leb n p h)
+
+doubled : (j p : ℕ) → 2 ^ j * (2 * p) ≡ 2 ^ suc j * p
+doubled j p = mul-left-comm (2 ^ j) 2 p ∙ sym (mul-assoc 2 (2 ^ j) p) ∙ ap (λ (z : ℕ). z * p) (sym (pow-succ' 2 j))
+
+-- some doublings, and no more than asked for
+record Doubled (k p m : ℕ) : Type 0 where
+  times : ℕ
+  within : times ≤ k
+  is : m ≡ 2 ^ times * p
+
+once-more : (k p m : ℕ) → Doubled k (2 * p) m → Doubled (suc k) p m
+once-more k p m d = record { times = suc (d .times); within = omega (arith, d .within); is = d .is ∙ doubled (d .times) p }
+
+doublings : (k p n : ℕ) → Doubled k p (powerFrom k p n)
+unfolding powerFrom
+doublings zero p n = record { times = 0; within = omega arith; is = sym (one-mul p) }
+doublings (suc k) p n =
+    elim (decLe n p) [
+      | yes h ↦ record { times = 0; within = omega arith; is = power-here k p n h ∙ sym (one-mul p) }
+      | no h ↦ rw (power-on k p n (omega arith)) (once-more k p (powerFrom k (2 * p) n) (doublings k (2 * p) n))
+    ]
+
+reaches : (k p n : ℕ) → n ≤ 2 ^ k * p → n ≤ powerFrom k p n
+unfolding powerFrom
+reaches zero p n h = omega (arith, one-mul p)
+reaches (suc k) p n h =
+    elim (decLe n p) [
+      | yes g ↦ rw (power-here k p n g) g
+      | no g ↦ rw (power-on k p n (omega arith)) (reaches k (2 * p) n (rw (doubled k p) h))
+    ]
+
+below : (k p n : ℕ) → (powerFrom k p n ≡ p) ⊎ (powerFrom k p n < 2 * n)
+unfolding powerFrom
+below zero p n = inl refl
+below (suc k) p n =
+    elim (decLe n p) [
+      | yes g ↦ inl (power-here k p n g)
+      | no g ↦ rw (power-on k p n (omega arith)) (⊎-elim (λ e. inr (omega arith)) (λ e. inr e) (below k (2 * p) n))
+    ]
+
+kept : (k j p : ℕ) → j ≤ k → 0 < p → powerFrom k p (2 ^ j * p) ≡ 2 ^ j * p
+unfolding powerFrom
+kept zero zero p h g = sym (one-mul p)
+kept zero (suc j) p h g = absurd (not-suc-le-zero h)
+kept (suc k) zero p h g = power-here k p (2 ^ 0 * p) (omega (arith, one-mul p)) ∙ sym (one-mul p)
+kept (suc k) (suc j) p h g =
+    let more : p < 2 ^ suc j * p = omega (arith, doubled j p, mul-le-mul-right (2 * p) (pow-pos j), one-mul (2 * p)) in
+    power-on k p (2 ^ suc j * p) more ∙ ap (powerFrom k (2 * p)) (sym (doubled j p)) ∙ kept k j (2 * p) (le-of-suc-le-suc h) (omega arith) ∙ doubled j p
+
+-- ---- the least power of two
+pub leastPower-power : (n : ℕ) → PowerOfTwo (leastPower n)
+unfolding leastPower
+leastPower-power n = let d = doublings 32 1 n in record { power = d .times; is = d .is ∙ mul-one (2 ^ d .times) }
+
+pub leastPower-ge : (n : ℕ) → n ≤ 2 ^ 32 → n ≤ leastPower n
+unfolding leastPower
+leastPower-ge n h = reaches 32 1 n h
+
+pub leastPower-lt : (n : ℕ) → 0 < n → leastPower n < 2 * n
+unfolding leastPower
+leastPower-lt n h = ⊎-elim (λ e. omega arith) (λ e. e) (below 32 1 n)
+
+-- a power of two is its own
+pub leastPower-kept : (j : ℕ) → j ≤ 32 → leastPower (2 ^ j) ≡ 2 ^ j
+unfolding leastPower
+leastPower-kept j h = rw mul-one at (kept 32 j 1 h (omega arith))
+
+pub leastPower-twice : (n : ℕ) → leastPower (leastPower n) ≡ leastPower n
+unfolding leastPower
+leastPower-twice n =
+    let d = doublings 32 1 n in
+    ap (powerFrom 32 1) (d .is) ∙ kept 32 (d .times) 1 (d .within) (omega arith) ∙ sym (d .is)
+
+-- ---- slots
+pub slotsFor-few : (n : ℕ) → n < 2 → slotsFor n ≡ 2
+unfolding slotsFor
+slotsFor-few n h = rw (slotsFor, lt-ltb n 2 h)
+
+pub slotsFor-many : (n : ℕ) → 2 ≤ n → slotsFor n ≡ leastPower (3 * n / 2)
+unfolding slotsFor
+slotsFor-many n h = rw (slotsFor, le-ltb n 2 h)
+
+pub slotsFor-power : (n : ℕ) → PowerOfTwo (slotsFor n)
+slotsFor-power n =
+    elim (decLt n 2) [
+      | yes h ↦ record { power = 1; is = slotsFor-few n h }
+      | no h ↦ rw (slotsFor-many n (omega arith)) (leastPower-power (3 * n / 2))
+    ]
+
+-- more slots than units
+pub slotsFor-gt : (n : ℕ) → n ≤ 2 ^ 31 → n < slotsFor n
+slotsFor-gt n b =
+    elim (decLt n 2) [
+      | yes h ↦ rw (slotsFor-few n h) h
+      | no h ↦ rw (slotsFor-many n (omega arith)) (omega (arith, leastPower-ge (3 * n / 2) (omega arith)))
+    ]
+
+pub slotsFor-le : (n : ℕ) → 0 < n → slotsFor n ≤ 3 * n
+slotsFor-le n b =
+    elim (decLt n 2) [
+      | yes h ↦ rw (slotsFor-few n h) (omega arith)
+      | no h ↦ rw (slotsFor-many n (omega arith)) (omega (arith, leastPower-lt (3 * n / 2) (omega arith)))
+    ]
+
+-- the number fits 4 bytes
+pub slotsFor-fits : (n : ℕ) → n ≤ 2 ^ 30 → slotsFor n < 2 ^ 32
+slotsFor-fits n b =
+    elim (decLt n 2) [
+      | yes h ↦ rw (slotsFor-few n h) (omega arith)
+      | no h ↦ omega (arith, slotsFor-le n (omega arith))
+    ]
+
+-- as a reader of an index tests it
+pub leastPower-slotsFor : (n : ℕ) → leastPower (slotsFor n) ≡ slotsFor n
+leastPower-slotsFor n =
+    elim (decLt n 2) [
+      | yes h ↦ rw (slotsFor-few n h) (leastPower-kept 1 (omega arith))
+      | no h ↦ rw (slotsFor-many n (omega arith)) (leastPower-twice (3 * n / 2))
+    ]

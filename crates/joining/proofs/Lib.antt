@@ -1,0 +1,4 @@
+-- Laws of sections joined.
+-- Assumes nothing.
+pub mod Entering
+pub mod Joining

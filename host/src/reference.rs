@@ -1,0 +1,22 @@
+//! Document 01 in plain Rust: packing and both lookups, with every refusal.
+//!
+//! It is written from document 01 and the readings in docs/DECISIONS.md, never from the proved definitions, so that an
+//! error in one is not an error in the other. It is meant to be read, not to be fast.
+
+mod abbreviations;
+mod bundle;
+mod bytes;
+mod index;
+mod leb128;
+mod lookup;
+mod pack;
+mod strings;
+mod unit;
+
+pub use bundle::{Bundle, Encoding, Object, Section};
+pub use bytes::{number, put};
+pub use index::{place, slot_count, Index, Probe};
+pub use lookup::{lookup, lookup_string, Found};
+pub use pack::{pack, Packed, LONGEST_BUNDLE};
+pub use strings::{header_size, string_at};
+pub use unit::{read as read_unit, Table, Unit};
