@@ -4,3 +4,6 @@ pub mod Entries
 pub mod Sizes
 pub mod Fields
 pub mod Attributes
+pub mod Places
+pub mod Declarations
+pub mod Walks
