@@ -217,3 +217,9 @@ module _ (s : List ℕ) (at : ℕ) where
         ∙ ap (further at) (sizes-more a n (attributesOf (drop n (drop at s)))) ∙ further-further at n _
         ∙ ap (λ (t : List ℕ). further (at + n) (attributesSize t)) (drop-drop n at s)
         )
+
+pub size-within : (s : List ℕ) (n : ℕ) → attributesSize s ≡ pass n → n ≤ length s
+unfolding attributesSize
+size-within s n e =
+    let p = bind-pass (attributesOf s) _ n e in
+    omega (arith, attributes-within s (p .0) (p .1) .1, pass-inj (p .2))

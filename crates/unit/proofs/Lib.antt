@@ -7,3 +7,4 @@ pub mod Attributes
 pub mod Places
 pub mod Declarations
 pub mod Walks
+pub mod Finding

@@ -170,3 +170,21 @@ module _ (s : List ℕ) where
     pub good-on : codeFree (drop (d .place .end) s) (d .code) ≡ true → tableGood s ≡ tableGood (drop (d .place .end) s)
     unfolding codeFree
     good-on h = let f = table-more s d e in good-is s ∙ ap (λ (m : Check (List Declaration)). passed (judged m)) (f .is) ∙ judged-on (declared d (f .attributes)) _ h ∙ sym (good-is (drop (d .place .end) s))
+
+-- ---- the same at a place of the table, as a loop with a cursor reads it
+module _ (s : List ℕ) (at : ℕ) (d : Coded) (e : declaredAt (drop at s) ≡ pass (some d)) where
+  pub walk-within : at ≤ length s → (1 ≤ d .place .end) × (at + d .place .end ≤ length s) × (at + d .place .start ≤ length s)
+  walk-within h =
+      let f = table-more (drop at s) d e in
+      (f .some, omega (arith, f .some, f .within, length-drop at s), omega (arith, f .some, f .within, f .order, length-drop at s))
+
+  pub free-turn : (code : ℕ) → (d .code ≡ code → ⊥) → codeFree (drop (at + d .place .end) s) code ≡ codeFree (drop at s) code
+  free-turn code h = ap (λ (t : List ℕ). codeFree t code) (sym (drop-drop (d .place .end) at s)) ∙ sym (code-on (drop at s) code d e h)
+
+  pub good-turn : codeFree (drop (at + d .place .end) s) (d .code) ≡ true → tableGood (drop (at + d .place .end) s) ≡ tableGood (drop at s)
+  good-turn h =
+      ap tableGood (sym (drop-drop (d .place .end) at s))
+      ∙ sym (good-on (drop at s) d e (ap (λ (t : List ℕ). codeFree t (d .code)) (drop-drop (d .place .end) at s) ∙ h))
+
+  pub good-stops : codeFree (drop (at + d .place .end) s) (d .code) ≡ false → tableGood (drop at s) ≡ false
+  good-stops h = good-repeats (drop at s) d e (ap (λ (t : List ℕ). codeFree t (d .code)) (drop-drop (d .place .end) at s) ∙ h)
