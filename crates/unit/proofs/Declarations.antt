@@ -1,23 +1,21 @@
 -- The declarations of an abbreviation table up to its zero code: equations without a bound, by what stands at the front.
 -- Assumes nothing.
-use mathlib.Core.Path.{_≡_, refl, sym, ap, ap₂, _∙_}
-use mathlib.Core.Bool.{Bool, true, false, not, _&&_}
-use mathlib.Core.List.{List, [], _∷_, map}
-use mathlib.Core.Option.{Option, some, none}
-use Prim.Native.Nat.{ℕ, zero, suc, _+_, _≤_, _<_}
+use mathlib.Core.Path.{_≡_, refl, sym, ap, _∙_}
+use mathlib.Core.List.{List, [], _∷_}
+use mathlib.Core.Option.{some}
+use Prim.Native.Nat.{ℕ, zero, suc, _+_, _≤_}
 use native.Mathlib.Omega.{arith}
 use native.Mathlib.Decide.{ℕ-discrete}
-use lib.Dec.{eqb, leb}
-use lib.ListN.{length, drop, getD, length-drop}
+use lib.ListN.{length, drop, length-drop}
 use lib.Seq.{drop-drop}
 use borrow.Author.Tests.{eq-eqb, ne-eqb}
-use Rattle.octets.specs.Checked.{Check, pass, refuse, _>>=_, require}
-use Rattle.octets.proofs.Checks.{pass-refuse, pass-inj, bind-pass, bind-same, then-pass, then-refuse, passes, require-pass}
+use Rattle.octets.specs.Checked.{Check, pass, refuse, _>>=_}
+use Rattle.octets.proofs.Checks.{pass-refuse, pass-inj, bind-pass, bind-same, then-pass, passes, require-pass}
 use Rattle.octets.proofs.Refusals.{Only, only-pass, only-refuse, only-require, only-bind, only-refuses}
 use Rattle.leb128.specs.Leb128.{groups, short, unsigned}
-use Rattle.leb128.proofs.Taken.{Taken, short-taken, unsigned-taken, only-short, only-unsigned}
+use Rattle.leb128.proofs.Taken.{short-taken, unsigned-taken, only-short, only-unsigned}
 use Rattle.unit.specs.Abbreviations.{Attribute, Declaration, attributesOf, declarationAt, declarationsThen, declarationsFrom, declarationsOf}
-use Rattle.unit.specs.Tables.{attributesSize, Place, placeAt, Coded, declaredAt, declarations}
+use Rattle.unit.specs.Tables.{attributesSize, Place, placeAt, declarations}
 use Rattle.unit.proofs.Attributes.{attributes-within, only-attributesFrom}
 
 -- ---- a declaration and its place
@@ -53,7 +51,7 @@ place-stands s p e =
       order = omega arith;
       within = omega (arith, w .1, w .0, h .within, m, length-drop (tag .0 .1) s, length-drop 1 (drop (tag .0 .1) s));
       is = λ code. then-pass _ _ _ (tag .1) ∙ passes _ _ _ (named .0) ∙ passes _ _ _ (child .0) ∙ then-pass _ _ _ (read .1)
-          ∙ ap (λ (k : ℕ). pass (declared code (tag .0 .0) (read .0 .0), tag .0 .1 + 1 + k)) m
+          ∙ ap (λ (k : ℕ). pass (declared code (tag .0 .0) (read .0 .0), tag .0 .1 + 1 + k)) m;
     })
 
 -- and a declaration has a place
@@ -63,9 +61,10 @@ declaration-place code s d e =
     let tag = bind-pass (short s) _ d e in
     let named = require-pass _ _ _ _ (tag .2) in
     let child = require-pass _ _ _ _ (named .1) in
-    let read = bind-pass (attributesOf (drop 1 (drop (tag .0 .1) s))) _ d (child .1) in
-    (record { tag = tag .0 .0; start = tag .0 .1 + 1; end = tag .0 .1 + 1 + read .0 .1 },
-      then-pass _ _ _ (tag .1) ∙ passes _ _ _ (named .0) ∙ passes _ _ _ (child .0) ∙ then-pass _ _ _ (then-pass _ _ _ (read .1)))
+    let read = bind-pass (attributesOf (drop 1 (drop (tag .0 .1) s))) _ d (child .1) in (
+      record { tag = tag .0 .0; start = tag .0 .1 + 1; end = tag .0 .1 + 1 + read .0 .1 },
+      then-pass _ _ _ (tag .1) ∙ passes _ _ _ (named .0) ∙ passes _ _ _ (child .0) ∙ then-pass _ _ _ (then-pass _ _ _ (read .1)),
+    )
 
 pub only-declarationAt : (code : ℕ) (s : List ℕ) → Only 12 (declarationAt code s)
 unfolding declarationAt attributesOf
@@ -111,8 +110,8 @@ declarations-enough (suc k) zero [] h g = declarations-nil (suc k)
 declarations-enough (suc k) zero (b ∷ s) h g = absurd (omega arith)
 declarations-enough (suc k) (suc j) s h g =
     bind-same (unsigned s) _ _ (λ c e.
-      let t = unsigned-taken s c e in
-      then-same (c .0) (drop (c .1) s) _ _ (λ u l. declarations-enough k j u (omega (arith, t .some, t .within, length-drop (c .1) s)) (omega (arith, t .some, t .within, length-drop (c .1) s))))
+    let t = unsigned-taken s c e in
+    then-same (c .0) (drop (c .1) s) _ _ (λ u l. declarations-enough k j u (omega (arith, t .some, t .within, length-drop (c .1) s)) (omega (arith, t .some, t .within, length-drop (c .1) s))))
 
 declarations-step : (k : ℕ) (s : List ℕ) → length s ≡ suc k
     → declarationsFrom (length s) s ≡ (unsigned s >>= λ c. declarationsThen (c .0) (drop (c .1) s) declarations)
@@ -120,8 +119,8 @@ unfolding declarationsFrom declarations
 declarations-step k s h =
     ap (λ (i : ℕ). declarationsFrom i s) h
     ∙ bind-same (unsigned s) _ _ (λ c e.
-      let t = unsigned-taken s c e in
-      then-same (c .0) (drop (c .1) s) _ _ (λ u l. declarations-enough k (length u) u (omega (arith, t .some, t .within, length-drop (c .1) s)) (omega arith)))
+    let t = unsigned-taken s c e in
+    then-same (c .0) (drop (c .1) s) _ _ (λ u l. declarations-enough k (length u) u (omega (arith, t .some, t .within, length-drop (c .1) s)) (omega arith)))
 
 pub declarations-is : (s : List ℕ) → declarations s ≡ (unsigned s >>= λ c. declarationsThen (c .0) (drop (c .1) s) declarations)
 unfolding declarationsFrom declarations unsigned groups _>>=_

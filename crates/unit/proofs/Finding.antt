@@ -1,15 +1,13 @@
 -- The search for a code in an abbreviation table that is good.
 -- Assumes nothing.
-use mathlib.Core.Path.{_≡_, refl, sym, ap, ap₂, _∙_}
-use mathlib.Core.Bool.{true, false}
-use mathlib.Core.List.{List, [], _∷_}
-use mathlib.Core.Option.{Option, some, none}
+use mathlib.Core.Path.{_≡_, refl, sym, ap, _∙_}
+use mathlib.Core.List.{List, _∷_}
+use mathlib.Core.Option.{some, none}
 use Prim.Native.Nat.{ℕ, _+_, _≤_}
-use native.Mathlib.Omega.{arith}
 use lib.ListN.{length, drop}
 use lib.Seq.{drop-drop}
 use borrow.Author.Tests.{eq-eqb, ne-eqb}
-use Rattle.octets.specs.Checked.{Check, pass, refuse, _>>=_, require}
+use Rattle.octets.specs.Checked.{pass, refuse}
 use Rattle.octets.proofs.Checks.{pass-refuse, pass-inj, bind-pass, require-pass}
 use Rattle.unit.specs.Abbreviations.{Declaration, attributesOf, declarationsOf, declarationOf}
 use Rattle.unit.specs.Tables.{Coded, declaredAt, declarations, Located}
@@ -28,6 +26,10 @@ ahead-all s ds code e =
     let p = bind-pass (declarations s) _ ds e in
     let q = require-pass _ _ _ _ (p .2) in
     record { left = p .0; is = p .1; same = ap (λ (es : List Declaration). declarationOf es code) (pass-inj (q .1)) }
+
+matched : (d : Declaration) (es : List Declaration) (code : ℕ) → d .code ≡ code → declarationOf (d ∷ es) code ≡ some d
+unfolding declarationOf
+matched d es code g = rw (declarationOf, eq-eqb (d .code) code g)
 
 skipped : (d : Declaration) (es : List Declaration) (code : ℕ) → (d .code ≡ code → ⊥) → declarationOf (d ∷ es) code ≡ declarationOf es code
 unfolding declarationOf
@@ -51,10 +53,10 @@ module _ (s : List ℕ) (at : ℕ) (ds : List Declaration) (code : ℕ) (a : Ahe
         (p .0, p .1, pass-inj (p .2))
 
     pub found-here : at ≤ length s → d .code ≡ code → Located s ds code (At (d .place .tag) (at + d .place .start))
-    unfolding Located declarationOf
+    unfolding Located
     found-here h g = (
       declared d (front .attributes),
-      sym (a .same) ∙ ap (λ (es : List Declaration). declarationOf es code) (sym (next .2)) ∙ rw (eq-eqb (d .code) code g),
+      sym (a .same) ∙ ap (λ (es : List Declaration). declarationOf es code) (sym (next .2)) ∙ matched (declared d (front .attributes)) (next .0) code g,
       refl,
       walk-within s at d e h .2,
       (front .size, ap attributesOf (sym (drop-drop (d .place .start) at s)) ∙ front .read),
@@ -64,5 +66,5 @@ module _ (s : List ℕ) (at : ℕ) (ds : List Declaration) (code : ℕ) (a : Ahe
     found-on g = record {
       left = next .0;
       is = ap declarations (sym (drop-drop (d .place .end) at s)) ∙ next .1;
-      same = sym (skipped (declared d (front .attributes)) (next .0) code g) ∙ ap (λ (es : List Declaration). declarationOf es code) (next .2) ∙ a .same
+      same = sym (skipped (declared d (front .attributes)) (next .0) code g) ∙ ap (λ (es : List Declaration). declarationOf es code) (next .2) ∙ a .same;
     }

@@ -1,27 +1,22 @@
 -- One declaration of an abbreviation table, and where its attributes lie.
 -- Assumes nothing.
-use mathlib.Core.Path.{_≡_, refl, sym, ap, ap₂, _∙_}
-use mathlib.Core.Bool.{Bool, true, false, not, _&&_}
-use mathlib.Core.List.{List, [], _∷_}
+use mathlib.Core.Path.{_≡_, refl, sym, ap, _∙_}
+use mathlib.Core.Bool.{true, not, _&&_}
+use mathlib.Core.List.{List}
 use mathlib.Core.Option.{Option, some, none}
-use Prim.Native.Nat.{ℕ, zero, suc, _+_, _≤_, _<_}
+use Prim.Native.Nat.{ℕ, _+_, _≤_, _<_}
 use native.Mathlib.Omega.{arith}
 use native.Mathlib.Nat.{add-zero}
-use native.Mathlib.Decide.{ℕ-discrete}
-use lib.Dec.{eqb, leb}
+use lib.Dec.{leb}
 use lib.ListN.{length, drop, getD, length-drop}
 use lib.Seq.{drop-drop, getD-drop}
 use borrow.Author.Tests.{eq-eqb, ne-eqb, le-leb, lt-leb}
-use Rattle.octets.specs.Checked.{Check, pass, refuse, _>>=_, require}
-use Rattle.octets.proofs.Checks.{pass-refuse, pass-inj, bind-pass, then-pass, then-refuse, passes, fails, require-pass, and-both, not-left, not-right}
-use Rattle.octets.proofs.Refusals.{Only, only-pass, only-require, only-bind, only-refuses}
+use Rattle.octets.specs.Checked.{Check, pass, refuse, _>>=_}
+use Rattle.octets.proofs.Checks.{then-pass, then-refuse, passes, fails, and-both, not-left, not-right}
 use Rattle.leb128.specs.Leb128.{short, unsigned}
-use Rattle.leb128.proofs.Taken.{Taken, short-taken, unsigned-taken, only-short, only-unsigned}
-use Rattle.unit.specs.Abbreviations.{Attribute, Declaration, attributesOf, declarationAt}
 use Rattle.unit.specs.Tables.{attributesSize, Place, placeAt, placeRead, Coded, declaredAt, declaredRead}
 use Rattle.unit.specs.declared.abbreviations.PlaceRead.the-variants.{Is, Refused}
 use Rattle.unit.specs.declared.abbreviations.Declared.the-variants as declared
-use Rattle.unit.proofs.Attributes.{attributes-within, only-attributesFrom}
 
 -- ---- behind the code
 module _ (s : List ℕ) where
@@ -39,7 +34,7 @@ module _ (s : List ℕ) where
       unfolding placeAt placeRead
       place-cut g =
           sym (ap placeRead (then-pass _ _ _ p ∙ passes _ _ _ (ap not (ne-eqb tag 0 h))
-            ∙ fails _ _ _ (not-left _ _ (lt-leb 1 (length (drop n s)) (omega (arith, length-drop n s))))))
+          ∙ fails _ _ _ (not-left _ _ (lt-leb 1 (length (drop n s)) (omega (arith, length-drop n s))))))
 
       module _ (g : n < length s) where
         there : leb 1 (length (drop n s)) ≡ true
@@ -52,7 +47,7 @@ module _ (s : List ℕ) where
         unfolding placeAt placeRead
         place-children f =
             sym (ap placeRead (then-pass _ _ _ p ∙ passes _ _ _ (ap not (ne-eqb tag 0 h))
-              ∙ fails _ _ _ (not-right (leb 1 (length (drop n s))) _ (lt-leb (getD (drop n s) 0 0) 1 (rw child f)))))
+            ∙ fails _ _ _ (not-right (leb 1 (length (drop n s))) _ (lt-leb (getD (drop n s) 0 0) 1 (rw child f)))))
 
         module _ (f : getD s n 0 ≤ 1) where
           head-good : (leb 1 (length (drop n s)) && leb (getD (drop n s) 0 0) 1) ≡ true
@@ -62,13 +57,13 @@ module _ (s : List ℕ) where
           unfolding placeAt placeRead
           place-broken k e =
               sym (ap placeRead (then-pass _ _ _ p ∙ passes _ _ _ (ap not (ne-eqb tag 0 h)) ∙ passes _ _ _ head-good
-                ∙ then-refuse _ _ k (ap attributesSize (drop-drop 1 n s) ∙ e)))
+              ∙ then-refuse _ _ k (ap attributesSize (drop-drop 1 n s) ∙ e)))
 
           pub place-is : (m : ℕ) → attributesSize (drop (n + 1) s) ≡ pass m → Is tag (n + 1) (n + 1 + m) ≡ placeRead (placeAt s)
           unfolding placeAt placeRead
           place-is m e =
               sym (ap placeRead (then-pass _ _ _ p ∙ passes _ _ _ (ap not (ne-eqb tag 0 h)) ∙ passes _ _ _ head-good
-                ∙ then-pass _ _ _ (ap attributesSize (drop-drop 1 n s) ∙ e)))
+              ∙ then-pass _ _ _ (ap attributesSize (drop-drop 1 n s) ∙ e)))
 
 pub place-told : (m : Check Place) (t a b : ℕ) → placeRead m ≡ Is t a b → m ≡ pass (record { tag = t; start = a; end = b })
 unfolding placeRead

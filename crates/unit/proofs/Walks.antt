@@ -1,27 +1,26 @@
 -- Walks over an abbreviation table: what the declaration at the front says of the whole table.
 -- Assumes nothing.
-use mathlib.Core.Path.{_≡_, refl, sym, ap, ap₂, _∙_}
+use mathlib.Core.Path.{_≡_, refl, sym, ap, _∙_}
 use mathlib.Core.Bool.{Bool, true, false, not}
 use mathlib.Core.List.{List, [], _∷_, map}
 use mathlib.Core.Option.{Option, some, none}
-use Prim.Native.Nat.{ℕ, zero, suc, _+_, _≤_, _<_}
+use Prim.Native.Nat.{ℕ, zero, _+_, _≤_}
 use native.Mathlib.Omega.{arith}
 use native.Mathlib.Decide.{ℕ-discrete}
-use lib.Dec.{eqb}
 use lib.ListN.{length, drop, length-drop}
 use lib.Seq.{drop-drop}
 use borrow.Author.Tests.{not-true, not-false}
 use Rattle.octets.specs.Lists.{any, has, distinct}
 use Rattle.octets.specs.Checked.{Check, pass, refuse, _>>=_, require}
-use Rattle.octets.proofs.Checks.{pass-refuse, pass-inj, bind-pass, then-pass, then-refuse, passes, fails, true-false}
-use Rattle.octets.proofs.Refusals.{Only, only-refuses}
+use Rattle.octets.proofs.Checks.{pass-refuse, pass-inj, bind-pass, then-pass, fails, true-false}
+use Rattle.octets.proofs.Refusals.{only-refuses}
 use Rattle.octets.proofs.Elements.{has-cons, has-skips, distinct-cons, distinct-stops}
 use Rattle.leb128.specs.Leb128.{unsigned}
-use Rattle.leb128.proofs.Taken.{Taken, unsigned-taken}
-use Rattle.unit.specs.Abbreviations.{Attribute, Declaration, attributesOf, declarationAt, declarationsThen, declarationsFrom, declarationsOf, declarationOf}
+use Rattle.leb128.proofs.Taken.{unsigned-taken}
+use Rattle.unit.specs.Abbreviations.{Attribute, Declaration, attributesOf, declarationAt, declarationsOf}
 use Rattle.unit.specs.Tables.{Place, placeAt, Coded, declaredAt, declarations, free, codeFree, passed, tableGood}
 use Rattle.unit.proofs.Places.{end-is, coded}
-use Rattle.unit.proofs.Declarations.{Stands, place-stands, declaration-place, then-end, then-more, declarations-is, only-declarationsFrom}
+use Rattle.unit.proofs.Declarations.{place-stands, declaration-place, then-end, then-more, declarations-is, only-declarationsFrom}
 
 some-inj : {A : Type 0} {a b : A} → some a ≡ some b → a ≡ b
 some-inj e = cc
@@ -71,7 +70,7 @@ fronted s d c p e z q i =
       order = omega (arith, st .order);
       within = omega (arith, st .within, h .within, length-drop (c .1) s);
       is = declarations-is s ∙ then-pass _ _ _ e ∙ then-more _ _ _ z ∙ then-pass _ _ _ (st .is (c .0))
-          ∙ ap (λ (t : List ℕ). declarations t >>= before (record { code = c .0; tag = p .tag; attributes = st .attributes })) (drop-drop (p .end) (c .1) s)
+          ∙ ap (λ (t : List ℕ). declarations t >>= before (record { code = c .0; tag = p .tag; attributes = st .attributes })) (drop-drop (p .end) (c .1) s);
     })
 
 pub table-more : (s : List ℕ) (d : Coded) → declaredAt s ≡ pass (some d) → Fronts s d

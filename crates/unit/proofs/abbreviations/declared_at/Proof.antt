@@ -1,47 +1,29 @@
 -- `unit::abbreviations::declared_at` meets its contract.
 -- Assumes nothing.
-use mathlib.Core.Path.{_≡_, refl, sym, ap, ap₂, _∙_}
-use mathlib.Core.List.{List}
-use mathlib.Core.Bool.{true, false}
-use Prim.Native.Nat.{ℕ, _+_, _-_, _≤_, _<_}
+use mathlib.Core.Path.{_≡_, sym, ap, _∙_}
+use Prim.Native.Nat.{_+_, _≤_}
 use native.Mathlib.Omega.{arith}
 use borrow.Author.Needs.{needs}
-use lib.ListN.{length, drop, getD, length-drop}
+use lib.ListN.{length, drop, length-drop}
 use denote.Ref.{now}
-use Rattle.octets.specs.Checked.{pass, refuse}
-use Rattle.leb128.specs.Leb128.{short, unsigned}
-use Rattle.leb128.specs.Answers.{sizeOf, numberOf}
-use Rattle.leb128.proofs.Taken.{Taken, short-taken, unsigned-taken}
-use Rattle.leb128.proofs.Answered.{number-is, number-not, size-is, size-not}
-use Rattle.unit.specs.Abbreviations.{Attribute, attributeAt}
-use Rattle.unit.specs.Tables.{attributesSize}
-use Rattle.unit.proofs.Sizes.{further, further-none, rest}
-use lib.Seq.{drop-drop}
-use mathlib.Core.Option.{some, none}
-use Rattle.unit.specs.Abbreviations.{Declaration, declarationsOf}
-use Rattle.unit.specs.Tables.{placeAt, declaredAt, declarations, codeFree, tableGood, Located}
-use Rattle.unit.proofs.Declarations.{Stands, place-stands}
-use Rattle.unit.proofs.Places.{place-none, place-untagged, place-cut, place-children, place-broken, place-is, place-told, place-not, declared-none, declared-end, declared-broken, declared-is, declared-told, end-told, declared-not}
-use Rattle.unit.proofs.Walks.{code-end, code-not, code-same, good-end, good-not, walk-within, free-turn, good-turn, good-stops}
-use Rattle.unit.proofs.Finding.{Ahead, ahead-all, found-not, found-end, found-here, found-on}
-use Rattle.unit.proofs.Attributes.{attribute-none, attribute-formless, attribute-half, attribute-implicit, attribute-is, both-zero, neither-zero, first-zero, second-zero, attribute-told, attribute-not, attributeAt-taken, attributes-within}
+use Rattle.octets.specs.Checked.{pass}
+use Rattle.leb128.specs.Leb128.{unsigned}
+use Rattle.leb128.proofs.Taken.{unsigned-taken}
+use Rattle.leb128.proofs.Answered.{number-is, number-not}
+use Rattle.unit.proofs.Sizes.{rest}
+use Rattle.unit.specs.Tables.{placeAt}
+use Rattle.unit.proofs.Declarations.{place-stands}
+use Rattle.unit.proofs.Places.{place-told, place-not, declared-none, declared-end, declared-broken, declared-is}
 use borrow.Author.Needs.{needs}
 use Rattle.unit.proofs.abbreviations.declared_at.Statement.{statement}
 use Rattle.unit.proofs.abbreviations.declared_at.Tie as tie
-use Rattle.unit.proofs.abbreviations.declared_at.Reads as reads
-use Rattle.unit.proofs.abbreviations.declared_at.Lts as lts
-use Rattle.leb128.proofs.read_unsigned.Reads as read-unsigned-reads
-use Rattle.unit.proofs.abbreviations.place_at.Reads as place-at-reads
 
--- src/abbreviations.rt:118:31
 read-unsigned-requires : tie.Need-read-unsigned-requires
 read-unsigned-requires c κs = search needs
 
--- src/abbreviations.rt:118:20
 enum-known-code : tie.Need-enum-known-code
 enum-known-code c = search needs
 
--- src/abbreviations.rt:119:9
 enum-told : tie.Need-enum-told
 enum-told c = search needs
 
@@ -61,43 +43,34 @@ room : (c : tie.After-known-told2)
     × (c .before .before .before .before .before .before .before .code .given .0 .1 .0 + c .before .tag .given .0 .1 .1 .0 ≤ length (now (c .before .before .before .before .before .before .before .before .before .before .before .args .s)))
 room c =
     let st = place-stands _ _ (placed c) in
-    let u = unsigned-taken _ _ (told (c .before .before .before .before .before .before )) in
+    let u = unsigned-taken _ _ (told (c .before .before .before .before .before .before)) in
     let d = length-drop (c .before .before .before .before .before .before .before .code .given .0 .1 .0) (now (c .before .before .before .before .before .before .before .before .before .before .before .args .s)) in
     (omega (arith, st .order, st .within, u .within, d), omega (arith, st .within, u .within, d))
 
--- src/abbreviations.rt:119:9
 returns : tie.Need-returns
 returns c = let k = number-not _ (sym (c .before .before .read-unsigned .ensures) ∙ c .enum-told .given .1) in declared-none _ _ (k .1)
 
--- src/abbreviations.rt:122:9
 returns-2 : tie.Need-returns-2
 returns-2 c = declared-end _ _ _ (told (c .before)) (c .if1 .taken)
 
--- src/abbreviations.rt:124:51
 sub-place-at : tie.Need-sub-place-at
 sub-place-at c = unsigned-taken _ _ (told (c .before)) .within
 
--- src/abbreviations.rt:124:51
 part-place-at-start : tie.Need-part-place-at-start
 part-place-at-start c = unsigned-taken _ _ (told (c .before)) .within
 
--- src/abbreviations.rt:124:51
 part-place-at-end : tie.Need-part-place-at-end
 part-place-at-end c = search needs
 
--- src/abbreviations.rt:124:42
 place-at-requires : tie.Need-place-at-requires
 place-at-requires c κs = search needs
 
--- src/abbreviations.rt:124:23
 enum-known-tag : tie.Need-enum-known-tag
 enum-known-tag c = search needs
 
--- src/abbreviations.rt:125:9
 enum-told-2 : tie.Need-enum-told-2
 enum-told-2 c = search needs
 
--- src/abbreviations.rt:125:9
 returns-3 : tie.Need-returns-3
 returns-3 c =
     let f = c .before .before .before .before in
@@ -105,17 +78,14 @@ returns-3 c =
     let k = place-not _ (sym (c .before .before .place-at .ensures) ∙ c .enum-told2 .given .1) in
     declared-broken _ _ _ (told t) (f .if1 .left) _ (ap placeAt (sym (rest (t .before .code .given .0 .1 .0) (now (t .before .before .before .before .before .args .s)))) ∙ k .1)
 
--- src/abbreviations.rt:127:29
 add-t11 : tie.Need-add-t11
 add-t11 c = omega (arith, room c .0)
 
--- src/abbreviations.rt:127:40
 add-t14 : tie.Need-add-t14
 add-t14 c = omega (arith, room c .1)
 
--- src/abbreviations.rt:115:1
 returns-4 : tie.Need-returns-4
-returns-4 c = declared-is _ _ _ (told (c .before .before .before .before .before .before )) (c .before .before .before .before .before .if1 .left) _ (placed c)
+returns-4 c = declared-is _ _ _ (told (c .before .before .before .before .before .before)) (c .before .before .before .before .before .if1 .left) _ (placed c)
 
 pub declared-at-spec : {M : Type 1} → statement M
 declared-at-spec =

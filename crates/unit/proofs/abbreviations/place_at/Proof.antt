@@ -1,47 +1,28 @@
 -- `unit::abbreviations::place_at` meets its contract.
 -- Assumes nothing.
-use mathlib.Core.Path.{_≡_, refl, sym, ap, ap₂, _∙_}
-use mathlib.Core.List.{List}
-use mathlib.Core.Bool.{true, false}
-use Prim.Native.Nat.{ℕ, _+_, _-_, _≤_, _<_}
+use mathlib.Core.Path.{_≡_, sym, ap, _∙_}
+use Prim.Native.Nat.{_+_}
 use native.Mathlib.Omega.{arith}
 use borrow.Author.Needs.{needs}
-use lib.ListN.{length, drop, getD, length-drop}
+use lib.ListN.{drop, length-drop}
 use denote.Ref.{now}
-use Rattle.octets.specs.Checked.{pass, refuse}
-use Rattle.leb128.specs.Leb128.{short, unsigned}
-use Rattle.leb128.specs.Answers.{sizeOf, numberOf}
-use Rattle.leb128.proofs.Taken.{Taken, short-taken, unsigned-taken}
+use Rattle.octets.specs.Checked.{pass}
+use Rattle.leb128.specs.Leb128.{short}
 use Rattle.leb128.proofs.Answered.{number-is, number-not, size-is, size-not}
-use Rattle.unit.specs.Abbreviations.{Attribute, attributeAt}
 use Rattle.unit.specs.Tables.{attributesSize}
-use Rattle.unit.proofs.Sizes.{further, further-none, rest}
-use lib.Seq.{drop-drop}
-use mathlib.Core.Option.{some, none}
-use Rattle.unit.specs.Abbreviations.{Declaration, declarationsOf}
-use Rattle.unit.specs.Tables.{placeAt, declaredAt, declarations, codeFree, tableGood, Located}
-use Rattle.unit.proofs.Declarations.{Stands, place-stands}
-use Rattle.unit.proofs.Places.{place-none, place-untagged, place-cut, place-children, place-broken, place-is, place-told, place-not, declared-none, declared-end, declared-broken, declared-is, declared-told, end-told, declared-not}
-use Rattle.unit.proofs.Walks.{code-end, code-not, code-same, good-end, good-not, walk-within, free-turn, good-turn, good-stops}
-use Rattle.unit.proofs.Finding.{Ahead, ahead-all, found-not, found-end, found-here, found-on}
-use Rattle.unit.proofs.Attributes.{attribute-none, attribute-formless, attribute-half, attribute-implicit, attribute-is, both-zero, neither-zero, first-zero, second-zero, attribute-told, attribute-not, attributeAt-taken, attributes-within, size-within}
+use Rattle.unit.proofs.Sizes.{rest}
+use Rattle.unit.proofs.Places.{place-none, place-untagged, place-cut, place-children, place-broken, place-is}
+use Rattle.unit.proofs.Attributes.{size-within}
 use borrow.Author.Needs.{needs}
 use Rattle.unit.proofs.abbreviations.place_at.Statement.{statement}
 use Rattle.unit.proofs.abbreviations.place_at.Tie as tie
-use Rattle.unit.proofs.abbreviations.place_at.Reads as reads
-use Rattle.unit.proofs.abbreviations.place_at.Lts as lts
-use Rattle.leb128.proofs.read_short.Reads as read-short-reads
-use Rattle.unit.proofs.abbreviations.attributes_size.Reads as attributes-size-reads
 
--- src/abbreviations.rt:95:30
 read-short-requires : tie.Need-read-short-requires
 read-short-requires c κs = search needs
 
--- src/abbreviations.rt:95:20
 enum-known-tag : tie.Need-enum-known-tag
 enum-known-tag c = search needs
 
--- src/abbreviations.rt:96:9
 enum-told : tie.Need-enum-told
 enum-told c = search needs
 
@@ -55,55 +36,42 @@ sized c =
     ap attributesSize (sym (rest (c .before .before .before .before .before .before .before .before .before .before .tag .given .0 .1 .0 + 1) (now (c .before .before .before .before .before .before .before .before .before .before .before .before .before .before .args .s))))
     ∙ size-is _ _ (sym (c .before .before .before .attributes-size .ensures) ∙ c .before .m .given .1)
 
--- src/abbreviations.rt:96:9
 returns : tie.Need-returns
 returns c = let k = number-not _ (sym (c .before .before .read-short .ensures) ∙ c .enum-told .given .1) in place-none _ _ (k .1)
 
--- src/abbreviations.rt:99:9
 returns-2 : tie.Need-returns-2
 returns-2 c = place-untagged _ _ _ (told (c .before)) (c .if1 .taken)
 
--- src/abbreviations.rt:102:9
 returns-3 : tie.Need-returns-3
 returns-3 c = place-cut _ _ _ (told (c .before .before)) (c .before .if1 .left) (c .if2 .taken)
 
--- src/abbreviations.rt:104:12
 shared-slice-read-if3 : tie.Need-shared-slice-read-if3
 shared-slice-read-if3 c = search needs
 
--- src/abbreviations.rt:105:9
 returns-4 : tie.Need-returns-4
-returns-4 c = place-children _ _ _ (told (c .before .before .before .before )) (c .before .before .before .if1 .left) (c .before .before .if2 .left) (c .if3 .taken)
+returns-4 c = place-children _ _ _ (told (c .before .before .before .before)) (c .before .before .before .if1 .left) (c .before .before .if2 .left) (c .if3 .taken)
 
--- src/abbreviations.rt:107:17
 add-start : tie.Need-add-start
 add-start c = search needs
 
--- src/abbreviations.rt:108:39
 sub-attributes-size : tie.Need-sub-attributes-size
 sub-attributes-size c = search needs
 
--- src/abbreviations.rt:108:39
 part-attributes-size-start : tie.Need-part-attributes-size-start
 part-attributes-size-start c = search needs
 
--- src/abbreviations.rt:108:39
 part-attributes-size-end : tie.Need-part-attributes-size-end
 part-attributes-size-end c = search needs
 
--- src/abbreviations.rt:108:23
 attributes-size-requires : tie.Need-attributes-size-requires
 attributes-size-requires c κs = search needs
 
--- src/abbreviations.rt:108:18
 enum-known-m : tie.Need-enum-known-m
 enum-known-m c = search needs
 
--- src/abbreviations.rt:109:9
 enum-told-2 : tie.Need-enum-told-2
 enum-told-2 c = search needs
 
--- src/abbreviations.rt:109:9
 returns-5 : tie.Need-returns-5
 returns-5 c =
     let f = c .before .before .before .before in
@@ -112,7 +80,6 @@ returns-5 c =
     place-broken _ _ _ (told t) (f .before .before .before .if1 .left) (f .before .before .if2 .left) (f .if3 .left) _
     (ap attributesSize (sym (rest (t .before .tag .given .0 .1 .0 + 1) (now (t .before .before .before .before .before .args .s)))) ∙ k .1)
 
--- src/abbreviations.rt:111:31
 add-t8 : tie.Need-add-t8
 add-t8 c =
     let f = c .before .before .before .before .before in
@@ -122,7 +89,6 @@ add-t8 c =
     let w = size-within (drop (n + 1) s) _ (sized c) in
     omega (arith, w, length-drop (n + 1) s, f .before .before .if2 .left)
 
--- src/abbreviations.rt:92:1
 returns-6 : tie.Need-returns-6
 returns-6 c =
     let f = c .before .before .before .before .before in
