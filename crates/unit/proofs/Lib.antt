@@ -8,3 +8,5 @@ pub mod Places
 pub mod Declarations
 pub mod Walks
 pub mod Finding
+pub mod Values
+pub mod Stepping
