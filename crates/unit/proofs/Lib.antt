@@ -10,3 +10,4 @@ pub mod Walks
 pub mod Finding
 pub mod Values
 pub mod Stepping
+pub mod Rooted

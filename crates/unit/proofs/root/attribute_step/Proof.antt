@@ -157,7 +157,7 @@ unfolding seenOf encodingIs
 returns-7 c =
     let k = c .before in
     let t = k .before .before .before .before in
-    ap (λ (x : ℕ). On _ _ (Stated x)) (c .u64-at .ensures)
+    ap (λ (x : ℕ). On (t .before .before .before .before .before .before .name .given .0 .1 .1 .0) (t .before .real .given .0 .1 .0 + t .before .real .given .0 .1 .1 .0) (Stated x)) (c .u64-at .ensures)
     ∙ on t _ (nothing-before _ _ _ _ (k .before .before .enum-told3 .given .1) ∙ identity-stated _ _ _ _ (k .before .if2 .left) (k .if3 .left))
 
 pub attribute-step-spec : {M : Type 1} → statement M

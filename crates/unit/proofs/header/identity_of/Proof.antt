@@ -1,0 +1,82 @@
+use borrow.Author.Needs.{needs}
+use Rattle.unit.proofs.header.identity_of.Statement.{statement}
+use Rattle.unit.proofs.header.identity_of.Tie as tie
+use Rattle.unit.proofs.header.identity_of.Reads as reads
+use Rattle.unit.proofs.header.identity_of.Lts as lts
+use Rattle.unit.proofs.header.identity_of_root.Reads as identity-of-root-reads
+use Rattle.unit.proofs.header.signature.Reads as signature-reads
+
+-- src/header.rt:212:36
+enum-told : tie.Need-enum-told
+enum-told c = search needs
+
+-- src/header.rt:212:36
+signature-requires : tie.Need-signature-requires
+signature-requires c κs = ?
+
+-- src/header.rt:212:13
+returns : tie.Need-returns
+returns c = ?
+
+-- src/header.rt:215:36
+enum-told-2 : tie.Need-enum-told-2
+enum-told-2 c = search needs
+
+-- src/header.rt:215:36
+signature-requires-2 : tie.Need-signature-requires-2
+signature-requires-2 c κs = ?
+
+-- src/header.rt:215:13
+returns-2 : tie.Need-returns-2
+returns-2 c = ?
+
+-- src/header.rt:218:39
+enum-told-3 : tie.Need-enum-told-3
+enum-told-3 c = search needs
+
+-- src/header.rt:218:39
+identity-of-root-requires : tie.Need-identity-of-root-requires
+identity-of-root-requires c κs = ?
+
+-- src/header.rt:218:34
+enum-known-x : tie.Need-enum-known-x
+enum-known-x c = search needs
+
+-- src/header.rt:219:17
+enum-told-4 : tie.Need-enum-told-4
+enum-told-4 c = search needs
+
+-- src/header.rt:219:17
+returns-3 : tie.Need-returns-3
+returns-3 c = ?
+
+-- src/header.rt:221:13
+returns-4 : tie.Need-returns-4
+returns-4 c = ?
+
+-- src/header.rt:224:13
+enum-told-5 : tie.Need-enum-told-5
+enum-told-5 c = search needs
+
+-- src/header.rt:224:13
+returns-5 : tie.Need-returns-5
+returns-5 c = ?
+
+pub identity-of-spec : {M : Type 1} → statement M
+identity-of-spec =
+    tie.close
+    (tie.spec
+    enum-told
+    signature-requires
+    returns
+    enum-told-2
+    signature-requires-2
+    returns-2
+    enum-told-3
+    identity-of-root-requires
+    enum-known-x
+    enum-told-4
+    returns-3
+    returns-4
+    enum-told-5
+    returns-5)
