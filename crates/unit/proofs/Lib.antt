@@ -11,3 +11,4 @@ pub mod Finding
 pub mod Values
 pub mod Stepping
 pub mod Rooted
+pub mod Units

@@ -1,25 +1,26 @@
 -- The identity that the root states, by its table, its code, its tag and its attributes.
 -- Assumes nothing.
-use mathlib.Core.Path.{_≡_, refl, sym, ap, ap₂, _∙_}
-use mathlib.Core.Bool.{Bool, true, false}
-use mathlib.Core.List.{List, []}
-use mathlib.Core.Option.{Option, some, none}
+use mathlib.Core.Path.{_≡_, refl, sym, ap, _∙_}
+use mathlib.Core.Bool.{true, false}
+use mathlib.Core.List.{List}
+use mathlib.Core.Option.{none}
 use Prim.Native.Nat.{ℕ, _+_, _≤_, _<_}
 use native.Mathlib.Omega.{arith}
 use lib.ListN.{length, drop, drop-of-length-le}
-use Rattle.octets.specs.Checked.{Check, pass, refuse, _>>=_, require}
-use Rattle.octets.proofs.Checks.{pass-refuse, true-false, then-pass, then-refuse, passes, fails}
-use Rattle.octets.proofs.Refusals.{Only, only-pass, only-require, only-bind, only-refuses}
-use Rattle.leb128.specs.Leb128.{groups, unsigned}
+use Rattle.octets.specs.Checked.{Check, pass, refuse}
+use Rattle.octets.proofs.Checks.{true-false, then-pass, then-refuse, passes, fails}
+use Rattle.octets.proofs.Refusals.{Only, only-require, only-bind, only-refuses}
+use Rattle.leb128.specs.Leb128.{unsigned}
 use Rattle.leb128.proofs.Taken.{only-unsigned}
 use Rattle.bundle.specs.Encoding.{Encoding}
-use Rattle.unit.specs.Abbreviations.{Declaration, attributesOf, declarationsFrom, declarationsOf, declarationOf}
+use Rattle.unit.specs.Abbreviations.{Declaration, declarationsFrom, declarationsOf}
 use Rattle.unit.specs.Tables.{passed, tableGood, Located}
-use Rattle.unit.specs.Root.{needed, identityIn, rootTag, rootIdentity}
+use Rattle.unit.specs.Root.{needed, rootTag, rootIdentity}
+use Rattle.octets.specs.Octets.{numberAt}
+use Rattle.unit.specs.UnitRead.{lengthField}
+use Rattle.unit.specs.Headers.{tableAt}
 use Rattle.unit.specs.Roots.{identityFrom, rootRead, rootCheck}
 use Rattle.unit.specs.declared.abbreviations.Found.the-variants.{At, Nothing}
-use Rattle.unit.specs.declared.root.RootIdentity.{RootIdentity}
-use Rattle.unit.specs.declared.root.RootIdentity.the-variants.{Is, Unreadable}
 use Rattle.unit.proofs.Declarations.{only-declarationsOf}
 use Rattle.unit.proofs.Values.{only-needed}
 use Rattle.unit.proofs.Stepping.{only-identityIn}
@@ -28,7 +29,7 @@ pub only-rootIdentity : (e : Encoding) (table s : List ℕ) → Only 12 (rootIde
 unfolding rootIdentity
 only-rootIdentity e table s =
     only-bind 12 _ _ (only-declarationsOf table) (λ ds. only-bind 12 _ _ (only-unsigned s) (λ c. only-bind 12 _ _ (only-needed _) (λ d.
-      only-bind 12 _ _ (only-require _ 12) (λ _. only-bind 12 _ _ (only-identityIn e _ _ none) (λ x. only-needed x)))))
+    only-bind 12 _ _ (only-require _ 12) (λ _. only-bind 12 _ _ (only-identityIn e _ _ none) (λ x. only-needed x)))))
 
 -- the code's answer as a check, where every refusal is 12
 pub root-check : (m : Check ℕ) → Only 12 m → rootCheck (rootRead m) ≡ m
@@ -86,3 +87,9 @@ module _ (e : Encoding) (table s : List ℕ) where
         root-is h =
             then-pass _ _ _ g ∙ then-pass _ _ _ c ∙ then-pass _ _ _ (ap needed (l .1)) ∙ passes _ _ _ (ap rootTag (l .2) ∙ h)
             ∙ sym (then-pass _ _ _ (l .4 .1))
+
+-- an offset behind the end of abbrev: the table does not end
+pub root-past : (e : Encoding) (abbreviations u s : List ℕ) (at : ℕ) → at ≡ numberAt (e .big) (e .width) u (lengthField e + 2) → length abbreviations < at
+    → refuse 12 ≡ rootIdentity e (tableAt e abbreviations u) s
+unfolding tableAt rootIdentity declarationsOf declarationsFrom _>>=_
+root-past e abbreviations u s at h g = let l : length abbreviations ≤ at = omega arith in rw (← h, drop-of-length-le abbreviations l)

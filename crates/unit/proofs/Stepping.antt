@@ -1,30 +1,28 @@
 -- One attribute of the root, and the walk over all of them.
 -- Assumes nothing.
 use mathlib.Core.Path.{_≡_, refl, sym, ap, ap₂, _∙_}
-use mathlib.Core.Bool.{Bool, true, false}
 use mathlib.Core.List.{List, [], _∷_}
 use mathlib.Core.Option.{Option, some, none}
-use Prim.Native.Nat.{ℕ, _+_, _≤_, _<_}
+use Prim.Native.Nat.{ℕ, _+_, _≤_}
 use native.Mathlib.Omega.{arith}
 use native.Mathlib.Decide.{ℕ-discrete}
 use lib.Dec.{eqb}
-use lib.ListN.{length, drop, length-drop}
+use lib.ListN.{length, drop}
 use lib.Seq.{drop-drop}
 use borrow.Author.Tests.{eq-eqb, ne-eqb}
 use Rattle.octets.specs.Octets.{numberAt}
 use Rattle.octets.specs.Checked.{Check, pass, refuse, _>>=_, require}
 use Rattle.octets.proofs.Checks.{pass-refuse, pass-inj, bind-pass, then-pass, then-refuse, passes, fails}
-use Rattle.octets.proofs.Refusals.{Only, only-pass, only-refuse, only-require, only-bind}
+use Rattle.octets.proofs.Refusals.{Only, only-pass, only-require, only-bind}
 use Rattle.bundle.specs.Encoding.{Encoding}
-use Rattle.unit.specs.Abbreviations.{Attribute, attributeAt, attributesThen, attributesOf}
+use Rattle.unit.specs.Abbreviations.{Attribute, attributeAt, attributesOf}
 use Rattle.unit.specs.Root.{needed, Value, valueOf, identityAt, identityIn}
 use Rattle.unit.specs.Roots.{Move, attributeStep, movedRead, seenIs, seenOf, identityFrom, rootRead}
 use Rattle.unit.specs.declared.root.Seen.{Seen}
-use Rattle.unit.specs.declared.root.Seen.the-variants.{Stated, Nothing}
 use Rattle.unit.specs.declared.root.Moved.the-variants.{On, End, Refused}
 use Rattle.unit.specs.declared.root.RootIdentity.the-variants.{Unreadable}
-use Rattle.unit.proofs.Attributes.{before, attributeAt-taken, attributes-is, attributes-not, attributes-end, attributes-more}
-use Rattle.unit.proofs.Values.{Within, value-within, only-valueOf, only-needed}
+use Rattle.unit.proofs.Attributes.{before, attributeAt-taken, attributes-is, attributes-end, attributes-more}
+use Rattle.unit.proofs.Values.{value-within, only-valueOf}
 
 -- ---- what an attribute states
 module _ (e : Encoding) (name : ℕ) (v : Value) (s : List ℕ) where

@@ -1,20 +1,20 @@
 -- An attribute's value, plain or behind an indirect form.
 -- Assumes nothing.
-use mathlib.Core.Path.{_≡_, refl, sym, ap, ap₂, _∙_}
+use mathlib.Core.Path.{_≡_, refl, sym, ap, _∙_}
 use mathlib.Core.Bool.{Bool, true, false}
 use mathlib.Core.List.{List}
 use mathlib.Core.Option.{Option, some, none}
-use Prim.Native.Nat.{ℕ, _+_, _≤_, _<_}
+use Prim.Native.Nat.{ℕ, _+_, _≤_}
 use native.Mathlib.Omega.{arith}
 use native.Mathlib.Decide.{ℕ-discrete}
-use lib.Dec.{eqb, leb}
+use lib.Dec.{leb}
 use lib.ListN.{length, drop, length-drop}
 use borrow.Author.Tests.{eq-eqb, ne-eqb, leb-true}
 use Rattle.octets.specs.Checked.{Check, pass, refuse, _>>=_, require}
-use Rattle.octets.proofs.Checks.{pass-refuse, pass-inj, bind-pass, bind-same, then-pass, then-refuse, require-pass}
+use Rattle.octets.proofs.Checks.{pass-refuse, pass-inj, bind-pass, then-pass, then-refuse, require-pass}
 use Rattle.octets.proofs.Refusals.{Only, only-pass, only-refuse, only-require, only-bind}
 use Rattle.leb128.specs.Leb128.{short}
-use Rattle.leb128.proofs.Taken.{Taken, short-taken, only-short}
+use Rattle.leb128.proofs.Taken.{short-taken, only-short}
 use Rattle.bundle.specs.Encoding.{Encoding}
 use Rattle.unit.specs.Forms.{Width, fixed, forms, widthIn, valueSize}
 use Rattle.unit.specs.Widths.{ends, sizeWithin}
@@ -116,11 +116,13 @@ plain-within e form s v h =
     let n = bind-pass (valueSize e (w .0) s) _ v (w .2) in
     let r = require-pass _ _ _ _ (n .2) in
     let b : n .0 ≤ length s = leb-true (n .0) (length s) (r .0) in
-    rw (← pass-inj (r .1))
-    (refl, record {
-      ends = omega arith;
-      eight = λ z. sized-eight e (w .0) s (n .0) (some-inj (sym (needed-some _ _ (w .1)) ∙ ap (widthIn forms) z ∙ eight)) (n .1)
-    })
+    rw (← pass-inj (r .1)) (
+      refl,
+      record {
+        ends = omega arith;
+        eight = λ z. sized-eight e (w .0) s (n .0) (some-inj (sym (needed-some _ _ (w .1)) ∙ ap (widthIn forms) z ∙ eight)) (n .1);
+      },
+    )
 
 pub value-within : (e : Encoding) (form : ℕ) (s : List ℕ) (v : Value) → valueOf e form s ≡ pass v → Within s v
 value-within e form s v h = elim (ℕ-discrete form 0x16) [

@@ -1,6 +1,6 @@
 // The header of a unit, and the unit read whole.
-use bundle::encoding::ObjectEncoding;
 use crate::root::RootIdentity;
+use bundle::encoding::ObjectEncoding;
 use leb128::Size;
 ghost use mathlib.Core.Path.{_≡_};
 ghost use Prim.Native.Nat.{_+_, _≤_};

@@ -1,9 +1,10 @@
 // The root of a unit of version 4 in info: its attributes are walked to their end, and the first 2131 hexadecimal states the identity.
-use bundle::encoding::ObjectEncoding;
-use crate::abbreviations::{AttributeRead, Found};
+use crate::abbreviations::AttributeRead;
+use crate::abbreviations::Found;
 use crate::forms::FormWidth;
-use leb128::{Number, Size};
-
+use bundle::encoding::ObjectEncoding;
+use leb128::Number;
+use leb128::Size;
 ghost use mathlib.Core.Path.{_≡_};
 ghost use mathlib.Core.Option.{none};
 ghost use Rattle.bundle.specs.Encoded.{encodingIs};

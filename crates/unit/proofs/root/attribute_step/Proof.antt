@@ -1,54 +1,34 @@
 -- `unit::root::attribute_step` meets its contract.
 -- Assumes nothing.
-use mathlib.Core.Path.{_≡_, refl, sym, ap, ap₂, _∙_}
-use mathlib.Core.Bool.{true, false}
+use mathlib.Core.Path.{_≡_, sym, ap, _∙_}
 use mathlib.Core.List.{List}
 use mathlib.Core.Option.{Option, some, none}
-use Prim.Native.Nat.{ℕ, _+_, _-_, _≤_, _<_}
+use Prim.Native.Nat.{ℕ, _+_}
 use native.Mathlib.Omega.{arith}
 use borrow.Author.Needs.{needs}
-use borrow.Author.Tests.{eq-eqb, ne-eqb, not-true, not-false}
-use lib.Dec.{eqb}
-use lib.ListN.{length, drop, length-drop}
 use denote.Ref.{now}
-use Rattle.octets.specs.Checked.{Check, pass, refuse}
-use Rattle.octets.specs.Octets.{numberAt}
+use Rattle.octets.specs.Checked.{pass}
 use Rattle.bundle.specs.Encoded.{encodingIs}
 use Rattle.bundle.specs.Encoding.{Encoding}
-use Rattle.leb128.specs.Leb128.{short, unsigned}
-use Rattle.leb128.proofs.Taken.{Taken, short-taken, unsigned-taken}
-use Rattle.leb128.proofs.Answered.{number-is, number-not, size-is, size-not}
-use Rattle.unit.specs.Forms.{Width, forms, widthIn}
-use Rattle.unit.specs.Widths.{widthIs, widthFound}
-use Rattle.unit.specs.Abbreviations.{Attribute, attributeAt}
-use Rattle.unit.specs.Root.{Value, needed, plainValue, valueOf, identityAt, rootTag}
-use Rattle.unit.specs.Roots.{Move, valueRead, seenIs, seenOf, attributeStep, movedRead, identityFrom, rootRead, rootCheck}
-use Rattle.unit.specs.declared.forms.FormWidth.{FormWidth}
+use Rattle.unit.specs.Abbreviations.{attributeAt}
+use Rattle.unit.specs.Root.{Value, valueOf, identityAt}
+use Rattle.unit.specs.Roots.{seenIs, seenOf, attributeStep, movedRead}
 use Rattle.unit.specs.declared.root.Seen.{Seen}
 use Rattle.unit.specs.declared.root.Seen.the-variants.{Stated, Nothing}
 use Rattle.unit.specs.declared.root.Moved.the-variants.{On}
-use Rattle.unit.proofs.Sizes.{rest}
 use Rattle.unit.proofs.Attributes.{attribute-told, attribute-not}
-use Rattle.unit.proofs.Values.{plain-unknown, plain-not, plain-is, value-plain, indirect-none, indirect-not, indirect-value, value-told, value-not, Within, value-within}
-use Rattle.unit.proofs.Stepping.{identity-seen, identity-other, identity-form, identity-stated, step-none, step-end, step-value, step-not, step-on, moved-told, moved-end, moved-not, stepped-within, from-end, from-not, unread, from-turn}
+use Rattle.unit.proofs.Values.{value-told, value-not, value-within}
+use Rattle.unit.proofs.Stepping.{identity-seen, identity-other, identity-form, identity-stated, step-none, step-end, step-value, step-not, step-on}
 use borrow.Author.Needs.{needs}
 use Rattle.unit.proofs.root.attribute_step.Statement.{statement}
 use Rattle.unit.proofs.root.attribute_step.Tie as tie
-use Rattle.unit.proofs.root.attribute_step.Reads as reads
-use Rattle.unit.proofs.root.attribute_step.Lts as lts
-use Rattle.octets.proofs.u64_at.Reads as u64-at-reads
-use Rattle.unit.proofs.abbreviations.attribute_at.Reads as attribute-at-reads
-use Rattle.unit.proofs.root.value_of.Reads as value-of-reads
 
--- src/root.rt:78:44
 attribute-at-requires : tie.Need-attribute-at-requires
 attribute-at-requires c κs = search needs
 
--- src/root.rt:78:27
 enum-known-name : tie.Need-enum-known-name
 enum-known-name c = search needs
 
--- src/root.rt:79:9
 enum-told : tie.Need-enum-told
 enum-told c = search needs
 
@@ -64,8 +44,8 @@ told2 c = value-told _ _ _ _ (sym (c .before .before .before .value-of .ensures)
 -- past an attribute that is read
 on : (c : tie.After-known-told2) (x : Option ℕ)
     → identityAt (encodingIs (c .before .before .before .before .before .before .before .before .before .before .before .args .e)) (c .before .before .before .before .before .before .name .given .0 .0)
-        (record { form = c .before .real .given .0 .0; start = c .before .real .given .0 .1 .0; size = c .before .real .given .0 .1 .1 .0 })
-        (now (c .before .before .before .before .before .before .before .before .before .before .before .args .s)) (seenIs (c .before .before .before .before .before .before .before .before .before .before .before .args .seen))
+    (record { form = c .before .real .given .0 .0; start = c .before .real .given .0 .1 .0; size = c .before .real .given .0 .1 .1 .0 })
+    (now (c .before .before .before .before .before .before .before .before .before .before .before .args .s)) (seenIs (c .before .before .before .before .before .before .before .before .before .before .before .args .seen))
     ≡ pass x
     → On (c .before .before .before .before .before .before .name .given .0 .1 .1 .0) (c .before .real .given .0 .1 .0 + c .before .real .given .0 .1 .1 .0) (seenOf x)
     ≡ movedRead (attributeStep (encodingIs (c .before .before .before .before .before .before .before .before .before .before .before .args .e)) (now (c .before .before .before .before .before .before .before .before .before .before .before .args .t)) (now (c .before .before .before .before .before .before .before .before .before .before .before .args .s)) (seenIs (c .before .before .before .before .before .before .before .before .before .before .before .args .seen)))
@@ -82,31 +62,25 @@ nothing-before : (e : Encoding) (name : ℕ) (v : Value) (s : List ℕ) {seen : 
 unfolding seenIs
 nothing-before e name v s h = ap (λ (y : Seen). identityAt e name v s (seenIs y)) h
 
--- src/root.rt:79:9
 returns : tie.Need-returns
 unfolding movedRead
 returns c =
     let k = attribute-not _ (sym (c .before .before .attribute-at .ensures) ∙ c .enum-told .given .1) in
     sym (ap movedRead (step-none _ _ _ _ (k .0) (k .1)))
 
--- src/root.rt:82:9
 returns-2 : tie.Need-returns-2
 unfolding movedRead
 returns-2 c = sym (ap movedRead (step-end _ _ _ _ _ _ (told (c .before)) (c .if1 .taken)))
 
--- src/root.rt:84:40
 value-of-requires : tie.Need-value-of-requires
 value-of-requires c κs = search needs
 
--- src/root.rt:84:19
 enum-known-real : tie.Need-enum-known-real
 enum-known-real c = search needs
 
--- src/root.rt:85:9
 enum-told-2 : tie.Need-enum-told-2
 enum-told-2 c = search needs
 
--- src/root.rt:85:9
 returns-3 : tie.Need-returns-3
 unfolding movedRead
 returns-3 c =
@@ -114,44 +88,36 @@ returns-3 c =
     let k = value-not _ (sym (c .before .before .value-of .ensures) ∙ c .enum-told2 .given .1) in
     sym (ap movedRead (step-value _ _ _ _ _ _ (told (f .before)) (f .if1 .left) (k .0) (k .1)))
 
--- src/root.rt:87:13
 add-m : tie.Need-add-m
 add-m c = omega (arith, value-within _ _ _ _ (told2 c) .ends)
 
--- src/root.rt:89:22
 enum-known-seen : tie.Need-enum-known-seen
 enum-known-seen c = search needs
 
--- src/root.rt:90:13
 returns-4 : tie.Need-returns-4
 unfolding seenOf
 returns-4 c = on (c .before .before .before) _ (stated-before _ _ _ _ (c .before .seen .given .1))
 
--- src/root.rt:93:16
 enum-told-3 : tie.Need-enum-told-3
 enum-told-3 c = search needs
 
--- src/root.rt:94:17
 returns-5 : tie.Need-returns-5
 unfolding seenOf
 returns-5 c = on (c .before .before .before) _ (nothing-before _ _ _ _ (c .before .enum-told3 .given .1) ∙ identity-other _ _ _ _ (c .if2 .taken))
 
--- src/root.rt:97:17
 returns-6 : tie.Need-returns-6
 unfolding movedRead
 returns-6 c =
     let t = c .before .before .before .before in
     let f = t .before .before .before .before in
     sym (ap movedRead (step-not _ _ _ _ _ _ (told (f .before)) (f .if1 .left) _ (told2 t) 12
-      (nothing-before _ _ _ _ (c .before .before .enum-told3 .given .1) ∙ identity-form _ _ _ _ (c .before .if2 .left) (c .if3 .taken))))
+    (nothing-before _ _ _ _ (c .before .before .enum-told3 .given .1) ∙ identity-form _ _ _ _ (c .before .if2 .left) (c .if3 .taken))))
 
--- src/root.rt:99:17
 u64-at-requires : tie.Need-u64-at-requires
 u64-at-requires c κs =
     let w = value-within _ _ _ _ (told2 (c .before .before .before .before)) in
     omega (arith, w .ends, w .eight (c .if3 .left))
 
--- src/root.rt:100:13
 returns-7 : tie.Need-returns-7
 unfolding seenOf encodingIs
 returns-7 c =

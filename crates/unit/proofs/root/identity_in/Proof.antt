@@ -1,42 +1,21 @@
 -- `unit::root::identity_in` meets its contract.
 -- Assumes nothing.
 use mathlib.Core.Path.{_≡_, refl, sym, ap, ap₂, _∙_}
-use mathlib.Core.Bool.{true, false}
 use mathlib.Core.List.{List}
 use mathlib.Core.Option.{Option, some, none}
-use Prim.Native.Nat.{ℕ, _+_, _-_, _≤_, _<_}
+use Prim.Native.Nat.{ℕ, _+_, _-_, _≤_}
 use native.Mathlib.Omega.{arith}
 use borrow.Author.Needs.{needs}
-use borrow.Author.Tests.{eq-eqb, ne-eqb, not-true, not-false}
-use lib.Dec.{eqb}
 use lib.ListN.{length, take, drop, length-drop}
 use denote.Ref.{now}
-use Rattle.octets.specs.Checked.{Check, pass, refuse}
-use Rattle.octets.specs.Octets.{numberAt}
+use Rattle.octets.specs.Checked.{pass}
 use Rattle.bundle.specs.Encoded.{encodingIs}
 use Rattle.bundle.specs.Encoding.{Encoding}
-use Rattle.leb128.specs.Leb128.{short, unsigned}
-use Rattle.leb128.proofs.Taken.{Taken, short-taken, unsigned-taken}
-use Rattle.leb128.proofs.Answered.{number-is, number-not, size-is, size-not}
-use Rattle.unit.specs.Forms.{Width, forms, widthIn}
-use Rattle.unit.specs.Widths.{widthIs, widthFound}
-use Rattle.unit.specs.Abbreviations.{Attribute, attributeAt}
-use Rattle.unit.specs.Root.{Value, needed, plainValue, valueOf, identityAt, rootTag}
-use Rattle.unit.specs.Roots.{Move, valueRead, seenIs, seenOf, attributeStep, movedRead, identityFrom, rootRead, rootCheck}
-use Rattle.unit.specs.declared.forms.FormWidth.{FormWidth}
-use Rattle.unit.specs.declared.root.Seen.{Seen}
-use Rattle.unit.specs.declared.root.Seen.the-variants.{Stated, Nothing}
-use Rattle.unit.specs.declared.root.Moved.the-variants.{On}
+use Rattle.unit.specs.Roots.{seenIs, attributeStep, identityFrom, rootRead}
 use Rattle.unit.proofs.Sizes.{rest}
-use Rattle.unit.proofs.Attributes.{attribute-told, attribute-not}
-use Rattle.unit.proofs.Values.{plain-unknown, plain-not, plain-is, value-plain, indirect-none, indirect-not, indirect-value, value-told, value-not, Within, value-within}
-use Rattle.unit.proofs.Stepping.{identity-seen, identity-other, identity-form, identity-stated, step-none, step-end, step-value, step-not, step-on, moved-told, moved-end, moved-not, stepped-within, from-end, from-not, unread, from-turn}
+use Rattle.unit.proofs.Stepping.{moved-told, moved-end, moved-not, stepped-within, from-end, from-not, unread, from-turn}
 use Rattle.unit.proofs.root.identity_in.Statement.{statement}
 use Rattle.unit.proofs.root.identity_in.Tie as tie
-use Rattle.unit.proofs.root.identity_in.Reads as reads
-use Rattle.unit.proofs.root.identity_in.Lts as lts
-use Rattle.unit.proofs.root.attribute_step.Reads as attribute-step-reads
-use Rattle.unit.proofs.root.stated.Reads as stated-reads
 
 abbrev Inv-loop : tie.InvT-loop
 Inv-loop e t s a₀ at₀ seen₀ a at seen = (a ≤ length t) × (at ≤ length s) × (rootRead (identityFrom (encodingIs e) (drop a t) (drop at s) (seenIs seen)) ≡ rootRead (identityFrom (encodingIs e) t s none))
@@ -70,70 +49,54 @@ within c =
     let f = length-drop (l .loop .at) (now (a .s)) in
     (w .0, omega (arith, w .0, w .1, d, l .loop .inv .0), omega (arith, w .2, f, l .loop .inv .1))
 
--- src/root.rt:112:5
 loop-holds : tie.Need-loop-holds Inv-loop μ-loop
 unfolding seenIs
 loop-holds c = (omega arith, omega arith, refl)
 
--- src/root.rt:113:33
 sub-attribute-step : tie.Need-sub-attribute-step Inv-loop μ-loop
 sub-attribute-step c = omega arith
 
--- src/root.rt:113:33
 part-attribute-step-start : tie.Need-part-attribute-step-start Inv-loop μ-loop
 part-attribute-step-start c = omega arith
 
--- src/root.rt:113:33
 part-attribute-step-end : tie.Need-part-attribute-step-end Inv-loop μ-loop
 part-attribute-step-end c = omega arith
 
--- src/root.rt:113:42
 sub-attribute-step-2 : tie.Need-sub-attribute-step-2 Inv-loop μ-loop
 sub-attribute-step-2 c = omega arith
 
--- src/root.rt:113:42
 part-attribute-step-start-2 : tie.Need-part-attribute-step-start-2 Inv-loop μ-loop
 part-attribute-step-start-2 c = omega arith
 
--- src/root.rt:113:42
 part-attribute-step-end-2 : tie.Need-part-attribute-step-end-2 Inv-loop μ-loop
 part-attribute-step-end-2 c = omega arith
 
--- src/root.rt:113:15
 attribute-step-requires : tie.Need-attribute-step-requires Inv-loop μ-loop
 attribute-step-requires c κs = search needs
 
--- src/root.rt:114:23
 enum-known-n : tie.Need-enum-known-n Inv-loop μ-loop
 enum-known-n c = search needs
 
--- src/root.rt:115:17
 add-a : tie.Need-add-a Inv-loop μ-loop
 add-a c = omega (arith, within c)
 
--- src/root.rt:116:17
 add-at : tie.Need-add-at Inv-loop μ-loop
 add-at c = omega (arith, within c)
 
--- src/root.rt:112:5
 loop-less : tie.Need-loop-less Inv-loop μ-loop
 loop-less c = omega (arith, within c)
 
--- src/root.rt:112:5
 loop-again : tie.Need-loop-again Inv-loop μ-loop
 loop-again c =
     let l = c .before .before .before .before .before .before in
     (omega (arith, within c), omega (arith, within c), ap rootRead (from-turn _ _ _ (l .loop .a) (l .loop .at) _ _ (told c)) ∙ l .loop .inv .2)
 
--- src/root.rt:120:17
 enum-told : tie.Need-enum-told Inv-loop μ-loop
 enum-told c = search needs
 
--- src/root.rt:120:17
 stated-requires : tie.Need-stated-requires Inv-loop μ-loop
 stated-requires c κs = search needs
 
--- src/root.rt:120:17
 returns : tie.Need-returns Inv-loop μ-loop
 returns c =
     let k = c .before in
@@ -141,21 +104,19 @@ returns c =
     let a = l .before .before .before .args in
     c .stated .ensures
     ∙ sym (ap rootRead (from-end (encodingIs (a .e)) (drop (l .loop .a) (now (a .t))) (drop (l .loop .at) (now (a .s))) (seenIs (l .loop .seen))
-      (cut (encodingIs (a .e)) (now (a .t)) (now (a .s)) (l .loop .a) (l .loop .at) (seenIs (l .loop .seen)) ∙ moved-end _ (sym (k .before .before .attribute-step .ensures) ∙ k .enum-told .given .1))))
+    (cut (encodingIs (a .e)) (now (a .t)) (now (a .s)) (l .loop .a) (l .loop .at) (seenIs (l .loop .seen)) ∙ moved-end _ (sym (k .before .before .attribute-step .ensures) ∙ k .enum-told .given .1))))
     ∙ l .loop .inv .2
 
--- src/root.rt:123:17
 enum-told-2 : tie.Need-enum-told-2 Inv-loop μ-loop
 enum-told-2 c = search needs
 
--- src/root.rt:123:17
 returns-2 : tie.Need-returns-2 Inv-loop μ-loop
 returns-2 c =
     let l = c .before .before .before .before .before in
     let a = l .before .before .before .args in
     let k = moved-not _ (sym (c .before .before .attribute-step .ensures) ∙ c .enum-told2 .given .1) in
     unread _ (from-not (encodingIs (a .e)) (drop (l .loop .a) (now (a .t))) (drop (l .loop .at) (now (a .s))) (seenIs (l .loop .seen)) (k .0)
-      (cut (encodingIs (a .e)) (now (a .t)) (now (a .s)) (l .loop .a) (l .loop .at) (seenIs (l .loop .seen)) ∙ k .1))
+    (cut (encodingIs (a .e)) (now (a .t)) (now (a .s)) (l .loop .a) (l .loop .at) (seenIs (l .loop .seen)) ∙ k .1))
     ∙ l .loop .inv .2
 
 pub identity-in-spec : {M : Type 1} → statement M

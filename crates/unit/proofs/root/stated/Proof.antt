@@ -1,55 +1,24 @@
 -- `unit::root::stated` meets its contract.
 -- Assumes nothing.
-use mathlib.Core.Path.{_≡_, refl, sym, ap, ap₂, _∙_}
-use mathlib.Core.Bool.{true, false}
-use mathlib.Core.List.{List}
-use mathlib.Core.Option.{Option, some, none}
-use Prim.Native.Nat.{ℕ, _+_, _-_, _≤_, _<_}
-use native.Mathlib.Omega.{arith}
+use mathlib.Core.Path.{sym, ap}
 use borrow.Author.Needs.{needs}
-use borrow.Author.Tests.{eq-eqb, ne-eqb, not-true, not-false}
-use lib.Dec.{eqb}
-use lib.ListN.{length, drop, length-drop}
-use denote.Ref.{now}
-use Rattle.octets.specs.Checked.{Check, pass, refuse}
-use Rattle.octets.specs.Octets.{numberAt}
-use Rattle.bundle.specs.Encoded.{encodingIs}
-use Rattle.leb128.specs.Leb128.{short, unsigned}
-use Rattle.leb128.proofs.Taken.{Taken, short-taken, unsigned-taken}
-use Rattle.leb128.proofs.Answered.{number-is, number-not, size-is, size-not}
-use Rattle.unit.specs.Forms.{Width, forms, widthIn}
-use Rattle.unit.specs.Widths.{widthIs, widthFound}
-use Rattle.unit.specs.Abbreviations.{Attribute, attributeAt}
-use Rattle.unit.specs.Root.{Value, needed, plainValue, valueOf, identityAt, rootTag}
-use Rattle.unit.specs.Roots.{Move, valueRead, seenIs, seenOf, attributeStep, movedRead, identityFrom, rootRead, rootCheck}
-use Rattle.unit.specs.declared.forms.FormWidth.{FormWidth}
+use Rattle.unit.specs.Root.{needed}
+use Rattle.unit.specs.Roots.{seenIs, rootRead}
 use Rattle.unit.specs.declared.root.Seen.{Seen}
-use Rattle.unit.specs.declared.root.Seen.the-variants.{Stated, Nothing}
-use Rattle.unit.specs.declared.root.Moved.the-variants.{On}
-use Rattle.unit.proofs.Sizes.{rest}
-use Rattle.unit.proofs.Attributes.{attribute-told, attribute-not}
-use Rattle.unit.proofs.Values.{plain-unknown, plain-not, plain-is, value-plain, indirect-none, indirect-not, indirect-value, value-told, value-not, Within, value-within}
-use Rattle.unit.proofs.Stepping.{identity-seen, identity-other, identity-form, identity-stated, step-none, step-end, step-value, step-not, step-on, moved-told, moved-end, moved-not, stepped-within, from-end, from-not, unread, from-turn}
 use borrow.Author.Needs.{needs}
 use Rattle.unit.proofs.root.stated.Statement.{statement}
 use Rattle.unit.proofs.root.stated.Tie as tie
-use Rattle.unit.proofs.root.stated.Reads as reads
-use Rattle.unit.proofs.root.stated.Lts as lts
 
--- src/root.rt:133:22
 enum-known-seen : tie.Need-enum-known-seen
 enum-known-seen c = search needs
 
--- src/root.rt:134:26
 enum-told : tie.Need-enum-told
 enum-told c = search needs
 
--- src/root.rt:129:1
 returns : tie.Need-returns
 unfolding rootRead needed seenIs
 returns c = sym (ap (λ (x : Seen). rootRead (needed (seenIs x))) (c .before .seen .given .1))
 
--- src/root.rt:129:1
 returns-2 : tie.Need-returns-2
 unfolding rootRead needed seenIs
 returns-2 c = sym (ap (λ (x : Seen). rootRead (needed (seenIs x))) (c .enum-told .given .1))
