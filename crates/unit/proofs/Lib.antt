@@ -12,3 +12,4 @@ pub mod Values
 pub mod Stepping
 pub mod Rooted
 pub mod Units
+pub mod Promised

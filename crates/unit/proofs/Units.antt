@@ -19,13 +19,13 @@ use Rattle.unit.specs.declared.header.Kind.{Kind}
 use Rattle.unit.specs.declared.header.Kind.the-variants.{Compilation, Signature, Root, Other}
 
 -- ---- the identity, by its kind
-unfoldable byKind : Encoding → Kind → List ℕ → List ℕ → Check Identity
+unfoldable pub byKind : Encoding → Kind → List ℕ → List ℕ → Check Identity
 byKind e Compilation a u = behindCommon e 1 8 u
 byKind e Signature a u = behindCommon e 2 (8 + e .width) u
 byKind e Root a u = identityBy e Root a u
 byKind e Other a u = refuse 12
 
-kinds : (e : Encoding) (home : ℕ) (a u : List ℕ) → identityOf e home a u ≡ byKind e (kindOf e home u) a u
+pub kinds : (e : Encoding) (home : ℕ) (a u : List ℕ) → identityOf e home a u ≡ byKind e (kindOf e home u) a u
 unfolding identityOf identityFive identityFour kindOf fiveKind byKind identityBy tableAt
 kinds e home a u = go (isFive e) (eqb t 4 || eqb t 5) (eqb t 2 || eqb t 6) (eqb home 1)
   where
@@ -64,7 +64,7 @@ module _ (e : Encoding) (a u : List ℕ) where
 
 -- ---- the unit
 -- what follows the size
-unfoldable behindSize : Encoding → ℕ → List ℕ → List ℕ → ℕ → Check UnitRead
+unfoldable pub behindSize : Encoding → ℕ → List ℕ → List ℕ → ℕ → Check UnitRead
 behindSize e home a s size = do
   let u = take size s
   _ ← require (leb (commonSize e) (length u)) 11
@@ -111,7 +111,7 @@ inside-le e s n h =
     rw (← pass-inj (q .1)) (leb-true (p .0) (length s) (q .0))
 
 module _ (e : Encoding) (home : ℕ) (a s : List ℕ) where
-  unit-is : unitOf e home a s ≡ (unitInside e s >>= behindSize e home a s)
+  pub unit-is : unitOf e home a s ≡ (unitInside e s >>= behindSize e home a s)
   unfolding unitOf behindSize unitInside
   unit-is = sized s (unitSize e s) (behindSize e home a s)
 

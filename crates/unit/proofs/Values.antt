@@ -96,7 +96,7 @@ eight = refl
 some-inj : {A : Type 0} {a b : A} → some a ≡ some b → a ≡ b
 some-inj e = cc
 
-needed-some : {A : Type 0} (o : Option A) (a : A) → needed o ≡ pass a → o ≡ some a
+pub needed-some : {A : Type 0} (o : Option A) (a : A) → needed o ≡ pass a → o ≡ some a
 unfolding needed
 needed-some (some b) a e = ap some (pass-inj e)
 needed-some none a e = absurd (pass-refuse a 12 (sym e))
