@@ -48,7 +48,7 @@ enum-known-slot c = search needs
 
 -- src/main.rt:97:17
 row-at-requires : tie.Need-row-at-requires
-row-at-requires c κs = 
+row-at-requires c κs =
     let read = find-requires (c .before .before .before .before) κs in
     (read-sized _ _ _ read, found-row _ _ _ read _ _ _ (sym (c .before .slot .given .1) ∙ c .before .before .before .find .ensures) .inside)
 
@@ -70,7 +70,7 @@ write-number-requires-2 c κs = search needs
 
 -- src/main.rt:101:13
 write-cells-requires : tie.Need-write-cells-requires
-write-cells-requires c κs = 
+write-cells-requires c κs =
     let read = find-requires (c .before .before .before .before .before .before .before .before .before) κs in
     let p = found-row _ _ _ read _ _ _ (sym (c .before .before .before .before .before .before .slot .given .1) ∙ c .before .before .before .before .before .before .before .before .find .ensures) in
     (read-sized _ _ _ read, rw (c .before .before .before .before .row-at .ensures) (p .counted), rw (c .before .before .before .before .row-at .ensures) (p .within))
