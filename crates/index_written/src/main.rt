@@ -1,9 +1,10 @@
 // Reads tables of units and writes the index of each: its words in hexadecimal, a line for each index. The tables are hexadecimal numbers,
 // each with a byte behind it: how many tables; for each 1 where it is big-endian, its version and how many units; for each unit its
 // identity and how many contributions; for each of these its section code, offset and size.
+// Of the stored output, the first 21 indexes are made from document 01; the other 36 stand so in packages that thorin made.
 ghost use mathlib.Core.Path.{_≡_};
-ghost use Prim.Native.Nat.{_+_, _*_, _<_, _≤_, _^_};
-ghost use lib.ListN.{length};
+ghost use Prim.Native.Nat.{ℕ, _+_, _*_, _<_, _≤_, _^_};
+ghost use lib.ListN.{length, getD};
 ghost use Rattle.index.specs.Probing.{slotsFor};
 ghost use Rattle.rows.specs.Layout.{CellsFit, RowsIn};
 use libc::STDOUT_FILENO;
@@ -58,10 +59,15 @@ struct Unit {
     next: usize,
 }
 
-fn low(x: u64) -> usize
-    ensures { λ r. ⌜ r < 2 ^ 32 ⌝ }
+// The numbers with the low half of x at a place.
+fn with_number(numbers: [usize; 14], s: usize, x: u64) -> [usize; 14]
+    requires { ⌜ (s < 14) × ((c : ℕ) → getD numbers c 0 < 2 ^ 32) ⌝ }
+    ensures { λ r. ⌜ ((c : ℕ) → getD r c 0 < 2 ^ 32) ⌝ }
 {
-    octets::size(x % 0x1_0000_0000)
+    let low = octets::size(x % 0x1_0000_0000);
+    let mut more = numbers;
+    more[s] = low;
+    more
 }
 
 // One contribution more; none of a code above 13.
@@ -74,12 +80,16 @@ fn with_cell(cells: Cells, section: u64, first: u64, count: u64) -> Cells
     }
     let s = octets::size(section);
     let mut has = cells.has;
-    let mut offset = cells.offset;
-    let mut size = cells.size;
+    let offset = cells.offset;
+    let size = cells.size;
     has[s] = true;
-    offset[s] = low(first);
-    size[s] = low(count);
-    Cells { has, offset, size }
+    let offsets = with_number(offset, s, first);
+    let sizes = with_number(size, s, count);
+    Cells {
+        has,
+        offset: offsets,
+        size: sizes,
+    }
 }
 
 fn read_cell(text: &[u8], at: usize, cells: Cells) -> Unit
