@@ -231,9 +231,8 @@ fn show_strings() {
     );
 }
 
-fn show_ill_formed() {
+fn show_ill_formed_lengths() {
     let narrow = version_5(false, false);
-    let wide = version_5(false, true);
     show(b"no header", narrow, b"", &[], b"a\0");
     show(
         b"header too short",
@@ -256,6 +255,10 @@ fn show_ill_formed() {
         &[0],
         b"a\0",
     );
+}
+
+fn show_ill_formed_fields() {
+    let narrow = version_5(false, false);
     show(
         b"header of version 4",
         narrow,
@@ -277,6 +280,10 @@ fn show_ill_formed() {
         &[0],
         b"a\0",
     );
+}
+
+fn show_ill_formed_wide() {
+    let wide = version_5(false, true);
     show(
         b"header of width 4",
         wide,
@@ -288,6 +295,9 @@ fn show_ill_formed() {
     show(b"mark of width 8 wrong", wide, h, &[0], b"a\0");
     let h = b"\xFF\xFF\xFF\xFF\x0C\0\0\0\x01\0\0\0\x05\0\0\0";
     show(b"length above 32 bits", wide, h, &[0], b"a\0");
+}
+
+fn show_parts_of_entries() {
     show(
         b"part of an entry",
         version_4(false, false),
@@ -318,6 +328,9 @@ fn show_missing() {
 fn main() {
     show_document();
     show_strings();
-    show_ill_formed();
+    show_ill_formed_lengths();
+    show_ill_formed_fields();
+    show_ill_formed_wide();
+    show_parts_of_entries();
     show_missing();
 }
