@@ -1,0 +1,3 @@
+-- Laws of an object judged up to its units.
+-- Assumes nothing.
+pub mod Judging
