@@ -5,3 +5,5 @@ pub mod LawRows
 pub mod LawLoops
 pub mod LawPlacing
 pub mod LawSeen
+pub mod LawWriting
+pub mod LawPieces
