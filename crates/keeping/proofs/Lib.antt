@@ -1,0 +1,4 @@
+-- Laws of regions and of a table in them.
+-- Assumes nothing.
+pub mod Starts
+pub mod Rows
