@@ -10,7 +10,9 @@ ghost use Rattle.strings.specs.Kept.{Inside, Kept, Judged};
 use bundle::encoding::ObjectEncoding;
 use libc::STDOUT_FILENO;
 use strings::entries::Entries;
-use strings::table::{Added, Place, StringTable};
+use strings::table::Added;
+use strings::table::Place;
+use strings::table::StringTable;
 
 enum Outcome {
     // where str starts in the output, and where it ends
@@ -171,6 +173,11 @@ fn show(name: &[u8], e: ObjectEncoding, header: &[u8], entries: &[u32], text: &[
 }
 
 fn main() {
-    let four = ObjectEncoding { big: false, five: false, wide: false, long: true };
+    let four = ObjectEncoding {
+        big: false,
+        five: false,
+        wide: false,
+        long: true,
+    };
     show(b"document 01", four, b"", &[2, 0, 2], b"a\0bc\0");
 }

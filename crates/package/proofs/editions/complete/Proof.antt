@@ -3,8 +3,8 @@
 use borrow.Author.Needs.{needs}
 use borrow.Author.Tests.{le-leb, lt-leb}
 use Rattle.package.specs.Counted.{completeBy}
-use Rattle.package.proofs.sections.complete.Statement.{statement}
-use Rattle.package.proofs.sections.complete.Tie as tie
+use Rattle.package.proofs.editions.complete.Statement.{statement}
+use Rattle.package.proofs.editions.complete.Tie as tie
 
 array-read-if1 : tie.Need-array-read-if1
 array-read-if1 c = search needs

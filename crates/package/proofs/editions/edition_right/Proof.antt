@@ -9,8 +9,8 @@ use borrow.Author.Needs.{needs}
 use Rattle.octets.specs.Lists.{all}
 use Rattle.package.specs.Counted.{wrongFor}
 use Rattle.package.proofs.Counts.{all-below}
-use Rattle.package.proofs.sections.edition_right.Statement.{statement}
-use Rattle.package.proofs.sections.edition_right.Tie as tie
+use Rattle.package.proofs.editions.edition_right.Statement.{statement}
+use Rattle.package.proofs.editions.edition_right.Tie as tie
 
 slice-aggregate-none-reaches : tie.Need-slice-aggregate-none-reaches
 slice-aggregate-none-reaches c = search needs

@@ -5,8 +5,8 @@ use borrow.Author.Needs.{needs}
 use Rattle.octets.specs.Lists.{all}
 use Rattle.package.specs.Input.{onlyOnce}
 use Rattle.package.proofs.Counts.{all-below}
-use Rattle.package.proofs.sections.all_once.Statement.{statement}
-use Rattle.package.proofs.sections.all_once.Tie as tie
+use Rattle.package.proofs.editions.all_once.Statement.{statement}
+use Rattle.package.proofs.editions.all_once.Tie as tie
 
 slice-aggregate-none-reaches : tie.Need-slice-aggregate-none-reaches
 slice-aggregate-none-reaches c = search needs

@@ -4,8 +4,8 @@ use mathlib.Core.Path.{sym, ap}
 use mathlib.Core.Bool.{_&&_}
 use lib.Dec.{leb}
 use borrow.Author.Tests.{le-leb, lt-leb}
-use Rattle.package.proofs.sections.second_beside.Statement.{statement}
-use Rattle.package.proofs.sections.second_beside.Tie as tie
+use Rattle.package.proofs.editions.second_beside.Statement.{statement}
+use Rattle.package.proofs.editions.second_beside.Tie as tie
 
 returns : tie.Need-returns
 returns c = sym (ap (λ t. t && leb 2 (c .before .args .units)) (lt-leb _ _ (c .if1 .taken)))

@@ -3,8 +3,8 @@
 use mathlib.Core.Path.{sym, _∙_}
 use borrow.Author.Needs.{needs}
 use Rattle.package.proofs.Counts.{wrong-edition, second-one, second-info, second-types, good-edition}
-use Rattle.package.proofs.sections.edition_good.Statement.{statement}
-use Rattle.package.proofs.sections.edition_good.Tie as tie
+use Rattle.package.proofs.editions.edition_good.Statement.{statement}
+use Rattle.package.proofs.editions.edition_good.Tie as tie
 
 edition-right-requires : tie.Need-edition-right-requires
 edition-right-requires c κs = search needs

@@ -9,8 +9,8 @@ use lib.ListN.{length, getD, drop}
 use borrow.Author.Tests.{le-leb, lt-leb}
 use Rattle.octets.specs.Lists.{all}
 use Rattle.octets.proofs.Elements.{all-turn, all-turn-stops, all-end}
-use Rattle.package.proofs.sections.none_reaches.Statement.{statement}
-use Rattle.package.proofs.sections.none_reaches.Tie as tie
+use Rattle.package.proofs.editions.none_reaches.Statement.{statement}
+use Rattle.package.proofs.editions.none_reaches.Tie as tie
 
 abbrev Inv-loop : tie.InvT-loop
 Inv-loop codes least count i₀ i =
