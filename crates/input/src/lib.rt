@@ -9,6 +9,8 @@ ghost use Rattle.bundle.specs.Bundle.{Part};
 ghost use Rattle.bundle.specs.Scan.{scanOf};
 ghost use Rattle.input.specs.Judged.{objectCheck, JudgedIs, indexCheck, JudgedIndexIs};
 
+pub mod contributions;
+
 use bundle::Scan;
 use bundle::encoding::ObjectEncoding;
 use bundle::encoding::WordRead;
@@ -65,13 +67,13 @@ pub fn judge_object(big: bool, first: u32, word: u32, scan: Scan) -> Judged
         };
     }
     let count = scan.count;
-    if !package::sections::edition_good(encoding.five, count) {
+    if !package::editions::edition_good(encoding.five, count) {
         return Judged {
             code: 6,
             encoding,
         };
     }
-    if !package::sections::complete(count) {
+    if !package::editions::complete(count) {
         return Judged {
             code: 7,
             encoding,

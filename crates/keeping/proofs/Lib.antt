@@ -2,3 +2,4 @@
 -- Assumes nothing.
 pub mod Starts
 pub mod Rows
+pub mod Cells

@@ -30,6 +30,8 @@ ghost use Rattle.keeping.specs.Regions.{
 
 };
 
+pub mod cells;
+
 use rows::Cells;
 
 // A table: how many rows it has, and which columns some row has.

@@ -1,0 +1,63 @@
+use borrow.Author.Needs.{needs}
+use Rattle.input.proofs.judge_object.Statement.{statement}
+use Rattle.input.proofs.judge_object.Tie as tie
+use Rattle.input.proofs.judge_object.Reads as reads
+use Rattle.input.proofs.judge_object.Lts as lts
+use Rattle.bundle.proofs.encoding.read_word.Reads as read-word-reads
+use Rattle.package.proofs.editions.complete.Reads as complete-reads
+use Rattle.package.proofs.editions.edition_good.Reads as edition-good-reads
+
+-- src/lib.rt:49:36
+read-word-requires : tie.Need-read-word-requires
+read-word-requires c κs = search needs
+
+-- src/lib.rt:49:24
+enum-known-encoding : tie.Need-enum-known-encoding
+enum-known-encoding c = search needs
+
+-- src/lib.rt:50:13
+enum-told : tie.Need-enum-told
+enum-told c = search needs
+
+-- src/lib.rt:56:9
+returns : tie.Need-returns
+returns c = ?
+
+-- src/lib.rt:62:9
+returns-2 : tie.Need-returns-2
+returns-2 c = ?
+
+-- src/lib.rt:68:9
+edition-good-requires : tie.Need-edition-good-requires
+edition-good-requires c κs = search needs
+
+-- src/lib.rt:69:9
+returns-3 : tie.Need-returns-3
+returns-3 c = ?
+
+-- src/lib.rt:74:9
+complete-requires : tie.Need-complete-requires
+complete-requires c κs = search needs
+
+-- src/lib.rt:75:9
+returns-4 : tie.Need-returns-4
+returns-4 c = ?
+
+-- src/lib.rt:46:1
+returns-5 : tie.Need-returns-5
+returns-5 c = ?
+
+pub judge-object-spec : {M : Type 1} → statement M
+judge-object-spec =
+    tie.close
+    (tie.spec
+    read-word-requires
+    enum-known-encoding
+    enum-told
+    returns
+    returns-2
+    edition-good-requires
+    returns-3
+    complete-requires
+    returns-4
+    returns-5)
