@@ -7,3 +7,4 @@ pub mod LawPlacing
 pub mod LawSeen
 pub mod LawWriting
 pub mod LawPieces
+pub mod LawIndex
