@@ -7,14 +7,14 @@ use mathlib.Core.List.{List, [], _∷_}
 use mathlib.Core.Option.{Option, some, none}
 use Prim.Native.Nat.{ℕ, _+_, _<_, _≤_}
 use native.Mathlib.Omega.{arith}
-use lib.Dec.{eqb}
+use lib.Dec.{eqb, ltb}
 use lib.ListN.{length, getD}
-use borrow.Author.Tests.{eqb-true, eq-eqb, ne-eqb}
+use borrow.Author.Tests.{eqb-true, eq-eqb, ne-eqb, ltb-true}
 use Rattle.octets.specs.Octets.{part}
 use Rattle.octets.specs.Lists.{all, any, those, has}
 use Rattle.octets.specs.Checked.{Check, pass, refuse, _>>=_, require}
 use Rattle.octets.proofs.Checks.{pass-refuse, refuse-inj, bind-refuse, known, true-false}
-use Rattle.octets.proofs.Lists.{any-cases, any-stops, any-more, those-keeps, those-skips}
+use Rattle.octets.proofs.Lists.{any-cases, any-stops, any-more, all-head, all-tail, those-keeps, those-skips}
 use Rattle.octets.proofs.Parts.{length-part}
 use Rattle.bundle.specs.Encoded.{four, encodingIs}
 use Rattle.bundle.specs.declared.encoding.ObjectEncoding.{ObjectEncoding}
@@ -27,7 +27,6 @@ use Rattle.index.specs.Contributed.{byCode, ContributionsAre, codeGiven, contri
 use Rattle.index.specs.declared.judging.RowJudged.{RowJudged}
 use Rattle.index.specs.declared.judging.Contributions.{Contributions}
 use Rattle.index.proofs.Contributions.{needed-shared}
-use Rattle.unit.specs.UnitRead.{UnitRead}
 use Rattle.package.specs.Input.{Input}
 use Rattle.package.specs.Filing.{Filed, indexFor, sums, lengths, contributionsOf}
 use Rattle.input.specs.Judged.{sectionOf, IndexedIs, InputIs}
@@ -78,12 +77,17 @@ given-row i width ls ss x home at size r e k = go (rowContributions i width ls s
     go (refuse n) q = rw q ((rw q at e), row-above i width ls ss x home at size .is n q)
 
 -- ---- only shared codes count
+among : (c : ℕ) (xs : List ℕ) → all (λ d. ltb d 14) xs ≡ true → has xs c ≡ true → c < 14
+unfolding has any
+among c [] a h = absurd (true-false h refl)
+among c (x ∷ xs) a h = ⊎-elim
+    (λ (e : eqb c x ≡ true). rw (eqb-true c x e) (ltb-true x 14 (all-head (λ d. ltb d 14) x xs a)))
+    (λ e. among c xs (all-tail (λ d. ltb d 14) x xs a) e)
+    (any-cases (eqb c) x xs h)
+
 shared-below : (c : ℕ) → has shared c ≡ true → c < 14
-unfolding shared has any
-shared-below c h = below (3 ∷ 4 ∷ 5 ∷ 6 ∷ 7 ∷ 8 ∷ 9 ∷ 10 ∷ []) (λ d g. g) refl h
-  where
-    below : (xs : List ℕ) → ((d : ℕ) → d < 14 → d < 14) → all (λ d. lib.Dec.ltb d 14) xs ≡ true → has xs c ≡ true → c < 14
-    below xs u a b = omega arith
+unfolding shared all
+shared-below c h = among c shared refl h
 
 module _ (f g : BySection ℕ) (same : (c : ℕ) → c < 14 → f c ≡ g c) where
   those-same : (xs : List ℕ) → ((c : ℕ) → has xs c ≡ true → c < 14) → those (λ c. not (eqb (f c) 0)) xs ≡ those (λ c. not (eqb (g c) 0)) xs
@@ -112,13 +116,17 @@ module _ (f g : BySection ℕ) (same : (c : ℕ) → c < 14 → f c ≡ g c) whe
       go false t = rw (wholeContributions, needed-same, t)
 
 module _ (f g p q : BySection ℕ) (same : (c : ℕ) → c < 14 → f c ≡ g c) (also : (c : ℕ) → c < 14 → p c ≡ q c) (i : Index) (width : ℕ) where
+  step-same : (row x : ℕ) → x < 14 → cellIs (inStep width f p x) (cellOf i row x) ≡ cellIs (inStep width g q x) (cellOf i row x)
+  unfolding inStep
+  step-same row x h = rw (inStep, same x h, also x h)
+
   steps-same : (row : ℕ) (xs : List ℕ) → ((c : ℕ) → has xs c ≡ true → c < 14)
       → all (λ s. cellIs (inStep width f p s) (cellOf i row s)) xs ≡ all (λ s. cellIs (inStep width g q s) (cellOf i row s)) xs
-  unfolding all has inStep
+  unfolding all has
   steps-same row [] b = refl
   steps-same row (x ∷ xs) b =
       let h = b x (any-stops (eqb x) x xs (eq-eqb x x refl)) in
-      rw (all, inStep, same x h, also x h, steps-same row xs (λ c h. b c (any-more (eqb c) x xs h)))
+      ap₂ (λ (t r : Bool). elim t as (λ _. Bool) [ true ↦ r | false ↦ false ]) (step-same row x h) (steps-same row xs (λ c h. b c (any-more (eqb c) x xs h)))
 
   module _ (x home at size : ℕ) where
     abbrev body : List ℕ → (ℕ → Bool) → Check (BySection (Option Contribution))

@@ -2,4 +2,4 @@
 -- Assumes nothing.
 pub mod Starts
 pub mod Rows
-pub mod Cells
+pub mod Moved

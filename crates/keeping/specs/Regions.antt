@@ -45,9 +45,9 @@ pub record Replaced (w v : List ℕ) (base size : ℕ) : Type 0 where
   pub many : length words ≡ size
   pub is : v ≡ placed w base words
 
--- work of room words has room for one row more behind so many
-pub record RowRoom (n room count : ℕ) : Type 0 where
-  pub room : 16 * n ≤ room
+-- work of so many words has room for one row more behind so many
+pub record RowRoom (n words count : ℕ) : Type 0 where
+  pub room : 16 * n ≤ words
   pub limit : n ≤ 1_048_576
   pub more : 5 * count + 5 ≤ n
 

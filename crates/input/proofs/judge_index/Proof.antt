@@ -1,3 +1,13 @@
+use mathlib.Core.Path.{_≡_, refl, sym, ap, _∙_}
+use mathlib.Core.List.{List}
+use Prim.Native.Nat.{ℕ}
+use denote.Ref.{now}
+use borrow.Author.Tests.{lt-leb, le-leb}
+use Rattle.octets.specs.Octets.{part}
+use Rattle.octets.proofs.Parts.{part-cut}
+use Rattle.index.specs.Index.{indexOf}
+use Rattle.index.specs.Held.{indexRead}
+use Rattle.input.proofs.Judging.{index-none, index-bad, index-other, index-good}
 use borrow.Author.Needs.{needs}
 use Rattle.input.proofs.judge_index.Statement.{statement}
 use Rattle.input.proofs.judge_index.Tie as tie
@@ -7,7 +17,7 @@ use Rattle.index.proofs.reading.read_index.Reads as read-index-reads
 
 -- src/lib.rt:92:9
 returns : tie.Need-returns
-returns c = ?
+returns c = index-none _ _ _ _ (lt-leb _ _ (c .if1 .taken)) refl refl
 
 -- src/lib.rt:97:15
 add-end : tie.Need-add-end
@@ -39,15 +49,21 @@ enum-told c = search needs
 
 -- src/lib.rt:99:9
 returns-2 : tie.Need-returns-2
-returns-2 c = ?
+returns-2 c =
+    let a = c .before .before .before .before .before .before .args in
+    index-bad _ _ _ _ (le-leb _ _ (c .before .before .before .before .if1 .left)) (sym (c .enum-told .given .1) ∙ c .before .before .read-index .ensures ∙ ap (λ (s : List ℕ). indexRead (indexOf (a .e .big) s)) (part-cut (now (a .b)) (a .start) (a .size))) refl
 
 -- src/lib.rt:105:9
 returns-3 : tie.Need-returns-3
-returns-3 c = ?
+returns-3 c =
+    let a = c .before .before .before .before .before .before .before .before .before .args in
+    index-other _ _ _ _ (le-leb _ _ (c .before .before .before .before .before .before .before .if1 .left)) _ (sym (c .before .before .before .head .given .1) ∙ c .before .before .before .before .before .read-index .ensures ∙ ap (λ (s : List ℕ). indexRead (indexOf (a .e .big) s)) (part-cut (now (a .b)) (a .start) (a .size))) (c .if2 .taken) refl
 
 -- src/lib.rt:87:1
 returns-4 : tie.Need-returns-4
-returns-4 c = ?
+returns-4 c =
+    let a = c .before .before .before .before .before .before .before .before .before .args in
+    index-good _ _ _ _ (le-leb _ _ (c .before .before .before .before .before .before .before .if1 .left)) _ (sym (c .before .before .before .head .given .1) ∙ c .before .before .before .before .before .read-index .ensures ∙ ap (λ (s : List ℕ). indexRead (indexOf (a .e .big) s)) (part-cut (now (a .b)) (a .start) (a .size))) (c .if2 .left) refl refl
 
 pub judge-index-spec : {M : Type 1} → statement M
 judge-index-spec =

@@ -1,0 +1,68 @@
+use borrow.Author.Needs.{needs}
+use Rattle.input.proofs.contributions.indexed_contributions.Statement.{statement}
+use Rattle.input.proofs.contributions.indexed_contributions.Tie as tie
+use Rattle.input.proofs.contributions.indexed_contributions.Reads as reads
+use Rattle.input.proofs.contributions.indexed_contributions.Lts as lts
+use Rattle.bundle.proofs.encoding.width.Reads as width-reads
+use Rattle.index.proofs.judging.judge_row.Reads as judge-row-reads
+use Rattle.index.proofs.judging.whole_contributions.Reads as whole-contributions-reads
+
+-- src/contributions.rt:38:21
+enum-known-indexed : tie.Need-enum-known-indexed
+enum-known-indexed c = search needs
+
+-- src/contributions.rt:39:13
+enum-told : tie.Need-enum-told
+enum-told c = search needs
+
+-- src/contributions.rt:39:13
+whole-contributions-requires : tie.Need-whole-contributions-requires
+whole-contributions-requires c κs = search needs
+
+-- src/contributions.rt:40:9
+returns : tie.Need-returns
+returns c = ?
+
+-- src/contributions.rt:45:15
+add-end : tie.Need-add-end
+add-end c = search needs
+
+-- src/contributions.rt:46:9
+width-requires : tie.Need-width-requires
+width-requires c κs = search needs
+
+-- src/contributions.rt:49:9
+sub-judge-row : tie.Need-sub-judge-row
+sub-judge-row c = search needs
+
+-- src/contributions.rt:49:9
+part-judge-row-start : tie.Need-part-judge-row-start
+part-judge-row-start c = search needs
+
+-- src/contributions.rt:49:9
+part-judge-row-end : tie.Need-part-judge-row-end
+part-judge-row-end c = search needs
+
+-- src/contributions.rt:47:5
+judge-row-requires : tie.Need-judge-row-requires
+judge-row-requires c κs = ?
+
+-- src/contributions.rt:22:1
+returns-2 : tie.Need-returns-2
+returns-2 c = ?
+
+pub indexed-contributions-spec : {M : Type 1} → statement M
+indexed-contributions-spec =
+    tie.close
+    (tie.spec
+    enum-known-indexed
+    enum-told
+    whole-contributions-requires
+    returns
+    add-end
+    width-requires
+    sub-judge-row
+    part-judge-row-start
+    part-judge-row-end
+    judge-row-requires
+    returns-2)

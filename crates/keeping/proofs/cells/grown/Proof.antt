@@ -1,0 +1,77 @@
+use Rattle.keeping.proofs.cells.grown.Statement.{statement}
+use Rattle.keeping.proofs.cells.grown.Tie as tie
+use Rattle.keeping.proofs.cells.grown.Reads as reads
+use Rattle.keeping.proofs.cells.grown.Lts as lts
+
+abbrev Inv-loop : tie.InvT-loop
+Inv-loop sums size more₀ c₀ more c = ?
+
+abbrev μ-loop : tie.MeasureT-loop
+μ-loop sums size more₀ c₀ more c = ?
+
+-- src/cells.rt:66:5
+loop-holds : tie.Need-loop-holds Inv-loop μ-loop
+loop-holds c = ?
+
+-- src/cells.rt:67:19
+mul-more : tie.Need-mul-more Inv-loop μ-loop
+mul-more c = ?
+
+-- src/cells.rt:67:19
+array-read-more : tie.Need-array-read-more Inv-loop μ-loop
+array-read-more c = ?
+
+-- src/cells.rt:67:29
+mul-more-2 : tie.Need-mul-more-2 Inv-loop μ-loop
+mul-more-2 c = ?
+
+-- src/cells.rt:67:29
+array-read-more-2 : tie.Need-array-read-more-2 Inv-loop μ-loop
+array-read-more-2 c = ?
+
+-- src/cells.rt:67:19
+add-more : tie.Need-add-more Inv-loop μ-loop
+add-more c = ?
+
+-- src/cells.rt:67:9
+mul-more-3 : tie.Need-mul-more-3 Inv-loop μ-loop
+mul-more-3 c = ?
+
+-- src/cells.rt:67:9
+array-write-more : tie.Need-array-write-more Inv-loop μ-loop
+array-write-more c = ?
+
+-- src/cells.rt:68:9
+add-c : tie.Need-add-c Inv-loop μ-loop
+add-c c = ?
+
+-- src/cells.rt:66:5
+loop-less : tie.Need-loop-less Inv-loop μ-loop
+loop-less c = ?
+
+-- src/cells.rt:66:5
+loop-again : tie.Need-loop-again Inv-loop μ-loop
+loop-again c = ?
+
+-- src/cells.rt:60:1
+returns : tie.Need-returns Inv-loop μ-loop
+returns c = ?
+
+pub grown-spec : {M : Type 1} → statement M
+grown-spec =
+    tie.close
+    (tie.spec
+    Inv-loop
+    μ-loop
+    loop-holds
+    mul-more
+    array-read-more
+    mul-more-2
+    array-read-more-2
+    add-more
+    mul-more-3
+    array-write-more
+    add-c
+    loop-less
+    loop-again
+    returns)

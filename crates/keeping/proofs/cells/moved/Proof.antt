@@ -1,0 +1,20 @@
+use borrow.Author.Needs.{needs}
+use Rattle.keeping.proofs.cells.moved.Statement.{statement}
+use Rattle.keeping.proofs.cells.moved.Tie as tie
+use Rattle.keeping.proofs.cells.moved.Reads as reads
+use Rattle.keeping.proofs.cells.moved.Lts as lts
+
+-- src/cells.rt:21:16
+add-result : tie.Need-add-result
+add-result c = search needs
+
+-- src/cells.rt:21:9
+returns : tie.Need-returns
+returns c = ?
+
+-- src/cells.rt:16:1
+returns-2 : tie.Need-returns-2
+returns-2 c = ?
+
+pub moved-spec : {M : Type 1} → statement M
+moved-spec = tie.close (tie.spec add-result returns returns-2)
