@@ -24,6 +24,7 @@ use Rattle.index.specs.Rows.{BySection, shared, neededCodes, isSome, rowOf, cel
 use Rattle.index.specs.Written.{offsetOf, sizeOf}
 use Rattle.index.specs.Held.{ReadWell, indexIn}
 use Rattle.index.specs.Contributed.{byCode, ContributionsAre, codeGiven, contributionsGiven}
+use Rattle.index.specs.declared.reading.IndexHead.{IndexHead}
 use Rattle.index.specs.declared.judging.RowJudged.{RowJudged}
 use Rattle.index.specs.declared.judging.Contributions.{Contributions}
 use Rattle.index.proofs.Contributions.{needed-shared}
@@ -75,6 +76,34 @@ given-row i width ls ss x home at size r e k = go (rowContributions i width ls s
     go : (m : Check (BySection (Option Contribution))) → rowContributions i width ls ss x home at size ≡ m → GivenIs (rowContributions i width ls ss x home at size) r
     go (pass f) q = rw q ((rw q at e), (rw q at k))
     go (refuse n) q = rw q ((rw q at e), row-above i width ls ss x home at size .is n q)
+
+module _ (big : Bool) (s : List ℕ) (indexed : Indexed) (o : Option Index) (is : IndexedIs big s indexed o) where
+  pub given-none : (width : ℕ) (ls ss : BySection ℕ) (x home at size : ℕ) (r : RowJudged) → indexed ≡ Nowhere → r .code ≡ 0
+      → ContributionsAre (r .contributions) (wholeContributions ls) → GivenIs (contributionsBy o width ls ss x home at size) r
+  unfolding GivenIs contributionsBy IndexedIs
+  given-none width ls ss x home at size r e c k = go o (rw e at is)
+    where
+      go : (p : Option Index) → IndexedIs big s Nowhere p → GivenIs (contributionsBy p width ls ss x home at size) r
+      go none h = (c, k)
+      go (some y) h = absurd h
+
+  pub index-well : (head : IndexHead) → indexed ≡ At head → ReadWell big s head × (o ≡ some (indexIn big s head))
+  unfolding IndexedIs
+  index-well head e = go o (rw e at is)
+    where
+      go : (p : Option Index) → IndexedIs big s (At head) p → ReadWell big s head × (p ≡ some (indexIn big s head))
+      go none h = absurd h
+      go (some y) h = (h .0, ap some (h .1))
+
+  pub given-at : (t : List ℕ) (head : IndexHead) (width w : ℕ) (ls ss : BySection ℕ) (x home at size : ℕ) (r : RowJudged) → indexed ≡ At head → t ≡ s → w ≡ width
+      → r .code ≡ codeGiven (rowContributions (indexIn big t head) w ls ss x home at size)
+      → ContributionsAre (r .contributions) (contributionsGiven (rowContributions (indexIn big t head) w ls ss x home at size))
+      → GivenIs (contributionsBy o width ls ss x home at size) r
+  unfolding contributionsBy
+  given-at t head width w ls ss x home at size r e p q c k =
+      rw (index-well head e .1)
+      (subst (λ (l : List ℕ). GivenIs (rowContributions (indexIn big l head) width ls ss x home at size) r) p
+      (subst (λ (n : ℕ). GivenIs (rowContributions (indexIn big t head) n ls ss x home at size) r) q (given-row (indexIn big t head) w ls ss x home at size r c k)))
 
 -- ---- only shared codes count
 among : (c : ℕ) (xs : List ℕ) → all (λ d. ltb d 14) xs ≡ true → has xs c ≡ true → c < 14

@@ -44,6 +44,9 @@ pub record Moving (k : Contributions) (bases offset : List ℕ) (m : ℕ) : Type
   pub within : m ≤ 14
   pub is : (c : ℕ) → c < m → getD offset c 0 ≡ movedBy (getD (k .has) c false) (getD bases c 0) (getD (k .offset) c 0)
 
+pub moving-none : (k : Contributions) (bases offset : List ℕ) → length offset ≡ 14 → Moving k bases offset 0
+moving-none k bases offset l = record { same = l; within = omega arith; is = λ c h. absurd (not-suc-le-zero h) }
+
 pub moving-more : (k : Contributions) (bases offset : List ℕ) (m v : ℕ) → Moving k bases offset m → m < 14
     → v ≡ movedBy (getD (k .has) m false) (getD bases m 0) (getD (k .offset) m 0) → Moving k bases (set offset m v) (m + 1)
 moving-more k bases offset m v a h e =
@@ -61,6 +64,9 @@ pub record Growing (sums size more : List ℕ) (m : ℕ) : Type 0 where
   pub same : length more ≡ length sums
   pub within : m ≤ 14
   pub done : Summed sums size more m
+
+pub growing-none : (sums size : List ℕ) → Growing sums size sums 0
+growing-none sums size = record { same = refl; within = omega arith; done = record { is = λ c h. absurd (not-suc-le-zero h) } }
 
 pub growing-more : (sums size more : List ℕ) (m v : ℕ) → length sums ≡ 14 → Growing sums size more m → m < 14
     → v ≡ getD sums m 0 + getD size m 0 → Growing sums size (set more m v) (m + 1)

@@ -72,13 +72,13 @@ module _ (five : Bool) (n table : ℕ) (w : List ℕ) (t : Table) (room : RowRoo
     row-frame = record {
       same = replaced-length u v (seenStart n table) (seenSlots n) second u-fit ∙ u-length;
       apart = λ base size a b.
-          replaced-apart u v (seenStart n table) (seenSlots n) second u-fit base size (closer a b)
+          replaced-apart u v (seenStart n table) (seenSlots n) second u-fit base size (closer base size a b)
           ∙ replaced-apart w u (rowsStart n table) (4 * n) first (rows-fit n (length w) (t .count) room table) base size a;
     }
       where
-        closer : {base size : ℕ} → Apart base size (rowsStart n table) (4 * n) → Apart base size (seenStart n table) n → Apart base size (seenStart n table) (seenSlots n)
-        closer a (inl b) = inl b
-        closer a (inr b) = inr (omega (arith, slots-small n (length w) (t .count) room table))
+        closer : (base size : ℕ) → Apart base size (rowsStart n table) (4 * n) → Apart base size (seenStart n table) n → Apart base size (seenStart n table) (seenSlots n)
+        closer base size a (inl b) = inl b
+        closer base size a (inr b) = inr (omega (arith, slots-small n (length w) (t .count) room table))
 
     rows-kept : part v (rowsStart n table) (4 * n) ≡ part u (rowsStart n table) (4 * n)
     rows-kept = replaced-apart u v (seenStart n table) (seenSlots n) second u-fit (rowsStart n table) (4 * n) (inl (omega (arith, rows-le n table, seen-ge n table)))
@@ -105,5 +105,5 @@ module _ (five : Bool) (n table : ℕ) (w : List ℕ) (t : Table) (room : RowRoo
           count = ap (λ (k : ℕ). k + 1) (h .count) ∙ sym (length-more rs r);
           rows = subst (λ (z : List ℕ). RowsHeld five z (rs ++ (r ∷ []))) (sym rows-kept) (rows-more five rows (part u (rowsStart n table) (4 * n)) rs r cells (h .rows) (rw (h .count) at stored) c (omega (arith, rows-length, h .count, room .more)));
           seen = rw (made, identities-more rs r) s;
-          columns = columns-more five (t .has) more rs r cells (h .columns) c (marked .column);
+          columns = columns-more five (t .has) more rs r cells (h .columns) c marked;
         }

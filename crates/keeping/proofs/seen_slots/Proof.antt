@@ -1,3 +1,4 @@
+use Rattle.keeping.specs.Regions.{seenSlots}
 use borrow.Author.Needs.{needs}
 use Rattle.keeping.proofs.seen_slots.Statement.{statement}
 use Rattle.keeping.proofs.seen_slots.Tie as tie
@@ -11,7 +12,8 @@ slots-for-requires c κs = search needs
 
 -- src/lib.rt:75:1
 returns : tie.Need-returns
-returns c = ?
+unfolding seenSlots
+returns c = c .slots-for .ensures
 
 pub seen-slots-spec : {M : Type 1} → statement M
 seen-slots-spec = tie.close (tie.spec slots-for-requires returns)

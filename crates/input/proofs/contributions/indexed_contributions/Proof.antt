@@ -1,3 +1,10 @@
+use mathlib.Core.Path.{refl, sym, subst}
+use mathlib.Core.List.{List}
+use Prim.Native.Nat.{ℕ}
+use denote.Ref.{now}
+use Rattle.octets.proofs.Parts.{part-cut}
+use Rattle.index.specs.Held.{ReadWell}
+use Rattle.input.proofs.Contributing.{given-none, index-well, given-at, width-some}
 use borrow.Author.Needs.{needs}
 use Rattle.input.proofs.contributions.indexed_contributions.Statement.{statement}
 use Rattle.input.proofs.contributions.indexed_contributions.Tie as tie
@@ -21,7 +28,7 @@ whole-contributions-requires c κs = search needs
 
 -- src/contributions.rt:40:9
 returns : tie.Need-returns
-returns c = ?
+returns c = λ o h. given-none _ _ _ o h _ _ _ _ _ _ _ _ (c .before .enum-told .given .1) refl (c .whole-contributions .ensures)
 
 -- src/contributions.rt:45:15
 add-end : tie.Need-add-end
@@ -45,11 +52,17 @@ part-judge-row-end c = search needs
 
 -- src/contributions.rt:47:5
 judge-row-requires : tie.Need-judge-row-requires
-judge-row-requires c κs = ?
+judge-row-requires c κs = 
+    let s = c .before .before .before .before .before .before in
+    let a = s .args in
+    let w = index-well _ _ _ _ (s .pre .1 .1) _ (c .before .before .before .indexed .given .1) in
+    (subst (λ (l : List ℕ). ReadWell (a .e .big) l _) (sym (part-cut (now (a .b)) (a .start) (a .size))) (w .0), rw (c .before .width .ensures) (width-some (a .e)))
 
 -- src/contributions.rt:22:1
 returns-2 : tie.Need-returns-2
-returns-2 c = ?
+returns-2 c = 
+    let a = c .before .before .before .before .before .before .before .args in
+    λ o h. given-at _ _ _ o h _ _ _ _ _ _ _ _ _ _ _ (c .before .before .before .before .indexed .given .1) (part-cut (now (a .b)) (a .start) (a .size)) (c .before .before .width .ensures) (c .judge-row .ensures .0) (c .judge-row .ensures .1)
 
 pub indexed-contributions-spec : {M : Type 1} → statement M
 indexed-contributions-spec =

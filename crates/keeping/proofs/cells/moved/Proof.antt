@@ -1,3 +1,4 @@
+use Rattle.keeping.proofs.Moved.{moved-there, moved-none}
 use borrow.Author.Needs.{needs}
 use Rattle.keeping.proofs.cells.moved.Statement.{statement}
 use Rattle.keeping.proofs.cells.moved.Tie as tie
@@ -10,11 +11,11 @@ add-result c = search needs
 
 -- src/cells.rt:21:9
 returns : tie.Need-returns
-returns c = ?
+returns c = moved-there _ _ _ (c .if1 .taken)
 
 -- src/cells.rt:16:1
 returns-2 : tie.Need-returns-2
-returns-2 c = ?
+returns-2 c = moved-none _ _ _ (c .if1 .left)
 
 pub moved-spec : {M : Type 1} → statement M
 moved-spec = tie.close (tie.spec add-result returns returns-2)
