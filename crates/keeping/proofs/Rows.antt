@@ -4,13 +4,14 @@ use mathlib.Core.Path.{_≡_, refl, sym, ap, _∙_, subst}
 use mathlib.Core.Bool.{Bool, true}
 use mathlib.Core.Logic.{_⊎_, inl, inr}
 use mathlib.Core.List.{List, [], _∷_, _++_}
-use mathlib.Core.Option.{Option}
-use Prim.Native.Nat.{ℕ, _+_, _*_, _<_, _≤_}
+use mathlib.Core.Option.{Option, some, none}
+use Prim.Native.Nat.{ℕ, _+_, _*_, _-_, _<_, _≤_}
 use native.Mathlib.Omega.{arith}
-use lib.ListN.{length}
+use lib.ListN.{length, take, drop, length-set}
+use borrow.Rule.Slice.PartMut.{putMid}
 use Rattle.octets.specs.Octets.{part}
 use Rattle.octets.specs.Lists.{has, distinct}
-use Rattle.octets.proofs.Parts.{length-part}
+use Rattle.octets.proofs.Parts.{length-part, part-cut}
 use Rattle.index.specs.Held as held
 use Rattle.index.specs.Index.{Contribution}
 use Rattle.index.specs.Probing.{search}
@@ -22,7 +23,7 @@ use Rattle.rows.proofs.LawRows.{length-identities, length-more, identities-more
 use Rattle.rows.proofs.LawSeen.{seen-rows-in, seen-more, seen-known}
 use Rattle.keeping.specs.Regions.{rowsStart, seenStart, seenSlots, TableHeld, Replaced, RowRoom, RowFrame, Apart}
 use Rattle.keeping.specs.declared.Table.{Table}
-use Rattle.keeping.proofs.Starts.{rows-le, seen-ge, seen-le, slots-power, slots-le, slots-gt, replaced-length, replaced-part, replaced-apart}
+use Rattle.keeping.proofs.Starts.{rows-le, seen-ge, seen-le, slots-power, slots-le, slots-gt, replaced-put, replaced-length, replaced-part, replaced-apart}
 
 module _ (n room count : ℕ) (r : RowRoom n room count) (table : ℕ) where
   pub rows-fit : rowsStart n table + 4 * n ≤ room
@@ -59,6 +60,14 @@ module _ (five : Bool) (n table : ℕ) (w : List ℕ) (t : Table) (room : RowRoo
 
     pub known-is : distinct (identitiesOf rs) ≡ true → (x : ℕ) → isFound (search slots (identitiesFor rows slots) x) ≡ has (identitiesOf rs) x
     known-is d x = seen-known (h .rows) (h .seen) slots-two (omega (arith, few, length-identities rs)) d x
+
+    -- the same of parts that were lent
+    module _ (r s : List ℕ) (p : r ≡ rows) (q : s ≡ slots) where
+      pub known-requires : held.PowerOfTwo (length s) × RowsIn s (t .count) × (18 * t .count ≤ length r)
+      known-requires = rw (p, q) (slots-two, rows-in, omega (arith, rows-length, room .more))
+
+      pub known-value : distinct (identitiesOf rs) ≡ true → (x : ℕ) → isFound (search s (identitiesFor r s) x) ≡ has (identitiesOf rs) x
+      known-value d x = rw (p, q) (known-is d x)
 
   -- both regions written one after the other
   module _ (u v : List ℕ) (first : Replaced w u (rowsStart n table) (4 * n)) (second : Replaced u v (seenStart n table) (seenSlots n)) where
@@ -107,3 +116,35 @@ module _ (five : Bool) (n table : ℕ) (w : List ℕ) (t : Table) (room : RowRoo
           seen = rw (made, identities-more rs r) s;
           columns = columns-more five (t .has) more rs r cells (h .columns) c marked;
         }
+
+-- ---- what lent parts leave
+length-with : (slots : List ℕ) (row : ℕ) (o : Option ℕ) → length (withRow slots row o) ≡ length slots
+unfolding withRow
+length-with slots row (some at) = length-set slots at row
+length-with slots row none = refl
+
+pub cut-is : (w : List ℕ) (a size base many : ℕ) → a ≡ base → size ≡ many → take (a + size - a) (drop a w) ≡ part w base many
+cut-is w a size base many e f = rw (← e, ← f) (part-cut w a size)
+
+module _ (w x v : List ℕ) (a size base many : ℕ) (e : a ≡ base) (f : size ≡ many) (fits : base + many ≤ length w) (is : v ≡ putMid a (a + size - a) w x) where
+  cut-length : length (take (a + size - a) (drop a w)) ≡ many
+  cut-length = ap length (cut-is w a size base many e f) ∙ length-part w base many fits
+
+  left-by : length x ≡ many → Replaced w v base many
+  left-by l = subst (λ (z : ℕ). Replaced w v z many) e (replaced-put w x v a (a + size) many (omega arith) l is)
+
+  pub stored-in : (five : Bool) (count identity : ℕ) (cells : Cells) → Stored five (take (a + size - a) (drop a w)) x count identity cells
+      → Replaced w v base many × Stored five (part w base many) (part v base many) count identity cells
+  stored-in five count identity cells s =
+      let r = left-by (s .same ∙ cut-length) in
+      (r, subst (λ (z : List ℕ). Stored five (part w base many) z count identity cells) (sym (replaced-part w v base many r fits))
+      (subst (λ (z : List ℕ). Stored five z x count identity cells) (cut-is w a size base many e f) s))
+
+  pub inserted-in : (row y : ℕ) → x ≡ withRow (take (a + size - a) (drop a w)) row (freeFor (take (a + size - a) (drop a w)) y)
+      → Replaced w v base many × (part v base many ≡ withRow (part w base many) row (freeFor (part w base many) y))
+  inserted-in row y s =
+      let r = left-by (ap length s ∙ length-with (take (a + size - a) (drop a w)) row (freeFor (take (a + size - a) (drop a w)) y) ∙ cut-length) in
+      (r, replaced-part w v base many r fits ∙ s ∙ ap (λ (z : List ℕ). withRow z row (freeFor z y)) (cut-is w a size base many e f))
+
+pub slots-power-of : (n table count : ℕ) (w s : List ℕ) → RowRoom n (length w) count → s ≡ part w (seenStart n table) (seenSlots n) → held.PowerOfTwo (length s)
+slots-power-of n table count w s r e = rw (e, length-part w (seenStart n table) (seenSlots n) (seen-fit n (length w) count r table)) (slots-power n)

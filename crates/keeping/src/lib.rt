@@ -130,7 +130,8 @@ pub fn keep_row(
     let count = t.count;
     store_row(five, n, table, count, identity, cells, work);
     insert(n, table, count, identity, work);
-    let has = rows::columns::mark_columns(five, t.has, cells);
+    let seen = t.has;
+    let has = rows::columns::mark_columns(five, seen, cells);
     Table {
         count: count + 1,
         has,

@@ -56,7 +56,7 @@ judge-row-requires c κs =
     let s = c .before .before .before .before .before .before in
     let a = s .args in
     let w = index-well _ _ _ _ (s .pre .1 .1) _ (c .before .before .before .indexed .given .1) in
-    (subst (λ (l : List ℕ). ReadWell (a .e .big) l _) (sym (part-cut (now (a .b)) (a .start) (a .size))) (w .0), rw (c .before .width .ensures) (width-some (a .e)))
+    (subst (λ (l : List ℕ). ReadWell (a .e .big) l (c .before .before .before .indexed .given .0 .0)) (sym (part-cut (now (a .b)) (a .start) (a .size))) (w .0), rw (c .before .width .ensures) (width-some (a .e)))
 
 -- src/contributions.rt:22:1
 returns-2 : tie.Need-returns-2
