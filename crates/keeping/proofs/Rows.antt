@@ -12,6 +12,7 @@ use borrow.Rule.Slice.PartMut.{putMid}
 use Rattle.octets.specs.Octets.{part}
 use Rattle.octets.specs.Lists.{has, distinct}
 use Rattle.octets.proofs.Parts.{length-part, part-cut}
+use Rattle.octets.proofs.Regions.{placed-whole}
 use Rattle.index.specs.Held as held
 use Rattle.index.specs.Index.{Contribution}
 use Rattle.index.specs.Probing.{search}
@@ -23,7 +24,7 @@ use Rattle.rows.proofs.LawRows.{length-identities, length-more, identities-more
 use Rattle.rows.proofs.LawSeen.{seen-rows-in, seen-more, seen-known}
 use Rattle.keeping.specs.Regions.{rowsStart, seenStart, seenSlots, TableHeld, Replaced, RowRoom, RowFrame, Apart}
 use Rattle.keeping.specs.declared.Table.{Table}
-use Rattle.keeping.proofs.Starts.{rows-le, seen-ge, seen-le, slots-power, slots-le, slots-gt, replaced-put, replaced-length, replaced-part, replaced-apart}
+use Rattle.keeping.proofs.Starts.{rows-le, seen-ge, seen-le, slots-power, slots-le, slots-gt, replaced-length, replaced-part, replaced-apart}
 
 module _ (n room count : ℕ) (r : RowRoom n room count) (table : ℕ) where
   pub rows-fit : rowsStart n table + 4 * n ≤ room
@@ -130,21 +131,23 @@ module _ (w x v : List ℕ) (a size base many : ℕ) (e : a ≡ base) (f : size 
   cut-length : length (take (a + size - a) (drop a w)) ≡ many
   cut-length = ap length (cut-is w a size base many e f) ∙ length-part w base many fits
 
-  left-by : length x ≡ many → Replaced w v base many
-  left-by l = subst (λ (z : ℕ). Replaced w v z many) e (replaced-put w x v a (a + size) many (omega arith) l is)
+  left-by : length x ≡ many → Replaced w v base many × (part v base many ≡ x)
+  left-by l =
+      let r : Replaced w v a many = record { words = x; many = l; is = is ∙ placed-whole w a (a + size - a) x (l ∙ omega arith) } in
+      subst (λ (z : ℕ). Replaced w v z many × (part v z many ≡ x)) e (r, replaced-part w v a many r (omega arith))
 
   pub stored-in : (five : Bool) (count identity : ℕ) (cells : Cells) → Stored five (take (a + size - a) (drop a w)) x count identity cells
       → Replaced w v base many × Stored five (part w base many) (part v base many) count identity cells
   stored-in five count identity cells s =
       let r = left-by (s .same ∙ cut-length) in
-      (r, subst (λ (z : List ℕ). Stored five (part w base many) z count identity cells) (sym (replaced-part w v base many r fits))
+      (r .0, subst (λ (z : List ℕ). Stored five (part w base many) z count identity cells) (sym (r .1))
       (subst (λ (z : List ℕ). Stored five z x count identity cells) (cut-is w a size base many e f) s))
 
   pub inserted-in : (row y : ℕ) → x ≡ withRow (take (a + size - a) (drop a w)) row (freeFor (take (a + size - a) (drop a w)) y)
       → Replaced w v base many × (part v base many ≡ withRow (part w base many) row (freeFor (part w base many) y))
   inserted-in row y s =
       let r = left-by (ap length s ∙ length-with (take (a + size - a) (drop a w)) row (freeFor (take (a + size - a) (drop a w)) y) ∙ cut-length) in
-      (r, replaced-part w v base many r fits ∙ s ∙ ap (λ (z : List ℕ). withRow z row (freeFor z y)) (cut-is w a size base many e f))
+      (r .0, r .1 ∙ s ∙ ap (λ (z : List ℕ). withRow z row (freeFor z y)) (cut-is w a size base many e f))
 
 pub slots-power-of : (n table count : ℕ) (w s : List ℕ) → RowRoom n (length w) count → s ≡ part w (seenStart n table) (seenSlots n) → held.PowerOfTwo (length s)
 slots-power-of n table count w s r e = rw (e, length-part w (seenStart n table) (seenSlots n) (seen-fit n (length w) count r table)) (slots-power n)

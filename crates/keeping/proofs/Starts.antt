@@ -9,12 +9,11 @@ use native.Mathlib.Omega.{arith}
 use native.Mathlib.Decide.{decLt}
 use lib.Dec.{eqb}
 use lib.ListN.{length}
-use borrow.Rule.Slice.PartMut.{putMid}
 use borrow.Author.Tests.{eq-eqb, ne-eqb}
 use Rattle.octets.specs.Octets.{part, placed}
 use Rattle.octets.proofs.Checks.{known}
 use Rattle.octets.proofs.Placed.{length-placed}
-use Rattle.octets.proofs.Regions.{placed-whole, part-before, part-behind, part-placed}
+use Rattle.octets.proofs.Regions.{part-before, part-behind, part-placed}
 use Rattle.index.specs.Held as held
 use Rattle.index.specs.Index.{leastPower}
 use Rattle.index.specs.Probing.{slotsFor}
@@ -103,9 +102,6 @@ slots-gt n k l h =
     ]
 
 -- ---- a region replaced
-pub replaced-put : (w x v : List ℕ) (base e size : ℕ) → e - base ≡ size → length x ≡ size → v ≡ putMid base (e - base) w x → Replaced w v base size
-replaced-put w x v base e size q l p = record { words = x; many = l; is = p ∙ placed-whole w base (e - base) x (l ∙ sym q) }
-
 module _ (w v : List ℕ) (base size : ℕ) (r : Replaced w v base size) (fits : base + size ≤ length w) where
   pub replaced-length : length v ≡ length w
   replaced-length = ap length (r .is) ∙ length-placed w base (r .words) (omega (arith, r .many))

@@ -37,7 +37,7 @@ returns : tie.Need-returns
 returns c = 
     let a = c .before .before .before in
     let many : length (c .before .moved-offsets .result) ≡ 14 = search needs in
-    (λ f base k b. cells-are _ _ _ _ _ _ (a .pre) many (c .before .moved-offsets .ensures) f base k b, cells-fit _ _ _ _ _ _ (a .pre) many (c .before .moved-offsets .ensures))
+    (λ f base k b. cells-are _ _ (c .before .moved-offsets .result) _ _ _ (a .pre) many (c .before .moved-offsets .ensures) f base k b, cells-fit _ _ (c .before .moved-offsets .result) _ _ _ (a .pre) many (c .before .moved-offsets .ensures))
 
 pub cells-of-spec : {M : Type 1} → statement M
 cells-of-spec =
