@@ -5,3 +5,13 @@ pub mod Sizes
 pub mod Fields
 pub mod AtLeast
 pub mod UnitFacts
+pub mod Attributes
+pub mod Places
+pub mod Declarations
+pub mod Walks
+pub mod Finding
+pub mod Values
+pub mod Stepping
+pub mod Rooted
+pub mod Units
+pub mod Promised

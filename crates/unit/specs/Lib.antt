@@ -3,6 +3,8 @@
 pub mod Forms
 pub mod Widths
 pub mod Abbreviations
+pub mod Tables
 pub mod Root
+pub mod Roots
 pub mod UnitRead
 pub mod Headers
