@@ -36,7 +36,7 @@ returns c =
     let a = s .before .before .before in
     (
       λ rs f h k. table-more _ _ _ _ _ (a .pre .0) _ _ (s .store-row .ensures .0) (i .insert .ensures .0) _ _ _ (s .store-row .ensures .1) (i .insert .ensures .1) (c .mark-columns .ensures) rs f h k,
-      row-frame (a .args .five) _ _ _ _ (a .pre .0) _ _ (s .store-row .ensures .0) (i .insert .ensures .0),
+      row-frame (a .args .five) _ _ _ (a .args .t) (a .pre .0) _ _ (s .store-row .ensures .0) (i .insert .ensures .0),
     )
 
 pub keep-row-spec : {M : Type 1} → statement M
