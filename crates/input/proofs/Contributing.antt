@@ -114,7 +114,7 @@ among c (x ∷ xs) a h = ⊎-elim
     (λ e. among c xs (all-tail (λ d. ltb d 14) x xs a) e)
     (any-cases (eqb c) x xs h)
 
-shared-below : (c : ℕ) → has shared c ≡ true → c < 14
+pub shared-below : (c : ℕ) → has shared c ≡ true → c < 14
 unfolding shared all
 shared-below c h = among c shared refl h
 

@@ -160,6 +160,6 @@ module _ (k : Contributions) (bases offset : List ℕ) (home place size : ℕ) (
       low : (c : ℕ) → getD offset c 0 < 2 ^ 32
       low c =
           elim (decLt c 14) [
-            | yes h ↦ rw (is c h) (lt-of-le-of-lt (moved-le (getD (k .has) c false) (getD bases c 0) (getD (k .offset) c 0)) (room .offsets c))
+            | yes h ↦ rw (is c h) (lt-of-le-of-lt (moved-le (getD (k .has) c false) (getD bases c 0) (getD (k .offset) c 0)) (room .offsets c h))
             | no h ↦ rw (getD-past offset c (omega (arith, many))) (omega arith)
           ]

@@ -30,7 +30,7 @@ pub record CellsRoom (k : Contributions) (bases : List ℕ) (home place size : �
   pub home-in : home < 14
   pub place-fits : place < 2 ^ 32
   pub size-fits : size < 2 ^ 32
-  pub offsets : (c : ℕ) → getD bases c 0 + getD (k .offset) c 0 < 2 ^ 32
+  pub offsets : (c : ℕ) → c < 14 → getD bases c 0 + getD (k .offset) c 0 < 2 ^ 32
   pub sizes : (c : ℕ) → getD (k .size) c 0 < 2 ^ 32
 
 -- the first m sums have grown

@@ -25,7 +25,7 @@ fn moved(has: bool, base: usize, offset: usize) -> usize
 
 // The offsets in the package's sections, of an object whose sections begin at the bases.
 fn moved_offsets(k: Contributions, bases: [usize; 14]) -> [usize; 14]
-    requires { ⌜ ((c : ℕ) → getD bases c 0 + getD (k .offset) c 0 < 2 ^ 32) ⌝ }
+    requires { ⌜ ((c : ℕ) → c < 14 → getD bases c 0 + getD (k .offset) c 0 < 2 ^ 32) ⌝ }
     ensures { λ r. ⌜ ((c : ℕ) → c < 14 → getD r c 0 ≡ movedBy (getD (k .has) c false) (getD bases c 0) (getD (k .offset) c 0)) ⌝ }
 {
     let mut offset = [0; 14];
@@ -58,7 +58,7 @@ pub fn cells_of(k: Contributions, bases: [usize; 14], home: usize, place: usize,
 
 // The sums with one unit more.
 pub fn grown(sums: [usize; 14], size: [usize; 14]) -> [usize; 14]
-    requires { ⌜ ((c : ℕ) → getD sums c 0 + getD size c 0 < 2 ^ 64) ⌝ }
+    requires { ⌜ ((c : ℕ) → c < 14 → getD sums c 0 + getD size c 0 < 2 ^ 64) ⌝ }
     ensures { λ r. ⌜ Summed sums size r 14 ⌝ }
 {
     let mut more = sums;

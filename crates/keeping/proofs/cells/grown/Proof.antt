@@ -37,7 +37,7 @@ array-read-more-2 c = omega arith
 
 -- src/cells.rt:67:19
 add-more : tie.Need-add-more Inv-loop μ-loop
-add-more c = omega (arith, c .before .before .pre (c .before .loop .c))
+add-more c = omega (arith, c .before .before .pre (c .before .loop .c) (c .loop-test .taken))
 
 -- src/cells.rt:67:9
 mul-more-3 : tie.Need-mul-more-3 Inv-loop μ-loop

@@ -40,7 +40,7 @@ element-copy-out-moved-2 c = omega arith
 
 -- src/cells.rt:34:21
 moved-requires : tie.Need-moved-requires Inv-loop μ-loop
-moved-requires c κs = c .before .before .before .before .pre (c .before .before .before .loop .c)
+moved-requires c κs = c .before .before .before .before .pre (c .before .before .before .loop .c) (c .before .before .loop-test .taken)
 
 -- src/cells.rt:34:9
 mul-offset : tie.Need-mul-offset Inv-loop μ-loop

@@ -1,0 +1,7 @@
+-- Laws of units filed.
+-- Assumes nothing.
+pub mod Picked
+pub mod More
+pub mod Kept
+pub mod Summed
+pub mod Filing
