@@ -1,0 +1,15 @@
+use Rattle.filing.proofs.keep.sums_of.Statement.{statement}
+use Rattle.filing.proofs.keep.sums_of.Tie as tie
+use Rattle.filing.proofs.keep.sums_of.Reads as reads
+use Rattle.filing.proofs.keep.sums_of.Lts as lts
+
+-- src/keep.rt:108:9
+returns : tie.Need-returns
+returns c = ?
+
+-- src/keep.rt:103:1
+returns-2 : tie.Need-returns-2
+returns-2 c = ?
+
+pub sums-of-spec : {M : Type 1} → statement M
+sums-of-spec = tie.close (tie.spec returns returns-2)

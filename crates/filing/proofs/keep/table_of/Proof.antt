@@ -1,0 +1,15 @@
+use Rattle.filing.proofs.keep.table_of.Statement.{statement}
+use Rattle.filing.proofs.keep.table_of.Tie as tie
+use Rattle.filing.proofs.keep.table_of.Reads as reads
+use Rattle.filing.proofs.keep.table_of.Lts as lts
+
+-- src/keep.rt:34:9
+returns : tie.Need-returns
+returns c = ?
+
+-- src/keep.rt:29:1
+returns-2 : tie.Need-returns-2
+returns-2 c = ?
+
+pub table-of-spec : {M : Type 1} → statement M
+table-of-spec = tie.close (tie.spec returns returns-2)

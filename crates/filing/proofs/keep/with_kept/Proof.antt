@@ -1,0 +1,15 @@
+use Rattle.filing.proofs.keep.with_kept.Statement.{statement}
+use Rattle.filing.proofs.keep.with_kept.Tie as tie
+use Rattle.filing.proofs.keep.with_kept.Reads as reads
+use Rattle.filing.proofs.keep.with_kept.Lts as lts
+
+-- src/keep.rt:86:9
+returns : tie.Need-returns
+returns c = ?
+
+-- src/keep.rt:77:1
+returns-2 : tie.Need-returns-2
+returns-2 c = ?
+
+pub with-kept-spec : {M : Type 1} → statement M
+with-kept-spec = tie.close (tie.spec returns returns-2)
