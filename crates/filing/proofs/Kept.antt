@@ -98,10 +98,10 @@ module _ (five : Bool) (b : List ℕ) (n place : ℕ) (w : List ℕ) (st : InPro
 
   -- ---- kept
   module _ (size table identity home : ℕ) (k : Contributions) (y : Filed) (x : NewUnit b place size table identity home k bases us y) where
-    tables : (table ≡ 1) ⊎ (table ≡ 2)
+    pub tables : (table ≡ 1) ⊎ (table ≡ 2)
     tables = subst (λ (z : ℕ). (z ≡ 1) ⊎ (z ≡ 2)) (x .table-is) (x .good .tables)
 
-    homes : (home ≡ 1) ⊎ (home ≡ 2)
+    pub homes : (home ≡ 1) ⊎ (home ≡ 2)
     homes = subst (λ (z : ℕ). (z ≡ 1) ⊎ (z ≡ 2)) (x .home-is) (x .good .homes)
 
     pub own-room : RowRoom n (length w) (tableOf st table .count)

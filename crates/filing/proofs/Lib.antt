@@ -5,3 +5,5 @@ pub mod More
 pub mod Kept
 pub mod Summed
 pub mod Filing
+pub mod Placing
+pub mod Answering

@@ -43,7 +43,7 @@ fn file_read(
     identity: u64,
     work: &mut [u32],
 ) -> UnitFiled
-    requires { ⌜ (start ≤ at) × ((home ≡ 1) ⊎ (home ≡ 2)) × ((i : Input) × (bases : BySection ℕ) × (earlier : List Filed) × (here : List Filed) × (s : List ℕ) × AtUnit (now b) x i n at (now work) st sums bases earlier here × ReadAt i home size table identity s × (at + size ≤ length (now b))) ⌝ }
+    requires { ⌜ (start ≤ at) × ((home ≡ 1) ⊎ (home ≡ 2)) × ((i : Input) × (bases : BySection ℕ) × (earlier : List Filed) × (here : List Filed) × (s : List ℕ) × AtUnit (now b) x i n at (now work) st sums bases earlier here × ReadAt i home size table identity s × (at + size ≤ length (now b)) × (take size s ≡ part (now b) at size)) ⌝ }
     ensures { λ r. ⌜ ((i : Input) (bases : BySection ℕ) (earlier here : List Filed) (s : List ℕ) → AtUnit (now (b .entry)) x i n at (now (work .entry)) st sums bases earlier here → ReadAt i home size table identity s → take size s ≡ part (now (b .entry)) at size → UnitIs (now (b .entry)) x i n at (now (work .entry)) (now (work .exit)) bases earlier here (unitAt i bases earlier here home (at - start) s) r) ⌝ }
 {
     let e = x.encoding;

@@ -1,3 +1,14 @@
+use mathlib.Core.Path.{_≡_, refl, sym, ap, _∙_, subst}
+use mathlib.Core.List.{List, [], _∷_, _++_}
+use Prim.Native.Nat.{_+_, _≤_}
+use native.Mathlib.Omega.{arith}
+use lib.ListN.{length}
+use denote.Ref.{now}
+use Rattle.keeping.proofs.Starts.{places-le}
+use Rattle.filing.specs.State.{Held}
+use Rattle.filing.specs.Choices.{tableOf, withKept}
+use Rattle.filing.specs.declared.state.InProgress.{InProgress}
+use Rattle.filing.proofs.Placing.{cells-requires, row-requires, start-fits, place-requires, placed-strings, unit-held}
 use borrow.Author.Needs.{needs}
 use Rattle.filing.proofs.keep.keep_unit.Statement.{statement}
 use Rattle.filing.proofs.keep.keep_unit.Tie as tie
@@ -18,7 +29,10 @@ kept-of-requires c κs = search needs
 
 -- src/keep.rt:163:9
 cells-of-requires : tie.Need-cells-of-requires
-cells-of-requires c κs = ?
+cells-of-requires c κs = 
+    let s = c .before .before .before in
+    let p = s .pre in
+    cells-requires _ _ _ _ _ _ _ _ (p .4) _ _ _ _ _ _ (p .5) _ (c .before .kept-of .ensures) (tableOf (s .args .st) (s .args .table)) refl
 
 -- src/keep.rt:164:47
 table-of-requires : tie.Need-table-of-requires
@@ -26,7 +40,10 @@ table-of-requires c κs = search needs
 
 -- src/keep.rt:164:9
 keep-row-requires : tie.Need-keep-row-requires
-keep-row-requires c κs = ?
+keep-row-requires c κs = 
+    let s = c .before .before .before .before .before .before in
+    let p = s .pre in
+    (row-requires _ _ _ _ _ _ _ _ (p .4) _ _ _ _ _ _ (p .5) _ (c .before .before .before .before .kept-of .ensures) _ (c .before .table-of .ensures), c .before .before .cells-of .ensures .1)
 
 -- src/keep.rt:165:9
 places-start-requires : tie.Need-places-start-requires
@@ -34,11 +51,11 @@ places-start-requires c κs = search needs
 
 -- src/keep.rt:166:15
 add-end : tie.Need-add-end
-add-end c = ?
+add-end c = let a = c .before .before .before .before .before .before .before .before .before .before in omega (arith, places-le (a .args .n) (a .args .home), a .pre .4 .words, a .pre .4 .limit)
 
 -- src/keep.rt:167:34
 mul-add-place : tie.Need-mul-add-place
-mul-add-place c = ?
+mul-add-place c = let a = c .before .before .before .before .before .before .before .before .before .before in omega (arith, places-le (a .args .n) (a .args .home), a .pre .4 .words, a .pre .4 .limit)
 
 -- src/keep.rt:167:34
 sub-add-place : tie.Need-sub-add-place
@@ -50,11 +67,15 @@ part-add-place-start c = search needs
 
 -- src/keep.rt:167:34
 part-add-place-end : tie.Need-part-add-place-end
-part-add-place-end c = ?
+part-add-place-end c = let k = c .before .before .before in let a = k .before .before .before .before .before .before .before in omega (arith, c .places-start .ensures, k .keep-row .ensures .1 .same, places-le (a .args .n) (a .args .home), a .pre .4 .room)
 
 -- src/keep.rt:167:9
 add-place-requires : tie.Need-add-place-requires
-add-place-requires c κs = ?
+add-place-requires c κs = 
+    let k = c .before .before .before .before in
+    let s = k .before .before .before .before .before .before .before in
+    let p = s .pre in
+    place-requires _ _ _ _ _ _ _ _ (p .4) _ _ _ _ _ _ (p .5) _ (k .before .before .before .before .before .kept-of .ensures) _ (k .before .before .table-of .ensures) _ (k .keep-row .ensures .1) _ (c .before .places-start .ensures)
 
 -- src/keep.rt:168:15
 with-table-requires : tie.Need-with-table-requires
@@ -70,7 +91,19 @@ same-length c = search needs
 
 -- src/keep.rt:144:1
 returns : tie.Need-returns
-returns c = ?
+returns c = 
+    let l = c .before .before .before .before in
+    let k = l .before .before .before .before .before in
+    let s = k .before .before .before .before .before .before .before in
+    let p = s .pre in
+    let made = c .with-kept .ensures ∙ ap (λ (z : InProgress). withKept z (s .args .home) (l .add-place .result)) (c .before .with-table .ensures) in
+    (
+      λ b bases us y h x.
+      subst (λ (z : InProgress). Held _ b _ _ _ z bases (us ++ (y ∷ []))) (sym made)
+      (unit-held _ b _ _ _ _ bases us h _ _ _ _ _ y x _ (k .before .before .before .before .before .kept-of .ensures) _ (k .before .before .table-of .ensures) _ (k .keep-row .ensures .1) _ (l .before .before .places-start .ensures) _ _ (l .add-place .ensures .1 .0) refl _ _ _
+      (k .before .before .before .cells-of .ensures .0 (y .contributions) bases (x .contributes) (h .based)) (k .keep-row .ensures .0) (l .add-place .ensures .1 .1)),
+      placed-strings _ _ _ _ _ _ _ _ (p .4) _ _ _ _ _ _ (p .5) _ (k .before .before .before .before .before .kept-of .ensures) _ (k .before .before .table-of .ensures) _ (k .keep-row .ensures .1) _ (l .before .before .places-start .ensures) _ _ (l .add-place .ensures .1 .0) refl,
+    )
 
 pub keep-unit-spec : {M : Type 1} → statement M
 keep-unit-spec =

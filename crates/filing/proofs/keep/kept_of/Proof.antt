@@ -1,3 +1,4 @@
+use Rattle.filing.proofs.Picked.{pick-first, pick-second}
 use Rattle.filing.proofs.keep.kept_of.Statement.{statement}
 use Rattle.filing.proofs.keep.kept_of.Tie as tie
 use Rattle.filing.proofs.keep.kept_of.Reads as reads
@@ -5,11 +6,11 @@ use Rattle.filing.proofs.keep.kept_of.Lts as lts
 
 -- src/keep.rt:71:9
 returns : tie.Need-returns
-returns c = ?
+returns c = pick-first _ _ _ (c .before .if1 .taken)
 
 -- src/keep.rt:66:1
 returns-2 : tie.Need-returns-2
-returns-2 c = ?
+returns-2 c = pick-second _ _ _ (c .before .if1 .left)
 
 pub kept-of-spec : {M : Type 1} → statement M
 kept-of-spec = tie.close (tie.spec returns returns-2)

@@ -1,3 +1,4 @@
+use Rattle.filing.proofs.Picked.{pick-first, pick-second}
 use Rattle.filing.proofs.keep.table_of.Statement.{statement}
 use Rattle.filing.proofs.keep.table_of.Tie as tie
 use Rattle.filing.proofs.keep.table_of.Reads as reads
@@ -5,11 +6,11 @@ use Rattle.filing.proofs.keep.table_of.Lts as lts
 
 -- src/keep.rt:34:9
 returns : tie.Need-returns
-returns c = ?
+returns c = pick-first _ _ _ (c .before .if1 .taken)
 
 -- src/keep.rt:29:1
 returns-2 : tie.Need-returns-2
-returns-2 c = ?
+returns-2 c = pick-second _ _ _ (c .before .if1 .left)
 
 pub table-of-spec : {M : Type 1} → statement M
 table-of-spec = tie.close (tie.spec returns returns-2)

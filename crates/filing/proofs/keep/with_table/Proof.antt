@@ -1,3 +1,4 @@
+use Rattle.filing.proofs.Picked.{table-first, table-second}
 use Rattle.filing.proofs.keep.with_table.Statement.{statement}
 use Rattle.filing.proofs.keep.with_table.Tie as tie
 use Rattle.filing.proofs.keep.with_table.Reads as reads
@@ -5,11 +6,11 @@ use Rattle.filing.proofs.keep.with_table.Lts as lts
 
 -- src/keep.rt:49:9
 returns : tie.Need-returns
-returns c = ?
+returns c = table-first _ _ _ (c .if1 .taken)
 
 -- src/keep.rt:40:1
 returns-2 : tie.Need-returns-2
-returns-2 c = ?
+returns-2 c = table-second _ _ _ (c .if1 .left)
 
 pub with-table-spec : {M : Type 1} → statement M
 with-table-spec = tie.close (tie.spec returns returns-2)
