@@ -95,5 +95,7 @@ module _ (five : Bool) (b : List ℕ) (n place : ℕ) (w : List ℕ) (st : InPro
             (subst (λ (p : Kept). PlacesHeld b (part w (placesStart n home) n) p (unitsOf (kept us) home)) (sym eq) (places-held five b n place w st bases us h home (homes five b n place w st bases us h size table identity home k y x))))
             (x .within))
 
-        pub unit-held : Held five b n (place + size) v (withKept (withTable st table t) home z) bases (us ++ (y ∷ []))
-        unit-held = held-more five b n place w st bases us h size table identity home k y x u v t z rows-held frame (left .0) units-held
+        pub unit-held : (mid next : InProgress) → mid ≡ withTable st table t → next ≡ withKept mid home z → Held five b n (place + size) v next bases (us ++ (y ∷ []))
+        unit-held mid next em en =
+            subst (λ (l : InProgress). Held five b n (place + size) v l bases (us ++ (y ∷ []))) (sym (en ∙ ap (λ (l : InProgress). withKept l home z) em))
+            (held-more five b n place w st bases us h size table identity home k y x u v t z rows-held frame (left .0) units-held)

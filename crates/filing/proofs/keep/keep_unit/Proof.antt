@@ -1,13 +1,7 @@
-use mathlib.Core.Path.{_≡_, refl, sym, ap, _∙_, subst}
-use mathlib.Core.List.{List, [], _∷_, _++_}
-use Prim.Native.Nat.{_+_, _≤_}
+use mathlib.Core.Path.{refl}
 use native.Mathlib.Omega.{arith}
-use lib.ListN.{length}
-use denote.Ref.{now}
 use Rattle.keeping.proofs.Starts.{places-le}
-use Rattle.filing.specs.State.{Held}
-use Rattle.filing.specs.Choices.{tableOf, withKept}
-use Rattle.filing.specs.declared.state.InProgress.{InProgress}
+use Rattle.filing.specs.Choices.{tableOf}
 use Rattle.filing.proofs.Placing.{cells-requires, row-requires, start-fits, place-requires, placed-strings, unit-held}
 use borrow.Author.Needs.{needs}
 use Rattle.filing.proofs.keep.keep_unit.Statement.{statement}
@@ -96,12 +90,10 @@ returns c =
     let k = l .before .before .before .before .before in
     let s = k .before .before .before .before .before .before .before in
     let p = s .pre in
-    let made = c .with-kept .ensures ∙ ap (λ (z : InProgress). withKept z (s .args .home) (l .add-place .result)) (c .before .with-table .ensures) in
     (
       λ b bases us y h x.
-      subst (λ (z : InProgress). Held _ b _ _ _ z bases (us ++ (y ∷ []))) (sym made)
-      (unit-held _ b _ _ _ _ bases us h _ _ _ _ _ y x _ (k .before .before .before .before .before .kept-of .ensures) _ (k .before .before .table-of .ensures) _ (k .keep-row .ensures .1) _ (l .before .before .places-start .ensures) _ _ (l .add-place .ensures .1 .0) refl _ _ _
-      (k .before .before .before .cells-of .ensures .0 (y .contributions) bases (x .contributes) (h .based)) (k .keep-row .ensures .0) (l .add-place .ensures .1 .1)),
+      unit-held _ b _ _ _ _ bases us h _ _ _ _ _ y x _ (k .before .before .before .before .before .kept-of .ensures) _ (k .before .before .table-of .ensures) _ (k .keep-row .ensures .1) _ (l .before .before .places-start .ensures) _ _ (l .add-place .ensures .1 .0) refl _ _ _
+      (k .before .before .before .cells-of .ensures .0 (y .contributions) bases (x .contributes) (h .based)) (k .keep-row .ensures .0) (l .add-place .ensures .1 .1) _ _ (c .before .with-table .ensures) (c .with-kept .ensures),
       placed-strings _ _ _ _ _ _ _ _ (p .4) _ _ _ _ _ _ (p .5) _ (k .before .before .before .before .before .kept-of .ensures) _ (k .before .before .table-of .ensures) _ (k .keep-row .ensures .1) _ (l .before .before .places-start .ensures) _ _ (l .add-place .ensures .1 .0) refl,
     )
 
