@@ -64,6 +64,10 @@ module _ (b : List ℕ) (x : InputObject) (i : Input) (n place : ℕ) (w : List 
         → any (isUnder table identity) us ≡ q
     seen-is q ens = sym (ens (rowsOf (kept us) table) own-table (rows-distinct us table) ∙ rows-known us table identity)
 
+  -- the sums at hand are those of the definition
+  pub summed-is : (l : List ℕ) → l ≡ sumsOf ss table → (c : ℕ) → c < 14 → getD l c 0 ≡ sums here table c
+  summed-is l e c g = ap (λ (m : List ℕ). getD m c 0) e ∙ sums-held ss here (a .sums) table (r .tables) c g
+
   -- ---- answers
   module _ (at : ℕ) (homes : (home ≡ 1) ⊎ (home ≡ 2)) (bytes : take size s ≡ part b place size) where
     bytes-many : length (take size s) ≡ size
@@ -154,3 +158,14 @@ module _ (b : List ℕ) (x : InputObject) (i : Input) (n place : ℕ) (w : List 
               held = subst (Held five b n (place + size) v next bases) (append-assoc earlier here (new ∷ [])) held;
               sums = summed;
             }, strings)
+
+        pub keep-requires : (c : List ℕ) × (bs : BySection ℕ) × (vs : List Filed) × (u : Filed) × Held five c n place w st bs vs × NewUnit c place size table identity home (j .contributions) bs vs u
+        keep-requires = (b, bases, us, new, a .held, new-unit)
+
+        pub answer-filed : (v : List ℕ) (next : InProgress) (more : Sums)
+            → ((c : List ℕ) (bs : BySection ℕ) (vs : List Filed) (u : Filed) → Held five c n place w st bs vs → NewUnit c place size table identity home (j .contributions) bs vs u → Held five c n (place + size) v next bs (vs ++ (u ∷ [])))
+            → ((vs : List Filed) (u : Filed) → SumsHeld ss vs → u .table ≡ table → (table ≡ 1) ⊎ (table ≡ 2) → ContributionsAre (j .contributions) (u .contributions) → ((c : ℕ) → sizeOf (u .contributions c) ≤ 4_194_304) → SumsHeld more (vs ++ (u ∷ [])))
+            → StringsKept n w v
+            → UnitIs b x i n place w v bases earlier here (unitAt i bases earlier here home at s) (record { code = 0; size = size; st = next; sums = more })
+        answer-filed v next more keeps grows strings =
+            answer-kept v next more (keeps b bases us new (a .held) new-unit) (grows here new (a .sums) refl (r .tables) (given .2) size-low) strings

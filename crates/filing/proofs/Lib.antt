@@ -7,3 +7,4 @@ pub mod Summed
 pub mod Filing
 pub mod Placing
 pub mod Answering
+pub mod Reading
