@@ -2,10 +2,10 @@
 -- Assumes nothing.
 use mathlib.Core.Path.{_≡_, refl, sym, ap, _∙_, subst}
 use mathlib.Core.Bool.{Bool, true, false}
-use mathlib.Core.Logic.{_⊎_, inl, inr}
+use mathlib.Core.Logic.{_⊎_}
 use mathlib.Core.List.{List, [], _∷_, _++_, append-assoc}
-use mathlib.Core.Option.{Option, some, none}
-use Prim.Native.Nat.{ℕ, _+_, _-_, _*_, _<_, _≤_}
+use mathlib.Core.Option.{Option, none}
+use Prim.Native.Nat.{ℕ, _+_, _<_, _≤_}
 use native.Mathlib.Omega.{arith}
 use lib.ListN.{length, take, getD, length-append}
 use Rattle.octets.specs.Octets.{part}
@@ -19,12 +19,11 @@ use Rattle.index.specs.Written.{Row, offsetOf, sizeOf}
 use Rattle.index.specs.Contributed.{ContributionsAre}
 use Rattle.index.specs.declared.judging.RowJudged.{RowJudged}
 use Rattle.rows.specs.Layout.{identitiesOf}
-use Rattle.keeping.specs.Regions.{TableHeld, RowRoom, stringsStart}
+use Rattle.keeping.specs.Regions.{TableHeld, RowRoom}
 use Rattle.keeping.specs.declared.Table.{Table}
 use Rattle.package.specs.Input.{Input}
 use Rattle.package.specs.Filing.{Filed, isUnder, kept, sums, contributionsOf, unitAt}
 use Rattle.package.specs.Pack.{rowsOf}
-use Rattle.input.specs.Judged.{InputIs}
 use Rattle.input.specs.Contributing.{GivenIs}
 use Rattle.input.specs.declared.InputObject.{InputObject}
 use Rattle.filing.specs.declared.state.InProgress.{InProgress}
@@ -56,9 +55,10 @@ module _ (b : List ℕ) (x : InputObject) (i : Input) (n place : ℕ) (w : List 
     own-table = subst (λ (z : Table). TableHeld five n w table z (rowsOf (kept us) table)) (sym e) (table-held five b n place w st bases us (a .held) table (r .tables))
 
     pub seen-requires : RowRoom n (length w) (t .count) × ((rs : List Row) × TableHeld five n w table t rs)
-    seen-requires =
-        (subst (λ (z : Table). RowRoom n (length w) (z .count)) (sym e) (row-room five b n place w st bases us (a .held) table size (r .tables) (r .least) fits),
-        (rowsOf (kept us) table, own-table))
+    seen-requires = (
+      subst (λ (z : Table). RowRoom n (length w) (z .count)) (sym e) (row-room five b n place w st bases us (a .held) table size (r .tables) (r .least) fits),
+      (rowsOf (kept us) table, own-table),
+    )
 
     pub seen-is : (q : Bool) → ((rs : List Row) → TableHeld five n w table t rs → distinct (identitiesOf rs) ≡ true → q ≡ has (identitiesOf rs) identity)
         → any (isUnder table identity) us ≡ q
@@ -88,14 +88,18 @@ module _ (b : List ℕ) (x : InputObject) (i : Input) (n place : ℕ) (w : List 
         → UnitIs b x i n place w w bases earlier here (unitAt i bases earlier here home at s) (record { code = 0; size = size; st = st; sums = ss })
     unfolding UnitIs
     answer-skipped e t =
-        rw (unit-skipped i bases earlier here home at s size table identity r e t)
-        (refl, sym bytes-many, record {
-          input = a .input;
-          held =
-              subst (Held five b n (place + size) w st bases) (append-assoc earlier here (unit (λ c. none) ∷ []))
-              (held-skip five b n place w st bases us (a .held) size (unit (λ c. none)) e (unit-good (λ c. none)) (r .least) fits);
-          sums = sums-skip ss here (a .sums) (unit (λ c. none)) (λ c. refl);
-        }, record { same = refl; strings = refl })
+        rw (unit-skipped i bases earlier here home at s size table identity r e t) (
+          refl,
+          sym bytes-many,
+          record {
+            input = a .input;
+            held =
+                subst (Held five b n (place + size) w st bases) (append-assoc earlier here (unit (λ c. none) ∷ []))
+                (held-skip five b n place w st bases us (a .held) size (unit (λ c. none)) e (unit-good (λ c. none)) (r .least) fits);
+            sums = sums-skip ss here (a .sums) (unit (λ c. none)) (λ c. refl);
+          },
+          record { same = refl; strings = refl },
+        )
 
     module _ (j : RowJudged) (g : GivenIs (contributionsOf i here home at read) j) (e : any (isUnder table identity) us ≡ false) where
       pub answer-bad : (v : List ℕ) (z : UnitFiled) → (j .code ≡ 0 → ⊥) → z .code ≡ j .code
@@ -152,12 +156,16 @@ module _ (b : List ℕ) (x : InputObject) (i : Input) (n place : ℕ) (w : List 
             → UnitIs b x i n place w v bases earlier here (unitAt i bases earlier here home at s) (record { code = 0; size = size; st = next; sums = more })
         unfolding UnitIs
         answer-kept v next more held summed strings =
-            rw (unit-new i bases earlier here home at s size table identity r (given .0) e (given .1))
-            (refl, sym bytes-many, record {
-              input = a .input;
-              held = subst (Held five b n (place + size) v next bases) (append-assoc earlier here (new ∷ [])) held;
-              sums = summed;
-            }, strings)
+            rw (unit-new i bases earlier here home at s size table identity r (given .0) e (given .1)) (
+              refl,
+              sym bytes-many,
+              record {
+                input = a .input;
+                held = subst (Held five b n (place + size) v next bases) (append-assoc earlier here (new ∷ [])) held;
+                sums = summed;
+              },
+              strings,
+            )
 
         pub keep-requires : (c : List ℕ) × (bs : BySection ℕ) × (vs : List Filed) × (u : Filed) × Held five c n place w st bs vs × NewUnit c place size table identity home (j .contributions) bs vs u
         keep-requires = (b, bases, us, new, a .held, new-unit)

@@ -1,48 +1,28 @@
 -- The answers of filing one unit, case by case.
 -- Assumes nothing.
-use mathlib.Core.Path.{_≡_, refl, sym, ap, _∙_, subst}
-use mathlib.Core.Bool.{Bool, true, false}
-use mathlib.Core.Logic.{_⊎_, inl, inr, ⊎-elim}
-use mathlib.Core.List.{List, [], _∷_, _++_, append-assoc}
+use mathlib.Core.Path.{_≡_, refl, ap, _∙_}
+use mathlib.Core.Bool.{true, false}
+use mathlib.Core.List.{List, _++_}
 use mathlib.Core.Option.{Option, some, none}
-use Prim.Native.Nat.{ℕ, _+_, _-_, _*_, _^_, _<_, _≤_}
+use Prim.Native.Nat.{ℕ, _+_, _<_, _≤_}
 use native.Mathlib.Omega.{arith}
-use lib.ListN.{length, take, drop, getD, length-append}
-use lib.Seq.{length-take-le}
+use lib.ListN.{length, take, getD}
 use borrow.Author.Tests.{eq-eqb, ne-eqb}
-use Rattle.octets.specs.Octets.{part}
 use Rattle.octets.specs.Lists.{any}
 use Rattle.octets.specs.Checked.{Check, pass, refuse, _>>=_}
 use Rattle.octets.proofs.Checks.{then-pass, then-refuse, pass-inj}
-use Rattle.octets.proofs.Numbers.{Bytes, bytes-take, bytes-drop}
-use Rattle.octets.proofs.Parts.{length-part, part-take, part-front, part-part}
-use Rattle.bundle.specs.Encoded.{encodingIs}
+use Rattle.octets.proofs.Parts.{length-part}
 use Rattle.unit.specs.UnitRead.{UnitRead, unitOf}
-use Rattle.unit.specs.Headers.{unitAnswer}
-use Rattle.unit.specs.declared.header.UnitAnswer.the-variants.{Read, Refused}
-use Rattle.unit.proofs.AtLeast.{unit-at-least}
-use Rattle.unit.proofs.UnitFacts.{UnitFacts, unit-facts}
 use Rattle.index.specs.Index.{Index, Contribution}
 use Rattle.index.specs.Rows.{BySection, rowContributions, wholeContributions}
 use Rattle.index.specs.Written.{offsetOf, sizeOf}
-use Rattle.index.specs.Contributed.{ContributionsAre}
-use Rattle.index.specs.declared.judging.RowJudged.{RowJudged}
-use Rattle.index.specs.declared.judging.Contributions.{Contributions}
 use Rattle.index.proofs.Contributions.{Contributed, whole-contributed, row-contributed}
 use Rattle.package.specs.Input.{Input}
 use Rattle.package.specs.Filing.{Filed, isUnder, indexFor, sums, lengths, contributionsOf, skipped, unitAt}
 use Rattle.input.specs.Judged.{sectionOf, InputIs}
-use Rattle.input.specs.Contributing.{GivenIs}
 use Rattle.input.specs.declared.InputObject.{InputObject}
 use Rattle.input.proofs.Contributing.{shared-below}
-use Rattle.filing.specs.declared.state.InProgress.{InProgress}
-use Rattle.filing.specs.declared.state.Sums.{Sums}
-use Rattle.filing.specs.declared.units.UnitFiled.{UnitFiled}
-use Rattle.filing.specs.State.{UnitGood, Held, SumsHeld, StringsKept}
-use Rattle.filing.specs.Answers.{AtUnit, UnitIs}
-use Rattle.filing.specs.Choices.{NewUnit, ReadAt}
-use Rattle.filing.proofs.Kept.{held-skip}
-use Rattle.filing.proofs.Summed.{sums-skip}
+use Rattle.filing.specs.Choices.{ReadAt}
 
 -- a unit as it is filed
 abbrev pub filed : Input → BySection ℕ → ℕ → ℕ → ℕ → List ℕ → BySection (Option Contribution) → Filed

@@ -1,10 +1,9 @@
 -- What is held with one unit more, kept or skipped.
 -- Assumes nothing.
 use mathlib.Core.Path.{_≡_, refl, sym, ap, _∙_, subst}
-use mathlib.Core.Bool.{Bool, true, false}
+use mathlib.Core.Bool.{Bool, true}
 use mathlib.Core.Logic.{_⊎_, inl, inr, ⊎-elim}
 use mathlib.Core.List.{List, [], _∷_, _++_}
-use mathlib.Core.Option.{Option, some, none}
 use Prim.Native.Nat.{ℕ, _+_, _*_, _^_, _<_, _≤_}
 use native.Mathlib.Omega.{arith}
 use native.Mathlib.Decide.{ℕ-discrete}
@@ -14,7 +13,7 @@ use Rattle.octets.specs.Lists.{any, joined}
 use Rattle.octets.proofs.Joined.{joined-append}
 use Rattle.octets.proofs.Parts.{length-part}
 use Rattle.index.specs.Rows.{BySection}
-use Rattle.index.specs.Written.{Row, offsetOf, sizeOf}
+use Rattle.index.specs.Written.{Row}
 use Rattle.index.specs.declared.judging.Contributions.{Contributions}
 use Rattle.rows.specs.Layout.{RowsHeld, SeenHeld, identitiesOf}
 use Rattle.keeping.specs.Regions.{rowsStart, stringsStart, seenStart, placesStart, seenSlots, TableHeld, Replaced, RowRoom, RowFrame, Apart}
@@ -23,11 +22,10 @@ use Rattle.keeping.specs.declared.Table.{Table}
 use Rattle.keeping.proofs.Starts.{rows-le, seen-ge, seen-le, places-ge, places-le, slots-le, replaced-length, replaced-apart}
 use Rattle.places.specs.Places.{PlacesHeld, RoomFor}
 use Rattle.places.specs.declared.Kept.{Kept}
-use Rattle.package.specs.Filing.{Filed, isUnder, kept, sums}
+use Rattle.package.specs.Filing.{Filed, isUnder, kept}
 use Rattle.package.specs.Pack.{rowsOf}
 use Rattle.filing.specs.declared.state.InProgress.{InProgress}
-use Rattle.filing.specs.declared.state.Sums.{Sums}
-use Rattle.filing.specs.State.{unitsOf, UnitGood, Held, SumsHeld, StringsKept}
+use Rattle.filing.specs.State.{unitsOf, UnitGood, Held, StringsKept}
 use Rattle.filing.specs.Choices.{pick, tableOf, withTable, keptOf, withKept, NewUnit}
 use Rattle.filing.proofs.Picked.{pick-first, pick-second}
 use Rattle.filing.proofs.More.{kept-new, kept-known, rows-few, units-few, rows-own, rows-other, units-own, units-other, good-more}

@@ -1,6 +1,6 @@
 -- Kept units, rows, units of a section and sums with one unit more.
 -- Assumes nothing.
-use mathlib.Core.Path.{_≡_, refl, sym, ap, _∙_, subst}
+use mathlib.Core.Path.{_≡_, refl, sym, ap, _∙_}
 use mathlib.Core.Bool.{Bool, true, false}
 use mathlib.Core.Logic.{⊎-elim}
 use mathlib.Core.List.{List, [], _∷_, _++_, map, append-nil}
@@ -8,7 +8,7 @@ use Prim.Native.Nat.{ℕ, suc, _+_, _≤_}
 use native.Mathlib.Omega.{arith}
 use lib.Dec.{eqb}
 use lib.ListN.{length, length-append}
-use borrow.Author.Tests.{eqb-true, eqb-false, eq-eqb, ne-eqb}
+use borrow.Author.Tests.{eq-eqb, ne-eqb}
 use Rattle.octets.specs.Lists.{any, those, joined, sum, has, distinct}
 use Rattle.octets.proofs.Checks.{known}
 use Rattle.octets.proofs.Lists.{those-append, those-keeps, those-skips}
@@ -19,7 +19,7 @@ use Rattle.rows.specs.Layout.{identitiesOf}
 use Rattle.keeping.specs.Cells.{cellsBy}
 use Rattle.package.specs.Filing.{Filed, isUnder, keep, keepAll, kept, sums}
 use Rattle.package.specs.Pack.{cells, Entry, longer, entriesFrom, rowsOf, unitBytes}
-use Rattle.package.proofs.Kept.{keep-new, keep-known, kept-snoc, any-kept, has-identity, identitiesIn, distinct-kept}
+use Rattle.package.proofs.Kept.{keep-new, keep-known, kept-snoc, any-kept, has-identity, distinct-kept}
 use Rattle.package.proofs.Rows.{behindAll, behind-at, rowsFrom, rowAt, rows-are, rows-append, rows-later, rows-identities, row-stands, nothingBefore}
 use Rattle.filing.specs.State.{unitsOf, UnitGood, UnitsGood}
 

@@ -1,13 +1,13 @@
 -- A kept unit's row and place as code stores them.
 -- Assumes nothing.
-use mathlib.Core.Path.{_≡_, refl, sym, ap, _∙_, subst}
+use mathlib.Core.Path.{_≡_, sym, ap, _∙_, subst}
 use mathlib.Core.Bool.{Bool}
 use mathlib.Core.Logic.{inr}
 use mathlib.Core.List.{List, [], _∷_, _++_}
 use mathlib.Core.Option.{Option}
-use Prim.Native.Nat.{ℕ, _+_, _*_, _-_, _<_, _≤_}
+use Prim.Native.Nat.{ℕ, _+_, _*_, _-_, _≤_}
 use native.Mathlib.Omega.{arith}
-use lib.ListN.{length, take, drop, getD}
+use lib.ListN.{length, take, drop}
 use borrow.Rule.Slice.PartMut.{putMid}
 use Rattle.octets.specs.Octets.{part, placed}
 use Rattle.octets.proofs.Parts.{length-part, part-cut}

@@ -1,10 +1,10 @@
 -- The sums of an object's units with one unit more.
 -- Assumes nothing.
-use mathlib.Core.Path.{_≡_, refl, sym, ap, _∙_, subst}
-use mathlib.Core.Logic.{_⊎_, inl, inr, ⊎-elim}
+use mathlib.Core.Path.{_≡_, sym, ap, _∙_}
+use mathlib.Core.Logic.{_⊎_, inl, inr}
 use mathlib.Core.List.{List, [], _∷_, _++_}
-use mathlib.Core.Option.{Option, some, none}
-use Prim.Native.Nat.{ℕ, _+_, _*_, _^_, _<_, _≤_}
+use mathlib.Core.Option.{none}
+use Prim.Native.Nat.{ℕ, _+_, _*_, _<_, _≤_}
 use native.Mathlib.Omega.{arith}
 use native.Mathlib.Decide.{ℕ-discrete}
 use lib.ListN.{length, getD, length-append}
@@ -15,7 +15,7 @@ use Rattle.keeping.specs.Cells as cells
 use Rattle.package.specs.Filing.{Filed, sums}
 use Rattle.filing.specs.declared.state.Sums.{Sums}
 use Rattle.filing.specs.State.{SumsHeld}
-use Rattle.filing.specs.Choices.{pick, sumsOf, withSums, SumsRoom}
+use Rattle.filing.specs.Choices.{sumsOf, withSums, SumsRoom}
 use Rattle.filing.proofs.Picked.{pick-first, pick-second}
 use Rattle.filing.proofs.More.{sums-own, sums-other}
 
@@ -44,6 +44,7 @@ module _ (s : Sums) (here : List Filed) (h : SumsHeld s here) where
     where
       own : (c : ℕ) → c < 14 → getD more c 0 ≡ sums (here ++ (u ∷ [])) table c
       own c g = m .is c g ∙ omega (arith, sums-held table t c g, a .size c, sums-own here u table c e)
+
       go : (table ≡ 1) ⊎ (table ≡ 2) → SumsHeld (withSums s table more) (here ++ (u ∷ []))
       go (inl f) =
           record {

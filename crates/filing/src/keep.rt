@@ -18,7 +18,6 @@ ghost use Rattle.filing.specs.Choices.{
   NewUnit,
   SumsRoom,
 };
-
 use crate::state::InProgress;
 use crate::state::Sums;
 use index::judging::Contributions;
@@ -117,15 +116,9 @@ fn with_sums(sums: Sums, table: usize, s: [usize; 14]) -> Sums
     let cu = sums.cu;
     let tu = sums.tu;
     if table == 1 {
-        return Sums {
-            cu: s,
-            tu,
-        };
+        return Sums { cu: s, tu };
     }
-    Sums {
-        cu,
-        tu: s,
-    }
+    Sums { cu, tu: s }
 }
 
 // ---- a unit that is kept

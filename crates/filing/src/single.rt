@@ -10,7 +10,6 @@ ghost use Rattle.package.specs.Input.{Input};
 ghost use Rattle.package.specs.Filing.{Filed, unitAt};
 ghost use Rattle.filing.specs.Answers.{AtUnit, UnitIs};
 ghost use Rattle.filing.specs.Choices.{ReadAt};
-
 use crate::state::InProgress;
 use crate::state::Sums;
 use crate::units::UnitFiled;
@@ -87,19 +86,25 @@ fn file_read(
 }
 
 // The unit at a place of a section of units, which lies from start to stop.
-pub fn file_unit(b: &[u8], x: InputObject, home: usize, start: usize, stop: usize, at: usize, n: usize, st: InProgress, sums: Sums, work: &mut [u32]) -> UnitFiled
+pub fn file_unit(
+    b: &[u8],
+    x: InputObject,
+    home: usize,
+    start: usize,
+    stop: usize,
+    at: usize,
+    n: usize,
+    st: InProgress,
+    sums: Sums,
+    work: &mut [u32],
+) -> UnitFiled
     requires { ⌜ (start ≤ at) × (at < stop) × (stop ≤ length (now b)) × ((home ≡ 1) ⊎ (home ≡ 2)) × ((i : Input) × (bases : BySection ℕ) × (earlier : List Filed) × (here : List Filed) × AtUnit (now b) x i n at (now work) st sums bases earlier here) ⌝ }
     ensures { λ r. ⌜ ((i : Input) (bases : BySection ℕ) (earlier here : List Filed) → AtUnit (now (b .entry)) x i n at (now (work .entry)) st sums bases earlier here → UnitIs (now (b .entry)) x i n at (now (work .entry)) (now (work .exit)) bases earlier here (unitAt i bases earlier here home (at - start) (part (now (b .entry)) at (stop - at))) r) ⌝ }
 {
     let e = x.encoding;
     let first = x.start[3];
     let last = first + x.size[3];
-    let answer = unit::header::read_unit(
-        e,
-        octets::narrow(home),
-        &b[first..last],
-        &b[at..stop],
-    );
+    let answer = unit::header::read_unit(e, octets::narrow(home), &b[first..last], &b[at..stop]);
     match answer {
         UnitAnswer::Refused(code) => refused(code, st, sums),
         UnitAnswer::Read(size, table, identity) => file_read(

@@ -5,15 +5,14 @@ use mathlib.Core.Bool.{Bool, true, false, not}
 use mathlib.Core.Logic.{⊎-elim}
 use mathlib.Core.List.{List, [], _∷_}
 use mathlib.Core.Option.{Option, some, none}
-use Prim.Native.Nat.{ℕ, _+_, _<_, _≤_}
+use Prim.Native.Nat.{ℕ, _<_}
 use native.Mathlib.Omega.{arith}
 use lib.Dec.{eqb, ltb}
 use lib.ListN.{length, getD}
 use borrow.Author.Tests.{eqb-true, eq-eqb, ne-eqb, ltb-true}
-use Rattle.octets.specs.Octets.{part}
 use Rattle.octets.specs.Lists.{all, any, those, has}
 use Rattle.octets.specs.Checked.{Check, pass, refuse, _>>=_, require}
-use Rattle.octets.proofs.Checks.{pass-refuse, refuse-inj, bind-refuse, known, true-false}
+use Rattle.octets.proofs.Checks.{pass-refuse, refuse-inj, bind-refuse, true-false}
 use Rattle.octets.proofs.Lists.{any-cases, any-stops, any-more, all-head, all-tail, those-keeps, those-skips}
 use Rattle.octets.proofs.Parts.{length-part}
 use Rattle.bundle.specs.Encoded.{four, encodingIs}

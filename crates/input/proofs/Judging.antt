@@ -3,30 +3,28 @@
 use mathlib.Core.Path.{_≡_, refl, sym, ap, _∙_}
 use mathlib.Core.Bool.{Bool, true, false, _||_, _&&_}
 use mathlib.Core.Logic.{⊎-elim}
-use mathlib.Core.List.{List, []}
-use mathlib.Core.Option.{Option, some, none}
-use Prim.Native.Nat.{ℕ, _<_}
+use mathlib.Core.List.{List}
+use mathlib.Core.Option.{some}
+use Prim.Native.Nat.{ℕ}
 use native.Mathlib.Omega.{arith}
-use lib.Dec.{eqb, leb}
-use borrow.Author.Tests.{eqb-true, eqb-false, eq-eqb, ne-eqb}
+use lib.Dec.{eqb}
+use borrow.Author.Tests.{eqb-true, eq-eqb, ne-eqb}
 use Rattle.octets.specs.Checked.{Check, pass, refuse, _>>=_, require}
-use Rattle.octets.proofs.Checks.{fails, passes, then-pass, then-refuse, and-left, and-right, or-cases, known, true-false}
-use Rattle.octets.proofs.Refusals.{Only, only-pass, only-refuse, only-require, only-bind}
+use Rattle.octets.proofs.Checks.{fails, passes, and-left, and-right, or-cases, true-false}
+use Rattle.octets.proofs.Refusals.{Only, only-pass, only-require, only-bind}
 use Rattle.bundle.specs.Bundle.{Part, Object, body, count}
 use Rattle.bundle.specs.Scan.{byCode, scanOf}
 use Rattle.bundle.specs.declared.Scan.{Scan}
 use Rattle.bundle.specs.Encoding.{Encoding, encodingOf, encodingGood}
 use Rattle.bundle.specs.Encoded.{four, encodingIs, wordRead}
 use Rattle.bundle.specs.declared.encoding.ObjectEncoding.{ObjectEncoding}
-use Rattle.bundle.specs.declared.encoding.WordRead.{WordRead}
 use Rattle.bundle.specs.declared.encoding.WordRead.the-variants.{Good, Bad}
 use Rattle.index.specs.Index.{Index, indexOf, layout}
-use Rattle.index.specs.Held.{ReadWell, headOf, indexRead, indexIn}
+use Rattle.index.specs.Held.{indexRead, indexIn}
 use Rattle.index.specs.declared.reading.IndexHead.{IndexHead}
-use Rattle.index.specs.declared.reading.IndexRead.{IndexRead}
 use Rattle.index.specs.declared.reading.IndexRead.the-variants as read
 use Rattle.index.proofs.Heads.{read-is}
-use Rattle.package.specs.Input.{Input, editionGood, complete, present, usedStrings, inputIndex, unitSections, inputOf}
+use Rattle.package.specs.Input.{editionGood, complete, present, usedStrings, inputIndex, unitSections, inputOf}
 use Rattle.package.specs.Counted.{editionBy, completeBy}
 use Rattle.package.proofs.Counts.{edition-is, complete-is}
 use Rattle.input.specs.Judged.{IndexedIs, objectCheck, JudgedIs, indexCheck, JudgedIndexIs}
@@ -49,6 +47,7 @@ word-good e x h = go (encodingGood e) refl
   where
     made : encodingGood e ≡ true → x ≡ record { big = e .big; five = eqb (e .version) 5; wide = eqb (e .width) 8; long = eqb (e .address) 8 }
     made t = (let g = rw (wordRead, t) at h in cc)
+
     go : (t : Bool) → encodingGood e ≡ t → (encodingGood e ≡ true) × (encodingIs x ≡ e)
     go false t = absurd (let g = rw (wordRead, t) at h in let z : _≡_ {A = ℕ} 0 1 = cc in omega arith)
     go true t =

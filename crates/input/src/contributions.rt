@@ -12,7 +12,6 @@ ghost use Rattle.package.specs.Input.{Input};
 ghost use Rattle.package.specs.Filing.{Filed, sums, contributionsOf};
 ghost use Rattle.input.specs.Judged.{IndexedIs, InputIs};
 ghost use Rattle.input.specs.Contributing.{contributionsBy, GivenIs};
-
 use crate::Indexed;
 use crate::InputObject;
 use bundle::encoding::ObjectEncoding;

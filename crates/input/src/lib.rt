@@ -61,32 +61,26 @@ pub fn judge_object(big: bool, first: u32, word: u32, scan: Scan) -> Judged
         };
     };
     if word != first {
-        return Judged {
-            code: 5,
-            encoding,
-        };
+        return Judged { code: 5, encoding };
     }
     let count = scan.count;
     if !package::editions::edition_good(encoding.five, count) {
-        return Judged {
-            code: 6,
-            encoding,
-        };
+        return Judged { code: 6, encoding };
     }
     if !package::editions::complete(count) {
-        return Judged {
-            code: 7,
-            encoding,
-        };
+        return Judged { code: 7, encoding };
     }
-    Judged {
-        code: 0,
-        encoding,
-    }
+    Judged { code: 0, encoding }
 }
 
 // 10, of a section that lies there where there is one. Callers have it from a scan of the bundle.
-pub fn judge_index(b: &[u8], e: ObjectEncoding, start: usize, size: usize, count: usize) -> JudgedIndex
+pub fn judge_index(
+    b: &[u8],
+    e: ObjectEncoding,
+    start: usize,
+    size: usize,
+    count: usize,
+) -> JudgedIndex
     requires { ⌜ start + size ≤ length (now b) ⌝ }
     ensures { λ r. ⌜ JudgedIndexIs (e .big) (part (now (b .entry)) start size) (indexCheck (e .big) (leb 1 count) (part (now (b .entry)) start size)) r ⌝ }
 {

@@ -1,6 +1,6 @@
 -- The cells of a unit, and sums, one section after the other.
 -- Assumes nothing.
-use mathlib.Core.Path.{_≡_, refl, sym, ap, _∙_, subst}
+use mathlib.Core.Path.{_≡_, refl, _∙_}
 use mathlib.Core.Bool.{Bool, true, false}
 use mathlib.Core.List.{List, [], _∷_}
 use mathlib.Core.Option.{Option, some, none}
@@ -14,7 +14,7 @@ use borrow.Author.Tests.{eq-eqb, ne-eqb}
 use Rattle.index.specs.Index.{Contribution}
 use Rattle.index.specs.Rows.{BySection, isSome}
 use Rattle.index.specs.Written.{offsetOf, sizeOf}
-use Rattle.index.specs.Contributed.{Whole, ContributionsAre}
+use Rattle.index.specs.Contributed.{ContributionsAre}
 use Rattle.index.specs.declared.judging.Contributions.{Contributions}
 use Rattle.rows.specs.Layout.{CellsAre, CellsFit}
 use Rattle.rows.specs.declared.Cells.{Cells}

@@ -2,7 +2,7 @@
 -- Assumes nothing.
 use mathlib.Core.Path.{_≡_, refl, sym, ap, _∙_, subst}
 use mathlib.Core.Bool.{Bool, true}
-use mathlib.Core.Logic.{_⊎_, inl, inr}
+use mathlib.Core.Logic.{inl, inr}
 use mathlib.Core.List.{List, [], _∷_, _++_}
 use mathlib.Core.Option.{Option, some, none}
 use Prim.Native.Nat.{ℕ, _+_, _*_, _-_, _<_, _≤_}
@@ -139,9 +139,11 @@ module _ (w x v : List ℕ) (a size base many : ℕ) (e : a ≡ base) (f : size 
   pub stored-in : (five : Bool) (count identity : ℕ) (cells : Cells) → Stored five (take (a + size - a) (drop a w)) x count identity cells
       → Replaced w v base many × Stored five (part w base many) (part v base many) count identity cells
   stored-in five count identity cells s =
-      let r = left-by (s .same ∙ cut-length) in
-      (r .0, subst (λ (z : List ℕ). Stored five (part w base many) z count identity cells) (sym (r .1))
-      (subst (λ (z : List ℕ). Stored five z x count identity cells) (cut-is w a size base many e f) s))
+      let r = left-by (s .same ∙ cut-length) in (
+        r .0,
+        subst (λ (z : List ℕ). Stored five (part w base many) z count identity cells) (sym (r .1))
+            (subst (λ (z : List ℕ). Stored five z x count identity cells) (cut-is w a size base many e f) s),
+      )
 
   pub inserted-in : (row y : ℕ) → x ≡ withRow (take (a + size - a) (drop a w)) row (freeFor (take (a + size - a) (drop a w)) y)
       → Replaced w v base many × (part v base many ≡ withRow (part w base many) row (freeFor (part w base many) y))

@@ -1,22 +1,20 @@
 -- Where the regions lie, and a region replaced.
 -- Assumes nothing.
-use mathlib.Core.Path.{_≡_, refl, sym, ap, _∙_}
-use mathlib.Core.Bool.{Bool, true, false}
+use mathlib.Core.Path.{_≡_, ap, _∙_}
+use mathlib.Core.Bool.{true, false}
 use mathlib.Core.Logic.{_⊎_, inl, inr, ⊎-elim}
 use mathlib.Core.List.{List}
-use Prim.Native.Nat.{ℕ, _+_, _*_, _-_, _/_, _^_, _<_, _≤_}
+use Prim.Native.Nat.{ℕ, _+_, _*_, _/_, _^_, _<_, _≤_}
 use native.Mathlib.Omega.{arith}
 use native.Mathlib.Decide.{decLt}
 use lib.Dec.{eqb}
 use lib.ListN.{length}
 use borrow.Author.Tests.{eq-eqb, ne-eqb}
-use Rattle.octets.specs.Octets.{part, placed}
+use Rattle.octets.specs.Octets.{part}
 use Rattle.octets.proofs.Checks.{known}
 use Rattle.octets.proofs.Placed.{length-placed}
 use Rattle.octets.proofs.Regions.{part-before, part-behind, part-placed}
 use Rattle.index.specs.Held as held
-use Rattle.index.specs.Index.{leastPower}
-use Rattle.index.specs.Probing.{slotsFor}
 use Rattle.index.proofs.Slots.{leastPower-ge, leastPower-lt, slotsFor-few, slotsFor-many, slotsFor-power}
 use Rattle.rows.proofs.LawLoops.{is-power}
 use Rattle.keeping.specs.Regions.{rowsStart, seenStart, placesStart, seenSlots, Replaced, Apart}

@@ -9,7 +9,6 @@ ghost use Rattle.index.specs.Rows.{BySection};
 ghost use Rattle.index.specs.Contributed.{ContributionsAre};
 ghost use Rattle.rows.specs.Layout.{CellsAre, CellsFit};
 ghost use Rattle.keeping.specs.Cells.{cellsBy, movedBy, CellsRoom, Summed};
-
 use index::judging::Contributions;
 use rows::Cells;
 
@@ -38,7 +37,13 @@ fn moved_offsets(k: Contributions, bases: [usize; 14]) -> [usize; 14]
 }
 
 // The cells of a unit of so many bytes of the section home, which lie at a place of the package's.
-pub fn cells_of(k: Contributions, bases: [usize; 14], home: usize, place: usize, size: usize) -> Cells
+pub fn cells_of(
+    k: Contributions,
+    bases: [usize; 14],
+    home: usize,
+    place: usize,
+    size: usize,
+) -> Cells
     requires { ⌜ CellsRoom k bases home place size ⌝ }
     ensures cells { λ r. ⌜ ((f : BySection (Option Contribution)) (base : BySection ℕ) → ContributionsAre k f → ((c : ℕ) → c < 14 → getD bases c 0 ≡ base c) → CellsAre r (cellsBy f base home place size)) ⌝ }
     ensures fit { λ r. ⌜ CellsFit r ⌝ }

@@ -27,7 +27,6 @@ ghost use Rattle.keeping.specs.Regions.{
   Replaced,
   RowRoom,
   RowFrame,
-
 };
 
 pub mod cells;
@@ -93,7 +92,15 @@ pub fn is_seen(five: bool, n: usize, table: usize, t: Table, identity: u64, work
     rows::slots::is_known(&work[start..end], &work[first..last], count, identity)
 }
 
-fn store_row(five: bool, n: usize, table: usize, count: usize, identity: u64, cells: Cells, work: &mut [u32])
+fn store_row(
+    five: bool,
+    n: usize,
+    table: usize,
+    count: usize,
+    identity: u64,
+    cells: Cells,
+    work: &mut [u32],
+)
     requires { ⌜ RowRoom n (length (now work)) count × CellsFit cells ⌝ }
     ensures { λ _. ⌜ Replaced (now (work .entry)) (now (work .exit)) (rowsStart n table) (4 * n) ⌝ }
     ensures { λ _. ⌜ Stored five (part (now (work .entry)) (rowsStart n table) (4 * n)) (part (now (work .exit)) (rowsStart n table) (4 * n)) count identity cells ⌝ }

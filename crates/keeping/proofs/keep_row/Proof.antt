@@ -1,40 +1,30 @@
+-- `keep_row` meets its contract.
+-- Assumes nothing.
 use Rattle.keeping.proofs.Rows.{table-more, row-frame}
 use borrow.Author.Needs.{needs}
 use Rattle.keeping.proofs.keep_row.Statement.{statement}
 use Rattle.keeping.proofs.keep_row.Tie as tie
-use Rattle.keeping.proofs.keep_row.Reads as reads
-use Rattle.keeping.proofs.keep_row.Lts as lts
-use Rattle.keeping.proofs.insert.Reads as insert-reads
-use Rattle.keeping.proofs.store_row.Reads as store-row-reads
-use Rattle.rows.proofs.columns.mark_columns.Reads as mark-columns-reads
 
--- src/lib.rt:131:5
 store-row-requires : tie.Need-store-row-requires
 store-row-requires c κs = search needs
 
--- src/lib.rt:132:5
 insert-requires : tie.Need-insert-requires
 insert-requires c κs = search needs
 
--- src/lib.rt:134:9
 mark-columns-requires : tie.Need-mark-columns-requires
 mark-columns-requires c κs = search needs
 
--- src/lib.rt:136:16
 add-t16 : tie.Need-add-t16
 add-t16 c = search needs
 
--- src/lib.rt:117:1
 same-length : tie.Need-same-length
 same-length c = search needs
 
--- src/lib.rt:117:1
 returns : tie.Need-returns
 returns c =
     let i = c .before .before .before .before in
     let s = i .before .before .before .before in
-    let a = s .before .before .before in
-    (
+    let a = s .before .before .before in (
       λ rs f h k. table-more _ _ _ _ _ (a .pre .0) _ _ (s .store-row .ensures .0) (i .insert .ensures .0) _ _ _ (s .store-row .ensures .1) (i .insert .ensures .1) (c .mark-columns .ensures) rs f h k,
       row-frame (a .args .five) _ _ _ (a .args .t) (a .pre .0) _ _ (s .store-row .ensures .0) (i .insert .ensures .0),
     )

@@ -1,23 +1,19 @@
+-- `seen_start` meets its contract.
+-- Assumes nothing.
 use Rattle.keeping.proofs.Starts.{seen-first, seen-second}
 use borrow.Author.Needs.{needs}
 use Rattle.keeping.proofs.seen_start.Statement.{statement}
 use Rattle.keeping.proofs.seen_start.Tie as tie
-use Rattle.keeping.proofs.seen_start.Reads as reads
-use Rattle.keeping.proofs.seen_start.Lts as lts
 
--- src/lib.rt:59:16
 mul-result : tie.Need-mul-result
 mul-result c = search needs
 
--- src/lib.rt:59:9
 returns : tie.Need-returns
 returns c = seen-first _ _ (c .if1 .taken)
 
--- src/lib.rt:61:5
 mul-result-2 : tie.Need-mul-result-2
 mul-result-2 c = search needs
 
--- src/lib.rt:54:1
 returns-2 : tie.Need-returns-2
 returns-2 c = seen-second _ _ (c .if1 .left)
 

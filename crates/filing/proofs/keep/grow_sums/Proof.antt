@@ -1,3 +1,5 @@
+-- `grow_sums` meets its contract.
+-- Assumes nothing.
 use mathlib.Core.Path.{sym, subst}
 use mathlib.Core.List.{List, [], _∷_, _++_}
 use Prim.Native.Nat.{ℕ, _+_, _^_, _<_}
@@ -9,27 +11,18 @@ use Rattle.filing.proofs.Summed.{sums-more}
 use borrow.Author.Needs.{needs}
 use Rattle.filing.proofs.keep.grow_sums.Statement.{statement}
 use Rattle.filing.proofs.keep.grow_sums.Tie as tie
-use Rattle.filing.proofs.keep.grow_sums.Reads as reads
-use Rattle.filing.proofs.keep.grow_sums.Lts as lts
-use Rattle.filing.proofs.keep.sums_of.Reads as sums-of-reads
-use Rattle.filing.proofs.keep.with_sums.Reads as with-sums-reads
-use Rattle.keeping.proofs.cells.grown.Reads as grown-reads
 
--- src/keep.rt:137:9
 sums-of-requires : tie.Need-sums-of-requires
 sums-of-requires c κs = search needs
 
--- src/keep.rt:139:9
 grown-requires : tie.Need-grown-requires
 grown-requires c κs = λ d g. subst (λ (l : List ℕ). getD l d 0 + getD (c .before .before .args .k .size) d 0 < 2 ^ 64) (sym (c .before .sums-of .ensures)) (c .before .before .pre .fits d g)
 
--- src/keep.rt:140:5
 with-sums-requires : tie.Need-with-sums-requires
 with-sums-requires c κs = search needs
 
--- src/keep.rt:133:1
 returns : tie.Need-returns
-returns c = 
+returns c =
     let a = c .before .before .before .before .args in
     λ here u h e t k b.
     subst (λ (r : Sums). SumsHeld r (here ++ (u ∷ []))) (sym (c .with-sums .ensures))

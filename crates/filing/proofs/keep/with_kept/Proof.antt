@@ -1,14 +1,12 @@
+-- `with_kept` meets its contract.
+-- Assumes nothing.
 use Rattle.filing.proofs.Picked.{kept-first, kept-second}
 use Rattle.filing.proofs.keep.with_kept.Statement.{statement}
 use Rattle.filing.proofs.keep.with_kept.Tie as tie
-use Rattle.filing.proofs.keep.with_kept.Reads as reads
-use Rattle.filing.proofs.keep.with_kept.Lts as lts
 
--- src/keep.rt:86:9
 returns : tie.Need-returns
 returns c = kept-first _ _ _ (c .if1 .taken)
 
--- src/keep.rt:77:1
 returns-2 : tie.Need-returns-2
 returns-2 c = kept-second _ _ _ (c .if1 .left)
 

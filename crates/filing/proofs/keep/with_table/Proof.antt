@@ -1,14 +1,12 @@
+-- `with_table` meets its contract.
+-- Assumes nothing.
 use Rattle.filing.proofs.Picked.{table-first, table-second}
 use Rattle.filing.proofs.keep.with_table.Statement.{statement}
 use Rattle.filing.proofs.keep.with_table.Tie as tie
-use Rattle.filing.proofs.keep.with_table.Reads as reads
-use Rattle.filing.proofs.keep.with_table.Lts as lts
 
--- src/keep.rt:49:9
 returns : tie.Need-returns
 returns c = table-first _ _ _ (c .if1 .taken)
 
--- src/keep.rt:40:1
 returns-2 : tie.Need-returns-2
 returns-2 c = table-second _ _ _ (c .if1 .left)
 

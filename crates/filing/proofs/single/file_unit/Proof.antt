@@ -1,3 +1,5 @@
+-- `file_unit` meets its contract.
+-- Assumes nothing.
 use mathlib.Core.Path.{sym, _∙_}
 use mathlib.Core.Logic.{⊎-elim}
 use Prim.Native.Nat.{_-_}
@@ -9,84 +11,60 @@ use Rattle.filing.proofs.Reading.{answer-is, answer-refused, read-at, r
 use borrow.Author.Needs.{needs}
 use Rattle.filing.proofs.single.file_unit.Statement.{statement}
 use Rattle.filing.proofs.single.file_unit.Tie as tie
-use Rattle.filing.proofs.single.file_unit.Reads as reads
-use Rattle.filing.proofs.single.file_unit.Lts as lts
-use Rattle.filing.proofs.single.file_read.Reads as file-read-reads
-use Rattle.filing.proofs.single.refused.Reads as refused-reads
-use Rattle.octets.proofs.narrow.Reads as narrow-reads
-use Rattle.octets.proofs.wide.Reads as wide-reads
-use Rattle.unit.proofs.header.read_unit.Reads as read-unit-reads
 
--- src/single.rt:95:17
 element-copy-out-first : tie.Need-element-copy-out-first
 element-copy-out-first c = search needs
 
--- src/single.rt:96:24
 element-copy-out-last : tie.Need-element-copy-out-last
 element-copy-out-last c = search needs
 
--- src/single.rt:96:16
 add-last : tie.Need-add-last
 add-last c = omega (arith, c .before .before .before .before .before .pre .4 .4 .input .within 3)
 
--- src/single.rt:99:9
 narrow-requires : tie.Need-narrow-requires
 narrow-requires c κs = ⊎-elim (λ e. omega arith) (λ e. omega arith) (c .before .before .before .before .before .pre .3)
 
--- src/single.rt:100:9
 sub-read-unit : tie.Need-sub-read-unit
 sub-read-unit c = search needs
 
--- src/single.rt:100:9
 part-read-unit-start : tie.Need-part-read-unit-start
 part-read-unit-start c = search needs
 
--- src/single.rt:100:9
 part-read-unit-end : tie.Need-part-read-unit-end
 part-read-unit-end c = omega (arith, c .before .before .before .before .before .before .pre .4 .4 .input .within 3)
 
--- src/single.rt:101:9
 sub-read-unit-2 : tie.Need-sub-read-unit-2
 sub-read-unit-2 c = search needs
 
--- src/single.rt:101:9
 part-read-unit-start-2 : tie.Need-part-read-unit-start-2
 part-read-unit-start-2 c = search needs
 
--- src/single.rt:101:9
 part-read-unit-end-2 : tie.Need-part-read-unit-end-2
 part-read-unit-end-2 c = search needs
 
--- src/single.rt:97:9
 read-unit-requires : tie.Need-read-unit-requires
 read-unit-requires c κs = search needs
 
--- src/single.rt:104:29
 enum-known-answer : tie.Need-enum-known-answer
 enum-known-answer c = search needs
 
--- src/single.rt:104:38
 refused-requires : tie.Need-refused-requires
 refused-requires c κs = search needs
 
--- src/single.rt:105:26
 enum-known-answer-2 : tie.Need-enum-known-answer-2
 enum-known-answer-2 c = search needs
 
--- src/single.rt:115:13
 wide-requires : tie.Need-wide-requires
 wide-requires c κs = search needs
 
--- src/single.rt:105:52
 file-read-requires : tie.Need-file-read-requires
-file-read-requires c κs = 
+file-read-requires c κs =
     let n = c .before .before .before .before .before .before .before .before in
     let s = n .before .before .before .before .before .before in
     let p = s .pre in
     let a = p .4 .4 in
     let e = sym (c .before .before .before .answer2 .given .1) ∙ answer-is _ _ _ (a .input) _ _ _ (p .1) (p .2) _ _ (n .narrow .ensures) (c .before .before .before .before .before .read-unit .ensures) in
-    let y : Bytes (now (s .args .b)) = λ j. c .before .before .before .before .before .before .before .before .before .before .before .before .before .shared-slice-known .given j .fits in
-    (
+    let y : Bytes (now (s .args .b)) = λ j. c .before .before .before .before .before .before .before .before .before .before .before .before .before .shared-slice-known .given j .fits in (
       p .0,
       p .3,
       (
@@ -102,21 +80,18 @@ file-read-requires c κs =
       ),
     )
 
--- src/single.rt:90:1
 returns : tie.Need-returns
-returns c = 
+returns c =
     let n = c .before .before .before .before .before .before .before in
     let p = n .before .before .before .before .before .before .pre in
     λ i bases earlier here a.
     answer-refused _ _ _ (a .input) _ _ _ (p .1) (p .2) bases earlier here _ _ _ _ _ _ _ (sym (c .before .before .answer .given .1) ∙ answer-is _ _ _ (a .input) _ _ _ (p .1) (p .2) _ _ (n .narrow .ensures) (c .before .before .before .before .read-unit .ensures)) (c .refused .ensures)
 
--- src/single.rt:90:1
 same-length : tie.Need-same-length
 same-length c = search needs
 
--- src/single.rt:90:1
 returns-2 : tie.Need-returns-2
-returns-2 c = 
+returns-2 c =
     let n = c .before .before .before .before .before .before .before .before .before .before .before in
     let s = n .before .before .before .before .before .before in
     let p = s .pre in

@@ -1,3 +1,5 @@
+-- `indexed_contributions` meets its contract.
+-- Assumes nothing.
 use mathlib.Core.Path.{refl, sym, subst}
 use mathlib.Core.List.{List}
 use Prim.Native.Nat.{ℕ}
@@ -8,59 +10,43 @@ use Rattle.input.proofs.Contributing.{given-none, index-well, given-at,
 use borrow.Author.Needs.{needs}
 use Rattle.input.proofs.contributions.indexed_contributions.Statement.{statement}
 use Rattle.input.proofs.contributions.indexed_contributions.Tie as tie
-use Rattle.input.proofs.contributions.indexed_contributions.Reads as reads
-use Rattle.input.proofs.contributions.indexed_contributions.Lts as lts
-use Rattle.bundle.proofs.encoding.width.Reads as width-reads
-use Rattle.index.proofs.judging.judge_row.Reads as judge-row-reads
-use Rattle.index.proofs.judging.whole_contributions.Reads as whole-contributions-reads
 
--- src/contributions.rt:38:21
 enum-known-indexed : tie.Need-enum-known-indexed
 enum-known-indexed c = search needs
 
--- src/contributions.rt:39:13
 enum-told : tie.Need-enum-told
 enum-told c = search needs
 
--- src/contributions.rt:39:13
 whole-contributions-requires : tie.Need-whole-contributions-requires
 whole-contributions-requires c κs = search needs
 
--- src/contributions.rt:40:9
 returns : tie.Need-returns
 returns c = λ o h. given-none _ _ _ o h _ _ _ _ _ _ _ _ (c .before .enum-told .given .1) refl (c .whole-contributions .ensures)
 
--- src/contributions.rt:45:15
 add-end : tie.Need-add-end
 add-end c = search needs
 
--- src/contributions.rt:46:9
 width-requires : tie.Need-width-requires
 width-requires c κs = search needs
 
--- src/contributions.rt:49:9
 sub-judge-row : tie.Need-sub-judge-row
 sub-judge-row c = search needs
 
--- src/contributions.rt:49:9
 part-judge-row-start : tie.Need-part-judge-row-start
 part-judge-row-start c = search needs
 
--- src/contributions.rt:49:9
 part-judge-row-end : tie.Need-part-judge-row-end
 part-judge-row-end c = search needs
 
--- src/contributions.rt:47:5
 judge-row-requires : tie.Need-judge-row-requires
-judge-row-requires c κs = 
+judge-row-requires c κs =
     let s = c .before .before .before .before .before .before in
     let a = s .args in
     let w = index-well _ _ _ _ (s .pre .1 .1) _ (c .before .before .before .indexed .given .1) in
     (subst (λ (l : List ℕ). ReadWell (a .e .big) l (c .before .before .before .indexed .given .0 .0)) (sym (part-cut (now (a .b)) (a .start) (a .size))) (w .0), rw (c .before .width .ensures) (width-some (a .e)))
 
--- src/contributions.rt:22:1
 returns-2 : tie.Need-returns-2
-returns-2 c = 
+returns-2 c =
     let a = c .before .before .before .before .before .before .before .args in
     λ o h. given-at _ _ _ o h _ _ _ _ _ _ _ _ _ _ _ (c .before .before .before .before .indexed .given .1) (part-cut (now (a .b)) (a .start) (a .size)) (c .before .before .width .ensures) (c .judge-row .ensures .0) (c .judge-row .ensures .1)
 

@@ -1,40 +1,32 @@
+-- `cells_of` meets its contract.
+-- Assumes nothing.
 use mathlib.Core.Path.{_≡_}
 use lib.ListN.{length}
 use Rattle.keeping.proofs.Moved.{cells-are, cells-fit}
 use borrow.Author.Needs.{needs}
 use Rattle.keeping.proofs.cells.cells_of.Statement.{statement}
 use Rattle.keeping.proofs.cells.cells_of.Tie as tie
-use Rattle.keeping.proofs.cells.cells_of.Reads as reads
-use Rattle.keeping.proofs.cells.cells_of.Lts as lts
-use Rattle.keeping.proofs.cells.moved_offsets.Reads as moved-offsets-reads
 
--- src/cells.rt:47:22
 moved-offsets-requires : tie.Need-moved-offsets-requires
 moved-offsets-requires c κs = search needs
 
--- src/cells.rt:49:5
 array-write-has : tie.Need-array-write-has
 array-write-has c = search needs
 
--- src/cells.rt:50:5
 mul-offset : tie.Need-mul-offset
 mul-offset c = search needs
 
--- src/cells.rt:50:5
 array-write-offset : tie.Need-array-write-offset
 array-write-offset c = search needs
 
--- src/cells.rt:51:5
 mul-sizes : tie.Need-mul-sizes
 mul-sizes c = search needs
 
--- src/cells.rt:51:5
 array-write-sizes : tie.Need-array-write-sizes
 array-write-sizes c = search needs
 
--- src/cells.rt:41:1
 returns : tie.Need-returns
-returns c = 
+returns c =
     let a = c .before .before .before in
     let many : length (c .before .moved-offsets .result) ≡ 14 = search needs in
     (λ f base k b. cells-are _ _ (c .before .moved-offsets .result) _ _ _ (a .pre) many (c .before .moved-offsets .ensures) f base k b, cells-fit _ _ (c .before .moved-offsets .result) _ _ _ (a .pre) many (c .before .moved-offsets .ensures))

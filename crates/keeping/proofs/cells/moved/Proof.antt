@@ -1,19 +1,16 @@
+-- `moved` meets its contract.
+-- Assumes nothing.
 use Rattle.keeping.proofs.Moved.{moved-there, moved-none}
 use borrow.Author.Needs.{needs}
 use Rattle.keeping.proofs.cells.moved.Statement.{statement}
 use Rattle.keeping.proofs.cells.moved.Tie as tie
-use Rattle.keeping.proofs.cells.moved.Reads as reads
-use Rattle.keeping.proofs.cells.moved.Lts as lts
 
--- src/cells.rt:21:16
 add-result : tie.Need-add-result
 add-result c = search needs
 
--- src/cells.rt:21:9
 returns : tie.Need-returns
 returns c = moved-there _ _ _ (c .if1 .taken)
 
--- src/cells.rt:16:1
 returns-2 : tie.Need-returns-2
 returns-2 c = moved-none _ _ _ (c .if1 .left)
 

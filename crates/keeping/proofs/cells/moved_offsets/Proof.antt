@@ -1,12 +1,11 @@
+-- `moved_offsets` meets its contract.
+-- Assumes nothing.
 use Rattle.keeping.proofs.Moved.{Moving, moving-none, moving-more}
 use Prim.Native.Nat.{_-_}
 use native.Mathlib.Omega.{arith}
 use borrow.Author.Needs.{needs}
 use Rattle.keeping.proofs.cells.moved_offsets.Statement.{statement}
 use Rattle.keeping.proofs.cells.moved_offsets.Tie as tie
-use Rattle.keeping.proofs.cells.moved_offsets.Reads as reads
-use Rattle.keeping.proofs.cells.moved_offsets.Lts as lts
-use Rattle.keeping.proofs.cells.moved.Reads as moved-reads
 
 abbrev Inv-loop : tie.InvT-loop
 Inv-loop k bases offset₀ c₀ offset c = Moving k bases offset c
@@ -14,55 +13,42 @@ Inv-loop k bases offset₀ c₀ offset c = Moving k bases offset c
 abbrev μ-loop : tie.MeasureT-loop
 μ-loop k bases offset₀ c₀ offset c = 14 - c
 
--- src/cells.rt:33:5
 loop-holds : tie.Need-loop-holds Inv-loop μ-loop
 loop-holds c = moving-none _ _ _ (search needs)
 
--- src/cells.rt:34:27
 element-copy-out-moved : tie.Need-element-copy-out-moved Inv-loop μ-loop
 element-copy-out-moved c = omega arith
 
--- src/cells.rt:34:37
 mul-moved : tie.Need-mul-moved Inv-loop μ-loop
 mul-moved c = omega arith
 
--- src/cells.rt:34:37
 array-read-moved : tie.Need-array-read-moved Inv-loop μ-loop
 array-read-moved c = omega arith
 
--- src/cells.rt:34:47
 mul-moved-2 : tie.Need-mul-moved-2 Inv-loop μ-loop
 mul-moved-2 c = omega arith
 
--- src/cells.rt:34:47
 element-copy-out-moved-2 : tie.Need-element-copy-out-moved-2 Inv-loop μ-loop
 element-copy-out-moved-2 c = omega arith
 
--- src/cells.rt:34:21
 moved-requires : tie.Need-moved-requires Inv-loop μ-loop
 moved-requires c κs = c .before .before .before .before .pre (c .before .before .before .loop .c) (c .before .before .loop-test .taken)
 
--- src/cells.rt:34:9
 mul-offset : tie.Need-mul-offset Inv-loop μ-loop
 mul-offset c = omega arith
 
--- src/cells.rt:34:9
 array-write-offset : tie.Need-array-write-offset Inv-loop μ-loop
 array-write-offset c = omega arith
 
--- src/cells.rt:35:9
 add-c : tie.Need-add-c Inv-loop μ-loop
 add-c c = omega arith
 
--- src/cells.rt:33:5
 loop-less : tie.Need-loop-less Inv-loop μ-loop
 loop-less c = omega arith
 
--- src/cells.rt:33:5
 loop-again : tie.Need-loop-again Inv-loop μ-loop
 loop-again c = moving-more _ _ _ _ _ (c .before .before .before .before .loop .inv) (c .before .before .before .loop-test .taken) (c .moved .ensures)
 
--- src/cells.rt:27:1
 returns : tie.Need-returns Inv-loop μ-loop
 returns c = λ d h. c .before .loop .inv .is d (omega arith)
 
