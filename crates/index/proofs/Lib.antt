@@ -27,3 +27,7 @@ pub mod LawMore
 pub mod WellFormed
 pub mod Places
 pub mod Ends
+pub mod Judgements
+pub mod Filled
+pub mod Columned
+pub mod RowAnswers
