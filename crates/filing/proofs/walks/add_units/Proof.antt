@@ -1,0 +1,63 @@
+-- `add_units` meets its contract. What the loop keeps is `Walking`.
+-- Assumes nothing.
+use mathlib.Core.Path.{_≡_, refl, sym, ap, _∙_}
+use Prim.Native.Nat.{ℕ, _-_}
+use native.Mathlib.Omega.{arith}
+use lib.ListN.{length}
+use denote.Ref.{now}
+use Rattle.filing.proofs.Walking.{Walking, walking-none, place-behind, walking-more, walking-refused, walking-end}
+use Rattle.filing.proofs.walks.add_units.Statement.{statement}
+use Rattle.filing.proofs.walks.add_units.Tie as tie
+
+abbrev Inv-loop : tie.InvT-loop
+Inv-loop b x home start stop n work₀ at₀ known₀ totals₀ work at known totals = Walking b x n home start stop at work₀ work known₀ known totals₀ totals
+
+abbrev μ-loop : tie.MeasureT-loop
+μ-loop b x home start stop n work₀ at₀ known₀ totals₀ work at known totals = stop - at
+
+loop-holds : tie.Need-loop-holds Inv-loop μ-loop
+loop-holds c = walking-none _ _ _ _ _ _ _ _ _ (c .before .before .pre .0)
+
+file-unit-requires : tie.Need-file-unit-requires Inv-loop μ-loop
+file-unit-requires c κs =
+    let l = c .before .before in
+    let pre = l .before .before .before .pre in
+    let o = l .loop .inv .goes (pre .3 .0) (pre .3 .1) (pre .3 .2) (pre .3 .3) (pre .3 .4) in
+    (l .loop .inv .from, c .before .loop-test .taken, pre .1, pre .2, (pre .3 .0, pre .3 .1, pre .3 .2, o .here, o .atUnit))
+
+same-length : tie.Need-same-length Inv-loop μ-loop
+same-length c = ?
+
+returns : tie.Need-returns Inv-loop μ-loop
+returns c = ?
+
+add-at : tie.Need-add-at Inv-loop μ-loop
+add-at c = ?
+
+loop-less : tie.Need-loop-less Inv-loop μ-loop
+loop-less c = ?
+
+loop-again : tie.Need-loop-again Inv-loop μ-loop
+loop-again c = ?
+
+same-length-2 : tie.Need-same-length-2 Inv-loop μ-loop
+same-length-2 c = ?
+
+returns-2 : tie.Need-returns-2 Inv-loop μ-loop
+returns-2 c = ?
+
+pub add-units-spec : {M : Type 1} → statement M
+add-units-spec =
+    tie.close
+    (tie.spec
+    Inv-loop
+    μ-loop
+    loop-holds
+    file-unit-requires
+    same-length
+    returns
+    add-at
+    loop-less
+    loop-again
+    same-length-2
+    returns-2)
