@@ -32,3 +32,8 @@ size-not (refuse k) e = (k, refl)
 
 pub size-refused : (m : Check ℕ) (k : ℕ) → Only k m → sizeOf m ≡ size.Refused → m ≡ refuse k
 size-refused m k o e = let p = size-not m e in p .1 ∙ ap refuse (o .is (p .0) (p .1))
+
+pub number-not : (m : Check (ℕ × ℕ)) → numberOf m ≡ number.Refused → (k : ℕ) × (m ≡ refuse k)
+unfolding numberOf
+number-not (pass r) e = absurd (let z : _≡_ {A = ℕ} 0 1 = cc in omega arith)
+number-not (refuse k) e = (k, refl)

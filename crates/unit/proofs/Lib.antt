@@ -5,3 +5,8 @@ pub mod Sizes
 pub mod Fields
 pub mod AtLeast
 pub mod UnitFacts
+pub mod Attributes
+pub mod Places
+pub mod Declarations
+pub mod Walks
+pub mod Finding

@@ -3,12 +3,12 @@
 use mathlib.Core.Path.{_≡_, refl, sym, ap, _∙_}
 use mathlib.Core.Bool.{Bool}
 use mathlib.Core.List.{List, [], _∷_}
-use Prim.Native.Nat.{ℕ, zero, suc, _+_, _≤_, _<_}
+use Prim.Native.Nat.{ℕ, zero, suc, _+_, _-_, _≤_, _<_}
 use native.Mathlib.Omega.{arith}
 use native.Mathlib.Numerals.{add-one}
 use native.Mathlib.Decide.{ℕ-discrete, decLe}
-use lib.ListN.{length, getD, drop, drop-of-length-le}
-use lib.Seq.{drop-cons}
+use lib.ListN.{length, getD, take, drop, drop-of-length-le, length-drop}
+use lib.Seq.{drop-cons, take-all}
 use borrow.Author.Tests.{eq-eqb, ne-eqb, le-leb, lt-leb}
 use Rattle.octets.specs.Octets.{numberAt}
 use Rattle.octets.specs.Checked.{Check, pass, refuse, _>>=_}
@@ -21,6 +21,10 @@ use Rattle.leb128.proofs.Taken.{unsigned-taken, signedSize-taken, only-unsigned
 use Rattle.bundle.specs.Encoding.{Encoding}
 use Rattle.unit.specs.Forms.{Width, fixed, address, offset, uleb, sleb, string, indirect, block, ulebBlock, zeroEnded, valueSize}
 use Rattle.unit.specs.Widths.{ends, sizeWithin, blockWithin, ulebWithin, ulebBlockWithin}
+
+-- a part that goes to the end
+pub rest : (n : ℕ) (s : List ℕ) → take (length s - n) (drop n s) ≡ drop n s
+rest n s = take-all (length s - n) (drop n s) (omega (arith, length-drop n s))
 
 -- ---- so many bytes
 pub ends-in : (s : List ℕ) (n : ℕ) → n ≤ length s → ends s n ≡ pass n

@@ -3,6 +3,7 @@
 pub mod Forms
 pub mod Widths
 pub mod Abbreviations
+pub mod Tables
 pub mod Root
 pub mod UnitRead
 pub mod Headers
