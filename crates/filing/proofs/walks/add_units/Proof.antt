@@ -1,10 +1,17 @@
 -- `add_units` meets its contract. What the loop keeps is `Walking`.
 -- Assumes nothing.
 use mathlib.Core.Path.{_≡_, refl, sym, ap, _∙_}
-use Prim.Native.Nat.{ℕ, _-_}
+use mathlib.Core.List.{List}
+use Prim.Native.Nat.{ℕ, _-_, _≤_}
 use native.Mathlib.Omega.{arith}
 use lib.ListN.{length}
 use denote.Ref.{now}
+use Rattle.octets.specs.Octets.{part}
+use Rattle.octets.specs.Checked.{refuse}
+use Rattle.index.specs.Rows.{BySection}
+use Rattle.package.specs.Input.{Input}
+use Rattle.package.specs.Filing.{Filed, unitAt}
+use Rattle.package.proofs.Numbered.{unit-numbered}
 use Rattle.filing.proofs.Walking.{Walking, walking-none, place-behind, walking-more, walking-refused, walking-end}
 use Rattle.filing.proofs.walks.add_units.Statement.{statement}
 use Rattle.filing.proofs.walks.add_units.Tie as tie
@@ -25,11 +32,19 @@ file-unit-requires c κs =
     let o = l .loop .inv .goes (pre .3 .0) (pre .3 .1) (pre .3 .2) (pre .3 .3) (pre .3 .4) in
     (l .loop .inv .from, c .before .loop-test .taken, pre .1, pre .2, (pre .3 .0, pre .3 .1, pre .3 .2, o .here, o .atUnit))
 
+-- no refusal of a unit is 0
+numbered : (b : List ℕ) (home start stop at : ℕ) (i : Input) (bases : BySection ℕ) (earlier here : List Filed) (m : ℕ) → unitAt i bases earlier here home (at - start) (part b at (stop - at)) ≡ refuse m → 1 ≤ m
+numbered b home start stop at i bases earlier here m e = unit-numbered i bases earlier here home (at - start) (part b at (stop - at)) .is m e
+
 same-length : tie.Need-same-length Inv-loop μ-loop
-same-length c = ?
+same-length c = c .before .before .before .slice-known2 .given
 
 returns : tie.Need-returns Inv-loop μ-loop
-returns c = ?
+returns c i bases earlier here a =
+    let f = c .before .before .before .before .before in
+    let l = f .before .before in
+    let pre = l .before .before .before .before .pre in
+    walking-refused (l .before .loop .inv) (l .loop-test .taken) (pre .1) _ (f .file-unit .result) ? (f .file-unit .ensures) (numbered _ _ _ _ _) (c .if1 .taken) i bases earlier here a _ refl
 
 add-at : tie.Need-add-at Inv-loop μ-loop
 add-at c = ?
@@ -41,10 +56,10 @@ loop-again : tie.Need-loop-again Inv-loop μ-loop
 loop-again c = ?
 
 same-length-2 : tie.Need-same-length-2 Inv-loop μ-loop
-same-length-2 c = ?
+same-length-2 c = c .before .loop .inv .same
 
 returns-2 : tie.Need-returns-2 Inv-loop μ-loop
-returns-2 c = ?
+returns-2 c i bases earlier here a = walking-end (c .before .loop .inv) (c .loop-test .left) (c .before .before .before .before .pre .1) i bases earlier here a
 
 pub add-units-spec : {M : Type 1} → statement M
 add-units-spec =
