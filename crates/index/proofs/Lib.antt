@@ -18,6 +18,8 @@ pub mod LawRead
 pub mod RoundTrip
 pub mod LawCells
 pub mod LawWhole
+-- Laws of the definitions, which the proofs of the code cite.
+-- Assumes nothing.
 pub mod Masks
 pub mod Heads
 pub mod Looks
@@ -31,3 +33,4 @@ pub mod Judgements
 pub mod Filled
 pub mod Columned
 pub mod RowAnswers
+pub mod LawExact
