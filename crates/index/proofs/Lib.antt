@@ -18,8 +18,6 @@ pub mod LawRead
 pub mod RoundTrip
 pub mod LawCells
 pub mod LawWhole
--- Laws of the definitions, which the proofs of the code cite.
--- Assumes nothing.
 pub mod Masks
 pub mod Heads
 pub mod Looks
@@ -33,4 +31,3 @@ pub mod Judgements
 pub mod Filled
 pub mod Columned
 pub mod RowAnswers
-pub mod LawExact
