@@ -208,7 +208,7 @@ pub fn check_words(b: &[u8]) -> Words
 }
 
 // A scan that starts at a place.
-fn no_sections(from: usize) -> Scan
+pub fn no_sections(from: usize) -> Scan
     ensures { λ r. ⌜ r ≡ scanOf from [] ⌝ }
 {
     Scan {

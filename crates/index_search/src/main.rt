@@ -5,10 +5,10 @@ ghost use mathlib.Core.Path.{_≡_};
 ghost use Prim.Native.Nat.{_+_, _<_, _≤_};
 ghost use lib.ListN.{length};
 ghost use Rattle.index.specs.Held.{Sized, ReadWell};
-
 use index::cells::Cell;
 use index::probing::Probed;
-use index::reading::{IndexHead, IndexRead};
+use index::reading::IndexHead;
+use index::reading::IndexRead;
 use libc::STDOUT_FILENO;
 
 // The value of a hexadecimal digit, 16 for any other byte.
@@ -167,10 +167,7 @@ fn next_line(text: &[u8], start: usize) -> usize
 
 fn answer_lines(text: &[u8]) {
     let mut section = [0u8; 4096];
-    let mut last = Last {
-        big: false,
-        n: 0,
-    };
+    let mut last = Last { big: false, n: 0 };
     let mut at = 0;
     while at < text.len() {
         last = answer_line(text, at, &mut section, last);

@@ -1,1 +1,4 @@
-// Definitions only.
+// Looking up a part or a string in a package, which may be any bytes.
+pub mod answering;
+pub mod opening;
+pub mod searching;

@@ -10,3 +10,8 @@ pub mod Places
 pub mod Declarations
 pub mod Walks
 pub mod Finding
+pub mod Values
+pub mod Stepping
+pub mod Rooted
+pub mod Units
+pub mod Promised

@@ -5,5 +5,6 @@ pub mod Widths
 pub mod Abbreviations
 pub mod Tables
 pub mod Root
+pub mod Roots
 pub mod UnitRead
 pub mod Headers

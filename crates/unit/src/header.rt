@@ -1,9 +1,12 @@
 // The header of a unit, and the unit read whole.
+use crate::root::RootIdentity;
 use bundle::encoding::ObjectEncoding;
 use leb128::Size;
 ghost use mathlib.Core.Path.{_≡_};
-ghost use Prim.Native.Nat.{_≤_};
-ghost use lib.ListN.{length};
+ghost use Prim.Native.Nat.{_+_, _≤_};
+ghost use lib.ListN.{length, drop};
+ghost use Rattle.unit.specs.Root.{rootIdentity};
+ghost use Rattle.unit.specs.Roots.{rootCheck};
 ghost use Rattle.bundle.specs.Encoded.{encodingIs};
 ghost use Rattle.leb128.specs.Answers.{sizeOf};
 ghost use Rattle.unit.specs.UnitRead.{unitOf, lengthField, addressPlace, commonSize};
@@ -175,4 +178,74 @@ fn header_size(e: ObjectEncoding, kind: Kind) -> usize
         Kind::Root => common,
         Kind::Other => common,
     }
+}
+
+// The number of 8 bytes behind the common fields. Its kind's header is there.
+fn signature(e: ObjectEncoding, u: &[u8]) -> u64
+    requires { ⌜ commonSize (encodingIs e) + 8 ≤ length (now u) ⌝ }
+    ensures { λ r. ⌜ r ≡ signatureAt (encodingIs e) (now (u .entry)) ⌝ }
+{
+    octets::u64_at(e.big, u, common_size(e))
+}
+
+// What the root states. The common fields are there.
+fn identity_of_root(e: ObjectEncoding, abbreviations: &[u8], u: &[u8]) -> RootIdentity
+    requires { ⌜ commonSize (encodingIs e) ≤ length (now u) ⌝ }
+    ensures { λ r. ⌜ rootCheck r ≡ rootIdentity (encodingIs e) (tableAt (encodingIs e) (now (abbreviations .entry)) (now (u .entry))) (drop (commonSize (encodingIs e)) (now (u .entry))) ⌝ }
+{
+    let place = length_field(e) + 2;
+    let at = octets::size(octets::number_at(e.big, bundle::encoding::width(e), u, place));
+    if abbreviations.len() < at {
+        return RootIdentity::Unreadable;
+    }
+    let common = common_size(e);
+    crate::root::root_identity(e, &abbreviations[at..], &u[common..])
+}
+
+// The identity of a unit whose kind's header is there.
+fn identity_of(e: ObjectEncoding, kind: Kind, abbreviations: &[u8], u: &[u8]) -> Identity
+    requires { ⌜ headerSize (encodingIs e) kind ≤ length (now u) ⌝ }
+    ensures { λ r. ⌜ identityCheck r ≡ identityBy (encodingIs e) kind (now (abbreviations .entry)) (now (u .entry)) ⌝ }
+{
+    match kind {
+        Kind::Compilation => {
+            return Identity::Is(1, signature(e, u));
+        }
+        Kind::Signature => {
+            return Identity::Is(2, signature(e, u));
+        }
+        Kind::Root => {
+            let RootIdentity::Is(x) = identity_of_root(e, abbreviations, u) else {
+                return Identity::Unreadable;
+            };
+            return Identity::Is(1, x);
+        }
+        Kind::Other => {
+            return Identity::Unreadable;
+        }
+    }
+}
+
+// A whole unit, from the part s of its section that starts at it. Home is the section's code, 1 info or 2 types, and abbreviations is abbrev.
+pub fn read_unit(e: ObjectEncoding, home: u32, abbreviations: &[u8], s: &[u8]) -> UnitAnswer
+    ensures { λ r. ⌜ r ≡ unitAnswer (unitOf (encodingIs e) home (now (abbreviations .entry)) (now (s .entry))) ⌝ }
+{
+    let Size::Is(size) = unit_size(e, s) else {
+        return UnitAnswer::Refused(11);
+    };
+    let u = &s[..size];
+    if !common_good(e, u) {
+        return UnitAnswer::Refused(11);
+    }
+    let kind = kind_of(e, home, u);
+    if u.len() < header_size(e, kind) {
+        return UnitAnswer::Refused(11);
+    }
+    let Identity::Is(table, identity) = identity_of(e, kind, abbreviations, u) else {
+        return UnitAnswer::Refused(12);
+    };
+    if identity == 0 {
+        return UnitAnswer::Refused(13);
+    }
+    UnitAnswer::Read(size, table, identity)
 }

@@ -1,1 +1,166 @@
-// later
+// The root of a unit of version 4 in info: its attributes are walked to their end, and the first 2131 hexadecimal states the identity.
+use crate::abbreviations::AttributeRead;
+use crate::abbreviations::Found;
+use crate::forms::FormWidth;
+use bundle::encoding::ObjectEncoding;
+use leb128::Number;
+use leb128::Size;
+ghost use mathlib.Core.Path.{_≡_};
+ghost use mathlib.Core.Option.{none};
+ghost use Rattle.bundle.specs.Encoded.{encodingIs};
+ghost use Rattle.unit.specs.Root.{needed, plainValue, valueOf, rootTag, rootIdentity};
+ghost use Rattle.unit.specs.Roots.{
+  valueRead,
+  seenIs,
+  attributeStep,
+  movedRead,
+  identityFrom,
+  rootRead,
+  rootCheck,
+};
+
+// An attribute's value: its form, where it starts behind an indirect form, and the bytes that it takes.
+pub enum Value {
+    Is(u64, usize, usize),
+    Refused,
+}
+
+// What the attributes so far state.
+pub enum Seen {
+    Stated(u64),
+    Nothing,
+}
+
+// Past one attribute: its bytes in the table, those of its value, and what is stated then.
+pub enum Moved {
+    On(usize, usize, Seen),
+    End,
+    Refused,
+}
+
+pub enum RootIdentity {
+    Is(u64),
+    Unreadable,
+}
+
+// A value that ends in s, of a form that is not indirect.
+fn plain_value(e: ObjectEncoding, form: u64, s: &[u8]) -> Value
+    ensures { λ r. ⌜ r ≡ valueRead (plainValue (encodingIs e) form (now (s .entry))) ⌝ }
+{
+    let FormWidth::Is(width) = crate::forms::width_of(form) else {
+        return Value::Refused;
+    };
+    let Size::Is(size) = crate::forms::value_size(e, width, s) else {
+        return Value::Refused;
+    };
+    Value::Is(form, 0, size)
+}
+
+// Indirect, 16 hexadecimal, only once.
+fn value_of(e: ObjectEncoding, form: u64, s: &[u8]) -> Value
+    ensures { λ r. ⌜ r ≡ valueRead (valueOf (encodingIs e) form (now (s .entry))) ⌝ }
+{
+    if form != 0x16 {
+        return plain_value(e, form, s);
+    }
+    let Number::Is(real, n) = leb128::read_short(s) else {
+        return Value::Refused;
+    };
+    let Value::Is(same, _, size) = plain_value(e, real, &s[n..]) else {
+        return Value::Refused;
+    };
+    Value::Is(same, n, size)
+}
+
+// One attribute: t is the table from it on, and s the unit from its value on.
+fn attribute_step(e: ObjectEncoding, t: &[u8], s: &[u8], seen: Seen) -> Moved
+    ensures { λ r. ⌜ r ≡ movedRead (attributeStep (encodingIs e) (now (t .entry)) (now (s .entry)) (seenIs seen)) ⌝ }
+{
+    let AttributeRead::Is(name, form, n) = crate::abbreviations::attribute_at(t) else {
+        return Moved::Refused;
+    };
+    if name == 0 {
+        return Moved::End;
+    }
+    let Value::Is(real, start, size) = value_of(e, form, s) else {
+        return Moved::Refused;
+    };
+    let m = start + size;
+    match seen {
+        Seen::Stated(x) => {
+            return Moved::On(n, m, Seen::Stated(x));
+        }
+        Seen::Nothing => {
+            if name != 0x2131 {
+                return Moved::On(n, m, Seen::Nothing);
+            }
+            if real != 7 {
+                return Moved::Refused;
+            }
+            let identity = octets::u64_at(e.big, s, start);
+            return Moved::On(n, m, Seen::Stated(identity));
+        }
+    }
+}
+
+// The identity that the attributes at the front of t state, whose values stand at the front of s.
+fn identity_in(e: ObjectEncoding, t: &[u8], s: &[u8]) -> RootIdentity
+    ensures { λ r. ⌜ r ≡ rootRead (identityFrom (encodingIs e) (now (t .entry)) (now (s .entry)) none) ⌝ }
+{
+    let mut a = 0;
+    let mut at = 0;
+    let mut seen = Seen::Nothing;
+    loop {
+        match attribute_step(e, &t[a..], &s[at..], seen) {
+            Moved::On(n, m, next) => {
+                a += n;
+                at += m;
+                seen = next;
+            }
+            Moved::End => {
+                return stated(seen);
+            }
+            Moved::Refused => {
+                return RootIdentity::Unreadable;
+            }
+        }
+    }
+}
+
+fn stated(seen: Seen) -> RootIdentity
+    ensures { λ r. ⌜ r ≡ rootRead (needed (seenIs seen)) ⌝ }
+{
+    match seen {
+        Seen::Stated(x) => RootIdentity::Is(x),
+        Seen::Nothing => RootIdentity::Unreadable,
+    }
+}
+
+// A compile or a type unit's tag.
+fn root_tag(tag: u64) -> bool
+    ensures { λ r. ⌜ r ≡ rootTag tag ⌝ }
+{
+    if tag == 0x11 {
+        return true;
+    }
+    tag == 0x41
+}
+
+// The table is what stands in abbrev at the header's offset, s the unit behind its header.
+pub fn root_identity(e: ObjectEncoding, table: &[u8], s: &[u8]) -> RootIdentity
+    ensures { λ r. ⌜ rootCheck r ≡ rootIdentity (encodingIs e) (now (table .entry)) (now (s .entry)) ⌝ }
+{
+    if !crate::abbreviations::table_good(table) {
+        return RootIdentity::Unreadable;
+    }
+    let Number::Is(code, n) = leb128::read_unsigned(s) else {
+        return RootIdentity::Unreadable;
+    };
+    let Found::At(tag, start) = crate::abbreviations::find_declaration(table, code) else {
+        return RootIdentity::Unreadable;
+    };
+    if !root_tag(tag) {
+        return RootIdentity::Unreadable;
+    }
+    identity_in(e, &table[start..], &s[n..])
+}

@@ -1,0 +1,145 @@
+-- Both lookups: which refusal comes first, and what a search in a table answers.
+-- Assumes nothing.
+use mathlib.Core.Path.{_≡_, refl, ap, _∙_}
+use mathlib.Core.Bool.{true, false, _&&_}
+use mathlib.Core.List.{List}
+use mathlib.Core.Option.{Option, some, none}
+use Prim.Native.Nat.{ℕ}
+use native.Mathlib.Omega.{arith}
+use lib.Dec.{leb}
+use lib.ListN.{getD}
+use Rattle.octets.specs.Checked.{Check, pass, refuse, _>>=_}
+use Rattle.octets.proofs.Checks.{fails, passes, then-pass, then-refuse}
+use Rattle.index.specs.Index.{Index}
+use Rattle.index.specs.Probing.{Probe, probe, found as at, absent as nowhere}
+use Rattle.lookup.specs.Lookup.{Found, refused, absent, part, Package, packageOf, versionGood, tableGood, indexFor, Place, partPlace, atRow, inTable, answered, partJudged, lookedUp, stringPlace, stringJudged, stringFound}
+use Rattle.lookup.specs.Answers.{partIn, stringIn}
+
+-- ---- a search in a table
+module _ (x : ℕ) (answer : Index → ℕ → Check Place) where
+  pub table-missing : (o : Option Index) → o ≡ none → inTable o x answer ≡ pass (absent 0)
+  unfolding inTable
+  table-missing o e = rw (e, inTable)
+
+  module _ (o : Option Index) (i : Index) (e : o ≡ some i) where
+    pub row-absent : (looks : ℕ) → probe i x ≡ nowhere looks → inTable o x answer ≡ pass (absent looks)
+    unfolding inTable atRow
+    row-absent looks f = rw (e, inTable, f, atRow)
+
+    module _ (slot looks : ℕ) (f : probe i x ≡ at slot looks) where
+      pub row-found : inTable o x answer ≡ (answer i (getD (i .rows) slot 0) >>= λ p. pass (part (p .start) (p .size) looks))
+      unfolding inTable atRow
+      row-found = rw (e, inTable, f, atRow)
+
+      pub row-refused : (n : ℕ) → answer i (getD (i .rows) slot 0) ≡ refuse n → inTable o x answer ≡ refuse n
+      row-refused n g = row-found ∙ then-refuse _ _ _ g
+
+      pub row-placed : (s : Place) → answer i (getD (i .rows) slot 0) ≡ pass s → inTable o x answer ≡ pass (part (s .start) (s .size) looks)
+      row-placed s g = row-found ∙ then-pass _ _ _ g
+
+-- a string is looked for in the part of section 6, where that is found
+unfoldable pub thenString : List ℕ → Package → ℕ → ℕ → Check Found → Check Found
+thenString p k version entry (refuse n) = refuse n
+thenString p k version entry (pass (refused n)) = pass (refused n)
+thenString p k version entry (pass (absent looks)) = pass (absent looks)
+thenString p k version entry (pass (part start size looks)) =
+    stringPlace p k version entry (record { start = start; size = size }) >>= λ q. pass (part (q .start) (q .size) looks)
+
+module _ (p : List ℕ) (k : Package) (version table x entry : ℕ) where
+  pub string-in : stringIn p k version table x entry ≡ thenString p k version entry (partIn k table x 6)
+  unfolding stringIn partIn thenString inTable atRow _>>=_
+  string-in = go (indexFor k table)
+    where
+      then : (m : Check Place) (looks : ℕ) → (m >>= stringPlace p k version entry >>= λ q. pass (part (q .start) (q .size) looks))
+          ≡ thenString p k version entry (m >>= λ q. pass (part (q .start) (q .size) looks))
+      then (pass s) looks = refl
+      then (refuse n) looks = refl
+
+      row : (i : Index) (r : Probe) → atRow i r (λ z. partPlace k i z 6 >>= stringPlace p k version entry) ≡ thenString p k version entry (atRow i r (λ z. partPlace k i z 6))
+      row i (nowhere looks) = refl
+      row i (at slot looks) = then (partPlace k i (getD (i .rows) slot 0) 6) looks
+
+      go : (o : Option Index) → inTable o x (λ i z. partPlace k i z 6 >>= stringPlace p k version entry) ≡ thenString p k version entry (inTable o x (λ i z. partPlace k i z 6))
+      go none = refl
+      go (some i) = row i (probe i x)
+
+  -- by what the search for the part of section 6 answers
+  pub string-refused : (n : ℕ) → answered (partIn k table x 6) ≡ refused n → answered (stringIn p k version table x entry) ≡ refused n
+  unfolding thenString answered
+  string-refused n e = ap answered string-in ∙ go (partIn k table x 6) e
+    where
+      go : (m : Check Found) → answered m ≡ refused n → answered (thenString p k version entry m) ≡ refused n
+      go (refuse j) h = h
+      go (pass (refused j)) h = h
+      go (pass (absent l)) h = h
+      go (pass (part a l m)) h = absurd (let z : _≡_ {A = ℕ} 0 1 = cc in omega arith)
+
+  pub string-absent : (looks : ℕ) → answered (partIn k table x 6) ≡ absent looks → answered (stringIn p k version table x entry) ≡ absent looks
+  unfolding thenString answered
+  string-absent looks e = ap answered string-in ∙ go (partIn k table x 6) e
+    where
+      go : (m : Check Found) → answered m ≡ absent looks → answered (thenString p k version entry m) ≡ absent looks
+      go (refuse j) h = h
+      go (pass (refused j)) h = h
+      go (pass (absent l)) h = h
+      go (pass (part a l m)) h = absurd (let z : _≡_ {A = ℕ} 0 1 = cc in omega arith)
+
+  module _ (start size looks : ℕ) (e : answered (partIn k table x 6) ≡ part start size looks) where
+    pub string-part : stringIn p k version table x entry ≡ (stringPlace p k version entry (record { start = start; size = size }) >>= λ q. pass (part (q .start) (q .size) looks))
+    unfolding thenString answered
+    string-part = string-in ∙ go (partIn k table x 6) e
+      where
+        go : (m : Check Found) → answered m ≡ part start size looks
+            → thenString p k version entry m ≡ (stringPlace p k version entry (record { start = start; size = size }) >>= λ q. pass (part (q .start) (q .size) looks))
+        go (refuse j) h = absurd (let z : _≡_ {A = ℕ} 0 1 = cc in omega arith)
+        go (pass (refused j)) h = absurd (let z : _≡_ {A = ℕ} 0 1 = cc in omega arith)
+        go (pass (absent l)) h = absurd (let z : _≡_ {A = ℕ} 0 1 = cc in omega arith)
+        go (pass (part a l m)) h = ap (λ (f : Found). thenString p k version entry (pass f)) h
+
+    pub string-unplaced : (n : ℕ) → stringPlace p k version entry (record { start = start; size = size }) ≡ refuse n
+        → answered (stringIn p k version table x entry) ≡ refused n
+    unfolding answered
+    string-unplaced n f = ap answered (string-part ∙ then-refuse _ _ _ f)
+
+    pub string-placed : (q : Place) → stringPlace p k version entry (record { start = start; size = size }) ≡ pass q
+        → answered (stringIn p k version table x entry) ≡ part (q .start) (q .size) looks
+    unfolding answered
+    string-placed q f = ap answered (string-part ∙ then-pass _ _ _ f)
+
+-- ---- the refusals, in order: 21, 22, 23, and what the search in the table answers
+module _ (p : List ℕ) (version table x : ℕ) where
+  module _ (n : ℕ) (e : packageOf p ≡ refuse n) where
+    pub part-closed : (code : ℕ) → lookedUp p version table x code ≡ refused n
+    unfolding lookedUp partJudged answered
+    part-closed code = ap answered (then-refuse _ _ _ e)
+
+    pub string-closed : (entry : ℕ) → stringFound p version table x entry ≡ refused n
+    unfolding stringFound stringJudged answered
+    string-closed entry = ap answered (then-refuse _ _ _ e)
+
+  module _ (k : Package) (e : packageOf p ≡ pass k) where
+    module _ (f : versionGood k version ≡ false) where
+      pub part-version : (code : ℕ) → lookedUp p version table x code ≡ refused 22
+      unfolding lookedUp partJudged answered
+      part-version code = ap answered (then-pass _ _ _ e ∙ fails _ _ _ f)
+
+      pub string-version : (entry : ℕ) → stringFound p version table x entry ≡ refused 22
+      unfolding stringFound stringJudged answered
+      string-version entry = ap answered (then-pass _ _ _ e ∙ fails _ _ _ f)
+
+    module _ (f : versionGood k version ≡ true) where
+      pub part-asked : (code : ℕ) → (tableGood table && leb 1 code && leb code 10) ≡ false → lookedUp p version table x code ≡ refused 23
+      unfolding lookedUp partJudged answered
+      part-asked code g = ap answered (then-pass _ _ _ e ∙ passes _ _ _ f ∙ fails _ _ _ g)
+
+      pub part-searched : (code : ℕ) → (tableGood table && leb 1 code && leb code 10) ≡ true → lookedUp p version table x code ≡ answered (partIn k table x code)
+      unfolding lookedUp partJudged partIn
+      part-searched code g = ap answered (then-pass _ _ _ e ∙ passes _ _ _ f ∙ passes _ _ _ g)
+
+      pub string-asked : (entry : ℕ) → tableGood table ≡ false → stringFound p version table x entry ≡ refused 23
+      unfolding stringFound stringJudged answered
+      string-asked entry g = ap answered (then-pass _ _ _ e ∙ passes _ _ _ f ∙ fails _ _ _ g)
+
+      pub string-searched : (entry : ℕ) → tableGood table ≡ true → stringFound p version table x entry ≡ answered (stringIn p k version table x entry)
+      unfolding stringFound stringJudged stringIn
+      string-searched entry g = ap answered (then-pass _ _ _ e ∙ passes _ _ _ f ∙ passes _ _ _ g)

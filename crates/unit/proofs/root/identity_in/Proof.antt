@@ -1,0 +1,145 @@
+-- `unit::root::identity_in` meets its contract.
+-- Assumes nothing.
+use mathlib.Core.Path.{_≡_, refl, sym, ap, ap₂, _∙_}
+use mathlib.Core.List.{List}
+use mathlib.Core.Option.{Option, some, none}
+use Prim.Native.Nat.{ℕ, _+_, _-_, _≤_}
+use native.Mathlib.Omega.{arith}
+use borrow.Author.Needs.{needs}
+use lib.ListN.{length, take, drop, length-drop}
+use denote.Ref.{now}
+use Rattle.octets.specs.Checked.{pass}
+use Rattle.bundle.specs.Encoded.{encodingIs}
+use Rattle.bundle.specs.Encoding.{Encoding}
+use Rattle.unit.specs.Roots.{seenIs, attributeStep, identityFrom, rootRead}
+use Rattle.unit.proofs.Sizes.{rest}
+use Rattle.unit.proofs.Stepping.{moved-told, moved-end, moved-not, stepped-within, from-end, from-not, unread, from-turn}
+use Rattle.unit.proofs.root.identity_in.Statement.{statement}
+use Rattle.unit.proofs.root.identity_in.Tie as tie
+
+abbrev Inv-loop : tie.InvT-loop
+Inv-loop e t s a₀ at₀ seen₀ a at seen = (a ≤ length t) × (at ≤ length s) × (rootRead (identityFrom (encodingIs e) (drop a t) (drop at s) (seenIs seen)) ≡ rootRead (identityFrom (encodingIs e) t s none))
+
+abbrev μ-loop : tie.MeasureT-loop
+μ-loop e t s a₀ at₀ seen₀ a at seen = length t - a
+
+-- parts that go to the end
+cut : (e : Encoding) (t s : List ℕ) (a at : ℕ) (seen : Option ℕ)
+    → attributeStep e (drop a t) (drop at s) seen ≡ attributeStep e (take (length t - a) (drop a t)) (take (length s - at) (drop at s)) seen
+cut e t s a at seen = ap₂ (λ (x y : List ℕ). attributeStep e x y seen) (sym (rest a t)) (sym (rest at s))
+
+told : (c : tie.After-known-told Inv-loop μ-loop)
+    → attributeStep (encodingIs (c .before .before .before .before .before .before .before .before .before .args .e)) (drop (c .before .before .before .before .before .before .loop .a) (now (c .before .before .before .before .before .before .before .before .before .args .t))) (drop (c .before .before .before .before .before .before .loop .at) (now (c .before .before .before .before .before .before .before .before .before .args .s))) (seenIs (c .before .before .before .before .before .before .loop .seen))
+    ≡ pass (some (record { taken = c .before .n .given .0 .0; passed = c .before .n .given .0 .1 .0; seen = seenIs (c .before .n .given .0 .1 .1 .0) }))
+told c =
+    let l = c .before .before .before .before .before .before in
+    let a = l .before .before .before .args in
+    cut (encodingIs (a .e)) (now (a .t)) (now (a .s)) (l .loop .a) (l .loop .at) (seenIs (l .loop .seen))
+    ∙ moved-told _ _ _ _ (sym (c .before .before .before .attribute-step .ensures) ∙ c .before .n .given .1)
+
+within : (c : tie.After-known-told Inv-loop μ-loop)
+    → (1 ≤ c .before .n .given .0 .0)
+    × (c .before .before .before .before .before .before .loop .a + c .before .n .given .0 .0 ≤ length (now (c .before .before .before .before .before .before .before .before .before .args .t)))
+    × (c .before .before .before .before .before .before .loop .at + c .before .n .given .0 .1 .0 ≤ length (now (c .before .before .before .before .before .before .before .before .before .args .s)))
+within c =
+    let l = c .before .before .before .before .before .before in
+    let a = l .before .before .before .args in
+    let w = stepped-within _ _ _ _ _ (told c) in
+    let d = length-drop (l .loop .a) (now (a .t)) in
+    let f = length-drop (l .loop .at) (now (a .s)) in
+    (w .0, omega (arith, w .0, w .1, d, l .loop .inv .0), omega (arith, w .2, f, l .loop .inv .1))
+
+loop-holds : tie.Need-loop-holds Inv-loop μ-loop
+unfolding seenIs
+loop-holds c = (omega arith, omega arith, refl)
+
+sub-attribute-step : tie.Need-sub-attribute-step Inv-loop μ-loop
+sub-attribute-step c = omega arith
+
+part-attribute-step-start : tie.Need-part-attribute-step-start Inv-loop μ-loop
+part-attribute-step-start c = omega arith
+
+part-attribute-step-end : tie.Need-part-attribute-step-end Inv-loop μ-loop
+part-attribute-step-end c = omega arith
+
+sub-attribute-step-2 : tie.Need-sub-attribute-step-2 Inv-loop μ-loop
+sub-attribute-step-2 c = omega arith
+
+part-attribute-step-start-2 : tie.Need-part-attribute-step-start-2 Inv-loop μ-loop
+part-attribute-step-start-2 c = omega arith
+
+part-attribute-step-end-2 : tie.Need-part-attribute-step-end-2 Inv-loop μ-loop
+part-attribute-step-end-2 c = omega arith
+
+attribute-step-requires : tie.Need-attribute-step-requires Inv-loop μ-loop
+attribute-step-requires c κs = search needs
+
+enum-known-n : tie.Need-enum-known-n Inv-loop μ-loop
+enum-known-n c = search needs
+
+add-a : tie.Need-add-a Inv-loop μ-loop
+add-a c = omega (arith, within c)
+
+add-at : tie.Need-add-at Inv-loop μ-loop
+add-at c = omega (arith, within c)
+
+loop-less : tie.Need-loop-less Inv-loop μ-loop
+loop-less c = omega (arith, within c)
+
+loop-again : tie.Need-loop-again Inv-loop μ-loop
+loop-again c =
+    let l = c .before .before .before .before .before .before in
+    (omega (arith, within c), omega (arith, within c), ap rootRead (from-turn _ _ _ (l .loop .a) (l .loop .at) _ _ (told c)) ∙ l .loop .inv .2)
+
+enum-told : tie.Need-enum-told Inv-loop μ-loop
+enum-told c = search needs
+
+stated-requires : tie.Need-stated-requires Inv-loop μ-loop
+stated-requires c κs = search needs
+
+returns : tie.Need-returns Inv-loop μ-loop
+returns c =
+    let k = c .before in
+    let l = k .before .before .before .before .before in
+    let a = l .before .before .before .args in
+    c .stated .ensures
+    ∙ sym (ap rootRead (from-end (encodingIs (a .e)) (drop (l .loop .a) (now (a .t))) (drop (l .loop .at) (now (a .s))) (seenIs (l .loop .seen))
+    (cut (encodingIs (a .e)) (now (a .t)) (now (a .s)) (l .loop .a) (l .loop .at) (seenIs (l .loop .seen)) ∙ moved-end _ (sym (k .before .before .attribute-step .ensures) ∙ k .enum-told .given .1))))
+    ∙ l .loop .inv .2
+
+enum-told-2 : tie.Need-enum-told-2 Inv-loop μ-loop
+enum-told-2 c = search needs
+
+returns-2 : tie.Need-returns-2 Inv-loop μ-loop
+returns-2 c =
+    let l = c .before .before .before .before .before in
+    let a = l .before .before .before .args in
+    let k = moved-not _ (sym (c .before .before .attribute-step .ensures) ∙ c .enum-told2 .given .1) in
+    unread _ (from-not (encodingIs (a .e)) (drop (l .loop .a) (now (a .t))) (drop (l .loop .at) (now (a .s))) (seenIs (l .loop .seen)) (k .0)
+    (cut (encodingIs (a .e)) (now (a .t)) (now (a .s)) (l .loop .a) (l .loop .at) (seenIs (l .loop .seen)) ∙ k .1))
+    ∙ l .loop .inv .2
+
+pub identity-in-spec : {M : Type 1} → statement M
+identity-in-spec =
+    tie.close
+    (tie.spec
+    Inv-loop
+    μ-loop
+    loop-holds
+    sub-attribute-step
+    part-attribute-step-start
+    part-attribute-step-end
+    sub-attribute-step-2
+    part-attribute-step-start-2
+    part-attribute-step-end-2
+    attribute-step-requires
+    enum-known-n
+    add-a
+    add-at
+    loop-less
+    loop-again
+    enum-told
+    stated-requires
+    returns
+    enum-told-2
+    returns-2)

@@ -1,0 +1,14 @@
+//! Links the proved functions. `rt staticlib archive` writes the library; BARTHOVIN_LIBRARY names another directory that holds it.
+
+use std::path::PathBuf;
+
+fn main() {
+    println!("cargo:rerun-if-env-changed=BARTHOVIN_LIBRARY");
+    let own = || PathBuf::from(std::env::var("CARGO_MANIFEST_DIR").unwrap()).join("../target/staticlib");
+    let directory = std::env::var("BARTHOVIN_LIBRARY").map_or_else(|_| own(), PathBuf::from);
+    let library = directory.join("libarchive.a");
+    println!("cargo:rerun-if-changed={}", library.display());
+    assert!(library.is_file(), "{} is missing: run `rt staticlib archive` first", library.display());
+    println!("cargo:rustc-link-search=native={}", directory.display());
+    println!("cargo:rustc-link-lib=static=archive");
+}
