@@ -49,7 +49,7 @@ only : {A : Type 0} (k : ℕ) (m : Check A) → Only (suc k) m → Numbered m
 only k m o = record { is = λ n e. let q : n ≡ suc k = o .is n e in omega arith }
 
 -- a choice by a test
-chooses : {A : Type 0} (t : Bool) (a b : Check A) → Numbered a → Numbered b → Numbered (elim t as (λ z. Check A) [ true ↦ a | false ↦ b ])
+chooses : {A : Type 0} (t : Bool) (a b : Check A) → Numbered a → Numbered b → Numbered {A = A} (elim t [ true ↦ a | false ↦ b ])
 chooses true a b p q = p
 chooses false a b p q = q
 
