@@ -64,13 +64,11 @@ walking-none b x n home start stop w st ss h =
 
 module _ {b : List ℕ} {x : InputObject} {n home start stop at : ℕ} {w₀ w : List ℕ} {st₀ st : InProgress} {ss₀ ss : Sums}
     (k : Walking b x n home start stop at w₀ w st₀ st ss₀ ss) (low : at < stop) (high : stop ≤ length b) where
-
   -- one unit of it
   module _ (v : List ℕ) (r : UnitFiled) (same : length v ≡ length w)
       (filed : (i : Input) (bases : BySection ℕ) (earlier here : List Filed) → AtUnit b x i n at w st ss bases earlier here
-        → UnitIs b x i n at w v bases earlier here (unitAt i bases earlier here home (at - start) (part b at (stop - at))) r)
+      → UnitIs b x i n at w v bases earlier here (unitAt i bases earlier here home (at - start) (part b at (stop - at))) r)
       (numbered : (i : Input) (bases : BySection ℕ) (earlier here : List Filed) (m : ℕ) → unitAt i bases earlier here home (at - start) (part b at (stop - at)) ≡ refuse m → 1 ≤ m) where
-
     some-left : 0 < length (part b at (stop - at))
     some-left = rw (length-part b at (stop - at) (omega arith)) (omega arith)
 

@@ -37,23 +37,43 @@ numbered : (b : List ℕ) (home start stop at : ℕ) (i : Input) (bases : BySect
 numbered b home start stop at i bases earlier here m e = unit-numbered i bases earlier here home (at - start) (part b at (stop - at)) .is m e
 
 same-length : tie.Need-same-length Inv-loop μ-loop
-same-length c = c .before .before .before .slice-known2 .given
+same-length c = let f = c .before .before .before .before .before in f .file-unit .kept .1 .1 .1 .1 .1 .1 .1 .1 .1 .0 ∙ f .before .before .before .loop .inv .same
 
+-- the ghost values that the caller has, and what is known of them where a unit was filed
 returns : tie.Need-returns Inv-loop μ-loop
 returns c i bases earlier here a =
     let f = c .before .before .before .before .before in
-    let l = f .before .before in
-    let pre = l .before .before .before .before .pre in
-    walking-refused (l .before .loop .inv) (l .loop-test .taken) (pre .1) _ (f .file-unit .result) ? (f .file-unit .ensures) (numbered _ _ _ _ _) (c .if1 .taken) i bases earlier here a _ refl
+    let t = f .before .before in
+    let pre = t .before .before .before .before .pre in
+    walking-refused (t .before .loop .inv) (t .loop-test .taken) (pre .1) _ (f .file-unit .result) (f .file-unit .kept .1 .1 .1 .1 .1 .1 .1 .1 .1 .0) (f .file-unit .ensures)
+    (numbered _ _ _ _ _) (c .if1 .taken) i bases earlier here a _ refl
 
 add-at : tie.Need-add-at Inv-loop μ-loop
-add-at c = ?
+add-at c =
+    let f = c .before .before .before .before .before in
+    let t = f .before .before in
+    let pre = t .before .before .before .before .pre in
+    let g = place-behind (t .before .loop .inv) (t .loop-test .taken) (pre .1) _ (f .file-unit .result) (f .file-unit .kept .1 .1 .1 .1 .1 .1 .1 .1 .1 .0) (f .file-unit .ensures) (numbered _ _ _ _ _) (c .if1 .left)
+    (pre .3 .0) (pre .3 .1) (pre .3 .2) (pre .3 .3) (pre .3 .4) in
+    omega (arith, g .1, pre .1)
 
 loop-less : tie.Need-loop-less Inv-loop μ-loop
-loop-less c = ?
+loop-less c =
+    let f = c .before .before .before .before .before in
+    let t = f .before .before in
+    let pre = t .before .before .before .before .pre in
+    let g = place-behind (t .before .loop .inv) (t .loop-test .taken) (pre .1) _ (f .file-unit .result) (f .file-unit .kept .1 .1 .1 .1 .1 .1 .1 .1 .1 .0) (f .file-unit .ensures) (numbered _ _ _ _ _) (c .if1 .left)
+    (pre .3 .0) (pre .3 .1) (pre .3 .2) (pre .3 .3) (pre .3 .4) in
+    omega (arith, g .0, g .1)
 
 loop-again : tie.Need-loop-again Inv-loop μ-loop
-loop-again c = ?
+loop-again c =
+    let f = c .before .before .before .before .before in
+    let t = f .before .before in
+    let pre = t .before .before .before .before .pre in
+    let g = place-behind (t .before .loop .inv) (t .loop-test .taken) (pre .1) _ (f .file-unit .result) (f .file-unit .kept .1 .1 .1 .1 .1 .1 .1 .1 .1 .0) (f .file-unit .ensures) (numbered _ _ _ _ _) (c .if1 .left)
+    (pre .3 .0) (pre .3 .1) (pre .3 .2) (pre .3 .3) (pre .3 .4) in
+    walking-more (t .before .loop .inv) (t .loop-test .taken) (pre .1) _ (f .file-unit .result) (f .file-unit .kept .1 .1 .1 .1 .1 .1 .1 .1 .1 .0) (f .file-unit .ensures) (numbered _ _ _ _ _) (c .if1 .left) (g .1)
 
 same-length-2 : tie.Need-same-length-2 Inv-loop μ-loop
 same-length-2 c = c .before .loop .inv .same
