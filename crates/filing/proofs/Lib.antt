@@ -1,4 +1,4 @@
--- Laws of units filed.
+-- Laws of filing: one unit more, the answers of filing it, and what the loops over units, sections and objects keep.
 -- Assumes nothing.
 pub mod Picked
 pub mod More
@@ -8,3 +8,4 @@ pub mod Filing
 pub mod Placing
 pub mod Answering
 pub mod Reading
+pub mod Walking

@@ -3,3 +3,4 @@ pub mod keep;
 pub mod single;
 pub mod state;
 pub mod units;
+pub mod walks;

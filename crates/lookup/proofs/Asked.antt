@@ -1,26 +1,23 @@
 -- What is asked, by what the code holds: version, table, index and place.
 -- Assumes nothing.
 use mathlib.Core.Path.{_≡_, refl, ap, sym, _∙_}
-use mathlib.Core.Bool.{Bool, true, false, _&&_, _||_}
+use mathlib.Core.Bool.{Bool, true, false, _||_}
 use mathlib.Core.List.{List}
 use mathlib.Core.Option.{Option, some, none}
 use Prim.Native.Nat.{ℕ, _+_, _≤_, _<_}
 use native.Mathlib.Omega.{arith}
 use lib.Dec.{eqb, leb}
 use borrow.Author.Tests.{eq-eqb, ne-eqb, le-leb, lt-leb}
-use Rattle.octets.specs.Checked.{Check, pass, refuse, _>>=_, require}
+use Rattle.octets.specs.Checked.{require, _>>=_}
 use Rattle.bundle.specs.Bundle.{Part as BundlePart, count, firstPart}
 use Rattle.bundle.specs.Scan.{startIn, sizeIn, startOf, sizeOf}
 use Rattle.bundle.proofs.Sections.{none-counted, counted-none}
 use Rattle.index.specs.Index.{Index, Contribution}
 use Rattle.index.specs.Held.{headOf}
-use Rattle.lookup.specs.Lookup.{Found, refused, absent, part, Package, hasVersion, versionGood, tableGood, indexFor, Place, placeIn, answered}
+use Rattle.lookup.specs.Lookup.{Package, hasVersion, versionGood, tableGood, indexFor, placeIn, answered}
 use Rattle.lookup.specs.Answers.{indexed, headIn, indexHas, versionBy, tableIndex, indexCode, after, placeBy, locatedOf}
 use Rattle.lookup.specs.declared.opening.PackageHead.{PackageHead}
-use Rattle.lookup.specs.declared.opening.PackageIndex.{PackageIndex}
-use Rattle.lookup.specs.declared.opening.PackageIndex.the-variants.{Present, Missing, IllFormed}
-use Rattle.lookup.specs.declared.searching.Located.the-variants.{Part, Absent, Refused}
-use Rattle.lookup.proofs.Places.{place-missing, place-outside, place-inside}
+use Rattle.lookup.specs.declared.searching.Located.the-variants.{Part, Refused}
 
 pub either-first : (x a b : ℕ) → x ≡ a → true ≡ (eqb x a || eqb x b)
 either-first x a b e = rw (eq-eqb x a e)

@@ -1,10 +1,10 @@
 -- What holds of every answer: a part lies in the package, and no more slots are looked at than there are.
 -- Assumes nothing.
 use mathlib.Core.Path.{_≡_, refl, ap, sym, _∙_}
-use mathlib.Core.Bool.{Bool, true, false}
 use mathlib.Core.List.{List, [], _∷_}
+use mathlib.Core.Logic.{_⊎_, inl, inr}
 use mathlib.Core.Option.{Option, some, none}
-use Prim.Native.Nat.{ℕ, _+_, _-_, _≤_, _<_}
+use Prim.Native.Nat.{ℕ, _+_, _-_, _≤_}
 use native.Mathlib.Omega.{arith}
 use lib.ListN.{length, take, drop, getD}
 use Rattle.octets.specs.Checked.{Check, pass, refuse, _>>=_}
@@ -14,16 +14,15 @@ use Rattle.bundle.specs.Bundle.{firstPart, body}
 use Rattle.bundle.specs.Scan as Scans
 use Rattle.bundle.proofs.Sections.{body-part}
 use Rattle.strings.specs.Strings.{stringAt}
-use Rattle.strings.proofs.Ends.{StringIs, stringAt-is}
-use Rattle.index.specs.Index.{Index, indexOf}
+use Rattle.strings.proofs.Ends.{stringAt-is}
+use Rattle.index.specs.Index.{Index}
 use Rattle.index.specs.Probing.{Probe, probe, found as at, absent as nowhere}
 use Rattle.index.specs.Held.{headOf, indexIn, indexRead, ReadWell, probedOf}
 use Rattle.index.proofs.Heads.{read-is}
-use Rattle.index.proofs.Ends.{FoundRow, found-row, absent-looks}
+use Rattle.index.proofs.Ends.{found-row, absent-looks}
 use Rattle.lookup.specs.Lookup.{Found, refused, absent, part, Package, packageOf, indexFor, Place, partPlace, atRow, inTable, answered, partJudged, lookedUp, startOf, stringPlace, stringJudged, stringFound}
 use Rattle.lookup.specs.Answers.{indexCode, numbered, bytesIn, beside}
 use Rattle.lookup.specs.declared.answering.Answer.{Answer}
-use Rattle.lookup.proofs.Places.{entryOffset}
 use Rattle.lookup.proofs.Texts.{start-in}
 use Rattle.lookup.proofs.Known.{within-package, index-known, answered-part, part-within}
 
@@ -157,3 +156,47 @@ beside-is code looks a c d = rw (c, d)
 pub bytes-are : (p : List ℕ) (r a : Answer) → r ≡ a → take (r .start + r .length - r .start) (drop (r .start) p) ≡ bytesIn p a
 unfolding bytesIn
 bytes-are p r a e = part-cut p (r .start) (r .length) ∙ ap (bytesIn p) e
+
+-- ---- what is known of an answer that is absent: the index is missing, after 0 looks, or its probing ended so
+pub record Missed (p : List ℕ) (table x looks : ℕ) : Type 0 where
+  pub held : Package
+  pub opened : packageOf p ≡ pass held
+  pub either : ((indexFor held table ≡ none) × (looks ≡ 0)) ⊎ ((i : Index) × (indexFor held table ≡ some i) × (probe i x ≡ nowhere looks) × (looks ≤ length (i .rows)))
+
+answered-absent : (m : Check Found) (looks : ℕ) → answered m ≡ absent looks → m ≡ pass (absent looks)
+unfolding answered
+answered-absent (pass f) looks e = ap pass e
+answered-absent (refuse j) looks e = absurd (let z : _≡_ {A = ℕ} 0 1 = cc in omega arith)
+
+missed : (p : List ℕ) (k : Package) (table x looks : ℕ) (answer : Index → ℕ → Check Place) → packageOf p ≡ pass k
+    → inTable (indexFor k table) x answer ≡ pass (absent looks) → Missed p table x looks
+unfolding inTable atRow
+missed p k table x looks answer e h = go (indexFor k table) refl h
+  where
+    row : (i : Index) → indexFor k table ≡ some i → (r : Probe) → probe i x ≡ r → atRow i r (answer i) ≡ pass (absent looks) → Missed p table x looks
+    row i f (nowhere l) g q =
+        let sl : l ≡ looks = cc in
+        let ends : probe i x ≡ nowhere looks = g ∙ ap nowhere sl in
+        record { held = k; opened = e; either = inr (i, f, ends, looks-absent p k e table i f x looks ends) }
+    row i f (at slot l) g q = let (s, m, t) = bind-pass _ _ _ q in absurd (let z : _≡_ {A = ℕ} 0 1 = cc in omega arith)
+
+    go : (o : Option Index) → indexFor k table ≡ o → inTable o x answer ≡ pass (absent looks) → Missed p table x looks
+    go none f q = record { held = k; opened = e; either = inl (f, cc) }
+    go (some i) f q = row i f (probe i x) refl q
+
+module _ (p : List ℕ) (version table x looks : ℕ) where
+  pub part-missed : (code : ℕ) → lookedUp p version table x code ≡ absent looks → Missed p table x looks
+  unfolding lookedUp partJudged
+  part-missed code e =
+      let (k, f, e1) = bind-pass _ _ _ (answered-absent _ looks e) in
+      let (v, e2) = require-pass _ _ _ _ e1 in
+      let (t, e3) = require-pass _ _ _ _ e2 in
+      missed p k table x looks (λ i row. partPlace k i row code) f e3
+
+  pub string-missed : (entry : ℕ) → stringFound p version table x entry ≡ absent looks → Missed p table x looks
+  unfolding stringFound stringJudged
+  string-missed entry e =
+      let (k, f, e1) = bind-pass _ _ _ (answered-absent _ looks e) in
+      let (v, e2) = require-pass _ _ _ _ e1 in
+      let (t, e3) = require-pass _ _ _ _ e2 in
+      missed p k table x looks (λ i row. partPlace k i row 6 >>= stringPlace p k version entry) f e3

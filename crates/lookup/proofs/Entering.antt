@@ -2,24 +2,24 @@
 -- Assumes nothing.
 use mathlib.Core.Path.{_≡_, refl, ap, sym, _∙_}
 use mathlib.Core.Bool.{Bool, true, false}
-use mathlib.Core.List.{List, [], _∷_, _++_}
+use mathlib.Core.List.{List, [], _∷_}
 use mathlib.Core.Option.{Option, some, none}
 use Prim.Native.Nat.{ℕ, _+_, _≤_}
 use native.Mathlib.Omega.{arith}
 use lib.ListN.{length, drop}
 use Rattle.octets.specs.Checked.{Check, pass, refuse}
 use Rattle.bundle.specs.Bundle as B
-use Rattle.bundle.specs.Bundle.{Part, Item, Bundle, bundleOf, lengthGood, stepAt, items, leading, objectsOf, firstPart}
+use Rattle.bundle.specs.Bundle.{Part, Item, Bundle, bundleOf, lengthGood, stepAt, items, leading, firstPart}
 use Rattle.bundle.specs.Next.{nextOf, wordsOf}
 use Rattle.bundle.specs.Scan.{Reaches, placeBehind, sectionsOf, startIn, sizeIn, startOf, sizeOf, scanOf}
 use Rattle.bundle.specs.declared.Scan.{Scan}
 use Rattle.bundle.specs.declared.Item.the-variants.{Object, Section, End, Broken}
 use Rattle.bundle.specs.declared.Words.the-variants.{Readable, Broken as Unreadable}
 use Rattle.bundle.proofs.Passed.{here}
-use Rattle.bundle.proofs.Next.{ObjectHere, object-here}
+use Rattle.bundle.proofs.Next.{object-here}
 use Rattle.bundle.proofs.Objects.{Objects, Entered, objects-none, objects-object, objects-section, objects-end, objects-broken}
 use Rattle.bundle.proofs.Within.{leading-within}
-use Rattle.lookup.specs.Lookup.{Package, objectsJudged, packageOf}
+use Rattle.lookup.specs.Lookup.{objectsJudged, packageOf}
 use Rattle.lookup.specs.Answers.{indexed, headIn, empty, closed, opened, Alone, Entering}
 use Rattle.lookup.proofs.Packages as P
 

@@ -5,12 +5,12 @@ use mathlib.Core.Bool.{Bool, true, false}
 use mathlib.Core.List.{List, [], _∷_}
 use mathlib.Core.Option.{Option, some, none}
 use mathlib.Core.Logic.{_⊎_, inl, inr, ⊎-elim}
-use Prim.Native.Nat.{ℕ, _+_, _≤_, _<_}
+use Prim.Native.Nat.{ℕ, _+_, _≤_}
 use native.Mathlib.Omega.{arith}
-use lib.Dec.{eqb, leb}
+use lib.Dec.{eqb}
 use lib.ListN.{length, getD}
 use borrow.Author.Tests.{leb-true}
-use Rattle.octets.specs.Checked.{Check, pass, refuse, _>>=_}
+use Rattle.octets.specs.Checked.{Check, pass, refuse}
 use Rattle.octets.proofs.Checks.{bind-pass, require-pass, pass-inj}
 use Rattle.bundle.specs.Bundle.{Part as BundlePart, Object, Bundle, bundleOf, firstPart, body}
 use Rattle.bundle.specs.Encoding.{Encoding, encodingOf, encodingGood}
@@ -18,7 +18,7 @@ use Rattle.bundle.specs.Scan.{startIn, sizeIn, startOf, sizeOf}
 use Rattle.bundle.proofs.Within.{First, first-object, first-within}
 use Rattle.index.specs.Index.{Index, Contribution, indexOf, cellOf}
 use Rattle.index.specs.Probing.{Probe, probe, found as at, absent as nowhere}
-use Rattle.lookup.specs.Lookup.{Found, refused, absent, part, Package, packageIndex, objectsJudged, packageOf, indexFor, Place, placeIn, cellPlace, partPlace, atRow, inTable, answered}
+use Rattle.lookup.specs.Lookup.{Found, part, Package, packageIndex, objectsJudged, packageOf, indexFor, Place, placeIn, cellPlace, partPlace, atRow, inTable, answered}
 use Rattle.lookup.specs.Answers.{indexCode, partIn}
 use Rattle.lookup.proofs.Packages as P
 use Rattle.lookup.proofs.Packages.{Judged}

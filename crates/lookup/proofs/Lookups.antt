@@ -1,17 +1,15 @@
 -- Both lookups, from what the code holds to what the definitions answer: 21 to 23, and the search.
 -- Assumes nothing.
-use mathlib.Core.Path.{_≡_, refl, ap, sym, _∙_}
+use mathlib.Core.Path.{_≡_, ap, sym, _∙_}
 use mathlib.Core.Bool.{Bool, true, false}
 use mathlib.Core.List.{List}
 use Prim.Native.Nat.{ℕ, _+_, _≤_, _<_}
 use native.Mathlib.Omega.{arith}
 use lib.ListN.{length}
-use Rattle.octets.specs.Checked.{Check, pass, refuse, _>>=_}
 use Rattle.bundle.specs.Encoding.{encodingGood}
-use Rattle.lookup.specs.Lookup.{Found, refused, absent, part, Package, packageOf, versionGood, tableGood, Place, answered, lookedUp, stringPlace, stringFound}
+use Rattle.lookup.specs.Lookup.{Found, refused, absent, part, packageOf, versionGood, tableGood, answered, lookedUp, stringFound}
 use Rattle.lookup.specs.Answers.{opened, packageIn, Opened, versionBy, after, entryPlace, partIn, stringIn, locatedOf}
 use Rattle.lookup.specs.declared.opening.PackageHead.{PackageHead}
-use Rattle.lookup.specs.declared.searching.Located.{Located}
 use Rattle.lookup.specs.declared.searching.Located.the-variants.{Part, Absent, Refused}
 use Rattle.lookup.proofs.Answered as A
 use Rattle.lookup.proofs.Asked.{version-by}

@@ -2,40 +2,34 @@
 -- Assumes nothing.
 use mathlib.Core.Path.{_≡_, refl, ap, sym, _∙_}
 use mathlib.Core.Bool.{Bool, true, false}
-use mathlib.Core.List.{List, [], _∷_, _++_}
+use mathlib.Core.List.{List}
 use mathlib.Core.Option.{Option, some, none}
 use Prim.Native.Nat.{ℕ, _+_, _≤_, _<_}
 use native.Mathlib.Omega.{arith}
-use native.Mathlib.Decide.{ℕ-discrete}
-use lib.Dec.{eqb, leb}
-use lib.ListN.{length, drop, getD}
+use lib.Dec.{leb}
+use lib.ListN.{length, getD}
 use borrow.Author.Tests.{eq-eqb, ne-eqb}
 use Rattle.octets.specs.Octets.{part}
 use Rattle.octets.specs.Lists.{all}
 use Rattle.octets.specs.Checked.{Check, pass, refuse}
-use Rattle.octets.proofs.Checks.{true-false, pass-refuse, pass-inj}
+use Rattle.octets.proofs.Checks.{true-false}
 use Rattle.bundle.specs.Bundle as B
-use Rattle.bundle.specs.Bundle.{Part, Item, Bundle, bundleOf, lengthGood, stepAt, items, leading, count, firstPart, body}
+use Rattle.bundle.specs.Bundle.{Part, count, firstPart, body}
 use Rattle.bundle.specs.Encoding.{Encoding, encodingOf, encodingGood}
 use Rattle.bundle.specs.Encoded.{wordRead}
-use Rattle.bundle.specs.Next.{nextOf, wordsOf}
-use Rattle.bundle.specs.Scan.{Reaches, placeBehind, sectionsOf, startIn, sizeIn, startOf, sizeOf, byCode, scanOf}
+use Rattle.bundle.specs.Scan.{startOf, sizeOf, scanOf}
 use Rattle.bundle.specs.declared.Scan.{Scan}
-use Rattle.bundle.specs.declared.Item.the-variants.{Object, Section, End, Broken}
-use Rattle.bundle.specs.declared.Words.the-variants.{Readable, Broken as Unreadable}
+use Rattle.bundle.specs.declared.Item.the-variants.{Object}
 use Rattle.bundle.specs.declared.encoding.ObjectEncoding.{ObjectEncoding}
 use Rattle.bundle.specs.declared.encoding.WordRead.the-variants.{Good as GoodWord, Bad as BadWord}
-use Rattle.bundle.proofs.Passed.{here}
 use Rattle.bundle.proofs.Sections.{body-part, none-counted, counted-none}
 use Rattle.bundle.proofs.Scanned.{byCode-at}
-use Rattle.bundle.proofs.Objects.{Objects, Entered, objects-none, objects-object, objects-section, objects-end, objects-broken}
-use Rattle.bundle.proofs.Within.{leading-within}
 use Rattle.index.specs.Index.{Index, indexOf}
 use Rattle.index.specs.Held.{headOf, indexRead}
 use Rattle.index.specs.declared.reading.IndexHead.{IndexHead}
 use Rattle.index.specs.declared.reading.IndexRead.the-variants.{Good, Bad}
-use Rattle.lookup.specs.Lookup.{Package, codes, packageIndex, objectJudged, objectsJudged, packageOf}
-use Rattle.lookup.specs.Answers.{coded, indexed, headIn, empty, closed, opened, single, indexBy, indexGood, Alone, Entering}
+use Rattle.lookup.specs.Lookup.{codes, packageIndex, objectJudged, packageOf}
+use Rattle.lookup.specs.Answers.{coded, indexed, headIn, closed, opened, single, indexBy, indexGood, Alone}
 use Rattle.lookup.specs.declared.opening.PackageHead.{PackageHead}
 use Rattle.lookup.specs.declared.opening.PackageIndex.{PackageIndex}
 use Rattle.lookup.specs.declared.opening.PackageIndex.the-variants.{Present, Missing, IllFormed}

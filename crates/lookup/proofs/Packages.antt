@@ -4,14 +4,14 @@ use mathlib.Core.Path.{_≡_, refl, ap, sym, _∙_}
 use mathlib.Core.Bool.{Bool, true, false}
 use mathlib.Core.List.{List, [], _∷_}
 use mathlib.Core.Option.{Option, some, none}
-use Prim.Native.Nat.{ℕ, _≤_}
+use Prim.Native.Nat.{ℕ}
 use native.Mathlib.Omega.{arith}
 use lib.Dec.{leb}
 use Rattle.octets.specs.Lists.{all}
-use Rattle.octets.specs.Checked.{Check, pass, refuse, _>>=_, require, renumbered}
-use Rattle.octets.proofs.Checks.{fails, passes, then-pass, then-refuse, bind-pass, bind-refuse, require-pass, require-refuse, renumbered-pass, renumbered-refuse, refuse-renumbered, pass-renumbered, pass-inj, pass-refuse}
+use Rattle.octets.specs.Checked.{Check, pass, refuse, _>>=_, renumbered}
+use Rattle.octets.proofs.Checks.{fails, passes, then-pass, then-refuse, bind-pass, require-pass, renumbered-pass, renumbered-refuse, pass-renumbered, pass-inj, pass-refuse}
 use Rattle.bundle.specs.Bundle.{Part, Object, Bundle, bundleOf, lengthGood, count, firstPart, body}
-use Rattle.bundle.specs.Encoding.{Encoding, encodingOf, encodingGood}
+use Rattle.bundle.specs.Encoding.{encodingOf, encodingGood}
 use Rattle.index.specs.Index.{Index, indexOf}
 use Rattle.lookup.specs.Lookup.{Package, codes, packageIndex, objectJudged, objectsJudged, packageOf}
 

@@ -4,17 +4,14 @@ use mathlib.Core.Path.{_≡_, refl, ap, sym, _∙_}
 use mathlib.Core.Bool.{Bool, true, false}
 use mathlib.Core.List.{List}
 use mathlib.Core.Option.{Option, some, none}
-use Prim.Native.Nat.{ℕ, _+_, _-_, _^_, _≤_, _<_}
+use Prim.Native.Nat.{ℕ, _+_, _-_, _≤_, _<_}
 use native.Mathlib.Omega.{arith}
 use lib.ListN.{length, take, drop, getD}
-use Rattle.octets.specs.Octets.{part as cut}
 use Rattle.octets.specs.Checked.{Check, pass, refuse, _>>=_}
 use Rattle.octets.proofs.Checks.{true-false, pass-inj}
-use Rattle.octets.proofs.Numbers.{Bytes}
 use Rattle.octets.proofs.Parts.{part-cut}
-use Rattle.bundle.specs.Bundle.{Part as BundlePart, count, firstPart, body}
+use Rattle.bundle.specs.Bundle.{count, body}
 use Rattle.bundle.specs.Scan.{startOf, sizeOf, scanOf}
-use Rattle.bundle.specs.declared.Scan.{Scan}
 use Rattle.bundle.proofs.Sections.{body-part}
 use Rattle.index.specs.Index.{Index, Contribution, indexOf, cellOf}
 use Rattle.index.specs.Cells.{cellFound}
@@ -23,16 +20,14 @@ use Rattle.index.specs.Probing.{Probe, probe, found as at, absent as nowhere}
 use Rattle.index.specs.declared.cells.Cell.the-variants.{Is, Missing as NoCell}
 use Rattle.index.specs.declared.probing.Probed.the-variants.{Found as AtSlot, Absent as NoSlot}
 use Rattle.index.specs.declared.reading.IndexHead.{IndexHead}
-use Rattle.index.specs.declared.reading.IndexRead.the-variants.{Good, Bad}
+use Rattle.index.specs.declared.reading.IndexRead.the-variants.{Good}
 use Rattle.index.proofs.Heads.{read-is, read-sized}
-use Rattle.index.proofs.Ends.{FoundRow, found-row, absent-looks, cell-small}
-use Rattle.lookup.specs.Lookup.{Found, refused, absent, part, Package, packageOf, indexFor, Place, partPlace, inTable, atRow, answered}
+use Rattle.index.proofs.Ends.{found-row}
+use Rattle.lookup.specs.Lookup.{Found, Package, packageOf, indexFor, Place, partPlace, answered}
 use Rattle.lookup.specs.Answers.{coded, indexed, headIn, closed, empty, opened, packageIn, Opened, tableIndex, indexCode, RowHere, after, placeBy, rowPlace, partIn, locatedOf}
 use Rattle.lookup.specs.declared.opening.PackageHead.{PackageHead}
-use Rattle.lookup.specs.declared.opening.PackageIndex.{PackageIndex}
 use Rattle.lookup.specs.declared.opening.PackageIndex.the-variants.{Present, Missing, IllFormed}
-use Rattle.lookup.specs.declared.searching.Located.{Located}
-use Rattle.lookup.specs.declared.searching.Located.the-variants.{Part, Absent, Refused}
+use Rattle.lookup.specs.declared.searching.Located.the-variants.{Part, Absent}
 use Rattle.lookup.proofs.Packages.{package-refused}
 use Rattle.lookup.proofs.Opened.{scan-count, scan-start, scan-size}
 use Rattle.lookup.proofs.Places.{column-missing, column-present}

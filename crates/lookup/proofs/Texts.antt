@@ -10,9 +10,9 @@ use native.Mathlib.Omega.{arith}
 use lib.Dec.{eqb}
 use lib.ListN.{length, getD}
 use borrow.Author.Tests.{eqb-true}
-use Rattle.octets.specs.Octets.{numberAt, part as cut}
+use Rattle.octets.specs.Octets.{numberAt}
 use Rattle.octets.specs.Checked.{Check, pass, refuse, _>>=_}
-use Rattle.octets.proofs.Checks.{and-left, and-right, passes, then-pass, then-refuse, true-false}
+use Rattle.octets.proofs.Checks.{and-left, and-right, then-pass, then-refuse, true-false}
 use Rattle.octets.proofs.Parts.{length-part-le}
 use Rattle.bundle.specs.Bundle.{Part as BundlePart, firstPart, body}
 use Rattle.bundle.specs.Encoding.{Encoding, encodingGood}
@@ -23,8 +23,8 @@ use Rattle.bundle.proofs.Sections.{body-part}
 use Rattle.strings.specs.Strings.{stringAt}
 use Rattle.strings.specs.Answers.{stringRead}
 use Rattle.strings.specs.declared.entries.StringRead.the-variants.{At, Missing}
-use Rattle.strings.proofs.Ends.{StringIs, stringAt-is, stringAt-refused}
-use Rattle.lookup.specs.Lookup.{Found, refused, part, Package, Place, answered, entriesStart, startOf, stringPlace}
+use Rattle.strings.proofs.Ends.{stringAt-is, stringAt-refused}
+use Rattle.lookup.specs.Lookup.{part, Package, Place, answered, entriesStart, startOf, stringPlace}
 use Rattle.lookup.specs.Answers.{coded, headIn, packageIn, Opened, after, textPlace, entriesFrom, entryPlace, locatedOf}
 use Rattle.lookup.specs.declared.opening.PackageHead.{PackageHead}
 use Rattle.lookup.specs.declared.searching.Located.the-variants.{Part, Refused}

@@ -1,25 +1,24 @@
 -- What a unit that is read promises to whoever walks a section.
 -- Assumes nothing.
 use mathlib.Core.Path.{_≡_, refl, sym, ap, _∙_}
-use mathlib.Core.Bool.{Bool, true, false, not, _||_}
+use mathlib.Core.Bool.{Bool, true, false}
 use mathlib.Core.Logic.{_⊎_, inl, inr}
 use mathlib.Core.List.{List, [], _∷_}
 use mathlib.Core.Option.{Option, some, none}
 use Prim.Native.Nat.{ℕ, _+_, _^_, _≤_, _<_}
 use native.Mathlib.Omega.{arith}
-use native.Mathlib.Decide.{ℕ-discrete}
-use lib.Dec.{eqb, leb}
-use lib.ListN.{length, take, drop, getD, length-take}
+use lib.Dec.{eqb}
+use lib.ListN.{length, take, drop}
 use lib.Seq.{length-take-le}
 use borrow.Author.Tests.{eqb-false, leb-true, not-true}
 use Rattle.octets.specs.Octets.{numberAt}
-use Rattle.octets.specs.Checked.{Check, pass, refuse, _>>=_, require}
-use Rattle.octets.proofs.Checks.{pass-inj, pass-refuse, bind-pass, require-pass, known}
+use Rattle.octets.specs.Checked.{pass, _>>=_, require}
+use Rattle.octets.proofs.Checks.{pass-inj, pass-refuse, bind-pass, require-pass}
 use Rattle.octets.proofs.Numbers.{Bytes, bytes-take, bytes-drop, numberAt-lt}
 use Rattle.bundle.specs.Encoding.{Encoding}
-use Rattle.unit.specs.Abbreviations.{Attribute, declarationsOf, declarationOf}
-use Rattle.unit.specs.Root.{needed, Value, valueOf, identityAt, identityIn, rootIdentity, rootTag}
-use Rattle.unit.specs.UnitRead.{Identity, UnitRead, lengthField, unitSize, isFive, addressPlace, commonSize, behindCommon, identityFive, identityFour, identityOf, unitOf}
+use Rattle.unit.specs.Abbreviations.{Attribute, declarationsOf}
+use Rattle.unit.specs.Root.{Value, valueOf, identityAt, identityIn, rootIdentity}
+use Rattle.unit.specs.UnitRead.{Identity, UnitRead, isFive, commonSize, behindCommon, identityOf, unitOf}
 use Rattle.unit.specs.Headers.{unitInside, kindOf, tableAt, identityBy}
 use Rattle.unit.specs.declared.header.Kind.{Kind}
 use Rattle.unit.specs.declared.header.Kind.the-variants.{Compilation, Signature, Root, Other}

@@ -97,8 +97,8 @@ fn attribute_step(e: ObjectEncoding, t: &[u8], s: &[u8], seen: Seen) -> Moved
             if real != 7 {
                 return Moved::Refused;
             }
-            let x = octets::u64_at(e.big, s, start);
-            return Moved::On(n, m, Seen::Stated(x));
+            let identity = octets::u64_at(e.big, s, start);
+            return Moved::On(n, m, Seen::Stated(identity));
         }
     }
 }

@@ -3,20 +3,13 @@
 use borrow.Author.Needs.{needs}
 use Rattle.lookup.proofs.answering.answer_string.Statement.{statement}
 use Rattle.lookup.proofs.answering.answer_string.Tie as tie
-use Rattle.lookup.proofs.answering.answer_string.Reads as reads
-use Rattle.lookup.proofs.answering.answer_string.Lts as lts
-use Rattle.lookup.proofs.answering.answer_of.Reads as answer-of-reads
-use Rattle.lookup.proofs.searching.locate_string.Reads as locate-string-reads
 
--- src/answering.rt:51:15
 locate-string-requires : tie.Need-locate-string-requires
 locate-string-requires c κs = search needs
 
--- src/answering.rt:51:5
 answer-of-requires : tie.Need-answer-of-requires
 answer-of-requires c κs = search needs
 
--- src/answering.rt:48:1
 returns : tie.Need-returns
 returns c = c .answer-of .ensures _ (c .before .locate-string .ensures)
 

@@ -3,14 +3,11 @@
 use mathlib.Core.Path.{_≡_, _∙_}
 use Prim.Native.Nat.{_≤_, _-_}
 use native.Mathlib.Omega.{arith}
-use lib.ListN.{length}
 use borrow.Author.Needs.{needs}
 use Rattle.lookup.specs.Answers.{single}
 use Rattle.lookup.proofs.Singles.{singleFrom, single-start, single-stop, single-on, single-end}
 use Rattle.lookup.proofs.opening.are_single.Statement.{statement}
 use Rattle.lookup.proofs.opening.are_single.Tie as tie
-use Rattle.lookup.proofs.opening.are_single.Reads as reads
-use Rattle.lookup.proofs.opening.are_single.Lts as lts
 
 abbrev Inv-loop : tie.InvT-loop
 Inv-loop sections code₀ code = (1 ≤ code) × (code ≤ 14) × (singleFrom (sections .count) code ≡ single (sections .count))
@@ -18,39 +15,31 @@ Inv-loop sections code₀ code = (1 ≤ code) × (code ≤ 14) × (singleFrom (s
 abbrev μ-loop : tie.MeasureT-loop
 μ-loop sections code₀ code = 14 - code
 
--- src/opening.rt:62:5
 loop-holds : tie.Need-loop-holds Inv-loop μ-loop
 loop-holds c = (omega arith, omega arith, single-start _)
 
--- src/opening.rt:63:16
 mul-if1 : tie.Need-mul-if1 Inv-loop μ-loop
 mul-if1 c = omega arith
 
--- src/opening.rt:63:16
 element-copy-out-if1 : tie.Need-element-copy-out-if1 Inv-loop μ-loop
 element-copy-out-if1 c = search needs
 
--- src/opening.rt:64:13
 returns : tie.Need-returns Inv-loop μ-loop
 returns c =
     let l = c .before .before .before in
     single-stop _ _ (l .loop .inv .0) (c .before .before .loop-test .taken) (c .if1 .taken) ∙ l .loop .inv .2
 
--- src/opening.rt:66:9
 add-code : tie.Need-add-code Inv-loop μ-loop
 add-code c = omega arith
 
--- src/opening.rt:62:5
 loop-less : tie.Need-loop-less Inv-loop μ-loop
 loop-less c = omega arith
 
--- src/opening.rt:62:5
 loop-again : tie.Need-loop-again Inv-loop μ-loop
 loop-again c =
     let l = c .before .before .before in
     (omega arith, omega arith, single-on _ _ (l .loop .inv .0) (c .before .before .loop-test .taken) (c .if1 .left) ∙ l .loop .inv .2)
 
--- src/opening.rt:58:1
 returns-2 : tie.Need-returns-2 Inv-loop μ-loop
 returns-2 c = single-end _ _ (c .loop-test .left) ∙ c .before .loop .inv .2
 

@@ -1,37 +1,29 @@
 -- `lookup::opening::is_good` meets its contract.
 -- Assumes nothing.
-use mathlib.Core.Path.{_≡_, refl, ap, sym, _∙_}
-use mathlib.Core.Path.{_≡_, ap, sym, _∙_}
+use mathlib.Core.Path.{ap, sym}
+use mathlib.Core.Path.{ap, sym}
 use Rattle.lookup.specs.Answers.{indexGood}
 use borrow.Author.Needs.{needs}
 use Rattle.lookup.proofs.opening.is_good.Statement.{statement}
 use Rattle.lookup.proofs.opening.is_good.Tie as tie
-use Rattle.lookup.proofs.opening.is_good.Reads as reads
-use Rattle.lookup.proofs.opening.is_good.Lts as lts
 
--- src/opening.rt:99:37
 enum-told : tie.Need-enum-told
 enum-told c = search needs
 
--- src/opening.rt:100:34
 enum-told-2 : tie.Need-enum-told-2
 enum-told-2 c = search needs
 
--- src/opening.rt:101:36
 enum-told-3 : tie.Need-enum-told-3
 enum-told-3 c = search needs
 
--- src/opening.rt:95:1
 returns : tie.Need-returns
 unfolding indexGood
 returns c = sym (ap indexGood (c .enum-told .given .1))
 
--- src/opening.rt:95:1
 returns-2 : tie.Need-returns-2
 unfolding indexGood
 returns-2 c = sym (ap indexGood (c .enum-told2 .given .1))
 
--- src/opening.rt:95:1
 returns-3 : tie.Need-returns-3
 unfolding indexGood
 returns-3 c = sym (ap indexGood (c .enum-told3 .given .1))

@@ -5,104 +5,75 @@ use denote.Ref.{now}
 use mathlib.Core.Bool.{true}
 use Rattle.lookup.proofs.Entering.{length-refused, words-refused, words-object, words-empty, words-section, words-broken}
 use borrow.Author.Tests.{not-true, not-false}
-use mathlib.Core.Path.{_≡_, refl, ap, sym, _∙_}
+use mathlib.Core.Path.{_≡_, sym, _∙_}
 use borrow.Author.Needs.{needs}
 use Rattle.lookup.proofs.opening.open_package.Statement.{statement}
 use Rattle.lookup.proofs.opening.open_package.Tie as tie
-use Rattle.lookup.proofs.opening.open_package.Reads as reads
-use Rattle.lookup.proofs.opening.open_package.Lts as lts
-use Rattle.bundle.proofs.check_words.Reads as check-words-reads
-use Rattle.bundle.proofs.length_good.Reads as length-good-reads
-use Rattle.bundle.proofs.next_item.Reads as next-item-reads
-use Rattle.lookup.proofs.opening.open_object.Reads as open-object-reads
-use Rattle.lookup.proofs.opening.refused.Reads as refused-reads
-use Rattle.lookup.proofs.opening.without_object.Reads as without-object-reads
 
 -- the length has passed
 long : (c : tie.Else1) → lengthGood 117_440_512 (now (c .before .before .before .args .«package»)) ≡ true
 long c = sym (c .before .length-good .ensures) ∙ not-false _ (c .if1 .left)
 
--- src/opening.rt:151:9
 length-good-requires : tie.Need-length-good-requires
 length-good-requires c κs = search needs
 
--- src/opening.rt:152:9
 refused-requires : tie.Need-refused-requires
 refused-requires c κs = search needs
 
--- src/opening.rt:152:9
 returns : tie.Need-returns
 returns c = c .refused .ensures ∙ length-refused _ (sym (c .before .before .length-good .ensures) ∙ not-true _ (c .before .if1 .taken))
 
--- src/opening.rt:154:32
 check-words-requires : tie.Need-check-words-requires
 check-words-requires c κs = search needs
 
--- src/opening.rt:154:25
 enum-known-big : tie.Need-enum-known-big
 enum-known-big c = search needs
 
--- src/opening.rt:155:9
 enum-told : tie.Need-enum-told
 enum-told c = search needs
 
--- src/opening.rt:155:9
 refused-requires-2 : tie.Need-refused-requires-2
 refused-requires-2 c κs = search needs
 
--- src/opening.rt:155:9
 returns-2 : tie.Need-returns-2
 returns-2 c = c .refused2 .ensures ∙ words-refused _ (long (c .before .before .before .before)) (sym (c .before .enum-told .given .1) ∙ c .before .before .before .check-words .ensures)
 
--- src/opening.rt:157:11
 next-item-requires : tie.Need-next-item-requires
 next-item-requires c κs = search needs
 
--- src/opening.rt:158:22
 enum-known-word : tie.Need-enum-known-word
 enum-known-word c = search needs
 
--- src/opening.rt:158:34
 open-object-requires : tie.Need-open-object-requires
 open-object-requires c κs = words-object _ (long (c .before .before .before .before .before .before .before .before)) _ (sym (c .before .before .before .before .before .big .given .1) ∙ c .before .before .before .before .before .before .before .check-words .ensures) _ _ (sym (c .before .word .given .1) ∙ c .before .before .before .next-item .ensures)
 
--- src/opening.rt:159:22
 enum-told-2 : tie.Need-enum-told-2
 enum-told-2 c = search needs
 
--- src/opening.rt:159:22
 without-object-requires : tie.Need-without-object-requires
 without-object-requires c κs = search needs
 
--- src/opening.rt:160:38
 enum-told-3 : tie.Need-enum-told-3
 enum-told-3 c = search needs
 
--- src/opening.rt:160:38
 refused-requires-3 : tie.Need-refused-requires-3
 refused-requires-3 c κs = search needs
 
--- src/opening.rt:161:25
 enum-told-4 : tie.Need-enum-told-4
 enum-told-4 c = search needs
 
--- src/opening.rt:161:25
 refused-requires-4 : tie.Need-refused-requires-4
 refused-requires-4 c κs = search needs
 
--- src/opening.rt:148:1
 returns-3 : tie.Need-returns-3
 returns-3 c = search needs
 
--- src/opening.rt:148:1
 returns-4 : tie.Need-returns-4
 returns-4 c = c .without-object .ensures ∙ words-empty _ (long (c .before .before .before .before .before .before .before .before)) _ (sym (c .before .before .before .before .before .big .given .1) ∙ c .before .before .before .before .before .before .before .check-words .ensures) (sym (c .before .enum-told2 .given .1) ∙ c .before .before .before .next-item .ensures)
 
--- src/opening.rt:148:1
 returns-5 : tie.Need-returns-5
 returns-5 c = absurd (words-section _ (long (c .before .before .before .before .before .before .before .before)) _ (sym (c .before .before .before .before .before .big .given .1) ∙ c .before .before .before .before .before .before .before .check-words .ensures) _ _ _ _ (sym (c .before .enum-told3 .given .1) ∙ c .before .before .before .next-item .ensures))
 
--- src/opening.rt:148:1
 returns-6 : tie.Need-returns-6
 returns-6 c = absurd (words-broken _ (long (c .before .before .before .before .before .before .before .before)) _ (sym (c .before .before .before .before .before .big .given .1) ∙ c .before .before .before .before .before .before .before .check-words .ensures) (sym (c .before .enum-told4 .given .1) ∙ c .before .before .before .next-item .ensures))
 

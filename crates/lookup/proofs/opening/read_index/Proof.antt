@@ -7,54 +7,41 @@ use Rattle.octets.proofs.Parts.{part-cut}
 use denote.Ref.{now}
 use Prim.Native.Nat.{ℕ}
 use mathlib.Core.List.{List}
-use mathlib.Core.Path.{_≡_, refl, ap, sym, _∙_}
+use mathlib.Core.Path.{ap, sym, _∙_}
 use borrow.Author.Needs.{needs}
 use Rattle.lookup.proofs.opening.read_index.Statement.{statement}
 use Rattle.lookup.proofs.opening.read_index.Tie as tie
-use Rattle.lookup.proofs.opening.read_index.Reads as reads
-use Rattle.lookup.proofs.opening.read_index.Lts as lts
-use Rattle.index.proofs.reading.read_index.Reads as read-index-reads
 
--- src/opening.rt:77:9
 returns : tie.Need-returns
 returns c = index-none _ _ (c .if1 .taken)
 
--- src/opening.rt:79:15
 add-end : tie.Need-add-end
 add-end c = search needs
 
--- src/opening.rt:80:43
 sub-read-index : tie.Need-sub-read-index
 sub-read-index c = search needs
 
--- src/opening.rt:80:43
 part-read-index-start : tie.Need-part-read-index-start
 part-read-index-start c = search needs
 
--- src/opening.rt:80:43
 part-read-index-end : tie.Need-part-read-index-end
 part-read-index-end c = search needs
 
--- src/opening.rt:80:11
 read-index-requires : tie.Need-read-index-requires
 read-index-requires c κs = search needs
 
--- src/opening.rt:81:25
 enum-known-head : tie.Need-enum-known-head
 enum-known-head c = search needs
 
--- src/opening.rt:82:27
 enum-told : tie.Need-enum-told
 enum-told c = search needs
 
--- src/opening.rt:72:1
 returns-2 : tie.Need-returns-2
 returns-2 c =
     let r = c .before .before .before in
     let a = r .before .before .before .before .args in
     index-is _ _ (r .before .before .if1 .left) _ (sym (c .before .head .given .1) ∙ r .read-index .ensures ∙ ap (λ (s : List ℕ). indexRead (indexOf (a .big) s)) (part-cut (now (a .«package»)) (a .start) (a .size)))
 
--- src/opening.rt:72:1
 returns-3 : tie.Need-returns-3
 returns-3 c =
     let r = c .before .before in

@@ -5,19 +5,14 @@ use borrow.Author.Tests.{eq-eqb, ne-eqb}
 use borrow.Author.Needs.{needs}
 use Rattle.lookup.proofs.searching.entries_start.Statement.{statement}
 use Rattle.lookup.proofs.searching.entries_start.Tie as tie
-use Rattle.lookup.proofs.searching.entries_start.Reads as reads
-use Rattle.lookup.proofs.searching.entries_start.Lts as lts
 
--- src/searching.rt:212:16
 add-result : tie.Need-add-result
 add-result c = search needs
 
--- src/searching.rt:212:9
 returns : tie.Need-returns
 unfolding entriesFrom
 returns c = rw (entriesFrom, eq-eqb (c .before .args .version) 5 (c .if1 .taken))
 
--- src/searching.rt:207:1
 returns-2 : tie.Need-returns-2
 unfolding entriesFrom
 returns-2 c = rw (entriesFrom, ne-eqb (c .before .args .version) 5 (c .if1 .left))

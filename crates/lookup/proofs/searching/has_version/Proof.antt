@@ -2,36 +2,26 @@
 -- Assumes nothing.
 use Rattle.lookup.proofs.Asked as asked
 use borrow.Author.Tests.{not-true, not-false}
-use mathlib.Core.Path.{_≡_, refl, ap, sym, _∙_}
+use mathlib.Core.Path.{sym, _∙_}
 use borrow.Author.Needs.{needs}
 use Rattle.lookup.proofs.searching.has_version.Statement.{statement}
 use Rattle.lookup.proofs.searching.has_version.Tie as tie
-use Rattle.lookup.proofs.searching.has_version.Reads as reads
-use Rattle.lookup.proofs.searching.has_version.Lts as lts
-use Rattle.lookup.proofs.searching.index_has.Reads as index-has-reads
-use Rattle.lookup.proofs.searching.is_version.Reads as is-version-reads
 
--- src/searching.rt:73:9
 is-version-requires : tie.Need-is-version-requires
 is-version-requires c κs = search needs
 
--- src/searching.rt:74:9
 returns : tie.Need-returns
 returns c = asked.by-unknown _ _ (sym (c .before .is-version .ensures) ∙ not-true _ (c .if1 .taken))
 
--- src/searching.rt:77:9
 index-has-requires : tie.Need-index-has-requires
 index-has-requires c κs = search needs
 
--- src/searching.rt:78:9
 returns-2 : tie.Need-returns-2
 returns-2 c = asked.by-cu _ _ (sym (c .before .before .before .is-version .ensures) ∙ not-false _ (c .before .before .if1 .left)) (sym (c .before .index-has .ensures) ∙ not-true _ (c .if2 .taken))
 
--- src/searching.rt:81:5
 index-has-requires-2 : tie.Need-index-has-requires-2
 index-has-requires-2 c κs = search needs
 
--- src/searching.rt:70:1
 returns-3 : tie.Need-returns-3
 returns-3 c = c .index-has2 .ensures ∙ asked.by-tu _ _ (sym (c .before .before .before .before .is-version .ensures) ∙ not-false _ (c .before .before .before .if1 .left)) (sym (c .before .before .index-has .ensures) ∙ not-false _ (c .before .if2 .left))
 

@@ -3,14 +3,10 @@
 use Rattle.lookup.proofs.Asked as asked
 use Rattle.lookup.proofs.searching.index_for.Statement.{statement}
 use Rattle.lookup.proofs.searching.index_for.Tie as tie
-use Rattle.lookup.proofs.searching.index_for.Reads as reads
-use Rattle.lookup.proofs.searching.index_for.Lts as lts
 
--- src/searching.rt:91:9
 returns : tie.Need-returns
 returns c = asked.in-first _ _ (c .if1 .taken)
 
--- src/searching.rt:86:1
 returns-2 : tie.Need-returns-2
 returns-2 c = asked.in-second _ _ (c .if1 .left)
 

@@ -3,14 +3,10 @@
 use Rattle.lookup.proofs.Asked as asked
 use Rattle.lookup.proofs.searching.is_table.Statement.{statement}
 use Rattle.lookup.proofs.searching.is_table.Tie as tie
-use Rattle.lookup.proofs.searching.is_table.Reads as reads
-use Rattle.lookup.proofs.searching.is_table.Lts as lts
 
--- src/searching.rt:81:9
 returns : tie.Need-returns
 returns c = asked.good-first _ (c .if1 .taken)
 
--- src/searching.rt:77:1
 returns-2 : tie.Need-returns-2
 returns-2 c = asked.good-second _ (c .if1 .left)
 

@@ -3,14 +3,10 @@
 use Rattle.lookup.proofs.Asked as asked
 use Rattle.lookup.proofs.searching.is_version.Statement.{statement}
 use Rattle.lookup.proofs.searching.is_version.Tie as tie
-use Rattle.lookup.proofs.searching.is_version.Reads as reads
-use Rattle.lookup.proofs.searching.is_version.Lts as lts
 
--- src/searching.rt:64:9
 returns : tie.Need-returns
 returns c = asked.either-first _ _ _ (c .if1 .taken)
 
--- src/searching.rt:60:1
 returns-2 : tie.Need-returns-2
 returns-2 c = asked.either-second _ _ _ (c .if1 .left)
 

@@ -8,17 +8,10 @@ use Rattle.lookup.proofs.Lookups as lookups
 use denote.Ref.{now}
 use native.Mathlib.Omega.{arith}
 use borrow.Author.Tests.{not-true, not-false}
-use mathlib.Core.Path.{_≡_, refl, ap, sym, _∙_}
+use mathlib.Core.Path.{_≡_, sym, _∙_}
 use borrow.Author.Needs.{needs}
 use Rattle.lookup.proofs.searching.locate.Statement.{statement}
 use Rattle.lookup.proofs.searching.locate.Tie as tie
-use Rattle.lookup.proofs.searching.locate.Reads as reads
-use Rattle.lookup.proofs.searching.locate.Lts as lts
-use Rattle.lookup.proofs.opening.open_package.Reads as open-package-reads
-use Rattle.lookup.proofs.searching.has_version.Reads as has-version-reads
-use Rattle.lookup.proofs.searching.is_table.Reads as is-table-reads
-use Rattle.lookup.proofs.searching.locate_part.Reads as locate-part-reads
-use Rattle.octets.proofs.wide.Reads as wide-reads
 
 -- the package was opened, and the version and the table have passed
 is-open : (c : tie.Else1) → Opened (now (c .before .before .before .before .args .«package»)) (c .before .before .open-package .result)
@@ -30,47 +23,36 @@ version-good c = sym (c .before .has-version .ensures) ∙ not-false _ (c .if2 .
 table-good : (c : tie.Else3) → tableGood (c .before .before .before .before .before .before .before .before .args .table) ≡ true
 table-good c = sym (c .before .is-table .ensures) ∙ not-false _ (c .if3 .left)
 
--- src/searching.rt:187:9
 open-package-requires : tie.Need-open-package-requires
 open-package-requires c κs = search needs
 
--- src/searching.rt:189:9
 returns : tie.Need-returns
 returns c = lookups.looked-closed _ _ (c .before .before .open-package .ensures) (not-true _ (c .if1 .taken)) _ _ _ _
 
--- src/searching.rt:191:9
 has-version-requires : tie.Need-has-version-requires
 has-version-requires c κs = search needs
 
--- src/searching.rt:192:9
 returns-2 : tie.Need-returns-2
 returns-2 c = lookups.looked-version _ _ (is-open (c .before .before)) _ _ _ (sym (c .before .has-version .ensures) ∙ not-true _ (c .if2 .taken)) _
 
--- src/searching.rt:194:9
 is-table-requires : tie.Need-is-table-requires
 is-table-requires c κs = search needs
 
--- src/searching.rt:195:9
 returns-3 : tie.Need-returns-3
 returns-3 c = lookups.looked-table _ _ (is-open (c .before .before .before .before)) _ _ _ (version-good (c .before .before)) (sym (c .before .is-table .ensures) ∙ not-true _ (c .if3 .taken)) _
 
--- src/searching.rt:198:9
 returns-4 : tie.Need-returns-4
 returns-4 c = lookups.looked-low _ _ (is-open (c .before .before .before .before .before)) _ _ _ (version-good (c .before .before .before)) _ (c .if4 .taken)
 
--- src/searching.rt:201:9
 returns-5 : tie.Need-returns-5
 returns-5 c = lookups.looked-high _ _ (is-open (c .before .before .before .before .before .before)) _ _ _ (version-good (c .before .before .before .before)) _ (c .if5 .taken)
 
--- src/searching.rt:203:49
 wide-requires : tie.Need-wide-requires
 wide-requires c κs = search needs
 
--- src/searching.rt:203:5
 locate-part-requires : tie.Need-locate-part-requires
 locate-part-requires c κs = (is-open (c .before .before .before .before .before .before .before), omega arith)
 
--- src/searching.rt:184:1
 returns-6 : tie.Need-returns-6
 returns-6 c = c .locate-part .ensures ∙ lookups.looked-in _ _ (is-open (c .before .before .before .before .before .before .before .before)) _ _ _ (version-good (c .before .before .before .before .before .before)) (table-good (c .before .before .before .before)) _ _ (c .before .wide .ensures) (c .before .before .before .if4 .left) (c .before .before .if5 .left)
 

@@ -6,18 +6,10 @@ use mathlib.Core.Logic.{⊎-elim}
 use Rattle.lookup.proofs.Texts as texts
 use denote.Ref.{now}
 use native.Mathlib.Omega.{arith}
-use mathlib.Core.Path.{_≡_, refl, ap, sym, _∙_}
+use mathlib.Core.Path.{_∙_}
 use borrow.Author.Needs.{needs}
 use Rattle.lookup.proofs.searching.locate_entry.Statement.{statement}
 use Rattle.lookup.proofs.searching.locate_entry.Tie as tie
-use Rattle.lookup.proofs.searching.locate_entry.Reads as reads
-use Rattle.lookup.proofs.searching.locate_entry.Lts as lts
-use Rattle.bundle.proofs.encoding.width.Reads as width-reads
-use Rattle.lookup.proofs.searching.entries_start.Reads as entries-start-reads
-use Rattle.lookup.proofs.searching.locate_text.Reads as locate-text-reads
-use Rattle.octets.proofs.long.Reads as long-reads
-use Rattle.octets.proofs.number_at.Reads as number-at-reads
-use Rattle.octets.proofs.size.Reads as size-reads
 
 -- the entry lies in the package
 fits : (c : tie.After-size)
@@ -26,61 +18,48 @@ fits : (c : tie.After-size)
     ≤ length (now (c .before .before .before .before .before .before .before .before .args .«package»))
 fits c = texts.entry-fits (now (c .before .before .before .before .before .before .before .before .args .«package»)) (c .before .before .before .before .before .before .before .before .args .head) (c .before .before .before .before .before .before .before .before .pre .0) (c .before .before .before .before .before .before .before .before .pre .2) (c .before .before .before .before .before .before .before .before .args .version) (c .before .before .before .before .before .before .before .before .args .entry) (c .before .before .before .before .before .before .before .before .args .start) (c .before .before .before .before .before .before .before .before .args .size) (c .before .before .before .before .before .before .before .before .args .looks) _ _ (c .before .before .before .before .before .width .ensures) (c .before .before .before .before .entries-start .ensures) _ _ (c .before .before .long .ensures) (c .size .ensures) (c .before .if2 .left) (c .before .before .before .if1 .left) (c .before .before .before .before .before .before .before .before .pre .1)
 
--- src/searching.rt:237:9
 width-requires : tie.Need-width-requires
 width-requires c κs = search needs
 
--- src/searching.rt:238:9
 entries-start-requires : tie.Need-entries-start-requires
 entries-start-requires c κs =
     let e = c .width .ensures in
     ⊎-elim (λ f. omega arith) (λ f. omega arith) (texts.width-either (c .before .before .before .args .head .encoding))
 
--- src/searching.rt:240:9
 returns : tie.Need-returns
 returns c = texts.entry-short _ _ (c .before .before .before .before .before .pre .0) (c .before .before .before .before .before .pre .2) _ _ _ _ _ _ _ (c .before .before .width .ensures) (c .before .entries-start .ensures) (c .if1 .taken)
 
--- src/searching.rt:242:17
 div-count : tie.Need-div-count
 div-count c =
     let e = c .before .before .width .ensures in
     ⊎-elim (λ f. omega arith) (λ f. omega arith) (texts.width-either (c .before .before .before .before .before .args .head .encoding))
 
--- src/searching.rt:243:8
 long-requires : tie.Need-long-requires
 long-requires c κs = search needs
 
--- src/searching.rt:244:9
 returns-2 : tie.Need-returns-2
 returns-2 c = texts.entry-past _ _ (c .before .before .before .before .before .before .before .pre .0) (c .before .before .before .before .before .before .before .pre .2) _ _ _ _ _ _ _ (c .before .before .before .before .width .ensures) (c .before .before .before .entries-start .ensures) _ (c .before .long .ensures) (c .if2 .taken)
 
--- src/searching.rt:246:14
 add-at : tie.Need-add-at
 add-at c = search needs
 
--- src/searching.rt:246:30
 size-requires : tie.Need-size-requires
 size-requires c κs = search needs
 
--- src/searching.rt:246:30
 mul-at : tie.Need-mul-at
 mul-at c = omega (arith, fits c)
 
--- src/searching.rt:246:14
 add-at-2 : tie.Need-add-at-2
 add-at-2 c = omega (arith, fits c)
 
--- src/searching.rt:247:9
 number-at-requires : tie.Need-number-at-requires
 number-at-requires c κs =
     let e = c .before .before .before .before .before .width .ensures in
     (⊎-elim (λ f. omega arith) (λ f. omega arith) (texts.width-either (c .before .before .before .before .before .before .before .before .args .head .encoding)), fits c)
 
--- src/searching.rt:248:5
 locate-text-requires : tie.Need-locate-text-requires
 locate-text-requires c κs = search needs
 
--- src/searching.rt:232:1
 returns-3 : tie.Need-returns-3
 returns-3 c = c .locate-text .ensures ∙ texts.entry-text _ _ (c .before .before .before .before .before .before .before .before .before .before .pre .0) (c .before .before .before .before .before .before .before .before .before .before .pre .2) _ _ _ _ _ _ _ (c .before .before .before .before .before .before .before .width .ensures) (c .before .before .before .before .before .before .entries-start .ensures) _ _ (c .before .before .before .before .long .ensures) (c .before .before .size .ensures) (c .before .before .before .if2 .left) (c .before .before .before .before .before .if1 .left) (c .before .before .before .before .before .before .before .before .before .before .pre .1) _ (c .before .number-at .ensures)
 

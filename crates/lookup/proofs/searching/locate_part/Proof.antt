@@ -1,46 +1,34 @@
 -- `lookup::searching::locate_part` meets its contract.
 -- Assumes nothing.
 use Rattle.lookup.proofs.Searches as searches
-use mathlib.Core.Path.{_≡_, refl, ap, sym, _∙_}
+use mathlib.Core.Path.{sym, _∙_}
 use borrow.Author.Needs.{needs}
 use Rattle.lookup.proofs.searching.locate_part.Statement.{statement}
 use Rattle.lookup.proofs.searching.locate_part.Tie as tie
-use Rattle.lookup.proofs.searching.locate_part.Reads as reads
-use Rattle.lookup.proofs.searching.locate_part.Lts as lts
-use Rattle.lookup.proofs.searching.index_for.Reads as index-for-reads
-use Rattle.lookup.proofs.searching.search_index.Reads as search-index-reads
 
--- src/searching.rt:176:11
 index-for-requires : tie.Need-index-for-requires
 index-for-requires c κs = search needs
 
--- src/searching.rt:177:31
 enum-known-index-head : tie.Need-enum-known-index-head
 enum-known-index-head c = search needs
 
--- src/searching.rt:177:46
 search-index-requires : tie.Need-search-index-requires
 search-index-requires c κs =
     let a = c .before .before .before .before .before in
     (a .pre .0, sym (c .before .index-head .given .1) ∙ c .before .before .before .index-for .ensures, a .pre .1)
 
--- src/searching.rt:178:34
 enum-told : tie.Need-enum-told
 enum-told c = search needs
 
--- src/searching.rt:179:36
 enum-told-2 : tie.Need-enum-told-2
 enum-told-2 c = search needs
 
--- src/searching.rt:172:1
 returns : tie.Need-returns
 returns c = search needs
 
--- src/searching.rt:172:1
 returns-2 : tie.Need-returns-2
 returns-2 c = searches.part-none _ _ (c .before .before .before .before .pre .0) _ _ _ (sym (c .enum-told .given .1) ∙ c .before .before .index-for .ensures)
 
--- src/searching.rt:172:1
 returns-3 : tie.Need-returns-3
 returns-3 c = absurd (searches.table-never _ _ (c .before .before .before .before .pre .0) _ (sym (c .enum-told2 .given .1) ∙ c .before .before .index-for .ensures))
 

@@ -3,50 +3,38 @@
 use Rattle.lookup.proofs.Texts as texts
 use denote.Ref.{now}
 use native.Mathlib.Omega.{arith}
-use mathlib.Core.Path.{_≡_, refl, ap, sym, _∙_}
+use mathlib.Core.Path.{refl, sym, _∙_}
 use borrow.Author.Needs.{needs}
 use Rattle.lookup.proofs.searching.locate_text.Statement.{statement}
 use Rattle.lookup.proofs.searching.locate_text.Tie as tie
-use Rattle.lookup.proofs.searching.locate_text.Reads as reads
-use Rattle.lookup.proofs.searching.locate_text.Lts as lts
-use Rattle.lookup.proofs.searching.section_bytes.Reads as section-bytes-reads
-use Rattle.strings.proofs.entries.string_at.Reads as string-at-reads
 
--- src/searching.rt:222:9
 section-bytes-requires : tie.Need-section-bytes-requires
 section-bytes-requires c κs = search needs
 
--- src/searching.rt:224:17
 element-copy-out-start : tie.Need-element-copy-out-start
 element-copy-out-start c = search needs
 
--- src/searching.rt:225:11
 string-at-requires : tie.Need-string-at-requires
 string-at-requires c κs = search needs
 
--- src/searching.rt:226:24
 enum-known-at : tie.Need-enum-known-at
 enum-known-at c = search needs
 
--- src/searching.rt:226:53
 add-t15 : tie.Need-add-t15
 add-t15 c =
     let a = c .before .before .before .before .before .before .before .before in
     let r = c .before .at .given in
     omega (arith, texts.text-fits (now (a .args .«package»)) (a .args .head) (a .pre) _ (c .before .before .before .before .before .before .section-bytes .ensures) _ (a .args .looks) _ _ _ (sym (r .1) ∙ c .before .before .before .string-at .ensures 26) refl)
 
--- src/searching.rt:227:32
 enum-told : tie.Need-enum-told
 enum-told c = search needs
 
--- src/searching.rt:218:1
 returns : tie.Need-returns
 returns c =
     let a = c .before .before .before .before .before .before .before .before in
     let r = c .before .at .given in
     texts.text-found (now (a .args .«package»)) (a .args .head) (a .pre) _ (c .before .before .before .before .before .before .section-bytes .ensures) _ _ _ _ _ (sym (r .1) ∙ c .before .before .before .string-at .ensures 26) refl
 
--- src/searching.rt:218:1
 returns-2 : tie.Need-returns-2
 returns-2 c =
     let a = c .before .before .before .before .before .before .before in

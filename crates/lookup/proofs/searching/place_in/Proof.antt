@@ -4,26 +4,19 @@ use Rattle.lookup.proofs.Asked as asked
 use borrow.Author.Needs.{needs}
 use Rattle.lookup.proofs.searching.place_in.Statement.{statement}
 use Rattle.lookup.proofs.searching.place_in.Tie as tie
-use Rattle.lookup.proofs.searching.place_in.Reads as reads
-use Rattle.lookup.proofs.searching.place_in.Lts as lts
 
--- src/searching.rt:124:9
 returns : tie.Need-returns
 returns c = asked.by-missing _ _ _ _ _ _ (c .if1 .taken)
 
--- src/searching.rt:126:15
 add-if2 : tie.Need-add-if2
 add-if2 c = search needs
 
--- src/searching.rt:127:9
 returns-2 : tie.Need-returns-2
 returns-2 c = asked.by-outside _ _ _ _ _ _ (c .before .if1 .left) (c .if2 .taken)
 
--- src/searching.rt:129:19
 add-t8 : tie.Need-add-t8
 add-t8 c = search needs
 
--- src/searching.rt:119:1
 returns-3 : tie.Need-returns-3
 returns-3 c = asked.by-inside _ _ _ _ _ _ (c .before .if1 .left) (c .if2 .left)
 

@@ -6,46 +6,35 @@ use Rattle.lookup.proofs.Searches as searches
 use borrow.Author.Needs.{needs}
 use Rattle.lookup.proofs.searching.section_bytes.Statement.{statement}
 use Rattle.lookup.proofs.searching.section_bytes.Tie as tie
-use Rattle.lookup.proofs.searching.section_bytes.Reads as reads
-use Rattle.lookup.proofs.searching.section_bytes.Lts as lts
 
--- src/searching.rt:113:17
 mul-start : tie.Need-mul-start
 mul-start c = search needs
 
--- src/searching.rt:113:17
 element-copy-out-start : tie.Need-element-copy-out-start
 element-copy-out-start c = search needs
 
--- src/searching.rt:114:23
 mul-end : tie.Need-mul-end
 mul-end c = search needs
 
--- src/searching.rt:114:23
 element-copy-out-end : tie.Need-element-copy-out-end
 element-copy-out-end c = search needs
 
--- src/searching.rt:114:15
 add-end : tie.Need-add-end
 add-end c =
     let a = c .before .before .before in
     omega (arith, searches.section-fits (now (a .args .«package»)) (a .args .head) (a .pre .0) (a .args .code) (a .pre .1))
 
--- src/searching.rt:115:5
 sub-result : tie.Need-sub-result
 sub-result c = search needs
 
--- src/searching.rt:115:5
 part-result-start : tie.Need-part-result-start
 part-result-start c = search needs
 
--- src/searching.rt:115:5
 part-result-end : tie.Need-part-result-end
 part-result-end c =
     let a = c .before .before .before in
     omega (arith, searches.section-fits (now (a .args .«package»)) (a .args .head) (a .pre .0) (a .args .code) (a .pre .1))
 
--- src/searching.rt:108:1
 returns : tie.Need-returns
 returns c = searches.section-is _ _ (c .before .before .before .before .pre .0) _ (c .before .before .before .before .pre .1)
 
