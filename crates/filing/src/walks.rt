@@ -1,0 +1,55 @@
+// The units of a section, one behind the other, and the sections of units of an object.
+ghost use mathlib.Core.Path.{_≡_};
+ghost use mathlib.Core.List.{List};
+ghost use mathlib.Core.Logic.{_⊎_};
+ghost use Prim.Native.Nat.{ℕ, suc, _-_, _<_, _≤_};
+ghost use lib.ListN.{length};
+ghost use Rattle.octets.specs.Octets.{part};
+ghost use Rattle.index.specs.Rows.{BySection};
+ghost use Rattle.package.specs.Input.{Input};
+ghost use Rattle.package.specs.Filing.{Filed, unitsFrom};
+ghost use Rattle.filing.specs.Answers.{AtUnit, UnitsAre};
+use crate::state::InProgress;
+use crate::state::Sums;
+use crate::units::UnitsFiled;
+use input::InputObject;
+
+// All units of one section, which lies from start to stop.
+pub fn add_units(
+    b: &[u8],
+    x: InputObject,
+    home: usize,
+    start: usize,
+    stop: usize,
+    n: usize,
+    st: InProgress,
+    sums: Sums,
+    work: &mut [u32],
+) -> UnitsFiled
+    requires { ⌜ (start ≤ stop) × (stop ≤ length (now b)) × ((home ≡ 1) ⊎ (home ≡ 2)) × ((i : Input) × (bases : BySection ℕ) × (earlier : List Filed) × (here : List Filed) × AtUnit (now b) x i n start (now work) st sums bases earlier here) ⌝ }
+    ensures { λ r. ⌜ ((i : Input) (bases : BySection ℕ) (earlier here : List Filed) → AtUnit (now (b .entry)) x i n start (now (work .entry)) st sums bases earlier here → UnitsAre (now (b .entry)) x i n stop (now (work .entry)) (now (work .exit)) bases earlier (unitsFrom (suc (length (part (now (b .entry)) start (stop - start)))) i bases earlier here home 0 (part (now (b .entry)) start (stop - start))) r) ⌝ }
+{
+    let mut at = start;
+    let mut known = st;
+    let mut totals = sums;
+    while at < stop {
+        let r = crate::single::file_unit(b, x, home, start, stop, at, n, known, totals, work);
+        let code = r.code;
+        let size = r.size;
+        known = r.st;
+        totals = r.sums;
+        if code != 0 {
+            return UnitsFiled {
+                code: code,
+                st: known,
+                sums: totals,
+            };
+        }
+        at += size;
+    }
+    UnitsFiled {
+        code: 0,
+        st: known,
+        sums: totals,
+    }
+}
