@@ -19,7 +19,7 @@ use Rattle.index.proofs.LawPlaced.{Distinct, Kept, Placed, placed-more}
 
 -- ---- all are placed
 module _ (n : ℕ) (p : PowerOfTwo n) (xs : List ℕ) (different : Distinct xs) (few : length xs < n) where
-  placed-all : (k m : ℕ) (t : Slots) → m + k ≡ length xs → Placed n xs m t → (u : Slots) × (placeAll t (m + 1) (drop m xs) ≡ pass u) × Placed n xs (length xs) u
+  pub placed-all : (k m : ℕ) (t : Slots) → m + k ≡ length xs → Placed n xs m t → (u : Slots) × (placeAll t (m + 1) (drop m xs) ≡ pass u) × Placed n xs (length xs) u
   unfolding placeAll
   placed-all zero m t e s = let q : m ≡ length xs = omega arith in (t, let g : length xs ≤ m = omega arith in rw (drop-of-length-le xs g), rw (← q) s)
   placed-all (suc k) m t e s =
@@ -40,7 +40,7 @@ zeros-at zero i = refl
 zeros-at (suc n) zero = refl
 zeros-at (suc n) (suc i) = zeros-at n i
 
-placed-none : (n : ℕ) (xs : List ℕ) → Placed n xs 0 (unused n)
+pub placed-none : (n : ℕ) (xs : List ℕ) → Placed n xs 0 (unused n)
 unfolding unused
 placed-none n xs =
     record {

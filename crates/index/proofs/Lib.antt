@@ -23,3 +23,4 @@ pub mod Masks
 pub mod Heads
 pub mod Looks
 pub mod Codes
+pub mod LawMore

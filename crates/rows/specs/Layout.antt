@@ -45,6 +45,13 @@ pub record CellsFit (cells : Cells) : Type 0 where
   pub offset : (c : ℕ) → getD (cells .offset) c 0 < 2 ^ 32
   pub size : (c : ℕ) → getD (cells .size) c 0 < 2 ^ 32
 
+-- the words before and after the first m columns are stored, offset and size for each from a place on
+pub record CellsStored (five : Bool) (w v : List ℕ) (at : ℕ) (cells : Cells) (m : ℕ) : Type 0 where
+  pub same : length v ≡ length w
+  pub before : (j : ℕ) → j < at → getD v j 0 ≡ getD w j 0
+  pub offset : (k : ℕ) → k < m → getD v (at + 2 * k) 0 ≡ getD (cells .offset) (sectionAt five k) 0
+  pub size : (k : ℕ) → k < m → getD v (at + 2 * k + 1) 0 ≡ getD (cells .size) (sectionAt five k) 0
+
 -- the words of row n before and after it is stored
 pub record Stored (five : Bool) (w v : List ℕ) (n identity : ℕ) (cells : Cells) : Type 0 where
   pub same : length v ≡ length w
