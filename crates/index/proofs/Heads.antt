@@ -15,7 +15,7 @@ use Rattle.octets.proofs.Checks.{require-pass, and-left, and-right, pass-inj}
 use Rattle.octets.proofs.Numbers.{numberAt-drop}
 use Rattle.octets.proofs.Tables.{length-numbersIn, numbersIn-at}
 use Rattle.index.specs.Index.{Index, indexOf, layout, versionOf, columnsMost, codeGood, leastPower, slotsGood}
-use Rattle.index.specs.Held.{PowerOfTwo, Sized, ReadWell, headOf, indexIn, indexRead}
+use Rattle.index.specs.Held.{PowerOfTwo, Sized, ReadWell, headOf, stated, indexIn, indexRead}
 use Rattle.index.specs.declared.reading.IndexHead.{IndexHead}
 use Rattle.index.specs.declared.reading.IndexRead.{IndexRead}
 use Rattle.index.specs.declared.reading.IndexRead.the-variants.{Good, Bad}
@@ -60,10 +60,6 @@ module _ (big : Bool) (s : List ℕ) (h : IndexHead) where
   pub codes-length : length (indexIn big s h .codes) ≡ h .columns
   unfolding indexIn layout
   codes-length = length-numbersIn big 4 (h .columns) (drop (16 + 12 * h .slots) s)
-
--- what the section itself states
-unfoldable pub stated : Bool → List ℕ → IndexHead
-stated big s = record { version = versionOf big s; columns = numberAt big 4 s 4; units = numberAt big 4 s 8; slots = numberAt big 4 s 12 }
 
 pub record WellFormed (big : Bool) (s : List ℕ) (h : IndexHead) : Type 0 where
   pub head : h ≡ stated big s
@@ -150,3 +146,8 @@ module _ (big : Bool) (s : List ℕ) (h : IndexHead) {i : ℕ} where
 
   pub past-identities : h .slots ≤ i → length (indexIn big s h .identities) ≤ i
   past-identities g = rw (identities-length big s h) g
+
+pub stated-is : (big : Bool) (s : List ℕ) (v c u n : ℕ) → v ≡ versionOf big s → c ≡ numberAt big 4 s 4 → u ≡ numberAt big 4 s 8 → n ≡ numberAt big 4 s 12
+    → _≡_ {A = IndexHead} (record { version = v; columns = c; units = u; slots = n }) (stated big s)
+unfolding stated
+stated-is big s v c u n p q r t = rw (p, q, r, t)

@@ -24,3 +24,6 @@ pub mod Heads
 pub mod Looks
 pub mod Codes
 pub mod LawMore
+pub mod WellFormed
+pub mod Places
+pub mod Ends

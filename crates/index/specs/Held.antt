@@ -1,12 +1,14 @@
 -- What the code holds of an index that was read: its head, beside the section's bytes.
 -- Assumes nothing.
 use mathlib.Core.Path.{_≡_}
-use mathlib.Core.Bool.{Bool}
+use mathlib.Core.Bool.{Bool, not, _&&_}
 use mathlib.Core.List.{List}
 use Prim.Native.Nat.{ℕ, _+_, _*_, _^_}
+use lib.Dec.{eqb, leb, ltb}
 use lib.ListN.{length}
+use Rattle.octets.specs.Octets.{numberAt}
 use Rattle.octets.specs.Checked.{Check, pass, refuse}
-use Rattle.index.specs.Index.{Index, indexOf, layout}
+use Rattle.index.specs.Index.{Index, versionOf, columnsMost, leastPower, indexOf, layout}
 use Rattle.index.specs.Probing.{Probe, found, absent}
 use Rattle.index.specs.declared.reading.IndexHead.{IndexHead}
 use Rattle.index.specs.declared.reading.IndexRead.{IndexRead}
@@ -24,6 +26,16 @@ headOf i = record { version = i .version; columns = length (i .codes); units = i
 unfoldable pub indexRead : Check Index → IndexRead
 indexRead (pass i) = Good (headOf i)
 indexRead (refuse n) = Bad
+
+-- what the front of a section states
+unfoldable pub stated : Bool → List ℕ → IndexHead
+stated big s = record { version = versionOf big s; columns = numberAt big 4 s 4; units = numberAt big 4 s 8; slots = numberAt big 4 s 12 }
+
+-- the tests on the front of a section of n bytes
+unfoldable pub headGood : ℕ → IndexHead → Bool
+headGood n h =
+    not (eqb (h .version) 0) && leb (h .columns) (columnsMost (h .version)) && ltb (h .units) (h .slots) && eqb (leastPower (h .slots)) (h .slots)
+    && eqb n (16 + 12 * h .slots + 4 * h .columns + 8 * (h .units * h .columns))
 
 -- the index that a head and a section's bytes are
 unfoldable pub indexIn : Bool → List ℕ → IndexHead → Index

@@ -6,3 +6,4 @@ pub mod Probing
 pub mod Rows
 pub mod Written
 pub mod Held
+pub mod Cells

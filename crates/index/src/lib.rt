@@ -1,3 +1,4 @@
 // Indexes of both forms: read, searched, judged and written.
+pub mod cells;
 pub mod probing;
 pub mod reading;

@@ -1,6 +1,6 @@
 // An index read: well formed or not, and the numbers that it holds. Its arrays are not copied: callers keep the section's bytes beside the head.
 ghost use mathlib.Core.Path.{_≡_};
-ghost use Prim.Native.Nat.{_*_, _<_, _≤_};
+ghost use Prim.Native.Nat.{_+_, _*_, _^_, _<_, _≤_};
 ghost use lib.ListN.{length, drop, getD};
 ghost use Rattle.octets.specs.Lists.{all, has, distinct, zeroTogether};
 ghost use Rattle.index.specs.Index.{
@@ -11,7 +11,7 @@ ghost use Rattle.index.specs.Index.{
   slotsGood,
   indexOf,
 };
-ghost use Rattle.index.specs.Held.{Sized, indexIn, indexRead};
+ghost use Rattle.index.specs.Held.{Sized, stated, headGood, indexIn, indexRead};
 
 pub struct IndexHead {
     // 2 or 5
@@ -201,38 +201,66 @@ fn slots_good(big: bool, s: &[u8], head: IndexHead) -> bool
     true
 }
 
-// The sums stay below 64 bits, since each number has 32.
+// The numbers at the front. The caller has tested that they are there.
+fn stated_head(big: bool, s: &[u8]) -> IndexHead
+    requires { ⌜ 16 ≤ length (now s) ⌝ }
+    ensures { λ r. ⌜ r ≡ stated big (now (s .entry)) ⌝ }
+    ensures { λ r. ⌜ (r .units < 2 ^ 32) × (r .slots < 2 ^ 32) ⌝ }
+{
+    let version = version_of(big, s);
+    let columns = octets::wide(octets::u32_at(big, s, 4));
+    let units = octets::wide(octets::u32_at(big, s, 8));
+    let slots = octets::wide(octets::u32_at(big, s, 12));
+    IndexHead {
+        version,
+        columns,
+        units,
+        slots,
+    }
+}
+
+// Callers hold numbers of 32 bits and at most 8 columns, so the sum stays below 64 bits.
+pub fn section_length(columns: usize, units: usize, slots: usize) -> usize
+    requires { ⌜ (columns ≤ 8) × (units < 2 ^ 32) × (slots < 2 ^ 32) ⌝ }
+    ensures { λ r. ⌜ r ≡ 16 + 12 * slots + 4 * columns + 8 * (units * columns) ⌝ }
+{
+    16 + 12 * slots + 4 * columns + 8 * (units * columns)
+}
+
+// Whether the front is that of an index, and the section as long as it states.
+fn head_good(s: &[u8], head: IndexHead) -> bool
+    requires { ⌜ (head .units < 2 ^ 32) × (head .slots < 2 ^ 32) ⌝ }
+    ensures { λ r. ⌜ r ≡ headGood (length (now (s .entry))) head ⌝ }
+{
+    let version = head.version;
+    let columns = head.columns;
+    let units = head.units;
+    let slots = head.slots;
+    if version == 0 {
+        return false;
+    }
+    if columns > columns_most(version) {
+        return false;
+    }
+    if slots <= units {
+        return false;
+    }
+    if least_power(slots) != slots {
+        return false;
+    }
+    s.len() == section_length(columns, units, slots)
+}
+
 pub fn read_index(big: bool, s: &[u8]) -> IndexRead
     ensures { λ r. ⌜ r ≡ indexRead (indexOf big (now (s .entry))) ⌝ }
 {
     if s.len() < 16 {
         return IndexRead::Bad;
     }
-    let version = version_of(big, s);
-    let columns = octets::wide(octets::u32_at(big, s, 4));
-    let units = octets::wide(octets::u32_at(big, s, 8));
-    let slots = octets::wide(octets::u32_at(big, s, 12));
-    if version == 0 {
+    let head = stated_head(big, s);
+    if !head_good(s, head) {
         return IndexRead::Bad;
     }
-    if columns > columns_most(version) {
-        return IndexRead::Bad;
-    }
-    if slots <= units {
-        return IndexRead::Bad;
-    }
-    if least_power(slots) != slots {
-        return IndexRead::Bad;
-    }
-    if s.len() != 16 + 12 * slots + 4 * columns + 8 * (units * columns) {
-        return IndexRead::Bad;
-    }
-    let head = IndexHead {
-        version,
-        columns,
-        units,
-        slots,
-    };
     if !codes_good(big, s, head) {
         return IndexRead::Bad;
     }

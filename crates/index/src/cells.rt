@@ -1,0 +1,173 @@
+// The columns of both forms, and the cell of a row.
+ghost use mathlib.Core.Path.{_≡_};
+ghost use mathlib.Core.List.{map};
+ghost use Prim.Native.Nat.{_+_, _*_, _-_, _^_, _<_, _≤_};
+ghost use lib.ListN.{length, getD};
+ghost use Rattle.index.specs.Columns.{columnsOf, columnIn};
+ghost use Rattle.index.specs.Index.{placeOf, cellOf};
+ghost use Rattle.index.specs.Held.{Sized, indexIn};
+ghost use Rattle.index.specs.Cells.{columnPlace, noColumn, placeFound, cellFound};
+
+use crate::reading::IndexHead;
+
+// A section's code, and the code of its column.
+pub struct ColumnPlace {
+    pub section: usize,
+    pub column: usize,
+}
+
+const FOUR: [ColumnPlace; 8] = [
+    ColumnPlace {
+        section: 1,
+        column: 1,
+    },
+    ColumnPlace {
+        section: 2,
+        column: 2,
+    },
+    ColumnPlace {
+        section: 3,
+        column: 3,
+    },
+    ColumnPlace {
+        section: 4,
+        column: 4,
+    },
+    ColumnPlace {
+        section: 5,
+        column: 5,
+    },
+    ColumnPlace {
+        section: 6,
+        column: 6,
+    },
+    ColumnPlace {
+        section: 7,
+        column: 7,
+    },
+    ColumnPlace {
+        section: 8,
+        column: 8,
+    },
+];
+
+const FIVE: [ColumnPlace; 7] = [
+    ColumnPlace {
+        section: 1,
+        column: 1,
+    },
+    ColumnPlace {
+        section: 3,
+        column: 3,
+    },
+    ColumnPlace {
+        section: 4,
+        column: 4,
+    },
+    ColumnPlace {
+        section: 9,
+        column: 5,
+    },
+    ColumnPlace {
+        section: 10,
+        column: 8,
+    },
+    ColumnPlace {
+        section: 6,
+        column: 6,
+    },
+    ColumnPlace {
+        section: 8,
+        column: 7,
+    },
+];
+
+// The version is the index's own, 2 or 5, or that of DWARF, 4 or 5.
+pub fn columns_count(version: u32) -> usize
+    ensures { λ r. ⌜ r ≡ length (columnsOf version) ⌝ }
+{
+    if version == 5 {
+        return 7;
+    }
+    8
+}
+
+// Column k: the one place that reads the tables. Callers go by columns_count.
+pub fn column_at(version: u32, k: usize) -> ColumnPlace
+    requires { ⌜ k < length (columnsOf version) ⌝ }
+    ensures { λ r. ⌜ r ≡ getD (map columnPlace (columnsOf version)) k noColumn ⌝ }
+{
+    if version == 5 {
+        return FIVE[k];
+    }
+    FOUR[k]
+}
+
+pub enum Place {
+    At(usize),
+    Nowhere,
+}
+
+// The code of a section's column.
+pub fn column_of(version: u32, section: usize) -> Place
+    ensures { λ r. ⌜ r ≡ placeFound (columnIn (columnsOf version) section) ⌝ }
+{
+    let n = columns_count(version);
+    let mut k = 0;
+    while k < n {
+        let c = column_at(version, k);
+        if c.section == section {
+            return Place::At(c.column);
+        }
+        k += 1;
+    }
+    Place::Nowhere
+}
+
+// How many columns stand before the one of a code. Callers have judged the section's length.
+pub fn place_of(big: bool, s: &[u8], head: IndexHead, code: usize) -> Place
+    requires { ⌜ Sized (now s) head ⌝ }
+    ensures { λ r. ⌜ r ≡ placeFound (placeOf (indexIn big (now (s .entry)) head .codes) code) ⌝ }
+{
+    let columns = head.columns;
+    let mut k = 0;
+    while k < columns {
+        if crate::reading::code_at(big, s, head, k) == code {
+            return Place::At(k);
+        }
+        k += 1;
+    }
+    Place::Nowhere
+}
+
+// A contribution's offset and size.
+pub enum Cell {
+    Is(usize, usize),
+    Missing,
+}
+
+// Which offset and which size are those of a row's column k, row by row. The table lies in a slice, so its count fits.
+fn cell_number(row: usize, units: usize, columns: usize, k: usize) -> usize
+    requires { ⌜ (0 < row) × (row ≤ units) × (k < columns) × (units * columns < 2 ^ 64) ⌝ }
+    ensures { λ r. ⌜ (r ≡ (row - 1) * columns + k) × (r < units * columns) ⌝ }
+{
+    (row - 1) * columns + k
+}
+
+// Of a row counted from 1, which callers have from a slot of a well formed index.
+pub fn cell_of(big: bool, s: &[u8], head: IndexHead, row: usize, section: usize) -> Cell
+    requires { ⌜ (Sized (now s) head) × (0 < row) × (row ≤ head .units) ⌝ }
+    ensures { λ r. ⌜ r ≡ cellFound (cellOf (indexIn big (now (s .entry)) head) row section) ⌝ }
+{
+    let Place::At(code) = column_of(head.version, section) else {
+        return Cell::Missing;
+    };
+    let Place::At(k) = place_of(big, s, head, code) else {
+        return Cell::Missing;
+    };
+    let n = cell_number(row, head.units, head.columns, k);
+    Cell::Is(
+        crate::reading::offset_at(big, s, head, n),
+        crate::reading::size_at(big, s, head, n),
+    )
+}
