@@ -7,7 +7,6 @@ ghost use Rattle.index.specs.Columns.{columnsOf, columnIn};
 ghost use Rattle.index.specs.Index.{placeOf, cellOf};
 ghost use Rattle.index.specs.Held.{Sized, indexIn};
 ghost use Rattle.index.specs.Cells.{columnPlace, noColumn, placeFound, cellFound};
-
 use crate::reading::IndexHead;
 
 // A section's code, and the code of its column.

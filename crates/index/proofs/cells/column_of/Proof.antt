@@ -32,7 +32,7 @@ column-at-requires c κs = rw (c .before .before .columns-count .ensures) at (c 
 
 -- src/cells.rt:120:13
 returns : tie.Need-returns Inv-loop μ-loop
-returns c = 
+returns c =
     let cs = columnsOf (c .before .before .before .before .before .before .args .version) in
     let k = c .before .before .before .before .loop .k in
     column-found cs k _ _ _ (rw (c .before .before .before .before .before .columns-count .ensures) at (c .before .before .before .loop-test .taken)) (column-section cs k _ (c .before .before .column-at .ensures)) (column-code cs k _ (c .before .before .column-at .ensures)) (c .if1 .taken) ∙ ap placeFound (c .before .before .before .before .loop .inv .1)
@@ -47,7 +47,7 @@ loop-less c = omega arith
 
 -- src/cells.rt:117:5
 loop-again : tie.Need-loop-again Inv-loop μ-loop
-loop-again c = 
+loop-again c =
     let cs = columnsOf (c .before .before .before .before .before .before .args .version) in
     let k = c .before .before .before .before .loop .k in
     (omega arith, column-on cs k _ (rw (c .before .before .before .before .before .columns-count .ensures) at (c .before .before .before .loop-test .taken)) (λ z. c .if1 .left (column-section cs k _ (c .before .before .column-at .ensures) ∙ z)) ∙ c .before .before .before .before .loop .inv .1)

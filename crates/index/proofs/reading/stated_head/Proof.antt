@@ -41,7 +41,7 @@ wide-requires-3 c κs = search needs
 
 -- src/reading.rt:201:1
 returns : tie.Need-returns
-returns c = 
+returns c =
     let u = c .before .before .wide2 .ensures ∙ c .before .before .before .u32-at2 .ensures in
     let n = c .wide3 .ensures ∙ c .before .u32-at3 .ensures in (
       stated-is _ _ _ _ _ _ (c .before .before .before .before .before .before .version-of .ensures) (c .before .before .before .before .wide .ensures ∙ c .before .before .before .before .before .u32-at .ensures) u n,

@@ -31,8 +31,8 @@ identity-requires c κs = omega arith
 -- src/slots.rt:72:12
 insert-requires : tie.Need-insert-requires Inv-loop μ-loop
 insert-requires c κs =
-      let l = c .before .before .before in
-      (placing-power (l .loop .inv) (l .before .before .before .pre .0), omega arith)
+    let l = c .before .before .before in
+    (placing-power (l .loop .inv) (l .before .before .before .pre .0), omega arith)
 
 -- src/slots.rt:73:13
 add-i : tie.Need-add-i Inv-loop μ-loop
@@ -45,22 +45,22 @@ loop-less c = omega arith
 -- src/slots.rt:71:5
 loop-again : tie.Need-loop-again Inv-loop μ-loop
 loop-again c =
-      let k = c .before .before .before in
-      let i = k .before .before .before in
-      placing-more (i .before .loop .inv) (i .loop-test .taken) (k .before .identity .ensures) (k .insert .ensures .0) (c .if1 .taken) (k .insert .ensures .1)
+    let k = c .before .before .before in
+    let i = k .before .before .before in
+    placing-more (i .before .loop .inv) (i .loop-test .taken) (k .before .identity .ensures) (k .insert .ensures .0) (c .if1 .taken) (k .insert .ensures .1)
 
 -- src/slots.rt:75:13
 same-length : tie.Need-same-length Inv-loop μ-loop
 same-length c =
-      let k = c .before .before .before in
-      k .insert .kept .0 ∙ k .before .before .before .before .loop .inv .same
+    let k = c .before .before .before in
+    k .insert .kept .0 ∙ k .before .before .before .before .loop .inv .same
 
 -- src/slots.rt:75:13
 returns : tie.Need-returns Inv-loop μ-loop
 returns c =
-      let k = c .before .before .before in
-      let i = k .before .before .before in
-      placing-stops (i .before .loop .inv) (i .loop-test .taken) (k .before .identity .ensures) (k .insert .ensures .0) (c .if1 .left) _
+    let k = c .before .before .before in
+    let i = k .before .before .before in
+    placing-stops (i .before .loop .inv) (i .loop-test .taken) (k .before .identity .ensures) (k .insert .ensures .0) (c .if1 .left) _
 
 -- src/slots.rt:65:1
 same-length-2 : tie.Need-same-length-2 Inv-loop μ-loop
