@@ -1,1 +1,11 @@
+-- The worked examples, and the proof of demand 3.
+-- Assumes nothing.
 pub mod Examples
+pub mod Read
+pub mod Places
+pub mod Units
+pub mod Judged
+pub mod StringPlaces
+pub mod Absences
+pub mod Firsts
+pub mod Demand3

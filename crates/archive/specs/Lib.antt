@@ -1,2 +1,3 @@
--- Demand 3, over all definitions.
+-- Demand 3 of document 01: one claim, from bundle to answer.
 -- Assumes nothing.
+pub mod Theorem

@@ -1,22 +1,22 @@
 -- What is written is read again, item by item.
 -- Assumes nothing.
 use mathlib.Core.Path.{_≡_, refl, ap, sym, _∙_}
-use mathlib.Core.Bool.{Bool, true, false}
-use mathlib.Core.List.{List, [], _∷_, _++_, map, append-nil, append-assoc}
+use mathlib.Core.Bool.{false}
+use mathlib.Core.List.{List, [], _++_, append-nil, append-assoc}
 use Prim.Native.Nat.{ℕ, _+_, _*_, _-_, _/_, _%_, _≤_, _<_}
 use native.Mathlib.Omega.{arith}
 use lib.Dec.{eqb}
-use lib.ListN.{length, drop, length-append}
+use lib.ListN.{length, length-append}
 use lib.Seq.{drop-at}
 use Rattle.octets.specs.Octets.{part, numberAt, zeros}
-use Rattle.octets.specs.Lists.{all, joined}
-use Rattle.octets.specs.Checked.{Check, pass, refuse}
+use Rattle.octets.specs.Lists.{all}
+use Rattle.octets.specs.Checked.{pass}
 use Rattle.octets.proofs.Numbers.{numberAt-first}
 use Rattle.octets.proofs.Parts.{part-middle}
 use Rattle.octets.proofs.Placed.{length-zeros}
 use Rattle.octets.proofs.Elements.{zeros-all}
-use Rattle.bundle.specs.Bundle.{Part, Item, object, section, more, end, filledUp, stepAt, items}
-use Rattle.bundle.specs.Written.{Section, Sections, wordBytes, sectionBytes, objectBytes}
+use Rattle.bundle.specs.Bundle.{Part, object, section, more, end, filledUp, stepAt, items}
+use Rattle.bundle.specs.Written.{Section, wordBytes, sectionBytes}
 use Rattle.bundle.proofs.Steps.{before, items-end, items-more}
 use Rattle.bundle.proofs.Cases.{object-good, step-word, kind-object, kind-section, kind-end, section-good, end-good}
 use Rattle.bundle.proofs.Next.{filledUp-le}

@@ -1,7 +1,7 @@
 -- The answers of the functions that read one item, towards the code: b is the bundle, and at a place of it.
 -- Assumes nothing.
-use mathlib.Core.Path.{_≡_, refl, ap, sym, _∙_}
-use mathlib.Core.Bool.{Bool, true, false, _&&_}
+use mathlib.Core.Path.{_≡_, ap, sym, _∙_}
+use mathlib.Core.Bool.{true, false}
 use mathlib.Core.List.{List}
 use Prim.Native.Nat.{ℕ, _+_, _*_, _-_, _/_, _%_, _≤_, _<_}
 use native.Mathlib.Omega.{arith}
@@ -13,7 +13,6 @@ use Rattle.octets.proofs.Parts.{part-drop}
 use Rattle.octets.proofs.Numbers.{numberAt-drop}
 use Rattle.bundle.specs.Bundle.{Step, broken, filledUp, objectStep, sectionStep, endStep, stepOf, stepAt}
 use Rattle.bundle.specs.Next.{nextOf}
-use Rattle.bundle.specs.declared.Item.{Item}
 use Rattle.bundle.specs.declared.Item.the-variants.{Object, Section, End, Broken}
 use Rattle.bundle.proofs.Cases.{object-good, object-bad, step-short, step-word, kind-object, kind-section, kind-end, kind-other, section-good, section-low, section-high, section-long, section-unfilled, end-good, end-early, end-count}
 
@@ -84,12 +83,16 @@ module _ (b : List ℕ) (at : ℕ) where
     pub an-object : word / 0x1000_0000 ≡ 1 → nextOf at (objectStep (word % 0x1000_0000)) ≡ nextOf at (stepAt at (drop at b))
     an-object k = sym (ap (nextOf at) (of-kind ∙ kind-object at (drop at b) (word / 0x1000_0000) (word % 0x1000_0000) k))
 
-    pub a-section : word / 0x1000_0000 ≡ 2
-        → nextOf at (sectionStep at (drop at b) (word % 0x1000_0000 / 0x80_0000) (word % 0x1000_0000 % 0x80_0000)) ≡ nextOf at (stepAt at (drop at b))
-    a-section k = sym (ap (nextOf at) (of-kind ∙ kind-section at (drop at b) (word / 0x1000_0000) (word % 0x1000_0000) k))
+    pub a-section : (size : ℕ) → size ≡ word % 0x1000_0000 % 0x80_0000 → word / 0x1000_0000 ≡ 2
+        → nextOf at (sectionStep at (drop at b) (word % 0x1000_0000 / 0x80_0000) size) ≡ nextOf at (stepAt at (drop at b))
+    a-section size z k =
+        ap (λ (n : ℕ). nextOf at (sectionStep at (drop at b) (word % 0x1000_0000 / 0x80_0000) n)) z
+        ∙ sym (ap (nextOf at) (of-kind ∙ kind-section at (drop at b) (word / 0x1000_0000) (word % 0x1000_0000) k))
 
-    pub an-end : word / 0x1000_0000 ≡ 3 → nextOf at (endStep at (drop at b) (word % 0x1000_0000)) ≡ nextOf at (stepAt at (drop at b))
-    an-end k = sym (ap (nextOf at) (of-kind ∙ kind-end at (drop at b) (word / 0x1000_0000) (word % 0x1000_0000) k))
+    pub an-end : (rest : ℕ) → rest ≡ word % 0x1000_0000 → word / 0x1000_0000 ≡ 3 → nextOf at (endStep at (drop at b) rest) ≡ nextOf at (stepAt at (drop at b))
+    an-end rest z k =
+        ap (λ (n : ℕ). nextOf at (endStep at (drop at b) n)) z
+        ∙ sym (ap (nextOf at) (of-kind ∙ kind-end at (drop at b) (word / 0x1000_0000) (word % 0x1000_0000) k))
 
     pub another : (word / 0x1000_0000 ≡ 1 → ⊥) → (word / 0x1000_0000 ≡ 2 → ⊥) → (word / 0x1000_0000 ≡ 3 → ⊥) → Broken ≡ nextOf at (stepAt at (drop at b))
     another f g l = breaks _ (of-kind ∙ kind-other at (drop at b) (word / 0x1000_0000) (word % 0x1000_0000) f g l)

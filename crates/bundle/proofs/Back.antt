@@ -3,18 +3,22 @@
 use mathlib.Core.Path.{_≡_, refl, ap, sym, _∙_}
 use mathlib.Core.Bool.{Bool, true, false}
 use mathlib.Core.List.{List, [], _∷_, _++_, map, append-assoc}
-use Prim.Native.Nat.{ℕ, _+_, _*_, _-_, _<_}
+use Prim.Native.Nat.{ℕ, suc, _+_, _*_, _-_, _<_}
 use native.Mathlib.Omega.{arith}
+use native.Mathlib.Decide.{ℕ-discrete}
+use lib.Dec.{eqb}
 use lib.ListN.{length, length-append}
+use borrow.Author.Tests.{eq-eqb, ne-eqb}
 use Rattle.octets.specs.Octets.{part, zeros}
-use Rattle.octets.specs.Lists.{joined}
+use Rattle.octets.specs.Lists.{joined, those}
 use Rattle.octets.specs.Checked.{pass}
+use Rattle.octets.proofs.Lists.{those-keeps, those-skips}
 use Rattle.octets.proofs.Parts.{part-middle}
-use Rattle.bundle.specs.Bundle.{Part, Object, Bundle, filledUp, bundleOf}
+use Rattle.bundle.specs.Bundle.{Part, Object, Bundle, filledUp, bundleOf, partsOf, count, firstPart, body}
 use Rattle.bundle.specs.Written.{Section, Sections, wordBytes, headBytes, sectionBytes, objectBytes, endBytes, written}
 use Rattle.bundle.proofs.Every.{Every}
 use Rattle.bundle.proofs.Putting.{length-word, length-head, length-section}
-use Rattle.bundle.proofs.RoundTrip.{Storables, partsFrom, objectsFrom, length-object, written-bundle}
+use Rattle.bundle.proofs.RoundTrip.{Storables, partsFrom, objectsFrom, written-bundle}
 
 -- what parts of the bundle b hold
 unfoldable pub sectionIn : List ℕ → Part → Section
@@ -75,3 +79,32 @@ module _ (big : Bool) (os : List Sections) where
   pub round-trip : Every Storables os → length (written big os) < 0x4000_0000
       → (u : Bundle) × (bundleOf (written big os) ≡ pass u) × (u .big ≡ big) × (map (objectIn (written big os)) (u .objects) ≡ os)
   round-trip good small = (record { big = big; objects = objectsFrom 4 os }, written-bundle big os good small, refl, written-back)
+
+-- ---- an object read, by the sections that it holds
+-- the bytes of the first section of a code
+unfoldable pub bytesAt : List Section → ℕ → List ℕ
+bytesAt [] c = []
+bytesAt (x ∷ xs) c = elim (eqb (x .code) c) [ true ↦ x .bytes | false ↦ bytesAt xs c ]
+
+those-map : (f : Section → Bool) (g : Part → Section) (ps : List Part) → length (those (λ p. f (g p)) ps) ≡ length (those f (map g ps))
+unfolding those
+those-map f g [] = refl
+those-map f g (p ∷ ps) = go (f (g p)) refl (those-map f g ps)
+  where
+    go : (t : Bool) → f (g p) ≡ t → length (those (λ q. f (g q)) ps) ≡ length (those f (map g ps)) → length (those (λ q. f (g q)) (p ∷ ps)) ≡ length (those f (g p ∷ map g ps))
+    go true e h = ap length (those-keeps (λ q. f (g q)) p ps e) ∙ ap suc h ∙ sym (ap length (those-keeps f (g p) (map g ps) e))
+    go false e h = ap length (those-skips (λ q. f (g q)) p ps e) ∙ h ∙ sym (ap length (those-skips f (g p) (map g ps) e))
+
+module _ (b : List ℕ) (c : ℕ) where
+  pub body-in : (ps : List Part) → body b ps c ≡ bytesAt (map (sectionIn b) ps) c
+  unfolding body firstPart bytesAt sectionIn
+  body-in [] = refl
+  body-in (p ∷ ps) =
+      elim (ℕ-discrete (p .code) c) [
+        | yes e ↦ rw (body, firstPart, bytesAt, eq-eqb (p .code) c e)
+        | no f ↦ rw (body, firstPart, bytesAt, ne-eqb (p .code) c f) (body-in ps)
+      ]
+
+  pub count-in : (ps : List Part) → count ps c ≡ length (those (λ x. eqb (x .code) c) (map (sectionIn b) ps))
+  unfolding count partsOf sectionIn
+  count-in ps = those-map (λ x. eqb (x .code) c) (sectionIn b) ps

@@ -1,16 +1,16 @@
 -- The cases of a step, one law for each.
 -- Assumes nothing.
-use mathlib.Core.Path.{_≡_, refl, ap, sym, _∙_}
-use mathlib.Core.Bool.{Bool, true, false, _&&_}
-use mathlib.Core.List.{List, [], _∷_}
+use mathlib.Core.Path.{_≡_}
+use mathlib.Core.Bool.{true, false}
+use mathlib.Core.List.{List}
 use Prim.Native.Nat.{ℕ, _+_, _*_, _-_, _/_, _%_, _≤_, _<_}
 use native.Mathlib.Omega.{arith}
-use lib.Dec.{eqb, leb, ltb}
-use lib.ListN.{length, drop}
+use lib.Dec.{eqb}
+use lib.ListN.{length}
 use borrow.Author.Tests.{lt-ltb, le-ltb, le-leb, lt-leb, eq-eqb, ne-eqb}
 use Rattle.octets.specs.Octets.{part, numberAt}
 use Rattle.octets.specs.Lists.{all}
-use Rattle.bundle.specs.Bundle.{Part, Item, object, section, Step, more, end, broken, filledUp, objectStep, sectionStep, endStep, stepOf, stepAt}
+use Rattle.bundle.specs.Bundle.{object, section, more, end, broken, filledUp, objectStep, sectionStep, endStep, stepOf, stepAt}
 
 pub object-good : (rest : ℕ) → rest < 0x100_0000 → objectStep rest ≡ more (object (0x1000_0000 + rest)) 0
 unfolding objectStep

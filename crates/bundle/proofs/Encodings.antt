@@ -5,7 +5,6 @@ use mathlib.Core.Bool.{Bool, true, false, _||_, _&&_}
 use lib.Dec.{eqb}
 use Rattle.bundle.specs.Encoding.{Encoding, encodingGood}
 use Rattle.bundle.specs.Encoded.{wordRead}
-use Rattle.bundle.specs.declared.encoding.WordRead.{WordRead}
 use Rattle.bundle.specs.declared.encoding.WordRead.the-variants.{Good, Bad}
 
 -- a test that fails among three

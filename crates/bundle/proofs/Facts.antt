@@ -1,8 +1,8 @@
 -- What a step says of the word that it reads and of what lies behind.
 -- Assumes nothing.
-use mathlib.Core.Path.{_≡_, refl, ap, sym, _∙_}
+use mathlib.Core.Path.{_≡_, refl}
 use mathlib.Core.Bool.{Bool, true, false}
-use mathlib.Core.List.{List, [], _∷_}
+use mathlib.Core.List.{List}
 use Prim.Native.Nat.{ℕ, _+_, _*_, _-_, _/_, _%_, _≤_, _<_}
 use native.Mathlib.Omega.{arith}
 use native.Mathlib.Decide.{decLe, ℕ-discrete}
@@ -10,7 +10,7 @@ use lib.Dec.{eqb}
 use lib.ListN.{length}
 use Rattle.octets.specs.Octets.{part, numberAt}
 use Rattle.octets.specs.Lists.{all}
-use Rattle.bundle.specs.Bundle.{Part, Item, object, section, Step, more, end, broken, filledUp, objectStep, sectionStep, endStep, stepOf, stepAt}
+use Rattle.bundle.specs.Bundle.{Part, object, section, Step, more, end, broken, filledUp, objectStep, sectionStep, endStep, stepOf, stepAt}
 use Rattle.bundle.proofs.Cases.{object-good, object-bad, step-short, step-word, kind-object, kind-section, kind-end, kind-other, section-good, section-low, section-high, section-long, section-unfilled, end-good, end-early, end-count}
 
 pub record ObjectFacts (s : List ℕ) (w n : ℕ) : Type 0 where

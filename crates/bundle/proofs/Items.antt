@@ -1,11 +1,11 @@
 -- Items taken apart: the sections before the next object, what stands behind them, the objects.
 -- Assumes nothing.
-use mathlib.Core.Path.{_≡_, refl, ap, sym, _∙_}
-use mathlib.Core.Bool.{Bool, true, false}
+use mathlib.Core.Path.{_≡_, refl, ap}
+use mathlib.Core.Bool.{true}
 use mathlib.Core.List.{List, [], _∷_, _++_, map}
 use Prim.Native.Nat.{ℕ, _+_}
 use native.Mathlib.Omega.{arith}
-use Rattle.bundle.specs.Bundle.{Part, Item, object, section, Object, leading, objectsOf, objectFirst}
+use Rattle.bundle.specs.Bundle.{Part, Item, object, section, leading, objectsOf, objectFirst}
 
 -- what stands behind the leading sections
 unfoldable pub behind : List Item → List Item

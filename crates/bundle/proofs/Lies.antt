@@ -1,20 +1,19 @@
 -- Where the sections of a bundle that can be read lie.
 -- Assumes nothing.
-use mathlib.Core.Path.{_≡_, refl, ap, sym, _∙_}
-use mathlib.Core.Bool.{Bool, true, false}
-use mathlib.Core.List.{List, [], _∷_, _++_}
-use mathlib.Core.Option.{Option, some, none}
-use Prim.Native.Nat.{ℕ, _+_, _*_, _/_, _%_, _≤_, _<_}
+use mathlib.Core.Path.{_≡_, refl, sym, _∙_}
+use mathlib.Core.List.{List, [], _∷_}
+use mathlib.Core.Option.{some}
+use Prim.Native.Nat.{ℕ, _+_, _/_, _%_, _≤_, _<_}
 use native.Mathlib.Omega.{arith}
 use native.Mathlib.Decide.{ℕ-discrete}
 use lib.ListN.{length}
 use Rattle.octets.specs.Checked.{pass}
 use Rattle.bundle.specs.Bundle.{Part, Item, object, section, Step, more, end, broken, Object, Bundle, filledUp, leading, objectsOf, firstPart, bundleOf}
 use Rattle.bundle.proofs.Every.{Every, nothing, also}
-use Rattle.bundle.proofs.Passed.{here, stepHere, here-end, here-broken, left-broken, left-more, left-cons, pass-only}
-use Rattle.bundle.proofs.Next.{ObjectHere, SectionHere, object-step, section-step, end-last}
+use Rattle.bundle.proofs.Passed.{here, stepHere, left-broken, left-more, left-cons}
+use Rattle.bundle.proofs.Next.{object-step, section-step, end-last}
 use Rattle.bundle.proofs.Sections.{first-same, first-other}
-use Rattle.bundle.proofs.Whole.{Readable, readable}
+use Rattle.bundle.proofs.Whole.{readable}
 
 -- a section lies in the bundle, at a place that is a multiple of 4, behind the head and an object word
 pub record Lies (b : List ℕ) (p : Part) : Type 0 where

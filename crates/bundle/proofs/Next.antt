@@ -1,15 +1,14 @@
 -- What an answer of `next_item` says.
 -- Assumes nothing.
 use mathlib.Core.Path.{_≡_, refl, ap, sym, _∙_}
-use mathlib.Core.List.{List, [], _∷_}
-use Prim.Native.Nat.{ℕ, _+_, _*_, _/_, _%_, _≤_, _<_}
+use mathlib.Core.List.{List}
+use Prim.Native.Nat.{ℕ, _+_, _/_, _%_, _≤_, _<_}
 use native.Mathlib.Omega.{arith}
 use lib.ListN.{length, drop, length-drop}
 use Rattle.bundle.specs.Bundle.{Part, object, section, Step, more, end, broken, filledUp, stepAt}
 use Rattle.bundle.specs.Next.{nextOf}
-use Rattle.bundle.specs.declared.Item.{Item}
 use Rattle.bundle.specs.declared.Item.the-variants.{Object, Section, End, Broken}
-use Rattle.bundle.proofs.Facts.{Facts, ObjectFacts, SectionFacts, EndFacts, facts}
+use Rattle.bundle.proofs.Facts.{Facts, SectionFacts, facts}
 use Rattle.bundle.proofs.Passed.{stepHere}
 
 pub record ObjectHere (b : List ℕ) (at word next : ℕ) : Type 0 where

@@ -1,20 +1,22 @@
 -- Passes over a bundle that can be read: over one object's sections, and over the objects. Each law takes an answer of `next_item`.
 -- Assumes nothing.
 use mathlib.Core.Path.{_≡_, refl, ap, sym, _∙_}
-use mathlib.Core.Bool.{Bool, true, false}
+use mathlib.Core.Bool.{true, false}
 use mathlib.Core.List.{List, [], _∷_, _++_, append-nil, append-assoc}
-use Prim.Native.Nat.{ℕ, _+_}
+use Prim.Native.Nat.{ℕ, _+_, _/_, _%_, _≤_}
 use native.Mathlib.Omega.{arith}
-use lib.ListN.{drop}
-use Rattle.octets.specs.Checked.{Check, pass, refuse}
-use Rattle.bundle.specs.Bundle.{Part, Item, object, section, Object, Bundle, more, end, broken, stepAt, filledUp, leading, objectsOf, objectFirst, bundleOf}
+use lib.ListN.{length, drop}
+use Rattle.octets.specs.Checked.{pass}
+use Rattle.bundle.specs.Bundle.{Part, Item, object, section, Object, Bundle, more, end, stepAt, filledUp, leading, objectsOf, objectFirst, bundleOf}
 use Rattle.bundle.specs.Next.{nextOf}
-use Rattle.bundle.specs.Scan.{placeBehind, sectionsOf}
+use Rattle.bundle.specs.Scan.{placeBehind}
 use Rattle.bundle.specs.declared.Item.the-variants.{Object as AnObject, Section as ASection, End, Broken}
 use Rattle.bundle.proofs.Passed.{here, stepHere, left-broken, left-end, left-more, left-cons}
-use Rattle.bundle.proofs.Next.{ObjectHere, SectionHere, object-here, section-here, section-step, end-here, broken-here}
+use Rattle.bundle.proofs.Next.{object-here, section-here, section-step, end-here, broken-here, filledUp-whole}
+use Rattle.bundle.proofs.Every.{Every, nothing, also}
+use Rattle.bundle.proofs.Lies.{Lies, leading-lie, span, here-span}
 use Rattle.bundle.proofs.Items.{behind, behind-objects, behind-first}
-use Rattle.bundle.proofs.Whole.{Readable, readable}
+use Rattle.bundle.proofs.Whole.{readable}
 
 -- the items at the place where the leading sections end
 pub here-behind : (b : List ℕ) (at : ℕ) (is : List Item) → here b at ≡ pass is → here b (placeBehind at (leading is)) ≡ pass (behind is)
@@ -78,15 +80,44 @@ pub record Objects (b : List ℕ) (at : ℕ) (done all : List Object) : Type 0 w
   pub left : here b at ≡ pass rest
   pub first : objectFirst rest ≡ true
   pub is : done ++ objectsOf rest ≡ all
+  pub whole : at % 4 ≡ 0
+  pub far : 4 ≤ at
+
+-- the place behind sections that lie in the bundle
+behind-whole : (b : List ℕ) (at : ℕ) (ps : List Part) → Every (Lies b) ps → at % 4 ≡ 0 → placeBehind at ps % 4 ≡ 0
+unfolding placeBehind
+behind-whole b at [] l h = h
+behind-whole b at (p ∷ ps) (also q l) h = behind-whole b (p .start + filledUp (p .size)) ps l (omega (arith, q .whole, filledUp-whole (p .size)))
+
+behind-far : (b : List ℕ) (at : ℕ) (ps : List Part) → Every (Lies b) ps → 4 ≤ at → 4 ≤ placeBehind at ps
+unfolding placeBehind
+behind-far b at [] l h = h
+behind-far b at (p ∷ ps) (also q l) h = behind-far b (p .start + filledUp (p .size)) ps l (omega (arith, q .behind))
+
+behind-span : (is : List Item) → span (behind is) ≤ span is
+unfolding span behind
+behind-span [] = omega arith
+behind-span (object w ∷ is) = omega arith
+behind-span (section p ∷ is) = omega (arith, behind-span is)
+
+span-least : (is : List Item) → 4 ≤ span is
+unfolding span
+span-least [] = omega arith
+span-least (object w ∷ is) = omega (arith, span-least is)
+span-least (section p ∷ is) = omega (arith, span-least is)
 
 -- behind the word of the next object: its sections, and the pass goes on behind them
 pub record Entered (b : List ℕ) (next word : ℕ) (done all : List Object) : Type 0 where
   pub ahead : List Item
   pub left : here b next ≡ pass ahead
+  pub kind : word / 0x100_0000 ≡ 16
+  pub lie : Every (Lies b) (leading ahead)
+  pub further : next ≤ placeBehind next (leading ahead)
+  pub within : placeBehind next (leading ahead) + 4 ≤ length b
   pub more : Objects b (placeBehind next (leading ahead)) (done ++ (record { word = word; parts = leading ahead } ∷ [])) all
 
 pub objects-none : (b : List ℕ) (u : Bundle) → bundleOf b ≡ pass u → Objects b 4 [] (u .objects)
-objects-none b u e = let r = readable b u e in record { rest = r .all; left = r .left; first = r .first; is = r .objects }
+objects-none b u e = let r = readable b u e in record { rest = r .all; left = r .left; first = r .first; is = r .objects; whole = refl; far = omega arith }
 
 module _ (b : List ℕ) (at : ℕ) (done all : List Object) (o : Objects b at done all) where
   pub objects-object : (word next : ℕ) → AnObject word next ≡ nextOf at (stepAt at (drop at b)) → Entered b next word done all
@@ -94,15 +125,23 @@ module _ (b : List ℕ) (at : ℕ) (done all : List Object) (o : Objects b at do
   objects-object word next e =
       let h = object-here b at word next e in
       let place : at + 4 + 0 ≡ next = omega (arith, h .place) in
-      go place (left-more b at (o .rest) (o .left) (object word) 0 (h .step))
+      go place (h .kind) (left-more b at (o .rest) (o .left) (object word) 0 (h .step))
     where
-      go : at + 4 + 0 ≡ next → (rest : List Item) × (o .rest ≡ object word ∷ rest) × (here b (at + 4 + 0) ≡ pass rest) → Entered b next word done all
-      go place (rest, e, h) =
+      go : at + 4 + 0 ≡ next → word / 0x100_0000 ≡ 16 → (rest : List Item) × (o .rest ≡ object word ∷ rest) × (here b (at + 4 + 0) ≡ pass rest) → Entered b next word done all
+      go place k (rest, e, h) =
           let left : here b next ≡ pass rest = ap (here b) (sym place) ∙ h in
+          let w : next % 4 ≡ 0 = omega (arith, o .whole) in
+          let lie : Every (Lies b) (leading rest) = leading-lie b next rest left w (omega arith) in
           record {
             ahead = rest;
             left = left;
+            kind = k;
+            lie = lie;
+            further = omega (arith, here-span b next rest left, here-span b (placeBehind next (leading rest)) (behind rest) (here-behind b next rest left), behind-span rest);
+            within = omega (arith, here-span b (placeBehind next (leading rest)) (behind rest) (here-behind b next rest left), span-least (behind rest));
             more = record {
+              whole = behind-whole b next (leading rest) lie w;
+              far = behind-far b next (leading rest) lie (omega arith);
               rest = behind rest;
               left = here-behind b next rest left;
               first = behind-first rest;

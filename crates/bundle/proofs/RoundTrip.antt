@@ -3,16 +3,15 @@
 use mathlib.Core.Path.{_≡_, refl, ap, sym, _∙_}
 use mathlib.Core.Bool.{Bool, true, false}
 use mathlib.Core.List.{List, [], _∷_, _++_, map, append-nil, append-assoc}
-use Prim.Native.Nat.{ℕ, _+_, _*_, _-_, _/_, _%_, _≤_, _<_}
+use Prim.Native.Nat.{ℕ, _+_, _*_, _/_, _%_, _≤_, _<_}
 use native.Mathlib.Omega.{arith}
 use lib.ListN.{length, drop, length-append}
 use lib.Seq.{drop-at}
-use Rattle.octets.specs.Octets.{part, numberAt, zeros}
-use Rattle.octets.specs.Lists.{joined, sum}
-use Rattle.octets.specs.Checked.{Check, pass, refuse}
+use Rattle.octets.specs.Octets.{numberAt}
+use Rattle.octets.specs.Lists.{joined}
+use Rattle.octets.specs.Checked.{pass}
 use Rattle.octets.proofs.Numbers.{numberAt-first}
-use Rattle.octets.proofs.Parts.{part-middle}
-use Rattle.bundle.specs.Bundle.{Part, Item, object, section, Object, Bundle, filledUp, items, leading, objectsOf, objectFirst, bundleOf}
+use Rattle.bundle.specs.Bundle.{Part, Item, object, section, Object, filledUp, items, leading, objectsOf, objectFirst, bundleOf}
 use Rattle.bundle.specs.Written.{Section, Sections, wordBytes, headBytes, sectionBytes, objectBytes, endBytes, written}
 use Rattle.bundle.proofs.Every.{Every, nothing, also}
 use Rattle.bundle.proofs.Steps.{before}

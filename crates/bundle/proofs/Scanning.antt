@@ -1,18 +1,17 @@
 -- A loop that scans one object's sections: what it keeps.
 -- Assumes nothing.
-use mathlib.Core.Path.{_≡_, refl, ap, sym, _∙_}
+use mathlib.Core.Path.{_≡_, ap, _∙_}
 use mathlib.Core.List.{List, [], _∷_, _++_}
 use Prim.Native.Nat.{ℕ, _+_, _*_, _≤_, _<_}
 use native.Mathlib.Omega.{arith}
 use lib.ListN.{length, drop, getD, length-append}
-use Rattle.octets.specs.Checked.{Check, pass, refuse}
-use Rattle.bundle.specs.Bundle.{Part, Item, filledUp, stepAt, items, leading, count}
+use Rattle.bundle.specs.Bundle.{Part, stepAt, items, count}
 use Rattle.bundle.specs.Next.{nextOf}
-use Rattle.bundle.specs.Scan.{Reaches, Notable, sectionsOf, placeBehind, byCode, scanOf, noted}
+use Rattle.bundle.specs.Scan.{Reaches, Notable, sectionsOf, placeBehind, scanOf, noted}
 use Rattle.bundle.specs.declared.Scan.{Scan}
 use Rattle.bundle.specs.declared.Item.the-variants.{Object, Section, End, Broken}
 use Rattle.bundle.proofs.Passed.{here}
-use Rattle.bundle.proofs.Next.{SectionHere, section-here}
+use Rattle.bundle.proofs.Next.{section-here}
 use Rattle.bundle.proofs.Objects.{Walked, walked-none, walked-section, walked-object, walked-end, walked-broken}
 use Rattle.bundle.proofs.Sections.{count-le}
 use Rattle.bundle.proofs.Scanned.{byCode-at, noted-next, noted-more}

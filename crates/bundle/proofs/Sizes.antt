@@ -2,20 +2,19 @@
 -- Assumes nothing.
 use mathlib.Core.Path.{_≡_, refl, ap, sym, _∙_}
 use mathlib.Core.Bool.{Bool}
-use mathlib.Core.List.{List, [], _∷_, _++_, map}
-use mathlib.Core.Option.{Option, some, none}
-use Prim.Native.Nat.{ℕ, _+_, _≤_, _<_}
+use mathlib.Core.List.{List, [], _∷_, map}
+use Prim.Native.Nat.{ℕ, _+_, _≤_}
 use native.Mathlib.Omega.{arith}
 use native.Mathlib.Decide.{ℕ-discrete}
 use lib.ListN.{length, length-append}
 use Rattle.octets.specs.Lists.{joined, sum}
 use Rattle.octets.specs.Checked.{pass}
 use Rattle.bundle.specs.Bundle.{Part, Item, object, section, Object, Bundle, filledUp, leading, objectsOf, firstPart, bundleOf}
-use Rattle.bundle.specs.Scan.{startIn, sizeIn, startOf, sizeOf}
+use Rattle.bundle.specs.Scan.{sizeIn, sizeOf}
 use Rattle.bundle.specs.Written.{Section, Sections, sectionBytes, objectBytes, written}
 use Rattle.bundle.proofs.Next.{filledUp-le}
 use Rattle.bundle.proofs.Sections.{first-same, first-other}
-use Rattle.bundle.proofs.Whole.{Readable, readable}
+use Rattle.bundle.proofs.Whole.{readable}
 use Rattle.bundle.proofs.Lies.{span, here-span}
 use Rattle.bundle.proofs.RoundTrip.{length-sections, length-object, length-written}
 

@@ -1,13 +1,12 @@
 -- The recursion of `items` without its bound on steps: one law for each case of a step.
 -- Assumes nothing.
-use mathlib.Core.Path.{_≡_, refl, ap, sym, _∙_}
+use mathlib.Core.Path.{_≡_, refl, ap, _∙_}
 use mathlib.Core.List.{List, [], _∷_}
-use Prim.Native.Nat.{ℕ, zero, suc, _+_, _-_, _≤_, _<_}
+use Prim.Native.Nat.{ℕ, zero, suc, _+_, _≤_}
 use native.Mathlib.Omega.{arith}
 use lib.ListN.{length, drop, length-drop}
-use lib.Seq.{drop-drop}
 use Rattle.octets.specs.Checked.{Check, pass, refuse, _>>=_}
-use Rattle.bundle.specs.Bundle.{Item, Step, more, end, broken, stepAt, stepOf, followed, itemsFrom, items}
+use Rattle.bundle.specs.Bundle.{Item, more, end, broken, stepAt, followed, itemsFrom, items}
 
 -- any two bounds that are large enough give the same
 pub enough : (k j at : ℕ) (s : List ℕ) → length s ≤ k → length s ≤ j → itemsFrom k at s ≡ itemsFrom j at s

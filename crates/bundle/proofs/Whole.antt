@@ -1,17 +1,15 @@
 -- The laws of `bundleOf`: what it says where it passes, and each way in which it refuses.
 -- Assumes nothing.
-use mathlib.Core.Path.{_≡_, refl, ap, sym, _∙_}
+use mathlib.Core.Path.{_≡_, refl, sym, _∙_}
 use mathlib.Core.Bool.{Bool, true, false, _||_}
-use mathlib.Core.List.{List, [], _∷_}
-use Prim.Native.Nat.{ℕ, _+_}
+use mathlib.Core.List.{List}
+use Prim.Native.Nat.{ℕ}
 use native.Mathlib.Omega.{arith}
-use native.Mathlib.Decide.{ℕ-discrete}
 use lib.Dec.{eqb}
-use lib.ListN.{drop}
-use borrow.Author.Tests.{eq-eqb, ne-eqb}
+use borrow.Author.Tests.{ne-eqb}
 use Rattle.octets.specs.Octets.{numberAt}
 use Rattle.octets.specs.Checked.{Check, pass, refuse, _>>=_, require}
-use Rattle.bundle.specs.Bundle.{Item, Object, Bundle, items, objectsOf, objectFirst, bundleOf}
+use Rattle.bundle.specs.Bundle.{Item, Bundle, items, objectsOf, objectFirst, bundleOf}
 use Rattle.bundle.proofs.Passed.{here}
 
 -- the checks that follow the head

@@ -1,15 +1,18 @@
 -- The sections of one object, listed by code: how many there are, and where the first lies.
 -- Assumes nothing.
 use mathlib.Core.Path.{_≡_}
-use mathlib.Core.Bool.{true, false}
+use mathlib.Core.Bool.{Bool, true, false, _||_}
 use mathlib.Core.List.{List, [], _∷_}
 use mathlib.Core.Option.{Option, some, none}
 use Prim.Native.Nat.{ℕ, zero, suc, _+_, _<_}
 use lib.Dec.{eqb}
 use lib.ListN.{drop, getD, set}
+use Rattle.octets.specs.Lists.{those}
 use Rattle.octets.specs.Checked.{Check, pass, refuse}
 use Rattle.bundle.specs.Bundle.{Part, Item, filledUp, items, leading, count, firstPart}
 use Rattle.bundle.specs.declared.Scan.{Scan}
+use Rattle.bundle.specs.declared.UnitSection.{UnitSection}
+use Rattle.bundle.specs.declared.UnitSection.the-variants.{Found, Done}
 
 -- the place behind sections that stand at a place
 unfoldable pub placeBehind : ℕ → List Part → ℕ
@@ -66,3 +69,16 @@ pub record Reaches (b : List ℕ) (at : ℕ) : Type 0 where
 pub record Notable (s : Scan) (code : ℕ) : Type 0 where
   pub good : code < 14
   pub small : getD (s .count) code 0 < 0xFFFF_FFFF_FFFF_FFFF
+
+-- info and types hold units
+unfoldable pub holdsUnits : Part → Bool
+holdsUnits p = eqb (p .code) 1 || eqb (p .code) 2
+
+unfoldable pub unitParts : List Part → List Part
+unitParts ps = those holdsUnits ps
+
+-- the first one, with the place behind it
+unfoldable pub unitSectionOf : List Part → UnitSection
+unitSectionOf [] = Done
+unitSectionOf (p ∷ ps) =
+    elim (holdsUnits p) [ true ↦ Found (p .code) (p .start) (p .size) (p .start + filledUp (p .size)) | false ↦ unitSectionOf ps ]

@@ -18,7 +18,7 @@ ghost use Rattle.bundle.specs.Bundle.{
   bundleOf,
   lengthGood,
 };
-ghost use Rattle.bundle.specs.Scan.{Notable, Reaches, sectionsOf, scanOf, noted};
+ghost use Rattle.bundle.specs.Scan.{Notable, Reaches, sectionsOf, scanOf, noted, unitSectionOf};
 ghost use Rattle.bundle.specs.Next.{nextOf, ends, wordsOf, itemsGood};
 
 // What stands at a place of a bundle, with the place behind it; of a section also its code, and where its bytes lie.
@@ -41,6 +41,12 @@ pub struct Scan {
     pub start: [usize; 14],
     pub size: [usize; 14],
     pub next: usize,
+}
+
+// An info or types section: its code, where its bytes lie, and the place behind it.
+pub enum UnitSection {
+    Found(u32, usize, usize, usize),
+    Done,
 }
 
 // 1 and 21: whether a length is 8 or more, within the limit and a multiple of 4.
@@ -255,6 +261,33 @@ pub fn scan_object(b: &[u8], from: usize) -> Scan
     }
 }
 
+// The next info or types section of an object, from a place behind its word on. The caller has checked the words of the bundle.
+pub fn next_unit_section(b: &[u8], from: usize) -> UnitSection
+    requires { ⌜ Reaches (now b) from ⌝ }
+    ensures { λ r. ⌜ r ≡ unitSectionOf (sectionsOf (items from (drop from (now (b .entry))))) ⌝ }
+{
+    let mut at = from;
+    loop {
+        match next_item(b, at) {
+            Item::Section(code, start, size, next) => {
+                if code < 3 {
+                    return UnitSection::Found(code, start, size, next);
+                }
+                at = next;
+            }
+            Item::Object(_, _) => {
+                return UnitSection::Done;
+            }
+            Item::End => {
+                return UnitSection::Done;
+            }
+            Item::Broken => {
+                return UnitSection::Done;
+            }
+        }
+    }
+}
+
 // ---- a bundle written, into an output that is zero behind. The caller has measured it, so that each part fits.
 pub fn put_head(big_endian: bool, d: &mut [u8])
     requires { ⌜ 4 ≤ length (now d) ⌝ }
@@ -290,10 +323,10 @@ pub fn put_section(code: u32, s: &[u8], d: &mut [u8], at: usize) -> usize
     ensures output { λ _. ⌜ now (d .exit) ≡ placed (now (d .entry)) at (wordBytes (0x2000_0000 + code * 0x80_0000 + length (now (s .entry))) ++ now (s .entry)) ⌝ }
 {
     let size = s.len();
-    let filled = filled_up(size);
+    let room = filled_up(size);
     put_section_word(code, size, d, at);
     octets::put_bytes(d, at + 4, s);
-    at + 4 + filled
+    at + 4 + room
 }
 
 // The end word behind this many bytes, which the caller keeps below the limit of a package.

@@ -63,56 +63,55 @@ fn show_kinds() {
     }
 }
 
+// One object with one section of at most four bytes.
+fn show_section(name: &[u8], word: u32, data: u32) {
+    show(name, &[0xF000_0000, 0x1008_0405, word, data, 0x3000_0005]);
+}
+
 fn show_good() {
     show(b"no object", &[0xF000_0000, 0x3000_0002]);
     show(b"no object, big-endian", &[0xF000_0001, 0x3000_0002]);
-    show(
-        b"object without sections",
-        &[0xF000_0000, 0x1008_0405, 0x3000_0003],
-    );
-    show(
-        b"two objects",
-        &[
-            0xF000_0001,
-            0x1008_0405,
-            0x2080_0000,
-            0x1008_0405,
-            0x2180_0004,
-            7,
-            0x3000_0007,
-        ],
-    );
+    let two = [
+        0xF000_0001,
+        0x1008_0405,
+        0x2080_0000,
+        0x1008_0405,
+        0x2180_0004,
+        7,
+        0x3000_0007,
+    ];
+    show(b"two objects", &two);
     show(b"version 255", &[0xF000_0000, 0x10FF_FFFF, 0x3000_0003]);
-    show(
-        b"words in a section",
-        &[
-            0xF000_0000,
-            0x1008_0405,
-            0x2080_0008,
-            0x3000_0003,
-            0xF000_0000,
-            0x3000_0006,
-        ],
-    );
-    show(
-        b"document 01",
-        &[
-            0xF000_0000,
-            0x1008_0405,
-            0x2080_0014,
-            0x10,
-            0x0805_0005,
-            0,
-            1,
-            0,
-            0x2180_0001,
-            0,
-            0x3000_000B,
-        ],
-    );
+    let looks = [
+        0xF000_0000,
+        0x1008_0405,
+        0x2080_0008,
+        0x3000_0003,
+        0xF000_0000,
+        0x3000_0006,
+    ];
+    show(b"words in a section", &looks);
 }
 
-fn show_ends() {
+// The bundle of document 01's whole package.
+fn show_document() {
+    let unit = [
+        0xF000_0000,
+        0x1008_0405,
+        0x2080_0014,
+        0x10,
+        0x0805_0005,
+        0,
+        1,
+        0,
+        0x2180_0001,
+        0,
+        0x3000_000B,
+    ];
+    show(b"document 01", &unit);
+}
+
+fn show_heads() {
     show(b"head 2", &[0xF000_0002, 0x3000_0002]);
     show(b"head of kind 14", &[0xE000_0000, 0x3000_0002]);
     show(b"head twice", &[0xF000_0000, 0xF000_0000, 0x3000_0003]);
@@ -120,6 +119,9 @@ fn show_ends() {
     show(b"no head", &[0x3000_0001]);
     show_bytes(b"nothing", b"");
     show_bytes(b"three bytes", b"\x00\x00\x00");
+}
+
+fn show_ends() {
     show(b"end missing", &[0xF000_0000, 0x1008_0405]);
     show(b"end early", &[0xF000_0000, 0x3000_0002, 0x1008_0405]);
     show(b"end twice", &[0xF000_0000, 0x3000_0003, 0x3000_0003]);
@@ -131,69 +133,8 @@ fn show_ends() {
     show(b"count too large", &[0xF000_0000, 0x3000_0003]);
 }
 
-fn show_sections() {
-    show(
-        b"section before object",
-        &[0xF000_0000, 0x2080_0000, 0x3000_0003],
-    );
-    show(
-        b"section, then object",
-        &[0xF000_0000, 0x2080_0000, 0x1008_0405, 0x3000_0004],
-    );
-    show(
-        b"length over the end word",
-        &[0xF000_0000, 0x1008_0405, 0x2080_0005, 0, 0x3000_0005],
-    );
-    show(
-        b"length past the end",
-        &[0xF000_0000, 0x1008_0405, 0x2080_0009, 0, 0x3000_0005],
-    );
-    show(
-        b"greatest length",
-        &[0xF000_0000, 0x1008_0405, 0x20FF_FFFF, 0, 0x3000_0005],
-    );
-    show(
-        b"length 1, filled",
-        &[0xF000_0000, 0x1008_0405, 0x2080_0001, 0xFF, 0x3000_0005],
-    );
-    show(
-        b"length 1, second byte",
-        &[0xF000_0000, 0x1008_0405, 0x2080_0001, 0x1FF, 0x3000_0005],
-    );
-    show(
-        b"length 1, third byte",
-        &[0xF000_0000, 0x1008_0405, 0x2080_0001, 0x1_00FF, 0x3000_0005],
-    );
-    show(
-        b"length 1, fourth byte",
-        &[
-            0xF000_0000,
-            0x1008_0405,
-            0x2080_0001,
-            0x100_00FF,
-            0x3000_0005,
-        ],
-    );
-    show(
-        b"length 3, filled",
-        &[
-            0xF000_0000,
-            0x1008_0405,
-            0x2080_0003,
-            0xFF_FFFF,
-            0x3000_0005,
-        ],
-    );
-    show(
-        b"length 3, fourth byte",
-        &[
-            0xF000_0000,
-            0x1008_0405,
-            0x2080_0003,
-            0x1FF_FFFF,
-            0x3000_0005,
-        ],
-    );
+fn show_objects() {
+    show(b"object alone", &[0xF000_0000, 0x1008_0405, 0x3000_0003]);
     show(
         b"object word, bit 24",
         &[0xF000_0000, 0x1108_0405, 0x3000_0003],
@@ -202,11 +143,35 @@ fn show_sections() {
         b"object word, bit 27",
         &[0xF000_0000, 0x1808_0405, 0x3000_0003],
     );
+    show(
+        b"section, no object",
+        &[0xF000_0000, 0x2080_0000, 0x3000_0003],
+    );
+    show(
+        b"section first",
+        &[0xF000_0000, 0x2080_0000, 0x1008_0405, 0x3000_0004],
+    );
+}
+
+fn show_sections() {
+    show_section(b"length over the end", 0x2080_0005, 0);
+    show_section(b"length past the end", 0x2080_0009, 0);
+    show_section(b"greatest length", 0x20FF_FFFF, 0);
+    show_section(b"length 4", 0x2080_0004, 0xFFFF_FFFF);
+    show_section(b"length 1", 0x2080_0001, 0xFF);
+    show_section(b"length 1, second byte", 0x2080_0001, 0x1FF);
+    show_section(b"length 1, third byte", 0x2080_0001, 0x1_00FF);
+    show_section(b"length 1, fourth byte", 0x2080_0001, 0x100_00FF);
+    show_section(b"length 3", 0x2080_0003, 0xFF_FFFF);
+    show_section(b"length 3, fourth byte", 0x2080_0003, 0x1FF_FFFF);
 }
 
 fn main() {
     show_good();
+    show_document();
+    show_heads();
     show_ends();
+    show_objects();
     show_sections();
     show_codes();
     show_kinds();

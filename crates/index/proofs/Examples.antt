@@ -2,9 +2,8 @@
 -- Assumes nothing.
 use mathlib.Core.Path.{_≡_, refl}
 use mathlib.Core.Bool.{true}
-use mathlib.Core.List.{List, [], _∷_, map}
+use mathlib.Core.List.{[], _∷_, map}
 use mathlib.Core.Option.{some}
-use Prim.Native.Nat.{ℕ}
 use Rattle.octets.specs.Octets.{zeros, bigOf, bytesOf, numbersOf}
 use Rattle.octets.specs.Lists.{joined, those, any}
 use Rattle.octets.specs.Checked.{pass, _>>=_}

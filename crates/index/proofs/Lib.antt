@@ -1,6 +1,7 @@
-pub mod Examples
--- Laws of indexes: probing, placing, and an index written and read back.
+-- Laws of indexes: probing, placing, contributions, and an index written and read back.
 -- Assumes nothing.
+pub mod Contributions
+pub mod Examples
 pub mod Slots
 pub mod Orbit
 pub mod LawCounts
@@ -23,6 +24,7 @@ pub mod Masks
 pub mod Heads
 pub mod Looks
 pub mod Codes
+pub mod LawExact
 pub mod LawMore
 pub mod WellFormed
 pub mod Places

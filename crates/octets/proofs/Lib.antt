@@ -1,6 +1,7 @@
 -- Laws of the definitions of this crate, which every later proof cites.
 -- Assumes nothing.
 pub mod Checks
+pub mod Refusals
 pub mod Parts
 pub mod Numbers
 pub mod Tables

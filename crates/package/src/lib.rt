@@ -1,1 +1,2 @@
-// Definitions only.
+// What packing accepts, section by section.
+pub mod sections;

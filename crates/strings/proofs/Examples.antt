@@ -2,11 +2,11 @@
 -- Assumes nothing.
 use mathlib.Core.Path.{_≡_, refl}
 use mathlib.Core.Bool.{false, true}
-use mathlib.Core.List.{List, [], _∷_, _++_}
+use mathlib.Core.List.{List, [], _∷_}
 use Prim.Native.Nat.{ℕ}
 use Rattle.octets.specs.Octets.{part, little, bigFrom, number, numberAt, numbersIn, littleOf, bigOf, bytesOf, numbersOf}
 use Rattle.octets.specs.Lists.{joined, any, same}
-use Rattle.octets.specs.Checked.{Check, pass, refuse, _>>=_, require}
+use Rattle.octets.specs.Checked.{pass, refuse, _>>=_, require}
 use Rattle.bundle.specs.Encoding.{Encoding}
 use Rattle.strings.specs.Strings.{headerSize, headerTrue, entriesIn, entriesOf, upToZero, stringAt, stringsAt, put, putAll, firstUses, ended, strOf, offsetIn, remapped}
 

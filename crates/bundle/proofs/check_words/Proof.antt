@@ -1,54 +1,42 @@
 -- `bundle::check_words` meets its contract.
 -- Assumes nothing.
-use mathlib.Core.Path.{_≡_, refl, ap, sym, _∙_}
-use Prim.Native.Nat.{ℕ, _+_, _*_, _-_, _/_, _%_, _≤_, _<_}
+use mathlib.Core.Path.{sym, _∙_}
 use native.Mathlib.Omega.{arith}
 use denote.Ref.{now}
 use Rattle.bundle.proofs.Ends.{head-either, head-short, words-head, words-good, words-bad}
 use borrow.Author.Needs.{needs}
 use Rattle.bundle.proofs.check_words.Statement.{statement}
 use Rattle.bundle.proofs.check_words.Tie as tie
-use Rattle.bundle.proofs.check_words.Reads as reads
-use Rattle.bundle.proofs.check_words.Lts as lts
-use Rattle.bundle.proofs.items_good.Reads as items-good-reads
-use Rattle.octets.proofs.word_at.Reads as word-at-reads
 
--- src/lib.rt:228:9
 returns : tie.Need-returns
 returns c =
     let b = now (c .before .before .args .b) in
     let h = head-short b (λ i. c .before .shared-slice-known .given i .fits) (c .if1 .taken) in
     words-head b (λ z. omega arith) (λ z. omega arith)
 
--- src/lib.rt:230:9
 word-at-requires : tie.Need-word-at-requires
 word-at-requires c κs = search needs
 
--- src/lib.rt:232:9
 returns-2 : tie.Need-returns-2
 returns-2 c =
     let w = c .before in
     let b = now (w .before .before .before .args .b) in
     words-head b (λ z. omega (arith, w .word-at .ensures)) (λ z. omega (arith, w .word-at .ensures))
 
--- src/lib.rt:235:9
 returns-3 : tie.Need-returns-3
 returns-3 c =
     let w = c .before .before in
     let b = now (w .before .before .before .args .b) in
     words-head b (λ z. omega (arith, w .word-at .ensures)) (λ z. omega (arith, w .word-at .ensures))
 
--- src/lib.rt:237:8
 items-good-requires : tie.Need-items-good-requires
 items-good-requires c κs = search needs
 
--- src/lib.rt:238:9
 returns-4 : tie.Need-returns-4
 returns-4 c =
     let w = c .before .before .before .before in
     words-good _ _ (sym (w .word-at .ensures) ∙ head-either (w .word-at .result) (c .before .before .before .if2 .left) (c .before .before .if3 .left)) (sym (c .before .items-good .ensures) ∙ c .if4 .taken)
 
--- src/lib.rt:224:1
 returns-5 : tie.Need-returns-5
 returns-5 c =
     let w = c .before .before .before .before in

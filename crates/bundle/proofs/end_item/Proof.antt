@@ -1,35 +1,25 @@
 -- `bundle::end_item` meets its contract.
 -- Assumes nothing.
-use mathlib.Core.Path.{_≡_, refl, ap, sym, _∙_}
-use native.Mathlib.Omega.{arith}
 use Rattle.bundle.proofs.Answers.{end-not-last, end-miscounts, end-answer}
 use borrow.Author.Needs.{needs}
 use Rattle.bundle.proofs.end_item.Statement.{statement}
 use Rattle.bundle.proofs.end_item.Tie as tie
-use Rattle.bundle.proofs.end_item.Reads as reads
-use Rattle.bundle.proofs.end_item.Lts as lts
 
--- src/lib.rt:100:8
 sub-if1 : tie.Need-sub-if1
 sub-if1 c = search needs
 
--- src/lib.rt:101:9
 returns : tie.Need-returns
 returns c = end-not-last _ _ _ (c .if1 .taken)
 
--- src/lib.rt:103:8
 mul-if2 : tie.Need-mul-if2
 mul-if2 c = search needs
 
--- src/lib.rt:103:20
 add-if2 : tie.Need-add-if2
 add-if2 c = search needs
 
--- src/lib.rt:104:9
 returns-2 : tie.Need-returns-2
 returns-2 c = end-miscounts _ _ _ (c .before .if1 .left) (c .if2 .taken)
 
--- src/lib.rt:96:1
 returns-3 : tie.Need-returns-3
 returns-3 c = end-answer _ _ _ (c .before .if1 .left) (c .if2 .left)
 

@@ -1,15 +1,12 @@
 -- `bundle::no_sections` meets its contract.
 -- Assumes nothing.
-use mathlib.Core.Path.{_≡_, refl}
+use mathlib.Core.Path.{refl}
 use Rattle.octets.specs.Lists.{those}
 use Rattle.bundle.specs.Bundle.{count, partsOf, firstPart}
 use Rattle.bundle.specs.Scan.{scanOf, byCode, numbered, startOf, sizeOf, startIn, sizeIn, placeBehind}
 use Rattle.bundle.proofs.no_sections.Statement.{statement}
 use Rattle.bundle.proofs.no_sections.Tie as tie
-use Rattle.bundle.proofs.no_sections.Reads as reads
-use Rattle.bundle.proofs.no_sections.Lts as lts
 
--- src/lib.rt:246:1
 returns : tie.Need-returns
 unfolding scanOf byCode numbered count partsOf those startOf sizeOf startIn sizeIn firstPart placeBehind
 returns c = refl

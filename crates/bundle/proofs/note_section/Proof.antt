@@ -4,50 +4,37 @@ use Rattle.bundle.proofs.Scanned.{noted-first, noted-again}
 use borrow.Author.Needs.{needs}
 use Rattle.bundle.proofs.note_section.Statement.{statement}
 use Rattle.bundle.proofs.note_section.Tie as tie
-use Rattle.bundle.proofs.note_section.Reads as reads
-use Rattle.bundle.proofs.note_section.Lts as lts
 
--- src/lib.rt:250:13
 mul-n : tie.Need-mul-n
 mul-n c = search needs
 
--- src/lib.rt:250:13
 element-copy-out-n : tie.Need-element-copy-out-n
 element-copy-out-n c = search needs
 
--- src/lib.rt:252:21
 add-s : tie.Need-add-s
 add-s c = search needs
 
--- src/lib.rt:252:5
 mul-s : tie.Need-mul-s
 mul-s c = search needs
 
--- src/lib.rt:252:5
 element-write-s : tie.Need-element-write-s
 element-write-s c = search needs
 
--- src/lib.rt:254:9
 mul-s-2 : tie.Need-mul-s-2
 mul-s-2 c = search needs
 
--- src/lib.rt:254:9
 element-write-s-2 : tie.Need-element-write-s-2
 element-write-s-2 c = search needs
 
--- src/lib.rt:255:9
 mul-s-3 : tie.Need-mul-s-3
 mul-s-3 c = search needs
 
--- src/lib.rt:255:9
 element-write-s-3 : tie.Need-element-write-s-3
 element-write-s-3 c = search needs
 
--- src/lib.rt:256:9
 returns : tie.Need-returns
 returns c = noted-first _ _ _ _ _ (c .if1 .taken)
 
--- src/lib.rt:245:1
 returns-2 : tie.Need-returns-2
 returns-2 c = noted-again _ _ _ _ _ (c .if1 .left)
 

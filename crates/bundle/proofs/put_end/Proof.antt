@@ -1,42 +1,29 @@
 -- `bundle::put_end` meets its contract.
 -- Assumes nothing.
-use mathlib.Core.Path.{_≡_, ap, sym, _∙_}
-use mathlib.Core.Bool.{Bool, true, false}
-use Prim.Native.Nat.{ℕ, _+_, _*_}
-use native.Mathlib.Omega.{arith}
-use lib.ListN.{length}
+use mathlib.Core.Path.{ap, _∙_}
+use Prim.Native.Nat.{ℕ, _+_}
 use denote.Ref.{now}
 use Rattle.octets.specs.Octets.{placed}
-use Rattle.bundle.specs.Written.{wordBytes, headBytes, endBytes}
+use Rattle.bundle.specs.Written.{wordBytes, endBytes}
 use borrow.Author.Needs.{needs}
 use Rattle.bundle.proofs.put_end.Statement.{statement}
 use Rattle.bundle.proofs.put_end.Tie as tie
-use Rattle.bundle.proofs.put_end.Reads as reads
-use Rattle.bundle.proofs.put_end.Lts as lts
-use Rattle.octets.proofs.narrow.Reads as narrow-reads
-use Rattle.octets.proofs.put_word.Reads as put-word-reads
 
--- src/lib.rt:347:33
 add-narrow : tie.Need-add-narrow
 add-narrow c = search needs
 
--- src/lib.rt:347:9
 narrow-requires : tie.Need-narrow-requires
 narrow-requires c κs = search needs
 
--- src/lib.rt:348:22
 add-put-word : tie.Need-add-put-word
 add-put-word c = search needs
 
--- src/lib.rt:348:5
 put-word-requires : tie.Need-put-word-requires
 put-word-requires c κs = search needs
 
--- src/lib.rt:343:1
 same-length : tie.Need-same-length
 same-length c = search needs
 
--- src/lib.rt:343:1
 returns : tie.Need-returns
 unfolding wordBytes endBytes
 returns c =

@@ -1,37 +1,25 @@
 -- `bundle::put_section` meets its contract.
 -- Assumes nothing.
-use mathlib.Core.Path.{_≡_, ap, sym, _∙_}
-use mathlib.Core.Bool.{Bool, true, false}
-use Prim.Native.Nat.{ℕ, _+_, _*_}
+use mathlib.Core.Path.{ap}
+use Prim.Native.Nat.{ℕ, _+_}
 use native.Mathlib.Omega.{arith}
 use lib.ListN.{length}
 use denote.Ref.{now}
-use Rattle.octets.specs.Octets.{placed}
-use Rattle.bundle.specs.Written.{wordBytes, headBytes, endBytes}
 use Rattle.bundle.proofs.Next.{filledUp-le}
 use Rattle.bundle.proofs.Putting.{placed-word, placed-behind}
 use borrow.Author.Needs.{needs}
 use Rattle.bundle.proofs.put_section.Statement.{statement}
 use Rattle.bundle.proofs.put_section.Tie as tie
-use Rattle.bundle.proofs.put_section.Reads as reads
-use Rattle.bundle.proofs.put_section.Lts as lts
-use Rattle.bundle.proofs.filled_up.Reads as filled-up-reads
-use Rattle.bundle.proofs.put_section_word.Reads as put-section-word-reads
-use Rattle.octets.proofs.put_bytes.Reads as put-bytes-reads
 
--- src/lib.rt:336:9
 filled-up-requires : tie.Need-filled-up-requires
 filled-up-requires c κs = search needs
 
--- src/lib.rt:337:5
 put-section-word-requires : tie.Need-put-section-word-requires
 put-section-word-requires c κs = search needs
 
--- src/lib.rt:338:26
 add-put-bytes : tie.Need-add-put-bytes
 add-put-bytes c = search needs
 
--- src/lib.rt:338:5
 put-bytes-requires : tie.Need-put-bytes-requires
 put-bytes-requires c κs =
     let w = c .before .before .before in
@@ -39,19 +27,15 @@ put-bytes-requires c κs =
     let l = placed-word (now (s .args .d)) _ (s .args .at) _ (w .put-section-word .ensures) (omega arith) in
     omega (arith, l, filledUp-le (length (now (s .args .s))))
 
--- src/lib.rt:339:5
 add-result : tie.Need-add-result
 add-result c = search needs
 
--- src/lib.rt:339:5
 add-result-2 : tie.Need-add-result-2
 add-result-2 c = search needs
 
--- src/lib.rt:330:1
 same-length : tie.Need-same-length
 same-length c = search needs
 
--- src/lib.rt:330:1
 returns : tie.Need-returns
 returns c =
     let p = c .before .before in

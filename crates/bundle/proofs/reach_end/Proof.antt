@@ -1,7 +1,7 @@
 -- `bundle::reach_end` meets its contract. The loop's invariant: the items from here on reach the end just where all do. The measure is what is left of the bundle.
 -- Assumes nothing.
-use mathlib.Core.Path.{_≡_, refl, ap, sym, _∙_}
-use Prim.Native.Nat.{ℕ, _+_, _-_, _≤_, _<_}
+use mathlib.Core.Path.{_≡_, refl, sym, _∙_}
+use Prim.Native.Nat.{_-_}
 use native.Mathlib.Omega.{arith}
 use lib.ListN.{length, drop}
 use borrow.Author.Needs.{needs}
@@ -12,9 +12,6 @@ use Rattle.bundle.proofs.Next.{object-here, section-here}
 use Rattle.bundle.proofs.Ends.{ends-object, ends-section, ends-end, ends-broken}
 use Rattle.bundle.proofs.reach_end.Statement.{statement}
 use Rattle.bundle.proofs.reach_end.Tie as tie
-use Rattle.bundle.proofs.reach_end.Reads as reads
-use Rattle.bundle.proofs.reach_end.Lts as lts
-use Rattle.bundle.proofs.next_item.Reads as next-item-reads
 
 abbrev Inv-loop : tie.InvT-loop
 Inv-loop b from at₀ at = ends (items at (drop at b)) ≡ ends (items from (drop from b))
@@ -22,19 +19,15 @@ Inv-loop b from at₀ at = ends (items at (drop at b)) ≡ ends (items from (dro
 abbrev μ-loop : tie.MeasureT-loop
 μ-loop b from at₀ at = length b - at
 
--- src/lib.rt:185:5
 loop-holds : tie.Need-loop-holds Inv-loop μ-loop
 loop-holds c = refl
 
--- src/lib.rt:186:15
 next-item-requires : tie.Need-next-item-requires Inv-loop μ-loop
 next-item-requires c κs = search needs
 
--- src/lib.rt:187:29
 enum-known-next : tie.Need-enum-known-next Inv-loop μ-loop
 enum-known-next c = search needs
 
--- src/lib.rt:185:5
 loop-less : tie.Need-loop-less Inv-loop μ-loop
 loop-less c =
     let n = c .before .next .given in
@@ -45,7 +38,6 @@ loop-less c =
     let h = object-here b (l .loop .at) (n .0 .0) (n .0 .1 .0) e in
     omega (arith, h .place, h .within)
 
--- src/lib.rt:185:5
 loop-again : tie.Need-loop-again Inv-loop μ-loop
 loop-again c =
     let n = c .before .next .given in
@@ -55,11 +47,9 @@ loop-again c =
     let e = sym (n .1) ∙ i .next-item .ensures in
     ends-object b (l .loop .at) (n .0 .0) (n .0 .1 .0) e ∙ l .loop .inv
 
--- src/lib.rt:190:36
 enum-known-next-2 : tie.Need-enum-known-next-2 Inv-loop μ-loop
 enum-known-next-2 c = search needs
 
--- src/lib.rt:185:5
 loop-less-2 : tie.Need-loop-less-2 Inv-loop μ-loop
 loop-less-2 c =
     let n = c .before .next2 .given in
@@ -70,7 +60,6 @@ loop-less-2 c =
     let h = section-here b (l .loop .at) (n .0 .0) (n .0 .1 .0) (n .0 .1 .1 .0) (n .0 .1 .1 .1 .0) e in
     omega (arith, h .place, h .inside, h .within)
 
--- src/lib.rt:185:5
 loop-again-2 : tie.Need-loop-again-2 Inv-loop μ-loop
 loop-again-2 c =
     let n = c .before .next2 .given in
@@ -80,19 +69,15 @@ loop-again-2 c =
     let e = sym (n .1) ∙ i .next-item .ensures in
     ends-section b (l .loop .at) (n .0 .0) (n .0 .1 .0) (n .0 .1 .1 .0) (n .0 .1 .1 .1 .0) e ∙ l .loop .inv
 
--- src/lib.rt:194:17
 enum-told : tie.Need-enum-told Inv-loop μ-loop
 enum-told c = search needs
 
--- src/lib.rt:194:17
 returns : tie.Need-returns Inv-loop μ-loop
 returns c = let i = c .before .before in ends-end _ _ (sym (c .enum-told .given .1) ∙ i .next-item .ensures) ∙ i .before .loop .inv
 
--- src/lib.rt:197:17
 enum-told-2 : tie.Need-enum-told-2 Inv-loop μ-loop
 enum-told-2 c = search needs
 
--- src/lib.rt:197:17
 returns-2 : tie.Need-returns-2 Inv-loop μ-loop
 returns-2 c = let i = c .before .before in ends-broken _ _ (sym (c .enum-told2 .given .1) ∙ i .next-item .ensures) ∙ i .before .loop .inv
 

@@ -1,6 +1,6 @@
 -- `bundle::scan_object` meets its contract. The loop's invariant: the scan is that of the sections passed. The measure is what is left of the bundle.
 -- Assumes nothing.
-use mathlib.Core.Path.{_≡_, sym, _∙_}
+use mathlib.Core.Path.{sym, _∙_}
 use Prim.Native.Nat.{_-_}
 use native.Mathlib.Omega.{arith}
 use lib.ListN.{length}
@@ -10,12 +10,6 @@ use Rattle.bundle.proofs.Next.{section-here}
 use Rattle.bundle.proofs.Scanning.{Scanned, scanned-none, scanned-notable, scanned-step, scanned-next, scanned-object, scanned-end, scanned-broken}
 use Rattle.bundle.proofs.scan_object.Statement.{statement}
 use Rattle.bundle.proofs.scan_object.Tie as tie
-use Rattle.bundle.proofs.scan_object.Reads as reads
-use Rattle.bundle.proofs.scan_object.Lts as lts
-use Rattle.bundle.proofs.next_item.Reads as next-item-reads
-use Rattle.bundle.proofs.no_sections.Reads as no-sections-reads
-use Rattle.bundle.proofs.note_section.Reads as note-section-reads
-use Rattle.octets.proofs.wide.Reads as wide-reads
 
 abbrev Inv-loop : tie.InvT-loop
 Inv-loop b from scan₀ scan = Scanned b from scan
@@ -23,27 +17,21 @@ Inv-loop b from scan₀ scan = Scanned b from scan
 abbrev μ-loop : tie.MeasureT-loop
 μ-loop b from scan₀ scan = length b - scan .next
 
--- src/lib.rt:279:9
 no-sections-requires : tie.Need-no-sections-requires Inv-loop μ-loop
 no-sections-requires c κs = search needs
 
--- src/lib.rt:280:5
 loop-holds : tie.Need-loop-holds Inv-loop μ-loop
 loop-holds c = scanned-none _ _ _ (c .no-sections .ensures) (c .before .before .pre)
 
--- src/lib.rt:282:15
 next-item-requires : tie.Need-next-item-requires Inv-loop μ-loop
 next-item-requires c κs = search needs
 
--- src/lib.rt:283:27
 enum-known-code : tie.Need-enum-known-code Inv-loop μ-loop
 enum-known-code c = search needs
 
--- src/lib.rt:284:43
 wide-requires : tie.Need-wide-requires Inv-loop μ-loop
 wide-requires c κs = search needs
 
--- src/lib.rt:284:17
 note-section-requires : tie.Need-note-section-requires Inv-loop μ-loop
 note-section-requires c κs =
     let w = c in
@@ -54,7 +42,6 @@ note-section-requires c κs =
     let e = sym (n .1) ∙ i .next-item .ensures in
     rw (w .wide .ensures) (scanned-notable _ _ (l .loop .scan) (l .loop .inv) (n .0 .0) (n .0 .1 .0) (n .0 .1 .1 .0) (n .0 .1 .1 .1 .0) e (omega arith))
 
--- src/lib.rt:280:5
 loop-less : tie.Need-loop-less Inv-loop μ-loop
 loop-less c =
     let w = c .before in
@@ -67,7 +54,6 @@ loop-less c =
     let m = scanned-next _ _ (l .loop .scan) (l .loop .inv) (n .0 .0) (n .0 .1 .0) (n .0 .1 .1 .0) (n .0 .1 .1 .1 .0) e (c .note-section .result) (w .wide .result) (w .wide .ensures) (c .note-section .ensures) in
     omega (arith, m, h .place, h .inside, h .within)
 
--- src/lib.rt:280:5
 loop-again : tie.Need-loop-again Inv-loop μ-loop
 loop-again c =
     let w = c .before in
@@ -78,27 +64,21 @@ loop-again c =
     let e = sym (n .1) ∙ i .next-item .ensures in
     scanned-step _ _ (l .loop .scan) (l .loop .inv) (n .0 .0) (n .0 .1 .0) (n .0 .1 .1 .0) (n .0 .1 .1 .1 .0) e (c .note-section .result) (w .wide .result) (w .wide .ensures) (c .note-section .ensures)
 
--- src/lib.rt:287:17
 enum-told : tie.Need-enum-told Inv-loop μ-loop
 enum-told c = search needs
 
--- src/lib.rt:287:17
 returns : tie.Need-returns Inv-loop μ-loop
 returns c = let i = c .before .before in scanned-object _ _ _ (i .before .loop .inv) _ _ (sym (c .enum-told .given .1) ∙ i .next-item .ensures)
 
--- src/lib.rt:290:17
 enum-told-2 : tie.Need-enum-told-2 Inv-loop μ-loop
 enum-told-2 c = search needs
 
--- src/lib.rt:290:17
 returns-2 : tie.Need-returns-2 Inv-loop μ-loop
 returns-2 c = let i = c .before .before in scanned-end _ _ _ (i .before .loop .inv) (sym (c .enum-told2 .given .1) ∙ i .next-item .ensures)
 
--- src/lib.rt:293:17
 enum-told-3 : tie.Need-enum-told-3 Inv-loop μ-loop
 enum-told-3 c = search needs
 
--- src/lib.rt:293:17
 returns-3 : tie.Need-returns-3 Inv-loop μ-loop
 returns-3 c = let i = c .before .before in absurd (scanned-broken _ _ _ (i .before .loop .inv) (sym (c .enum-told3 .given .1) ∙ i .next-item .ensures))
 

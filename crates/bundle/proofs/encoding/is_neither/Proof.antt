@@ -1,7 +1,7 @@
 -- `is_neither` meets its contract.
 -- Assumes nothing.
-use mathlib.Core.Path.{_≡_, ap, ap₂}
-use mathlib.Core.Bool.{Bool, true, false, _||_}
+use mathlib.Core.Path.{ap, ap₂}
+use mathlib.Core.Bool.{_||_}
 use lib.Dec.{eqb}
 use borrow.Author.Tests.{eq-eqb, ne-eqb}
 use Rattle.bundle.proofs.encoding.is_neither.Statement.{statement}

@@ -1,0 +1,167 @@
+-- "Demand 3 is one claim, from bundle to answer, over the accepted set and the package as demand 2 defines them; its lookup rule is this section's."
+-- b is a bundle that packing accepts, p its package; every answer of both lookups on p is told from the units handed in with b.
+-- Assumes nothing.
+use mathlib.Core.Path.{_≡_}
+use mathlib.Core.Logic.{_⊎_, _↔_}
+use mathlib.Core.Bool.{Bool, true, false, _||_}
+use mathlib.Core.List.{List, [], _∷_, _++_, map}
+use Prim.Native.Nat.{ℕ, _+_, _*_, _-_, _%_, _≤_, _<_}
+use lib.Dec.{eqb, leb}
+use lib.ListN.{length, getD}
+use Rattle.octets.specs.Octets.{part as bytesAt}
+use Rattle.octets.specs.Lists.{any, those}
+use Rattle.octets.specs.Checked.{Check, pass, refuse}
+use Rattle.bundle.specs.Bundle.{Object, bundleOf}
+use Rattle.strings.specs.Strings.{stringAt}
+use Rattle.index.specs.Probing.{Probe, found, absent as nowhere, Slots, slotsOf, search, firstSlot, stride}
+use Rattle.package.specs.Filing.{Filed, isUnder, kept, contributed, entriesOfUnit}
+use Rattle.package.specs.Pack.{packed, made, handedIn}
+use Rattle.lookup.specs.Lookup.{Found, refused, absent, part, lookedUp, stringFound}
+
+-- ---- what is asked
+-- "The index version is 2 for objects of version 4, 5 for those of 5, and either one without objects"
+unfoldable pub isVersionOf : List Object → ℕ → Bool
+isVersionOf [] v = eqb v 2 || eqb v 5
+isVersionOf (o ∷ os) v = elim (eqb (o .word % 256) 5) [ true ↦ eqb v 5 | false ↦ eqb v 2 ]
+
+unfoldable pub isIndexVersion : List ℕ → ℕ → Bool
+isIndexVersion b v = elim (bundleOf b) [ pass k ↦ isVersionOf (k .objects) v | refuse n ↦ false ]
+
+-- the index version known, and a table: 1 compilation or 2 type
+pub record Asked (b : List ℕ) (v table : ℕ) : Type 0 where
+  pub version : isIndexVersion b v ≡ true
+  pub tables : (table ≡ 1) ⊎ (table ≡ 2)
+
+-- "a section code from 1 to 10"
+pub record IsCode (code : ℕ) : Type 0 where
+  pub from : 1 ≤ code
+  pub to : code ≤ 10
+
+-- ---- what was handed in
+-- "Units of types, and unit types 2 and 6 of version 5, are handed in for the type table, the others for the compilation table, each under its identity."
+abbrev pub IsHandedIn : List ℕ → ℕ → ℕ → Type 0
+IsHandedIn b table x = any (isUnder table x) (handedIn b) ≡ true
+
+-- "First is first in the bundle: the kept one."
+pub record IsFirst (b : List ℕ) (table x : ℕ) (u : Filed) : Type 0 where
+  pub before : List Filed
+  pub behind : List Filed
+  pub stands : handedIn b ≡ before ++ (u ∷ behind)
+  pub under : isUnder table x u ≡ true
+  pub noneBefore : any (isUnder table x) before ≡ false
+
+-- "Its unit bytes are the part at code 1, or 2 for a unit of types; at codes 3 to 10 the part is its contribution;
+-- where it has none, and at the other of 1 and 2, the part is empty."
+unfoldable pub handedPart : Filed → ℕ → List ℕ
+handedPart u code = elim (eqb code (u .home)) [ true ↦ u .bytes | false ↦ elim (leb 3 code) [ true ↦ contributed u code | false ↦ [] ] ]
+
+-- ---- probing
+-- the identities placed in a table: those of its kept units, in order
+unfoldable pub identitiesOf : List ℕ → ℕ → List ℕ
+identitiesOf b table = map (λ u. u .identity) (those (λ u. eqb (u .table) table) (kept (handedIn b)))
+
+-- the slots written for them, none where there are no units
+unfoldable pub slotsWritten : List ℕ → Slots
+slotsWritten [] = record { identities = []; rows = [] }
+slotsWritten (x ∷ xs) = elim (slotsOf (x ∷ xs)) [ pass t ↦ t | refuse n ↦ record { identities = []; rows = [] } ]
+
+abbrev pub slotsOfTable : List ℕ → ℕ → Slots
+slotsOfTable b table = slotsWritten (identitiesOf b table)
+
+unfoldable pub looksOf : Probe → ℕ
+looksOf (found slot n) = n
+looksOf (nowhere n) = n
+
+-- how many slots the search for x looks at, the slot where it ends included
+unfoldable pub looks : List ℕ → ℕ → ℕ → ℕ
+looks b table x = looksOf (search (slotsOfTable b table .rows) (slotsOfTable b table .identities) x)
+
+-- the slot that a search for x looks at after n others
+unfoldable pub slotAfter : ℕ → ℕ → ℕ → ℕ
+slotAfter x slots n = (firstSlot x slots + n * stride x slots) % slots
+
+-- ---- the claim, clause by clause
+-- the answer is a part, after so many looks
+abbrev pub IsPart : Found → ℕ → Type 0
+IsPart answer n = (start : ℕ) × (size : ℕ) × (answer ≡ part start size n)
+
+-- the answer is that part of the package which holds these bytes
+abbrev pub Holds : List ℕ → Found → ℕ → List ℕ → Type 0
+Holds p answer n bytes = (start : ℕ) × (answer ≡ part start (length bytes) n) × (bytesAt p start (length bytes) ≡ bytes)
+
+-- "Found exactly when handed in"
+abbrev pub FoundExactlyWhenHandedIn : List ℕ → List ℕ → Type 0
+FoundExactlyWhenHandedIn b p =
+    (v table x code : ℕ) → Asked b v table → IsCode code → IsPart (lookedUp p v table x code) (looks b table x) ↔ IsHandedIn b table x
+
+-- "The first, and nothing else": its bytes; "at 6 in length only"
+abbrev pub TheFirstUnit : List ℕ → List ℕ → Type 0
+TheFirstUnit b p =
+    (v table x code : ℕ) (u : Filed) → Asked b v table → IsCode code → IsFirst b table x u → (code ≡ 6 → ⊥)
+    → Holds p (lookedUp p v table x code) (looks b table x) (handedPart u code)
+
+abbrev pub TheFirstUnitInLength : List ℕ → List ℕ → Type 0
+TheFirstUnitInLength b p =
+    (v table x : ℕ) (u : Filed) → Asked b v table → IsFirst b table x u
+    → (start : ℕ) × (lookedUp p v table x 6 ≡ part start (length (handedPart u 6)) (looks b table x))
+
+-- "String k is what entry k of its str_offsets part, as handed in, names in its object's str"
+abbrev pub ItsStrings : List ℕ → List ℕ → Type 0
+ItsStrings b p =
+    (v table x k : ℕ) (u : Filed) → Asked b v table → IsFirst b table x u → k < length (entriesOfUnit u)
+    → (string : List ℕ) × (stringAt 9 (u .input .bytes 11) (getD (entriesOfUnit u) k 0) ≡ pass string)
+    × Holds p (stringFound p v table x k) (looks b table x) string
+
+-- "any other index is 25"
+abbrev pub NoOtherString : List ℕ → List ℕ → Type 0
+NoOtherString b p =
+    (v table x k : ℕ) (u : Filed) → Asked b v table → IsFirst b table x u → length (entriesOfUnit u) ≤ k → stringFound p v table x k ≡ refused 25
+
+-- "Absent is absent", for a part and for a string
+abbrev pub AbsentIsAbsent : List ℕ → List ℕ → Type 0
+AbsentIsAbsent b p =
+    (v table x code k : ℕ) → Asked b v table → IsCode code → any (isUnder table x) (handedIn b) ≡ false
+    → (lookedUp p v table x code ≡ absent (looks b table x)) × (stringFound p v table x k ≡ absent (looks b table x))
+
+-- in a table that was written the search for what is absent ends at an unused slot; where the table wasn't written, after 0 looks
+abbrev pub AbsentEnds : List ℕ → Type 0
+AbsentEnds b =
+    (table x : ℕ) → (table ≡ 1) ⊎ (table ≡ 2) → any (isUnder table x) (handedIn b) ≡ false
+    → ((identitiesOf b table ≡ []) × (looks b table x ≡ 0))
+    ⊎ ((1 ≤ looks b table x) × (getD (slotsOfTable b table .rows) (slotAfter x (length (slotsOfTable b table .rows)) (looks b table x - 1)) 0 ≡ 0))
+
+-- "looks are those of the probing definition, the slot where it ends included", which the clauses above say; and at most the slots
+abbrev pub LooksAtMostSlots : List ℕ → Type 0
+LooksAtMostSlots b = (table x : ℕ) → looks b table x ≤ length (slotsOfTable b table .rows)
+
+-- "by version means 22": the other version, where an index was written
+abbrev pub TheOtherVersion : List ℕ → List ℕ → Type 0
+TheOtherVersion b p =
+    (v table x code k : ℕ) → isIndexVersion b v ≡ false → (handedIn b ≡ [] → ⊥)
+    → (lookedUp p v table x code ≡ refused 22) × (stringFound p v table x k ≡ refused 22)
+
+-- neither lookup refuses, but for an entry that isn't there
+abbrev pub NeitherRefuses : List ℕ → List ℕ → Type 0
+NeitherRefuses b p =
+    (v table x code k n : ℕ) → Asked b v table → IsCode code
+    → (lookedUp p v table x code ≡ refused n → ⊥) × (stringFound p v table x k ≡ refused n → n ≡ 25)
+
+pub record FromBundleToAnswer (b p : List ℕ) : Type 0 where
+  pub foundExactlyWhenHandedIn : FoundExactlyWhenHandedIn b p
+  pub theFirstUnit : TheFirstUnit b p
+  pub theFirstUnitInLength : TheFirstUnitInLength b p
+  pub itsStrings : ItsStrings b p
+  pub noOtherString : NoOtherString b p
+  pub absentIsAbsent : AbsentIsAbsent b p
+  pub absentEnds : AbsentEnds b
+  pub looksAtMostSlots : LooksAtMostSlots b
+  pub theOtherVersion : TheOtherVersion b p
+  pub neitherRefuses : NeitherRefuses b p
+
+-- the bundle is bytes, as every slice of them is
+abbrev pub AreBytes : List ℕ → Type 0
+AreBytes b = (i : ℕ) → getD b i 0 < 256
+
+-- demand 3
+abbrev pub Demand3 : Type 0
+Demand3 = (b : List ℕ) (w o : ℕ) (p : List ℕ) → AreBytes b → packed b w o ≡ made p → FromBundleToAnswer b p

@@ -1,0 +1,194 @@
+-- What is known of each unit that was filed, and where its object's sections lie.
+-- Assumes nothing.
+use mathlib.Core.Path.{_≡_, refl, sym, ap, _∙_, subst}
+use mathlib.Core.Logic.{_⊎_, ⊎-elim}
+use mathlib.Core.Bool.{Bool, true, false}
+use mathlib.Core.List.{List, [], _∷_, _++_, map}
+use mathlib.Core.Option.{Option, some, none}
+use Prim.Native.Nat.{ℕ, zero, suc, _+_, _^_, _<_, _≤_}
+use native.Mathlib.Omega.{arith}
+use lib.Dec.{eqb}
+use lib.ListN.{length, take, drop}
+use lib.Seq.{length-take-le}
+use Rattle.octets.specs.Lists.{any, sum}
+use Rattle.octets.specs.Checked.{Check, pass}
+use Rattle.octets.proofs.Checks.{bind-pass, pass-inj, pass-refuse, known}
+use Rattle.octets.proofs.Numbers.{Bytes, bytes-drop}
+use Rattle.bundle.specs.Bundle.{Object}
+use Rattle.bundle.specs.Encoding.{Encoding, encodingOf}
+use Rattle.bundle.specs.Written.{Section}
+use Rattle.unit.specs.UnitRead.{UnitRead, unitOf}
+use Rattle.unit.proofs.UnitFacts.{UnitFacts, unit-facts}
+use Rattle.index.specs.Index.{Index, Contribution}
+use Rattle.index.specs.Rows.{BySection, rowContributions, wholeContributions}
+use Rattle.index.proofs.Contributions.{Contributed, Whole, whole-contributed, row-contributed}
+use Rattle.package.specs.Input.{Input, inputOf}
+use Rattle.package.specs.Filing.{Filed, Filing, isUnder, indexFor, sums, lengths, contributionsOf, skipped, unitAt, unitsFrom, unitsIn, grown, filingFrom}
+use Rattle.bundle.proofs.Every.{Every, nothing, also}
+use Rattle.package.proofs.Each.{each-head, each-tail, each-append, each-snoc, each-so}
+use Rattle.package.proofs.Inputs.{InputFacts, UnitSection, input-facts}
+
+-- ---- contributions
+-- each lies in its section; in version 5 it is the whole section
+abbrev pub Contributes : Encoding → Input → BySection (Option Contribution) → Type 0
+Contributes e i g = (c : ℕ) (k : Contribution) → g c ≡ some k → Contributed (e .width) (lengths i) c k × (e .version ≡ 5 → Whole (lengths i) c k)
+
+some-none : {A : Type 0} {a : A} {P : Type 0} → some a ≡ none → P
+some-none e = let z : _≡_ {A = ℕ} 0 1 = cc in absurd (omega arith)
+
+contributes-none : (e : Encoding) (i : Input) → Contributes e i (λ c. none)
+contributes-none e i c k q = some-none (sym q)
+
+contributes-skipped : (e : Encoding) (i : Input) (table : ℕ) (g : BySection (Option Contribution)) → skipped table ≡ pass g → Contributes e i g
+unfolding skipped
+contributes-skipped e i table g q = ⊎-elim
+    (λ (t : eqb table 1 ≡ true). absurd (pass-refuse g 14 (sym (rw (skipped, t) at q))))
+    (λ (t : eqb table 1 ≡ false). subst (Contributes e i) (pass-inj (rw (skipped, t) at q)) (contributes-none e i))
+    (known (eqb table 1))
+
+contributes-whole : (e : Encoding) (i : Input) → Contributes e i (wholeContributions (lengths i))
+contributes-whole e i c k q = let r = whole-contributed (e .width) (lengths i) c k q in (r .0, λ v. r .1)
+
+module _ (e : Encoding) (i : Input) (facts : InputFacts e i) where
+  contributes-row : (x : Index) (table : ℕ) (s : BySection ℕ) (identity home at size : ℕ) (g : BySection (Option Contribution)) → indexFor i table ≡ some x
+      → rowContributions x (i .encoding .width) (lengths i) s identity home at size ≡ pass g → Contributes e i g
+  contributes-row x table s identity home at size g t q c k h = (
+    row-contributed x (e .width) (lengths i) s identity home at size g (ap (λ (d : Encoding). rowContributions x (d .width) (lengths i) s identity home at size) (sym (facts .encoded)) ∙ q) c k h,
+    λ v. absurd (facts .indexes table x t v),
+  )
+
+  contributes-filed : (here : List Filed) (home at : ℕ) (u : UnitRead) (g : BySection (Option Contribution)) → contributionsOf i here home at u ≡ pass g → Contributes e i g
+  unfolding contributionsOf
+  contributes-filed here home at u g q = from (indexFor i (u .table)) refl q
+    where
+      from : (o : Option Index) → indexFor i (u .table) ≡ o
+          → (elim o as (λ z. Check (BySection (Option Contribution))) [
+            | some x ↦ rowContributions x (i .encoding .width) (lengths i) (sums here (u .table)) (u .identity) home at (u .size)
+            | none ↦ pass (wholeContributions (lengths i))
+          ]) ≡ pass g → Contributes e i g
+      from (some x) t r = contributes-row x (u .table) (sums here (u .table)) (u .identity) home at (u .size) g t r
+      from none t r = subst (Contributes e i) (pass-inj r) (contributes-whole e i)
+
+-- ---- one unit
+pub record Good (e : Encoding) (u : Filed) : Type 0 where
+  pub tables : (u .table ≡ 1) ⊎ (u .table ≡ 2)
+  pub small : u .identity < 2 ^ 64
+  pub notZero : u .identity ≡ 0 → ⊥
+  pub homes : (u .home ≡ 1) ⊎ (u .home ≡ 2)
+  pub four : u .home ≡ 2 → e .version ≡ 5 → ⊥
+  pub some : 4 ≤ length (u .bytes)
+  pub object : InputFacts e (u .input)
+  pub contributes : Contributes e (u .input) (u .contributions)
+
+-- a unit of object i, whose sections begin at bases
+pub record Of (e : Encoding) (i : Input) (bases : BySection ℕ) (u : Filed) : Type 0 where
+  pub good : Good e u
+  pub input : u .input ≡ i
+  pub base : (c : ℕ) → u .bases c ≡ bases c
+
+module _ (e : Encoding) (i : Input) (facts : InputFacts e i) (bases : BySection ℕ) (earlier : List Filed) where
+  unit-made : (home : ℕ) (s : List ℕ) (u : UnitRead) (g : BySection (Option Contribution)) → UnitFacts s u → (home ≡ 1) ⊎ (home ≡ 2) → (home ≡ 2 → e .version ≡ 5 → ⊥)
+      → Contributes e i g
+      → Of e i bases (record { table = u .table; identity = u .identity; home = home; bytes = take (u .size) s; input = i; contributions = g; bases = bases })
+  unit-made home s u g f h v c = record {
+    good = record {
+      tables = f .tables;
+      small = f .small;
+      notZero = f .notZero;
+      homes = h;
+      four = v;
+      some = rw (length-take-le (u .size) s (f .within)) (f .some);
+      object = facts;
+      contributes = c;
+    };
+    input = refl;
+    base = λ c. refl;
+  }
+
+  pub unit-of : (here : List Filed) (home at : ℕ) (s : List ℕ) (u : Filed) → Bytes s → (home ≡ 1) ⊎ (home ≡ 2) → (home ≡ 2 → e .version ≡ 5 → ⊥)
+      → unitAt i bases earlier here home at s ≡ pass u → Of e i bases u
+  unfolding unitAt
+  unit-of here home at s u h t v q =
+      let r = bind-pass (unitOf (i .encoding) home (i .bytes 3) s) _ u q in
+      let k = bind-pass (elim (any (isUnder (r .0 .table) (r .0 .identity)) (earlier ++ here)) as (λ z. Check (BySection (Option Contribution))) [
+        | true ↦ skipped (r .0 .table)
+        | false ↦ contributionsOf i here home at (r .0)
+      ]) _ u (r .2) in
+      subst (Of e i bases) (pass-inj (k .2)) (unit-made home s (r .0) (k .0) (unit-facts (i .encoding) home (i .bytes 3) s (r .0) h (r .1)) t v (from (r .0) (k .0) (k .1)))
+    where
+      from : (r : UnitRead) (g : BySection (Option Contribution))
+          → (elim (any (isUnder (r .table) (r .identity)) (earlier ++ here)) as (λ z. Check (BySection (Option Contribution))) [
+            | true ↦ skipped (r .table)
+            | false ↦ contributionsOf i here home at r
+          ]) ≡ pass g → Contributes e i g
+      from r g p = ⊎-elim
+          (λ (z : any (isUnder (r .table) (r .identity)) (earlier ++ here) ≡ true). contributes-skipped e i (r .table) g (rw z at p))
+          (λ (z : any (isUnder (r .table) (r .identity)) (earlier ++ here) ≡ false). contributes-filed e i facts here home at r g (rw z at p))
+          (known (any (isUnder (r .table) (r .identity)) (earlier ++ here)))
+
+  units-from : (home : ℕ) → (home ≡ 1) ⊎ (home ≡ 2) → (home ≡ 2 → e .version ≡ 5 → ⊥) → (k : ℕ) (here : List Filed) (at : ℕ) (s : List ℕ) (us : List Filed)
+      → Bytes s → Every (Of e i bases) here → unitsFrom k i bases earlier here home at s ≡ pass us → Every (Of e i bases) us
+  unfolding unitsFrom
+  units-from home t v zero here at s us h g q = absurd (pass-refuse us 11 (sym q))
+  units-from home t v (suc k) here at [] us h g q = subst (Every (Of e i bases)) (pass-inj q) g
+  units-from home t v (suc k) here at (b ∷ s) us h g q =
+      let r = bind-pass (unitAt i bases earlier here home at (b ∷ s)) _ us q in
+      units-from home t v k (here ++ (r .0 ∷ [])) (at + length (r .0 .bytes)) (drop (length (r .0 .bytes)) (b ∷ s)) us (bytes-drop (length (r .0 .bytes)) (b ∷ s) h)
+      (each-snoc here (r .0) g (unit-of here home at (b ∷ s) (r .0) h t v (r .1))) (r .2)
+
+  pub units-in : (ss : List Section) (here us : List Filed) → Every (UnitSection e) ss → Every (Of e i bases) here → unitsIn i bases earlier here ss ≡ pass us → Every (Of e i bases) us
+  unfolding unitsIn
+  units-in [] here us f g q = subst (Every (Of e i bases)) (pass-inj q) g
+  units-in (s ∷ ss) here us f g q =
+      let r = bind-pass (unitsFrom (suc (length (s .bytes))) i bases earlier here (s .code) 0 (s .bytes)) _ us q in
+      let h = each-head f in
+      units-in ss (r .0) us (each-tail f) (units-from (s .code) (h .codes) (h .four) (suc (length (s .bytes))) here 0 (s .bytes) (r .0) (h .areBytes) g (r .1)) (r .2)
+
+-- ---- all objects
+-- how many bytes of section c stand in objects
+unfoldable pub lengthsIn : List Input → ℕ → ℕ
+lengthsIn is c = sum (map (λ i. length (i .bytes c)) is)
+
+-- a unit's object stands among the inputs, and its sections begin behind those of the earlier ones
+pub record Lies (base : BySection ℕ) (inputs : List Input) (u : Filed) : Type 0 where
+  pub before : List Input
+  pub behind : List Input
+  pub stands : inputs ≡ before ++ (u .input ∷ behind)
+  pub begins : (c : ℕ) → u .bases c ≡ base c + lengthsIn before c
+
+pub record FilingFacts (e : Encoding) (base : BySection ℕ) (f : Filing) : Type 0 where
+  pub inputs : Every (InputFacts e) (f .inputs)
+  pub units : Every (Good e) (f .units)
+  pub lie : Every (Lies base (f .inputs)) (f .units)
+
+lies-here : (e : Encoding) (i : Input) (base : BySection ℕ) (is : List Input) (u : Filed) → Of e i base u → Lies base (i ∷ is) u
+unfolding lengthsIn sum
+lies-here e i base is u o = record { before = []; behind = is; stands = ap (λ (j : Input). j ∷ is) (sym (o .input)); begins = λ c. omega (arith, o .base c) }
+
+lies-later : (i : Input) (base : BySection ℕ) (is : List Input) (u : Filed) → Lies (grown base i) is u → Lies base (i ∷ is) u
+unfolding lengthsIn sum grown
+lies-later i base is u l = record {
+  before = i ∷ l .before;
+  behind = l .behind;
+  stands = ap (λ (j : List Input). i ∷ j) (l .stands);
+  begins = λ c. omega (arith, l .begins c);
+}
+
+pub filing-facts : (b : List ℕ) (big : Bool) (first : ℕ) → Bytes b → (base : BySection ℕ) (earlier : List Filed) (os : List Object) (f : Filing)
+    → filingFrom b big first base earlier os ≡ pass f → FilingFacts (encodingOf big first) base f
+unfolding filingFrom
+filing-facts b big first h base earlier [] f q = subst (FilingFacts (encodingOf big first) base) (pass-inj q) (record { inputs = nothing; units = nothing; lie = nothing })
+filing-facts b big first h base earlier (o ∷ os) f q =
+    let e = encodingOf big first in
+    let i = bind-pass (inputOf b big first o) _ f q in
+    let facts = input-facts b big first o (i .0) h (i .1) in
+    let here = bind-pass (unitsIn (i .0) base earlier [] (i .0 .units)) _ f (i .2) in
+    let rest = bind-pass (filingFrom b big first (grown base (i .0)) (earlier ++ here .0) os) _ f (here .2) in
+    let units = units-in e (i .0) facts base earlier (i .0 .units) [] (here .0) (facts .sections) nothing (here .1) in
+    let later = filing-facts b big first h (grown base (i .0)) (earlier ++ here .0) os (rest .0) (rest .1) in
+    subst (FilingFacts e base) (pass-inj (rest .2))
+    (record {
+      inputs = also facts (later .inputs);
+      units = each-append (each-so (λ u r. r .good) units) (later .units);
+      lie = each-append (each-so (λ u r. lies-here e (i .0) base (rest .0 .inputs) u r) units) (each-so (λ u r. lies-later (i .0) base (rest .0 .inputs) u r) (later .lie));
+    })

@@ -1,0 +1,209 @@
+-- The cases of a header and of entries as the code tests them, and of a string read byte by byte.
+-- Assumes nothing.
+use mathlib.Core.Path.{_≡_, refl, sym, ap, _∙_}
+use mathlib.Core.Bool.{Bool, true, false, _&&_}
+use mathlib.Core.List.{List, _∷_}
+use Prim.Native.Nat.{ℕ, suc, _+_, _*_, _-_, _/_, _%_, _<_, _≤_}
+use native.Mathlib.Nat.{zero-div}
+use native.Mathlib.Omega.{arith}
+use native.Mathlib.Numerals.{add-one}
+use lib.Dec.{eqb, leb}
+use lib.ListN.{length, drop, getD, drop-of-length-le}
+use lib.Seq.{drop-cons}
+use borrow.Author.Tests.{lt-leb, le-leb, eq-eqb, ne-eqb}
+use Rattle.octets.specs.Octets.{numberAt}
+use Rattle.octets.specs.Checked.{Check, pass, refuse, _>>=_}
+use Rattle.octets.proofs.Checks.{not-left, not-right}
+use Rattle.bundle.specs.Encoding.{Encoding}
+use Rattle.bundle.specs.Encoded.{four, encodingIs}
+use Rattle.bundle.specs.declared.encoding.ObjectEncoding.{ObjectEncoding}
+use Rattle.strings.specs.Strings.{headerSize, headerTrue, entriesIn, entriesOf, upToZero, stringAt}
+use Rattle.strings.specs.Answers.{entriesRead, stringRead}
+use Rattle.strings.specs.declared.entries.Entries.the-variants.{Count, IllFormed}
+use Rattle.strings.specs.declared.entries.StringRead.{StringRead}
+use Rattle.strings.specs.declared.entries.StringRead.the-variants.{At, Missing}
+use Rattle.strings.proofs.Ends.{upTo-none, upTo-zero, upTo-more, stringAt-beyond}
+use Rattle.strings.proofs.StrOffsets.{true-narrow, true-wide, header-five, header-four, whole-entries, entries-false, entries-odd, length-entriesIn, Sound, entry-within, entriesIn-at}
+
+-- ---- what the code holds of an encoding
+module _ (e : ObjectEncoding) where
+  pub is-five : e .five ≡ true → encodingIs e .version ≡ 5
+  unfolding encodingIs four
+  is-five h = ap (λ (t : Bool). four t 5) h
+
+  pub not-five : e .five ≡ false → encodingIs e .version ≡ 5 → ⊥
+  unfolding encodingIs four
+  not-five h p = let q : _≡_ {A = ℕ} 4 5 = sym (ap (λ (t : Bool). four t 5) h) ∙ p in omega arith
+
+  pub is-wide : e .wide ≡ true → encodingIs e .width ≡ 4 → ⊥
+  unfolding encodingIs four
+  is-wide h p = let q : _≡_ {A = ℕ} 8 4 = sym (ap (λ (t : Bool). four t 8) h) ∙ p in omega arith
+
+  pub is-narrow : e .wide ≡ false → encodingIs e .width ≡ 4
+  unfolding encodingIs four
+  is-narrow h = ap (λ (t : Bool). four t 8) h
+
+  pub size-five : e .five ≡ true → encodingIs e .width + encodingIs e .width ≡ headerSize (encodingIs e)
+  size-five h = sym (header-five (encodingIs e) (is-five h))
+
+  pub size-four : e .five ≡ false → 0 ≡ headerSize (encodingIs e)
+  size-four h = sym (header-four (encodingIs e) (not-five h))
+
+  -- ---- the header as the code tests it
+  module _ (s : List ℕ) (five : e .five ≡ true) where
+    module _ (narrow : e .wide ≡ false) where
+      pub narrow-short : length s < 8 → false ≡ headerTrue (encodingIs e) s
+      narrow-short h = sym (true-narrow (encodingIs e) s (is-five five) (is-narrow narrow) ∙ not-left _ _ (not-left _ _ (not-left _ _ (lt-leb 8 (length s) h))))
+
+      pub narrow-rest : (n : ℕ) → n ≡ numberAt (e .big) 4 s 0 → (n ≡ length s - 4 → ⊥) → false ≡ headerTrue (encodingIs e) s
+      unfolding encodingIs
+      narrow-rest n q h =
+          sym
+          (true-narrow (encodingIs e) s (is-five five) (is-narrow narrow)
+          ∙ not-left _ _ (not-left _ _ (not-right (leb 8 (length s)) _ (ne-eqb (numberAt (e .big) 4 s 0) (length s - 4) (λ z. h (q ∙ z))))))
+
+      pub narrow-all : (r : Bool) (n : ℕ) → 8 ≤ length s → n ≡ numberAt (e .big) 4 s 0 → n ≡ length s - 4
+          → r ≡ (eqb (numberAt (e .big) 2 s 4) 5 && eqb (numberAt (e .big) 2 s 6) 0) → r ≡ headerTrue (encodingIs e) s
+      unfolding encodingIs
+      narrow-all r n l q h g =
+          g
+          ∙ sym
+          (true-narrow (encodingIs e) s (is-five five) (is-narrow narrow)
+          ∙ rw (le-leb 8 (length s) l, eq-eqb (numberAt (e .big) 4 s 0) (length s - 4) (sym q ∙ h)))
+
+    module _ (wide : e .wide ≡ true) where
+      pub wide-short : length s < 16 → false ≡ headerTrue (encodingIs e) s
+      wide-short h =
+          sym
+          (true-wide (encodingIs e) s (is-five five) (is-wide wide) ∙ not-left _ _ (not-left _ _ (not-left _ _ (not-left _ _ (lt-leb 16 (length s) h)))))
+
+      pub wide-mark : (m : ℕ) → m ≡ numberAt (e .big) 4 s 0 → (m ≡ 0xFFFF_FFFF → ⊥) → false ≡ headerTrue (encodingIs e) s
+      unfolding encodingIs
+      wide-mark m q h =
+          sym
+          (true-wide (encodingIs e) s (is-five five) (is-wide wide)
+          ∙ not-left _ _ (not-left _ _ (not-left _ _ (not-right (leb 16 (length s)) _ (ne-eqb (numberAt (e .big) 4 s 0) 0xFFFF_FFFF (λ z. h (q ∙ z)))))))
+
+      pub wide-rest : (n : ℕ) → n ≡ numberAt (e .big) 8 s 4 → (n ≡ length s - 12 → ⊥) → false ≡ headerTrue (encodingIs e) s
+      unfolding encodingIs
+      wide-rest n q h =
+          sym
+          (true-wide (encodingIs e) s (is-five five) (is-wide wide)
+          ∙ not-left _ _ (not-left _ _ (not-right (leb 16 (length s) && eqb (numberAt (e .big) 4 s 0) 0xFFFF_FFFF) _ (ne-eqb (numberAt (e .big) 8 s 4) (length s - 12) (λ z. h (q ∙ z))))))
+
+      pub wide-all : (r : Bool) (m n : ℕ) → 16 ≤ length s → m ≡ numberAt (e .big) 4 s 0 → m ≡ 0xFFFF_FFFF → n ≡ numberAt (e .big) 8 s 4 → n ≡ length s - 12
+          → r ≡ (eqb (numberAt (e .big) 2 s 12) 5 && eqb (numberAt (e .big) 2 s 14) 0) → r ≡ headerTrue (encodingIs e) s
+      unfolding encodingIs
+      wide-all r m n l p k q h g =
+          g
+          ∙ sym
+          (true-wide (encodingIs e) s (is-five five) (is-wide wide)
+          ∙ rw (le-leb 16 (length s) l, eq-eqb (numberAt (e .big) 4 s 0) 0xFFFF_FFFF (sym p ∙ k), eq-eqb (numberAt (e .big) 8 s 4) (length s - 12) (sym q ∙ h)))
+
+-- ---- 8 as the code tests it
+module _ (e : Encoding) (s : List ℕ) where
+  pub ill-header : headerTrue e s ≡ false → IllFormed ≡ entriesRead (entriesOf e s)
+  unfolding entriesRead
+  ill-header h = sym (ap entriesRead (entries-false e s h))
+
+  -- with the header's size and the width as the code has them
+  module _ (h w : ℕ) (p : h ≡ headerSize e) (q : w ≡ e .width) where
+    pub ill-rest : headerTrue e s ≡ true → ((length s - h) % w ≡ 0 → ⊥) → IllFormed ≡ entriesRead (entriesOf e s)
+    unfolding entriesRead
+    ill-rest t g = sym (ap entriesRead (entries-odd e s t (λ z. g (rw (p, q) z))))
+
+    pub well-formed : headerTrue e s ≡ true → (length s - h) % w ≡ 0 → Count ((length s - h) / w) ≡ entriesRead (entriesOf e s)
+    unfolding entriesRead
+    well-formed t g =
+        rw (p, q)
+        (ap Count (sym (length-entriesIn e s)) ∙ sym (ap entriesRead (whole-entries e s (record { header = t; even = rw (p, q) at g }))))
+
+    -- how many there are
+    pub count-is : (length s - h) / w ≡ length (entriesIn e s)
+    count-is = rw (p, q) (sym (length-entriesIn e s))
+
+    pub count-none : length s < h → 0 ≡ length (entriesIn e s)
+    count-none l = let z : length s - h ≡ 0 = omega arith in sym (zero-div w) ∙ (rw z at count-is)
+
+    -- where an entry ends
+    pub entry-ends : (k : ℕ) → Sound e → k < length (entriesIn e s) → h + w * k + w ≤ length s
+    entry-ends k ok l = rw (p, q) (entry-within e s k ok l)
+
+    pub entry-is : (k n : ℕ) → k < length (entriesIn e s) → n ≡ numberAt (e .big) w s (h + w * k) → n ≡ getD (entriesIn e s) k 0
+    entry-is k n l g = g ∙ rw (p, q) (sym (entriesIn-at e s k l))
+
+-- ---- a string read byte by byte
+-- k bytes lie before what is left
+unfoldable pub readOn : ℕ → ℕ → Check (List ℕ) → StringRead
+readOn start k (pass t) = At start (k + length t)
+readOn start k (refuse n) = Missing
+
+pub read-start : (start : ℕ) (m : Check (List ℕ)) → readOn start 0 m ≡ stringRead start m
+unfolding readOn stringRead
+read-start start (pass t) = ap (At start) (omega arith)
+read-start start (refuse n) = refl
+
+read-cons : (start k b : ℕ) (m : Check (List ℕ)) → readOn start k (m >>= λ t. pass (b ∷ t)) ≡ readOn start (k + 1) m
+unfolding readOn _>>=_
+read-cons start k b (pass t) = ap (At start) (omega arith)
+read-cons start k b (refuse n) = refl
+
+module _ (start k n : ℕ) (s : List ℕ) (i : ℕ) where
+  pub read-zero : i < length s → getD s i 0 ≡ 0 → readOn start k (upToZero n (drop i s)) ≡ At start k
+  unfolding readOn
+  read-zero h e =
+      ap (readOn start k) (ap (upToZero n) (drop-cons s i 0 h) ∙ upTo-zero n (getD s i 0) (drop (suc i) s) e) ∙ ap (At start) (omega arith)
+
+  pub read-turn : i < length s → (getD s i 0 ≡ 0 → ⊥) → readOn start k (upToZero n (drop i s)) ≡ readOn start (k + 1) (upToZero n (drop (i + 1) s))
+  read-turn h e =
+      rw (add-one i) (ap (readOn start k) (ap (upToZero n) (drop-cons s i 0 h) ∙ upTo-more n (getD s i 0) (drop (suc i) s) e) ∙ read-cons start k (getD s i 0) (upToZero n (drop (suc i) s)))
+
+  pub read-end : length s ≤ i → readOn start k (upToZero n (drop i s)) ≡ Missing
+  unfolding readOn
+  read-end h = ap (readOn start k) (ap (upToZero n) (drop-of-length-le s h) ∙ upTo-none n)
+
+pub read-beyond : (n : ℕ) (s : List ℕ) (offset : ℕ) → length s ≤ offset → Missing ≡ stringRead offset (stringAt n s offset)
+unfolding stringRead
+read-beyond n s offset h = sym (ap (stringRead offset) (stringAt-beyond n s offset h))
+
+-- the loop's first and further turns, over the values that it has
+pub reading-first : (n : ℕ) (s : List ℕ) (offset start : ℕ) → start ≡ offset → readOn start (start - start) (upToZero n (drop start s)) ≡ stringRead offset (stringAt n s offset)
+unfolding stringAt
+reading-first n s offset start e =
+    let z : start - start ≡ 0 = omega arith in
+    rw z (read-start start (upToZero n (drop start s)) ∙ rw e)
+
+pub reading-more : (start n : ℕ) (s : List ℕ) (i : ℕ) → start ≤ i → i < length s → (getD s i 0 ≡ 0 → ⊥)
+    → readOn start (i - start) (upToZero n (drop i s)) ≡ readOn start (i + 1 - start) (upToZero n (drop (i + 1) s))
+reading-more start n s i h g e =
+    let z : i - start + 1 ≡ i + 1 - start = omega arith in
+    read-turn start (i - start) n s i g e ∙ ap (λ (k : ℕ). readOn start k (upToZero n (drop (i + 1) s))) z
+
+-- ---- the string of an entry, by its place in the bundle
+-- what was read in a part that starts at base
+pub moved : (base start size : ℕ) (m : Check (List ℕ)) → At start size ≡ stringRead start m → At (base + start) size ≡ stringRead (base + start) m
+unfolding stringRead
+moved base start size (pass t) e = let n : size ≡ length t = cc in ap (At (base + start)) n
+moved base start size (refuse n) e = absurd (let z : _≡_ {A = ℕ} 0 1 = cc in omega arith)
+
+-- where it starts is the offset
+pub starts-at : (start size offset : ℕ) (m : Check (List ℕ)) → At start size ≡ stringRead offset m → start ≡ offset
+unfolding stringRead
+starts-at start size offset (pass t) e = cc
+starts-at start size offset (refuse n) e = absurd (let z : _≡_ {A = ℕ} 0 1 = cc in omega arith)
+
+pub read-missing : (start : ℕ) (m : Check (List ℕ)) → Missing ≡ stringRead start m → (n : ℕ) × (m ≡ refuse n)
+unfolding stringRead
+read-missing start (pass t) e = absurd (let z : _≡_ {A = ℕ} 0 1 = cc in omega arith)
+read-missing start (refuse n) e = (n, refl)
+
+pub read-string : (at size start : ℕ) (m : Check (List ℕ)) → At at size ≡ stringRead start m → (t : List ℕ) × (m ≡ pass t) × (at ≡ start) × (size ≡ length t)
+unfolding stringRead
+read-string at size start (pass t) e = (t, refl, cc, cc)
+read-string at size start (refuse n) e = absurd (let z : _≡_ {A = ℕ} 0 1 = cc in omega arith)
+
+-- a missing string is missing wherever its part starts
+pub missing-moved : (start other : ℕ) (m : Check (List ℕ)) → Missing ≡ stringRead start m → Missing ≡ stringRead other m
+unfolding stringRead
+missing-moved start other (pass t) e = absurd (let z : _≡_ {A = ℕ} 0 1 = cc in omega arith)
+missing-moved start other (refuse n) e = refl

@@ -1,0 +1,82 @@
+-- The state of the table of kept strings: what putting one string leaves, and what adding an object's strings answers.
+-- Assumes nothing.
+use mathlib.Core.Path.{_≡_, refl, sym, ap, _∙_}
+use mathlib.Core.Bool.{true, false}
+use mathlib.Core.List.{List, [], _∷_}
+use Prim.Native.Nat.{ℕ, _+_, _*_, _-_, _<_, _≤_}
+use native.Mathlib.Omega.{arith}
+use lib.ListN.{length, length-append}
+use borrow.Author.Tests.{ltb-true, ltb-false, lt-ltb, le-ltb}
+use Rattle.octets.specs.Octets.{part, placed}
+use Rattle.octets.proofs.Checks.{true-false}
+use Rattle.octets.proofs.Parts.{length-part}
+use Rattle.strings.specs.Strings.{put, strOf}
+use Rattle.strings.specs.Kept.{Kept, foundIn}
+use Rattle.strings.specs.declared.table.Found.the-variants.{At, Missing}
+use Rattle.strings.specs.declared.table.StringTable.{StringTable}
+use Rattle.strings.proofs.FirstUses.{put-known, put-new, put-grows}
+use Rattle.strings.proofs.Offsets.{strOf-none, length-strOf-snoc, put-longer}
+use Rattle.strings.proofs.Holding.{held-none, held-more, known-found, none-found}
+
+-- an empty table
+pub kept-none : (b region : List ℕ) → Kept b region (record { count = 0; size = 0; over = false }) []
+kept-none b region =
+    record {
+      few = omega arith;
+      over = sym (le-ltb 8388607 (length (strOf [])) (rw strOf-none (omega arith)));
+      size = λ _. sym (ap length strOf-none);
+      held = λ _. held-none b region;
+    }
+
+put-more : (table : List (List ℕ)) (s : List ℕ) → length table ≤ length (put table s)
+put-more table s = let p = put-grows table s in rw (p .1, length-append table (p .0)) (omega arith)
+
+module _ (b region : List ℕ) (t : StringTable) (table : List (List ℕ)) (k : Kept b region t table) where
+  -- 19 is not reached: the section is as long as the state says
+  pub kept-within : t .over ≡ false → t .size ≤ 8388607
+  kept-within f = omega (arith, k .size f, ltb-false 8388607 (length (strOf table)) (sym (k .over) ∙ f))
+
+  -- behind the limit nothing is stored, whatever the region holds
+  pub kept-over : (x s : List ℕ) → t .over ≡ true → Kept b x t (put table s)
+  kept-over x s f =
+      let far = ltb-true 8388607 (length (strOf table)) (sym (k .over) ∙ f) in
+      record {
+        few = omega (arith, k .few, put-more table s);
+        over = f ∙ sym (lt-ltb 8388607 (length (strOf (put table s))) (omega (arith, put-longer table s)));
+        size = λ g. absurd (true-false f g);
+        held = λ g. absurd (true-false f g);
+      }
+
+  -- a known string changes nothing
+  pub kept-known : (s : List ℕ) (o : ℕ) → At o ≡ foundIn table s → Kept b region t (put table s)
+  kept-known s o e = rw (put-known table s (known-found table s o e .0)) k
+
+  module _ (f : t .over ≡ false) (start size : ℕ) (fits : start + size ≤ length b) (e : Missing ≡ foundIn table (part b start size)) where
+    longer : length (strOf (put table (part b start size))) ≡ t .size + size + 1
+    longer =
+        rw (put-new table (part b start size) (none-found table (part b start size) e))
+        (length-strOf-snoc table (part b start size) ∙ omega (arith, k .size f, length-part b start size fits))
+
+    -- a new string that would end above the limit
+    pub kept-passes : 8388607 - t .size ≤ size → Kept b region (record { count = t .count; size = t .size; over = true }) (put table (part b start size))
+    kept-passes h =
+        record {
+          few = omega (arith, k .few, put-more table (part b start size));
+          over = sym (lt-ltb 8388607 (length (strOf (put table (part b start size)))) (omega (arith, longer, kept-within f)));
+          size = λ g. absurd (true-false refl g);
+          held = λ g. absurd (true-false refl g);
+        }
+
+    -- a new string goes to the end
+    pub kept-new : (x : List ℕ) → size < 8388607 - t .size → 3 * t .count + 3 ≤ length region → x ≡ placed region (3 * t .count) (start ∷ size ∷ t .size ∷ [])
+        → Kept b x (record { count = t .count + 1; size = t .size + size + 1; over = false }) (put table (part b start size))
+    kept-new x h room q =
+        let s = part b start size in
+        let new = put-new table s (none-found table s e) in
+        rw q
+        record {
+          few = rw (new, length-append table (s ∷ [])) (omega (arith, k .few));
+          over = sym (le-ltb 8388607 (length (strOf (put table s))) (omega (arith, longer, kept-within f)));
+          size = λ _. sym longer;
+          held = λ _. rw new (held-more b region (t .count) table (k .held f) start size (t .size) room fits (k .size f));
+        }

@@ -1,0 +1,172 @@
+-- Laws of offsets in a table of strings: what was found early stays, and the str section has the string there.
+-- Assumes nothing.
+use mathlib.Core.Path.{_≡_, refl, sym, ap, _∙_}
+use mathlib.Core.Logic.{⊎-elim}
+use mathlib.Core.Bool.{true, false}
+use mathlib.Core.List.{List, [], _∷_, _++_, map, append-nil, append-assoc}
+use Prim.Native.Nat.{ℕ, zero, suc, _+_, _<_, _≤_}
+use native.Mathlib.Omega.{arith}
+use native.Mathlib.Numerals.{add-one}
+use lib.ListN.{length, take, drop, getD, length-append, drop-of-length-le}
+use lib.Seq.{drop-cons, take-suc, drop-append-add}
+use Rattle.octets.specs.Lists.{any, same, joined, sum}
+use Rattle.octets.specs.Checked.{pass}
+use Rattle.octets.proofs.Checks.{true-false, known}
+use Rattle.octets.proofs.Lists.{same-eq, same-refl, any-cons, any-stops}
+use Rattle.octets.proofs.Joined.{map-append, joined-append}
+use Rattle.strings.specs.Strings.{put, putAll, firstUses, ended, strOf, offsetIn, upToZero, stringAt}
+use Rattle.strings.proofs.FirstUses.{isIn, put-grows, putAll-grows, put-new, used-in}
+use Rattle.strings.proofs.Ends.{NoZero, upTo-ended}
+
+-- ---- the str section
+pub strOf-none : strOf [] ≡ []
+unfolding strOf joined
+strOf-none = refl
+
+pub strOf-cons : (s : List ℕ) (table : List (List ℕ)) → strOf (s ∷ table) ≡ ended s ++ strOf table
+unfolding strOf joined
+strOf-cons s table = refl
+
+pub strOf-append : (table more : List (List ℕ)) → strOf (table ++ more) ≡ strOf table ++ strOf more
+unfolding strOf
+strOf-append table more = ap joined (map-append ended table more) ∙ joined-append (map ended table) (map ended more)
+
+pub strOf-snoc : (table : List (List ℕ)) (s : List ℕ) → strOf (table ++ (s ∷ [])) ≡ strOf table ++ ended s
+strOf-snoc table s = strOf-append table (s ∷ []) ∙ ap (λ (z : List ℕ). strOf table ++ z) (strOf-cons s [] ∙ ap (λ (z : List ℕ). ended s ++ z) strOf-none ∙ append-nil (ended s))
+
+pub length-ended : (s : List ℕ) → length (ended s) ≡ length s + 1
+unfolding ended
+length-ended s = length-append s (0 ∷ [])
+
+pub length-strOf-cons : (s : List ℕ) (table : List (List ℕ)) → length (strOf (s ∷ table)) ≡ length s + 1 + length (strOf table)
+length-strOf-cons s table = ap length (strOf-cons s table) ∙ length-append (ended s) (strOf table) ∙ ap (λ (k : ℕ). k + length (strOf table)) (length-ended s)
+
+pub length-strOf-append : (table more : List (List ℕ)) → length (strOf (table ++ more)) ≡ length (strOf table) + length (strOf more)
+length-strOf-append table more = ap length (strOf-append table more) ∙ length-append (strOf table) (strOf more)
+
+pub length-strOf-snoc : (table : List (List ℕ)) (s : List ℕ) → length (strOf (table ++ (s ∷ []))) ≡ length (strOf table) + (length s + 1)
+length-strOf-snoc table s = ap length (strOf-snoc table s) ∙ length-append (strOf table) (ended s) ∙ ap (λ (k : ℕ). length (strOf table) + k) (length-ended s)
+
+-- as a sum
+pub length-strOf : (table : List (List ℕ)) → length (strOf table) ≡ sum (map (λ s. length s + 1) table)
+unfolding sum
+length-strOf [] = ap length strOf-none
+length-strOf (s ∷ table) = length-strOf-cons s table ∙ ap (λ (k : ℕ). length s + 1 + k) (length-strOf table)
+
+-- of the first strings of a table
+pub strOf-take : (table : List (List ℕ)) (i : ℕ) → i < length table → strOf (take (i + 1) table) ≡ strOf (take i table) ++ ended (getD table i [])
+strOf-take table i h = rw (add-one, take-suc table i [] h) (strOf-snoc (take i table) (getD table i []))
+
+pub length-strOf-take : (table : List (List ℕ)) (i : ℕ) → i < length table
+    → length (strOf (take (i + 1) table)) ≡ length (strOf (take i table)) + (length (getD table i []) + 1)
+length-strOf-take table i h = rw (add-one, take-suc table i [] h) (length-strOf-snoc (take i table) (getD table i []))
+
+pub length-strOf-take-le : (table : List (List ℕ)) (i : ℕ) → length (strOf (take i table)) ≤ length (strOf table)
+length-strOf-take-le table zero = rw strOf-none (omega arith)
+length-strOf-take-le [] (suc i) = omega arith
+length-strOf-take-le (s ∷ table) (suc i) =
+    rw (length-strOf-cons s (take i table), length-strOf-cons s table) (omega (arith, length-strOf-take-le table i))
+
+-- a table that grows only at its end never gets a shorter section
+pub put-longer : (table : List (List ℕ)) (s : List ℕ) → length (strOf table) ≤ length (strOf (put table s))
+put-longer table s = let p = put-grows table s in rw (p .1, length-strOf-append table (p .0)) (omega arith)
+
+pub putAll-longer : (table used : List (List ℕ)) → length (strOf table) ≤ length (strOf (putAll table used))
+putAll-longer table used = let p = putAll-grows table used in rw (p .1, length-strOf-append table (p .0)) (omega arith)
+
+-- ---- offsets
+pub offset-here : (t : List ℕ) (ts : List (List ℕ)) (s : List ℕ) → same s t ≡ true → offsetIn (t ∷ ts) s ≡ 0
+unfolding offsetIn
+offset-here t ts s e = rw (offsetIn, e)
+
+pub offset-next : (t : List ℕ) (ts : List (List ℕ)) (s : List ℕ) → same s t ≡ false → offsetIn (t ∷ ts) s ≡ length t + 1 + offsetIn ts s
+unfolding offsetIn
+offset-next t ts s e = rw (offsetIn, e)
+
+-- a place found in a table is the place in every longer one
+pub offset-append : (table more : List (List ℕ)) (s : List ℕ) → isIn table s ≡ true → offsetIn (table ++ more) s ≡ offsetIn table s
+unfolding any
+offset-append [] more s e = absurd (true-false e refl)
+offset-append (t ∷ ts) more s e =
+    ⊎-elim (λ p. offset-here t (ts ++ more) s p ∙ sym (offset-here t ts s p))
+    (λ p.
+    offset-next t (ts ++ more) s p ∙ ap (λ (k : ℕ). length t + 1 + k) (offset-append ts more s (sym (any-cons (same s) t ts p) ∙ e)) ∙ sym (offset-next t ts s p))
+    (known (same s t))
+
+pub offset-put : (table : List (List ℕ)) (t s : List ℕ) → isIn table s ≡ true → offsetIn (put table t) s ≡ offsetIn table s
+offset-put table t s e = let p = put-grows table t in rw (p .1) (offset-append table (p .0) s e)
+
+pub offset-putAll : (table used : List (List ℕ)) (s : List ℕ) → isIn table s ≡ true → offsetIn (putAll table used) s ≡ offsetIn table s
+offset-putAll table used s e = let p = putAll-grows table used in rw (p .1) (offset-append table (p .0) s e)
+
+-- where a string is none of a table's, its place is behind them all
+pub offset-absent : (table : List (List ℕ)) (s : List ℕ) → isIn table s ≡ false → offsetIn table s ≡ length (strOf table)
+unfolding offsetIn any
+offset-absent [] s e = rw strOf-none
+offset-absent (t ∷ ts) s e =
+    ⊎-elim (λ p. absurd (true-false (any-stops (same s) t ts p) e))
+    (λ p.
+    offset-next t ts s p ∙ ap (λ (k : ℕ). length t + 1 + k) (offset-absent ts s (sym (any-cons (same s) t ts p) ∙ e)) ∙ sym (length-strOf-cons t ts))
+    (known (same s t))
+
+pub offset-new : (table : List (List ℕ)) (s : List ℕ) → isIn table s ≡ false → offsetIn (put table s) s ≡ length (strOf table)
+unfolding any
+offset-new table s e = rw (put-new table s e) (go table e)
+  where
+    go : (ts : List (List ℕ)) → isIn ts s ≡ false → offsetIn (ts ++ (s ∷ [])) s ≡ length (strOf ts)
+    go [] e = offset-here s [] s (same-refl s) ∙ sym (ap length strOf-none)
+    go (t ∷ ts) e =
+        ⊎-elim (λ p. absurd (true-false (any-stops (same s) t ts p) e))
+        (λ p. offset-next t (ts ++ (s ∷ [])) s p ∙ ap (λ (k : ℕ). length t + 1 + k) (go ts (sym (any-cons (same s) t ts p) ∙ e)) ∙ sym (length-strOf-cons t ts))
+        (known (same s t))
+
+-- a string that is there ends, with its zero, in the section
+pub offset-fits : (table : List (List ℕ)) (s : List ℕ) → isIn table s ≡ true → offsetIn table s + length s + 1 ≤ length (strOf table)
+unfolding any
+offset-fits [] s e = absurd (true-false e refl)
+offset-fits (t ∷ ts) s e =
+    ⊎-elim (λ p. rw (offset-here t ts s p, length-strOf-cons t ts, same-eq s t p) (omega arith))
+    (λ p. rw (offset-next t ts s p, length-strOf-cons t ts) (omega (arith, offset-fits ts s (sym (any-cons (same s) t ts p) ∙ e)))) (known (same s t))
+
+pub offset-le : (table : List (List ℕ)) (s : List ℕ) → offsetIn table s ≤ length (strOf table)
+offset-le table s = ⊎-elim (λ p. omega (arith, offset-fits table s p)) (λ p. omega (arith, offset-absent table s p)) (known (isIn table s))
+
+-- the string with its zero stands at its offset
+pub strOf-at : (table : List (List ℕ)) (s : List ℕ) → isIn table s ≡ true → (q : List ℕ) × (drop (offsetIn table s) (strOf table) ≡ s ++ (0 ∷ q))
+unfolding any ended
+strOf-at [] s e = absurd (true-false e refl)
+strOf-at (t ∷ ts) s e =
+    ⊎-elim (λ p. (strOf ts, rw (offset-here t ts s p, strOf-cons t ts, ← same-eq s t p) (append-assoc s (0 ∷ []) (strOf ts))))
+    (λ p.
+    let r = strOf-at ts s (sym (any-cons (same s) t ts p) ∙ e) in
+    (r .0, rw (offset-next t ts s p, strOf-cons t ts, ← length-ended t) (drop-append-add (ended t) (strOf ts) (offsetIn ts s) ∙ r .1))) (known (same s t))
+
+pub string-in-strOf : (n : ℕ) (table : List (List ℕ)) (s : List ℕ) → isIn table s ≡ true → NoZero s → stringAt n (strOf table) (offsetIn table s) ≡ pass s
+unfolding stringAt
+string-in-strOf n table s e z = let r = strOf-at table s e in ap (upToZero n) (r .1) ∙ upTo-ended n s (r .0) z
+
+-- of all strings used: each is read back at its place in the table of first uses
+pub used-read : (n : ℕ) (used : List (List ℕ)) (i : ℕ) → i < length used → NoZero (getD used i [])
+    → stringAt n (strOf (firstUses used)) (offsetIn (firstUses used) (getD used i [])) ≡ pass (getD used i [])
+used-read n used i h z = string-in-strOf n (firstUses used) (getD used i []) (used-in used i h) z
+
+-- ---- a walk of the table
+pub in-turn : (table : List (List ℕ)) (s : List ℕ) (i : ℕ) → i < length table → same s (getD table i []) ≡ false → isIn (drop i table) s ≡ isIn (drop (i + 1) table) s
+in-turn table s i h e = rw (add-one, drop-cons table i [] h) (any-cons (same s) (getD table i []) (drop (suc i) table) e)
+
+pub offset-turn : (table : List (List ℕ)) (s : List ℕ) (i : ℕ) → i < length table → same s (getD table i []) ≡ false
+    → length (strOf (take i table)) + offsetIn (drop i table) s ≡ length (strOf (take (i + 1) table)) + offsetIn (drop (i + 1) table) s
+offset-turn table s i h e =
+    let p : offsetIn (drop i table) s ≡ length (getD table i []) + 1 + offsetIn (drop (i + 1) table) s =
+    rw (add-one i, drop-cons table i [] h) (offset-next (getD table i []) (drop (suc i) table) s e) in
+    omega (arith, length-strOf-take table i h)
+
+pub in-here : (table : List (List ℕ)) (s : List ℕ) (i : ℕ) → i < length table → same s (getD table i []) ≡ true → isIn (drop i table) s ≡ true
+in-here table s i h e = rw (drop-cons table i [] h) (any-stops (same s) (getD table i []) (drop (suc i) table) e)
+
+pub offset-found : (table : List (List ℕ)) (s : List ℕ) (i : ℕ) → i < length table → same s (getD table i []) ≡ true → offsetIn (drop i table) s ≡ 0
+offset-found table s i h e = rw (drop-cons table i [] h) (offset-here (getD table i []) (drop (suc i) table) s e)
+
+pub in-end : (table : List (List ℕ)) (s : List ℕ) (i : ℕ) → length table ≤ i → isIn (drop i table) s ≡ false
+unfolding any
+in-end table s i h = rw (drop-of-length-le table h)

@@ -1,0 +1,152 @@
+// Entries of a str_offsets section (8), and the string that stands at an offset of str (9).
+ghost use mathlib.Core.Path.{_≡_};
+ghost use mathlib.Core.Bool.{true, false, _&&_};
+ghost use Prim.Native.Nat.{ℕ, _+_, _≤_, _<_};
+ghost use lib.Dec.{eqb};
+ghost use lib.ListN.{length, getD};
+ghost use Rattle.octets.specs.Octets.{numberAt};
+ghost use Rattle.bundle.specs.Encoded.{encodingIs};
+ghost use Rattle.strings.specs.Strings.{
+  headerSize,
+  headerTrue,
+  entriesIn,
+  entriesOf,
+  stringAt,
+};
+ghost use Rattle.strings.specs.Answers.{entriesRead, stringRead};
+use bundle::encoding::ObjectEncoding;
+
+// How many entries a section has.
+pub enum Entries {
+    Count(usize),
+    // refusal 8
+    IllFormed,
+}
+
+// Where a string starts, and its length.
+pub enum StringRead {
+    At(usize, usize),
+    // refusal 9, in a lookup 26
+    Missing,
+}
+
+pub fn header_size(e: ObjectEncoding) -> usize
+    ensures { λ r. ⌜ r ≡ headerSize (encodingIs e) ⌝ }
+{
+    let w = bundle::encoding::width(e);
+    if e.five {
+        return w + w;
+    }
+    0
+}
+
+// The version and the padding, 5 and 0, behind the length of a header.
+fn version_true(big: bool, s: &[u8], at: usize) -> bool
+    requires { ⌜ at + 4 ≤ length (now s) ⌝ }
+    ensures { λ r. ⌜ r ≡ (eqb (numberAt big 2 (now (s .entry)) at) 5 && eqb (numberAt big 2 (now (s .entry)) (at + 2)) 0) ⌝ }
+{
+    if octets::u16_at(big, s, at) != 5 {
+        return false;
+    }
+    octets::u16_at(big, s, at + 2) == 0
+}
+
+// The header of width 4: the length of the rest, 5, 0.
+fn narrow_true(e: ObjectEncoding, s: &[u8]) -> bool
+    requires { ⌜ (e .five ≡ true) × (e .wide ≡ false) ⌝ }
+    ensures { λ r. ⌜ r ≡ headerTrue (encodingIs e) (now (s .entry)) ⌝ }
+{
+    if s.len() < 8 {
+        return false;
+    }
+    let rest = octets::number_at(e.big, 4, s, 0);
+    if rest != octets::long(s.len() - 4) {
+        return false;
+    }
+    version_true(e.big, s, 4)
+}
+
+// The header of width 8, whose length of 8 bytes stands behind FFFFFFFF.
+fn wide_true(e: ObjectEncoding, s: &[u8]) -> bool
+    requires { ⌜ (e .five ≡ true) × (e .wide ≡ true) ⌝ }
+    ensures { λ r. ⌜ r ≡ headerTrue (encodingIs e) (now (s .entry)) ⌝ }
+{
+    if s.len() < 16 {
+        return false;
+    }
+    if octets::number_at(e.big, 4, s, 0) != 0xFFFF_FFFF {
+        return false;
+    }
+    let rest = octets::number_at(e.big, 8, s, 4);
+    if rest != octets::long(s.len() - 12) {
+        return false;
+    }
+    version_true(e.big, s, 12)
+}
+
+fn header_true(e: ObjectEncoding, s: &[u8]) -> bool
+    ensures { λ r. ⌜ r ≡ headerTrue (encodingIs e) (now (s .entry)) ⌝ }
+{
+    if e.five {
+        if e.wide {
+            return wide_true(e, s);
+        }
+        return narrow_true(e, s);
+    }
+    true
+}
+
+// 8: the header is true and whole entries follow.
+pub fn check_entries(e: ObjectEncoding, s: &[u8]) -> Entries
+    ensures { λ r. ⌜ r ≡ entriesRead (entriesOf (encodingIs e) (now (s .entry))) ⌝ }
+{
+    if !header_true(e, s) {
+        return Entries::IllFormed;
+    }
+    let rest = s.len() - header_size(e);
+    let w = bundle::encoding::width(e);
+    if rest % w != 0 {
+        return Entries::IllFormed;
+    }
+    Entries::Count(rest / w)
+}
+
+// How many whole entries a section has, which is judged or, in a lookup, isn't.
+pub fn entry_count(e: ObjectEncoding, s: &[u8]) -> usize
+    ensures { λ r. ⌜ r ≡ length (entriesIn (encodingIs e) (now (s .entry))) ⌝ }
+{
+    let h = header_size(e);
+    let w = bundle::encoding::width(e);
+    if s.len() < h {
+        return 0;
+    }
+    (s.len() - h) / w
+}
+
+// Entry k, which the caller knows to be one of them.
+pub fn entry_at(e: ObjectEncoding, s: &[u8], k: usize) -> u64
+    requires { ⌜ k < length (entriesIn (encodingIs e) (now s)) ⌝ }
+    ensures { λ r. ⌜ r ≡ getD (entriesIn (encodingIs e) (now (s .entry))) k 0 ⌝ }
+{
+    let w = bundle::encoding::width(e);
+    let at = header_size(e) + w * k;
+    octets::number_at(e.big, w, s, at)
+}
+
+// 9: the bytes from an offset up to a zero byte.
+pub fn string_at(s: &[u8], offset: u64) -> StringRead
+    ensures { λ r. ⌜ ((n : ℕ) → r ≡ stringRead offset (stringAt n (now (s .entry)) offset)) ⌝ }
+{
+    if octets::long(s.len()) <= offset {
+        return StringRead::Missing;
+    }
+    let start = octets::size(offset);
+    let mut end = start;
+    while end < s.len() {
+        if s[end] == 0 {
+            return StringRead::At(start, end - start);
+        }
+        end += 1;
+    }
+    StringRead::Missing
+}

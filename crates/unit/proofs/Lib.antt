@@ -1,0 +1,9 @@
+-- Laws of units, and the proofs of their readers.
+-- Assumes nothing.
+pub mod Entries
+pub mod Sizes
+pub mod Fields
+pub mod AtLeast
+-- Laws of the definitions of units.
+-- Assumes nothing.
+pub mod UnitFacts

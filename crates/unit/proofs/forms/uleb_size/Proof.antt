@@ -1,0 +1,30 @@
+-- `unit::forms::uleb_size` meets its contract.
+-- Assumes nothing.
+use mathlib.Core.Path.{sym, _∙_}
+use borrow.Author.Needs.{needs}
+use Rattle.leb128.proofs.Taken.{only-unsigned}
+use Rattle.leb128.proofs.Answered.{number-is, number-refused}
+use Rattle.unit.specs.Forms.{forms}
+use Rattle.unit.proofs.Sizes.{uleb-not, uleb-in}
+use borrow.Author.Needs.{needs}
+use Rattle.unit.proofs.forms.uleb_size.Statement.{statement}
+use Rattle.unit.proofs.forms.uleb_size.Tie as tie
+
+read-unsigned-requires : tie.Need-read-unsigned-requires
+read-unsigned-requires c κs = search needs
+
+enum-known-n : tie.Need-enum-known-n
+enum-known-n c = search needs
+
+enum-told : tie.Need-enum-told
+enum-told c = search needs
+
+returns : tie.Need-returns
+returns c = uleb-not _ (number-refused _ (only-unsigned _) (sym (c .before .before .read-unsigned .ensures) ∙ c .enum-told .given .1))
+
+returns-2 : tie.Need-returns-2
+returns-2 c = uleb-in _ _ _ (number-is _ _ _ (sym (c .before .before .before .read-unsigned .ensures) ∙ c .before .n .given .1))
+
+pub uleb-size-spec : {M : Type 1} → statement M
+uleb-size-spec =
+    tie.close (tie.spec read-unsigned-requires enum-known-n enum-told returns returns-2)

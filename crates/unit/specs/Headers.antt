@@ -1,0 +1,82 @@
+-- The parts of reading a unit, and what the code's answers are by the definition.
+-- Assumes nothing.
+use mathlib.Core.Bool.{Bool, true, false, not, _&&_, _||_}
+use mathlib.Core.List.{List}
+use Prim.Native.Nat.{ℕ, _+_}
+use lib.Dec.{eqb, leb, ltb}
+use lib.ListN.{length, drop, getD}
+use Rattle.octets.specs.Octets.{numberAt}
+use Rattle.octets.specs.Checked.{Check, pass, refuse, _>>=_, require}
+use Rattle.bundle.specs.Encoding.{Encoding}
+use Rattle.unit.specs.Root.{rootIdentity}
+use Rattle.unit.specs.UnitRead.{Identity, UnitRead, lengthField, unitSize, isFive, addressPlace, commonSize}
+use Rattle.unit.specs.declared.header.Kind.{Kind}
+use Rattle.unit.specs.declared.header.Kind.the-variants.{Compilation, Signature, Root, Other}
+use Rattle.unit.specs.declared.header.Identity as code
+use Rattle.unit.specs.declared.header.Identity.the-variants.{Is, Unreadable}
+use Rattle.unit.specs.declared.header.UnitAnswer.{UnitAnswer}
+use Rattle.unit.specs.declared.header.UnitAnswer.the-variants.{Read, Refused}
+
+-- ---- the size: a unit that ends in s
+unfoldable pub fits : List ℕ → ℕ → Check ℕ
+fits s n = require (leb n (length s)) 11 >>= λ _. pass n
+
+unfoldable pub unitInside : Encoding → List ℕ → Check ℕ
+unitInside e s = unitSize e s >>= fits s
+
+-- the same for each width
+unfoldable pub narrowSize : Bool → List ℕ → Check ℕ
+narrowSize big s = do
+  _ ← require (leb 4 (length s)) 11
+  _ ← require (ltb (numberAt big 4 s 0) 0xFFFF_FFF0) 11
+  fits s (4 + numberAt big 4 s 0)
+
+unfoldable pub wideSize : Bool → List ℕ → Check ℕ
+wideSize big s = do
+  _ ← require (leb 12 (length s)) 11
+  _ ← require (eqb (numberAt big 4 s 0) 0xFFFF_FFFF) 11
+  fits s (12 + numberAt big 8 s 4)
+
+-- ---- the common fields
+unfoldable pub commonGood : Encoding → List ℕ → Bool
+commonGood e u =
+    leb (commonSize e) (length u) && (eqb (numberAt (e .big) 2 u (lengthField e)) (e .version) && eqb (getD u (addressPlace e) 0) (e .address))
+
+-- ---- where the identity stands
+unfoldable pub fiveKind : ℕ → Kind
+fiveKind type =
+    elim (eqb type 4 || eqb type 5) [ true ↦ Compilation | false ↦ elim (eqb type 2 || eqb type 6) [ true ↦ Signature | false ↦ Other ] ]
+
+unfoldable pub kindOf : Encoding → ℕ → List ℕ → Kind
+kindOf e home u =
+    elim (isFive e) [ true ↦ fiveKind (getD u (lengthField e + 2) 0) | false ↦ elim (eqb home 1) [ true ↦ Root | false ↦ Signature ] ]
+
+-- the header that a unit of the kind must hold
+unfoldable pub headerSize : Encoding → Kind → ℕ
+headerSize e Compilation = commonSize e + 8
+headerSize e Signature = commonSize e + (8 + e .width)
+headerSize e Root = commonSize e
+headerSize e Other = commonSize e
+
+-- ---- the identity, in a header that is whole
+unfoldable pub signatureAt : Encoding → List ℕ → ℕ
+signatureAt e u = numberAt (e .big) 8 u (commonSize e)
+
+-- the abbreviation table at the header's offset
+unfoldable pub tableAt : Encoding → List ℕ → List ℕ → List ℕ
+tableAt e abbreviations u = drop (numberAt (e .big) (e .width) u (lengthField e + 2)) abbreviations
+
+unfoldable pub identityBy : Encoding → Kind → List ℕ → List ℕ → Check Identity
+identityBy e Compilation abbreviations u = pass (record { table = 1; identity = signatureAt e u })
+identityBy e Signature abbreviations u = pass (record { table = 2; identity = signatureAt e u })
+identityBy e Root abbreviations u = rootIdentity e (tableAt e abbreviations u) (drop (commonSize e) u) >>= λ x. pass (record { table = 1; identity = x })
+identityBy e Other abbreviations u = refuse 12
+
+-- the number and the values of each answer
+unfoldable pub identityCheck : code.Identity → Check Identity
+identityCheck (Is table identity) = pass (record { table = table; identity = identity })
+identityCheck Unreadable = refuse 12
+
+unfoldable pub unitAnswer : Check UnitRead → UnitAnswer
+unitAnswer (pass u) = Read (u .size) (u .table) (u .identity)
+unitAnswer (refuse n) = Refused n
