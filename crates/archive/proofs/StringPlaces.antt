@@ -21,7 +21,7 @@ use Rattle.bundle.specs.Encoding.{Encoding, encodingOf}
 use Rattle.bundle.proofs.RoundTrip.{partsFrom}
 use Rattle.bundle.proofs.WrittenParts.{bytesIn, SectionIn}
 use Rattle.strings.specs.Strings.{headerSize, stringAt, strOf}
-use Rattle.strings.proofs.Sections.{length-entriesIn}
+use Rattle.strings.proofs.StrOffsets.{length-entriesIn}
 use Rattle.strings.proofs.Ends.{stringAt-is}
 use Rattle.index.specs.Index.{Index, Contribution, cellOf}
 use Rattle.index.proofs.LawColumns.{formOf}

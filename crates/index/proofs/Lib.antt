@@ -1,4 +1,4 @@
--- Laws of indexes: probing, placing, contributions, and an index written and read back.
+-- Laws of indexes: probing, placing, contributions, an index written and read back; and what the proofs of the code cite.
 -- Assumes nothing.
 pub mod Contributions
 pub mod Examples
@@ -18,8 +18,6 @@ pub mod LawRead
 pub mod RoundTrip
 pub mod LawCells
 pub mod LawWhole
--- Laws of the definitions, which the proofs of the code cite.
--- Assumes nothing.
 pub mod Masks
 pub mod Heads
 pub mod Looks

@@ -17,8 +17,8 @@ use Rattle.octets.specs.Checked.{pass}
 use Rattle.octets.proofs.Checks.{known, and-left, and-right, or-cases, pass-inj}
 use Rattle.bundle.specs.Encoding.{Encoding, encodingGood}
 use Rattle.strings.specs.Strings.{headerSize, entriesIn, stringsAt, stringAt, strOf, firstUses, remapped}
-use Rattle.strings.proofs.Table.{isIn, used-in}
-use Rattle.strings.proofs.Sections.{Sound, Whole as WholeEntries}
+use Rattle.strings.proofs.FirstUses.{isIn, used-in}
+use Rattle.strings.proofs.StrOffsets.{Sound, Whole as WholeEntries}
 use Rattle.strings.proofs.Ends.{length-stringsAt}
 use Rattle.strings.proofs.Remapped.{length-remapped}
 use Rattle.strings.proofs.PartEntries.{entry-ends, part-entry, part-entry-within, entry-string, remapped-names}

@@ -13,3 +13,4 @@ pub mod Places
 pub mod Adding
 pub mod Writing
 pub mod PartEntries
+pub mod Callers

@@ -13,10 +13,10 @@ use Rattle.octets.proofs.Parts.{length-part}
 use Rattle.octets.proofs.Numbers.{numberAt-part}
 use Rattle.bundle.specs.Encoding.{Encoding}
 use Rattle.strings.specs.Strings.{headerSize, entriesIn, stringsAt, stringAt, strOf, offsetIn, remapped}
-use Rattle.strings.proofs.Table.{isIn}
+use Rattle.strings.proofs.FirstUses.{isIn}
 use Rattle.strings.proofs.Ends.{length-stringsAt, stringsAt-at, stringAt-is}
 use Rattle.strings.proofs.Offsets.{string-in-strOf}
-use Rattle.strings.proofs.Sections.{Sound, Whole, length-entriesIn, entriesIn-at, entry-within}
+use Rattle.strings.proofs.StrOffsets.{Sound, Whole, length-entriesIn, entriesIn-at, entry-within}
 use Rattle.strings.proofs.Remapped.{length-map, getD-map, remapped-entries}
 
 -- ---- a part that begins behind m entries

@@ -4,6 +4,4 @@ pub mod Entries
 pub mod Sizes
 pub mod Fields
 pub mod AtLeast
--- Laws of the definitions of units.
--- Assumes nothing.
 pub mod UnitFacts

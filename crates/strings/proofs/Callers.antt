@@ -1,0 +1,40 @@
+-- What callers read from the answers of the code, and the room that kept strings take in the work area.
+-- Assumes nothing.
+use mathlib.Core.Path.{_≡_, refl, sym, ap, _∙_}
+use mathlib.Core.List.{List}
+use Prim.Native.Nat.{ℕ, _+_, _*_, _≤_}
+use native.Mathlib.Omega.{arith}
+use lib.ListN.{length}
+use Rattle.octets.specs.Checked.{Check, pass, refuse}
+use Rattle.bundle.specs.Encoding.{Encoding}
+use Rattle.strings.specs.Strings.{entriesIn, entriesOf}
+use Rattle.strings.specs.Answers.{entriesRead}
+use Rattle.strings.specs.declared.entries.Entries.{Entries}
+use Rattle.strings.specs.declared.entries.Entries.the-variants.{Count, IllFormed}
+use Rattle.strings.proofs.StrOffsets.{Sound, entries-whole, whole-entries, entries-refused, entries-few}
+
+-- what check_entries answers
+read-count : (n : ℕ) (m : Check (List ℕ)) → Count n ≡ entriesRead m → (ns : List ℕ) × (m ≡ pass ns) × (n ≡ length ns)
+unfolding entriesRead
+read-count n (pass ns) e = (ns, refl, cc)
+read-count n (refuse k) e = absurd (let z : _≡_ {A = ℕ} 0 1 = cc in omega arith)
+
+read-ill : (m : Check (List ℕ)) → IllFormed ≡ entriesRead m → (n : ℕ) × (m ≡ refuse n)
+unfolding entriesRead
+read-ill (pass ns) e = absurd (let z : _≡_ {A = ℕ} 0 1 = cc in omega arith)
+read-ill (refuse n) e = (n, refl)
+
+pub entries-counted : (e : Encoding) (s : List ℕ) (n : ℕ) → Count n ≡ entriesRead (entriesOf e s) → (n ≡ length (entriesIn e s)) × (entriesOf e s ≡ pass (entriesIn e s))
+entries-counted e s n p =
+    let r = read-count n (entriesOf e s) p in
+    let w = entries-whole e s (r .0) (r .1) in
+    (r .2 ∙ ap length (w .1), whole-entries e s (w .0))
+
+pub entries-ill : (e : Encoding) (s : List ℕ) → IllFormed ≡ entriesRead (entriesOf e s) → entriesOf e s ≡ refuse 8
+entries-ill e s p = let r = read-ill (entriesOf e s) p in r .1 ∙ ap refuse (entries-refused e s (r .0) (r .1))
+
+-- Three words for each kept string: an entry takes a word of the bundle or two, so three words for each word of the bundle are
+-- enough. count strings are kept of used entries, which took no more than bytes; one section more still fits.
+pub strings-room : (e : Encoding) (s : List ℕ) (count used bytes words : ℕ) → Sound e → count ≤ used → 4 * used ≤ bytes → bytes + length s ≤ 4 * words
+    → (3 * (count + length (entriesIn e s)) ≤ 3 * words) × (4 * (used + length (entriesIn e s)) ≤ bytes + length s)
+strings-room e s count used bytes words ok h g l = (omega (arith, entries-few e s ok), omega (arith, entries-few e s ok))

@@ -1,0 +1,176 @@
+// The str_offsets and str of one object remapped, for small cases of each kind: a line for each with both new sections, the
+// first as hexadecimal digits and the second as text with a dot for each zero, or the refusal.
+ghost use mathlib.Core.Path.{_≡_};
+ghost use mathlib.Core.Bool.{false};
+ghost use mathlib.Core.List.{List};
+ghost use Prim.Native.Nat.{ℕ, _+_, _≤_, _<_, _^_};
+ghost use lib.ListN.{length};
+ghost use Rattle.bundle.specs.Encoded.{encodingIs};
+ghost use Rattle.strings.specs.Kept.{Inside, Kept, Judged};
+use bundle::encoding::ObjectEncoding;
+use libc::STDOUT_FILENO;
+use strings::entries::Entries;
+use strings::table::{Added, Place, StringTable};
+
+enum Outcome {
+    // where str starts in the output, and where it ends
+    Sections(usize, usize),
+    Refused(u64),
+    // the table or the output of this program is too short for the case
+    Short,
+}
+
+// The new str_offsets from the front of the output, and the new str behind it.
+fn write_sections(
+    e: ObjectEncoding,
+    b: &[u8],
+    offsets: Place,
+    text: Place,
+    table: &[u32],
+    t: StringTable,
+    output: &mut [u8],
+) -> Outcome
+    requires { ⌜ (t .over ≡ false) × ((ts : List (List ℕ)) × Kept (now b) (now table) t ts) × ((used : List (List ℕ)) × Judged (encodingIs e) (now b) offsets text used) ⌝ }
+{
+    let at = offsets.size;
+    if output.len() < at {
+        return Outcome::Short;
+    }
+    let size = t.size;
+    if output.len() - at < size {
+        return Outcome::Short;
+    }
+    let count = t.count;
+    strings::sections::remap_str_offsets(e, b, offsets, text, table, t, output, 0);
+    strings::sections::write_strings(b, table, count, output, at);
+    Outcome::Sections(at, at + size)
+}
+
+fn remap(
+    e: ObjectEncoding,
+    b: &[u8],
+    offsets: Place,
+    text: Place,
+    table: &mut [u32],
+    output: &mut [u8],
+) -> Outcome
+    requires { ⌜ (length (now b) < 2 ^ 32) × Inside (now b) offsets × Inside (now b) text ⌝ }
+{
+    let first = offsets.start;
+    let last = first + offsets.size;
+    let Entries::Count(n) = strings::entries::check_entries(e, &b[first..last]) else {
+        return Outcome::Refused(8);
+    };
+    if table.len() / 3 < n {
+        return Outcome::Short;
+    }
+    let t = StringTable {
+        count: 0,
+        size: 0,
+        over: false,
+    };
+    let Added::Table(kept) = strings::table::add_strings(e, b, offsets, text, table, t) else {
+        return Outcome::Refused(9);
+    };
+    if kept.over {
+        return Outcome::Refused(19);
+    }
+    write_sections(e, b, offsets, text, table, kept, output)
+}
+
+// An upper-case hexadecimal digit.
+fn digit(n: u8) -> u8
+    requires { ⌜ n < 16 ⌝ }
+{
+    if n < 10 { n + 48 } else { n + 55 }
+}
+
+fn write_hexadecimal(s: &[u8]) {
+    let mut i = 0;
+    while i < s.len() {
+        let b = s[i];
+        io::write_all(STDOUT_FILENO, &[digit(b / 16), digit(b % 16)]);
+        i += 1;
+    }
+}
+
+fn shown(b: u8) -> u8 {
+    if b == 0 { 46 } else { b }
+}
+
+fn write_text(s: &[u8]) {
+    let mut i = 0;
+    while i < s.len() {
+        io::write_all(STDOUT_FILENO, &[shown(s[i])]);
+        i += 1;
+    }
+}
+
+fn write_both(output: &[u8], at: usize, end: usize) {
+    if end <= output.len() {
+        if at <= end {
+            write_hexadecimal(&output[..at]);
+            io::write_all(STDOUT_FILENO, b" ");
+            write_text(&output[at..end]);
+        }
+    }
+}
+
+fn tell(e: ObjectEncoding, b: &[u8], offsets: Place, text: Place)
+    requires { ⌜ (length (now b) < 2 ^ 32) × Inside (now b) offsets × Inside (now b) text ⌝ }
+{
+    let mut table = [0u32; 48];
+    let mut output = [0u8; 256];
+    match remap(e, b, offsets, text, &mut table, &mut output) {
+        Outcome::Sections(at, end) => {
+            write_both(&output, at, end);
+        }
+        Outcome::Refused(code) => {
+            io::write_all(STDOUT_FILENO, b"refused ");
+            io::print_decimal(STDOUT_FILENO, code);
+        }
+        Outcome::Short => {
+            io::write_all(STDOUT_FILENO, b"short");
+        }
+    }
+    io::write_all(STDOUT_FILENO, b"\n");
+}
+
+// An object of a header, entries and str, each as they are.
+fn show(name: &[u8], e: ObjectEncoding, header: &[u8], entries: &[u32], text: &[u8]) {
+    io::write_all(STDOUT_FILENO, name);
+    io::write_all(STDOUT_FILENO, b": ");
+    if 16 < header.len() {
+        return;
+    }
+    if 12 < entries.len() {
+        return;
+    }
+    if 64 < text.len() {
+        return;
+    }
+    let w = bundle::encoding::width(e);
+    let at = header.len();
+    let end = at + w * entries.len();
+    let mut b = [0u8; 192];
+    octets::put_bytes(&mut b, 0, header);
+    octets::put_numbers(e.big, w, entries, &mut b, at);
+    octets::put_bytes(&mut b, end, text);
+    tell(
+        e,
+        &b,
+        Place {
+            start: 0,
+            size: end,
+        },
+        Place {
+            start: end,
+            size: text.len(),
+        },
+    );
+}
+
+fn main() {
+    let four = ObjectEncoding { big: false, five: false, wide: false, long: true };
+    show(b"document 01", four, b"", &[2, 0, 2], b"a\0bc\0");
+}
