@@ -15,7 +15,7 @@ use Rattle.octets.proofs.Lists.{any-append}
 use Rattle.index.specs.Rows.{isSome}
 use Rattle.index.specs.Written.{Row, offsetOf, sizeOf}
 use Rattle.rows.specs.declared.Cells.{Cells}
-use Rattle.rows.specs.Layout.{columnsFor, sectionAt, CellsAre, Stored, identityIn, RowHeld, rowAt, identitiesOf, RowsHeld, ColumnsHeld}
+use Rattle.rows.specs.Layout.{columnsFor, sectionAt, CellsAre, Stored, identityIn, RowHeld, rowAt, identitiesOf, RowsHeld, ColumnsHeld, Marked}
 use Rattle.rows.proofs.LawStored.{columns-are, section-lt}
 
 -- ---- rows of a list
@@ -108,14 +108,13 @@ any-one f x = go (f x) refl
 
 -- the columns that some row has, and those of one row more
 pub columns-more : (five : Bool) (has more : List Bool) (rs : List Row) (r : Row) (cells : Cells) → ColumnsHeld five has rs → CellsAre cells (r .cells)
-    → ((k : ℕ) → k < length (columnsFor five) → getD more k false ≡ (getD has k false || getD (cells .has) (sectionAt five k) false))
-    → ColumnsHeld five more (rs ++ (r ∷ []))
+    → Marked five has more cells (length (columnsFor five)) → ColumnsHeld five more (rs ++ (r ∷ []))
 columns-more five has more rs r cells a c e =
     let most = columns-are five in
     record {
       there =
           λ k h.
-          e k h
+          e .column k h
           ∙ ap₂ (λ (p q : Bool). p || q) (a .there k h) (c .hasIt (sectionAt five k) (section-lt five k (omega arith)) ∙ sym (any-one (λ (q : Row). isSome (q .cells (sectionAt five k))) r))
           ∙ sym (any-append (λ (q : Row). isSome (q .cells (sectionAt five k))) rs (r ∷ []));
     }

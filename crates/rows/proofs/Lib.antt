@@ -5,3 +5,6 @@ pub mod LawRows
 pub mod LawLoops
 pub mod LawPlacing
 pub mod LawSeen
+pub mod LawWriting
+pub mod LawPieces
+pub mod LawIndex

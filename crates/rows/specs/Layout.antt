@@ -2,7 +2,7 @@
 -- Slots hold row numbers alone: a slot's identity is that of its row.
 -- Assumes nothing.
 use mathlib.Core.Path.{_≡_}
-use mathlib.Core.Bool.{Bool, true, false}
+use mathlib.Core.Bool.{Bool, true, false, _||_}
 use mathlib.Core.List.{List, [], _∷_, _++_, map}
 use mathlib.Core.Option.{Option, some, none}
 use Prim.Native.Nat.{ℕ, zero, suc, _+_, _*_, _-_, _/_, _%_, _^_, _<_, _≤_}
@@ -77,6 +77,11 @@ unfoldable pub identitiesFrom : List ℕ → ℕ → ℕ → List ℕ
 identitiesFrom w i zero = []
 identitiesFrom w i (suc n) = identityIn w i ∷ identitiesFrom w (i + 1) n
 
+-- a number where its column is there
+unfoldable pub numbersIf : Bool → ℕ → List ℕ
+numbersIf true n = n ∷ []
+numbersIf false n = []
+
 -- numbers in the words of row i, of the columns that are there: those at 2 are offsets, those at 3 sizes
 unfoldable pub cellsFrom : List Bool → List ℕ → ℕ → ℕ → ℕ → List ℕ
 cellsFrom has w at k zero = []
@@ -93,6 +98,10 @@ codesFrom five has k (suc n) = elim (getD has k false) [ true ↦ codeAt five k 
 
 unfoldable pub codesIn : Bool → List Bool → List ℕ
 codesIn five has = codesFrom five has 0 (length (columnsFor five))
+
+-- the bytes of an index, by its numbers of columns, rows and slots
+unfoldable pub indexSize : ℕ → ℕ → ℕ → ℕ
+indexSize columns n slots = 16 + 12 * slots + 4 * columns + 8 * (n * columns)
 
 -- the index that the words of n rows and the slots state
 unfoldable pub indexIn : Bool → Bool → List Bool → List ℕ → ℕ → List ℕ → List ℕ
@@ -155,3 +164,7 @@ pub record SeenHeld (slots : List ℕ) (xs : List ℕ) : Type 0 where
 -- which columns are there
 pub record ColumnsHeld (five : Bool) (has : List Bool) (rs : List Row) : Type 0 where
   pub there : (k : ℕ) → k < length (columnsFor five) → getD has k false ≡ any (λ r. isSome (r .cells (sectionAt five k))) rs
+
+-- the first m columns marked, where they were or where a row has them
+pub record Marked (five : Bool) (has more : List Bool) (cells : Cells) (m : ℕ) : Type 0 where
+  pub column : (k : ℕ) → k < m → getD more k false ≡ (getD has k false || getD (cells .has) (sectionAt five k) false)

@@ -2,6 +2,7 @@
 pub mod columns;
 pub mod slots;
 pub mod storing;
+pub mod writing;
 
 // What a unit has of each section, by section code: 0 and 0 where it has nothing.
 pub struct Cells {
