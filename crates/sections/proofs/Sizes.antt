@@ -18,7 +18,7 @@ use Rattle.bundle.specs.Bundle.{filledUp}
 use Rattle.bundle.specs.Written.{Section, written}
 use Rattle.bundle.proofs.Next.{filledUp-most}
 use Rattle.bundle.proofs.Sizes.{sectionSize, objectSize, written-size}
-use Rattle.sections.specs.Sections.{sectionsFrom, notEmpty, sectionsBy, sizesGood, framedSize, framedFrom, lengthOf}
+use Rattle.sections.specs.Sections.{sectionsFrom, notEmpty, sectionsBy, sizesGood, framedSize, framedFrom, lengthOf, Sized}
 
 -- ---- the cases of a section's frame
 pub framed-none : (n : ℕ) → n ≡ 0 → 0 ≡ framedSize n
@@ -72,12 +72,6 @@ sizes-bad (n ∷ ns) e = go (sizes-bad ns)
     go rest = ⊎-elim (λ p. on (rest (sym (all-cons (λ n. leb n 8_388_607) n ns p) ∙ e))) (λ p. (0, omega arith, leb-false n 8_388_607 p)) (known (leb n 8_388_607))
 
 -- ---- what sizes say of the sections
--- sizes are those of the sections
-pub record Sized (sizes : List ℕ) (bytes : ℕ → List ℕ) : Type 0 where
-  pub fourteen : length sizes ≡ 14
-  pub zeroth : getD sizes 0 0 ≡ 0
-  pub are : (c : ℕ) → 1 ≤ c → c < 14 → getD sizes c 0 ≡ length (bytes c)
-
 module _ (bytes : ℕ → List ℕ) (c n : ℕ) where
   pub sections-skip : length (bytes c) ≡ 0 → those notEmpty (sectionsFrom bytes c (suc n)) ≡ those notEmpty (sectionsFrom bytes (c + 1) n)
   unfolding sectionsFrom notEmpty

@@ -13,15 +13,8 @@ use Rattle.bundle.specs.Bundle.{filledUp}
 use Rattle.bundle.specs.Written.{Section, wordBytes, headBytes, sectionBytes, objectBytes, endBytes, written}
 use Rattle.bundle.proofs.Putting.{length-word, length-head, length-end, length-section, placed-behind, word-put, end-put, section-put, head-put}
 use Rattle.sections.specs.Sections.{sectionsFrom, notEmpty, sectionsBy}
+use Rattle.sections.specs.Writing.{sectionsLeft, frontOf, Writing}
 use Rattle.sections.proofs.Sizes.{skip-turn, keep-turn, sections-over}
-
--- the bytes of sections from a code on
-unfoldable pub sectionsLeft : (ℕ → List ℕ) → ℕ → List ℕ
-sectionsLeft bytes c = joined (map sectionBytes (those notEmpty (sectionsFrom bytes c (14 - c))))
-
--- what stands before the end word
-unfoldable pub frontOf : Bool → ℕ → (ℕ → List ℕ) → List ℕ
-frontOf big word bytes = headBytes big ++ wordBytes word ++ sectionsLeft bytes 1
 
 front-is : (big : Bool) (word : ℕ) (bytes : ℕ → List ℕ) → headBytes big ++ joined (map objectBytes (record { word = word; sections = sectionsBy bytes } ∷ [])) ≡ frontOf big word bytes
 unfolding frontOf sectionsLeft sectionsBy objectBytes joined
@@ -40,14 +33,6 @@ pub package-length-is : (big : Bool) (word : ℕ) (bytes : ℕ → List ℕ)
 package-length-is big word bytes =
     let front = frontOf big word bytes in
     omega (arith, length-append front (endBytes (length front)), length-end (length front), ap length (package-is big word bytes))
-
--- p is written, the sections from code c on are still to be written
-pub record Writing (front : List ℕ) (bytes : ℕ → List ℕ) (d : List ℕ) (at c : ℕ) : Type 0 where
-  pub p : List ℕ
-  pub is : d ≡ padded p (length d - length p)
-  pub place : at ≡ length p
-  pub left : p ++ sectionsLeft bytes c ≡ front
-  pub room : length front + 4 ≤ length d
 
 padded-is : (d p : List ℕ) (m : ℕ) → d ≡ padded p m → d ≡ padded p (length d - length p)
 padded-is d p m e =

@@ -1,8 +1,9 @@
 -- The sections of a package by code, 1 to 13, and the length of the package by their sizes.
 -- Assumes nothing.
+use mathlib.Core.Path.{_≡_}
 use mathlib.Core.Bool.{Bool, true, false}
 use mathlib.Core.List.{List, [], _∷_}
-use Prim.Native.Nat.{ℕ, zero, suc, _+_}
+use Prim.Native.Nat.{ℕ, zero, suc, _+_, _<_, _≤_}
 use lib.Dec.{leb, eqb}
 use lib.ListN.{length, getD}
 use Rattle.octets.specs.Lists.{all, those}
@@ -36,3 +37,9 @@ framedFrom sizes c (suc n) = framedSize (getD sizes c 0) + framedFrom sizes (c +
 -- head, object word, sections, end
 unfoldable pub lengthOf : List ℕ → ℕ
 lengthOf sizes = 12 + framedFrom sizes 1 13
+
+-- sizes are those of the sections
+pub record Sized (sizes : List ℕ) (bytes : ℕ → List ℕ) : Type 0 where
+  pub fourteen : length sizes ≡ 14
+  pub zeroth : getD sizes 0 0 ≡ 0
+  pub are : (c : ℕ) → 1 ≤ c → c < 14 → getD sizes c 0 ≡ length (bytes c)
