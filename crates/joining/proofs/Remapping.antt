@@ -84,7 +84,7 @@ every-one : {P : Object → Type 0} (xs : List Object) (y : Object) (zs : List O
 every-one [] y zs (also p e) = p
 every-one (x ∷ xs) y zs (also p e) = every-one xs y zs e
 
-length-offsets : (e : Encoding) (ts : List (List ℕ)) (b : List ℕ) → Sound e → (os : List Object) → Every (λ o. EntriesGood e (body b (o .parts) 6) (body b (o .parts) 11)) os
+pub length-offsets : (e : Encoding) (ts : List (List ℕ)) (b : List ℕ) → Sound e → (os : List Object) → Every (λ o. EntriesGood e (body b (o .parts) 6) (body b (o .parts) 11)) os
     → length (joined (map (λ o. remappedIn e ts (body b (o .parts) 6) (body b (o .parts) 11)) os)) ≡ length (sectionsJoined b os 6)
 unfolding sectionsJoined joined
 length-offsets e ts b ok [] g = refl

@@ -128,7 +128,7 @@ good-sections bytes c (suc n) h =
           ∙ rest
     ]
 
-bad-sections : (bytes : ℕ → List ℕ) (c n d : ℕ) → c ≤ d → d < c + n → 8_388_607 < length (bytes d)
+pub bad-sections : (bytes : ℕ → List ℕ) (c n d : ℕ) → c ≤ d → d < c + n → 8_388_607 < length (bytes d)
     → all (λ s. leb (length (s .bytes)) 8_388_607) (those notEmpty (sectionsFrom bytes c n)) ≡ false
 bad-sections bytes c zero d l m g = absurd (omega arith)
 bad-sections bytes c (suc n) d l m g = go (λ z. bad-sections bytes (c + 1) n d (omega arith) (omega arith) g)

@@ -5,16 +5,17 @@ use mathlib.Core.Bool.{Bool}
 use mathlib.Core.List.{List, [], _∷_, _++_, map, append-nil, append-assoc}
 use Prim.Native.Nat.{ℕ, _+_, _*_, _-_, _<_, _≤_}
 use native.Mathlib.Omega.{arith}
+use native.Mathlib.Decide.{ℕ-discrete}
 use lib.ListN.{length, length-append}
 use Rattle.octets.specs.Octets.{placed, padded, zeros}
 use Rattle.octets.specs.Lists.{joined, those}
 use Rattle.octets.proofs.Placed.{length-padded}
 use Rattle.bundle.specs.Bundle.{filledUp}
 use Rattle.bundle.specs.Written.{Section, wordBytes, headBytes, sectionBytes, objectBytes, endBytes, written}
-use Rattle.bundle.proofs.Putting.{length-word, length-head, length-end, length-section, placed-behind, word-put, end-put, section-put, head-put}
-use Rattle.sections.specs.Sections.{sectionsFrom, notEmpty, sectionsBy}
+use Rattle.bundle.proofs.Putting.{length-word, length-head, length-end, length-section, word-put, end-put, section-put, head-put}
+use Rattle.sections.specs.Sections.{sectionsFrom, notEmpty, sectionsBy, framedSize}
 use Rattle.sections.specs.Writing.{sectionsLeft, frontOf, Writing}
-use Rattle.sections.proofs.Sizes.{skip-turn, keep-turn, sections-over}
+use Rattle.sections.proofs.Sizes.{framed-none, framed-some, skip-turn, keep-turn, sections-over}
 
 front-is : (big : Bool) (word : ℕ) (bytes : ℕ → List ℕ) → headBytes big ++ joined (map objectBytes (record { word = word; sections = sectionsBy bytes } ∷ [])) ≡ frontOf big word bytes
 unfolding frontOf sectionsLeft sectionsBy objectBytes joined
@@ -81,14 +82,12 @@ module _ (front : List ℕ) (bytes : ℕ → List ℕ) (d : List ℕ) (at c : �
     writing-room = omega (arith, w .place, w .room, long, ap length behind, length-append (w .p ++ sectionBytes one) (sectionsLeft bytes (c + 1)), length-append (w .p) (sectionBytes one))
 
     -- the section's word and its bytes
-    pub writing-section : (x y : List ℕ) → x ≡ placed d at (wordBytes (0x2000_0000 + c * 0x80_0000 + size)) → y ≡ placed x (at + 4) (bytes c)
-        → Writing front bytes y (at + 4 + filledUp size) (c + 1)
+    pub writing-section : (y : List ℕ) → y ≡ placed d at (wordBytes (0x2000_0000 + c * 0x80_0000 + size) ++ bytes c) → Writing front bytes y (at + 4 + filledUp size) (c + 1)
     unfolding one
-    writing-section x y e f =
+    writing-section y e =
         let n = length d - length (w .p) in
-        let both : y ≡ placed d at (wordBytes (0x2000_0000 + c * 0x80_0000 + size) ++ bytes c) = placed-behind d (bytes c) x y at (0x2000_0000 + c * 0x80_0000 + size) e f (omega (arith, writing-room)) in
         let named : y ≡ placed d at (wordBytes (0x2000_0000 + c * 0x80_0000 + length (bytes c)) ++ bytes c) =
-        both ∙ ap (λ (k : ℕ). placed d at (wordBytes (0x2000_0000 + c * 0x80_0000 + k) ++ bytes c)) sized in
+        e ∙ ap (λ (k : ℕ). placed d at (wordBytes (0x2000_0000 + c * 0x80_0000 + k) ++ bytes c)) sized in
         let fits : 4 + filledUp (length (bytes c)) ≤ n = rw (← sized) (omega (arith, writing-room, w .place)) in
         let put : y ≡ padded (w .p ++ sectionBytes one) (n - length (sectionBytes one)) = named ∙ section-put d (w .p) at n one (w .is) (w .place) fits in
         let size-p : length (w .p ++ sectionBytes one) ≡ length (w .p) + (4 + filledUp size) = length-append (w .p) (sectionBytes one) ∙ omega (arith, long) in
@@ -100,6 +99,13 @@ module _ (front : List ℕ) (bytes : ℕ → List ℕ) (d : List ℕ) (at c : �
           left = behind;
           room = omega (arith, same, w .room);
         }
+
+  -- either way, where the place behind it is told by its size
+  pub writing-frame-room : (size : ℕ) → size ≡ length (bytes c) → at + framedSize size + 4 ≤ length d
+  writing-frame-room size e = elim (ℕ-discrete size 0) [
+    | yes z ↦ omega (arith, framed-none size z, w .place, w .room, ap length (w .left), length-append (w .p) (sectionsLeft bytes c))
+    | no f ↦ omega (arith, framed-some size f, writing-room size e f)
+  ]
 
 -- all sections are written
 module _ (big : Bool) (word : ℕ) (bytes : ℕ → List ℕ) (d : List ℕ) (at c : ℕ) (w : Writing (frontOf big word bytes) bytes d at c) (h : 14 ≤ c) where
