@@ -3,26 +3,26 @@
 use mathlib.Core.Path.{_≡_, refl, sym, ap, _∙_, subst}
 use mathlib.Core.Logic.{_⊎_, inl, inr, ⊎-elim}
 use mathlib.Core.Bool.{true, false}
-use mathlib.Core.List.{List, [], _∷_}
+use mathlib.Core.List.{List, [], _∷_, map, _++_}
 use mathlib.Core.Option.{some}
 use Prim.Native.Nat.{ℕ, _<_, _≤_}
 use native.Mathlib.Decide.{decLt}
 use native.Mathlib.Omega.{arith}
 use lib.ListN.{length}
 use borrow.Author.Tests.{eqb-false}
-use Rattle.octets.specs.Lists.{any}
+use Rattle.octets.specs.Lists.{any, joined}
 use Rattle.octets.specs.Checked.{pass}
-use Rattle.octets.proofs.Checks.{known}
+use Rattle.octets.proofs.Checks.{known, pass-inj}
 use Rattle.octets.proofs.Lists.{any-stops}
 use Rattle.octets.proofs.Numbers.{Bytes}
-use Rattle.bundle.specs.Bundle.{Object}
+use Rattle.bundle.specs.Bundle.{Object, Bundle}
 use Rattle.bundle.specs.Encoding.{encodingOf}
 use Rattle.bundle.proofs.Every.{Every}
 use Rattle.bundle.proofs.RoundTrip.{partsFrom}
 use Rattle.index.specs.Probing.{Probe, found, absent as nowhere, search}
 use Rattle.index.proofs.LawColumns.{formOf}
 use Rattle.index.proofs.LawLooks.{looksOf as looksIn, search-looks}
-use Rattle.package.specs.Filing.{Filed, isUnder, entriesOfUnit}
+use Rattle.package.specs.Filing.{Filed, isUnder, entriesOfUnit, filingOf, firstWord}
 use Rattle.package.specs.Pack.{handedIn}
 use Rattle.package.proofs.Each.{each-head}
 use Rattle.package.proofs.Kept.{first-stands, under-own}
@@ -31,8 +31,11 @@ use Rattle.package.proofs.Accepted.{Accepted, packed-accepted, handed-in}
 use Rattle.package.proofs.PackageRead.{sectionsOf}
 use Rattle.package.proofs.Tables.{encodingIn, facts-of}
 use Rattle.lookup.specs.Lookup.{refused, absent, part, Package, packageOf, lookedUp, stringFound}
+use Rattle.bundle.specs.Written.{Section}
+use Rattle.package.specs.Input.{unitSections}
+use Rattle.package.proofs.EveryUnit.{unitBytesOf, filing-all}
 use Rattle.archive.specs.Theorem as theorem
-use Rattle.archive.specs.Theorem.{IsHandedIn, IsFirst, slotsOfTable, looksOf, looks, IsPart, Holds, FromBundleToAnswer, Demand3}
+use Rattle.archive.specs.Theorem.{IsHandedIn, IsFirst, slotsOfTable, looksOf, looks, IsPart, Holds, FromBundleToAnswer, Demand3, unitSectionBytes}
 use Rattle.archive.proofs.Read.{rowsIn, versionIn, table, package-is}
 use Rattle.archive.proofs.Judged.{part-refused, string-refused, version-form, version-wrong}
 use Rattle.archive.proofs.Absences.{objects-or, no-units, some-rows, absent-is, absent-ends}
@@ -48,6 +51,20 @@ absent-refusal : {P : Type 0} (n m : ℕ) → absent n ≡ refused m → P
 absent-refusal n m e = let z : _≡_ {A = ℕ} 0 1 = cc in absurd (omega arith)
 
 module _ (b p : List ℕ) (a : Accepted b p) (h : Bytes b) where
+  -- ---- every unit
+  sections-same : (os : List Object) → unitBytesOf b os ≡ unitSectionBytes b os
+  unfolding unitBytesOf unitSectionBytes
+  sections-same [] = refl
+  sections-same (o ∷ os) = ap (λ (l : List ℕ). joined (map (λ (s : Section). s .bytes) (unitSections b (o .parts))) ++ l) (sections-same os)
+
+  every-unit : theorem.EveryUnitIsHandedIn b
+  unfolding filingOf
+  every-unit k e =
+      let same : a .bundle ≡ k = pass-inj (sym (a .read) ∙ e) in
+      ap (λ (us : List Filed). joined (map (λ (u : Filed). u .bytes) us)) (handed-in b p a)
+      ∙ filing-all b (a .bundle .big) (firstWord (a .bundle .objects)) (λ c. 0) [] (a .bundle .objects) (a .filing) (a .filed)
+      ∙ sections-same (a .bundle .objects) ∙ ap (λ (u : Bundle). unitSectionBytes b (u .objects)) same
+
   -- some first unit is under what is handed in
   some-first : (t x : ℕ) → IsHandedIn b t x → (u : Filed) × IsFirst b t x u
   some-first t x e =
@@ -141,6 +158,7 @@ module _ (b p : List ℕ) (a : Accepted b p) (h : Bytes b) where
 
   pub from-bundle-to-answer : FromBundleToAnswer b p
   from-bundle-to-answer = record {
+    everyUnitIsHandedIn = every-unit;
     foundExactlyWhenHandedIn = found-exactly;
     theFirstUnit = first-unit;
     theFirstUnitInLength = first-length;

@@ -25,7 +25,7 @@ use Rattle.index.proofs.RoundTrip.{written}
 use Rattle.index.proofs.LawWhole.{Indexed}
 use Rattle.package.specs.Filing.{firstWord, kept}
 use Rattle.package.specs.Pack.{rowsOf, sectionList}
-use Rattle.package.proofs.Sections.{cu-bytes, tu-bytes}
+use Rattle.package.proofs.ByCode.{cu-bytes, tu-bytes}
 use Rattle.package.proofs.Accepted.{Accepted}
 use Rattle.package.proofs.PackageRead.{sectionsOf, none-length, none-read, length-is-good, package-read, encoding-is-good, section-there, section-missing, section-once}
 use Rattle.package.proofs.Tables.{indexOfTable, table-indexed, table-empty}

@@ -31,7 +31,7 @@ use Rattle.package.specs.Filing.{Filed, kept, lengths, contributed, entriesOfUn
 use Rattle.package.specs.Pack.{rowsOf, sectionList, stringTable}
 use Rattle.package.proofs.Shared.{given}
 use Rattle.package.proofs.UnitStrings.{NamesString, unit-string, entries-are, part-contributed, none-contributed}
-use Rattle.package.proofs.Sections.{str-bytes}
+use Rattle.package.proofs.ByCode.{str-bytes}
 use Rattle.package.proofs.Accepted.{Accepted}
 use Rattle.package.proofs.PackageRead.{sectionsOf, section-there}
 use Rattle.package.proofs.Tables.{indexOfTable, encodingIn, section-small}

@@ -34,7 +34,7 @@ use Rattle.package.proofs.Each.{each-middle}
 use Rattle.package.proofs.Filing.{Good, Lies, lengthsIn}
 use Rattle.package.proofs.Rows.{rowAt, rowsFrom, behindAll, nothingBefore, row-stands, unit-part}
 use Rattle.package.proofs.Shared.{given, given-bytes, Sized, shared-part}
-use Rattle.package.proofs.Sections.{shared-bytes}
+use Rattle.package.proofs.ByCode.{shared-bytes}
 use Rattle.package.proofs.UnitStrings.{part-contributed, none-contributed}
 use Rattle.package.proofs.Cells.{cell-home, cell-some, cell-none, sized, home-bytes, kept-good, kept-lie}
 use Rattle.package.proofs.Accepted.{Accepted}

@@ -9,11 +9,12 @@ use Prim.Native.Nat.{ℕ, _+_, _*_, _-_, _%_, _≤_, _<_}
 use lib.Dec.{eqb, leb}
 use lib.ListN.{length, getD}
 use Rattle.octets.specs.Octets.{part as bytesAt}
-use Rattle.octets.specs.Lists.{any, those}
+use Rattle.octets.specs.Lists.{any, those, joined}
 use Rattle.octets.specs.Checked.{Check, pass, refuse}
-use Rattle.bundle.specs.Bundle.{Object, bundleOf}
+use Rattle.bundle.specs.Bundle.{Object, Bundle, bundleOf}
 use Rattle.strings.specs.Strings.{stringAt}
 use Rattle.index.specs.Probing.{Probe, found, absent as nowhere, Slots, slotsOf, search, firstSlot, stride}
+use Rattle.package.specs.Input.{unitSections}
 use Rattle.package.specs.Filing.{Filed, isUnder, kept, contributed, entriesOfUnit}
 use Rattle.package.specs.Pack.{packed, made, handedIn}
 use Rattle.lookup.specs.Lookup.{Found, refused, absent, part, lookedUp, stringFound}
@@ -41,6 +42,11 @@ pub record IsCode (code : ℕ) : Type 0 where
 -- "Units of types, and unit types 2 and 6 of version 5, are handed in for the type table, the others for the compilation table, each under its identity."
 abbrev pub IsHandedIn : List ℕ → ℕ → ℕ → Type 0
 IsHandedIn b table x = any (isUnder table x) (handedIn b) ≡ true
+
+-- all bytes of info and types, object by object, in the order of the bundle
+unfoldable pub unitSectionBytes : List ℕ → List Object → List ℕ
+unitSectionBytes b [] = []
+unitSectionBytes b (o ∷ os) = joined (map (λ s. s .bytes) (unitSections b (o .parts))) ++ unitSectionBytes b os
 
 -- "First is first in the bundle: the kept one."
 pub record IsFirst (b : List ℕ) (table x : ℕ) (u : Filed) : Type 0 where
@@ -88,6 +94,10 @@ IsPart answer n = (start : ℕ) × (size : ℕ) × (answer ≡ part start size n
 -- the answer is that part of the package which holds these bytes
 abbrev pub Holds : List ℕ → Found → ℕ → List ℕ → Type 0
 Holds p answer n bytes = (start : ℕ) × (answer ≡ part start (length bytes) n) × (bytesAt p start (length bytes) ≡ bytes)
+
+-- the units handed in are all of info and types of every object, none left out
+abbrev pub EveryUnitIsHandedIn : List ℕ → Type 0
+EveryUnitIsHandedIn b = (k : Bundle) → bundleOf b ≡ pass k → joined (map (λ u. u .bytes) (handedIn b)) ≡ unitSectionBytes b (k .objects)
 
 -- "Found exactly when handed in"
 abbrev pub FoundExactlyWhenHandedIn : List ℕ → List ℕ → Type 0
@@ -147,6 +157,7 @@ NeitherRefuses b p =
     → (lookedUp p v table x code ≡ refused n → ⊥) × (stringFound p v table x k ≡ refused n → n ≡ 25)
 
 pub record FromBundleToAnswer (b p : List ℕ) : Type 0 where
+  pub everyUnitIsHandedIn : EveryUnitIsHandedIn b
   pub foundExactlyWhenHandedIn : FoundExactlyWhenHandedIn b p
   pub theFirstUnit : TheFirstUnit b p
   pub theFirstUnitInLength : TheFirstUnitInLength b p

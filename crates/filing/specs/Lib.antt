@@ -1,3 +1,4 @@
 -- How work holds what is filed. Nothing here need be believed: it ties work words to `package/specs/Filing.antt`.
 -- Assumes nothing.
 pub mod State
+pub mod Answers

@@ -10,7 +10,7 @@ use Prim.Native.Nat.{ℕ, _+_, _*_, _/_, _^_, _<_, _≤_}
 use lib.Dec.{eqb}
 use lib.ListN.{length, getD}
 use Rattle.octets.specs.Octets.{part}
-use Rattle.octets.specs.Lists.{those}
+use Rattle.octets.specs.Lists.{joined, those}
 use Rattle.index.specs.Probing.{slotsFor}
 use Rattle.index.specs.Rows.{BySection}
 use Rattle.index.specs.Written.{Row}
@@ -74,11 +74,18 @@ pub record Held (five : Bool) (b : List ℕ) (n place : ℕ) (w : List ℕ) (st 
   pub info : PlacesHeld b (part w (placesStart n 1) n) (st .info) (unitsOf (kept us) 1)
   pub types : PlacesHeld b (part w (placesStart n 2) n) (st .types) (unitsOf (kept us) 2)
   pub based : (c : ℕ) → c < 14 → getD (st .bases) c 0 ≡ bases c
+  -- so that all sums fit 32 bits: what was read lies before the place
+  pub low : (c : ℕ) → bases c ≤ place
+  pub infoLow : length (joined (unitsOf (kept us) 1)) ≤ place
+  pub typesLow : length (joined (unitsOf (kept us) 2)) ≤ place
+  pub within : place ≤ length b
+  pub limit : length b ≤ 4_194_304
 
 -- the sums of the units of one object
 pub record SumsHeld (x : Sums) (here : List Filed) : Type 0 where
   pub cu : (c : ℕ) → c < 14 → getD (x .cu) c 0 ≡ sums here 1 c
   pub tu : (c : ℕ) → c < 14 → getD (x .tu) c 0 ≡ sums here 2 c
+  pub low : (t c : ℕ) → sums here t c ≤ length here * 4_194_304
 
 -- the region of strings is as it was
 pub record StringsKept (n : ℕ) (w v : List ℕ) : Type 0 where

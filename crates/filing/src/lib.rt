@@ -1,2 +1,3 @@
 // Units read and filed, one by one, object by object: 11 to 16. Thorin's InProgressDwarfPackage, with its rows, strings and unit places in lent work.
 pub mod state;
+pub mod units;

@@ -1,8 +1,9 @@
 -- Laws of the tests that an index is well formed: one for each case, and one for each turn of a loop.
 -- Assumes nothing.
-use mathlib.Core.Path.{_≡_, refl, sym, ap, _∙_}
+-- ---- one code
+use mathlib.Core.Path.{_≡_, refl, sym}
 use mathlib.Core.Bool.{Bool, true, false, not, _&&_}
-use mathlib.Core.List.{List, [], _∷_}
+use mathlib.Core.List.{List}
 use Prim.Native.Nat.{ℕ, zero, suc, _+_, _*_, _^_, _-_, _<_, _≤_}
 use native.Mathlib.Omega.{arith}
 use native.Mathlib.Nat.{mul-assoc, mul-comm, pow-succ', mul-le-mul-left, mul-one}
@@ -16,9 +17,8 @@ use Rattle.octets.specs.Octets.{numberAt}
 use Rattle.octets.specs.Lists.{has, distinct, zeroTogether}
 use Rattle.octets.proofs.Checks.{not-right}
 use Rattle.octets.proofs.Elements.{distinct-cons, distinct-stops}
-use Rattle.index.specs.Index.{versionOf, columnsMost, codeGood, slotsGood, powerFrom}
+use Rattle.index.specs.Index.{versionOf, columnsMost, codeGood, slotsGood}
 
--- ---- one code
 pub code-low : (v c : ℕ) → c < 1 → false ≡ codeGood v c
 unfolding codeGood
 code-low v c h =

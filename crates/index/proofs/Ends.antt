@@ -1,25 +1,24 @@
 -- Where a search ends: the slot, its row number and the looks; and how large the numbers of a cell are.
 -- Assumes nothing.
-use mathlib.Core.Path.{_≡_, refl, sym, ap, _∙_}
+use mathlib.Core.Path.{_≡_, refl, sym, _∙_}
 use mathlib.Core.Bool.{Bool, true, false, _&&_}
 use mathlib.Core.List.{List, [], _∷_}
-use mathlib.Core.Logic.{⊎-elim}
 use mathlib.Core.Option.{Option, some, none}
 use Prim.Native.Nat.{ℕ, zero, suc, _+_, _*_, _-_, _^_, _%_, _<_, _≤_}
 use native.Mathlib.Nat.{not-suc-le-zero, le-of-suc-le-suc, mod-lt}
 use native.Mathlib.Omega.{arith}
 use native.Mathlib.Decide.{ℕ-discrete}
 use lib.Dec.{leb}
-use lib.ListN.{length, drop, getD}
+use lib.ListN.{length, getD}
 use borrow.Author.Tests.{leb-true}
 use Rattle.octets.specs.Lists.{zeroTogether}
-use Rattle.octets.proofs.Checks.{known, and-left, true-false}
+use Rattle.octets.proofs.Checks.{and-left, true-false}
 use Rattle.octets.proofs.Numbers.{Bytes, bytes-drop}
 use Rattle.octets.proofs.Tables.{numbersIn-lt}
-use Rattle.index.specs.Index.{Index, Contribution, layout, slotsGood, placeOf, cellAt, cellOf}
+use Rattle.index.specs.Index.{layout, slotsGood, placeOf, cellAt, cellOf}
 use Rattle.index.specs.Columns.{columnsOf, columnIn}
 use Rattle.index.specs.Cells.{cellFound}
-use Rattle.index.specs.declared.cells.Cell.the-variants.{Is, Missing}
+use Rattle.index.specs.declared.cells.Cell.the-variants.{Is}
 use Rattle.index.specs.Probing.{Probe, found, absent, look, search, probe}
 use Rattle.index.specs.Held.{ReadWell, indexIn, probedOf}
 use Rattle.index.specs.declared.reading.IndexHead.{IndexHead}

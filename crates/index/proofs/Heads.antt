@@ -1,11 +1,12 @@
 -- Where the numbers of an index lie, and what its head tells.
 -- Assumes nothing.
+-- number k of a table that starts at a place
 use mathlib.Core.Path.{_≡_, refl, sym, ap, _∙_}
-use mathlib.Core.Bool.{Bool, true, false, _&&_, _||_}
+use mathlib.Core.Bool.{Bool, true, _||_}
 use mathlib.Core.List.{List}
 use Prim.Native.Nat.{ℕ, _+_, _*_, _<_, _≤_}
 use native.Mathlib.Omega.{arith}
-use lib.Dec.{eqb, leb, ltb}
+use lib.Dec.{eqb, ltb}
 use lib.ListN.{length, drop, getD}
 use borrow.Author.Tests.{ltb-true, leb-true, eqb-true}
 use Rattle.octets.specs.Octets.{numberAt, numbersIn}
@@ -17,11 +18,9 @@ use Rattle.octets.proofs.Tables.{length-numbersIn, numbersIn-at}
 use Rattle.index.specs.Index.{Index, indexOf, layout, versionOf, columnsMost, codeGood, leastPower, slotsGood}
 use Rattle.index.specs.Held.{PowerOfTwo, Sized, ReadWell, headOf, stated, indexIn, indexRead}
 use Rattle.index.specs.declared.reading.IndexHead.{IndexHead}
-use Rattle.index.specs.declared.reading.IndexRead.{IndexRead}
-use Rattle.index.specs.declared.reading.IndexRead.the-variants.{Good, Bad}
+use Rattle.index.specs.declared.reading.IndexRead.the-variants.{Good}
 use Rattle.index.proofs.Masks.{least-power}
 
--- number k of a table that starts at a place
 pub table-at : (big : Bool) (w n : ℕ) (s : List ℕ) (a k : ℕ) → k < n → numberAt big w s (a + w * k) ≡ getD (numbersIn big w n (drop a s)) k 0
 table-at big w n s a k h = sym (numbersIn-at big w n (drop a s) k h ∙ numberAt-drop big w s a (w * k))
 

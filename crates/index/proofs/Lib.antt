@@ -18,6 +18,8 @@ pub mod LawRead
 pub mod RoundTrip
 pub mod LawCells
 pub mod LawWhole
+-- Laws of the definitions, which the proofs of the code cite.
+-- Assumes nothing.
 pub mod Masks
 pub mod Heads
 pub mod Looks
@@ -27,3 +29,8 @@ pub mod LawMore
 pub mod WellFormed
 pub mod Places
 pub mod Ends
+pub mod Judgements
+pub mod Filled
+pub mod Columned
+pub mod RowAnswers
+pub mod LawExact

@@ -1,31 +1,30 @@
 -- Columns by their place, the place of a code among an index's columns, and cells.
 -- Assumes nothing.
+-- ---- columns
 use mathlib.Core.Path.{_≡_, refl, sym, ap, _∙_}
 use mathlib.Core.Bool.{Bool, true, false}
 use mathlib.Core.List.{List, [], _∷_, map}
 use mathlib.Core.Option.{Option, some, none}
+use mathlib.Core.Logic.{⊎-elim}
 use Prim.Native.Nat.{ℕ, zero, suc, _+_, _*_, _-_, _<_, _≤_}
-use native.Mathlib.Nat.{not-suc-le-zero, le-of-suc-le-suc, mul-suc, mul-comm, mul-le-mul-right}
+use native.Mathlib.Nat.{mul-suc, mul-comm, mul-le-mul-right}
 use native.Mathlib.Omega.{arith}
 use native.Mathlib.Numerals.{add-one}
 use lib.Dec.{eqb}
 use lib.ListN.{length, drop, getD, drop-of-length-le}
 use lib.Seq.{drop-cons}
 use borrow.Author.Tests.{eq-eqb, ne-eqb}
-use mathlib.Core.Logic.{⊎-elim}
 use Rattle.octets.proofs.Checks.{known}
 use Rattle.index.specs.Columns.{Column, columnsFour, columnsFive, columnsOf, columnIn}
-use Rattle.index.specs.Index.{Index, Contribution, layout, placeOf, cellAt, cellOf}
+use Rattle.index.specs.Index.{Index, layout, placeOf, cellAt, cellOf}
 use Rattle.index.specs.Held.{indexIn}
 use Rattle.index.specs.declared.reading.IndexHead.{IndexHead}
-use Rattle.index.proofs.Heads.{codes-length}
 use Rattle.index.specs.Cells.{columnPlace, noColumn, placeFound, cellFound}
 use Rattle.index.specs.declared.cells.ColumnPlace.{ColumnPlace}
-use Rattle.index.specs.declared.cells.Place.{Place}
 use Rattle.index.specs.declared.cells.Place.the-variants.{At, Nowhere}
 use Rattle.index.specs.declared.cells.Cell.the-variants.{Is, Missing}
+use Rattle.index.proofs.Heads.{codes-length}
 
--- ---- columns
 pub columns-five : (v : ℕ) → v ≡ 5 → columnsOf v ≡ columnsFive
 unfolding columnsOf
 columns-five v e = rw (columnsOf, eq-eqb v 5 e)

@@ -1,26 +1,25 @@
 -- The tests of an index in their order: the answer where each one fails, and where all pass.
 -- Assumes nothing.
+-- ---- the front
 use mathlib.Core.Path.{_≡_, refl, sym, ap, _∙_}
 use mathlib.Core.Bool.{Bool, true, false, not, _&&_, _||_}
-use mathlib.Core.Logic.{⊎-elim}
 use mathlib.Core.List.{List}
 use Prim.Native.Nat.{ℕ, _+_, _*_, _^_, _<_, _≤_}
 use native.Mathlib.Omega.{arith}
-use native.Mathlib.Nat.{mul-le-mul-left, mul-le-mul-right}
+use native.Mathlib.Nat.{mul-le-mul-left}
 use lib.Dec.{eqb, leb, ltb}
 use lib.ListN.{length}
 use borrow.Author.Tests.{le-leb, lt-leb, lt-ltb, le-ltb, eq-eqb, ne-eqb, eqb-true}
 use Rattle.octets.specs.Octets.{numberAt}
 use Rattle.octets.specs.Lists.{all, distinct}
 use Rattle.octets.specs.Checked.{Check, pass, refuse, require, _>>=_}
-use Rattle.octets.proofs.Checks.{passes, fails, and-both, and-left, and-right, and-fails, not-left, not-right, known, true-false}
-use Rattle.index.specs.Index.{Index, versionOf, columnsMost, codeGood, leastPower, slotsGood, indexOf, layout}
-use Rattle.index.specs.Held.{Sized, headOf, stated, headGood, indexIn, indexRead}
+use Rattle.octets.proofs.Checks.{passes, fails, and-both, not-left, not-right, true-false}
+use Rattle.index.specs.Index.{Index, versionOf, columnsMost, codeGood, leastPower, slotsGood, indexOf}
+use Rattle.index.specs.Held.{Sized, stated, headGood, indexIn, indexRead}
 use Rattle.index.specs.declared.reading.IndexHead.{IndexHead}
 use Rattle.index.specs.declared.reading.IndexRead.the-variants.{Good, Bad}
 use Rattle.index.proofs.Heads.{head-of}
 
--- ---- the front
 pub product-small : (u c : ℕ) → c ≤ 8 → u < 2 ^ 32 → u * c ≤ 8 * 2 ^ 32
 product-small u c h g = omega (arith, mul-le-mul-left u h)
 

@@ -7,3 +7,4 @@ pub mod Rows
 pub mod Written
 pub mod Held
 pub mod Cells
+pub mod Contributed

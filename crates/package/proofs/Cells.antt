@@ -31,7 +31,7 @@ use Rattle.package.proofs.Filing.{Good, Lies, FilingFacts, lengthsIn}
 use Rattle.package.proofs.Rows.{rowAt, behindAll, nothingBefore, each-row, unit-within}
 use Rattle.package.proofs.Shared.{Sized, shared-within}
 use Rattle.package.proofs.UnitStrings.{input-sized}
-use Rattle.package.proofs.Sections.{info-bytes, types-bytes, shared-bytes}
+use Rattle.package.proofs.ByCode.{info-bytes, types-bytes, shared-bytes}
 
 -- ---- columns of the sections that an object can have
 abbrev HasColumn : Encoding → ℕ → Type 0

@@ -29,7 +29,7 @@ use Rattle.package.specs.Pack.{nonEmpty, sectionList, packageObjects}
 use Rattle.package.proofs.Each.{each-head, each-tail, each-those}
 use Rattle.package.proofs.Inputs.{input-facts}
 use Rattle.package.proofs.Accepted.{Accepted, sections-small}
-use Rattle.package.proofs.Sections.{codes-distinct, left, list-distinct}
+use Rattle.package.proofs.ByCode.{codes-distinct, left, list-distinct}
 
 -- ---- what can be stored
 abbrev inRange : ℕ → Bool

@@ -31,7 +31,7 @@ use Rattle.package.proofs.Each.{each-head, each-tail}
 use Rattle.package.proofs.Kept.{identitiesIn, distinct-kept}
 use Rattle.package.proofs.Filing.{Good, FilingFacts}
 use Rattle.package.proofs.Rows.{rows-are, rows-identities, nothingBefore, unit-here, unit-later}
-use Rattle.package.proofs.Sections.{info-bytes, types-bytes}
+use Rattle.package.proofs.ByCode.{info-bytes, types-bytes}
 use Rattle.package.proofs.Cells.{CellFacts, kept-good, rows-good}
 use Rattle.package.proofs.Accepted.{Accepted, accepted-facts, sections-small}
 

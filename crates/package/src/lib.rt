@@ -1,2 +1,2 @@
 // What packing accepts, section by section.
-pub mod sections;
+pub mod editions;

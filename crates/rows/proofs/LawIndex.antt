@@ -1,26 +1,25 @@
 -- The index that the words of a table's rows state is the one of the definition.
 -- Assumes nothing.
-use mathlib.Core.Path.{_≡_, refl, sym, ap, ap₂, _∙_}
+use mathlib.Core.Path.{_≡_, refl, ap, ap₂, _∙_}
 use mathlib.Core.Bool.{Bool, true, false}
 use mathlib.Core.List.{List, [], _∷_, _++_, map}
 use mathlib.Core.Option.{Option}
-use Prim.Native.Nat.{ℕ, zero, suc, _+_, _*_, _≤_, _<_, _^_}
+use Prim.Native.Nat.{ℕ, suc, _+_, _*_, _≤_, _<_, _^_}
 use native.Mathlib.Omega.{arith}
 use lib.ListN.{length, getD, length-map}
-use Rattle.octets.specs.Octets.{numbersOf}
 use Rattle.octets.specs.Lists.{joined, those, any, distinct}
 use Rattle.octets.specs.Checked.{pass}
 use Rattle.octets.proofs.Lists.{those-keeps, those-skips}
-use Rattle.index.specs.Columns.{Column, columnsOf}
+use Rattle.index.specs.Columns.{Column}
 use Rattle.index.specs.Index.{Contribution}
 use Rattle.index.specs.Probing.{Slots, slotsOf}
 use Rattle.index.specs.Rows.{isSome}
-use Rattle.index.specs.Written.{Row, presentColumns, offsetOf, sizeOf, grid, indexWith, startBytes}
+use Rattle.index.specs.Written.{Row, presentColumns, offsetOf, sizeOf, grid, indexWith}
 use Rattle.index.proofs.LawGrid.{getD-map}
 use Rattle.index.proofs.LawPlaces.{noColumn}
 use Rattle.index.proofs.LawPlaced.{distinct-is}
 use Rattle.index.proofs.Found.{placed-is}
-use Rattle.rows.specs.Layout.{versionFor, columnsFor, sectionAt, codeAt, identitiesFor, numbersIf, cellsFrom, gridFrom, codesFrom, codesIn, indexIn, rowAt, identitiesOf, RowsHeld, ColumnsHeld}
+use Rattle.rows.specs.Layout.{versionFor, columnsFor, sectionAt, codeAt, numbersIf, cellsFrom, gridFrom, codesFrom, codesIn, indexIn, rowAt, identitiesOf, RowsHeld, ColumnsHeld}
 use Rattle.rows.proofs.LawRows as rows
 use Rattle.rows.proofs.LawSeen.{identities-are}
 use Rattle.rows.proofs.LawWriting.{codes-suc, cells-suc}

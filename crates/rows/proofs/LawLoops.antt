@@ -1,16 +1,14 @@
 -- Turns of the loops over slots: a search, and the first free slot.
 -- Assumes nothing.
-use mathlib.Core.Path.{_≡_, refl, sym, ap, ap₂, _∙_}
-use mathlib.Core.Bool.{Bool, true, false}
-use mathlib.Core.List.{List, [], _∷_, map}
-use mathlib.Core.Option.{Option, some, none}
-use Prim.Native.Nat.{ℕ, zero, suc, _+_, _*_, _-_, _%_, _≤_, _<_}
+use mathlib.Core.Path.{_≡_, sym, ap, ap₂, _∙_}
+use mathlib.Core.Bool.{true, false}
+use mathlib.Core.List.{List}
+use mathlib.Core.Option.{some, none}
+use Prim.Native.Nat.{ℕ, suc, _+_, _*_, _-_, _%_, _≤_, _<_}
 use native.Mathlib.Nat.{sub-zero, mod-lt}
 use native.Mathlib.Omega.{arith}
 use lib.ListN.{length, getD, set}
-use borrow.Author.Tests.{eq-eqb, ne-eqb}
-use Rattle.index.specs.Probing.{Probe, found, absent, firstSlot, stride, look, search, freeFrom, slotsFor}
-use Rattle.index.specs.Index.{leastPower}
+use Rattle.index.specs.Probing.{firstSlot, stride, look, search, freeFrom}
 use Rattle.index.specs.Held as held
 use Rattle.index.specs.Rows.{isSome}
 use Rattle.index.proofs.Slots as slots

@@ -12,7 +12,7 @@ use lib.ListN.{length, getD, set, length-append, length-set}
 use lib.Seq.{getD-set-same, getD-set-other}
 use Rattle.octets.specs.Octets.{bytesOf, numbersOf, placed}
 use Rattle.octets.proofs.Numbers.{length-bytesOf}
-use Rattle.octets.proofs.Placed.{placed-placed, placed-none, length-placed}
+use Rattle.octets.proofs.Placed.{placed-placed, placed-none}
 use Rattle.octets.proofs.Tables.{length-numbersOf, numbersOf-one}
 use Rattle.index.specs.Written.{startBytes}
 use Rattle.index.proofs.LawBytes.{length-start}

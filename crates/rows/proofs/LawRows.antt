@@ -2,9 +2,9 @@
 -- Assumes nothing.
 use mathlib.Core.Path.{_≡_, refl, sym, ap, ap₂, _∙_}
 use mathlib.Core.Bool.{Bool, true, false, _||_}
-use mathlib.Core.List.{List, [], _∷_, _++_, map}
-use mathlib.Core.Option.{Option, some, none}
-use Prim.Native.Nat.{ℕ, zero, suc, _+_, _*_, _-_, _/_, _%_, _^_, _≤_, _<_}
+use mathlib.Core.List.{List, [], _∷_, _++_}
+use mathlib.Core.Option.{some, none}
+use Prim.Native.Nat.{ℕ, zero, suc, _+_, _*_, _^_, _≤_, _<_}
 use native.Mathlib.Nat.{not-suc-le-zero, le-of-suc-le-suc}
 use native.Mathlib.Omega.{arith}
 use native.Mathlib.Decide.{ℕ-discrete}
@@ -13,7 +13,7 @@ use Rattle.octets.specs.Lists.{any}
 use Rattle.octets.proofs.Joined.{map-append}
 use Rattle.octets.proofs.Lists.{any-append}
 use Rattle.index.specs.Rows.{isSome}
-use Rattle.index.specs.Written.{Row, offsetOf, sizeOf}
+use Rattle.index.specs.Written.{Row}
 use Rattle.rows.specs.declared.Cells.{Cells}
 use Rattle.rows.specs.Layout.{columnsFor, sectionAt, CellsAre, Stored, identityIn, RowHeld, rowAt, identitiesOf, RowsHeld, ColumnsHeld, Marked}
 use Rattle.rows.proofs.LawStored.{columns-are, section-lt}

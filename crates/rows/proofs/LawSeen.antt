@@ -1,27 +1,27 @@
 -- The slots of identities seen: none, one more, and that a search knows those that were placed and no others.
 -- Assumes nothing.
-use mathlib.Core.Path.{_≡_, refl, sym, ap, ap₂, _∙_}
+use mathlib.Core.Path.{_≡_, refl, sym, ap, _∙_}
 use mathlib.Core.Bool.{Bool, true, false}
 use mathlib.Core.List.{List, [], _∷_, _++_, map}
-use mathlib.Core.Option.{Option, some, none}
-use Prim.Native.Nat.{ℕ, zero, suc, _+_, _*_, _-_, _^_, _≤_, _<_}
+use mathlib.Core.Option.{some, none}
+use Prim.Native.Nat.{ℕ, _+_, _-_, _<_}
 use native.Mathlib.Omega.{arith}
 use native.Mathlib.Decide.{ℕ-discrete}
 use lib.ListN.{length, getD, set, length-set, length-map}
 use lib.Seq.{ext-getD}
 use Rattle.octets.specs.Octets.{zeros}
 use Rattle.octets.specs.Lists.{has, distinct}
-use Rattle.octets.specs.Checked.{Check, pass, refuse, _>>=_}
-use Rattle.octets.proofs.Checks.{pass-inj, then-pass}
+use Rattle.octets.specs.Checked.{pass}
+use Rattle.octets.proofs.Checks.{then-pass}
 use Rattle.octets.proofs.Placed.{length-zeros, getD-zeros}
 use Rattle.octets.proofs.Elements.{at-has, has-not-at}
-use Rattle.index.specs.Probing.{found, absent, search, Slots, freeFrom, place, placeAll, unused}
+use Rattle.index.specs.Probing.{search, Slots, place, placeAll, unused}
 use Rattle.index.specs.Held as held
 use Rattle.index.specs.Rows.{isSome}
 use Rattle.index.specs.Written.{Row}
 use Rattle.index.proofs.Slots as slots
 use Rattle.index.proofs.Placing.{probed, put, Counted, free-slot, place-is, counted-unused}
-use Rattle.index.proofs.LawPlaced.{Distinct, distinct-is, Placed}
+use Rattle.index.proofs.LawPlaced.{distinct-is, Placed}
 use Rattle.index.proofs.Found.{FoundIn, AbsentIn, placed-found, placed-absent}
 use Rattle.index.proofs.LawMore.{placeAll-append, place-pass, placeAll-rows, placeAll-counted, placed-by}
 use Rattle.rows.specs.Layout.{identityIn, identityFor, identitiesFor, isFound, RowsIn, freeFor, withRow, identitiesOf, RowsHeld, SeenHeld}

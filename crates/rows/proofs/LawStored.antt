@@ -1,6 +1,6 @@
 -- What is stored of one row: its cells column by column, behind its identity.
 -- Assumes nothing.
-use mathlib.Core.Path.{_≡_, refl, sym, ap, _∙_}
+use mathlib.Core.Path.{_≡_, refl, ap, _∙_}
 use mathlib.Core.Bool.{Bool, true, false}
 use mathlib.Core.List.{List, [], _∷_, _++_}
 use Prim.Native.Nat.{ℕ, zero, suc, _+_, _*_, _/_, _%_, _^_, _-_, _≤_, _<_}
@@ -11,7 +11,7 @@ use lib.ListN.{length, getD}
 use borrow.Author.Tests.{eq-eqb, ne-eqb}
 use Rattle.octets.specs.Octets.{placed}
 use Rattle.octets.proofs.Placed.{length-placed}
-use Rattle.octets.proofs.Regions.{getD-placed, getD-before, getD-behind}
+use Rattle.octets.proofs.Regions.{getD-placed, getD-before}
 use Rattle.index.specs.Columns.{columnsOf, columnsFour, columnsFive}
 use Rattle.rows.specs.declared.Cells.{Cells}
 use Rattle.rows.specs.Layout.{versionFor, columnsFor, sectionAt, codeAt, CellsStored, Stored, identityIn, identityFor}

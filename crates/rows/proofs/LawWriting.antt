@@ -2,8 +2,8 @@
 -- Assumes nothing.
 use mathlib.Core.Path.{_≡_, refl, sym, ap, ap₂, _∙_}
 use mathlib.Core.Bool.{Bool, true, false}
-use mathlib.Core.List.{List, [], _∷_, _++_, map}
-use Prim.Native.Nat.{ℕ, zero, suc, _+_, _*_, _-_, _≤_, _<_}
+use mathlib.Core.List.{List, [], _∷_, _++_}
+use Prim.Native.Nat.{ℕ, suc, _+_, _*_, _-_, _≤_, _<_}
 use native.Mathlib.Nat.{mul-add, mul-zero, sub-zero}
 use native.Mathlib.Numerals.{add-one}
 use native.Mathlib.Omega.{arith}
@@ -13,7 +13,6 @@ use Rattle.octets.specs.Octets.{bytesOf, numbersOf, placed}
 use Rattle.octets.proofs.Placed.{length-placed, placed-placed, placed-none}
 use Rattle.octets.proofs.Tables.{length-numbersOf, numbersOf-append, numbersOf-one}
 use Rattle.rows.specs.Layout.{columnsFor, codeAt, identityFor, identitiesFor, numbersIf, cellsFrom, gridFrom, codesFrom, codesIn}
-use Rattle.rows.proofs.LawStored.{columns-are}
 
 -- ---- what is still to be written
 pub record Writing (big : Bool) (w : ℕ) (d₀ d : List ℕ) (at o : ℕ) (left all : List ℕ) : Type 0 where

@@ -12,7 +12,6 @@ ghost use Rattle.rows.specs.Layout.{
   codesIn,
   indexSize,
 };
-
 use crate::Cells;
 
 const SECTIONS_FOUR: [usize; 8] = [1, 2, 3, 4, 5, 6, 7, 8];

@@ -49,14 +49,14 @@ pub fn insert(slots: &mut [u32], row: usize, x: u64) -> bool
     let count = slots.len();
     let by = index::probing::stride(x, count);
     let mut at = index::probing::first_slot(x, count);
-    let mut looks = 0;
-    while looks < count {
+    let mut steps = 0;
+    while steps < count {
         if octets::word(slots, at) == 0 {
             slots[at] = octets::narrow(row);
             return true;
         }
         at = (at + by) % count;
-        looks += 1;
+        steps += 1;
     }
     false
 }

@@ -39,7 +39,15 @@ fn put_three(big: bool, first: usize, second: usize, third: usize, out: &mut [u8
     octets::put_number(big, 4, octets::long(third), out, at + 8);
 }
 
-fn put_head(big: bool, five: bool, columns: usize, n: usize, slots: usize, out: &mut [u8], at: usize)
+fn put_head(
+    big: bool,
+    five: bool,
+    columns: usize,
+    n: usize,
+    slots: usize,
+    out: &mut [u8],
+    at: usize,
+)
     requires { ⌜ at + 16 ≤ length (now out) ⌝ }
     ensures { λ _. ⌜ now (out .exit) ≡ placed (now (out .entry)) at (startBytes big (versionFor five) ++ numbersOf big 4 (columns ∷ n ∷ slots ∷ [])) ⌝ }
 {
@@ -105,7 +113,15 @@ fn put_codes(big: bool, five: bool, has: [bool; 8], out: &mut [u8], at: usize) -
 
 // ---- a number for each row and column
 // One row: the words from a place on, two apart. The place behind them.
-fn put_cells(big: bool, five: bool, has: [bool; 8], rows: &[u32], first: usize, out: &mut [u8], at: usize) -> usize
+fn put_cells(
+    big: bool,
+    five: bool,
+    has: [bool; 8],
+    rows: &[u32],
+    first: usize,
+    out: &mut [u8],
+    at: usize,
+) -> usize
     requires { ⌜ (first + 15 ≤ length (now rows)) × (at + 4 * length (cellsFrom has (now rows) first 0 (length (columnsFor five))) ≤ length (now out)) ⌝ }
     ensures out { λ _. ⌜ now (out .exit) ≡ placed (now (out .entry)) at (numbersOf big 4 (cellsFrom has (now (rows .entry)) first 0 (length (columnsFor five)))) ⌝ }
     ensures next { λ r. ⌜ r ≡ at + 4 * length (cellsFrom has (now (rows .entry)) first 0 (length (columnsFor five))) ⌝ }
@@ -122,7 +138,16 @@ fn put_cells(big: bool, five: bool, has: [bool; 8], rows: &[u32], first: usize, 
 }
 
 // All rows: offsets are the words at 2 of each row, sizes those at 3.
-fn put_grid(big: bool, five: bool, has: [bool; 8], rows: &[u32], n: usize, which: usize, out: &mut [u8], at: usize) -> usize
+fn put_grid(
+    big: bool,
+    five: bool,
+    has: [bool; 8],
+    rows: &[u32],
+    n: usize,
+    which: usize,
+    out: &mut [u8],
+    at: usize,
+) -> usize
     requires { ⌜ (18 * n ≤ length (now rows)) × (which ≤ 3) × (at + 4 * length (gridFrom five has (now rows) which 0 n) ≤ length (now out)) ⌝ }
     ensures out { λ _. ⌜ now (out .exit) ≡ placed (now (out .entry)) at (numbersOf big 4 (gridFrom five has (now (rows .entry)) which 0 n)) ⌝ }
     ensures next { λ r. ⌜ r ≡ at + 4 * length (gridFrom five has (now (rows .entry)) which 0 n) ⌝ }
@@ -138,7 +163,16 @@ fn put_grid(big: bool, five: bool, has: [bool; 8], rows: &[u32], n: usize, which
 
 // ---- the index
 // The caller keeps room for it, and has placed rows that are stored.
-pub fn write_index(big: bool, five: bool, rows: &[u32], n: usize, has: [bool; 8], slots: &[u32], out: &mut [u8], at: usize)
+pub fn write_index(
+    big: bool,
+    five: bool,
+    rows: &[u32],
+    n: usize,
+    has: [bool; 8],
+    slots: &[u32],
+    out: &mut [u8],
+    at: usize,
+)
     requires { ⌜ RowsIn (now slots) n × (18 * n ≤ length (now rows)) × (at + length (indexIn big five has (now rows) n (now slots)) ≤ length (now out)) ⌝ }
     ensures { λ _. ⌜ now (out .exit) ≡ placed (now (out .entry)) at (indexIn big five has (now (rows .entry)) n (now (slots .entry))) ⌝ }
 {

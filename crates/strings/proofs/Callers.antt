@@ -1,6 +1,6 @@
 -- What callers read from the answers of the code, and the room that kept strings take in the work area.
 -- Assumes nothing.
-use mathlib.Core.Path.{_≡_, refl, sym, ap, _∙_}
+use mathlib.Core.Path.{_≡_, refl, ap, _∙_}
 use mathlib.Core.List.{List}
 use Prim.Native.Nat.{ℕ, _+_, _*_, _≤_}
 use native.Mathlib.Omega.{arith}
@@ -9,7 +9,6 @@ use Rattle.octets.specs.Checked.{Check, pass, refuse}
 use Rattle.bundle.specs.Encoding.{Encoding}
 use Rattle.strings.specs.Strings.{entriesIn, entriesOf}
 use Rattle.strings.specs.Answers.{entriesRead}
-use Rattle.strings.specs.declared.entries.Entries.{Entries}
 use Rattle.strings.specs.declared.entries.Entries.the-variants.{Count, IllFormed}
 use Rattle.strings.proofs.StrOffsets.{Sound, entries-whole, whole-entries, entries-refused, entries-few}
 

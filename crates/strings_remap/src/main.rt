@@ -10,7 +10,9 @@ ghost use Rattle.strings.specs.Kept.{Inside, Kept, Judged};
 use bundle::encoding::ObjectEncoding;
 use libc::STDOUT_FILENO;
 use strings::entries::Entries;
-use strings::table::{Added, Place, StringTable};
+use strings::table::Added;
+use strings::table::Place;
+use strings::table::StringTable;
 
 enum Outcome {
     // where str starts in the output, and where it ends
@@ -170,7 +172,152 @@ fn show(name: &[u8], e: ObjectEncoding, header: &[u8], entries: &[u32], text: &[
     );
 }
 
+fn version_4(big: bool, wide: bool) -> ObjectEncoding {
+    ObjectEncoding {
+        big,
+        five: false,
+        wide,
+        long: true,
+    }
+}
+
+fn version_5(big: bool, wide: bool) -> ObjectEncoding {
+    ObjectEncoding {
+        big,
+        five: true,
+        wide,
+        long: true,
+    }
+}
+
+// Document 01's example in each encoding.
+fn show_document() {
+    let text = b"a\0bc\0";
+    let e = &[2, 0, 2];
+    show(b"document 01", version_4(false, false), b"", e, text);
+    show(b"big-endian", version_4(true, false), b"", e, text);
+    show(b"width 8", version_4(false, true), b"", e, text);
+    show(b"width 8, big-endian", version_4(true, true), b"", e, text);
+    let h = b"\x10\0\0\0\x05\0\0\0";
+    show(b"version 5", version_5(false, false), h, e, text);
+    let h = b"\0\0\0\x10\0\x05\0\0";
+    show(b"version 5, big-endian", version_5(true, false), h, e, text);
+    let h = b"\xFF\xFF\xFF\xFF\x1C\0\0\0\0\0\0\0\x05\0\0\0";
+    show(b"version 5, width 8", version_5(false, true), h, e, text);
+    let h = b"\xFF\xFF\xFF\xFF\0\0\0\0\0\0\0\x1C\0\x05\0\0";
+    show(
+        b"version 5, width 8, big-endian",
+        version_5(true, true),
+        h,
+        e,
+        text,
+    );
+}
+
+fn show_strings() {
+    let e = version_4(false, false);
+    show(b"empty strings", e, b"", &[0, 1, 2], b"\0\0a\0");
+    show(b"suffixes", e, b"", &[0, 1, 2, 3], b"abc\0");
+    show(b"one string twice", e, b"", &[3, 0, 3], b"ab\0ab\0");
+    show(b"front of another", e, b"", &[0, 4, 0], b"abc\0ab\0");
+    show(b"unused strings", e, b"", &[4], b"abc\0de\0f\0");
+    show(b"no entries", e, b"", &[], b"abc\0");
+    show(
+        b"no entries, version 5",
+        version_5(false, false),
+        b"\x04\0\0\0\x05\0\0\0",
+        &[],
+        b"",
+    );
+}
+
+fn show_ill_formed() {
+    let narrow = version_5(false, false);
+    let wide = version_5(false, true);
+    show(b"no header", narrow, b"", &[], b"a\0");
+    show(
+        b"header too short",
+        narrow,
+        b"\x03\0\0\0\x05\0\0",
+        &[],
+        b"a\0",
+    );
+    show(
+        b"length of four less",
+        narrow,
+        b"\x04\0\0\0\x05\0\0\0",
+        &[0],
+        b"a\0",
+    );
+    show(
+        b"length of the whole",
+        narrow,
+        b"\x0C\0\0\0\x05\0\0\0",
+        &[0],
+        b"a\0",
+    );
+    show(
+        b"header of version 4",
+        narrow,
+        b"\x08\0\0\0\x04\0\0\0",
+        &[0],
+        b"a\0",
+    );
+    show(
+        b"padding not zero",
+        narrow,
+        b"\x08\0\0\0\x05\0\x01\0",
+        &[0],
+        b"a\0",
+    );
+    show(
+        b"other byte order",
+        narrow,
+        b"\0\0\0\x08\0\x05\0\0",
+        &[0],
+        b"a\0",
+    );
+    show(
+        b"header of width 4",
+        wide,
+        b"\x0C\0\0\0\x05\0\0\0",
+        &[0],
+        b"a\0",
+    );
+    let h = b"\xFE\xFF\xFF\xFF\x0C\0\0\0\0\0\0\0\x05\0\0\0";
+    show(b"mark of width 8 wrong", wide, h, &[0], b"a\0");
+    let h = b"\xFF\xFF\xFF\xFF\x0C\0\0\0\x01\0\0\0\x05\0\0\0";
+    show(b"length above 32 bits", wide, h, &[0], b"a\0");
+    show(
+        b"part of an entry",
+        version_4(false, false),
+        b"\0\0",
+        &[0],
+        b"a\0",
+    );
+    show(
+        b"half of an entry",
+        version_4(false, true),
+        b"\0\0\0\0",
+        &[0],
+        b"a\0",
+    );
+    show(b"8 before 9", version_4(false, false), b"\0", &[9], b"a");
+}
+
+fn show_missing() {
+    let e = version_4(false, false);
+    show(b"offset of the length", e, b"", &[2], b"a\0");
+    show(b"offset beyond", e, b"", &[0, 3], b"a\0");
+    show(b"greatest offset", e, b"", &[0xFFFF_FFFF], b"a\0");
+    show(b"no zero", e, b"", &[0, 2], b"a\0b");
+    show(b"no str", e, b"", &[0], b"");
+    show(b"last zero is a string", e, b"", &[1], b"a\0");
+}
+
 fn main() {
-    let four = ObjectEncoding { big: false, five: false, wide: false, long: true };
-    show(b"document 01", four, b"", &[2, 0, 2], b"a\0bc\0");
+    show_document();
+    show_strings();
+    show_ill_formed();
+    show_missing();
 }

@@ -1,55 +1,47 @@
+-- `write_hexadecimal` meets its contract.
+-- Assumes nothing.
+use Prim.Native.Nat.{_≤_, _-_}
+use native.Mathlib.Omega.{arith}
+use lib.ListN.{length}
+use borrow.Author.Needs.{needs}
 use Rattle.strings_remap.proofs.write_hexadecimal.Statement.{statement}
 use Rattle.strings_remap.proofs.write_hexadecimal.Tie as tie
-use Rattle.strings_remap.proofs.write_hexadecimal.Reads as reads
-use Rattle.strings_remap.proofs.write_hexadecimal.Lts as lts
-use Rattle.io.proofs.write_all.Reads as write-all-reads
-use Rattle.strings_remap.proofs.digit.Reads as digit-reads
 
 abbrev Inv-loop : tie.InvT-loop
-Inv-loop s i₀ i = ?
+Inv-loop s i₀ i = i ≤ length s
 
 abbrev μ-loop : tie.MeasureT-loop
-μ-loop s i₀ i = ?
+μ-loop s i₀ i = length s - i
 
--- src/main.rt:90:5
 loop-holds : tie.Need-loop-holds Inv-loop μ-loop
-loop-holds c = ?
+loop-holds c = omega arith
 
--- src/main.rt:91:17
 shared-slice-read-b : tie.Need-shared-slice-read-b Inv-loop μ-loop
-shared-slice-read-b c = ?
+shared-slice-read-b c = omega arith
 
--- src/main.rt:92:40
 digit-requires : tie.Need-digit-requires Inv-loop μ-loop
-digit-requires c κs = ?
+digit-requires c κs = omega (arith, c .shared-slice-known2 .given (c .before .before .loop .i))
 
--- src/main.rt:92:55
 digit-requires-2 : tie.Need-digit-requires-2 Inv-loop μ-loop
-digit-requires-2 c κs = ?
+digit-requires-2 c κs = omega arith
 
--- src/main.rt:92:38
 slice-aggregate-write-all : tie.Need-slice-aggregate-write-all Inv-loop μ-loop
-slice-aggregate-write-all c = ?
+slice-aggregate-write-all c = search needs
 
--- src/main.rt:92:9
 write-all-requires : tie.Need-write-all-requires Inv-loop μ-loop
-write-all-requires c κs = ?
+write-all-requires c κs = tt
 
--- src/main.rt:93:9
 add-i : tie.Need-add-i Inv-loop μ-loop
-add-i c = ?
+add-i c = omega arith
 
--- src/main.rt:90:5
 loop-less : tie.Need-loop-less Inv-loop μ-loop
-loop-less c = ?
+loop-less c = omega arith
 
--- src/main.rt:90:5
 loop-again : tie.Need-loop-again Inv-loop μ-loop
-loop-again c = ?
+loop-again c = omega arith
 
--- src/main.rt:88:1
 returns : tie.Need-returns Inv-loop μ-loop
-returns c = ?
+returns c = tt
 
 pub write-hexadecimal-spec : {M : Type 1} → statement M
 write-hexadecimal-spec =

@@ -1,40 +1,36 @@
+-- `write_sections` meets its contract.
+-- Assumes nothing.
+use native.Mathlib.Omega.{arith}
 use borrow.Author.Needs.{needs}
 use Rattle.strings_remap.proofs.write_sections.Statement.{statement}
 use Rattle.strings_remap.proofs.write_sections.Tie as tie
-use Rattle.strings_remap.proofs.write_sections.Reads as reads
-use Rattle.strings_remap.proofs.write_sections.Lts as lts
-use Rattle.strings.proofs.sections.remap_str_offsets.Reads as remap-str-offsets-reads
-use Rattle.strings.proofs.sections.write_strings.Reads as write-strings-reads
 
--- src/main.rt:37:9
 returns : tie.Need-returns
 returns c = search needs
 
--- src/main.rt:40:8
 sub-if2 : tie.Need-sub-if2
 sub-if2 c = search needs
 
--- src/main.rt:41:9
 returns-2 : tie.Need-returns-2
 returns-2 c = search needs
 
--- src/main.rt:44:5
 remap-str-offsets-requires : tie.Need-remap-str-offsets-requires
 remap-str-offsets-requires c κs = search needs
 
--- src/main.rt:45:5
 write-strings-requires : tie.Need-write-strings-requires
-write-strings-requires c κs = ?
+write-strings-requires c κs =
+    let g = c .before .before .before in
+    let i = g .before .before in
+    let a = i .before .before .before .before .before in
+    let k = a .pre .1 .1 in
+    (a .pre .1 .0, k .held (a .pre .0), omega (arith, k .size (a .pre .0), g .remap-str-offsets .kept .1 .1 .1 .1 .1 .1 .0, i .if2 .left, i .before .if1 .left))
 
--- src/main.rt:46:27
 add-t11 : tie.Need-add-t11
 add-t11 c = search needs
 
--- src/main.rt:24:1
 same-length : tie.Need-same-length
 same-length c = search needs
 
--- src/main.rt:24:1
 returns-3 : tie.Need-returns-3
 returns-3 c = search needs
 

@@ -1,51 +1,44 @@
+-- `write_text` meets its contract.
+-- Assumes nothing.
+use Prim.Native.Nat.{_≤_, _-_}
+use native.Mathlib.Omega.{arith}
+use lib.ListN.{length}
+use borrow.Author.Needs.{needs}
 use Rattle.strings_remap.proofs.write_text.Statement.{statement}
 use Rattle.strings_remap.proofs.write_text.Tie as tie
-use Rattle.strings_remap.proofs.write_text.Reads as reads
-use Rattle.strings_remap.proofs.write_text.Lts as lts
-use Rattle.io.proofs.write_all.Reads as write-all-reads
-use Rattle.strings_remap.proofs.shown.Reads as shown-reads
 
 abbrev Inv-loop : tie.InvT-loop
-Inv-loop s i₀ i = ?
+Inv-loop s i₀ i = i ≤ length s
 
 abbrev μ-loop : tie.MeasureT-loop
-μ-loop s i₀ i = ?
+μ-loop s i₀ i = length s - i
 
--- src/main.rt:103:5
 loop-holds : tie.Need-loop-holds Inv-loop μ-loop
-loop-holds c = ?
+loop-holds c = omega arith
 
--- src/main.rt:104:46
 shared-slice-read-shown : tie.Need-shared-slice-read-shown Inv-loop μ-loop
-shared-slice-read-shown c = ?
+shared-slice-read-shown c = omega arith
 
--- src/main.rt:104:40
 shown-requires : tie.Need-shown-requires Inv-loop μ-loop
-shown-requires c κs = ?
+shown-requires c κs = tt
 
--- src/main.rt:104:38
 slice-aggregate-write-all : tie.Need-slice-aggregate-write-all Inv-loop μ-loop
-slice-aggregate-write-all c = ?
+slice-aggregate-write-all c = search needs
 
--- src/main.rt:104:9
 write-all-requires : tie.Need-write-all-requires Inv-loop μ-loop
-write-all-requires c κs = ?
+write-all-requires c κs = tt
 
--- src/main.rt:105:9
 add-i : tie.Need-add-i Inv-loop μ-loop
-add-i c = ?
+add-i c = omega arith
 
--- src/main.rt:103:5
 loop-less : tie.Need-loop-less Inv-loop μ-loop
-loop-less c = ?
+loop-less c = omega arith
 
--- src/main.rt:103:5
 loop-again : tie.Need-loop-again Inv-loop μ-loop
-loop-again c = ?
+loop-again c = omega arith
 
--- src/main.rt:101:1
 returns : tie.Need-returns Inv-loop μ-loop
-returns c = ?
+returns c = tt
 
 pub write-text-spec : {M : Type 1} → statement M
 write-text-spec =

@@ -1,18 +1,16 @@
-use Rattle.index.proofs.Places.{columns-five, columns-four}
-use Rattle.index.specs.Columns.{columnsFour, columnsFive}
-use lib.ListN.{length}
+-- `index::cells::columns_count` meets its contract.
+-- Assumes nothing.
 use mathlib.Core.Path.{sym, ap}
+use lib.ListN.{length}
+use Rattle.index.specs.Columns.{columnsFour, columnsFive}
+use Rattle.index.proofs.Places.{columns-five, columns-four}
 use Rattle.index.proofs.cells.columns_count.Statement.{statement}
 use Rattle.index.proofs.cells.columns_count.Tie as tie
-use Rattle.index.proofs.cells.columns_count.Reads as reads
-use Rattle.index.proofs.cells.columns_count.Lts as lts
 
--- src/cells.rt:90:9
 returns : tie.Need-returns
 unfolding columnsFive
 returns c = sym (ap length (columns-five _ (c .if1 .taken)))
 
--- src/cells.rt:86:1
 returns-2 : tie.Need-returns-2
 unfolding columnsFour
 returns-2 c = sym (ap length (columns-four _ (c .if1 .left)))

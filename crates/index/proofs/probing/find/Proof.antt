@@ -1,20 +1,16 @@
-use Rattle.index.proofs.Looks.{probe-start, search-unused, search-found, search-on, search-end}
-use Rattle.index.proofs.Heads.{read-sized, read-power, rows-length}
-use Rattle.index.proofs.Masks.{positive, firstSlot-lt, stride-le}
-use Rattle.index.specs.Held.{PowerOfTwo, indexIn}
-use Rattle.index.specs.Probing.{look, probe}
+-- `index::probing::find` meets its contract.
+-- Assumes nothing.
+use mathlib.Core.Path.{_≡_}
+use Prim.Native.Nat.{_-_, _<_, _≤_}
 use native.Mathlib.Omega.{arith}
 use native.Mathlib.Nat.{mod-lt}
-use Prim.Native.Nat.{_+_, _-_, _<_, _≤_}
-use mathlib.Core.Path.{_≡_, _∙_}
+use Rattle.index.specs.Held.{indexIn}
+use Rattle.index.specs.Probing.{look, probe}
+use Rattle.index.proofs.Looks.{probe-start, search-unused, search-found, search-on, search-end}
+use Rattle.index.proofs.Heads.{read-sized, read-power, rows-length}
+use Rattle.index.proofs.Masks.{firstSlot-lt, stride-le}
 use Rattle.index.proofs.probing.find.Statement.{statement}
 use Rattle.index.proofs.probing.find.Tie as tie
-use Rattle.index.proofs.probing.find.Reads as reads
-use Rattle.index.proofs.probing.find.Lts as lts
-use Rattle.index.proofs.probing.first_slot.Reads as first-slot-reads
-use Rattle.index.proofs.probing.stride.Reads as stride-reads
-use Rattle.index.proofs.reading.identity_at.Reads as identity-at-reads
-use Rattle.index.proofs.reading.row_at.Reads as row-at-reads
 
 abbrev Inv-loop : tie.InvT-loop
 Inv-loop big s head x slots by at₀ looks₀ at looks = (looks ≤ slots) × (at < slots) × (look (slots - looks) (indexIn big s head .rows) (indexIn big s head .identities) x at «by» looks ≡ probe (indexIn big s head) x)
@@ -22,46 +18,37 @@ Inv-loop big s head x slots by at₀ looks₀ at looks = (looks ≤ slots) × (a
 abbrev μ-loop : tie.MeasureT-loop
 μ-loop big s head x slots by at₀ looks₀ at looks = slots - looks
 
--- src/probing.rt:36:9
 stride-requires : tie.Need-stride-requires Inv-loop μ-loop
 stride-requires c κs = read-power _ _ _ (c .before .pre)
 
--- src/probing.rt:37:9
 first-slot-requires : tie.Need-first-slot-requires Inv-loop μ-loop
 first-slot-requires c κs = read-power _ _ _ (c .before .before .pre)
 
--- src/probing.rt:39:5
 loop-holds : tie.Need-loop-holds Inv-loop μ-loop
 loop-holds c =
     let a = c .before .before .before in
     let p = read-power _ _ _ (a .pre) in
     (omega arith, rw (c .first-slot .ensures) (firstSlot-lt _ _ p), probe-start _ _ _ _ _ (rows-length _ _ _) (c .first-slot .ensures) (c .before .stride .ensures))
 
--- src/probing.rt:40:9
 add-looks : tie.Need-add-looks Inv-loop μ-loop
 add-looks c = omega arith
 
--- src/probing.rt:41:12
 row-at-requires : tie.Need-row-at-requires Inv-loop μ-loop
 row-at-requires c κs = (read-sized _ _ _ (c .before .before .before .before .before .pre), c .before .loop .inv .1)
 
--- src/probing.rt:42:13
 returns : tie.Need-returns Inv-loop μ-loop
 returns c =
     let i = c .before .before in
     search-unused _ _ _ _ _ _ _ _ _ (rows-length _ _ _) (i .loop-test .taken) (c .before .row-at .ensures) (i .before .loop .inv .2) (c .if1 .taken)
 
--- src/probing.rt:44:12
 identity-at-requires : tie.Need-identity-at-requires Inv-loop μ-loop
 identity-at-requires c κs = (read-sized _ _ _ (c .before .before .before .before .before .before .before .pre), c .before .before .before .loop .inv .1)
 
--- src/probing.rt:45:13
 returns-2 : tie.Need-returns-2 Inv-loop μ-loop
 returns-2 c =
     let i = c .before .before .before .before in
     search-found _ _ _ _ _ _ _ _ _ (rows-length _ _ _) (i .loop-test .taken) (c .before .before .before .row-at .ensures) (i .before .loop .inv .2) (c .before .before .if1 .left) _ (c .before .identity-at .ensures) (c .if2 .taken)
 
--- src/probing.rt:47:15
 add-at : tie.Need-add-at Inv-loop μ-loop
 add-at c =
     let i = c .before .before .before .before .before in
@@ -70,15 +57,12 @@ add-at c =
     let b = i .before .before .stride in
     omega (arith, read-sized _ _ _ (a .pre) .is, b .ensures, stride-le (a .args .x) _ p)
 
--- src/probing.rt:47:14
 rem-at : tie.Need-rem-at Inv-loop μ-loop
 rem-at c = omega arith
 
--- src/probing.rt:39:5
 loop-less : tie.Need-loop-less Inv-loop μ-loop
 loop-less c = omega arith
 
--- src/probing.rt:39:5
 loop-again : tie.Need-loop-again Inv-loop μ-loop
 loop-again c =
     let i = c .before .before .before .before in (
@@ -87,7 +71,6 @@ loop-again c =
       search-on _ _ _ _ _ _ _ _ _ (rows-length _ _ _) (i .loop-test .taken) (c .before .before .before .row-at .ensures) (i .before .loop .inv .2) (c .before .before .if1 .left) _ (c .before .identity-at .ensures) (c .if2 .left),
     )
 
--- src/probing.rt:31:1
 returns-3 : tie.Need-returns-3 Inv-loop μ-loop
 returns-3 c = search-end _ _ _ _ _ _ _ _ (c .loop-test .left) (c .before .loop .inv .2)
 

@@ -1,18 +1,15 @@
+-- `index::reading::code_good` meets its contract.
+-- Assumes nothing.
 use Rattle.index.proofs.Codes.{code-low, code-two, code-other}
 use Rattle.index.proofs.reading.code_good.Statement.{statement}
 use Rattle.index.proofs.reading.code_good.Tie as tie
-use Rattle.index.proofs.reading.code_good.Reads as reads
-use Rattle.index.proofs.reading.code_good.Lts as lts
 
--- src/reading.rt:115:9
 returns : tie.Need-returns
 returns c = code-low _ _ (c .if1 .taken)
 
--- src/reading.rt:118:9
 returns-2 : tie.Need-returns-2
 returns-2 c = code-two _ _ (c .if2 .taken)
 
--- src/reading.rt:111:1
 returns-3 : tie.Need-returns-3
 returns-3 c = code-other _ _ (c .before .if1 .left) (c .if2 .left)
 

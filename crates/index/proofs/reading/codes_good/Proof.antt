@@ -1,19 +1,17 @@
-use borrow.Author.Tests.{not-true, not-false}
-use Rattle.index.proofs.Heads.{in-codes, past-codes}
-use Rattle.octets.proofs.Elements.{all-turn, all-turn-stops, all-end}
-use Rattle.index.specs.Index.{codeGood}
-use Rattle.octets.specs.Lists.{all}
-use Rattle.index.specs.Held.{indexIn}
-use lib.ListN.{drop}
-use native.Mathlib.Omega.{arith}
-use Prim.Native.Nat.{_-_, _≤_}
+-- `index::reading::codes_good` meets its contract.
+-- Assumes nothing.
 use mathlib.Core.Path.{_≡_, refl, sym, ap, _∙_}
+use Prim.Native.Nat.{_-_, _≤_}
+use native.Mathlib.Omega.{arith}
+use lib.ListN.{drop}
+use borrow.Author.Tests.{not-true, not-false}
+use Rattle.octets.proofs.Elements.{all-turn, all-turn-stops, all-end}
+use Rattle.octets.specs.Lists.{all}
+use Rattle.index.specs.Index.{codeGood}
+use Rattle.index.specs.Held.{indexIn}
+use Rattle.index.proofs.Heads.{in-codes, past-codes}
 use Rattle.index.proofs.reading.codes_good.Statement.{statement}
 use Rattle.index.proofs.reading.codes_good.Tie as tie
-use Rattle.index.proofs.reading.codes_good.Reads as reads
-use Rattle.index.proofs.reading.codes_good.Lts as lts
-use Rattle.index.proofs.reading.code_at.Reads as code-at-reads
-use Rattle.index.proofs.reading.code_good.Reads as code-good-reads
 
 abbrev Inv-loop : tie.InvT-loop
 Inv-loop big s head version columns i₀ i = (i ≤ columns) × (all (codeGood version) (drop i (indexIn big s head .codes)) ≡ all (codeGood version) (indexIn big s head .codes))
@@ -21,35 +19,27 @@ Inv-loop big s head version columns i₀ i = (i ≤ columns) × (all (codeGood v
 abbrev μ-loop : tie.MeasureT-loop
 μ-loop big s head version columns i₀ i = columns - i
 
--- src/reading.rt:130:5
 loop-holds : tie.Need-loop-holds Inv-loop μ-loop
 loop-holds c = (omega arith, refl)
 
--- src/reading.rt:131:32
 code-at-requires : tie.Need-code-at-requires Inv-loop μ-loop
 code-at-requires c κs = (c .before .before .before .pre, c .loop-test .taken)
 
--- src/reading.rt:131:13
 code-good-requires : tie.Need-code-good-requires Inv-loop μ-loop
 code-good-requires c κs = tt
 
--- src/reading.rt:132:13
 returns : tie.Need-returns Inv-loop μ-loop
 returns c = sym (all-turn-stops _ 0 _ _ (in-codes _ _ _ (c .before .before .before .loop-test .taken)) (ap (codeGood _) (sym (c .before .before .code-at .ensures)) ∙ sym (c .before .code-good .ensures) ∙ not-true (c .before .code-good .result) (c .if1 .taken))) ∙ c .before .before .before .before .loop .inv .1
 
--- src/reading.rt:134:9
 add-i : tie.Need-add-i Inv-loop μ-loop
 add-i c = omega arith
 
--- src/reading.rt:130:5
 loop-less : tie.Need-loop-less Inv-loop μ-loop
 loop-less c = omega arith
 
--- src/reading.rt:130:5
 loop-again : tie.Need-loop-again Inv-loop μ-loop
 loop-again c = (omega arith, sym (all-turn _ 0 _ _ (in-codes _ _ _ (c .before .before .before .loop-test .taken)) (ap (codeGood _) (sym (c .before .before .code-at .ensures)) ∙ sym (c .before .code-good .ensures) ∙ not-false (c .before .code-good .result) (c .if1 .left))) ∙ c .before .before .before .before .loop .inv .1)
 
--- src/reading.rt:123:1
 returns-2 : tie.Need-returns-2 Inv-loop μ-loop
 returns-2 c = sym (all-end _ _ _ (past-codes _ _ _ (c .loop-test .left))) ∙ c .before .loop .inv .1
 

@@ -1,14 +1,12 @@
+-- `index::reading::columns_most` meets its contract.
+-- Assumes nothing.
 use Rattle.index.proofs.Codes.{most-five, most-four}
 use Rattle.index.proofs.reading.columns_most.Statement.{statement}
 use Rattle.index.proofs.reading.columns_most.Tie as tie
-use Rattle.index.proofs.reading.columns_most.Reads as reads
-use Rattle.index.proofs.reading.columns_most.Lts as lts
 
--- src/reading.rt:106:9
 returns : tie.Need-returns
 returns c = most-five _ (c .if1 .taken)
 
--- src/reading.rt:102:1
 returns-2 : tie.Need-returns-2
 returns-2 c = most-four _ (c .if1 .left)
 

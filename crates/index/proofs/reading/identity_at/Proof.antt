@@ -1,25 +1,20 @@
+-- `index::reading::identity_at` meets its contract.
+-- Assumes nothing.
 use mathlib.Core.Path.{_∙_}
-use Rattle.index.proofs.Heads.{identity-is}
 use borrow.Author.Needs.{needs}
+use Rattle.index.proofs.Heads.{identity-is}
 use Rattle.index.proofs.reading.identity_at.Statement.{statement}
 use Rattle.index.proofs.reading.identity_at.Tie as tie
-use Rattle.index.proofs.reading.identity_at.Reads as reads
-use Rattle.index.proofs.reading.identity_at.Lts as lts
-use Rattle.octets.proofs.u64_at.Reads as u64-at-reads
 
--- src/reading.rt:27:33
 mul-u64-at : tie.Need-mul-u64-at
 mul-u64-at c = search needs
 
--- src/reading.rt:27:28
 add-u64-at : tie.Need-add-u64-at
 add-u64-at c = search needs
 
--- src/reading.rt:27:5
 u64-at-requires : tie.Need-u64-at-requires
 u64-at-requires c κs = search needs
 
--- src/reading.rt:23:1
 returns : tie.Need-returns
 returns c = c .u64-at .ensures ∙ identity-is _ _ _ _ (c .before .before .pre .1)
 

@@ -1,13 +1,13 @@
+-- `index::reading::least_power` meets its contract.
+-- Assumes nothing.
+use mathlib.Core.Path.{_≡_, refl, sym, _∙_}
+use Prim.Native.Nat.{_*_, _^_}
+use native.Mathlib.Omega.{arith}
+use Rattle.index.specs.Index.{powerFrom, leastPower}
 use Rattle.index.proofs.Masks.{power-stop, power-left, power-end}
 use Rattle.index.proofs.Codes.{doubling-fits, doubling-on}
-use Rattle.index.specs.Index.{powerFrom, leastPower}
-use native.Mathlib.Omega.{arith}
-use Prim.Native.Nat.{_*_, _^_, _-_}
-use mathlib.Core.Path.{_≡_, refl, sym, _∙_}
 use Rattle.index.proofs.reading.least_power.Statement.{statement}
 use Rattle.index.proofs.reading.least_power.Tie as tie
-use Rattle.index.proofs.reading.least_power.Reads as reads
-use Rattle.index.proofs.reading.least_power.Lts as lts
 
 abbrev Inv-loop : tie.InvT-loop
 Inv-loop n p₀ left₀ p left = (p * 2 ^ left ≡ 2 ^ 32) × (powerFrom left p n ≡ leastPower n)
@@ -15,32 +15,25 @@ Inv-loop n p₀ left₀ p left = (p * 2 ^ left ≡ 2 ^ 32) × (powerFrom left p 
 abbrev μ-loop : tie.MeasureT-loop
 μ-loop n p₀ left₀ p left = left
 
--- src/reading.rt:75:5
 loop-holds : tie.Need-loop-holds Inv-loop μ-loop
 unfolding leastPower
 loop-holds c = (refl, refl)
 
--- src/reading.rt:77:13
 returns : tie.Need-returns Inv-loop μ-loop
 returns c = sym (power-stop _ _ _ (c .if1 .taken)) ∙ c .before .before .loop .inv .1
 
--- src/reading.rt:79:13
 mul-p : tie.Need-mul-p Inv-loop μ-loop
 mul-p c = omega (arith, doubling-fits _ _ (c .before .before .loop .inv .0))
 
--- src/reading.rt:80:9
 sub-left : tie.Need-sub-left Inv-loop μ-loop
 sub-left c = omega arith
 
--- src/reading.rt:75:5
 loop-less : tie.Need-loop-less Inv-loop μ-loop
 loop-less c = omega arith
 
--- src/reading.rt:75:5
 loop-again : tie.Need-loop-again Inv-loop μ-loop
 loop-again c = (doubling-on _ _ (c .before .loop-test .taken) (c .before .before .loop .inv .0), power-left _ _ _ (c .before .loop-test .taken) (c .if1 .left) ∙ c .before .before .loop .inv .1)
 
--- src/reading.rt:70:1
 returns-2 : tie.Need-returns-2 Inv-loop μ-loop
 returns-2 c = power-end _ _ _ (c .loop-test .left) ∙ c .before .loop .inv .1
 

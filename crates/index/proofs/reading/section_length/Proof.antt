@@ -1,40 +1,32 @@
-use Rattle.index.proofs.WellFormed.{product-small}
+-- `index::reading::section_length` meets its contract.
+-- Assumes nothing.
 use native.Mathlib.Omega.{arith}
 use borrow.Author.Needs.{needs}
+use Rattle.index.proofs.WellFormed.{product-small}
 use Rattle.index.proofs.reading.section_length.Statement.{statement}
 use Rattle.index.proofs.reading.section_length.Tie as tie
-use Rattle.index.proofs.reading.section_length.Reads as reads
-use Rattle.index.proofs.reading.section_length.Lts as lts
 
--- src/reading.rt:223:10
 mul-result : tie.Need-mul-result
 mul-result c = search needs
 
--- src/reading.rt:223:5
 add-result : tie.Need-add-result
 add-result c = search needs
 
--- src/reading.rt:223:23
 mul-result-2 : tie.Need-mul-result-2
 mul-result-2 c = search needs
 
--- src/reading.rt:223:5
 add-result-2 : tie.Need-add-result-2
 add-result-2 c = search needs
 
--- src/reading.rt:223:42
 mul-result-3 : tie.Need-mul-result-3
 mul-result-3 c = omega (arith, product-small (c .args .units) (c .args .columns) (c .pre .0) (c .pre .1))
 
--- src/reading.rt:223:37
 mul-result-4 : tie.Need-mul-result-4
 mul-result-4 c = omega (arith, product-small (c .args .units) (c .args .columns) (c .pre .0) (c .pre .1))
 
--- src/reading.rt:223:5
 add-result-3 : tie.Need-add-result-3
 add-result-3 c = omega (arith, product-small (c .args .units) (c .args .columns) (c .pre .0) (c .pre .1))
 
--- src/reading.rt:219:1
 returns : tie.Need-returns
 returns c = search needs
 

@@ -1,58 +1,44 @@
+-- `index::reading::size_at` meets its contract.
+-- Assumes nothing.
 use mathlib.Core.Path.{_∙_}
-use Rattle.index.proofs.Heads.{size-is}
 use borrow.Author.Needs.{needs}
+use Rattle.index.proofs.Heads.{size-is}
 use Rattle.index.proofs.reading.size_at.Statement.{statement}
 use Rattle.index.proofs.reading.size_at.Tie as tie
-use Rattle.index.proofs.reading.size_at.Reads as reads
-use Rattle.index.proofs.reading.size_at.Lts as lts
-use Rattle.octets.proofs.u32_at.Reads as u32-at-reads
-use Rattle.octets.proofs.wide.Reads as wide-reads
 
--- src/reading.rt:56:17
 mul-cells : tie.Need-mul-cells
 mul-cells c = search needs
 
--- src/reading.rt:57:46
 mul-u32-at : tie.Need-mul-u32-at
 mul-u32-at c = search needs
 
--- src/reading.rt:57:41
 add-u32-at : tie.Need-add-u32-at
 add-u32-at c = search needs
 
--- src/reading.rt:57:64
 mul-u32-at-2 : tie.Need-mul-u32-at-2
 mul-u32-at-2 c = search needs
 
--- src/reading.rt:57:41
 add-u32-at-2 : tie.Need-add-u32-at-2
 add-u32-at-2 c = search needs
 
--- src/reading.rt:57:83
 mul-u32-at-3 : tie.Need-mul-u32-at-3
 mul-u32-at-3 c = search needs
 
--- src/reading.rt:57:41
 add-u32-at-3 : tie.Need-add-u32-at-3
 add-u32-at-3 c = search needs
 
--- src/reading.rt:57:95
 mul-u32-at-4 : tie.Need-mul-u32-at-4
 mul-u32-at-4 c = search needs
 
--- src/reading.rt:57:41
 add-u32-at-4 : tie.Need-add-u32-at-4
 add-u32-at-4 c = search needs
 
--- src/reading.rt:57:18
 u32-at-requires : tie.Need-u32-at-requires
 u32-at-requires c κs = search needs
 
--- src/reading.rt:57:5
 wide-requires : tie.Need-wide-requires
 wide-requires c κs = search needs
 
--- src/reading.rt:52:1
 returns : tie.Need-returns
 returns c = c .wide .ensures ∙ c .before .u32-at .ensures ∙ size-is _ _ _ _ (c .before .before .before .before .before .before .pre .1)
 

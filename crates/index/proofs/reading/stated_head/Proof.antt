@@ -1,45 +1,33 @@
-use Rattle.index.proofs.Heads.{stated-is}
-use Rattle.index.specs.Held.{stated}
-use Rattle.octets.proofs.Numbers.{numberAt-lt}
+-- `index::reading::stated_head` meets its contract.
+-- Assumes nothing.
 use mathlib.Core.Path.{_∙_}
 use borrow.Author.Needs.{needs}
+use Rattle.octets.proofs.Numbers.{numberAt-lt}
+use Rattle.index.proofs.Heads.{stated-is}
 use Rattle.index.proofs.reading.stated_head.Statement.{statement}
 use Rattle.index.proofs.reading.stated_head.Tie as tie
-use Rattle.index.proofs.reading.stated_head.Reads as reads
-use Rattle.index.proofs.reading.stated_head.Lts as lts
-use Rattle.index.proofs.reading.version_of.Reads as version-of-reads
-use Rattle.octets.proofs.u32_at.Reads as u32-at-reads
-use Rattle.octets.proofs.wide.Reads as wide-reads
 
--- src/reading.rt:206:9
 version-of-requires : tie.Need-version-of-requires
 version-of-requires c κs = search needs
 
--- src/reading.rt:207:32
 u32-at-requires : tie.Need-u32-at-requires
 u32-at-requires c κs = search needs
 
--- src/reading.rt:207:9
 wide-requires : tie.Need-wide-requires
 wide-requires c κs = search needs
 
--- src/reading.rt:208:30
 u32-at-requires-2 : tie.Need-u32-at-requires-2
 u32-at-requires-2 c κs = search needs
 
--- src/reading.rt:208:9
 wide-requires-2 : tie.Need-wide-requires-2
 wide-requires-2 c κs = search needs
 
--- src/reading.rt:209:30
 u32-at-requires-3 : tie.Need-u32-at-requires-3
 u32-at-requires-3 c κs = search needs
 
--- src/reading.rt:209:9
 wide-requires-3 : tie.Need-wide-requires-3
 wide-requires-3 c κs = search needs
 
--- src/reading.rt:201:1
 returns : tie.Need-returns
 returns c =
     let u = c .before .before .wide2 .ensures ∙ c .before .before .before .u32-at2 .ensures in

@@ -1,32 +1,25 @@
+-- `rows::columns::code_at` meets its contract: the code of column k, by the table of its version.
+-- Assumes nothing.
 use Rattle.rows.proofs.LawStored.{code-five, code-four}
-use mathlib.Core.Path.{refl, sym, ap}
 use borrow.Author.Needs.{needs}
 use Rattle.rows.proofs.columns.code_at.Statement.{statement}
 use Rattle.rows.proofs.columns.code_at.Tie as tie
-use Rattle.rows.proofs.columns.code_at.Reads as reads
-use Rattle.rows.proofs.columns.code_at.Lts as lts
 
--- src/columns.rt:36:16
 mul-result : tie.Need-mul-result
 mul-result c = search needs
 
--- src/columns.rt:36:16
 array-read-result : tie.Need-array-read-result
 array-read-result c = search needs
 
--- src/columns.rt:36:9
 returns : tie.Need-returns
 returns c = code-five _ _ (c .if1 .taken)
 
--- src/columns.rt:38:5
 mul-result-2 : tie.Need-mul-result-2
 mul-result-2 c = search needs
 
--- src/columns.rt:38:5
 array-read-result-2 : tie.Need-array-read-result-2
 array-read-result-2 c = search needs
 
--- src/columns.rt:31:1
 returns-2 : tie.Need-returns-2
 returns-2 c = code-four _ _ (c .if1 .left)
 

@@ -1,18 +1,15 @@
+-- `rows::columns::mark_columns` meets its contract: the columns passed are marked, the others as they were.
+-- Assumes nothing.
 use Rattle.rows.proofs.LawPieces.{Marking, marking-none, marking-more, marking-all}
 use Rattle.rows.proofs.LawStored.{columns-are, section-lt}
 use Rattle.rows.specs.Layout.{columnsFor}
-use mathlib.Core.Path.{_≡_, refl, sym, _∙_, ap}
-use lib.ListN.{length, getD}
+use mathlib.Core.Path.{_≡_}
+use lib.ListN.{length}
 use borrow.Author.Needs.{needs}
-use Prim.Native.Nat.{_+_, _*_, _-_, _≤_, _<_}
+use Prim.Native.Nat.{_-_, _≤_, _<_}
 use native.Mathlib.Omega.{arith}
 use Rattle.rows.proofs.columns.mark_columns.Statement.{statement}
 use Rattle.rows.proofs.columns.mark_columns.Tie as tie
-use Rattle.rows.proofs.columns.mark_columns.Reads as reads
-use Rattle.rows.proofs.columns.mark_columns.Lts as lts
-use Rattle.rows.proofs.columns.column_count.Reads as column-count-reads
-use Rattle.rows.proofs.columns.either.Reads as either-reads
-use Rattle.rows.proofs.columns.section_at.Reads as section-at-reads
 
 abbrev Inv-loop : tie.InvT-loop
 Inv-loop five cells n marked₀ k₀ marked k = (n ≤ 8) × (k ≤ n) × (n ≡ length (columnsFor five)) × (length marked ≡ 8) × Marking five marked₀ marked cells k
@@ -20,21 +17,17 @@ Inv-loop five cells n marked₀ k₀ marked k = (n ≤ 8) × (k ≤ n) × (n ≡
 abbrev μ-loop : tie.MeasureT-loop
 μ-loop five cells n marked₀ k₀ marked k = n - k
 
--- src/columns.rt:69:9
 column-count-requires : tie.Need-column-count-requires Inv-loop μ-loop
 column-count-requires c κs = search needs
 
--- src/columns.rt:72:5
 loop-holds : tie.Need-loop-holds Inv-loop μ-loop
 loop-holds c =
-      let a = c .before in
-      (omega (arith, c .column-count .ensures, columns-are (a .args .five)), omega arith, c .column-count .ensures, search needs, marking-none _ _ _)
+    let a = c .before in
+    (omega (arith, c .column-count .ensures, columns-are (a .args .five)), omega arith, c .column-count .ensures, search needs, marking-none _ _ _)
 
--- src/columns.rt:73:13
 section-at-requires : tie.Need-section-at-requires Inv-loop μ-loop
 section-at-requires c κs = omega arith
 
--- src/columns.rt:74:19
 array-read-old : tie.Need-array-read-old Inv-loop μ-loop
 array-read-old c = omega arith
 
@@ -42,33 +35,26 @@ array-read-old c = omega arith
 section-fits : (c : tie.After-section-at Inv-loop μ-loop) → c .section-at .result < 14
 section-fits c = rw (c .section-at .ensures) (section-lt _ _ (omega arith))
 
--- src/columns.rt:75:19
 element-copy-out-new : tie.Need-element-copy-out-new Inv-loop μ-loop
 element-copy-out-new c = omega (arith, section-fits c)
 
--- src/columns.rt:76:21
 either-requires : tie.Need-either-requires Inv-loop μ-loop
 either-requires c κs = search needs
 
--- src/columns.rt:76:9
 array-write-marked : tie.Need-array-write-marked Inv-loop μ-loop
 array-write-marked c = omega arith
 
--- src/columns.rt:77:9
 add-k : tie.Need-add-k Inv-loop μ-loop
 add-k c = omega arith
 
--- src/columns.rt:72:5
 loop-less : tie.Need-loop-less Inv-loop μ-loop
 loop-less c = omega arith
 
--- src/columns.rt:72:5
 loop-again : tie.Need-loop-again Inv-loop μ-loop
 loop-again c =
-      let l = c .before .before .before .before in
-      (omega arith, omega arith, l .loop .inv .2, search needs, marking-more _ _ _ _ _ _ _ (l .loop .inv .4) (omega arith) (c .before .before .section-at .ensures) (c .either .ensures))
+    let l = c .before .before .before .before in
+    (omega arith, omega arith, l .loop .inv .2, search needs, marking-more _ _ _ _ _ _ _ (l .loop .inv .4) (omega arith) (c .before .before .section-at .ensures) (c .either .ensures))
 
--- src/columns.rt:66:1
 returns : tie.Need-returns Inv-loop μ-loop
 returns c = marking-all _ _ _ _ _ _ (c .before .loop .inv .4) (omega arith)
 

@@ -1,18 +1,13 @@
+-- `rows::slots::insert` meets its contract: the loop has looked at used slots only.
+-- Assumes nothing.
 use Rattle.rows.proofs.LawLoops.{Seeking, seek-inside, free-start, insert-some, insert-on, insert-none}
 use Rattle.index.proofs.Masks.{stride-le}
-use mathlib.Core.Path.{_≡_, refl, sym, _∙_, ap}
-use denote.Ref.{now}
-use lib.ListN.{length, getD, length-set}
-use Prim.Native.Nat.{_+_, _*_, _-_, _≤_, _<_}
+use mathlib.Core.Path.{_≡_, refl, ap}
+use lib.ListN.{length, length-set}
+use Prim.Native.Nat.{_-_}
 use native.Mathlib.Omega.{arith}
 use Rattle.rows.proofs.slots.insert.Statement.{statement}
 use Rattle.rows.proofs.slots.insert.Tie as tie
-use Rattle.rows.proofs.slots.insert.Reads as reads
-use Rattle.rows.proofs.slots.insert.Lts as lts
-use Rattle.index.proofs.probing.first_slot.Reads as first-slot-reads
-use Rattle.index.proofs.probing.stride.Reads as stride-reads
-use Rattle.octets.proofs.narrow.Reads as narrow-reads
-use Rattle.octets.proofs.word.Reads as word-reads
 
 abbrev Inv-loop : tie.InvT-loop
 Inv-loop slots₀ row x count by at₀ looks₀ slots at looks = (slots ≡ slots₀) × Seeking slots₀ x at «by» looks
@@ -20,82 +15,66 @@ Inv-loop slots₀ row x count by at₀ looks₀ slots at looks = (slots ≡ slot
 abbrev μ-loop : tie.MeasureT-loop
 μ-loop slots₀ row x count by at₀ looks₀ slots at looks = length slots₀ - looks
 
--- src/slots.rt:50:9
 stride-requires : tie.Need-stride-requires Inv-loop μ-loop
 stride-requires c κs = c .before .pre .0
 
--- src/slots.rt:51:9
 first-slot-requires : tie.Need-first-slot-requires Inv-loop μ-loop
 first-slot-requires c κs = c .before .before .pre .0
 
--- src/slots.rt:53:5
 loop-holds : tie.Need-loop-holds Inv-loop μ-loop
 loop-holds c = (refl, free-start _ _ _ _ (c .before .before .before .pre .0) (c .first-slot .ensures) (c .before .stride .ensures))
 
--- src/slots.rt:54:12
 word-requires : tie.Need-word-requires Inv-loop μ-loop
 word-requires c κs =
     let l = c .before .before in
     seek-inside (l .loop .inv .0) (l .loop .inv .1)
 
--- src/slots.rt:55:25
 narrow-requires : tie.Need-narrow-requires Inv-loop μ-loop
 narrow-requires c κs = omega arith
 
--- src/slots.rt:55:13
 mul-slots : tie.Need-mul-slots Inv-loop μ-loop
 mul-slots c =
     let l = c .before .before .before .before .before in
     omega (arith, l .loop .inv .1 .inside)
 
--- src/slots.rt:55:13
 slice-write-slots : tie.Need-slice-write-slots Inv-loop μ-loop
 slice-write-slots c =
     let l = c .before .before .before .before .before in
     seek-inside (l .loop .inv .0) (l .loop .inv .1)
 
--- src/slots.rt:56:13
 same-length : tie.Need-same-length Inv-loop μ-loop
 same-length c =
     let l = c .before .before .before .before .before in
     simp length-set (ap length (l .loop .inv .0))
 
--- src/slots.rt:56:13
 returns : tie.Need-returns Inv-loop μ-loop
 returns c =
     let i = c .before .before .before .before in
     insert-some (i .before .loop .inv .0) (i .before .loop .inv .1) (i .loop-test .taken) (c .before .before .word .ensures) (c .before .if1 .taken) (c .narrow .ensures)
 
--- src/slots.rt:58:15
 add-at : tie.Need-add-at Inv-loop μ-loop
 add-at c =
     let s = c .before .before .before .before .before .before in
     let a = s .before .before in
     omega (arith, s .stride .ensures, stride-le (a .args .x) _ (a .pre .0))
 
--- src/slots.rt:58:14
 rem-at : tie.Need-rem-at Inv-loop μ-loop
 rem-at c = omega arith
 
--- src/slots.rt:59:9
-add-looks : tie.Need-add-looks Inv-loop μ-loop
-add-looks c = omega arith
+add-steps : tie.Need-add-steps Inv-loop μ-loop
+add-steps c = omega arith
 
--- src/slots.rt:53:5
 loop-less : tie.Need-loop-less Inv-loop μ-loop
 loop-less c = omega arith
 
--- src/slots.rt:53:5
 loop-again : tie.Need-loop-again Inv-loop μ-loop
 loop-again c =
     let i = c .before .before .before in
     (i .before .loop .inv .0, insert-on (i .before .loop .inv .0) (i .before .loop .inv .1) (i .loop-test .taken) (c .before .word .ensures) (c .if1 .left))
 
--- src/slots.rt:44:1
 same-length-2 : tie.Need-same-length-2 Inv-loop μ-loop
 same-length-2 c = ap length (c .before .loop .inv .0)
 
--- src/slots.rt:44:1
 returns-2 : tie.Need-returns-2 Inv-loop μ-loop
 returns-2 c = insert-none (c .before .loop .inv .0) (c .before .loop .inv .1) _ (c .loop-test .left)
 
@@ -116,7 +95,7 @@ insert-spec =
     returns
     add-at
     rem-at
-    add-looks
+    add-steps
     loop-less
     loop-again
     same-length-2

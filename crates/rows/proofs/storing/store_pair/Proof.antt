@@ -1,3 +1,5 @@
+-- `rows::storing::store_pair` meets its contract: two stores are one.
+-- Assumes nothing.
 use Rattle.octets.proofs.Placed.{placed-two}
 use denote.Ref.{now}
 use lib.ListN.{length-set}
@@ -5,43 +7,31 @@ use native.Mathlib.Omega.{arith}
 use borrow.Author.Needs.{needs}
 use Rattle.rows.proofs.storing.store_pair.Statement.{statement}
 use Rattle.rows.proofs.storing.store_pair.Tie as tie
-use Rattle.rows.proofs.storing.store_pair.Reads as reads
-use Rattle.rows.proofs.storing.store_pair.Lts as lts
-use Rattle.octets.proofs.narrow.Reads as narrow-reads
 
--- src/storing.rt:23:16
 narrow-requires : tie.Need-narrow-requires
 narrow-requires c κs = search needs
 
--- src/storing.rt:23:5
 mul-rows : tie.Need-mul-rows
 mul-rows c = search needs
 
--- src/storing.rt:23:5
 slice-write-rows : tie.Need-slice-write-rows
 slice-write-rows c = search needs
 
--- src/storing.rt:24:20
 narrow-requires-2 : tie.Need-narrow-requires-2
 narrow-requires-2 c κs = search needs
 
--- src/storing.rt:24:10
 add-rows : tie.Need-add-rows
 add-rows c = search needs
 
--- src/storing.rt:24:5
 mul-rows-2 : tie.Need-mul-rows-2
 mul-rows-2 c = search needs
 
--- src/storing.rt:24:5
 slice-write-rows-2 : tie.Need-slice-write-rows-2
 slice-write-rows-2 c = simp length-set (omega arith)
 
--- src/storing.rt:19:1
 same-length : tie.Need-same-length
 same-length c = search needs
 
--- src/storing.rt:19:1
 returns : tie.Need-returns
 returns c =
     let a = c .before .before .before in

@@ -1,14 +1,11 @@
+-- `rows::writing::put_grid` meets its contract: what is left of the rows is still to be written.
+-- Assumes nothing.
 use Rattle.rows.proofs.LawWriting.{Writing, writing-start, writing-end, grid-all, grid-end, grid-room, grid-more}
 use Rattle.rows.specs.Layout.{gridFrom}
-use mathlib.Core.Path.{_≡_, refl, sym, _∙_, ap}
-use lib.ListN.{length}
-use Prim.Native.Nat.{_+_, _*_, _-_, _≤_, _<_}
+use Prim.Native.Nat.{_-_, _≤_}
 use native.Mathlib.Omega.{arith}
 use Rattle.rows.proofs.writing.put_grid.Statement.{statement}
 use Rattle.rows.proofs.writing.put_grid.Tie as tie
-use Rattle.rows.proofs.writing.put_grid.Reads as reads
-use Rattle.rows.proofs.writing.put_grid.Lts as lts
-use Rattle.rows.proofs.writing.put_cells.Reads as put-cells-reads
 
 abbrev Inv-loop : tie.InvT-loop
 Inv-loop big five has rows n which out₀ at o₀ i₀ out o i = (i ≤ n) × Writing big 4 out₀ out at o (gridFrom five has rows which i (n - i)) (gridFrom five has rows which 0 n)
@@ -16,46 +13,37 @@ Inv-loop big five has rows n which out₀ at o₀ i₀ out o i = (i ≤ n) × Wr
 abbrev μ-loop : tie.MeasureT-loop
 μ-loop big five has rows n which out₀ at o₀ i₀ out o i = n - i
 
--- src/writing.rt:132:5
 loop-holds : tie.Need-loop-holds Inv-loop μ-loop
 loop-holds c =
-      let a = c .before .before in
-      (omega arith, writing-start _ _ _ _ (grid-all _ _ _ _ _) (a .pre .2))
+    let a = c .before .before in
+    (omega arith, writing-start _ _ _ _ (grid-all _ _ _ _ _) (a .pre .2))
 
--- src/writing.rt:133:45
 mul-put-cells : tie.Need-mul-put-cells Inv-loop μ-loop
 mul-put-cells c = omega arith
 
--- src/writing.rt:133:45
 add-put-cells : tie.Need-add-put-cells Inv-loop μ-loop
 add-put-cells c = omega arith
 
--- src/writing.rt:133:9
 put-cells-requires : tie.Need-put-cells-requires Inv-loop μ-loop
 put-cells-requires c κs =
-      let i = c .before in
-      (omega arith, grid-room _ _ _ _ _ _ (i .before .loop .inv .1) (i .loop-test .taken))
+    let i = c .before in
+    (omega arith, grid-room _ _ _ _ _ _ (i .before .loop .inv .1) (i .loop-test .taken))
 
--- src/writing.rt:134:9
 add-i : tie.Need-add-i Inv-loop μ-loop
 add-i c = omega arith
 
--- src/writing.rt:132:5
 loop-less : tie.Need-loop-less Inv-loop μ-loop
 loop-less c = omega arith
 
--- src/writing.rt:132:5
 loop-again : tie.Need-loop-again Inv-loop μ-loop
 loop-again c =
-      let p = c .before .before in
-      let i = p .before .before in
-      (omega arith, grid-more _ _ _ _ _ _ (i .before .loop .inv .1) (i .loop-test .taken) (p .put-cells .ensures .0) (p .put-cells .ensures .1))
+    let p = c .before .before in
+    let i = p .before .before in
+    (omega arith, grid-more _ _ _ _ _ _ (i .before .loop .inv .1) (i .loop-test .taken) (p .put-cells .ensures .0) (p .put-cells .ensures .1))
 
--- src/writing.rt:125:1
 same-length : tie.Need-same-length Inv-loop μ-loop
 same-length c = c .before .loop .inv .1 .same
 
--- src/writing.rt:125:1
 returns : tie.Need-returns Inv-loop μ-loop
 returns c = writing-end (c .before .loop .inv .1) (grid-end _ _ _ _ _ _ (c .loop-test .left))
 

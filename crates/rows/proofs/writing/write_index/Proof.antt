@@ -1,3 +1,5 @@
+-- `rows::writing::write_index` meets its contract: the pieces one behind the other.
+-- Assumes nothing.
 use Rattle.rows.proofs.LawPieces.{index-length, index-written, length-grid}
 use Rattle.rows.specs.Layout.{codesIn, gridFrom, indexSize}
 use mathlib.Core.Path.{_≡_, refl}
@@ -8,13 +10,6 @@ use native.Mathlib.Omega.{arith}
 use borrow.Author.Needs.{needs}
 use Rattle.rows.proofs.writing.write_index.Statement.{statement}
 use Rattle.rows.proofs.writing.write_index.Tie as tie
-use Rattle.rows.proofs.writing.write_index.Reads as reads
-use Rattle.rows.proofs.writing.write_index.Lts as lts
-use Rattle.rows.proofs.columns.columns_present.Reads as columns-present-reads
-use Rattle.rows.proofs.writing.put_codes.Reads as put-codes-reads
-use Rattle.rows.proofs.writing.put_grid.Reads as put-grid-reads
-use Rattle.rows.proofs.writing.put_head.Reads as put-head-reads
-use Rattle.rows.proofs.writing.put_slots.Reads as put-slots-reads
 
 -- the room, in numbers
 room : (a : tie.Start)
@@ -28,59 +23,47 @@ grids : (a : tie.Start)
     × (length (gridFrom (a .args .five) (a .args .has) (now (a .args .rows)) 3 0 (a .args .n)) ≡ a .args .n * length (codesIn (a .args .five) (a .args .has)))
 grids a = (length-grid _ _ _ _ _ _, length-grid _ _ _ _ _ _)
 
--- src/writing.rt:145:9
 columns-present-requires : tie.Need-columns-present-requires
 columns-present-requires c κs = search needs
 
--- src/writing.rt:146:18
 add-behind : tie.Need-add-behind
 add-behind c = search needs
 
--- src/writing.rt:146:28
 mul-behind : tie.Need-mul-behind
 mul-behind c = omega (arith, room (c .before .before .before .before))
 
--- src/writing.rt:146:18
 add-behind-2 : tie.Need-add-behind-2
 add-behind-2 c = omega (arith, room (c .before .before .before .before))
 
--- src/writing.rt:147:5
 put-head-requires : tie.Need-put-head-requires
 put-head-requires c κs = omega (arith, room (c .before .before .before .before .before))
 
--- src/writing.rt:148:41
 add-put-slots : tie.Need-add-put-slots
 add-put-slots c = search needs
 
--- src/writing.rt:148:5
 put-slots-requires : tie.Need-put-slots-requires
 put-slots-requires c κs = (c .before .before .before .before .before .before .before .before .before .pre .0, c .before .before .before .before .before .before .before .before .before .pre .1, omega (arith, room (c .before .before .before .before .before .before .before .before .before)))
 
--- src/writing.rt:149:9
 put-codes-requires : tie.Need-put-codes-requires
 put-codes-requires c κs = omega (arith, room (c .before .before .before .before .before .before .before .before .before .before .before .before .before))
 
--- src/writing.rt:150:9
 put-grid-requires : tie.Need-put-grid-requires
 put-grid-requires c κs =
-      let a = c .before .before .before .before .before .before .before .before .before .before .before .before .before .before .before .before .before in
-      (a .pre .1, omega arith, omega (arith, room a, grids a .0, c .before .before .before .put-codes .ensures .1))
+    let a = c .before .before .before .before .before .before .before .before .before .before .before .before .before .before .before .before .before in
+    (a .pre .1, omega arith, omega (arith, room a, grids a .0, c .before .before .before .put-codes .ensures .1))
 
--- src/writing.rt:151:5
 put-grid-requires-2 : tie.Need-put-grid-requires-2
 put-grid-requires-2 c κs =
-      let a = c .before .before .before .before .before .before .before .before .before .before .before .before .before .before .before .before .before .before .before .before .before in
-      (a .pre .1, omega arith, omega (arith, room a, grids a .0, grids a .1, c .before .before .before .before .before .before .before .put-codes .ensures .1, c .before .before .before .put-grid .ensures .1))
+    let a = c .before .before .before .before .before .before .before .before .before .before .before .before .before .before .before .before .before .before .before .before .before in
+    (a .pre .1, omega arith, omega (arith, room a, grids a .0, grids a .1, c .before .before .before .before .before .before .before .put-codes .ensures .1, c .before .before .before .put-grid .ensures .1))
 
--- src/writing.rt:141:1
 same-length : tie.Need-same-length
 same-length c = search needs
 
--- src/writing.rt:141:1
 returns : tie.Need-returns
 returns c =
-      let a = c .before .before .before .before .before .before .before .before .before .before .before .before .before .before .before .before .before .before .before .before .before .before .before .before in
-      index-written _ _ _ _ _ _ _ _ (c .before .before .before .before .before .before .before .before .before .before .before .before .before .before .before .before .before .before .before .before .columns-present .ensures) refl (a .pre .2) (c .before .before .before .before .before .before .before .before .before .before .before .before .before .before .before .before .before .before .put-head .ensures) (c .before .before .before .before .before .before .before .before .before .before .before .before .before .before .put-slots .ensures) (c .before .before .before .before .before .before .before .before .before .before .put-codes .ensures .0) (c .before .before .before .before .before .before .before .before .before .before .put-codes .ensures .1) (c .before .before .before .before .before .before .put-grid .ensures .0) (c .before .before .before .before .before .before .put-grid .ensures .1) (c .before .before .put-grid2 .ensures .0)
+    let a = c .before .before .before .before .before .before .before .before .before .before .before .before .before .before .before .before .before .before .before .before .before .before .before .before in
+    index-written _ _ _ _ _ _ _ _ (c .before .before .before .before .before .before .before .before .before .before .before .before .before .before .before .before .before .before .before .before .columns-present .ensures) refl (a .pre .2) (c .before .before .before .before .before .before .before .before .before .before .before .before .before .before .before .before .before .before .put-head .ensures) (c .before .before .before .before .before .before .before .before .before .before .before .before .before .before .put-slots .ensures) (c .before .before .before .before .before .before .before .before .before .before .put-codes .ensures .0) (c .before .before .before .before .before .before .before .before .before .before .put-codes .ensures .1) (c .before .before .before .before .before .before .put-grid .ensures .0) (c .before .before .before .before .before .before .put-grid .ensures .1) (c .before .before .put-grid2 .ensures .0)
 
 pub write-index-spec : {M : Type 1} → statement M
 write-index-spec =
