@@ -33,4 +33,3 @@ pub mod Judgements
 pub mod Filled
 pub mod Columned
 pub mod RowAnswers
-pub mod LawExact

@@ -110,7 +110,7 @@ module _ (w₀ : List ℕ) (rowsStart n slotsStart count : ℕ) (p : Placeable (
           }
 
 -- ---- slots that are cleared first
-placed-sized : (slots : List ℕ) (row : ℕ) (xs v : List ℕ) → placedRows slots row xs ≡ some v → length v ≡ length slots
+pub placed-sized : (slots : List ℕ) (row : ℕ) (xs v : List ℕ) → placedRows slots row xs ≡ some v → length v ≡ length slots
 unfolding placedRows
 placed-sized slots row [] v e = ap length (some-same v slots (sym e))
 placed-sized slots row (x ∷ xs) v e = go (freeFor slots x) refl (λ at f. placed-sized (set slots at row) (row + 1) xs v f)
