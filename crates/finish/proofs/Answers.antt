@@ -1,23 +1,22 @@
 -- The answers, case by case, and what stands in the output.
 -- Assumes nothing.
-use mathlib.Core.Path.{_≡_, refl, sym, ap, _∙_}
+use mathlib.Core.Path.{_≡_, sym, ap, _∙_}
 use mathlib.Core.Bool.{Bool, true, false}
 use mathlib.Core.List.{List, [], _∷_}
-use Prim.Native.Nat.{ℕ, _+_, _-_, _<_, _≤_}
+use Prim.Native.Nat.{ℕ, _-_, _<_, _≤_}
 use native.Mathlib.Omega.{arith}
 use lib.Dec.{leb}
 use lib.ListN.{length}
 use borrow.Author.Tests.{le-leb, lt-leb}
 use Rattle.octets.specs.Octets.{padded, zeros}
 use Rattle.octets.specs.Lists.{all}
-use Rattle.octets.specs.Checked.{Check, pass, refuse, _>>=_, require}
+use Rattle.octets.specs.Checked.{Check, pass, refuse}
 use Rattle.octets.proofs.Checks.{passes, fails}
 use Rattle.bundle.specs.Written.{written}
-use Rattle.package.specs.Pack.{Answer, refused, short, made, answered}
+use Rattle.package.specs.Pack.{Answer, short, made, answered}
 use Rattle.sections.specs.Sections.{Sized, sectionsBy, sizesGood, lengthOf}
 use Rattle.sections.proofs.Sizes.{good-is, length-is, bad-sections}
 use Rattle.finish.specs.Finish.{finishedOf, outputOf, oneObject}
-use Rattle.finish.specs.declared.whole.Finished.{Finished}
 use Rattle.finish.specs.declared.whole.Finished.the-variants.{Refused, Short, Made}
 
 -- ---- of a check

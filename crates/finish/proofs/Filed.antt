@@ -4,14 +4,14 @@ use mathlib.Core.Path.{_≡_, refl, sym, ap, ap₂, _∙_}
 use mathlib.Core.Logic.{_⊎_, ⊎-elim}
 use mathlib.Core.Bool.{Bool, true, false}
 use mathlib.Core.List.{List, [], _∷_, _++_, map}
-use Prim.Native.Nat.{ℕ, _+_, _*_, _/_, _%_, _^_, _<_, _≤_}
+use Prim.Native.Nat.{ℕ, _+_, _*_, _/_, _%_, _<_, _≤_}
 use native.Mathlib.Omega.{arith}
 use lib.Dec.{eqb, leb}
-use lib.ListN.{length, take, getD, length-map}
+use lib.ListN.{length, length-map}
 use borrow.Author.Tests.{ne-eqb, eq-eqb, ltb-true}
 use Rattle.octets.specs.Octets.{part, placed}
 use Rattle.octets.specs.Lists.{joined, those, all, distinct}
-use Rattle.octets.specs.Checked.{Check, pass, _>>=_, require}
+use Rattle.octets.specs.Checked.{pass, _>>=_, require}
 use Rattle.octets.proofs.Checks.{then-pass}
 use Rattle.octets.proofs.Lists.{length-those}
 use Rattle.octets.proofs.Numbers.{Bytes}
@@ -22,16 +22,16 @@ use Rattle.bundle.specs.Encoded.{encodingIs}
 use Rattle.bundle.specs.Written.{Section, written}
 use Rattle.bundle.specs.declared.encoding.ObjectEncoding.{ObjectEncoding}
 use Rattle.bundle.proofs.Every.{Every, nothing, also}
-use Rattle.strings.specs.Strings.{strOf, entriesIn, entriesOf, remapped}
+use Rattle.strings.specs.Strings.{strOf, remapped}
 use Rattle.strings.specs.declared.table.StringTable.{StringTable}
 use Rattle.strings.proofs.StrOffsets.{whole-entries}
-use Rattle.index.specs.Probing.{Slots, slotsFor, slotsOf}
+use Rattle.index.specs.Probing.{Slots, slotsOf}
 use Rattle.index.specs.Written.{Row, indexBytes}
 use Rattle.rows.specs.Layout.{versionFor, RowsHeld, identitiesOf}
 use Rattle.package.specs.Input.{Input}
 use Rattle.package.specs.Filing.{Filed, Filing, filingOf, firstWord, kept}
 use Rattle.package.specs.Pack.{rowsOf, unitBytes, sharedBytes, stringTable, sectionList, nonEmpty, packageSections, packageObjects}
-use Rattle.package.proofs.Inputs.{InputFacts, StringFacts}
+use Rattle.package.proofs.Inputs.{StringFacts}
 use Rattle.package.proofs.Filing.{FilingFacts, filing-facts}
 use Rattle.package.proofs.Kept.{identitiesIn, distinct-kept}
 use Rattle.package.proofs.Tables.{rows-named}
@@ -41,11 +41,11 @@ use Rattle.bundle.proofs.Sizes.{bundle-totals}
 use Rattle.joining.specs.Joining.{sectionsJoined, offsetsJoined, remappedIn, EntriesGood}
 use Rattle.joining.proofs.Remapping.{remapped-in}
 use Rattle.sections.specs.Sections.{sectionsFrom, sectionsBy, notEmpty}
-use Rattle.filing.specs.State.{Held, TableHeld, rowsStart, stringsStart, seenStart, placesStart, unitsOf}
+use Rattle.filing.specs.State.{Held, rowsStart, placesStart, unitsOf}
 use Rattle.filing.specs.declared.state.InProgress.{InProgress}
 use Rattle.finish.specs.Ready.{IndexHeld, Ready}
 use Rattle.finish.specs.Finish.{packageOf, packageIn, oneObject, AllFiled}
-use Rattle.finish.proofs.Objects.{FromObject, Matched, none, more, objects-matched, matched-joined, kept-few}
+use Rattle.finish.proofs.Objects.{Matched, none, more, objects-matched, matched-joined, kept-few}
 use Rattle.finish.proofs.Regions.{regions-same, region-before, region-behind, region-cu, region-tu}
 use Rattle.finish.proofs.Indexes.{slots-small, slots-made, index-held}
 

@@ -2,19 +2,19 @@
 -- Assumes nothing.
 use mathlib.Core.Path.{_≡_, refl, sym, ap, _∙_}
 use mathlib.Core.Bool.{Bool, true, false}
-use mathlib.Core.List.{List, [], _∷_, _++_}
-use Prim.Native.Nat.{ℕ, _+_, _*_, _/_, _%_, _^_, _<_, _≤_}
+use mathlib.Core.List.{List, [], _∷_}
+use Prim.Native.Nat.{ℕ, _*_, _/_, _%_, _^_, _≤_}
 use native.Mathlib.Omega.{arith}
-use lib.Dec.{eqb, leb}
+use lib.Dec.{leb}
 use lib.ListN.{length, drop}
 use Rattle.octets.specs.Octets.{part, placed}
 use Rattle.octets.specs.Lists.{joined, those, all}
-use Rattle.octets.specs.Checked.{Check, pass, refuse, _>>=_, require}
+use Rattle.octets.specs.Checked.{pass, refuse, _>>=_, require}
 use Rattle.octets.proofs.Checks.{then-pass, pass-inj}
 use Rattle.octets.proofs.Numbers.{Bytes}
 use Rattle.bundle.specs.Bundle.{Part, Object, Bundle, bundleOf, stepAt, leading, objectsOf}
 use Rattle.bundle.specs.Encoding.{encodingOf}
-use Rattle.bundle.specs.Encoded.{encodingIs, wordRead}
+use Rattle.bundle.specs.Encoded.{wordRead}
 use Rattle.bundle.specs.Written.{Section, written}
 use Rattle.bundle.specs.Next.{nextOf}
 use Rattle.bundle.specs.declared.Item.the-variants.{Object as AnObject}

@@ -1,13 +1,13 @@
 -- A table's index: the rows in work, the slots placed from them, and the definition's bytes.
 -- Assumes nothing.
 use mathlib.Core.Path.{_≡_, refl, sym, ap, _∙_}
-use mathlib.Core.Bool.{Bool, true}
-use mathlib.Core.List.{List, [], _∷_, map}
-use Prim.Native.Nat.{ℕ, suc, _+_, _*_, _/_, _^_, _<_, _≤_}
+use mathlib.Core.Bool.{true}
+use mathlib.Core.List.{List, [], _∷_}
+use Prim.Native.Nat.{ℕ, _*_, _<_, _≤_}
 use native.Mathlib.Omega.{arith}
 use native.Mathlib.Decide.{ℕ-discrete}
 use lib.ListN.{length, take}
-use Rattle.octets.specs.Octets.{part, zeros}
+use Rattle.octets.specs.Octets.{zeros}
 use Rattle.octets.proofs.Placed.{length-zeros}
 use Rattle.octets.specs.Lists.{distinct}
 use Rattle.octets.specs.Checked.{pass}

@@ -1,6 +1,6 @@
 -- The objects of a bundle and the inputs that they are: one for each, with the same bytes.
 -- Assumes nothing.
-use mathlib.Core.Path.{_≡_, refl, sym, ap, ap₂, _∙_, subst}
+use mathlib.Core.Path.{_≡_, refl, sym, ap, ap₂, subst}
 use mathlib.Core.Bool.{Bool}
 use mathlib.Core.List.{List, [], _∷_, _++_, map}
 use Prim.Native.Nat.{ℕ, suc, _+_, _≤_}
@@ -8,7 +8,6 @@ use native.Mathlib.Omega.{arith}
 use mathlib.Core.Logic.{⊎-elim}
 use lib.Dec.{eqb}
 use lib.ListN.{length, length-append}
-use borrow.Author.Tests.{eqb-true}
 use Rattle.octets.specs.Lists.{joined, any}
 use Rattle.octets.specs.Checked.{pass}
 use Rattle.octets.proofs.Checks.{bind-pass, require-pass, pass-inj, known}

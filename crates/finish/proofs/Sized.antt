@@ -1,22 +1,20 @@
 -- The sizes are those of the sections.
 -- Assumes nothing.
-use mathlib.Core.Path.{_≡_, refl, sym, ap, _∙_}
+use mathlib.Core.Path.{_≡_, sym, ap, _∙_}
 use mathlib.Core.Bool.{Bool}
-use mathlib.Core.List.{List, []}
-use Prim.Native.Nat.{ℕ, _+_, _*_, _/_, _<_, _≤_}
+use mathlib.Core.List.{List}
+use Prim.Native.Nat.{ℕ, _<_, _≤_}
 use native.Mathlib.Omega.{arith}
 use native.Mathlib.Decide.{ℕ-discrete}
-use lib.Dec.{eqb}
 use lib.ListN.{length, take, getD, set, length-set}
 use lib.Seq.{getD-set-same, getD-set-other, length-take-le}
 use borrow.Author.Tests.{eq-eqb, ne-eqb}
-use Rattle.octets.specs.Lists.{joined}
 use Rattle.bundle.specs.Encoded.{encodingIs}
 use Rattle.bundle.specs.declared.encoding.ObjectEncoding.{ObjectEncoding}
 use Rattle.strings.specs.declared.table.StringTable.{StringTable}
 use Rattle.strings.proofs.StrOffsets.{sound}
 use Rattle.index.specs.Probing.{slotsFor}
-use Rattle.rows.specs.Layout.{codesIn, indexIn, indexSize}
+use Rattle.rows.specs.Layout.{codesIn, indexSize}
 use Rattle.rows.proofs.LawPieces.{index-length}
 use Rattle.joining.specs.Joining.{offsetsJoined, sectionsJoined}
 use Rattle.joining.proofs.Remapping.{length-offsets}

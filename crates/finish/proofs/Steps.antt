@@ -1,8 +1,8 @@
 -- Steps of the functions that write: an index, a section with its word, the empty package.
 -- Assumes nothing.
-use mathlib.Core.Path.{_≡_, refl, sym, ap, _∙_}
-use mathlib.Core.Bool.{Bool, true}
-use mathlib.Core.List.{List, [], _∷_, _++_, append-nil}
+use mathlib.Core.Path.{_≡_, sym, ap, _∙_}
+use mathlib.Core.Bool.{Bool}
+use mathlib.Core.List.{List, [], _++_, append-nil}
 use Prim.Native.Nat.{ℕ, _+_, _*_, _-_, _<_, _≤_}
 use native.Mathlib.Omega.{arith}
 use lib.ListN.{length, take, getD}
@@ -13,18 +13,17 @@ use Rattle.bundle.specs.Bundle.{filledUp}
 use Rattle.bundle.specs.Written.{wordBytes, headBytes, endBytes, written}
 use Rattle.bundle.specs.declared.encoding.ObjectEncoding.{ObjectEncoding}
 use Rattle.bundle.proofs.Next.{filledUp-le}
-use Rattle.bundle.proofs.Putting.{length-head, placed-word, placed-behind, head-put, end-put}
+use Rattle.bundle.proofs.Putting.{length-head, placed-behind, head-put, end-put}
 use Rattle.bundle.proofs.Sizes.{written-size}
 use Rattle.strings.specs.declared.table.StringTable.{StringTable}
 use Rattle.index.specs.Probing.{slotsFor}
 use Rattle.rows.specs.Layout.{RowsIn, indexIn}
-use Rattle.sections.specs.Sections.{Sized, sizesGood, framedSize}
 use Rattle.sections.specs.Writing.{Writing}
 use Rattle.sections.proofs.Sizes.{framed-some, size-good}
 use Rattle.sections.proofs.Writing.{writing-frame-room}
 use Rattle.filing.specs.declared.state.Table.{Table}
 use Rattle.filing.specs.declared.state.InProgress.{InProgress}
-use Rattle.finish.specs.Ready.{IndexHeld, IndexWritable, Ready, SectionWritable, framedIn, FrameWritable, SectionsWritable}
+use Rattle.finish.specs.Ready.{IndexHeld, IndexWritable, SectionWritable, framedIn, FrameWritable, SectionsWritable}
 use Rattle.finish.proofs.Frames.{frame-some}
 
 -- ---- an index

@@ -1,15 +1,14 @@
 -- Both tables placed one after the other.
 -- Assumes nothing.
-use mathlib.Core.Path.{_≡_, refl, sym, ap, ap₂, _∙_}
-use mathlib.Core.Bool.{Bool, true, false}
+use mathlib.Core.Path.{_≡_, sym, ap, ap₂, _∙_}
+use mathlib.Core.Bool.{Bool, true}
 use mathlib.Core.List.{List}
 use mathlib.Core.Option.{some}
-use Prim.Native.Nat.{ℕ, _+_, _*_, _^_, _<_, _≤_}
+use Prim.Native.Nat.{ℕ, _+_, _*_, _≤_}
 use native.Mathlib.Omega.{arith}
-use lib.ListN.{length, getD}
+use lib.ListN.{length}
 use Rattle.octets.specs.Octets.{part, placed, zeros}
 use Rattle.octets.specs.Checked.{pass}
-use Rattle.octets.proofs.Checks.{true-false}
 use Rattle.octets.proofs.Parts.{getD-part, length-part, length-part-le}
 use Rattle.octets.proofs.Regions.{part-before}
 use Rattle.index.specs.Held.{PowerOfTwo}

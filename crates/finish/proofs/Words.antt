@@ -1,8 +1,8 @@
 -- An object word that 4 lets pass, as the code reads it.
 -- Assumes nothing.
-use mathlib.Core.Path.{_≡_, refl, sym, ap, _∙_}
+use mathlib.Core.Path.{_≡_, sym, ap, _∙_}
 use mathlib.Core.Logic.{_⊎_, inl, inr, ⊎-elim}
-use mathlib.Core.Bool.{Bool, true, false, _&&_, _||_}
+use mathlib.Core.Bool.{true, _&&_, _||_}
 use Prim.Native.Nat.{ℕ}
 use native.Mathlib.Omega.{arith}
 use lib.Dec.{eqb}
@@ -11,7 +11,6 @@ use Rattle.octets.proofs.Checks.{or-cases, and-left, and-right}
 use Rattle.bundle.specs.Encoding.{Encoding, encodingGood}
 use Rattle.bundle.specs.Encoded.{four, encodingIs, wordRead}
 use Rattle.bundle.specs.declared.encoding.ObjectEncoding.{ObjectEncoding}
-use Rattle.bundle.specs.declared.encoding.WordRead.{WordRead}
 use Rattle.bundle.specs.declared.encoding.WordRead.the-variants.{Good, Bad}
 
 four-is : (v m : ℕ) → (4 ≡ m → ⊥) → (v ≡ 4) ⊎ (v ≡ m) → four (eqb v m) m ≡ v

@@ -1,7 +1,6 @@
 -- No rows, no index.
 -- Assumes nothing.
 use mathlib.Core.Path.{ap, _∙_}
-use Prim.Native.Nat.{ℕ}
 use native.Mathlib.Omega.{arith}
 use lib.ListN.{length}
 use Rattle.index.proofs.Slots.{slotsFor-fits}
@@ -10,26 +9,18 @@ use Rattle.finish.proofs.Sized.{index-none, index-some}
 use borrow.Author.Needs.{needs}
 use Rattle.finish.proofs.sizes.index_size.Statement.{statement}
 use Rattle.finish.proofs.sizes.index_size.Tie as tie
-use Rattle.finish.proofs.sizes.index_size.Reads as reads
-use Rattle.finish.proofs.sizes.index_size.Lts as lts
-use Rattle.rows.proofs.columns.index_length.Reads as index-length-reads
-use Rattle.rows.proofs.slots.slots_for.Reads as slots-for-reads
 
--- src/sizes.rt:16:9
 returns : tie.Need-returns
 returns c = index-none _ _ (c .if1 .taken)
 
--- src/sizes.rt:19:9
 slots-for-requires : tie.Need-slots-for-requires
 slots-for-requires c κs = search needs
 
--- src/sizes.rt:20:5
 index-length-requires : tie.Need-index-length-requires
 index-length-requires c κs =
     let t = c .before .before .before .args .t in
     (omega arith, omega (arith, c .slots-for .ensures, slotsFor-fits (t .count) (omega arith)))
 
--- src/sizes.rt:10:1
 returns-2 : tie.Need-returns-2
 returns-2 c =
     let s = c .before .before .before .before in

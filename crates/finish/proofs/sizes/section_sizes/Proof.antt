@@ -1,50 +1,37 @@
 -- Sizes by code, stored one by one.
 -- Assumes nothing.
 use mathlib.Core.Path.{ap₂}
-use mathlib.Core.List.{List}
 use Prim.Native.Nat.{ℕ}
 use lib.ListN.{set}
 use Rattle.finish.specs.Ready.{sizesOf}
 use borrow.Author.Needs.{needs}
 use Rattle.finish.proofs.sizes.section_sizes.Statement.{statement}
 use Rattle.finish.proofs.sizes.section_sizes.Tie as tie
-use Rattle.finish.proofs.sizes.section_sizes.Reads as reads
-use Rattle.finish.proofs.sizes.section_sizes.Lts as lts
-use Rattle.finish.proofs.sizes.index_size.Reads as index-size-reads
 
--- src/sizes.rt:33:5
 array-write-sizes : tie.Need-array-write-sizes
 array-write-sizes c = search needs
 
--- src/sizes.rt:34:5
 array-write-sizes-2 : tie.Need-array-write-sizes-2
 array-write-sizes-2 c = search needs
 
--- src/sizes.rt:35:5
 array-write-sizes-3 : tie.Need-array-write-sizes-3
 array-write-sizes-3 c = search needs
 
--- src/sizes.rt:36:5
 array-write-sizes-4 : tie.Need-array-write-sizes-4
 array-write-sizes-4 c = search needs
 
--- src/sizes.rt:37:17
 index-size-requires : tie.Need-index-size-requires
 index-size-requires c κs = search needs
 
--- src/sizes.rt:37:5
 array-write-sizes-5 : tie.Need-array-write-sizes-5
 array-write-sizes-5 c = search needs
 
--- src/sizes.rt:38:17
 index-size-requires-2 : tie.Need-index-size-requires-2
 index-size-requires-2 c κs = search needs
 
--- src/sizes.rt:38:5
 array-write-sizes-6 : tie.Need-array-write-sizes-6
 array-write-sizes-6 c = search needs
 
--- src/sizes.rt:24:1
 returns : tie.Need-returns
 unfolding sizesOf
 returns c =

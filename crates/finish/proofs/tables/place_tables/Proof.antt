@@ -1,10 +1,8 @@
 -- Both tables placed: neither misses a slot.
 -- Assumes nothing.
-use mathlib.Core.Path.{_≡_, refl, sym, ap, _∙_}
+use mathlib.Core.Path.{ap, _∙_}
 use mathlib.Core.List.{List}
-use Prim.Native.Nat.{ℕ, _+_, _*_, _≤_}
-use native.Mathlib.Omega.{arith}
-use lib.ListN.{length}
+use Prim.Native.Nat.{ℕ, _*_}
 use denote.Ref.{now}
 use Rattle.octets.specs.Octets.{placed}
 use Rattle.octets.proofs.Checks.{true-false}
@@ -12,46 +10,33 @@ use Rattle.finish.proofs.TwoTables.{cu-asks, tu-asks, never-missing, fi
 use borrow.Author.Needs.{needs}
 use Rattle.finish.proofs.tables.place_tables.Statement.{statement}
 use Rattle.finish.proofs.tables.place_tables.Tie as tie
-use Rattle.finish.proofs.tables.place_tables.Reads as reads
-use Rattle.finish.proofs.tables.place_tables.Lts as lts
-use Rattle.placing.proofs.place_table.Reads as place-table-reads
-use Rattle.rows.proofs.slots.slots_for.Reads as slots-for-reads
 
--- src/tables.rt:19:9
 slots-for-requires : tie.Need-slots-for-requires
 slots-for-requires c κs = search needs
 
--- src/tables.rt:20:42
 mul-place-table : tie.Need-mul-place-table
 mul-place-table c = search needs
 
--- src/tables.rt:20:8
 place-table-requires : tie.Need-place-table-requires
 place-table-requires c κs = cu-asks _ _ _ _ (c .before .before .before .pre) _ (c .before .slots-for .ensures)
 
--- src/tables.rt:21:13
 slots-for-requires-2 : tie.Need-slots-for-requires-2
 slots-for-requires-2 c κs = search needs
 
--- src/tables.rt:22:43
 mul-place-table-2 : tie.Need-mul-place-table-2
 mul-place-table-2 c = search needs
 
--- src/tables.rt:22:58
 mul-place-table-3 : tie.Need-mul-place-table-3
 mul-place-table-3 c = search needs
 
--- src/tables.rt:22:9
 place-table-requires-2 : tie.Need-place-table-requires-2
 place-table-requires-2 c κs =
     let p = c .before .before .before .before .before in
     rw (p .place-table .kept .0) (tu-asks _ _ _ _ (p .before .before .before .before .pre) _ (c .before .slots-for2 .ensures))
 
--- src/tables.rt:22:9
 same-length : tie.Need-same-length
 same-length c = search needs
 
--- src/tables.rt:22:9
 returns : tie.Need-returns
 returns c five cus tus s t h e g f made made′ =
     let q = c .before .before in
@@ -66,11 +51,9 @@ returns c five cus tus s t h e g f made made′ =
       q .place-table2 .ensures .1 (t .rows) at ∙ ap (λ (x : List ℕ). placed x (12 * start .args .words) (t .rows)) is,
     )
 
--- src/tables.rt:15:1
 same-length-2 : tie.Need-same-length-2
 same-length-2 c = search needs
 
--- src/tables.rt:15:1
 returns-2 : tie.Need-returns-2
 returns-2 c five cus tus s t h e g f made made′ =
     let p = c .before .before .before in

@@ -1,6 +1,6 @@
 -- Each way out is the definition's answer; neither 4 nor 17 can occur here.
 -- Assumes nothing.
-use mathlib.Core.Path.{_≡_, sym, ap, _∙_}
+use mathlib.Core.Path.{sym, ap, _∙_}
 use mathlib.Core.List.{List}
 use Prim.Native.Nat.{ℕ}
 use lib.ListN.{length}
@@ -16,13 +16,6 @@ use Rattle.finish.proofs.Finishing.{Ending, empty-package, word-good, e
 use borrow.Author.Needs.{needs}
 use Rattle.finish.proofs.whole.finish.Statement.{statement}
 use Rattle.finish.proofs.whole.finish.Tie as tie
-use Rattle.finish.proofs.whole.finish.Reads as reads
-use Rattle.finish.proofs.whole.finish.Lts as lts
-use Rattle.bundle.proofs.encoding.read_word.Reads as read-word-reads
-use Rattle.bundle.proofs.next_item.Reads as next-item-reads
-use Rattle.finish.proofs.tables.place_tables.Reads as place-tables-reads
-use Rattle.finish.proofs.whole.finish_empty.Reads as finish-empty-reads
-use Rattle.finish.proofs.whole.finish_sections.Reads as finish-sections-reads
 
 -- with an object whose word is good
 end-of : (c : tie.After-e)
@@ -35,23 +28,18 @@ end-of c =
     let r = c .before .before in
     ending _ _ _ _ _ (x .pre .0) (λ i. c .before .before .before .before .before .before .before .before .before .shared-slice-known .given i .fits) _ _ (sym (o .word .given .1) ∙ n .next-item .ensures) _ (sym (c .e .given .1) ∙ r .read-word .ensures)
 
--- src/whole.rt:86:33
 next-item-requires : tie.Need-next-item-requires
 next-item-requires c κs = search needs
 
--- src/whole.rt:86:22
 enum-known-word : tie.Need-enum-known-word
 enum-known-word c = search needs
 
--- src/whole.rt:87:9
 finish-empty-requires : tie.Need-finish-empty-requires
 finish-empty-requires c κs = search needs
 
--- src/whole.rt:87:9
 same-length : tie.Need-same-length
 same-length c = search needs
 
--- src/whole.rt:87:9
 returns : tie.Need-returns
 returns c =
     let x = c .before .before .before .before .before .before .before .before .before in
@@ -65,40 +53,32 @@ returns c =
       f .finish-empty .ensures .1 ∙ ap (λ (k : Check (List ℕ)). outputOf (answered k (length (now (x .args .out)))) (length (now (x .args .out)))) p,
     )
 
--- src/whole.rt:89:29
 read-word-requires : tie.Need-read-word-requires
 read-word-requires c κs = search needs
 
--- src/whole.rt:89:24
 enum-known-e : tie.Need-enum-known-e
 enum-known-e c = search needs
 
--- src/whole.rt:90:9
 enum-told : tie.Need-enum-told
 enum-told c = search needs
 
--- src/whole.rt:90:9
 returns-2 : tie.Need-returns-2
 returns-2 c =
     let x = c .before .before .before .before .before .before .before .before .before .before in
     absurd (word-good _ _ _ _ _ (x .pre .0) (λ i. c .before .before .before .before .before .before .before .before .before .shared-slice-known .given i .fits) _ _ (sym (c .before .before .before .before .word .given .1) ∙ c .before .before .before .before .before .before .next-item .ensures) (sym (c .enum-told .given .1) ∙ c .before .before .read-word .ensures))
 
--- src/whole.rt:94:8
 place-tables-requires : tie.Need-place-tables-requires
 place-tables-requires c κs = end-of (c .before .before .before .before) .asks
 
--- src/whole.rt:96:13
 same-length-2 : tie.Need-same-length-2
 same-length-2 c = search needs
 
--- src/whole.rt:96:13
 returns-3 : tie.Need-returns-3
 returns-3 c =
     let x = c .before .before .before .before .before .before .before .before .before .before .before .before .before .before .before .before .before .before .before in
     let over = end-of (c .before .before .before .before .before .before .before .before .before) .over (c .if2 .taken) in
     (refused-answer _ _ 19 over, refused-output _ _ 19 over _ (x .pre .1))
 
--- src/whole.rt:98:9
 finish-sections-requires : tie.Need-finish-sections-requires
 finish-sections-requires c κs =
     let x = c .before .before .before .before .before .before .before .before .before .before .before .before .before .before .before .before .before .before .before .before .before in
@@ -106,15 +86,12 @@ finish-sections-requires c κs =
     let p = c .before .before .before .before .before .before in
     record { sections = g .s; ready = g .ready _ (g .told _ _ (p .place-tables .ensures) .1) (c .before .before .if2 .left); zero = x .pre .1 }
 
--- src/whole.rt:98:9
 same-length-3 : tie.Need-same-length-3
 same-length-3 c = search needs
 
--- src/whole.rt:98:9
 same-length-4 : tie.Need-same-length-4
 same-length-4 c = search needs
 
--- src/whole.rt:98:9
 returns-4 : tie.Need-returns-4
 returns-4 c =
     let x = c .before .before .before .before .before .before .before .before .before .before .before .before .before .before .before .before .before .before .before .before .before .before .before .before in
@@ -126,11 +103,9 @@ returns-4 c =
       f .finish-sections .ensures .1 (g .s) ready ∙ ap (λ (k : Check (List ℕ)). outputOf (answered k (length (now (x .args .out)))) (length (now (x .args .out)))) (sym (g .whole)),
     )
 
--- src/whole.rt:74:1
 same-length-5 : tie.Need-same-length-5
 same-length-5 c = search needs
 
--- src/whole.rt:74:1
 returns-5 : tie.Need-returns-5
 returns-5 c =
     let g = end-of (c .before .before .before .before .before .before .before .before) in

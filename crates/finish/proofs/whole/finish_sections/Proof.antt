@@ -14,12 +14,6 @@ use Rattle.finish.proofs.Answers.{refused-answer, refused-output, short
 use borrow.Author.Needs.{needs}
 use Rattle.finish.proofs.whole.finish_sections.Statement.{statement}
 use Rattle.finish.proofs.whole.finish_sections.Tie as tie
-use Rattle.finish.proofs.whole.finish_sections.Reads as reads
-use Rattle.finish.proofs.whole.finish_sections.Lts as lts
-use Rattle.finish.proofs.sizes.section_sizes.Reads as section-sizes-reads
-use Rattle.finish.proofs.writing.write_package.Reads as write-package-reads
-use Rattle.sections.proofs.package_length.Reads as package-length-reads
-use Rattle.sections.proofs.sizes_good.Reads as sizes-good-reads
 
 sized : (c : tie.After-section-sizes)
     → (let x = c .before .before .before .before in
@@ -30,15 +24,12 @@ sized c s r =
     rw (c .section-sizes .ensures)
     (ready-sized _ _ _ _ _ s r (sym (sizes-long (x .args .e .five) (x .args .st) (x .args .t)) ∙ ap length (sym (c .section-sizes .ensures)) ∙ long))
 
--- src/whole.rt:61:9
 section-sizes-requires : tie.Need-section-sizes-requires
 section-sizes-requires c κs = search needs
 
--- src/whole.rt:62:9
 sizes-good-requires : tie.Need-sizes-good-requires
 sizes-good-requires c κs = search needs
 
--- src/whole.rt:63:9
 returns : tie.Need-returns
 returns c =
     let x = c .before .before .before .before .before .before in
@@ -48,11 +39,9 @@ returns c =
       λ s r. refused-output _ _ 19 (sized-bad (x .args .e .big) (x .args .word) s _ (sized k s r) bad) _ (x .pre .zero),
     )
 
--- src/whole.rt:65:9
 package-length-requires : tie.Need-package-length-requires
 package-length-requires c κs = sym (c .before .sizes-good .ensures) ∙ not-false _ (c .if1 .left)
 
--- src/whole.rt:67:9
 returns-2 : tie.Need-returns-2
 returns-2 c =
     let x = c .before .before .before .before .before .before .before .before in
@@ -63,7 +52,6 @@ returns-2 c =
       λ s r. short-output _ _ _ (sized-good (x .args .e .big) (x .args .word) s _ (sized k s r) good) _ (sized-length (x .args .e .big) (x .args .word) s _ (sized k s r) _ l) (c .if2 .taken) _ (x .pre .zero),
     )
 
--- src/whole.rt:69:5
 write-package-requires : tie.Need-write-package-requires
 write-package-requires c κs =
     let x = c .before .before .before .before .before .before .before .before .before in
@@ -77,11 +65,9 @@ write-package-requires c κs =
       room = rw (← c .before .before .package-length .ensures) (c .before .if2 .left);
     }
 
--- src/whole.rt:48:1
 same-length : tie.Need-same-length
 same-length c = search needs
 
--- src/whole.rt:48:1
 returns-3 : tie.Need-returns-3
 returns-3 c =
     let x = c .before .before .before .before .before .before .before .before .before .before .before .before in

@@ -1,47 +1,35 @@
 -- Nothing for an empty section; else its word, its bytes, and the zeros that stand there.
 -- Assumes nothing.
-use mathlib.Core.Path.{_≡_, sym, ap, _∙_}
-use Prim.Native.Nat.{ℕ, _+_, _≤_}
+use mathlib.Core.Path.{sym, ap, _∙_}
+use Prim.Native.Nat.{ℕ, _+_}
 use native.Mathlib.Omega.{arith}
-use denote.Ref.{now}
 use Rattle.sections.proofs.Sizes.{framed-none, framed-some}
 use Rattle.finish.proofs.Frames.{frame-none}
 use Rattle.finish.proofs.Steps.{frame-room, frame-section, frame-put}
 use borrow.Author.Needs.{needs}
 use Rattle.finish.proofs.writing.write_framed.Statement.{statement}
 use Rattle.finish.proofs.writing.write_framed.Tie as tie
-use Rattle.finish.proofs.writing.write_framed.Reads as reads
-use Rattle.finish.proofs.writing.write_framed.Lts as lts
-use Rattle.bundle.proofs.filled_up.Reads as filled-up-reads
-use Rattle.bundle.proofs.put_section_word.Reads as put-section-word-reads
-use Rattle.finish.proofs.writing.write_section.Reads as write-section-reads
 
--- src/writing.rt:120:9
 returns : tie.Need-returns
 returns c =
     let s = c .before .before .before .before in
     (omega (arith, framed-none (s .args .size) (c .if1 .taken)), λ x r q. frame-none _ _ _ _ (sym q ∙ c .if1 .taken))
 
--- src/writing.rt:122:17
 add-start : tie.Need-add-start
 add-start c = search needs
 
--- src/writing.rt:123:24
 filled-up-requires : tie.Need-filled-up-requires
 filled-up-requires c κs = search needs
 
--- src/writing.rt:123:16
 add-next : tie.Need-add-next
 add-next c =
     let i = c .before in
     let s = i .before .before .before .before in
     omega (arith, frame-room _ _ _ _ _ _ _ _ _ (s .pre) (i .if1 .left), c .filled-up .ensures, s .good .1 .1 .1 .1 .1 .1 .1 .0)
 
--- src/writing.rt:124:30
 cast-put-section-word : tie.Need-cast-put-section-word
 cast-put-section-word c = search needs
 
--- src/writing.rt:124:5
 put-section-word-requires : tie.Need-put-section-word-requires
 put-section-word-requires c κs =
     let i = c .before .before in
@@ -49,7 +37,6 @@ put-section-word-requires c κs =
     let room = frame-room _ _ _ _ _ _ _ _ _ (s .pre) (i .if1 .left) in
     (omega (arith, s .pre .most), omega (arith, s .pre .short), omega (arith, room))
 
--- src/writing.rt:125:5
 write-section-requires : tie.Need-write-section-requires
 write-section-requires c κs =
     let p = c .before .before .before in
@@ -57,11 +44,9 @@ write-section-requires c κs =
     let s = i .before .before .before .before in
     frame-section _ _ _ _ _ _ _ _ _ (s .pre) (i .if1 .left) _ (p .put-section-word .kept .1 .1 .0)
 
--- src/writing.rt:104:1
 same-length : tie.Need-same-length
 same-length c = search needs
 
--- src/writing.rt:104:1
 returns-2 : tie.Need-returns-2
 returns-2 c =
     let x = c .before .before in

@@ -1,7 +1,6 @@
 -- No rows, no index; else the index of the rows and slots in work.
 -- Assumes nothing.
 use Prim.Native.Nat.{_≤_}
-use native.Mathlib.Omega.{arith}
 use mathlib.Core.Path.{sym}
 use lib.ListN.{length}
 use lib.Seq.{length-take-le}
@@ -10,38 +9,28 @@ use Rattle.finish.proofs.Steps.{no-index, index-asks, index-leaves}
 use borrow.Author.Needs.{needs}
 use Rattle.finish.proofs.writing.write_index.Statement.{statement}
 use Rattle.finish.proofs.writing.write_index.Tie as tie
-use Rattle.finish.proofs.writing.write_index.Reads as reads
-use Rattle.finish.proofs.writing.write_index.Lts as lts
-use Rattle.rows.proofs.slots.slots_for.Reads as slots-for-reads
-use Rattle.rows.proofs.writing.write_index.Reads as write-index-reads
 
 count-fits : (c : tie.After-slots-for) → c .slots-for .result ≤ length (now (c .before .before .before .before .before .before .args .slots))
 count-fits c = rw (c .slots-for .ensures) (c .before .before .before .before .before .before .pre .held .slotsRoom)
 
--- src/writing.rt:32:9
 returns : tie.Need-returns
 returns c s h = no-index _ _ _ _ s _ _ h (c .if1 .taken)
 
--- src/writing.rt:35:9
 slots-for-requires : tie.Need-slots-for-requires
 slots-for-requires c κs = search needs
 
--- src/writing.rt:36:61
 slice-aggregate-write-index : tie.Need-slice-aggregate-write-index
 slice-aggregate-write-index c = sym (length-take-le _ _ (count-fits (c .before)))
 
--- src/writing.rt:36:5
 write-index-requires : tie.Need-write-index-requires
 write-index-requires c κs =
     let k = c .before .before in
     let i = k .before .before in
     index-asks _ _ _ _ _ (k .slots-for .ensures) (i .if1 .left) _ _ (i .before .before .before .before .pre)
 
--- src/writing.rt:26:1
 same-length : tie.Need-same-length
 same-length c = search needs
 
--- src/writing.rt:26:1
 returns-2 : tie.Need-returns-2
 returns-2 c s h =
     let w = c .before .before in

@@ -4,22 +4,13 @@ use Rattle.finish.proofs.PackageSteps.{head-fits, object-fits, package-
 use borrow.Author.Needs.{needs}
 use Rattle.finish.proofs.writing.write_package.Statement.{statement}
 use Rattle.finish.proofs.writing.write_package.Tie as tie
-use Rattle.finish.proofs.writing.write_package.Reads as reads
-use Rattle.finish.proofs.writing.write_package.Lts as lts
-use Rattle.bundle.proofs.put_end.Reads as put-end-reads
-use Rattle.bundle.proofs.put_head.Reads as put-head-reads
-use Rattle.bundle.proofs.put_object.Reads as put-object-reads
-use Rattle.finish.proofs.writing.write_sections.Reads as write-sections-reads
 
--- src/writing.rt:165:5
 put-head-requires : tie.Need-put-head-requires
 put-head-requires c κs = let p = c .before .before .before .before .pre in head-fits (c .before .before .before .before .args .e .big) 0 _ _ (p .zero) (p .room)
 
--- src/writing.rt:166:5
 put-object-requires : tie.Need-put-object-requires
 put-object-requires c κs = let p = c .before .before .before .before .before .before .before .before .pre in object-fits _ 0 _ _ (p .zero) (p .room) _ (c .before .before .before .put-head .ensures)
 
--- src/writing.rt:167:9
 write-sections-requires : tie.Need-write-sections-requires
 write-sections-requires c κs =
     let p = c .before .before .before .before .before .before .before .before .before .before .before .before .pre in
@@ -32,7 +23,6 @@ write-sections-requires c κs =
       started = package-started _ _ _ _ (p .zero) (p .room) _ (c .before .before .before .before .before .before .before .put-head .ensures) _ (c .before .before .before .put-object .ensures) (p .sections) (p .sized);
     }
 
--- src/writing.rt:168:5
 put-end-requires : tie.Need-put-end-requires
 put-end-requires c κs =
     let p = c .before .before .before .before .before .before .before .before .before .before .before .before .before .before .before .before .pre in
@@ -43,11 +33,9 @@ put-end-requires c κs =
     let writing = x .write-sections .ensures _ (p .sections) (p .ready) (p .sized) started in
     package-end _ _ _ _ (p .zero) (p .room) _ h _ o (p .sections) (p .sized) _ _ writing (x .write-sections .kept .1 .1 .1 .1 .1 .1 .0) (p .good)
 
--- src/writing.rt:152:1
 same-length : tie.Need-same-length
 same-length c = search needs
 
--- src/writing.rt:152:1
 returns : tie.Need-returns
 returns c s r z =
     let p = c .before .before .before .before .before .before .before .before .before .before .before .before .before .before .before .before .before .before .before .pre in

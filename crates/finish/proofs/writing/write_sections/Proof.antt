@@ -1,11 +1,10 @@
 -- The sections before a code are written: `Writing` is what the loop keeps, for any sections that are ready.
 -- Assumes nothing.
-use mathlib.Core.Path.{_≡_, refl, sym, ap, _∙_}
+use mathlib.Core.Path.{_≡_, refl, _∙_}
 use mathlib.Core.List.{List}
-use Prim.Native.Nat.{ℕ, _+_, _-_, _≤_}
+use Prim.Native.Nat.{ℕ, _-_, _≤_}
 use native.Mathlib.Omega.{arith}
 use lib.ListN.{length}
-use denote.Ref.{now}
 use Rattle.sections.specs.Sections.{Sized}
 use Rattle.sections.specs.Writing.{Writing}
 use Rattle.finish.specs.Ready.{Ready}
@@ -13,9 +12,6 @@ use Rattle.finish.proofs.Frames.{frame-turn}
 use Rattle.finish.proofs.Steps.{frame-writable}
 use Rattle.finish.proofs.writing.write_sections.Statement.{statement}
 use Rattle.finish.proofs.writing.write_sections.Tie as tie
-use Rattle.finish.proofs.writing.write_sections.Reads as reads
-use Rattle.finish.proofs.writing.write_sections.Lts as lts
-use Rattle.finish.proofs.writing.write_framed.Reads as write-framed-reads
 
 abbrev Inv-loop : tie.InvT-loop
 Inv-loop e b st t work out₀ sizes at₀ code₀ out at code =
@@ -25,19 +21,15 @@ Inv-loop e b st t work out₀ sizes at₀ code₀ out at code =
 abbrev μ-loop : tie.MeasureT-loop
 μ-loop e b st t work out₀ sizes at₀ code₀ out at code = 14 - code
 
--- src/writing.rt:143:5
 loop-holds : tie.Need-loop-holds Inv-loop μ-loop
 loop-holds c = (omega arith, omega arith, refl, λ front s r z w. w)
 
--- src/writing.rt:144:20
 mul-size : tie.Need-mul-size Inv-loop μ-loop
 mul-size c = omega arith
 
--- src/writing.rt:144:20
 array-read-size : tie.Need-array-read-size Inv-loop μ-loop
 array-read-size c = omega arith
 
--- src/writing.rt:145:9
 write-framed-requires : tie.Need-write-framed-requires Inv-loop μ-loop
 write-framed-requires c κs =
     let l = c .before .before in
@@ -45,15 +37,12 @@ write-framed-requires c κs =
     let p = s .pre in
     frame-writable _ _ _ _ _ _ _ _ _ _ _ p (l .loop .inv .3 (p .front) (p .sections) (p .ready) (p .sized) (p .started)) (l .loop .inv .0) (c .before .loop-test .taken) refl
 
--- src/writing.rt:146:9
 add-code : tie.Need-add-code Inv-loop μ-loop
 add-code c = omega arith
 
--- src/writing.rt:143:5
 loop-less : tie.Need-loop-less Inv-loop μ-loop
 loop-less c = omega arith
 
--- src/writing.rt:143:5
 loop-again : tie.Need-loop-again Inv-loop μ-loop
 loop-again c =
     let f = c .before .before in
@@ -65,11 +54,9 @@ loop-again c =
       λ front s r z w. frame-turn front s _ _ _ _ _ _ (l .loop .inv .3 front s r z w) (i .loop-test .taken) (z .are _ (l .loop .inv .0) (i .loop-test .taken)) (f .write-framed .ensures .1 s r (z .are _ (l .loop .inv .0) (i .loop-test .taken))) (f .write-framed .ensures .0),
     )
 
--- src/writing.rt:129:1
 same-length : tie.Need-same-length Inv-loop μ-loop
 same-length c = c .before .loop .inv .2
 
--- src/writing.rt:129:1
 returns : tie.Need-returns Inv-loop μ-loop
 returns c front s r z w =
     let l = c .before in
