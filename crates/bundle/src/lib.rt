@@ -63,7 +63,7 @@ pub fn length_good(limit: usize, b: &[u8]) -> bool
 }
 
 // A length filled up to whole words.
-fn filled_up(n: usize) -> usize
+pub fn filled_up(n: usize) -> usize
     requires { ⌜ n < 0x80_0000 ⌝ }
     ensures { λ r. ⌜ r ≡ filledUp n ⌝ }
 {

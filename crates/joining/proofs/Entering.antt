@@ -4,7 +4,11 @@ use mathlib.Core.Path.{_≡_, refl, sym, ap, _∙_}
 use mathlib.Core.List.{List, [], _∷_, _++_}
 use mathlib.Core.Option.{Option, some, none}
 use Prim.Native.Nat.{ℕ, _+_, _<_, _≤_}
+use mathlib.Core.Logic.{⊎-elim}
 use native.Mathlib.Omega.{arith}
+use types.Run.{OneOf}
+use denote.Enum.Declared.{tagOf}
+use Rattle.bundle.proofs.Item.{the-type}
 use lib.ListN.{length, getD, drop}
 use Rattle.octets.specs.Octets.{part}
 use Rattle.octets.specs.Checked.{Check, pass}
@@ -84,3 +88,7 @@ objects-over b place done all o (AnObject word next) f e = absurd (f word next r
 objects-over b place done all o (ASection code start size next) f e = absurd (objects-section b place done all o code start size next e)
 objects-over b place done all o End f e = objects-end b place done all o e
 objects-over b place done all o Broken f e = absurd (objects-broken b place done all o e)
+
+-- an answer of another kind is no object's word
+pub not-object : (r : Answered) (word next : ℕ) → OneOf (1 ∷ 2 ∷ 3 ∷ []) (tagOf the-type r) → r ≡ AnObject word next → ⊥
+not-object r word next k e = ⊎-elim (λ z. omega arith) (⊎-elim (λ z. omega arith) (λ z. omega arith)) (rw e at k)

@@ -2,3 +2,4 @@
 -- Assumes nothing.
 pub mod Entering
 pub mod Joining
+pub mod Remapping

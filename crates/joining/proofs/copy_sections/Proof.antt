@@ -1,29 +1,18 @@
 -- Each object's section is put behind those before it: `Joining` is what the loop keeps.
 -- Assumes nothing.
 use mathlib.Core.Path.{_≡_, refl, sym, _∙_}
-use mathlib.Core.Logic.{⊎-elim}
-use Prim.Native.Nat.{ℕ, _+_, _-_, _≤_}
+use Prim.Native.Nat.{_+_, _-_, _≤_}
 use native.Mathlib.Omega.{arith}
 use lib.ListN.{length, getD, length-take, length-drop}
 use borrow.Author.Needs.{needs}
 use denote.Ref.{now}
-use denote.Enum.Declared.{tagOf}
 use Rattle.octets.specs.Checked.{pass}
 use Rattle.bundle.specs.Bundle.{Bundle, bundleOf, body}
-use Rattle.bundle.specs.declared.Item.{Item}
-use Rattle.bundle.specs.declared.Item.the-variants.{Object}
-use types.Run.{OneOf}
-use mathlib.Core.List.{[], _∷_}
-use Rattle.bundle.proofs.Item.{the-type}
 use Rattle.joining.specs.Joining.{sectionsJoined}
-use Rattle.joining.proofs.Entering.{AtObject, object-reaches, object-scanned, objects-over}
+use Rattle.joining.proofs.Entering.{AtObject, object-reaches, object-scanned, objects-over, not-object}
 use Rattle.joining.proofs.Joining.{Joining, joining-none, joining-end, read-once, section-within, section-room, section-joined}
 use Rattle.joining.proofs.copy_sections.Statement.{statement}
 use Rattle.joining.proofs.copy_sections.Tie as tie
-
--- an answer of another kind is no object's word
-not-object : (r : Item) (word next : ℕ) → OneOf (1 ∷ 2 ∷ 3 ∷ []) (tagOf the-type r) → r ≡ Object word next → ⊥
-not-object r word next k e = ⊎-elim (λ z. omega arith) (⊎-elim (λ z. omega arith) (λ z. omega arith)) (rw e at k)
 
 abbrev Inv-loop : tie.InvT-loop
 Inv-loop b code out₀ at o₀ place₀ out o place = (length out ≡ length out₀) × ((k : Bundle) → bundleOf b ≡ pass k → Joining (λ x. body b (x .parts) code) b (k .objects) out₀ out at o place)

@@ -1,0 +1,4 @@
+-- The answers of finishing, and how work holds what is to be written. The definitions are those of `package/specs/Pack.antt`.
+-- Assumes nothing.
+pub mod Ready
+pub mod Finish

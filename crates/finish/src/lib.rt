@@ -1,0 +1,5 @@
+// All objects are filed: 17, 19 and 18, and the package written front to back. Thorin's InProgressDwarfPackage::finish.
+pub mod sizes;
+pub mod tables;
+pub mod whole;
+pub mod writing;

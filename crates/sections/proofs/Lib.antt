@@ -1,0 +1,4 @@
+-- Laws of sections by code.
+-- Assumes nothing.
+pub mod Sizes
+pub mod Writing
