@@ -2,7 +2,7 @@
 -- Assumes nothing.
 use mathlib.Core.Path.{_≡_, sym, ap, _∙_}
 use mathlib.Core.List.{List}
-use Prim.Native.Nat.{ℕ, _+_, _*_, _-_, _/_, _≤_}
+use Prim.Native.Nat.{ℕ, _+_, _*_, _-_, _/_, _<_, _≤_}
 use native.Mathlib.Omega.{arith}
 use lib.ListN.{length, take, drop}
 use Rattle.octets.specs.Octets.{part, placed}
@@ -48,6 +48,10 @@ module _ (b w : List ℕ) where
   pub types-cut : take (15 * (length b / 4) - 14 * (length b / 4)) (drop (14 * (length b / 4)) w) ≡ part w (14 * (length b / 4)) (length b / 4)
   types-cut = cut-is w (14 * (length b / 4)) (15 * (length b / 4)) (length b / 4) (omega arith)
 
+-- the last code of all
+pub last-code : (c : ℕ) → c < 14 → 10 < c → (c ≡ 11 → ⊥) → (c ≡ 12 → ⊥) → c ≡ 13
+last-code c h g n11 n12 = omega arith
+
 -- ---- what each function asks; region is the part of work as the code cuts it
 module _ (code : ℕ) (e : ObjectEncoding) (b : List ℕ) (st : InProgress) (t : StringTable) (w : List ℕ) (n at : ℕ) (r : SectionWritable code e b st t w n at) where
   fits : (c : ℕ) → code ≡ c → at + length (r .sections c) ≤ n
@@ -89,7 +93,7 @@ module _ (code : ℕ) (e : ObjectEncoding) (b : List ℕ) (st : InProgress) (t :
   pub tu-asks : (rows slots : List ℕ) → rows ≡ part w (4 * (length b / 4)) (4 * (length b / 4)) → slots ≡ part w (12 * (length b / 4)) (length b / 4) → code ≡ 13 → IndexWritable e (st .tu) rows slots n at
   tu-asks rows slots p q z = record { bytes = r .sections 13; held = rw (p, q) (r .ready .tu); room = fits 13 z }
 
-  module _ (n1 : code ≡ 1 → ⊥) (n2 : code ≡ 2 → ⊥) (n6 : code ≡ 6 → ⊥) (n11 : code ≡ 11 → ⊥) (n12 : code ≡ 12 → ⊥) (n13 : code ≡ 13 → ⊥) where
+  module _ (n1 : code ≡ 1 → ⊥) (n2 : code ≡ 2 → ⊥) (n6 : code ≡ 6 → ⊥) (low : code ≤ 10) where
     pub shared-asks : Joinable b code n at
     shared-asks = record {
       bundle = r .ready .bundle;

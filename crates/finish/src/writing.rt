@@ -1,7 +1,7 @@
 // The package written front to back.
 ghost use mathlib.Core.Path.{_≡_};
 ghost use mathlib.Core.List.{List, [], _∷_};
-ghost use Prim.Native.Nat.{ℕ, _+_, _-_};
+ghost use Prim.Native.Nat.{ℕ, _+_, _-_, _<_};
 ghost use lib.ListN.{length};
 ghost use Rattle.octets.specs.Octets.{placed, padded};
 ghost use Rattle.bundle.specs.Written.{written};
@@ -36,6 +36,38 @@ fn write_index(e: ObjectEncoding, t: Table, rows: &[u32], slots: &[u32], out: &m
     rows::writing::write_index(e.big, e.five, rows, n, has, &slots[..count], out, at);
 }
 
+// The bytes of str or of an index, by its code.
+fn write_last_section(
+    code: usize,
+    e: ObjectEncoding,
+    b: &[u8],
+    st: InProgress,
+    t: StringTable,
+    work: &[u32],
+    out: &mut [u8],
+    at: usize,
+)
+    requires { ⌜ SectionWritable code e (now b) st t (now work) (length (now out)) at × (10 < code) ⌝ }
+    ensures { λ _. ⌜ ((s : ℕ → List ℕ) → Ready e (now (b .entry)) st t (now (work .entry)) s → now (out .exit) ≡ placed (now (out .entry)) at (s code)) ⌝ }
+{
+    let n = b.len() / 4;
+    let rows = 4 * n;
+    let kept = 8 * n;
+    let cu = 11 * n;
+    let tu = 12 * n;
+    let info = 13 * n;
+    if code == 11 {
+        let count = t.count;
+        strings::sections::write_strings(b, &work[kept..cu], count, out, at);
+        return;
+    }
+    if code == 12 {
+        write_index(e, st.cu, &work[0..rows], &work[cu..tu], out, at);
+        return;
+    }
+    write_index(e, st.tu, &work[rows..kept], &work[tu..info], out, at);
+}
+
 // The bytes of one section of the package, by its code.
 fn write_section(
     code: usize,
@@ -51,9 +83,6 @@ fn write_section(
     ensures { λ _. ⌜ ((s : ℕ → List ℕ) → Ready e (now (b .entry)) st t (now (work .entry)) s → now (out .exit) ≡ placed (now (out .entry)) at (s code)) ⌝ }
 {
     let n = b.len() / 4;
-    let strings_start = 8 * n;
-    let cu_slots = 11 * n;
-    let tu_slots = 12 * n;
     let info_start = 13 * n;
     let types_start = 14 * n;
     let types_end = 15 * n;
@@ -66,35 +95,13 @@ fn write_section(
         return;
     }
     if code == 6 {
-        joining::copy_str_offsets(e, b, &work[strings_start..cu_slots], t, out, at);
+        let strings_start = 8 * n;
+        let strings_end = 11 * n;
+        joining::copy_str_offsets(e, b, &work[strings_start..strings_end], t, out, at);
         return;
     }
-    if code == 11 {
-        let count = t.count;
-        strings::sections::write_strings(b, &work[strings_start..cu_slots], count, out, at);
-        return;
-    }
-    let rows_end = 4 * n;
-    if code == 12 {
-        write_index(
-            e,
-            st.cu,
-            &work[0..rows_end],
-            &work[cu_slots..tu_slots],
-            out,
-            at,
-        );
-        return;
-    }
-    if code == 13 {
-        write_index(
-            e,
-            st.tu,
-            &work[rows_end..strings_start],
-            &work[tu_slots..info_start],
-            out,
-            at,
-        );
+    if 10 < code {
+        write_last_section(code, e, b, st, t, work, out, at);
         return;
     }
     joining::copy_sections(b, code, out, at);
