@@ -41,7 +41,8 @@ use Rattle.bundle.proofs.Sizes.{bundle-totals}
 use Rattle.joining.specs.Joining.{sectionsJoined, offsetsJoined, remappedIn, EntriesGood}
 use Rattle.joining.proofs.Remapping.{remapped-in}
 use Rattle.sections.specs.Sections.{sectionsFrom, sectionsBy, notEmpty}
-use Rattle.filing.specs.State.{Held, rowsStart, placesStart, unitsOf}
+use Rattle.keeping.specs.Regions.{rowsStart, placesStart}
+use Rattle.filing.specs.State.{Held, unitsOf}
 use Rattle.filing.specs.declared.state.InProgress.{InProgress}
 use Rattle.finish.specs.Ready.{IndexHeld, Ready}
 use Rattle.finish.specs.Finish.{packageOf, packageIn, oneObject, AllFiled}

@@ -23,7 +23,7 @@ use Rattle.rows.proofs.LawSeen.{seen-rows-in}
 use Rattle.rows.proofs.LawPlacing.{placed-slots}
 use Rattle.placing.proofs.Placing.{placed-sized}
 use Rattle.rows.proofs.LawIndex.{index-is}
-use Rattle.filing.specs.declared.state.Table.{Table}
+use Rattle.keeping.specs.declared.Table.{Table}
 use Rattle.finish.specs.Ready.{IndexHeld}
 
 -- slots for so few rows take no more words than a bundle has

@@ -19,7 +19,7 @@ use Rattle.rows.proofs.LawPieces.{index-length}
 use Rattle.joining.specs.Joining.{offsetsJoined, sectionsJoined}
 use Rattle.joining.proofs.Remapping.{length-offsets}
 use Rattle.sections.specs.Sections.{Sized}
-use Rattle.filing.specs.declared.state.Table.{Table}
+use Rattle.keeping.specs.declared.Table.{Table}
 use Rattle.filing.specs.declared.state.InProgress.{InProgress}
 use Rattle.finish.specs.Ready.{indexSizeOf, sizesOf, IndexHeld, Ready}
 

@@ -21,7 +21,7 @@ use Rattle.rows.specs.Layout.{RowsIn, indexIn}
 use Rattle.sections.specs.Writing.{Writing}
 use Rattle.sections.proofs.Sizes.{framed-some, size-good}
 use Rattle.sections.proofs.Writing.{writing-frame-room}
-use Rattle.filing.specs.declared.state.Table.{Table}
+use Rattle.keeping.specs.declared.Table.{Table}
 use Rattle.filing.specs.declared.state.InProgress.{InProgress}
 use Rattle.finish.specs.Ready.{IndexHeld, IndexWritable, SectionWritable, framedIn, FrameWritable, SectionsWritable}
 use Rattle.finish.proofs.Frames.{frame-some}

@@ -19,7 +19,8 @@ use Rattle.package.specs.Input.{Input}
 use Rattle.package.specs.Filing.{Filing, filingOf, firstWord}
 use Rattle.package.specs.Pack.{Answer, refused, short, made, packageSections, packageObjects, stringTable}
 use Rattle.sections.specs.Sections.{sectionsBy}
-use Rattle.filing.specs.State.{Held, stringsStart}
+use Rattle.keeping.specs.Regions.{stringsStart}
+use Rattle.filing.specs.State.{Held}
 use Rattle.filing.specs.declared.state.InProgress.{InProgress}
 use Rattle.finish.specs.Ready.{Ready}
 use Rattle.finish.specs.declared.whole.Finished.{Finished}

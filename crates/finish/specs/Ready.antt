@@ -23,7 +23,7 @@ use Rattle.places.specs.Places.{PlacesHeld}
 use Rattle.joining.specs.Joining.{sectionsJoined, offsetsJoined, EntriesGood}
 use Rattle.sections.specs.Sections.{Sized, sizesGood, framedSize, lengthOf}
 use Rattle.sections.specs.Writing.{Writing}
-use Rattle.filing.specs.declared.state.Table.{Table}
+use Rattle.keeping.specs.declared.Table.{Table}
 use Rattle.filing.specs.declared.state.InProgress.{InProgress}
 
 -- ---- sizes

@@ -3,7 +3,7 @@ ghost use mathlib.Core.Path.{_≡_};
 ghost use Prim.Native.Nat.{ℕ, _≤_};
 ghost use Rattle.finish.specs.Ready.{indexSizeOf, sizesOf};
 use filing::state::InProgress;
-use filing::state::Table;
+use keeping::Table;
 use strings::table::StringTable;
 
 // The bytes of a table's index, 0 without rows.

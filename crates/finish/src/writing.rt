@@ -19,7 +19,7 @@ ghost use Rattle.finish.specs.Ready.{
 };
 use bundle::encoding::ObjectEncoding;
 use filing::state::InProgress;
-use filing::state::Table;
+use keeping::Table;
 use strings::table::StringTable;
 
 // A table's index, nothing without rows.
