@@ -17,7 +17,7 @@ use Rattle.bundle.specs.Scan.{Reaches, sectionsOf, placeBehind, holdsUnits, uni
 use Rattle.bundle.specs.Written.{Section}
 use Rattle.bundle.specs.declared.UnitSection.the-variants.{Found, Done}
 use Rattle.bundle.proofs.Passed.{here}
-use Rattle.bundle.proofs.Units.{UnitsHere, UnitsLeft, units-none, units-reach, units-here, units-done}
+use Rattle.bundle.proofs.Units.{UnitsHere, UnitsLeft, units-reach, units-here, units-done}
 use Rattle.bundle.proofs.Onward.{Onward, onward, onward-same}
 use Rattle.index.specs.Rows.{BySection}
 use Rattle.package.specs.Input.{Input, unitSections}
@@ -102,8 +102,8 @@ sectioned-none b x n from w st ss r h =
     }
 
 module _ {b : List ℕ} {x : InputObject} {n from at : ℕ} {w₀ w : List ℕ} {st₀ st : InProgress} {ss₀ ss : Sums} (k : Sectioned b x n from at w₀ w st₀ st ss₀ ss) where
-  left-here : UnitsLeft b at [] (unitParts (leading (k .ahead)))
-  left-here = units-none b at (k .ahead) (k .left)
+  abbrev left-here : UnitsLeft b at [] (unitParts (leading (k .ahead)))
+  left-here = record { ahead = k .ahead; left = k .left; is = refl }
 
   pub sections-reach : Reaches b at
   sections-reach = units-reach b at [] _ left-here
@@ -143,3 +143,69 @@ module _ {b : List ℕ} {x : InputObject} {n from at : ℕ} {w₀ w : List ℕ} 
           inside = h .inside;
           within = h .within;
         }
+
+    -- what is left of the object's sections
+    rest-is : unitSections b (allFrom b at) ≡ record { code = code; bytes = part b start size } ∷ unitSections b (allFrom b next)
+    rest-is =
+        let h = found in
+        sections-map b (allFrom b at) ∙ ap (λ (ps : List Part). map (sectionAt b) (unitParts ps)) (all-from b at (k .ahead) (k .left)) ∙ ap (map (sectionAt b)) (h .first)
+        ∙ ap (λ (ss : List Section). record { code = code; bytes = part b start size } ∷ ss)
+        (ap (λ (ps : List Part). map (sectionAt b) (unitParts ps)) (sym (all-from b next (h .ahead) (h .left))) ∙ sym (sections-map b (allFrom b next)))
+
+    -- the answer of `add_units` for it
+    module _ (home stop : ℕ) (same-home : home ≡ code) (same-stop : stop ≡ start + size) (v : List ℕ) (r : UnitsFiled) (same : length v ≡ length w)
+        (added : (i : Input) (bases : BySection ℕ) (earlier here : List Filed) → AtUnit b x i n start w st ss bases earlier here
+        → UnitsAre b x i n stop w v bases earlier (unitsFrom (suc (length (part b start (stop - start)))) i bases earlier here home 0 (part b start (stop - start))) r) where
+      section-is : (i : Input) (bases : BySection ℕ) (earlier here : List Filed)
+          → unitsFrom (suc (length (part b start (stop - start)))) i bases earlier here home 0 (part b start (stop - start)) ≡ unitsFrom (suc (length (part b start size))) i bases earlier here code 0 (part b start size)
+      section-is i bases earlier here = let z : stop - start ≡ size = omega arith in rw (z, same-home)
+
+      -- the walk of one section, from what is filed before it
+      answered : (i : Input) (bases : BySection ℕ) (earlier here : List Filed) → AtUnit b x i n at w st ss bases earlier here
+          → UnitsAre b x i n stop w v bases earlier (unitsFrom (suc (length (part b start size))) i bases earlier here code 0 (part b start size)) r
+      answered i bases earlier here a =
+          subst (λ (m : Check (List Filed)). UnitsAre b x i n stop w v bases earlier m r) (section-is i bases earlier here)
+          (added i bases earlier here (at-later at start a (section-lies .low) (let h = section-lies in omega (arith, h .inside, h .within))))
+
+      pub sectioned-more : r .code ≡ 0 → Sectioned b x n from next w₀ v st₀ (r .st) ss₀ (r .sums)
+      unfolding UnitsAre
+      sectioned-more z =
+          let h = found in
+          record {
+            same = same ∙ k .same;
+            ahead = h .ahead;
+            left = h .left;
+            within = h .within;
+            behind = ap (placeBehind next) (all-from b next (h .ahead) (h .left)) ∙ onward-same b at (k .ahead) code start size next (h .ahead) (k .left) (e ∙ ap unitSectionOf (all-from b at (k .ahead) (k .left))) (h .left)
+                ∙ ap (placeBehind at) (sym (all-from b at (k .ahead) (k .left))) ∙ k .behind;
+            goes = λ i bases earlier here a. on i bases earlier here (k .goes i bases earlier here a);
+          }
+        where
+          on : (i : Input) (bases : BySection ℕ) (earlier here : List Filed) → On b x n from at w₀ w st ss i bases earlier here → On b x n from next w₀ v (r .st) (r .sums) i bases earlier here
+          on i bases earlier here o = go _ refl (answered i bases earlier (o .filed) (o .atUnit))
+            where
+              go : (m : Check (List Filed)) → unitsFrom (suc (length (part b start size))) i bases earlier (o .filed) code 0 (part b start size) ≡ m → UnitsAre b x i n stop w v bases earlier m r
+                  → On b x n from next w₀ v (r .st) (r .sums) i bases earlier here
+              go (pass us) q f =
+                  let l = section-lies in
+                  record {
+                    filed = us;
+                    atUnit = at-later stop next (f .1) (omega (arith, l .inside)) (l .within);
+                    kept = kept-more (o .kept) (f .2);
+                    is = sym (ap (unitsIn i bases earlier (o .filed)) rest-is ∙ section-filed i bases earlier (o .filed) us _ _ q) ∙ o .is;
+                  }
+              go (refuse m) q f = absurd (let g = units-numbered i bases earlier _ (o .filed) code 0 (part b start size) .is m q in let y : m ≡ 0 = sym f ∙ z in omega arith)
+
+      pub sectioned-refused : (r .code ≡ 0 → ⊥) → (i : Input) (bases : BySection ℕ) (earlier here : List Filed) → AtUnit b x i n from w₀ st₀ ss₀ bases earlier here
+          → (u : UnitsFiled) → u .code ≡ r .code → UnitsAre b x i n (placeBehind from (allFrom b from)) w₀ v bases earlier (unitsIn i bases earlier here (unitSections b (allFrom b from))) u
+      unfolding UnitsAre
+      sectioned-refused z i bases earlier here a u q = go _ refl (answered i bases earlier (o .filed) (o .atUnit))
+        where
+          o : On b x n from at w₀ w st ss i bases earlier here
+          o = k .goes i bases earlier here a
+
+          go : (m : Check (List Filed)) → unitsFrom (suc (length (part b start size))) i bases earlier (o .filed) code 0 (part b start size) ≡ m → UnitsAre b x i n stop w v bases earlier m r
+              → UnitsAre b x i n (placeBehind from (allFrom b from)) w₀ v bases earlier (unitsIn i bases earlier here (unitSections b (allFrom b from))) u
+          go (pass us) y f = absurd (z (f .0))
+          go (refuse m) y f =
+              rw (sym (o .is) ∙ ap (unitsIn i bases earlier (o .filed)) rest-is ∙ section-refused i bases earlier (o .filed) _ _ m y) (q ∙ f)
