@@ -1,68 +1,108 @@
+-- `add_sections` meets its contract. What the loop keeps is `Sectioned`.
+-- Assumes nothing.
+use mathlib.Core.Path.{_≡_, refl, sym, ap, _∙_}
+use mathlib.Core.List.{List}
+use Prim.Native.Nat.{ℕ, _-_, _≤_}
+use native.Mathlib.Omega.{arith}
+use lib.ListN.{length}
+use borrow.Author.Needs.{needs}
+use denote.Ref.{now}
+use Rattle.filing.proofs.OverSections.{Sectioned, sectioned-none, sections-reach, section-lies, at-later, sectioned-more, sectioned-refused, sectioned-end}
 use Rattle.filing.proofs.walks.add_sections.Statement.{statement}
 use Rattle.filing.proofs.walks.add_sections.Tie as tie
-use Rattle.filing.proofs.walks.add_sections.Reads as reads
-use Rattle.filing.proofs.walks.add_sections.Lts as lts
-use Rattle.bundle.proofs.next_unit_section.Reads as next-unit-section-reads
-use Rattle.filing.proofs.walks.add_units.Reads as add-units-reads
-use Rattle.octets.proofs.wide.Reads as wide-reads
 
 abbrev Inv-loop : tie.InvT-loop
-Inv-loop b x from n work₀ at₀ known₀ totals₀ work at known totals = ?
+Inv-loop b x from n work₀ at₀ known₀ totals₀ work at known totals = Sectioned b x n from at work₀ work known₀ known totals₀ totals
 
 abbrev μ-loop : tie.MeasureT-loop
-μ-loop b x from n work₀ at₀ known₀ totals₀ work at known totals = ?
+μ-loop b x from n work₀ at₀ known₀ totals₀ work at known totals = length b - at
 
--- src/walks.rt:76:5
 loop-holds : tie.Need-loop-holds Inv-loop μ-loop
-loop-holds c = ?
+loop-holds c = let pre = c .before .before .pre in sectioned-none _ _ _ _ _ _ _ (pre .0) (pre .1)
 
--- src/walks.rt:77:15
 next-unit-section-requires : tie.Need-next-unit-section-requires Inv-loop μ-loop
-next-unit-section-requires c κs = ?
+next-unit-section-requires c κs = sections-reach (c .loop .inv)
 
--- src/walks.rt:78:32
 enum-known-section : tie.Need-enum-known-section Inv-loop μ-loop
-enum-known-section c = ?
+enum-known-section c = search needs
 
--- src/walks.rt:79:21
 wide-requires : tie.Need-wide-requires Inv-loop μ-loop
-wide-requires c κs = ?
+wide-requires c κs = search needs
 
--- src/walks.rt:80:28
 add-stop : tie.Need-add-stop Inv-loop μ-loop
-add-stop c = ?
+add-stop c =
+    let s = c .before .before in
+    let n = s .section .given in
+    let f = s .before .before in
+    let l = f .before in
+    let e = sym (n .1) ∙ f .next-unit-section .ensures in
+    let h = section-lies (l .loop .inv) (n .0 .0) (n .0 .1 .0) (n .0 .1 .1 .0) (n .0 .1 .1 .1 .0) e in
+    omega (arith, h .inside, h .within)
 
--- src/walks.rt:81:21
 add-units-requires : tie.Need-add-units-requires Inv-loop μ-loop
-add-units-requires c κs = ?
+add-units-requires c κs =
+    let s = c .before .before .before in
+    let n = s .section .given in
+    let f = s .before .before in
+    let l = f .before in
+    let e = sym (n .1) ∙ f .next-unit-section .ensures in
+    let pre = l .before .before .before .pre in
+    let h = section-lies (l .loop .inv) (n .0 .0) (n .0 .1 .0) (n .0 .1 .1 .0) (n .0 .1 .1 .1 .0) e in
+    let o = l .loop .inv .goes (pre .2 .0) (pre .2 .1) (pre .2 .2) (pre .2 .3) (pre .2 .4) in
+    (
+      omega arith,
+      omega (arith, h .inside, h .within),
+      rw (c .before .wide .ensures) (h .home),
+      (pre .2 .0, pre .2 .1, pre .2 .2, o .filed, at-later _ _ (o .atUnit) (h .low) (omega (arith, h .inside, h .within))),
+    )
 
--- src/walks.rt:86:21
 same-length : tie.Need-same-length Inv-loop μ-loop
-same-length c = ?
+same-length c =
+    let a = c .before .before .before .before .before in
+    a .add-units .kept .1 .1 .1 .1 .1 .1 .1 .1 .0 ∙ a .before .before .before .before .before .before .before .loop .inv .same
 
--- src/walks.rt:86:21
 returns : tie.Need-returns Inv-loop μ-loop
-returns c = ?
+returns c i bases earlier here a =
+    let u = c .before .before .before .before .before in
+    let s = c .before .before .before .before .before .before .before .before .before in
+    let n = s .section .given in
+    let f = s .before .before in
+    let l = f .before in
+    let e = sym (n .1) ∙ f .next-unit-section .ensures in
+    sectioned-refused (l .loop .inv) (n .0 .0) (n .0 .1 .0) (n .0 .1 .1 .0) (n .0 .1 .1 .1 .0) e _ _ (u .before .before .wide .ensures) refl _ (u .add-units .result) (u .add-units .kept .1 .1 .1 .1 .1 .1 .1 .1 .0) (u .add-units .ensures)
+    (c .if1 .taken) i bases earlier here a _ refl
 
--- src/walks.rt:76:5
 loop-less : tie.Need-loop-less Inv-loop μ-loop
-loop-less c = ?
+loop-less c =
+    let s = c .before .before .before .before .before .before .before .before .before in
+    let n = s .section .given in
+    let f = s .before .before in
+    let l = f .before in
+    let e = sym (n .1) ∙ f .next-unit-section .ensures in
+    let h = section-lies (l .loop .inv) (n .0 .0) (n .0 .1 .0) (n .0 .1 .1 .0) (n .0 .1 .1 .1 .0) e in
+    omega (arith, h .further, h .within)
 
--- src/walks.rt:76:5
 loop-again : tie.Need-loop-again Inv-loop μ-loop
-loop-again c = ?
+loop-again c =
+    let u = c .before .before .before .before .before in
+    let s = c .before .before .before .before .before .before .before .before .before in
+    let n = s .section .given in
+    let f = s .before .before in
+    let l = f .before in
+    let e = sym (n .1) ∙ f .next-unit-section .ensures in
+    sectioned-more (l .loop .inv) (n .0 .0) (n .0 .1 .0) (n .0 .1 .1 .0) (n .0 .1 .1 .1 .0) e _ _ (u .before .before .wide .ensures) refl _ (u .add-units .result) (u .add-units .kept .1 .1 .1 .1 .1 .1 .1 .1 .0) (u .add-units .ensures)
+    (c .if1 .left)
 
--- src/walks.rt:95:17
 enum-told : tie.Need-enum-told Inv-loop μ-loop
-enum-told c = ?
+enum-told c = search needs
 
--- src/walks.rt:95:17
 same-length-2 : tie.Need-same-length-2 Inv-loop μ-loop
-same-length-2 c = ?
+same-length-2 c = c .before .before .before .loop .inv .same
 
--- src/walks.rt:95:17
 returns-2 : tie.Need-returns-2 Inv-loop μ-loop
-returns-2 c = ?
+returns-2 c i bases earlier here a =
+    let f = c .before .before in
+    sectioned-end (f .before .loop .inv) (sym (c .enum-told .given .1) ∙ f .next-unit-section .ensures) i bases earlier here a
 
 pub add-sections-spec : {M : Type 1} → statement M
 add-sections-spec =
