@@ -1,4 +1,12 @@
--- Laws of filing: what the loops over units, sections and objects keep.
+-- Laws of filing: one unit more, the answers of filing it, and what the loops over units, sections and objects keep.
 -- Assumes nothing.
+pub mod Picked
+pub mod More
+pub mod Kept
+pub mod Summed
+pub mod Filing
+pub mod Placing
+pub mod Answering
+pub mod Reading
 pub mod Walking
 pub mod OverSections

@@ -2,3 +2,4 @@
 -- Assumes nothing.
 pub mod State
 pub mod Answers
+pub mod Choices

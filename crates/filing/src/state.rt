@@ -1,11 +1,6 @@
 // What is known of the objects that are filed, by value. Rows, identities seen, strings and unit places stand in work.
+use keeping::Table;
 use places::Kept;
-
-// A table: how many rows it has, and which columns some row has.
-pub struct Table {
-    pub count: usize,
-    pub has: [bool; 8],
-}
 
 // The bases say how many bytes of each section the objects have together.
 pub struct InProgress {

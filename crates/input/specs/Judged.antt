@@ -1,17 +1,23 @@
 -- An object by value, and the definition's.
 -- Assumes nothing.
 use mathlib.Core.Path.{_≡_}
-use mathlib.Core.Bool.{Bool}
+use mathlib.Core.Bool.{Bool, true, false}
 use mathlib.Core.List.{List}
 use mathlib.Core.Option.{Option, some, none}
 use Prim.Native.Nat.{ℕ, _+_, _<_, _≤_}
 use lib.ListN.{length, getD}
+use lib.Dec.{eqb}
 use Rattle.octets.specs.Octets.{part}
+use Rattle.octets.specs.Checked.{Check, pass, refuse, _>>=_, require}
+use Rattle.bundle.specs.Bundle.{Part}
+use Rattle.bundle.specs.Encoding.{Encoding, encodingOf, encodingGood}
 use Rattle.bundle.specs.Encoded.{encodingIs}
-use Rattle.index.specs.Index.{Index}
+use Rattle.index.specs.Index.{Index, indexOf}
 use Rattle.index.specs.Held.{ReadWell, indexIn}
-use Rattle.package.specs.Input.{Input}
+use Rattle.package.specs.Input.{Input, editionGood, complete}
 use Rattle.input.specs.declared.InputObject.{InputObject}
+use Rattle.input.specs.declared.Judged.{Judged}
+use Rattle.input.specs.declared.JudgedIndex.{JudgedIndex}
 use Rattle.input.specs.declared.Indexed.{Indexed}
 use Rattle.input.specs.declared.Indexed.the-variants.{At, Nowhere}
 
@@ -32,3 +38,30 @@ pub record InputIs (b : List ℕ) (x : InputObject) (i : Input) : Type 0 where
   pub within : (c : ℕ) → getD (x .start) c 0 + getD (x .size) c 0 ≤ length b
   pub cuIndex : IndexedIs (x .encoding .big) (sectionOf b x 12) (x .cu) (i .cuIndex)
   pub tuIndex : IndexedIs (x .encoding .big) (sectionOf b x 13) (x .tu) (i .tuIndex)
+
+-- ---- the lines of `inputOf`
+-- 4 to 7
+unfoldable pub objectCheck : Bool → ℕ → ℕ → List Part → Check Encoding
+objectCheck big first word ps = do
+  let e = encodingOf big word
+  _ ← require (encodingGood e) 4
+  _ ← require (eqb word first) 5
+  _ ← require (editionGood e ps) 6
+  _ ← require (complete ps) 7
+  pass e
+
+unfoldable pub JudgedIs : Check Encoding → Judged → Type 0
+JudgedIs (pass e) r = (r .code ≡ 0) × (encodingIs (r .encoding) ≡ e)
+JudgedIs (refuse n) r = (r .code ≡ n) × (0 < n)
+
+-- 10, where the section is there or not
+unfoldable pub indexCheck : Bool → Bool → List ℕ → Check (Option Index)
+indexCheck big there s =
+    elim there [
+      | true ↦ indexOf big s >>= λ i. (require (eqb (i .version) 2) 10 >>= λ _. pass (some i))
+      | false ↦ pass none
+    ]
+
+unfoldable pub JudgedIndexIs : Bool → List ℕ → Check (Option Index) → JudgedIndex → Type 0
+JudgedIndexIs big s (pass o) r = (r .code ≡ 0) × IndexedIs big s (r .index) o
+JudgedIndexIs big s (refuse n) r = (r .code ≡ n) × (0 < n)

@@ -1,0 +1,98 @@
+-- The answer of a unit that is read, towards the definition.
+-- Assumes nothing.
+use mathlib.Core.Path.{_≡_, sym, ap, _∙_, subst}
+use mathlib.Core.List.{List}
+use Prim.Native.Nat.{ℕ, _+_, _-_, _<_, _≤_}
+use native.Mathlib.Omega.{arith}
+use lib.ListN.{length, take, drop, getD}
+use Rattle.octets.specs.Octets.{part}
+use Rattle.octets.specs.Checked.{Check, pass, refuse}
+use Rattle.octets.proofs.Numbers.{Bytes, bytes-take, bytes-drop}
+use Rattle.octets.proofs.Parts.{length-part, part-front, part-part, part-cut, part-is}
+use Rattle.bundle.specs.Encoding.{Encoding}
+use Rattle.bundle.specs.Encoded.{encodingIs}
+use Rattle.unit.specs.UnitRead.{UnitRead, unitOf}
+use Rattle.unit.specs.Headers.{unitAnswer}
+use Rattle.unit.specs.declared.header.UnitAnswer.{UnitAnswer}
+use Rattle.unit.specs.declared.header.UnitAnswer.the-variants.{Read, Refused}
+use Rattle.unit.proofs.AtLeast.{unit-at-least}
+use Rattle.unit.proofs.UnitFacts.{UnitFacts, unit-facts}
+use Rattle.index.specs.Rows.{BySection}
+use Rattle.package.specs.Input.{Input}
+use Rattle.package.specs.Filing.{Filed, unitAt}
+use Rattle.input.specs.Judged.{sectionOf, InputIs}
+use Rattle.input.specs.declared.InputObject.{InputObject}
+use Rattle.filing.specs.declared.units.UnitFiled.{UnitFiled}
+use Rattle.filing.specs.Answers.{UnitIs}
+use Rattle.filing.specs.Choices.{ReadAt}
+use Rattle.filing.proofs.Filing.{unit-refused}
+
+-- ---- an answer and the check
+pub was-refused : (m : Check UnitRead) (n : ℕ) → Refused n ≡ unitAnswer m → m ≡ refuse n
+unfolding unitAnswer
+was-refused (pass u) n e = absurd (let z : _≡_ {A = ℕ} 0 1 = cc in omega arith)
+was-refused (refuse k) n e = let q : n ≡ k = cc in rw q
+
+pub was-read : (m : Check UnitRead) (size table identity : ℕ) → Read size table identity ≡ unitAnswer m → m ≡ pass (record { size = size; table = table; identity = identity })
+unfolding unitAnswer
+was-read (pass u) size table identity e =
+    let p : size ≡ u .size = cc in
+    let q : table ≡ u .table = cc in
+    let r : identity ≡ u .identity = cc in
+    rw (p, q, r)
+was-read (refuse k) size table identity e = absurd (let z : _≡_ {A = ℕ} 0 1 = cc in omega arith)
+
+module _ (b : List ℕ) (x : InputObject) (i : Input) (is : InputIs b x i) (home at stop : ℕ) (lt : at < stop) (le : stop ≤ length b) where
+  abbrev s : List ℕ
+  s = part b at (stop - at)
+
+  many : length s ≡ stop - at
+  many = length-part b at (stop - at) (omega arith)
+
+  -- what was read is the definition's unit
+  pub answer-is : (h : ℕ) (z : UnitAnswer) → h ≡ home
+      → z ≡ unitAnswer (unitOf (encodingIs (x .encoding)) h (take (getD (x .start) 3 0 + getD (x .size) 3 0 - getD (x .start) 3 0) (drop (getD (x .start) 3 0) b)) (take (stop - at) (drop at b)))
+      → z ≡ unitAnswer (unitOf (i .encoding) home (i .bytes 3) s)
+  unfolding sectionOf
+  answer-is h z e q =
+      q
+      ∙ ap (λ (l : List ℕ). unitAnswer (unitOf (encodingIs (x .encoding)) h l (take (stop - at) (drop at b)))) (part-cut b (getD (x .start) 3 0) (getD (x .size) 3 0) ∙ sym (is .bytes 3 (omega arith)))
+      ∙ ap (λ (l : List ℕ). unitAnswer (unitOf (encodingIs (x .encoding)) h (i .bytes 3) l)) (part-is b at (stop - at))
+      ∙ ap (λ (k : ℕ). unitAnswer (unitOf (encodingIs (x .encoding)) k (i .bytes 3) s)) e
+      ∙ ap (λ (k : Encoding). unitAnswer (unitOf k home (i .bytes 3) s)) (is .encoding)
+
+  pub answer-refused : (bases : BySection ℕ) (earlier here : List Filed) (n place from : ℕ) (w v : List ℕ) (m : ℕ) (z : UnitFiled) → Refused m ≡ unitAnswer (unitOf (i .encoding) home (i .bytes 3) s) → z .code ≡ m
+      → UnitIs b x i n place w v bases earlier here (unitAt i bases earlier here home from s) z
+  unfolding UnitIs
+  answer-refused bases earlier here n place from w v m z e c = rw (unit-refused i bases earlier here home from s m (was-refused (unitOf (i .encoding) home (i .bytes 3) s) m e)) c
+
+  module _ (size table identity : ℕ) (e : Read size table identity ≡ unitAnswer (unitOf (i .encoding) home (i .bytes 3) s)) (bytes : Bytes b) where
+    passed : unitOf (i .encoding) home (i .bytes 3) s ≡ pass (record { size = size; table = table; identity = identity })
+    passed = was-read (unitOf (i .encoding) home (i .bytes 3) s) size table identity e
+
+    bytes-s : Bytes s
+    unfolding part
+    bytes-s = bytes-take (stop - at) (drop at b) (bytes-drop at b bytes)
+
+    facts : UnitFacts s (record { size = size; table = table; identity = identity })
+    facts = unit-facts (i .encoding) home (i .bytes 3) s (record { size = size; table = table; identity = identity }) bytes-s passed
+
+    pub read-at : (t : ℕ) → t ≡ table → ReadAt i home size t identity s
+    read-at t q =
+        subst (λ (k : ℕ). ReadAt i home size k identity s) (sym q)
+        (record {
+          is = passed;
+          tables = facts .tables;
+          not-zero = facts .notZero;
+          small = facts .small;
+          least = unit-at-least (x .encoding) home (i .bytes 3) s (record { size = size; table = table; identity = identity }) (ap (λ (k : Encoding). unitOf k home (i .bytes 3) s) (is .encoding) ∙ passed);
+          within = facts .within;
+        })
+
+    pub read-fits : at + size ≤ length b
+    read-fits = omega (arith, facts .within, many)
+
+    pub read-bytes : take size s ≡ part b at size
+    read-bytes =
+        let z : at + 0 ≡ at = omega arith in
+        sym (part-front s size) ∙ part-part b at (stop - at) 0 size (omega (arith, facts .within, many)) ∙ ap (λ (k : ℕ). part b k size) z

@@ -1,0 +1,4 @@
+-- Laws of an object judged up to its units.
+-- Assumes nothing.
+pub mod Judging
+pub mod Contributing
