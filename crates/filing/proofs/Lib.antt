@@ -10,3 +10,4 @@ pub mod Answering
 pub mod Reading
 pub mod Walking
 pub mod OverSections
+pub mod Stringing
