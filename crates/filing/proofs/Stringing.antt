@@ -13,16 +13,18 @@ use borrow.Author.Tests.{le-leb, lt-leb}
 use Rattle.octets.specs.Octets.{part, placed}
 use Rattle.octets.specs.Checked.{Check, pass, refuse, _>>=_}
 use Rattle.octets.proofs.Checks.{then-pass, then-refuse}
-use Rattle.octets.proofs.Parts.{length-part}
+use Rattle.octets.proofs.Parts.{length-part, part-cut}
 use Rattle.octets.proofs.Regions.{placed-whole}
 use Rattle.bundle.specs.Encoding.{Encoding}
 use Rattle.strings.specs.Strings.{entriesIn, entriesOf, stringsAt, putAll}
 use Rattle.strings.specs.Answers.{entriesRead}
-use Rattle.strings.specs.Kept.{Kept, AddedIs, bytesAt}
+use Rattle.strings.specs.Kept.{Kept, AddedIs, Inside, bytesAt}
 use Rattle.strings.specs.declared.entries.Entries.the-variants.{Count, IllFormed}
 use Rattle.strings.specs.declared.table.Added.{Added}
 use Rattle.strings.specs.declared.table.Added.the-variants.{Table, NoString}
+use Rattle.strings.specs.declared.table.Place.{Place}
 use Rattle.strings.specs.declared.table.StringTable.{StringTable}
+use Rattle.strings.specs.declared.entries.Entries.{Entries}
 use Rattle.strings.proofs.Callers.{entries-counted, entries-ill}
 use Rattle.index.specs.Rows.{BySection}
 use Rattle.index.specs.Written.{Row}
@@ -145,3 +147,19 @@ module _ (b : List ℕ) (n : ℕ) (w : List ℕ) (ts : List (List ℕ)) (e : Enc
   strings-ill count h q =
       let z : stringsCheck e (leb 1 count) o s ≡ refuse 8 = rw (stringsCheck, le-leb 1 count h) (then-refuse _ _ 8 (entries-ill e o q)) in
       rw z refl
+
+-- ---- a place of the bundle, as code cuts it out
+pub inside-is : (b : List ℕ) (p : Place) → Inside b p → p .start + p .size ≤ length b
+unfolding Inside
+inside-is b p h = h
+
+module _ (b : List ℕ) (p : Place) (e : Encoding) (r : Entries) (is : r ≡ entriesRead (entriesOf e (take (p .start + p .size - p .start) (drop (p .start) b)))) where
+  cut-read : r ≡ entriesRead (entriesOf e (bytesAt b p))
+  unfolding bytesAt
+  cut-read = is ∙ ap (λ (s : List ℕ). entriesRead (entriesOf e s)) (part-cut b (p .start) (p .size))
+
+  pub cut-ill : r ≡ IllFormed → IllFormed ≡ entriesRead (entriesOf e (bytesAt b p))
+  cut-ill q = sym q ∙ cut-read
+
+  pub cut-counted : (k : ℕ) → r ≡ Count k → entriesOf e (bytesAt b p) ≡ pass (entriesIn e (bytesAt b p))
+  cut-counted k q = entries-counted e (bytesAt b p) k (sym q ∙ cut-read) .1
