@@ -11,3 +11,4 @@ pub mod Reading
 pub mod Walking
 pub mod OverSections
 pub mod Stringing
+pub mod Inputting

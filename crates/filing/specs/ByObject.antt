@@ -8,7 +8,11 @@ use lib.Dec.{eqb}
 use lib.ListN.{length}
 use Rattle.octets.specs.Octets.{part}
 use Rattle.octets.specs.Checked.{Check, pass, refuse, _>>=_}
+use Rattle.bundle.specs.Bundle.{Part}
+use Rattle.bundle.specs.Scan.{startOf, sizeOf}
 use Rattle.bundle.specs.Encoding.{Encoding, encodingOf}
+use Rattle.bundle.specs.Encoded.{encodingIs}
+use Rattle.bundle.specs.declared.encoding.ObjectEncoding.{ObjectEncoding}
 use Rattle.strings.specs.Strings.{entriesIn, entriesOf, stringsAt, putAll}
 use Rattle.strings.specs.Kept.{Kept, Inside, bytesAt}
 use Rattle.strings.specs.declared.table.Place.{Place}
@@ -19,7 +23,9 @@ use Rattle.package.specs.Input.{Input}
 use Rattle.package.specs.Filing.{Filed, grown}
 use Rattle.package.specs.Pack.{allUsed, stringTable}
 use Rattle.filing.specs.declared.state.InProgress.{InProgress}
+use Rattle.input.specs.Judged.{InputIs}
 use Rattle.filing.specs.declared.objects.StringsFiled.{StringsFiled}
+use Rattle.filing.specs.declared.objects.InputFiled.{InputFiled}
 use Rattle.filing.specs.State.{Held}
 
 -- ---- 8 and 9
@@ -47,3 +53,17 @@ pub record AtObject (b : List ℕ) (big : Bool) (first n place : ℕ) (w : List 
   pub strings : Kept b (part w (stringsStart n) (3 * n)) t (stringTable is)
   -- an entry takes at least 4 bytes of the bundle
   pub used : 4 * length (allUsed is) ≤ place
+
+-- ---- 4 to 10
+-- the refusal, or that the object is there by value and its strings are put
+unfoldable pub InputRead : List ℕ → ℕ → List ℕ → List (List ℕ) → Check Input → InputFiled → Type 0
+InputRead b n v ts (refuse m) r = r .code ≡ m
+InputRead b n v ts (pass i) r = (r .code ≡ 0) × InputIs b (r .input) i × Kept b (part v (stringsStart n) (3 * n)) (r .strings) (putAll ts (i .used))
+
+-- what it takes, of an object with sections ps: they lie in the bundle, and there is room for its strings, whatever its encoding
+pub record InputRoom (b : List ℕ) (ps : List Part) (n words : ℕ) (t : StringTable) : Type 0 where
+  pub room : 16 * n ≤ words
+  pub limit : length b ≤ 4_194_304
+  pub words-are : length b ≡ 4 * n
+  pub inside : (c : ℕ) → startOf ps c + sizeOf ps c ≤ length b
+  pub fits : (e : ObjectEncoding) → 3 * (t .count + length (entriesIn (encodingIs e) (part b (startOf ps 6) (sizeOf ps 6)))) ≤ 3 * n
