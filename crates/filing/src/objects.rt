@@ -87,10 +87,12 @@ pub fn add_object_strings(
 fn input_refused(code: u32, e: ObjectEncoding, scan: Scan, t: StringTable) -> InputFiled
     ensures { λ r. ⌜ r .code ≡ code ⌝ }
 {
+    let start = scan.start;
+    let size = scan.size;
     let input = InputObject {
         encoding: e,
-        start: scan.start,
-        size: scan.size,
+        start,
+        size,
         cu: Indexed::Nowhere,
         tu: Indexed::Nowhere,
     };
@@ -149,12 +151,14 @@ pub fn read_input(
     if tu_code != 0 {
         return input_refused(tu_code, e, scan, strings);
     }
+    let cu_index = cu.index;
+    let tu_index = tu.index;
     let input = InputObject {
         encoding: e,
         start,
         size,
-        cu: cu.index,
-        tu: tu.index,
+        cu: cu_index,
+        tu: tu_index,
     };
     InputFiled {
         code: 0,
