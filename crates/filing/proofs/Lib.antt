@@ -12,3 +12,4 @@ pub mod Walking
 pub mod OverSections
 pub mod Stringing
 pub mod Inputting
+pub mod InputLaws
