@@ -13,3 +13,4 @@ pub mod OverSections
 pub mod Stringing
 pub mod Inputting
 pub mod InputLaws
+pub mod InputEnds
