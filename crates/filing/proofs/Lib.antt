@@ -14,3 +14,4 @@ pub mod Stringing
 pub mod Inputting
 pub mod InputLaws
 pub mod InputEnds
+pub mod Growing
