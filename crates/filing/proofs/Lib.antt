@@ -15,3 +15,4 @@ pub mod Inputting
 pub mod InputLaws
 pub mod InputEnds
 pub mod Growing
+pub mod Entering
