@@ -47,8 +47,8 @@ pub object-enter : (b : List ℕ) (big : Bool) (first n place : ℕ) (w v : List
     → place ≤ from → from ≤ length b → AtUnit b x i n from v st ss bases us []
 object-enter b big first n place w v st t bases is us x i ss from a r input same none low high =
     let held : Held (x .encoding .five) b n place v st bases (us ++ []) =
-        subst (λ (f : Bool). Held f b n place v st bases (us ++ [])) (sym (five-is (x .encoding) (encodingOf big first) same))
-        (subst (λ (l : List Filed). Held (eqb (encodingOf big first .version) 5) b n place v st bases l) (sym (append-nil us)) (held-strings n w v (a .held .room) r _ b place st bases us (a .held))) in
+    subst (λ (f : Bool). Held f b n place v st bases (us ++ [])) (sym (five-is (x .encoding) (encodingOf big first) same))
+    (subst (λ (l : List Filed). Held (eqb (encodingOf big first .version) 5) b n place v st bases l) (sym (append-nil us)) (held-strings n w v (a .held .room) r _ b place st bases us (a .held))) in
     at-later place from (record { input = input; held = held; sums = none }) low high
 
 -- the bases behind the object

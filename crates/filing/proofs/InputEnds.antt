@@ -99,7 +99,7 @@ module _ (b : List ℕ) (n : ℕ) (v : List ℕ) (ts : List (List ℕ)) (big : B
 
         pub read-passed : tu .code ≡ 0 → (words : ℕ) (t : StringTable) → InputRoom b ps n words t
             → InputRead b n v ts (inputOf b big first o)
-                (record { code = 0; input = record { encoding = j .encoding; start = scan .start; size = scan .size; cu = cu .index; tu = tu .index }; strings = s .strings })
+            (record { code = 0; input = record { encoding = j .encoding; start = scan .start; size = scan .size; cu = cu .index; tu = tu .index }; strings = s .strings })
         unfolding InputRead
         read-passed z words t room =
             let c = index-passed _ _ _ cu cu-judged zc in

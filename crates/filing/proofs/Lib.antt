@@ -16,3 +16,4 @@ pub mod InputLaws
 pub mod InputEnds
 pub mod Growing
 pub mod Entering
+pub mod Snoc

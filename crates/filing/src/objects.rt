@@ -18,7 +18,6 @@ ghost use Rattle.filing.specs.ByObject.{
   InputRoom,
   InputRead,
 };
-
 use bundle::Scan;
 use bundle::encoding::ObjectEncoding;
 use input::Indexed;
@@ -72,7 +71,14 @@ pub fn add_object_strings(
     };
     let from = 8 * n;
     let to = from + 3 * n;
-    let Added::Table(kept) = strings::table::add_strings(e, b, offsets, text, &mut work[from..to], t) else {
+    let Added::Table(kept) = strings::table::add_strings(
+        e,
+        b,
+        offsets,
+        text,
+        &mut work[from..to],
+        t,
+    ) else {
         return StringsFiled {
             code: 9,
             strings: t,

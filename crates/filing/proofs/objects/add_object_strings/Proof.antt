@@ -71,8 +71,7 @@ part-add-strings-end c = let p = c .before .before .before .before .before .befo
 add-strings-requires : tie.Need-add-strings-requires
 add-strings-requires c κs =
     let a = c .before .before .before .before .before .before .before .before .before in
-    let p = a .pre .0 in
-    (
+    let p = a .pre .0 in (
       omega (arith, p .limit),
       p .offsets-inside,
       p .text-inside,
@@ -95,8 +94,7 @@ returns-3 c =
     let f = g .before .before .before .before in
     let a = f .before .before .before .before .before .before in
     let p = a .pre .0 in
-    let n = a .args .n in
-    (
+    let n = a .args .n in (
       λ ts k. strings-missing n (8 * n) (3 * n) (now (a .args .work)) (p .room) refl refl _ _ (g .add-strings .kept .1 .1 .1 .1 .0) refl _ _ _ _ _ (a .args .t)
           (le-leb 1 (a .args .count) (f .before .before .before .if1 .left)) (cut-counted _ (a .args .offsets) _ _ (f .check-entries .ensures) _ (g .before .before .enum-told .given .1)) ts (g .add-strings .result)
           (g .add-strings .ensures ts (lent-kept n (8 * n) (3 * n) (now (a .args .work)) (p .room) refl refl _ _ _ k)) (c .enum-told3 .given .1),
@@ -112,8 +110,7 @@ returns-4 c =
     let f = g .before .before .before .before in
     let a = f .before .before .before .before .before .before in
     let p = a .pre .0 in
-    let n = a .args .n in
-    (
+    let n = a .args .n in (
       λ ts k. strings-put n (8 * n) (3 * n) (now (a .args .work)) (p .room) refl refl _ _ (g .add-strings .kept .1 .1 .1 .1 .0) refl _ _ _ _ _ (a .args .t)
           (le-leb 1 (a .args .count) (f .before .before .before .if1 .left)) (cut-counted _ (a .args .offsets) _ _ (f .check-entries .ensures) _ (g .before .before .enum-told .given .1)) ts (g .add-strings .result)
           (g .add-strings .ensures ts (lent-kept n (8 * n) (3 * n) (now (a .args .work)) (p .room) refl refl _ _ _ k)) _ (c .before .kept .given .1),

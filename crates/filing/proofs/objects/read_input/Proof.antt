@@ -23,9 +23,9 @@ input-refused-requires c κs = search needs
 
 returns : tie.Need-returns
 returns c = (
-    λ at ps ts e room k. read-refused _ _ _ ts _ _ _ _ at ps e _ (c .before .before .before .judge-object .ensures at ps e) (c .before .if1 .taken) _ (c .input-refused .ensures),
-    region-same _ _ (c .before .before .before .before .before .before .pre .4 .room),
-  )
+  λ at ps ts e room k. read-refused _ _ _ ts _ _ _ _ at ps e _ (c .before .before .before .judge-object .ensures at ps e) (c .before .if1 .taken) _ (c .input-refused .ensures),
+  region-same _ _ (c .before .before .before .before .before .before .pre .4 .room),
+)
 
 array-read-add-object-strings : tie.Need-array-read-add-object-strings
 array-read-add-object-strings c = search needs
@@ -55,10 +55,10 @@ same-length c = search needs
 
 returns-2 : tie.Need-returns-2
 returns-2 c = (
-    λ at ps ts e room k. read-strings-refused _ _ _ ts _ _ _ _ at ps e _ (c .before .before .before .before .before .before .before .before .before .before .before .before .judge-object .ensures at ps e) (c .before .before .before .before .before .before .before .before .before .before .if1 .left) _
-        (c .before .before .before .before .before .add-object-strings .ensures .0 ts k) (c .before .if2 .taken) _ (c .input-refused2 .ensures),
-    c .before .before .before .before .before .add-object-strings .ensures .1,
-  )
+  λ at ps ts e room k. read-strings-refused _ _ _ ts _ _ _ _ at ps e _ (c .before .before .before .before .before .before .before .before .before .before .before .before .judge-object .ensures at ps e) (c .before .before .before .before .before .before .before .before .before .before .if1 .left) _
+      (c .before .before .before .before .before .add-object-strings .ensures .0 ts k) (c .before .if2 .taken) _ (c .input-refused2 .ensures),
+  c .before .before .before .before .before .add-object-strings .ensures .1,
+)
 
 array-read-judge-index-3 : tie.Need-array-read-judge-index-3
 array-read-judge-index-3 c = search needs
@@ -80,10 +80,10 @@ same-length-2 c = search needs
 
 returns-3 : tie.Need-returns-3
 returns-3 c = (
-    λ at ps ts e room k. read-cu-refused _ _ _ ts _ _ _ _ at ps e _ (c .before .before .before .before .before .before .before .before .before .before .before .before .before .before .judge-object .ensures at ps e) (c .before .before .before .before .before .before .before .before .before .before .before .before .if1 .left) _
-        (c .before .before .before .before .before .before .before .add-object-strings .ensures .0 ts k) (c .before .before .before .if2 .left) _ (c .before .before .judge-index .ensures) (c .before .if3 .taken) _ (c .input-refused3 .ensures),
-    c .before .before .before .before .before .before .before .add-object-strings .ensures .1,
-  )
+  λ at ps ts e room k. read-cu-refused _ _ _ ts _ _ _ _ at ps e _ (c .before .before .before .before .before .before .before .before .before .before .before .before .before .before .judge-object .ensures at ps e) (c .before .before .before .before .before .before .before .before .before .before .before .before .if1 .left) _
+      (c .before .before .before .before .before .before .before .add-object-strings .ensures .0 ts k) (c .before .before .before .if2 .left) _ (c .before .before .judge-index .ensures) (c .before .if3 .taken) _ (c .input-refused3 .ensures),
+  c .before .before .before .before .before .before .before .add-object-strings .ensures .1,
+)
 
 array-read-judge-index-6 : tie.Need-array-read-judge-index-6
 array-read-judge-index-6 c = search needs
@@ -105,20 +105,20 @@ same-length-3 c = search needs
 
 returns-4 : tie.Need-returns-4
 returns-4 c = (
-    λ at ps ts e room k. read-tu-refused _ _ _ ts _ _ _ _ at ps e _ (c .before .before .before .before .before .before .before .before .before .before .before .before .before .before .before .before .judge-object .ensures at ps e) (c .before .before .before .before .before .before .before .before .before .before .before .before .before .before .if1 .left) _
-        (c .before .before .before .before .before .before .before .before .before .add-object-strings .ensures .0 ts k) (c .before .before .before .before .before .if2 .left) _ (c .before .before .before .before .judge-index .ensures) (c .before .before .before .if3 .left) _ (c .before .before .judge-index2 .ensures) (c .before .if4 .taken) _ (c .input-refused4 .ensures),
-    c .before .before .before .before .before .before .before .before .before .add-object-strings .ensures .1,
-  )
+  λ at ps ts e room k. read-tu-refused _ _ _ ts _ _ _ _ at ps e _ (c .before .before .before .before .before .before .before .before .before .before .before .before .before .before .before .before .judge-object .ensures at ps e) (c .before .before .before .before .before .before .before .before .before .before .before .before .before .before .if1 .left) _
+      (c .before .before .before .before .before .before .before .before .before .add-object-strings .ensures .0 ts k) (c .before .before .before .before .before .if2 .left) _ (c .before .before .before .before .judge-index .ensures) (c .before .before .before .if3 .left) _ (c .before .before .judge-index2 .ensures) (c .before .if4 .taken) _ (c .input-refused4 .ensures),
+  c .before .before .before .before .before .before .before .before .before .add-object-strings .ensures .1,
+)
 
 same-length-4 : tie.Need-same-length-4
 same-length-4 c = search needs
 
 returns-5 : tie.Need-returns-5
 returns-5 c = (
-    λ at ps ts e room k. read-passed _ _ _ ts _ _ _ _ at ps e _ (c .before .before .before .before .before .before .before .before .before .before .before .before .before .before .before .judge-object .ensures at ps e) (c .before .before .before .before .before .before .before .before .before .before .before .before .before .if1 .left) _
-        (c .before .before .before .before .before .before .before .before .add-object-strings .ensures .0 ts k) (c .before .before .before .before .if2 .left) _ (c .before .before .before .judge-index .ensures) (c .before .before .if3 .left) _ (c .before .judge-index2 .ensures) (c .if4 .left) _ _ room,
-    c .before .before .before .before .before .before .before .before .add-object-strings .ensures .1,
-  )
+  λ at ps ts e room k. read-passed _ _ _ ts _ _ _ _ at ps e _ (c .before .before .before .before .before .before .before .before .before .before .before .before .before .before .before .judge-object .ensures at ps e) (c .before .before .before .before .before .before .before .before .before .before .before .before .before .if1 .left) _
+      (c .before .before .before .before .before .before .before .before .add-object-strings .ensures .0 ts k) (c .before .before .before .before .if2 .left) _ (c .before .before .before .judge-index .ensures) (c .before .before .if3 .left) _ (c .before .judge-index2 .ensures) (c .if4 .left) _ _ room,
+  c .before .before .before .before .before .before .before .before .add-object-strings .ensures .1,
+)
 
 pub read-input-spec : {M : Type 1} → statement M
 read-input-spec =

@@ -48,8 +48,7 @@ add-units-requires c κs =
     let e = sym (n .1) ∙ f .next-unit-section .ensures in
     let pre = l .before .before .before .pre in
     let h = section-lies (l .loop .inv) (n .0 .0) (n .0 .1 .0) (n .0 .1 .1 .0) (n .0 .1 .1 .1 .0) e in
-    let o = l .loop .inv .goes (pre .2 .0) (pre .2 .1) (pre .2 .2) (pre .2 .3) (pre .2 .4) in
-    (
+    let o = l .loop .inv .goes (pre .2 .0) (pre .2 .1) (pre .2 .2) (pre .2 .3) (pre .2 .4) in (
       omega arith,
       omega (arith, h .inside, h .within),
       rw (c .before .wide .ensures) (h .home),

@@ -1,0 +1,28 @@
+-- The strings of one object more.
+-- Assumes nothing.
+use mathlib.Core.Path.{_≡_, refl, sym, ap, _∙_, subst}
+use mathlib.Core.List.{List, [], _∷_, _++_, append-nil, append-assoc}
+use Prim.Native.Nat.{ℕ, _*_}
+use Rattle.octets.specs.Octets.{part}
+use Rattle.strings.specs.Strings.{putAll, firstUses}
+use Rattle.strings.specs.Kept.{Kept}
+use Rattle.strings.specs.declared.table.StringTable.{StringTable}
+use Rattle.strings.proofs.FirstUses.{putAll-append}
+use Rattle.keeping.specs.Regions.{stringsStart}
+use Rattle.package.specs.Input.{Input}
+use Rattle.package.specs.Pack.{allUsed, stringTable}
+use Rattle.filing.specs.State.{StringsKept}
+
+pub used-snoc : (is : List Input) (i : Input) → allUsed (is ++ (i ∷ [])) ≡ allUsed is ++ i .used
+unfolding allUsed
+used-snoc [] i = append-nil (i .used)
+used-snoc (k ∷ is) i = ap (λ (l : List (List ℕ)). k .used ++ l) (used-snoc is i) ∙ sym (append-assoc (k .used) (allUsed is) (i .used))
+
+pub table-snoc : (is : List Input) (i : Input) → stringTable (is ++ (i ∷ [])) ≡ putAll (stringTable is) (i .used)
+unfolding stringTable firstUses
+table-snoc is i = ap (putAll []) (used-snoc is i) ∙ putAll-append [] (allUsed is) (i .used)
+
+-- they stay while units are filed
+pub strings-stay : (b : List ℕ) (n : ℕ) (w v : List ℕ) (t : StringTable) (is : List Input) (i : Input) → Kept b (part w (stringsStart n) (3 * n)) t (putAll (stringTable is) (i .used)) → StringsKept n w v
+    → Kept b (part v (stringsStart n) (3 * n)) t (stringTable (is ++ (i ∷ [])))
+strings-stay b n w v t is i k s = rw (s .strings, table-snoc is i) k
