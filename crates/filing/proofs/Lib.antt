@@ -9,3 +9,11 @@ pub mod Placing
 pub mod Answering
 pub mod Reading
 pub mod Walking
+pub mod OverSections
+pub mod Stringing
+pub mod Inputting
+pub mod InputLaws
+pub mod InputEnds
+pub mod Growing
+pub mod Entering
+pub mod Snoc

@@ -42,10 +42,10 @@ rest-of b at n k m e =
     let l : n - k ≡ m = omega arith in
     drop-take k n (drop at b) ∙ ap₂ (λ (j : ℕ) (s : List ℕ). take j s) l (drop-drop k at b)
 
-kept-none : (n : ℕ) (w : List ℕ) → StringsKept n w w
+pub kept-none : (n : ℕ) (w : List ℕ) → StringsKept n w w
 kept-none n w = record { same = refl; strings = refl }
 
-kept-more : {n : ℕ} {u v w : List ℕ} → StringsKept n u v → StringsKept n v w → StringsKept n u w
+pub kept-more : {n : ℕ} {u v w : List ℕ} → StringsKept n u v → StringsKept n v w → StringsKept n u w
 kept-more p q = record { same = q .same ∙ p .same; strings = q .strings ∙ p .strings }
 
 pub walking-none : (b : List ℕ) (x : InputObject) (n home start stop : ℕ) (w : List ℕ) (st : InProgress) (ss : Sums) → start ≤ stop → Walking b x n home start stop start w w st st ss ss

@@ -1,5 +1,6 @@
 // Units read and filed, one by one, object by object: 11 to 16. Thorin's InProgressDwarfPackage, with its rows, strings and unit places in lent work.
 pub mod keep;
+pub mod objects;
 pub mod single;
 pub mod state;
 pub mod units;

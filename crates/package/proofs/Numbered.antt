@@ -31,25 +31,25 @@ use Rattle.package.specs.Filing.{Filed, isUnder, indexFor, contributions
 pub record Numbered {A : Type 0} (m : Check A) : Type 0 where
   pub is : (n : ℕ) → m ≡ refuse n → 1 ≤ n
 
-passes : {A : Type 0} (a : A) → Numbered (pass a)
+pub passes : {A : Type 0} (a : A) → Numbered (pass a)
 passes a = record { is = λ n e. absurd (pass-refuse a n e) }
 
-refuses : {A : Type 0} (k : ℕ) → Numbered {A = A} (refuse (suc k))
+pub refuses : {A : Type 0} (k : ℕ) → Numbered {A = A} (refuse (suc k))
 refuses k = record { is = λ n e. let q : suc k ≡ n = refuse-inj e in omega arith }
 
-requires : (t : Bool) (k : ℕ) → Numbered (require t (suc k))
+pub requires : (t : Bool) (k : ℕ) → Numbered (require t (suc k))
 unfolding require
 requires true k = passes tt
 requires false k = refuses k
 
-binds : {A B : Type 0} (m : Check A) (f : A → Check B) → Numbered m → ((a : A) → Numbered (f a)) → Numbered (m >>= f)
+pub binds : {A B : Type 0} (m : Check A) (f : A → Check B) → Numbered m → ((a : A) → Numbered (f a)) → Numbered (m >>= f)
 binds m f o g = record { is = λ n e. ⊎-elim (λ r. o .is n r) (λ p. g (p .0) .is n (p .2)) (bind-refuse m f n e) }
 
-only : {A : Type 0} (k : ℕ) (m : Check A) → Only (suc k) m → Numbered m
+pub only : {A : Type 0} (k : ℕ) (m : Check A) → Only (suc k) m → Numbered m
 only k m o = record { is = λ n e. let q : n ≡ suc k = o .is n e in omega arith }
 
 -- a choice by a test
-chooses : {A : Type 0} (t : Bool) (a b : Check A) → Numbered a → Numbered b → Numbered {A = A} (elim t [ true ↦ a | false ↦ b ])
+pub chooses : {A : Type 0} (t : Bool) (a b : Check A) → Numbered a → Numbered b → Numbered {A = A} (elim t [ true ↦ a | false ↦ b ])
 chooses true a b p q = p
 chooses false a b p q = q
 

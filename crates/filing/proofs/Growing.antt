@@ -1,0 +1,80 @@
+-- From one object to the next: its sections lie between its word and the next one, and its strings have room.
+-- Assumes nothing.
+use mathlib.Core.Path.{_≡_, refl, sym, ap, _∙_}
+use mathlib.Core.Bool.{Bool, true, false}
+use mathlib.Core.List.{List, [], _∷_, _++_}
+use Prim.Native.Nat.{ℕ, _+_, _*_, _≤_}
+use native.Mathlib.Omega.{arith}
+use lib.Dec.{eqb}
+use lib.ListN.{length}
+use Rattle.octets.specs.Octets.{part}
+use Rattle.octets.specs.Checked.{pass}
+use Rattle.octets.proofs.Parts.{length-part}
+use Rattle.bundle.specs.Bundle.{Part, Item, object, section, more, filledUp, leading, firstPart}
+use Rattle.bundle.specs.Scan.{placeBehind, startOf, sizeOf, sizeIn}
+use Rattle.bundle.proofs.Passed.{here, stepHere, left-cons}
+use Rattle.bundle.proofs.Next.{section-step}
+use Rattle.bundle.proofs.Onward.{Onward, onward}
+use Rattle.bundle.proofs.Every.{Every}
+use Rattle.bundle.proofs.Lies.{Lies}
+use Rattle.bundle.proofs.ScanFacts.{first-within}
+use Rattle.bundle.specs.Encoded.{encodingIs}
+use Rattle.bundle.specs.declared.encoding.ObjectEncoding.{ObjectEncoding}
+use Rattle.strings.specs.Strings.{firstUses, entriesIn}
+use Rattle.strings.specs.declared.table.StringTable.{StringTable}
+use Rattle.strings.proofs.FirstUses.{length-firstUses}
+use Rattle.strings.proofs.StrOffsets.{sound}
+use Rattle.strings.proofs.Callers.{strings-room}
+use Rattle.index.specs.Rows.{BySection}
+use Rattle.package.specs.Input.{Input}
+use Rattle.package.specs.Filing.{Filed}
+use Rattle.package.specs.Pack.{allUsed, stringTable}
+use Rattle.filing.specs.declared.state.InProgress.{InProgress}
+use Rattle.filing.specs.ByObject.{AtObject, InputRoom}
+
+-- a section of an object is no longer than all of them
+pub size-behind : (b : List ℕ) (c at : ℕ) (is : List Item) → here b at ≡ pass is → at ≤ length b → at + sizeOf (leading is) c ≤ placeBehind at (leading is)
+unfolding placeBehind leading sizeOf sizeIn firstPart
+size-behind b c at [] e h = omega arith
+size-behind b c at (object w ∷ is) e h = omega arith
+size-behind b c at (section p ∷ is) e h =
+    go (left-cons b at (section p) is e) (eqb (p .code) c) refl (λ k l. size-behind b c (p .start + filledUp (p .size)) is k l)
+  where
+    go : (n : ℕ) × (stepHere b at ≡ more (section p) n) × (here b (at + 4 + n) ≡ pass is) → (t : Bool) → eqb (p .code) c ≡ t
+        → (here b (p .start + filledUp (p .size)) ≡ pass is → p .start + filledUp (p .size) ≤ length b
+        → p .start + filledUp (p .size) + sizeOf (leading is) c ≤ placeBehind (p .start + filledUp (p .size)) (leading is))
+        → at + sizeOf (p ∷ leading is) c ≤ placeBehind (p .start + filledUp (p .size)) (leading is)
+    go (n, s, k) true t on =
+        let g = section-step b at p n s in
+        let l : here b (p .start + filledUp (p .size)) ≡ pass is = ap (here b) (sym (g .behind)) ∙ k in
+        let w = onward b (p .start + filledUp (p .size)) is l (omega (arith, g .behind, g .within)) in
+        let z : sizeOf (p ∷ leading is) c ≡ p .size = rw (sizeOf, firstPart, t) in
+        omega (arith, g .place, g .inside, g .behind, w .further)
+    go (n, s, k) false t on =
+        let g = section-step b at p n s in
+        let l : here b (p .start + filledUp (p .size)) ≡ pass is = ap (here b) (sym (g .behind)) ∙ k in
+        let z : sizeOf (p ∷ leading is) c ≡ sizeOf (leading is) c = rw (sizeOf, firstPart, t) in
+        omega (arith, g .place, on l (omega (arith, g .behind, g .within)))
+
+table-few : (is : List Input) → length (stringTable is) ≤ length (allUsed is)
+unfolding stringTable
+table-few is = length-firstUses (allUsed is)
+
+-- what `read_input` requires, of the object whose sections start at from
+pub input-room : (b : List ℕ) (big : Bool) (first n place : ℕ) (w : List ℕ) (st : InProgress) (t : StringTable) (bases : BySection ℕ) (is : List Input) (us : List Filed)
+    → AtObject b big first n place w st t bases is us → (from : ℕ) (ahead : List Item) → here b from ≡ pass ahead → place ≤ from → from ≤ length b → Every (Lies b) (leading ahead)
+    → InputRoom b (leading ahead) n (length w) t
+input-room b big first n place w st t bases is us a from ahead left low high lie =
+    record {
+      room = a .held .room;
+      limit = a .held .limit;
+      words-are = a .held .words;
+      inside = λ c. first-within b (leading ahead) c lie;
+      fits = λ e.
+          let ps = leading ahead in
+          let l = length-part b (startOf ps 6) (sizeOf ps 6) (first-within b ps 6 lie) in
+          let z = size-behind b 6 from ahead left high in
+          let o = onward b from ahead left high in
+          strings-room (encodingIs e) (part b (startOf ps 6) (sizeOf ps 6)) (t .count) (length (allUsed is)) place n (sound e)
+          (omega (arith, a .strings .few, table-few is)) (a .used) (omega (arith, l, z, o .within, a .held .words)) .0;
+    }

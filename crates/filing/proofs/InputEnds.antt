@@ -1,0 +1,111 @@
+-- The answers of `read_input`, each from those of its checks.
+-- Assumes nothing.
+use mathlib.Core.Path.{_≡_, refl, sym, ap, _∙_, subst}
+use mathlib.Core.Bool.{Bool}
+use mathlib.Core.List.{List}
+use mathlib.Core.Option.{Option}
+use Prim.Native.Nat.{ℕ, _*_, _≤_}
+use native.Mathlib.Omega.{arith}
+use lib.Dec.{leb}
+use lib.ListN.{length, getD}
+use Rattle.octets.specs.Octets.{part}
+use Rattle.octets.specs.Checked.{Check, pass, refuse}
+use Rattle.bundle.specs.Bundle.{Part, Object, body}
+use Rattle.bundle.specs.Encoding.{Encoding}
+use Rattle.bundle.specs.Encoded.{encodingIs}
+use Rattle.bundle.specs.Scan.{scanOf}
+use Rattle.bundle.specs.declared.Scan.{Scan}
+use Rattle.strings.specs.Strings.{putAll}
+use Rattle.strings.specs.Kept.{Kept, bytesAt}
+use Rattle.strings.specs.declared.table.StringTable.{StringTable}
+use Rattle.index.specs.Index.{Index}
+use Rattle.keeping.specs.Regions.{stringsStart}
+use Rattle.package.specs.Input.{Input, present, usedStrings, inputOf}
+use Rattle.package.proofs.Numbered.{Numbered}
+use Rattle.package.proofs.OverObjects.{used-numbered}
+use Rattle.input.specs.Judged.{objectCheck, indexCheck, JudgedIs, JudgedIndexIs}
+use Rattle.input.specs.declared.Judged.{Judged}
+use Rattle.input.specs.declared.JudgedIndex.{JudgedIndex}
+use Rattle.filing.specs.declared.objects.StringsFiled.{StringsFiled}
+use Rattle.filing.specs.declared.objects.InputFiled.{InputFiled}
+use Rattle.filing.specs.ByObject.{stringsCheck, StringsAre, InputRoom, InputRead}
+use Rattle.filing.proofs.Inputting.{stringsHere, indexHere, object-refused, strings-refused, cu-refused, tu-refused, input-passed}
+use Rattle.filing.proofs.InputLaws.{judged-passed, judged-refused, index-passed, index-refused, placeOf, strings-same, index-same, input-is}
+
+strings-numbered : (b : List ℕ) (ps : List Part) (e : Encoding) → Numbered (stringsCheck e (present ps 6) (body b ps 6) (body b ps 11))
+unfolding usedStrings stringsCheck
+strings-numbered b ps e = used-numbered e ps (body b ps)
+
+put-refused : (b : List ℕ) (n : ℕ) (v : List ℕ) (ts : List (List ℕ)) (m : Check (List (List ℕ))) (s : StringsFiled) → StringsAre b n v ts m s → (s .code ≡ 0 → ⊥) → m ≡ refuse (s .code)
+unfolding StringsAre
+put-refused b n v ts (pass used) s a z = absurd (z (a .0))
+put-refused b n v ts (refuse k) s a z = ap refuse (sym a)
+
+put-passed : (b : List ℕ) (n : ℕ) (v : List ℕ) (ts : List (List ℕ)) (m : Check (List (List ℕ))) (s : StringsFiled) → Numbered m → StringsAre b n v ts m s → s .code ≡ 0
+    → (used : List (List ℕ)) × (m ≡ pass used) × Kept b (part v (stringsStart n) (3 * n)) (s .strings) (putAll ts used)
+unfolding StringsAre
+put-passed b n v ts (pass used) s o a z = (used, refl, a .1)
+put-passed b n v ts (refuse k) s o a z = absurd (let h = o .is k refl in let q : k ≡ 0 = sym a ∙ z in omega arith)
+
+refused-is : (b : List ℕ) (n : ℕ) (v : List ℕ) (ts : List (List ℕ)) (m : Check Input) (k : ℕ) (r : InputFiled) → m ≡ refuse k → r .code ≡ k → InputRead b n v ts m r
+unfolding InputRead
+refused-is b n v ts m k r e q = rw e q
+
+passed-is : (b : List ℕ) (n : ℕ) (v : List ℕ) (ts : List (List ℕ)) (m : Check Input) (i : Input) (r : InputFiled) → m ≡ pass i → InputRead b n v ts (pass i) r → InputRead b n v ts m r
+passed-is b n v ts m i r e h = rw e h
+
+module _ (b : List ℕ) (n : ℕ) (v : List ℕ) (ts : List (List ℕ)) (big : Bool) (first word : ℕ) (scan : Scan) (at : ℕ) (ps : List Part) (is : scan ≡ scanOf at ps)
+    (j : Judged) (judged : JudgedIs (objectCheck big first word ps) j) where
+  abbrev o : Object
+  o = record { word = word; parts = ps }
+
+  pub read-refused : (j .code ≡ 0 → ⊥) → (r : InputFiled) → r .code ≡ j .code → InputRead b n v ts (inputOf b big first o) r
+  read-refused z r q = refused-is b n v ts _ (j .code) r (object-refused b big first o (j .code) (judged-refused _ j judged z)) q
+
+  module _ (zj : j .code ≡ 0) (s : StringsFiled)
+      (put : StringsAre b n v ts (stringsCheck (encodingIs (j .encoding)) (leb 1 (getD (scan .count) 6 0)) (bytesAt b (placeOf b scan at ps is 6)) (bytesAt b (placeOf b scan at ps is 11))) s) where
+    good : objectCheck big first word ps ≡ pass (encodingIs (j .encoding))
+    good = judged-passed _ j judged zj
+
+    put-here : StringsAre b n v ts (stringsHere b big first o (encodingIs (j .encoding))) s
+    put-here = subst (λ (m : Check (List (List ℕ))). StringsAre b n v ts m s) (strings-same b scan at ps is (encodingIs (j .encoding))) put
+
+    pub read-strings-refused : (s .code ≡ 0 → ⊥) → (r : InputFiled) → r .code ≡ s .code → InputRead b n v ts (inputOf b big first o) r
+    read-strings-refused z r q =
+        refused-is b n v ts _ (s .code) r (strings-refused b big first o (encodingIs (j .encoding)) good (s .code) (put-refused b n v ts _ s put-here z)) q
+
+    module _ (zs : s .code ≡ 0) (cu : JudgedIndex)
+        (cu-judged : JudgedIndexIs (j .encoding .big) (part b (getD (scan .start) 12 0) (getD (scan .size) 12 0)) (indexCheck (j .encoding .big) (leb 1 (getD (scan .count) 12 0)) (part b (getD (scan .start) 12 0) (getD (scan .size) 12 0))) cu) where
+      strings : (used : List (List ℕ)) × (stringsHere b big first o (encodingIs (j .encoding)) ≡ pass used) × Kept b (part v (stringsStart n) (3 * n)) (s .strings) (putAll ts used)
+      strings = put-passed b n v ts _ s (strings-numbered b ps (encodingIs (j .encoding))) put-here zs
+
+      here-same : (c : ℕ) (m : Check (Option Index)) → indexCheck (j .encoding .big) (present ps c) (body b ps c) ≡ m → indexHere b big first o (encodingIs (j .encoding)) c ≡ m
+      unfolding encodingIs
+      here-same c m e = e
+
+      pub read-cu-refused : (cu .code ≡ 0 → ⊥) → (r : InputFiled) → r .code ≡ cu .code → InputRead b n v ts (inputOf b big first o) r
+      read-cu-refused z r q =
+          refused-is b n v ts _ (cu .code) r (cu-refused b big first o (encodingIs (j .encoding)) good (strings .0) (strings .1) (cu .code)
+          (here-same 12 _ (sym (index-same b scan at ps is (j .encoding .big) 12 (omega arith)) ∙ index-refused _ _ _ cu cu-judged z))) q
+
+      module _ (zc : cu .code ≡ 0) (tu : JudgedIndex)
+          (tu-judged : JudgedIndexIs (j .encoding .big) (part b (getD (scan .start) 13 0) (getD (scan .size) 13 0)) (indexCheck (j .encoding .big) (leb 1 (getD (scan .count) 13 0)) (part b (getD (scan .start) 13 0) (getD (scan .size) 13 0))) tu) where
+        pub read-tu-refused : (tu .code ≡ 0 → ⊥) → (r : InputFiled) → r .code ≡ tu .code → InputRead b n v ts (inputOf b big first o) r
+        read-tu-refused z r q =
+            let c = index-passed _ _ _ cu cu-judged zc in
+            refused-is b n v ts _ (tu .code) r (tu-refused b big first o (encodingIs (j .encoding)) good (strings .0) (strings .1) (c .0)
+            (here-same 12 _ (sym (index-same b scan at ps is (j .encoding .big) 12 (omega arith)) ∙ c .1)) (tu .code)
+            (here-same 13 _ (sym (index-same b scan at ps is (j .encoding .big) 13 (omega arith)) ∙ index-refused _ _ _ tu tu-judged z))) q
+
+        pub read-passed : tu .code ≡ 0 → (words : ℕ) (t : StringTable) → InputRoom b ps n words t
+            → InputRead b n v ts (inputOf b big first o)
+            (record { code = 0; input = record { encoding = j .encoding; start = scan .start; size = scan .size; cu = cu .index; tu = tu .index }; strings = s .strings })
+        unfolding InputRead
+        read-passed z words t room =
+            let c = index-passed _ _ _ cu cu-judged zc in
+            let d = index-passed _ _ _ tu tu-judged z in
+            passed-is b n v ts _ _ _
+            (input-passed b big first o (encodingIs (j .encoding)) good (strings .0) (strings .1) (c .0)
+            (here-same 12 _ (sym (index-same b scan at ps is (j .encoding .big) 12 (omega arith)) ∙ c .1)) (d .0)
+            (here-same 13 _ (sym (index-same b scan at ps is (j .encoding .big) 13 (omega arith)) ∙ d .1)))
+            (refl, input-is b scan at ps is n words t room (j .encoding) (strings .0) (cu .index) (tu .index) (c .0) (d .0) _ refl (c .2) (d .2), strings .2)

@@ -1,0 +1,117 @@
+-- What the answers of the checks of one object say together: `inputOf`.
+-- Assumes nothing.
+use mathlib.Core.Path.{_≡_, refl, sym, ap, ap₂, _∙_, subst}
+use mathlib.Core.Logic.{⊎-elim}
+use mathlib.Core.Bool.{Bool, true, false}
+use mathlib.Core.List.{List, []}
+use mathlib.Core.Option.{Option}
+use Prim.Native.Nat.{ℕ, _+_, _*_, _<_, _≤_}
+use native.Mathlib.Omega.{arith}
+use lib.Dec.{leb}
+use lib.ListN.{length, getD}
+use borrow.Author.Tests.{leb-true, leb-false}
+use Rattle.octets.specs.Octets.{part}
+use Rattle.octets.specs.Checked.{Check, pass, refuse}
+use Rattle.octets.proofs.Checks.{known}
+use Rattle.bundle.specs.Bundle.{Part, Object, body}
+use Rattle.bundle.specs.Encoding.{Encoding}
+use Rattle.bundle.specs.Encoded.{encodingIs}
+use Rattle.bundle.specs.Scan.{scanOf, startOf, sizeOf}
+use Rattle.bundle.specs.declared.Scan.{Scan}
+use Rattle.bundle.specs.declared.encoding.ObjectEncoding.{ObjectEncoding}
+use Rattle.bundle.proofs.Scanned.{length-byCode}
+use Rattle.bundle.proofs.ScanFacts.{scan-count, scan-start, scan-size, scan-body}
+use Rattle.strings.specs.Kept.{Kept, Inside, bytesAt}
+use Rattle.strings.specs.declared.table.Place.{Place}
+use Rattle.strings.specs.declared.table.StringTable.{StringTable}
+use Rattle.index.specs.Index.{Index}
+use Rattle.keeping.proofs.Moved.{getD-past}
+use Rattle.package.specs.Input.{Input, present, usedStrings, inputOf}
+use Rattle.package.proofs.Numbered.{Numbered}
+use Rattle.package.proofs.OverObjects.{used-numbered}
+use Rattle.input.specs.Judged.{objectCheck, indexCheck, JudgedIs, JudgedIndexIs, InputIs, IndexedIs, sectionOf}
+use Rattle.input.specs.declared.Judged.{Judged}
+use Rattle.input.specs.declared.JudgedIndex.{JudgedIndex}
+use Rattle.input.specs.declared.Indexed.{Indexed}
+use Rattle.filing.specs.declared.objects.StringsFiled.{StringsFiled}
+use Rattle.filing.specs.ByObject.{stringsCheck, StringsRoom, StringsAre, InputRoom}
+use Rattle.filing.proofs.Inputting.{stringsHere, indexHere}
+
+-- ---- one answer
+pub judged-passed : (m : Check Encoding) (r : Judged) → JudgedIs m r → r .code ≡ 0 → m ≡ pass (encodingIs (r .encoding))
+unfolding JudgedIs
+judged-passed (pass e) r j z = ap pass (sym (j .1))
+judged-passed (refuse n) r j z = absurd (omega (arith, j .0, j .1))
+
+pub judged-refused : (m : Check Encoding) (r : Judged) → JudgedIs m r → (r .code ≡ 0 → ⊥) → m ≡ refuse (r .code)
+unfolding JudgedIs
+judged-refused (pass e) r j z = absurd (z (j .0))
+judged-refused (refuse n) r j z = ap refuse (sym (j .0))
+
+pub index-passed : (big : Bool) (s : List ℕ) (m : Check (Option Index)) (r : JudgedIndex) → JudgedIndexIs big s m r → r .code ≡ 0 → (o : Option Index) × (m ≡ pass o) × IndexedIs big s (r .index) o
+unfolding JudgedIndexIs
+index-passed big s (pass o) r j z = (o, refl, j .1)
+index-passed big s (refuse n) r j z = absurd (omega (arith, j .0, j .1))
+
+pub index-refused : (big : Bool) (s : List ℕ) (m : Check (Option Index)) (r : JudgedIndex) → JudgedIndexIs big s m r → (r .code ≡ 0 → ⊥) → m ≡ refuse (r .code)
+unfolding JudgedIndexIs
+index-refused big s (pass o) r j z = absurd (z (j .0))
+index-refused big s (refuse n) r j z = ap refuse (sym (j .0))
+
+-- ---- what code reads of a scan
+module _ (b : List ℕ) (scan : Scan) (at : ℕ) (ps : List Part) (is : scan ≡ scanOf at ps) where
+  abbrev pub placeOf : ℕ → Place
+  placeOf c = record { start = getD (scan .start) c 0; size = getD (scan .size) c 0 }
+
+  there-is : (c : ℕ) → c < 14 → leb 1 (getD (scan .count) c 0) ≡ present ps c
+  unfolding present
+  there-is c h = ap (leb 1) (scan-count scan at ps is c h)
+
+  bytes-are : (c : ℕ) → c < 14 → bytesAt b (placeOf c) ≡ body b ps c
+  unfolding bytesAt
+  bytes-are c h = scan-body scan at ps is c h b
+
+  pub strings-same : (e : Encoding) → stringsCheck e (leb 1 (getD (scan .count) 6 0)) (bytesAt b (placeOf 6)) (bytesAt b (placeOf 11)) ≡ stringsCheck e (present ps 6) (body b ps 6) (body b ps 11)
+  strings-same e =
+      ap (λ (t : Bool). stringsCheck e t (bytesAt b (placeOf 6)) (bytesAt b (placeOf 11))) (there-is 6 (omega arith))
+      ∙ ap₂ (stringsCheck e (present ps 6)) (bytes-are 6 (omega arith)) (bytes-are 11 (omega arith))
+
+  pub index-same : (big : Bool) (c : ℕ) → c < 14 → indexCheck big (leb 1 (getD (scan .count) c 0)) (part b (getD (scan .start) c 0) (getD (scan .size) c 0)) ≡ indexCheck big (present ps c) (body b ps c)
+  index-same big c h = ap₂ (indexCheck big) (there-is c h) (scan-body scan at ps is c h b)
+
+  module _ (n words : ℕ) (t : StringTable) (room : InputRoom b ps n words t) where
+    pub scan-within : (c : ℕ) → getD (scan .start) c 0 + getD (scan .size) c 0 ≤ length b
+    unfolding scanOf
+    scan-within c = ⊎-elim
+        (λ (h : leb 14 c ≡ true).
+        let s : getD (scan .start) c 0 ≡ 0 = getD-past (scan .start) c (rw (ap (λ (z : Scan). length (z .start)) is ∙ length-byCode (startOf ps)) (leb-true 14 c h)) in
+        let z : getD (scan .size) c 0 ≡ 0 = getD-past (scan .size) c (rw (ap (λ (y : Scan). length (y .size)) is ∙ length-byCode (sizeOf ps)) (leb-true 14 c h)) in
+        omega arith)
+        (λ (h : leb 14 c ≡ false).
+        let g = leb-false 14 c h in
+        omega (arith, scan-start scan at ps is c g, scan-size scan at ps is c g, room .inside c))
+        (known (leb 14 c))
+
+    pub strings-room-of : (e : ObjectEncoding) → StringsRoom b (encodingIs e) (placeOf 6) (placeOf 11) n words t
+    unfolding Inside bytesAt
+    strings-room-of e = record {
+      room = room .room;
+      limit = room .limit;
+      words-are = room .words-are;
+      offsets-inside = scan-within 6;
+      text-inside = scan-within 11;
+      fits = rw (scan-start scan at ps is 6 (omega arith), scan-size scan at ps is 6 (omega arith)) (room .fits e);
+    }
+
+    pub input-is : (e : ObjectEncoding) (used : List (List ℕ)) (cu tu : Indexed) (ci ti : Option Index) (i : Input) → i ≡ record { encoding = encodingIs e; bytes = body b ps; units = i .units; used = used; cuIndex = ci; tuIndex = ti }
+        → IndexedIs (e .big) (part b (getD (scan .start) 12 0) (getD (scan .size) 12 0)) cu ci
+        → IndexedIs (e .big) (part b (getD (scan .start) 13 0) (getD (scan .size) 13 0)) tu ti
+        → InputIs b (record { encoding = e; start = scan .start; size = scan .size; cu = cu; tu = tu }) i
+    unfolding sectionOf
+    input-is e used cu tu ci ti i q x y = rw q (record {
+      encoding = refl;
+      bytes = λ c h. sym (scan-body scan at ps is c h b);
+      within = scan-within;
+      cuIndex = x;
+      tuIndex = y;
+    })

@@ -1,0 +1,106 @@
+-- The walk over objects: what is filed, and the rest. No refusal of an object has the number 0.
+-- Assumes nothing.
+use mathlib.Core.Path.{_≡_, refl, sym, ap, ap₂, _∙_}
+use mathlib.Core.Bool.{Bool, true, false}
+use mathlib.Core.List.{List, [], _∷_, _++_, append-nil, append-assoc}
+use mathlib.Core.Option.{Option}
+use Prim.Native.Nat.{ℕ}
+use lib.Dec.{eqb}
+use Rattle.octets.specs.Checked.{Check, pass, refuse, _>>=_, require}
+use Rattle.octets.proofs.Checks.{then-pass, then-refuse, bind-assoc}
+use Rattle.bundle.specs.Bundle.{Part, Object, body}
+use Rattle.bundle.specs.Encoding.{Encoding, encodingOf}
+use Rattle.strings.specs.Strings.{entriesOf, upToZero, stringAt, stringsAt}
+use Rattle.index.specs.Index.{Index, indexOf}
+use Rattle.index.specs.Rows.{BySection}
+use Rattle.package.specs.Input.{Input, present, usedStrings, inputIndex, inputOf}
+use Rattle.package.specs.Filing.{Filed, Filing, unitsIn, grown, filingFrom}
+use Rattle.package.proofs.Numbered.{Numbered, passes, refuses, requires, binds, chooses}
+
+-- ---- one object
+entries-numbered : (e : Encoding) (s : List ℕ) → Numbered (entriesOf e s)
+unfolding entriesOf
+entries-numbered e s = binds _ _ (requires _ 7) (λ _. binds _ _ (requires _ 7) (λ _. passes _))
+
+zero-numbered : (s : List ℕ) → Numbered (upToZero 9 s)
+unfolding upToZero
+zero-numbered [] = refuses 8
+zero-numbered (b ∷ s) = chooses (eqb b 0) _ _ (passes _) (binds _ _ (zero-numbered s) (λ t. passes _))
+
+strings-numbered : (str os : List ℕ) → Numbered (stringsAt str os)
+unfolding stringsAt stringAt
+strings-numbered str [] = passes _
+strings-numbered str (o ∷ os) = binds _ _ (zero-numbered _) (λ s. binds _ _ (strings-numbered str os) (λ ss. passes _))
+
+pub used-numbered : (e : Encoding) (ps : List Part) (bytes : BySection (List ℕ)) → Numbered (usedStrings e ps bytes)
+unfolding usedStrings
+used-numbered e ps bytes = chooses (present ps 6) _ _ (binds _ _ (entries-numbered e (bytes 6)) (λ os. strings-numbered (bytes 11) os)) (passes _)
+
+index-read : (big : Bool) (s : List ℕ) → Numbered (indexOf big s)
+unfolding indexOf
+index-read big s =
+    binds _ _ (requires _ 9) (λ _. binds _ _ (requires _ 9) (λ _. binds _ _ (requires _ 9) (λ _. binds _ _ (requires _ 9) (λ _.
+    binds _ _ (requires _ 9) (λ _. binds _ _ (requires _ 9) (λ _. binds _ _ (requires _ 9) (λ _. passes _)))))))
+
+pub index-numbered : (e : Encoding) (ps : List Part) (bytes : BySection (List ℕ)) (c : ℕ) → Numbered (inputIndex e ps bytes c)
+unfolding inputIndex
+index-numbered e ps bytes c = chooses (present ps c) _ _ (binds _ _ (index-read (e .big) (bytes c)) (λ i. binds _ _ (requires _ 9) (λ _. passes _))) (passes _)
+
+pub input-numbered : (b : List ℕ) (big : Bool) (first : ℕ) (o : Object) → Numbered (inputOf b big first o)
+unfolding inputOf
+input-numbered b big first o =
+    binds _ _ (requires _ 3) (λ _. binds _ _ (requires _ 4) (λ _. binds _ _ (requires _ 5) (λ _. binds _ _ (requires _ 6) (λ _.
+    binds _ _ (used-numbered _ _ _) (λ used. binds _ _ (index-numbered _ _ _ 12) (λ cu. binds _ _ (index-numbered _ _ _ 13) (λ tu. passes _)))))))
+
+-- ---- the walk
+-- what is filed, before what is still to come
+unfoldable pub behindDone : List Input → List Filed → Check Filing → Check Filing
+behindDone is us m = m >>= λ r. pass (record { inputs = is ++ r .inputs; units = us ++ r .units })
+
+pub behind-none : (m : Check Filing) → behindDone [] [] m ≡ m
+unfolding behindDone _>>=_
+behind-none (pass r) = refl
+behind-none (refuse n) = refl
+
+pub behind-refused : (is : List Input) (us : List Filed) (m : Check Filing) (n : ℕ) → m ≡ refuse n → behindDone is us m ≡ refuse n
+unfolding behindDone
+behind-refused is us m n e = then-refuse _ _ n e
+
+behind-more : (is : List Input) (us : List Filed) (i : Input) (here : List Filed) (m : Check Filing)
+    → behindDone is us (m >>= λ r. pass (record { inputs = i ∷ r .inputs; units = here ++ r .units })) ≡ behindDone (is ++ (i ∷ [])) (us ++ here) m
+unfolding behindDone _>>=_
+behind-more is us i here (pass r) =
+    ap₂ (λ (a : List Input) (c : List Filed). pass (record { inputs = a; units = c })) (sym (append-assoc is (i ∷ []) (r .inputs))) (sym (append-assoc us here (r .units)))
+behind-more is us i here (refuse n) = refl
+
+module _ (b : List ℕ) (big : Bool) (first : ℕ) where
+  -- the objects done and those ahead, of all
+  pub record ObjectsAhead (is : List Input) (us : List Filed) (bases : BySection ℕ) (ahead all : List Object) : Type 0 where
+    pub is-all : behindDone is us (filingFrom b big first bases us ahead) ≡ filingFrom b big first (λ c. 0) [] all
+
+  pub ahead-all : (all : List Object) → ObjectsAhead [] [] (λ c. 0) all all
+  ahead-all all = record { is-all = behind-none _ }
+
+  module _ (is : List Input) (us : List Filed) (bases : BySection ℕ) (all : List Object) where
+    -- at the end
+    pub ahead-end : ObjectsAhead is us bases [] all → filingFrom b big first (λ c. 0) [] all ≡ pass (record { inputs = is; units = us })
+    unfolding filingFrom behindDone _>>=_
+    ahead-end a = sym (a .is-all) ∙ ap₂ (λ (x : List Input) (y : List Filed). pass (record { inputs = x; units = y })) (append-nil is) (append-nil us)
+
+    module _ (o : Object) (os : List Object) (a : ObjectsAhead is us bases (o ∷ os) all) where
+      -- an object is refused
+      pub ahead-input-refused : (n : ℕ) → inputOf b big first o ≡ refuse n → filingFrom b big first (λ c. 0) [] all ≡ refuse n
+      unfolding filingFrom
+      ahead-input-refused n e = sym (a .is-all) ∙ behind-refused is us _ n (then-refuse _ _ n e)
+
+      -- one of its units is
+      pub ahead-unit-refused : (i : Input) (n : ℕ) → inputOf b big first o ≡ pass i → unitsIn i bases us [] (i .units) ≡ refuse n → filingFrom b big first (λ c. 0) [] all ≡ refuse n
+      unfolding filingFrom
+      ahead-unit-refused i n e f = sym (a .is-all) ∙ behind-refused is us _ n (then-pass _ _ i e ∙ then-refuse _ _ n f)
+
+      -- it is filed
+      pub ahead-more : (i : Input) (here : List Filed) → inputOf b big first o ≡ pass i → unitsIn i bases us [] (i .units) ≡ pass here
+          → ObjectsAhead (is ++ (i ∷ [])) (us ++ here) (grown bases i) os all
+      unfolding filingFrom
+      ahead-more i here e f =
+          record { is-all = sym (behind-more is us i here _) ∙ ap (behindDone is us) (sym (then-pass _ _ i e ∙ then-pass _ _ here f)) ∙ a .is-all }
