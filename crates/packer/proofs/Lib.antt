@@ -1,0 +1,2 @@
+-- The packer meets its contracts.
+-- Assumes nothing.

@@ -1,0 +1,63 @@
+// Packing: any bytes in, a package or a number out.
+pub mod objects;
+
+ghost use mathlib.Core.Path.{_≡_};
+ghost use lib.ListN.{length};
+ghost use Rattle.octets.specs.Octets.{zeros};
+ghost use Rattle.package.specs.Pack.{packed};
+ghost use Rattle.finish.specs.Finish.{finishedOf, outputOf};
+ghost use Rattle.packer.specs.Small.{packedSmall};
+use bundle::Words;
+use finish::whole::Finished;
+
+// Over work and output that are cleared; work is not cleared behind it.
+fn pack_cleared(b: &[u8], work: &mut [u32], out: &mut [u8]) -> Finished
+    requires { ⌜ (now work ≡ zeros (length (now work))) × (now out ≡ zeros (length (now out))) ⌝ }
+    ensures answer { λ r. ⌜ r ≡ finishedOf (packed (now (b .entry)) (length (now (work .entry))) (length (now (out .entry)))) ⌝ }
+    ensures output { λ _. ⌜ now (out .exit) ≡ outputOf (packed (now (b .entry)) (length (now (work .entry))) (length (now (out .entry)))) (length (now (out .entry))) ⌝ }
+{
+    if !bundle::length_good(4194304, b) {
+        return Finished::Refused(1);
+    }
+    if work.len() < 16 * (b.len() / 4) {
+        return Finished::Refused(2);
+    }
+    let Words::Readable(big) = bundle::check_words(b) else {
+        return Finished::Refused(3);
+    };
+    let filed = objects::add_input_objects(b, big, work);
+    let code = filed.code;
+    if code != 0 {
+        return Finished::Refused(code);
+    }
+    let st = filed.st;
+    let strings = filed.strings;
+    finish::whole::finish(b, big, st, strings, work, out)
+}
+
+// Whatever the three hold: the package, 18 with the length needed, or a refusal; behind it the output is the package and zeros, or
+// zeros only, and work is zeros.
+pub fn pack(b: &[u8], work: &mut [u32], out: &mut [u8]) -> Finished
+    ensures answer { λ r. ⌜ r ≡ finishedOf (packed (now (b .entry)) (length (now (work .entry))) (length (now (out .entry)))) ⌝ }
+    ensures output { λ _. ⌜ now (out .exit) ≡ outputOf (packed (now (b .entry)) (length (now (work .entry))) (length (now (out .entry)))) (length (now (out .entry))) ⌝ }
+    ensures work { λ _. ⌜ now (work .exit) ≡ zeros (length (now (work .entry))) ⌝ }
+{
+    octets::clear_bytes(out);
+    octets::clear_words(work);
+    let r = pack_cleared(b, work, out);
+    octets::clear_words(work);
+    r
+}
+
+// The small packer: work of its own, and a lower limit.
+pub fn pack_small(b: &[u8], out: &mut [u8]) -> Finished
+    ensures answer { λ r. ⌜ r ≡ finishedOf (packedSmall (now (b .entry)) (length (now (out .entry)))) ⌝ }
+    ensures output { λ _. ⌜ now (out .exit) ≡ outputOf (packedSmall (now (b .entry)) (length (now (out .entry)))) (length (now (out .entry))) ⌝ }
+{
+    if !bundle::length_good(1024, b) {
+        octets::clear_bytes(out);
+        return Finished::Refused(1);
+    }
+    let mut work = [0u32; 4096];
+    pack(b, &mut work, out)
+}
