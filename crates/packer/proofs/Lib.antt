@@ -1,4 +1,5 @@
 -- The packer meets its contracts.
 -- Assumes nothing.
-pub mod Answering
+pub mod Outcomes
 pub mod Clearing
+pub mod Telling

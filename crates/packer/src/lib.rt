@@ -1,4 +1,5 @@
 // Packing: any bytes in, a package or a number out.
+pub mod answering;
 pub mod objects;
 
 ghost use mathlib.Core.Path.{_≡_};

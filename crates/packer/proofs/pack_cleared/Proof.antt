@@ -1,4 +1,4 @@
--- Each way out is the definition's answer (`Answering`).
+-- Each way out is the definition's answer (`Outcomes`).
 -- Assumes nothing.
 use mathlib.Core.Path.{_≡_, sym, _∙_}
 use mathlib.Core.Bool.{true}
@@ -7,7 +7,7 @@ use borrow.Author.Tests.{not-true, not-false}
 use denote.Ref.{now}
 use Rattle.octets.specs.Checked.{pass}
 use Rattle.bundle.specs.Bundle.{Bundle, bundleOf, lengthGood}
-use Rattle.packer.proofs.Answering.{
+use Rattle.packer.proofs.Outcomes.{
   length-within,
   length-whole,
   words-readable,

@@ -1,0 +1,52 @@
+// Both packers' answers as numbers, for the C entries.
+ghost use mathlib.Core.Path.{_≡_};
+ghost use lib.ListN.{length};
+ghost use Rattle.octets.specs.Octets.{zeros};
+ghost use Rattle.package.specs.Pack.{Answer, packed};
+ghost use Rattle.finish.specs.Finish.{finishedOf, outputOf};
+ghost use Rattle.packer.specs.Small.{packedSmall};
+ghost use Rattle.packer.specs.Told.{numbered};
+use finish::whole::Finished;
+
+// Code 0: the package, of that length. 18: the output is too short, with the length needed. Else the refusal and 0.
+#[repr(C)]
+pub struct Packed {
+    pub code: u32,
+    pub length: usize,
+}
+
+fn answer_of(finished: Finished) -> Packed
+    ensures { λ r. ⌜ ((a : Answer) → finished ≡ finishedOf a → r ≡ numbered a) ⌝ }
+{
+    match finished {
+        Finished::Refused(number) => Packed {
+            code: number,
+            length: 0,
+        },
+        Finished::Short(needed) => Packed {
+            code: 18,
+            length: needed,
+        },
+        Finished::Made(size) => Packed {
+            code: 0,
+            length: size,
+        },
+    }
+}
+
+pub fn answer_pack(b: &[u8], work: &mut [u32], out: &mut [u8]) -> Packed
+    ensures answer { λ r. ⌜ r ≡ numbered (packed (now (b .entry)) (length (now (work .entry))) (length (now (out .entry)))) ⌝ }
+    ensures output { λ _. ⌜ now (out .exit) ≡ outputOf (packed (now (b .entry)) (length (now (work .entry))) (length (now (out .entry)))) (length (now (out .entry))) ⌝ }
+    ensures work { λ _. ⌜ now (work .exit) ≡ zeros (length (now (work .entry))) ⌝ }
+{
+    let finished = crate::pack(b, work, out);
+    answer_of(finished)
+}
+
+pub fn answer_pack_small(b: &[u8], out: &mut [u8]) -> Packed
+    ensures answer { λ r. ⌜ r ≡ numbered (packedSmall (now (b .entry)) (length (now (out .entry)))) ⌝ }
+    ensures output { λ _. ⌜ now (out .exit) ≡ outputOf (packedSmall (now (b .entry)) (length (now (out .entry)))) (length (now (out .entry))) ⌝ }
+{
+    let finished = crate::pack_small(b, out);
+    answer_of(finished)
+}
