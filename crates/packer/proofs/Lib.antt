@@ -1,2 +1,4 @@
 -- The packer meets its contracts.
 -- Assumes nothing.
+pub mod Start
+pub mod OverObjects
