@@ -2,3 +2,5 @@
 -- Assumes nothing.
 pub mod ObjectUnits
 pub mod OneObject
+pub mod Start
+pub mod OverObjects
