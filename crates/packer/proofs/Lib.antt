@@ -1,5 +1,10 @@
 -- The packer meets its contracts.
 -- Assumes nothing.
 pub mod Outcomes
+pub mod ObjectUnits
+pub mod OneObject
+pub mod Start
+pub mod OverObjects
+pub mod Answering
 pub mod Clearing
 pub mod Telling
