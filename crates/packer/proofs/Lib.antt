@@ -5,6 +5,5 @@ pub mod ObjectUnits
 pub mod OneObject
 pub mod Start
 pub mod OverObjects
-pub mod Answering
 pub mod Clearing
 pub mod Telling
