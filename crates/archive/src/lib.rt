@@ -14,21 +14,21 @@ use packer::answering::Packed;
 // Code 0: the package, of that length, and zeros behind it. 18: the length that the output needs. Else the refusal, with 0.
 // But for 0 the output is zeros; work is zeros behind every answer.
 #[no_mangle]
-pub extern "C" fn barthovin_pack(bytes: &[u8], work: &mut [u32], output: &mut [u8]) -> Packed
-    ensures answer { λ r. ⌜ r ≡ told (packed (now (bytes .entry)) (length (now (work .entry))) (length (now (output .entry)))) ⌝ }
-    ensures output { λ _. ⌜ now (output .exit) ≡ outputOf (packed (now (bytes .entry)) (length (now (work .entry))) (length (now (output .entry)))) (length (now (output .entry))) ⌝ }
+pub extern "C" fn barthovin_pack(bundle: &[u8], work: &mut [u32], output: &mut [u8]) -> Packed
+    ensures answer { λ r. ⌜ r ≡ told (packed (now (bundle .entry)) (length (now (work .entry))) (length (now (output .entry)))) ⌝ }
+    ensures output { λ _. ⌜ now (output .exit) ≡ outputOf (packed (now (bundle .entry)) (length (now (work .entry))) (length (now (output .entry)))) (length (now (output .entry))) ⌝ }
     ensures work { λ _. ⌜ now (work .exit) ≡ zeros (length (now (work .entry))) ⌝ }
 {
-    packer::answering::answer_pack(bytes, work, output)
+    packer::answering::answer_pack(bundle, work, output)
 }
 
 // The same with 4,096 words of its own, for bundles of at most 1,024 bytes.
 #[no_mangle]
-pub extern "C" fn barthovin_pack_small(bytes: &[u8], output: &mut [u8]) -> Packed
-    ensures answer { λ r. ⌜ r ≡ told (packedSmall (now (bytes .entry)) (length (now (output .entry)))) ⌝ }
-    ensures output { λ _. ⌜ now (output .exit) ≡ outputOf (packedSmall (now (bytes .entry)) (length (now (output .entry)))) (length (now (output .entry))) ⌝ }
+pub extern "C" fn barthovin_pack_small(bundle: &[u8], output: &mut [u8]) -> Packed
+    ensures answer { λ r. ⌜ r ≡ told (packedSmall (now (bundle .entry)) (length (now (output .entry)))) ⌝ }
+    ensures output { λ _. ⌜ now (output .exit) ≡ outputOf (packedSmall (now (bundle .entry)) (length (now (output .entry)))) (length (now (output .entry))) ⌝ }
 {
-    packer::answering::answer_pack_small(bytes, output)
+    packer::answering::answer_pack_small(bundle, output)
 }
 
 // Code 0: the part of a section lies at that place of the package. 1: absent. Else the refusal, with zeros.
