@@ -9,3 +9,4 @@ pub mod StringPlaces
 pub mod Absences
 pub mod Firsts
 pub mod Demand3
+pub mod Telling
