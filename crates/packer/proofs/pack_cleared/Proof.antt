@@ -1,72 +1,93 @@
+-- Each way out is the definition's answer (`Answering`).
+-- Assumes nothing.
+use mathlib.Core.Path.{_≡_, sym, _∙_}
+use mathlib.Core.Bool.{true}
+use native.Mathlib.Omega.{arith}
+use borrow.Author.Tests.{not-true, not-false}
+use denote.Ref.{now}
+use Rattle.octets.specs.Checked.{pass}
+use Rattle.bundle.specs.Bundle.{Bundle, bundleOf, lengthGood}
+use Rattle.packer.proofs.Answering.{
+  length-within,
+  length-whole,
+  words-readable,
+  filing-refused,
+  filing-passed,
+  answers-length,
+  answers-work,
+  answers-words,
+  answers-filing,
+  answers-finish,
+}
 use borrow.Author.Needs.{needs}
 use Rattle.packer.proofs.pack_cleared.Statement.{statement}
 use Rattle.packer.proofs.pack_cleared.Tie as tie
-use Rattle.packer.proofs.pack_cleared.Reads as reads
-use Rattle.packer.proofs.pack_cleared.Lts as lts
-use Rattle.bundle.proofs.check_words.Reads as check-words-reads
-use Rattle.bundle.proofs.length_good.Reads as length-good-reads
-use Rattle.finish.proofs.whole.finish.Reads as finish-reads
-use Rattle.packer.proofs.objects.add_input_objects.Reads as add-input-objects-reads
 
--- src/lib.rt:19:9
+-- the length is good
+good : (c : tie.Else1) → lengthGood 4_194_304 (now (c .before .before .before .before .before .args .b)) ≡ true
+good c = sym (c .before .length-good .ensures) ∙ not-false _ (c .if1 .left)
+
+-- the words are good
+read : (c : tie.After-big) → (let b = now (c .before .before .before .before .before .before .before .before .before .args .b) in (k : Bundle) × (bundleOf b ≡ pass k) × (k .big ≡ c .big .given .0 .0))
+read c = words-readable _ _ (sym (c .big .given .1) ∙ c .before .before .check-words .ensures)
+
 length-good-requires : tie.Need-length-good-requires
 length-good-requires c κs = search needs
 
--- src/lib.rt:20:9
 returns : tie.Need-returns
-returns c = ?
+returns c = let x = c .before .before .before .before .before in answers-length _ _ _ _ (x .pre .1) (sym (c .before .length-good .ensures) ∙ not-true _ (c .if1 .taken))
 
--- src/lib.rt:22:21
 mul-if2 : tie.Need-mul-if2
-mul-if2 c = ?
+mul-if2 c = let h = length-within _ _ (good c) in record { fits = omega (arith, h) }
 
--- src/lib.rt:23:9
 returns-2 : tie.Need-returns-2
-returns-2 c = ?
+returns-2 c = let x = c .before .before .before .before .before .before in answers-work _ _ _ _ (x .pre .1) (good (c .before)) (c .if2 .taken)
 
--- src/lib.rt:25:32
 check-words-requires : tie.Need-check-words-requires
 check-words-requires c κs = search needs
 
--- src/lib.rt:25:25
 enum-known-big : tie.Need-enum-known-big
 enum-known-big c = search needs
 
--- src/lib.rt:26:9
 enum-told : tie.Need-enum-told
 enum-told c = search needs
 
--- src/lib.rt:26:9
 returns-3 : tie.Need-returns-3
-returns-3 c = ?
+returns-3 c = let x = c .before .before .before .before .before .before .before .before .before in answers-words _ _ _ _ (x .pre .1) (good (c .before .before .before .before)) (c .before .before .before .if2 .left) (sym (c .enum-told .given .1) ∙ c .before .before .check-words .ensures)
 
--- src/lib.rt:28:9
 add-input-objects-requires : tie.Need-add-input-objects-requires
-add-input-objects-requires c κs = ?
+add-input-objects-requires c κs =
+    let x = c .before .before .before .before .before .before .before .before .before .before .before in
+    let k = read (c .before .before) in
+    let g = good (c .before .before .before .before .before .before) in
+    record { bundle = k .0; reads = k .1; order = k .2; limit = length-within _ _ g; whole = length-whole _ _ g; room = c .before .before .before .before .before .if2 .left; zero = x .pre .0 }
 
--- src/lib.rt:31:9
 same-length : tie.Need-same-length
 same-length c = search needs
 
--- src/lib.rt:31:9
 returns-4 : tie.Need-returns-4
-returns-4 c = ?
+returns-4 c =
+    let x = c .before .before .before .before .before .before .before .before .before .before .before .before .before .before .before in
+    let k = read (c .before .before .before .before .before .before) in
+    let f = filing-refused _ _ _ (k .0) _ (c .before .before .before .add-input-objects .ensures (k .0) (k .1)) (c .if3 .taken) in
+    answers-filing _ _ _ _ (x .pre .1) (good (c .before .before .before .before .before .before .before .before .before .before)) (c .before .before .before .before .before .before .before .before .before .if2 .left) (k .0) _ (k .1) f
 
--- src/lib.rt:35:5
 finish-requires : tie.Need-finish-requires
-finish-requires c κs = ?
+finish-requires c κs =
+    let x = c .before .before .before .before .before .before .before .before .before .before .before .before .before .before .before .before .before .before .before in
+    let k = read (c .before .before .before .before .before .before .before .before .before .before) in
+    (filing-passed _ _ _ (k .0) _ (c .before .before .before .before .before .before .before .add-input-objects .ensures (k .0) (k .1)) (c .before .before .before .before .if3 .left), x .pre .1)
 
--- src/lib.rt:14:1
 same-length-2 : tie.Need-same-length-2
 same-length-2 c = search needs
 
--- src/lib.rt:14:1
 same-length-3 : tie.Need-same-length-3
 same-length-3 c = search needs
 
--- src/lib.rt:14:1
 returns-5 : tie.Need-returns-5
-returns-5 c = ?
+returns-5 c =
+    let f = c .before .before .before .before in
+    answers-finish _ _ _ _ (good (c .before .before .before .before .before .before .before .before .before .before .before .before .before .before .before .before .before .before .before)) (c .before .before .before .before .before .before .before .before .before .before .before .before .before .before .before .before .before .before .if2 .left) _ (f .finish .ensures .0) (f .finish .ensures .1)
 
 pub pack-cleared-spec : {M : Type 1} → statement M
 pack-cleared-spec =

@@ -1,39 +1,51 @@
+-- `add_input_object` meets its contract.
+-- Assumes nothing.
+use mathlib.Core.Path.{refl}
 use borrow.Author.Needs.{needs}
+use Rattle.packer.proofs.OneObject.{read-requires, next-is, object-refused, object-read, object-filed}
 use Rattle.packer.proofs.objects.add_input_object.Statement.{statement}
 use Rattle.packer.proofs.objects.add_input_object.Tie as tie
-use Rattle.packer.proofs.objects.add_input_object.Reads as reads
-use Rattle.packer.proofs.objects.add_input_object.Lts as lts
-use Rattle.bundle.proofs.scan_object.Reads as scan-object-reads
-use Rattle.filing.proofs.objects.read_input.Reads as read-input-reads
-use Rattle.packer.proofs.objects.add_object_units.Reads as add-object-units-reads
 
--- src/objects.rt:115:9
 scan-object-requires : tie.Need-scan-object-requires
 scan-object-requires c κs = search needs
 
--- src/objects.rt:117:9
 read-input-requires : tie.Need-read-input-requires
-read-input-requires c κs = ?
+read-input-requires c κs =
+    let p = c .before .before .before .before .pre in
+    read-requires _ _ (p .0) _ (c .before .scan-object .ensures) _ _ _ _ _ _ (p .1 .0) (p .1 .1) (p .1 .2) (p .1 .3)
 
--- src/objects.rt:121:9
 same-length : tie.Need-same-length
 same-length c = search needs
 
--- src/objects.rt:121:9
 returns : tie.Need-returns
-returns c = ?
+returns c =
+    let p = c .before .before .before .before .before .before .before .before .before .pre in
+    let s = c .before .before .before .before .before .before .scan-object .ensures in
+    let r = c .before .before .before .before .read-input in (
+      next-is _ _ (p .0) _ s,
+      λ bases is us a. object-refused _ _ (p .0) _ s _ _ _ _ _ _ _ _ (r .result) (r .ensures .0) (r .ensures .1) bases is us a (c .if1 .taken) _ refl _,
+    )
 
--- src/objects.rt:129:9
 add-object-units-requires : tie.Need-add-object-units-requires
-add-object-units-requires c κs = ?
+add-object-units-requires c κs =
+    let p = c .before .before .before .before .before .before .before .before .before .before .before .pre in
+    let s = c .before .before .before .before .before .before .before .before .scan-object .ensures in
+    let r = c .before .before .before .before .before .before .read-input in
+    let d = object-read _ _ (p .0) _ s _ _ _ _ _ _ _ _ (r .result) (r .ensures .0) (r .ensures .1) (p .1 .0) (p .1 .1) (p .1 .2) (p .1 .3) (c .before .before .if1 .left) in
+    (p .0, (d .i, p .1 .0, p .1 .2, d .ready))
 
--- src/objects.rt:100:1
 same-length-2 : tie.Need-same-length-2
 same-length-2 c = search needs
 
--- src/objects.rt:100:1
 returns-2 : tie.Need-returns-2
-returns-2 c = ?
+returns-2 c =
+    let p = c .before .before .before .before .before .before .before .before .before .before .before .before .before .before .before .pre in
+    let s = c .before .before .before .before .before .before .before .before .before .before .before .before .scan-object .ensures in
+    let r = c .before .before .before .before .before .before .before .before .before .before .read-input in
+    let u = c .before .before .before .add-object-units in (
+      next-is _ _ (p .0) _ s,
+      λ bases is us a. object-filed _ _ (p .0) _ s _ _ _ _ _ _ _ _ (r .result) (r .ensures .0) (r .ensures .1) bases is us a (c .before .before .before .before .before .before .if1 .left) _ (u .result) (u .ensures),
+    )
 
 pub add-input-object-spec : {M : Type 1} → statement M
 add-input-object-spec =

@@ -1,65 +1,79 @@
+-- `add_input_objects` meets its contract. What the loop keeps is `SoFar`.
+-- Assumes nothing.
+use mathlib.Core.Path.{refl, sym, _∙_}
+use Prim.Native.Nat.{_-_}
+use native.Mathlib.Omega.{arith}
+use lib.ListN.{length}
+use borrow.Author.Needs.{needs}
+use Rattle.joining.proofs.Entering.{not-object}
+use Rattle.packer.proofs.OverObjects.{SoFar, far-none, far-end, word-ahead, word-held, word-further, far-more, far-refused}
 use Rattle.packer.proofs.objects.add_input_objects.Statement.{statement}
 use Rattle.packer.proofs.objects.add_input_objects.Tie as tie
-use Rattle.packer.proofs.objects.add_input_objects.Reads as reads
-use Rattle.packer.proofs.objects.add_input_objects.Lts as lts
-use Rattle.bundle.proofs.next_item.Reads as next-item-reads
-use Rattle.packer.proofs.objects.add_input_object.Reads as add-input-object-reads
-use Rattle.packer.proofs.objects.first_word.Reads as first-word-reads
-use Rattle.packer.proofs.objects.nothing_filed.Reads as nothing-filed-reads
 
 abbrev Inv-loop : tie.InvT-loop
-Inv-loop b big work₀ n first st₀ strings₀ at₀ work st strings at = ?
+Inv-loop b big work₀ n first st₀ strings₀ at₀ work st strings at = SoFar b big first at work₀ work st strings
 
 abbrev μ-loop : tie.MeasureT-loop
-μ-loop b big work₀ n first st₀ strings₀ at₀ work st strings at = ?
+μ-loop b big work₀ n first st₀ strings₀ at₀ work st strings at = length b - at
 
--- src/objects.rt:175:9
 first-word-requires : tie.Need-first-word-requires Inv-loop μ-loop
-first-word-requires c κs = ?
+first-word-requires c κs = search needs
 
--- src/objects.rt:176:9
 nothing-filed-requires : tie.Need-nothing-filed-requires Inv-loop μ-loop
-nothing-filed-requires c κs = ?
+nothing-filed-requires c κs = search needs
 
--- src/objects.rt:183:5
 loop-holds : tie.Need-loop-holds Inv-loop μ-loop
-loop-holds c = ?
+loop-holds c = far-none _ (c .before .before .before .before .pre) (c .before .first-word .ensures) _ (c .nothing-filed .ensures)
 
--- src/objects.rt:184:40
 next-item-requires : tie.Need-next-item-requires Inv-loop μ-loop
-next-item-requires c κs = ?
+next-item-requires c κs = search needs
 
--- src/objects.rt:184:26
 enum-known-word : tie.Need-enum-known-word Inv-loop μ-loop
-enum-known-word c = ?
+enum-known-word c = search needs
 
--- src/objects.rt:185:13
 same-length : tie.Need-same-length Inv-loop μ-loop
-same-length c = ?
+same-length c = c .before .before .loop .inv .same
 
--- src/objects.rt:185:13
 returns : tie.Need-returns Inv-loop μ-loop
-returns c = ?
+returns c k e =
+    let i = c .before in
+    far-end (i .before .loop .inv) (i .next-item .result) (λ w n q. not-object _ w n (c .match .keys2) q) (i .next-item .ensures) k e
 
--- src/objects.rt:191:13
 add-input-object-requires : tie.Need-add-input-object-requires Inv-loop μ-loop
-add-input-object-requires c κs = ?
+add-input-object-requires c κs =
+    let n = c .before .before in
+    let i = n .before .before in
+    let s = i .before .loop .inv in
+    let e = sym (n .word .given .1) ∙ i .next-item .ensures in
+    (word-ahead s (n .word .given .0 .0) (n .word .given .0 .1 .0) e, (s .bases, s .inputs, s .units, word-held s (n .word .given .0 .0) (n .word .given .0 .1 .0) e))
 
--- src/objects.rt:196:13
 same-length-2 : tie.Need-same-length-2 Inv-loop μ-loop
-same-length-2 c = ?
+same-length-2 c =
+    let u = c .before .before .before .before .before in
+    u .add-input-object .kept .1 .1 .1 .1 .1 .1 .1 .1 .0 ∙ u .before .before .before .before .before .before .loop .inv .same
 
--- src/objects.rt:196:13
 returns-2 : tie.Need-returns-2 Inv-loop μ-loop
-returns-2 c = ?
+returns-2 c k e =
+    let u = c .before .before .before .before .before in
+    let n = u .before .before .before in
+    let i = n .before .before in
+    far-refused (i .before .loop .inv) (n .word .given .0 .0) (n .word .given .0 .1 .0) (sym (n .word .given .1) ∙ i .next-item .ensures) _ (u .add-input-object .result) (u .add-input-object .kept .1 .1 .1 .1 .1 .1 .1 .1 .0) (u .add-input-object .ensures .0) (u .add-input-object .ensures .1)
+    (c .if1 .taken) k e _ refl
 
--- src/objects.rt:183:5
 loop-less : tie.Need-loop-less Inv-loop μ-loop
-loop-less c = ?
+loop-less c =
+    let u = c .before .before .before .before .before in
+    let n = u .before .before .before in
+    let i = n .before .before in
+    let f = word-further (i .before .loop .inv) (n .word .given .0 .0) (n .word .given .0 .1 .0) (sym (n .word .given .1) ∙ i .next-item .ensures) _ (u .add-input-object .result) (u .add-input-object .kept .1 .1 .1 .1 .1 .1 .1 .1 .0) (u .add-input-object .ensures .0) (u .add-input-object .ensures .1) in
+    omega (arith, f .0, f .1)
 
--- src/objects.rt:183:5
 loop-again : tie.Need-loop-again Inv-loop μ-loop
-loop-again c = ?
+loop-again c =
+    let u = c .before .before .before .before .before in
+    let n = u .before .before .before in
+    let i = n .before .before in
+    far-more (i .before .loop .inv) (n .word .given .0 .0) (n .word .given .0 .1 .0) (sym (n .word .given .1) ∙ i .next-item .ensures) _ (u .add-input-object .result) (u .add-input-object .kept .1 .1 .1 .1 .1 .1 .1 .1 .0) (u .add-input-object .ensures .0) (u .add-input-object .ensures .1) (c .if1 .left)
 
 pub add-input-objects-spec : {M : Type 1} → statement M
 add-input-objects-spec =

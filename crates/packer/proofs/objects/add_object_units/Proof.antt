@@ -1,39 +1,38 @@
+-- `add_object_units` meets its contract.
+-- Assumes nothing.
+use mathlib.Core.Path.{refl}
 use borrow.Author.Needs.{needs}
+use Rattle.packer.proofs.ObjectUnits.{units-refused, bases-fit, units-added}
 use Rattle.packer.proofs.objects.add_object_units.Statement.{statement}
 use Rattle.packer.proofs.objects.add_object_units.Tie as tie
-use Rattle.packer.proofs.objects.add_object_units.Reads as reads
-use Rattle.packer.proofs.objects.add_object_units.Lts as lts
-use Rattle.filing.proofs.walks.add_sections.Reads as add-sections-reads
-use Rattle.keeping.proofs.cells.grown.Reads as grown-reads
-use Rattle.packer.proofs.objects.with_bases.Reads as with-bases-reads
 
--- src/objects.rt:83:9
 add-sections-requires : tie.Need-add-sections-requires
 add-sections-requires c κs = search needs
 
--- src/objects.rt:87:9
 same-length : tie.Need-same-length
 same-length c = search needs
 
--- src/objects.rt:87:9
 returns : tie.Need-returns
-returns c = ?
+returns c i bases us k =
+    let a = c .before .before .before .before .add-sections in
+    units-refused _ _ _ _ _ _ _ (a .result) (a .ensures) i bases us k (c .if1 .taken) _ refl
 
--- src/objects.rt:91:9
 grown-requires : tie.Need-grown-requires
-grown-requires c κs = ?
+grown-requires c κs =
+    let p = c .before .before .before .before .before .before .before .before .before .before .pre in
+    let a = c .before .before .before .before .before .before .add-sections in
+    bases-fit _ _ _ _ _ _ _ (a .result) (a .ensures) (p .1 .0) (p .1 .1) (p .1 .2) (p .1 .3) (c .before .before .if1 .left)
 
--- src/objects.rt:92:9
 with-bases-requires : tie.Need-with-bases-requires
 with-bases-requires c κs = search needs
 
--- src/objects.rt:68:1
 same-length-2 : tie.Need-same-length-2
 same-length-2 c = search needs
 
--- src/objects.rt:68:1
 returns-2 : tie.Need-returns-2
-returns-2 c = ?
+returns-2 c i bases us k =
+    let a = c .before .before .before .before .before .before .before .before .add-sections in
+    units-added _ _ _ _ _ _ _ (a .result) (a .ensures) i bases us k (c .before .before .before .before .if1 .left) _ (c .before .grown .ensures) _ refl (c .with-bases .ensures)
 
 pub add-object-units-spec : {M : Type 1} → statement M
 add-object-units-spec =

@@ -1,0 +1,47 @@
+-- What the packer answers over work and output that it has cleared itself, and the small packer's answers.
+-- Assumes nothing.
+use mathlib.Core.Path.{_≡_, sym, ap, _∙_}
+use mathlib.Core.Bool.{true, false}
+use mathlib.Core.List.{List}
+use Prim.Native.Nat.{ℕ}
+use lib.ListN.{length}
+use Rattle.octets.specs.Octets.{zeros}
+use Rattle.octets.proofs.Placed.{length-zeros}
+use Rattle.bundle.specs.Bundle.{lengthGood}
+use Rattle.package.specs.Pack.{Answer, refused, packed}
+use Rattle.finish.specs.Finish.{finishedOf, outputOf}
+use Rattle.finish.specs.declared.whole.Finished.{Finished}
+use Rattle.finish.specs.declared.whole.Finished.the-variants.{Refused}
+use Rattle.packer.specs.Small.{packedSmall}
+
+-- what is cleared is as long as it was
+pub cleared-length : (n : ℕ) (v : List ℕ) → v ≡ zeros n → length v ≡ n
+cleared-length n v e = ap (λ (x : List ℕ). length x) e ∙ length-zeros n
+
+pub cleared-again : (n : ℕ) (v : List ℕ) → v ≡ zeros n → v ≡ zeros (length v)
+cleared-again n v e = e ∙ sym (ap zeros (cleared-length n v e))
+
+-- the answers are those for the lengths before
+pub over-cleared : (b : List ℕ) (w o : ℕ) (v d e : List ℕ) (r : Finished) → v ≡ zeros w → d ≡ zeros o
+    → r ≡ finishedOf (packed b (length v) (length d)) → e ≡ outputOf (packed b (length v) (length d)) (length d)
+    → (r ≡ finishedOf (packed b w o)) × (e ≡ outputOf (packed b w o) o)
+over-cleared b w o v d e r f g h k = (rw (cleared-length w v f, cleared-length o d g) at h, rw (cleared-length w v f, cleared-length o d g) at k)
+
+-- ---- the small packer
+module _ (b : List ℕ) (o : ℕ) where
+  small-is-refused : lengthGood 1_024 b ≡ false → packedSmall b o ≡ refused 1
+  unfolding packedSmall
+  small-is-refused e = rw (packedSmall, e)
+
+  small-is-packed : lengthGood 1_024 b ≡ true → packedSmall b o ≡ packed b 4_096 o
+  unfolding packedSmall
+  small-is-packed e = rw (packedSmall, e)
+
+  module _ (d : List ℕ) where
+    pub small-refused : lengthGood 1_024 b ≡ false → d ≡ zeros o → (Refused 1 ≡ finishedOf (packedSmall b o)) × (d ≡ outputOf (packedSmall b o) o)
+    unfolding finishedOf outputOf
+    small-refused e z = let p = sym (small-is-refused e) in (ap finishedOf p, z ∙ ap (λ (a : Answer). outputOf a o) p)
+
+    pub small-packed : lengthGood 1_024 b ≡ true → (r : Finished) → r ≡ finishedOf (packed b 4_096 o) → d ≡ outputOf (packed b 4_096 o) o
+        → (r ≡ finishedOf (packedSmall b o)) × (d ≡ outputOf (packedSmall b o) o)
+    small-packed e r f g = let p = sym (small-is-packed e) in (f ∙ ap finishedOf p, g ∙ ap (λ (a : Answer). outputOf a o) p)

@@ -1,0 +1,205 @@
+-- One object: what reading it requires and answers, and what is held behind its units.
+-- Assumes nothing.
+use mathlib.Core.Path.{_≡_, refl, sym, ap, _∙_, subst}
+use mathlib.Core.Bool.{Bool}
+use mathlib.Core.List.{List, [], _∷_, _++_}
+use Prim.Native.Nat.{ℕ, _+_, _*_, _≤_}
+use native.Mathlib.Omega.{arith}
+use borrow.Author.Tests.{eqb-true}
+use lib.Dec.{eqb}
+use lib.ListN.{length, drop, getD, length-append}
+use Rattle.octets.specs.Octets.{part, zeros}
+use Rattle.octets.specs.Checked.{Check, pass, refuse}
+use Rattle.octets.proofs.Checks.{bind-pass, require-pass, pass-inj}
+use Rattle.octets.proofs.Parts.{length-part}
+use Rattle.octets.proofs.Placed.{getD-zeros}
+use Rattle.bundle.specs.Bundle.{Part, Item, Object, items, leading, body}
+use Rattle.bundle.specs.Encoding.{Encoding, encodingOf, encodingGood}
+use Rattle.bundle.specs.Encoded.{encodingIs}
+use Rattle.bundle.specs.Scan.{sectionsOf, placeBehind, startOf, sizeOf, scanOf}
+use Rattle.bundle.specs.declared.Scan.{Scan}
+use Rattle.bundle.proofs.Passed.{here}
+use Rattle.bundle.proofs.Every.{Every}
+use Rattle.bundle.proofs.Lies.{Lies, leading-lie}
+use Rattle.bundle.proofs.Onward.{Onward, onward}
+use Rattle.bundle.proofs.Sections.{body-part}
+use Rattle.bundle.proofs.ScanFacts.{left-sections, scan-next, first-within}
+use Rattle.strings.specs.Strings.{putAll}
+use Rattle.strings.specs.Kept.{Kept}
+use Rattle.strings.specs.declared.table.StringTable.{StringTable}
+use Rattle.strings.proofs.StrOffsets.{Sound, sound}
+use Rattle.strings.proofs.Callers.{strings-room}
+use Rattle.index.specs.Rows.{BySection}
+use Rattle.keeping.specs.Regions.{stringsStart, Replaced}
+use Rattle.package.specs.Input.{Input, present, editionGood, complete, usedStrings, inputIndex, unitSections, inputOf}
+use Rattle.package.specs.Filing.{Filed, unitsIn, grown}
+use Rattle.package.specs.Pack.{allUsed, stringTable}
+use Rattle.package.proofs.OverObjects.{input-numbered}
+use Rattle.input.specs.Judged.{InputIs}
+use Rattle.filing.specs.declared.state.InProgress.{InProgress}
+use Rattle.filing.specs.declared.objects.InputFiled.{InputFiled}
+use Rattle.filing.specs.State.{Held, StringsKept}
+use Rattle.filing.specs.ByObject.{stringsCheck, AtObject, InputRoom, InputRead}
+use Rattle.filing.proofs.Growing.{size-behind, input-room}
+use Rattle.filing.proofs.Entering.{five-is, none-summed, object-enter}
+use Rattle.filing.proofs.Snoc.{used-snoc, strings-stay, check-few}
+use Rattle.packer.specs.declared.objects.UnitsAdded.{UnitsAdded}
+use Rattle.packer.specs.declared.objects.ObjectFiled.{ObjectFiled}
+use Rattle.packer.specs.Objects.{sectionsFrom, Ahead, noSums, InputReady, UnitsAddedIs, UnitsThen, ObjectIs}
+
+-- ---- an object that passed
+pub record InputParts (b : List ℕ) (e : Encoding) (ps : List Part) (i : Input) : Type 0 where
+  pub encoding : i .encoding ≡ e
+  pub bytes : (c : ℕ) → i .bytes c ≡ body b ps c
+  pub units : i .units ≡ unitSections b ps
+  pub used : stringsCheck (i .encoding) (present ps 6) (i .bytes 6) (i .bytes 11) ≡ pass (i .used)
+
+pub input-parts : (b : List ℕ) (big : Bool) (first : ℕ) (o : Object) (i : Input) → inputOf b big first o ≡ pass i → InputParts b (encodingOf big first) (o .parts) i
+unfolding inputOf usedStrings stringsCheck
+input-parts b big first o i q =
+    let e = encodingOf big (o .word) in
+    let ps = o .parts in
+    let four = require-pass (encodingGood e) 4 _ i q in
+    let five = require-pass (eqb (o .word) first) 5 _ i (four .1) in
+    let six = require-pass (editionGood e ps) 6 _ i (five .1) in
+    let seven = require-pass (complete ps) 7 _ i (six .1) in
+    let used = bind-pass (usedStrings e ps (body b ps)) _ i (seven .1) in
+    let cu = bind-pass (inputIndex e ps (body b ps) 12) _ i (used .2) in
+    let tu = bind-pass (inputIndex e ps (body b ps) 13) _ i (cu .2) in
+    subst (InputParts b (encodingOf big first) ps) (pass-inj (tu .2))
+    (record { encoding = ap (encodingOf big) (eqb-true (o .word) first (five .0)); bytes = λ c. refl; units = refl; used = used .1 })
+
+-- its strings take no more than its str_offsets does
+used-behind : (e : Encoding) → Sound e → (there : Bool) (o s : List ℕ) (is : List Input) (i : Input) (from place n : ℕ) → stringsCheck e there o s ≡ pass (i .used)
+    → 4 * length (allUsed is) ≤ from → from + length o ≤ place → place ≤ 4 * n → 4 * length (allUsed (is ++ (i ∷ []))) ≤ place
+used-behind e ok there o s is i from place n q h g l =
+    let a = ap length (used-snoc is i) ∙ length-append (allUsed is) (i .used) in
+    let f = check-few e there o s (i .used) q in
+    let r = strings-room e o 0 (length (allUsed is)) from n ok (omega arith) h (omega arith) in
+    omega (arith, a, f, r .1)
+
+none-at : (c : ℕ) → getD (noSums .cu) c 0 ≡ 0
+unfolding zeros
+none-at c = getD-zeros 14 c
+
+-- ---- its sections
+module _ (b : List ℕ) (from : ℕ) (h : Ahead b from) where
+  abbrev ahead : List Item
+  ahead = h .reaches .ahead
+
+  left : here b from ≡ pass ahead
+  unfolding here
+  left = h .reaches .left
+
+  parts-are : sectionsFrom b from ≡ leading ahead
+  unfolding sectionsFrom
+  parts-are = left-sections b from ahead left
+
+  lie : Every (Lies b) (leading ahead)
+  lie = leading-lie b from ahead left (h .whole) (h .far)
+
+  sizes-behind : (c : ℕ) → from + length (body b (sectionsFrom b from) c) ≤ placeBehind from (sectionsFrom b from)
+  sizes-behind c =
+      subst (λ (ps : List Part). from + length (body b ps c) ≤ placeBehind from ps) (sym parts-are)
+      (let l = ap length (body-part c b (leading ahead)) ∙ length-part b (startOf (leading ahead) c) (sizeOf (leading ahead) c) (first-within b (leading ahead) c lie) in
+      omega (arith, l, size-behind b c from ahead left (h .within)))
+
+  behind : Onward b from (placeBehind from (sectionsFrom b from))
+  behind = subst (λ (ps : List Part). Onward b from (placeBehind from ps)) (sym parts-are) (onward b from ahead left (h .within))
+
+  -- what `read_input` requires
+  pub object-room : (big : Bool) (first n : ℕ) (w : List ℕ) (st : InProgress) (t : StringTable) (bases : BySection ℕ) (is : List Input) (us : List Filed)
+      → AtObject b big first n from w st t bases is us → InputRoom b (sectionsFrom b from) n (length w) t
+  object-room big first n w st t bases is us a =
+      subst (λ (ps : List Part). InputRoom b ps n (length w) t) (sym parts-are) (input-room b big first n from w st t bases is us a from ahead left (omega arith) (h .within) lie)
+
+  -- ---- what `scan_object` and `read_input` answer
+  module _ (scan : Scan) (scanned : scan ≡ scanOf from (sectionsOf (items from (drop from b)))) where
+    scan-is : scan ≡ scanOf from (sectionsFrom b from)
+    unfolding sectionsFrom
+    scan-is = scanned
+
+    pub next-is : scan .next ≡ placeBehind from (sectionsFrom b from)
+    next-is = scan-next scan from (sectionsFrom b from) scan-is
+
+    module _ (big : Bool) (first n : ℕ) (w : List ℕ) (st : InProgress) (t : StringTable) where
+      pub read-requires : (bases : BySection ℕ) (is : List Input) (us : List Filed) → AtObject b big first n from w st t bases is us
+          → (at : ℕ) × (ps : List Part) × (ts : List (List ℕ)) × (scan ≡ scanOf at ps) × InputRoom b ps n (length w) t × Kept b (part w (stringsStart n) (3 * n)) t ts
+      read-requires bases is us a = (from, sectionsFrom b from, stringTable is, scan-is, object-room big first n w st t bases is us a, a .strings)
+
+      module _ (word : ℕ) (v : List ℕ) (r : InputFiled)
+          (read : (at : ℕ) (ps : List Part) (ts : List (List ℕ)) → scan ≡ scanOf at ps → InputRoom b ps n (length w) t → Kept b (part w (stringsStart n) (3 * n)) t ts
+          → InputRead b n v ts (inputOf b big first (record { word = word; parts = ps })) r)
+          (frame : Replaced w v (stringsStart n) (3 * n)) (bases : BySection ℕ) (is : List Input) (us : List Filed) (a : AtObject b big first n from w st t bases is us) where
+        abbrev checked : Check Input
+        checked = inputOf b big first (record { word = word; parts = sectionsFrom b from })
+
+        answered : InputRead b n v (stringTable is) checked r
+        answered = read from (sectionsFrom b from) (stringTable is) scan-is (object-room big first n w st t bases is us a) (a .strings)
+
+        -- the object is refused
+        pub object-refused : (r .code ≡ 0 → ⊥) → (u : ObjectFiled) → u .code ≡ r .code → (v′ : List ℕ) → ObjectIs b big first n v′ bases is us checked u
+        unfolding InputRead ObjectIs
+        object-refused z u q v′ = go checked answered
+          where
+            go : (m : Check Input) → InputRead b n v (stringTable is) m r → ObjectIs b big first n v′ bases is us m u
+            go (pass i) f = absurd (z (f .0))
+            go (refuse m) f = q ∙ f
+
+        -- it is read
+        pub record ObjectRead : Type 0 where
+          pub i : Input
+          pub is-checked : checked ≡ pass i
+          pub parts : InputParts b (encodingOf big first) (sectionsFrom b from) i
+          pub input : InputIs b (r .input) i
+          pub strings : Kept b (part v (stringsStart n) (3 * n)) (r .strings) (putAll (stringTable is) (i .used))
+          pub ready : InputReady b (r .input) i n from v st bases us
+
+        pub object-read : r .code ≡ 0 → ObjectRead
+        unfolding InputRead
+        object-read z = go checked refl answered
+          where
+            go : (m : Check Input) → checked ≡ m → InputRead b n v (stringTable is) m r → ObjectRead
+            go (pass i) e f =
+                let p = input-parts b big first (record { word = word; parts = sectionsFrom b from }) i e in
+                record {
+                  i = i;
+                  is-checked = e;
+                  parts = p;
+                  input = f .1;
+                  strings = f .2;
+                  ready = record {
+                    atUnit = object-enter b big first n from w v st t bases is us (r .input) i noSums from a frame (f .1) (f .1 .encoding ∙ p .encoding) (none-summed noSums none-at none-at) (omega arith) (h .within);
+                    units = p .units;
+                    sizes = λ c. subst (λ (s : List ℕ). from + length s ≤ placeBehind from (sectionsFrom b from)) (sym (p .bytes c)) (sizes-behind c);
+                  };
+                }
+            go (refuse m) e f = absurd (let g = input-numbered b big first (record { word = word; parts = sectionsFrom b from }) .is m e in let y : m ≡ 0 = sym f ∙ z in omega arith)
+
+        -- behind its units
+        module _ (z : r .code ≡ 0) (v′ : List ℕ) (q : UnitsAdded)
+            (added : (i : Input) (bases : BySection ℕ) (us : List Filed) → InputReady b (r .input) i n from v st bases us
+            → UnitsAddedIs b (r .input) i n (placeBehind from (sectionsFrom b from)) v v′ bases us (unitsIn i bases us [] (i .units)) q) where
+          at-next : (d : ObjectRead) (us′ : List Filed) → Held (r .input .encoding .five) b n (placeBehind from (sectionsFrom b from)) v′ (q .st) (grown bases (d .i)) us′ → StringsKept n v v′
+              → AtObject b big first n (scan .next) v′ (q .st) (r .strings) (grown bases (d .i)) (is ++ (d .i ∷ [])) us′
+          at-next d us′ k s =
+              let x = r .input .encoding in
+              subst (λ (place : ℕ). AtObject b big first n place v′ (q .st) (r .strings) (grown bases (d .i)) (is ++ (d .i ∷ [])) us′) (sym next-is)
+              (record {
+                held = subst (λ (f : Bool). Held f b n (placeBehind from (sectionsFrom b from)) v′ (q .st) (grown bases (d .i)) us′) (five-is x (encodingOf big first) (d .input .encoding ∙ d .parts .encoding)) k;
+                strings = strings-stay b n v v′ (r .strings) is (d .i) (d .strings) s;
+                used = used-behind (encodingIs x) (sound x) _ (d .i .bytes 6) (d .i .bytes 11) is (d .i) from _ n
+                    (subst (λ (e : Encoding). stringsCheck e (present (sectionsFrom b from) 6) (d .i .bytes 6) (d .i .bytes 11) ≡ pass (d .i .used)) (sym (d .input .encoding)) (d .parts .used))
+                    (a .used) (d .ready .sizes 6) (omega (arith, behind .within, a .held .words));
+              })
+
+          pub object-filed : ObjectIs b big first n v′ bases is us checked (record { code = q .code; next = scan .next; st = q .st; strings = r .strings })
+          unfolding ObjectIs UnitsThen UnitsAddedIs
+          object-filed =
+              let d = object-read z in
+              rw (d .is-checked) (go d (unitsIn (d .i) bases us [] (d .i .units)) (added (d .i) bases us (d .ready)))
+            where
+              go : (d : ObjectRead) (m : Check (List Filed)) → UnitsAddedIs b (r .input) (d .i) n (placeBehind from (sectionsFrom b from)) v v′ bases us m q
+                  → UnitsThen b big first n v′ bases is us (d .i) m (record { code = q .code; next = scan .next; st = q .st; strings = r .strings })
+              go d (pass hs) f = (f .0, at-next d (us ++ hs) (f .1) (f .2))
+              go d (refuse m) f = f
