@@ -10,3 +10,4 @@ pub mod Absences
 pub mod Firsts
 pub mod Demand3
 pub mod Telling
+pub mod Packaged
