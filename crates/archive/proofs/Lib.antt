@@ -9,3 +9,5 @@ pub mod StringPlaces
 pub mod Absences
 pub mod Firsts
 pub mod Demand3
+pub mod Telling
+pub mod Packaged

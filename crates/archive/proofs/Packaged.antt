@@ -1,0 +1,90 @@
+-- From the two contracts, of packing and of looking up, and the theorem, to the answer of one question.
+-- Assumes nothing.
+use mathlib.Core.Path.{_≡_, refl, sym, ap, _∙_, subst}
+use mathlib.Core.List.{List, _++_}
+use Prim.Native.Nat.{ℕ, _-_, _≤_}
+use native.Mathlib.Omega.{arith}
+use lib.ListN.{length, take, length-append}
+use lib.Seq.{take-append-seam}
+use Rattle.octets.specs.Octets.{padded, zeros}
+use Rattle.octets.proofs.Numbers.{Bytes}
+use Rattle.package.specs.Pack.{Answer, refused, short, made, packed}
+use Rattle.finish.specs.Finish.{finishedOf, outputOf}
+use Rattle.finish.specs.declared.whole.Finished.{Finished}
+use Rattle.finish.specs.declared.whole.Finished.the-variants.{Refused, Short, Made}
+use Rattle.lookup.specs.Lookup.{Found, lookedUp, stringFound}
+use Rattle.lookup.specs.Answers.{numbered}
+use Rattle.lookup.specs.declared.answering.Answer.{Answer as Numbers}
+use Rattle.archive.specs.Question.{PartTold, StringTold, unpacked, AnsweredFrom}
+use Rattle.archive.specs.declared.asking.FromBundle.{FromBundle}
+use Rattle.archive.proofs.Demand3.{demand3}
+use Rattle.archive.proofs.Telling.{Looked, part-told, string-told}
+
+-- ---- the three answers of packing
+made-is : (a : Answer) (n : ℕ) → Made n ≡ finishedOf a → (p : List ℕ) × (a ≡ made p) × (n ≡ length p)
+unfolding finishedOf
+made-is (refused m) n e = absurd (let z : _≡_ {A = ℕ} 0 1 = cc in omega arith)
+made-is (short m) n e = absurd (let z : _≡_ {A = ℕ} 0 1 = cc in omega arith)
+made-is (made p) n e = (p, refl, cc)
+
+short-is : (a : Answer) (n : ℕ) → Short n ≡ finishedOf a → a ≡ short n
+unfolding finishedOf
+short-is (refused m) n e = absurd (let z : _≡_ {A = ℕ} 0 1 = cc in omega arith)
+short-is (short m) n e = cc
+short-is (made p) n e = absurd (let z : _≡_ {A = ℕ} 0 1 = cc in omega arith)
+
+refused-is : (a : Answer) (n : ℕ) → Refused n ≡ finishedOf a → a ≡ refused n
+unfolding finishedOf
+refused-is (refused m) n e = cc
+refused-is (short m) n e = absurd (let z : _≡_ {A = ℕ} 0 1 = cc in omega arith)
+refused-is (made p) n e = absurd (let z : _≡_ {A = ℕ} 0 1 = cc in omega arith)
+
+module _ (told : List ℕ → FromBundle → Type 0) (a : Answer) (n : ℕ) (r : FromBundle) where
+  pub short-told : Short n ≡ finishedOf a → r ≡ unpacked 18 n → AnsweredFrom told a r
+  unfolding AnsweredFrom
+  short-told e q = rw (short-is a n e) q
+
+  pub refused-told : Refused n ≡ finishedOf a → r ≡ unpacked n 0 → AnsweredFrom told a r
+  unfolding AnsweredFrom
+  refused-told e q = rw (refused-is a n e) q
+
+-- ---- a package was made: the output starts with it
+module _ (a : Answer) (n o : ℕ) (out : List ℕ) (e : Made n ≡ finishedOf a) (f : out ≡ outputOf a o) where
+  abbrev it : (p : List ℕ) × (a ≡ made p) × (n ≡ length p)
+  it = made-is a n e
+
+  out-is : out ≡ it .0 ++ zeros (o - length (it .0))
+  unfolding outputOf padded
+  out-is = f ∙ ap (λ (x : Answer). outputOf x o) (it .1)
+
+  pub package-fits : n ≤ length out
+  package-fits = omega (arith, it .2, ap length out-is, length-append (it .0) (zeros (o - length (it .0))))
+
+  starts : take n out ≡ it .0
+  starts = ap (λ (m : ℕ). take m out) (it .2) ∙ ap (take (length (it .0))) out-is ∙ take-append-seam (it .0) (zeros (o - length (it .0)))
+
+-- the answer that the code puts together
+abbrev together : ℕ → Numbers → FromBundle
+together n x = record { packing = 0; packed = n; code = x .code; start = x .start; length = x .length; looks = x .looks }
+
+looked : (n : ℕ) (x : Numbers) (f : Found) → x ≡ numbered f → Looked (together n x) f
+looked n x f e = record { code = ap (λ (y : Numbers). y .code) e; start = ap (λ (y : Numbers). y .start) e; many = ap (λ (y : Numbers). y .length) e; looked = ap (λ (y : Numbers). y .looks) e }
+
+module _ (b : List ℕ) (w o n : ℕ) (out : List ℕ) (e : Made n ≡ finishedOf (packed b w o)) (f : out ≡ outputOf (packed b w o) o) (h : Bytes b) (v table x : ℕ) (y : Numbers) (r : FromBundle) (q : r ≡ together n y) where
+  answered : (told : List ℕ → FromBundle → Type 0) → told (it (packed b w o) n o out e f .0) (together n y) → AnsweredFrom told (packed b w o) r
+  unfolding AnsweredFrom
+  answered told t = rw (it (packed b w o) n o out e f .1, q) (refl, it (packed b w o) n o out e f .2, t)
+
+  pub part-answered : (code : ℕ) → y ≡ numbered (lookedUp (take n out) v table x code) → AnsweredFrom (λ p. PartTold b p v table x code) (packed b w o) r
+  part-answered code l =
+      let p = it (packed b w o) n o out e f in
+      answered (λ z. PartTold b z v table x code)
+      (part-told b (p .0) (demand3 b w o (p .0) h (p .1)) v table x (together n y) code
+      (looked n y _ (l ∙ ap (λ (s : List ℕ). numbered (lookedUp s v table x code)) (starts (packed b w o) n o out e f))))
+
+  pub string-answered : (k : ℕ) → y ≡ numbered (stringFound (take n out) v table x k) → AnsweredFrom (λ p. StringTold b p v table x k) (packed b w o) r
+  string-answered k l =
+      let p = it (packed b w o) n o out e f in
+      answered (λ z. StringTold b z v table x k)
+      (string-told b (p .0) (demand3 b w o (p .0) h (p .1)) v table x (together n y) k
+      (looked n y _ (l ∙ ap (λ (s : List ℕ). numbered (stringFound s v table x k)) (starts (packed b w o) n o out e f))))

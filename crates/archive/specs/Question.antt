@@ -1,0 +1,57 @@
+-- Demand 3 for one question, as `pack_and_look_up` answers it: the clauses of `Theorem.antt`, told of the numbers of its answer.
+-- Assumes nothing.
+use mathlib.Core.Path.{_≡_}
+use mathlib.Core.Logic.{_⊎_, _↔_}
+use mathlib.Core.Bool.{false}
+use mathlib.Core.List.{List, []}
+use Prim.Native.Nat.{ℕ, _≤_, _<_}
+use lib.ListN.{length, getD}
+use Rattle.octets.specs.Octets.{part as bytesAt}
+use Rattle.octets.specs.Lists.{any}
+use Rattle.octets.specs.Checked.{pass}
+use Rattle.strings.specs.Strings.{stringAt}
+use Rattle.package.specs.Filing.{Filed, isUnder, entriesOfUnit}
+use Rattle.package.specs.Pack.{Answer, refused, short, made, handedIn}
+use Rattle.archive.specs.Theorem.{Asked, IsCode, IsHandedIn, IsFirst, handedPart, isIndexVersion, looks}
+use Rattle.archive.specs.declared.asking.FromBundle.{FromBundle}
+
+-- the bytes are found in the package, after so many looks
+pub record Told (p : List ℕ) (r : FromBundle) (n : ℕ) (bytes : List ℕ) : Type 0 where
+  pub code : r .code ≡ 0
+  pub many : r .length ≡ length bytes
+  pub looked : r .looks ≡ n
+  pub holds : bytesAt p (r .start) (r .length) ≡ bytes
+
+-- nothing is found, after so many looks
+pub record ToldAbsent (r : FromBundle) (n : ℕ) : Type 0 where
+  pub code : r .code ≡ 1
+  pub nowhere : r .start ≡ 0
+  pub nothing : r .length ≡ 0
+  pub looked : r .looks ≡ n
+
+-- a part: b is accepted, p its package
+pub record PartTold (b p : List ℕ) (v table x code : ℕ) (r : FromBundle) : Type 0 where
+  pub foundExactlyWhenHandedIn : Asked b v table → IsCode code → (r .code ≡ 0) ↔ IsHandedIn b table x
+  pub theFirstUnit : (u : Filed) → Asked b v table → IsCode code → IsFirst b table x u → (code ≡ 6 → ⊥) → Told p r (looks b table x) (handedPart u code)
+  pub theFirstUnitInLength : (u : Filed) → Asked b v table → IsFirst b table x u → code ≡ 6 → (r .code ≡ 0) × (r .length ≡ length (handedPart u 6)) × (r .looks ≡ looks b table x)
+  pub absentIsAbsent : Asked b v table → IsCode code → any (isUnder table x) (handedIn b) ≡ false → ToldAbsent r (looks b table x)
+  pub theOtherVersion : isIndexVersion b v ≡ false → (handedIn b ≡ [] → ⊥) → r .code ≡ 22
+  pub neverRefuses : Asked b v table → IsCode code → (r .code ≡ 0) ⊎ (r .code ≡ 1)
+
+-- a string
+pub record StringTold (b p : List ℕ) (v table x k : ℕ) (r : FromBundle) : Type 0 where
+  pub itsStrings : (u : Filed) → Asked b v table → IsFirst b table x u → k < length (entriesOfUnit u)
+      → (string : List ℕ) × (stringAt 9 (u .input .bytes 11) (getD (entriesOfUnit u) k 0) ≡ pass string) × Told p r (looks b table x) string
+  pub noOtherString : (u : Filed) → Asked b v table → IsFirst b table x u → length (entriesOfUnit u) ≤ k → r .code ≡ 25
+  pub absentIsAbsent : Asked b v table → any (isUnder table x) (handedIn b) ≡ false → ToldAbsent r (looks b table x)
+  pub theOtherVersion : isIndexVersion b v ≡ false → (handedIn b ≡ [] → ⊥) → r .code ≡ 22
+
+-- packing refused: its number, and nothing is looked up
+unfoldable pub unpacked : ℕ → ℕ → FromBundle
+unpacked number needed = record { packing = number; packed = needed; code = 0; start = 0; length = 0; looks = 0 }
+
+-- the answer, where told is what holds of it when a package is made
+unfoldable pub AnsweredFrom : (List ℕ → FromBundle → Type 0) → Answer → FromBundle → Type 0
+AnsweredFrom told (refused n) r = r ≡ unpacked n 0
+AnsweredFrom told (short n) r = r ≡ unpacked 18 n
+AnsweredFrom told (made p) r = (r .packing ≡ 0) × (r .packed ≡ length p) × told p r
