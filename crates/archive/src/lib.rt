@@ -10,6 +10,8 @@ ghost use Rattle.packer.specs.Small.{packedSmall};
 ghost use Rattle.packer.specs.Told.{numbered as told};
 ghost use Rattle.lookup.specs.Lookup.{lookedUp, stringFound};
 ghost use Rattle.lookup.specs.Answers.{numbered};
+ghost use Rattle.archive.specs.Question.{PartTold, StringTold, AnsweredFrom};
+use asking::FromBundle;
 use lookup::answering::Answer;
 use packer::answering::Packed;
 
@@ -59,4 +61,40 @@ pub extern "C" fn barthovin_lookup_string(
     ensures { λ r. ⌜ r ≡ numbered (stringFound (now («package» .entry)) version table identity entry) ⌝ }
 {
     lookup::answering::answer_string(package, version, table, identity, entry)
+}
+
+// A bundle packed and the part of a section looked up in its package; the answer is demand 3 for that question.
+#[no_mangle]
+pub extern "C" fn barthovin_pack_and_look_up(
+    bundle: &[u8],
+    work: &mut [u32],
+    output: &mut [u8],
+    version: u32,
+    table: u32,
+    identity: u64,
+    section: u32,
+) -> FromBundle
+    ensures answer { λ r. ⌜ AnsweredFrom (λ p. PartTold (now (bundle .entry)) p version table identity section) (packed (now (bundle .entry)) (length (now (work .entry))) (length (now (output .entry)))) r ⌝ }
+    ensures output { λ _. ⌜ now (output .exit) ≡ outputOf (packed (now (bundle .entry)) (length (now (work .entry))) (length (now (output .entry)))) (length (now (output .entry))) ⌝ }
+    ensures work { λ _. ⌜ now (work .exit) ≡ zeros (length (now (work .entry))) ⌝ }
+{
+    asking::pack_and_look_up(bundle, work, output, version, table, identity, section)
+}
+
+// The same for the string of an entry.
+#[no_mangle]
+pub extern "C" fn barthovin_pack_and_look_up_string(
+    bundle: &[u8],
+    work: &mut [u32],
+    output: &mut [u8],
+    version: u32,
+    table: u32,
+    identity: u64,
+    entry: u64,
+) -> FromBundle
+    ensures answer { λ r. ⌜ AnsweredFrom (λ p. StringTold (now (bundle .entry)) p version table identity entry) (packed (now (bundle .entry)) (length (now (work .entry))) (length (now (output .entry)))) r ⌝ }
+    ensures output { λ _. ⌜ now (output .exit) ≡ outputOf (packed (now (bundle .entry)) (length (now (work .entry))) (length (now (output .entry)))) (length (now (output .entry))) ⌝ }
+    ensures work { λ _. ⌜ now (work .exit) ≡ zeros (length (now (work .entry))) ⌝ }
+{
+    asking::pack_and_look_up_string(bundle, work, output, version, table, identity, entry)
 }
