@@ -1,43 +1,21 @@
 -- From the two contracts, of packing and of looking up, and the theorem, to the answer of one question.
 -- Assumes nothing.
-use mathlib.Core.Path.{_≡_, refl, sym, ap, _∙_, subst}
-use mathlib.Core.List.{List, _++_}
-use Prim.Native.Nat.{ℕ, _-_, _≤_}
-use native.Mathlib.Omega.{arith}
-use lib.ListN.{length, take, length-append}
-use lib.Seq.{take-append-seam}
-use Rattle.octets.specs.Octets.{padded, zeros}
+use mathlib.Core.Path.{_≡_, refl, ap, _∙_}
+use mathlib.Core.List.{List}
+use Prim.Native.Nat.{ℕ}
+use lib.ListN.{take}
 use Rattle.octets.proofs.Numbers.{Bytes}
-use Rattle.package.specs.Pack.{Answer, refused, short, made, packed}
+use Rattle.package.specs.Pack.{Answer, packed}
 use Rattle.finish.specs.Finish.{finishedOf, outputOf}
-use Rattle.finish.specs.declared.whole.Finished.{Finished}
 use Rattle.finish.specs.declared.whole.Finished.the-variants.{Refused, Short, Made}
 use Rattle.lookup.specs.Lookup.{Found, lookedUp, stringFound}
 use Rattle.lookup.specs.Answers.{numbered}
 use Rattle.lookup.specs.declared.answering.Answer.{Answer as Numbers}
+use Rattle.packer.proofs.Made.{short-is, refused-is, it, starts}
 use Rattle.archive.specs.Question.{PartTold, StringTold, unpacked, AnsweredFrom}
 use Rattle.archive.specs.declared.asking.FromBundle.{FromBundle}
 use Rattle.archive.proofs.Demand3.{demand3}
 use Rattle.archive.proofs.Telling.{Looked, part-told, string-told}
-
--- ---- the three answers of packing
-made-is : (a : Answer) (n : ℕ) → Made n ≡ finishedOf a → (p : List ℕ) × (a ≡ made p) × (n ≡ length p)
-unfolding finishedOf
-made-is (refused m) n e = absurd (let z : _≡_ {A = ℕ} 0 1 = cc in omega arith)
-made-is (short m) n e = absurd (let z : _≡_ {A = ℕ} 0 1 = cc in omega arith)
-made-is (made p) n e = (p, refl, cc)
-
-short-is : (a : Answer) (n : ℕ) → Short n ≡ finishedOf a → a ≡ short n
-unfolding finishedOf
-short-is (refused m) n e = absurd (let z : _≡_ {A = ℕ} 0 1 = cc in omega arith)
-short-is (short m) n e = cc
-short-is (made p) n e = absurd (let z : _≡_ {A = ℕ} 0 1 = cc in omega arith)
-
-refused-is : (a : Answer) (n : ℕ) → Refused n ≡ finishedOf a → a ≡ refused n
-unfolding finishedOf
-refused-is (refused m) n e = cc
-refused-is (short m) n e = absurd (let z : _≡_ {A = ℕ} 0 1 = cc in omega arith)
-refused-is (made p) n e = absurd (let z : _≡_ {A = ℕ} 0 1 = cc in omega arith)
 
 module _ (told : List ℕ → FromBundle → Type 0) (a : Answer) (n : ℕ) (r : FromBundle) where
   pub short-told : Short n ≡ finishedOf a → r ≡ unpacked 18 n → AnsweredFrom told a r
@@ -47,21 +25,6 @@ module _ (told : List ℕ → FromBundle → Type 0) (a : Answer) (n : ℕ) (r :
   pub refused-told : Refused n ≡ finishedOf a → r ≡ unpacked n 0 → AnsweredFrom told a r
   unfolding AnsweredFrom
   refused-told e q = rw (refused-is a n e) q
-
--- ---- a package was made: the output starts with it
-module _ (a : Answer) (n o : ℕ) (out : List ℕ) (e : Made n ≡ finishedOf a) (f : out ≡ outputOf a o) where
-  abbrev it : (p : List ℕ) × (a ≡ made p) × (n ≡ length p)
-  it = made-is a n e
-
-  out-is : out ≡ it .0 ++ zeros (o - length (it .0))
-  unfolding outputOf padded
-  out-is = f ∙ ap (λ (x : Answer). outputOf x o) (it .1)
-
-  pub package-fits : n ≤ length out
-  package-fits = omega (arith, it .2, ap length out-is, length-append (it .0) (zeros (o - length (it .0))))
-
-  starts : take n out ≡ it .0
-  starts = ap (λ (m : ℕ). take m out) (it .2) ∙ ap (take (length (it .0))) out-is ∙ take-append-seam (it .0) (zeros (o - length (it .0)))
 
 -- the answer that the code puts together
 abbrev together : ℕ → Numbers → FromBundle

@@ -7,3 +7,4 @@ pub mod Start
 pub mod OverObjects
 pub mod Clearing
 pub mod Telling
+pub mod Made

@@ -2,7 +2,8 @@
 -- Assumes nothing.
 use mathlib.Core.Path.{_≡_, sym, _∙_}
 use lib.Seq.{length-take-le}
-use Rattle.archive.proofs.Packaged.{package-fits, part-answered, short-told, refused-told}
+use Rattle.packer.proofs.Made.{package-fits}
+use Rattle.archive.proofs.Packaged.{part-answered, short-told, refused-told}
 use borrow.Author.Needs.{needs}
 use Rattle.archive.proofs.asking.pack_and_look_up.Statement.{statement}
 use Rattle.archive.proofs.asking.pack_and_look_up.Tie as tie

@@ -1,0 +1,3 @@
+-- The small packer's program.
+-- Assumes nothing.
+pub mod Digits
