@@ -46,7 +46,7 @@ pub fn pack(b: &[u8], work: &mut [u32], out: &mut [u8]) -> Finished
     octets::clear_bytes(out);
     octets::clear_words(work);
     let r = pack_cleared(b, work, out);
-    octets::clear_words(work);
+    octets::clear_words(work); // of what was filed
     r
 }
 
