@@ -164,11 +164,9 @@ pub fn read_input(
 {
     let judged = input::judge_object(big, first, word, scan);
     let e = judged.encoding;
-    let code = judged.code;
-    if code != 0 {
-        return input_refused(code, e, scan, t);
+    if judged.code != 0 {
+        return input_refused(judged.code, e, scan, t);
     }
-    let count = scan.count;
     let start = scan.start;
     let size = scan.size;
     let offsets = Place {
@@ -179,16 +177,14 @@ pub fn read_input(
         start: start[11],
         size: size[11],
     };
-    let put = add_object_strings(b, e, count[6], offsets, text, n, t, work);
+    let put = add_object_strings(b, e, scan.count[6], offsets, text, n, t, work);
     let strings = put.strings;
-    let put_code = put.code;
-    if put_code != 0 {
-        return input_refused(put_code, e, scan, strings);
+    if put.code != 0 {
+        return input_refused(put.code, e, scan, strings);
     }
     let indexes = judge_indexes(b, e, scan);
-    let indexes_code = indexes.code;
-    if indexes_code != 0 {
-        return input_refused(indexes_code, e, scan, strings);
+    if indexes.code != 0 {
+        return input_refused(indexes.code, e, scan, strings);
     }
     let cu = indexes.cu;
     let tu = indexes.tu;

@@ -15,8 +15,8 @@ input-refused-requires c κs = search needs
 
 returns : tie.Need-returns
 returns c = (
-  λ at ps ts e room k. read-refused _ _ _ ts _ _ _ _ at ps e _ (c .before .before .before .judge-object .ensures at ps e) (c .before .if1 .taken) _ (c .input-refused .ensures),
-  region-same _ _ (c .before .before .before .before .before .before .pre .4 .room),
+  λ at ps ts e room k. read-refused _ _ _ ts _ _ _ _ at ps e _ (c .before .before .before .before .judge-object .ensures at ps e) (c .before .if1 .taken) _ (c .input-refused .ensures),
+  region-same _ _ (c .before .before .before .before .before .before .before .pre .4 .room),
 )
 
 array-read-add-object-strings : tie.Need-array-read-add-object-strings
@@ -31,12 +31,12 @@ array-read-add-object-strings-2 c = search needs
 array-read-t31-2 : tie.Need-array-read-t31-2
 array-read-t31-2 c = search needs
 
-array-read-add-object-strings-3 : tie.Need-array-read-add-object-strings-3
-array-read-add-object-strings-3 c = search needs
+element-copy-out-add-object-strings : tie.Need-element-copy-out-add-object-strings
+element-copy-out-add-object-strings c = search needs
 
 add-object-strings-requires : tie.Need-add-object-strings-requires
 add-object-strings-requires c κs =
-    let p = c .before .before .before .before .before .before .before .before .before .pre in
+    let p = c .before .before .before .before .before .before .before .before .before .before .pre in
     (strings-room-of _ _ (p .0) (p .1) (p .3) _ _ _ (p .4) _, (p .2, p .5))
 
 input-refused-requires-2 : tie.Need-input-refused-requires-2
@@ -47,14 +47,14 @@ same-length c = search needs
 
 returns-2 : tie.Need-returns-2
 returns-2 c = (
-  λ at ps ts e room k. read-strings-refused _ _ _ ts _ _ _ _ at ps e _ (c .before .before .before .before .before .before .before .before .before .before .before .before .judge-object .ensures at ps e) (c .before .before .before .before .before .before .before .before .before .before .if1 .left) _
-      (c .before .before .before .before .before .add-object-strings .ensures .0 ts k) (c .before .if2 .taken) _ (c .input-refused2 .ensures),
-  c .before .before .before .before .before .add-object-strings .ensures .1,
+  λ at ps ts e room k. read-strings-refused _ _ _ ts _ _ _ _ at ps e _ (c .before .before .before .before .before .before .before .before .before .before .before .before .before .before .judge-object .ensures at ps e) (c .before .before .before .before .before .before .before .before .before .before .before .if1 .left) _
+      (c .before .before .before .before .before .before .add-object-strings .ensures .0 ts k) (c .before .if2 .taken) _ (c .input-refused2 .ensures),
+  c .before .before .before .before .before .before .add-object-strings .ensures .1,
 )
 
 judge-indexes-requires : tie.Need-judge-indexes-requires
 judge-indexes-requires c κs =
-    let p = c .before .before .before .before .before .before .before .before .before .before .before .before .before .before .pre in
+    let p = c .before .before .before .before .before .before .before .before .before .before .before .before .before .before .before .before .pre in
     (scan-within _ _ (p .0) (p .1) (p .3) _ _ _ (p .4) 12, scan-within _ _ (p .0) (p .1) (p .3) _ _ _ (p .4) 13)
 
 input-refused-requires-3 : tie.Need-input-refused-requires-3
@@ -65,9 +65,9 @@ same-length-2 c = search needs
 
 returns-3 : tie.Need-returns-3
 returns-3 c = (
-  λ at ps ts e room k. read-indexes-refused _ _ _ ts _ _ _ _ at ps e _ (c .before .before .before .before .before .before .before .before .before .before .before .before .before .before .judge-object .ensures at ps e) (c .before .before .before .before .before .before .before .before .before .before .before .before .if1 .left) _
-      (c .before .before .before .before .before .before .before .add-object-strings .ensures .0 ts k) (c .before .before .before .if2 .left) _ (c .before .before .judge-indexes .ensures) (c .before .if3 .taken) _ (c .input-refused3 .ensures),
-  c .before .before .before .before .before .before .before .add-object-strings .ensures .1,
+  λ at ps ts e room k. read-indexes-refused _ _ _ ts _ _ _ _ at ps e _ (c .before .before .before .before .before .before .before .before .before .before .before .before .before .before .before .before .before .judge-object .ensures at ps e) (c .before .before .before .before .before .before .before .before .before .before .before .before .before .before .if1 .left) _
+      (c .before .before .before .before .before .before .before .before .before .add-object-strings .ensures .0 ts k) (c .before .before .before .before .if2 .left) _ (c .before .before .before .judge-indexes .ensures) (c .before .if3 .taken) _ (c .input-refused3 .ensures),
+  c .before .before .before .before .before .before .before .before .before .add-object-strings .ensures .1,
 )
 
 same-length-3 : tie.Need-same-length-3
@@ -75,9 +75,9 @@ same-length-3 c = search needs
 
 returns-4 : tie.Need-returns-4
 returns-4 c = (
-  λ at ps ts e room k. read-passed _ _ _ ts _ _ _ _ at ps e _ (c .before .before .before .before .before .before .before .before .before .before .before .before .before .judge-object .ensures at ps e) (c .before .before .before .before .before .before .before .before .before .before .before .if1 .left) _
-      (c .before .before .before .before .before .before .add-object-strings .ensures .0 ts k) (c .before .before .if2 .left) _ (c .before .judge-indexes .ensures) (c .if3 .left) _ _ room,
-  c .before .before .before .before .before .before .add-object-strings .ensures .1,
+  λ at ps ts e room k. read-passed _ _ _ ts _ _ _ _ at ps e _ (c .before .before .before .before .before .before .before .before .before .before .before .before .before .before .before .before .judge-object .ensures at ps e) (c .before .before .before .before .before .before .before .before .before .before .before .before .before .if1 .left) _
+      (c .before .before .before .before .before .before .before .before .add-object-strings .ensures .0 ts k) (c .before .before .before .if2 .left) _ (c .before .before .judge-indexes .ensures) (c .if3 .left) _ _ room,
+  c .before .before .before .before .before .before .before .before .add-object-strings .ensures .1,
 )
 
 pub read-input-spec : {M : Type 1} → statement M
@@ -91,7 +91,7 @@ read-input-spec =
     array-read-t31
     array-read-add-object-strings-2
     array-read-t31-2
-    array-read-add-object-strings-3
+    element-copy-out-add-object-strings
     add-object-strings-requires
     input-refused-requires-2
     same-length
