@@ -1,13 +1,14 @@
 -- The answers of `read_input`, each from those of its checks.
 -- Assumes nothing.
 use mathlib.Core.Path.{_≡_, refl, sym, ap, _∙_, subst}
+use mathlib.Core.Logic.{⊎-elim}
 use mathlib.Core.Bool.{Bool}
 use mathlib.Core.List.{List}
 use mathlib.Core.Option.{Option}
-use Prim.Native.Nat.{ℕ, _*_, _≤_}
+use Prim.Native.Nat.{ℕ, _*_, _<_}
 use native.Mathlib.Omega.{arith}
 use lib.Dec.{leb}
-use lib.ListN.{length, getD}
+use lib.ListN.{getD}
 use Rattle.octets.specs.Octets.{part}
 use Rattle.octets.specs.Checked.{Check, pass, refuse}
 use Rattle.bundle.specs.Bundle.{Part, Object, body}
@@ -23,14 +24,14 @@ use Rattle.keeping.specs.Regions.{stringsStart}
 use Rattle.package.specs.Input.{Input, present, usedStrings, inputOf}
 use Rattle.package.proofs.Numbered.{Numbered}
 use Rattle.package.proofs.OverObjects.{used-numbered}
-use Rattle.input.specs.Judged.{objectCheck, indexCheck, JudgedIs, JudgedIndexIs}
+use Rattle.input.specs.Judged.{objectCheck, JudgedIs}
 use Rattle.input.specs.declared.Judged.{Judged}
-use Rattle.input.specs.declared.JudgedIndex.{JudgedIndex}
 use Rattle.filing.specs.declared.objects.StringsFiled.{StringsFiled}
+use Rattle.filing.specs.declared.objects.IndexesJudged.{IndexesJudged}
 use Rattle.filing.specs.declared.objects.InputFiled.{InputFiled}
-use Rattle.filing.specs.ByObject.{stringsCheck, StringsAre, InputRoom, InputRead}
+use Rattle.filing.specs.ByObject.{stringsCheck, StringsAre, scanned, scannedIndex, IndexesAre, InputRoom, InputRead}
 use Rattle.filing.proofs.Inputting.{stringsHere, indexHere, object-refused, strings-refused, cu-refused, tu-refused, input-passed}
-use Rattle.filing.proofs.InputLaws.{judged-passed, judged-refused, index-passed, index-refused, placeOf, strings-same, index-same, input-is}
+use Rattle.filing.proofs.InputLaws.{judged-passed, judged-refused, indexes-refused, indexes-passed, placeOf, strings-same, index-same, input-is}
 
 strings-numbered : (b : List ℕ) (ps : List Part) (e : Encoding) → Numbered (stringsCheck e (present ps 6) (body b ps 6) (body b ps 11))
 unfolding usedStrings stringsCheck
@@ -74,38 +75,28 @@ module _ (b : List ℕ) (n : ℕ) (v : List ℕ) (ts : List (List ℕ)) (big : B
     read-strings-refused z r q =
         refused-is b n v ts _ (s .code) r (strings-refused b big first o (encodingIs (j .encoding)) good (s .code) (put-refused b n v ts _ s put-here z)) q
 
-    module _ (zs : s .code ≡ 0) (cu : JudgedIndex)
-        (cu-judged : JudgedIndexIs (j .encoding .big) (part b (getD (scan .start) 12 0) (getD (scan .size) 12 0)) (indexCheck (j .encoding .big) (leb 1 (getD (scan .count) 12 0)) (part b (getD (scan .start) 12 0) (getD (scan .size) 12 0))) cu) where
+    module _ (zs : s .code ≡ 0) (x : IndexesJudged)
+        (are : IndexesAre (j .encoding .big) (scanned b scan 12) (scanned b scan 13) (scannedIndex (j .encoding .big) b scan 12) (scannedIndex (j .encoding .big) b scan 13) x) where
       strings : (used : List (List ℕ)) × (stringsHere b big first o (encodingIs (j .encoding)) ≡ pass used) × Kept b (part v (stringsStart n) (3 * n)) (s .strings) (putAll ts used)
       strings = put-passed b n v ts _ s (strings-numbered b ps (encodingIs (j .encoding))) put-here zs
 
-      here-same : (c : ℕ) (m : Check (Option Index)) → indexCheck (j .encoding .big) (present ps c) (body b ps c) ≡ m → indexHere b big first o (encodingIs (j .encoding)) c ≡ m
+      here-same : (c : ℕ) → c < 14 → (m : Check (Option Index)) → scannedIndex (j .encoding .big) b scan c ≡ m → indexHere b big first o (encodingIs (j .encoding)) c ≡ m
       unfolding encodingIs
-      here-same c m e = e
+      here-same c h m e = sym (index-same b scan at ps is (j .encoding .big) c h) ∙ e
 
-      pub read-cu-refused : (cu .code ≡ 0 → ⊥) → (r : InputFiled) → r .code ≡ cu .code → InputRead b n v ts (inputOf b big first o) r
-      read-cu-refused z r q =
-          refused-is b n v ts _ (cu .code) r (cu-refused b big first o (encodingIs (j .encoding)) good (strings .0) (strings .1) (cu .code)
-          (here-same 12 _ (sym (index-same b scan at ps is (j .encoding .big) 12 (omega arith)) ∙ index-refused _ _ _ cu cu-judged z))) q
+      pub read-indexes-refused : (x .code ≡ 0 → ⊥) → (r : InputFiled) → r .code ≡ x .code → InputRead b n v ts (inputOf b big first o) r
+      read-indexes-refused z r q =
+          refused-is b n v ts _ (x .code) r
+          (⊎-elim (λ h. cu-refused b big first o (encodingIs (j .encoding)) good (strings .0) (strings .1) (x .code) (here-same 12 (omega arith) _ h))
+          (λ h. tu-refused b big first o (encodingIs (j .encoding)) good (strings .0) (strings .1) (h .0) (here-same 12 (omega arith) _ (h .1)) (x .code) (here-same 13 (omega arith) _ (h .2)))
+          (indexes-refused _ _ _ _ _ x are z)) q
 
-      module _ (zc : cu .code ≡ 0) (tu : JudgedIndex)
-          (tu-judged : JudgedIndexIs (j .encoding .big) (part b (getD (scan .start) 13 0) (getD (scan .size) 13 0)) (indexCheck (j .encoding .big) (leb 1 (getD (scan .count) 13 0)) (part b (getD (scan .start) 13 0) (getD (scan .size) 13 0))) tu) where
-        pub read-tu-refused : (tu .code ≡ 0 → ⊥) → (r : InputFiled) → r .code ≡ tu .code → InputRead b n v ts (inputOf b big first o) r
-        read-tu-refused z r q =
-            let c = index-passed _ _ _ cu cu-judged zc in
-            refused-is b n v ts _ (tu .code) r (tu-refused b big first o (encodingIs (j .encoding)) good (strings .0) (strings .1) (c .0)
-            (here-same 12 _ (sym (index-same b scan at ps is (j .encoding .big) 12 (omega arith)) ∙ c .1)) (tu .code)
-            (here-same 13 _ (sym (index-same b scan at ps is (j .encoding .big) 13 (omega arith)) ∙ index-refused _ _ _ tu tu-judged z))) q
-
-        pub read-passed : tu .code ≡ 0 → (words : ℕ) (t : StringTable) → InputRoom b ps n words t
-            → InputRead b n v ts (inputOf b big first o)
-            (record { code = 0; input = record { encoding = j .encoding; start = scan .start; size = scan .size; cu = cu .index; tu = tu .index }; strings = s .strings })
-        unfolding InputRead
-        read-passed z words t room =
-            let c = index-passed _ _ _ cu cu-judged zc in
-            let d = index-passed _ _ _ tu tu-judged z in
-            passed-is b n v ts _ _ _
-            (input-passed b big first o (encodingIs (j .encoding)) good (strings .0) (strings .1) (c .0)
-            (here-same 12 _ (sym (index-same b scan at ps is (j .encoding .big) 12 (omega arith)) ∙ c .1)) (d .0)
-            (here-same 13 _ (sym (index-same b scan at ps is (j .encoding .big) 13 (omega arith)) ∙ d .1)))
-            (refl, input-is b scan at ps is n words t room (j .encoding) (strings .0) (cu .index) (tu .index) (c .0) (d .0) _ refl (c .2) (d .2), strings .2)
+      pub read-passed : x .code ≡ 0 → (words : ℕ) (t : StringTable) → InputRoom b ps n words t
+          → InputRead b n v ts (inputOf b big first o)
+          (record { code = 0; input = record { encoding = j .encoding; start = scan .start; size = scan .size; cu = x .cu; tu = x .tu }; strings = s .strings })
+      unfolding InputRead
+      read-passed z words t room =
+          let d = indexes-passed _ _ _ _ _ x are z in
+          passed-is b n v ts _ _ _
+          (input-passed b big first o (encodingIs (j .encoding)) good (strings .0) (strings .1) (d .0) (here-same 12 (omega arith) _ (d .2)) (d .1) (here-same 13 (omega arith) _ (d .3)))
+          (refl, input-is b scan at ps is n words t room (j .encoding) (strings .0) (x .cu) (x .tu) (d .0) (d .1) _ refl (d .4) (d .5), strings .2)

@@ -1,19 +1,18 @@
 -- What the answers of the checks of one object say together: `inputOf`.
 -- Assumes nothing.
-use mathlib.Core.Path.{_≡_, refl, sym, ap, ap₂, _∙_, subst}
-use mathlib.Core.Logic.{⊎-elim}
+use mathlib.Core.Path.{_≡_, refl, sym, ap, ap₂, _∙_}
+use mathlib.Core.Logic.{_⊎_, inl, inr, ⊎-elim}
 use mathlib.Core.Bool.{Bool, true, false}
-use mathlib.Core.List.{List, []}
+use mathlib.Core.List.{List}
 use mathlib.Core.Option.{Option}
-use Prim.Native.Nat.{ℕ, _+_, _*_, _<_, _≤_}
+use Prim.Native.Nat.{ℕ, _+_, _<_, _≤_}
 use native.Mathlib.Omega.{arith}
 use lib.Dec.{leb}
 use lib.ListN.{length, getD}
 use borrow.Author.Tests.{leb-true, leb-false}
-use Rattle.octets.specs.Octets.{part}
 use Rattle.octets.specs.Checked.{Check, pass, refuse}
 use Rattle.octets.proofs.Checks.{known}
-use Rattle.bundle.specs.Bundle.{Part, Object, body}
+use Rattle.bundle.specs.Bundle.{Part, body}
 use Rattle.bundle.specs.Encoding.{Encoding}
 use Rattle.bundle.specs.Encoded.{encodingIs}
 use Rattle.bundle.specs.Scan.{scanOf, startOf, sizeOf}
@@ -21,21 +20,18 @@ use Rattle.bundle.specs.declared.Scan.{Scan}
 use Rattle.bundle.specs.declared.encoding.ObjectEncoding.{ObjectEncoding}
 use Rattle.bundle.proofs.Scanned.{length-byCode}
 use Rattle.bundle.proofs.ScanFacts.{scan-count, scan-start, scan-size, scan-body}
-use Rattle.strings.specs.Kept.{Kept, Inside, bytesAt}
+use Rattle.strings.specs.Kept.{Inside, bytesAt}
 use Rattle.strings.specs.declared.table.Place.{Place}
 use Rattle.strings.specs.declared.table.StringTable.{StringTable}
 use Rattle.index.specs.Index.{Index}
 use Rattle.keeping.proofs.Moved.{getD-past}
-use Rattle.package.specs.Input.{Input, present, usedStrings, inputOf}
-use Rattle.package.proofs.Numbered.{Numbered}
-use Rattle.package.proofs.OverObjects.{used-numbered}
-use Rattle.input.specs.Judged.{objectCheck, indexCheck, JudgedIs, JudgedIndexIs, InputIs, IndexedIs, sectionOf}
+use Rattle.package.specs.Input.{Input, present, inputOf}
+use Rattle.input.specs.Judged.{indexCheck, JudgedIs, JudgedIndexIs, InputIs, IndexedIs, sectionOf}
 use Rattle.input.specs.declared.Judged.{Judged}
 use Rattle.input.specs.declared.JudgedIndex.{JudgedIndex}
 use Rattle.input.specs.declared.Indexed.{Indexed}
-use Rattle.filing.specs.declared.objects.StringsFiled.{StringsFiled}
-use Rattle.filing.specs.ByObject.{stringsCheck, StringsRoom, StringsAre, InputRoom}
-use Rattle.filing.proofs.Inputting.{stringsHere, indexHere}
+use Rattle.filing.specs.declared.objects.IndexesJudged.{IndexesJudged}
+use Rattle.filing.specs.ByObject.{stringsCheck, StringsRoom, scanned, scannedIndex, IndexesAre, InputRoom}
 
 -- ---- one answer
 pub judged-passed : (m : Check Encoding) (r : Judged) → JudgedIs m r → r .code ≡ 0 → m ≡ pass (encodingIs (r .encoding))
@@ -48,15 +44,33 @@ unfolding JudgedIs
 judged-refused (pass e) r j z = absurd (z (j .0))
 judged-refused (refuse n) r j z = ap refuse (sym (j .0))
 
-pub index-passed : (big : Bool) (s : List ℕ) (m : Check (Option Index)) (r : JudgedIndex) → JudgedIndexIs big s m r → r .code ≡ 0 → (o : Option Index) × (m ≡ pass o) × IndexedIs big s (r .index) o
-unfolding JudgedIndexIs
-index-passed big s (pass o) r j z = (o, refl, j .1)
-index-passed big s (refuse n) r j z = absurd (omega (arith, j .0, j .1))
+-- ---- both indexes
+module _ (big : Bool) (cs ts : List ℕ) where
+  pub indexes-first : (m w : Check (Option Index)) (cu : JudgedIndex) → JudgedIndexIs big cs m cu → (cu .code ≡ 0 → ⊥) → (r : IndexesJudged) → r .code ≡ cu .code → IndexesAre big cs ts m w r
+  unfolding JudgedIndexIs IndexesAre
+  indexes-first (pass o) w cu j z r q = absurd (z (j .0))
+  indexes-first (refuse n) w cu j z r q = (q ∙ j .0, j .1)
 
-pub index-refused : (big : Bool) (s : List ℕ) (m : Check (Option Index)) (r : JudgedIndex) → JudgedIndexIs big s m r → (r .code ≡ 0 → ⊥) → m ≡ refuse (r .code)
-unfolding JudgedIndexIs
-index-refused big s (pass o) r j z = absurd (z (j .0))
-index-refused big s (refuse n) r j z = ap refuse (sym (j .0))
+  pub indexes-both : (m w : Check (Option Index)) (cu : JudgedIndex) → JudgedIndexIs big cs m cu → cu .code ≡ 0 → (tu : JudgedIndex) → JudgedIndexIs big ts w tu
+      → IndexesAre big cs ts m w (record { code = tu .code; cu = cu .index; tu = tu .index })
+  unfolding JudgedIndexIs IndexesAre
+  indexes-both (pass c) (pass t) cu j z tu k = (k .0, j .1, k .1)
+  indexes-both (pass c) (refuse n) cu j z tu k = k
+  indexes-both (refuse n) w cu j z tu k = absurd (omega (arith, j .0, j .1))
+
+  pub indexes-refused : (m w : Check (Option Index)) (r : IndexesJudged) → IndexesAre big cs ts m w r → (r .code ≡ 0 → ⊥)
+      → (m ≡ refuse (r .code)) ⊎ ((c : Option Index) × (m ≡ pass c) × (w ≡ refuse (r .code)))
+  unfolding IndexesAre
+  indexes-refused (pass c) (pass t) r a z = absurd (z (a .0))
+  indexes-refused (pass c) (refuse n) r a z = inr (c, refl, ap refuse (sym (a .0)))
+  indexes-refused (refuse n) w r a z = inl (ap refuse (sym (a .0)))
+
+  pub indexes-passed : (m w : Check (Option Index)) (r : IndexesJudged) → IndexesAre big cs ts m w r → r .code ≡ 0
+      → (c t : Option Index) × (m ≡ pass c) × (w ≡ pass t) × IndexedIs big cs (r .cu) c × IndexedIs big ts (r .tu) t
+  unfolding IndexesAre
+  indexes-passed (pass c) (pass t) r a z = (c, t, refl, refl, a .1, a .2)
+  indexes-passed (pass c) (refuse n) r a z = absurd (omega (arith, a .0, a .1))
+  indexes-passed (refuse n) w r a z = absurd (omega (arith, a .0, a .1))
 
 -- ---- what code reads of a scan
 module _ (b : List ℕ) (scan : Scan) (at : ℕ) (ps : List Part) (is : scan ≡ scanOf at ps) where
@@ -76,7 +90,8 @@ module _ (b : List ℕ) (scan : Scan) (at : ℕ) (ps : List Part) (is : scan ≡
       ap (λ (t : Bool). stringsCheck e t (bytesAt b (placeOf 6)) (bytesAt b (placeOf 11))) (there-is 6 (omega arith))
       ∙ ap₂ (stringsCheck e (present ps 6)) (bytes-are 6 (omega arith)) (bytes-are 11 (omega arith))
 
-  pub index-same : (big : Bool) (c : ℕ) → c < 14 → indexCheck big (leb 1 (getD (scan .count) c 0)) (part b (getD (scan .start) c 0) (getD (scan .size) c 0)) ≡ indexCheck big (present ps c) (body b ps c)
+  pub index-same : (big : Bool) (c : ℕ) → c < 14 → scannedIndex big b scan c ≡ indexCheck big (present ps c) (body b ps c)
+  unfolding scanned scannedIndex
   index-same big c h = ap₂ (indexCheck big) (there-is c h) (scan-body scan at ps is c h b)
 
   module _ (n words : ℕ) (t : StringTable) (room : InputRoom b ps n words t) where
@@ -104,10 +119,9 @@ module _ (b : List ℕ) (scan : Scan) (at : ℕ) (ps : List Part) (is : scan ≡
     }
 
     pub input-is : (e : ObjectEncoding) (used : List (List ℕ)) (cu tu : Indexed) (ci ti : Option Index) (i : Input) → i ≡ record { encoding = encodingIs e; bytes = body b ps; units = i .units; used = used; cuIndex = ci; tuIndex = ti }
-        → IndexedIs (e .big) (part b (getD (scan .start) 12 0) (getD (scan .size) 12 0)) cu ci
-        → IndexedIs (e .big) (part b (getD (scan .start) 13 0) (getD (scan .size) 13 0)) tu ti
+        → IndexedIs (e .big) (scanned b scan 12) cu ci → IndexedIs (e .big) (scanned b scan 13) tu ti
         → InputIs b (record { encoding = e; start = scan .start; size = scan .size; cu = cu; tu = tu }) i
-    unfolding sectionOf
+    unfolding sectionOf scanned
     input-is e used cu tu ci ti i q x y = rw q (record {
       encoding = refl;
       bytes = λ c h. sym (scan-body scan at ps is c h b);

@@ -1,9 +1,9 @@
 // Whole objects: their strings (8 and 9), and all that is filed of them.
 ghost use mathlib.Core.Path.{_≡_};
 ghost use mathlib.Core.List.{List};
-ghost use Prim.Native.Nat.{ℕ, _*_};
+ghost use Prim.Native.Nat.{ℕ, _+_, _*_, _≤_};
 ghost use lib.Dec.{leb};
-ghost use lib.ListN.{length};
+ghost use lib.ListN.{length, getD};
 ghost use Rattle.octets.specs.Octets.{part};
 ghost use Rattle.bundle.specs.Encoded.{encodingIs};
 ghost use Rattle.strings.specs.Kept.{Kept, bytesAt};
@@ -15,6 +15,9 @@ ghost use Rattle.filing.specs.ByObject.{
   stringsCheck,
   StringsRoom,
   StringsAre,
+  scanned,
+  scannedIndex,
+  IndexesAre,
   InputRoom,
   InputRead,
 };
@@ -31,6 +34,13 @@ use strings::table::StringTable;
 pub struct StringsFiled {
     pub code: u32,
     pub strings: StringTable,
+}
+
+// Both indexes of an object judged: 0 or the first refusal, and the indexes.
+pub struct IndexesJudged {
+    pub code: u32,
+    pub cu: Indexed,
+    pub tu: Indexed,
 }
 
 // An object judged: 0 or the refusal, the object, and the table with its strings.
@@ -90,6 +100,34 @@ pub fn add_object_strings(
     }
 }
 
+// 10, of both indexes: that of the type units is judged where that of the compilation units passed.
+fn judge_indexes(b: &[u8], e: ObjectEncoding, scan: Scan) -> IndexesJudged
+    requires { ⌜ (getD (scan .start) 12 0 + getD (scan .size) 12 0 ≤ length (now b)) × (getD (scan .start) 13 0 + getD (scan .size) 13 0 ≤ length (now b)) ⌝ }
+    ensures { λ r. ⌜ IndexesAre (e .big) (scanned (now (b .entry)) scan 12) (scanned (now (b .entry)) scan 13) (scannedIndex (e .big) (now (b .entry)) scan 12) (scannedIndex (e .big) (now (b .entry)) scan 13) r ⌝ }
+{
+    let count = scan.count;
+    let start = scan.start;
+    let size = scan.size;
+    let cu = input::judge_index(b, e, start[12], size[12], count[12]);
+    let cu_code = cu.code;
+    let cu_index = cu.index;
+    if cu_code != 0 {
+        return IndexesJudged {
+            code: cu_code,
+            cu: cu_index,
+            tu: Indexed::Nowhere,
+        };
+    }
+    let tu = input::judge_index(b, e, start[13], size[13], count[13]);
+    let tu_code = tu.code;
+    let tu_index = tu.index;
+    IndexesJudged {
+        code: tu_code,
+        cu: cu_index,
+        tu: tu_index,
+    }
+}
+
 fn input_refused(code: u32, e: ObjectEncoding, scan: Scan, t: StringTable) -> InputFiled
     ensures { λ r. ⌜ r .code ≡ code ⌝ }
 {
@@ -126,11 +164,9 @@ pub fn read_input(
 {
     let judged = input::judge_object(big, first, word, scan);
     let e = judged.encoding;
-    let code = judged.code;
-    if code != 0 {
-        return input_refused(code, e, scan, t);
+    if judged.code != 0 {
+        return input_refused(judged.code, e, scan, t);
     }
-    let count = scan.count;
     let start = scan.start;
     let size = scan.size;
     let offsets = Place {
@@ -141,30 +177,23 @@ pub fn read_input(
         start: start[11],
         size: size[11],
     };
-    let put = add_object_strings(b, e, count[6], offsets, text, n, t, work);
+    let put = add_object_strings(b, e, scan.count[6], offsets, text, n, t, work);
     let strings = put.strings;
-    let put_code = put.code;
-    if put_code != 0 {
-        return input_refused(put_code, e, scan, strings);
+    if put.code != 0 {
+        return input_refused(put.code, e, scan, strings);
     }
-    let cu = input::judge_index(b, e, start[12], size[12], count[12]);
-    let cu_code = cu.code;
-    if cu_code != 0 {
-        return input_refused(cu_code, e, scan, strings);
+    let indexes = judge_indexes(b, e, scan);
+    if indexes.code != 0 {
+        return input_refused(indexes.code, e, scan, strings);
     }
-    let tu = input::judge_index(b, e, start[13], size[13], count[13]);
-    let tu_code = tu.code;
-    if tu_code != 0 {
-        return input_refused(tu_code, e, scan, strings);
-    }
-    let cu_index = cu.index;
-    let tu_index = tu.index;
+    let cu = indexes.cu;
+    let tu = indexes.tu;
     let input = InputObject {
         encoding: e,
         start,
         size,
-        cu: cu_index,
-        tu: tu_index,
+        cu,
+        tu,
     };
     InputFiled {
         code: 0,
