@@ -5,7 +5,7 @@ use barthovin::ffi;
 use barthovin::generate::{call, long_line, many_units, strings_of, suffixes, Call, Random};
 use barthovin::lent::Lent;
 use barthovin::reference::{self, Packed, LONGEST_BUNDLE};
-use barthovin::vectors::{parse_all, Vector};
+use barthovin::vectors::{parse_all, words, Vector};
 
 /// The small packer's limit and work.
 const SMALL_BUNDLE: usize = 1024;
@@ -100,7 +100,7 @@ fn needed(bundle: &[u8]) -> usize {
     bundle.len() / 4 * 16
 }
 
-fn words(numbers: &[u32]) -> Vec<u8> {
+fn bytes(numbers: &[u32]) -> Vec<u8> {
     numbers.iter().flat_map(|n| n.to_le_bytes()).collect()
 }
 
@@ -205,47 +205,17 @@ fn the_same_over_any_junk() {
 }
 
 /// Document 01's example.
-const EXAMPLE: [u32; 11] =
-    [0xF000_0000, 0x1008_0405, 0x2080_0014, 16, 0x0805_0005, 0, 1, 0, 0x2180_0001, 0, 0x3000_000B];
+const EXAMPLE: &str = "F0000000 10080405 20800014 10 8050005 0 1 0 21800001 0 3000000B";
 
 /// A version 4 object that is a package: one unit, whose identity stands in its root, an abbrev of 9 bytes and an index.
-const INPUT: [u32; 30] = [
-    0xF000_0000,
-    0x1008_0404,
-    0x2080_0014,
-    16,
-    4,
-    0x0108_0000,
-    1,
-    0,
-    0x2180_0009,
-    0xB100_1101,
-    0x742,
-    0,
-    0x2600_0040,
-    2,
-    2,
-    1,
-    2,
-    0,
-    0,
-    1,
-    0,
-    0,
-    1,
-    1,
-    3,
-    0,
-    0,
-    20,
-    9,
-    0x3000_001E,
-];
+const INPUT: &str = "F0000000 10080404 20800014 10 4 1080000 1 0 21800009 B1001101 742 0 26000040
+    2 2 1 2 0 0 1 0 0 1 1 3 0 0 14 9 3000001E";
 
 #[test]
 fn every_change_of_a_byte() {
     let mut checks = Checks::new(21);
-    for bundle in [words(&EXAMPLE), words(&INPUT)] {
+    for text in [EXAMPLE, INPUT] {
+        let bundle = words(text).expect("words");
         for at in 0..bundle.len() {
             for value in 0..=255 {
                 let mut changed = bundle.clone();
@@ -254,24 +224,25 @@ fn every_change_of_a_byte() {
             }
         }
     }
-    println!("every change of a byte: {:?}", checks.counts.0);
+    checks.counts.assert_reached("every change of a byte", [0, 3, 4, 10, 11, 12, 15, 16].into_iter());
 }
 
 #[test]
 fn every_short_bundle() {
     let mut checks = Checks::new(22);
-    for length in 0..=44 {
-        checks.pack(&words(&EXAMPLE)[..length], 176, 112);
+    let example = words(EXAMPLE).expect("words");
+    for length in 0..=example.len() {
+        checks.pack(&example[..length], 176, 112);
     }
     for a in 0..=255 {
         checks.pack(&[a as u8], 16, 8);
         for b in 0..=255 {
-            checks.pack(&words(&[0xF000_0000 | a, 0x3000_0002 ^ b << 24]), 32, 8);
-            checks.pack(&words(&[0xF000_0001, 0x1000_0000 | a << 8 | b, 0x3000_0003]), 48, 12);
-            checks.pack(&words(&[0xF000_0000, 0x1008_0405, 0x2000_0000 | a << 20 | b, 0, 0x3000_0005]), 80, 20);
+            checks.pack(&bytes(&[0xF000_0000 | a, 0x3000_0002 ^ b << 24]), 32, 8);
+            checks.pack(&bytes(&[0xF000_0001, 0x1000_0000 | a << 8 | b, 0x3000_0003]), 48, 12);
+            checks.pack(&bytes(&[0xF000_0000, 0x1008_0405, 0x2000_0000 | a << 20 | b, 0, 0x3000_0005]), 80, 20);
         }
     }
-    println!("every short bundle: {:?}", checks.counts.0);
+    checks.counts.assert_reached("every short bundle", [1, 3, 4].into_iter());
 }
 
 /// 1, whatever else is wrong.
