@@ -2,7 +2,8 @@
 
 use barthovin::command::{meaning, near};
 use barthovin::ffi;
-use barthovin::generate::{call, Random};
+use barthovin::generate::{call, long_line, strings_of, Random};
+use barthovin::reference::{pack, Packed, LONGEST_BUNDLE};
 use barthovin::vectors::words;
 use std::fs;
 use std::io::Write;
@@ -104,6 +105,18 @@ fn packs_standard_input_and_output() {
     assert_eq!(names(&home), [""; 0]);
     assert_eq!(status(&run_in(&home, &["pack", "-", "-o", "new"], &bytes(BUNDLE))), 0);
     assert_eq!(fs::read(home.join("new")).unwrap(), bytes(PACKAGE));
+}
+
+/// The longest bundle, and one whose package is many times as long.
+#[test]
+fn packs_large_bundles() {
+    let home = directory("large");
+    for bundle in [long_line(LONGEST_BUNDLE), strings_of(8_388_607)] {
+        fs::write(home.join("bundle"), &bundle).unwrap();
+        assert_eq!(status(&run_in(&home, &["pack", "bundle", "-o", "package"], &[])), 0);
+        let Packed::Made(wanted) = pack(&bundle, 4 * bundle.len(), usize::MAX) else { panic!("refused") };
+        assert!(fs::read(home.join("package")).unwrap() == wanted);
+    }
 }
 
 #[cfg(unix)]
