@@ -1,7 +1,7 @@
 # `make test` is the gate: the layout of every file; every proof, must-fail edit and program, from nothing; then the host's tests on
 # the proved functions. Its last line is that of `rt ci`, and it stops with an error where any step fails.
 
-.PHONY: test host fmt
+.PHONY: test library host pack-example fmt
 
 test:
 	rt fmt --check
@@ -12,9 +12,17 @@ test:
 	tail -n 1 "$$out"
 
 # The static library is written behind `rt ci`, which removes target/.
-host:
+library:
 	rt staticlib archive > /dev/null
+
+host: library
 	cd host && cargo test --release --offline
+
+# Packs the example, and looks its unit up in the package.
+barthovin = cargo run --release --offline --quiet --bin barthovin --
+pack-example: library
+	cd host && $(barthovin) pack ../examples/one-unit.bundle -o ../target/one-unit.package
+	cd host && $(barthovin) lookup ../target/one-unit.package 5 cu 1 section info
 
 fmt:
 	rt fmt

@@ -11,8 +11,24 @@ struct Answer {
     looks: usize,
 }
 
+/// Code 0: the package has that length. 18: that length is needed. Else the refusal, with 0.
+#[repr(C)]
+struct Packing {
+    code: u32,
+    length: usize,
+}
+
 // A slice is passed as a pointer and a length.
 extern "C" {
+    fn barthovin_pack(
+        bundle: *const u8,
+        bundle_length: usize,
+        work: *mut u32,
+        work_length: usize,
+        output: *mut u8,
+        output_length: usize,
+    ) -> Packing;
+    fn barthovin_pack_small(bundle: *const u8, bundle_length: usize, output: *mut u8, output_length: usize) -> Packing;
     fn barthovin_lookup(
         package: *const u8,
         package_length: usize,
@@ -56,4 +72,21 @@ pub fn lookup(package: &[u8], version: u32, table: u32, identity: u64, section: 
 pub fn lookup_string(package: &[u8], version: u32, table: u32, identity: u64, entry: u64) -> Found {
     let answer = unsafe { barthovin_lookup_string(package.as_ptr(), package.len(), version, table, identity, entry) };
     found(answer, package)
+}
+
+/// Packs a bundle: code and length. Behind it the output holds the package and zeros, or zeros only, and work zeros.
+pub fn pack(bundle: &[u8], work: &mut [u32], output: &mut [u8]) -> (u32, usize) {
+    // The entry reads and writes the slices that it is lent, and nothing else.
+    let Packing { code, length } = unsafe {
+        let (work_start, output_start) = (work.as_mut_ptr(), output.as_mut_ptr());
+        barthovin_pack(bundle.as_ptr(), bundle.len(), work_start, work.len(), output_start, output.len())
+    };
+    (code, length)
+}
+
+/// The same with 4,096 words of its own, for a bundle of at most 1,024 bytes.
+pub fn pack_small(bundle: &[u8], output: &mut [u8]) -> (u32, usize) {
+    let Packing { code, length } =
+        unsafe { barthovin_pack_small(bundle.as_ptr(), bundle.len(), output.as_mut_ptr(), output.len()) };
+    (code, length)
 }

@@ -10,7 +10,7 @@ mod questions;
 mod random;
 
 pub use damage::damage;
-pub use large::{long_line, many_units, suffixes};
+pub use large::{long_line, many_units, strings_of, suffixes, units_of};
 pub use objects::{good, Draft, DraftObject};
 pub use questions::{question, Asked, Question};
 pub use random::Random;

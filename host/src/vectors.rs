@@ -14,6 +14,12 @@ fn bytes(text: &str) -> Option<Vec<u8>> {
     (0..digits.len()).step_by(2).map(|i| u8::from_str_radix(digits.get(i..i + 2)?, 16).ok()).collect()
 }
 
+/// The bytes of words in hexadecimal, as document 01 writes them.
+pub fn words(text: &str) -> Option<Vec<u8>> {
+    let word = |w| u32::from_str_radix(w, 16).ok().map(u32::to_le_bytes);
+    Some(text.split_whitespace().map(word).collect::<Option<Vec<_>>>()?.concat())
+}
+
 fn number(text: &str) -> Option<u64> {
     match text.strip_prefix("0x") {
         Some(digits) => u64::from_str_radix(digits, 16).ok(),

@@ -69,25 +69,32 @@ fn word(bytes: &[u8], at: usize) -> Option<u32> {
 impl<'a> Bundle<'a> {
     /// None where the word format is broken.
     pub fn read(bytes: &'a [u8]) -> Option<Bundle<'a>> {
-        let big = match word(bytes, 0)? {
-            0xF000_0000 => false,
-            0xF000_0001 => true,
-            _ => return None,
+        Bundle::read_words(bytes).ok()
+    }
+
+    /// The same; the error is the place of the first bad word.
+    pub fn read_words(bytes: &'a [u8]) -> Result<Bundle<'a>, usize> {
+        let big = match word(bytes, 0) {
+            Some(0xF000_0000) => false,
+            Some(0xF000_0001) => true,
+            _ => return Err(0),
         };
         let mut objects = Vec::new();
         let mut at = 4;
         loop {
-            let (kind, rest) = (word(bytes, at)? >> 28, word(bytes, at)? & 0x0FFF_FFFF);
+            let place = at;
+            let whole = word(bytes, place).ok_or(place)?;
+            let (kind, rest) = (whole >> 28, whole & 0x0FFF_FFFF);
             at += 4;
             match kind {
                 1 if rest < 1 << 24 => objects.push(Object { word: 1 << 28 | rest, sections: Vec::new() }),
                 2 => {
-                    let section = read_section(bytes, at, rest)?;
+                    let section = read_section(bytes, at, rest).ok_or(place)?;
                     at += section.bytes.len().next_multiple_of(4);
-                    objects.last_mut()?.sections.push(section);
+                    objects.last_mut().ok_or(place)?.sections.push(section);
                 }
-                3 if at == bytes.len() && rest as usize * 4 == at => return Some(Bundle { big, objects }),
-                _ => return None,
+                3 if at == bytes.len() && rest as usize * 4 == at => return Ok(Bundle { big, objects }),
+                _ => return Err(place),
             }
         }
     }

@@ -1,6 +1,6 @@
 //! "Packing": the refusals in order, and the package.
 
-use super::bundle::{self, length_is_good, Bundle, Encoding, Object};
+use super::bundle::{self, length_is_good, Bundle, Encoding, Object, Section};
 use super::index::{self, Index, Probe, Row};
 use super::strings::StringTable;
 use super::unit::{self, Table, Unit};
@@ -12,6 +12,21 @@ pub enum Packed {
     /// 18, with the length needed.
     Short(usize),
     Made(Vec<u8>),
+}
+
+/// What is judged: an object, counted from 1, and which of its units.
+#[derive(Clone, Copy, Debug, Default, PartialEq, Eq)]
+pub struct Place {
+    pub object: usize,
+    pub unit: Option<UnitPlace>,
+}
+
+#[derive(Clone, Copy, Debug, PartialEq, Eq)]
+pub struct UnitPlace {
+    pub section: u32,
+    /// In the section, and in the bundle.
+    pub offset: usize,
+    pub at: usize,
 }
 
 pub const LONGEST_BUNDLE: usize = 4_194_304;
@@ -48,12 +63,15 @@ fn package_of(bytes: &[u8], work_words: usize) -> Result<Vec<u8>, u32> {
     }
     let bundle = Bundle::read(bytes).ok_or(3u32)?;
     let mut package = InProgress::new();
-    for object in &bundle.objects {
-        let encoding = Encoding::of(bundle.big, object.word);
-        judge_object(&bundle, object, encoding)?;
-        package.add_input_object(object, encoding)?;
-    }
+    package.add_input_objects(&bundle)?;
     package.finish(&bundle)
+}
+
+/// The number of 4 to 16 that refuses a bundle, and what it refuses.
+pub fn refused_at(bundle: &Bundle) -> Option<(u32, Place)> {
+    let mut package = InProgress::new();
+    let number = package.add_input_objects(bundle).err()?;
+    Some((number, package.judged))
 }
 
 /// 4 to 7.
@@ -136,6 +154,8 @@ struct InProgress<'a> {
     seen: HashSet<(Table, u64)>,
     cu_rows: Vec<Row>,
     tu_rows: Vec<Row>,
+    /// What is judged now.
+    judged: Place,
 }
 
 impl<'a> InProgress<'a> {
@@ -146,7 +166,19 @@ impl<'a> InProgress<'a> {
             seen: HashSet::new(),
             cu_rows: Vec::new(),
             tu_rows: Vec::new(),
+            judged: Place::default(),
         }
+    }
+
+    /// 4 to 16, object by object.
+    fn add_input_objects(&mut self, bundle: &Bundle<'a>) -> Result<(), u32> {
+        for (object, number) in bundle.objects.iter().zip(1..) {
+            self.judged = Place { object: number, unit: None };
+            let encoding = Encoding::of(bundle.big, object.word);
+            judge_object(bundle, object, encoding)?;
+            self.add_input_object(object, encoding)?;
+        }
+        Ok(())
     }
 
     /// 8 to 16 of one object.
@@ -159,7 +191,7 @@ impl<'a> InProgress<'a> {
         let tu_index = load_index(object, TU_INDEX, encoding)?;
         let mut input = Input { object, encoding, cu_index, tu_index, cu_sums: [0; 11], tu_sums: [0; 11] };
         for section in object.sections.iter().filter(|s| s.code == INFO || s.code == TYPES) {
-            self.add_units(&mut input, section.code, section.bytes)?;
+            self.add_units(&mut input, section)?;
         }
         for code in SHARED {
             let bytes = if code == STR_OFFSETS { &remapped } else { object.bytes(code) };
@@ -169,9 +201,11 @@ impl<'a> InProgress<'a> {
     }
 
     /// The units of one section, from its front.
-    fn add_units(&mut self, input: &mut Input, section: u32, bytes: &[u8]) -> Result<(), u32> {
+    fn add_units(&mut self, input: &mut Input, from: &Section) -> Result<(), u32> {
+        let (section, bytes) = (from.code, from.bytes);
         let mut at = 0;
         while at < bytes.len() {
+            self.judged.unit = Some(UnitPlace { section, offset: at, at: from.start + at });
             let unit = unit::read(section, &bytes[at..], input.object.bytes(ABBREV), input.encoding)?;
             let new = self.seen.insert((unit.table, unit.identity));
             if !new && unit.table == Table::Compilation {
