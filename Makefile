@@ -1,7 +1,17 @@
 # `make test` is the gate: the layout of every file; every proof, must-fail edit and program, from nothing; then the host's tests on
 # the proved functions. Its last line is that of `rt ci`, and it stops with an error where any step fails.
+#
+# Beside the gate: `make differential` compares with thorin itself and feeds a million damaged bundles; `make bench` writes
+# docs/PERFORMANCE.md.
 
-.PHONY: test host fmt
+# A program that packs bundles with thorin; it is built where it is and what it needs is at hand.
+ORACLE_SOURCE ?= ../shared/oracle
+ORACLE = $(CURDIR)/target/oracle/release/thorin-oracle
+ACCEPTED ?= 100000
+DAMAGED ?= 1000000
+SEED ?= 1
+
+.PHONY: test host fmt library oracle differential bench
 
 test:
 	rt fmt --check
@@ -19,3 +29,25 @@ host:
 fmt:
 	rt fmt
 	cd host && cargo fmt
+
+# BARTHOVIN_LIBRARY names a directory with a library that is there already.
+library:
+	test -n "$$BARTHOVIN_LIBRARY" || rt staticlib archive > /dev/null
+
+oracle:
+	@test -f "$(ORACLE_SOURCE)/Cargo.toml" || \
+	{ echo "thorin is not at hand: ORACLE_SOURCE=$(ORACLE_SOURCE) has no Cargo.toml"; exit 1; }
+	@missing=; for crate in gimli object hashbrown itertools tracing; do \
+	ls -d /usr/share/cargo/registry/$$crate-[0-9]* > /dev/null 2>&1 || missing="$$missing librust-$$crate-dev"; done; \
+	test -z "$$missing" || { echo "thorin can't be built: these Debian packages are missing:$$missing"; exit 1; }
+	cd "$(ORACLE_SOURCE)" && CARGO_TARGET_DIR="$(CURDIR)/target/oracle" cargo build --release --locked --offline
+
+differential: oracle library
+	cd host && cargo build --release --offline --bins
+	host/target/release/against_oracle "$(ORACLE)" $(ACCEPTED) $(SEED)
+	host/target/release/damaged $(DAMAGED) $(SEED)
+
+bench: library
+	@$(MAKE) --no-print-directory oracle || echo "measuring without thorin"
+	cd host && cargo build --release --offline --bin bench
+	host/target/release/bench docs/PERFORMANCE.md "$(ORACLE)"
