@@ -37,6 +37,8 @@ library:
 oracle:
 	@test -f "$(ORACLE_SOURCE)/Cargo.toml" || \
 	{ echo "thorin is not at hand: ORACLE_SOURCE=$(ORACLE_SOURCE) has no Cargo.toml"; exit 1; }
+	@sources="$${THORIN_SRC:-$(ORACLE_SOURCE)/../docs/src/thorin/src}"; test -f "$$sources/package.rs" || \
+	{ echo "thorin's sources are not at hand: $$sources has no package.rs (THORIN_SRC names another folder)"; exit 1; }
 	@missing=; for crate in gimli object hashbrown itertools tracing; do \
 	ls -d /usr/share/cargo/registry/$$crate-[0-9]* > /dev/null 2>&1 || missing="$$missing librust-$$crate-dev"; done; \
 	test -z "$$missing" || { echo "thorin can't be built: these Debian packages are missing:$$missing"; exit 1; }

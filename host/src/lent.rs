@@ -4,6 +4,7 @@
 use crate::ffi;
 use crate::generate::Random;
 use crate::reference::Packed;
+use std::time::{Duration, Instant};
 
 const MARGIN: usize = 16;
 const JUNK: usize = 1 << 16;
@@ -16,6 +17,7 @@ pub struct Lent {
     work: Vec<u32>,
     output: Vec<u8>,
     calls: usize,
+    took: Duration,
 }
 
 /// An answer, with the package where it is accepted.
@@ -61,7 +63,7 @@ impl Lent {
         let junk = (0..JUNK).map(|_| random.between(1, 255) as u8).collect();
         // Small numbers too: they look like places and counts.
         let junk_words = (0..JUNK).map(|_| (random.any() >> random.pick(&[32, 44, 56])) as u32 | 1).collect();
-        Lent { junk, junk_words, work: Vec::new(), output: Vec::new(), calls: 0 }
+        Lent { junk, junk_words, work: Vec::new(), output: Vec::new(), calls: 0, took: Duration::ZERO }
     }
 
     /// Packs with so many words of work and so many bytes of output; an error where memory is not left as it must be.
@@ -71,7 +73,10 @@ impl Lent {
         fill(&mut self.work, work, &self.junk_words, start);
         fill(&mut self.output, output, &self.junk, start);
         let lent_work = &mut self.work[MARGIN..MARGIN + work];
-        let (code, length) = ffi::pack(bundle, lent_work, &mut self.output[MARGIN..MARGIN + output]);
+        let lent_output = &mut self.output[MARGIN..MARGIN + output];
+        let clock = Instant::now();
+        let (code, length) = ffi::pack(bundle, lent_work, lent_output);
+        self.took = clock.elapsed();
         self.judge(start, work, output, code, length)?;
         let made = if code == 0 { length } else { 0 };
         Ok(Packing { code, length, package: &self.output[MARGIN..MARGIN + made] })
@@ -86,6 +91,11 @@ impl Lent {
             return Ok(Packing { code, length, package: &self.output[MARGIN..MARGIN + made] });
         }
         self.pack(bundle, work, length)
+    }
+
+    /// The time of the last call, without the filling before it and the judging behind it.
+    pub fn took(&self) -> Duration {
+        self.took
     }
 
     /// What every answer promises of the memory lent, and the margins.

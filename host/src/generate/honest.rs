@@ -27,18 +27,21 @@ pub const KINDS: [Kind; 9] = [
     Kind { name: "many entries, 16 strings", items: "entries", make: entries_of_few_strings },
 ];
 
-/// The bundle of a kind with the most items that a length allows, within a hundredth, and their number.
+/// A bundle of a kind that is at most so long, and less by a hundredth at most where that can be had; and its items.
 pub fn sized(kind: &Kind, length: usize) -> (Vec<u8>, u64) {
-    let mut count = 64;
-    let mut bundle = (kind.make)(count);
-    loop {
-        let fits = bundle.len() <= length;
-        if fits && bundle.len() * 100 >= length * 99 {
-            return (bundle, count);
+    let (mut bundle, mut count, mut next) = (Vec::new(), 0, 64);
+    for _ in 0..20 {
+        let tried = (kind.make)(next);
+        let made = tried.len();
+        if made <= length && made > bundle.len() {
+            (bundle, count) = (tried, next);
         }
-        count = (count * length as u64 * 199 / 200 / bundle.len() as u64).max(1);
-        bundle = (kind.make)(count);
+        if bundle.len() * 100 >= length * 99 {
+            break;
+        }
+        next = (next * length as u64 * 399 / 400 / made as u64).max(1);
     }
+    (bundle, count)
 }
 
 fn identity(number: u64) -> u64 {
