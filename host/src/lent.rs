@@ -1,6 +1,7 @@
 //! Memory to lend to the proved packer. It is full of junk before a call, and behind it every byte is judged: what was lent,
 //! and the margins around it.
 
+use crate::clock;
 use crate::ffi;
 use crate::generate::Random;
 use crate::reference::Packed;
@@ -69,15 +70,16 @@ impl Lent {
     /// Packs with so many words of work and so many bytes of output; an error where memory is not left as it must be.
     pub fn pack(&mut self, bundle: &[u8], work: usize, output: usize) -> Result<Packing<'_>, String> {
         self.calls = (self.calls + 7_919) % JUNK;
-        let start = self.calls;
-        fill(&mut self.work, work, &self.junk_words, start);
-        fill(&mut self.output, output, &self.junk, start);
+        let turn = self.calls;
+        fill(&mut self.work, work, &self.junk_words, turn);
+        fill(&mut self.output, output, &self.junk, turn);
         let lent_work = &mut self.work[MARGIN..MARGIN + work];
         let lent_output = &mut self.output[MARGIN..MARGIN + output];
-        let clock = Instant::now();
+        let (start, wall) = (clock::thread(), Instant::now());
         let (code, length) = ffi::pack(bundle, lent_work, lent_output);
-        self.took = clock.elapsed();
-        self.judge(start, work, output, code, length)?;
+        let passed = wall.elapsed();
+        self.took = clock::between(start, clock::thread()).map_or(passed, |t| t.min(passed));
+        self.judge(turn, work, output, code, length)?;
         let made = if code == 0 { length } else { 0 };
         Ok(Packing { code, length, package: &self.output[MARGIN..MARGIN + made] })
     }
@@ -90,16 +92,18 @@ impl Lent {
             let made = if code == 0 { length } else { 0 };
             return Ok(Packing { code, length, package: &self.output[MARGIN..MARGIN + made] });
         }
-        self.pack(bundle, work, length)
+        let second = self.pack(bundle, work, length)?;
+        let true_length = (second.code, second.length) == (0, length);
+        true_length.then_some(second).ok_or_else(|| format!("{length} bytes were asked for and are not what is needed"))
     }
 
-    /// The time of the last call, without the filling before it and the judging behind it.
+    /// The processor's time of the last call, without the filling before it and the judging behind it.
     pub fn took(&self) -> Duration {
         self.took
     }
 
     /// What every answer promises of the memory lent, and the margins.
-    fn judge(&self, start: usize, work: usize, output: usize, code: u32, length: usize) -> Result<(), String> {
+    fn judge(&self, turn: usize, work: usize, output: usize, code: u32, length: usize) -> Result<(), String> {
         let made = match code {
             0 if length <= output => length,
             18 if length > output => 0,
@@ -113,8 +117,8 @@ impl Lent {
         if !is_zero(&self.output[MARGIN + made..output_end]) {
             return Err(format!("output is not zero behind code {code}, length {length}"));
         }
-        let is_junk = |at: usize| self.junk[(at % JUNK + start) % JUNK];
-        let is_junk_word = |at: usize| self.junk_words[(at % JUNK + start) % JUNK];
+        let is_junk = |at: usize| self.junk[(at % JUNK + turn) % JUNK];
+        let is_junk_word = |at: usize| self.junk_words[(at % JUNK + turn) % JUNK];
         let outside = |end: usize| (0..MARGIN).chain(end..end + MARGIN);
         let kept = outside(output_end).all(|i| self.output[i] == is_junk(i))
             && outside(work_end).all(|i| self.work[i] == is_junk_word(i));

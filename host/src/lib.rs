@@ -2,8 +2,10 @@
 //!
 //! `ffi` calls the proved functions. `reference` says what document 01 says, in plain Rust written from the document alone.
 //! `vectors` reads questions with their answers, and `generate` makes questions without end. `lent` is memory to lend to the
-//! packer, judged behind each call. `oracle` asks thorin where it is at hand, and `sample` keeps some of its answers.
+//! packer, judged behind each call. `oracle` asks thorin where it is at hand, and `sample` keeps some of its answers;
+//! `clock` is for timing.
 
+pub mod clock;
 pub mod ffi;
 pub mod generate;
 pub mod lent;

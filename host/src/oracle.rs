@@ -3,8 +3,10 @@
 //! It reads (u32 length, bundle)* and writes (tag, u32 length, bytes)*, little-endian: tag 0 for a package, 1 for an error,
 //! 2 for a panic.
 
+use crate::clock;
 use std::io::{Error, Read, Result, Write};
 use std::process::{Child, ChildStdin, ChildStdout, Command, Stdio};
+use std::time::Duration;
 
 pub struct Oracle {
     child: Child,
@@ -26,6 +28,11 @@ impl Oracle {
     pub fn version(path: &str) -> Result<String> {
         let told = Command::new(path).arg("--version").output()?;
         Ok(String::from_utf8_lossy(&told.stdout).trim().to_string())
+    }
+
+    /// The processor's time that it took up to now.
+    pub fn time(&self) -> Option<Duration> {
+        clock::process(self.child.id())
     }
 
     /// The tag; the bytes are put in the place of what `answer` holds.

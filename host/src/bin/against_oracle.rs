@@ -20,6 +20,9 @@ use std::io::{Error, Result};
 
 const USAGE: &str = "against_oracle ORACLE NUMBER [SEED], or against_oracle ORACLE --sample NUMBER FILE [SEED]";
 
+/// So many differences end the comparison: a packer that refuses everything would never be done.
+const ENOUGH: u64 = 1_000;
+
 /// What was seen: how often thorin gave each kind of answer, by document 01's number, 0 for accepted.
 #[derive(Default)]
 struct Tally {
@@ -103,7 +106,7 @@ fn compare(oracle: &mut Oracle, wanted: u64, seed: u64) -> Result<Tally> {
     let never = never_packed();
     let mut bytes = Vec::new();
     let mut accepted = 0;
-    while accepted < wanted {
+    while accepted < wanted && tally.differences < ENOUGH {
         let bundle = call(&mut random).bundle;
         let tag = oracle.ask(&bundle, &mut bytes)?;
         let packing = lent.pack_whole(&bundle).map_err(|e| Error::other(format!("{e}: {}", words(&bundle))))?;

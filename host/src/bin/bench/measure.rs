@@ -1,5 +1,6 @@
 //! One bundle measured: the proved packer with junk in what it is lent, and thorin by the oracle.
 
+use barthovin::clock;
 use barthovin::ffi;
 use barthovin::lent::Lent;
 use barthovin::oracle::Oracle;
@@ -72,7 +73,7 @@ impl Bench {
         })
     }
 
-    /// The time of an answer, less that of the same question with a wrong offset width: to that the oracle reads the bundle,
+    /// The oracle's time for an answer, less that for the same question with a wrong offset width: to that the oracle reads the bundle,
     /// writes an ELF file for each object and stops before it calls thorin.
     fn thorin(&mut self, bundle: &[u8], package: &[u8]) -> Result<Option<Duration>> {
         let Some(oracle) = &mut self.oracle else { return Ok(None) };
@@ -84,13 +85,13 @@ impl Bench {
     }
 }
 
-/// The time of a question whose answer is known.
+/// The oracle's time for a question whose answer is known.
 fn asked(oracle: &mut Oracle, question: &[u8], tag: u8, wanted: &[u8]) -> Result<Duration> {
     let mut answer = Vec::new();
     shortest(|| {
-        let clock = Instant::now();
+        let start = oracle.time();
         let told = oracle.ask(question, &mut answer)?;
-        let took = clock.elapsed();
+        let took = clock::between(start, oracle.time()).ok_or_else(|| Error::other("no clock for another process"))?;
         if told != tag || answer != wanted {
             return Err(Error::other(format!("thorin differs on a bundle of {} bytes", question.len())));
         }

@@ -30,15 +30,23 @@ const TIMED: &str = "## What is timed
 - Ours: one call of `barthovin_pack` through C. It is lent 16 words of work for each word of the bundle, and as much output as the
   package takes. Both are full of junk before each call, which is not timed. The packer clears both itself, so its time includes that.
   \"Clearing\" is the same call with a wrong head word: it clears what was lent and refuses.
-- thorin: the oracle has no clock, so this is the time from a question to its answer through pipes, less the time of the same question
-  with offset width 0, to which the oracle reads the bundle, writes an ELF file for each object, and stops before it calls thorin.
+- thorin: the oracle has no clock, so this is the time that its process takes for a question, less what it takes for the same question
+  with offset width 0, to which it reads the bundle, writes an ELF file for each object, and stops before it calls thorin.
   What is left is thorin's `add_input_object` and `finish`, and what the oracle does then: it writes the package as ELF, reads
   it back into words and sends them. The first kind, where thorin only copies, shows how much that is. thorin allocates its memory as it
   goes; ours is lent.
+- All times are the processor's, in which other programs have no part but that they share its caches.
 - A figure is the shortest of 7 to 2,001 rounds, of fewer where a round takes more than half a second. Figures vary from run to run, and
   with what else the machine does; those of thorin more, being differences. Every package is compared with thorin's, byte for byte.
 - 1 MB is 1,048,576 bytes; the longest bundle has 4 MB. Identities are spread as hashes are. Of each kind, one thing is there
   many times: units of about 80 bytes, strings of 16 letters.
+";
+
+const STRINGS: &str = "## Different strings
+
+A string is looked for among those kept, one by one, so the time is quadratic in the number of different strings. That is by plan:
+document 02 changes it, first by a search that ends at the first match, then by a hash index in work. thorin has a hash map. Each
+string here is new and named once.
 ";
 
 /// Digits in groups of three.
@@ -168,19 +176,18 @@ impl Paper {
     }
 
     fn many_strings(&self, out: &mut Formatter) -> Result {
-        writeln!(out, "## Different strings\n")?;
-        writeln!(
-            out,
-            "A string is looked for among those kept, one by one, so the time is quadratic in the number of different"
-        )?;
-        writeln!(out, "strings. That is by plan: document 02 changes it, by a search that ends at the first match and then by a hash")?;
-        writeln!(out, "index in work. thorin has a hash map. Each string here is new and named once.\n")?;
+        writeln!(out, "{STRINGS}")?;
         writeln!(out, "| kind | bundle | of | ours | times the one before | thorin | times the one before |")?;
         writeln!(out, "|---|---|---|---|---|---|---|")?;
         grown(out, &self.strings)?;
         let Some(last) = self.strings.measured.last() else { return Ok(()) };
+        let factor = self.strings.last_factor();
+        writeln!(
+            out,
+            "\nOver the last two doublings our time grew at each, on average, by {factor:.2}; 4 is quadratic."
+        )?;
         let ratio = last.ratio().map_or(String::new(), |r| format!(" That is {r:.1} times thorin's time."));
-        writeln!(out, "\n{} strings take {}.{}", grouped(last.items), time(last.ours), ratio)?;
+        writeln!(out, "{} strings take {}.{}", grouped(last.items), time(last.ours), ratio)?;
         let times = (MOST_STRINGS / last.items as f64).powi(2);
         let estimate = time(last.ours.mul_f64(times));
         writeln!(
