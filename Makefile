@@ -50,6 +50,6 @@ differential: oracle library
 	host/target/release/damaged $(DAMAGED) $(SEED)
 
 bench: library
-	@$(MAKE) --no-print-directory oracle || echo "measuring without thorin"
 	cd host && cargo build --release --offline --bin bench
-	host/target/release/bench docs/PERFORMANCE.md "$(ORACLE)"
+	@oracle="$(ORACLE)"; $(MAKE) --no-print-directory oracle || oracle=; \
+	host/target/release/bench docs/PERFORMANCE.md "$$oracle"

@@ -1,7 +1,9 @@
 //! Answers of thorin, kept as lines of text, so that they can be compared where thorin is not at hand.
 //!
-//!     package BUNDLE = BYTES
-//!     refused NUMBER BUNDLE = package | error TEXT | panic TEXT
+//! ```text
+//! package BUNDLE = BYTES
+//! refused NUMBER BUNDLE = package | error TEXT | panic TEXT
+//! ```
 //!
 //! Bundles and bytes are hexadecimal. A bundle that document 01 accepts has thorin's package; one that it refuses has document
 //! 01's number and what thorin did.

@@ -37,7 +37,8 @@ const TIMED: &str = "## What is timed
   goes; ours is lent.
 - All times are the processor's, in which other programs have no part but that they share its caches.
 - A figure is the shortest of 7 to 2,001 rounds, of fewer where a round takes more than half a second. Figures vary from run to run, and
-  with what else the machine does; those of thorin more, being differences. Every package is compared with thorin's, byte for byte.
+  with what else the machine does; those of thorin more, being differences. Where thorin is at hand, every package is compared with its own,
+  byte for byte.
 - 1 MB is 1,048,576 bytes; the longest bundle has 4 MB. Identities are spread as hashes are. Of each kind, one thing is there
   many times: units of about 80 bytes, strings of 16 letters.
 ";
