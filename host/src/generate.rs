@@ -3,17 +3,21 @@
 
 mod abbreviations;
 mod damage;
+mod honest;
 mod inputs;
 mod large;
 mod objects;
 mod questions;
 mod random;
+mod spoil;
 
 pub use damage::damage;
+pub use honest::{many_strings, sized, Kind, KINDS};
 pub use large::{long_line, many_units, strings_of, suffixes, units_of};
 pub use objects::{good, Draft, DraftObject};
 pub use questions::{question, Asked, Question};
 pub use random::Random;
+pub use spoil::damaged_call;
 
 /// What packing is asked: the bundle, the words of work, the bytes of output.
 #[derive(Clone, Debug, PartialEq, Eq)]
@@ -27,6 +31,11 @@ pub struct Call {
 pub fn call(random: &mut Random) -> Call {
     let draft = good(random);
     let bundle = if random.one_in(3) { draft.bytes() } else { damage(random, draft) };
+    lend(random, bundle)
+}
+
+/// Memory for a bundle: enough most often.
+fn lend(random: &mut Random, bundle: Vec<u8>) -> Call {
     let needed = bundle.len() / 4 * 16;
     let work = match random.below(20) {
         0 => random.below(needed as u64 + 1) as usize,

@@ -1,0 +1,64 @@
+//! Damaged bundles through the proved packer: damaged NUMBER [SEED]
+//!
+//! Each answer and every byte of output and work is compared with the reference, in memory full of junk. It fails at the first
+//! difference, and where an answer takes longer than a minute.
+
+use barthovin::generate::{damaged_call, Call, Random};
+use barthovin::lender::Lender;
+use barthovin::reference::pack;
+use std::collections::BTreeMap;
+use std::io::{Error, Result};
+use std::sync::atomic::{AtomicU64, Ordering};
+use std::time::{Duration, Instant};
+
+/// Most packages of generated bundles fit; the others are 18, as the reference says too.
+const MOST_OUTPUT: usize = 2_048;
+
+static ANSWERED: AtomicU64 = AtomicU64::new(0);
+
+/// Ends the program where no answer comes for a minute.
+fn watch() {
+    std::thread::spawn(|| loop {
+        let before = ANSWERED.load(Ordering::Relaxed);
+        std::thread::sleep(Duration::from_secs(60));
+        if ANSWERED.load(Ordering::Relaxed) == before {
+            eprintln!("no answer to damaged bundle {before} (counted from 0) within a minute");
+            std::process::exit(1);
+        }
+    });
+}
+
+/// The answer's number, where it is the reference's.
+fn ask(lent: &mut Lender, call: &Call) -> std::result::Result<u32, String> {
+    let output = call.output.min(MOST_OUTPUT);
+    let packing = lent.pack(&call.bundle, call.work, output)?;
+    let wanted = pack(&call.bundle, call.work, output);
+    packing.agrees(&wanted).then_some(packing.code).ok_or_else(|| format!("{packing:?}, but wanted {wanted:?}"))
+}
+
+fn run(wanted: u64, seed: u64) -> Result<BTreeMap<u32, u64>> {
+    let (mut random, mut lent) = (Random::new(seed), Lender::new(seed));
+    let mut counts = BTreeMap::new();
+    for _ in 0..wanted {
+        let call = damaged_call(&mut random);
+        let number = ask(&mut lent, &call).map_err(|e| Error::other(format!("{e}, for {call:02X?}")))?;
+        *counts.entry(number).or_insert(0) += 1;
+        ANSWERED.fetch_add(1, Ordering::Relaxed);
+    }
+    Ok(counts)
+}
+
+fn main() -> Result<()> {
+    let words: Vec<String> = std::env::args().collect();
+    let number = |i: usize| words.get(i).and_then(|w| w.parse::<u64>().ok());
+    let wanted = number(1).ok_or_else(|| Error::other("damaged NUMBER [SEED]"))?;
+    let seed = number(2).unwrap_or(1);
+    watch();
+    let start = Instant::now();
+    let counts = run(wanted, seed)?;
+    println!("number    count   (0 is accepted)");
+    counts.iter().for_each(|(number, count)| println!("{number:6} {count:8}"));
+    let seconds = start.elapsed().as_secs_f64();
+    println!("{wanted} damaged bundles, each answer and every byte as the reference has it; {seconds:.1} seconds, seed {seed}");
+    Ok(())
+}
