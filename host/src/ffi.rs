@@ -1,5 +1,6 @@
 //! The proved functions, through their C entries.
 
+use crate::generate::Asked;
 use crate::reference::Found;
 
 /// Code 0: found, at that place of the package. 1: absent. Else the refusal, with zeros.
@@ -18,8 +19,43 @@ struct Packing {
     length: usize,
 }
 
+/// Packing's answer as above, and where it is 0 the lookup's.
+#[repr(C)]
+struct FromBundle {
+    packing: u32,
+    packed: usize,
+    code: u32,
+    start: usize,
+    length: usize,
+    looks: usize,
+}
+
 // A slice is passed as a pointer and a length.
 extern "C" {
+    fn barthovin_pack_and_look_up(
+        bundle: *const u8,
+        bundle_length: usize,
+        work: *mut u32,
+        work_length: usize,
+        output: *mut u8,
+        output_length: usize,
+        version: u32,
+        table: u32,
+        identity: u64,
+        section: u32,
+    ) -> FromBundle;
+    fn barthovin_pack_and_look_up_string(
+        bundle: *const u8,
+        bundle_length: usize,
+        work: *mut u32,
+        work_length: usize,
+        output: *mut u8,
+        output_length: usize,
+        version: u32,
+        table: u32,
+        identity: u64,
+        entry: u64,
+    ) -> FromBundle;
     fn barthovin_pack(
         bundle: *const u8,
         bundle_length: usize,
@@ -89,4 +125,37 @@ pub fn pack_small(bundle: &[u8], output: &mut [u8]) -> (u32, usize) {
     let Packing { code, length } =
         unsafe { barthovin_pack_small(bundle.as_ptr(), bundle.len(), output.as_mut_ptr(), output.len()) };
     (code, length)
+}
+
+/// Packs a bundle and asks its package one question in the same call: the lookup's answer, or packing's code and length where no
+/// package is made.
+pub fn pack_and_look_up(
+    bundle: &[u8],
+    work: &mut [u32],
+    output: &mut [u8],
+    version: u32,
+    table: u32,
+    identity: u64,
+    asked: Asked,
+) -> Result<Found, (u32, usize)> {
+    let (b, b_length) = (bundle.as_ptr(), bundle.len());
+    let (w, w_length) = (work.as_mut_ptr(), work.len());
+    let (o, o_length) = (output.as_mut_ptr(), output.len());
+    // The entries read and write the slices that they are lent, and nothing else.
+    let answer = unsafe {
+        match asked {
+            Asked::Section(section) => {
+                barthovin_pack_and_look_up(b, b_length, w, w_length, o, o_length, version, table, identity, section)
+            }
+            Asked::Entry(entry) => barthovin_pack_and_look_up_string(
+                b, b_length, w, w_length, o, o_length, version, table, identity, entry,
+            ),
+        }
+    };
+    let FromBundle { packing, packed, code, start, length, looks } = answer;
+    if packing != 0 {
+        assert_eq!((code, start, length, looks), (0, 0, 0, 0), "an answer of no package");
+        return Err((packing, packed));
+    }
+    Ok(found(Answer { code, start, length, looks }, &output[..packed]))
 }

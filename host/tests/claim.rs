@@ -2,7 +2,7 @@
 //! nothing else. What must be found is read from the bundle alone, and the looks are counted here.
 
 use barthovin::ffi;
-use barthovin::generate::{call, units_of, Random};
+use barthovin::generate::{call, units_of, Asked as Question, Call, Random};
 use barthovin::handed_in::{firsts, HandedIn};
 use barthovin::reference::{Bundle, Found};
 
@@ -217,6 +217,52 @@ fn what_is_handed_in_is_found_and_nothing_else() {
     println!("{counts:?}");
     assert!(counts.of_packages > 500 && counts.without_units > 100 && counts.no_table > 100, "{counts:?}");
     assert!(counts.strings > 5_000 && counts.absent > 5_000 && counts.most_looks > 3, "{counts:?}");
+}
+
+/// A table and an identity, mostly of a unit that an accepted bundle hands in.
+fn some_identity(random: &mut Random, bundle: &[u8]) -> (u32, u64) {
+    let (turn, table, identity) = (random.below(4) as usize, random.between(0, 3) as u32, random.below(8));
+    let bundle = Bundle::read(bundle);
+    let unit = bundle.as_ref().and_then(|b| firsts(b).get(turn).map(|unit| (unit.table, unit.identity)));
+    unit.unwrap_or((table, identity))
+}
+
+/// Packing, and one lookup in the package: by two calls.
+fn by_two_calls(
+    call: &Call,
+    (table, identity): (u32, u64),
+    version: u32,
+    asked: Question,
+) -> Result<Found, (u32, usize)> {
+    let mut output = vec![0xAA; call.output];
+    let (code, length) = ffi::pack(&call.bundle, &mut vec![0; call.work], &mut output);
+    match asked {
+        _ if code != 0 => Err((code, length)),
+        Question::Section(code) => Ok(ffi::lookup(&output[..length], version, table, identity, code)),
+        Question::Entry(entry) => Ok(ffi::lookup_string(&output[..length], version, table, identity, entry)),
+    }
+}
+
+/// One call, whose contract is demand 3 for one question, answers as two do, whatever work and output held.
+#[test]
+fn one_call_answers_as_two() {
+    let mut random = Random::new(32);
+    let (mut answered, mut refused) = (0, 0);
+    for _ in 0..20_000 {
+        let call = call(&mut random);
+        let (mut work, mut output) = (vec![0x5555_5555; call.work], vec![0x55; call.output]);
+        let accepted = packed(&call.bundle).is_some();
+        let (table, identity) = some_identity(&mut random, if accepted { &call.bundle } else { &[] });
+        let questions = [Question::Section(random.below(12) as u32), Question::Entry(random.below(4))];
+        let (version, asked) = (random.pick(&[2, 5]), random.pick(&questions));
+        let answer = ffi::pack_and_look_up(&call.bundle, &mut work, &mut output, version, table, identity, asked);
+        assert_eq!(answer, by_two_calls(&call, (table, identity), version, asked));
+        assert!(work.iter().all(|w| *w == 0), "work is not zero");
+        answered += usize::from(matches!(answer, Ok(Found::Part { .. })));
+        refused += usize::from(answer.is_err());
+    }
+    println!("{answered} found, {refused} not packed");
+    assert!(answered > 1_000 && refused > 1_000);
 }
 
 /// Many identities that meet in few slots.

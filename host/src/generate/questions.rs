@@ -5,7 +5,7 @@ use super::objects::{Draft, DraftObject};
 use super::random::Random;
 use crate::reference::{Bundle, Index};
 
-#[derive(Clone, Debug, PartialEq, Eq)]
+#[derive(Clone, Copy, Debug, PartialEq, Eq)]
 pub enum Asked {
     Section(u32),
     Entry(u64),
