@@ -45,9 +45,9 @@ const TIMED: &str = "## What is timed
 
 const STRINGS: &str = "## Different strings
 
-A string is looked for among those kept, one by one, so the time is quadratic in the number of different strings. That is by plan:
-document 02 changes it, first by a search that ends at the first match, then by a hash index in work. thorin has a hash map. Each
-string here is new and named once.
+A string is looked for among those kept, one by one up to the first match, so the time is quadratic in the number of different
+strings. That is by plan: document 02 puts a hash index beside them, in work. thorin has a hash map. Each string here is new and named
+once.
 ";
 
 /// Digits in groups of three.
