@@ -1,4 +1,4 @@
-# `make test` is the gate: the layout of every file; every proof, must-fail edit and program, from nothing; then the host's tests on
+# `make test` is the gate: the layout of every Rattle file; every proof, must-fail edit and program, from nothing; then the host's tests on
 # the proved functions. Its last line is that of `rt ci`, and it stops with an error where any step fails.
 #
 # Beside the gate: `make differential` compares with thorin itself and feeds a million damaged bundles; `make bench` writes

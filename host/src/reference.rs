@@ -1,7 +1,7 @@
 //! Document 01 in plain Rust: packing and both lookups, with every refusal.
 //!
-//! It is written from document 01 and the readings in docs/DECISIONS.md, never from the proved definitions, so that an
-//! error in one is not an error in the other. It is meant to be read, not to be fast.
+//! It is written from document 01 and the readings in docs/DECISIONS.md and shares no code with the proved definitions;
+//! docs/PROOF.md says which of them its author had seen. It is meant to be read, not to be fast.
 
 mod abbreviations;
 mod bundle;

@@ -12,10 +12,10 @@ use Rattle.lookup.specs.Lookup.{Found, lookedUp, stringFound}
 use Rattle.lookup.specs.Answers.{numbered}
 use Rattle.lookup.specs.declared.answering.Answer.{Answer as Numbers}
 use Rattle.packer.proofs.Made.{short-is, refused-is, it, starts}
-use Rattle.archive.specs.Question.{PartTold, StringTold, unpacked, AnsweredFrom}
+use Rattle.archive.specs.Question.{Looked, PartTold, StringTold, unpacked, AnsweredFrom}
 use Rattle.archive.specs.declared.asking.FromBundle.{FromBundle}
 use Rattle.archive.proofs.Demand3.{demand3}
-use Rattle.archive.proofs.Telling.{Looked, part-told, string-told}
+use Rattle.archive.proofs.Telling.{part-told, string-told}
 
 module _ (told : List ℕ → FromBundle → Type 0) (a : Answer) (n : ℕ) (r : FromBundle) where
   pub short-told : Short n ≡ finishedOf a → r ≡ unpacked 18 n → AnsweredFrom told a r

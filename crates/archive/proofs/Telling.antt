@@ -17,15 +17,8 @@ use Rattle.package.specs.Pack.{handedIn}
 use Rattle.lookup.specs.Lookup.{Found, refused, absent, part, lookedUp, stringFound}
 use Rattle.lookup.specs.Answers.{numbered}
 use Rattle.archive.specs.Theorem.{Asked, IsCode, IsHandedIn, IsFirst, handedPart, isIndexVersion, looks, IsPart, Holds, FromBundleToAnswer}
-use Rattle.archive.specs.Question.{Told, ToldAbsent, PartTold, StringTold}
+use Rattle.archive.specs.Question.{Looked, Told, ToldAbsent, PartTold, StringTold}
 use Rattle.archive.specs.declared.asking.FromBundle.{FromBundle}
-
--- the lookup's part of an answer
-pub record Looked (r : FromBundle) (f : Found) : Type 0 where
-  pub code : r .code ≡ numbered f .code
-  pub start : r .start ≡ numbered f .start
-  pub many : r .length ≡ numbered f .length
-  pub looked : r .looks ≡ numbered f .looks
 
 module _ (p : List ℕ) (r : FromBundle) where
   told : (f : Found) (n : ℕ) (bytes : List ℕ) → Looked r f → Holds p f n bytes → Told p r n bytes
@@ -68,6 +61,7 @@ module _ (b p : List ℕ) (t : FromBundleToAnswer b p) (v table x : ℕ) (r : Fr
 
     pub part-told : PartTold b p v table x code r
     part-told = record {
+      answer = l;
       foundExactlyWhenHandedIn = λ q c. (
         (λ z. ⊎-elim
             (λ (e : any (isUnder table x) (handedIn b) ≡ true). e)
@@ -88,6 +82,7 @@ module _ (b p : List ℕ) (t : FromBundleToAnswer b p) (v table x : ℕ) (r : Fr
   module _ (k : ℕ) (l : Looked r (stringFound p v table x k)) where
     pub string-told : StringTold b p v table x k r
     string-told = record {
+      answer = l;
       itsStrings = λ u q f m. let s = t .itsStrings v table x k u q f m in (s .0, s .1, told p r _ _ _ l (s .2));
       noOtherString = λ u q f m. told-refused p r _ _ l (t .noOtherString v table x k u q f m);
       absentIsAbsent = λ q e. told-absent p r _ _ l (t .absentIsAbsent v table x 1 k q (record { from = omega arith; to = omega arith }) e .1);

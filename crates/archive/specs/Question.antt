@@ -1,4 +1,5 @@
--- Demand 3 for one question, as `pack_and_look_up` answers it: the clauses of `Theorem.antt`, told of the numbers of its answer.
+-- Demand 3 for one question, as `pack_and_look_up` answers it: the answer is the lookup's, whatever is asked; and the clauses of `Theorem.antt` that speak
+-- of an answer, told of its numbers.
 -- Assumes nothing.
 use mathlib.Core.Path.{_≡_}
 use mathlib.Core.Logic.{_⊎_, _↔_}
@@ -12,8 +13,17 @@ use Rattle.octets.specs.Checked.{pass}
 use Rattle.strings.specs.Strings.{stringAt}
 use Rattle.package.specs.Filing.{Filed, isUnder, entriesOfUnit}
 use Rattle.package.specs.Pack.{Answer, refused, short, made, handedIn}
+use Rattle.lookup.specs.Lookup.{Found, lookedUp, stringFound}
+use Rattle.lookup.specs.Answers.{numbered}
 use Rattle.archive.specs.Theorem.{Asked, IsCode, IsHandedIn, IsFirst, handedPart, isIndexVersion, looks}
 use Rattle.archive.specs.declared.asking.FromBundle.{FromBundle}
+
+-- the lookup's part of the answer
+pub record Looked (r : FromBundle) (f : Found) : Type 0 where
+  pub code : r .code ≡ numbered f .code
+  pub start : r .start ≡ numbered f .start
+  pub many : r .length ≡ numbered f .length
+  pub looked : r .looks ≡ numbered f .looks
 
 -- the bytes are found in the package, after so many looks
 pub record Told (p : List ℕ) (r : FromBundle) (n : ℕ) (bytes : List ℕ) : Type 0 where
@@ -31,6 +41,7 @@ pub record ToldAbsent (r : FromBundle) (n : ℕ) : Type 0 where
 
 -- a part: b is accepted, p its package
 pub record PartTold (b p : List ℕ) (v table x code : ℕ) (r : FromBundle) : Type 0 where
+  pub answer : Looked r (lookedUp p v table x code)
   pub foundExactlyWhenHandedIn : Asked b v table → IsCode code → (r .code ≡ 0) ↔ IsHandedIn b table x
   pub theFirstUnit : (u : Filed) → Asked b v table → IsCode code → IsFirst b table x u → (code ≡ 6 → ⊥) → Told p r (looks b table x) (handedPart u code)
   pub theFirstUnitInLength : (u : Filed) → Asked b v table → IsFirst b table x u → code ≡ 6 → (r .code ≡ 0) × (r .length ≡ length (handedPart u 6)) × (r .looks ≡ looks b table x)
@@ -40,6 +51,7 @@ pub record PartTold (b p : List ℕ) (v table x code : ℕ) (r : FromBundle) : T
 
 -- a string
 pub record StringTold (b p : List ℕ) (v table x k : ℕ) (r : FromBundle) : Type 0 where
+  pub answer : Looked r (stringFound p v table x k)
   pub itsStrings : (u : Filed) → Asked b v table → IsFirst b table x u → k < length (entriesOfUnit u)
       → (string : List ℕ) × (stringAt 9 (u .input .bytes 11) (getD (entriesOfUnit u) k 0) ≡ pass string) × Told p r (looks b table x) string
   pub noOtherString : (u : Filed) → Asked b v table → IsFirst b table x u → length (entriesOfUnit u) ≤ k → r .code ≡ 25

@@ -99,12 +99,12 @@ Holds p answer n bytes = (start : ℕ) × (answer ≡ part start (length bytes) 
 abbrev pub EveryUnitIsHandedIn : List ℕ → Type 0
 EveryUnitIsHandedIn b = (k : Bundle) → bundleOf b ≡ pass k → joined (map (λ u. u .bytes) (handedIn b)) ≡ unitSectionBytes b (k .objects)
 
--- "Found exactly when handed in"
+-- demand 3: "finds the identity exactly when a unit was handed in under it"
 abbrev pub FoundExactlyWhenHandedIn : List ℕ → List ℕ → Type 0
 FoundExactlyWhenHandedIn b p =
     (v table x code : ℕ) → Asked b v table → IsCode code → IsPart (lookedUp p v table x code) (looks b table x) ↔ IsHandedIn b table x
 
--- "The first, and nothing else": its bytes; "at 6 in length only"
+-- demand 3: "and is led to the first such unit: its bytes, its parts, its strings"; at 6 "in length only"
 abbrev pub TheFirstUnit : List ℕ → List ℕ → Type 0
 TheFirstUnit b p =
     (v table x code : ℕ) (u : Filed) → Asked b v table → IsCode code → IsFirst b table x u → (code ≡ 6 → ⊥)
@@ -127,7 +127,7 @@ abbrev pub NoOtherString : List ℕ → List ℕ → Type 0
 NoOtherString b p =
     (v table x k : ℕ) (u : Filed) → Asked b v table → IsFirst b table x u → length (entriesOfUnit u) ≤ k → stringFound p v table x k ≡ refused 25
 
--- "Absent is absent", for a part and for a string
+-- absent is absent, for a part and for a string
 abbrev pub AbsentIsAbsent : List ℕ → List ℕ → Type 0
 AbsentIsAbsent b p =
     (v table x code k : ℕ) → Asked b v table → IsCode code → any (isUnder table x) (handedIn b) ≡ false

@@ -5,10 +5,11 @@ use mathlib.Core.Bool.{Bool, true, false}
 use mathlib.Core.List.{List, [], _∷_}
 use Prim.Native.Nat.{ℕ, _+_, _≤_}
 use native.Mathlib.Omega.{arith}
+use lib.Dec.{eqb}
 use lib.ListN.{length}
 use Rattle.octets.specs.Checked.{Check, pass}
-use Rattle.bundle.specs.Bundle.{Part, Item, object, section, more, filledUp, leading}
-use Rattle.bundle.specs.Scan.{placeBehind, holdsUnits, unitSectionOf}
+use Rattle.bundle.specs.Bundle.{Part, Item, object, section, more, filledUp, leading, firstPart}
+use Rattle.bundle.specs.Scan.{placeBehind, sizeOf, sizeIn, holdsUnits, unitSectionOf}
 use Rattle.bundle.specs.declared.UnitSection.the-variants.{Found, Done}
 use Rattle.bundle.proofs.Passed.{here, stepHere, left-cons}
 use Rattle.bundle.proofs.Next.{section-step}
@@ -57,3 +58,27 @@ onward-same b at (section p ∷ is) code start size next ahead e f l =
     go (n, s, h) false u on =
         let g = section-step b at p n s in
         on (ap (here b) (sym (g .behind)) ∙ h) (f ∙ sym (units-later p (leading is) u))
+
+-- a section of an object is no longer than all of them
+pub size-behind : (b : List ℕ) (c at : ℕ) (is : List Item) → here b at ≡ pass is → at ≤ length b → at + sizeOf (leading is) c ≤ placeBehind at (leading is)
+unfolding placeBehind leading sizeOf sizeIn firstPart
+size-behind b c at [] e h = omega arith
+size-behind b c at (object w ∷ is) e h = omega arith
+size-behind b c at (section p ∷ is) e h =
+    go (left-cons b at (section p) is e) (eqb (p .code) c) refl (λ k l. size-behind b c (p .start + filledUp (p .size)) is k l)
+  where
+    go : (n : ℕ) × (stepHere b at ≡ more (section p) n) × (here b (at + 4 + n) ≡ pass is) → (t : Bool) → eqb (p .code) c ≡ t
+        → (here b (p .start + filledUp (p .size)) ≡ pass is → p .start + filledUp (p .size) ≤ length b
+        → p .start + filledUp (p .size) + sizeOf (leading is) c ≤ placeBehind (p .start + filledUp (p .size)) (leading is))
+        → at + sizeOf (p ∷ leading is) c ≤ placeBehind (p .start + filledUp (p .size)) (leading is)
+    go (n, s, k) true t on =
+        let g = section-step b at p n s in
+        let l : here b (p .start + filledUp (p .size)) ≡ pass is = ap (here b) (sym (g .behind)) ∙ k in
+        let w = onward b (p .start + filledUp (p .size)) is l (omega (arith, g .behind, g .within)) in
+        let z : sizeOf (p ∷ leading is) c ≡ p .size = rw (sizeOf, firstPart, t) in
+        omega (arith, g .place, g .inside, g .behind, w .further)
+    go (n, s, k) false t on =
+        let g = section-step b at p n s in
+        let l : here b (p .start + filledUp (p .size)) ≡ pass is = ap (here b) (sym (g .behind)) ∙ k in
+        let z : sizeOf (p ∷ leading is) c ≡ sizeOf (leading is) c = rw (sizeOf, firstPart, t) in
+        omega (arith, g .place, on l (omega (arith, g .behind, g .within)))

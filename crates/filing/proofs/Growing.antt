@@ -1,26 +1,23 @@
 -- From one object to the next: its sections lie between its word and the next one, and its strings have room.
 -- Assumes nothing.
-use mathlib.Core.Path.{_≡_, refl, sym, ap, _∙_}
-use mathlib.Core.Bool.{Bool, true, false}
-use mathlib.Core.List.{List, [], _∷_, _++_}
-use Prim.Native.Nat.{ℕ, _+_, _*_, _≤_}
+use mathlib.Core.Path.{_≡_}
+use mathlib.Core.Bool.{Bool}
+use mathlib.Core.List.{List}
+use Prim.Native.Nat.{ℕ, _≤_}
 use native.Mathlib.Omega.{arith}
-use lib.Dec.{eqb}
 use lib.ListN.{length}
 use Rattle.octets.specs.Octets.{part}
 use Rattle.octets.specs.Checked.{pass}
 use Rattle.octets.proofs.Parts.{length-part}
-use Rattle.bundle.specs.Bundle.{Part, Item, object, section, more, filledUp, leading, firstPart}
-use Rattle.bundle.specs.Scan.{placeBehind, startOf, sizeOf, sizeIn}
-use Rattle.bundle.proofs.Passed.{here, stepHere, left-cons}
-use Rattle.bundle.proofs.Next.{section-step}
-use Rattle.bundle.proofs.Onward.{Onward, onward}
+use Rattle.bundle.specs.Bundle.{Item, leading}
+use Rattle.bundle.specs.Scan.{startOf, sizeOf}
+use Rattle.bundle.proofs.Passed.{here}
+use Rattle.bundle.proofs.Onward.{onward, size-behind}
 use Rattle.bundle.proofs.Every.{Every}
 use Rattle.bundle.proofs.Lies.{Lies}
 use Rattle.bundle.proofs.ScanFacts.{first-within}
 use Rattle.bundle.specs.Encoded.{encodingIs}
 use Rattle.bundle.specs.declared.encoding.ObjectEncoding.{ObjectEncoding}
-use Rattle.strings.specs.Strings.{firstUses, entriesIn}
 use Rattle.strings.specs.declared.table.StringTable.{StringTable}
 use Rattle.strings.proofs.FirstUses.{length-firstUses}
 use Rattle.strings.proofs.StrOffsets.{sound}
@@ -31,30 +28,6 @@ use Rattle.package.specs.Filing.{Filed}
 use Rattle.package.specs.Pack.{allUsed, stringTable}
 use Rattle.filing.specs.declared.state.InProgress.{InProgress}
 use Rattle.filing.specs.ByObject.{AtObject, InputRoom}
-
--- a section of an object is no longer than all of them
-pub size-behind : (b : List ℕ) (c at : ℕ) (is : List Item) → here b at ≡ pass is → at ≤ length b → at + sizeOf (leading is) c ≤ placeBehind at (leading is)
-unfolding placeBehind leading sizeOf sizeIn firstPart
-size-behind b c at [] e h = omega arith
-size-behind b c at (object w ∷ is) e h = omega arith
-size-behind b c at (section p ∷ is) e h =
-    go (left-cons b at (section p) is e) (eqb (p .code) c) refl (λ k l. size-behind b c (p .start + filledUp (p .size)) is k l)
-  where
-    go : (n : ℕ) × (stepHere b at ≡ more (section p) n) × (here b (at + 4 + n) ≡ pass is) → (t : Bool) → eqb (p .code) c ≡ t
-        → (here b (p .start + filledUp (p .size)) ≡ pass is → p .start + filledUp (p .size) ≤ length b
-        → p .start + filledUp (p .size) + sizeOf (leading is) c ≤ placeBehind (p .start + filledUp (p .size)) (leading is))
-        → at + sizeOf (p ∷ leading is) c ≤ placeBehind (p .start + filledUp (p .size)) (leading is)
-    go (n, s, k) true t on =
-        let g = section-step b at p n s in
-        let l : here b (p .start + filledUp (p .size)) ≡ pass is = ap (here b) (sym (g .behind)) ∙ k in
-        let w = onward b (p .start + filledUp (p .size)) is l (omega (arith, g .behind, g .within)) in
-        let z : sizeOf (p ∷ leading is) c ≡ p .size = rw (sizeOf, firstPart, t) in
-        omega (arith, g .place, g .inside, g .behind, w .further)
-    go (n, s, k) false t on =
-        let g = section-step b at p n s in
-        let l : here b (p .start + filledUp (p .size)) ≡ pass is = ap (here b) (sym (g .behind)) ∙ k in
-        let z : sizeOf (p ∷ leading is) c ≡ sizeOf (leading is) c = rw (sizeOf, firstPart, t) in
-        omega (arith, g .place, on l (omega (arith, g .behind, g .within)))
 
 table-few : (is : List Input) → length (stringTable is) ≤ length (allUsed is)
 unfolding stringTable

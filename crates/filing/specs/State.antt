@@ -45,7 +45,7 @@ pub record Held (five : Bool) (b : List ℕ) (n place : ℕ) (w : List ℕ) (st 
   pub info : PlacesHeld b (part w (placesStart n 1) n) (st .info) (unitsOf (kept us) 1)
   pub types : PlacesHeld b (part w (placesStart n 2) n) (st .types) (unitsOf (kept us) 2)
   pub based : (c : ℕ) → c < 14 → getD (st .bases) c 0 ≡ bases c
-  -- so that all sums fit 32 bits: what was read lies before the place
+  -- so that all cells fit 32 bits: what was read lies before the place
   pub low : (c : ℕ) → bases c ≤ place
   pub infoLow : length (joined (unitsOf (kept us) 1)) ≤ place
   pub typesLow : length (joined (unitsOf (kept us) 2)) ≤ place

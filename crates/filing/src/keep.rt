@@ -1,4 +1,4 @@
-// One unit read and filed: 11 to 16.
+// A unit that is kept: its row, its place and its object's sums; tables and sections of units by number.
 ghost use mathlib.Core.Path.{_≡_};
 ghost use mathlib.Core.List.{List, [], _∷_, _++_};
 ghost use mathlib.Core.Logic.{_⊎_};

@@ -1,4 +1,4 @@
-// Units read and filed, one by one, object by object: 11 to 16. Thorin's InProgressDwarfPackage, with its rows, strings and unit places in lent work.
+// An object read (4 to 10), and its units read and filed one by one (11 to 16). Thorin's InProgressDwarfPackage, with its rows, strings and unit places in lent work.
 pub mod keep;
 pub mod objects;
 pub mod single;

@@ -1,4 +1,4 @@
-// Whole objects: their strings (8 and 9), and all that is filed of them.
+// An object read up to its units: 4 to 10, its strings put into their region of work.
 ghost use mathlib.Core.Path.{_≡_};
 ghost use mathlib.Core.List.{List};
 ghost use Prim.Native.Nat.{ℕ, _+_, _*_, _≤_};

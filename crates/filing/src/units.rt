@@ -1,4 +1,4 @@
-// The units of an object, filed in the order of the bundle.
+// What filing a unit, and the units of a section or an object, answers.
 use crate::state::InProgress;
 use crate::state::Sums;
 

@@ -59,7 +59,7 @@ fn finish_sections(
 {
     let sizes = crate::sizes::section_sizes(e.five, st, t);
     if !sections::sizes_good(sizes) {
-        return Finished::Refused(19);
+        return Finished::Refused(19); // before 18
     }
     let length = sections::package_length(sizes);
     if out.len() < length {

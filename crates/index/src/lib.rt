@@ -1,4 +1,4 @@
-// Indexes of both forms: read, searched, judged and written.
+// Indexes of both forms: read and searched, and a unit's row judged.
 pub mod cells;
 pub mod judging;
 pub mod probing;

@@ -1,6 +1,6 @@
 -- The regions of work for a bundle of n words, and a table in them. Region by region, in words: compilation rows 4 n, type rows 4 n, strings 3 n,
 -- compilation identities seen n, type identities seen n, places of info's units n, places of types' units n. That is 15 n; 16 n are lent.
--- A row takes 18 words, a unit at least 20 bytes, so that 18 rows words for 5 bundle words fit 4 n; slots are at most 3 for each 5 words; a place takes 2.
+-- A row takes 18 words, a unit at least 20 bytes, so that 18 words of rows for each 5 words of the bundle fit 4 n; slots are at most 3 for each 5 words; a place takes 2.
 -- Assumes nothing.
 use mathlib.Core.Path.{_≡_}
 use mathlib.Core.Bool.{Bool, true, false}

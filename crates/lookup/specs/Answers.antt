@@ -1,4 +1,4 @@
--- What the code holds of a package, and its answers, for each case of the definitions.
+-- What the code holds of a package, which need not be believed; and at the end the answers as callers are told them.
 -- Assumes nothing.
 use mathlib.Core.Path.{_≡_}
 use mathlib.Core.Bool.{Bool, true, false, _&&_, _||_}

@@ -40,7 +40,8 @@ use Rattle.filing.specs.declared.state.InProgress.{InProgress}
 use Rattle.filing.specs.declared.objects.InputFiled.{InputFiled}
 use Rattle.filing.specs.State.{Held, StringsKept}
 use Rattle.filing.specs.ByObject.{stringsCheck, AtObject, InputRoom, InputRead}
-use Rattle.filing.proofs.Growing.{size-behind, input-room}
+use Rattle.bundle.proofs.Onward.{size-behind}
+use Rattle.filing.proofs.Growing.{input-room}
 use Rattle.filing.proofs.Entering.{five-is, none-summed, object-enter}
 use Rattle.filing.proofs.Snoc.{used-snoc, strings-stay, check-few}
 use Rattle.packer.specs.declared.objects.UnitsAdded.{UnitsAdded}

@@ -111,7 +111,7 @@ pub fn check_entries(e: ObjectEncoding, s: &[u8]) -> Entries
     Entries::Count(rest / w)
 }
 
-// How many whole entries a section has, which is judged or, in a lookup, isn't.
+// How many whole entries a section has.
 pub fn entry_count(e: ObjectEncoding, s: &[u8]) -> usize
     ensures { λ r. ⌜ r ≡ length (entriesIn (encodingIs e) (now (s .entry))) ⌝ }
 {

@@ -35,7 +35,8 @@ const TIMED: &str = "## What is timed
   What is left is thorin's `add_input_object` and `finish`, and what the oracle does then: it writes the package as ELF, reads
   it back into words and sends them. The first kind, where thorin only copies, shows how much that is. thorin allocates its memory as it
   goes; ours is lent.
-- All times are the processor's, in which other programs have no part but that they share its caches.
+- Times are the processor's, in which other programs have no part but that they share its caches; ours are the lesser of that and the
+  clock's, the small packer's the clock's.
 - A figure is the shortest of 7 to 2,001 rounds, of fewer where a round takes more than half a second. Figures vary from run to run, and
   with what else the machine does; those of thorin more, being differences. Where thorin is at hand, every package is compared with its own,
   byte for byte.
@@ -45,9 +46,9 @@ const TIMED: &str = "## What is timed
 
 const STRINGS: &str = "## Different strings
 
-A string is looked for among those kept, one by one up to the first match, so the time is quadratic in the number of different
-strings. That is by plan: document 02 puts a hash index beside them, in work. thorin has a hash map. Each string here is new and named
-once.
+A string is looked for among those kept, one by one up to the first match, once to keep it and once to write its entry, so the time grows
+with entries times different strings. That is by plan: document 02 puts a hash index beside them. thorin has a hash map. Each string here
+is new and named once.
 ";
 
 /// Digits in groups of three.
@@ -200,7 +201,7 @@ impl Paper {
 }
 
 fn row(out: &mut Formatter, name: &str, items: &str, one: &Measured) -> Result {
-    let (ours, clearing, thorin) = (time(one.ours), time(one.clearing), or_dash(one.thorin, time));
+    let (ours, clearing, thorin) = (time(one.ours), time(one.clearing), or_dash(one.thorin.filter(|t| !t.is_zero()), time));
     let (bundle, package) = (grouped(one.bundle as u64), grouped(one.package as u64));
     let count = grouped(one.items);
     writeln!(
