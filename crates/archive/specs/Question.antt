@@ -15,7 +15,7 @@ use Rattle.package.specs.Filing.{Filed, isUnder, entriesOfUnit}
 use Rattle.package.specs.Pack.{Answer, refused, short, made, handedIn}
 use Rattle.lookup.specs.Lookup.{Found, lookedUp, stringFound}
 use Rattle.lookup.specs.Answers.{numbered}
-use Rattle.archive.specs.Theorem.{Asked, IsCode, IsHandedIn, IsFirst, handedPart, isIndexVersion, looks}
+use Rattle.archive.specs.Theorem.{Asked, IsCode, IsHandedIn, IsFirst, handedPart, isIndexVersion, slotsOfTable, looks, EndsUnused}
 use Rattle.archive.specs.declared.asking.FromBundle.{FromBundle}
 
 -- the lookup's part of the answer
@@ -46,6 +46,8 @@ pub record PartTold (b p : List ℕ) (v table x code : ℕ) (r : FromBundle) : T
   pub theFirstUnit : (u : Filed) → Asked b v table → IsCode code → IsFirst b table x u → (code ≡ 6 → ⊥) → Told p r (looks b table x) (handedPart u code)
   pub theFirstUnitInLength : (u : Filed) → Asked b v table → IsFirst b table x u → code ≡ 6 → (r .code ≡ 0) × (r .length ≡ length (handedPart u 6)) × (r .looks ≡ looks b table x)
   pub absentIsAbsent : Asked b v table → IsCode code → any (isUnder table x) (handedIn b) ≡ false → ToldAbsent r (looks b table x)
+  pub absentEnds : Asked b v table → any (isUnder table x) (handedIn b) ≡ false → EndsUnused b table x
+  pub looksAtMostSlots : Asked b v table → IsCode code → r .looks ≤ length (slotsOfTable b table .rows)
   pub theOtherVersion : isIndexVersion b v ≡ false → (handedIn b ≡ [] → ⊥) → r .code ≡ 22
   pub neverRefuses : Asked b v table → IsCode code → (r .code ≡ 0) ⊎ (r .code ≡ 1)
 
@@ -56,7 +58,10 @@ pub record StringTold (b p : List ℕ) (v table x k : ℕ) (r : FromBundle) : Ty
       → (string : List ℕ) × (stringAt 9 (u .input .bytes 11) (getD (entriesOfUnit u) k 0) ≡ pass string) × Told p r (looks b table x) string
   pub noOtherString : (u : Filed) → Asked b v table → IsFirst b table x u → length (entriesOfUnit u) ≤ k → r .code ≡ 25
   pub absentIsAbsent : Asked b v table → any (isUnder table x) (handedIn b) ≡ false → ToldAbsent r (looks b table x)
+  pub absentEnds : Asked b v table → any (isUnder table x) (handedIn b) ≡ false → EndsUnused b table x
+  pub looksAtMostSlots : Asked b v table → r .looks ≤ length (slotsOfTable b table .rows)
   pub theOtherVersion : isIndexVersion b v ≡ false → (handedIn b ≡ [] → ⊥) → r .code ≡ 22
+  pub neverRefuses : Asked b v table → (r .code ≡ 0) ⊎ (r .code ≡ 1) ⊎ (r .code ≡ 25)
 
 -- packing refused: its number, and nothing is looked up
 unfoldable pub unpacked : ℕ → ℕ → FromBundle

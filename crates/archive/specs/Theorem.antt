@@ -56,8 +56,8 @@ pub record IsFirst (b : List ℕ) (table x : ℕ) (u : Filed) : Type 0 where
   pub under : isUnder table x u ≡ true
   pub noneBefore : any (isUnder table x) before ≡ false
 
--- "Its unit bytes are the part at code 1, or 2 for a unit of types; at codes 3 to 10 the part is its contribution;
--- where it has none, and at the other of 1 and 2, the part is empty."
+-- "Its unit bytes are the part at code 1, or 2 for a unit of types; at codes 3 to 10 the part is its contribution, at 6 in length only;
+-- where it has none, and at the other of 1 and 2, the part is empty." Here its contribution at 6 too; `TheFirstUnitInLength` takes its length.
 unfoldable pub handedPart : Filed → ℕ → List ℕ
 handedPart u code = elim (eqb code (u .home)) [ true ↦ u .bytes | false ↦ elim (leb 3 code) [ true ↦ contributed u code | false ↦ [] ] ]
 
@@ -134,11 +134,13 @@ AbsentIsAbsent b p =
     → (lookedUp p v table x code ≡ absent (looks b table x)) × (stringFound p v table x k ≡ absent (looks b table x))
 
 -- in a table that was written the search for what is absent ends at an unused slot; where the table wasn't written, after 0 looks
-abbrev pub AbsentEnds : List ℕ → Type 0
-AbsentEnds b =
-    (table x : ℕ) → (table ≡ 1) ⊎ (table ≡ 2) → any (isUnder table x) (handedIn b) ≡ false
-    → ((identitiesOf b table ≡ []) × (looks b table x ≡ 0))
+abbrev pub EndsUnused : List ℕ → ℕ → ℕ → Type 0
+EndsUnused b table x =
+    ((identitiesOf b table ≡ []) × (looks b table x ≡ 0))
     ⊎ ((1 ≤ looks b table x) × (getD (slotsOfTable b table .rows) (slotAfter x (length (slotsOfTable b table .rows)) (looks b table x - 1)) 0 ≡ 0))
+
+abbrev pub AbsentEnds : List ℕ → Type 0
+AbsentEnds b = (table x : ℕ) → (table ≡ 1) ⊎ (table ≡ 2) → any (isUnder table x) (handedIn b) ≡ false → EndsUnused b table x
 
 -- "looks are those of the probing definition, the slot where it ends included", which the clauses above say; and at most the slots
 abbrev pub LooksAtMostSlots : List ℕ → Type 0
