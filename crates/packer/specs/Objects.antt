@@ -36,12 +36,12 @@ pub record Ahead (b : List ℕ) (from : ℕ) : Type 0 where
   pub far : 4 ≤ from
   pub within : from ≤ length b
 
-abbrev pub none14 : List ℕ
-none14 = 0 ∷ 0 ∷ 0 ∷ 0 ∷ 0 ∷ 0 ∷ 0 ∷ 0 ∷ 0 ∷ 0 ∷ 0 ∷ 0 ∷ 0 ∷ 0 ∷ []
+abbrev pub noSizes : List ℕ
+noSizes = 0 ∷ 0 ∷ 0 ∷ 0 ∷ 0 ∷ 0 ∷ 0 ∷ 0 ∷ 0 ∷ 0 ∷ 0 ∷ 0 ∷ 0 ∷ 0 ∷ []
 
 -- no unit of the object is filed
 abbrev pub noSums : Sums
-noSums = record { cu = none14; tu = none14 }
+noSums = record { cu = noSizes; tu = noSizes }
 
 -- an object is read, and no unit of it is filed; its sections start at a place
 pub record InputReady (b : List ℕ) (x : InputObject) (i : Input) (n from : ℕ) (w : List ℕ) (st : InProgress) (bases : BySection ℕ) (us : List Filed) : Type 0 where
@@ -65,16 +65,16 @@ ObjectIs b big first n v bases is us (pass i) r = UnitsThen b big first n v base
 
 -- ---- all objects
 -- before the first one
-abbrev none8 : List Bool
-none8 = false ∷ false ∷ false ∷ false ∷ false ∷ false ∷ false ∷ false ∷ []
+abbrev noColumns : List Bool
+noColumns = false ∷ false ∷ false ∷ false ∷ false ∷ false ∷ false ∷ false ∷ []
 
 unfoldable pub noneFiled : InProgress
 noneFiled = record {
-  cu = record { count = 0; has = none8 };
-  tu = record { count = 0; has = none8 };
+  cu = record { count = 0; has = noColumns };
+  tu = record { count = 0; has = noColumns };
   info = record { count = 0; bytes = 0 };
   types = record { count = 0; bytes = 0 };
-  bases = none14;
+  bases = noSizes;
 }
 
 -- a bundle that can be read, and work that is cleared and long enough
