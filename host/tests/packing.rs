@@ -1,6 +1,8 @@
 //! The proved packers, through C, answer as the vectors say and as the reference does: the answer, every byte of the output and every
-//! word of work, whatever both held before, and nothing around them is touched.
+//! word of work, whatever both held before, and nothing around them is touched. In every package that is made, what its bundle hands in
+//! is found, and nothing else.
 
+use barthovin::claim::Claim;
 use barthovin::ffi;
 use barthovin::generate::{call, long_line, many_units, strings_of, suffixes, Call, Random};
 use barthovin::lent::Lent;
@@ -10,6 +12,11 @@ use barthovin::vectors::{parse_all, words, Vector};
 /// The small packer's limit and work.
 const SMALL_BUNDLE: usize = 1024;
 const SMALL_WORK: usize = 4096;
+
+/// Few identities that no unit has are asked for here, since there are many packages; tests/claim.rs asks for more.
+const TURNS: usize = 1;
+/// The few bundles above this length, none of them random, aren't asked about: so many units and strings take more than nine minutes.
+const LONG_BUNDLE: usize = 1 << 16;
 
 /// What a call leaves: its answer and what it was lent.
 #[derive(Debug, PartialEq, Eq)]
@@ -63,11 +70,12 @@ impl Counts {
 struct Checks {
     random: Random,
     counts: Counts,
+    claim: Claim,
 }
 
 impl Checks {
     fn new(seed: u64) -> Checks {
-        Checks { random: Random::new(seed), counts: Counts::default() }
+        Checks { random: Random::new(seed), counts: Counts::default(), claim: Claim::new(seed, TURNS) }
     }
 
     fn compare(&mut self, bundle: &[u8], work: Option<usize>, output: usize, answer: Packed) {
@@ -78,6 +86,10 @@ impl Checks {
         assert!(told == want, "{told:?}, not {want:?}, for work {work:?}, output {output}, {front:02X?}");
         assert!(left == wanted, "output or work differ for work {work:?}, output {output}, {front:02X?}");
         self.counts.0[left.code as usize] += 1;
+        if left.code == 0 && bundle.len() <= LONG_BUNDLE {
+            let claimed = self.claim.check(bundle, &left.output[..left.length]);
+            claimed.unwrap_or_else(|e| panic!("{e}, for {front:02X?}"));
+        }
     }
 
     /// The packer, compared with the reference.

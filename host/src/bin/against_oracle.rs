@@ -6,10 +6,12 @@
 //! ORACLE is a program that packs bundles with thorin (see `barthovin::oracle`). NUMBER accepted bundles are compared byte for
 //! byte, and none may differ: docs/DIFFERENCES.md names no difference but refusals. For each refusal it is counted what thorin
 //! did; the numbers are compared with the reference's, and where docs/DIFFERENCES.md saw thorin pack nothing, it may not pack.
+//! What an accepted bundle hands in is looked up in its package.
 //!
 //! With --sample, NUMBER accepted bundles and a thirtieth as many of each refusal from 4 to 16 are written to FILE with
 //! thorin's answers. There the proved packer has no say: which are accepted, and the numbers, are the reference's.
 
+use barthovin::claim::{Claim, Counts};
 use barthovin::generate::{call, Random};
 use barthovin::lender::{Lender, Packing};
 use barthovin::oracle::Oracle;
@@ -22,6 +24,9 @@ const USAGE: &str = "against_oracle ORACLE NUMBER [SEED], or against_oracle ORAC
 
 /// So many differences end the comparison: a packer that refuses everything would never be done.
 const ENOUGH: u64 = 1_000;
+
+/// Few identities that no unit has are asked for, since there are many packages.
+const TURNS: usize = 1;
 
 /// What was seen: how often thorin gave each kind of answer, by document 01's number, 0 for accepted.
 #[derive(Default)]
@@ -100,26 +105,29 @@ fn is_right(packing: &Packing, bundle: &[u8], tag: u8, bytes: &[u8], never: &[u3
     refused && !(tag == 0 && never.contains(&packing.code))
 }
 
-fn compare(oracle: &mut Oracle, wanted: u64, seed: u64) -> Result<Tally> {
+fn compare(oracle: &mut Oracle, wanted: u64, seed: u64) -> Result<(Tally, Counts)> {
     let (mut random, mut lent) = (Random::new(seed), Lender::new(seed));
-    let mut tally = Tally::default();
+    let (mut tally, mut claim) = (Tally::default(), Claim::new(seed, TURNS));
     let never = never_packed();
     let mut bytes = Vec::new();
     let mut accepted = 0;
     while accepted < wanted && tally.differences < ENOUGH {
         let bundle = call(&mut random).bundle;
+        let wrong = |e: String| Error::other(format!("{e}: {}", words(&bundle)));
         let tag = oracle.ask(&bundle, &mut bytes)?;
-        let packing = lent.pack_whole(&bundle).map_err(|e| Error::other(format!("{e}: {}", words(&bundle))))?;
+        let packing = lent.pack_whole(&bundle).map_err(wrong)?;
         tally.note(packing.code, tag);
+        if !is_right(&packing, &bundle, tag, &bytes, &never) {
+            tally.differs(&bundle);
+        } else if packing.code == 0 {
+            claim.check(&bundle, packing.package).map_err(wrong)?;
+        }
         if packing.code == 0 {
             accepted += 1;
             tally.note_kind(&bundle, packing.package);
         }
-        if !is_right(&packing, &bundle, tag, &bytes, &never) {
-            tally.differs(&bundle);
-        }
     }
-    Ok(tally)
+    Ok((tally, claim.counts))
 }
 
 /// What thorin said of a bundle; none where only the oracle's own reader spoke.
@@ -181,8 +189,9 @@ fn main() -> Result<()> {
     let (Some(path), Some(wanted)) = (words.first(), number(1)) else { return Err(Error::other(USAGE)) };
     let seed = number(2).unwrap_or(1);
     let start = std::time::Instant::now();
-    let tally = compare(&mut Oracle::start(path)?, wanted, seed)?;
+    let (tally, claimed) = compare(&mut Oracle::start(path)?, wanted, seed)?;
     tally.print();
+    println!("{claimed}");
     println!("{:.1} seconds, seed {seed}", start.elapsed().as_secs_f64());
     if tally.differences > 0 {
         return Err(Error::other("the proved packer differs from thorin, or from the reference where it refuses"));

@@ -1,8 +1,9 @@
 //! Damaged bundles through the proved packer: damaged NUMBER [SEED]
 //!
-//! Each answer and every byte of output and work is compared with the reference, in memory full of junk. It fails at the first
-//! difference, and where an answer takes longer than a minute.
+//! Each answer and every byte of output and work is compared with the reference, in memory full of junk; and what an accepted bundle
+//! hands in is looked up in its package. It fails at the first difference, and where an answer takes longer than a minute.
 
+use barthovin::claim::{Claim, Counts};
 use barthovin::generate::{damaged_call, Call, Random};
 use barthovin::lender::Lender;
 use barthovin::reference::pack;
@@ -13,6 +14,9 @@ use std::time::{Duration, Instant};
 
 /// Most packages of generated bundles fit; the others are 18, as the reference says too.
 const MOST_OUTPUT: usize = 2_048;
+
+/// Few identities that no unit has are asked for, since there are many packages.
+const TURNS: usize = 1;
 
 static ANSWERED: AtomicU64 = AtomicU64::new(0);
 
@@ -28,24 +32,31 @@ fn watch() {
     });
 }
 
-/// The answer's number, where it is the reference's.
-fn ask(lent: &mut Lender, call: &Call) -> std::result::Result<u32, String> {
+/// The answer's number, where it is the reference's and the claim holds.
+fn ask(lent: &mut Lender, claim: &mut Claim, call: &Call) -> std::result::Result<u32, String> {
     let output = call.output.min(MOST_OUTPUT);
     let packing = lent.pack(&call.bundle, call.work, output)?;
     let wanted = pack(&call.bundle, call.work, output);
-    packing.agrees(&wanted).then_some(packing.code).ok_or_else(|| format!("{packing:?}, but wanted {wanted:?}"))
+    if !packing.agrees(&wanted) {
+        return Err(format!("{packing:?}, but wanted {wanted:?}"));
+    }
+    if packing.code == 0 {
+        claim.check(&call.bundle, packing.package)?;
+    }
+    Ok(packing.code)
 }
 
-fn run(wanted: u64, seed: u64) -> Result<BTreeMap<u32, u64>> {
+fn run(wanted: u64, seed: u64) -> Result<(BTreeMap<u32, u64>, Counts)> {
     let (mut random, mut lent) = (Random::new(seed), Lender::new(seed));
+    let mut claim = Claim::new(seed, TURNS);
     let mut counts = BTreeMap::new();
     for _ in 0..wanted {
         let call = damaged_call(&mut random);
-        let number = ask(&mut lent, &call).map_err(|e| Error::other(format!("{e}, for {call:02X?}")))?;
+        let number = ask(&mut lent, &mut claim, &call).map_err(|e| Error::other(format!("{e}, for {call:02X?}")))?;
         *counts.entry(number).or_insert(0) += 1;
         ANSWERED.fetch_add(1, Ordering::Relaxed);
     }
-    Ok(counts)
+    Ok((counts, claim.counts))
 }
 
 fn main() -> Result<()> {
@@ -55,9 +66,10 @@ fn main() -> Result<()> {
     let seed = number(2).unwrap_or(1);
     watch();
     let start = Instant::now();
-    let counts = run(wanted, seed)?;
+    let (counts, claimed) = run(wanted, seed)?;
     println!("number    count   (0 is accepted)");
     counts.iter().for_each(|(number, count)| println!("{number:6} {count:8}"));
+    println!("{claimed}");
     let seconds = start.elapsed().as_secs_f64();
     println!("{wanted} damaged bundles, each answer and every byte as the reference has it; {seconds:.1} seconds, seed {seed}");
     Ok(())

@@ -15,10 +15,15 @@ pub struct Kind {
     pub make: fn(u64) -> Vec<u8>,
 }
 
-pub const KINDS: [Kind; 9] = [
+pub const KINDS: [Kind; 10] = [
     Kind { name: "few units, version 5", items: "bytes of line", make: few_units },
     Kind { name: "many units, version 5", items: "units", make: units_of_five },
     Kind { name: "many units, version 4, one abbreviation table", items: "units", make: units_with_one_table },
+    Kind {
+        name: "many units, version 4, one table of 100 declarations",
+        items: "units",
+        make: units_with_a_long_table,
+    },
     Kind { name: "many units, version 4, a table each", items: "units", make: units_with_a_table_each },
     Kind { name: "many type units, each signature twice", items: "units", make: types_twice },
     Kind { name: "many info sections of one unit", items: "sections", make: info_sections },
@@ -126,10 +131,18 @@ fn units_of_five(count: u64) -> Vec<u8> {
     one_object(FIVE, vec![(1, info), (3, table(11))])
 }
 
-fn units_with_one_table(count: u64) -> Vec<u8> {
+fn units_over_one_table(count: u64, table: Vec<u8>) -> Vec<u8> {
     let mut info = Vec::new();
     (0..count).for_each(|i| put_four(&mut info, 0, identity(i)));
-    one_object(FOUR, vec![(1, info), (3, table(11))])
+    one_object(FOUR, vec![(1, info), (3, table)])
+}
+
+fn units_with_one_table(count: u64) -> Vec<u8> {
+    units_over_one_table(count, table(11))
+}
+
+fn units_with_a_long_table(count: u64) -> Vec<u8> {
+    units_over_one_table(count, table(99))
 }
 
 fn units_with_a_table_each(count: u64) -> Vec<u8> {

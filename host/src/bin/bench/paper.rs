@@ -44,6 +44,10 @@ const TIMED: &str = "## What is timed
   many times: units of about 80 bytes, strings of 16 letters.
 ";
 
+const TABLES: &str = "In version 4 a repeated abbreviation code is searched for by a walk of the table for each declaration, so that reading a
+table of n declarations costs n * n / 2 steps, again for each unit over it; thorin reads the table once for each unit.
+";
+
 const STRINGS: &str = "## Different strings
 
 A string is looked for among those kept, one by one up to the first match, once to keep it and once to write its entry, so the time grows
@@ -174,7 +178,7 @@ impl Paper {
         writeln!(out, "| kind | bundle | of | ours | times the one before | thorin | times the one before |")?;
         writeln!(out, "|---|---|---|---|---|---|---|")?;
         self.kinds.iter().try_for_each(|kind| grown(out, kind))?;
-        writeln!(out, "\n{}\n", self.verdict())
+        writeln!(out, "\n{}\n\n{TABLES}", self.verdict())
     }
 
     fn many_strings(&self, out: &mut Formatter) -> Result {
@@ -201,7 +205,8 @@ impl Paper {
 }
 
 fn row(out: &mut Formatter, name: &str, items: &str, one: &Measured) -> Result {
-    let (ours, clearing, thorin) = (time(one.ours), time(one.clearing), or_dash(one.thorin.filter(|t| !t.is_zero()), time));
+    let (ours, clearing, thorin) =
+        (time(one.ours), time(one.clearing), or_dash(one.thorin.filter(|t| !t.is_zero()), time));
     let (bundle, package) = (grouped(one.bundle as u64), grouped(one.package as u64));
     let count = grouped(one.items);
     writeln!(
