@@ -36,6 +36,33 @@ fn what_is_handed_in_is_found_and_nothing_else() {
     assert!(counts.strings > 5_000 && counts.absent > 5_000 && counts.most_looks > 3, "{counts:?}");
 }
 
+/// A package with one byte of a unit changed, or of another bundle, is found out: the check can fail.
+#[test]
+fn a_wrong_package_is_noticed() {
+    let mut random = Random::new(33);
+    let (mut changed, mut others) = (0, 0);
+    let mut before: Option<Vec<u8>> = None;
+    for _ in 0..2_000 {
+        let bundle = call(&mut random).bundle;
+        let Some(package) = packed(&bundle) else { continue };
+        let read = Bundle::read(&bundle).expect("a bundle");
+        let Some(unit) = firsts(&read).into_iter().next() else { continue };
+        let version = if read.objects[0].word & 0xFF == 4 { 2 } else { 5 };
+        let found = ffi::lookup(&package, version, unit.table, unit.identity, unit.section);
+        let Found::Part { start, length, .. } = found else { panic!("{found:?}") };
+        let mut wrong = package.clone();
+        wrong[start + random.below(length as u64) as usize] ^= 1;
+        assert!(Claim::new(33, 1).check(&bundle, &wrong).is_err());
+        changed += 1;
+        if let Some(other) = before.filter(|other| *other != package) {
+            others += usize::from(Claim::new(33, 1).check(&bundle, &other).is_err());
+        }
+        before = Some(package);
+    }
+    println!("{changed} changed and {others} other packages noticed");
+    assert!(changed > 500 && others > 500);
+}
+
 /// A table and an identity, mostly of a unit that an accepted bundle hands in.
 fn some_identity(random: &mut Random, bundle: &[u8]) -> (u32, u64) {
     let (turn, table, identity) = (random.below(4) as usize, random.between(0, 3) as u32, random.below(8));

@@ -15,7 +15,7 @@ const SMALL_WORK: usize = 4096;
 
 /// Few identities that no unit has are asked for here, since there are many packages; tests/claim.rs asks for more.
 const TURNS: usize = 1;
-/// The few bundles above this length, none of them random, aren't asked about: so many units and strings take more than nine minutes.
+/// The few bundles above this length, none of them random, aren't asked about: a lookup judges the whole package, and they have many units.
 const LONG_BUNDLE: usize = 1 << 16;
 
 /// What a call leaves: its answer and what it was lent.
@@ -207,11 +207,16 @@ fn lengths_around_the_small_limit() {
 fn the_same_over_any_junk() {
     let (mut one, mut other) = (Random::new(18), Random::new(19));
     let mut random = Random::new(20);
+    let mut claim = Claim::new(20, TURNS);
     for _ in 0..5_000 {
         let Call { bundle, work, .. } = call(&mut random);
         let output = random.between(0, 1000) as usize;
         for work in [Some(work), None] {
-            assert_eq!(packed(&mut one, &bundle, work, output), packed(&mut other, &bundle, work, output));
+            let left = packed(&mut one, &bundle, work, output);
+            assert_eq!(left, packed(&mut other, &bundle, work, output));
+            if left.code == 0 {
+                claim.check(&bundle, &left.output[..left.length]).unwrap_or_else(|e| panic!("{e}, for {bundle:02X?}"));
+            }
         }
     }
 }
