@@ -215,9 +215,11 @@ impl Claim {
         Claim { random: Random::new(seed), turns, counts: Counts::default() }
     }
 
-    /// Identities of the bundle, some next to them, some that meet in their slots, and any.
-    fn identities(&mut self, tables: &[Table]) -> Vec<u64> {
-        let mut all: Vec<u64> = tables.iter().flat_map(|t| t.units.keys()).copied().collect();
+    /// Identities of the bundle, at most so many of them, some next to them, some that meet in their slots, and any.
+    fn identities(&mut self, tables: &[Table], most: usize) -> Vec<u64> {
+        let units: usize = tables.iter().map(|t| t.units.len()).sum();
+        let step = units.div_ceil(most).max(1);
+        let mut all: Vec<u64> = tables.iter().flat_map(|t| t.units.keys()).copied().step_by(step).collect();
         for _ in 0..self.turns {
             if !all.is_empty() {
                 let x = self.random.pick(&all);
@@ -234,12 +236,17 @@ impl Claim {
     /// Asks the package of a bundle that packing accepts about every identity, and about others. An error names the question whose
     /// answer is wrong.
     pub fn check(&mut self, bundle: &[u8], package: &[u8]) -> Result<(), String> {
+        self.check_some(bundle, package, usize::MAX)
+    }
+
+    /// The same about at most so many of its identities, spread over all: for a bundle of very many.
+    pub fn check_some(&mut self, bundle: &[u8], package: &[u8], most: usize) -> Result<(), String> {
         let bundle = Bundle::read(bundle).ok_or("no bundle")?;
         let (compilations, types) = firsts(&bundle).into_iter().partition(|unit| unit.table == 1);
         let tables = [Table::of(1, compilations), Table::of(2, types)];
         let some_index = tables.iter().any(|t| t.slots.is_some());
         let version = if bundle.objects.first().is_some_and(|o| o.word & 0xFF == 4) { 2 } else { 5 };
-        let identities = self.identities(&tables);
+        let identities = self.identities(&tables, most);
         let mut lookups = Lookups { package, version, counts: &mut self.counts };
         for identity in identities {
             for table in &tables {

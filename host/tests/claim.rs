@@ -96,11 +96,15 @@ fn holds_only(output: &[u8], package: &[u8]) -> bool {
 #[test]
 fn one_call_answers_as_two() {
     let mut random = Random::new(32);
+    let mut claim = Claim::new(32, 1);
     let (mut answered, mut refused) = (0, 0);
     for _ in 0..20_000 {
         let call = call(&mut random);
         let (mut work, mut output) = (vec![0x5555_5555; call.work], vec![0x55; call.output]);
         let package = packed(&call.bundle);
+        if let Some(package) = &package {
+            claim.check(&call.bundle, package).unwrap_or_else(|e| panic!("{e}, for {:02X?}", call.bundle));
+        }
         let (table, identity) = some_identity(&mut random, if package.is_some() { &call.bundle } else { &[] });
         let questions = [Question::Section(random.below(12) as u32), Question::Entry(random.below(4))];
         let (version, asked) = (random.pick(&[2, 5]), random.pick(&questions));

@@ -15,8 +15,9 @@ const SMALL_WORK: usize = 4096;
 
 /// Few identities that no unit has are asked for here, since there are many packages; tests/claim.rs asks for more.
 const TURNS: usize = 1;
-/// The few bundles above this length, none of them random, aren't asked about: a lookup judges the whole package, and they have many units.
+/// The few bundles above this length, none of them random, are asked about so many of their units: a lookup judges the whole package.
 const LONG_BUNDLE: usize = 1 << 16;
+const UNITS_OF_LONG: usize = 8;
 
 /// What a call leaves: its answer and what it was lent.
 #[derive(Debug, PartialEq, Eq)]
@@ -86,8 +87,9 @@ impl Checks {
         assert!(told == want, "{told:?}, not {want:?}, for work {work:?}, output {output}, {front:02X?}");
         assert!(left == wanted, "output or work differ for work {work:?}, output {output}, {front:02X?}");
         self.counts.0[left.code as usize] += 1;
-        if left.code == 0 && bundle.len() <= LONG_BUNDLE {
-            let claimed = self.claim.check(bundle, &left.output[..left.length]);
+        if left.code == 0 {
+            let most = if bundle.len() <= LONG_BUNDLE { usize::MAX } else { UNITS_OF_LONG };
+            let claimed = self.claim.check_some(bundle, &left.output[..left.length], most);
             claimed.unwrap_or_else(|e| panic!("{e}, for {front:02X?}"));
         }
     }
