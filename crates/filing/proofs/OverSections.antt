@@ -2,7 +2,7 @@
 -- Assumes nothing.
 use mathlib.Core.Path.{_≡_, refl, sym, ap, _∙_, subst}
 use mathlib.Core.Logic.{_⊎_, inl, inr}
-use mathlib.Core.Bool.{true, false}
+use mathlib.Core.Bool.{Bool, true, false}
 use mathlib.Core.List.{List, [], _∷_, _++_, map}
 use Prim.Native.Nat.{ℕ, suc, _+_, _-_, _<_, _≤_}
 use native.Mathlib.Omega.{arith}
@@ -31,31 +31,30 @@ use Rattle.filing.specs.State.{Held, StringsKept}
 use Rattle.filing.specs.Answers.{AtUnit, UnitsAre}
 use Rattle.filing.proofs.Walking.{kept-none, kept-more}
 
--- what is filed up to a place is filed up to a later one
+-- what is held up to a place is held up to a later one
+pub held-later : {five : Bool} {b : List ℕ} {n : ℕ} (p q : ℕ) {w : List ℕ} {st : InProgress} {bases : BySection ℕ} {us : List Filed}
+    → Held five b n p w st bases us → p ≤ q → q ≤ length b → Held five b n q w st bases us
+held-later p q k h g =
+    record {
+      room = k .room;
+      words = k .words;
+      units = k .units;
+      spent = omega (arith, k .spent);
+      cu = k .cu;
+      tu = k .tu;
+      info = k .info;
+      types = k .types;
+      based = k .based;
+      low = λ c. omega (arith, k .low c);
+      infoLow = omega (arith, k .infoLow);
+      typesLow = omega (arith, k .typesLow);
+      within = g;
+      limit = k .limit;
+    }
+
 pub at-later : {b : List ℕ} {x : InputObject} {i : Input} {n : ℕ} (p q : ℕ) {w : List ℕ} {st : InProgress} {ss : Sums} {bases : BySection ℕ} {earlier here : List Filed}
     → AtUnit b x i n p w st ss bases earlier here → p ≤ q → q ≤ length b → AtUnit b x i n q w st ss bases earlier here
-at-later p q a h g =
-    let k = a .held in
-    record {
-      input = a .input;
-      held = record {
-        room = k .room;
-        words = k .words;
-        units = k .units;
-        spent = omega (arith, k .spent);
-        cu = k .cu;
-        tu = k .tu;
-        info = k .info;
-        types = k .types;
-        based = k .based;
-        low = λ c. omega (arith, k .low c);
-        infoLow = omega (arith, k .infoLow);
-        typesLow = omega (arith, k .typesLow);
-        within = g;
-        limit = k .limit;
-      };
-      sums = a .sums;
-    }
+at-later p q a h g = record { input = a .input; held = held-later p q (a .held) h g; sums = a .sums }
 
 -- the sections of units of an object whose sections start at a place
 abbrev pub allFrom : List ℕ → ℕ → List Part

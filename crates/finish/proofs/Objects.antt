@@ -1,23 +1,22 @@
 -- The objects of a bundle and the inputs that they are: one for each, with the same bytes.
 -- Assumes nothing.
-use mathlib.Core.Path.{_≡_, refl, sym, ap, ap₂, subst}
+use mathlib.Core.Path.{_≡_, refl, ap, ap₂, subst}
 use mathlib.Core.Bool.{Bool}
 use mathlib.Core.List.{List, [], _∷_, _++_, map}
 use Prim.Native.Nat.{ℕ, suc, _+_, _≤_}
 use native.Mathlib.Omega.{arith}
 use mathlib.Core.Logic.{⊎-elim}
-use lib.Dec.{eqb}
 use lib.ListN.{length, length-append}
 use Rattle.octets.specs.Lists.{joined, any}
 use Rattle.octets.specs.Checked.{pass}
-use Rattle.octets.proofs.Checks.{bind-pass, require-pass, pass-inj, known}
+use Rattle.octets.proofs.Checks.{bind-pass, pass-inj, known}
 use Rattle.octets.proofs.Numbers.{Bytes}
 use Rattle.bundle.specs.Bundle.{Object, body}
-use Rattle.bundle.specs.Encoding.{Encoding, encodingOf, encodingGood}
+use Rattle.bundle.specs.Encoding.{Encoding, encodingOf}
 use Rattle.index.specs.Rows.{BySection}
-use Rattle.package.specs.Input.{Input, editionGood, complete, usedStrings, inputIndex, inputOf}
+use Rattle.package.specs.Input.{Input, inputOf}
 use Rattle.package.specs.Filing.{Filed, Filing, isUnder, grown, unitsIn, filingFrom, keep, keepAll, kept}
-use Rattle.package.proofs.Inputs.{InputFacts, input-facts}
+use Rattle.package.proofs.Inputs.{InputFacts, input-facts, input-parts, input-bytes}
 use Rattle.package.proofs.Kept.{keep-new, keep-known}
 
 -- an object and the input that it is
@@ -29,20 +28,6 @@ pub data Matched (b : List ℕ) (e : Encoding) : List Object → List Input → 
   none : Matched b e [] []
   more : {o : Object} {os : List Object} {i : Input} {is : List Input} → FromObject b e o i → Matched b e os is → Matched b e (o ∷ os) (i ∷ is)
 
-input-bytes : (b : List ℕ) (big : Bool) (first : ℕ) (o : Object) (i : Input) → inputOf b big first o ≡ pass i → (c : ℕ) → i .bytes c ≡ body b (o .parts) c
-unfolding inputOf
-input-bytes b big first o i q c =
-    let e = encodingOf big (o .word) in
-    let ps = o .parts in
-    let four = require-pass (encodingGood e) 4 _ i q in
-    let five = require-pass (eqb (o .word) first) 5 _ i (four .1) in
-    let six = require-pass (editionGood e ps) 6 _ i (five .1) in
-    let seven = require-pass (complete ps) 7 _ i (six .1) in
-    let used = bind-pass (usedStrings e ps (body b ps)) _ i (seven .1) in
-    let cu = bind-pass (inputIndex e ps (body b ps) 12) _ i (used .2) in
-    let tu = bind-pass (inputIndex e ps (body b ps) 13) _ i (cu .2) in
-    sym (ap (λ (j : Input). j .bytes c) (pass-inj (tu .2)))
-
 pub objects-matched : (b : List ℕ) (big : Bool) (first : ℕ) → Bytes b → (base : BySection ℕ) (earlier : List Filed) (os : List Object) (f : Filing)
     → filingFrom b big first base earlier os ≡ pass f → Matched b (encodingOf big first) os (f .inputs)
 unfolding filingFrom
@@ -53,7 +38,7 @@ objects-matched b big first h base earlier (o ∷ os) f q =
     let rest = bind-pass (filingFrom b big first (grown base (i .0)) (earlier ++ here .0) os) _ f (here .2) in
     let later = objects-matched b big first h (grown base (i .0)) (earlier ++ here .0) os (rest .0) (rest .1) in
     subst (λ (g : Filing). Matched b (encodingOf big first) (o ∷ os) (g .inputs)) (pass-inj (rest .2))
-    (more (record { bytes = input-bytes b big first o (i .0) (i .1); facts = input-facts b big first o (i .0) h (i .1) }) later)
+    (more (record { bytes = input-bytes b big first o (i .0) (input-parts b big first o (i .0) (i .1)); facts = input-facts b big first o (i .0) h (i .1) }) later)
 
 -- a section over all inputs is that over all objects
 pub matched-joined : (b : List ℕ) (e : Encoding) (os : List Object) (is : List Input) → Matched b e os is → (c : ℕ)

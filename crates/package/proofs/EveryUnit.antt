@@ -6,21 +6,19 @@ use mathlib.Core.Bool.{Bool, true, false}
 use mathlib.Core.Option.{Option, some, none}
 use Prim.Native.Nat.{ℕ, zero, suc, _+_, _≤_}
 use native.Mathlib.Omega.{arith}
-use lib.Dec.{eqb}
 use lib.ListN.{length, take, drop, length-take, take-append-drop}
 use lib.Seq.{length-take-le, drop-drop}
 use Rattle.octets.specs.Lists.{joined, any}
 use Rattle.octets.specs.Checked.{Check, pass, refuse, _>>=_}
-use Rattle.octets.proofs.Checks.{bind-pass, require-pass, pass-inj, pass-refuse}
+use Rattle.octets.proofs.Checks.{bind-pass, pass-inj, pass-refuse}
 use Rattle.octets.proofs.Joined.{map-append, joined-append, joined-one}
 use Rattle.bundle.specs.Bundle.{Object}
-use Rattle.bundle.specs.Encoding.{encodingOf, encodingGood}
 use Rattle.bundle.specs.Written.{Section}
 use Rattle.unit.specs.UnitRead.{unitOf}
 use Rattle.index.specs.Index.{Contribution}
 use Rattle.index.specs.Rows.{BySection}
-use Rattle.bundle.specs.Bundle.{body}
-use Rattle.package.specs.Input.{Input, editionGood, complete, usedStrings, inputIndex, unitSections, inputOf}
+use Rattle.package.specs.Input.{Input, unitSections, inputOf}
+use Rattle.package.proofs.Inputs.{input-parts}
 use Rattle.package.specs.Filing.{Filed, Filing, isUnder, skipped, contributionsOf, unitAt, unitsFrom, unitsIn, grown, filingFrom}
 
 -- the bytes of units, one behind the other
@@ -76,18 +74,7 @@ module _ (i : Input) (bases : BySection ℕ) (earlier : List Filed) where
 
 -- an object's sections of units are those of the bundle
 input-units : (b : List ℕ) (big : Bool) (first : ℕ) (o : Object) (i : Input) → inputOf b big first o ≡ pass i → i .units ≡ unitSections b (o .parts)
-unfolding inputOf
-input-units b big first o i q =
-    let e = encodingOf big (o .word) in
-    let ps = o .parts in
-    let four = require-pass (encodingGood e) 4 _ i q in
-    let five = require-pass (eqb (o .word) first) 5 _ i (four .1) in
-    let six = require-pass (editionGood e ps) 6 _ i (five .1) in
-    let seven = require-pass (complete ps) 7 _ i (six .1) in
-    let used = bind-pass (usedStrings e ps (body b ps)) _ i (seven .1) in
-    let cu = bind-pass (inputIndex e ps (body b ps) 12) _ i (used .2) in
-    let tu = bind-pass (inputIndex e ps (body b ps) 13) _ i (cu .2) in
-    ap (λ (z : Input). z .units) (sym (pass-inj (tu .2)))
+input-units b big first o i q = ap (λ (z : Input). z .units) (input-parts b big first o i q .is)
 
 -- all bytes of info and types of objects, in the order of the bundle
 unfoldable pub unitBytesOf : List ℕ → List Object → List ℕ

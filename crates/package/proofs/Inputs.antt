@@ -183,9 +183,19 @@ made b e ps used cu tu h g d u c t = record {
   strings = used-facts e b ps used u;
 }
 
-pub input-facts : (b : List ℕ) (big : Bool) (first : ℕ) (o : Object) (i : Input) → Bytes b → inputOf b big first o ≡ pass i → InputFacts (encodingOf big first) i
+-- an object that passed, check by check
+pub record InputParts (b : List ℕ) (big : Bool) (first : ℕ) (o : Object) (i : Input) : Type 0 where
+  pub good : encodingGood (encodingOf big (o .word)) ≡ true
+  pub word : o .word ≡ first
+  pub edition : editionGood (encodingOf big (o .word)) (o .parts) ≡ true
+  pub used : usedStrings (encodingOf big (o .word)) (o .parts) (body b (o .parts)) ≡ pass (i .used)
+  pub cuIndex : inputIndex (encodingOf big (o .word)) (o .parts) (body b (o .parts)) 12 ≡ pass (i .cuIndex)
+  pub tuIndex : inputIndex (encodingOf big (o .word)) (o .parts) (body b (o .parts)) 13 ≡ pass (i .tuIndex)
+  pub is : i ≡ record { encoding = encodingOf big (o .word); bytes = body b (o .parts); units = unitSections b (o .parts); used = i .used; cuIndex = i .cuIndex; tuIndex = i .tuIndex }
+
+pub input-parts : (b : List ℕ) (big : Bool) (first : ℕ) (o : Object) (i : Input) → inputOf b big first o ≡ pass i → InputParts b big first o i
 unfolding inputOf
-input-facts b big first o i h q =
+input-parts b big first o i q =
     let e = encodingOf big (o .word) in
     let ps = o .parts in
     let four = require-pass (encodingGood e) 4 _ i q in
@@ -195,6 +205,16 @@ input-facts b big first o i h q =
     let used = bind-pass (usedStrings e ps (body b ps)) _ i (seven .1) in
     let cu = bind-pass (inputIndex e ps (body b ps) 12) _ i (used .2) in
     let tu = bind-pass (inputIndex e ps (body b ps) 13) _ i (cu .2) in
-    subst (InputFacts (encodingOf big first)) (pass-inj (tu .2))
-    (subst (λ (w : ℕ). InputFacts (encodingOf big w) (record { encoding = e; bytes = body b ps; units = unitSections b ps; used = used .0; cuIndex = cu .0; tuIndex = tu .0 }))
-    (eqb-true (o .word) first (five .0)) (made b e ps (used .0) (cu .0) (tu .0) h (four .0) (six .0) (used .1) (cu .1) (tu .1)))
+    subst (InputParts b big first o) (pass-inj (tu .2))
+    (record { good = four .0; word = eqb-true (o .word) first (five .0); edition = six .0; used = used .1; cuIndex = cu .1; tuIndex = tu .1; is = refl })
+
+pub input-bytes : (b : List ℕ) (big : Bool) (first : ℕ) (o : Object) (i : Input) → InputParts b big first o i → (c : ℕ) → i .bytes c ≡ body b (o .parts) c
+input-bytes b big first o i p c = ap (λ (j : Input). j .bytes c) (p .is)
+
+pub input-facts : (b : List ℕ) (big : Bool) (first : ℕ) (o : Object) (i : Input) → Bytes b → inputOf b big first o ≡ pass i → InputFacts (encodingOf big first) i
+input-facts b big first o i h q =
+    let p = input-parts b big first o i q in
+    let e = encodingOf big (o .word) in
+    subst (InputFacts (encodingOf big first)) (sym (p .is))
+    (subst (λ (w : ℕ). InputFacts (encodingOf big w) (record { encoding = e; bytes = body b (o .parts); units = unitSections b (o .parts); used = i .used; cuIndex = i .cuIndex; tuIndex = i .tuIndex }))
+    (p .word) (made b e (o .parts) (i .used) (i .cuIndex) (i .tuIndex) h (p .good) (p .edition) (p .used) (p .cuIndex) (p .tuIndex)))

@@ -5,23 +5,20 @@ use mathlib.Core.Bool.{Bool}
 use mathlib.Core.List.{List, [], _∷_, _++_}
 use Prim.Native.Nat.{ℕ, _+_, _*_, _≤_}
 use native.Mathlib.Omega.{arith}
-use borrow.Author.Tests.{eqb-true}
-use lib.Dec.{eqb}
 use lib.ListN.{length, drop, getD, length-append}
 use Rattle.octets.specs.Octets.{part, zeros}
 use Rattle.octets.specs.Checked.{Check, pass, refuse}
-use Rattle.octets.proofs.Checks.{bind-pass, require-pass, pass-inj}
 use Rattle.octets.proofs.Parts.{length-part}
 use Rattle.octets.proofs.Placed.{getD-zeros}
 use Rattle.bundle.specs.Bundle.{Part, Item, Object, items, leading, body}
-use Rattle.bundle.specs.Encoding.{Encoding, encodingOf, encodingGood}
+use Rattle.bundle.specs.Encoding.{Encoding, encodingOf}
 use Rattle.bundle.specs.Encoded.{encodingIs}
 use Rattle.bundle.specs.Scan.{sectionsOf, placeBehind, startOf, sizeOf, scanOf}
 use Rattle.bundle.specs.declared.Scan.{Scan}
 use Rattle.bundle.proofs.Passed.{here}
 use Rattle.bundle.proofs.Every.{Every}
 use Rattle.bundle.proofs.Lies.{Lies, leading-lie}
-use Rattle.bundle.proofs.Onward.{Onward, onward}
+use Rattle.bundle.proofs.Onward.{Onward, onward, size-behind}
 use Rattle.bundle.proofs.Sections.{body-part}
 use Rattle.bundle.proofs.ScanFacts.{left-sections, scan-next, first-within}
 use Rattle.strings.specs.Strings.{putAll}
@@ -31,16 +28,16 @@ use Rattle.strings.proofs.StrOffsets.{Sound, sound}
 use Rattle.strings.proofs.Callers.{strings-room}
 use Rattle.index.specs.Rows.{BySection}
 use Rattle.keeping.specs.Regions.{stringsStart, Replaced}
-use Rattle.package.specs.Input.{Input, present, editionGood, complete, usedStrings, inputIndex, unitSections, inputOf}
+use Rattle.package.specs.Input.{Input, present, usedStrings, unitSections, inputOf}
 use Rattle.package.specs.Filing.{Filed, unitsIn, grown}
 use Rattle.package.specs.Pack.{allUsed, stringTable}
+use Rattle.package.proofs.Inputs.{input-parts}
 use Rattle.package.proofs.OverObjects.{input-numbered}
 use Rattle.input.specs.Judged.{InputIs}
 use Rattle.filing.specs.declared.state.InProgress.{InProgress}
 use Rattle.filing.specs.declared.objects.InputFiled.{InputFiled}
 use Rattle.filing.specs.State.{Held, StringsKept}
 use Rattle.filing.specs.ByObject.{stringsCheck, AtObject, InputRoom, InputRead}
-use Rattle.bundle.proofs.Onward.{size-behind}
 use Rattle.filing.proofs.Growing.{input-room}
 use Rattle.filing.proofs.Entering.{five-is, none-summed, object-enter}
 use Rattle.filing.proofs.Snoc.{used-snoc, strings-stay, check-few}
@@ -49,26 +46,17 @@ use Rattle.packer.specs.declared.objects.ObjectFiled.{ObjectFiled}
 use Rattle.packer.specs.Objects.{sectionsFrom, Ahead, noSums, InputReady, UnitsAddedIs, UnitsThen, ObjectIs}
 
 -- ---- an object that passed
-pub record InputParts (b : List ℕ) (e : Encoding) (ps : List Part) (i : Input) : Type 0 where
+pub record ObjectParts (b : List ℕ) (e : Encoding) (ps : List Part) (i : Input) : Type 0 where
   pub encoding : i .encoding ≡ e
   pub bytes : (c : ℕ) → i .bytes c ≡ body b ps c
   pub units : i .units ≡ unitSections b ps
   pub used : stringsCheck (i .encoding) (present ps 6) (i .bytes 6) (i .bytes 11) ≡ pass (i .used)
 
-pub input-parts : (b : List ℕ) (big : Bool) (first : ℕ) (o : Object) (i : Input) → inputOf b big first o ≡ pass i → InputParts b (encodingOf big first) (o .parts) i
-unfolding inputOf usedStrings stringsCheck
-input-parts b big first o i q =
-    let e = encodingOf big (o .word) in
-    let ps = o .parts in
-    let four = require-pass (encodingGood e) 4 _ i q in
-    let five = require-pass (eqb (o .word) first) 5 _ i (four .1) in
-    let six = require-pass (editionGood e ps) 6 _ i (five .1) in
-    let seven = require-pass (complete ps) 7 _ i (six .1) in
-    let used = bind-pass (usedStrings e ps (body b ps)) _ i (seven .1) in
-    let cu = bind-pass (inputIndex e ps (body b ps) 12) _ i (used .2) in
-    let tu = bind-pass (inputIndex e ps (body b ps) 13) _ i (cu .2) in
-    subst (InputParts b (encodingOf big first) ps) (pass-inj (tu .2))
-    (record { encoding = ap (encodingOf big) (eqb-true (o .word) first (five .0)); bytes = λ c. refl; units = refl; used = used .1 })
+object-parts : (b : List ℕ) (big : Bool) (first : ℕ) (o : Object) (i : Input) → inputOf b big first o ≡ pass i → ObjectParts b (encodingOf big first) (o .parts) i
+unfolding usedStrings stringsCheck
+object-parts b big first o i q =
+    let p = input-parts b big first o i q in
+    subst (ObjectParts b (encodingOf big first) (o .parts)) (sym (p .is)) (record { encoding = ap (encodingOf big) (p .word); bytes = λ c. refl; units = refl; used = p .used })
 
 -- its strings take no more than its str_offsets does
 used-behind : (e : Encoding) → Sound e → (there : Bool) (o s : List ℕ) (is : List Input) (i : Input) (from place n : ℕ) → stringsCheck e there o s ≡ pass (i .used)
@@ -151,7 +139,7 @@ module _ (b : List ℕ) (from : ℕ) (h : Ahead b from) where
         pub record ObjectRead : Type 0 where
           pub i : Input
           pub is-checked : checked ≡ pass i
-          pub parts : InputParts b (encodingOf big first) (sectionsFrom b from) i
+          pub parts : ObjectParts b (encodingOf big first) (sectionsFrom b from) i
           pub input : InputIs b (r .input) i
           pub strings : Kept b (part v (stringsStart n) (3 * n)) (r .strings) (putAll (stringTable is) (i .used))
           pub ready : InputReady b (r .input) i n from v st bases us
@@ -162,7 +150,7 @@ module _ (b : List ℕ) (from : ℕ) (h : Ahead b from) where
           where
             go : (m : Check Input) → checked ≡ m → InputRead b n v (stringTable is) m r → ObjectRead
             go (pass i) e f =
-                let p = input-parts b big first (record { word = word; parts = sectionsFrom b from }) i e in
+                let p = object-parts b big first (record { word = word; parts = sectionsFrom b from }) i e in
                 record {
                   i = i;
                   is-checked = e;

@@ -17,6 +17,7 @@ use Rattle.bundle.specs.Scan.{sectionsOf, placeBehind}
 use Rattle.bundle.specs.Encoding.{encodingOf}
 use Rattle.bundle.specs.declared.Item.{Item as Answered}
 use Rattle.bundle.specs.declared.Item.the-variants.{Object as AnObject}
+use Rattle.bundle.proofs.ScanFacts.{left-sections}
 use Rattle.bundle.proofs.Passed.{here}
 use Rattle.bundle.proofs.Next.{object-here}
 use Rattle.bundle.proofs.Objects.{Objects, Entered, objects-none, objects-object}
@@ -31,6 +32,7 @@ use Rattle.package.proofs.NumberedWalks.{sections-numbered}
 use Rattle.filing.specs.State.{Held}
 use Rattle.filing.specs.ByObject.{AtObject}
 use Rattle.filing.specs.declared.state.InProgress.{InProgress}
+use Rattle.filing.proofs.OverSections.{held-later}
 use Rattle.packer.specs.Objects.{sectionsFrom, Ahead, UnitsThen, ObjectIs, noneFiled, Cleared, ObjectsAre}
 use Rattle.packer.specs.declared.objects.ObjectFiled.{ObjectFiled}
 use Rattle.packer.specs.declared.objects.ObjectsFiled.{ObjectsFiled}
@@ -47,34 +49,14 @@ module _ (b : List ℕ) (k : Bundle) (e : bundleOf b ≡ pass k) where
   first-some word next h = ap firstWord (objects-object b 4 [] (k .objects) (objects-none b k e) word next h .more .is)
 
 -- ---- places
--- what is held up to a place is held up to a later one
-held-later : {five : Bool} {b : List ℕ} {n : ℕ} (p q : ℕ) {w : List ℕ} {st : InProgress} {bases : BySection ℕ} {us : List Filed}
-    → Held five b n p w st bases us → p ≤ q → q ≤ length b → Held five b n q w st bases us
-held-later p q k h g =
-    record {
-      room = k .room;
-      words = k .words;
-      units = k .units;
-      spent = omega (arith, k .spent);
-      cu = k .cu;
-      tu = k .tu;
-      info = k .info;
-      types = k .types;
-      based = k .based;
-      low = λ c. omega (arith, k .low c);
-      infoLow = omega (arith, k .infoLow);
-      typesLow = omega (arith, k .typesLow);
-      within = g;
-      limit = k .limit;
-    }
-
+-- what is filed up to a place is filed up to a later one
 object-later : {b : List ℕ} {big : Bool} {first n : ℕ} (p q : ℕ) {w : List ℕ} {st : InProgress} {t : StringTable} {bases : BySection ℕ} {is : List Input} {us : List Filed}
     → AtObject b big first n p w st t bases is us → p ≤ q → q ≤ length b → AtObject b big first n q w st t bases is us
 object-later p q a h g = record { held = held-later p q (a .held) h g; strings = a .strings; used = omega (arith, a .used) }
 
 sections-are : (b : List ℕ) (from : ℕ) (ahead : List Item) → here b from ≡ pass ahead → sectionsFrom b from ≡ leading ahead
-unfolding here sectionsFrom sectionsOf
-sections-are b from ahead e = ap (λ (c : Check (List Item)). sectionsOf c) e
+unfolding here sectionsFrom
+sections-are b from ahead e = left-sections b from ahead e
 
 -- ---- the loop
 -- at a place the objects done are filed, of all that the bundle has

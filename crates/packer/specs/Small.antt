@@ -1,4 +1,4 @@
--- Document 01, "The small packer": a bundle of at most 1,024 bytes, and 4,096 words of work.
+-- Document 01, "A whole package": "The small packer (bundles up to 1,024 bytes, else 1) has 4,096 words of work".
 -- Assumes nothing.
 use mathlib.Core.Bool.{true, false}
 use mathlib.Core.List.{List}
