@@ -1,0 +1,27 @@
+-- Limits, in bytes where nothing else is said.
+-- Assumes nothing.
+use Prim.Native.Nat.{ℕ}
+
+abbrev pub bundleLimit : ℕ
+bundleLimit = 4_194_304
+
+abbrev pub packageLimit : ℕ
+packageLimit = 117_440_512
+
+-- The greatest length that a section word can state.
+abbrev pub sectionLimit : ℕ
+sectionLimit = 8_388_607
+
+-- Words of work for each word of the bundle.
+abbrev pub workForWord : ℕ
+workForWord = 16
+
+-- The small packer: the longest bundle, and its own words of work.
+abbrev pub smallBundle : ℕ
+smallBundle = 1_024
+
+abbrev pub smallWork : ℕ
+smallWork = 4_096
+
+abbrev pub smallOutput : ℕ
+smallOutput = 65_536
