@@ -1,0 +1,1 @@
+// ELF64 files, read into bundles.
