@@ -14,4 +14,5 @@ pub mod Values
 pub mod Stepping
 pub mod Rooted
 pub mod Units
+pub mod HeaderAlone
 pub mod Promised
