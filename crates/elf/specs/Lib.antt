@@ -2,3 +2,5 @@
 -- Assumes nothing.
 pub mod File
 pub mod Reader
+pub mod Holds
+pub mod Held

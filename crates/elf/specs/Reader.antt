@@ -7,15 +7,15 @@ use lib.Dec.{eqb, leb}
 use lib.ListN.{length, getD}
 use Rattle.octets.specs.Octets.{numberAt}
 use Rattle.octets.specs.Lists.{all, any}
-use Rattle.octets.specs.Checked.{Check, pass, refuse, _>>=_, require}
-use Rattle.answers.specs.Answers.{Answer, refused, short, made, answered}
+use Rattle.octets.specs.Checked.{Check, pass, _>>=_, require}
+use Rattle.answers.specs.Answers.{Answer, answered}
 use Rattle.bundle.specs.Encoding.{Encoding}
 use Rattle.bundle.specs.Written.{Section, written}
-use Rattle.unit.specs.UnitRead.{UnitRead, lengthField, addressPlace, unitOf}
+use Rattle.unit.specs.UnitRead.{lengthField, addressPlace, headerPasses}
 use Rattle.numbers.specs.Sections.{infoCode}
 use Rattle.numbers.specs.Tables.{dwarf4, dwarf5}
 use Rattle.numbers.specs.Limits.{sectionLimit, packageLimit}
-use Rattle.numbers.specs.Refusals.{unreadableSection, noUnit, badHeader, sectionTooLong}
+use Rattle.numbers.specs.Refusals.{unreadableSection, noUnit, sectionTooLong}
 use Rattle.elf.specs.File.{Header, unstored, bodyOf, File, codeOf, wantedOf, elfOf}
 
 -- ---- 32: a wanted section is stored as it is, and nothing is added to it when the file is linked
@@ -40,7 +40,7 @@ firstInfo f names (h ∷ hs) =
 unfoldable pub widthStated : Bool → List ℕ → ℕ
 widthStated big s = elim (eqb (numberAt big 4 s 0) 0xFFFF_FFFF) [ true ↦ 8 | false ↦ 4 ]
 
--- with an address size of 0, until it is known where that stands
+-- version and width; the address size, whose place depends on both, is 0 here
 unfoldable pub versionStated : Bool → List ℕ → Encoding
 versionStated big s =
     let width = widthStated big s in
@@ -52,19 +52,12 @@ encodingStated big s =
     let e = versionStated big s in
     record { big = big; version = e .version; width = e .width; address = getD s (addressPlace e) 0 }
 
-unfoldable pub refusedBy : ℕ → Check UnitRead → Bool
-refusedBy n (pass u) = false
-refusedBy n (refuse m) = eqb m n
-
 -- its header passes 11; whether its identity can be read is left to packing
-unfoldable pub headerPasses : Encoding → List ℕ → Bool
-headerPasses e s = not (refusedBy badHeader (unitOf e infoCode [] s))
-
 unfoldable pub unitStated : Bool → List ℕ → Check Encoding
 unitStated big s = do
   let e = encodingStated big s
   _ ← require (eqb (e .version) dwarf4 || eqb (e .version) dwarf5) noUnit
-  _ ← require (headerPasses e s) noUnit
+  _ ← require (headerPasses e infoCode s) noUnit
   pass e
 
 -- ---- the bundle
