@@ -1,0 +1,2 @@
+-- Laws of the questions and of their answers.
+-- Assumes nothing.

@@ -1,0 +1,1 @@
+// Many questions for one package, which is opened once.
