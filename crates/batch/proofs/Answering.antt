@@ -2,25 +2,24 @@
 -- Assumes nothing.
 use mathlib.Core.Path.{_≡_, refl, ap, sym, _∙_}
 use mathlib.Core.Bool.{true, false, _&&_}
-use mathlib.Core.List.{List, [], _∷_, _++_}
+use mathlib.Core.List.{List, [], _∷_}
 use mathlib.Core.Logic.{⊎-elim}
-use Prim.Native.Nat.{ℕ, _+_, _*_, _-_, _/_, _≤_, _<_}
+use Prim.Native.Nat.{ℕ, _+_, _*_, _/_, _≤_, _<_}
 use native.Mathlib.Omega.{arith}
 use lib.Dec.{leb}
 use lib.ListN.{length, getD, drop, drop-of-length-le, length-append}
 use borrow.Author.Tests.{le-leb, lt-leb, leb-true}
 use Rattle.numbers.specs.Limits.{questionsLimit}
 use Rattle.numbers.specs.Refusals.{badQuestions}
-use Rattle.octets.specs.Octets.{placed, padded, zeros}
+use Rattle.octets.specs.Octets.{placed, zeros}
 use Rattle.octets.specs.Lists.{joined}
-use Rattle.octets.specs.Checked.{Check, pass, refuse}
-use Rattle.octets.proofs.Checks.{true-false, passes, fails, then-pass, then-refuse, and-left, and-right, and-fails, not-left, not-right, known}
+use Rattle.octets.specs.Checked.{pass, refuse}
+use Rattle.octets.proofs.Checks.{passes, fails, then-pass, then-refuse, and-left, and-right, and-fails, not-left, not-right, known}
 use Rattle.octets.proofs.Placed.{length-placed, placed-none, placed-placed, padded-none, padded-step}
-use Rattle.answers.specs.Answers.{Answer, refused, made, outputOf, writtenOf}
-use Rattle.lookup.specs.Lookup.{Found}
-use Rattle.lookup.specs.Answers.{numbered}
-use Rattle.batch.specs.Batch.{Question, question, questionsOf, wordsOf, asked, answerTo, answersTo, batchJudged, batchAnswered}
-use Rattle.batch.specs.Ties.{isPass, orNone, areQuestions, questionsIn, isTaken, Ready}
+use Rattle.answers.specs.Answers.{refused, made, outputOf, writtenOf}
+use Rattle.answers.specs.declared.Written.{Written}
+use Rattle.batch.specs.Batch.{Question, question, questionsOf, wordsOf, answerTo, answersTo, batchJudged, batchAnswered}
+use Rattle.batch.specs.Ties.{orNone, areQuestions, questionsIn, isTaken, Ready}
 use Rattle.batch.proofs.Questions.{are-in, are-not, at-least, at-rest, at-next, counted}
 
 -- ---- the answers
@@ -141,3 +140,17 @@ module _ (p : List ℕ) (version : ℕ) (w : List ℕ) (room : ℕ) where
       ∙ passes _ _ _ (and-right (areQuestions w) _ l)
       ∙ passes _ _ _ (and-right (areQuestions w && leb (length (questionsIn w)) questionsLimit) _ e) in
       rw (batchAnswered, j)
+
+  -- the numbers and the output, over an output d that was cleared
+  module _ (d : List ℕ) (z : d ≡ zeros room) where
+    pub call-refused : isTaken w room ≡ false
+        → (_≡_ {A = Written} (record { code = badQuestions; length = 0 }) (writtenOf (batchAnswered p version w room))) × (d ≡ outputOf (batchAnswered p version w room) room)
+    unfolding writtenOf outputOf
+    call-refused e = rw (batch-refused e) (refl, z)
+
+    pub call-made : isTaken w room ≡ true → (x : List ℕ) → x ≡ placed d 0 (answersTo p version (questionsIn w))
+        → (_≡_ {A = Written} (record { code = 0; length = 4 * (length w / 3) }) (writtenOf (batchAnswered p version w room))) × (x ≡ outputOf (batchAnswered p version w room) room)
+    unfolding writtenOf outputOf
+    call-made e x h =
+        let n : 4 * (length w / 3) ≡ length (answersTo p version (questionsIn w)) = ap (λ (k : ℕ). 4 * k) (count-is w room (taken-ready w room e .good)) ∙ sym (answers-length p version (questionsIn w)) in
+        rw (batch-made e) (ap (λ (k : ℕ). record { code = 0; length = k }) n, h ∙ padded-step d [] (answersTo p version (questionsIn w)) 0 room (z ∙ sym (padded-none room)) refl)

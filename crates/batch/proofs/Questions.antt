@@ -1,21 +1,20 @@
 -- The words of questions, read from the front three by three.
 -- Assumes nothing.
 use mathlib.Core.Path.{_≡_, refl, ap, sym, _∙_}
-use mathlib.Core.Bool.{Bool, true, false, _&&_}
+use mathlib.Core.Bool.{true, false}
 use mathlib.Core.List.{List, [], _∷_}
 use Prim.Native.Nat.{ℕ, suc, _+_, _*_, _-_, _/_, _≤_, _<_}
 use native.Mathlib.Omega.{arith}
 use native.Mathlib.Decide.{ℕ-discrete, decLt}
 use native.Mathlib.Numerals.{add-one, add-two, add-three}
-use lib.Dec.{eqb, leb}
 use lib.ListN.{length, getD, drop, length-drop, drop-of-length-le}
 use lib.Seq.{drop-cons}
-use borrow.Author.Tests.{eq-eqb, ne-eqb, eqb-true, le-leb, lt-leb, leb-true}
+use borrow.Author.Tests.{eq-eqb, ne-eqb}
 use Rattle.numbers.specs.Refusals.{badQuestions}
-use Rattle.octets.specs.Checked.{Check, pass, refuse, _>>=_, require}
+use Rattle.octets.specs.Checked.{Check, pass, refuse, _>>=_}
 use Rattle.octets.proofs.Checks.{true-false, passes, fails, then-refuse}
 use Rattle.batch.specs.Batch.{Question, questionKind, question, questionsOf}
-use Rattle.batch.specs.Ties.{isPass, orNone, areQuestions, questionsIn, isTaken, Ready}
+use Rattle.batch.specs.Ties.{isPass, orNone, areQuestions, questionsIn}
 
 -- ---- one question at the front
 module _ (first low high : ℕ) (rest : List ℕ) where

@@ -2,10 +2,10 @@
 -- Assumes nothing.
 use mathlib.Core.Path.{_≡_, refl, ap, sym}
 use mathlib.Core.Bool.{_&&_}
-use mathlib.Core.List.{List}
+use mathlib.Core.List.{List, [], _∷_}
 use mathlib.Core.Logic.{⊎-elim}
 use mathlib.Core.Option.{some, none}
-use Prim.Native.Nat.{ℕ, _%_, _^_, _≤_, _<_}
+use Prim.Native.Nat.{ℕ, _%_, _≤_}
 use native.Mathlib.Omega.{arith}
 use lib.Dec.{eqb, leb}
 use lib.ListN.{length}
@@ -21,6 +21,8 @@ use Rattle.index.specs.Held.{headOf, indexRead, ReadWell}
 use Rattle.index.proofs.Heads.{read-sized}
 use Rattle.lookup.specs.Lookup.{Found, refused, absent, part, Package, packageOf, indexFor, lookedUp}
 use Rattle.lookup.specs.Answers.{indexCode, locatedOf, numbered}
+use Rattle.lookup.specs.declared.searching.Located.{Located}
+use Rattle.lookup.specs.declared.searching.Located.the-variants.{Part, Absent, Refused}
 use Rattle.lookup.proofs.Packages.{package-passed}
 use Rattle.lookup.proofs.Known.{index-known, within-package}
 use Rattle.lookup.proofs.Bounds.{part-named, part-inside, part-missed}
@@ -68,3 +70,17 @@ unfolding wordsIn locatedOf wordsOf numbered
 words-are (part a n looks) = refl
 words-are (absent looks) = refl
 words-are (refused n) = refl
+
+-- the words of each case, stored as numbers of 32 bits
+module _ (l : Located) where
+  pub part-words : (a n looks a' n' looks' : ℕ) → l ≡ Part a n looks → a' ≡ a → n' ≡ n → looks' ≡ looks → 0 ∷ a' ∷ n' ∷ looks' ∷ [] ≡ wordsIn l
+  unfolding wordsIn
+  part-words a n looks a' n' looks' e ea en el = rw (e, ea, en, el)
+
+  pub absent-words : (looks looks' : ℕ) → l ≡ Absent looks → looks' ≡ looks → 1 ∷ 0 ∷ 0 ∷ looks' ∷ [] ≡ wordsIn l
+  unfolding wordsIn
+  absent-words looks looks' e el = rw (e, el)
+
+  pub refused-words : (n : ℕ) → l ≡ Refused n → n ∷ 0 ∷ 0 ∷ 0 ∷ [] ≡ wordsIn l
+  unfolding wordsIn
+  refused-words n e = rw e

@@ -59,14 +59,7 @@ fn is_taken(words: &[u32], room: usize) -> bool
 
 // ---- the answers
 // One question. The caller has opened the package.
-fn ask(
-    package: &[u8],
-    head: PackageHead,
-    version: u32,
-    first: u32,
-    low: u32,
-    high: u32,
-) -> Located
+fn ask(package: &[u8], head: PackageHead, version: u32, first: u32, low: u32, high: u32) -> Located
     requires { ⌜ head ≡ opened (packageOf (now «package»)) ⌝ }
     ensures { λ r. ⌜ r ≡ locatedOf (asked (now («package» .entry)) version (question first low high)) ⌝ }
 {
@@ -136,12 +129,7 @@ fn put_answers(
 }
 
 // Code 0: so many words of answers, four for each question, and zeros after them. 38: zeros only.
-pub fn answer_batch(
-    package: &[u8],
-    version: u32,
-    questions: &[u32],
-    answers: &mut [u32],
-) -> Written
+pub fn answer_batch(package: &[u8], version: u32, questions: &[u32], answers: &mut [u32]) -> Written
     ensures answer { λ r. ⌜ r ≡ writtenOf (batchAnswered (now («package» .entry)) version (now (questions .entry)) (length (now (answers .entry)))) ⌝ }
     ensures output { λ _. ⌜ now (answers .exit) ≡ outputOf (batchAnswered (now («package» .entry)) version (now (questions .entry)) (length (now (answers .entry)))) (length (now (answers .entry))) ⌝ }
 {
