@@ -6,7 +6,7 @@ use mathlib.Core.List.{[], _∷_, map}
 use mathlib.Core.Option.{some}
 use Rattle.octets.specs.Octets.{zeros, bigOf, bytesOf, numbersOf}
 use Rattle.octets.specs.Lists.{joined, those, any}
-use Rattle.octets.specs.Checked.{pass}
+use Rattle.octets.specs.Checked.{pass, _>>=_}
 use Rattle.index.specs.Columns.{columnsFive, columnsOf}
 use Rattle.index.specs.Index.{powerFrom, leastPower}
 use Rattle.index.specs.Probing.{Slots, found, absent, firstSlot, stride, look, search, slotsFor, freeFrom, placeAt, place, placeAll, unused, slotsOf}

@@ -6,7 +6,7 @@ use mathlib.Core.Option.{Option, some, none}
 use Prim.Native.Nat.{ℕ, zero, suc, _+_, _≤_, _<_}
 use native.Mathlib.Omega.{arith}
 use lib.ListN.{length, getD, set}
-use Rattle.octets.specs.Checked.{pass, _>>=_}
+use Rattle.octets.specs.Checked.{Check, pass, refuse, _>>=_}
 use Rattle.octets.proofs.Checks.{pass-refuse, pass-inj, then-pass, bind-pass, bind-same, bind-assoc}
 use Rattle.index.specs.Probing.{firstSlot, stride, Slots, freeFrom, placeAt, place, placeAll, unused}
 use Rattle.index.proofs.Slots.{PowerOfTwo}

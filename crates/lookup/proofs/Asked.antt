@@ -8,7 +8,7 @@ use Prim.Native.Nat.{ℕ, _+_, _≤_, _<_}
 use native.Mathlib.Omega.{arith}
 use lib.Dec.{eqb, leb}
 use borrow.Author.Tests.{eq-eqb, ne-eqb, le-leb, lt-leb}
-use Rattle.octets.specs.Checked.{require}
+use Rattle.octets.specs.Checked.{require, _>>=_}
 use Rattle.bundle.specs.Bundle.{Part as BundlePart, count, firstPart}
 use Rattle.bundle.specs.Scan.{startIn, sizeIn, startOf, sizeOf}
 use Rattle.bundle.proofs.Sections.{none-counted, counted-none}

@@ -11,7 +11,7 @@ use lib.Dec.{eqb}
 use lib.ListN.{length, getD}
 use borrow.Author.Tests.{eqb-true}
 use Rattle.octets.specs.Octets.{numberAt}
-use Rattle.octets.specs.Checked.{Check, pass, refuse}
+use Rattle.octets.specs.Checked.{Check, pass, refuse, _>>=_}
 use Rattle.octets.proofs.Checks.{and-left, and-right, then-pass, then-refuse, true-false}
 use Rattle.octets.proofs.Parts.{length-part-le}
 use Rattle.bundle.specs.Bundle.{Part as BundlePart, firstPart, body}
