@@ -7,6 +7,8 @@ pub mod Units
 pub mod Judged
 pub mod StringPlaces
 pub mod Absences
+pub mod Few
+pub mod Sums
 pub mod Firsts
 pub mod Demand3
 pub mod Telling

@@ -2,3 +2,5 @@
 -- Assumes nothing.
 pub mod Theorem
 pub mod Question
+pub mod Looks
+pub mod Many

@@ -154,3 +154,10 @@ module _ (p : List ℕ) (version : ℕ) (w : List ℕ) (room : ℕ) where
     call-made e x h =
         let n : 4 * (length w / 3) ≡ length (answersTo p version (questionsIn w)) = ap (λ (k : ℕ). 4 * k) (count-is w room (taken-ready w room e .good)) ∙ sym (answers-length p version (questionsIn w)) in
         rw (batch-made e) (ap (λ (k : ℕ). record { code = 0; length = k }) n, h ∙ padded-step d [] (answersTo p version (questionsIn w)) 0 room (z ∙ sym (padded-none room)) refl)
+
+  -- what was answered, and to how many questions
+  pub batch-is : (answers : List ℕ) → batchAnswered p version w room ≡ made answers → (answers ≡ answersTo p version (questionsIn w)) × (length w / 3 ≡ length (questionsIn w))
+  batch-is answers e = ⊎-elim
+      (λ (t : isTaken w room ≡ true). let q = sym (batch-made t) ∙ e in (cc, count-is w room (taken-ready w room t .good)))
+      (λ (t : isTaken w room ≡ false). absurd (let q = sym (batch-refused t) ∙ e in let z : _≡_ {A = ℕ} 0 1 = cc in omega arith))
+      (known (isTaken w room))
