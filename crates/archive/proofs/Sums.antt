@@ -9,7 +9,6 @@ use native.Mathlib.Nat.{suc-mul}
 use native.Mathlib.Omega.{arith}
 use lib.Dec.{eqb}
 use lib.ListN.{length}
-use Rattle.octets.specs.Lists.{joined}
 use Rattle.octets.specs.Checked.{Check, pass, refuse}
 use Rattle.octets.proofs.Numbers.{Bytes}
 use Rattle.package.proofs.Accepted.{Accepted, packed-accepted}
@@ -50,7 +49,7 @@ module _ (b p : List ℕ) (a : Accepted b p) (h : Bytes b) where
       go (refused n) e = omega arith
 
   all-few : (v : ℕ) (qs : List Question) → looksIn (answersTo p v qs) ≤ length qs * (max (unitsOf p 1) (unitsOf p 2) + 1)
-  unfolding answersTo answerTo wordsOf joined looksIn
+  unfolding answersTo answerTo wordsOf looksIn
   all-few v [] = omega arith
   all-few v (q ∷ qs) = omega (arith, one-few v q, all-few v qs, suc-mul (length qs) (max (unitsOf p 1) (unitsOf p 2) + 1))
 

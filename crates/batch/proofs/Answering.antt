@@ -12,7 +12,6 @@ use borrow.Author.Tests.{le-leb, lt-leb, leb-true}
 use Rattle.numbers.specs.Limits.{questionsLimit}
 use Rattle.numbers.specs.Refusals.{badQuestions}
 use Rattle.octets.specs.Octets.{placed, zeros}
-use Rattle.octets.specs.Lists.{joined}
 use Rattle.octets.specs.Checked.{pass, refuse}
 use Rattle.octets.proofs.Checks.{passes, fails, then-pass, then-refuse, and-left, and-right, and-fails, not-left, not-right, known}
 use Rattle.octets.proofs.Placed.{length-placed, placed-none, placed-placed, padded-none, padded-step}
@@ -24,7 +23,7 @@ use Rattle.batch.proofs.Questions.{are-in, are-not, at-least, at-rest, 
 
 -- ---- the answers
 pub answers-length : (p : List ℕ) (version : ℕ) (qs : List Question) → length (answersTo p version qs) ≡ 4 * length qs
-unfolding answersTo answerTo wordsOf joined
+unfolding answersTo answerTo wordsOf
 answers-length p version [] = refl
 answers-length p version (q ∷ qs) =
     let l = length-append (answerTo p version q) (answersTo p version qs) in
@@ -44,7 +43,7 @@ module _ (p : List ℕ) (version : ℕ) (w d₀ : List ℕ) where
 
   module _ (d : List ℕ) (i at : ℕ) (a : Answering p version w d₀ d i at) where
     pub answering-end : length w ≤ i → d ≡ placed d₀ 0 (answersTo p version (questionsIn w))
-    unfolding answersTo questionsIn questionsOf orNone joined
+    unfolding answersTo questionsIn questionsOf orNone
     answering-end h = sym (placed-none d at) ∙ ap (λ (s : List ℕ). placed d at (answersTo p version (questionsIn s))) (sym (drop-of-length-le w h)) ∙ a .left
 
     module _ (h : i < length w) where
@@ -58,7 +57,7 @@ module _ (p : List ℕ) (version : ℕ) (w d₀ : List ℕ) where
 
       pub answering-more : (x : List ℕ) (first low high : ℕ) → first ≡ getD w i 0 → low ≡ getD w (i + 1) 0 → high ≡ getD w (i + 2) 0
           → x ≡ placed d at (answerTo p version (question first low high)) → Answering p version w d₀ x (i + 3) (at + 4)
-      unfolding answersTo answerTo wordsOf joined
+      unfolding answersTo answerTo wordsOf
       answering-more x first low high ea eb ec ex =
           let f = answering-fits in
           let q = question first low high in

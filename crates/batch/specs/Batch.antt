@@ -1,12 +1,11 @@
 -- Many questions for one package, as words, and their answers, as words.
 -- Assumes nothing.
-use mathlib.Core.List.{List, [], _∷_, map}
+use mathlib.Core.List.{List, [], _∷_, _++_}
 use Prim.Native.Nat.{ℕ, _+_, _*_, _/_, _%_}
 use lib.Dec.{eqb, leb}
 use lib.ListN.{length}
 use Rattle.numbers.specs.Limits.{questionsLimit}
 use Rattle.numbers.specs.Refusals.{badQuestions}
-use Rattle.octets.specs.Lists.{joined}
 use Rattle.octets.specs.Checked.{Check, pass, refuse, _>>=_, require}
 use Rattle.answers.specs.Answers.{Answer, refused, made}
 use Rattle.lookup.specs.Lookup.{Found, lookedUp}
@@ -51,7 +50,8 @@ answerTo p version q = wordsOf (numbered (asked p version q))
 
 -- all of them, in order
 unfoldable pub answersTo : List ℕ → ℕ → List Question → List ℕ
-answersTo p version questions = joined (map (answerTo p version) questions)
+answersTo p version [] = []
+answersTo p version (q ∷ qs) = answerTo p version q ++ answersTo p version qs
 
 -- 38: too many questions, or too few words for the answers. It comes before any lookup, so also for a bad package.
 unfoldable pub batchJudged : List ℕ → ℕ → List ℕ → ℕ → Check (List ℕ)
