@@ -3,4 +3,3 @@
 pub mod Taken
 pub mod Readers
 pub mod Tenth
-pub mod Answered
