@@ -3,3 +3,4 @@
 pub mod Taken
 pub mod Readers
 pub mod Tenth
+pub mod Examples

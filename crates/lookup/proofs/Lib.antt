@@ -13,3 +13,5 @@ pub mod Searches
 pub mod Lookups
 pub mod Texts
 pub mod Bounds
+pub mod Limits
+pub mod Examples

@@ -15,3 +15,4 @@ pub mod Stepping
 pub mod Rooted
 pub mod Units
 pub mod Promised
+pub mod Examples

@@ -7,7 +7,7 @@ use mathlib.Core.Option.{none}
 use Prim.Native.Nat.{ℕ, _+_, _≤_, _<_}
 use native.Mathlib.Omega.{arith}
 use lib.ListN.{length, drop, drop-of-length-le}
-use Rattle.octets.specs.Checked.{Check, pass, refuse}
+use Rattle.octets.specs.Checked.{Check, pass, refuse, _>>=_}
 use Rattle.octets.proofs.Checks.{true-false, then-pass, then-refuse, passes, fails}
 use Rattle.octets.proofs.Refusals.{only-refuses}
 use Rattle.leb128.specs.Leb128.{unsigned}
