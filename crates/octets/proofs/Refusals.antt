@@ -68,6 +68,7 @@ module _ {first last : ℕ} where
         is = λ n e. subst (λ (j : ℕ). first ≤ j) (sym (o .is n e)) (leb-true first k (and-left (leb first k) (leb k last) h));
         most = λ n e. subst (λ (j : ℕ). j ≤ last) (sym (o .is n e)) (leb-true k last (and-right (leb first k) (leb k last) h));
       }
+
 -- an answer made of a check, whose refusals have one number
 pub stands-right : {A B R : Type 0} (k : ℕ) (f : A → B) (number : R → Check B) (of : Check A → R) → ((a : A) → number (of (pass a)) ≡ pass (f a))
     → ((n : ℕ) → number (of (refuse n)) ≡ refuse k) → (m : Check A) → Only k m → number (of m) ≡ mapped f m
