@@ -11,7 +11,6 @@ mod pack;
 mod show;
 mod stop;
 
-pub use help::COMMANDS;
 pub use meaning::meaning;
 pub use show::escaped;
 
@@ -50,7 +49,7 @@ fn dispatch(arguments: &[OsString]) -> Result<u8, Stop> {
 fn help_about(rest: &[OsString]) -> Result<u8, Stop> {
     let name = rest.first().map_or(Some(""), |word| word.to_str());
     match name {
-        Some(name) if name.is_empty() || COMMANDS.contains(&name) => output::print(help::about(name)),
+        Some(name) if name.is_empty() || help::about(name) != help::about("") => output::print(help::about(name)),
         _ => Err(Stop::wrong("", format!("'{}' is not a command", show::name(&rest[0])))),
     }
 }

@@ -2,10 +2,10 @@
 
 mod common;
 
-use barthovin::command::COMMANDS;
 use common::*;
 use std::fs;
 use std::io::Read;
+use std::path::Path;
 use std::process::Stdio;
 
 #[test]
@@ -21,7 +21,8 @@ fn says_how_it_is_used() {
     assert_eq!((told(&["help"]), told(&["-h"])), (general.clone(), general.clone()));
     let version = concat!("barthovin ", env!("CARGO_PKG_VERSION"), "\n");
     assert_eq!((told(&["--version"]), told(&["-V"])), (version.to_string(), version.to_string()));
-    for command in COMMANDS {
+    for command in commands(&home) {
+        let command = command.as_str();
         let help = told(&[command, "--help"]);
         assert!(help.starts_with(&format!("Usage: barthovin {command} ")), "{help}");
         assert!(help.contains("Exit status: 0 ") && general.contains(&format!("  {command} ")));
@@ -46,10 +47,25 @@ fn wrong_words_are_named() {
     wrong(&["-v"], "unrecognized option '-v'");
 }
 
-/// Every command, with calls that write to standard output.
+/// The commands that have a help of their own, as the general help has them.
+fn commands(home: &Path) -> Vec<String> {
+    let help = text(&run_in(home, &["--help"], &[]));
+    let list = help.split("Commands:\n").nth(1).unwrap().split("\n\n").next().unwrap();
+    let names = list.lines().map(|line| line.split_whitespace().next().unwrap().to_string());
+    let names: Vec<String> = names.filter(|name| name != "help").collect();
+    assert!(names.len() >= 3, "{names:?}");
+    names
+}
+
+/// Calls that write to standard output.
 fn calls() -> Vec<Vec<&'static str>> {
-    let mut calls: Vec<Vec<&str>> = COMMANDS.iter().map(|command| vec![*command, "--help"]).collect();
-    calls.extend([vec!["--help"], vec!["--version"], vec!["list", "package"], vec!["list", "--json", "package"]]);
+    let mut calls = vec![vec!["--help"]];
+    calls.extend([
+        vec!["pack", "--help"],
+        vec!["--version"],
+        vec!["list", "package"],
+        vec!["list", "--json", "package"],
+    ]);
     calls.extend(
         [&[][..], &["--raw"], &["--json"]]
             .map(|option| [&["lookup", "package", "cu", "1", "section", "info"], option].concat()),
@@ -92,8 +108,14 @@ fn a_closed_pipe_is_quiet() {
 #[test]
 fn the_manual_page_names_every_command_and_option() {
     let page = include_str!("../man/barthovin.1");
-    for word in COMMANDS.iter().chain(&["output", "raw", "json", "help", "version"]) {
-        assert!(page.contains(word), "{word} is not in the manual page");
+    let home = directory("manual");
+    for command in commands(&home) {
+        assert!(page.contains(&format!(".B barthovin {command}\n")), "{command} is not in the manual page");
+        let help = text(&run_in(&home, &[&command, "--help"], &[]));
+        for option in help.split_whitespace().filter_map(|word| word.strip_prefix("--")) {
+            let option = option.split('=').next().unwrap().trim_end_matches(|c: char| !c.is_ascii_alphanumeric());
+            assert!(page.contains(&format!("\\-\\-{option}")), "--{option} is not in the manual page");
+        }
     }
     assert!(page.contains(env!("CARGO_PKG_VERSION")), "the manual page is of another version");
 }

@@ -1,8 +1,5 @@
 //! How the command is called.
 
-/// The subcommands that have a help of their own.
-pub const COMMANDS: [&str; 3] = ["pack", "lookup", "list"];
-
 const GENERAL: &str = "\
 Usage: barthovin COMMAND [OPTION]... OPERAND...
 Pack split-debug sections and find them again, by proved functions.

@@ -28,6 +28,14 @@ pub fn meaning(number: u32) -> &'static str {
         24 => "the part ends outside its section, or the section is missing",
         25 => "the unit has no such entry",
         26 => "the entry names no string",
+        31 => "this is no relocatable ELF64 file, or it is cut off",
+        32 => "a debug section is compressed, relocated or without bytes",
+        33 => "there is no unit of DWARF version 4 or 5 to pack",
+        34 => "the parts of str_offsets overlap, have gaps or end outside the section",
+        35 => "the page is too short",
+        36 => "machines are 62 (x86-64), 183 (AArch64) and 243 (RISC-V)",
+        37 => "the output is too short",
+        38 => "the questions are ill-formed or more than 1,024, or the answers don't fit",
         _ => "an unknown refusal",
     }
 }
