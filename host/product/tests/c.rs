@@ -104,10 +104,12 @@ fn c_and_rust_are_answered_alike() {
 #[test]
 fn every_entry_is_declared_and_called() {
     let read = |name: &str| std::fs::read_to_string(format!("{HOME}/{name}")).unwrap();
-    let (crate_text, header) = (read("../../crates/archive/src/lib.rt"), read("include/barthovin.h"));
-    let files = std::fs::read_dir(format!("{HOME}/src")).unwrap().map(|file| file.unwrap().path());
-    let rust: String = files.filter_map(|file| std::fs::read_to_string(file).ok()).collect();
-    let calls = read("tests/entries.c");
+    let read_all = |folder: &str| -> String {
+        let files = std::fs::read_dir(format!("{HOME}/{folder}")).unwrap().map(|file| file.unwrap().path());
+        files.filter_map(|file| std::fs::read_to_string(file).ok()).collect()
+    };
+    let (crate_text, rust) = (read_all("../../crates/archive/src"), read_all("src"));
+    let (header, calls) = (read("include/barthovin.h"), read("tests/entries.c"));
     let entries: Vec<&str> =
         crate_text.split("extern \"C\" fn ").skip(1).map(|rest| rest.split('(').next().unwrap()).collect();
     assert!(entries.len() >= 6, "{entries:?}");
