@@ -61,10 +61,10 @@ enum { BARTHOVIN_DONE = 0, BARTHOVIN_ABSENT = 1, BARTHOVIN_OUTPUT_TOO_SHORT = 18
 /* The small packer's limit. */
 #define BARTHOVIN_LONGEST_SMALL_BUNDLE 1024
 
-/* Packing's answer. Code 0: the package is `length` bytes long and stands at the front of the output, with zeros behind it.
- * 18: the output is too short and `length` bytes are needed. Any other code is a refusal, with length 0. But for code 0 the
- * output is all zeros. */
-struct barthovin_packed {
+/* The answer of a call that writes. Code 0: what it wrote is `length` bytes long and stands at the front of the output, with zeros
+ * behind it. 18: the output is too short and `length` bytes are needed. Any other code is a refusal, with length 0. But for code
+ * 0 the output is all zeros. */
+struct barthovin_written {
     uint32_t code;
     size_t length;
 };
@@ -90,12 +90,12 @@ struct barthovin_found_from_bundle {
 
 /* Packs a bundle. Behind every answer all of work is zeros. Work that is shorter than BARTHOVIN_WORK_FOR_A_WORD words for each
  * word of the bundle is refused. */
-struct barthovin_packed barthovin_pack(const uint8_t *bundle, size_t bundle_length, uint32_t *work, size_t work_length,
-                                       uint8_t *output, size_t output_length);
+struct barthovin_written barthovin_pack(const uint8_t *bundle, size_t bundle_length, uint32_t *work, size_t work_length,
+                                        uint8_t *output, size_t output_length);
 
 /* The same with work of its own, on the stack, for a bundle of at most BARTHOVIN_LONGEST_SMALL_BUNDLE bytes. */
-struct barthovin_packed barthovin_pack_small(const uint8_t *bundle, size_t bundle_length, uint8_t *output,
-                                             size_t output_length);
+struct barthovin_written barthovin_pack_small(const uint8_t *bundle, size_t bundle_length, uint8_t *output,
+                                              size_t output_length);
 
 /* The part of a section that a unit has in a package, by the index's version, the table, the unit's identity and the section code. */
 struct barthovin_found barthovin_lookup(const uint8_t *package, size_t package_length, uint32_t version, uint32_t table,

@@ -104,14 +104,18 @@ fn c_and_rust_are_answered_alike() {
 #[test]
 fn every_entry_is_declared_and_called() {
     let read = |name: &str| std::fs::read_to_string(format!("{HOME}/{name}")).unwrap();
-    let (crate_text, header) = (read("../../crates/archive/src/lib.rt"), read("include/barthovin.h"));
-    let (rust, calls) = (read("src/ffi.rs"), read("tests/entries.c"));
+    let read_all = |folder: &str| -> String {
+        let files = std::fs::read_dir(format!("{HOME}/{folder}")).unwrap().map(|file| file.unwrap().path());
+        files.filter_map(|file| std::fs::read_to_string(file).ok()).collect()
+    };
+    let (crate_text, rust) = (read_all("../../crates/archive/src"), read_all("src"));
+    let (header, calls) = (read("include/barthovin.h"), read("tests/entries.c"));
     let entries: Vec<&str> =
         crate_text.split("extern \"C\" fn ").skip(1).map(|rest| rest.split('(').next().unwrap()).collect();
     assert!(entries.len() >= 6, "{entries:?}");
     for entry in entries {
         assert!(header.contains(&format!(" {entry}(")), "{entry} is not in barthovin.h");
-        assert!(rust.contains(&format!("fn {entry}(")), "{entry} is not in ffi.rs");
+        assert!(rust.contains(&format!("fn {entry}(")), "{entry} has no declaration in Rust");
         assert!(calls.contains(&format!("{entry}(")), "{entry} is not called in entries.c");
     }
 }

@@ -19,7 +19,7 @@ int main(void) {
     static uint32_t work[16 * 17];
     static uint8_t output[1000];
     const uint8_t *bundle = (const uint8_t *)words;
-    struct barthovin_packed packed = barthovin_pack(bundle, sizeof words, work, 16 * 17, output, 10);
+    struct barthovin_written packed = barthovin_pack(bundle, sizeof words, work, 16 * 17, output, 10);
     printf("pack %u %zu\n", (unsigned)packed.code, packed.length);
     packed = barthovin_pack(bundle, sizeof words, work, 16, output, 10);
     printf("pack %u %zu\n", (unsigned)packed.code, packed.length);
