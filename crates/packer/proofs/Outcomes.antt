@@ -3,17 +3,18 @@
 use mathlib.Core.Path.{_≡_, refl, sym, ap, _∙_}
 use mathlib.Core.Bool.{Bool, true, false, _&&_}
 use mathlib.Core.List.{List, [], _∷_, _++_}
-use Prim.Native.Nat.{ℕ, zero, suc, _+_, _*_, _/_, _%_, _≤_, _<_}
+use Prim.Native.Nat.{ℕ, _+_, _*_, _/_, _%_, _≤_, _<_}
 use native.Mathlib.Omega.{arith}
 use lib.Dec.{eqb, leb}
-use lib.ListN.{length, drop}
+use lib.ListN.{length}
 use borrow.Author.Tests.{le-leb, lt-leb, leb-true, eqb-true}
 use Rattle.octets.specs.Octets.{zeros}
 use Rattle.octets.specs.Checked.{Check, pass, refuse}
 use Rattle.octets.proofs.Checks.{fails, passes, then-pass, then-refuse, and-left, and-right}
-use Rattle.octets.proofs.Refusals.{Only, only-pass, only-refuse, only-require, only-bind, only-refuses}
-use Rattle.bundle.specs.Bundle.{Item, Step, more, end, broken, stepAt, followed, itemsFrom, items, Object, Bundle, bundleOf, lengthGood}
+use Rattle.octets.proofs.Refusals.{only-refuses}
+use Rattle.bundle.specs.Bundle.{Object, Bundle, bundleOf, lengthGood}
 use Rattle.bundle.specs.Next.{wordsOf}
+use Rattle.bundle.specs.Answered.{bundle-only}
 use Rattle.bundle.specs.declared.Words.the-variants.{Readable, Broken as Unreadable}
 use Rattle.index.specs.Rows.{BySection}
 use Rattle.package.specs.Filing.{Filed, Filing, grown, filingFrom, firstWord, filingOf}
@@ -52,21 +53,6 @@ module _ (limit : ℕ) (b : List ℕ) (e : lengthGood limit b ≡ true) where
   length-whole = eqb-true (length b % 4) 0 (and-right (leb 8 (length b) && leb (length b) limit) _ e)
 
 -- ---- the words
-followed-only : (s : Step) (rest : ℕ → Check (List Item)) → ((n : ℕ) → Only 3 (rest n)) → Only 3 (followed s rest)
-unfolding followed
-followed-only (more i n) rest h = only-bind 3 _ _ (h n) (λ is. only-pass 3 _)
-followed-only end rest h = only-pass 3 _
-followed-only broken rest h = only-refuse 3
-
-items-only : (k at : ℕ) (s : List ℕ) → Only 3 (itemsFrom k at s)
-unfolding itemsFrom
-items-only zero at s = only-refuse 3
-items-only (suc k) at s = followed-only (stepAt at s) _ (λ n. items-only k (at + 4 + n) (drop (4 + n) s))
-
-bundle-only : (b : List ℕ) → Only 3 (bundleOf b)
-unfolding bundleOf items
-bundle-only b = only-bind 3 _ _ (only-require _ 3) (λ _. only-bind 3 _ _ (items-only _ 4 (drop 4 b)) (λ is. only-bind 3 _ _ (only-require _ 3) (λ _. only-pass 3 _)))
-
 pub words-broken : (b : List ℕ) → Unreadable ≡ wordsOf (bundleOf b) → bundleOf b ≡ refuse 3
 unfolding wordsOf
 words-broken b e = only-refuses 3 (bundleOf b) (bundle-only b) (λ k f. let g : Unreadable ≡ wordsOf (pass k) = e ∙ ap wordsOf f in let z : _≡_ {A = ℕ} 0 1 = cc in omega arith)
