@@ -80,19 +80,3 @@ readable b u e = head (headGood (numberAt false 4 b 0)) (sym (by-head b) ∙ e)
     head : (t : Bool) → (require t 3 >>= (λ _. behindHead (eqb (numberAt false 4 b 0) 0xF000_0001) (here b 4))) ≡ pass u → Readable b u
     head true p = rest (here b 4) refl p
     head false p = absurd (let z : _≡_ {A = ℕ} 0 1 = cc in omega arith)
-
--- ---- every refusal is 3
-followed-only : (s : Step) (rest : ℕ → Check (List Item)) → ((n : ℕ) → Only 3 (rest n)) → Only 3 (followed s rest)
-unfolding followed
-followed-only (more i n) rest h = only-bind 3 _ _ (h n) (λ is. only-pass 3 _)
-followed-only end rest h = only-pass 3 _
-followed-only broken rest h = only-refuse 3
-
-items-only : (k at : ℕ) (s : List ℕ) → Only 3 (itemsFrom k at s)
-unfolding itemsFrom
-items-only zero at s = only-refuse 3
-items-only (suc k) at s = followed-only (stepAt at s) _ (λ n. items-only k (at + 4 + n) (drop (4 + n) s))
-
-pub bundle-only : (b : List ℕ) → Only 3 (bundleOf b)
-unfolding bundleOf items
-bundle-only b = only-bind 3 _ _ (only-require _ 3) (λ _. only-bind 3 _ _ (items-only _ 4 (drop 4 b)) (λ is. only-bind 3 _ _ (only-require _ 3) (λ _. only-pass 3 _)))

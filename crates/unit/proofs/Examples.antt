@@ -65,6 +65,13 @@ values =
 abbrev pub table : ℕ → List ℕ
 table tag = (1 ∷ tag ∷ 0 ∷ []) ++ joined (map (λ v. 3 ∷ v .0) values) ++ (0xB1 ∷ 0x42 ∷ 7 ∷ 0 ∷ 0 ∷ 0 ∷ [])
 
+-- the same with one attribute before 2131, and the root for it
+abbrev pub single : List ℕ × List ℕ → List ℕ
+single v = (1 ∷ 0x11 ∷ 0 ∷ 3 ∷ []) ++ v .0 ++ (0xB1 ∷ 0x42 ∷ 7 ∷ 0 ∷ 0 ∷ 0 ∷ [])
+
+abbrev pub valued : List ℕ × List ℕ → List ℕ
+valued v = (1 ∷ []) ++ v .1 ++ bytesOf false 8 0x0102_0304_0506_0708
+
 -- the root: its code, the values, and the identity
 abbrev pub root : List ℕ
 root = (1 ∷ []) ++ joined (map (λ v. v .1) values) ++ bytesOf false 8 0x0102_0304_0506_0708
@@ -86,6 +93,8 @@ Examples =
     (unitOf four 1 (table 0x11) (unitFour root) ≡ read 107 1 0x0102_0304_0506_0708)
     × (unitOf four 1 (table 0x41) (unitFour root) ≡ read 107 1 0x0102_0304_0506_0708)
     × (unitOf four 1 (table 0x42) (unitFour root) ≡ refuse 12)
+    -- each form alone
+    × (map (λ v. unitOf four 1 (single v) (unitFour (valued v))) values ≡ map (λ v. read (20 + length (v .1)) 1 0x0102_0304_0506_0708) values)
     -- the last attribute must end in the unit
     × (unitOf four 1 ((1 ∷ 0x11 ∷ 0 ∷ 0xB1 ∷ 0x42 ∷ 7 ∷ 3 ∷ 5 ∷ 0 ∷ 0 ∷ 0 ∷ [])) (unitFour (1 ∷ fill 10)) ≡ read 22 1 0x5555_5555_5555_5555)
     × (unitOf four 1 ((1 ∷ 0x11 ∷ 0 ∷ 0xB1 ∷ 0x42 ∷ 7 ∷ 3 ∷ 5 ∷ 0 ∷ 0 ∷ 0 ∷ [])) (unitFour (1 ∷ fill 9)) ≡ refuse 12)
@@ -110,4 +119,4 @@ Examples =
 
 pub examples : Examples
 unfolding part little number numberAt littleOf bytesOf numbersOf joined any has distinct zeroTogether _>>=_ require groups short unsigned signedSize attributeAt attributesThen attributesFrom attributesOf declarationAt declarationsThen declarationsFrom declarationsOf declarationOf forms widthIn zeroEnded valueSize needed plainValue valueOf identityAt identityIn rootTag rootIdentity lengthField unitSize isFive addressPlace commonSize behindCommon identityFive identityFour identityOf unitOf
-examples = (refl, refl, refl, refl, refl, refl, refl, refl, refl, refl, refl, refl, refl, refl, refl, refl, refl, refl, refl)
+examples = (refl, refl, refl, refl, refl, refl, refl, refl, refl, refl, refl, refl, refl, refl, refl, refl, refl, refl, refl, refl)
