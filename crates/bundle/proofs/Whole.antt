@@ -3,15 +3,13 @@
 use mathlib.Core.Path.{_≡_, refl, sym, _∙_}
 use mathlib.Core.Bool.{Bool, true, false, _||_}
 use mathlib.Core.List.{List}
-use Prim.Native.Nat.{ℕ, zero, suc, _+_}
+use Prim.Native.Nat.{ℕ}
 use native.Mathlib.Omega.{arith}
 use lib.Dec.{eqb}
-use lib.ListN.{drop}
 use borrow.Author.Tests.{ne-eqb}
 use Rattle.octets.specs.Octets.{numberAt}
 use Rattle.octets.specs.Checked.{Check, pass, refuse, _>>=_, require}
-use Rattle.octets.proofs.Refusals.{Only, only-pass, only-refuse, only-require, only-bind}
-use Rattle.bundle.specs.Bundle.{Item, Step, more, end, broken, stepAt, followed, itemsFrom, Bundle, items, objectsOf, objectFirst, bundleOf}
+use Rattle.bundle.specs.Bundle.{Item, Bundle, items, objectsOf, objectFirst, bundleOf}
 use Rattle.bundle.proofs.Passed.{here}
 
 -- the checks that follow the head
