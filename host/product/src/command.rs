@@ -8,6 +8,7 @@ mod lookup;
 mod meaning;
 mod output;
 mod pack;
+mod questions;
 mod show;
 mod stop;
 
