@@ -8,7 +8,6 @@ mod lookup;
 mod meaning;
 mod output;
 mod pack;
-mod questions;
 mod show;
 mod stop;
 

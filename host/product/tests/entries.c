@@ -37,8 +37,8 @@ int main(void) {
     packed = barthovin_pack_small(bundle, sizeof words, output, 1000);
     printf("pack_small %u %zu\n", (unsigned)packed.code, packed.length);
     show("lookup", barthovin_lookup(output, packed.length, 5, 1, 1, BARTHOVIN_INFO));
-    show("lookup", barthovin_lookup(output, packed.length, 5, 2, 1, BARTHOVIN_INFO));
     show_batch(barthovin_lookup_batch(output, packed.length, 5, questions, 6, work, 9), work);
+    show("lookup", barthovin_lookup(output, packed.length, 5, 2, 1, BARTHOVIN_INFO));
     show("lookup_string", barthovin_lookup_string(output, packed.length, 5, 1, 1, 0));
     show("lookup_string", barthovin_lookup_string(output, packed.length, 5, 1, 1, 1));
     return 0;

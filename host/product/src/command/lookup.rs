@@ -1,7 +1,9 @@
 //! `barthovin lookup`: a part or a string of a package.
 
+mod questions;
+
 use super::call::{Call, Known};
-use super::{input, meaning, output, questions, show, Stop, DONE, NOT_DONE};
+use super::{input, meaning, output, show, Stop, DONE, NOT_DONE};
 use crate::answer::{Asked, Found};
 use crate::explain;
 use crate::ffi;

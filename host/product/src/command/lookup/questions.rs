@@ -1,8 +1,8 @@
 //! `barthovin lookup --questions`: many questions for one package, an answer on a line for each.
 
-use super::call::Call;
-use super::lookup::{question, Question};
-use super::{input, meaning, output, show, Stop, DONE, NOT_DONE};
+use super::{question, Question};
+use crate::command::call::Call;
+use crate::command::{input, meaning, output, show, Stop, DONE, NOT_DONE};
 use crate::answer::{Asked, Found};
 use crate::batch;
 use crate::ffi;
