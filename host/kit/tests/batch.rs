@@ -10,7 +10,7 @@ use kit::vectors::{bytes, lines, number};
 
 const MARGIN: usize = 16;
 
-/// One call over junk, compared with what is wanted; words behind the answers are zero, and around them nothing is touched.
+/// One call over junk, compared with what is wanted; words following the answers are zero, and around them nothing is touched.
 fn compare(package: &[u8], version: u32, questions: &[u32], lent: usize, wanted: &Result<Vec<u32>, u32>) -> u32 {
     let junk = |at: usize| at as u32 * 0x9E37_79B9 | 1;
     let mut memory: Vec<u32> = (0..lent + 2 * MARGIN).map(junk).collect();

@@ -37,7 +37,7 @@ pub fn question(table: u32, section: u32, identity: u64) -> Option<[u32; QUESTIO
     fits.then_some([KIND | section << BITS | table, identity as u32, (identity >> 32) as u32])
 }
 
-/// Answers questions in words: code and length in words. Behind it the answers hold so many words and zeros, or zeros only.
+/// Answers questions in words: code and length in words. After it the answers hold so many words and zeros, or zeros only.
 pub fn answer_words(package: &[u8], version: u32, questions: &[u32], answers: &mut [u32]) -> (u32, usize) {
     // The entry reads and writes the slices that it is lent, and nothing else.
     let Written { code, length } = unsafe {

@@ -49,7 +49,7 @@ ENTRY      of the unit's part of str_offsets, counted from 0
 A part is shown in hexadecimal, a string as text in which what can't be printed is \\n, \\t, \\xNN or \\u{N}. Looks are the slots of
 the index that were looked at.
 
-  -q, --questions=FILE  answer the questions of a file, or of standard input for -: on each line the operands behind PACKAGE;
+  -q, --questions=FILE  answer the questions of a file, or of standard input for -: on each line what follows PACKAGE;
                         each answer is a line; empty lines and those that start with # are left out
   -r, --raw       write the bytes found as they are, and nothing else
       --json      write each answer as a JSON object
