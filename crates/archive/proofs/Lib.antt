@@ -8,6 +8,8 @@ pub mod Judged
 pub mod StringPlaces
 pub mod Absences
 pub mod Tables
+pub mod Few
+pub mod Sums
 pub mod Firsts
 pub mod Demand3
 pub mod Telling

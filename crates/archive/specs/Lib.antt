@@ -3,3 +3,5 @@
 pub mod Theorem
 pub mod Question
 pub mod Refusing
+pub mod Looks
+pub mod Many
