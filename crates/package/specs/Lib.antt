@@ -3,4 +3,5 @@
 pub mod Input
 pub mod Filing
 pub mod Pack
+pub mod Units
 pub mod Counted
