@@ -28,10 +28,8 @@ use Rattle.package.proofs.Accepted.{Accepted}
 use Rattle.package.proofs.Tables.{indexOfTable}
 use Rattle.lookup.specs.Lookup.{Package, packageOf, indexFor}
 use Rattle.lookup.proofs.Bounds.{Named, part-named, string-named, Missed, part-missed, string-missed}
-use Rattle.archive.specs.Theorem as theorem
-use Rattle.archive.specs.Theorem.{isIndexVersion}
+use Rattle.archive.specs.Theorem.{isIndexVersion, UnitsCounted}
 use Rattle.archive.specs.Looks.{unitsIn, unitsOf, FindingTakes, AbsenceTakes}
-use Rattle.archive.specs.Many.{UnitsCounted}
 use Rattle.archive.proofs.Read.{rowsIn, versionIn, Table, empty, full}
 use Rattle.archive.proofs.Judged.{identities-are, version-none, version-form}
 use Rattle.archive.proofs.Absences.{objects-or, Reads, reads}

@@ -11,6 +11,8 @@ pub mod Few
 pub mod Sums
 pub mod Tables
 pub mod Firsts
+pub mod StrPieces
+pub mod StrStrings
 pub mod Demand3
 pub mod Telling
 pub mod Packaged

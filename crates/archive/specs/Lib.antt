@@ -3,5 +3,6 @@
 pub mod Theorem
 pub mod Question
 pub mod Looks
+pub mod StrSection
 pub mod Many
 pub mod Refusing
