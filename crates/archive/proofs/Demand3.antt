@@ -87,7 +87,7 @@ module _ (b p : List ℕ) (a : Accepted b p) (h : Bytes b) where
       (r .0, r .1 ∙ ap (λ (n : ℕ). part (r .0) n (looks b t x)) (the-code b p a h v t x u q f 6 .long))
 
   its-strings : theorem.ItsStrings b p
-  its-strings v t x k u q f m = the-string b p a h v t x u q f k m
+  its-strings v t x k u q f m = let r = the-string b p a h v t x u q f k m in (r .0, r .1, r .2)
 
   no-other-string : theorem.NoOtherString b p
   no-other-string v t x k u q f m = no-string b p a h v t x u q f k m

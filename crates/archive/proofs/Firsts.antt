@@ -151,17 +151,15 @@ module _ (b p : List ℕ) (a : Accepted b p) (h : Bytes b) where
 
     pub the-string : (n : ℕ) → n < length (entriesOfUnit u)
         → (string : List ℕ) × (stringAt 9 (u .input .bytes 11) (getD (entriesOfUnit u) n 0) ≡ pass string) × Holds p (stringFound p v t x n) (looks b t x) string
+        × (isIn (stringTable (a .filing .inputs)) string ≡ true)
     the-string n m =
         let r = its-string b p a h (s .o) (s .os) (s .objects) t (s .i) (s .xs) u (s .ys) (s .stands) (s .own) (s .k) (s .encoding) (s .parts) v (s .form) n m in (
           r .0,
           r .1,
           subst (λ (z : Found). Holds p z (looks b t x) (r .0)) (sym (string-judged p (s .k) (s .read) v (s .good) t (q .tables) x n))
               (ends-at (λ i m. partPlace (s .k) i m 6 >>= stringPlace p (s .k) v n) (r .0) (r .2)),
+          r .3,
         )
-
-    -- and it stands in the table of strings
-    pub the-listed : (n : ℕ) (m : n < length (entriesOfUnit u)) → isIn (stringTable (a .filing .inputs)) (the-string n m .0) ≡ true
-    the-listed n m = its-string b p a h (s .o) (s .os) (s .objects) t (s .i) (s .xs) u (s .ys) (s .stands) (s .own) (s .k) (s .encoding) (s .parts) v (s .form) n m .3
 
     pub no-string : (n : ℕ) → length (entriesOfUnit u) ≤ n → stringFound p v t x n ≡ refused 25
     no-string n m =

@@ -8,7 +8,8 @@ use Prim.Native.Nat.{ℕ, zero, suc, _<_}
 use native.Mathlib.Nat.{not-suc-le-zero, le-of-suc-le-suc}
 use native.Mathlib.Omega.{arith}
 use lib.Dec.{eqb}
-use lib.ListN.{length, getD, length-map}
+use lib.ListN.{length, getD, take, length-map, length-append}
+use lib.Seq.{take-at}
 use borrow.Author.Tests.{eqb-false, eq-eqb, ne-eqb}
 use Rattle.octets.specs.Lists.{any, same, has}
 use Rattle.octets.specs.Checked.{pass}
@@ -62,22 +63,20 @@ unfolding firstUses
 firstUses-clean used u = putAll-clean [] used nothing u
 
 -- ---- with their zeros
-pub getD-ended : (table : List (List ℕ)) (i : ℕ) → i < length table → getD (map ended table) i [] ≡ ended (getD table i [])
+getD-ended : (table : List (List ℕ)) (i : ℕ) → i < length table → getD (map ended table) i [] ≡ ended (getD table i [])
 getD-ended [] i h = absurd (not-suc-le-zero h)
 getD-ended (s ∷ table) zero h = refl
 getD-ended (s ∷ table) (suc i) h = getD-ended table i (le-of-suc-le-suc h)
 
-pub ended-inj : (s t : List ℕ) → ended s ≡ ended t → s ≡ t
+front : (s : List ℕ) → take (length s) (ended s) ≡ s
 unfolding ended
-ended-inj [] [] e = refl
-ended-inj [] (b ∷ []) e = absurd (let z : _≡_ {A = ℕ} 0 1 = ap length e in omega arith)
-ended-inj [] (b ∷ c ∷ t) e = absurd (let z : _ = ap length e in omega arith)
-ended-inj (a ∷ []) [] e = absurd (let z : _≡_ {A = ℕ} 1 0 = ap length e in omega arith)
-ended-inj (a ∷ c ∷ s) [] e = absurd (let z : _ = ap length e in omega arith)
-ended-inj (a ∷ s) (b ∷ t) e =
-    let h : a ≡ b = ap (λ (l : List ℕ). getD l 0 0) e in
-    let r : s ++ (0 ∷ []) ≡ t ++ (0 ∷ []) = cc in
-    rw (h, ended-inj s t r)
+front s = take-at s (0 ∷ []) (length s) refl
+
+ended-inj : (s t : List ℕ) → ended s ≡ ended t → s ≡ t
+unfolding ended
+ended-inj s t e =
+    let n : length s ≡ length t = omega (arith, length-append s (0 ∷ []), length-append t (0 ∷ []), ap length e) in
+    sym (front s) ∙ ap (λ (k : ℕ). take k (ended s)) n ∙ ap (take (length t)) e ∙ front t
 
 -- ---- a string of the table is one of the pieces, and only once
 pub listed-at : (table : List (List ℕ)) (s : List ℕ) → isIn table s ≡ true → (i : ℕ) × (i < length (map ended table)) × (getD (map ended table) i [] ≡ ended s)

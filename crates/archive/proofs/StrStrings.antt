@@ -1,10 +1,9 @@
 -- The str section of the package of an accepted bundle: the first uses, each once, and what the string lookup finds is among them.
 -- Assumes nothing.
 use mathlib.Core.Path.{_≡_, refl, sym, ap, _∙_, subst}
-use mathlib.Core.Logic.{inl, inr, ⊎-elim}
+use mathlib.Core.Logic.{⊎-elim}
 use mathlib.Core.Bool.{true, false}
 use mathlib.Core.List.{List, [], _∷_, _++_, map}
-use mathlib.Core.Option.{none}
 use Prim.Native.Nat.{ℕ, _+_, _<_, _≤_}
 use native.Mathlib.Omega.{arith}
 use native.Mathlib.Decide.{ℕ-discrete, decLt}
@@ -15,10 +14,11 @@ use Rattle.octets.specs.Checked.{Check, pass, _>>=_}
 use Rattle.octets.proofs.Checks.{known, pass-inj, then-pass}
 use Rattle.octets.proofs.Numbers.{Bytes}
 use Rattle.bundle.specs.Bundle.{Part, Object, bundleOf, firstPart, body}
+use Rattle.bundle.specs.Encoding.{Encoding}
 use Rattle.bundle.proofs.Every.{Every, nothing}
 use Rattle.bundle.proofs.RoundTrip.{partsFrom}
 use Rattle.bundle.proofs.WrittenParts.{bytesIn}
-use Rattle.strings.specs.Strings.{firstUses, ended, strOf}
+use Rattle.strings.specs.Strings.{firstUses, putAll, ended, strOf}
 use Rattle.strings.proofs.Ends.{NoZero}
 use Rattle.strings.proofs.FirstUses.{isIn, firstUses-distinct}
 use Rattle.strings.proofs.Offsets.{strOf-none}
@@ -34,12 +34,12 @@ use Rattle.package.proofs.Tables.{encodingIn, facts-of}
 use Rattle.lookup.specs.Lookup.{refused, absent, part, Package, packageOf, stringFound}
 use Rattle.archive.specs.Theorem.{Asked, IsFirst, looks, EveryStringReached, EachStringOnce, FirstUsesAndNoOther}
 use Rattle.archive.specs.StrSection.{pieces, strIn, stringsNamed}
-use Rattle.archive.proofs.Read.{table, nothing-read, package-is, body-is}
-use Rattle.archive.proofs.Absences.{objects-or, absent-is}
-use Rattle.archive.proofs.Firsts.{the-string, the-listed, no-string}
+use Rattle.archive.proofs.Read.{nothing-read, body-is}
+use Rattle.archive.proofs.Absences.{opens, absent-is}
+use Rattle.archive.proofs.Firsts.{the-string, no-string}
 use Rattle.archive.proofs.StrPieces.{pieces-table, named-clean, firstUses-clean, listed-at, once}
 
-all-clean : (is : List Input) (e : _) → Every (InputFacts e) is → Every NoZero (allUsed is)
+all-clean : (is : List Input) (e : Encoding) → Every (InputFacts e) is → Every NoZero (allUsed is)
 unfolding allUsed
 all-clean [] e f = nothing
 all-clean (i ∷ is) e f = each-append (named-clean (i .bytes 11) _ (i .used) (each-head f .strings .strings)) (all-clean is e (each-tail f))
@@ -74,14 +74,11 @@ module _ (b p : List ℕ) (a : Accepted b p) (h : Bytes b) where
       empty (x ∷ s) z = absurd (omega arith)
 
   str-is : strIn p ≡ strOf strings
-  unfolding stringTable allUsed
+  unfolding stringTable allUsed firstUses putAll
   str-is = ⊎-elim
-      (λ (z : a .bundle .objects ≡ []). str-read _ (nothing-read b p a z) ∙ none-there ∙ sym strOf-none ∙ ap (λ (is : List Input). strOf (stringTable is)) (sym (no-inputs z)))
-      (λ (z : (o : Object) × (os : List Object) × (a .bundle .objects ≡ o ∷ os)).
-      let one = table b p a h 1 (inl refl) in
-      let two = table b p a h 2 (inr refl) in
-      str-read _ (package-is b p a h (z .0) (z .1) (z .2) (one .0) (two .0) (one .1) (two .1)) ∙ str-body (z .0) (z .1) (z .2))
-      (objects-or (a .bundle .objects))
+      (λ z. str-read _ (nothing-read b p a (z .0)) ∙ none-there ∙ sym strOf-none ∙ ap (λ (is : List Input). strOf (stringTable is)) (sym (no-inputs (z .0))))
+      (λ z. str-read (opens b p a h .k) (opens b p a h .read) ∙ ap (λ (ps : List Part). body p ps 11) (z .4) ∙ str-body (z .0) (z .1) (z .2))
+      (opens b p a h .objects)
     where
       none-there : body p [] 11 ≡ []
       none-there = unfold body firstPart in refl
@@ -121,6 +118,6 @@ module _ (b p : List ℕ) (a : Accepted b p) (h : Bytes b) where
               let ss : start ≡ r .2 .0 = cc in
               let sz : size ≡ length (r .0) = cc in
               let is : bytesAt p start size ≡ r .0 = ap (λ (i : ℕ). bytesAt p i size) ss ∙ ap (bytesAt p (r .2 .0)) sz ∙ r .2 .2 in
-              subst (λ (s : List ℕ). (i : ℕ) × (i < length (pieces (strIn p))) × (getD (pieces (strIn p)) i [] ≡ ended s)) (sym is) (reached-is (r .0) (the-listed b p a h v t x (u .0) q (u .1) k m)))
+              subst (λ (s : List ℕ). (i : ℕ) × (i < length (pieces (strIn p))) × (getD (pieces (strIn p)) i [] ≡ ended s)) (sym is) (reached-is (r .0) (r .3)))
           | no m ↦ absurd (let y = sym e ∙ no-string b p a h v t x (u .0) q (u .1) k (omega arith) in let c : _≡_ {A = ℕ} 0 1 = cc in omega arith)
         ]
