@@ -76,9 +76,13 @@ pub record StringTold (b p : List ℕ) (v table x k : ℕ) (r : FromBundle) : Ty
   pub theOtherVersion : isIndexVersion b v ≡ false → (handedIn b ≡ [] → ⊥) → r .code ≡ 22
   pub neverRefuses : Asked b v table → (r .code ≡ 0) ⊎ (r .code ≡ 1) ⊎ (r .code ≡ 25)
 
--- packing refused: its number, and nothing is looked up
+-- the code where no package was made and nothing is looked up: neither found nor absent, and no refusal of a lookup
+abbrev pub notLookedUp : ℕ
+notLookedUp = 2
+
+-- packing refused: its number
 unfoldable pub unpacked : ℕ → ℕ → FromBundle
-unpacked number needed = record { packing = number; packed = needed; code = 0; start = 0; length = 0; looks = 0 }
+unpacked number needed = record { packing = number; packed = needed; code = notLookedUp; start = 0; length = 0; looks = 0 }
 
 -- the answer, where told is what holds of it when a package is made
 unfoldable pub AnsweredFrom : (List ℕ → FromBundle → Type 0) → Answer → FromBundle → Type 0

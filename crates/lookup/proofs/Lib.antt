@@ -14,3 +14,5 @@ pub mod Lookups
 pub mod Texts
 pub mod Bounds
 pub mod Refusing
+pub mod Limits
+pub mod Examples

@@ -1,12 +1,12 @@
 -- Checks of which every refusal has one number, or one of a range.
 -- Assumes nothing.
-use mathlib.Core.Path.{_≡_, refl, sym, subst}
+use mathlib.Core.Path.{_≡_, refl, sym, ap, _∙_, subst}
 use mathlib.Core.Bool.{Bool, true, false, _&&_}
 use mathlib.Core.Logic.{⊎-elim}
 use Prim.Native.Nat.{ℕ, _≤_}
 use lib.Dec.{leb}
 use borrow.Author.Tests.{leb-true}
-use Rattle.octets.specs.Checked.{Check, pass, refuse, _>>=_, require}
+use Rattle.octets.specs.Checked.{Check, pass, refuse, _>>=_, require, mapped}
 use Rattle.octets.proofs.Checks.{pass-refuse, refuse-inj, bind-refuse, and-left, and-right}
 
 pub record Only {A : Type 0} (k : ℕ) (m : Check A) : Type 0 where
@@ -68,3 +68,10 @@ module _ {first last : ℕ} where
         is = λ n e. subst (λ (j : ℕ). first ≤ j) (sym (o .is n e)) (leb-true first k (and-left (leb first k) (leb k last) h));
         most = λ n e. subst (λ (j : ℕ). j ≤ last) (sym (o .is n e)) (leb-true k last (and-right (leb first k) (leb k last) h));
       }
+
+-- an answer made of a check, whose refusals have one number
+pub stands-right : {A B R : Type 0} (k : ℕ) (f : A → B) (number : R → Check B) (of : Check A → R) → ((a : A) → number (of (pass a)) ≡ pass (f a))
+    → ((n : ℕ) → number (of (refuse n)) ≡ refuse k) → (m : Check A) → Only k m → number (of m) ≡ mapped f m
+unfolding mapped
+stands-right k f number of p r (pass a) o = p a
+stands-right k f number of p r (refuse n) o = r n ∙ ap refuse (sym (o .is n refl))

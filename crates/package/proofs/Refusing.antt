@@ -15,7 +15,7 @@ use Rattle.octets.specs.Checked.{Check, pass, refuse}
 use Rattle.octets.proofs.Checks.{require-refuse, bind-refuse, then-pass, pass-refuse, known, and-left, and-right}
 use Rattle.bundle.specs.Bundle.{Bundle, bundleOf, lengthGood}
 use Rattle.bundle.specs.Written.{Section}
-use Rattle.bundle.proofs.Whole.{bundle-only}
+use Rattle.bundle.specs.Answered.{bundle-only}
 use Rattle.index.specs.Written.{indexBytes}
 use Rattle.index.proofs.LawWhole.{indexBytes-passes}
 use Rattle.package.specs.Filing.{Filing, filingOf, firstWord, kept}

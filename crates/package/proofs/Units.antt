@@ -20,7 +20,7 @@ use Rattle.bundle.specs.Bundle.{Part, Object, Bundle, bundleOf}
 use Rattle.bundle.specs.Written.{Section}
 use Rattle.bundle.proofs.Sizes.{total, totals, bundle-totals}
 use Rattle.unit.specs.UnitRead.{UnitRead, unitOf}
-use Rattle.unit.proofs.Alone.{Alone, unit-alone}
+use Rattle.unit.proofs.Alone.{unit-alone}
 use Rattle.index.specs.Index.{Contribution}
 use Rattle.index.specs.Rows.{BySection}
 use Rattle.package.specs.Input.{Input, unitSections, inputOf}
@@ -58,29 +58,22 @@ module _ (i : Input) (bases : BySection ℕ) (earlier : List Filed) where
         | true ↦ skipped (r .0 .table)
         | false ↦ contributionsOf i here home at (r .0)
       ]) _ u (r .2) in
-      subst (Taken i bases earlier here home at s) (pass-inj (k .2)) (from (r .0) (k .0) (unit-alone (i .encoding) home (i .bytes 3) s (r .0) (r .1)) (k .1))
-    where
-      from : (r : UnitRead) (g : BySection (Option Contribution)) → Alone (i .encoding) home (i .bytes 3) s r
-          → (elim (any (isUnder (r .table) (r .identity)) (earlier ++ here)) as (λ z. Check (BySection (Option Contribution))) [
-            | true ↦ skipped (r .table)
-            | false ↦ contributionsOf i here home at r
-          ]) ≡ pass g
-          → Taken i bases earlier here home at s (record { table = r .table; identity = r .identity; home = home; bytes = take (r .size) s; input = i; contributions = g; bases = bases })
-      from r g a c =
-          let long : length (take (r .size) s) ≡ r .size = length-take-le (r .size) s (a .within) in
-          let reading : ℕ → UnitRead = λ n. record { size = n; table = r .table; identity = r .identity } in
-          record {
-            alone = a .alone ∙ ap (λ (n : ℕ). pass (reading n)) (sym long);
-            some = omega (arith, a .some, long);
-            rest = sym (ap (λ (n : ℕ). take (r .size) s ++ drop n s) long ∙ take-append-drop (r .size) s);
-            object = refl;
-            section = refl;
-            base = λ c. refl;
-            contributed = subst (λ (n : ℕ). (elim (any (isUnder (r .table) (r .identity)) (earlier ++ here)) as (λ z. Check (BySection (Option Contribution))) [
-              | true ↦ skipped (r .table)
-              | false ↦ contributionsOf i here home at (reading n)
-            ]) ≡ pass g) (sym long) c;
-          }
+      let a = unit-alone (i .encoding) home (i .bytes 3) s (r .0) (r .1) in
+      let long : length (take (r .0 .size) s) ≡ r .0 .size = length-take-le (r .0 .size) s (a .within) in
+      let reading : ℕ → UnitRead = λ n. record { size = n; table = r .0 .table; identity = r .0 .identity } in
+      subst (Taken i bases earlier here home at s) (pass-inj (k .2))
+      (record {
+        alone = a .alone ∙ ap (λ (n : ℕ). pass (reading n)) (sym long);
+        some = omega (arith, a .some, long);
+        rest = sym (ap (λ (n : ℕ). take (r .0 .size) s ++ drop n s) long ∙ take-append-drop (r .0 .size) s);
+        object = refl;
+        section = refl;
+        base = λ c. refl;
+        contributed = subst (λ (n : ℕ). (elim (any (isUnder (r .0 .table) (r .0 .identity)) (earlier ++ here)) as (λ z. Check (BySection (Option Contribution))) [
+          | true ↦ skipped (r .0 .table)
+          | false ↦ contributionsOf i here home at (reading n)
+        ]) ≡ pass (k .0)) (sym long) (k .1);
+      })
 
   -- ---- the units of a section
   -- behind those of this object that were filed before, these are filed, of so many bytes

@@ -4,4 +4,3 @@ pub mod Input
 pub mod Filing
 pub mod Pack
 pub mod Units
-pub mod Counted

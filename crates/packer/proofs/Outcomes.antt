@@ -14,8 +14,8 @@ use Rattle.octets.proofs.Checks.{fails, passes, then-pass, then-refuse, and-lef
 use Rattle.octets.proofs.Refusals.{only-refuses}
 use Rattle.bundle.specs.Bundle.{Bundle, bundleOf, lengthGood}
 use Rattle.bundle.specs.Next.{wordsOf}
+use Rattle.bundle.specs.Answered.{bundle-only}
 use Rattle.bundle.specs.declared.Words.the-variants.{Readable, Broken as Unreadable}
-use Rattle.bundle.proofs.Whole.{bundle-only}
 use Rattle.package.specs.Filing.{Filing, filingOf}
 use Rattle.package.specs.Pack.{Answer, judged, packed, answered}
 use Rattle.package.proofs.OverObjects.{filing-numbered}
