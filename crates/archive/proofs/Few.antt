@@ -3,24 +3,20 @@
 use mathlib.Core.Path.{_≡_, refl, sym, ap, _∙_, subst}
 use mathlib.Core.Logic.{_⊎_, inl, inr, ⊎-elim}
 use mathlib.Core.Bool.{Bool, true, false}
-use mathlib.Core.List.{List, [], _∷_, _++_}
+use mathlib.Core.List.{List}
 use mathlib.Core.Option.{Option, some, none}
-use Prim.Native.Nat.{ℕ, suc, _+_, _*_, _/_, _<_, _≤_, max}
-use native.Mathlib.Nat.{add-mul, mul-suc}
+use Prim.Native.Nat.{ℕ, _+_, _<_, _≤_}
 use native.Mathlib.Omega.{arith}
 use lib.Dec.{eqb}
 use lib.ListN.{length, getD, length-map}
-use borrow.Author.Tests.{eq-eqb, ne-eqb}
 use Rattle.octets.specs.Lists.{has}
 use Rattle.octets.specs.Checked.{pass}
 use Rattle.octets.proofs.Checks.{pass-inj, known}
 use Rattle.octets.proofs.Elements.{at-has}
 use Rattle.octets.proofs.Numbers.{Bytes}
-use Rattle.bundle.specs.Bundle.{Object}
 use Rattle.index.specs.Index.{Index}
 use Rattle.index.specs.Probing.{Probe, found, absent as nowhere, probe}
 use Rattle.index.specs.Written.{Row}
-use Rattle.index.proofs.LawColumns.{formOf}
 use Rattle.index.proofs.LawGrid.{noRow, identitiesOf, getD-map}
 use Rattle.index.proofs.LawWhole.{Indexed, probe-found, probe-absent}
 use Rattle.index.proofs.RoundTrip.{written}
@@ -28,13 +24,11 @@ use Rattle.package.proofs.Accepted.{Accepted}
 use Rattle.package.proofs.Tables.{indexOfTable}
 use Rattle.lookup.specs.Lookup.{Package, packageOf, indexFor}
 use Rattle.lookup.proofs.Bounds.{Named, part-named, string-named, Missed, part-missed, string-missed}
-use Rattle.archive.specs.Theorem as theorem
-use Rattle.archive.specs.Theorem.{isIndexVersion}
+use Rattle.archive.specs.Theorem.{UnitsCounted}
 use Rattle.archive.specs.Looks.{unitsIn, unitsOf, FindingTakes, AbsenceTakes}
-use Rattle.archive.specs.Many.{UnitsCounted}
 use Rattle.archive.proofs.Read.{rowsIn, versionIn, Table, empty, full}
-use Rattle.archive.proofs.Judged.{identities-are, version-none, version-form}
-use Rattle.archive.proofs.Absences.{objects-or, Reads, reads}
+use Rattle.archive.proofs.Judged.{identities-are}
+use Rattle.archive.proofs.Absences.{opens}
 
 -- ---- one search
 -- so many looks where it finds, one more where it finds nothing
@@ -74,18 +68,9 @@ module _ (b p : List ℕ) (a : Accepted b p) (h : Bytes b) where
   table-counted t (some j) (full n r) = refl
 
   -- ---- the package, as it is read
-  some-version : (v : ℕ) × (isIndexVersion b v ≡ true)
-  some-version = ⊎-elim
-      (λ (z : a .bundle .objects ≡ []). (2, version-none b p a 2 z))
-      (λ (z : (o : Object) × (os : List Object) × (a .bundle .objects ≡ o ∷ os)). (formOf (versionIn a), version-form b p a (formOf (versionIn a)) (z .0) (z .1) (z .2) ∙ eq-eqb (formOf (versionIn a)) (formOf (versionIn a)) refl))
-      (objects-or (a .bundle .objects))
-
-  read-with : (t : ℕ) → (t ≡ 1) ⊎ (t ≡ 2) → Reads b p a h (some-version .0) t
-  read-with t c = reads b p a h (some-version .0) t (record { version = some-version .1; tables = c })
-
   module _ (k : Package) (e : packageOf p ≡ pass k) where
     table-of : (t : ℕ) → (t ≡ 1) ⊎ (t ≡ 2) → Table a t (indexFor k t)
-    table-of t c = let r = read-with t c in subst (λ (z : Package). Table a t (indexFor z t)) (pass-inj (sym (r .read) ∙ e)) (r .table-read)
+    table-of t c = let r = opens b p a h in subst (λ (z : Package). Table a t (indexFor z t)) (pass-inj (sym (r .read) ∙ e)) (r .tables t c)
 
     units-are : (table : ℕ) → unitsOf p table ≡ unitsIn (indexFor k table)
     unfolding unitsOf
@@ -104,8 +89,8 @@ module _ (b p : List ℕ) (a : Accepted b p) (h : Bytes b) where
 
   pub units-counted : UnitsCounted b p
   units-counted t c =
-      let r = read-with t c in
-      units-are (r .k) (r .read) t ∙ table-counted t (indexFor (r .k) t) (r .table-read)
+      let r = opens b p a h in
+      units-are (r .k) (r .read) t ∙ table-counted t (indexFor (r .k) t) (r .tables t c)
       ∙ sym (ap length (identities-are b p a t) ∙ length-map (rowsIn a t) (λ (r : Row). r .identity))
 
   -- ---- both lookups

@@ -18,8 +18,8 @@ use Rattle.batch.specs.Batch.{Question, wordsOf, asked, answerTo, answersTo}
 use Rattle.batch.specs.Ties.{questionsIn}
 use Rattle.batch.proofs.Answering.{batch-is}
 use Rattle.archive.specs.Looks.{unitsIn, unitsOf}
-use Rattle.archive.specs.Many.{looksIn, SumOfLooks, FewLooks, LooksAreFew}
-use Rattle.archive.proofs.Few.{units-counted, finding-takes, absence-takes}
+use Rattle.archive.specs.Many.{looksIn, SumOfLooks, LooksAreFew}
+use Rattle.archive.proofs.Few.{finding-takes, absence-takes}
 
 -- a table is the first or else the second
 for-table : (k : Package) (table : ℕ) → (indexFor k table ≡ indexFor k 1) ⊎ (indexFor k table ≡ indexFor k 2)
@@ -58,8 +58,5 @@ module _ (b p : List ℕ) (a : Accepted b p) (h : Bytes b) where
       let r = batch-is p v questions room answers e in
       rw (r .0, r .1) (all-few v (questionsIn questions))
 
-  few-looks : FewLooks b p
-  few-looks = record { unitsCounted = units-counted b p a h; findingTakes = finding-takes b p a h; absenceTakes = absence-takes b p a h; sumOfLooks = sum-of-looks }
-
 pub looks-are-few : LooksAreFew
-looks-are-few b w o p h q = few-looks b p (packed-accepted b w o p q) h
+looks-are-few b w o p h q = sum-of-looks b p (packed-accepted b w o p q) h
