@@ -18,7 +18,7 @@ help:
 	@echo 'make pack-example   packs the example, shows its package and looks a unit up in it'
 	@echo 'make library        proves the packer and writes target/staticlib/libbarthovin.a, for C or Rust on x86-64'
 	@echo 'make command        the same, and builds the command: host/target/release/barthovin'
-	@echo 'make install        installs command, library, barthovin.h and the manual page under PREFIX ($(PREFIX)), behind DESTDIR'
+	@echo 'make install        installs command, library, barthovin.h and the manual page under DESTDIR and PREFIX ($(PREFIX))'
 	@echo 'make uninstall      removes them'
 	@echo 'make test           the gate: every proof from nothing, every edit that must fail, every program, the tests of the host'
 	@echo 'make host           the tests of the host alone'
@@ -37,35 +37,43 @@ test:
 	echo "crates, edits and programs of rt ci:"; \
 	tail -n 1 "$$out"
 
-# The static library is written behind `rt ci`, which removes target/. It is made anew only where a source is newer. The second name is
+# The static library is written after `rt ci`, which removes target/. It is made anew only where a source is newer. The second name is
 # one that no other library has.
 LIBRARY = target/staticlib/libarchive.a
 SOURCES = crates.txt $(shell find crates -name '*.rt' -o -name '*.antt' | grep -v /must-fail/)
 
-library: $(LIBRARY)
+library: $(LIBRARY) target/staticlib/libbarthovin.a
 
+target/staticlib/libbarthovin.a: $(LIBRARY)
+	@cp $(LIBRARY) $@
+
+# Each crate is counted as it is proved; archive, with the theorem and the C entries, is the last.
 $(LIBRARY): $(SOURCES)
-	@echo 'proving the packer, crate by crate: $(words $(shell sed -n 's/^archive://p' crates.txt)) crates, then archive with the theorem'
-	rt staticlib archive > /dev/null
-	@cp $(LIBRARY) target/staticlib/libbarthovin.a
-	@echo 'archive proved: the theorem and the C entries; target/staticlib/libbarthovin.a is written'
+	@count=$$(sed -n 's/^archive://p' crates.txt | wc -w); \
+	status=$$(mktemp) || exit 1; trap 'rm -f "$$status"' EXIT; \
+	echo "proving the packer: $$count crates, then archive with the theorem"; \
+	{ rt staticlib archive 2>&1 > /dev/null; echo $$? > "$$status"; } | \
+	awk -v count="$$count" '/^rt: .* proved/ { printf "[%d of %d] ", ++n, count + 1 } { print; fflush() }'; \
+	test "$$(cat "$$status")" = 0 || exit 1; \
+	echo "[$$((count + 1)) of $$((count + 1))] archive proved; its C entries are in target/staticlib"
 
-# Behind the tests one line counts them.
+# After the tests one line counts them.
 host: library
 	@out=$$(mktemp) || exit 1; trap 'rm -f "$$out" "$$out.status"' EXIT; \
 	{ (cd host && env -u BARTHOVIN_LIBRARY cargo test --release --offline) 2>&1; echo $$? > "$$out.status"; } | tee "$$out"; \
 	test "$$(cat "$$out.status")" = 0 || exit 1; \
 	awk '/^test result: ok/ { passed += $$4; failed += $$6 } END { print "tests of the host: " passed " passed, " failed + 0 " failed" }' "$$out"
 
-# Packs the example, shows the package's words, and looks its unit up in it.
-barthovin = cargo run --release --offline --quiet --bin barthovin --
-pack-example: library
-	cd host && $(barthovin) pack ../examples/one-unit.bundle -o ../target/one-unit.package
+# Packs the example, shows the package's words, lists it, and looks its unit up in it.
+barthovin = host/target/release/barthovin
+pack-example: command
+	$(barthovin) pack examples/one-unit.bundle -o target/one-unit.package
 	od -A d -t x4 -v target/one-unit.package
-	cd host && $(barthovin) lookup ../target/one-unit.package 5 cu 1 section info
+	$(barthovin) list target/one-unit.package
+	$(barthovin) lookup target/one-unit.package cu 1 section info
 
 command: library
-	cd host && env -u BARTHOVIN_LIBRARY cargo build --release --offline --package barthovin
+	cd host && env -u BARTHOVIN_LIBRARY cargo build --release --offline --quiet --package barthovin
 
 install: command
 	$(INSTALL) -d '$(DESTDIR)$(PREFIX)/bin' '$(DESTDIR)$(PREFIX)/include' '$(DESTDIR)$(PREFIX)/lib' \

@@ -9,7 +9,8 @@ pub enum Vector {
     String { package: Vec<u8>, version: u32, table: u32, identity: u64, entry: u64, answer: Found },
 }
 
-fn bytes(text: &str) -> Option<Vec<u8>> {
+/// Bytes in hexadecimal; `-` is none.
+pub fn bytes(text: &str) -> Option<Vec<u8>> {
     let digits = text.trim_start_matches('-');
     (0..digits.len()).step_by(2).map(|i| u8::from_str_radix(digits.get(i..i + 2)?, 16).ok()).collect()
 }
@@ -20,7 +21,8 @@ pub fn words(text: &str) -> Option<Vec<u8>> {
     Some(text.split_whitespace().map(word).collect::<Option<Vec<_>>>()?.concat())
 }
 
-fn number(text: &str) -> Option<u64> {
+/// Decimal, or hexadecimal following 0x.
+pub fn number(text: &str) -> Option<u64> {
     match text.strip_prefix("0x") {
         Some(digits) => u64::from_str_radix(digits, 16).ok(),
         None => text.parse().ok(),
@@ -86,9 +88,12 @@ pub fn parse(line: &str) -> Option<Vector> {
     }
 }
 
+/// The lines of a file without comments.
+pub fn lines(text: &str) -> impl Iterator<Item = &str> {
+    text.lines().map(|line| line.split('#').next().unwrap_or("").trim()).filter(|line| !line.is_empty())
+}
+
 /// All vectors of a file; a line that can't be read is an error that names it.
 pub fn parse_all(text: &str) -> Result<Vec<Vector>, String> {
-    let without_comment = |line: &str| line.split('#').next().unwrap_or("").trim().to_string();
-    let lines = text.lines().map(without_comment).filter(|line| !line.is_empty());
-    lines.map(|line| parse(&line).ok_or(line)).collect()
+    lines(text).map(|line| parse(line).ok_or(line.to_string())).collect()
 }

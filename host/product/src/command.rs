@@ -1,47 +1,55 @@
-//! What the command does: `pack` and `lookup`. Each answers with the exit status.
+//! What the command does. Every subcommand ends with the same statuses: 0 done, 1 refused or absent, 2 a wrong call or file trouble.
 
+mod call;
+mod help;
+mod input;
+mod list;
 mod lookup;
 mod meaning;
+mod output;
 mod pack;
+mod show;
+mod stop;
 
 pub use meaning::meaning;
+pub use show::escaped;
 
 use std::ffi::OsString;
+use stop::Stop;
 
-const USAGE: &str = "usage: barthovin pack BUNDLE -o PACKAGE
-       barthovin lookup PACKAGE VERSION TABLE IDENTITY section CODE
-       barthovin lookup PACKAGE VERSION TABLE IDENTITY string ENTRY
-
-pack writes the package of a bundle, or says why there is none and writes nothing. lookup says what a package holds of a unit.
-
-BUNDLE    a file, or - for standard input
-PACKAGE   a file; for pack also - for standard output
-VERSION   of the index: 2 or 5
-TABLE     1 or cu, compilation units; 2 or tu, type units
-IDENTITY  of the unit; numbers are decimal or 0x..
-CODE      of the section: 1 info, 2 types, 3 abbrev, 4 line, 5 loc, 6 str_offsets, 7 macinfo, 8 macro, 9 loclists, 10 rnglists
-ENTRY     of the unit's part of str_offsets, counted from 0
-
-Exit status: 0 done, 1 refused or absent, 2 a wrong call or a file that can't be read or written.";
-
-/// The exit statuses, the same for every subcommand.
+/// Asked and answered.
 const DONE: u8 = 0;
+/// Refused or absent.
 const NOT_DONE: u8 = 1;
+/// A wrong call, or a file that can't be read or written.
 const TROUBLE: u8 = 2;
 
-/// Runs what the arguments ask for.
+const VERSION: &str = concat!("barthovin ", env!("CARGO_PKG_VERSION"));
+
+/// Runs what the arguments ask for; the exit status.
 pub fn run(arguments: &[OsString]) -> u8 {
-    let first = arguments.first().and_then(|word| word.to_str());
-    match first {
-        Some("pack") => pack::run(&arguments[1..]),
-        Some("lookup") => lookup::run(&arguments[1..]),
-        Some("help" | "-h" | "--help") => {
-            println!("{USAGE}");
-            DONE
-        }
-        _ => {
-            eprintln!("{USAGE}");
-            TROUBLE
-        }
+    dispatch(arguments).unwrap_or_else(|stop| stop.told())
+}
+
+fn dispatch(arguments: &[OsString]) -> Result<u8, Stop> {
+    let Some(first) = arguments.first() else { return Err(Stop::wrong("", "a command is missing")) };
+    let rest = &arguments[1..];
+    match first.to_str() {
+        Some("pack") => pack::run(rest),
+        Some("lookup") => lookup::run(rest),
+        Some("list") => list::run(rest),
+        Some("help") => help_about(rest),
+        Some("-h" | "--help") => output::print(help::about("")),
+        Some("-V" | "--version") => output::print(VERSION),
+        Some(option) if option.starts_with('-') => Err(Stop::wrong("", format!("unrecognized option '{option}'"))),
+        _ => Err(Stop::wrong("", format!("'{}' is not a command", show::name(first)))),
+    }
+}
+
+fn help_about(rest: &[OsString]) -> Result<u8, Stop> {
+    let name = rest.first().map_or(Some(""), |word| word.to_str());
+    match name {
+        Some(name) if name.is_empty() || help::about(name) != help::about("") => output::print(help::about(name)),
+        _ => Err(Stop::wrong("", format!("'{}' is not a command", show::name(&rest[0])))),
     }
 }

@@ -18,7 +18,10 @@ struct Packing {
     length: usize,
 }
 
-/// Packing's answer as above, and where it is 0 the lookup's.
+/// What `FromBundle` has for the lookup's code where no package was made: neither found nor absent, and no refusal of a lookup.
+const NOT_LOOKED_UP: u32 = 2;
+
+/// Packing's answer as above, and where it is 0 the lookup's; else `NOT_LOOKED_UP` and zeros.
 #[repr(C)]
 struct FromBundle {
     packing: u32,
@@ -109,7 +112,7 @@ pub fn lookup_string(package: &[u8], version: u32, table: u32, identity: u64, en
     found(answer, package)
 }
 
-/// Packs a bundle: code and length. Behind it the output holds the package and zeros, or zeros only, and work zeros.
+/// Packs a bundle: code and length. After it the output holds the package and zeros, or zeros only, and work zeros.
 pub fn pack(bundle: &[u8], work: &mut [u32], output: &mut [u8]) -> (u32, usize) {
     // The entry reads and writes the slices that it is lent, and nothing else.
     let Packing { code, length } = unsafe {
@@ -153,7 +156,7 @@ pub fn pack_and_look_up(
     };
     let FromBundle { packing, packed, code, start, length, looks } = answer;
     if packing != 0 {
-        assert_eq!((code, start, length, looks), (0, 0, 0, 0), "an answer of no package");
+        assert_eq!((code, start, length, looks), (NOT_LOOKED_UP, 0, 0, 0), "an answer of no package");
         return Err((packing, packed));
     }
     Ok(found(Answer { code, start, length, looks }, &output[..packed]))

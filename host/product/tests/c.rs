@@ -1,6 +1,7 @@
 //! barthovin.h declares every C entry as it is, and the example in C does what it says.
 
 use barthovin::answer::{Asked, Found};
+use barthovin::batch::answer_words;
 use barthovin::ffi;
 use std::path::{Path, PathBuf};
 use std::process::{Command, Output};
@@ -81,9 +82,14 @@ fn by_rust() -> String {
         let answer = ffi::pack_and_look_up(&bundle, &mut work, &mut output, 5, 1, 1, asked).unwrap();
         told += &found(&format!("{name} 0 {packed}"), answer);
     }
+    // Too little work: nothing is looked up.
+    told += "pack_and_look_up 2 0 2 0 0 0\n";
     told += &format!("pack_small 0 {packed}\n");
     let package = &output[..packed];
     told += &found("lookup", ffi::lookup(package, 5, 1, 1, 1));
+    let mut a = [0; 9];
+    let (code, length) = answer_words(package, 5, &[0x4000_0011, 1, 0, 0x4000_0012, 1, 0], &mut a);
+    told += &format!("batch {code} {length}: {} {} {} {}, {}\n", a[0], a[1], a[2], a[3], a[4]);
     told += &found("lookup", ffi::lookup(package, 5, 2, 1, 1));
     told += &found("lookup_string", ffi::lookup_string(package, 5, 1, 1, 0));
     told += &found("lookup_string", ffi::lookup_string(package, 5, 1, 1, 1));
@@ -104,14 +110,18 @@ fn c_and_rust_are_answered_alike() {
 #[test]
 fn every_entry_is_declared_and_called() {
     let read = |name: &str| std::fs::read_to_string(format!("{HOME}/{name}")).unwrap();
-    let (crate_text, header) = (read("../../crates/archive/src/lib.rt"), read("include/barthovin.h"));
-    let (rust, calls) = (read("src/ffi.rs"), read("tests/entries.c"));
+    let read_all = |folder: &str| -> String {
+        let files = std::fs::read_dir(format!("{HOME}/{folder}")).unwrap().map(|file| file.unwrap().path());
+        files.filter_map(|file| std::fs::read_to_string(file).ok()).collect()
+    };
+    let (crate_text, rust) = (read_all("../../crates/archive/src"), read_all("src"));
+    let (header, calls) = (read("include/barthovin.h"), read("tests/entries.c"));
     let entries: Vec<&str> =
         crate_text.split("extern \"C\" fn ").skip(1).map(|rest| rest.split('(').next().unwrap()).collect();
     assert!(entries.len() >= 6, "{entries:?}");
     for entry in entries {
         assert!(header.contains(&format!(" {entry}(")), "{entry} is not in barthovin.h");
-        assert!(rust.contains(&format!("fn {entry}(")), "{entry} is not in ffi.rs");
+        assert!(rust.contains(&format!("fn {entry}(")), "{entry} has no declaration in Rust");
         assert!(calls.contains(&format!("{entry}(")), "{entry} is not called in entries.c");
     }
 }

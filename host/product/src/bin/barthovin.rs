@@ -1,4 +1,4 @@
-//! The command: `barthovin pack` makes a package of a bundle, `barthovin lookup` answers from a package, both by the proved functions.
+//! The command: packages made and asked, by the proved functions.
 
 use std::ffi::OsString;
 use std::process::ExitCode;
