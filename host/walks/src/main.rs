@@ -65,7 +65,8 @@ fn time(pack: Pack, bundle: &[u8]) -> Result<(Duration, Vec<u8>)> {
         let start = clock::thread();
         let (words, room) = (work.len(), output.len());
         // The three are apart from each other, and as long as is said.
-        let answer = unsafe { pack(bundle.as_ptr(), bundle.len(), work.as_mut_ptr(), words, output.as_mut_ptr(), room) };
+        let answer =
+            unsafe { pack(bundle.as_ptr(), bundle.len(), work.as_mut_ptr(), words, output.as_mut_ptr(), room) };
         let passed = clock::between(start, clock::thread()).ok_or_else(|| Error::other("no clock"))?;
         if answer.code != 0 {
             return Err(Error::other(format!("refused {}", answer.code)));
