@@ -4,6 +4,7 @@ pub mod Entries
 pub mod Sizes
 pub mod Fields
 pub mod AtLeast
+pub mod Alone
 pub mod UnitFacts
 pub mod Attributes
 pub mod Places
@@ -16,3 +17,4 @@ pub mod Rooted
 pub mod Units
 pub mod HeaderAlone
 pub mod Promised
+pub mod Examples

@@ -1,0 +1,9 @@
+//! The command: packages made and asked, by the proved functions.
+
+use std::ffi::OsString;
+use std::process::ExitCode;
+
+fn main() -> ExitCode {
+    let arguments: Vec<OsString> = std::env::args_os().skip(1).collect();
+    ExitCode::from(barthovin::command::run(&arguments))
+}

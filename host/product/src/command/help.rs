@@ -1,0 +1,81 @@
+//! How the command is called.
+
+const GENERAL: &str = "\
+Usage: barthovin COMMAND [OPTION]... OPERAND...
+Pack split-debug sections and find them again, by proved functions.
+
+Commands:
+  pack      write the package of a bundle
+  lookup    find a part or a string of a unit in a package
+  list      list what a package holds
+  help      say how a command is called
+
+Every command takes
+  -h, --help      show its help and exit
+  -V, --version   show the version and exit
+
+Exit status: 0 done; 1 refused or absent; 2 a wrong call, or a file that can't be read or written.
+A refusal is a number with its meaning; README.md has the list.";
+
+const PACK: &str = "\
+Usage: barthovin pack [OPTION]... BUNDLE -o PACKAGE
+Write the package of a bundle, or say why there is none and write nothing.
+
+BUNDLE is a file, or - for standard input.
+
+  -o, --output=PACKAGE   the file to write, or - for standard output
+  -h, --help             show this help and exit
+  -V, --version          show the version and exit
+
+A file that is there keeps its mode, owner and links. It is written whole or not at all wherever a second file can stand beside
+it meanwhile.
+
+Exit status: 0 written; 1 refused; 2 a wrong call, or a file that can't be read or written.";
+
+const LOOKUP: &str = "\
+Usage: barthovin lookup [OPTION]... PACKAGE [VERSION] TABLE IDENTITY section CODE
+  or:  barthovin lookup [OPTION]... PACKAGE [VERSION] TABLE IDENTITY string ENTRY
+  or:  barthovin lookup [OPTION]... PACKAGE --questions=FILE
+Find a unit's part of a section, or one of its strings, in a package.
+
+PACKAGE    a file, or - for standard input
+VERSION    of the index, 2 or 5; without it, that of the package
+TABLE      1 or cu, compilation units; 2 or tu, type units
+IDENTITY   of the unit; hexadecimal with 0x, with 16 digits or with a letter, else decimal
+CODE       of the section, by number or name: 1 info, 2 types, 3 abbrev, 4 line, 5 loc, 6 str_offsets, 7 macinfo, 8 macro,
+           9 loclists, 10 rnglists; .debug_info.dwo will do for info
+ENTRY      of the unit's part of str_offsets, counted from 0
+
+A part is shown in hexadecimal, a string as text in which what can't be printed is \\n, \\t, \\xNN or \\u{N}. Looks are the slots of
+the index that were looked at.
+
+  -q, --questions=FILE  answer the questions of a file, or of standard input for -: on each line what follows PACKAGE;
+                        each answer is a line; empty lines and those that start with # are left out
+  -r, --raw       write the bytes found as they are, and nothing else
+      --json      write each answer as a JSON object
+  -h, --help      show this help and exit
+  -V, --version   show the version and exit
+
+Exit status: 0 found, all of it; 1 something absent or refused; 2 a wrong call, or a file that can't be read.";
+
+const LIST: &str = "\
+Usage: barthovin list [OPTION]... PACKAGE
+List the sections of a package and, for each unit of its indexes, the identity and the unit's parts.
+
+PACKAGE is a file, or - for standard input. Offsets of parts count from the front of their section.
+
+      --json      write the list as a JSON object
+  -h, --help      show this help and exit
+  -V, --version   show the version and exit
+
+Exit status: 0 listed; 1 refused; 2 a wrong call, or a file that can't be read.";
+
+/// The help of a subcommand, or the general one.
+pub fn about(command: &str) -> &'static str {
+    match command {
+        "pack" => PACK,
+        "lookup" => LOOKUP,
+        "list" => LIST,
+        _ => GENERAL,
+    }
+}

@@ -1,0 +1,151 @@
+//! What is wrong at a place that packing refuses. Each function looks for the faults of one number alone.
+
+use super::place::Place;
+use crate::names::{section_name, ABBREV, CU_INDEX, INFO, RNGLISTS, STR, STR_OFFSETS, TU_INDEX, TYPES};
+use crate::reader::bundle::{Bundle, Object};
+use crate::reader::index::Index;
+use crate::reader::number;
+use crate::reader::unit::{identity, spans, Span, Why};
+
+/// Sections that a version doesn't have.
+const NOT_IN_VERSION_5: [u32; 5] = [2, 5, 7, CU_INDEX, TU_INDEX];
+const NOT_IN_VERSION_4: [u32; 2] = [9, 10];
+
+/// The cause in words, where it is found.
+pub fn of(bundle: &Bundle, place: &Place, refusal: u32) -> Option<String> {
+    let object = &bundle.objects[place.object - 1];
+    match (refusal, &place.unit) {
+        (4, _) => Some(format!("it states {}", object.encoding)),
+        (5, _) => Some(format!("it states {}, object 1 {}", object.encoding, bundle.objects[0].encoding)),
+        (6, _) => wrong_section(object),
+        (7, _) => missing_section(object),
+        (8, _) => string_offsets(object),
+        (9, _) => lost_string(object),
+        (10, _) => bad_index(object),
+        (11, Some(unit)) => match identity(object, unit) {
+            Err(Why::Header(why)) => Some(why),
+            _ => None,
+        },
+        (12, Some(unit)) => match identity(object, unit) {
+            Err(Why::Identity(why)) => Some(why),
+            _ => None,
+        },
+        (14, Some(unit)) => first_of_identity(bundle, place.object, unit),
+        (15 | 16, Some(unit)) => row(object, unit, refusal),
+        _ => None,
+    }
+}
+
+fn wrong_section(object: &Object) -> Option<String> {
+    let version = object.encoding.version();
+    let wrong: &[u32] = if version == 5 { &NOT_IN_VERSION_5 } else { &NOT_IN_VERSION_4 };
+    if let Some(code) = wrong.iter().find(|code| object.count(**code) > 0) {
+        return Some(format!("it has {}, which objects of DWARF {version} don't have", section_name(*code)));
+    }
+    if let Some(code) = (ABBREV..=TU_INDEX).find(|code| object.count(*code) > 1) {
+        return Some(format!("it has {} {} sections", object.count(code), section_name(code)));
+    }
+    let beside = |code: u32, index: u32| object.count(code) > 1 && object.count(index) > 0;
+    let (code, index) = [(INFO, CU_INDEX), (TYPES, TU_INDEX)].into_iter().find(|(c, i)| beside(*c, *i))?;
+    Some(format!("it has {} {} sections beside {}", object.count(code), section_name(code), section_name(index)))
+}
+
+fn missing_section(object: &Object) -> Option<String> {
+    let lacks = |code| object.count(code) == 0;
+    if let Some(code) = [ABBREV, INFO].into_iter().find(|code| lacks(*code)) {
+        return Some(format!("it has no {}", section_name(code)));
+    }
+    (!lacks(STR_OFFSETS) && lacks(STR)).then(|| "it has str_offsets and no str".to_string())
+}
+
+/// The bytes in front of the entries.
+fn header_size(object: &Object) -> usize {
+    match (object.encoding.version(), object.encoding.width()) {
+        (5, 8) => 16,
+        (5, _) => 8,
+        _ => 0,
+    }
+}
+
+fn string_offsets(object: &Object) -> Option<String> {
+    let (bytes, width, big) = (object.bytes(STR_OFFSETS), object.encoding.width(), object.encoding.big);
+    let header = header_size(object);
+    if bytes.len() < header {
+        return Some(format!("str_offsets has {} bytes, its header {header}", bytes.len()));
+    }
+    if header > 0 {
+        let stated = number(bytes, header - 4 - width, width, big)?;
+        let following = (bytes.len() + 4 - header) as u64;
+        let version = number(bytes, header - 4, 2, big)?;
+        let mark = width == 4 || number(bytes, 0, 4, big)? == 0xFFFF_FFFF;
+        if !mark || stated != following {
+            return Some(format!("str_offsets states a length of {stated}, and {following} bytes follow"));
+        }
+        if version != 5 || number(bytes, header - 2, 2, big)? != 0 {
+            return Some(format!("the header of str_offsets states version {version}, or its padding is not zero"));
+        }
+    }
+    let entries = bytes.len() - header;
+    (entries % width != 0).then(|| format!("the entries of str_offsets take {entries} bytes, no multiple of {width}"))
+}
+
+fn lost_string(object: &Object) -> Option<String> {
+    let (strings, width) = (object.bytes(STR), object.encoding.width());
+    // An offset following the last zero leads to no zero.
+    let strings_end = strings.iter().rposition(|b| *b == 0).map_or(0, |last| last + 1);
+    let entries = object.bytes(STR_OFFSETS).get(header_size(object)..)?;
+    let offsets = entries.chunks(width).map(|entry| number(entry, 0, width, object.encoding.big));
+    let (entry, offset) = offsets.enumerate().find(|(_, offset)| offset.is_none_or(|o| o >= strings_end as u64))?;
+    let has = strings.len();
+    Some(format!("entry {entry} of str_offsets names byte {} of str, which has {has}, and no zero follows", offset?))
+}
+
+fn bad_index(object: &Object) -> Option<String> {
+    [CU_INDEX, TU_INDEX].into_iter().find_map(|code| {
+        let section = object.section(code)?;
+        match Index::read(section.bytes, object.encoding.big) {
+            Err(why) => Some(format!("{}: {why}", section_name(code))),
+            Ok(index) if (index.version == 5) != (object.encoding.version() == 5) => {
+                Some(format!("{} has version {}", section_name(code), index.version))
+            }
+            Ok(_) => None,
+        }
+    })
+}
+
+/// The unit that has the identity already.
+fn first_of_identity(bundle: &Bundle, number: usize, unit: &Span) -> Option<String> {
+    let seen = identity(&bundle.objects[number - 1], unit).ok()?;
+    for (object, other) in bundle.objects.iter().zip(1..=number) {
+        let first = spans(object).into_iter().find(|span| identity(object, span) == Ok(seen));
+        if let Some(first) = first {
+            return Some(format!("identity {:#018x} is that of object {other}, {first}", seen.1));
+        }
+    }
+    None
+}
+
+fn row(object: &Object, unit: &Span, refusal: u32) -> Option<String> {
+    let (table, identity) = identity(object, unit).ok()?;
+    let code = CU_INDEX - 1 + table;
+    let name = section_name(code);
+    let index = Index::read(object.section(code)?.bytes, object.encoding.big).ok()?;
+    let Some(row) = index.row(identity) else {
+        return Some(format!("{name} has no row for identity {identity:#018x}"));
+    };
+    let shared = (ABBREV..=RNGLISTS).filter(|code| !object.bytes(*code).is_empty());
+    let mut needed = [unit.section].into_iter().chain(shared);
+    if refusal == 15 {
+        let code = needed.find(|code| index.part(row, *code).is_none())?;
+        return Some(format!("{name} has no column for {}", section_name(code)));
+    }
+    let (offset, size) = index.part(row, unit.section)?;
+    if (offset, size) != (unit.offset as u64, (unit.end - unit.offset) as u64) {
+        return Some(format!("row {row} of {name} names {size} bytes at {offset} of {}", section_name(unit.section)));
+    }
+    let outside = |code: &u32| index.part(row, *code).is_some_and(|(o, s)| o + s > object.bytes(*code).len() as u64);
+    let code = needed.find(outside)?;
+    let (offset, size) = index.part(row, code)?;
+    let has = object.bytes(code).len();
+    Some(format!("row {row} of {name} names {size} bytes at {offset} of {}, which has {has}", section_name(code)))
+}

@@ -1,0 +1,13 @@
+//! The verified packer for Rust callers, and what the command does.
+//!
+//! `ffi` calls the proved functions, `answer` has the kinds of their answers, and `names` their numbers. The rest is help for people:
+//! `reader` takes bundles and packages apart, `explain` says why something was refused, `command` is the command. None of it is proved, and
+//! none of it has a say in an answer. C callers have `include/barthovin.h`.
+
+pub mod answer;
+pub mod batch;
+pub mod command;
+pub mod explain;
+pub mod ffi;
+pub mod names;
+pub mod reader;
