@@ -6,6 +6,7 @@
 
 pub mod answer;
 pub mod command;
+pub mod elf;
 pub mod explain;
 pub mod ffi;
 pub mod names;
