@@ -2,6 +2,7 @@
 //!
 //! PAPER is written anew, with the figures of this run. Every package is compared with thorin's, byte for byte.
 
+mod elves;
 mod lookups;
 mod measure;
 mod paper;
@@ -54,8 +55,9 @@ fn measure_all(oracle: Option<&str>) -> Result<Paper> {
     }
     let name = "many different strings";
     let strings = growing(&mut bench, name, STRINGS.iter().map(|n| (many_strings(*n), *n)))?;
+    let elves = elves::all()?;
     let strings = Growth { name, items: "strings", measured: strings };
-    Ok(Paper { thorin, small, kinds, strings, lookups: lookups::all()? })
+    Ok(Paper { elves, thorin, small, kinds, strings, lookups: lookups::all()? })
 }
 
 fn main() -> Result<()> {

@@ -1,5 +1,6 @@
 //! The paper: text with the figures of one run.
 
+use super::elves::Elf;
 use super::lookups::Lookup;
 use super::measure::Measured;
 use std::fmt::{Display, Formatter, Result};
@@ -13,6 +14,7 @@ pub struct Growth {
 }
 
 pub struct Paper {
+    pub elves: Vec<Elf>,
     /// What thorin is built with; none where it was not at hand.
     pub thorin: Option<String>,
     /// Document 01's example, and the time of the small packer for it.
@@ -129,6 +131,7 @@ impl Paper {
             ("library", other.unwrap_or_default()),
             ("sizes", self.sizes()),
             ("small", time(self.small.1)),
+            ("elves", self.elves.iter().map(read).collect()),
             ("growth", self.kinds.iter().map(grown).collect()),
             ("verdict", self.verdict()),
             ("lookups", self.lookups.iter().map(looked_up).collect()),
@@ -200,6 +203,11 @@ fn grown(kind: &Growth) -> String {
     kind.measured.iter().zip(factors).map(line).collect()
 }
 
+fn read(one: &Elf) -> String {
+    let (file, bundle) = (grouped(one.file as u64), grouped(one.bundle as u64));
+    format!("| {} | {file} | {bundle} | {} |\n", one.name, time(one.took))
+}
+
 fn looked_up(one: &Lookup) -> String {
     format!("| {} | {} | {} |\n", one.name, grouped(one.bytes as u64), time(one.took))
 }
@@ -222,7 +230,7 @@ mod tests {
         let growth = |name| Growth { name, items: "units", measured: vec![one(), one(), one()] };
         let lookups = vec![Lookup { name: "some", bytes: 12, took }];
         let paper =
-            Paper { thorin: None, small: (one(), took), kinds: vec![growth("a")], strings: growth("b"), lookups };
+            Paper { elves: vec![], thorin: None, small: (one(), took), kinds: vec![growth("a")], strings: growth("b"), lookups };
         let text = paper.to_string();
         assert!(text.contains("| document 01's example | 44 | 1 unit | 112 | 3.00 ms |"), "{text}");
         assert!(text.contains("| some | 12 | 3.00 ms |\n") && !text.contains("\n\n\n"), "{text}");
