@@ -55,9 +55,17 @@ fn measure_all(oracle: Option<&str>) -> Result<Paper> {
     }
     let name = "many different strings";
     let strings = growing(&mut bench, name, STRINGS.iter().map(|n| (many_strings(*n), *n)))?;
-    let elves = elves::all()?;
     let strings = Growth { name, items: "strings", measured: strings };
-    Ok(Paper { elves, thorin, small, kinds, strings, lookups: lookups::all()? })
+    Ok(Paper {
+        thorin,
+        elves: elves::all()?,
+        // Packing.
+        small,
+        kinds,
+        strings,
+        // Looking up.
+        lookups: lookups::all()?,
+    })
 }
 
 fn main() -> Result<()> {

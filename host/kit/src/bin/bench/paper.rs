@@ -14,9 +14,9 @@ pub struct Growth {
 }
 
 pub struct Paper {
-    pub elves: Vec<Elf>,
     /// What thorin is built with; none where it was not at hand.
     pub thorin: Option<String>,
+    pub elves: Vec<Elf>,
     /// Document 01's example, and the time of the small packer for it.
     pub small: (Measured, Duration),
     pub kinds: Vec<Growth>,
@@ -228,9 +228,16 @@ mod tests {
         let took = Duration::from_millis(3);
         let one = || Measured { bundle: 44, items: 1, package: 112, ours: took, clearing: took, thorin: Some(took) };
         let growth = |name| Growth { name, items: "units", measured: vec![one(), one(), one()] };
-        let lookups = vec![Lookup { name: "some", bytes: 12, took }];
-        let paper =
-            Paper { elves: vec![], thorin: None, small: (one(), took), kinds: vec![growth("a")], strings: growth("b"), lookups };
+        let paper = Paper {
+            thorin: None,
+            elves: vec![Elf { name: "one", file: 9, bundle: 8, took }],
+            // Packing.
+            small: (one(), took),
+            kinds: vec![growth("a")],
+            strings: growth("b"),
+            // Looking up.
+            lookups: vec![Lookup { name: "some", bytes: 12, took }],
+        };
         let text = paper.to_string();
         assert!(text.contains("| document 01's example | 44 | 1 unit | 112 | 3.00 ms |"), "{text}");
         assert!(text.contains("| some | 12 | 3.00 ms |\n") && !text.contains("\n\n\n"), "{text}");
