@@ -14,7 +14,7 @@ extern "C" {
 /// The first bytes of an ELF file.
 pub const MAGIC: &[u8] = b"\x7FELF";
 
-/// Reads an ELF file and writes the bundle of its debug sections: code and length. Behind it the output holds the bundle and zeros, or
+/// Reads an ELF file and writes the bundle of its debug sections: code and length. After it the output holds the bundle and zeros, or
 /// zeros only.
 pub fn read(file: &[u8], output: &mut [u8]) -> (u32, usize) {
     // The entry reads and writes the slices that it is lent, and nothing else.

@@ -77,7 +77,7 @@ fn spoil(random: &mut Random, headers: &mut Vec<Header>) {
     }
 }
 
-/// Header, sections in any order, the name table, section headers in front or behind.
+/// Header, sections in any order, the name table, section headers first or last.
 fn lay_out(random: &mut Random, headers: &[Header], big: bool) -> Vec<u8> {
     let mut names = Vec::new();
     let mut name_at = Vec::new();
