@@ -1,5 +1,5 @@
-//! ELF files through C: the answer and every byte of the output as the vectors say and as the independent reader has it, whatever the output
-//! held before, with nothing around it touched.
+//! ELF files through C: the answer and every byte of the output as the vectors say and as the independent reader has it, whatever the
+//! output held before, with nothing around it touched.
 
 use barthovin::elf;
 use kit::generate::{elf as some_elf, hostile_elf, Random};

@@ -122,6 +122,17 @@ fn wrong_files_are_refused_with_the_cause() {
     let mut relocated = changed(line + 4, 4);
     relocated[line + 44] = ((info - header_at(&good, "")) / 64) as u8;
     refused("relocated", &relocated, &format!("{unusable}: .debug_info.dwo has relocations"));
+}
+
+#[test]
+fn files_without_a_unit_are_refused_with_the_cause() {
+    let good = fs::read(format!("{FILES}/gcc-5-race.dwo")).unwrap();
+    let changed = |at: usize, value: u8| {
+        let mut file = good.clone();
+        file[at] = value;
+        file
+    };
+    let info = header_at(&good, ".debug_info.dwo");
     let no_unit = "refused 33: there is no unit of DWARF version 4 or 5 to pack";
     let mut empty = good.clone();
     empty[info + 32..info + 40].fill(0);

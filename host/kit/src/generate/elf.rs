@@ -77,26 +77,24 @@ fn spoil(random: &mut Random, headers: &mut Vec<Header>) {
     }
 }
 
-/// Header, sections in any order, the name table, section headers first or last.
-fn lay_out(random: &mut Random, headers: &[Header], big: bool) -> Vec<u8> {
-    let mut names = Vec::new();
-    let mut name_at = Vec::new();
-    for header in headers {
-        name_at.push(names.len());
-        names.extend(header.name.bytes());
+/// The name table of headers, and where each name stands in it; the table's own is the last.
+fn name_table(headers: &[Header]) -> (Vec<u8>, Vec<usize>) {
+    let (mut names, mut places) = (Vec::new(), Vec::new());
+    for name in headers.iter().map(|header| header.name.as_str()).chain([".shstrtab"]) {
+        places.push(names.len());
+        names.extend(name.bytes());
         names.push(0);
     }
-    let names_number = headers.len();
-    name_at.push(names.len());
-    names.extend(b".shstrtab\0");
+    (names, places)
+}
+
+/// Header, sections in any order, the name table, section headers first or last.
+fn lay_out(random: &mut Random, headers: &[Header], big: bool) -> Vec<u8> {
+    let (names, name_at) = name_table(headers);
     let table = Header { kind: 3, bytes: names, ..Header::default() };
     let all: Vec<&Header> = headers.iter().chain([&table]).collect();
-    let mut file = vec![0; 64];
-    let headers_in_front = random.one_in(3);
-    let headers_at_front = file.len();
-    if headers_in_front {
-        file.resize(64 + 64 * all.len(), 0);
-    }
+    let headers_first = random.one_in(3);
+    let mut file = vec![0; if headers_first { 64 + 64 * all.len() } else { 64 }];
     let mut order: Vec<usize> = (0..all.len()).collect();
     random.shuffle(&mut order);
     let mut places = vec![0; all.len()];
@@ -105,22 +103,23 @@ fn lay_out(random: &mut Random, headers: &[Header], big: bool) -> Vec<u8> {
         file.extend(&all[i].bytes);
         file.extend(vec![0xA5; random.below(3) as usize]);
     }
-    let headers_at = if headers_in_front { headers_at_front } else { file.len() };
-    let mut table = Vec::new();
+    let headers_at = if headers_first { 64 } else { file.len() };
+    file.resize(file.len().max(headers_at + 64 * all.len()), 0);
     for (i, header) in all.iter().enumerate() {
-        let fields = [(name_at[i] as u64, 4), (header.kind, 4), (header.flags, 8), (0, 8), (places[i] as u64, 8)];
-        fields.iter().for_each(|(value, width)| put(&mut table, *value, *width, big));
-        let fields = [(header.bytes.len() as u64, 8), (0, 4), (header.info, 4), (1, 8), (0, 8)];
-        fields.iter().for_each(|(value, width)| put(&mut table, *value, *width, big));
+        let bytes = header_bytes(header, name_at[i], places[i], big);
+        file[headers_at + 64 * i..][..64].copy_from_slice(&bytes);
     }
-    if headers_in_front {
-        file[headers_at..headers_at + table.len()].copy_from_slice(&table);
-    } else {
-        file.extend(table);
-    }
-    let head = elf_header(big, headers_at, all.len(), names_number);
-    file[..64].copy_from_slice(&head);
+    file[..64].copy_from_slice(&elf_header(big, headers_at, all.len(), headers.len()));
     file
+}
+
+fn header_bytes(header: &Header, name: usize, place: usize, big: bool) -> Vec<u8> {
+    let mut bytes = Vec::new();
+    let fields = [(name as u64, 4), (header.kind, 4), (header.flags, 8), (0, 8), (place as u64, 8)];
+    fields.iter().for_each(|(value, width)| put(&mut bytes, *value, *width, big));
+    let fields = [(header.bytes.len() as u64, 8), (0, 4), (header.info, 4), (1, 8), (0, 8)];
+    fields.iter().for_each(|(value, width)| put(&mut bytes, *value, *width, big));
+    bytes
 }
 
 fn elf_header(big: bool, headers_at: usize, count: usize, names: usize) -> Vec<u8> {
