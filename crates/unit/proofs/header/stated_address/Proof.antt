@@ -12,11 +12,11 @@ use lib.ListN.{length, take, getD}
 use denote.Ref.{now}
 use Rattle.octets.specs.Checked.{pass}
 use Rattle.bundle.specs.Encoded.{encodingIs}
-use Rattle.leb128.proofs.Answered.{size-is, size-refused}
+use Rattle.leb128.specs.Answers.{sizeCheck}
 use Rattle.unit.specs.Headers.{unitInside, fieldsGood, kindOf, headerSize, statedAddress}
 use Rattle.unit.specs.declared.header.AddressSize.the-variants.{Is}
 use Rattle.unit.proofs.Fields.{place-lt}
-use Rattle.unit.proofs.Units.{only-unitInside, inside-le}
+use Rattle.unit.proofs.Units.{inside-le}
 use Rattle.unit.proofs.HeaderAlone.{alone-none, alone-fields, fields-there, alone-header, alone-whole, address-there}
 use Rattle.unit.proofs.header.stated_address.Statement.{statement}
 use Rattle.unit.proofs.header.stated_address.Tie as tie
@@ -31,7 +31,7 @@ enum-told : tie.Need-enum-told
 enum-told c = search needs
 
 told : (c : tie.After-known-told) → unitInside (encodingIs (c .before .before .before .before .before .args .e)) (now (c .before .before .before .before .before .args .s)) ≡ pass (c .before .size .given .0 .0)
-told c = size-is _ _ (sym (c .before .before .before .unit-size .ensures) ∙ c .before .size .given .1)
+told c = sym (c .before .before .before .unit-size .ensures) ∙ ap (sizeCheck 11) (c .before .size .given .1)
 
 -- the unit's own bytes
 abbrev own : tie.After-known-told → List ℕ
@@ -45,7 +45,7 @@ header : (c : tie.After-header-size)
 header c = c .header-size .ensures ∙ ap (headerSize (encodingIs (c .before .before .before .before .before .before .before .before .before .before .args .e))) (c .before .kind-of .ensures)
 
 returns : tie.Need-returns
-returns c = alone-none _ _ (size-refused _ 11 (only-unitInside _ _) (sym (c .before .before .unit-size .ensures) ∙ c .enum-told .given .1))
+returns c = alone-none _ _ (sym (c .before .before .unit-size .ensures) ∙ ap (sizeCheck 11) (c .enum-told .given .1))
 
 slice-aggregate-u : tie.Need-slice-aggregate-u
 slice-aggregate-u c =
