@@ -119,7 +119,7 @@ module _ (s : List ℕ) (i : ℕ) (later : any (eqb 0) (drop i s) ≡ false) whe
     | no l ↦
         let k : n + (i - 1 - n) ≡ i - 1 = omega arith in
         any-at (eqb 0) 0 (drop n s) (i - 1 - n) (omega (arith, length-drop n s))
-            (eq-eqb 0 (getD (drop n s) (i - 1 - n) 0) (sym (getD-drop n s (i - 1 - n) 0 ∙ ap (λ (m : ℕ). getD s m 0) k ∙ z)))
+        (eq-eqb 0 (getD (drop n s) (i - 1 - n) 0) (sym (getD-drop n s (i - 1 - n) 0 ∙ ap (λ (m : ℕ). getD s m 0) k ∙ z)))
         ∙ sym (lt-ltb n i (omega arith))
   ]
 

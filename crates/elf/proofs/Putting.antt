@@ -24,8 +24,8 @@ appended-none ss at out e =
     record {
       same = refl;
       is = λ p n q r.
-        let z : n ≡ n - roomSum ss = omega (arith, ap roomSum e, room-none) in
-        q ∙ ap₂ padded (sym (ap (λ (x : List Section). p ++ joined (map sectionBytes x)) e ∙ append-nil p)) z;
+          let z : n ≡ n - roomSum ss = omega (arith, ap roomSum e, room-none) in
+          q ∙ ap₂ padded (sym (ap (λ (x : List Section). p ++ joined (map sectionBytes x)) e ∙ append-nil p)) z;
     }
 
 pub appended-one : (ss : List Section) (x : Section) (at : ℕ) (out after : List ℕ) → ss ≡ x ∷ [] → at + roomSum ss ≤ length out
@@ -37,10 +37,10 @@ appended-one ss x at out after e fits a =
     record {
       same = ap length a ∙ length-placed out at (w ++ x .bytes) (omega (arith, filledUp-le (length (x .bytes))));
       is = λ p n q r.
-        let m : 4 + filledUp (length (x .bytes)) ≤ n = omega (arith, ap length q, length-padded p n) in
-        let z : length (sectionBytes x) ≡ roomSum ss = length-section x ∙ sym room in
-        let j : joined (map sectionBytes ss) ≡ sectionBytes x = ap (λ (y : List Section). joined (map sectionBytes y)) e ∙ joined-one (sectionBytes x) in
-        a ∙ section-put out p at n x q r m ∙ ap₂ padded (sym (ap (λ (y : List ℕ). p ++ y) j)) (ap (λ (k : ℕ). n - k) z);
+          let m : 4 + filledUp (length (x .bytes)) ≤ n = omega (arith, ap length q, length-padded p n) in
+          let z : length (sectionBytes x) ≡ roomSum ss = length-section x ∙ sym room in
+          let j : joined (map sectionBytes ss) ≡ sectionBytes x = ap (λ (y : List Section). joined (map sectionBytes y)) e ∙ joined-one (sectionBytes x) in
+          a ∙ section-put out p at n x q r m ∙ ap₂ padded (sym (ap (λ (y : List ℕ). p ++ y) j)) (ap (λ (k : ℕ). n - k) z);
     }
 
 pub appended-more : (xs ys : List Section) (from at : ℕ) (out mid after : List ℕ) → Appended xs from out mid → at ≡ from + roomSum xs → Appended ys at mid after
@@ -49,12 +49,12 @@ appended-more xs ys from at out mid after a place b =
     record {
       same = b .same ∙ a .same;
       is = λ p n q r.
-        let first = a .is p n q r in
-        let l : at ≡ length (p ++ joined (map sectionBytes xs)) = omega (arith, length-append p (joined (map sectionBytes xs)), room-bytes xs) in
-        let second = b .is (p ++ joined (map sectionBytes xs)) (n - roomSum xs) first l in
-        let left : n - roomSum xs - roomSum ys ≡ n - roomSum (xs ++ ys) = omega (arith, room-append xs ys) in
-        let j : joined (map sectionBytes (xs ++ ys)) ≡ joined (map sectionBytes xs) ++ joined (map sectionBytes ys) = ap joined (map-append sectionBytes xs ys) ∙ joined-append (map sectionBytes xs) (map sectionBytes ys) in
-        second ∙ ap₂ padded (append-assoc p (joined (map sectionBytes xs)) (joined (map sectionBytes ys)) ∙ sym (ap (λ (y : List ℕ). p ++ y) j)) left;
+          let first = a .is p n q r in
+          let l : at ≡ length (p ++ joined (map sectionBytes xs)) = omega (arith, length-append p (joined (map sectionBytes xs)), room-bytes xs) in
+          let second = b .is (p ++ joined (map sectionBytes xs)) (n - roomSum xs) first l in
+          let left : n - roomSum xs - roomSum ys ≡ n - roomSum (xs ++ ys) = omega (arith, room-append xs ys) in
+          let j : joined (map sectionBytes (xs ++ ys)) ≡ joined (map sectionBytes xs) ++ joined (map sectionBytes ys) = ap joined (map-append sectionBytes xs ys) ∙ joined-append (map sectionBytes xs) (map sectionBytes ys) in
+          second ∙ ap₂ padded (append-assoc p (joined (map sectionBytes xs)) (joined (map sectionBytes ys)) ∙ sym (ap (λ (y : List ℕ). p ++ y) j)) left;
     }
 
 -- ---- the bundle

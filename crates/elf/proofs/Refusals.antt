@@ -35,9 +35,9 @@ module _ (f : List ℕ) where
     unfolding elfOf
     elf-bad t = ⊎-elim
         (λ (p : all (ended (e .names)) (e .headers) ≡ true). ⊎-elim
-          (λ (q : all (ended (e .names)) (e .headers) ≡ false). sym (then-pass (fileOf f) _ e (sym o) ∙ fails _ _ _ q))
-          (λ (q : all (inside f) (wantedOf e) ≡ false). sym (then-pass (fileOf f) _ e (sym o) ∙ passes _ _ _ p ∙ fails _ _ _ q))
-          (and-fails _ _ t))
+        (λ (q : all (ended (e .names)) (e .headers) ≡ false). sym (then-pass (fileOf f) _ e (sym o) ∙ fails _ _ _ q))
+        (λ (q : all (inside f) (wantedOf e) ≡ false). sym (then-pass (fileOf f) _ e (sym o) ∙ passes _ _ _ p ∙ fails _ _ _ q))
+        (and-fails _ _ t))
         (λ (p : all (ended (e .names)) (e .headers) ≡ false). sym (then-pass (fileOf f) _ e (sym o) ∙ fails _ _ _ p))
         (known (all (ended (e .names)) (e .headers)))
 

@@ -104,9 +104,9 @@ module _ (f names : List ℕ) where
   unfolding shortEnough sectionOf
   room-most h e = ⊎-elim
       (λ (t : isWanted names h ≡ true).
-        let q = keeps h t in
-        let l : length (bodyOf f h) ≤ 8_388_607 = leb-true (length (bodyOf f h)) 8_388_607 (sym (short-one (sectionOf f names h)) ∙ ap (all shortEnough) (sym q) ∙ e) in
-        rw (q, room-one (sectionOf f names h)) (omega (arith, filledUp-most (length (bodyOf f h)))))
+      let q = keeps h t in
+      let l : length (bodyOf f h) ≤ 8_388_607 = leb-true (length (bodyOf f h)) 8_388_607 (sym (short-one (sectionOf f names h)) ∙ ap (all shortEnough) (sym q) ∙ e) in
+      rw (q, room-one (sectionOf f names h)) (omega (arith, filledUp-most (length (bodyOf f h)))))
       (λ (t : isWanted names h ≡ false). rw (skips h t, room-none) (omega arith))
       (known (isWanted names h))
 

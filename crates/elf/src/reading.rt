@@ -27,14 +27,23 @@ fn write_sections(f: &[u8], e: File, word: u32, out: &mut [u8]) -> Written
     ensures output { λ _. ⌜ now (out .exit) ≡ outputOf (answered (bundleOfWord (now (f .entry)) (fileIs (now (f .entry)) e) word) (length (now (out .entry)))) (length (now (out .entry))) ⌝ }
 {
     let Room::Is(n) = crate::bundling::sections_room(f, e) else {
-        return Written { code: SECTION_TOO_LONG, length: 0 };
+        return Written {
+            code: SECTION_TOO_LONG,
+            length: 0,
+        };
     };
     if ROOM_LIMIT < n {
-        return Written { code: SECTION_TOO_LONG, length: 0 };
+        return Written {
+            code: SECTION_TOO_LONG,
+            length: 0,
+        };
     }
     let length = n + 12;
     if out.len() < length {
-        return Written { code: OUTPUT_SHORT, length };
+        return Written {
+            code: OUTPUT_SHORT,
+            length,
+        };
     }
     crate::bundling::put_bundle(f, e, word, out);
     Written { code: 0, length }
@@ -47,13 +56,19 @@ fn read_opened(f: &[u8], e: File, out: &mut [u8]) -> Written
     ensures output { λ _. ⌜ now (out .exit) ≡ outputOf (answered (bundleFrom (now (f .entry)) (fileIs (now (f .entry)) e)) (length (now (out .entry)))) (length (now (out .entry))) ⌝ }
 {
     if !crate::judging::all_readable(f, e) {
-        return Written { code: UNREADABLE_SECTION, length: 0 };
+        return Written {
+            code: UNREADABLE_SECTION,
+            length: 0,
+        };
     }
     let info = crate::stating::first_info(f, e);
     let start = info.start;
     let end = info.start + info.size;
     let Stated::Is(word) = crate::stating::first_unit(e.big, &f[start..end]) else {
-        return Written { code: NO_UNIT, length: 0 };
+        return Written {
+            code: NO_UNIT,
+            length: 0,
+        };
     };
     write_sections(f, e, word, out)
 }
@@ -65,7 +80,10 @@ pub fn read_elf(f: &[u8], out: &mut [u8]) -> Written
 {
     octets::clear_bytes(out);
     let FileRead::Is(e) = crate::judging::open_elf(f) else {
-        return Written { code: NOT_ELF, length: 0 };
+        return Written {
+            code: NOT_ELF,
+            length: 0,
+        };
     };
     read_opened(f, e, out)
 }

@@ -54,9 +54,11 @@ loop-again c =
     let a = c .before .before .before .before .before .before .before .before .before .args in
     let l = c .before .before .before .before .before .before in
     let i = l .loop .i in
-    let p = c .before .before .put-wanted in
-    (omega arith, turn-place (now (a .f)) (a .e) i (a .from) (l .loop .at) (c .before .before .before .before .if1 .taken) (l .loop .inv .1) _ (p .ensures .0),
-    turn-appended (now (a .f)) (a .e) i (a .from) (l .loop .at) (c .before .before .before .before .if1 .taken) (l .loop .inv .1) (now (a .out)) (l .loop .out) _ (l .loop .inv .2) (p .ensures .1))
+    let p = c .before .before .put-wanted in (
+      omega arith,
+      turn-place (now (a .f)) (a .e) i (a .from) (l .loop .at) (c .before .before .before .before .if1 .taken) (l .loop .inv .1) _ (p .ensures .0),
+      turn-appended (now (a .f)) (a .e) i (a .from) (l .loop .at) (c .before .before .before .before .if1 .taken) (l .loop .inv .1) (now (a .out)) (l .loop .out) _ (l .loop .inv .2) (p .ensures .1),
+    )
 
 -- src/bundling.rt:83:1
 same-length : tie.Need-same-length Inv-loop μ-loop

@@ -74,10 +74,11 @@ put-section-requires c κs =
     let f = now (a .f) in
     let h = headerIs (c .before .before .before .before .before .before .before .header-of .result) in
     let code : codeOf (fileIs f (a .e) .names) h ≡ 0 → ⊥ = λ z. c .before .before .before .before .before .if1 .left (c .before .before .before .before .before .before .code-of .ensures ∙ z) in
-    let s = slice-is f h (c .before .before .before .before .stored .result) (c .before .before .before .before .stored .ensures) in
-    (omega (arith, c .before .before .narrow .ensures, c .before .before .before .before .before .before .code-of .ensures, code-most (fileIs f (a .e) .names) h),
-    omega (arith, ap length s, section-short f (a .e) (a .i) (c .before .before .before .before .before .before .before .before .before .before .pre .2) h (c .before .before .before .before .before .before .before .header-of .ensures) code (a .at) (now (a .out)) (c .before .before .before .before .before .before .before .before .before .before .pre .3)),
-    omega (arith, ap (λ (z : List ℕ). filledUp (length z)) s, section-room f (a .e) (a .i) (c .before .before .before .before .before .before .before .before .before .before .pre .2) h (c .before .before .before .before .before .before .before .header-of .ensures) code (a .at) (now (a .out)) (c .before .before .before .before .before .before .before .before .before .before .pre .3)))
+    let s = slice-is f h (c .before .before .before .before .stored .result) (c .before .before .before .before .stored .ensures) in (
+      omega (arith, c .before .before .narrow .ensures, c .before .before .before .before .before .before .code-of .ensures, code-most (fileIs f (a .e) .names) h),
+      omega (arith, ap length s, section-short f (a .e) (a .i) (c .before .before .before .before .before .before .before .before .before .before .pre .2) h (c .before .before .before .before .before .before .before .header-of .ensures) code (a .at) (now (a .out)) (c .before .before .before .before .before .before .before .before .before .before .pre .3)),
+      omega (arith, ap (λ (z : List ℕ). filledUp (length z)) s, section-room f (a .e) (a .i) (c .before .before .before .before .before .before .before .before .before .before .pre .2) h (c .before .before .before .before .before .before .before .header-of .ensures) code (a .at) (now (a .out)) (c .before .before .before .before .before .before .before .before .before .before .pre .3)),
+    )
 
 -- src/bundling.rt:66:1
 same-length : tie.Need-same-length
@@ -92,10 +93,11 @@ returns-2 c =
     let h = headerIs (c .before .before .before .before .before .before .before .before .before .before .header-of .result) in
     let code : codeOf (fileIs f (a .e) .names) h ≡ 0 → ⊥ = λ z. c .before .before .before .before .before .before .before .before .if1 .left (c .before .before .before .before .before .before .before .before .before .code-of .ensures ∙ z) in
     let s = slice-is f h (c .before .before .before .before .before .before .before .stored .result) (c .before .before .before .before .before .before .before .stored .ensures) in
-    let put = c .before .before .put-section in
-    (omega (arith, put .ensures .0, ap (λ (z : List ℕ). filledUp (length z)) s, room-section f (a .e) (a .i) (c .before .before .before .before .before .before .before .before .before .before .before .before .before .pre .2) h (c .before .before .before .before .before .before .before .before .before .before .header-of .ensures) code),
-    appended-one (headerSections f (a .e) (a .i)) (sectionOf f (fileIs f (a .e) .names) h) (a .at) (now (a .out)) _ (one-section f (a .e) (a .i) (c .before .before .before .before .before .before .before .before .before .before .before .before .before .pre .2) h (c .before .before .before .before .before .before .before .before .before .before .header-of .ensures) code) (c .before .before .before .before .before .before .before .before .before .before .before .before .before .pre .3 .room)
-    (put .ensures .1 ∙ ap₂ (λ (k : ℕ) (z : List ℕ). placed (now (a .out)) (a .at) (wordBytes (0x2000_0000 + k * 0x80_0000 + length z) ++ z)) (c .before .before .before .before .before .narrow .ensures ∙ c .before .before .before .before .before .before .before .before .before .code-of .ensures) s))
+    let put = c .before .before .put-section in (
+      omega (arith, put .ensures .0, ap (λ (z : List ℕ). filledUp (length z)) s, room-section f (a .e) (a .i) (c .before .before .before .before .before .before .before .before .before .before .before .before .before .pre .2) h (c .before .before .before .before .before .before .before .before .before .before .header-of .ensures) code),
+      appended-one (headerSections f (a .e) (a .i)) (sectionOf f (fileIs f (a .e) .names) h) (a .at) (now (a .out)) _ (one-section f (a .e) (a .i) (c .before .before .before .before .before .before .before .before .before .before .before .before .before .pre .2) h (c .before .before .before .before .before .before .before .before .before .before .header-of .ensures) code) (c .before .before .before .before .before .before .before .before .before .before .before .before .before .pre .3 .room)
+          (put .ensures .1 ∙ ap₂ (λ (k : ℕ) (z : List ℕ). placed (now (a .out)) (a .at) (wordBytes (0x2000_0000 + k * 0x80_0000 + length z) ++ z)) (c .before .before .before .before .before .narrow .ensures ∙ c .before .before .before .before .before .before .before .before .before .code-of .ensures) s),
+    )
 
 pub put-wanted-spec : {M : Type 1} → statement M
 put-wanted-spec =

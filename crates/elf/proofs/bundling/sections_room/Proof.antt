@@ -81,9 +81,12 @@ loop-again c =
     let i = l .loop .i in
     let told = sym (c .before .n .given .1) ∙ c .before .before .before .header-room .ensures in
     let r = room-is (headerSections f (a .e) i) (c .before .n .given .0 .0) told in
-    let lt = in-headers f (a .e) i (c .before .before .before .before .if1 .taken) in
-    (omega arith, short-more f (e .names) (e .headers) i lt (l .loop .inv .1) (r .0), omega (arith, room-more f (e .names) (e .headers) i lt, r .1, l .loop .inv .2),
-    omega (arith, room-bound f (a .e) i (c .before .n .given .0 .0) told, l .loop .inv .3))
+    let lt = in-headers f (a .e) i (c .before .before .before .before .if1 .taken) in (
+      omega arith,
+      short-more f (e .names) (e .headers) i lt (l .loop .inv .1) (r .0),
+      omega (arith, room-more f (e .names) (e .headers) i lt, r .1, l .loop .inv .2),
+      omega (arith, room-bound f (a .e) i (c .before .n .given .0 .0) told, l .loop .inv .3),
+    )
 
 -- src/bundling.rt:45:1
 returns-2 : tie.Need-returns-2 Inv-loop μ-loop

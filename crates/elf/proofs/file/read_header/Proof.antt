@@ -85,15 +85,15 @@ returns : tie.Need-returns
 unfolding headerIs headerAt
 returns c =
     λ i.
-      record {
-        number = c .before .before .before .before .before .before .before .before .before .before .before .args .number;
-        name = (c .before .before .before .before .before .before .before .before .wide .ensures ∙ c .before .before .before .before .before .before .before .before .before .u32-at .ensures) i;
-        type = c .before .before .before .before .before .before .before .u32-at2 .ensures i;
-        flags = c .before .before .before .before .before .before .u64-at .ensures i;
-        offset = (c .before .before .before .before .size .ensures ∙ c .before .before .before .before .before .u64-at2 .ensures) i;
-        size = (c .before .before .size2 .ensures ∙ c .before .before .before .u64-at3 .ensures) i;
-        info = (c .wide2 .ensures ∙ c .before .u32-at3 .ensures) i;
-      }
+    record {
+      number = c .before .before .before .before .before .before .before .before .before .before .before .args .number;
+      name = (c .before .before .before .before .before .before .before .before .wide .ensures ∙ c .before .before .before .before .before .before .before .before .before .u32-at .ensures) i;
+      type = c .before .before .before .before .before .before .before .u32-at2 .ensures i;
+      flags = c .before .before .before .before .before .before .u64-at .ensures i;
+      offset = (c .before .before .before .before .size .ensures ∙ c .before .before .before .before .before .u64-at2 .ensures) i;
+      size = (c .before .before .size2 .ensures ∙ c .before .before .before .u64-at3 .ensures) i;
+      info = (c .wide2 .ensures ∙ c .before .u32-at3 .ensures) i;
+    }
 
 pub read-header-spec : {M : Type 1} → statement M
 read-header-spec =

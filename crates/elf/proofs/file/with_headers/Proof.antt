@@ -65,9 +65,11 @@ mul-if3 c = search needs
 returns-3 : tie.Need-returns-3
 unfolding fileCheck laidIn
 returns-3 c =
-    let a = c .before .before .before .before .before .before .before .before .before .args in
-    (headers-outside (now (a .f)) (a .big) (sym (c .before .before .before .before .before .before .before .u16-at .ensures) ∙ c .before .before .before .before .before .before .if1 .left) (sym (c .before .before .before .before .before .u16-at2 .ensures) ∙ c .before .before .before .before .if2 .left) (c .before .before .size .result) (c .before .u16-at3 .result) 0
-    (c .before .before .size .ensures ∙ c .before .before .before .u64-at .ensures) (c .before .u16-at3 .ensures) (omega arith), tt)
+    let a = c .before .before .before .before .before .before .before .before .before .args in (
+      headers-outside (now (a .f)) (a .big) (sym (c .before .before .before .before .before .before .before .u16-at .ensures) ∙ c .before .before .before .before .before .before .if1 .left) (sym (c .before .before .before .before .before .u16-at2 .ensures) ∙ c .before .before .before .before .if2 .left) (c .before .before .size .result) (c .before .u16-at3 .result) 0
+          (c .before .before .size .ensures ∙ c .before .before .before .u64-at .ensures) (c .before .u16-at3 .ensures) (omega arith),
+      tt,
+    )
 
 -- src/file.rt:152:18
 mul-if4 : tie.Need-mul-if4
@@ -81,9 +83,11 @@ sub-if4 c = search needs
 returns-4 : tie.Need-returns-4
 unfolding fileCheck laidIn
 returns-4 c =
-    let a = c .before .before .before .before .before .before .before .before .before .before .args in
-    (headers-outside (now (a .f)) (a .big) (sym (c .before .before .before .before .before .before .before .before .u16-at .ensures) ∙ c .before .before .before .before .before .before .before .if1 .left) (sym (c .before .before .before .before .before .before .u16-at2 .ensures) ∙ c .before .before .before .before .before .if2 .left) (c .before .before .before .size .result) (c .before .before .u16-at3 .result) 0
-    (c .before .before .before .size .ensures ∙ c .before .before .before .before .u64-at .ensures) (c .before .before .u16-at3 .ensures) (omega arith), tt)
+    let a = c .before .before .before .before .before .before .before .before .before .before .args in (
+      headers-outside (now (a .f)) (a .big) (sym (c .before .before .before .before .before .before .before .before .u16-at .ensures) ∙ c .before .before .before .before .before .before .before .if1 .left) (sym (c .before .before .before .before .before .before .u16-at2 .ensures) ∙ c .before .before .before .before .before .if2 .left) (c .before .before .before .size .result) (c .before .before .u16-at3 .result) 0
+          (c .before .before .before .size .ensures ∙ c .before .before .before .before .u64-at .ensures) (c .before .before .u16-at3 .ensures) (omega arith),
+      tt,
+    )
 
 -- src/file.rt:155:17
 u16-at-requires-4 : tie.Need-u16-at-requires-4
@@ -97,9 +101,11 @@ cast-table c = search needs
 returns-5 : tie.Need-returns-5
 unfolding fileCheck laidIn
 returns-5 c =
-    let a = c .before .before .before .before .before .before .before .before .before .before .before .before .args in
-    (table-outside (now (a .f)) (a .big) (sym (c .before .before .before .before .before .before .before .before .before .before .u16-at .ensures) ∙ c .before .before .before .before .before .before .before .before .before .if1 .left) (sym (c .before .before .before .before .before .before .before .before .u16-at2 .ensures) ∙ c .before .before .before .before .before .before .before .if2 .left) (c .before .before .before .before .before .size .result) (c .before .before .before .before .u16-at3 .result) (c .before .u16-at4 .result)
-    (c .before .before .before .before .before .size .ensures ∙ c .before .before .before .before .before .before .u64-at .ensures) (c .before .before .before .before .u16-at3 .ensures) (omega arith) (c .before .u16-at4 .ensures) (c .if5 .taken), tt)
+    let a = c .before .before .before .before .before .before .before .before .before .before .before .before .args in (
+      table-outside (now (a .f)) (a .big) (sym (c .before .before .before .before .before .before .before .before .before .before .u16-at .ensures) ∙ c .before .before .before .before .before .before .before .before .before .if1 .left) (sym (c .before .before .before .before .before .before .before .before .u16-at2 .ensures) ∙ c .before .before .before .before .before .before .before .if2 .left) (c .before .before .before .before .before .size .result) (c .before .before .before .before .u16-at3 .result) (c .before .u16-at4 .result)
+          (c .before .before .before .before .before .size .ensures ∙ c .before .before .before .before .before .before .u64-at .ensures) (c .before .before .before .before .u16-at3 .ensures) (omega arith) (c .before .u16-at4 .ensures) (c .if5 .taken),
+      tt,
+    )
 
 -- src/file.rt:159:45
 mul-read-header : tie.Need-mul-read-header
@@ -124,10 +130,12 @@ returns-6 c =
     let a = c .before .before .before .before .before .before .before .before .before .before .before .before .before .before .args in
     let f = now (a .f) in
     let at = c .before .before .before .before .before .before .before .size .result in
-    let n = c .before .before .before .before .before .before .u16-at3 .result in
-    (c .with-names .ensures .0 ∙ ap (withNames f (a .big) at n) (c .before .read-header .ensures)
-    ∙ table-there f (a .big) (sym (c .before .before .before .before .before .before .before .before .before .before .before .before .u16-at .ensures) ∙ c .before .before .before .before .before .before .before .before .before .before .before .if1 .left) (sym (c .before .before .before .before .before .before .before .before .before .before .u16-at2 .ensures) ∙ c .before .before .before .before .before .before .before .before .before .if2 .left) at n (c .before .before .before .u16-at4 .result)
-    (c .before .before .before .before .before .before .before .size .ensures ∙ c .before .before .before .before .before .before .before .before .u64-at .ensures) (c .before .before .before .before .before .before .u16-at3 .ensures) (omega arith) (c .before .before .before .u16-at4 .ensures) (c .before .before .if5 .left), c .with-names .ensures .1)
+    let n = c .before .before .before .before .before .before .u16-at3 .result in (
+      c .with-names .ensures .0 ∙ ap (withNames f (a .big) at n) (c .before .read-header .ensures)
+          ∙ table-there f (a .big) (sym (c .before .before .before .before .before .before .before .before .before .before .before .before .u16-at .ensures) ∙ c .before .before .before .before .before .before .before .before .before .before .before .if1 .left) (sym (c .before .before .before .before .before .before .before .before .before .before .u16-at2 .ensures) ∙ c .before .before .before .before .before .before .before .before .before .if2 .left) at n (c .before .before .before .u16-at4 .result)
+          (c .before .before .before .before .before .before .before .size .ensures ∙ c .before .before .before .before .before .before .before .before .u64-at .ensures) (c .before .before .before .before .before .before .u16-at3 .ensures) (omega arith) (c .before .before .before .u16-at4 .ensures) (c .before .before .if5 .left),
+      c .with-names .ensures .1,
+    )
 
 pub with-headers-spec : {M : Type 1} → statement M
 with-headers-spec =

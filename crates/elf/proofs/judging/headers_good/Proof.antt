@@ -87,9 +87,11 @@ loop-again c =
     let l = c .before .before .before .before in
     let a = c .before .before .before .before .before .before .before .before .before .before .args in
     let f = now (a .f) in
-    let e = fileIs f (a .e) in
-    (omega arith, sym (all-turn (headerGood f (e .names)) noHeader (e .headers) (l .loop .i) (in-headers f (a .e) (l .loop .i) (c .before .before .if1 .taken)) (sym (c .before .header-good .ensures) ∙ not-false _ (c .if2 .left)))
-    ∙ l .loop .inv .1)
+    let e = fileIs f (a .e) in (
+      omega arith,
+      sym (all-turn (headerGood f (e .names)) noHeader (e .headers) (l .loop .i) (in-headers f (a .e) (l .loop .i) (c .before .before .if1 .taken)) (sym (c .before .header-good .ensures) ∙ not-false _ (c .if2 .left)))
+          ∙ l .loop .inv .1,
+    )
 
 -- src/judging.rt:43:1
 returns-2 : tie.Need-returns-2 Inv-loop μ-loop

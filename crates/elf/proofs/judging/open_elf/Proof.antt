@@ -37,7 +37,7 @@ enum-told c = search needs
 -- src/judging.rt:68:9
 returns : tie.Need-returns
 unfolding fileCheck laidIn acceptedIn
-returns c = let f = now (c .before .before .before .before .args .f) in (elf-refused f (ap (fileCheck f) (sym (c .enum-told .given .1)) ∙ c .before .before .open-file .ensures .0), tt, tt)
+returns c = let f = now (c .before .before .before .before .args .f) in (elf-refused f (ap (fileCheck f) (sym (c .enum-told .given .1)) ∙ c .before .before .open-file .ensures .0), (tt, tt))
 
 -- src/judging.rt:70:8
 headers-good-requires : tie.Need-headers-good-requires
@@ -52,8 +52,10 @@ returns-2 c =
     let e = fileIs f (c .before .before .before .e .given .0 .0) in
     let t = sym (c .before .headers-good .ensures) ∙ c .if1 .taken in (
       elf-good f e (ap (fileCheck f) (sym (c .before .before .before .e .given .1)) ∙ c .before .before .before .before .before .open-file .ensures .0) t,
-      subst (laidIn f) (c .before .before .before .e .given .1) (c .before .before .before .before .before .open-file .ensures .1),
-      and-right (all (ended (e .names)) (e .headers)) (all (inside f) (wantedOf e)) t,
+      (
+        subst (laidIn f) (c .before .before .before .e .given .1) (c .before .before .before .before .before .open-file .ensures .1),
+        and-right (all (ended (e .names)) (e .headers)) (all (inside f) (wantedOf e)) t,
+      ),
     )
 
 -- src/judging.rt:62:1
@@ -62,7 +64,7 @@ unfolding fileCheck laidIn acceptedIn
 returns-3 c =
     let f = now (c .before .before .before .before .before .before .before .args .f) in
     let e = fileIs f (c .before .before .before .e .given .0 .0) in
-    (elf-bad f e (ap (fileCheck f) (sym (c .before .before .before .e .given .1)) ∙ c .before .before .before .before .before .open-file .ensures .0) (sym (c .before .headers-good .ensures) ∙ c .if1 .left), tt, tt)
+    (elf-bad f e (ap (fileCheck f) (sym (c .before .before .before .e .given .1)) ∙ c .before .before .before .before .before .open-file .ensures .0) (sym (c .before .headers-good .ensures) ∙ c .if1 .left), (tt, tt))
 
 pub open-elf-spec : {M : Type 1} → statement M
 open-elf-spec =

@@ -63,7 +63,7 @@ read-opened-requires c κs =
     let f = now (c .before .before .before .before .before .before .before .before .before .before .before .args .f) in
     let t = c .before .before .e .given .1 in
     let z = c .before .before .before .before .before .before .before .clear-bytes .ensures in
-    (subst (laidIn f) t (c .before .before .before .before .open-elf .ensures .1), subst (acceptedIn f) t (c .before .before .before .before .open-elf .ensures .2), z ∙ ap zeros (sym (ap length z ∙ length-zeros (length (now (c .before .before .before .before .before .before .before .before .before .before .before .args .out))))))
+    (subst (laidIn f) t (c .before .before .before .before .open-elf .ensures .1 .0), subst (acceptedIn f) t (c .before .before .before .before .open-elf .ensures .1 .1), z ∙ ap zeros (sym (ap length z ∙ length-zeros (length (now (c .before .before .before .before .before .before .before .before .before .before .before .args .out))))))
 
 -- src/reading.rt:60:1
 same-length-2 : tie.Need-same-length-2
@@ -77,9 +77,10 @@ returns-2 c =
     let f = now (a .f) in
     let z = c .before .before .before .before .before .before .before .before .before .before .clear-bytes .ensures in
     let l = ap length z ∙ length-zeros (length (now (a .out))) in
-    let r = read-from f (fileIs f (c .before .before .before .before .before .e .given .0 .0)) (ap (fileCheck f) (sym (c .before .before .before .before .before .e .given .1)) ∙ c .before .before .before .before .before .before .before .open-elf .ensures .0) in
-    (c .before .before .read-opened .ensures .0 ∙ ap₂ (λ (x : Check (List ℕ)) (o : ℕ). writtenOf (answered x o)) r l,
-    c .before .before .read-opened .ensures .1 ∙ ap₂ (λ (x : Check (List ℕ)) (o : ℕ). outputOf (answered x o) o) r l)
+    let r = read-from f (fileIs f (c .before .before .before .before .before .e .given .0 .0)) (ap (fileCheck f) (sym (c .before .before .before .before .before .e .given .1)) ∙ c .before .before .before .before .before .before .before .open-elf .ensures .0) in (
+      c .before .before .read-opened .ensures .0 ∙ ap₂ (λ (x : Check (List ℕ)) (o : ℕ). writtenOf (answered x o)) r l,
+      c .before .before .read-opened .ensures .1 ∙ ap₂ (λ (x : Check (List ℕ)) (o : ℕ). outputOf (answered x o) o) r l,
+    )
 
 pub read-elf-spec : {M : Type 1} → statement M
 read-elf-spec =
