@@ -1,19 +1,19 @@
 -- `unit::header::stated_address` meets its contract.
 -- Assumes nothing.
-use mathlib.Core.Path.{_≡_, refl, sym, ap, _∙_}
+use mathlib.Core.Path.{_≡_, sym, ap, _∙_}
 use mathlib.Core.Bool.{true}
 use mathlib.Core.List.{List}
-use Prim.Native.Nat.{ℕ, _≤_}
+use Prim.Native.Nat.{ℕ}
 use native.Mathlib.Omega.{arith}
 use borrow.Author.Needs.{needs}
 use borrow.Author.Tests.{not-true, not-false}
 use lib.Seq.{length-take-le}
-use lib.ListN.{length, take, getD}
+use lib.ListN.{take, getD}
 use denote.Ref.{now}
 use Rattle.octets.specs.Checked.{pass}
 use Rattle.bundle.specs.Encoded.{encodingIs}
 use Rattle.leb128.proofs.Answered.{size-is, size-refused}
-use Rattle.unit.specs.Headers.{unitInside, fieldsGood, kindOf, headerSize, statedAddress}
+use Rattle.unit.specs.Headers.{unitInside, fieldsGood, kindOf, headerSize}
 use Rattle.unit.specs.declared.header.AddressSize.the-variants.{Is}
 use Rattle.unit.proofs.Fields.{place-lt}
 use Rattle.unit.proofs.Units.{only-unitInside, inside-le}
