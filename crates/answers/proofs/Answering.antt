@@ -1,15 +1,14 @@
 -- The three answers of a check for an output of o bytes, in numbers and in what the output holds.
 -- Assumes nothing.
-use mathlib.Core.Path.{_≡_, refl, sym, ap, _∙_}
+use mathlib.Core.Path.{_≡_, sym, ap, _∙_}
 use mathlib.Core.List.{List}
 use Prim.Native.Nat.{ℕ, _-_, _<_, _≤_}
-use lib.Dec.{leb}
 use lib.ListN.{length}
 use borrow.Author.Tests.{le-leb, lt-leb}
 use Rattle.octets.specs.Octets.{padded, zeros}
 use Rattle.octets.specs.Checked.{Check, pass, refuse}
 use Rattle.numbers.specs.Refusals.{outputShort}
-use Rattle.answers.specs.Answers.{Answer, refused, short, made, answered, outputOf, writtenOf}
+use Rattle.answers.specs.Answers.{Answer, short, made, answered, outputOf, writtenOf}
 use Rattle.answers.specs.declared.Written.{Written}
 
 module _ (c : Check (List ℕ)) (o : ℕ) where

@@ -2,28 +2,27 @@
 -- Assumes nothing.
 use mathlib.Core.Path.{_≡_, refl, sym, ap, _∙_}
 use mathlib.Core.Logic.{⊎-elim}
-use mathlib.Core.Bool.{Bool, true, false, not, _&&_, _||_}
+use mathlib.Core.Bool.{Bool, true, false, _||_}
 use mathlib.Core.List.{List, [], _∷_}
-use Prim.Native.Nat.{ℕ, suc, _+_, _^_, _≤_, _<_}
+use Prim.Native.Nat.{ℕ, _+_, _≤_, _<_}
 use native.Mathlib.Numerals.{add-one}
 use native.Mathlib.Omega.{arith}
-use lib.Dec.{eqb, ltb}
+use lib.Dec.{eqb}
 use lib.ListN.{length, take, drop, getD, length-take, drop-of-length-le}
 use lib.Seq.{drop-cons}
 use borrow.Author.Tests.{eq-eqb, eqb-true, ne-eqb}
 use Rattle.octets.specs.Octets.{part, numberAt}
 use Rattle.octets.specs.Lists.{those}
-use Rattle.octets.specs.Checked.{Check, pass, refuse, _>>=_, require}
+use Rattle.octets.specs.Checked.{Check, pass, refuse}
 use Rattle.octets.proofs.Checks.{known, true-false, passes, fails, or-left, or-right, or-neither}
-use Rattle.octets.proofs.Refusals.{Only}
 use Rattle.octets.proofs.Lists.{those-keeps, those-skips}
 use Rattle.octets.proofs.Numbers.{Bytes, bytes-part, number-lt-width}
 use Rattle.octets.proofs.Parts.{part-front}
 use Rattle.bundle.specs.Encoding.{Encoding}
 use Rattle.bundle.specs.Encoded.{encodingIs, four}
 use Rattle.bundle.specs.declared.encoding.ObjectEncoding.{ObjectEncoding}
-use Rattle.unit.specs.UnitRead.{lengthField, isFive, addressPlace, commonSize, headerPasses}
-use Rattle.unit.specs.Headers.{unitInside, fieldsGood, withAddress, statedAddress, addressOf}
+use Rattle.unit.specs.UnitRead.{lengthField, isFive, addressPlace, headerPasses}
+use Rattle.unit.specs.Headers.{unitInside, withAddress, statedAddress, addressOf}
 use Rattle.unit.specs.declared.header.AddressSize.the-variants as address
 use Rattle.unit.proofs.Fields.{common-ge}
 use Rattle.unit.proofs.Units.{only-unitInside}
@@ -33,7 +32,6 @@ use Rattle.numbers.specs.Refusals.{noUnit}
 use Rattle.elf.specs.File.{Header, bodyOf, noHeader, codeOf, isWanted}
 use Rattle.elf.specs.Reader.{firstInfo, widthStated, versionStated, encodingStated, unitStated, objectWord}
 use Rattle.elf.specs.Held.{infoOf, fieldSize, statedOf, wordWith}
-use Rattle.elf.specs.declared.stating.Stated.{Stated}
 use Rattle.elf.specs.declared.stating.Stated.the-variants as stated
 use Rattle.elf.proofs.Judged.{wanted, unwanted}
 

@@ -1,17 +1,15 @@
 -- Section headers one by one, and where a section's bytes lie.
 -- Assumes nothing.
 use mathlib.Core.Path.{_≡_, refl, sym, ap, ap₂, _∙_}
-use mathlib.Core.Bool.{Bool, true, false, _&&_, _||_}
-use mathlib.Core.List.{List, [], _∷_}
+use mathlib.Core.Bool.{Bool, true, false}
+use mathlib.Core.List.{List}
 use Prim.Native.Nat.{ℕ, zero, suc, _+_, _*_, _-_, _≤_, _<_}
 use native.Mathlib.Nat.{not-suc-le-zero, le-of-suc-le-suc, zero-add}
 use native.Mathlib.Decide.{decLe}
 use native.Mathlib.Omega.{arith}
-use lib.Dec.{eqb, leb}
+use lib.Dec.{leb}
 use lib.ListN.{length, getD}
 use borrow.Author.Tests.{eq-eqb, ne-eqb, le-leb, lt-leb, leb-true}
-use Rattle.octets.specs.Octets.{part}
-use Rattle.octets.proofs.Checks.{true-false}
 use Rattle.octets.proofs.Parts.{part-none}
 use Rattle.elf.specs.File.{Header, headerAt, headersAt, unstored, bodyOf, inside, noHeader}
 use Rattle.elf.specs.Held.{bytesIn, Stored}

@@ -4,18 +4,17 @@ use mathlib.Core.Path.{_≡_, refl, sym, ap, subst, _∙_}
 use mathlib.Core.Logic.{_⊎_, inl, inr, ⊎-elim, _≢_}
 use mathlib.Core.Bool.{Bool, true, false, not, _&&_, _||_}
 use mathlib.Core.List.{List, [], _∷_, map}
-use Prim.Native.Nat.{ℕ, suc, _+_, _*_, _/_, _≤_, _<_}
+use Prim.Native.Nat.{ℕ, _+_, _/_, _≤_, _<_}
 use native.Mathlib.Omega.{arith}
 use lib.Dec.{eqb, leb}
-use lib.ListN.{length, getD}
+use lib.ListN.{length}
 use borrow.Author.Tests.{eqb-true, eqb-false, leb-true, not-true}
 use Rattle.octets.specs.Octets.{part, numberAt}
 use Rattle.octets.specs.Lists.{all, those}
-use Rattle.octets.specs.Checked.{pass, _>>=_, require}
-use Rattle.octets.proofs.Checks.{bind-pass, require-pass, pass-inj, known, or-cases}
+use Rattle.octets.specs.Checked.{pass}
+use Rattle.octets.proofs.Checks.{bind-pass, require-pass, pass-inj, or-cases}
 use Rattle.octets.proofs.Lists.{all-head, all-tail, those-keeps, those-skips}
 use Rattle.octets.proofs.Numbers.{Bytes, bytes-part, bytes-none}
-use Rattle.bundle.specs.Bundle.{Part, Object, Bundle, bundleOf}
 use Rattle.bundle.specs.Encoding.{Encoding}
 use Rattle.bundle.specs.Written.{Section, Sections, written}
 use Rattle.bundle.proofs.Every.{Every, nothing, also}

@@ -1,7 +1,6 @@
 -- The headers judged one by one: 31 of names and places.
 -- Assumes nothing.
 use mathlib.Core.Path.{_≡_, refl, sym, ap, _∙_}
-use mathlib.Core.Logic.{⊎-elim}
 use mathlib.Core.Bool.{Bool, true, false, not, _&&_, _||_}
 use mathlib.Core.List.{List, [], _∷_}
 use Prim.Native.Nat.{ℕ, _≤_, _<_}
@@ -9,7 +8,7 @@ use lib.Dec.{eqb, ltb}
 use lib.ListN.{length, drop, getD}
 use borrow.Author.Tests.{eq-eqb, ne-eqb, lt-ltb, le-ltb}
 use Rattle.octets.specs.Lists.{all, any, those}
-use Rattle.octets.proofs.Checks.{known, true-false}
+use Rattle.octets.proofs.Checks.{true-false}
 use Rattle.octets.proofs.Lists.{all-cons, all-stops, those-keeps, those-skips}
 use Rattle.octets.proofs.Elements.{all-at}
 use Rattle.elf.specs.File.{Header, inside, noHeader, codeOf, isWanted, ended}

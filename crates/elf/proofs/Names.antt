@@ -4,7 +4,7 @@ use mathlib.Core.Path.{_≡_, refl, sym, ap, _∙_}
 use mathlib.Core.Logic.{⊎-elim}
 use mathlib.Core.Bool.{Bool, true, false}
 use mathlib.Core.List.{List, [], _∷_, _++_}
-use Prim.Native.Nat.{ℕ, suc, _+_, _-_, _≤_, _<_}
+use Prim.Native.Nat.{ℕ, _+_, _-_, _≤_, _<_}
 use native.Mathlib.Decide.{decLe}
 use native.Mathlib.Numerals.{add-one}
 use native.Mathlib.Omega.{arith}
@@ -18,7 +18,7 @@ use Rattle.octets.proofs.Checks.{true-false, known}
 use Rattle.octets.proofs.Lists.{same-both, eq-same, same-eq, ne-same}
 use Rattle.octets.proofs.Elements.{any-at, at-any, none-at}
 use Rattle.octets.proofs.Parts.{drop-take}
-use Rattle.numbers.specs.Names.{dwoWords, indexWords, namePrefix, nameSuffix, dwoName, indexName, sectionNames, sectionName}
+use Rattle.numbers.specs.Names.{dwoWords, indexWords, namePrefix, nameSuffix, dwoName, indexName, sectionNames}
 use Rattle.elf.specs.File.{Header, startsWith, codeAmong, codeOf}
 
 -- ---- s starts with a name and a zero

@@ -1,20 +1,18 @@
 -- A file that was opened, header by header, in the code's terms.
 -- Assumes nothing.
-use mathlib.Core.Path.{_≡_, refl, sym, ap, subst, _∙_}
-use mathlib.Core.Bool.{Bool, true, false}
-use mathlib.Core.List.{List, [], _∷_, _++_}
-use Prim.Native.Nat.{ℕ, _+_, _*_, _-_, _≤_, _<_}
+use mathlib.Core.Path.{_≡_, sym, ap, subst, _∙_}
+use mathlib.Core.Bool.{true}
+use mathlib.Core.List.{List, [], _∷_}
+use Prim.Native.Nat.{ℕ, _+_, _-_, _≤_, _<_}
 use native.Mathlib.Omega.{arith}
-use lib.Dec.{eqb, leb}
+use lib.Dec.{leb}
 use lib.ListN.{length, take, drop, getD}
 use borrow.Author.Tests.{eq-eqb, ne-eqb, le-leb, lt-leb, leb-true}
-use Rattle.octets.specs.Octets.{part}
 use Rattle.octets.specs.Lists.{all}
 use Rattle.octets.proofs.Parts.{length-part, part-cut}
 use Rattle.bundle.specs.Bundle.{filledUp}
 use Rattle.bundle.specs.Written.{Section}
-use Rattle.numbers.specs.Limits.{sectionLimit}
-use Rattle.elf.specs.File.{Header, bodyOf, inside, noHeader, codeOf, isWanted, wantedOf}
+use Rattle.elf.specs.File.{Header, bodyOf, inside, noHeader, codeOf, wantedOf}
 use Rattle.elf.specs.Reader.{readable}
 use Rattle.elf.specs.Held.{bytesIn, fileIs, Lies, Stored, WantedInside, headerReadable, infoOf, sectionOf, sectionsIn, shortEnough, roomSum, roomOf, headerSections, allSections, Fits, Appended}
 use Rattle.elf.specs.declared.file.Place.{Place}

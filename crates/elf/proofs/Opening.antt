@@ -1,20 +1,19 @@
 -- 31, but for names and wanted sections, test by test.
 -- Assumes nothing.
-use mathlib.Core.Path.{_≡_, refl, sym, ap, _∙_}
+use mathlib.Core.Path.{_≡_, sym, _∙_}
 use mathlib.Core.Logic.{_⊎_, inl, inr, ⊎-elim}
 use mathlib.Core.Bool.{Bool, true, false, _&&_, _||_}
 use mathlib.Core.List.{List, [], _∷_}
 use Prim.Native.Nat.{ℕ, _+_, _*_, _≤_, _<_}
-use native.Mathlib.Omega.{arith}
-use lib.Dec.{eqb, leb, ltb}
+use lib.Dec.{eqb, leb}
 use lib.ListN.{length, take, getD}
 use borrow.Author.Tests.{eq-eqb, ne-eqb, le-leb, lt-leb, lt-ltb, le-ltb}
 use Rattle.octets.specs.Octets.{numberAt}
 use Rattle.octets.specs.Lists.{same}
-use Rattle.octets.specs.Checked.{Check, pass, refuse, _>>=_, require}
+use Rattle.octets.specs.Checked.{pass, refuse}
 use Rattle.octets.proofs.Checks.{passes, fails, and-left, and-right, and-fails, known}
 use Rattle.numbers.specs.Refusals.{notElf}
-use Rattle.elf.specs.File.{Header, File, headerAt, headersAt, bodyOf, inside, fileOf}
+use Rattle.elf.specs.File.{Header, headerAt, headersAt, bodyOf, inside, fileOf}
 use Rattle.elf.specs.Held.{withNames, fromType}
 
 -- ---- the bytes that start a file, as they are tested

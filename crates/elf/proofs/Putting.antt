@@ -6,7 +6,7 @@ use mathlib.Core.List.{List, [], _∷_, _++_, map, append-nil, append-assoc}
 use Prim.Native.Nat.{ℕ, _+_, _*_, _-_, _≤_}
 use native.Mathlib.Omega.{arith}
 use lib.ListN.{length, length-append}
-use Rattle.octets.specs.Octets.{placed, padded, zeros}
+use Rattle.octets.specs.Octets.{placed, padded}
 use Rattle.octets.specs.Lists.{joined, sum}
 use Rattle.octets.proofs.Joined.{map-append, joined-append, joined-one}
 use Rattle.octets.proofs.Placed.{length-placed, length-padded}
@@ -15,7 +15,7 @@ use Rattle.bundle.specs.Written.{Section, Sections, wordBytes, headBytes, secti
 use Rattle.bundle.proofs.Next.{filledUp-le}
 use Rattle.bundle.proofs.Putting.{length-word, length-head, length-section, word-put, end-put, section-put, head-put}
 use Rattle.bundle.proofs.Sizes.{sectionSize, objectSize, written-size}
-use Rattle.elf.specs.Held.{roomSum, Fits, Appended, Writable, oneObject}
+use Rattle.elf.specs.Held.{roomSum, Appended, Writable, oneObject}
 use Rattle.elf.proofs.Rooms.{room-one, room-none, room-append, room-bytes}
 
 pub appended-none : (ss : List Section) (at : ℕ) (out : List ℕ) → ss ≡ [] → Appended ss at out out
@@ -79,18 +79,12 @@ module _ (big : Bool) (word : ℕ) (ss : List Section) (d a b c e : List ℕ) (a
   long : length (headBytes big ++ wordBytes word) ≡ 8
   long = length-append (headBytes big) (wordBytes word) ∙ omega (arith, length-head big, length-word word)
 
-  pub sections-fit : Fits ss 8 b
-  sections-fit = record { short = w .short; room = omega (arith, ap length worded, length-padded (headBytes big ++ wordBytes word) (length d - 4 - 4), long, w .room) }
-
   module _ (r : Appended ss 8 b c) (s : at ≡ 8 + roomSum ss) where
     filled : c ≡ padded ((headBytes big ++ wordBytes word) ++ joined (map sectionBytes ss)) (length d - 4 - 4 - roomSum ss)
     filled = r .is (headBytes big ++ wordBytes word) (length d - 4 - 4) worded (sym long)
 
     behind : at ≡ length ((headBytes big ++ wordBytes word) ++ joined (map sectionBytes ss))
     behind = omega (arith, length-append (headBytes big ++ wordBytes word) (joined (map sectionBytes ss)), long, room-bytes ss)
-
-    pub end-fits : at + 4 ≤ length c
-    end-fits = omega (arith, ap length filled, length-padded ((headBytes big ++ wordBytes word) ++ joined (map sectionBytes ss)) (length d - 4 - 4 - roomSum ss), behind, w .room)
 
     pub bundle-put : e ≡ placed c at (endBytes at) → e ≡ padded (oneObject big word ss) (length d - length (oneObject big word ss))
     unfolding oneObject written

@@ -3,25 +3,23 @@
 use mathlib.Core.Path.{_≡_, refl, sym, ap, _∙_}
 use mathlib.Core.Logic.{⊎-elim}
 use mathlib.Core.Bool.{Bool, true, false, _&&_}
-use mathlib.Core.List.{List, [], _∷_}
+use mathlib.Core.List.{List}
 use Prim.Native.Nat.{ℕ, _≤_, _<_}
 use native.Mathlib.Omega.{arith}
-use lib.Dec.{leb}
 use lib.ListN.{length}
 use borrow.Author.Tests.{le-leb, lt-leb}
 use Rattle.octets.specs.Lists.{all}
-use Rattle.octets.specs.Checked.{Check, pass, refuse, _>>=_, require}
+use Rattle.octets.specs.Checked.{Check, pass, refuse}
 use Rattle.octets.proofs.Checks.{passes, fails, then-pass, then-refuse, and-left, and-right, and-fails, known}
 use Rattle.octets.proofs.Refusals.{Only, only-pass, only-require, only-bind}
 use Rattle.bundle.specs.Encoding.{Encoding}
-use Rattle.bundle.specs.Written.{Section, written}
+use Rattle.bundle.specs.Written.{Section}
 use Rattle.answers.specs.declared.Written.{Written}
 use Rattle.numbers.specs.Refusals.{notElf, unreadableSection, noUnit, sectionTooLong}
-use Rattle.numbers.specs.Limits.{sectionLimit, packageLimit}
-use Rattle.elf.specs.File.{Header, File, inside, ended, wantedOf, codeOf, bodyOf, fileOf, elfOf}
-use Rattle.elf.specs.Reader.{readable, firstInfo, encodingStated, unitStated, objectWord, sectionsRead, bundleRead}
+use Rattle.numbers.specs.Limits.{packageLimit}
+use Rattle.elf.specs.File.{File, inside, ended, wantedOf, fileOf, elfOf}
+use Rattle.elf.specs.Reader.{readable, firstInfo, unitStated, objectWord, sectionsRead, bundleRead}
 use Rattle.elf.specs.Held.{sectionOf, sectionsIn, shortEnough, statedOf, oneObject, bundleOfWord, bundleFrom}
-use Rattle.elf.specs.declared.stating.Stated.{Stated}
 use Rattle.elf.specs.declared.stating.Stated.the-variants.{Is, Refused}
 
 -- ---- 31

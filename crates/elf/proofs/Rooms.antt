@@ -1,27 +1,25 @@
 -- The wanted sections of some headers: what they take, header by header.
 -- Assumes nothing.
-use mathlib.Core.Path.{_≡_, refl, sym, ap, ap₂, _∙_}
+use mathlib.Core.Path.{_≡_, refl, sym, ap, _∙_}
 use mathlib.Core.Logic.{⊎-elim}
 use mathlib.Core.Bool.{Bool, true, false, _&&_}
-use mathlib.Core.List.{List, [], _∷_, _++_, map, append-nil}
+use mathlib.Core.List.{List, [], _∷_, _++_, map}
 use Prim.Native.Nat.{ℕ, _+_, _≤_, _<_}
 use native.Mathlib.Numerals.{add-one}
 use native.Mathlib.Omega.{arith}
-use lib.Dec.{leb}
 use lib.ListN.{length, take, drop, getD, take-append-drop}
 use lib.Seq.{take-suc, take-all}
-use borrow.Author.Tests.{le-leb, lt-leb, leb-true}
+use borrow.Author.Tests.{leb-true}
 use Rattle.octets.specs.Lists.{all, joined, sum, those}
-use Rattle.octets.proofs.Checks.{known, true-false, and-both, and-left, and-right, not-left, not-right}
+use Rattle.octets.proofs.Checks.{known, and-both, and-left, and-right, not-left, not-right}
 use Rattle.octets.proofs.Lists.{all-append, those-append, those-keeps, those-skips}
-use Rattle.octets.proofs.Joined.{map-append, sum-append, joined-append}
+use Rattle.octets.proofs.Joined.{map-append, sum-append}
 use Rattle.bundle.specs.Bundle.{filledUp}
 use Rattle.bundle.specs.Written.{Section, sectionBytes}
 use Rattle.bundle.proofs.Next.{filledUp-most}
 use Rattle.bundle.proofs.Sizes.{sectionSize, sections-size}
 use Rattle.elf.specs.File.{Header, bodyOf, noHeader, codeOf, isWanted}
 use Rattle.elf.specs.Held.{sectionOf, sectionsIn, shortEnough, roomSum, roomOf}
-use Rattle.elf.specs.declared.bundling.Room.{Room}
 use Rattle.elf.specs.declared.bundling.Room.the-variants.{Is, TooLong}
 use Rattle.elf.proofs.Judged.{wanted, unwanted}
 

@@ -3,15 +3,14 @@
 use mathlib.Core.Path.{_≡_, refl, sym, ap, _∙_}
 use mathlib.Core.Logic.{⊎-elim}
 use mathlib.Core.Bool.{Bool, true, false, not, _&&_, _||_}
-use mathlib.Core.List.{List, [], _∷_}
+use mathlib.Core.List.{List}
 use Prim.Native.Nat.{ℕ, _/_, _%_, _≤_, _<_}
-use native.Mathlib.Omega.{arith}
 use lib.Dec.{eqb, ltb}
 use lib.ListN.{length, getD}
 use borrow.Author.Tests.{eq-eqb, ne-eqb, eqb-true, lt-ltb, le-ltb, ltb-true, not-true}
-use Rattle.octets.specs.Lists.{all, any, those}
-use Rattle.octets.proofs.Checks.{known, true-false, and-both, and-left, and-right, not-left, not-right, or-left, or-right}
-use Rattle.octets.proofs.Elements.{all-at, at-all, any-at, at-any, none-at}
+use Rattle.octets.specs.Lists.{all, any}
+use Rattle.octets.proofs.Checks.{known, true-false, and-both, and-left, and-right}
+use Rattle.octets.proofs.Elements.{all-at, at-all, at-any, none-at}
 use Rattle.elf.specs.File.{Header, File, unstored, noHeader, codeOf, isWanted, wantedOf}
 use Rattle.elf.specs.Reader.{compressed, relocates, readable}
 use Rattle.elf.specs.Held.{isRelocation, targetWanted, relocatesWanted, headerReadable}

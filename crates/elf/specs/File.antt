@@ -1,13 +1,13 @@
 -- An ELF64 file, as ticket 2 reads it: its section headers, their names, and the sections that are wanted (31).
 -- Assumes nothing.
-use mathlib.Core.Bool.{Bool, true, false, not, _&&_, _||_}
+use mathlib.Core.Bool.{Bool, true, false, not, _||_}
 use mathlib.Core.List.{List, [], _∷_, _++_}
 use Prim.Native.Nat.{ℕ, zero, suc, _+_, _*_}
 use lib.Dec.{eqb, leb, ltb}
 use lib.ListN.{length, take, drop, getD}
 use Rattle.octets.specs.Octets.{part, numberAt}
 use Rattle.octets.specs.Lists.{all, any, those, same}
-use Rattle.octets.specs.Checked.{Check, pass, _>>=_, require}
+use Rattle.octets.specs.Checked.{Check, pass, require}
 use Rattle.numbers.specs.Names.{sectionNames}
 use Rattle.numbers.specs.Refusals.{notElf}
 

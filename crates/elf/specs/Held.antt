@@ -8,11 +8,11 @@ use lib.Dec.{eqb, leb, ltb}
 use lib.ListN.{length, getD}
 use Rattle.octets.specs.Octets.{part, numberAt, zeros, padded}
 use Rattle.octets.specs.Lists.{all, joined, sum, those}
-use Rattle.octets.specs.Checked.{Check, pass, refuse, _>>=_, require}
+use Rattle.octets.specs.Checked.{Check, pass, refuse, require}
 use Rattle.bundle.specs.Encoding.{Encoding}
 use Rattle.bundle.specs.Bundle.{filledUp}
 use Rattle.bundle.specs.Written.{Section, sectionBytes, written}
-use Rattle.unit.specs.Headers.{withAddress, addressOf}
+use Rattle.unit.specs.Headers.{withAddress}
 use Rattle.unit.specs.declared.header.AddressSize.{AddressSize}
 use Rattle.unit.specs.declared.header.AddressSize.the-variants as address
 use Rattle.numbers.specs.Refusals.{notElf, unreadableSection, sectionTooLong}

@@ -6,7 +6,7 @@ use mathlib.Core.List.{List, [], _∷_, map}
 use Prim.Native.Nat.{ℕ}
 use Rattle.octets.specs.Octets.{part}
 use Rattle.octets.specs.Checked.{pass}
-use Rattle.bundle.specs.Bundle.{Part, Object, Bundle, bundleOf}
+use Rattle.bundle.specs.Bundle.{Object, Bundle, bundleOf}
 use Rattle.bundle.specs.Written.{Section}
 use Rattle.elf.specs.File.{File, elfOf}
 use Rattle.elf.specs.Reader.{sectionsRead}

@@ -1,13 +1,12 @@
--- An entry of the table of section names, as the definition has it; no name is longer than 22 bytes.
+-- An entry of the table of section names, as the definition has it, and the name that a row holds.
 -- Assumes nothing.
 use mathlib.Core.Path.{_≡_, refl, ap}
-use mathlib.Core.List.{List, [], _∷_, _++_, map}
+use mathlib.Core.List.{List, [], _∷_, map}
 use Prim.Native.Nat.{ℕ, zero, suc, _-_, _≤_, _<_}
 use native.Mathlib.Nat.{not-suc-le-zero, le-of-suc-le-suc}
 use native.Mathlib.Omega.{arith}
 use lib.ListN.{length, take, getD, replicate, length-append}
 use lib.Seq.{take-at}
-use Rattle.numbers.specs.Names.{dwoWords, indexWords, namePrefix, nameSuffix, dwoName, indexName, sectionNames, sectionName}
 use Rattle.numbers.specs.NameRows.{nameRow}
 use Rattle.numbers.specs.declared.names.Name.{Name}
 
@@ -29,18 +28,3 @@ module _ (r : Name) (name : List ℕ) (e : r ≡ nameRow name) where
   pub held-name : take (r .length) (r .bytes) ≡ name
   unfolding nameRow
   held-name = rw e (take-at name (replicate (22 - length name) 0) (length name) refl)
-
--- ---- no name is longer
--- each of the lists has at most 22 bytes
-abbrev Short : List (List ℕ) → Type 0
-Short [] = Unit {0}
-Short (n ∷ ns) = (length n ≤ 22) × Short ns
-
-short-at : (names : List (List ℕ)) (i : ℕ) → Short names → length (getD names i []) ≤ 22
-short-at [] i h = omega arith
-short-at (n ∷ ns) zero h = h .0
-short-at (n ∷ ns) (suc i) h = short-at ns i (h .1)
-
-pub name-short : (code : ℕ) → length (sectionName code) ≤ 22
-unfolding dwoWords indexWords namePrefix nameSuffix dwoName indexName sectionNames sectionName
-name-short code = short-at sectionNames code (omega arith)

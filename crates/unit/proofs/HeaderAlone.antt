@@ -1,9 +1,9 @@
 -- The header of a unit in info, judged with the address size that it states.
 -- Assumes nothing.
 use mathlib.Core.Path.{_≡_, refl, sym, ap, _∙_}
-use mathlib.Core.Bool.{Bool, true, false, not, _&&_}
+use mathlib.Core.Bool.{Bool, true, false, _&&_}
 use mathlib.Core.List.{List, []}
-use Prim.Native.Nat.{ℕ, _+_, _≤_, _<_}
+use Prim.Native.Nat.{ℕ, _≤_, _<_}
 use native.Mathlib.Omega.{arith}
 use native.Mathlib.Decide.{ℕ-discrete}
 use lib.Dec.{eqb, leb}
@@ -11,15 +11,14 @@ use lib.ListN.{length, take, getD}
 use lib.Seq.{getD-take, length-take-le}
 use borrow.Author.Tests.{eq-eqb, eqb-true, le-leb, lt-leb, leb-true}
 use Rattle.octets.specs.Octets.{numberAt}
-use Rattle.octets.specs.Checked.{Check, pass, refuse, _>>=_}
+use Rattle.octets.specs.Checked.{Check, pass, refuse}
 use Rattle.octets.proofs.Checks.{true-false, and-left, and-right}
 use Rattle.octets.proofs.Refusals.{Only, only-pass, only-refuse, only-bind}
 use Rattle.bundle.specs.Encoding.{Encoding}
-use Rattle.unit.specs.UnitRead.{Identity, UnitRead, lengthField, unitSize, isFive, addressPlace, commonSize, unitOf, notEleven, headerPasses}
+use Rattle.unit.specs.UnitRead.{Identity, lengthField, unitSize, isFive, addressPlace, commonSize, unitOf, notEleven, headerPasses}
 use Rattle.unit.specs.Headers.{unitInside, commonGood, fieldsGood, kindOf, headerSize, identityBy, withAddress, statedAddress, addressOf}
 use Rattle.unit.specs.declared.header.Kind.{Kind}
 use Rattle.unit.specs.declared.header.Kind.the-variants.{Compilation, Signature, Root, Other}
-use Rattle.unit.specs.declared.header.AddressSize.{AddressSize}
 use Rattle.unit.specs.declared.header.AddressSize.the-variants.{Is as Stated, Refused as Unstated}
 use Rattle.unit.proofs.Rooted.{only-rootIdentity}
 use Rattle.unit.proofs.Fields.{place-lt, common-address}

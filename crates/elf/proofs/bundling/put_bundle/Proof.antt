@@ -1,46 +1,27 @@
 -- `elf::bundling::put_bundle` meets its contract.
 -- Assumes nothing.
-use mathlib.Core.Path.{_≡_, refl, sym, ap, ap₂, _∙_}
-use mathlib.Core.Bool.{Bool, true, false, not, _&&_, _||_}
-use mathlib.Core.List.{List, [], _∷_, _++_, map}
-use Prim.Native.Nat.{ℕ, _+_, _*_, _-_, _≤_, _<_}
-use native.Mathlib.Omega.{arith}
-use lib.Dec.{eqb, leb, ltb}
-use lib.ListN.{length, take, drop, getD}
 use denote.Ref.{now}
 use Rattle.elf.specs.Held.{allSections}
 use Rattle.elf.proofs.Putting.{bundle-put}
 use borrow.Author.Needs.{needs}
 use Rattle.elf.proofs.bundling.put_bundle.Statement.{statement}
 use Rattle.elf.proofs.bundling.put_bundle.Tie as tie
-use Rattle.elf.proofs.bundling.put_bundle.Reads as reads
-use Rattle.elf.proofs.bundling.put_bundle.Lts as lts
-use Rattle.bundle.proofs.put_end.Reads as put-end-reads
-use Rattle.bundle.proofs.put_head.Reads as put-head-reads
-use Rattle.bundle.proofs.put_object.Reads as put-object-reads
-use Rattle.elf.proofs.bundling.put_sections.Reads as put-sections-reads
 
--- src/bundling.rt:102:5
 put-head-requires : tie.Need-put-head-requires
 put-head-requires c κs = search needs
 
--- src/bundling.rt:103:5
 put-object-requires : tie.Need-put-object-requires
 put-object-requires c κs = search needs
 
--- src/bundling.rt:104:9
 put-sections-requires : tie.Need-put-sections-requires
 put-sections-requires c κs = search needs
 
--- src/bundling.rt:105:5
 put-end-requires : tie.Need-put-end-requires
 put-end-requires c κs = search needs
 
--- src/bundling.rt:98:1
 same-length : tie.Need-same-length
 same-length c = search needs
 
--- src/bundling.rt:98:1
 returns : tie.Need-returns
 returns c =
     let a = c .before .before .before .before .before .before .before .before .before .before .before .before .before .before .before .before .before .before .args in

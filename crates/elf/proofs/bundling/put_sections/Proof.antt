@@ -1,12 +1,10 @@
 -- `elf::bundling::put_sections` meets its contract.
 -- Assumes nothing.
-use mathlib.Core.Path.{_≡_, refl, sym, ap, ap₂, _∙_}
-use mathlib.Core.Bool.{Bool, true, false, not, _&&_, _||_}
-use mathlib.Core.List.{List, [], _∷_, _++_, map}
-use Prim.Native.Nat.{ℕ, _+_, _*_, _-_, _≤_, _<_}
+use mathlib.Core.Path.{_≡_, ap, _∙_}
+use mathlib.Core.List.{List}
+use Prim.Native.Nat.{_+_, _-_, _≤_}
 use native.Mathlib.Omega.{arith}
-use lib.Dec.{eqb, leb, ltb}
-use lib.ListN.{length, take, drop, getD}
+use lib.ListN.{take}
 use denote.Ref.{now}
 use mathlib.Core.Path.{subst}
 use Rattle.bundle.specs.Written.{Section}
@@ -16,9 +14,6 @@ use Rattle.elf.proofs.Putting.{appended-none}
 use Rattle.elf.proofs.Opened.{turn-fits, turn-place, turn-appended, whole}
 use Rattle.elf.proofs.bundling.put_sections.Statement.{statement}
 use Rattle.elf.proofs.bundling.put_sections.Tie as tie
-use Rattle.elf.proofs.bundling.put_sections.Reads as reads
-use Rattle.elf.proofs.bundling.put_sections.Lts as lts
-use Rattle.elf.proofs.bundling.put_wanted.Reads as put-wanted-reads
 
 abbrev Inv-loop : tie.InvT-loop
 Inv-loop f e out₀ from at₀ i₀ out at i = (i ≤ e .count) × (at ≡ from + roomSum (sectionsIn f (fileIs f e .names) (take i (fileIs f e .headers)))) × Appended (sectionsIn f (fileIs f e .names) (take i (fileIs f e .headers))) from out₀ out
@@ -26,29 +21,24 @@ Inv-loop f e out₀ from at₀ i₀ out at i = (i ≤ e .count) × (at ≡ from 
 abbrev μ-loop : tie.MeasureT-loop
 μ-loop f e out₀ from at₀ i₀ out at i = e .count - i
 
--- src/bundling.rt:90:5
 loop-holds : tie.Need-loop-holds Inv-loop μ-loop
 loop-holds c =
     let a = c .before .before .args in
     let none = sections-none (now (a .f)) (fileIs (now (a .f)) (a .e) .names) in
     (omega arith, omega (arith, ap roomSum none, room-none), appended-none _ (a .from) (now (a .out)) none)
 
--- src/bundling.rt:91:9
 put-wanted-requires : tie.Need-put-wanted-requires Inv-loop μ-loop
 put-wanted-requires c κs =
     let a = c .before .before .before .before .before .before .args in
     let l = c .before .before .before in
     (c .before .before .before .before .before .before .pre .0, c .before .before .before .before .before .before .pre .1, c .before .if1 .taken, turn-fits (now (a .f)) (a .e) (l .loop .i) (a .from) (l .loop .at) (c .before .if1 .taken) (l .loop .inv .1) (now (a .out)) (l .loop .out) (c .before .before .before .before .before .before .pre .2) (l .loop .inv .2 .same))
 
--- src/bundling.rt:92:9
 add-i : tie.Need-add-i Inv-loop μ-loop
 add-i c = omega arith
 
--- src/bundling.rt:90:5
 loop-less : tie.Need-loop-less Inv-loop μ-loop
 loop-less c = omega arith
 
--- src/bundling.rt:90:5
 loop-again : tie.Need-loop-again Inv-loop μ-loop
 loop-again c =
     let a = c .before .before .before .before .before .before .before .before .before .args in
@@ -60,11 +50,9 @@ loop-again c =
       turn-appended (now (a .f)) (a .e) i (a .from) (l .loop .at) (c .before .before .before .before .if1 .taken) (l .loop .inv .1) (now (a .out)) (l .loop .out) _ (l .loop .inv .2) (p .ensures .1),
     )
 
--- src/bundling.rt:83:1
 same-length : tie.Need-same-length Inv-loop μ-loop
 same-length c = c .before .before .loop .inv .2 .same
 
--- src/bundling.rt:83:1
 returns : tie.Need-returns Inv-loop μ-loop
 returns c =
     let a = c .before .before .before .before .before .args in

@@ -1,12 +1,10 @@
 -- `elf::bundling::put_wanted` meets its contract.
 -- Assumes nothing.
-use mathlib.Core.Path.{_≡_, refl, sym, ap, ap₂, _∙_}
-use mathlib.Core.Bool.{Bool, true, false, not, _&&_, _||_}
-use mathlib.Core.List.{List, [], _∷_, _++_, map}
-use Prim.Native.Nat.{ℕ, _+_, _*_, _-_, _≤_, _<_}
+use mathlib.Core.Path.{_≡_, sym, ap, ap₂, _∙_}
+use mathlib.Core.List.{List, _++_}
+use Prim.Native.Nat.{ℕ, _+_, _*_}
 use native.Mathlib.Omega.{arith}
-use lib.Dec.{eqb, leb, ltb}
-use lib.ListN.{length, take, drop, getD}
+use lib.ListN.{length}
 use denote.Ref.{now}
 use Rattle.octets.specs.Octets.{placed}
 use Rattle.bundle.specs.Bundle.{filledUp}
@@ -20,54 +18,37 @@ use Rattle.elf.proofs.Opened.{stored-wanted, slice-is, sections-empty, 
 use borrow.Author.Needs.{needs}
 use Rattle.elf.proofs.bundling.put_wanted.Statement.{statement}
 use Rattle.elf.proofs.bundling.put_wanted.Tie as tie
-use Rattle.elf.proofs.bundling.put_wanted.Reads as reads
-use Rattle.elf.proofs.bundling.put_wanted.Lts as lts
-use Rattle.bundle.proofs.put_section.Reads as put-section-reads
-use Rattle.elf.proofs.file.header_of.Reads as header-of-reads
-use Rattle.elf.proofs.file.stored.Reads as stored-reads
-use Rattle.elf.proofs.naming.code_of.Reads as code-of-reads
-use Rattle.octets.proofs.narrow.Reads as narrow-reads
 
--- src/bundling.rt:71:9
 header-of-requires : tie.Need-header-of-requires
 header-of-requires c κs = search needs
 
--- src/bundling.rt:72:9
 code-of-requires : tie.Need-code-of-requires
 code-of-requires c κs = search needs
 
--- src/bundling.rt:74:9
 returns : tie.Need-returns
 returns c =
     let a = c .before .before .before .before .before .args in
     let none = sections-empty (now (a .f)) (a .e) (a .i) (c .before .before .before .before .before .pre .2) (headerIs (c .before .before .header-of .result)) (c .before .before .header-of .ensures) (sym (c .before .code-of .ensures) ∙ c .if1 .taken) in
     (omega (arith, ap roomSum none, room-none), appended-none (headerSections (now (a .f)) (a .e) (a .i)) (a .at) (now (a .out)) none)
 
--- src/bundling.rt:76:9
 stored-requires : tie.Need-stored-requires
 stored-requires c κs = let a = c .before .before .before .before .before .args in stored-wanted (now (a .f)) (a .e) (a .i) (c .before .before .before .before .before .pre .2) (headerIs (c .before .before .header-of .result)) (c .before .before .header-of .ensures) (c .before .before .before .before .before .pre .1) (λ z. c .if1 .left (c .before .code-of .ensures ∙ z))
 
--- src/bundling.rt:78:15
 add-end : tie.Need-add-end
 add-end c = search needs
 
--- src/bundling.rt:79:25
 narrow-requires : tie.Need-narrow-requires
 narrow-requires c κs = let a = c .before .before .before .before .before .before .before .args in omega (arith, c .before .before .before .code-of .ensures, code-most (fileIs (now (a .f)) (a .e) .names) (headerIs (c .before .before .before .before .header-of .result)))
 
--- src/bundling.rt:79:47
 sub-put-section : tie.Need-sub-put-section
 sub-put-section c = search needs
 
--- src/bundling.rt:79:47
 part-put-section-start : tie.Need-part-put-section-start
 part-put-section-start c = search needs
 
--- src/bundling.rt:79:47
 part-put-section-end : tie.Need-part-put-section-end
 part-put-section-end c = search needs
 
--- src/bundling.rt:79:5
 put-section-requires : tie.Need-put-section-requires
 put-section-requires c κs =
     let a = c .before .before .before .before .before .before .before .before .before .before .args in
@@ -80,11 +61,9 @@ put-section-requires c κs =
       omega (arith, ap (λ (z : List ℕ). filledUp (length z)) s, section-room f (a .e) (a .i) (c .before .before .before .before .before .before .before .before .before .before .pre .2) h (c .before .before .before .before .before .before .before .header-of .ensures) code (a .at) (now (a .out)) (c .before .before .before .before .before .before .before .before .before .before .pre .3)),
     )
 
--- src/bundling.rt:66:1
 same-length : tie.Need-same-length
 same-length c = search needs
 
--- src/bundling.rt:66:1
 returns-2 : tie.Need-returns-2
 unfolding sectionOf
 returns-2 c =

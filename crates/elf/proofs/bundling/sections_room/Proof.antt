@@ -1,25 +1,19 @@
 -- `elf::bundling::sections_room` meets its contract.
 -- Assumes nothing.
-use mathlib.Core.Path.{_≡_, refl, sym, ap, ap₂, _∙_}
-use mathlib.Core.Bool.{Bool, true, false, not, _&&_, _||_}
-use mathlib.Core.List.{List, [], _∷_, _++_, map}
-use Prim.Native.Nat.{ℕ, _+_, _*_, _-_, _≤_, _<_}
+use mathlib.Core.Path.{_≡_, sym, ap, _∙_}
+use mathlib.Core.Bool.{true}
+use Prim.Native.Nat.{_*_, _-_, _≤_}
 use native.Mathlib.Omega.{arith}
-use lib.Dec.{eqb, leb, ltb}
-use lib.ListN.{length, take, drop, getD}
+use lib.ListN.{take}
 use denote.Ref.{now}
 use borrow.Author.Needs.{needs}
 use Rattle.octets.specs.Lists.{all}
-use Rattle.elf.specs.File.{noHeader}
 use Rattle.elf.specs.Held.{fileIs, sectionsIn, shortEnough, roomSum, headerSections, allSections}
-use Rattle.elf.specs.declared.bundling.Room.the-variants.{Is, TooLong}
+use Rattle.elf.specs.declared.bundling.Room.the-variants.{Is}
 use Rattle.elf.proofs.Rooms.{sections-none, room-none, room-good, room-bad, room-is, room-not, room-more, short-more, short-not}
 use Rattle.elf.proofs.Opened.{in-headers, room-bound, whole}
 use Rattle.elf.proofs.bundling.sections_room.Statement.{statement}
 use Rattle.elf.proofs.bundling.sections_room.Tie as tie
-use Rattle.elf.proofs.bundling.sections_room.Reads as reads
-use Rattle.elf.proofs.bundling.sections_room.Lts as lts
-use Rattle.elf.proofs.bundling.header_room.Reads as header-room-reads
 
 abbrev Inv-loop : tie.InvT-loop
 Inv-loop f e total₀ i₀ total i = (i ≤ e .count) × (all shortEnough (sectionsIn f (fileIs f e .names) (take i (fileIs f e .headers))) ≡ true) × (total ≡ roomSum (sectionsIn f (fileIs f e .names) (take i (fileIs f e .headers)))) × (total ≤ i * 8_388_615)
@@ -27,7 +21,6 @@ Inv-loop f e total₀ i₀ total i = (i ≤ e .count) × (all shortEnough (secti
 abbrev μ-loop : tie.MeasureT-loop
 μ-loop f e total₀ i₀ total i = e .count - i
 
--- src/bundling.rt:51:5
 loop-holds : tie.Need-loop-holds Inv-loop μ-loop
 unfolding all
 loop-holds c =
@@ -35,25 +28,20 @@ loop-holds c =
     let none = sections-none f (fileIs f (c .before .args .e) .names) in
     (omega arith, ap (all shortEnough) none, omega (arith, ap roomSum none, room-none), omega arith)
 
--- src/bundling.rt:52:15
 header-room-requires : tie.Need-header-room-requires Inv-loop μ-loop
 header-room-requires c κs = (c .before .before .before .before .pre .0, c .before .before .before .before .pre .1, c .if1 .taken)
 
--- src/bundling.rt:53:22
 enum-known-n : tie.Need-enum-known-n Inv-loop μ-loop
 enum-known-n c = search needs
 
--- src/bundling.rt:54:17
 add-total : tie.Need-add-total Inv-loop μ-loop
 add-total c =
     let a = c .before .before .before .before .before .before .before .before .args in
     omega (arith, room-bound (now (a .f)) (a .e) (c .before .before .before .before .before .before .loop .i) (c .before .n .given .0 .0) (sym (c .before .n .given .1) ∙ c .before .before .before .header-room .ensures), c .before .before .before .before .before .before .before .before .pre .0 .few, c .before .before .before .before .before .before .loop .inv .3, c .before .before .before .before .if1 .taken)
 
--- src/bundling.rt:57:17
 enum-told : tie.Need-enum-told Inv-loop μ-loop
 enum-told c = search needs
 
--- src/bundling.rt:57:17
 returns : tie.Need-returns Inv-loop μ-loop
 unfolding headerSections allSections
 returns c =
@@ -62,15 +50,12 @@ returns c =
     let e = fileIs f (a .e) in
     room-bad (allSections f (a .e)) (short-not f (e .names) (e .headers) (c .before .before .before .before .before .loop .i) (in-headers f (a .e) (c .before .before .before .before .before .loop .i) (c .before .before .before .if1 .taken)) (room-not (headerSections f (a .e) (c .before .before .before .before .before .loop .i)) (sym (c .enum-told .given .1) ∙ c .before .before .header-room .ensures)))
 
--- src/bundling.rt:60:9
 add-i : tie.Need-add-i Inv-loop μ-loop
 add-i c = omega arith
 
--- src/bundling.rt:51:5
 loop-less : tie.Need-loop-less Inv-loop μ-loop
 loop-less c = omega arith
 
--- src/bundling.rt:51:5
 loop-again : tie.Need-loop-again Inv-loop μ-loop
 unfolding headerSections
 loop-again c =
@@ -88,7 +73,6 @@ loop-again c =
       omega (arith, room-bound f (a .e) i (c .before .n .given .0 .0) told, l .loop .inv .3),
     )
 
--- src/bundling.rt:45:1
 returns-2 : tie.Need-returns-2 Inv-loop μ-loop
 returns-2 c =
     let a = c .before .before .before .before .args in

@@ -1,41 +1,27 @@
 -- `elf::file::is_inside` meets its contract.
 -- Assumes nothing.
-use mathlib.Core.Path.{_≡_, refl, sym, ap, ap₂, _∙_}
-use mathlib.Core.Bool.{Bool, true, false, not, _&&_, _||_}
-use mathlib.Core.List.{List, [], _∷_, _++_, map}
-use Prim.Native.Nat.{ℕ, _+_, _*_, _-_, _≤_, _<_}
-use native.Mathlib.Omega.{arith}
-use lib.Dec.{eqb, leb, ltb}
-use lib.ListN.{length, take, drop, getD}
 use denote.Ref.{now}
 use Rattle.elf.specs.Held.{headerIs}
 use Rattle.elf.proofs.Headers.{inside-unstored, inside-empty, inside-long, inside-tested}
 use borrow.Author.Needs.{needs}
 use Rattle.elf.proofs.file.is_inside.Statement.{statement}
 use Rattle.elf.proofs.file.is_inside.Tie as tie
-use Rattle.elf.proofs.file.is_inside.Reads as reads
-use Rattle.elf.proofs.file.is_inside.Lts as lts
 
--- src/file.rt:74:9
 returns : tie.Need-returns
 unfolding headerIs
 returns c = let a = c .before .before .args in inside-unstored (now (a .f)) (headerIs (a .h)) (c .if1 .taken)
 
--- src/file.rt:77:9
 returns-2 : tie.Need-returns-2
 unfolding headerIs
 returns-2 c = let a = c .before .before .before .before .args in inside-empty (now (a .f)) (headerIs (a .h)) (c .before .before .if1 .left) (c .if2 .taken)
 
--- src/file.rt:80:9
 returns-3 : tie.Need-returns-3
 unfolding headerIs
 returns-3 c = let a = c .before .before .before .before .before .before .args in inside-long (now (a .f)) (headerIs (a .h)) (c .before .before .before .before .if1 .left) (c .before .before .if2 .left) (c .if3 .taken)
 
--- src/file.rt:82:17
 sub-result : tie.Need-sub-result
 sub-result c = search needs
 
--- src/file.rt:70:1
 returns-4 : tie.Need-returns-4
 unfolding headerIs
 returns-4 c = let a = c .before .before .before .before .before .before .before .before .args in inside-tested (now (a .f)) (headerIs (a .h)) (c .before .before .before .before .before .before .if1 .left) (c .before .before .before .before .if2 .left) (c .before .before .if3 .left)

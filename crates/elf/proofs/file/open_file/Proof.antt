@@ -1,45 +1,29 @@
 -- `elf::file::open_file` meets its contract.
 -- Assumes nothing.
-use mathlib.Core.Path.{_≡_, refl, sym, ap, ap₂, _∙_}
-use mathlib.Core.Bool.{Bool, true, false, not, _&&_, _||_}
-use mathlib.Core.List.{List, [], _∷_, _++_, map}
-use Prim.Native.Nat.{ℕ, _+_, _*_, _-_, _≤_, _<_}
-use native.Mathlib.Omega.{arith}
-use lib.Dec.{eqb, leb, ltb}
-use lib.ListN.{length, take, drop, getD}
+use mathlib.Core.Path.{sym, _∙_}
 use denote.Ref.{now}
 use Rattle.elf.specs.Held.{fileCheck, laidIn}
 use Rattle.elf.proofs.Opening.{open-short, open-other, open-type}
 use borrow.Author.Needs.{needs}
 use Rattle.elf.proofs.file.open_file.Statement.{statement}
 use Rattle.elf.proofs.file.open_file.Tie as tie
-use Rattle.elf.proofs.file.open_file.Reads as reads
-use Rattle.elf.proofs.file.open_file.Lts as lts
-use Rattle.elf.proofs.file.ident_good.Reads as ident-good-reads
-use Rattle.elf.proofs.file.with_headers.Reads as with-headers-reads
 
--- src/file.rt:169:9
 returns : tie.Need-returns
 unfolding fileCheck laidIn
 returns c = (open-short (now (c .before .before .args .f)) (c .if1 .taken), tt)
 
--- src/file.rt:171:8
 ident-good-requires : tie.Need-ident-good-requires
 ident-good-requires c κs = search needs
 
--- src/file.rt:172:32
 shared-slice-read-with-headers : tie.Need-shared-slice-read-with-headers
 shared-slice-read-with-headers c = search needs
 
--- src/file.rt:172:9
 with-headers-requires : tie.Need-with-headers-requires
 with-headers-requires c κs = search needs
 
--- src/file.rt:172:9
 returns-2 : tie.Need-returns-2
 returns-2 c = (c .with-headers .ensures .0 ∙ open-type (now (c .before .before .before .before .before .before .args .f)) (c .before .before .before .before .if1 .left) (sym (c .before .before .before .ident-good .ensures) ∙ c .before .before .if2 .taken), c .with-headers .ensures .1)
 
--- src/file.rt:164:1
 returns-3 : tie.Need-returns-3
 unfolding fileCheck laidIn
 returns-3 c = (open-other (now (c .before .before .before .before .args .f)) (c .before .before .if1 .left) (sym (c .before .ident-good .ensures) ∙ c .if2 .left), tt)

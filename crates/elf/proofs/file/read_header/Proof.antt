@@ -1,86 +1,57 @@
 -- `elf::file::read_header` meets its contract.
 -- Assumes nothing.
-use mathlib.Core.Path.{_≡_, refl, sym, ap, ap₂, _∙_}
-use mathlib.Core.Bool.{Bool, true, false, not, _&&_, _||_}
-use mathlib.Core.List.{List, [], _∷_, _++_, map}
-use Prim.Native.Nat.{ℕ, _+_, _*_, _-_, _≤_, _<_}
-use native.Mathlib.Omega.{arith}
-use lib.Dec.{eqb, leb, ltb}
-use lib.ListN.{length, take, drop, getD}
-use denote.Ref.{now}
+use mathlib.Core.Path.{_∙_}
 use Rattle.elf.specs.File.{headerAt}
 use Rattle.elf.specs.Held.{headerIs}
 use borrow.Author.Needs.{needs}
 use Rattle.elf.proofs.file.read_header.Statement.{statement}
 use Rattle.elf.proofs.file.read_header.Tie as tie
-use Rattle.elf.proofs.file.read_header.Reads as reads
-use Rattle.elf.proofs.file.read_header.Lts as lts
-use Rattle.octets.proofs.size.Reads as size-reads
-use Rattle.octets.proofs.u32_at.Reads as u32-at-reads
-use Rattle.octets.proofs.u64_at.Reads as u64-at-reads
-use Rattle.octets.proofs.wide.Reads as wide-reads
 
--- src/file.rt:52:29
 u32-at-requires : tie.Need-u32-at-requires
 u32-at-requires c κs = search needs
 
--- src/file.rt:52:9
 wide-requires : tie.Need-wide-requires
 wide-requires c κs = search needs
 
--- src/file.rt:53:39
 add-u32-at : tie.Need-add-u32-at
 add-u32-at c = search needs
 
--- src/file.rt:53:9
 u32-at-requires-2 : tie.Need-u32-at-requires-2
 u32-at-requires-2 c κs = search needs
 
--- src/file.rt:54:40
 add-u64-at : tie.Need-add-u64-at
 add-u64-at c = search needs
 
--- src/file.rt:54:9
 u64-at-requires : tie.Need-u64-at-requires
 u64-at-requires c κs = search needs
 
--- src/file.rt:55:54
 add-u64-at-2 : tie.Need-add-u64-at-2
 add-u64-at-2 c = search needs
 
--- src/file.rt:55:31
 u64-at-requires-2 : tie.Need-u64-at-requires-2
 u64-at-requires-2 c κs = search needs
 
--- src/file.rt:55:9
 size-requires : tie.Need-size-requires
 size-requires c κs = search needs
 
--- src/file.rt:56:52
 add-u64-at-3 : tie.Need-add-u64-at-3
 add-u64-at-3 c = search needs
 
--- src/file.rt:56:29
 u64-at-requires-3 : tie.Need-u64-at-requires-3
 u64-at-requires-3 c κs = search needs
 
--- src/file.rt:56:9
 size-requires-2 : tie.Need-size-requires-2
 size-requires-2 c κs = search needs
 
--- src/file.rt:57:52
 add-u32-at-2 : tie.Need-add-u32-at-2
 add-u32-at-2 c = search needs
 
--- src/file.rt:57:29
 u32-at-requires-3 : tie.Need-u32-at-requires-3
 u32-at-requires-3 c κs = search needs
 
--- src/file.rt:57:9
 wide-requires-2 : tie.Need-wide-requires-2
 wide-requires-2 c κs = search needs
 
--- src/file.rt:48:1
 returns : tie.Need-returns
 unfolding headerIs headerAt
 returns c =

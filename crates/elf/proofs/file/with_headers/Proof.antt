@@ -1,67 +1,43 @@
 -- `elf::file::with_headers` meets its contract.
 -- Assumes nothing.
-use mathlib.Core.Path.{_≡_, refl, sym, ap, ap₂, _∙_}
-use mathlib.Core.Bool.{Bool, true, false, not, _&&_, _||_}
-use mathlib.Core.List.{List, [], _∷_, _++_, map}
-use Prim.Native.Nat.{ℕ, _+_, _*_, _-_, _≤_, _<_}
+use mathlib.Core.Path.{sym, ap, _∙_}
 use native.Mathlib.Omega.{arith}
-use lib.Dec.{eqb, leb, ltb}
-use lib.ListN.{length, take, drop, getD}
 use denote.Ref.{now}
-use Rattle.octets.specs.Octets.{numberAt}
-use Rattle.elf.specs.File.{headerAt}
-use Rattle.elf.specs.Held.{headerIs, fileCheck, laidIn, withNames}
+use Rattle.elf.specs.Held.{fileCheck, laidIn, withNames}
 use Rattle.elf.proofs.Opening.{type-other, size-other, headers-outside, table-outside, table-there}
 use borrow.Author.Needs.{needs}
 use Rattle.elf.proofs.file.with_headers.Statement.{statement}
 use Rattle.elf.proofs.file.with_headers.Tie as tie
-use Rattle.elf.proofs.file.with_headers.Reads as reads
-use Rattle.elf.proofs.file.with_headers.Lts as lts
-use Rattle.elf.proofs.file.read_header.Reads as read-header-reads
-use Rattle.elf.proofs.file.with_names.Reads as with-names-reads
-use Rattle.octets.proofs.size.Reads as size-reads
-use Rattle.octets.proofs.u16_at.Reads as u16-at-reads
-use Rattle.octets.proofs.u64_at.Reads as u64-at-reads
 
--- src/file.rt:141:8
 u16-at-requires : tie.Need-u16-at-requires
 u16-at-requires c κs = search needs
 
--- src/file.rt:142:9
 returns : tie.Need-returns
 unfolding fileCheck laidIn
 returns c = let a = c .before .before .before .args in (type-other (now (a .f)) (a .big) (λ z. c .if1 .taken (c .before .u16-at .ensures ∙ z)), tt)
 
--- src/file.rt:144:8
 u16-at-requires-2 : tie.Need-u16-at-requires-2
 u16-at-requires-2 c κs = search needs
 
--- src/file.rt:145:9
 returns-2 : tie.Need-returns-2
 unfolding fileCheck laidIn
 returns-2 c = let a = c .before .before .before .before .before .args in (size-other (now (a .f)) (a .big) (sym (c .before .before .before .u16-at .ensures) ∙ c .before .before .if1 .left) (λ z. c .if2 .taken (c .before .u16-at2 .ensures ∙ z)), tt)
 
--- src/file.rt:147:27
 u64-at-requires : tie.Need-u64-at-requires
 u64-at-requires c κs = search needs
 
--- src/file.rt:147:9
 size-requires : tie.Need-size-requires
 size-requires c κs = search needs
 
--- src/file.rt:148:17
 u16-at-requires-3 : tie.Need-u16-at-requires-3
 u16-at-requires-3 c κs = search needs
 
--- src/file.rt:148:17
 cast-count : tie.Need-cast-count
 cast-count c = search needs
 
--- src/file.rt:149:18
 mul-if3 : tie.Need-mul-if3
 mul-if3 c = search needs
 
--- src/file.rt:150:9
 returns-3 : tie.Need-returns-3
 unfolding fileCheck laidIn
 returns-3 c =
@@ -71,15 +47,12 @@ returns-3 c =
       tt,
     )
 
--- src/file.rt:152:18
 mul-if4 : tie.Need-mul-if4
 mul-if4 c = search needs
 
--- src/file.rt:152:8
 sub-if4 : tie.Need-sub-if4
 sub-if4 c = search needs
 
--- src/file.rt:153:9
 returns-4 : tie.Need-returns-4
 unfolding fileCheck laidIn
 returns-4 c =
@@ -89,15 +62,12 @@ returns-4 c =
       tt,
     )
 
--- src/file.rt:155:17
 u16-at-requires-4 : tie.Need-u16-at-requires-4
 u16-at-requires-4 c κs = search needs
 
--- src/file.rt:155:17
 cast-table : tie.Need-cast-table
 cast-table c = search needs
 
--- src/file.rt:157:9
 returns-5 : tie.Need-returns-5
 unfolding fileCheck laidIn
 returns-5 c =
@@ -107,23 +77,18 @@ returns-5 c =
       tt,
     )
 
--- src/file.rt:159:45
 mul-read-header : tie.Need-mul-read-header
 mul-read-header c = search needs
 
--- src/file.rt:159:40
 add-read-header : tie.Need-add-read-header
 add-read-header c = search needs
 
--- src/file.rt:159:9
 read-header-requires : tie.Need-read-header-requires
 read-header-requires c κs = search needs
 
--- src/file.rt:160:5
 with-names-requires : tie.Need-with-names-requires
 with-names-requires c κs = search needs
 
--- src/file.rt:136:1
 returns-6 : tie.Need-returns-6
 unfolding fileCheck
 returns-6 c =

@@ -1,34 +1,23 @@
 -- `elf::file::with_names` meets its contract.
 -- Assumes nothing.
-use mathlib.Core.Path.{_≡_, refl, sym, ap, ap₂, _∙_}
-use mathlib.Core.Bool.{Bool, true, false, not, _&&_, _||_}
-use mathlib.Core.List.{List, [], _∷_, _++_, map}
-use Prim.Native.Nat.{ℕ, _+_, _*_, _-_, _≤_, _<_}
-use native.Mathlib.Omega.{arith}
-use lib.Dec.{eqb, leb, ltb}
-use lib.ListN.{length, take, drop, getD}
+use mathlib.Core.Path.{sym, ap, _∙_}
+use mathlib.Core.List.{List}
+use Prim.Native.Nat.{ℕ}
 use denote.Ref.{now}
 use Rattle.octets.specs.Checked.{pass}
-use Rattle.elf.specs.File.{File, headersAt}
-use Rattle.elf.specs.Held.{headerIs, fileIs, fileCheck, laidIn, bytesIn}
+use Rattle.elf.specs.File.{headersAt}
+use Rattle.elf.specs.Held.{headerIs, fileIs, fileCheck, laidIn}
 use Rattle.elf.proofs.Opening.{names-outside, names-there}
 use borrow.Author.Needs.{needs}
 use Rattle.elf.proofs.file.with_names.Statement.{statement}
 use Rattle.elf.proofs.file.with_names.Tie as tie
-use Rattle.elf.proofs.file.with_names.Reads as reads
-use Rattle.elf.proofs.file.with_names.Lts as lts
-use Rattle.elf.proofs.file.is_inside.Reads as is-inside-reads
-use Rattle.elf.proofs.file.stored.Reads as stored-reads
 
--- src/file.rt:123:8
 is-inside-requires : tie.Need-is-inside-requires
 is-inside-requires c κs = search needs
 
--- src/file.rt:124:13
 stored-requires : tie.Need-stored-requires
 stored-requires c κs = sym (c .before .is-inside .ensures) ∙ c .if1 .taken
 
--- src/file.rt:125:9
 returns : tie.Need-returns
 unfolding fileCheck fileIs laidIn
 returns c =
@@ -39,7 +28,6 @@ returns c =
       record { headers = c .before .before .before .before .pre .0; few = c .before .before .before .before .pre .1; names = c .stored .ensures .lies },
     )
 
--- src/file.rt:118:1
 returns-2 : tie.Need-returns-2
 unfolding fileCheck laidIn
 returns-2 c =

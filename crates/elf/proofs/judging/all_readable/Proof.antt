@@ -1,12 +1,9 @@
 -- `elf::judging::all_readable` meets its contract.
 -- Assumes nothing.
-use mathlib.Core.Path.{_≡_, refl, sym, ap, ap₂, _∙_}
-use mathlib.Core.Bool.{Bool, true, false, not, _&&_, _||_}
-use mathlib.Core.List.{List, [], _∷_, _++_, map}
-use Prim.Native.Nat.{ℕ, _+_, _*_, _-_, _≤_, _<_}
+use mathlib.Core.Path.{_≡_, refl, sym, _∙_}
+use Prim.Native.Nat.{_-_, _≤_}
 use native.Mathlib.Omega.{arith}
-use lib.Dec.{eqb, leb, ltb}
-use lib.ListN.{length, take, drop, getD}
+use lib.ListN.{drop}
 use denote.Ref.{now}
 use borrow.Author.Tests.{not-true, not-false}
 use Rattle.octets.specs.Lists.{all}
@@ -16,9 +13,6 @@ use Rattle.elf.specs.Held.{fileIs, headerReadable}
 use Rattle.elf.proofs.Opened.{in-headers, past-headers, readable-file}
 use Rattle.elf.proofs.judging.all_readable.Statement.{statement}
 use Rattle.elf.proofs.judging.all_readable.Tie as tie
-use Rattle.elf.proofs.judging.all_readable.Reads as reads
-use Rattle.elf.proofs.judging.all_readable.Lts as lts
-use Rattle.elf.proofs.judging.header_readable.Reads as header-readable-reads
 
 abbrev Inv-loop : tie.InvT-loop
 Inv-loop f e i₀ i = (i ≤ e .count) × (all (headerReadable (fileIs f e)) (drop i (fileIs f e .headers)) ≡ all (headerReadable (fileIs f e)) (fileIs f e .headers))
@@ -26,15 +20,12 @@ Inv-loop f e i₀ i = (i ≤ e .count) × (all (headerReadable (fileIs f e)) (dr
 abbrev μ-loop : tie.MeasureT-loop
 μ-loop f e i₀ i = e .count - i
 
--- src/judging.rt:132:5
 loop-holds : tie.Need-loop-holds Inv-loop μ-loop
 loop-holds c = (omega arith, refl)
 
--- src/judging.rt:133:13
 header-readable-requires : tie.Need-header-readable-requires Inv-loop μ-loop
 header-readable-requires c κs = (c .before .before .before .before .pre, c .if1 .taken)
 
--- src/judging.rt:134:13
 returns : tie.Need-returns Inv-loop μ-loop
 returns c =
     let l = c .before .before .before .before in
@@ -44,15 +35,12 @@ returns c =
     sym (all-turn-stops (headerReadable e) noHeader (e .headers) (l .loop .i) (in-headers f (a .e) (l .loop .i) (c .before .before .if1 .taken)) (sym (c .before .header-readable .ensures) ∙ not-true _ (c .if2 .taken)))
     ∙ l .loop .inv .1 ∙ readable-file f (a .e)
 
--- src/judging.rt:136:9
 add-i : tie.Need-add-i Inv-loop μ-loop
 add-i c = omega arith
 
--- src/judging.rt:132:5
 loop-less : tie.Need-loop-less Inv-loop μ-loop
 loop-less c = omega arith
 
--- src/judging.rt:132:5
 loop-again : tie.Need-loop-again Inv-loop μ-loop
 loop-again c =
     let l = c .before .before .before .before in
@@ -61,7 +49,6 @@ loop-again c =
     let e = fileIs f (a .e) in
     (omega arith, sym (all-turn (headerReadable e) noHeader (e .headers) (l .loop .i) (in-headers f (a .e) (l .loop .i) (c .before .before .if1 .taken)) (sym (c .before .header-readable .ensures) ∙ not-false _ (c .if2 .left))) ∙ l .loop .inv .1)
 
--- src/judging.rt:127:1
 returns-2 : tie.Need-returns-2 Inv-loop μ-loop
 returns-2 c =
     let l = c .before .before in

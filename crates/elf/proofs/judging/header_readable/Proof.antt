@@ -1,44 +1,28 @@
 -- `elf::judging::header_readable` meets its contract.
 -- Assumes nothing.
-use mathlib.Core.Path.{_≡_, refl, sym, ap, ap₂, _∙_}
-use mathlib.Core.Bool.{Bool, true, false, not, _&&_, _||_}
-use mathlib.Core.List.{List, [], _∷_, _++_, map}
-use Prim.Native.Nat.{ℕ, _+_, _*_, _-_, _≤_, _<_}
-use native.Mathlib.Omega.{arith}
-use lib.Dec.{eqb, leb, ltb}
-use lib.ListN.{length, take, drop, getD}
+use mathlib.Core.Path.{sym, ap, _∙_}
 use denote.Ref.{now}
 use Rattle.elf.specs.Held.{headerIs, fileIs, headerReadable}
 use Rattle.elf.proofs.Targets.{readable-aimed, readable-unwanted, readable-unstored, readable-stored}
 use borrow.Author.Needs.{needs}
 use Rattle.elf.proofs.judging.header_readable.Statement.{statement}
 use Rattle.elf.proofs.judging.header_readable.Tie as tie
-use Rattle.elf.proofs.judging.header_readable.Reads as reads
-use Rattle.elf.proofs.judging.header_readable.Lts as lts
-use Rattle.elf.proofs.file.header_of.Reads as header-of-reads
-use Rattle.elf.proofs.judging.relocates_wanted.Reads as relocates-wanted-reads
-use Rattle.elf.proofs.naming.code_of.Reads as code-of-reads
 
--- src/judging.rt:113:9
 header-of-requires : tie.Need-header-of-requires
 header-of-requires c κs = search needs
 
--- src/judging.rt:114:8
 relocates-wanted-requires : tie.Need-relocates-wanted-requires
 relocates-wanted-requires c κs = search needs
 
--- src/judging.rt:115:9
 returns : tie.Need-returns
 returns c =
     let a = c .before .before .before .before .args in
     let e = fileIs (now (a .f)) (a .e) in
     readable-aimed e (headerIs (c .before .before .header-of .result)) (sym (c .before .relocates-wanted .ensures) ∙ c .if1 .taken) ∙ ap (headerReadable e) (c .before .before .header-of .ensures)
 
--- src/judging.rt:117:8
 code-of-requires : tie.Need-code-of-requires
 code-of-requires c κs = search needs
 
--- src/judging.rt:118:9
 returns-2 : tie.Need-returns-2
 returns-2 c =
     let a = c .before .before .before .before .before .before .args in
@@ -46,7 +30,6 @@ returns-2 c =
     readable-unwanted e (headerIs (c .before .before .before .before .header-of .result)) (sym (c .before .before .before .relocates-wanted .ensures) ∙ c .before .before .if1 .left) (sym (c .before .code-of .ensures) ∙ c .if2 .taken)
     ∙ ap (headerReadable e) (c .before .before .before .before .header-of .ensures)
 
--- src/judging.rt:121:9
 returns-3 : tie.Need-returns-3
 unfolding headerIs
 returns-3 c =
@@ -55,7 +38,6 @@ returns-3 c =
     readable-unstored e (headerIs (c .before .before .before .before .before .before .header-of .result)) (sym (c .before .before .before .before .before .relocates-wanted .ensures) ∙ c .before .before .before .before .if1 .left) (λ z. c .before .before .if2 .left (c .before .before .before .code-of .ensures ∙ z)) (c .if3 .taken)
     ∙ ap (headerReadable e) (c .before .before .before .before .before .before .header-of .ensures)
 
--- src/judging.rt:109:1
 returns-4 : tie.Need-returns-4
 unfolding headerIs
 returns-4 c =

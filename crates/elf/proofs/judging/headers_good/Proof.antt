@@ -1,12 +1,11 @@
 -- `elf::judging::headers_good` meets its contract.
 -- Assumes nothing.
-use mathlib.Core.Path.{_≡_, refl, sym, ap, ap₂, _∙_}
-use mathlib.Core.Bool.{Bool, true, false, not, _&&_, _||_}
-use mathlib.Core.List.{List, [], _∷_, _++_, map}
-use Prim.Native.Nat.{ℕ, _+_, _*_, _-_, _≤_, _<_}
+use mathlib.Core.Path.{_≡_, refl, sym, ap, _∙_}
+use mathlib.Core.List.{List}
+use Prim.Native.Nat.{ℕ, _-_, _≤_}
 use native.Mathlib.Omega.{arith}
-use lib.Dec.{eqb, leb, ltb}
-use lib.ListN.{length, take, drop, getD}
+use lib.Dec.{eqb}
+use lib.ListN.{drop}
 use denote.Ref.{now}
 use borrow.Author.Tests.{not-true, not-false}
 use Rattle.octets.specs.Lists.{all, any}
@@ -19,10 +18,6 @@ use Rattle.elf.proofs.Opened.{in-headers, past-headers}
 use borrow.Author.Needs.{needs}
 use Rattle.elf.proofs.judging.headers_good.Statement.{statement}
 use Rattle.elf.proofs.judging.headers_good.Tie as tie
-use Rattle.elf.proofs.judging.headers_good.Reads as reads
-use Rattle.elf.proofs.judging.headers_good.Lts as lts
-use Rattle.elf.proofs.judging.header_good.Reads as header-good-reads
-use Rattle.elf.proofs.naming.last_end.Reads as last-end-reads
 
 abbrev Inv-loop : tie.InvT-loop
 Inv-loop f e from end last i₀ i = (i ≤ e .count) × (all (headerGood f (fileIs f e .names)) (drop i (fileIs f e .headers)) ≡ all (headerGood f (fileIs f e .names)) (fileIs f e .headers))
@@ -30,31 +25,24 @@ Inv-loop f e from end last i₀ i = (i ≤ e .count) × (all (headerGood f (file
 abbrev μ-loop : tie.MeasureT-loop
 μ-loop f e from end last i₀ i = e .count - i
 
--- src/judging.rt:49:15
 add-end : tie.Need-add-end Inv-loop μ-loop
 add-end c = omega (arith, c .before .before .before .pre .names)
 
--- src/judging.rt:50:40
 sub-last-end : tie.Need-sub-last-end Inv-loop μ-loop
 sub-last-end c = omega (arith, c .before .before .before .pre .names)
 
--- src/judging.rt:50:40
 part-last-end-start : tie.Need-part-last-end-start Inv-loop μ-loop
 part-last-end-start c = omega (arith, c .before .before .before .pre .names)
 
--- src/judging.rt:50:40
 part-last-end-end : tie.Need-part-last-end-end Inv-loop μ-loop
 part-last-end-end c = omega (arith, c .before .before .before .pre .names)
 
--- src/judging.rt:50:9
 last-end-requires : tie.Need-last-end-requires Inv-loop μ-loop
 last-end-requires c κs = search needs
 
--- src/judging.rt:52:5
 loop-holds : tie.Need-loop-holds Inv-loop μ-loop
 loop-holds c = (omega arith, refl)
 
--- src/judging.rt:53:13
 header-good-requires : tie.Need-header-good-requires Inv-loop μ-loop
 unfolding fileIs bytesIn
 header-good-requires c κs =
@@ -62,7 +50,6 @@ header-good-requires c κs =
     let f = now (a .f) in
     (c .before .before .before .before .before .before .before .before .pre, c .if1 .taken, λ n. ap (λ (z : List ℕ). any (eqb 0) (drop n z)) (sym (part-cut f (a .e .names .start) (a .e .names .size))) ∙ c .before .before .before .last-end .ensures n)
 
--- src/judging.rt:54:13
 returns : tie.Need-returns Inv-loop μ-loop
 unfolding wantedOf
 returns c =
@@ -73,15 +60,12 @@ returns c =
     sym (all-turn-stops (headerGood f (e .names)) noHeader (e .headers) (l .loop .i) (in-headers f (a .e) (l .loop .i) (c .before .before .if1 .taken)) (sym (c .before .header-good .ensures) ∙ not-true _ (c .if2 .taken)))
     ∙ l .loop .inv .1 ∙ good-all f (e .names) (e .headers)
 
--- src/judging.rt:56:9
 add-i : tie.Need-add-i Inv-loop μ-loop
 add-i c = omega arith
 
--- src/judging.rt:52:5
 loop-less : tie.Need-loop-less Inv-loop μ-loop
 loop-less c = omega arith
 
--- src/judging.rt:52:5
 loop-again : tie.Need-loop-again Inv-loop μ-loop
 loop-again c =
     let l = c .before .before .before .before in
@@ -93,7 +77,6 @@ loop-again c =
           ∙ l .loop .inv .1,
     )
 
--- src/judging.rt:43:1
 returns-2 : tie.Need-returns-2 Inv-loop μ-loop
 unfolding wantedOf
 returns-2 c =

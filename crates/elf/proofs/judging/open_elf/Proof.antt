@@ -1,12 +1,6 @@
 -- `elf::judging::open_elf` meets its contract.
 -- Assumes nothing.
-use mathlib.Core.Path.{_≡_, refl, sym, ap, ap₂, _∙_}
-use mathlib.Core.Bool.{Bool, true, false, not, _&&_, _||_}
-use mathlib.Core.List.{List, [], _∷_, _++_, map}
-use Prim.Native.Nat.{ℕ, _+_, _*_, _-_, _≤_, _<_}
-use native.Mathlib.Omega.{arith}
-use lib.Dec.{eqb, leb, ltb}
-use lib.ListN.{length, take, drop, getD}
+use mathlib.Core.Path.{sym, ap, _∙_}
 use denote.Ref.{now}
 use mathlib.Core.Path.{subst}
 use Rattle.octets.specs.Lists.{all}
@@ -17,34 +11,24 @@ use Rattle.elf.proofs.Refusals.{elf-refused, elf-bad, elf-good}
 use borrow.Author.Needs.{needs}
 use Rattle.elf.proofs.judging.open_elf.Statement.{statement}
 use Rattle.elf.proofs.judging.open_elf.Tie as tie
-use Rattle.elf.proofs.judging.open_elf.Reads as reads
-use Rattle.elf.proofs.judging.open_elf.Lts as lts
-use Rattle.elf.proofs.file.open_file.Reads as open-file-reads
-use Rattle.elf.proofs.judging.headers_good.Reads as headers-good-reads
 
--- src/judging.rt:67:27
 open-file-requires : tie.Need-open-file-requires
 open-file-requires c κs = search needs
 
--- src/judging.rt:67:22
 enum-known-e : tie.Need-enum-known-e
 enum-known-e c = search needs
 
--- src/judging.rt:68:9
 enum-told : tie.Need-enum-told
 enum-told c = search needs
 
--- src/judging.rt:68:9
 returns : tie.Need-returns
 unfolding fileCheck laidIn acceptedIn
-returns c = let f = now (c .before .before .before .before .args .f) in (elf-refused f (ap (fileCheck f) (sym (c .enum-told .given .1)) ∙ c .before .before .open-file .ensures .0), tt, tt)
+returns c = let f = now (c .before .before .before .before .args .f) in (elf-refused f (ap (fileCheck f) (sym (c .enum-told .given .1)) ∙ c .before .before .open-file .ensures .0), (tt, tt))
 
--- src/judging.rt:70:8
 headers-good-requires : tie.Need-headers-good-requires
 unfolding laidIn
 headers-good-requires c κs = subst (laidIn (now (c .before .before .before .before .before .args .f))) (c .before .e .given .1) (c .before .before .before .open-file .ensures .1)
 
--- src/judging.rt:71:9
 returns-2 : tie.Need-returns-2
 unfolding fileCheck laidIn acceptedIn WantedInside
 returns-2 c =
@@ -52,17 +36,18 @@ returns-2 c =
     let e = fileIs f (c .before .before .before .e .given .0 .0) in
     let t = sym (c .before .headers-good .ensures) ∙ c .if1 .taken in (
       elf-good f e (ap (fileCheck f) (sym (c .before .before .before .e .given .1)) ∙ c .before .before .before .before .before .open-file .ensures .0) t,
-      subst (laidIn f) (c .before .before .before .e .given .1) (c .before .before .before .before .before .open-file .ensures .1),
-      and-right (all (ended (e .names)) (e .headers)) (all (inside f) (wantedOf e)) t,
+      (
+        subst (laidIn f) (c .before .before .before .e .given .1) (c .before .before .before .before .before .open-file .ensures .1),
+        and-right (all (ended (e .names)) (e .headers)) (all (inside f) (wantedOf e)) t,
+      ),
     )
 
--- src/judging.rt:62:1
 returns-3 : tie.Need-returns-3
 unfolding fileCheck laidIn acceptedIn
 returns-3 c =
     let f = now (c .before .before .before .before .before .before .before .args .f) in
     let e = fileIs f (c .before .before .before .e .given .0 .0) in
-    (elf-bad f e (ap (fileCheck f) (sym (c .before .before .before .e .given .1)) ∙ c .before .before .before .before .before .open-file .ensures .0) (sym (c .before .headers-good .ensures) ∙ c .if1 .left), tt, tt)
+    (elf-bad f e (ap (fileCheck f) (sym (c .before .before .before .e .given .1)) ∙ c .before .before .before .before .before .open-file .ensures .0) (sym (c .before .headers-good .ensures) ∙ c .if1 .left), (tt, tt))
 
 pub open-elf-spec : {M : Type 1} → statement M
 open-elf-spec =

@@ -1,37 +1,23 @@
 -- `elf::judging::relocates_wanted` meets its contract.
 -- Assumes nothing.
-use mathlib.Core.Path.{_≡_, refl, sym, ap, ap₂, _∙_}
-use mathlib.Core.Bool.{Bool, true, false, not, _&&_, _||_}
-use mathlib.Core.List.{List, [], _∷_, _++_, map}
-use Prim.Native.Nat.{ℕ, _+_, _*_, _-_, _≤_, _<_}
-use native.Mathlib.Omega.{arith}
-use lib.Dec.{eqb, leb, ltb}
-use lib.ListN.{length, take, drop, getD}
+use mathlib.Core.Path.{sym, _∙_}
 use denote.Ref.{now}
 use Rattle.elf.specs.Held.{headerIs, fileIs}
 use Rattle.elf.proofs.Targets.{relocates-some, relocates-none}
 use borrow.Author.Needs.{needs}
 use Rattle.elf.proofs.judging.relocates_wanted.Statement.{statement}
 use Rattle.elf.proofs.judging.relocates_wanted.Tie as tie
-use Rattle.elf.proofs.judging.relocates_wanted.Reads as reads
-use Rattle.elf.proofs.judging.relocates_wanted.Lts as lts
-use Rattle.elf.proofs.judging.is_relocation.Reads as is-relocation-reads
-use Rattle.elf.proofs.judging.target_wanted.Reads as target-wanted-reads
 
--- src/judging.rt:102:8
 is-relocation-requires : tie.Need-is-relocation-requires
 is-relocation-requires c κs = search needs
 
--- src/judging.rt:103:9
 target-wanted-requires : tie.Need-target-wanted-requires
 target-wanted-requires c κs = search needs
 
--- src/judging.rt:103:9
 returns : tie.Need-returns
 unfolding headerIs
 returns c = let a = c .before .before .before .before .args in c .target-wanted .ensures ∙ relocates-some (fileIs (now (a .f)) (a .e)) (headerIs (a .h)) (sym (c .before .before .is-relocation .ensures) ∙ c .before .if1 .taken)
 
--- src/judging.rt:98:1
 returns-2 : tie.Need-returns-2
 returns-2 c = let a = c .before .before .before .args in relocates-none (fileIs (now (a .f)) (a .e)) (headerIs (a .h)) (sym (c .before .is-relocation .ensures) ∙ c .if1 .left)
 

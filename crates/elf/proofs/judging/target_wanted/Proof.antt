@@ -1,12 +1,9 @@
 -- `elf::judging::target_wanted` meets its contract.
 -- Assumes nothing.
-use mathlib.Core.Path.{_≡_, refl, sym, ap, ap₂, _∙_}
-use mathlib.Core.Bool.{Bool, true, false, not, _&&_, _||_}
-use mathlib.Core.List.{List, [], _∷_, _++_, map}
-use Prim.Native.Nat.{ℕ, _+_, _*_, _-_, _≤_, _<_}
-use native.Mathlib.Omega.{arith}
-use lib.Dec.{eqb, leb, ltb}
-use lib.ListN.{length, take, drop, getD}
+use mathlib.Core.Path.{ap, _∙_}
+use mathlib.Core.Bool.{not}
+use Prim.Native.Nat.{ℕ}
+use lib.Dec.{eqb}
 use denote.Ref.{now}
 use Rattle.elf.specs.File.{codeOf}
 use Rattle.elf.specs.Held.{fileIs}
@@ -15,24 +12,16 @@ use Rattle.elf.proofs.Opened.{in-headers, past-headers}
 use borrow.Author.Needs.{needs}
 use Rattle.elf.proofs.judging.target_wanted.Statement.{statement}
 use Rattle.elf.proofs.judging.target_wanted.Tie as tie
-use Rattle.elf.proofs.judging.target_wanted.Reads as reads
-use Rattle.elf.proofs.judging.target_wanted.Lts as lts
-use Rattle.elf.proofs.file.header_of.Reads as header-of-reads
-use Rattle.elf.proofs.naming.code_of.Reads as code-of-reads
 
--- src/judging.rt:91:9
 returns : tie.Need-returns
 returns c = let a = c .before .before .before .args in target-absent (fileIs (now (a .f)) (a .e)) (a .target) (past-headers (now (a .f)) (a .e) (a .target) (c .if1 .taken))
 
--- src/judging.rt:93:9
 header-of-requires : tie.Need-header-of-requires
 header-of-requires c κs = search needs
 
--- src/judging.rt:94:5
 code-of-requires : tie.Need-code-of-requires
 code-of-requires c κs = search needs
 
--- src/judging.rt:86:1
 returns-2 : tie.Need-returns-2
 returns-2 c =
     let a = c .before .before .before .before .before .args in

@@ -1,52 +1,35 @@
 -- `elf::naming::code_of` meets its contract.
 -- Assumes nothing.
-use mathlib.Core.Path.{_≡_, refl, sym, ap, ap₂, _∙_}
-use mathlib.Core.Bool.{Bool, true, false, not, _&&_, _||_}
-use mathlib.Core.List.{List, [], _∷_, _++_, map}
-use Prim.Native.Nat.{ℕ, _+_, _*_, _-_, _≤_, _<_}
-use native.Mathlib.Omega.{arith}
-use lib.Dec.{eqb, leb, ltb}
-use lib.ListN.{length, take, drop, getD}
+use mathlib.Core.Path.{_∙_}
 use denote.Ref.{now}
 use Rattle.elf.specs.Held.{headerIs, fileIs, bytesIn}
 use Rattle.elf.proofs.Names.{code-behind, code-there}
 use borrow.Author.Needs.{needs}
 use Rattle.elf.proofs.naming.code_of.Statement.{statement}
 use Rattle.elf.proofs.naming.code_of.Tie as tie
-use Rattle.elf.proofs.naming.code_of.Reads as reads
-use Rattle.elf.proofs.naming.code_of.Lts as lts
-use Rattle.elf.proofs.naming.code_at.Reads as code-at-reads
 
--- src/naming.rt:53:9
 returns : tie.Need-returns
 unfolding fileIs bytesIn headerIs
 returns c = let a = c .before .before .before .before .before .args in code-behind (now (a .f)) (a .e .names .start) (a .e .names .size) (c .before .before .before .before .before .pre .names) (headerIs (a .h)) (c .if1 .taken)
 
--- src/naming.rt:55:16
 add-from : tie.Need-add-from
 add-from c = search needs
 
--- src/naming.rt:56:15
 add-end : tie.Need-add-end
 add-end c = search needs
 
--- src/naming.rt:57:13
 sub-code-at : tie.Need-sub-code-at
 sub-code-at c = search needs
 
--- src/naming.rt:57:13
 part-code-at-start : tie.Need-part-code-at-start
 part-code-at-start c = search needs
 
--- src/naming.rt:57:13
 part-code-at-end : tie.Need-part-code-at-end
 part-code-at-end c = search needs
 
--- src/naming.rt:57:5
 code-at-requires : tie.Need-code-at-requires
 code-at-requires c κs = search needs
 
--- src/naming.rt:47:1
 returns-2 : tie.Need-returns-2
 unfolding fileIs bytesIn headerIs
 returns-2 c = let a = c .before .before .before .before .before .before .before .before .before .before .args in c .code-at .ensures ∙ code-there (now (a .f)) (a .e .names .start) (a .e .names .size) (c .before .before .before .before .before .before .before .before .before .before .pre .names) (headerIs (a .h)) (c .before .before .before .before .before .if1 .left)

@@ -1,12 +1,11 @@
 -- `elf::naming::last_end` meets its contract.
 -- Assumes nothing.
-use mathlib.Core.Path.{_≡_, refl, sym, ap, ap₂, _∙_}
-use mathlib.Core.Bool.{Bool, true, false, not, _&&_, _||_}
-use mathlib.Core.List.{List, [], _∷_, _++_, map}
-use Prim.Native.Nat.{ℕ, _+_, _*_, _-_, _≤_, _<_}
+use mathlib.Core.Path.{_≡_, sym, _∙_}
+use mathlib.Core.Bool.{false}
+use Prim.Native.Nat.{_≤_}
 use native.Mathlib.Omega.{arith}
-use lib.Dec.{eqb, leb, ltb}
-use lib.ListN.{length, take, drop, getD}
+use lib.Dec.{eqb}
+use lib.ListN.{length, drop}
 use denote.Ref.{now}
 use borrow.Author.Tests.{le-ltb}
 use Rattle.octets.specs.Lists.{any}
@@ -14,8 +13,6 @@ use Rattle.octets.proofs.Elements.{any-end}
 use Rattle.elf.proofs.Names.{no-end, last-is, last-on}
 use Rattle.elf.proofs.naming.last_end.Statement.{statement}
 use Rattle.elf.proofs.naming.last_end.Tie as tie
-use Rattle.elf.proofs.naming.last_end.Reads as reads
-use Rattle.elf.proofs.naming.last_end.Lts as lts
 
 abbrev Inv-loop : tie.InvT-loop
 Inv-loop names i₀ i = (i ≤ length names) × (any (eqb 0) (drop i names) ≡ false)
@@ -23,35 +20,27 @@ Inv-loop names i₀ i = (i ≤ length names) × (any (eqb 0) (drop i names) ≡ 
 abbrev μ-loop : tie.MeasureT-loop
 μ-loop names i₀ i = i
 
--- src/naming.rt:65:5
 loop-holds : tie.Need-loop-holds Inv-loop μ-loop
 loop-holds c = (omega arith, any-end (eqb 0) (now (c .args .names)) (length (now (c .args .names))) (omega arith))
 
--- src/naming.rt:66:18
 sub-if1 : tie.Need-sub-if1 Inv-loop μ-loop
 sub-if1 c = omega arith
 
--- src/naming.rt:66:12
 shared-slice-read-if1 : tie.Need-shared-slice-read-if1 Inv-loop μ-loop
 shared-slice-read-if1 c = omega arith
 
--- src/naming.rt:67:13
 returns : tie.Need-returns Inv-loop μ-loop
 returns c = let l = c .before .before .before in last-is (now (l .before .args .names)) (l .loop .i) (l .loop .inv .1) (c .before .before .loop-test .taken) (l .loop .inv .0) (c .if1 .taken)
 
--- src/naming.rt:69:9
 sub-i : tie.Need-sub-i Inv-loop μ-loop
 sub-i c = omega arith
 
--- src/naming.rt:65:5
 loop-less : tie.Need-loop-less Inv-loop μ-loop
 loop-less c = omega arith
 
--- src/naming.rt:65:5
 loop-again : tie.Need-loop-again Inv-loop μ-loop
 loop-again c = let l = c .before .before .before in (omega arith, last-on (now (l .before .args .names)) (l .loop .i) (l .loop .inv .1) (c .before .before .loop-test .taken) (l .loop .inv .0) (c .if1 .left))
 
--- src/naming.rt:61:1
 returns-2 : tie.Need-returns-2 Inv-loop μ-loop
 returns-2 c = let l = c .before in λ n. no-end (now (l .before .args .names)) (l .loop .i) (l .loop .inv .1) n (omega arith) ∙ sym (le-ltb n 0 (omega arith))
 

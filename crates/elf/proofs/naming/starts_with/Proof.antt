@@ -1,12 +1,9 @@
 -- `elf::naming::starts_with` meets its contract.
 -- Assumes nothing.
-use mathlib.Core.Path.{_≡_, refl, sym, ap, ap₂, _∙_}
-use mathlib.Core.Bool.{Bool, true, false, not, _&&_, _||_}
-use mathlib.Core.List.{List, [], _∷_, _++_, map}
-use Prim.Native.Nat.{ℕ, _+_, _*_, _-_, _≤_, _<_}
+use mathlib.Core.Path.{sym, ap, ap₂, _∙_}
+use Prim.Native.Nat.{ℕ}
 use native.Mathlib.Omega.{arith}
-use lib.Dec.{eqb, leb, ltb}
-use lib.ListN.{length, take, drop, getD}
+use lib.ListN.{length, take, getD}
 use denote.Ref.{now}
 use lib.Seq.{length-take-le}
 use Rattle.octets.specs.Lists.{same}
@@ -16,47 +13,34 @@ use Rattle.elf.proofs.Names.{starts-short, starts-other, starts-same}
 use borrow.Author.Needs.{needs}
 use Rattle.elf.proofs.naming.starts_with.Statement.{statement}
 use Rattle.elf.proofs.naming.starts_with.Tie as tie
-use Rattle.elf.proofs.naming.starts_with.Reads as reads
-use Rattle.elf.proofs.naming.starts_with.Lts as lts
-use Rattle.numbers.proofs.names.section_name.Reads as section-name-reads
-use Rattle.octets.proofs.same_bytes.Reads as same-bytes-reads
 
--- src/naming.rt:20:9
 section-name-requires : tie.Need-section-name-requires
 section-name-requires c κs = search needs
 
--- src/naming.rt:23:9
 returns : tie.Need-returns
 returns c = let a = c .before .before .before .args in starts-short (now (a .s)) (sectionName (a .code)) (omega (arith, held-length _ (sectionName (a .code)) (c .before .section-name .ensures)))
 
--- src/naming.rt:25:8
 shared-slice-read-if2 : tie.Need-shared-slice-read-if2
 shared-slice-read-if2 c = search needs
 
--- src/naming.rt:26:9
 returns-2 : tie.Need-returns-2
 returns-2 c =
     let a = c .before .before .before .before .before .args in
     let l = held-length _ (sectionName (a .code)) (c .before .before .before .section-name .ensures) in
     starts-other (now (a .s)) (sectionName (a .code)) (omega (arith, l)) (λ z. c .if2 .taken (ap (λ (k : ℕ). getD (now (a .s)) k 0) l ∙ z))
 
--- src/naming.rt:29:24
 slice-aggregate-same-bytes : tie.Need-slice-aggregate-same-bytes
 slice-aggregate-same-bytes c = sym (length-take-le (c .before .before .before .before .before .section-name .result .length) (now (c .before .before .before .before .before .before .before .args .s)) (omega arith))
 
--- src/naming.rt:29:33
 array-share-prefix-bytes : tie.Need-array-share-prefix-bytes
 array-share-prefix-bytes c = held-within _ (sectionName (c .before .before .before .before .before .before .before .args .code)) (c .before .before .before .before .before .section-name .ensures)
 
--- src/naming.rt:29:33
 slice-aggregate-same-bytes-2 : tie.Need-slice-aggregate-same-bytes-2
 slice-aggregate-same-bytes-2 c = sym (length-take-le (c .before .before .before .before .before .before .section-name .result .length) (c .before .before .before .before .before .before .section-name .result .bytes) (held-within _ (sectionName (c .before .before .before .before .before .before .before .before .args .code)) (c .before .before .before .before .before .before .section-name .ensures)))
 
--- src/naming.rt:29:5
 same-bytes-requires : tie.Need-same-bytes-requires
 same-bytes-requires c κs = search needs
 
--- src/naming.rt:16:1
 returns-3 : tie.Need-returns-3
 returns-3 c =
     let a = c .before .before .before .before .before .before .before .before .before .args in

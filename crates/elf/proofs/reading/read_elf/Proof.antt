@@ -1,52 +1,38 @@
 -- `elf::reading::read_elf` meets its contract.
 -- Assumes nothing.
-use mathlib.Core.Path.{_≡_, refl, sym, ap, ap₂, _∙_}
-use mathlib.Core.Bool.{Bool, true, false, not, _&&_, _||_}
-use mathlib.Core.List.{List, [], _∷_, _++_, map}
-use Prim.Native.Nat.{ℕ, _+_, _*_, _-_, _≤_, _<_}
-use native.Mathlib.Omega.{arith}
-use lib.Dec.{eqb, leb, ltb}
-use lib.ListN.{length, take, drop, getD}
+use mathlib.Core.Path.{sym, ap, ap₂, _∙_}
+use mathlib.Core.List.{List}
+use Prim.Native.Nat.{ℕ}
+use lib.ListN.{length}
 use denote.Ref.{now}
 use Rattle.answers.specs.Answers.{answered, writtenOf, outputOf}
-use Rattle.answers.proofs.Answering.{refused-written, refused-output, short-written, short-output, made-written, made-output}
+use Rattle.answers.proofs.Answering.{refused-written, refused-output}
 use mathlib.Core.Path.{subst}
 use Rattle.octets.specs.Octets.{zeros}
 use Rattle.octets.specs.Checked.{Check}
 use Rattle.octets.proofs.Placed.{length-zeros}
 use Rattle.elf.specs.Reader.{bundleRead, elfRead}
-use Rattle.elf.specs.Held.{fileIs, fileCheck, laidIn, acceptedIn, bundleFrom}
+use Rattle.elf.specs.Held.{fileIs, fileCheck, laidIn, acceptedIn}
 use Rattle.elf.proofs.Refusals.{read-refused, read-from}
 use borrow.Author.Needs.{needs}
 use Rattle.elf.proofs.reading.read_elf.Statement.{statement}
 use Rattle.elf.proofs.reading.read_elf.Tie as tie
-use Rattle.elf.proofs.reading.read_elf.Reads as reads
-use Rattle.elf.proofs.reading.read_elf.Lts as lts
-use Rattle.elf.proofs.judging.open_elf.Reads as open-elf-reads
-use Rattle.elf.proofs.reading.read_opened.Reads as read-opened-reads
-use Rattle.octets.proofs.clear_bytes.Reads as clear-bytes-reads
 
--- src/reading.rt:64:5
 clear-bytes-requires : tie.Need-clear-bytes-requires
 clear-bytes-requires c κs = search needs
 
--- src/reading.rt:65:27
 open-elf-requires : tie.Need-open-elf-requires
 open-elf-requires c κs = search needs
 
--- src/reading.rt:65:22
 enum-known-e : tie.Need-enum-known-e
 enum-known-e c = search needs
 
--- src/reading.rt:66:9
 enum-told : tie.Need-enum-told
 enum-told c = search needs
 
--- src/reading.rt:66:9
 same-length : tie.Need-same-length
 same-length c = search needs
 
--- src/reading.rt:66:9
 returns : tie.Need-returns
 unfolding elfRead fileCheck
 returns c =
@@ -56,20 +42,17 @@ returns c =
     let r = read-refused f (ap (fileCheck f) (sym (c .enum-told .given .1)) ∙ c .before .before .open-elf .ensures .0) in
     (refused-written (bundleRead f) o 31 r, refused-output (bundleRead f) o 31 r _ (c .before .before .before .before .before .clear-bytes .ensures))
 
--- src/reading.rt:68:5
 read-opened-requires : tie.Need-read-opened-requires
 unfolding laidIn acceptedIn
 read-opened-requires c κs =
     let f = now (c .before .before .before .before .before .before .before .before .before .before .before .args .f) in
     let t = c .before .before .e .given .1 in
     let z = c .before .before .before .before .before .before .before .clear-bytes .ensures in
-    (subst (laidIn f) t (c .before .before .before .before .open-elf .ensures .1), subst (acceptedIn f) t (c .before .before .before .before .open-elf .ensures .2), z ∙ ap zeros (sym (ap length z ∙ length-zeros (length (now (c .before .before .before .before .before .before .before .before .before .before .before .args .out))))))
+    (subst (laidIn f) t (c .before .before .before .before .open-elf .ensures .1 .0), subst (acceptedIn f) t (c .before .before .before .before .open-elf .ensures .1 .1), z ∙ ap zeros (sym (ap length z ∙ length-zeros (length (now (c .before .before .before .before .before .before .before .before .before .before .before .args .out))))))
 
--- src/reading.rt:60:1
 same-length-2 : tie.Need-same-length-2
 same-length-2 c = search needs
 
--- src/reading.rt:60:1
 returns-2 : tie.Need-returns-2
 unfolding elfRead fileCheck
 returns-2 c =

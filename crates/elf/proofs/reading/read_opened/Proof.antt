@@ -1,15 +1,12 @@
 -- `elf::reading::read_opened` meets its contract.
 -- Assumes nothing.
-use mathlib.Core.Path.{_≡_, refl, sym, ap, ap₂, _∙_}
-use mathlib.Core.Bool.{Bool, true, false, not, _&&_, _||_}
-use mathlib.Core.List.{List, [], _∷_, _++_, map}
-use Prim.Native.Nat.{ℕ, _+_, _*_, _-_, _≤_, _<_}
-use native.Mathlib.Omega.{arith}
-use lib.Dec.{eqb, leb, ltb}
-use lib.ListN.{length, take, drop, getD}
+use mathlib.Core.Path.{sym, ap, _∙_}
+use mathlib.Core.List.{List}
+use Prim.Native.Nat.{ℕ}
+use lib.ListN.{length}
 use denote.Ref.{now}
 use Rattle.answers.specs.Answers.{answered, writtenOf, outputOf}
-use Rattle.answers.proofs.Answering.{refused-written, refused-output, short-written, short-output, made-written, made-output}
+use Rattle.answers.proofs.Answering.{refused-written, refused-output}
 use borrow.Author.Tests.{not-true, not-false}
 use Rattle.octets.specs.Checked.{Check}
 use Rattle.octets.proofs.Parts.{part-cut}
@@ -18,18 +15,10 @@ use Rattle.elf.proofs.Refusals.{from-unreadable, from-unstated, from-wo
 use borrow.Author.Needs.{needs}
 use Rattle.elf.proofs.reading.read_opened.Statement.{statement}
 use Rattle.elf.proofs.reading.read_opened.Tie as tie
-use Rattle.elf.proofs.reading.read_opened.Reads as reads
-use Rattle.elf.proofs.reading.read_opened.Lts as lts
-use Rattle.elf.proofs.judging.all_readable.Reads as all-readable-reads
-use Rattle.elf.proofs.reading.write_sections.Reads as write-sections-reads
-use Rattle.elf.proofs.stating.first_info.Reads as first-info-reads
-use Rattle.elf.proofs.stating.first_unit.Reads as first-unit-reads
 
--- src/reading.rt:47:9
 all-readable-requires : tie.Need-all-readable-requires
 all-readable-requires c κs = search needs
 
--- src/reading.rt:48:9
 returns : tie.Need-returns
 returns c =
     let a = c .before .before .before .before .args in
@@ -39,39 +28,30 @@ returns c =
     let r = from-unreadable f e (sym (c .before .all-readable .ensures) ∙ not-true _ (c .if1 .taken)) in
     (refused-written (bundleFrom f e) o 32 r, refused-output (bundleFrom f e) o 32 r (now (a .out)) (c .before .before .before .before .pre .2))
 
--- src/reading.rt:50:9
 first-info-requires : tie.Need-first-info-requires
 first-info-requires c κs = search needs
 
--- src/reading.rt:52:15
 add-end : tie.Need-add-end
 add-end c = search needs
 
--- src/reading.rt:53:62
 sub-first-unit : tie.Need-sub-first-unit
 sub-first-unit c = search needs
 
--- src/reading.rt:53:62
 part-first-unit-start : tie.Need-part-first-unit-start
 part-first-unit-start c = search needs
 
--- src/reading.rt:53:62
 part-first-unit-end : tie.Need-part-first-unit-end
 part-first-unit-end c = search needs
 
--- src/reading.rt:53:28
 first-unit-requires : tie.Need-first-unit-requires
 first-unit-requires c κs = search needs
 
--- src/reading.rt:53:20
 enum-known-word : tie.Need-enum-known-word
 enum-known-word c = search needs
 
--- src/reading.rt:54:9
 enum-told : tie.Need-enum-told
 enum-told c = search needs
 
--- src/reading.rt:54:9
 returns-2 : tie.Need-returns-2
 unfolding bytesIn fileIs
 returns-2 c =
@@ -83,15 +63,12 @@ returns-2 c =
     let r = from-unstated f e (sym (c .before .before .before .before .before .before .before .all-readable .ensures) ∙ not-false _ (c .before .before .before .before .before .before .if1 .left)) _ (part-cut f (i .result .start) (i .result .size) ∙ i .ensures .0) (sym (c .enum-told .given .1) ∙ c .before .before .first-unit .ensures) in
     (refused-written (bundleFrom f e) o 33 r, refused-output (bundleFrom f e) o 33 r (now (a .out)) (c .before .before .before .before .before .before .before .before .before .before .pre .2))
 
--- src/reading.rt:56:5
 write-sections-requires : tie.Need-write-sections-requires
 write-sections-requires c κs = search needs
 
--- src/reading.rt:42:1
 same-length : tie.Need-same-length
 same-length c = search needs
 
--- src/reading.rt:42:1
 returns-3 : tie.Need-returns-3
 unfolding bytesIn fileIs
 returns-3 c =

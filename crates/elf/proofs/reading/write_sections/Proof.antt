@@ -1,40 +1,28 @@
 -- `elf::reading::write_sections` meets its contract.
 -- Assumes nothing.
-use mathlib.Core.Path.{_≡_, refl, sym, ap, ap₂, _∙_}
-use mathlib.Core.Bool.{Bool, true, false, not, _&&_, _||_}
-use mathlib.Core.List.{List, [], _∷_, _++_, map}
-use Prim.Native.Nat.{ℕ, _+_, _*_, _-_, _≤_, _<_}
+use mathlib.Core.Path.{_≡_, sym, _∙_}
+use Prim.Native.Nat.{_+_, _≤_, _<_}
 use native.Mathlib.Omega.{arith}
-use lib.Dec.{eqb, leb, ltb}
-use lib.ListN.{length, take, drop, getD}
+use lib.ListN.{length}
 use denote.Ref.{now}
-use Rattle.answers.specs.Answers.{answered, writtenOf, outputOf}
 use Rattle.answers.proofs.Answering.{refused-written, refused-output, short-written, short-output, made-written, made-output}
-use Rattle.elf.specs.Held.{fileIs, allSections, roomSum, oneObject, bundleOfWord}
+use Rattle.elf.specs.Held.{fileIs, allSections, oneObject, bundleOfWord}
 use Rattle.elf.proofs.Rooms.{room-is, room-not}
 use Rattle.elf.proofs.Putting.{length-one}
 use Rattle.elf.proofs.Refusals.{word-long, word-over, word-pass, written-length}
 use borrow.Author.Needs.{needs}
 use Rattle.elf.proofs.reading.write_sections.Statement.{statement}
 use Rattle.elf.proofs.reading.write_sections.Tie as tie
-use Rattle.elf.proofs.reading.write_sections.Reads as reads
-use Rattle.elf.proofs.reading.write_sections.Lts as lts
-use Rattle.elf.proofs.bundling.put_bundle.Reads as put-bundle-reads
-use Rattle.elf.proofs.bundling.sections_room.Reads as sections-room-reads
 
--- src/reading.rt:27:23
 sections-room-requires : tie.Need-sections-room-requires
 sections-room-requires c κs = search needs
 
--- src/reading.rt:27:18
 enum-known-n : tie.Need-enum-known-n
 enum-known-n c = search needs
 
--- src/reading.rt:28:9
 enum-told : tie.Need-enum-told
 enum-told c = search needs
 
--- src/reading.rt:28:9
 returns : tie.Need-returns
 unfolding allSections
 returns c =
@@ -45,11 +33,9 @@ returns c =
     let r = word-long f e (a .word) (room-not (allSections f (a .e)) (sym (c .enum-told .given .1) ∙ c .before .before .sections-room .ensures)) in
     (refused-written (bundleOfWord f e (a .word)) o 19 r, refused-output (bundleOfWord f e (a .word)) o 19 r (now (a .out)) (c .before .before .before .before .before .pre .2))
 
--- src/reading.rt:30:18
 add-length : tie.Need-add-length
 add-length c = omega arith
 
--- src/reading.rt:32:9
 returns-2 : tie.Need-returns-2
 unfolding allSections
 returns-2 c =
@@ -61,7 +47,6 @@ returns-2 c =
     let r = word-over f e (a .word) (s .0) (omega (arith, length-one (e .big) (a .word) (allSections f (a .e)), s .1, c .if1 .taken)) in
     (refused-written (bundleOfWord f e (a .word)) o 19 r, refused-output (bundleOfWord f e (a .word)) o 19 r (now (a .out)) (c .before .before .before .before .before .before .before .pre .2))
 
--- src/reading.rt:35:9
 returns-3 : tie.Need-returns-3
 unfolding allSections
 returns-3 c =
@@ -77,7 +62,6 @@ returns-3 c =
     let h : o < length b = omega (arith, l, c .if2 .taken) in
     (written-length 18 (n + 12) (length b) l ∙ short-written (bundleOfWord f e (a .word)) o b r h, short-output (bundleOfWord f e (a .word)) o b r h (now (a .out)) (c .before .before .before .before .before .before .before .before .pre .2))
 
--- src/reading.rt:37:5
 put-bundle-requires : tie.Need-put-bundle-requires
 put-bundle-requires c κs =
     let a = c .before .before .before .before .before .before .before .before .before .args in
@@ -85,11 +69,9 @@ put-bundle-requires c κs =
     let s = room-is (allSections f (a .e)) (c .before .before .before .before .n .given .0 .0) (sym (c .before .before .before .before .n .given .1) ∙ c .before .before .before .before .before .before .sections-room .ensures) in
     (c .before .before .before .before .before .before .before .before .before .pre .0, c .before .before .before .before .before .before .before .before .before .pre .1, record { clear = c .before .before .before .before .before .before .before .before .before .pre .2; short = s .0; room = omega (arith, s .1, c .before .if2 .left); few = omega (arith, s .1, c .before .before .if1 .left) })
 
--- src/reading.rt:22:1
 same-length : tie.Need-same-length
 same-length c = search needs
 
--- src/reading.rt:22:1
 returns-4 : tie.Need-returns-4
 unfolding allSections fileIs
 returns-4 c =

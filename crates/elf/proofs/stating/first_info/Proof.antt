@@ -1,12 +1,9 @@
 -- `elf::stating::first_info` meets its contract.
 -- Assumes nothing.
-use mathlib.Core.Path.{_≡_, refl, sym, ap, ap₂, _∙_}
-use mathlib.Core.Bool.{Bool, true, false, not, _&&_, _||_}
-use mathlib.Core.List.{List, [], _∷_, _++_, map}
-use Prim.Native.Nat.{ℕ, _+_, _*_, _-_, _≤_, _<_}
+use mathlib.Core.Path.{_≡_, refl, sym, _∙_}
+use Prim.Native.Nat.{_-_, _≤_}
 use native.Mathlib.Omega.{arith}
-use lib.Dec.{eqb, leb, ltb}
-use lib.ListN.{length, take, drop, getD}
+use lib.ListN.{drop}
 use denote.Ref.{now}
 use Rattle.octets.specs.Lists.{those}
 use Rattle.octets.proofs.Parts.{part-none}
@@ -17,9 +14,6 @@ use Rattle.elf.proofs.FirstUnit.{info-none, info-here, info-on}
 use Rattle.elf.proofs.Opened.{in-headers, past-headers, place-size}
 use Rattle.elf.proofs.stating.first_info.Statement.{statement}
 use Rattle.elf.proofs.stating.first_info.Tie as tie
-use Rattle.elf.proofs.stating.first_info.Reads as reads
-use Rattle.elf.proofs.stating.first_info.Lts as lts
-use Rattle.elf.proofs.stating.info_at.Reads as info-at-reads
 
 abbrev Inv-loop : tie.InvT-loop
 Inv-loop f e i₀ i = (i ≤ e .count) × (firstInfo f (fileIs f e .names) (those (isWanted (fileIs f e .names)) (drop i (fileIs f e .headers))) ≡ firstInfo f (fileIs f e .names) (those (isWanted (fileIs f e .names)) (fileIs f e .headers)))
@@ -27,15 +21,12 @@ Inv-loop f e i₀ i = (i ≤ e .count) × (firstInfo f (fileIs f e .names) (thos
 abbrev μ-loop : tie.MeasureT-loop
 μ-loop f e i₀ i = e .count - i
 
--- src/stating.rt:54:5
 loop-holds : tie.Need-loop-holds Inv-loop μ-loop
 loop-holds c = (omega arith, refl)
 
--- src/stating.rt:55:13
 info-at-requires : tie.Need-info-at-requires Inv-loop μ-loop
 info-at-requires c κs = (c .before .before .before .before .pre .0, c .before .before .before .before .pre .1, c .if1 .taken)
 
--- src/stating.rt:57:13
 returns : tie.Need-returns Inv-loop μ-loop
 unfolding wantedOf
 returns c =
@@ -47,15 +38,12 @@ returns c =
     let n = place-size f _ (r .result) (r .ensures .0) (r .ensures .1) in
     (r .ensures .0 ∙ info-here f (e .names) (e .headers) (l .loop .i) (in-headers f (a .e) (l .loop .i) (c .before .before .before .if1 .taken)) (λ z. c .if2 .taken (sym n ∙ z)) ∙ l .loop .inv .1, r .ensures .1)
 
--- src/stating.rt:59:9
 add-i : tie.Need-add-i Inv-loop μ-loop
 add-i c = omega arith
 
--- src/stating.rt:54:5
 loop-less : tie.Need-loop-less Inv-loop μ-loop
 loop-less c = omega arith
 
--- src/stating.rt:54:5
 loop-again : tie.Need-loop-again Inv-loop μ-loop
 loop-again c =
     let l = c .before .before .before .before .before in
@@ -66,7 +54,6 @@ loop-again c =
     let n = place-size f _ (r .result) (r .ensures .0) (r .ensures .1) in
     (omega arith, info-on f (e .names) (e .headers) (l .loop .i) (in-headers f (a .e) (l .loop .i) (c .before .before .before .if1 .taken)) (n ∙ c .if2 .left) ∙ l .loop .inv .1)
 
--- src/stating.rt:48:1
 returns-2 : tie.Need-returns-2 Inv-loop μ-loop
 unfolding wantedOf bytesIn
 returns-2 c =

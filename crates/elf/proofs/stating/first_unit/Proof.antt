@@ -1,61 +1,40 @@
 -- `elf::stating::first_unit` meets its contract.
 -- Assumes nothing.
-use mathlib.Core.Path.{_≡_, refl, sym, ap, ap₂, _∙_}
-use mathlib.Core.Bool.{Bool, true, false, not, _&&_, _||_}
-use mathlib.Core.List.{List, [], _∷_, _++_, map}
-use Prim.Native.Nat.{ℕ, _+_, _*_, _-_, _≤_, _<_}
+use mathlib.Core.Path.{_∙_}
 use native.Mathlib.Omega.{arith}
-use lib.Dec.{eqb, leb, ltb}
-use lib.ListN.{length, take, drop, getD}
 use denote.Ref.{now}
 use Rattle.elf.proofs.FirstUnit.{no-version, field-is, field-most, stated-four, stated-five, stated-neither}
 use borrow.Author.Needs.{needs}
 use Rattle.elf.proofs.stating.first_unit.Statement.{statement}
 use Rattle.elf.proofs.stating.first_unit.Tie as tie
-use Rattle.elf.proofs.stating.first_unit.Reads as reads
-use Rattle.elf.proofs.stating.first_unit.Lts as lts
-use Rattle.elf.proofs.stating.field_size.Reads as field-size-reads
-use Rattle.elf.proofs.stating.is_wide.Reads as is-wide-reads
-use Rattle.elf.proofs.stating.word_stated.Reads as word-stated-reads
-use Rattle.octets.proofs.u16_at.Reads as u16-at-reads
 
--- src/stating.rt:103:9
 is-wide-requires : tie.Need-is-wide-requires
 is-wide-requires c κs = search needs
 
--- src/stating.rt:104:9
 field-size-requires : tie.Need-field-size-requires
 field-size-requires c κs = search needs
 
--- src/stating.rt:105:18
 add-if1 : tie.Need-add-if1
 add-if1 c = omega (arith, c .field-size .ensures, field-most (c .before .is-wide .result))
 
--- src/stating.rt:106:9
 returns : tie.Need-returns
 returns c = let a = c .before .before .before .before .args in no-version (a .big) (now (a .s)) (omega (arith, c .before .field-size .ensures, field-is (a .big) (now (a .s)) (c .before .before .is-wide .result) (c .before .before .is-wide .ensures)))
 
--- src/stating.rt:108:9
 u16-at-requires : tie.Need-u16-at-requires
 u16-at-requires c κs = search needs
 
--- src/stating.rt:110:9
 word-stated-requires : tie.Need-word-stated-requires
 word-stated-requires c κs = search needs
 
--- src/stating.rt:110:9
 returns-2 : tie.Need-returns-2
 returns-2 c = let a = c .before .before .before .before .before .before .before .args in c .word-stated .ensures ∙ stated-four (a .big) (now (a .s)) (c .before .before .before .before .before .is-wide .result) (c .before .before .before .before .before .is-wide .ensures) _ _ (c .before .before .before .before .field-size .ensures) (c .before .before .u16-at .ensures) (c .before .if2 .taken)
 
--- src/stating.rt:121:9
 word-stated-requires-2 : tie.Need-word-stated-requires-2
 word-stated-requires-2 c κs = search needs
 
--- src/stating.rt:121:9
 returns-3 : tie.Need-returns-3
 returns-3 c = let a = c .before .before .before .before .before .before .before .before .args in c .word-stated2 .ensures ∙ stated-five (a .big) (now (a .s)) (c .before .before .before .before .before .before .is-wide .result) (c .before .before .before .before .before .before .is-wide .ensures) _ _ (c .before .before .before .before .before .field-size .ensures) (c .before .before .before .u16-at .ensures) (c .before .if3 .taken)
 
--- src/stating.rt:100:1
 returns-4 : tie.Need-returns-4
 returns-4 c = let a = c .before .before .before .before .before .before .before .args in stated-neither (a .big) (now (a .s)) (c .before .before .before .before .before .is-wide .result) (c .before .before .before .before .before .is-wide .ensures) _ _ (c .before .before .before .before .field-size .ensures) (c .before .before .u16-at .ensures) (c .before .if2 .left) (c .if3 .left)
 

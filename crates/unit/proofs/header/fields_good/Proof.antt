@@ -1,16 +1,12 @@
 -- `unit::header::fields_good` meets its contract.
 -- Assumes nothing.
-use mathlib.Core.Path.{_≡_, refl, sym, ap, ap₂, _∙_}
-use Prim.Native.Nat.{ℕ, _≤_}
+use mathlib.Core.Path.{ap, ap₂, _∙_}
 use native.Mathlib.Omega.{arith}
 use borrow.Author.Needs.{needs}
-use borrow.Author.Tests.{le-leb, lt-leb}
 use lib.Dec.{eqb}
-use lib.ListN.{length}
 use denote.Ref.{now}
 use Rattle.octets.specs.Octets.{numberAt}
 use Rattle.bundle.specs.Encoded.{encodingIs}
-use Rattle.unit.specs.UnitRead.{lengthField, commonSize}
 use Rattle.unit.proofs.Fields.{common-ge}
 use Rattle.unit.proofs.HeaderAlone.{fields-short, fields-whole}
 use Rattle.unit.proofs.header.fields_good.Statement.{statement}
