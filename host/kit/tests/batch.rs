@@ -1,5 +1,5 @@
-//! Many questions through C: the answer and every word of the answers as the vectors say and as the reference has it, whatever they held before;
-//! and each is what the single lookup answers.
+//! Many questions through C: the answer and every word of the answers as the vectors say and as the reference has it, whatever they
+//! held before; and each is what the single lookup answers.
 
 use barthovin::answer::Found;
 use barthovin::batch::{answer_words, lookup, question, MOST};
