@@ -85,9 +85,7 @@ fn operands(call: &Call) -> Result<&[OsString], Stop> {
 pub fn question(words: &[String]) -> Result<Question, String> {
     let bad = |what: &str, word: &str| format!("{what} '{word}' can't be read");
     let (version, rest) = match words {
-        [version, rest @ ..] if rest.len() == 4 => {
-            (Some(small(version).ok_or_else(|| bad("version", version))?), rest)
-        }
+        [version, rest @ ..] if rest.len() == 4 => (Some(small(version).ok_or_else(|| bad("version", version))?), rest),
         rest => (None, rest),
     };
     let [table_word, identity_word, kind, last] = rest else {
