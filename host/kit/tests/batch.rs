@@ -1,5 +1,5 @@
-//! Many questions through C: the answer and every word of the answers as the vectors say and as the reference has it, whatever they held before;
-//! and each is what the single lookup answers.
+//! Many questions through C: the answer and every word of the answers as the vectors say and as the reference has it, whatever they
+//! held before; and each is what the single lookup answers.
 
 use barthovin::answer::Found;
 use barthovin::batch::{answer_words, lookup, question, MOST};
@@ -12,7 +12,7 @@ const MARGIN: usize = 16;
 
 /// One call over junk, compared with what is wanted; words following the answers are zero, and around them nothing is touched.
 fn compare(package: &[u8], version: u32, questions: &[u32], lent: usize, wanted: &Result<Vec<u32>, u32>) -> u32 {
-    let junk = |at: usize| at as u32 * 0x9E37_79B9 | 1;
+    let junk = |at: usize| (at as u32).wrapping_mul(0x9E37_79B9) | 1;
     let mut memory: Vec<u32> = (0..lent + 2 * MARGIN).map(junk).collect();
     let (code, length) = answer_words(package, version, questions, &mut memory[MARGIN..MARGIN + lent]);
     let (told, mut left) = match wanted {
@@ -21,14 +21,22 @@ fn compare(package: &[u8], version: u32, questions: &[u32], lent: usize, wanted:
     };
     left.resize(lent, 0);
     assert_eq!((code, length), told, "for {questions:X?}, {lent} words, version {version}, {package:02X?}");
-    assert_eq!(memory[MARGIN..MARGIN + lent], left, "for {questions:X?}, {lent} words, version {version}, {package:02X?}");
+    assert_eq!(
+        memory[MARGIN..MARGIN + lent],
+        left,
+        "for {questions:X?}, {lent} words, version {version}, {package:02X?}"
+    );
     let around = (0..MARGIN).chain(MARGIN + lent..memory.len());
     assert!(around.into_iter().all(|at| memory[at] == junk(at)), "memory beside what was lent is changed");
     code
 }
 
 fn words(text: &str) -> Vec<u32> {
-    text.trim_start_matches('-').split(',').filter(|w| !w.is_empty()).map(|w| u32::from_str_radix(w, 16).expect("a word")).collect()
+    text.trim_start_matches('-')
+        .split(',')
+        .filter(|w| !w.is_empty())
+        .map(|w| u32::from_str_radix(w, 16).expect("a word"))
+        .collect()
 }
 
 #[test]
