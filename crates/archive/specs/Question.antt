@@ -42,7 +42,7 @@ pub record ToldAbsent (r : FromBundle) (n : ℕ) : Type 0 where
   pub nothing : r .length ≡ 0
   pub looked : r .looks ≡ n
 
--- a part: b is accepted, p its package
+-- a part: b is accepted, p its package. The table that is asked is the one in p, and the first unit is a unit of b
 pub record PartTold (b p : List ℕ) (v table x code : ℕ) (r : FromBundle) : Type 0 where
   pub answer : Looked r (lookedUp p v table x code)
   pub theTable : Asked b v table → TableIn b p table

@@ -47,7 +47,7 @@ pub record IsCode (code : ℕ) : Type 0 where
 abbrev pub IsHandedIn : List ℕ → ℕ → ℕ → Type 0
 IsHandedIn b table x = any (isUnder table x) (handedIn b) ≡ true
 
--- some unit was handed in for a table, whatever its identity
+-- a unit is for a table, whatever its identity
 unfoldable pub isFor : ℕ → Filed → Bool
 isFor table u = eqb (u .table) table
 
