@@ -12,10 +12,11 @@ SEED ?= 1
 PREFIX ?= /usr/local
 INSTALL ?= install
 
-.PHONY: help test library host pack-example command install uninstall clean fmt oracle differential first-match bench
+.PHONY: help test library host pack-example real-files command install uninstall clean fmt oracle differential first-match bench
 
 help:
 	@echo 'make pack-example   packs the example, shows its package and looks a unit up in it'
+	@echo 'make real-files     compiles small sources with gcc and clang, and reads, packs and lists the .dwo files'
 	@echo 'make library        proves the packer and writes target/staticlib/libbarthovin.a, for C or Rust on x86-64'
 	@echo 'make command        the same, and builds the command: host/target/release/barthovin'
 	@echo 'make install        installs command, library, barthovin.h and the manual page under DESTDIR and PREFIX ($(PREFIX))'
@@ -72,6 +73,15 @@ pack-example: command
 	$(barthovin) list target/one-unit.package
 	$(barthovin) lookup target/one-unit.package cu 1 section info
 
+# Fresh .dwo files, where gcc and clang are at hand: those of one DWARF version and byte order are packed together.
+real-files: command
+	examples/real/make-files target/real-files
+	@for kind in '4[-t]' '5[-t]' 4be 5be; do \
+	  echo "*-$$kind*.dwo"; \
+	  $(barthovin) pack target/real-files/*-$$kind*.dwo -o target/real-files/out.package || exit 1; \
+	  $(barthovin) list target/real-files/out.package || exit 1; \
+	done
+
 command: library
 	cd host && env -u BARTHOVIN_LIBRARY cargo build --release --offline --quiet --package barthovin
 
@@ -110,6 +120,7 @@ differential: oracle library
 	cd host && cargo build --release --offline --bins
 	host/target/release/against_oracle "$(ORACLE)" $(ACCEPTED) $(SEED)
 	host/target/release/damaged $(DAMAGED) $(SEED)
+	host/target/release/damaged_elf $(DAMAGED) $(SEED)
 
 # A proved build whose search for a string walks all kept strings: the same contract, another body. Its entries have other names, so that one
 # program can call both.

@@ -15,5 +15,6 @@ pub mod Values
 pub mod Stepping
 pub mod Rooted
 pub mod Units
+pub mod HeaderAlone
 pub mod Promised
 pub mod Examples

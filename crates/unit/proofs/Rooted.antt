@@ -9,8 +9,9 @@ use native.Mathlib.Omega.{arith}
 use lib.ListN.{length, drop, drop-of-length-le}
 use Rattle.octets.specs.Checked.{Check, pass, refuse, _>>=_}
 use Rattle.octets.proofs.Checks.{true-false, then-pass, then-refuse, passes, fails}
-use Rattle.octets.proofs.Refusals.{only-refuses}
+use Rattle.octets.proofs.Refusals.{Only, only-require, only-bind, only-refuses}
 use Rattle.leb128.specs.Leb128.{unsigned}
+use Rattle.leb128.proofs.Taken.{only-unsigned}
 use Rattle.bundle.specs.Encoding.{Encoding}
 use Rattle.unit.specs.Abbreviations.{Declaration, declarationsFrom, declarationsOf}
 use Rattle.unit.specs.Tables.{passed, tableGood, Located}
@@ -21,6 +22,14 @@ use Rattle.unit.specs.Headers.{tableAt}
 use Rattle.unit.specs.Roots.{identityFrom}
 use Rattle.unit.specs.declared.abbreviations.Found.the-variants.{At, Nothing}
 use Rattle.unit.proofs.Declarations.{only-declarationsOf}
+use Rattle.unit.proofs.Values.{only-needed}
+use Rattle.unit.proofs.Stepping.{only-identityIn}
+
+pub only-rootIdentity : (e : Encoding) (table s : List ℕ) → Only 12 (rootIdentity e table s)
+unfolding rootIdentity
+only-rootIdentity e table s =
+    only-bind 12 _ _ (only-declarationsOf table) (λ ds. only-bind 12 _ _ (only-unsigned s) (λ c. only-bind 12 _ _ (only-needed _) (λ d.
+    only-bind 12 _ _ (only-require _ 12) (λ _. only-bind 12 _ _ (only-identityIn e _ _ none) (λ x. only-needed x)))))
 
 refused-true : (k : ℕ) → passed {A = List Declaration} (refuse k) ≡ true → ⊥
 unfolding passed

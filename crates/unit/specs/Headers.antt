@@ -10,13 +10,15 @@ use Rattle.octets.specs.Checked.{Check, pass, refuse, _>>=_, require}
 use Rattle.numbers.specs.Refusals.{noIdentity}
 use Rattle.bundle.specs.Encoding.{Encoding}
 use Rattle.unit.specs.Root.{rootIdentity}
-use Rattle.unit.specs.UnitRead.{Identity, UnitRead, lengthField, unitSize, isFive, addressPlace, commonSize}
+use Rattle.unit.specs.UnitRead.{Identity, UnitRead, lengthField, unitSize, isFive, addressPlace, commonSize, headerPasses}
 use Rattle.unit.specs.declared.header.Kind.{Kind}
 use Rattle.unit.specs.declared.header.Kind.the-variants.{Compilation, Signature, Root, Other}
 use Rattle.unit.specs.declared.header.Identity as code
 use Rattle.unit.specs.declared.header.Identity.the-variants.{Is, Unreadable}
 use Rattle.unit.specs.declared.header.UnitAnswer.{UnitAnswer}
 use Rattle.unit.specs.declared.header.UnitAnswer.the-variants.{Read, Refused}
+use Rattle.unit.specs.declared.header.AddressSize.{AddressSize}
+use Rattle.unit.specs.declared.header.AddressSize.the-variants.{Is as Stated, Refused as Unstated}
 
 -- ---- the size: a unit that ends in s
 unfoldable pub fits : List ℕ → ℕ → Check ℕ
@@ -42,6 +44,10 @@ wideSize big s = do
 unfoldable pub commonGood : Encoding → List ℕ → Bool
 commonGood e u =
     leb (commonSize e) (length u) && (eqb (numberAt (e .big) 2 u (lengthField e)) (e .version) && eqb (getD u (addressPlace e) 0) (e .address))
+
+-- but for the address size
+unfoldable pub fieldsGood : Encoding → List ℕ → Bool
+fieldsGood e u = leb (commonSize e) (length u) && eqb (numberAt (e .big) 2 u (lengthField e)) (e .version)
 
 -- ---- where the identity stands
 unfoldable pub fiveKind : ℕ → Kind
@@ -81,3 +87,13 @@ identityCheck Unreadable = refuse noIdentity
 unfoldable pub unitAnswer : Check UnitRead → UnitAnswer
 unitAnswer (pass u) = Read (u .size) (u .table) (u .identity)
 unitAnswer (refuse n) = Refused n
+
+-- ---- the address size that a header in info states, where the header passes 11 with it
+unfoldable pub withAddress : Encoding → ℕ → Encoding
+withAddress e a = record { big = e .big; version = e .version; width = e .width; address = a }
+
+unfoldable pub statedAddress : Encoding → List ℕ → ℕ
+statedAddress e s = getD s (addressPlace e) 0
+
+unfoldable pub addressOf : Encoding → List ℕ → AddressSize
+addressOf e s = elim (headerPasses (withAddress e (statedAddress e s)) 1 s) [ true ↦ Stated (statedAddress e s) | false ↦ Unstated ]

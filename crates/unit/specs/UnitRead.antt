@@ -1,7 +1,7 @@
 -- A unit, read from the part of its section that starts at it: header (11), identity (12), identity 0 (13).
 -- Assumes nothing.
 use mathlib.Core.Bool.{Bool, true, false, not, _||_}
-use mathlib.Core.List.{List}
+use mathlib.Core.List.{List, []}
 use Prim.Native.Nat.{ℕ, _+_}
 use lib.Dec.{eqb, leb, ltb}
 use lib.ListN.{length, take, drop, getD}
@@ -84,3 +84,11 @@ unitOf e home abbreviations s = do
   i ← identityOf e home abbreviations u
   _ ← require (not (eqb (i .identity) 0)) 13
   pass (record { size = size; table = i .table; identity = i .identity })
+
+-- the header passes 11, whatever else of the unit is refused
+unfoldable pub notEleven : Check UnitRead → Bool
+notEleven (pass u) = true
+notEleven (refuse n) = not (eqb n 11)
+
+unfoldable pub headerPasses : Encoding → ℕ → List ℕ → Bool
+headerPasses e home s = notEleven (unitOf e home [] s)

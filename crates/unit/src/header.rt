@@ -16,6 +16,7 @@ ghost use Rattle.unit.specs.Headers.{
   wideSize,
   unitInside,
   commonGood,
+  fieldsGood,
   fiveKind,
   kindOf,
   headerSize,
@@ -24,6 +25,7 @@ ghost use Rattle.unit.specs.Headers.{
   identityCheck,
   identityBy,
   unitAnswer,
+  addressOf,
 };
 
 // Where a unit's identity stands.
@@ -46,6 +48,13 @@ pub enum Identity {
 pub enum UnitAnswer {
     Read(usize, u32, u64),
     Refused(u32),
+}
+
+// The address size that a header states.
+pub enum AddressSize {
+    Is(u8),
+    // refusal 11
+    Refused,
 }
 
 fn length_field(e: ObjectEncoding) -> usize
@@ -249,4 +258,35 @@ pub fn read_unit(e: ObjectEncoding, home: u32, abbreviations: &[u8], s: &[u8]) -
         return UnitAnswer::Refused(13);
     }
     UnitAnswer::Read(size, table, identity)
+}
+
+// The common fields are there, and the version is the object's.
+fn fields_good(e: ObjectEncoding, u: &[u8]) -> bool
+    ensures { λ r. ⌜ r ≡ fieldsGood (encodingIs e) (now (u .entry)) ⌝ }
+{
+    if u.len() < common_size(e) {
+        return false;
+    }
+    let version = octets::u16_at(e.big, u, length_field(e));
+    version as u32 == bundle::encoding::version(e)
+}
+
+// The address size that the header of a unit in info states, whatever it is, where the header passes 11 otherwise. Of e it takes the byte order,
+// the version and the width.
+pub fn stated_address(e: ObjectEncoding, s: &[u8]) -> AddressSize
+    ensures { λ r. ⌜ r ≡ addressOf (encodingIs e) (now (s .entry)) ⌝ }
+{
+    let Size::Is(size) = unit_size(e, s) else {
+        return AddressSize::Refused;
+    };
+    let u = &s[..size];
+    if !fields_good(e, u) {
+        return AddressSize::Refused;
+    }
+    let kind = kind_of(e, 1, u);
+    if u.len() < header_size(e, kind) {
+        return AddressSize::Refused;
+    }
+    let place = address_place(e);
+    AddressSize::Is(u[place])
 }

@@ -3,6 +3,7 @@
 
 mod abbreviations;
 mod damage;
+mod elf;
 mod honest;
 mod inputs;
 mod large;
@@ -12,6 +13,7 @@ mod random;
 mod spoil;
 
 pub use damage::damage;
+pub use elf::{elf, hostile as hostile_elf, long as long_elf};
 pub use honest::{many_strings, sized, Kind, KINDS};
 pub use large::{long_line, many_units, strings_of, suffixes, units_of};
 pub use objects::{good, Draft, DraftObject};

@@ -1,7 +1,7 @@
 //! Refusals in words: each has its meaning and, where there is one to be found, its cause.
 
 use barthovin::command::meaning;
-use barthovin::explain::{looking_up, packing};
+use barthovin::explain::{looking_up, packing, Names};
 use barthovin::ffi;
 use barthovin::reader::bundle::Bundle;
 use kit::generate::{call, question, Random};
@@ -19,7 +19,8 @@ fn every_refusal_of_packing_has_words_and_a_place() {
         let (number, _) = ffi::pack(&bundle, &mut vec![0; bundle.len() / 4 * 16], &mut []);
         counts[number as usize] += 1;
         assert!(meaning(number) != "an unknown refusal");
-        let why = packing(&bundle, number);
+        let names = Names { files: &[] };
+        let why = packing(&bundle, number, &names).map(|why| why.told(&names));
         assert_eq!(why.is_some(), number != 18, "{number}: {bundle:02X?}");
         let why = why.unwrap_or_default();
         assert!(!WITH_CAUSE.contains(&number) || why.contains(": "), "{number}: {why}: {bundle:02X?}");

@@ -89,6 +89,11 @@ struct barthovin_found_from_bundle {
     size_t looks;
 };
 
+/* Reads a relocatable ELF64 file of either byte order and writes a bundle of one object: the split-debug sections by their names, in
+ * the order of their headers. Refusals are 31, 32, 33, 19 and 18. */
+struct barthovin_written barthovin_read_elf(const uint8_t *file, size_t file_length, uint8_t *output,
+                                            size_t output_length);
+
 /* Packs a bundle. After every answer all of work is zeros. Work that is shorter than BARTHOVIN_WORK_FOR_A_WORD words for each
  * word of the bundle is refused. */
 struct barthovin_written barthovin_pack(const uint8_t *bundle, size_t bundle_length, uint32_t *work, size_t work_length,

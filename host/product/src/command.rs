@@ -1,6 +1,8 @@
 //! What the command does. Every subcommand ends with the same statuses: 0 done, 1 refused or absent, 2 a wrong call or file trouble.
 
+mod bundle;
 mod call;
+mod files;
 mod help;
 mod input;
 mod list;
@@ -35,6 +37,7 @@ fn dispatch(arguments: &[OsString]) -> Result<u8, Stop> {
     let Some(first) = arguments.first() else { return Err(Stop::wrong("", "a command is missing")) };
     let rest = &arguments[1..];
     match first.to_str() {
+        Some("bundle") => bundle::run(rest),
         Some("pack") => pack::run(rest),
         Some("lookup") => lookup::run(rest),
         Some("list") => list::run(rest),

@@ -4,42 +4,83 @@
 //! where the host finds none.
 
 mod cause;
+mod elf;
 mod lookup;
 mod place;
 
+pub use elf::reading_elf;
 pub use lookup::{looking_up, not_a_package};
 pub use place::{place, Place};
 
 use crate::names::{section_name, LONGEST_BUNDLE, LONGEST_SECTION, RNGLISTS};
 use crate::reader::bundle::Bundle;
+use crate::reader::unit::Span;
 
-/// The first bytes of an ELF file.
-const ELF: &[u8] = b"\x7FELF";
+/// How objects and units are called: by numbers and places in the bundle, or by the files that the objects come from.
+pub struct Names<'n> {
+    /// One for each object, or none at all.
+    pub files: &'n [String],
+}
+
+impl Names<'_> {
+    /// An object, counted from 1.
+    fn object(&self, number: usize) -> String {
+        self.files.get(number - 1).cloned().unwrap_or(format!("object {number}"))
+    }
+
+    fn unit(&self, unit: &Span) -> String {
+        let place = if self.files.is_empty() { format!(", byte {} of the bundle", unit.at) } else { String::new() };
+        format!("the unit at byte {} of {}{place}", unit.offset, section_name(unit.section))
+    }
+}
+
+/// Which object is at fault, counted from 1, which of its units, and the cause in words.
+#[derive(Debug, Default)]
+pub struct Why {
+    object: Option<usize>,
+    unit: Option<Span>,
+    cause: Option<String>,
+}
+
+impl Why {
+    fn cause(cause: String) -> Why {
+        Why { cause: Some(cause), ..Why::default() }
+    }
+
+    /// The file at fault, where it has a name.
+    pub fn file<'n>(&self, names: &Names<'n>) -> Option<&'n String> {
+        names.files.get(self.object? - 1)
+    }
+
+    /// All of it but the file.
+    pub fn told(&self, names: &Names) -> String {
+        let object = self.object.filter(|_| names.files.is_empty()).map(|object| names.object(object));
+        let place: Vec<String> = object.into_iter().chain(self.unit.map(|unit| names.unit(&unit))).collect();
+        let place = Some(place.join(", ")).filter(|place| !place.is_empty());
+        place.into_iter().chain(self.cause.clone()).collect::<Vec<_>>().join(": ")
+    }
+}
 
 /// Why packing refuses a bundle by a number.
-pub fn packing(bytes: &[u8], number: u32) -> Option<String> {
+pub fn packing(bytes: &[u8], number: u32, names: &Names) -> Option<Why> {
     match number {
-        1 if bytes.len() > LONGEST_BUNDLE => Some("it is longer".to_string()),
-        1 => Some(format!("it has {} bytes", bytes.len())),
-        3 => Some(broken(bytes)).filter(|told| !told.is_empty()),
-        19 => too_long(&Bundle::read(bytes).ok()?),
+        1 if bytes.len() > LONGEST_BUNDLE && !names.files.is_empty() => {
+            let over = bytes.len() - LONGEST_BUNDLE;
+            Some(Why::cause(format!("this makes {}, {over} too many", bytes.len())))
+        }
+        1 if bytes.len() > LONGEST_BUNDLE => Some(Why::cause("it is longer".to_string())),
+        1 => Some(Why::cause(format!("it has {} bytes", bytes.len()))),
+        3 => Bundle::read(bytes).err().map(|e| Why::cause(format!("the word at byte {}: {}", e.at, e.why))),
+        19 => too_long(&Bundle::read(bytes).ok()?).map(Why::cause),
         // Those that come object by object.
         4..=16 => {
             let bundle = Bundle::read(bytes).ok()?;
             let place = place(bytes, &bundle, number)?;
-            let cause = cause::of(&bundle, &place, number).map(|cause| format!(": {cause}"));
-            Some(format!("{place}{}", cause.unwrap_or_default()))
+            let cause = cause::of(&bundle, &place, number, names);
+            Some(Why { object: Some(place.object), unit: place.unit, cause })
         }
         _ => None,
     }
-}
-
-/// Which word breaks the format; nothing where none does.
-fn broken(bytes: &[u8]) -> String {
-    if bytes.starts_with(ELF) {
-        return "it is an ELF file, not a bundle".to_string();
-    }
-    Bundle::read(bytes).err().map_or(String::new(), |e| format!("the word at byte {}: {}", e.at, e.why))
 }
 
 /// The first shared section that is too long once it is joined; of str and the indexes nothing is known here.

@@ -7,6 +7,7 @@
 pub mod answer;
 pub mod batch;
 pub mod command;
+pub mod elf;
 pub mod explain;
 pub mod ffi;
 pub mod names;

@@ -15,6 +15,7 @@ pub const INFO: u32 = 1;
 pub const TYPES: u32 = 2;
 pub const ABBREV: u32 = 3;
 pub const STR_OFFSETS: u32 = 6;
+pub const MACRO: u32 = 8;
 pub const RNGLISTS: u32 = 10;
 pub const STR: u32 = 11;
 pub const CU_INDEX: u32 = 12;

@@ -26,7 +26,9 @@ int main(void) {
     static uint32_t work[16 * 17];
     static uint8_t output[1000];
     const uint8_t *bundle = (const uint8_t *)words;
+    struct barthovin_written read = barthovin_read_elf(bundle, sizeof words, output, 1000);
     struct barthovin_written packed = barthovin_pack(bundle, sizeof words, work, 16 * 17, output, 10);
+    printf("read_elf %u %zu\n", (unsigned)read.code, read.length);
     printf("pack %u %zu\n", (unsigned)packed.code, packed.length);
     packed = barthovin_pack(bundle, sizeof words, work, 16, output, 10);
     printf("pack %u %zu\n", (unsigned)packed.code, packed.length);

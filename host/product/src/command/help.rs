@@ -5,7 +5,8 @@ Usage: barthovin COMMAND [OPTION]... OPERAND...
 Pack split-debug sections and find them again, by proved functions.
 
 Commands:
-  pack      write the package of a bundle
+  bundle    write the bundle of an ELF file's debug sections
+  pack      write the package of ELF files or bundles
   lookup    find a part or a string of a unit in a package
   list      list what a package holds
   help      say how a command is called
@@ -17,18 +18,30 @@ Every command takes
 Exit status: 0 done; 1 refused or absent; 2 a wrong call, or a file that can't be read or written.
 A refusal is a number with its meaning; README.md has the list.";
 
-const PACK: &str = "\
-Usage: barthovin pack [OPTION]... BUNDLE -o PACKAGE
-Write the package of a bundle, or say why there is none and write nothing.
+const BUNDLE: &str = "\
+Usage: barthovin bundle [OPTION]... FILE -o BUNDLE
+Write the bundle of the split-debug sections of an ELF file, or say why there is none and write nothing.
 
-BUNDLE is a file, or - for standard input.
+FILE is a relocatable ELF64 file as compilers write it for -gsplit-dwarf (.dwo), or - for standard input.
+
+  -o, --output=BUNDLE    the file to write, or - for standard output
+  -h, --help             show this help and exit
+  -V, --version          show the version and exit
+
+Exit status: 0 written; 1 refused; 2 a wrong call, or a file that can't be read or written.";
+
+const PACK: &str = "\
+Usage: barthovin pack [OPTION]... FILE... -o PACKAGE
+Write the package of files, in the order given, or say why there is none and write nothing.
+
+FILE is a relocatable ELF64 file (.dwo) or a bundle, told apart by their first bytes, or - for standard input.
 
   -o, --output=PACKAGE   the file to write, or - for standard output
   -h, --help             show this help and exit
   -V, --version          show the version and exit
 
-A file that is there keeps its mode, owner and links. It is written whole or not at all wherever a second file can stand beside
-it meanwhile.
+All files together make a bundle of at most 4,194,304 bytes. A file that is there keeps its mode, owner and links. It is written whole
+or not at all wherever a second file can stand beside it meanwhile.
 
 Exit status: 0 written; 1 refused; 2 a wrong call, or a file that can't be read or written.";
 
@@ -73,6 +86,7 @@ Exit status: 0 listed; 1 refused; 2 a wrong call, or a file that can't be read."
 /// The help of a subcommand, or the general one.
 pub fn about(command: &str) -> &'static str {
     match command {
+        "bundle" => BUNDLE,
         "pack" => PACK,
         "lookup" => LOOKUP,
         "list" => LIST,

@@ -16,6 +16,22 @@ pub fn read(name: &OsStr, most: usize) -> Result<Vec<u8>, Stop> {
     taken.map(|_| bytes).map_err(|error| Stop::file(&shown(name), &error))
 }
 
+/// The same of a file that may be longer where it starts with the bytes given.
+pub fn read_either(name: &OsStr, magic: &[u8], most_with: usize, most: usize) -> Result<Vec<u8>, Stop> {
+    let read_from = |mut source: Box<dyn Read>| -> io::Result<Vec<u8>> {
+        let mut bytes = Vec::new();
+        source.by_ref().take(magic.len() as u64).read_to_end(&mut bytes)?;
+        let most = if bytes == magic { most_with } else { most };
+        source.take((most + 4 - bytes.len()) as u64).read_to_end(&mut bytes)?;
+        Ok(bytes)
+    };
+    let bytes = match name == "-" {
+        true => read_from(Box::new(io::stdin().lock())),
+        false => File::open(name).and_then(|file| read_from(Box::new(file))),
+    };
+    bytes.map_err(|error| Stop::file(&shown(name), &error))
+}
+
 /// How a file is called in messages.
 pub fn shown(name: &OsStr) -> String {
     if name == "-" {

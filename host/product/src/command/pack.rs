@@ -1,10 +1,11 @@
-//! `barthovin pack`: a bundle in, its package out, or nothing and the reason.
+//! `barthovin pack`: files in, their package out, or nothing and the reason.
 
 use super::call::{Call, Known};
-use super::{input, meaning, output, Stop, DONE};
-use crate::explain;
+use super::files::{join, refused, Joined};
+use super::{input, output, show, Stop, DONE};
+use crate::explain::{self, Names};
 use crate::ffi;
-use crate::names::{LONGEST_BUNDLE, OUTPUT_TOO_SHORT, WORK_FOR_A_WORD};
+use crate::names::{OUTPUT_TOO_SHORT, WORK_FOR_A_WORD};
 use std::ffi::OsString;
 
 const OPTIONS: [Known; 1] = [Known { long: "output", short: Some(b'o'), value: true }];
@@ -14,18 +15,29 @@ pub fn run(arguments: &[OsString]) -> Result<u8, Stop> {
         Ok(call) => call,
         Err(status) => return Ok(status),
     };
-    let from = &call.exactly(&["BUNDLE"])?[0];
+    if call.operands.is_empty() {
+        return Err(call.wrong("operand FILE is missing"));
+    }
     let to = call.value("output").ok_or_else(|| call.wrong("no output is named: -o PACKAGE"))?;
-    let bundle = input::read(from, LONGEST_BUNDLE)?;
-    let package = package_of(&bundle).map_err(|number| {
-        let why = explain::packing(&bundle, number).map(|why| format!(": {why}")).unwrap_or_default();
-        Stop::Refused(format!("{}: refused {number}: {}{why}", input::shown(from), meaning(number)))
-    })?;
+    let joined = join(&call.operands)?;
+    let package = package_of(&joined.bundle).map_err(|number| told(&call, &joined, number))?;
     output::write(to, &package).map(|()| DONE)
 }
 
+/// The refusal of what was joined, by the file that it comes from where that is known.
+fn told(call: &Call, joined: &Joined, number: u32) -> Stop {
+    let names = Names { files: &joined.files };
+    let why = explain::packing(&joined.bundle, number, &names);
+    let all = match &call.operands[..] {
+        [name] => input::shown(name),
+        operands => format!("{} together", show::count(operands.len(), "file")),
+    };
+    let file = why.as_ref().and_then(|why| why.file(&names)).unwrap_or(&all);
+    refused(file, number, why.as_ref().map(|why| why.told(&names)))
+}
+
 /// The package, or the refusal's number.
-fn package_of(bundle: &[u8]) -> Result<Vec<u8>, u32> {
+pub fn package_of(bundle: &[u8]) -> Result<Vec<u8>, u32> {
     let mut work = vec![0; bundle.len() / 4 * WORK_FOR_A_WORD];
     // Most packages fit; where one doesn't, the refusal names the length that it needs.
     let mut output = vec![0; 2 * bundle.len()];

@@ -1,7 +1,8 @@
 //! What is wrong at a place that packing refuses. Each function looks for the faults of one number alone.
 
 use super::place::Place;
-use crate::names::{section_name, ABBREV, CU_INDEX, INFO, RNGLISTS, STR, STR_OFFSETS, TU_INDEX, TYPES};
+use super::Names;
+use crate::names::{section_name, ABBREV, CU_INDEX, INFO, MACRO, RNGLISTS, STR, STR_OFFSETS, TU_INDEX, TYPES};
 use crate::reader::bundle::{Bundle, Object};
 use crate::reader::index::Index;
 use crate::reader::number;
@@ -12,11 +13,11 @@ const NOT_IN_VERSION_5: [u32; 5] = [2, 5, 7, CU_INDEX, TU_INDEX];
 const NOT_IN_VERSION_4: [u32; 2] = [9, 10];
 
 /// The cause in words, where it is found.
-pub fn of(bundle: &Bundle, place: &Place, refusal: u32) -> Option<String> {
+pub fn of(bundle: &Bundle, place: &Place, refusal: u32, names: &Names) -> Option<String> {
     let object = &bundle.objects[place.object - 1];
     match (refusal, &place.unit) {
         (4, _) => Some(format!("it states {}", object.encoding)),
-        (5, _) => Some(format!("it states {}, object 1 {}", object.encoding, bundle.objects[0].encoding)),
+        (5, _) => Some(format!("it states {}, {} {}", object.encoding, names.object(1), bundle.objects[0].encoding)),
         (6, _) => wrong_section(object),
         (7, _) => missing_section(object),
         (8, _) => string_offsets(object),
@@ -30,7 +31,7 @@ pub fn of(bundle: &Bundle, place: &Place, refusal: u32) -> Option<String> {
             Err(Why::Identity(why)) => Some(why),
             _ => None,
         },
-        (14, Some(unit)) => first_of_identity(bundle, place.object, unit),
+        (14, Some(unit)) => first_of_identity(bundle, place.object, unit, names),
         (15 | 16, Some(unit)) => row(object, unit, refusal),
         _ => None,
     }
@@ -43,7 +44,8 @@ fn wrong_section(object: &Object) -> Option<String> {
         return Some(format!("it has {}, which objects of DWARF {version} don't have", section_name(*code)));
     }
     if let Some(code) = (ABBREV..=TU_INDEX).find(|code| object.count(*code) > 1) {
-        return Some(format!("it has {} {} sections", object.count(code), section_name(code)));
+        let hint = if code == MACRO { "; gcc -g3 writes several, -g2 none" } else { "" };
+        return Some(format!("it has {} {} sections{hint}", object.count(code), section_name(code)));
     }
     let beside = |code: u32, index: u32| object.count(code) > 1 && object.count(index) > 0;
     let (code, index) = [(INFO, CU_INDEX), (TYPES, TU_INDEX)].into_iter().find(|(c, i)| beside(*c, *i))?;
@@ -114,12 +116,13 @@ fn bad_index(object: &Object) -> Option<String> {
 }
 
 /// The unit that has the identity already.
-fn first_of_identity(bundle: &Bundle, number: usize, unit: &Span) -> Option<String> {
+fn first_of_identity(bundle: &Bundle, number: usize, unit: &Span, names: &Names) -> Option<String> {
     let seen = identity(&bundle.objects[number - 1], unit).ok()?;
     for (object, other) in bundle.objects.iter().zip(1..=number) {
         let first = spans(object).into_iter().find(|span| identity(object, span) == Ok(seen));
         if let Some(first) = first {
-            return Some(format!("identity {:#018x} is that of object {other}, {first}", seen.1));
+            let (object, unit) = (names.object(other), names.unit(&first));
+            return Some(format!("identity {:#018x} is that of {object}, {unit}", seen.1));
         }
     }
     None

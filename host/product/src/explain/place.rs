@@ -19,13 +19,6 @@ pub struct Place {
     pub unit: Option<Span>,
 }
 
-impl std::fmt::Display for Place {
-    fn fmt(&self, out: &mut std::fmt::Formatter) -> std::fmt::Result {
-        write!(out, "object {}", self.object)?;
-        self.unit.map_or(Ok(()), |unit| write!(out, ", {unit}"))
-    }
-}
-
 /// Packs fronts of a bundle until time is up.
 struct Search {
     number: u32,

@@ -3,7 +3,7 @@
 use super::abbreviations;
 use super::bundle::{Encoding, Object};
 use super::number;
-use crate::names::{section_name, ABBREV, INFO, TYPES};
+use crate::names::{ABBREV, INFO, TYPES};
 
 /// A unit: the number of its section in the object, and where it lies in that section and in the bundle.
 #[derive(Clone, Copy, Debug, PartialEq, Eq)]
@@ -13,18 +13,6 @@ pub struct Span {
     pub offset: usize,
     pub end: usize,
     pub at: usize,
-}
-
-impl std::fmt::Display for Span {
-    fn fmt(&self, out: &mut std::fmt::Formatter) -> std::fmt::Result {
-        write!(
-            out,
-            "the unit at byte {} of {}, byte {} of the bundle",
-            self.offset,
-            section_name(self.section),
-            self.at
-        )
-    }
 }
 
 pub fn is_of_units(code: u32) -> bool {

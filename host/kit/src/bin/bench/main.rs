@@ -2,6 +2,7 @@
 //!
 //! PAPER is written anew, with the figures of this run. Every package is compared with thorin's, byte for byte.
 
+mod elves;
 mod lookups;
 mod measure;
 mod paper;
@@ -57,6 +58,7 @@ fn measure_all(oracle: Option<&str>) -> Result<Paper> {
     let strings = Growth { name, items: "strings", measured: strings };
     Ok(Paper {
         thorin,
+        elves: elves::all()?,
         // Packing.
         small,
         kinds,

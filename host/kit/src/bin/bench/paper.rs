@@ -1,5 +1,6 @@
 //! The paper: text with the figures of one run.
 
+use super::elves::Elf;
 use super::lookups::Lookup;
 use super::measure::Measured;
 use std::fmt::{Display, Formatter, Result};
@@ -15,6 +16,7 @@ pub struct Growth {
 pub struct Paper {
     /// What thorin is built with; none where it was not at hand.
     pub thorin: Option<String>,
+    pub elves: Vec<Elf>,
     /// Document 01's example, and the time of the small packer for it.
     pub small: (Measured, Duration),
     pub kinds: Vec<Growth>,
@@ -131,6 +133,7 @@ impl Paper {
             ("library", other.unwrap_or_default()),
             ("sizes", self.sizes()),
             ("small", time(self.small.1)),
+            ("elves", self.elves.iter().map(read).collect()),
             ("growth", self.kinds.iter().map(grown).collect()),
             ("verdict", self.verdict()),
             ("batch", time(self.batch)),
@@ -203,6 +206,11 @@ fn grown(kind: &Growth) -> String {
     kind.measured.iter().zip(factors).map(line).collect()
 }
 
+fn read(one: &Elf) -> String {
+    let (file, bundle) = (grouped(one.file as u64), grouped(one.bundle as u64));
+    format!("| {} | {file} | {bundle} | {} |\n", one.name, time(one.took))
+}
+
 fn looked_up(one: &Lookup) -> String {
     format!("| {} | {} | {} |\n", one.name, grouped(one.bytes as u64), time(one.took))
 }
@@ -225,6 +233,7 @@ mod tests {
         let growth = |name| Growth { name, items: "units", measured: vec![one(), one(), one()] };
         let paper = Paper {
             thorin: None,
+            elves: vec![Elf { name: "one", file: 9, bundle: 8, took }],
             // Packing.
             small: (one(), took),
             kinds: vec![growth("a")],

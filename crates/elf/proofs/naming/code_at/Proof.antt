@@ -1,0 +1,57 @@
+-- `elf::naming::code_at` meets its contract.
+-- Assumes nothing.
+use mathlib.Core.Path.{_≡_, refl, sym, _∙_}
+use Prim.Native.Nat.{_-_, _≤_}
+use native.Mathlib.Omega.{arith}
+use lib.ListN.{drop}
+use denote.Ref.{now}
+use Rattle.numbers.specs.Names.{sectionNames, sectionName}
+use Rattle.elf.specs.File.{codeAmong}
+use Rattle.elf.proofs.Names.{among-here, among-on, among-none, names-fourteen}
+use Rattle.elf.proofs.naming.code_at.Statement.{statement}
+use Rattle.elf.proofs.naming.code_at.Tie as tie
+
+abbrev Inv-loop : tie.InvT-loop
+Inv-loop s code₀ code = (1 ≤ code) × (code ≤ 14) × (codeAmong (drop code sectionNames) code s ≡ codeAmong (drop 1 sectionNames) 1 s)
+
+abbrev μ-loop : tie.MeasureT-loop
+μ-loop s code₀ code = 14 - code
+
+loop-holds : tie.Need-loop-holds Inv-loop μ-loop
+loop-holds c = (omega arith, omega arith, refl)
+
+starts-with-requires : tie.Need-starts-with-requires Inv-loop μ-loop
+starts-with-requires c κs = omega arith
+
+returns : tie.Need-returns Inv-loop μ-loop
+unfolding sectionName
+returns c = let l = c .before .before .before in among-here sectionNames (l .loop .code) (now (l .before .before .args .s)) (omega (arith, names-fourteen)) (sym (c .before .starts-with .ensures) ∙ c .if1 .taken) ∙ l .loop .inv .2
+
+add-code : tie.Need-add-code Inv-loop μ-loop
+add-code c = omega arith
+
+loop-less : tie.Need-loop-less Inv-loop μ-loop
+loop-less c = omega arith
+
+loop-again : tie.Need-loop-again Inv-loop μ-loop
+unfolding sectionName
+loop-again c =
+    let l = c .before .before .before in
+    (omega arith, omega arith, among-on sectionNames (l .loop .code) (now (l .before .before .args .s)) (omega (arith, names-fourteen)) (sym (c .before .starts-with .ensures) ∙ c .if1 .left) ∙ l .loop .inv .2)
+
+returns-2 : tie.Need-returns-2 Inv-loop μ-loop
+returns-2 c = let l = c .before in among-none sectionNames (l .loop .code) (now (l .before .before .args .s)) (omega (arith, names-fourteen)) ∙ l .loop .inv .2
+
+pub code-at-spec : {M : Type 1} → statement M
+code-at-spec =
+    tie.close
+    (tie.spec
+    Inv-loop
+    μ-loop
+    loop-holds
+    starts-with-requires
+    returns
+    add-code
+    loop-less
+    loop-again
+    returns-2)

@@ -1,0 +1,90 @@
+//! Files that are packed: ELF files and bundles, told apart by their first bytes, each made a bundle and all joined under one head.
+
+use super::pack::package_of;
+use super::{input, meaning, Stop};
+use crate::elf;
+use crate::explain::{self, Names};
+use crate::names::{LONGEST_BUNDLE, OUTPUT_TOO_SHORT};
+use crate::reader::bundle::{put_end, Bundle};
+use std::ffi::OsString;
+
+/// The longest ELF file that is read; most of one may be sections that aren't wanted.
+pub const LONGEST_FILE: usize = 1 << 30;
+
+/// What is packed: the bundle, and how each of its objects is called.
+pub struct Joined {
+    pub bundle: Vec<u8>,
+    /// One for each object; none where the bundle was handed in as it is, and its objects have numbers.
+    pub files: Vec<String>,
+}
+
+/// A refusal of one file.
+pub fn refused(file: &str, number: u32, why: Option<String>) -> Stop {
+    let why = why.filter(|why| !why.is_empty()).map(|why| format!(": {why}")).unwrap_or_default();
+    Stop::Refused(format!("{file}: refused {number}: {}{why}", meaning(number)))
+}
+
+/// Reads a file; an ELF file as the bundle of its sections. The flag says whether it was one.
+fn bundle_of(name: &OsString) -> Result<(Vec<u8>, bool), Stop> {
+    let bytes = input::read_either(name, elf::MAGIC, LONGEST_FILE, LONGEST_BUNDLE)?;
+    if !bytes.starts_with(elf::MAGIC) {
+        return Ok((bytes, false));
+    }
+    from_elf(&bytes, &input::shown(name)).map(|bundle| (bundle, true))
+}
+
+/// The bundle of an ELF file.
+pub fn from_elf(file: &[u8], shown: &str) -> Result<Vec<u8>, Stop> {
+    // A file whose sections don't lie over each other is longer than its bundle.
+    let mut output = vec![0; file.len()];
+    let (mut code, mut length) = elf::read(file, &mut output);
+    if code == OUTPUT_TOO_SHORT {
+        output = vec![0; length];
+        (code, length) = elf::read(file, &mut output);
+    }
+    if code != 0 {
+        return Err(refused(shown, code, explain::reading_elf(file, code)));
+    }
+    output.truncate(length);
+    Ok(output)
+}
+
+/// All files as one bundle, in the order given. A single bundle is taken as it is, whatever it holds.
+pub fn join(names: &[OsString]) -> Result<Joined, Stop> {
+    if let [name] = names {
+        let (bundle, is_elf) = bundle_of(name)?;
+        let files = if is_elf { vec![input::shown(name)] } else { Vec::new() };
+        return Ok(Joined { bundle, files });
+    }
+    let mut joined = Joined { bundle: Vec::new(), files: Vec::new() };
+    for name in names {
+        let (bytes, is_elf) = bundle_of(name)?;
+        let shown = input::shown(name);
+        let read = match Bundle::read(&bytes) {
+            Ok(read) => read,
+            Err(_) => return Err(not_a_bundle(&shown, &bytes)),
+        };
+        if joined.bundle.is_empty() {
+            joined.bundle.extend(&bytes[..4]);
+        } else if joined.bundle[..4] != bytes[..4] {
+            let first = input::shown(&names[0]);
+            return Err(Stop::Refused(format!("{shown}: its byte order is not that of {first}")));
+        }
+        joined.bundle.extend(&bytes[4..bytes.len() - 4]);
+        let object = |number: usize| if is_elf { shown.clone() } else { format!("{shown}, object {number}") };
+        joined.files.extend((1..=read.objects.len()).map(object));
+    }
+    put_end(&mut joined.bundle);
+    Ok(joined)
+}
+
+/// What can't be joined to others is refused as the packer refuses it alone.
+fn not_a_bundle(shown: &str, bytes: &[u8]) -> Stop {
+    match package_of(bytes) {
+        Err(number) => {
+            let names = Names { files: &[] };
+            refused(shown, number, explain::packing(bytes, number, &names).map(|why| why.told(&names)))
+        }
+        Ok(_) => Stop::Trouble(format!("{shown}: the host can't take it apart")),
+    }
+}
