@@ -18,7 +18,7 @@ use Rattle.index.proofs.LawPlaces.{noColumn}
 use Rattle.kept.specs.Columns.{versionFor, columnsFor, sectionAt, codeAt, numbersIf, cellsFrom, codesFrom, codesIn, ColumnsHeld}
 use Rattle.kept.specs.Records.{KeptUnit, ofTable, identityFor, rowFor}
 use Rattle.kept.specs.Slots.{SeenHeld}
-use Rattle.kept.specs.Indexed.{numbersIn, gridFrom, slotNumber, slotWidth, indexIn}
+use Rattle.kept.specs.Indexed.{numbersIn, gridFrom, slotNumber, slotWidth, frontIn, indexIn}
 use Rattle.kept.specs.Held.{identitiesOf, RowIs, RowsAre, none, more}
 use Rattle.kept.specs.declared.writing.IndexForm.{IndexForm}
 use Rattle.kept.proofs.Numbering.{codes-suc, cells-suc}
@@ -106,7 +106,7 @@ module _ (f : IndexForm) (rs : List Row) (c : ColumnsHeld (f .five) (f .has) rs)
 
     pub index-is : (slots : List ℕ) → f .rows ≡ length rs → (s : SeenHeld w slots n (identitiesOf rs))
         → indexIn f w n slots ≡ indexWith (f .big) (versionFor (f .five)) (presentColumns (versionFor (f .five)) rs) rs (s .placed)
-    unfolding indexIn indexWith slotNumber slotWidth
+    unfolding indexIn frontIn indexWith slotNumber slotWidth
     index-is slots l s =
         let many : length slots ≡ length (s .placed .rows) = sym (length-map slots (rowFor w)) ∙ ap length (s .rows) in
         rw (many, s .rows, s .identities, columns-many, codes-present (f .five) (f .has) rs c, offsets, sizes, l)

@@ -10,3 +10,4 @@ pub mod Pieces
 pub mod Indexing
 pub mod Placing
 pub mod Copying
+pub mod Holding

@@ -22,7 +22,7 @@ use Rattle.index.specs.Written.{startBytes}
 use Rattle.index.proofs.LawBytes.{length-start}
 use Rattle.kept.specs.Columns.{versionFor, columnsFor, codeAt, numbersIf, cellsFrom, codesFrom, codesIn}
 use Rattle.kept.specs.Records.{KeptUnit, recordAt, recordsFrom, inTable, cellsPlace, cellWords, ofTable}
-use Rattle.kept.specs.Indexed.{indexSize, numbersIn, gridFrom, slotNumber, slotWidth, indexIn}
+use Rattle.kept.specs.Indexed.{indexSize, numbersIn, gridFrom, slotNumber, slotWidth, frontIn, indexIn}
 use Rattle.kept.specs.declared.writing.IndexForm.{IndexForm}
 use Rattle.work.specs.Regions.{recordWords}
 use Rattle.kept.proofs.Columning.{columns-are}
@@ -188,7 +188,7 @@ length-slots identities big w slots =
 
 pub index-length : (f : IndexForm) (w : List ℕ) (n : ℕ) (slots : List ℕ) → length (ofTable w n (f .table)) ≡ f .rows
     → length (indexIn f w n slots) ≡ indexSize (length (codesIn (f .five) (f .has))) (f .rows) (length slots)
-unfolding indexIn indexSize slotWidth
+unfolding indexIn frontIn indexSize slotWidth
 index-length f w n slots e =
     let big = f .big in
     let c = length (codesIn (f .five) (f .has)) in
@@ -225,7 +225,7 @@ module _ (f : IndexForm) (w : List ℕ) (n : ℕ) (slots : List ℕ) (columns : 
     pub all-many : length (indexIn f w n slots) ≡ 16 + 12 * length slots + 4 * length (codesIn (f .five) (f .has)) + 4 * length (gridFrom f w 0 0 n) + 4 * length (gridFrom f w 1 0 n)
 
   pub pieces : Sizes
-  unfolding indexIn slotWidth
+  unfolding indexIn frontIn slotWidth
   pieces =
       let head = length-head (f .big) (f .five) (columns ∷ f .rows ∷ length slots ∷ []) refl in
       let front = length-head (f .big) (f .five) (length (codesIn (f .five) (f .has)) ∷ f .rows ∷ length slots ∷ []) refl in
@@ -244,26 +244,37 @@ module _ (f : IndexForm) (w : List ℕ) (n : ℕ) (slots : List ℕ) (columns : 
         all-many = simp length-append (omega (arith, simp length-append at front));
       }
 
-  pub index-written : (d : List ℕ) (at : ℕ) {a b c e g h : List ℕ} {rows codes offsets sizes : ℕ} → columns ≡ length (codesIn (f .five) (f .has)) → rows ≡ at + 16 + 8 * length slots → codes ≡ rows + 4 * length slots
-      → at + length (indexIn f w n slots) ≤ length d
-      → a ≡ placed d at H → b ≡ placed a (at + 16) (S true) → c ≡ placed b rows (S false)
+  pub front-written : (d : List ℕ) (at : ℕ) {a b c : List ℕ} {rows : ℕ} → rows ≡ at + 16 + 8 * length slots → at + 16 + 12 * length slots ≤ length d
+      → a ≡ placed d at H → b ≡ placed a (at + 16) (S true) → c ≡ placed b rows (S false) → c ≡ placed d at (frontIn f columns w slots)
+  unfolding frontIn
+  front-written d at {rows = rows} o room p₁ p₂ p₃ =
+      let z = pieces in
+      let l₂ : length (H ++ S true) ≡ 16 + 8 * length slots = length-append H (S true) ∙ omega (arith, z .head-many, z .ids-many) in
+      let s₂ = placed-then d H (S true) at (at + 16) (omega (arith, z .head-many)) (omega (arith, z .head-many)) p₁ p₂ in
+      placed-then d (H ++ S true) (S false) at rows (omega arith) (omega arith) s₂ p₃
+
+  length-front : length (frontIn f columns w slots) ≡ 16 + 12 * length slots
+  unfolding frontIn
+  length-front =
+      let z = pieces in
+      length-append (H ++ S true) (S false) ∙ omega (arith, length-append H (S true), z .head-many, z .ids-many, z .nums-many)
+
+  pub index-written : (d : List ℕ) (at : ℕ) {c e g h : List ℕ} {codes offsets sizes : ℕ} → columns ≡ length (codesIn (f .five) (f .has)) → codes ≡ at + 16 + 12 * length slots
+      → at + length (indexIn f w n slots) ≤ length d → c ≡ placed d at (frontIn f columns w slots)
       → e ≡ placed c codes C → offsets ≡ codes + 4 * length (codesIn (f .five) (f .has))
       → g ≡ placed e offsets (G 0) → sizes ≡ offsets + 4 * length (gridFrom f w 0 0 n) → h ≡ placed g sizes (G 1)
       → h ≡ placed d at (indexIn f w n slots)
   unfolding indexIn
-  index-written d at {rows = rows} {codes = codes} {offsets = offsets} {sizes = sizes} q o k room p₁ p₂ p₃ p₄ q₄ p₅ q₅ p₆ =
+  index-written d at {codes = codes} {offsets = offsets} {sizes = sizes} q k room p₃ p₄ q₄ p₅ q₅ p₆ =
       let z = pieces in
-      let l₂ : length (H ++ S true) ≡ 16 + 8 * length slots = length-append H (S true) ∙ omega (arith, z .head-many, z .ids-many) in
-      let l₃ : length (H ++ S true ++ S false) ≡ 16 + 12 * length slots = length-append (H ++ S true) (S false) ∙ omega (arith, z .nums-many) in
-      let l₄ : length (H ++ S true ++ S false ++ C) ≡ 16 + 12 * length slots + 4 * length (codesIn (f .five) (f .has)) = length-append (H ++ S true ++ S false) C ∙ omega (arith, z .codes-many) in
-      let l₅ : length (H ++ S true ++ S false ++ C ++ G 0) ≡ 16 + 12 * length slots + 4 * length (codesIn (f .five) (f .has)) + 4 * length (gridFrom f w 0 0 n) =
-      length-append (H ++ S true ++ S false ++ C) (G 0) ∙ omega (arith, z .offsets-many) in
-      let s₂ = placed-then d H (S true) at (at + 16) (omega (arith, z .head-many, z .all-many)) (omega (arith, z .head-many)) p₁ p₂ in
-      let s₃ = placed-then d (H ++ S true) (S false) at rows (omega (arith, z .all-many)) (omega arith) s₂ p₃ in
-      let s₄ = placed-then d (H ++ S true ++ S false) C at codes (omega (arith, z .all-many)) (omega arith) s₃ p₄ in
-      let s₅ = placed-then d (H ++ S true ++ S false ++ C) (G 0) at offsets (omega (arith, z .all-many)) (omega arith) s₄ p₅ in
-      let s₆ = placed-then d (H ++ S true ++ S false ++ C ++ G 0) (G 1) at sizes (omega (arith, z .all-many)) (omega arith) s₅ p₆ in
-      s₆ ∙ ap (placed d at) (rw q (simp append-assoc))
+      let X = frontIn f columns w slots in
+      let l₃ = length-front in
+      let l₄ : length (X ++ C) ≡ 16 + 12 * length slots + 4 * length (codesIn (f .five) (f .has)) = length-append X C ∙ omega (arith, z .codes-many) in
+      let l₅ : length (X ++ C ++ G 0) ≡ 16 + 12 * length slots + 4 * length (codesIn (f .five) (f .has)) + 4 * length (gridFrom f w 0 0 n) = length-append (X ++ C) (G 0) ∙ omega (arith, z .offsets-many) in
+      let s₄ = placed-then d X C at codes (omega (arith, z .all-many)) (omega arith) p₃ p₄ in
+      let s₅ = placed-then d (X ++ C) (G 0) at offsets (omega (arith, z .all-many)) (omega arith) s₄ p₅ in
+      let s₆ = placed-then d (X ++ C ++ G 0) (G 1) at sizes (omega (arith, z .all-many)) (omega arith) s₅ p₆ in
+      s₆ ∙ ap (λ (m : ℕ). placed d at (frontIn f m w slots ++ C ++ G 0 ++ G 1)) q
 
 -- ---- turns of the loops
 module _ (f : IndexForm) (w : List ℕ) (which i n : ℕ) {d₀ d : List ℕ} {at o : ℕ} {all : List ℕ} (a : Writing (f .big) 4 d₀ d at o (gridFrom f w which i (n - i)) all) (h : i < n) where

@@ -32,12 +32,17 @@ unfoldable pub slotWidth : Bool → ℕ
 slotWidth true = 8
 slotWidth false = 4
 
-unfoldable pub indexIn : IndexForm → List ℕ → ℕ → List ℕ → List ℕ
-indexIn f w n slots =
+-- head and slots
+unfoldable pub frontIn : IndexForm → ℕ → List ℕ → List ℕ → List ℕ
+frontIn f columns w slots =
     startBytes (f .big) (versionFor (f .five))
-    ++ numbersOf (f .big) 4 (length (codesIn (f .five) (f .has)) ∷ f .rows ∷ length slots ∷ [])
+    ++ numbersOf (f .big) 4 (columns ∷ f .rows ∷ length slots ∷ [])
     ++ numbersOf (f .big) (slotWidth true) (map (slotNumber true w) slots)
     ++ numbersOf (f .big) (slotWidth false) (map (slotNumber false w) slots)
+
+unfoldable pub indexIn : IndexForm → List ℕ → ℕ → List ℕ → List ℕ
+indexIn f w n slots =
+    frontIn f (length (codesIn (f .five) (f .has))) w slots
     ++ numbersOf (f .big) 4 (codesIn (f .five) (f .has))
     ++ numbersOf (f .big) 4 (gridFrom f w 0 0 n)
     ++ numbersOf (f .big) 4 (gridFrom f w 1 0 n)

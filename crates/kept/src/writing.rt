@@ -8,7 +8,7 @@ ghost use Rattle.index.specs.Written.{startBytes};
 ghost use Rattle.work.specs.Regions.{recordWords};
 ghost use Rattle.kept.specs.Columns.{versionFor, columnsFor, numbersIf, cellsFrom, codesIn};
 ghost use Rattle.kept.specs.Slots.{Within};
-ghost use Rattle.kept.specs.Indexed.{gridFrom, slotNumber, slotWidth, indexIn};
+ghost use Rattle.kept.specs.Indexed.{gridFrom, slotNumber, slotWidth, frontIn, indexIn};
 use crate::records::CELLS;
 use index::cells::COLUMNS;
 use work::RECORD;
@@ -167,6 +167,17 @@ fn put_grid(f: IndexForm, records: &[u32], n: usize, which: usize, out: &mut [u8
 }
 
 // ---- the index
+// Head and slots.
+fn put_front(f: IndexForm, columns: usize, records: &[u32], n: usize, slots: &[u32], out: &mut [u8], at: usize)
+    requires { ⌜ Within (now slots) n × (recordWords * n ≤ length (now records)) × (at + 16 + 12 * length (now slots) ≤ length (now out)) ⌝ }
+    ensures { λ _. ⌜ now (out .exit) ≡ placed (now (out .entry)) at (frontIn f columns (now (records .entry)) (now (slots .entry))) ⌝ }
+{
+    let rows = at + 16 + 8 * slots.len();
+    put_head(f, columns, slots.len(), out, at);
+    put_slots(true, f, records, n, slots, out, at + 16);
+    put_slots(false, f, records, n, slots, out, rows);
+}
+
 // The caller keeps room for it, and has placed the records of the table, among n that are stored.
 pub fn write_index(f: IndexForm, records: &[u32], n: usize, slots: &[u32], out: &mut [u8], at: usize)
     requires { ⌜ Within (now slots) n × (recordWords * n ≤ length (now records)) × (at + length (indexIn f (now records) n (now slots)) ≤ length (now out)) ⌝ }
@@ -175,11 +186,8 @@ pub fn write_index(f: IndexForm, records: &[u32], n: usize, slots: &[u32], out: 
     let five = f.five;
     let has = f.has;
     let columns = crate::columns::columns_present(five, has);
-    let rows = at + 16 + 8 * slots.len();
-    let codes = rows + 4 * slots.len();
-    put_head(f, columns, slots.len(), out, at);
-    put_slots(true, f, records, n, slots, out, at + 16);
-    put_slots(false, f, records, n, slots, out, rows);
+    let codes = at + 16 + 12 * slots.len();
+    put_front(f, columns, records, n, slots, out, at);
     let offsets = put_codes(f.big, five, has, out, codes);
     let sizes = put_grid(f, records, n, 0, out, offsets);
     put_grid(f, records, n, 1, out, sizes);
