@@ -18,7 +18,7 @@ use Rattle.index.specs.Rows.{BySection}
 use Rattle.index.specs.Written.{Row, offsetOf, sizeOf}
 use Rattle.index.specs.Contributed.{ContributionsAre}
 use Rattle.index.specs.declared.judging.RowJudged.{RowJudged}
-use Rattle.kept.specs.Layout.{identitiesOf}
+use Rattle.rows.specs.Layout.{identitiesOf}
 use Rattle.keeping.specs.Regions.{TableHeld, RowRoom}
 use Rattle.keeping.specs.declared.Table.{Table}
 use Rattle.package.specs.Input.{Input}

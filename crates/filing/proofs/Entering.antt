@@ -14,7 +14,7 @@ use Rattle.bundle.specs.declared.encoding.ObjectEncoding.{ObjectEncoding}
 use Rattle.strings.specs.declared.table.StringTable.{StringTable}
 use Rattle.index.specs.Rows.{BySection}
 use Rattle.keeping.specs.Regions.{stringsStart, Replaced}
-use Rattle.kept.specs.Cells.{Summed}
+use Rattle.keeping.specs.Cells.{Summed}
 use Rattle.package.specs.Input.{Input}
 use Rattle.package.specs.Filing.{Filed, sums, grown}
 use Rattle.filing.specs.Judged.{InputIs}

@@ -15,9 +15,9 @@ use Rattle.octets.proofs.Parts.{length-part}
 use Rattle.index.specs.Rows.{BySection}
 use Rattle.index.specs.Written.{Row}
 use Rattle.index.specs.declared.judging.Contributions.{Contributions}
-use Rattle.kept.specs.Layout.{RowsHeld, SeenHeld, identitiesOf}
+use Rattle.rows.specs.Layout.{RowsHeld, SeenHeld, identitiesOf}
 use Rattle.keeping.specs.Regions.{rowsStart, stringsStart, seenStart, placesStart, seenSlots, TableHeld, Replaced, RowRoom, RowFrame, Apart}
-use Rattle.kept.specs.Cells.{cellsBy, CellsRoom}
+use Rattle.keeping.specs.Cells.{cellsBy, CellsRoom}
 use Rattle.keeping.specs.declared.Table.{Table}
 use Rattle.keeping.proofs.Starts.{rows-le, seen-ge, seen-le, places-ge, places-le, slots-le, replaced-length, replaced-apart}
 use Rattle.places.specs.Places.{PlacesHeld, RoomFor}

@@ -15,8 +15,8 @@ use Rattle.octets.proofs.Lists.{those-append, those-keeps, those-skips}
 use Rattle.octets.proofs.Joined.{map-append}
 use Rattle.index.specs.Rows.{BySection}
 use Rattle.index.specs.Written.{Row, sizeOf}
-use Rattle.kept.specs.Layout.{identitiesOf}
-use Rattle.kept.specs.Cells.{cellsBy}
+use Rattle.rows.specs.Layout.{identitiesOf}
+use Rattle.keeping.specs.Cells.{cellsBy}
 use Rattle.package.specs.Filing.{Filed, isUnder, keep, keepAll, kept, sums}
 use Rattle.package.specs.Pack.{cells, Entry, longer, entriesFrom, rowsOf, unitBytes}
 use Rattle.package.proofs.Kept.{keep-new, keep-known, kept-snoc, any-kept, has-identity, distinct-kept}

@@ -17,10 +17,10 @@ use Rattle.index.specs.Index.{Contribution}
 use Rattle.index.specs.Rows.{BySection}
 use Rattle.index.specs.Written.{Row}
 use Rattle.index.specs.declared.judging.Contributions.{Contributions}
-use Rattle.kept.specs.Layout.{CellsAre}
-use Rattle.kept.specs.declared.Cells.{Cells}
+use Rattle.rows.specs.Layout.{CellsAre}
+use Rattle.rows.specs.declared.Cells.{Cells}
 use Rattle.keeping.specs.Regions.{placesStart, TableHeld, Replaced, RowRoom, RowFrame}
-use Rattle.kept.specs.Cells.{cellsBy, CellsRoom}
+use Rattle.keeping.specs.Cells.{cellsBy, CellsRoom}
 use Rattle.keeping.specs.declared.Table.{Table}
 use Rattle.keeping.proofs.Starts.{rows-le, seen-le, places-ge, places-le, replaced-part}
 use Rattle.places.specs.Places.{PlacesHeld, RoomFor}

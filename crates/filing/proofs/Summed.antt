@@ -11,7 +11,7 @@ use lib.ListN.{length, getD, length-append}
 use Rattle.index.specs.Written.{sizeOf}
 use Rattle.index.specs.Contributed.{ContributionsAre}
 use Rattle.index.specs.declared.judging.Contributions.{Contributions}
-use Rattle.kept.specs.Cells as cells
+use Rattle.keeping.specs.Cells as cells
 use Rattle.package.specs.Filing.{Filed, sums}
 use Rattle.filing.specs.declared.state.Sums.{Sums}
 use Rattle.filing.specs.State.{SumsHeld}

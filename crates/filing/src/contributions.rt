@@ -15,6 +15,8 @@ ghost use Rattle.filing.specs.Contributing.{contributionsBy, GivenIs};
 use crate::input::Indexed;
 use crate::input::InputObject;
 use bundle::encoding::ObjectEncoding;
+use index::judging::Measures;
+use index::judging::OwnUnit;
 use index::judging::RowJudged;
 
 // By the index of the unit's table, which lies there where there is one.
@@ -43,18 +45,18 @@ fn indexed_contributions(
     };
     let end = start + size;
     let width = bundle::encoding::width(e);
-    index::judging::judge_row(
-        e.big,
-        &b[start..end],
-        head,
+    let m = Measures {
         width,
         lengths,
-        summed,
+        sums: summed,
+    };
+    let u = OwnUnit {
         identity,
         home,
         at,
-        own,
-    )
+        size: own,
+    };
+    index::judging::judge_row(e.big, &b[start..end], head, m, u)
 }
 
 // A unit of so many bytes at a place of the section home; summed are the sums of its table in this object.

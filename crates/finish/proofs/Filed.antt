@@ -27,7 +27,7 @@ use Rattle.strings.specs.declared.table.StringTable.{StringTable}
 use Rattle.strings.proofs.StrOffsets.{whole-entries}
 use Rattle.index.specs.Probing.{Slots, slotsOf}
 use Rattle.index.specs.Written.{Row, indexBytes}
-use Rattle.kept.specs.Layout.{versionFor, RowsHeld, identitiesOf}
+use Rattle.rows.specs.Layout.{versionFor, RowsHeld, identitiesOf}
 use Rattle.package.specs.Input.{Input}
 use Rattle.package.specs.Filing.{Filed, Filing, filingOf, firstWord, kept}
 use Rattle.package.specs.Pack.{rowsOf, unitBytes, sharedBytes, stringTable, sectionList, nonEmpty, packageSections, packageObjects}
@@ -36,7 +36,7 @@ use Rattle.package.proofs.Filing.{FilingFacts, filing-facts}
 use Rattle.package.proofs.Kept.{identitiesIn, distinct-kept}
 use Rattle.package.proofs.Tables.{rows-named}
 use Rattle.package.proofs.UnitStrings.{good-versions}
-use Rattle.kept.proofs.LawRows.{length-identities}
+use Rattle.rows.proofs.LawRows.{length-identities}
 use Rattle.bundle.proofs.Sizes.{bundle-totals}
 use Rattle.finish.specs.Joining.{sectionsJoined, offsetsJoined, remappedIn, EntriesGood}
 use Rattle.finish.proofs.Remapping.{remapped-in}

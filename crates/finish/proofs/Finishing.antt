@@ -27,8 +27,8 @@ use Rattle.index.specs.Probing.{Slots, slotsOf}
 use Rattle.index.specs.Written.{Row, indexBytes}
 use Rattle.index.proofs.Placing.{slotsOf-passes}
 use Rattle.index.proofs.LawWhole.{indexBytes-passes}
-use Rattle.kept.specs.Layout.{versionFor, RowsHeld, identitiesOf}
-use Rattle.kept.proofs.LawRows.{length-identities}
+use Rattle.rows.specs.Layout.{versionFor, RowsHeld, identitiesOf}
+use Rattle.rows.proofs.LawRows.{length-identities}
 use Rattle.package.specs.Filing.{Filing, filingOf, filingFrom, firstWord, kept, keepAll}
 use Rattle.package.specs.Pack.{rowsOf, entriesFrom, unitBytes, sharedBytes, allUsed, stringTable, sectionList, nonEmpty, packageSections, packageObjects}
 use Rattle.filing.specs.declared.state.InProgress.{InProgress}

@@ -17,12 +17,12 @@ use Rattle.index.specs.Probing.{Slots, unused, slotsFor, placeAll, slotsOf}
 use Rattle.index.specs.Written.{Row, indexBytes, indexWith, presentColumns}
 use Rattle.index.proofs.Slots.{slotsFor-le, slotsFor-few}
 use Rattle.index.proofs.LawWhole.{indexBytes-is}
-use Rattle.kept.specs.Layout.{versionFor, RowsHeld, ColumnsHeld, SeenHeld, identitiesOf}
-use Rattle.kept.proofs.LawRows.{length-identities}
-use Rattle.kept.proofs.LawSeen.{seen-rows-in}
-use Rattle.kept.proofs.LawPlacing.{placed-slots}
+use Rattle.rows.specs.Layout.{versionFor, RowsHeld, ColumnsHeld, SeenHeld, identitiesOf}
+use Rattle.rows.proofs.LawRows.{length-identities}
+use Rattle.rows.proofs.LawSeen.{seen-rows-in}
+use Rattle.rows.proofs.LawPlacing.{placed-slots}
 use Rattle.placing.proofs.Placing.{placed-sized}
-use Rattle.kept.proofs.LawIndex.{index-is}
+use Rattle.rows.proofs.LawIndex.{index-is}
 use Rattle.keeping.specs.declared.Table.{Table}
 use Rattle.finish.specs.Ready.{IndexHeld}
 

@@ -14,8 +14,8 @@ use Rattle.bundle.specs.declared.encoding.ObjectEncoding.{ObjectEncoding}
 use Rattle.strings.specs.declared.table.StringTable.{StringTable}
 use Rattle.strings.proofs.StrOffsets.{sound}
 use Rattle.index.specs.Probing.{slotsFor}
-use Rattle.kept.specs.Layout.{codesIn, indexSize}
-use Rattle.kept.proofs.LawPieces.{index-length}
+use Rattle.rows.specs.Layout.{codesIn, indexSize}
+use Rattle.rows.proofs.LawPieces.{index-length}
 use Rattle.finish.specs.Joining.{offsetsJoined, sectionsJoined}
 use Rattle.finish.proofs.Remapping.{length-offsets}
 use Rattle.finish.specs.Sections.{Sized}

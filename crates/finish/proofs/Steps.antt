@@ -17,7 +17,7 @@ use Rattle.bundle.proofs.Putting.{length-head, placed-behind, head-put, end-put
 use Rattle.bundle.proofs.Sizes.{written-size}
 use Rattle.strings.specs.declared.table.StringTable.{StringTable}
 use Rattle.index.specs.Probing.{slotsFor}
-use Rattle.kept.specs.Layout.{RowsIn, indexIn}
+use Rattle.rows.specs.Layout.{RowsIn, indexIn}
 use Rattle.finish.specs.Writing.{Writing}
 use Rattle.finish.proofs.SectionSizes.{framed-some, size-good}
 use Rattle.finish.proofs.BeingWritten.{writing-frame-room}

@@ -16,9 +16,9 @@ use Rattle.index.specs.Probing.{Slots, slotsFor, slotsOf}
 use Rattle.index.specs.Rows.{isSome}
 use Rattle.index.specs.Written.{Row}
 use Rattle.index.proofs.Slots.{slotsFor-power}
-use Rattle.kept.specs.Layout.{identitiesFrom, identitiesOf, placedRows, RowsHeld}
-use Rattle.kept.proofs.LawRows.{rows-kept, length-identities}
-use Rattle.kept.proofs.LawPlacing.{placed-slots, identities-held}
+use Rattle.rows.specs.Layout.{identitiesFrom, identitiesOf, placedRows, RowsHeld}
+use Rattle.rows.proofs.LawRows.{rows-kept, length-identities}
+use Rattle.rows.proofs.LawPlacing.{placed-slots, identities-held}
 use Rattle.placing.specs.Placing.{Placeable}
 use Rattle.finish.specs.Ready.{TablesPlaceable}
 use Rattle.finish.proofs.Indexes.{slots-small, slots-made}

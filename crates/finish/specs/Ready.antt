@@ -18,7 +18,7 @@ use Rattle.strings.specs.Strings.{strOf}
 use Rattle.strings.specs.Kept.{Kept}
 use Rattle.strings.specs.declared.table.StringTable.{StringTable}
 use Rattle.index.specs.Probing.{slotsFor}
-use Rattle.kept.specs.Layout.{RowsIn, codesIn, indexIn, indexSize}
+use Rattle.rows.specs.Layout.{RowsIn, codesIn, indexIn, indexSize}
 use Rattle.places.specs.Places.{PlacesHeld}
 use Rattle.finish.specs.Joining.{sectionsJoined, offsetsJoined, EntriesGood}
 use Rattle.finish.specs.Sections.{Sized, sizesGood, framedSize, lengthOf}

@@ -8,7 +8,7 @@ ghost use Rattle.octets.specs.Octets.{part, placed};
 ghost use Rattle.octets.specs.Checked.{pass};
 ghost use Rattle.index.specs.Probing.{Slots, slotsOf};
 ghost use Rattle.index.specs.Written.{Row};
-ghost use Rattle.kept.specs.Layout.{RowsHeld, identitiesOf};
+ghost use Rattle.rows.specs.Layout.{RowsHeld, identitiesOf};
 ghost use Rattle.finish.specs.Ready.{TablesPlaceable};
 
 // Places the rows of both tables, for a bundle of so many words; false where a slot is missing.

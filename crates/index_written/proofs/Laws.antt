@@ -13,11 +13,11 @@ use Rattle.octets.proofs.Checks.{true-false}
 use Rattle.index.specs.Held.{PowerOfTwo}
 use Rattle.index.specs.Probing.{slotsFor}
 use Rattle.index.proofs.Slots.{slotsFor-power}
-use Rattle.kept.proofs.LawLoops.{is-power}
+use Rattle.rows.proofs.LawLoops.{is-power}
 use Rattle.index.specs.Rows.{isSome}
 use Rattle.index.proofs.LawMore.{below-set}
-use Rattle.kept.specs.Layout.{identitiesFrom, freeFor, placedRows, RowsIn}
-use Rattle.kept.proofs.LawPlacing.{placed-some, placed-missing}
+use Rattle.rows.specs.Layout.{identitiesFrom, freeFor, placedRows, RowsIn}
+use Rattle.rows.proofs.LawPlacing.{placed-some, placed-missing}
 
 -- ---- numbers
 pub set-fits : (l : List ℕ) (s x : ℕ) → ((c : ℕ) → getD l c 0 < 2 ^ 32) → x < 2 ^ 32 → (c : ℕ) → getD (set l s x) c 0 < 2 ^ 32

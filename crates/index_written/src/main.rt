@@ -6,7 +6,7 @@ ghost use mathlib.Core.Path.{_≡_};
 ghost use Prim.Native.Nat.{ℕ, _+_, _*_, _<_, _≤_, _^_};
 ghost use lib.ListN.{length, getD};
 ghost use Rattle.index.specs.Probing.{slotsFor};
-ghost use Rattle.kept.specs.Layout.{CellsFit, RowsIn};
+ghost use Rattle.rows.specs.Layout.{CellsFit, RowsIn};
 use libc::STDOUT_FILENO;
 use rows::Cells;
 

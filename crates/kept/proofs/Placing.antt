@@ -183,9 +183,11 @@ module _ (words table i count : ℕ) (w : List ℕ) (s : Seekable words w table 
         };
         placed = λ fit seen.
             let p = slots-power words w table i count (s .can) in
-            let row : recordAt R i .row ≡ length xs + 1 = fit .numbered .is i (omega arith) own ∙ ap (λ (k : ℕ). k + 1) (sym (identities-many R i table)) in
-            (refl, rw (slot-set words w table i count (s .can) at (i + 1) free-inside, more)
-            (seen-more seen p (few fit seen) x at (sought-free seen p (few fit seen) (different fit seen) x at e .1) (omega (arith, free-inside, slots-long words w table i count (s .can))) (sym is) row));
+            let row : recordAt R i .row ≡ length xs + 1 = fit .numbered .is i (omega arith) own ∙ ap (λ (k : ℕ). k + 1) (sym (identities-many R i table)) in (
+              refl,
+              rw (slot-set words w table i count (s .can) at (i + 1) free-inside, more)
+                  (seen-more seen p (few fit seen) x at (sought-free seen p (few fit seen) (different fit seen) x at e .1) (omega (arith, free-inside, slots-long words w table i count (s .can))) (sym is) row),
+            );
       })
 
 -- ---- all of them
@@ -215,12 +217,14 @@ module _ (words table n count : ℕ) (w₀ : List ℕ) (can : Placeable words (l
       let o : from ≡ slotsRegion table .start * words + 0 = omega arith in
       let p′ : w ≡ placed w₀ (slotsRegion table .start * words + 0) (zeros count) = p ∙ ap (λ (k : ℕ). placed w₀ k (zeros count)) o in
       let inside : 0 + length (zeros count) ≤ slotsRegion table .words * words = omega (arith, length-zeros count, one-word table words, can .fits) in
-      let cleared : slotsIn w words table count ≡ zeros count = slots-cleared w from f p in
-      (cleared, record {
-        same = ap length p′ ∙ store-length (slotsRegion table) (slots-within table) words w₀ (can .enough) 0 (zeros count) inside;
-        within = record { within = λ k. rw (cleared, getD-zeros count k) (omega arith) };
-        others = λ s a. ap (λ (y : List ℕ). region y words s) p′ ∙ others-stay (slotsRegion table) (slots-within table) words w₀ (can .enough) 0 (zeros count) inside s a;
-      })
+      let cleared : slotsIn w words table count ≡ zeros count = slots-cleared w from f p in (
+        cleared,
+        record {
+          same = ap length p′ ∙ store-length (slotsRegion table) (slots-within table) words w₀ (can .enough) 0 (zeros count) inside;
+          within = record { within = λ k. rw (cleared, getD-zeros count k) (omega arith) };
+          others = λ s a. ap (λ (y : List ℕ). region y words s) p′ ∙ others-stay (slotsRegion table) (slots-within table) words w₀ (can .enough) 0 (zeros count) inside s a;
+        },
+      )
 
 pub placing-none : (words table n count : ℕ) (w : List ℕ) → slotsIn w words table count ≡ zeros count → Placing words table n count w w 0
 unfolding identitiesIn ofTable recordsFrom those

@@ -86,7 +86,15 @@ pub fn store_unit(words: &mut [u32], at: usize, unit: Unit, five: bool, cells: C
 {
     let low = octets::size(unit.identity % WORD);
     let high = octets::size(unit.identity / WORD);
-    let head = [unit.table, unit.row, low, high, unit.home, unit.start, unit.size];
+    let head = [
+        unit.table,
+        unit.row,
+        low,
+        high,
+        unit.home,
+        unit.start,
+        unit.size,
+    ];
     store_words(words, at, &head);
     store_cells(five, words, at + CELLS, cells);
 }

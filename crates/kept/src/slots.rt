@@ -67,14 +67,7 @@ pub fn seen_slots(words: usize) -> usize
 }
 
 // The same walk in work, for a bundle of so many words; count slots of the table are at hand, and n records.
-pub fn seek_in(
-    work: &[u32],
-    words: usize,
-    table: usize,
-    n: usize,
-    count: usize,
-    x: u64,
-) -> Sought
+pub fn seek_in(work: &[u32], words: usize, table: usize, n: usize, count: usize, x: u64) -> Sought
     requires { ⌜ Seekable words (now work) table n count ⌝ }
     ensures { λ r. ⌜ r ≡ soughtIn (region (now (work .entry)) words recordsRegion) (part (now (work .entry)) (slotsRegion table .start * words) count) x ⌝ }
 {

@@ -75,7 +75,15 @@ fn slot_width(identities: bool) -> usize
 }
 
 // One number for each slot. The caller has slots of n records that are stored.
-fn put_slots(identities: bool, f: IndexForm, records: &[u32], n: usize, slots: &[u32], out: &mut [u8], at: usize)
+fn put_slots(
+    identities: bool,
+    f: IndexForm,
+    records: &[u32],
+    n: usize,
+    slots: &[u32],
+    out: &mut [u8],
+    at: usize,
+)
     requires { ⌜ Within (now slots) n × (recordWords * n ≤ length (now records)) × (at + slotWidth identities * length (now slots) ≤ length (now out)) ⌝ }
     ensures { λ _. ⌜ now (out .exit) ≡ placed (now (out .entry)) at (numbersOf (f .big) (slotWidth identities) (map (slotNumber identities (now (records .entry))) (now (slots .entry)))) ⌝ }
 {
@@ -140,7 +148,14 @@ fn put_cells(f: IndexForm, records: &[u32], first: usize, out: &mut [u8], at: us
 }
 
 // Record i, where it is one of the table: its offsets where which is 0, its sizes where it is 1.
-fn put_row(f: IndexForm, records: &[u32], i: usize, which: usize, out: &mut [u8], at: usize) -> usize
+fn put_row(
+    f: IndexForm,
+    records: &[u32],
+    i: usize,
+    which: usize,
+    out: &mut [u8],
+    at: usize,
+) -> usize
     requires { ⌜ (recordWords * i + recordWords ≤ length (now records)) × (which ≤ 1) × (at + 4 * length (gridFrom f (now records) which i 1) ≤ length (now out)) ⌝ }
     ensures out { λ _. ⌜ now (out .exit) ≡ placed (now (out .entry)) at (numbersOf (f .big) 4 (gridFrom f (now (records .entry)) which i 1)) ⌝ }
     ensures next { λ r. ⌜ r ≡ at + 4 * length (gridFrom f (now (records .entry)) which i 1) ⌝ }
@@ -152,7 +167,14 @@ fn put_row(f: IndexForm, records: &[u32], i: usize, which: usize, out: &mut [u8]
 }
 
 // All n records.
-fn put_grid(f: IndexForm, records: &[u32], n: usize, which: usize, out: &mut [u8], at: usize) -> usize
+fn put_grid(
+    f: IndexForm,
+    records: &[u32],
+    n: usize,
+    which: usize,
+    out: &mut [u8],
+    at: usize,
+) -> usize
     requires { ⌜ (recordWords * n ≤ length (now records)) × (which ≤ 1) × (at + 4 * length (gridFrom f (now records) which 0 n) ≤ length (now out)) ⌝ }
     ensures out { λ _. ⌜ now (out .exit) ≡ placed (now (out .entry)) at (numbersOf (f .big) 4 (gridFrom f (now (records .entry)) which 0 n)) ⌝ }
     ensures next { λ r. ⌜ r ≡ at + 4 * length (gridFrom f (now (records .entry)) which 0 n) ⌝ }
@@ -168,7 +190,15 @@ fn put_grid(f: IndexForm, records: &[u32], n: usize, which: usize, out: &mut [u8
 
 // ---- the index
 // Head and slots.
-fn put_front(f: IndexForm, columns: usize, records: &[u32], n: usize, slots: &[u32], out: &mut [u8], at: usize)
+fn put_front(
+    f: IndexForm,
+    columns: usize,
+    records: &[u32],
+    n: usize,
+    slots: &[u32],
+    out: &mut [u8],
+    at: usize,
+)
     requires { ⌜ Within (now slots) n × (recordWords * n ≤ length (now records)) × (at + 16 + 12 * length (now slots) ≤ length (now out)) ⌝ }
     ensures { λ _. ⌜ now (out .exit) ≡ placed (now (out .entry)) at (frontIn f columns (now (records .entry)) (now (slots .entry))) ⌝ }
 {
@@ -179,7 +209,14 @@ fn put_front(f: IndexForm, columns: usize, records: &[u32], n: usize, slots: &[u
 }
 
 // The caller keeps room for it, and has placed the records of the table, among n that are stored.
-pub fn write_index(f: IndexForm, records: &[u32], n: usize, slots: &[u32], out: &mut [u8], at: usize)
+pub fn write_index(
+    f: IndexForm,
+    records: &[u32],
+    n: usize,
+    slots: &[u32],
+    out: &mut [u8],
+    at: usize,
+)
     requires { ⌜ Within (now slots) n × (recordWords * n ≤ length (now records)) × (at + length (indexIn f (now records) n (now slots)) ≤ length (now out)) ⌝ }
     ensures { λ _. ⌜ now (out .exit) ≡ placed (now (out .entry)) at (indexIn f (now (records .entry)) n (now (slots .entry))) ⌝ }
 {

@@ -10,7 +10,7 @@ use Rattle.octets.proofs.Parts.{length-part}
 use Rattle.bundle.specs.Bundle.{items}
 use Rattle.bundle.specs.Scan.{sectionsOf, placeBehind}
 use Rattle.index.specs.Rows.{BySection}
-use Rattle.kept.specs.Cells.{Summed}
+use Rattle.keeping.specs.Cells.{Summed}
 use Rattle.package.specs.Input.{Input, unitSections}
 use Rattle.package.specs.Filing.{Filed, unitsIn}
 use Rattle.package.proofs.NumberedWalks.{sections-numbered}

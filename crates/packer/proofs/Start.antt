@@ -17,9 +17,9 @@ use Rattle.bundle.proofs.Objects.{objects-none}
 use Rattle.strings.specs.Strings.{putAll, firstUses}
 use Rattle.strings.proofs.Keeping.{kept-none}
 use Rattle.index.proofs.Slots.{slotsFor-few}
-use Rattle.kept.specs.Layout.{identitiesOf}
-use Rattle.kept.proofs.LawRows.{rows-none, columns-none}
-use Rattle.kept.proofs.LawSeen.{seen-none}
+use Rattle.rows.specs.Layout.{identitiesOf}
+use Rattle.rows.proofs.LawRows.{rows-none, columns-none}
+use Rattle.rows.proofs.LawSeen.{seen-none}
 use Rattle.keeping.specs.Regions.{seenStart, seenSlots, TableHeld}
 use Rattle.keeping.proofs.Starts.{seen-le, slots-le}
 use Rattle.places.proofs.Laws.{places-none}

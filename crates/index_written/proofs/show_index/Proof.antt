@@ -2,7 +2,7 @@
 -- Assumes nothing.
 use native.Mathlib.Omega.{arith}
 use denote.Ref.{now}
-use Rattle.kept.proofs.LawPieces.{index-length}
+use Rattle.rows.proofs.LawPieces.{index-length}
 use Rattle.index_written.proofs.Laws.{prefix}
 use borrow.Author.Needs.{needs}
 use Rattle.index_written.proofs.show_index.Statement.{statement}

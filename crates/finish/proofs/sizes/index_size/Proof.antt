@@ -4,7 +4,7 @@ use mathlib.Core.Path.{ap, _∙_}
 use native.Mathlib.Omega.{arith}
 use lib.ListN.{length}
 use Rattle.index.proofs.Slots.{slotsFor-fits}
-use Rattle.kept.specs.Layout.{codesIn, indexSize}
+use Rattle.rows.specs.Layout.{codesIn, indexSize}
 use Rattle.finish.proofs.Sized.{index-none, index-some}
 use borrow.Author.Needs.{needs}
 use Rattle.finish.proofs.sizes.index_size.Statement.{statement}

@@ -1,0 +1,68 @@
+-- `rows::storing::identity` meets its contract: two words of 32 bits.
+-- Assumes nothing.
+use Rattle.rows.specs.Layout.{identityIn}
+use Prim.Native.Nat.{_+_, _*_}
+use native.Mathlib.Omega.{arith}
+use borrow.Author.Needs.{needs}
+use Rattle.rows.proofs.storing.identity.Statement.{statement}
+use Rattle.rows.proofs.storing.identity.Tie as tie
+
+mul-wide64 : tie.Need-mul-wide64
+mul-wide64 c = search needs
+
+mul-wide64-2 : tie.Need-mul-wide64-2
+mul-wide64-2 c = search needs
+
+shared-slice-read-wide64 : tie.Need-shared-slice-read-wide64
+shared-slice-read-wide64 c = search needs
+
+wide64-requires : tie.Need-wide64-requires
+wide64-requires c κs = search needs
+
+mul-wide64-3 : tie.Need-mul-wide64-3
+mul-wide64-3 c = search needs
+
+add-wide64 : tie.Need-add-wide64
+add-wide64 c = search needs
+
+mul-wide64-4 : tie.Need-mul-wide64-4
+mul-wide64-4 c = search needs
+
+shared-slice-read-wide64-2 : tie.Need-shared-slice-read-wide64-2
+shared-slice-read-wide64-2 c = search needs
+
+wide64-requires-2 : tie.Need-wide64-requires-2
+wide64-requires-2 c κs = search needs
+
+mul-result : tie.Need-mul-result
+mul-result c =
+    let k = c .before .shared-slice-known3 in
+    let i = c .before .before .before .before .before .args .i in
+    omega (arith, k .given (18 * i + 1), c .wide642 .ensures)
+
+add-result : tie.Need-add-result
+add-result c =
+    let k = c .before .shared-slice-known3 in
+    let i = c .before .before .before .before .before .args .i in
+    omega (arith, k .given (18 * i + 1), k .given (18 * i), c .wide642 .ensures, c .before .before .wide64 .ensures)
+
+returns : tie.Need-returns
+unfolding identityIn
+returns c = omega (arith, c .wide642 .ensures, c .before .before .wide64 .ensures)
+
+pub identity-spec : {M : Type 1} → statement M
+identity-spec =
+    tie.close
+    (tie.spec
+    mul-wide64
+    mul-wide64-2
+    shared-slice-read-wide64
+    wide64-requires
+    mul-wide64-3
+    add-wide64
+    mul-wide64-4
+    shared-slice-read-wide64-2
+    wide64-requires-2
+    mul-result
+    add-result
+    returns)
