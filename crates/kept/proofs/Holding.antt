@@ -164,3 +164,117 @@ module _ (five : Bool) (w : List ℕ) (n : ℕ) (k : KeptUnit) (many : length (k
               (ap (λ (z : KeptUnit). z .identity) new ∙ is .identity) rowis);
           columns = columns;
         }
+
+-- ---- all units
+pub units-none : (five : Bool) (b w : List ℕ) (slots : ℕ → List ℕ) (u : Units) → u .count ≡ 0 → u .info ≡ 0 → u .types ≡ 0
+    → ((t : ℕ) → OneOrTwo t → TableHeld five w 0 (slots t) t (pick t (u .cu) (u .tu)) []) → UnitsHeld five b w slots u []
+unfolding rowsOf unitBytes entriesFrom those joined bytesFrom recordsFrom
+units-none five b w slots u c i y tables = record {
+  count = c;
+  inside = record { is = λ j h. absurd (not-suc-le-zero (rw c at h)) };
+  tables = λ t o. rw c (tables t o);
+  bytes = λ h. rw c;
+  many = λ h o. ⊎-elim (λ (e : h ≡ 1). sym (pick-first h (u .info) (u .types) e) ∙ i) (λ (e : h ≡ 2). sym (pick-second h (u .info) (u .types) (λ q. omega arith)) ∙ y) o;
+}
+
+-- the rows of the definition with one unit more
+rows-own : (ks : List Filed) (y : Filed) (t : ℕ) → y .table ≡ t
+    → rowsOf (ks ++ (y ∷ [])) t ≡ rowsOf ks t ++ (record { identity = y .identity; cells = cellsBy (y .contributions) (y .bases) (y .home) (length (unitBytes ks (y .home))) (length (y .bytes)) } ∷ [])
+unfolding rowsFrom rowAt entriesFrom those cells cellsBy
+rows-own ks y t e =
+    let place : behindAll nothingBefore ks (y .home) ≡ length (unitBytes ks (y .home)) = behind-at nothingBefore ks (y .home) ∙ omega arith in
+    row-stands ks y [] t e ∙ ap (λ (p : ℕ). rowsOf ks t ++ (record { identity = y .identity; cells = cells y p } ∷ [])) place
+
+rows-other : (ks : List Filed) (y : Filed) (t : ℕ) → (y .table ≡ t → ⊥) → rowsOf (ks ++ (y ∷ [])) t ≡ rowsOf ks t
+unfolding rowsFrom entriesFrom those
+rows-other ks y t e =
+    rows-are (ks ++ (y ∷ [])) t ∙ rows-append nothingBefore ks (y ∷ []) t
+    ∙ ap (λ (l : List Row). rowsFrom nothingBefore ks t ++ l) (rows-later (behindAll nothingBefore ks) y [] t e)
+    ∙ append-nil (rowsFrom nothingBefore ks t) ∙ sym (rows-are ks t)
+
+bytes-own : (ks : List Filed) (y : Filed) (h : ℕ) → y .home ≡ h → unitBytes (ks ++ (y ∷ [])) h ≡ unitBytes ks h ++ y .bytes
+unfolding unitBytes those joined
+bytes-own ks y h e = unit-append ks (y ∷ []) h ∙ ap (λ (l : List ℕ). unitBytes ks h ++ l) (unit-here y [] h e ∙ append-nil (y .bytes))
+
+bytes-other : (ks : List Filed) (y : Filed) (h : ℕ) → (y .home ≡ h → ⊥) → unitBytes (ks ++ (y ∷ [])) h ≡ unitBytes ks h
+unfolding unitBytes those joined
+bytes-other ks y h e = unit-append ks (y ∷ []) h ∙ ap (λ (l : List ℕ). unitBytes ks h ++ l) (unit-later y [] h e) ∙ append-nil (unitBytes ks h)
+
+-- the units by value with one more
+abbrev pub withUnit : Units → ℕ → Table → ℕ → ℕ → Units
+withUnit u table t home bytes =
+    record { count = u .count + 1; cu = pick table t (u .cu); tu = pick table (u .tu) t; info = pick home bytes (u .info); types = pick home (u .types) bytes }
+
+-- what is stored of a unit that is kept: its record behind the others, its number in a free slot, and its columns marked
+pub record KeptAs (five : Bool) (b w : List ℕ) (slots : ℕ → List ℕ) (u : Units) (ks : List Filed) (y : Filed) (k : UnitHead) (cells : Contributions) (at : ℕ) (has : List Bool) : Type 0 where
+  pub table-is : k .table ≡ y .table
+  pub identity-is : k .identity ≡ y .identity
+  pub home-is : k .home ≡ y .home
+  pub row-is : k .row ≡ pick (y .table) (u .cu) (u .tu) .rows + 1
+  pub tables : OneOrTwo (y .table)
+  pub homes : OneOrTwo (y .home)
+  pub bytes-are : part b (k .start) (k .size) ≡ y .bytes
+  pub within : k .start + k .size ≤ length b
+  pub cells-are : ContributionsAre cells (cellsBy (y .contributions) (y .bases) (y .home) (length (unitBytes ks (y .home))) (length (y .bytes)))
+  pub room : recordWords * u .count + recordWords ≤ length w
+  pub power : PowerOfTwo (length (slots (y .table)))
+  pub few : length (rowsOf ks (y .table)) < length (slots (y .table))
+  pub free : freeFor (slots (y .table)) (y .identity) ≡ some at
+  pub inside : at < length (slots (y .table))
+  pub marked : Marked five (pick (y .table) (u .cu) (u .tu) .has) has cells (length (columnsFor five))
+
+module _ {five : Bool} {b w : List ℕ} {slots : ℕ → List ℕ} {u : Units} {ks : List Filed} {y : Filed} {k : UnitHead} {cells : Contributions} {at : ℕ} {has : List Bool}
+    (h : UnitsHeld five b w slots u ks) (a : KeptAs five b w slots u ks y k cells at has) where
+  abbrev new : KeptUnit
+  new = unitOf k five cells
+
+  many-cells : length (new .cells) ≡ cellWords
+  unfolding unitOf
+  many-cells = cells-many five cells
+
+  abbrev tab : Table
+  tab = pick (y .table) (u .cu) (u .tu)
+
+  abbrev row : Row
+  row = record { identity = y .identity; cells = cellsBy (y .contributions) (y .bases) (y .home) (length (unitBytes ks (y .home))) (length (y .bytes)) }
+
+  row-held : RowIs five new row
+  row-held = rw (← a .identity-is) (unit-row five k cells _ (a .cells-are))
+
+  own-table : TableHeld five (stored w (u .count) new many-cells (a .room)) (u .count + 1) (set (slots (y .table)) at (u .count + 1)) (y .table) (record { rows = tab .rows + 1; has = has }) (rowsOf ks (y .table) ++ (row ∷ []))
+  unfolding unitOf
+  own-table =
+      table-own five w (u .count) new many-cells (a .room) (slots (y .table)) (y .table) tab (rowsOf ks (y .table)) (h .tables (y .table) (a .tables)) (a .table-is) row row-held (a .row-is) (a .power) (a .few) at (a .free) (a .inside) has
+      (columns-more five (tab .has) has (rowsOf ks (y .table)) row cells (h .tables (y .table) (a .tables) .columns) (a .cells-are) (a .marked))
+
+  bytes-new : bytesOf b new ≡ y .bytes
+  unfolding unitOf bytesOf
+  bytes-new = a .bytes-are
+
+  -- v are the records and more the slots after that
+  pub units-more : (v : List ℕ) (slots′ : ℕ → List ℕ) (bytes : ℕ) → v ≡ placed w (recordWords * u .count) (wordsOf new) → slots′ (y .table) ≡ set (slots (y .table)) at (u .count + 1)
+      → ((t : ℕ) → OneOrTwo t → (t ≡ y .table → ⊥) → slots′ t ≡ slots t) → bytes ≡ pick (y .home) (u .info) (u .types) + length (y .bytes)
+      → UnitsHeld five b v slots′ (withUnit u (y .table) (record { rows = tab .rows + 1; has = has }) (y .home) bytes) (ks ++ (y ∷ []))
+  unfolding unitOf
+  units-more v slots′ bytes e own other n = rw e (record {
+    count = omega (arith, h .count, length-append ks (y ∷ []));
+    inside = record {
+      is = λ i l. elim (decLt i (u .count)) [
+        | yes g ↦ rw (stored-before w (u .count) new many-cells (a .room) i g) (h .inside .is i g)
+        | no g ↦ let q : i ≡ u .count = omega arith in rw (q, record-stored w (u .count) new many-cells (a .room)) (a .within)
+      ];
+    };
+    tables = λ t o. elim (ℕ-discrete t (y .table)) [
+      | yes q ↦ rw (q, own, pick-own (y .table) (y .table) (record { rows = tab .rows + 1; has = has }) (u .cu) (u .tu) (a .tables) refl, rows-own ks y (y .table) refl) own-table
+      | no f ↦ rw (other t o f, pick-other (y .table) t (record { rows = tab .rows + 1; has = has }) (u .cu) (u .tu) (a .tables) o f, rows-other ks y t (λ z. f (sym z)))
+          (table-other five w (u .count) new many-cells (a .room) (slots t) t (pick t (u .cu) (u .tu)) (rowsOf ks t) (h .tables t o) (λ z. f (sym z ∙ a .table-is)))
+    ];
+    bytes = λ m. elim (ℕ-discrete (y .home) m) [
+      | yes q ↦ stored-bytes w (u .count) new many-cells (a .room) b m (a .home-is ∙ q) ∙ ap₂ (λ (l r : List ℕ). l ++ r) (h .bytes m) bytes-new ∙ sym (bytes-own ks y m q)
+      | no f ↦ stored-elsewhere w (u .count) new many-cells (a .room) b m (λ z. f (sym (a .home-is) ∙ z)) ∙ h .bytes m ∙ sym (bytes-other ks y m f)
+    ];
+    many = λ m o. elim (ℕ-discrete m (y .home)) [
+      | yes q ↦ pick-own (y .home) m bytes (u .info) (u .types) (a .homes) q ∙ n ∙ omega (arith, h .many (y .home) (a .homes), ap length (bytes-own ks y m (sym q)), length-append (unitBytes ks m) (y .bytes), ap (λ (z : ℕ). length (unitBytes ks z)) q)
+      | no f ↦ pick-other (y .home) m bytes (u .info) (u .types) (a .homes) o f ∙ h .many m o ∙ ap length (sym (bytes-other ks y m (λ z. f (sym z))))
+    ];
+  })

@@ -1,6 +1,6 @@
 -- The records of a table placed one after the other, in slots of the same work.
 -- Assumes nothing.
-use mathlib.Core.Path.{_≡_, refl, sym, ap, _∙_, subst}
+use mathlib.Core.Path.{_≡_, refl, sym, ap, ap₂, _∙_, subst}
 use mathlib.Core.Bool.{Bool, true, false, _||_}
 use mathlib.Core.List.{List, [], _∷_, _++_, append-nil, append-assoc}
 use Prim.Native.Nat.{ℕ, zero, suc, _+_, _*_, _-_, _<_, _≤_}
@@ -18,12 +18,13 @@ use Rattle.octets.proofs.Regions.{placed-whole, part-placed}
 use Rattle.index.specs.Held.{PowerOfTwo}
 use Rattle.index.proofs.LawMore.{below-set}
 use Rattle.work.specs.Regions.{Layout, recordsRegion, slotsRegion, recordWords, region, Apart}
-use Rattle.work.proofs.Stores.{part-stored, region-fits, length-region, store-length, others-stay, own-stored, records-within, slots-within, slots-records, one-word}
-use Rattle.kept.specs.Records.{recordAt, ofTable, identitiesIn, recordsFrom}
-use Rattle.kept.specs.Slots.{Within, soughtIn, SeenHeld, Numbered, slotsIn, Placeable, Seekable, SlotsLeft, Fitting, Placed, PlacedAll}
+use Rattle.work.proofs.Stores.{part-stored, region-room, region-fits, length-region, store-length, others-stay, own-stored, records-within, slots-within, records-slots, slots-records, one-word}
+use Rattle.numbers.specs.Limits.{workForWord}
+use Rattle.kept.specs.Records.{KeptUnit, cellWords, wordsOf, recordAt, ofTable, identitiesIn, recordsFrom}
+use Rattle.kept.specs.Slots.{Within, soughtIn, SeenHeld, Numbered, slotsIn, Placeable, Seekable, SlotsLeft, Fitting, Placed, PlacedAll, Keepable, keptIn}
 use Rattle.kept.specs.declared.slots.Sought.{Sought}
 use Rattle.kept.specs.declared.slots.Sought.the-variants.{Known, Free, Full}
-use Rattle.kept.proofs.Recording.{identities-snoc, identities-other, identities-many}
+use Rattle.kept.proofs.Recording.{words-long, identities-snoc, identities-other, identities-many}
 use Rattle.kept.proofs.Seeking.{sought-inside}
 use Rattle.kept.proofs.Seen.{seen-none, seen-later, seen-more, sought-known, sought-full, sought-free}
 
@@ -279,3 +280,69 @@ module _ {words table n count : ℕ} {w₀ w : List ℕ} {i : ℕ} (can : Placea
       left = record { same = left-more .same; within = record { within = λ k. let g = q .left .within .within k in omega arith }; others = left-more .others };
       placed = λ fit. absurd (true-false (told fit .0) f);
     }
+
+pub slot-fits : (words room count slot t start : ℕ) → Keepable words room count slot → start ≡ slotsRegion t .start * words → start + slot < room
+slot-fits words room count slot t start can e = omega (arith, region-room (slotsRegion t) (slots-within t) words room (can .enough), one-word t words, can .inside)
+
+pub kept-by : (w u v : List ℕ) (words count slot first start : ℕ) (k : KeptUnit) → first ≡ recordsRegion .start * words → start ≡ slotsRegion (k .table) .start * words
+    → u ≡ placed w (first + recordWords * count) (wordsOf k) → v ≡ placed u (start + slot) ((count + 1) ∷ []) → v ≡ keptIn w words count slot k
+unfolding keptIn
+kept-by w u v words count slot first start k e f p q =
+    q ∙ ap₂ (λ (l : List ℕ) (a : ℕ). placed l (a + slot) ((count + 1) ∷ [])) (p ∙ ap (λ (a : ℕ). placed w (a + recordWords * count) (wordsOf k)) e) f
+
+-- ---- a unit kept: its record and its slot change, and nothing else
+module _ (w : List ℕ) (words count slot : ℕ) (k : KeptUnit) (many : length (k .cells) ≡ cellWords) (can : Keepable words (length w) count slot) where
+  abbrev u : List ℕ
+  u = placed w (recordsRegion .start * words + recordWords * count) (wordsOf k)
+
+  record-inside : recordWords * count + length (wordsOf k) ≤ recordsRegion .words * words
+  record-inside = omega (arith, words-long k many, can .units)
+
+  slot-inside : slot + length ((count + 1) ∷ []) ≤ slotsRegion (k .table) .words * words
+  slot-inside = omega (arith, one-word (k .table) words, can .inside)
+
+  u-length : length u ≡ length w
+  u-length = store-length recordsRegion records-within words w (can .enough) (recordWords * count) (wordsOf k) record-inside
+
+  u-enough : workForWord * words ≤ length u
+  u-enough = rw u-length (can .enough)
+
+  pub kept-length : length (keptIn w words count slot k) ≡ length w
+  unfolding keptIn
+  kept-length = store-length (slotsRegion (k .table)) (slots-within (k .table)) words u u-enough slot ((count + 1) ∷ []) slot-inside ∙ u-length
+
+  pub kept-records : region (keptIn w words count slot k) words recordsRegion ≡ placed (region w words recordsRegion) (recordWords * count) (wordsOf k)
+  unfolding keptIn
+  kept-records =
+      others-stay (slotsRegion (k .table)) (slots-within (k .table)) words u u-enough slot ((count + 1) ∷ []) slot-inside recordsRegion (slots-records (k .table))
+      ∙ own-stored recordsRegion records-within words w (can .enough) (recordWords * count) (wordsOf k) record-inside
+
+  -- a region beside the records and the slots of its table
+  pub kept-others : (s : Layout) → Apart recordsRegion s → Apart (slotsRegion (k .table)) s → region (keptIn w words count slot k) words s ≡ region w words s
+  unfolding keptIn
+  kept-others s a b =
+      others-stay (slotsRegion (k .table)) (slots-within (k .table)) words u u-enough slot ((count + 1) ∷ []) slot-inside s b
+      ∙ others-stay recordsRegion records-within words w (can .enough) (recordWords * count) (wordsOf k) record-inside s a
+
+  -- its own slots, the first m of them
+  front : (z : List ℕ) (t m : ℕ) → m ≤ words → slotsIn z words t m ≡ part (region z words (slotsRegion t)) 0 m
+  unfolding slotsIn region
+  front z t m h =
+      let o : slotsRegion t .start * words + 0 ≡ slotsRegion t .start * words = omega arith in
+      sym (part-part z (slotsRegion t .start * words) (slotsRegion t .words * words) 0 m (omega (arith, one-word t words)) ∙ ap (λ (a : ℕ). part z a m) o)
+
+  pub kept-slots : (m : ℕ) → slot < m → m ≤ words → slotsIn (keptIn w words count slot k) words (k .table) m ≡ set (slotsIn w words (k .table) m) slot (count + 1)
+  unfolding keptIn slotsIn
+  kept-slots m l h =
+      let base = slotsRegion (k .table) .start * words in
+      let fits : base + m ≤ length w = omega (arith, region-fits (slotsRegion (k .table)) (slots-within (k .table)) words w (can .enough), one-word (k .table) words) in
+      let same : part u base m ≡ part w base m =
+      front u (k .table) m h
+      ∙ ap (λ (r : List ℕ). part r 0 m) (others-stay recordsRegion records-within words w (can .enough) (recordWords * count) (wordsOf k) record-inside (slotsRegion (k .table)) (records-slots (k .table)))
+      ∙ sym (front w (k .table) m h) in
+      let long : length (part w base m) ≡ m = length-part w base m fits in
+      part-stored u base m slot ((count + 1) ∷ []) (omega (arith, u-length)) (omega arith) ∙ ap (λ (r : List ℕ). placed r slot ((count + 1) ∷ [])) same
+      ∙ sym (placed-byte (part w base m) slot (count + 1) (omega arith))
+
+  pub kept-other-slots : (t m : ℕ) → Apart (slotsRegion (k .table)) (slotsRegion t) → m ≤ words → slotsIn (keptIn w words count slot k) words t m ≡ slotsIn w words t m
+  kept-other-slots t m a h = front (keptIn w words count slot k) t m h ∙ ap (λ (r : List ℕ). part r 0 m) (kept-others (slotsRegion t) (records-slots t) a) ∙ sym (front w t m h)

@@ -2,18 +2,18 @@
 -- Assumes nothing.
 use mathlib.Core.Path.{_≡_}
 use mathlib.Core.Bool.{Bool, true, false}
-use mathlib.Core.List.{List, map}
+use mathlib.Core.List.{List, [], _∷_, map}
 use mathlib.Core.Option.{Option, some, none}
 use Prim.Native.Nat.{ℕ, _+_, _*_, _/_, _<_, _≤_}
 use lib.ListN.{length, getD}
-use Rattle.octets.specs.Octets.{part}
+use Rattle.octets.specs.Octets.{part, placed}
 use Rattle.octets.specs.Lists.{has, distinct}
 use Rattle.octets.specs.Checked.{pass}
 use Rattle.numbers.specs.Limits.{bundleLimit, workForWord}
 use Rattle.index.specs.Probing.{Probe, found, absent, firstSlot, stride, freeFrom, search, slotsFor, Slots, unused, placeAll}
 use Rattle.index.specs.Held.{PowerOfTwo}
 use Rattle.work.specs.Regions.{Layout, recordsRegion, slotsRegion, recordWords, leastUnit, region, Apart}
-use Rattle.kept.specs.Records.{recordAt, ofTable, identitiesIn, identityFor, rowFor}
+use Rattle.kept.specs.Records.{KeptUnit, wordsOf, recordAt, ofTable, identitiesIn, identityFor, rowFor}
 use Rattle.kept.specs.declared.slots.Sought.{Sought}
 use Rattle.kept.specs.declared.slots.Sought.the-variants.{Known, Free, Full}
 
@@ -89,3 +89,14 @@ pub record PlacedAll (words table n count : ℕ) (w v : List ℕ) (r : Bool) : T
   pub left : SlotsLeft words table n count w v
   pub placed : Fitting (region w words recordsRegion) n table count
       → (r ≡ true) × SeenHeld (region w words recordsRegion) (slotsIn v words table count) n (identitiesIn (region w words recordsRegion) n table)
+
+-- ---- a unit kept: its record behind count others, its number in a slot of its table
+pub record Keepable (words room count slot : ℕ) : Type 0 where
+  pub enough : workForWord * words ≤ room
+  pub limit : 4 * words ≤ bundleLimit
+  pub units : recordWords * count + recordWords ≤ recordsRegion .words * words
+  pub inside : slot < words
+
+unfoldable pub keptIn : List ℕ → ℕ → ℕ → ℕ → KeptUnit → List ℕ
+keptIn w words count slot k =
+    placed (placed w (recordsRegion .start * words + recordWords * count) (wordsOf k)) (slotsRegion (k .table) .start * words + slot) ((count + 1) ∷ [])

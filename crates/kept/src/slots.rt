@@ -6,16 +6,23 @@ ghost use Rattle.octets.specs.Octets.{part, zeros};
 ghost use Rattle.index.specs.Held.{PowerOfTwo};
 ghost use Rattle.index.specs.Probing.{slotsFor};
 ghost use Rattle.work.specs.Regions.{recordWords, recordsRegion, slotsRegion, region};
+ghost use Rattle.kept.specs.Columns.{CellsFit};
+ghost use Rattle.kept.specs.Records.{unitOf, UnitFits};
 ghost use Rattle.kept.specs.Slots.{
   seenSlots,
   Within,
   slotsIn,
   soughtIn,
   Seekable,
+  Keepable,
+  keptIn,
   Placeable,
   Placed,
   PlacedAll,
 };
+use crate::records::Unit;
+use index::judging::Contributions;
+use work::RECORD;
 
 // Where a walk ends: at a record of the identity, at a free slot, or nowhere.
 pub enum Sought {
@@ -129,4 +136,23 @@ pub fn place_units(work: &mut [u32], words: usize, table: usize, n: usize, count
     let to = from + count;
     octets::clear_words(&mut work[from..to]);
     place_all(work, words, table, n, count)
+}
+
+// The record of a unit behind count others, and its number in a free slot of its table. Callers have sought the slot.
+pub fn keep(
+    work: &mut [u32],
+    words: usize,
+    count: usize,
+    slot: usize,
+    unit: Unit,
+    five: bool,
+    cells: Contributions,
+)
+    requires { ⌜ Keepable words (length (now work)) count slot × UnitFits unit × CellsFit cells ⌝ }
+    ensures { λ _. ⌜ now (work .exit) ≡ keptIn (now (work .entry)) words count slot (unitOf unit five cells) ⌝ }
+{
+    let records = work::records(words);
+    crate::records::store_unit(work, records.start + RECORD * count, unit, five, cells);
+    let slots = work::slots(words, unit.table);
+    octets::set_word(work, slots.start + slot, count + 1);
 }

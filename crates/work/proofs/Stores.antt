@@ -60,9 +60,12 @@ scaled a b n h = mul-le-mul-right n h
 pub region-ends : (r : Layout) (n : ℕ) → r .start * n + r .words * n ≡ (r .start + r .words) * n
 region-ends r n = sym (add-mul (r .start) (r .words) n)
 
+pub region-room : (r : Layout) → Within r → (n room : ℕ) → workForWord * n ≤ room → r .start * n + r .words * n ≤ room
+region-room r i n room h = omega (arith, region-ends r n, scaled (r .start + r .words) workForWord n (i .ends))
+
 module _ (r : Layout) (i : Within r) (n : ℕ) (w : List ℕ) (room : workForWord * n ≤ length w) where
   pub region-fits : r .start * n + r .words * n ≤ length w
-  region-fits = omega (arith, region-ends r n, scaled (r .start + r .words) workForWord n (i .ends))
+  region-fits = region-room r i n (length w) room
 
   pub length-region : length (region w n r) ≡ r .words * n
   unfolding region
