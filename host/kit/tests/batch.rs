@@ -1,18 +1,18 @@
-//! Many questions through C: the answer and every word of the answers as the vectors say and as the reference has it, whatever they held before;
-//! and each is what the single lookup answers.
+//! Many questions through C: the answer and every word of the answers as the vectors say and as the reference has it, whatever they
+//! held before; and each is what the single lookup answers.
 
 use barthovin::answer::Found;
 use barthovin::batch::{answer_words, lookup, question, MOST};
 use barthovin::ffi;
 use kit::generate::{call, question as some_question, Random};
-use kit::reference::{pack, Packed};
+use kit::reference::{number as number_at, pack, Bundle, Packed};
 use kit::vectors::{bytes, lines, number};
 
 const MARGIN: usize = 16;
 
 /// One call over junk, compared with what is wanted; words following the answers are zero, and around them nothing is touched.
 fn compare(package: &[u8], version: u32, questions: &[u32], lent: usize, wanted: &Result<Vec<u32>, u32>) -> u32 {
-    let junk = |at: usize| at as u32 * 0x9E37_79B9 | 1;
+    let junk = |at: usize| (at as u32).wrapping_mul(0x9E37_79B9) | 1;
     let mut memory: Vec<u32> = (0..lent + 2 * MARGIN).map(junk).collect();
     let (code, length) = answer_words(package, version, questions, &mut memory[MARGIN..MARGIN + lent]);
     let (told, mut left) = match wanted {
@@ -21,14 +21,22 @@ fn compare(package: &[u8], version: u32, questions: &[u32], lent: usize, wanted:
     };
     left.resize(lent, 0);
     assert_eq!((code, length), told, "for {questions:X?}, {lent} words, version {version}, {package:02X?}");
-    assert_eq!(memory[MARGIN..MARGIN + lent], left, "for {questions:X?}, {lent} words, version {version}, {package:02X?}");
+    assert_eq!(
+        memory[MARGIN..MARGIN + lent],
+        left,
+        "for {questions:X?}, {lent} words, version {version}, {package:02X?}"
+    );
     let around = (0..MARGIN).chain(MARGIN + lent..memory.len());
     assert!(around.into_iter().all(|at| memory[at] == junk(at)), "memory beside what was lent is changed");
     code
 }
 
 fn words(text: &str) -> Vec<u32> {
-    text.trim_start_matches('-').split(',').filter(|w| !w.is_empty()).map(|w| u32::from_str_radix(w, 16).expect("a word")).collect()
+    text.trim_start_matches('-')
+        .split(',')
+        .filter(|w| !w.is_empty())
+        .map(|w| u32::from_str_radix(w, 16).expect("a word"))
+        .collect()
 }
 
 #[test]
@@ -59,6 +67,21 @@ fn question_words(random: &mut Random, package: &[u8]) -> [u32; 3] {
     [kind | code << 4 | table, asked.identity as u32, (asked.identity >> 32) as u32]
 }
 
+/// The same package with rows whose parts end outside their sections.
+fn with_parts_outside(package: &[u8]) -> Vec<u8> {
+    let mut changed = package.to_vec();
+    let Some(read) = Bundle::read(package) else { return changed };
+    for section in read.objects.iter().flat_map(|o| &o.sections).filter(|s| s.code >= 12) {
+        let field = |at| number_at(section.bytes, at, 4, read.big).unwrap_or(0) as usize;
+        // The sizes are the last words of an index: columns times units.
+        let (sizes, end) = (4 * field(4) * field(8), section.start + section.bytes.len());
+        if let Some(sizes) = end.checked_sub(sizes).and_then(|start| changed.get_mut(start..end)) {
+            sizes.fill(0x7F);
+        }
+    }
+    changed
+}
+
 #[test]
 fn generated_lists() {
     let mut random = Random::new(80);
@@ -66,7 +89,10 @@ fn generated_lists() {
     for _ in 0..8_000 {
         let c = call(&mut random);
         let Packed::Made(package) = pack(&c.bundle, c.work, c.output) else { continue };
-        let asked = some_question(&mut random, &package);
+        let mut asked = some_question(&mut random, &package);
+        if random.one_in(4) {
+            asked.package = with_parts_outside(&package);
+        }
         let count = random.below(12) as usize;
         let mut questions: Vec<u32> = (0..count).flat_map(|_| question_words(&mut random, &package)).collect();
         if random.one_in(20) {

@@ -39,8 +39,7 @@ pub fn run(arguments: &[OsString]) -> Result<u8, Stop> {
     }
     let words: Vec<String> = operands(&call)?.iter().map(|word| show::name(word)).collect();
     let question = question(&words).map_err(|message| call.wrong(message))?;
-    let name = &call.operands[0];
-    let package = input::read(name, LONGEST_PACKAGE)?;
+    let package = input::read(&call.operands[0], LONGEST_PACKAGE)?;
     let Question { table, identity, asked, .. } = question;
     // Without a version the index's own is taken; a bad package is refused whatever it is.
     let version = question.version.unwrap_or_else(|| Package::read(&package).map_or(5, |p| p.version()));
@@ -59,14 +58,19 @@ pub fn run(arguments: &[OsString]) -> Result<u8, Stop> {
         Found::Absent(looks) if call.has("raw") => Err(Stop::Refused(show::absent(false, looks))),
         Found::Absent(looks) => output::print(&show::absent(call.has("json"), looks)).map(|_| NOT_DONE),
         Found::Refused(number) => {
-            if call.has("json") {
-                output::print(&show::refused_json(number))?;
-            }
             let why = explain::looking_up(&package, version, table, identity, asked, number);
-            let why = why.map(|why| format!(": {why}")).unwrap_or_default();
-            Err(Stop::Refused(format!("{}: refused {number}: {}{why}", input::shown(name), meaning(number))))
+            refused(&call, number, why)
         }
     }
+}
+
+fn refused(call: &Call, number: u32, why: Option<String>) -> Result<u8, Stop> {
+    if call.has("json") {
+        output::print(&show::refused_json(number))?;
+    }
+    let why = why.map(|why| format!(": {why}")).unwrap_or_default();
+    let name = input::shown(&call.operands[0]);
+    Err(Stop::Refused(format!("{name}: refused {number}: {}{why}", meaning(number))))
 }
 
 /// The operands but the package.
@@ -81,9 +85,7 @@ fn operands(call: &Call) -> Result<&[OsString], Stop> {
 pub fn question(words: &[String]) -> Result<Question, String> {
     let bad = |what: &str, word: &str| format!("{what} '{word}' can't be read");
     let (version, rest) = match words {
-        [version, rest @ ..] if rest.len() == 4 => {
-            (Some(small(version).ok_or_else(|| bad("version", version))?), rest)
-        }
+        [version, rest @ ..] if rest.len() == 4 => (Some(small(version).ok_or_else(|| bad("version", version))?), rest),
         rest => (None, rest),
     };
     let [table_word, identity_word, kind, last] = rest else {

@@ -75,8 +75,7 @@ pub fn all() -> Result<Vec<Lookup>> {
 pub fn batch() -> Result<Duration> {
     let package = package(true);
     let unit = |i: usize| identity(1 + i as u64 * 193 % UNITS);
-    let questions: Vec<u32> =
-        (0..batch::MOST).flat_map(|i| batch::question(1, 1, unit(i)).expect("it fits")).collect();
+    let questions: Vec<u32> = (0..batch::MOST).flat_map(|i| batch::question(1, 1, unit(i)).expect("it fits")).collect();
     let mut answers = vec![0; batch::ANSWER * batch::MOST];
     shortest(|| {
         answers.fill(0xA5A5_A5A5);

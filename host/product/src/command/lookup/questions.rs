@@ -1,10 +1,10 @@
 //! `barthovin lookup --questions`: many questions for one package, an answer on a line for each.
 
 use super::{question, Question};
-use crate::command::call::Call;
-use crate::command::{input, meaning, output, show, Stop, DONE, NOT_DONE};
 use crate::answer::{Asked, Found};
 use crate::batch;
+use crate::command::call::Call;
+use crate::command::{input, meaning, output, show, Stop, DONE, NOT_DONE};
 use crate::ffi;
 use crate::names::LONGEST_PACKAGE;
 use crate::reader::package::Package;
