@@ -14,8 +14,14 @@ ghost use Rattle.filing.specs.Judged.{IndexedIs, InputIs};
 ghost use Rattle.filing.specs.Contributing.{contributionsBy, GivenIs};
 use crate::input::Indexed;
 use crate::input::InputObject;
+use crate::state::COMPILATION;
 use bundle::encoding::ObjectEncoding;
+use index::judging::Measures;
+use index::judging::OwnUnit;
 use index::judging::RowJudged;
+use numbers::sections::CODES;
+use numbers::sections::CU_INDEX;
+use numbers::sections::TU_INDEX;
 
 // By the index of the unit's table, which lies there where there is one.
 fn indexed_contributions(
@@ -24,8 +30,8 @@ fn indexed_contributions(
     start: usize,
     size: usize,
     indexed: Indexed,
-    lengths: [usize; 14],
-    summed: [usize; 14],
+    lengths: [usize; CODES],
+    summed: [usize; CODES],
     identity: u64,
     home: usize,
     at: usize,
@@ -43,25 +49,25 @@ fn indexed_contributions(
     };
     let end = start + size;
     let width = bundle::encoding::width(e);
-    index::judging::judge_row(
-        e.big,
-        &b[start..end],
-        head,
+    let m = Measures {
         width,
         lengths,
-        summed,
+        sums: summed,
+    };
+    let u = OwnUnit {
         identity,
         home,
         at,
-        own,
-    )
+        size: own,
+    };
+    index::judging::judge_row(e.big, &b[start..end], head, m, u)
 }
 
 // A unit of so many bytes at a place of the section home; summed are the sums of its table in this object.
 pub fn contributions_of(
     b: &[u8],
     x: InputObject,
-    summed: [usize; 14],
+    summed: [usize; CODES],
     table: usize,
     identity: u64,
     home: usize,
@@ -72,13 +78,13 @@ pub fn contributions_of(
     ensures { λ r. ⌜ ((i : Input) (here : List Filed) → InputIs (now (b .entry)) x i → ((c : ℕ) → c < 14 → getD summed c 0 ≡ sums here table c) → GivenIs (contributionsOf i here home at (record { size = size; table = table; identity = identity })) r) ⌝ }
 {
     let e = x.encoding;
-    if table == 1 {
+    if table == COMPILATION {
         let indexed = x.cu;
         return indexed_contributions(
             b,
             e,
-            x.start[12],
-            x.size[12],
+            x.start[CU_INDEX],
+            x.size[CU_INDEX],
             indexed,
             x.size,
             summed,
@@ -92,8 +98,8 @@ pub fn contributions_of(
     indexed_contributions(
         b,
         e,
-        x.start[13],
-        x.size[13],
+        x.start[TU_INDEX],
+        x.size[TU_INDEX],
         indexed,
         x.size,
         summed,

@@ -7,15 +7,41 @@ ghost use lib.ListN.{length, getD};
 ghost use Rattle.octets.specs.Lists.{all};
 ghost use Rattle.filing.specs.Counted.{editionBy, completeBy, wrongFor};
 ghost use Rattle.package.specs.Input.{onlyOnce};
+use numbers::sections::ABBREV;
+use numbers::sections::CODES;
+use numbers::sections::CU_INDEX;
+use numbers::sections::INFO;
+use numbers::sections::LINE;
+use numbers::sections::LOC;
+use numbers::sections::LOCLISTS;
+use numbers::sections::MACINFO;
+use numbers::sections::MACRO;
+use numbers::sections::RNGLISTS;
+use numbers::sections::STR;
+use numbers::sections::STR_OFFSETS;
+use numbers::sections::TU_INDEX;
+use numbers::sections::TYPES;
 
-const WRONG_FOUR: [usize; 2] = [9, 10];
+const WRONG_FOUR: [usize; 2] = [LOCLISTS, RNGLISTS];
 
-const WRONG_FIVE: [usize; 5] = [2, 5, 7, 12, 13];
+const WRONG_FIVE: [usize; 5] = [TYPES, LOC, MACINFO, CU_INDEX, TU_INDEX];
 
-const ONLY_ONCE: [usize; 11] = [3, 4, 5, 6, 7, 8, 9, 10, 11, 12, 13];
+const ONLY_ONCE: [usize; 11] = [
+    ABBREV,
+    LINE,
+    LOC,
+    STR_OFFSETS,
+    MACINFO,
+    MACRO,
+    LOCLISTS,
+    RNGLISTS,
+    STR,
+    CU_INDEX,
+    TU_INDEX,
+];
 
 // Whether no code of a list has so many sections or more. The lists here hold codes below 14 alone.
-fn none_reaches(codes: &[usize], count: [usize; 14], least: usize) -> bool
+fn none_reaches(codes: &[usize], count: [usize; CODES], least: usize) -> bool
     requires { ⌜ ((i : ℕ) → getD (now codes) i 0 < 14) ⌝ }
     ensures { λ r. ⌜ r ≡ all (λ c. not (leb least (getD count c 0))) (now (codes .entry)) ⌝ }
 {
@@ -31,7 +57,7 @@ fn none_reaches(codes: &[usize], count: [usize; 14], least: usize) -> bool
 }
 
 // Whether no section is of the wrong edition.
-fn edition_right(five: bool, count: [usize; 14]) -> bool
+fn edition_right(five: bool, count: [usize; CODES]) -> bool
     ensures { λ r. ⌜ r ≡ all (λ c. not (leb 1 (getD count c 0))) (wrongFor five) ⌝ }
 {
     if five {
@@ -41,7 +67,7 @@ fn edition_right(five: bool, count: [usize; 14]) -> bool
 }
 
 // Whether no code other than info and types has a second section.
-fn all_once(count: [usize; 14]) -> bool
+fn all_once(count: [usize; CODES]) -> bool
     ensures { λ r. ⌜ r ≡ all (λ c. not (leb 2 (getD count c 0))) onlyOnce ⌝ }
 {
     none_reaches(&ONLY_ONCE, count, 2)
@@ -58,15 +84,15 @@ fn second_beside(indexes: usize, units: usize) -> bool
 }
 
 // 6
-pub fn edition_good(five: bool, count: [usize; 14]) -> bool
+pub fn edition_good(five: bool, count: [usize; CODES]) -> bool
     ensures { λ r. ⌜ r ≡ editionBy five count ⌝ }
 {
     if edition_right(five, count) {
         if all_once(count) {
-            if second_beside(count[12], count[1]) {
+            if second_beside(count[CU_INDEX], count[INFO]) {
                 return false;
             }
-            if second_beside(count[13], count[2]) {
+            if second_beside(count[TU_INDEX], count[TYPES]) {
                 return false;
             }
             return true;
@@ -77,17 +103,17 @@ pub fn edition_good(five: bool, count: [usize; 14]) -> bool
 }
 
 // 7
-pub fn complete(count: [usize; 14]) -> bool
+pub fn complete(count: [usize; CODES]) -> bool
     ensures { λ r. ⌜ r ≡ completeBy count ⌝ }
 {
-    if count[3] < 1 {
+    if count[ABBREV] < 1 {
         return false;
     }
-    if count[1] < 1 {
+    if count[INFO] < 1 {
         return false;
     }
-    if count[6] < 1 {
+    if count[STR_OFFSETS] < 1 {
         return true;
     }
-    1 <= count[11]
+    1 <= count[STR]
 }

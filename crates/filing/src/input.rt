@@ -13,6 +13,13 @@ use bundle::encoding::ObjectEncoding;
 use bundle::encoding::WordRead;
 use index::reading::IndexHead;
 use index::reading::IndexRead;
+use numbers::refusals::BAD_ENCODING;
+use numbers::refusals::BAD_INDEX;
+use numbers::refusals::OTHER_ENCODING;
+use numbers::refusals::SECTION_MISSING;
+use numbers::refusals::WRONG_EDITION;
+use numbers::sections::CODES;
+use numbers::tables::INDEX_2;
 
 // An index of the object, or that it has none.
 pub enum Indexed {
@@ -23,8 +30,8 @@ pub enum Indexed {
 // An object that passed: where the first section of each code lies in the bundle, 0 and 0 where there is none.
 pub struct InputObject {
     pub encoding: ObjectEncoding,
-    pub start: [usize; 14],
-    pub size: [usize; 14],
+    pub start: [usize; CODES],
+    pub size: [usize; CODES],
     pub cu: Indexed,
     pub tu: Indexed,
 }
@@ -53,19 +60,28 @@ pub fn judge_object(big: bool, first: u32, word: u32, scan: Scan) -> Judged
             long: false,
         };
         return Judged {
-            code: 4,
+            code: BAD_ENCODING,
             encoding: none,
         };
     };
     if word != first {
-        return Judged { code: 5, encoding };
+        return Judged {
+            code: OTHER_ENCODING,
+            encoding,
+        };
     }
     let count = scan.count;
     if !crate::editions::edition_good(encoding.five, count) {
-        return Judged { code: 6, encoding };
+        return Judged {
+            code: WRONG_EDITION,
+            encoding,
+        };
     }
     if !crate::editions::complete(count) {
-        return Judged { code: 7, encoding };
+        return Judged {
+            code: SECTION_MISSING,
+            encoding,
+        };
     }
     Judged { code: 0, encoding }
 }
@@ -90,13 +106,13 @@ pub fn judge_index(
     let end = start + size;
     let IndexRead::Good(head) = index::reading::read_index(e.big, &b[start..end]) else {
         return JudgedIndex {
-            code: 10,
+            code: BAD_INDEX,
             index: Indexed::Nowhere,
         };
     };
-    if head.version != 2 {
+    if head.version != INDEX_2 {
         return JudgedIndex {
-            code: 10,
+            code: BAD_INDEX,
             index: Indexed::Nowhere,
         };
     }

@@ -18,17 +18,20 @@ ghost use Rattle.filing.specs.Choices.{
   NewUnit,
   SumsRoom,
 };
+use crate::state::COMPILATION;
 use crate::state::InProgress;
 use crate::state::Sums;
 use index::judging::Contributions;
 use keeping::Table;
+use numbers::sections::CODES;
+use numbers::sections::INFO;
 use places::Kept;
 
 // ---- chosen by number
 pub fn table_of(st: InProgress, table: usize) -> Table
     ensures { λ r. ⌜ r ≡ tableOf st table ⌝ }
 {
-    if table == 1 {
+    if table == COMPILATION {
         let t = st.cu;
         return t;
     }
@@ -44,7 +47,7 @@ fn with_table(st: InProgress, table: usize, t: Table) -> InProgress
     let info = st.info;
     let types = st.types;
     let bases = st.bases;
-    if table == 1 {
+    if table == COMPILATION {
         return InProgress {
             cu: t,
             tu,
@@ -65,7 +68,7 @@ fn with_table(st: InProgress, table: usize, t: Table) -> InProgress
 fn kept_of(st: InProgress, home: usize) -> Kept
     ensures { λ r. ⌜ r ≡ keptOf st home ⌝ }
 {
-    if home == 1 {
+    if home == INFO {
         let k = st.info;
         return k;
     }
@@ -81,7 +84,7 @@ fn with_kept(st: InProgress, home: usize, k: Kept) -> InProgress
     let info = st.info;
     let types = st.types;
     let bases = st.bases;
-    if home == 1 {
+    if home == INFO {
         return InProgress {
             cu,
             tu,
@@ -99,10 +102,10 @@ fn with_kept(st: InProgress, home: usize, k: Kept) -> InProgress
     }
 }
 
-pub fn sums_of(sums: Sums, table: usize) -> [usize; 14]
+pub fn sums_of(sums: Sums, table: usize) -> [usize; CODES]
     ensures { λ r. ⌜ r ≡ sumsOf sums table ⌝ }
 {
-    if table == 1 {
+    if table == COMPILATION {
         let s = sums.cu;
         return s;
     }
@@ -110,12 +113,12 @@ pub fn sums_of(sums: Sums, table: usize) -> [usize; 14]
     s
 }
 
-fn with_sums(sums: Sums, table: usize, s: [usize; 14]) -> Sums
+fn with_sums(sums: Sums, table: usize, s: [usize; CODES]) -> Sums
     ensures { λ r. ⌜ r ≡ withSums sums table s ⌝ }
 {
     let cu = sums.cu;
     let tu = sums.tu;
-    if table == 1 {
+    if table == COMPILATION {
         return Sums { cu: s, tu };
     }
     Sums { cu, tu: s }

@@ -25,6 +25,12 @@ use crate::input::Indexed;
 use crate::input::InputObject;
 use bundle::Scan;
 use bundle::encoding::ObjectEncoding;
+use numbers::refusals::BAD_STR_OFFSETS;
+use numbers::refusals::NO_STRING;
+use numbers::sections::CU_INDEX;
+use numbers::sections::STR;
+use numbers::sections::STR_OFFSETS;
+use numbers::sections::TU_INDEX;
 use strings::entries::Entries;
 use strings::table::Added;
 use strings::table::Place;
@@ -75,7 +81,7 @@ pub fn add_object_strings(
     let last = first + offsets.size;
     let Entries::Count(_) = strings::entries::check_entries(e, &b[first..last]) else {
         return StringsFiled {
-            code: 8,
+            code: BAD_STR_OFFSETS,
             strings: t,
         };
     };
@@ -90,7 +96,7 @@ pub fn add_object_strings(
         t,
     ) else {
         return StringsFiled {
-            code: 9,
+            code: NO_STRING,
             strings: t,
         };
     };
@@ -108,7 +114,7 @@ fn judge_indexes(b: &[u8], e: ObjectEncoding, scan: Scan) -> IndexesJudged
     let count = scan.count;
     let start = scan.start;
     let size = scan.size;
-    let cu = crate::input::judge_index(b, e, start[12], size[12], count[12]);
+    let cu = crate::input::judge_index(b, e, start[CU_INDEX], size[CU_INDEX], count[CU_INDEX]);
     let cu_code = cu.code;
     let cu_index = cu.index;
     if cu_code != 0 {
@@ -118,7 +124,7 @@ fn judge_indexes(b: &[u8], e: ObjectEncoding, scan: Scan) -> IndexesJudged
             tu: Indexed::Nowhere,
         };
     }
-    let tu = crate::input::judge_index(b, e, start[13], size[13], count[13]);
+    let tu = crate::input::judge_index(b, e, start[TU_INDEX], size[TU_INDEX], count[TU_INDEX]);
     let tu_code = tu.code;
     let tu_index = tu.index;
     IndexesJudged {
@@ -170,14 +176,14 @@ pub fn read_input(
     let start = scan.start;
     let size = scan.size;
     let offsets = Place {
-        start: start[6],
-        size: size[6],
+        start: start[STR_OFFSETS],
+        size: size[STR_OFFSETS],
     };
     let text = Place {
-        start: start[11],
-        size: size[11],
+        start: start[STR],
+        size: size[STR],
     };
-    let put = add_object_strings(b, e, scan.count[6], offsets, text, n, t, work);
+    let put = add_object_strings(b, e, scan.count[STR_OFFSETS], offsets, text, n, t, work);
     let strings = put.strings;
     if put.code != 0 {
         return input_refused(put.code, e, scan, strings);

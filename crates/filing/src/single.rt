@@ -11,9 +11,12 @@ ghost use Rattle.package.specs.Filing.{Filed, unitAt};
 ghost use Rattle.filing.specs.Answers.{AtUnit, UnitIs};
 ghost use Rattle.filing.specs.Choices.{ReadAt};
 use crate::input::InputObject;
+use crate::state::COMPILATION;
 use crate::state::InProgress;
 use crate::state::Sums;
 use crate::units::UnitFiled;
+use numbers::refusals::IDENTITY_SEEN;
+use numbers::sections::ABBREV;
 use unit::header::UnitAnswer;
 
 fn refused(code: u32, st: InProgress, sums: Sums) -> UnitFiled
@@ -49,8 +52,8 @@ fn file_read(
     let five = e.five;
     let t = crate::keep::table_of(st, table);
     if keeping::is_seen(five, n, table, t, identity, work) {
-        if table == 1 {
-            return refused(14, st, sums);
+        if table == COMPILATION {
+            return refused(IDENTITY_SEEN, st, sums);
         }
         return UnitFiled {
             code: 0,
@@ -102,8 +105,8 @@ pub fn file_unit(
     ensures { λ r. ⌜ ((i : Input) (bases : BySection ℕ) (earlier here : List Filed) → AtUnit (now (b .entry)) x i n at (now (work .entry)) st sums bases earlier here → UnitIs (now (b .entry)) x i n at (now (work .entry)) (now (work .exit)) bases earlier here (unitAt i bases earlier here home (at - start) (part (now (b .entry)) at (stop - at))) r) ⌝ }
 {
     let e = x.encoding;
-    let first = x.start[3];
-    let last = first + x.size[3];
+    let first = x.start[ABBREV];
+    let last = first + x.size[ABBREV];
     let answer = unit::header::read_unit(e, octets::narrow(home), &b[first..last], &b[at..stop]);
     match answer {
         UnitAnswer::Refused(code) => refused(code, st, sums),

@@ -18,6 +18,8 @@ ghost use Rattle.finish.specs.Joining.{
 };
 use bundle::Item;
 use bundle::encoding::ObjectEncoding;
+use numbers::sections::STR;
+use numbers::sections::STR_OFFSETS;
 use strings::table::Place;
 use strings::table::StringTable;
 
@@ -82,12 +84,12 @@ pub fn copy_str_offsets(
         };
         let scan = bundle::scan_object(b, next);
         let offsets = Place {
-            start: scan.start[6],
-            size: scan.size[6],
+            start: scan.start[STR_OFFSETS],
+            size: scan.size[STR_OFFSETS],
         };
         let strings = Place {
-            start: scan.start[11],
-            size: scan.size[11],
+            start: scan.start[STR],
+            size: scan.size[STR],
         };
         remap_section(e, b, offsets, strings, table, t, out, o);
         o += offsets.size;

@@ -6,14 +6,16 @@ ghost use lib.Dec.{leb};
 ghost use lib.ListN.{length, getD};
 ghost use Rattle.octets.specs.Lists.{all};
 ghost use Rattle.finish.specs.Sections.{sizesGood, framedSize, lengthOf};
+use numbers::limits::SECTION_LIMIT;
+use numbers::sections::CODES;
 
-// 19: whether no section is above 8,388,607 bytes.
-pub fn sizes_good(sizes: [usize; 14]) -> bool
+// 19: whether no section is above the limit.
+pub fn sizes_good(sizes: [usize; CODES]) -> bool
     ensures { λ r. ⌜ r ≡ sizesGood sizes ⌝ }
 {
     let mut c = 0;
-    while c < 14 {
-        if 8_388_607 < sizes[c] {
+    while c < CODES {
+        if SECTION_LIMIT < sizes[c] {
             return false;
         }
         c += 1;
@@ -33,13 +35,13 @@ fn framed_size(size: usize) -> usize
 }
 
 // The length of a package with sections of these sizes: head, object word, the sections that aren't empty, end. The caller has seen that the sizes are good.
-pub fn package_length(sizes: [usize; 14]) -> usize
+pub fn package_length(sizes: [usize; CODES]) -> usize
     requires { ⌜ sizesGood sizes ≡ true ⌝ }
     ensures { λ r. ⌜ r ≡ lengthOf sizes ⌝ }
 {
     let mut n = 12;
     let mut c = 1;
-    while c < 14 {
+    while c < CODES {
         n += framed_size(sizes[c]);
         c += 1;
     }

@@ -4,6 +4,12 @@ ghost use Prim.Native.Nat.{ℕ, _≤_};
 ghost use Rattle.finish.specs.Ready.{indexSizeOf, sizesOf};
 use filing::state::InProgress;
 use keeping::Table;
+use numbers::sections::CODES;
+use numbers::sections::CU_INDEX;
+use numbers::sections::INFO;
+use numbers::sections::STR;
+use numbers::sections::TU_INDEX;
+use numbers::sections::TYPES;
 use strings::table::StringTable;
 
 // The bytes of a table's index, 0 without rows.
@@ -21,7 +27,7 @@ fn index_size(five: bool, t: Table) -> usize
 }
 
 // By section code. The caller has filed all objects.
-pub fn section_sizes(five: bool, st: InProgress, t: StringTable) -> [usize; 14]
+pub fn section_sizes(five: bool, st: InProgress, t: StringTable) -> [usize; CODES]
     requires { ⌜ (st .cu .count ≤ 1_048_576) × (st .tu .count ≤ 1_048_576) ⌝ }
     ensures { λ r. ⌜ r ≡ sizesOf five st t ⌝ }
 {
@@ -31,10 +37,10 @@ pub fn section_sizes(five: bool, st: InProgress, t: StringTable) -> [usize; 14]
     let tu = st.tu;
     let mut sizes = st.bases;
     sizes[0] = 0;
-    sizes[1] = info.bytes;
-    sizes[2] = types.bytes;
-    sizes[11] = t.size;
-    sizes[12] = index_size(five, cu);
-    sizes[13] = index_size(five, tu);
+    sizes[INFO] = info.bytes;
+    sizes[TYPES] = types.bytes;
+    sizes[STR] = t.size;
+    sizes[CU_INDEX] = index_size(five, cu);
+    sizes[TU_INDEX] = index_size(five, tu);
     sizes
 }

@@ -20,6 +20,9 @@ use bundle::Item;
 use bundle::encoding::ObjectEncoding;
 use bundle::encoding::WordRead;
 use filing::state::InProgress;
+use numbers::refusals::BAD_ENCODING;
+use numbers::refusals::NO_SLOT;
+use numbers::refusals::SECTION_TOO_LONG;
 use strings::table::StringTable;
 
 // What packing answers: a refusal's number, 18 with the length needed, or the package's length.
@@ -59,7 +62,7 @@ fn finish_sections(
 {
     let sizes = crate::sizes::section_sizes(e.five, st, t);
     if !crate::sections::sizes_good(sizes) {
-        return Finished::Refused(19); // before 18
+        return Finished::Refused(SECTION_TOO_LONG); // before 18
     }
     let length = crate::sections::package_length(sizes);
     if out.len() < length {
@@ -86,15 +89,15 @@ pub fn finish(
         return finish_empty(big, out);
     };
     let WordRead::Good(e) = bundle::encoding::read_word(big, word) else {
-        return Finished::Refused(4);
+        return Finished::Refused(BAD_ENCODING);
     };
     let cu = st.cu;
     let tu = st.tu;
     if crate::tables::place_tables(b.len() / 4, cu.count, tu.count, work) {
         if t.over {
-            return Finished::Refused(19);
+            return Finished::Refused(SECTION_TOO_LONG);
         }
         return finish_sections(e, word, b, st, t, work, out);
     }
-    Finished::Refused(17)
+    Finished::Refused(NO_SLOT)
 }

@@ -20,6 +20,13 @@ ghost use Rattle.finish.specs.Ready.{
 use bundle::encoding::ObjectEncoding;
 use filing::state::InProgress;
 use keeping::Table;
+use numbers::sections::CODES;
+use numbers::sections::CU_INDEX;
+use numbers::sections::INFO;
+use numbers::sections::LAST_SHARED;
+use numbers::sections::STR;
+use numbers::sections::STR_OFFSETS;
+use numbers::sections::TYPES;
 use strings::table::StringTable;
 
 // A table's index, nothing without rows.
@@ -56,12 +63,12 @@ fn write_last_section(
     let cu = 11 * n;
     let tu = 12 * n;
     let info = 13 * n;
-    if code == 11 {
+    if code == STR {
         let count = t.count;
         strings::sections::write_strings(b, &work[kept..cu], count, out, at);
         return;
     }
-    if code == 12 {
+    if code == CU_INDEX {
         write_index(e, st.cu, &work[0..rows], &work[cu..tu], out, at);
         return;
     }
@@ -86,21 +93,21 @@ fn write_section(
     let info_start = 13 * n;
     let types_start = 14 * n;
     let types_end = 15 * n;
-    if code == 1 {
+    if code == INFO {
         places::copy_units(b, &work[info_start..types_start], st.info, out, at);
         return;
     }
-    if code == 2 {
+    if code == TYPES {
         places::copy_units(b, &work[types_start..types_end], st.types, out, at);
         return;
     }
-    if code == 6 {
+    if code == STR_OFFSETS {
         let strings_start = 8 * n;
         let strings_end = 11 * n;
         crate::joining::copy_str_offsets(e, b, &work[strings_start..strings_end], t, out, at);
         return;
     }
-    if 10 < code {
+    if LAST_SHARED < code {
         write_last_section(code, e, b, st, t, work, out, at);
         return;
     }
@@ -139,7 +146,7 @@ fn write_sections(
     b: &[u8],
     st: InProgress,
     t: StringTable,
-    sizes: [usize; 14],
+    sizes: [usize; CODES],
     work: &[u32],
     out: &mut [u8],
 ) -> usize
@@ -148,7 +155,7 @@ fn write_sections(
 {
     let mut at = 8;
     let mut code = 1;
-    while code < 14 {
+    while code < CODES {
         let size = sizes[code];
         at = write_framed(code, size, e, b, st, t, work, out, at);
         code += 1;
@@ -163,7 +170,7 @@ pub fn write_package(
     b: &[u8],
     st: InProgress,
     t: StringTable,
-    sizes: [usize; 14],
+    sizes: [usize; CODES],
     work: &[u32],
     out: &mut [u8],
 )

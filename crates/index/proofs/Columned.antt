@@ -1,21 +1,27 @@
 -- Turns of the loops over a row's cells, over the values that the loops have.
 -- Assumes nothing.
-use mathlib.Core.Path.{_≡_, ap, _∙_}
+use mathlib.Core.Path.{_≡_, refl, sym, ap, _∙_}
 use mathlib.Core.Bool.{Bool, true, false, _||_}
-use mathlib.Core.List.{List}
-use mathlib.Core.Option.{Option, some}
+use mathlib.Core.List.{List, [], _∷_}
+use mathlib.Core.Logic.{⊎-elim}
+use mathlib.Core.Option.{Option, some, none}
 use Prim.Native.Nat.{ℕ, _+_, _<_, _≤_}
+use native.Mathlib.Decide.{ℕ-discrete}
 use lib.Dec.{eqb}
 use lib.ListN.{getD}
-use Rattle.octets.specs.Lists.{all}
+use Rattle.octets.specs.Lists.{all, has}
+use Rattle.octets.proofs.Checks.{known}
+use Rattle.octets.proofs.Lists.{all-cons, all-stops}
+use Rattle.octets.proofs.Elements.{has-cons, has-skips}
 use Rattle.index.specs.Index.{Index, Contribution, cellOf}
 use Rattle.index.specs.Rows.{BySection, neededCodes, isSome, cellIs, inStep, wholeContributions}
 use Rattle.index.specs.Cells.{cellFound}
-use Rattle.index.specs.Contributed.{byCode, isCell, stepCell, withCell, chosen, ContributionsAre}
+use Rattle.index.specs.Contributed.{byCode, stepCell, withCell, chosen, ContributionsAre, cellHeld, stepHeld}
+use Rattle.index.specs.Written.{offsetOf, sizeOf}
 use Rattle.index.specs.declared.cells.Cell.{Cell}
-use Rattle.index.specs.declared.cells.Cell.the-variants.{Is}
+use Rattle.index.specs.declared.cells.Cell.the-variants.{Is, Missing}
 use Rattle.index.specs.declared.judging.Contributions.{Contributions}
-use Rattle.index.proofs.Judgements.{ahead, ahead-start, ahead-on, ahead-stops, ahead-end, is-cell, step-cell}
+use Rattle.index.proofs.Judgements.{ahead, ahead-start, ahead-on, ahead-stops, ahead-end, step-cell}
 use Rattle.index.proofs.Filled.{upTo, fill-turn, fill-end, same-held, whole-chosen}
 
 abbrev pub There : Index → ℕ → ℕ → Bool
@@ -24,40 +30,75 @@ There i row c = isSome (cellOf i row c)
 abbrev pub Steps : ℕ → List ℕ → List ℕ → Index → ℕ → ℕ → Bool
 Steps width lengths sums i row c = cellIs (inStep width (byCode lengths) (byCode sums) c) (cellOf i row c)
 
+has-later : (x n : ℕ) (ns : List ℕ) → has ns x ≡ true → has (n ∷ ns) x ≡ true
+has-later x n ns h = elim (ℕ-discrete x n) [ yes e ↦ has-cons x n ns e | no e ↦ has-skips x n ns e ∙ h ]
+
+all-same : (f g : ℕ → Bool) (xs : List ℕ) → ((c : ℕ) → has xs c ≡ true → f c ≡ g c) → all f xs ≡ all g xs
+unfolding all
+all-same f g [] e = refl
+all-same f g (x ∷ xs) e =
+    let same = e x (has-cons x x xs refl) in
+    let rest = all-same f g xs (λ c h. e c (has-later c x xs h)) in
+    ⊎-elim (λ p. all-cons f x xs p ∙ rest ∙ sym (all-cons g x xs (sym same ∙ p))) (λ p. all-stops f x xs p ∙ sym (all-stops g x xs (sym same ∙ p))) (known (f x))
+
+-- ---- a cell among contributions
+module _ (k : Contributions) (c : ℕ) where
+  pub held-there : getD (k .has) c false ≡ true → Is (getD (k .offset) c 0) (getD (k .size) c 0) ≡ cellHeld k c
+  unfolding cellHeld
+  held-there e = rw (cellHeld, e)
+
+  pub held-missing : getD (k .has) c false ≡ false → Missing ≡ cellHeld k c
+  unfolding cellHeld
+  held-missing e = rw (cellHeld, e)
+
+  -- as a loop tests it
+  pub step-held : (width : ℕ) (lengths sums : List ℕ) (cell : Cell) {t : Bool} → cell ≡ cellHeld k c
+      → t ≡ (eqb (getD lengths c 0) 0 || stepCell width (getD lengths c 0) (getD sums c 0) c cell)
+      → t ≡ (eqb (getD lengths c 0) 0 || stepHeld width (byCode lengths) (byCode sums) k c)
+  unfolding stepHeld byCode
+  step-held width lengths sums cell e q = q ∙ ap (λ (z : Cell). eqb (getD lengths c 0) 0 || stepCell width (getD lengths c 0) (getD sums c 0) c z) e
+
+held-as : (k : Contributions) (c : ℕ) (o : Option Contribution) → getD (k .has) c false ≡ isSome o → getD (k .offset) c 0 ≡ offsetOf o → getD (k .size) c 0 ≡ sizeOf o
+    → cellHeld k c ≡ cellFound o
+unfolding cellHeld cellFound isSome offsetOf sizeOf
+held-as k c (some x) h p q = rw (cellHeld, h, p, q)
+held-as k c none h p q = rw (cellHeld, h)
+
 pub codes-start : (f : ℕ → Bool) (lengths : List ℕ) → all f (ahead (byCode lengths) 3) ≡ all f (neededCodes (byCode lengths))
 codes-start f lengths = ap (all f) (ahead-start (byCode lengths))
 
 pub codes-end : (f : ℕ → Bool) (lengths : List ℕ) (c : ℕ) (r : Bool) → 11 ≤ c → all f (ahead (byCode lengths) c) ≡ r → true ≡ r
 codes-end f lengths c r h e = ahead-end f (byCode lengths) c h ∙ e
 
-module _ (i : Index) (row c : ℕ) (lengths : List ℕ) (cell : Cell) (is : cell ≡ cellFound (cellOf i row c)) (low : 3 ≤ c) (high : c < 11) where
-  there : (t : Bool) → t ≡ (eqb (getD lengths c 0) 0 || isCell cell) → t ≡ (eqb (byCode lengths c) 0 || There i row c)
+module _ (f : ℕ → Bool) (lengths : List ℕ) (c : ℕ) (low : 3 ≤ c) (high : c < 11) where
+  pub codes-on : true ≡ (eqb (getD lengths c 0) 0 || f c) → all f (ahead (byCode lengths) (c + 1)) ≡ all f (ahead (byCode lengths) c)
   unfolding byCode
-  there t e = e ∙ ap (λ (u : Bool). eqb (getD lengths c 0) 0 || u) (ap isCell is ∙ is-cell (cellOf i row c))
+  codes-on e = ahead-on f (byCode lengths) c low high e
 
-  pub there-on : true ≡ (eqb (getD lengths c 0) 0 || isCell cell) → all (There i row) (ahead (byCode lengths) (c + 1)) ≡ all (There i row) (ahead (byCode lengths) c)
-  there-on e = ahead-on (There i row) (byCode lengths) c low high (there true e)
+  pub codes-stop : false ≡ (eqb (getD lengths c 0) 0 || f c) → false ≡ all f (ahead (byCode lengths) c)
+  unfolding byCode
+  codes-stop e = ahead-stops f (byCode lengths) c low high e
 
-  pub there-stops : false ≡ (eqb (getD lengths c 0) 0 || isCell cell) → false ≡ all (There i row) (ahead (byCode lengths) c)
-  there-stops e = ahead-stops (There i row) (byCode lengths) c low high (there false e)
+-- ---- the cells that were read are the row's
+module _ (i : Index) (row : ℕ) (lengths : List ℕ) (k : Contributions) (h : ContributionsAre k (chosen (byCode lengths) (cellOf i row))) where
+  chosen-is : (c : ℕ) → has (neededCodes (byCode lengths)) c ≡ true → chosen (byCode lengths) (cellOf i row) c ≡ cellOf i row c
+  unfolding chosen
+  chosen-is c e = rw (chosen, e)
 
-  module _ (width : ℕ) (sums : List ℕ) where
-    steps : (t : Bool) → t ≡ (eqb (getD lengths c 0) 0 || stepCell width (getD lengths c 0) (getD sums c 0) c cell)
-        → t ≡ (eqb (byCode lengths c) 0 || Steps width lengths sums i row c)
-    unfolding byCode
-    steps t e =
-        e
-        ∙ ap (λ (u : Bool). eqb (getD lengths c 0) 0 || u)
-        (ap (stepCell width (getD lengths c 0) (getD sums c 0) c) is ∙ step-cell width (byCode lengths) (byCode sums) c (cellOf i row c))
+  pub there-held : all (λ c. getD (k .has) c false) (neededCodes (byCode lengths)) ≡ all (There i row) (neededCodes (byCode lengths))
+  there-held = all-same (λ c. getD (k .has) c false) (There i row) (neededCodes (byCode lengths)) (λ c e. h .has c ∙ ap isSome (chosen-is c e))
 
-    pub steps-on : true ≡ (eqb (getD lengths c 0) 0 || stepCell width (getD lengths c 0) (getD sums c 0) c cell)
-        → all (Steps width lengths sums i row) (ahead (byCode lengths) (c + 1)) ≡ all (Steps width lengths sums i row) (ahead (byCode lengths) c)
-    steps-on e = ahead-on (Steps width lengths sums i row) (byCode lengths) c low high (steps true e)
+  held-is : (c : ℕ) → has (neededCodes (byCode lengths)) c ≡ true → cellHeld k c ≡ cellFound (cellOf i row c)
+  held-is c e = let q = chosen-is c e in held-as k c (cellOf i row c) (h .has c ∙ ap isSome q) (h .offset c ∙ ap offsetOf q) (h .size c ∙ ap sizeOf q)
 
-    pub steps-stops : false ≡ (eqb (getD lengths c 0) 0 || stepCell width (getD lengths c 0) (getD sums c 0) c cell)
-        → false ≡ all (Steps width lengths sums i row) (ahead (byCode lengths) c)
-    steps-stops e = ahead-stops (Steps width lengths sums i row) (byCode lengths) c low high (steps false e)
+  pub steps-held : (width : ℕ) (sums : List ℕ)
+      → all (stepHeld width (byCode lengths) (byCode sums) k) (neededCodes (byCode lengths)) ≡ all (Steps width lengths sums i row) (neededCodes (byCode lengths))
+  unfolding stepHeld
+  steps-held width sums =
+      all-same (stepHeld width (byCode lengths) (byCode sums) k) (Steps width lengths sums i row) (neededCodes (byCode lengths))
+      (λ c e. ap (stepCell width (byCode lengths c) (byCode sums c) c) (held-is c e) ∙ step-cell width (byCode lengths) (byCode sums) c (cellOf i row c))
 
+module _ (i : Index) (row c : ℕ) (lengths : List ℕ) (cell : Cell) (is : cell ≡ cellFound (cellOf i row c)) (low : 3 ≤ c) (high : c < 11) where
   pub cells-turn : (k r : Contributions) → ContributionsAre k (upTo c (chosen (byCode lengths) (cellOf i row))) → r ≡ withCell k c (getD lengths c 0) cell
       → ContributionsAre r (upTo (c + 1) (chosen (byCode lengths) (cellOf i row)))
   unfolding byCode

@@ -24,6 +24,7 @@ pub mod Looks
 pub mod Codes
 pub mod LawExact
 pub mod LawMore
+pub mod Renamed
 pub mod WellFormed
 pub mod Places
 pub mod Ends

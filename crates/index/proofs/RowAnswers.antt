@@ -17,7 +17,7 @@ use Rattle.index.specs.Probing.{Probe, found, absent, probe}
 use Rattle.index.specs.Rows.{BySection, neededCodes, rowOf, cellIs, ownPlace, rowContributions}
 use Rattle.index.specs.Held.{probedOf}
 use Rattle.index.specs.Cells.{cellFound}
-use Rattle.index.specs.Contributed.{byCode, isCell, ownCell, chosen, ContributionsAre, codeGiven, contributionsGiven}
+use Rattle.index.specs.Contributed.{byCode, isCell, ownCell, chosen, ContributionsAre, codeGiven, contributionsGiven, Answers}
 use Rattle.index.specs.declared.probing.Probed.the-variants.{Found, Absent}
 use Rattle.index.specs.declared.cells.Cell.{Cell}
 use Rattle.index.specs.declared.cells.Cell.the-variants.{Is, Missing}
@@ -26,18 +26,15 @@ use Rattle.index.specs.declared.judging.RowJudged.{RowJudged}
 use Rattle.index.proofs.Judgements.{is-cell, own-cell, cell-there, cell-missing}
 use Rattle.index.proofs.Columned.{There, Steps}
 
-abbrev pub Answers : RowJudged → Check (BySection (Option Contribution)) → Type 0
-Answers r m = (r .code ≡ codeGiven m) × (ContributionsAre (r .contributions) (contributionsGiven m))
-
 pub answers-refuse : (r : RowJudged) (m : Check (BySection (Option Contribution))) (n : ℕ) → m ≡ refuse n
     → (r .code ≡ n) × (ContributionsAre (r .contributions) (λ c. none)) → Answers r m
 unfolding codeGiven contributionsGiven
-answers-refuse r m n e h = rw e h
+answers-refuse r m n e h = rw e (record { code = h .0; contributions = h .1 })
 
 pub answers-pass : (k : Contributions) (m : Check (BySection (Option Contribution))) (f : BySection (Option Contribution)) → m ≡ pass f → ContributionsAre k f
     → Answers (record { code = 0; contributions = k }) m
 unfolding codeGiven contributionsGiven
-answers-pass k m f e h = rw e (refl, h)
+answers-pass k m f e h = rw e (record { code = refl; contributions = h })
 
 -- ---- where a search ended
 pub found-is : (p : Probe) (slot looks : ℕ) → Found slot looks ≡ probedOf p → p ≡ found slot looks

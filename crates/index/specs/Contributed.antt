@@ -9,12 +9,15 @@ use lib.Dec.{eqb, leb, ltb}
 use lib.ListN.{length, getD, set}
 use Rattle.octets.specs.Checked.{Check, pass, refuse}
 use Rattle.octets.specs.Lists.{has}
-use Rattle.index.specs.Index.{Contribution}
-use Rattle.index.specs.Rows.{BySection, neededCodes, isSome}
+use Rattle.index.specs.Index.{Index, Contribution}
+use Rattle.index.specs.Rows.{BySection, neededCodes, isSome, rowContributions}
 use Rattle.index.specs.Written.{offsetOf, sizeOf}
 use Rattle.index.specs.declared.cells.Cell.{Cell}
 use Rattle.index.specs.declared.cells.Cell.the-variants.{Is, Missing}
 use Rattle.index.specs.declared.judging.Contributions.{Contributions}
+use Rattle.index.specs.declared.judging.Measures.{Measures}
+use Rattle.index.specs.declared.judging.OwnUnit.{OwnUnit}
+use Rattle.index.specs.declared.judging.RowJudged.{RowJudged}
 
 -- numbers in an array, by section code
 unfoldable pub byCode : List ℕ → BySection ℕ
@@ -48,6 +51,13 @@ pub record ContributionsAre (k : Contributions) (f : BySection (Option Contribut
   pub size : (c : ℕ) → getD (k .size) c 0 ≡ sizeOf (f c)
   pub whole : Whole k
 
+-- the cell of a section among them
+unfoldable pub cellHeld : Contributions → ℕ → Cell
+cellHeld k c = elim (getD (k .has) c false) [ true ↦ Is (getD (k .offset) c 0) (getD (k .size) c 0) | false ↦ Missing ]
+
+unfoldable pub stepHeld : ℕ → BySection ℕ → BySection ℕ → Contributions → ℕ → Bool
+stepHeld width lengths sums k c = stepCell width (lengths c) (sums c) c (cellHeld k c)
+
 unfoldable pub withCell : Contributions → ℕ → ℕ → Cell → Contributions
 withCell k c n Missing = k
 withCell k c n (Is o z) =
@@ -65,3 +75,11 @@ codeGiven (refuse n) = n
 unfoldable pub contributionsGiven : Check (BySection (Option Contribution)) → BySection (Option Contribution)
 contributionsGiven (pass f) = f
 contributionsGiven (refuse n) = λ c. none
+
+-- the row of a unit by value
+unfoldable pub judgedRow : Index → Measures → OwnUnit → Check (BySection (Option Contribution))
+judgedRow i m u = rowContributions i (m .width) (byCode (m .lengths)) (byCode (m .sums)) (u .identity) (u .home) (u .at) (u .size)
+
+pub record Answers (r : RowJudged) (m : Check (BySection (Option Contribution))) : Type 0 where
+  pub code : r .code ≡ codeGiven m
+  pub contributions : ContributionsAre (r .contributions) (contributionsGiven m)

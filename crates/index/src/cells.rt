@@ -8,6 +8,8 @@ ghost use Rattle.index.specs.Index.{placeOf, cellOf};
 ghost use Rattle.index.specs.Held.{Sized, indexIn};
 ghost use Rattle.index.specs.Cells.{columnPlace, noColumn, placeFound, cellFound};
 use crate::reading::IndexHead;
+use numbers::sections;
+use numbers::tables::DWARF_5;
 
 // A section's code, and the code of its column.
 pub struct ColumnPlace {
@@ -15,68 +17,73 @@ pub struct ColumnPlace {
     pub column: usize,
 }
 
-const FOUR: [ColumnPlace; 8] = [
+// How many columns an index of each version may have.
+pub const COLUMNS: usize = 8;
+
+const COLUMNS_FIVE: usize = 7;
+
+const FOUR: [ColumnPlace; COLUMNS] = [
     ColumnPlace {
-        section: 1,
+        section: sections::INFO,
         column: 1,
     },
     ColumnPlace {
-        section: 2,
+        section: sections::TYPES,
         column: 2,
     },
     ColumnPlace {
-        section: 3,
+        section: sections::ABBREV,
         column: 3,
     },
     ColumnPlace {
-        section: 4,
+        section: sections::LINE,
         column: 4,
     },
     ColumnPlace {
-        section: 5,
+        section: sections::LOC,
         column: 5,
     },
     ColumnPlace {
-        section: 6,
+        section: sections::STR_OFFSETS,
         column: 6,
     },
     ColumnPlace {
-        section: 7,
+        section: sections::MACINFO,
         column: 7,
     },
     ColumnPlace {
-        section: 8,
+        section: sections::MACRO,
         column: 8,
     },
 ];
 
-const FIVE: [ColumnPlace; 7] = [
+const FIVE: [ColumnPlace; COLUMNS_FIVE] = [
     ColumnPlace {
-        section: 1,
+        section: sections::INFO,
         column: 1,
     },
     ColumnPlace {
-        section: 3,
+        section: sections::ABBREV,
         column: 3,
     },
     ColumnPlace {
-        section: 4,
+        section: sections::LINE,
         column: 4,
     },
     ColumnPlace {
-        section: 9,
+        section: sections::LOCLISTS,
         column: 5,
     },
     ColumnPlace {
-        section: 10,
+        section: sections::RNGLISTS,
         column: 8,
     },
     ColumnPlace {
-        section: 6,
+        section: sections::STR_OFFSETS,
         column: 6,
     },
     ColumnPlace {
-        section: 8,
+        section: sections::MACRO,
         column: 7,
     },
 ];
@@ -85,21 +92,30 @@ const FIVE: [ColumnPlace; 7] = [
 pub fn columns_count(version: u32) -> usize
     ensures { λ r. ⌜ r ≡ length (columnsOf version) ⌝ }
 {
-    if version == 5 {
-        return 7;
+    if version == DWARF_5 {
+        return COLUMNS_FIVE;
     }
-    8
+    COLUMNS
 }
 
-// Column k: the one place that reads the tables. Callers go by columns_count.
+// Column k: the one place that reads the tables. Section and code are 0 where there is no column k.
 pub fn column_at(version: u32, k: usize) -> ColumnPlace
-    requires { ⌜ k < length (columnsOf version) ⌝ }
     ensures { λ r. ⌜ r ≡ getD (map columnPlace (columnsOf version)) k noColumn ⌝ }
 {
-    if version == 5 {
-        return FIVE[k];
+    let none = ColumnPlace {
+        section: 0,
+        column: 0,
+    };
+    if version == DWARF_5 {
+        if k < COLUMNS_FIVE {
+            return FIVE[k];
+        }
+        return none;
     }
-    FOUR[k]
+    if k < COLUMNS {
+        return FOUR[k];
+    }
+    none
 }
 
 pub enum Place {

@@ -1,17 +1,15 @@
 // A kept unit's row judged: 15 before 16, over all columns that are needed. Lengths and sums of sections are by their code.
 ghost use mathlib.Core.Path.{_≡_};
-ghost use mathlib.Core.Bool.{_||_};
+ghost use mathlib.Core.Bool.{false, _||_};
 ghost use mathlib.Core.Option.{none};
 ghost use Prim.Native.Nat.{_<_, _≤_};
 ghost use lib.Dec.{eqb};
+ghost use lib.ListN.{getD};
+ghost use Rattle.numbers.specs.Sections.{sectionCodes};
 ghost use Rattle.octets.specs.Lists.{all};
 ghost use Rattle.index.specs.Index.{cellOf};
 ghost use Rattle.index.specs.Rows.{
   neededCodes,
-  isSome,
-  cellIs,
-  inStep,
-  rowContributions,
   wholeContributions,
 };
 ghost use Rattle.index.specs.Held.{Sized, ReadWell, indexIn};
@@ -25,18 +23,29 @@ ghost use Rattle.index.specs.Contributed.{
   Whole,
   chosen,
   ContributionsAre,
-  codeGiven,
-  contributionsGiven,
+  cellHeld,
+  stepHeld,
+  Answers,
+  judgedRow,
 };
 use crate::cells::Cell;
 use crate::probing::Probed;
 use crate::reading::IndexHead;
+use numbers::refusals::NO_ROW;
+use numbers::refusals::ROW_OUT_OF_STEP;
+use numbers::sections::CODES;
+use numbers::sections::FIRST_SHARED;
+use numbers::sections::LAST_SHARED;
+use numbers::sections::STR_OFFSETS;
+
+// One more than the last shared section's code.
+const SHARED_END: usize = LAST_SHARED + 1;
 
 // What a unit contributes of each section, by section code: 0 and 0 where it has nothing.
 pub struct Contributions {
-    pub has: [bool; 14],
-    pub offset: [usize; 14],
-    pub size: [usize; 14],
+    pub has: [bool; CODES],
+    pub offset: [usize; CODES],
+    pub size: [usize; CODES],
 }
 
 // 0, or the refusal's number and nothing.
@@ -45,17 +54,41 @@ pub struct RowJudged {
     pub contributions: Contributions,
 }
 
+// What a row is judged by: the width of offsets, 4 or 8, and the lengths and sums of the object's sections by their code.
+pub struct Measures {
+    pub width: usize,
+    pub lengths: [usize; CODES],
+    pub sums: [usize; CODES],
+}
+
+// The unit: its identity, and where it stands in the section home.
+pub struct OwnUnit {
+    pub identity: u64,
+    pub home: usize,
+    pub at: usize,
+    pub size: usize,
+}
+
 // ---- one cell
-fn cell_needed(length: usize, cell: Cell) -> bool
-    ensures { λ r. ⌜ r ≡ (eqb length 0 || isCell cell) ⌝ }
+// Whether a cell is there, where the section asks for one.
+fn cell_needed(length: usize, there: bool) -> bool
+    ensures { λ r. ⌜ r ≡ (eqb length 0 || there) ⌝ }
 {
     if length == 0 {
         return true;
     }
-    match cell {
-        Cell::Is(_, _) => true,
-        Cell::Missing => false,
+    there
+}
+
+// The cell of a section among contributions.
+fn cell_in(k: Contributions, c: usize) -> Cell
+    requires { ⌜ (Whole k) × (c < sectionCodes) ⌝ }
+    ensures { λ r. ⌜ r ≡ cellHeld k c ⌝ }
+{
+    if k.has[c] {
+        return Cell::Is(k.offset[c], k.size[c]);
     }
+    Cell::Missing
 }
 
 // Whether a cell names the unit's own place.
@@ -76,7 +109,7 @@ fn multiples(width: usize, section: usize, offset: usize, size: usize) -> bool
     requires { ⌜ 0 < width ⌝ }
     ensures { λ r. ⌜ r ≡ wholeEntries width section offset size ⌝ }
 {
-    if section != 6 {
+    if section != STR_OFFSETS {
         return true;
     }
     if offset % width != 0 {
@@ -111,15 +144,15 @@ fn no_contributions() -> Contributions
     ensures { λ r. ⌜ ContributionsAre r (λ c. none) ⌝ }
 {
     Contributions {
-        has: [false; 14],
-        offset: [0; 14],
-        size: [0; 14],
+        has: [false; CODES],
+        offset: [0; CODES],
+        size: [0; CODES],
     }
 }
 
 // The contributions with one more, where the section is not empty and the cell is there.
 fn with_cell(k: Contributions, c: usize, length: usize, cell: Cell) -> Contributions
-    requires { ⌜ (Whole k) × (c < 14) ⌝ }
+    requires { ⌜ (Whole k) × (c < sectionCodes) ⌝ }
     ensures { λ r. ⌜ r ≡ withCell k c length cell ⌝ }
 {
     if length == 0 {
@@ -135,15 +168,15 @@ fn with_cell(k: Contributions, c: usize, length: usize, cell: Cell) -> Contribut
     more
 }
 
-// ---- the shared sections, codes 3 to 10. Callers have the row from a slot of a well formed index.
-fn columns_there(big: bool, s: &[u8], head: IndexHead, row: usize, lengths: [usize; 14]) -> bool
-    requires { ⌜ (Sized (now s) head) × (0 < row) × (row ≤ head .units) ⌝ }
-    ensures { λ r. ⌜ r ≡ all (λ c. isSome (cellOf (indexIn big (now (s .entry)) head) row c)) (neededCodes (byCode lengths)) ⌝ }
+// ---- the shared sections. Callers have the row from a slot of a well formed index.
+// Whether each section that isn't empty has a cell.
+fn columns_there(lengths: [usize; CODES], k: Contributions) -> bool
+    requires { ⌜ Whole k ⌝ }
+    ensures { λ r. ⌜ r ≡ all (λ c. getD (k .has) c false) (neededCodes (byCode lengths)) ⌝ }
 {
-    let mut c = 3;
-    while c < 11 {
-        let cell = crate::cells::cell_of(big, s, head, row, c);
-        if !cell_needed(lengths[c], cell) {
+    let mut c = FIRST_SHARED;
+    while c < SHARED_END {
+        if !cell_needed(lengths[c], k.has[c]) {
             return false;
         }
         c += 1;
@@ -151,22 +184,14 @@ fn columns_there(big: bool, s: &[u8], head: IndexHead, row: usize, lengths: [usi
     true
 }
 
-fn cells_in_step(
-    big: bool,
-    s: &[u8],
-    head: IndexHead,
-    row: usize,
-    width: usize,
-    lengths: [usize; 14],
-    sums: [usize; 14],
-) -> bool
-    requires { ⌜ (Sized (now s) head) × (0 < row) × (row ≤ head .units) × (0 < width) ⌝ }
-    ensures { λ r. ⌜ r ≡ all (λ c. cellIs (inStep width (byCode lengths) (byCode sums) c) (cellOf (indexIn big (now (s .entry)) head) row c)) (neededCodes (byCode lengths)) ⌝ }
+fn cells_in_step(m: Measures, k: Contributions) -> bool
+    requires { ⌜ (Whole k) × (0 < m .width) ⌝ }
+    ensures { λ r. ⌜ r ≡ all (stepHeld (m .width) (byCode (m .lengths)) (byCode (m .sums)) k) (neededCodes (byCode (m .lengths))) ⌝ }
 {
-    let mut c = 3;
-    while c < 11 {
-        let cell = crate::cells::cell_of(big, s, head, row, c);
-        if !step_needed(width, lengths[c], sums[c], c, cell) {
+    let mut c = FIRST_SHARED;
+    while c < SHARED_END {
+        let cell = cell_in(k, c);
+        if !step_needed(m.width, m.lengths[c], m.sums[c], c, cell) {
             return false;
         }
         c += 1;
@@ -174,19 +199,20 @@ fn cells_in_step(
     true
 }
 
+// The cells of a row, each read once, of the sections that aren't empty.
 fn row_cells(
     big: bool,
     s: &[u8],
     head: IndexHead,
     row: usize,
-    lengths: [usize; 14],
+    lengths: [usize; CODES],
 ) -> Contributions
     requires { ⌜ (Sized (now s) head) × (0 < row) × (row ≤ head .units) ⌝ }
     ensures { λ r. ⌜ ContributionsAre r (chosen (byCode lengths) (cellOf (indexIn big (now (s .entry)) head) row)) ⌝ }
 {
     let mut k = no_contributions();
-    let mut c = 3;
-    while c < 11 {
+    let mut c = FIRST_SHARED;
+    while c < SHARED_END {
         let cell = crate::cells::cell_of(big, s, head, row, c);
         k = with_cell(k, c, lengths[c], cell);
         c += 1;
@@ -195,12 +221,12 @@ fn row_cells(
 }
 
 // Without an index for its table, a unit contributes its object's whole sections.
-pub fn whole_contributions(lengths: [usize; 14]) -> Contributions
+pub fn whole_contributions(lengths: [usize; CODES]) -> Contributions
     ensures { λ r. ⌜ ContributionsAre r (wholeContributions (byCode lengths)) ⌝ }
 {
     let mut k = no_contributions();
-    let mut c = 3;
-    while c < 11 {
+    let mut c = FIRST_SHARED;
+    while c < SHARED_END {
         let n = lengths[c];
         k = with_cell(k, c, n, Cell::Is(0, n));
         c += 1;
@@ -218,43 +244,32 @@ fn refused(code: u32) -> RowJudged
     }
 }
 
-// A unit of identity x that stands at a place of the section home. Callers have read the index well; the width is 4 or 8.
-pub fn judge_row(
-    big: bool,
-    s: &[u8],
-    head: IndexHead,
-    width: usize,
-    lengths: [usize; 14],
-    sums: [usize; 14],
-    x: u64,
-    home: usize,
-    at: usize,
-    size: usize,
-) -> RowJudged
-    requires { ⌜ (ReadWell big (now s) head) × (0 < width) ⌝ }
-    ensures code { λ r. ⌜ r .code ≡ codeGiven (rowContributions (indexIn big (now (s .entry)) head) width (byCode lengths) (byCode sums) x home at size) ⌝ }
-    ensures contributions { λ r. ⌜ ContributionsAre (r .contributions) (contributionsGiven (rowContributions (indexIn big (now (s .entry)) head) width (byCode lengths) (byCode sums) x home at size)) ⌝ }
+// The row of a unit. Callers have read the index well.
+pub fn judge_row(big: bool, s: &[u8], head: IndexHead, m: Measures, u: OwnUnit) -> RowJudged
+    requires { ⌜ (ReadWell big (now s) head) × (0 < m .width) ⌝ }
+    ensures { λ r. ⌜ Answers r (judgedRow (indexIn big (now (s .entry)) head) m u) ⌝ }
 {
-    let Probed::Found(slot, _) = crate::probing::find(big, s, head, x) else {
-        return refused(15);
+    let Probed::Found(slot, _) = crate::probing::find(big, s, head, u.identity) else {
+        return refused(NO_ROW);
     };
     let row = crate::reading::row_at(big, s, head, slot);
-    let own = crate::cells::cell_of(big, s, head, row, home);
+    let own = crate::cells::cell_of(big, s, head, row, u.home);
     if let Cell::Missing = own {
-        return refused(15);
+        return refused(NO_ROW);
     }
-    if !columns_there(big, s, head, row, lengths) {
-        return refused(15);
+    let lengths = m.lengths;
+    let cells = row_cells(big, s, head, row, lengths);
+    if !columns_there(lengths, cells) {
+        return refused(NO_ROW);
     }
-    if !own_place(at, size, own) {
-        return refused(16);
+    if !own_place(u.at, u.size, own) {
+        return refused(ROW_OUT_OF_STEP);
     }
-    if !cells_in_step(big, s, head, row, width, lengths, sums) {
-        return refused(16);
+    if !cells_in_step(m, cells) {
+        return refused(ROW_OUT_OF_STEP);
     }
-    let contributions = row_cells(big, s, head, row, lengths);
     RowJudged {
         code: 0,
-        contributions,
+        contributions: cells,
     }
 }

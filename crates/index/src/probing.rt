@@ -1,5 +1,6 @@
 // Open addressing: where an identity's search begins, how far it steps, and where it ends.
 ghost use mathlib.Core.Path.{_≡_};
+ghost use Prim.Native.Nat.{_+_, _%_, _<_, _^_};
 ghost use Rattle.index.specs.Probing.{firstSlot, stride, probe};
 ghost use Rattle.index.specs.Held.{PowerOfTwo, ReadWell, indexIn, probedOf};
 use crate::reading::IndexHead;
@@ -18,6 +19,14 @@ pub fn stride(x: u64, slots: usize) -> usize
     ensures { λ r. ⌜ r ≡ stride x slots ⌝ }
 {
     octets::size(((x >> 32) & (octets::long(slots) - 1)) | 1)
+}
+
+// The slot behind one, as many slots on as the stride says.
+pub fn next_slot(at: usize, by: usize, slots: usize) -> usize
+    requires { ⌜ PowerOfTwo slots × (at + «by» < 2 ^ 64) ⌝ }
+    ensures { λ r. ⌜ r ≡ (at + «by») % slots ⌝ }
+{
+    (at + by) & (slots - 1)
 }
 
 // The slot where a search ends, and the number of slots looked at; or absent after so many.
@@ -43,7 +52,7 @@ pub fn find(big: bool, s: &[u8], head: IndexHead, x: u64) -> Probed
         if crate::reading::identity_at(big, s, head, at) == x {
             return Probed::Found(at, looks);
         }
-        at = (at + by) % slots;
+        at = next_slot(at, by, slots);
     }
     Probed::Absent(looks)
 }

@@ -10,6 +10,13 @@ ghost use Rattle.finish.specs.Finish.{finishedOf, outputOf};
 ghost use Rattle.packer.specs.Small.{packedSmall};
 use bundle::Words;
 use finish::whole::Finished;
+use numbers::limits::BUNDLE_LIMIT;
+use numbers::limits::SMALL_BUNDLE;
+use numbers::limits::SMALL_WORK;
+use numbers::limits::WORK_FOR_WORD;
+use numbers::refusals::BAD_LENGTH;
+use numbers::refusals::BAD_WORDS;
+use numbers::refusals::WORK_SHORT;
 
 // Over work and output that are cleared; work is not cleared behind it.
 fn pack_cleared(b: &[u8], work: &mut [u32], out: &mut [u8]) -> Finished
@@ -17,14 +24,14 @@ fn pack_cleared(b: &[u8], work: &mut [u32], out: &mut [u8]) -> Finished
     ensures answer { λ r. ⌜ r ≡ finishedOf (packed (now (b .entry)) (length (now (work .entry))) (length (now (out .entry)))) ⌝ }
     ensures output { λ _. ⌜ now (out .exit) ≡ outputOf (packed (now (b .entry)) (length (now (work .entry))) (length (now (out .entry)))) (length (now (out .entry))) ⌝ }
 {
-    if !bundle::length_good(4194304, b) {
-        return Finished::Refused(1);
+    if !bundle::length_good(BUNDLE_LIMIT, b) {
+        return Finished::Refused(BAD_LENGTH);
     }
-    if work.len() < 16 * (b.len() / 4) {
-        return Finished::Refused(2);
+    if work.len() < WORK_FOR_WORD * (b.len() / 4) {
+        return Finished::Refused(WORK_SHORT);
     }
     let Words::Readable(big) = bundle::check_words(b) else {
-        return Finished::Refused(3);
+        return Finished::Refused(BAD_WORDS);
     };
     let filed = objects::add_input_objects(b, big, work);
     let code = filed.code;
@@ -55,10 +62,10 @@ pub fn pack_small(b: &[u8], out: &mut [u8]) -> Finished
     ensures answer { λ r. ⌜ r ≡ finishedOf (packedSmall (now (b .entry)) (length (now (out .entry)))) ⌝ }
     ensures output { λ _. ⌜ now (out .exit) ≡ outputOf (packedSmall (now (b .entry)) (length (now (out .entry)))) (length (now (out .entry))) ⌝ }
 {
-    if !bundle::length_good(1024, b) {
+    if !bundle::length_good(SMALL_BUNDLE, b) {
         octets::clear_bytes(out);
-        return Finished::Refused(1);
+        return Finished::Refused(BAD_LENGTH);
     }
-    let mut work = [0u32; 4096];
+    let mut work = [0u32; SMALL_WORK];
     pack(b, &mut work, out)
 }

@@ -24,6 +24,7 @@ use filing::input::InputObject;
 use filing::state::InProgress;
 use filing::state::Sums;
 use keeping::Table;
+use numbers::sections::CODES;
 use places::Kept;
 use strings::table::StringTable;
 
@@ -48,7 +49,7 @@ pub struct ObjectsFiled {
     pub strings: StringTable,
 }
 
-fn with_bases(st: InProgress, bases: [usize; 14]) -> InProgress
+fn with_bases(st: InProgress, bases: [usize; CODES]) -> InProgress
     ensures { λ r. ⌜ r ≡ record { cu = st .cu; tu = st .tu; info = st .info; types = st .types; bases = bases } ⌝ }
 {
     let cu = st.cu;
@@ -77,8 +78,8 @@ fn add_object_units(
     ensures { λ r. ⌜ ((i : Input) (bases : BySection ℕ) (us : List Filed) → InputReady (now (b .entry)) x i n from (now (work .entry)) st bases us → UnitsAddedIs (now (b .entry)) x i n (placeBehind from (sectionsFrom (now (b .entry)) from)) (now (work .entry)) (now (work .exit)) bases us (unitsIn i bases us [] (i .units)) r) ⌝ }
 {
     let none = Sums {
-        cu: [0; 14],
-        tu: [0; 14],
+        cu: [0; CODES],
+        tu: [0; CODES],
     };
     let filed = filing::walks::add_sections(b, x, from, n, st, none, work);
     let known = filed.st;
@@ -152,7 +153,7 @@ fn nothing_filed() -> InProgress
         },
         info: Kept { count: 0, bytes: 0 },
         types: Kept { count: 0, bytes: 0 },
-        bases: [0; 14],
+        bases: [0; CODES],
     }
 }
 

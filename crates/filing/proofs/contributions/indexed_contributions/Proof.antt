@@ -6,6 +6,7 @@ use Prim.Native.Nat.{ℕ}
 use denote.Ref.{now}
 use Rattle.octets.proofs.Parts.{part-cut}
 use Rattle.index.specs.Held.{ReadWell}
+use Rattle.index.specs.Contributed.{judgedRow}
 use Rattle.filing.proofs.Contributing.{given-none, index-well, given-at, width-some}
 use borrow.Author.Needs.{needs}
 use Rattle.filing.proofs.contributions.indexed_contributions.Statement.{statement}
@@ -46,9 +47,10 @@ judge-row-requires c κs =
     (subst (λ (l : List ℕ). ReadWell (a .e .big) l (c .before .before .before .indexed .given .0 .0)) (sym (part-cut (now (a .b)) (a .start) (a .size))) (w .0), rw (c .before .width .ensures) (width-some (a .e)))
 
 returns-2 : tie.Need-returns-2
+unfolding judgedRow
 returns-2 c =
     let a = c .before .before .before .before .before .before .before .args in
-    λ o h. given-at _ _ _ o h _ _ _ _ _ _ _ _ _ _ _ (c .before .before .before .before .indexed .given .1) (part-cut (now (a .b)) (a .start) (a .size)) (c .before .before .width .ensures) (c .judge-row .ensures .0) (c .judge-row .ensures .1)
+    λ o h. given-at _ _ _ o h _ _ _ _ _ _ _ _ _ _ _ (c .before .before .before .before .indexed .given .1) (part-cut (now (a .b)) (a .start) (a .size)) (c .before .before .width .ensures) (c .judge-row .ensures .code) (c .judge-row .ensures .contributions)
 
 pub indexed-contributions-spec : {M : Type 1} → statement M
 indexed-contributions-spec =

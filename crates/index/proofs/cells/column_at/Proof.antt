@@ -1,35 +1,49 @@
 -- `index::cells::column_at` meets its contract.
 -- Assumes nothing.
-use native.Mathlib.Omega.{arith}
-use Rattle.index.specs.Cells.{columnPlace}
+use mathlib.Core.Path.{_≡_, refl, sym}
+use mathlib.Core.List.{List, [], _∷_, map}
+use Prim.Native.Nat.{ℕ, zero, suc, _≤_}
+use native.Mathlib.Nat.{not-suc-le-zero, le-of-suc-le-suc}
+use lib.ListN.{length, getD}
+use Rattle.index.specs.Cells.{columnPlace, noColumn}
 use Rattle.index.specs.Columns.{columnsFour, columnsFive}
 use Rattle.index.proofs.Places.{columns-five, columns-four}
+use borrow.Author.Needs.{needs}
 use Rattle.index.proofs.cells.column_at.Statement.{statement}
 use Rattle.index.proofs.cells.column_at.Tie as tie
 
+past : {A : Type 0} (l : List A) (d : A) (k : ℕ) → length l ≤ k → getD l k d ≡ d
+past [] d k h = refl
+past (x ∷ l) d zero h = absurd (not-suc-le-zero h)
+past (x ∷ l) d (suc k) h = past l d k (le-of-suc-le-suc h)
+
 mul-result : tie.Need-mul-result
-unfolding columnsFive
-mul-result c = let h = rw (columns-five _ (c .if1 .taken)) at (c .before .pre) in omega arith
+mul-result c = search needs
 
 array-copy-out-result : tie.Need-array-copy-out-result
-unfolding columnsFive
-array-copy-out-result c = let h = rw (columns-five _ (c .if1 .taken)) at (c .before .pre) in omega arith
+array-copy-out-result c = search needs
 
 returns : tie.Need-returns
 unfolding columnsFive columnPlace
-returns c = rw (columns-five _ (c .before .if1 .taken))
-
-mul-result-2 : tie.Need-mul-result-2
-unfolding columnsFour
-mul-result-2 c = let h = rw (columns-four _ (c .if1 .left)) at (c .before .pre) in omega arith
-
-array-copy-out-result-2 : tie.Need-array-copy-out-result-2
-unfolding columnsFour
-array-copy-out-result-2 c = let h = rw (columns-four _ (c .if1 .left)) at (c .before .pre) in omega arith
+returns c = rw (columns-five _ (c .before .before .if1 .taken))
 
 returns-2 : tie.Need-returns-2
+unfolding columnsFive
+returns-2 c = rw (columns-five _ (c .before .if1 .taken)) (sym (past (map columnPlace columnsFive) noColumn _ (c .if2 .left)))
+
+mul-result-2 : tie.Need-mul-result-2
+mul-result-2 c = search needs
+
+array-copy-out-result-2 : tie.Need-array-copy-out-result-2
+array-copy-out-result-2 c = search needs
+
+returns-3 : tie.Need-returns-3
 unfolding columnsFour columnPlace
-returns-2 c = rw (columns-four _ (c .before .if1 .left))
+returns-3 c = rw (columns-four _ (c .before .before .if1 .left))
+
+returns-4 : tie.Need-returns-4
+unfolding columnsFour
+returns-4 c = rw (columns-four _ (c .before .if1 .left)) (sym (past (map columnPlace columnsFour) noColumn _ (c .if3 .left)))
 
 pub column-at-spec : {M : Type 1} → statement M
 column-at-spec =
@@ -38,6 +52,8 @@ column-at-spec =
     mul-result
     array-copy-out-result
     returns
+    returns-2
     mul-result-2
     array-copy-out-result-2
-    returns-2)
+    returns-3
+    returns-4)

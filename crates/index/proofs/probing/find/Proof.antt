@@ -49,26 +49,25 @@ returns-2 c =
     let i = c .before .before .before .before in
     search-found _ _ _ _ _ _ _ _ _ (rows-length _ _ _) (i .loop-test .taken) (c .before .before .before .row-at .ensures) (i .before .loop .inv .2) (c .before .before .if1 .left) _ (c .before .identity-at .ensures) (c .if2 .taken)
 
-add-at : tie.Need-add-at Inv-loop μ-loop
-add-at c =
+next-slot-requires : tie.Need-next-slot-requires Inv-loop μ-loop
+next-slot-requires c κs =
     let i = c .before .before .before .before .before in
     let a = i .before .before .before .before in
     let p = read-power _ _ _ (a .pre) in
     let b = i .before .before .stride in
-    omega (arith, read-sized _ _ _ (a .pre) .is, b .ensures, stride-le (a .args .x) _ p)
-
-rem-at : tie.Need-rem-at Inv-loop μ-loop
-rem-at c = omega arith
+    (p, omega (arith, read-sized _ _ _ (a .pre) .is, b .ensures, stride-le (a .args .x) _ p))
 
 loop-less : tie.Need-loop-less Inv-loop μ-loop
 loop-less c = omega arith
 
 loop-again : tie.Need-loop-again Inv-loop μ-loop
 loop-again c =
-    let i = c .before .before .before .before in (
+    let f = c .before in
+    let i = f .before .before .before .before in
+    rw (c .next-slot .ensures) (
       omega arith,
       mod-lt _ (omega arith),
-      search-on _ _ _ _ _ _ _ _ _ (rows-length _ _ _) (i .loop-test .taken) (c .before .before .before .row-at .ensures) (i .before .loop .inv .2) (c .before .before .if1 .left) _ (c .before .identity-at .ensures) (c .if2 .left),
+      search-on _ _ _ _ _ _ _ _ _ (rows-length _ _ _) (i .loop-test .taken) (f .before .before .before .row-at .ensures) (i .before .loop .inv .2) (f .before .before .if1 .left) _ (f .before .identity-at .ensures) (f .if2 .left),
     )
 
 returns-3 : tie.Need-returns-3 Inv-loop μ-loop
@@ -88,8 +87,7 @@ find-spec =
     returns
     identity-at-requires
     returns-2
-    add-at
-    rem-at
+    next-slot-requires
     loop-less
     loop-again
     returns-3)

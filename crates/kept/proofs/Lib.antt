@@ -1,0 +1,13 @@
+-- Laws of the kept units in lent words.
+-- Assumes nothing.
+pub mod Columning
+pub mod Recording
+pub mod Moved
+pub mod Numbering
+pub mod Seeking
+pub mod Seen
+pub mod Pieces
+pub mod Indexing
+pub mod Placing
+pub mod Copying
+pub mod Holding

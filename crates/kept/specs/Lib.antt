@@ -1,0 +1,8 @@
+-- The kept units in lent words, and an index written from them. Nothing here need be believed: it ties work words to the definitions of `index` and `package`.
+-- Assumes nothing.
+pub mod Columns
+pub mod Cells
+pub mod Records
+pub mod Slots
+pub mod Indexed
+pub mod Held

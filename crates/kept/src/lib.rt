@@ -1,0 +1,24 @@
+// The units that are kept: one record for each in lent work, the slots of both tables, and what is written from them.
+pub mod cells;
+pub mod columns;
+pub mod records;
+pub mod slots;
+pub mod unit_bytes;
+pub mod writing;
+
+use index::cells::COLUMNS;
+
+// A table: how many rows it has, and which columns some row has.
+pub struct Table {
+    pub rows: usize,
+    pub has: [bool; COLUMNS],
+}
+
+// The kept units: how many there are, both tables, and how many bytes of info and of types they have.
+pub struct Units {
+    pub count: usize,
+    pub cu: Table,
+    pub tu: Table,
+    pub info: usize,
+    pub types: usize,
+}

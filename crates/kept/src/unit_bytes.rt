@@ -1,0 +1,42 @@
+// The bytes of the kept units of info, or of types, one behind the other.
+ghost use mathlib.Core.Path.{_≡_};
+ghost use mathlib.Core.List.{List};
+ghost use Prim.Native.Nat.{ℕ, _+_, _*_, _≤_};
+ghost use lib.ListN.{length};
+ghost use Rattle.octets.specs.Octets.{placed};
+ghost use Rattle.work.specs.Regions.{recordWords};
+ghost use Rattle.kept.specs.Records.{bytesFrom, UnitsInside};
+use crate::records::HOME;
+use crate::records::SIZE;
+use crate::records::START;
+use work::RECORD;
+
+// The bytes of record i, where it is a unit of the section home; the place behind them.
+fn copy_unit(b: &[u8], records: &[u32], i: usize, home: usize, out: &mut [u8], at: usize) -> usize
+    requires { ⌜ (recordWords * i + recordWords ≤ length (now records)) × UnitsInside (now b) (now records) (i + 1) × (at + length (bytesFrom (now b) (now records) home i 1) ≤ length (now out)) ⌝ }
+    ensures out { λ _. ⌜ now (out .exit) ≡ placed (now (out .entry)) at (bytesFrom (now (b .entry)) (now (records .entry)) home i 1) ⌝ }
+    ensures next { λ r. ⌜ r ≡ at + length (bytesFrom (now (b .entry)) (now (records .entry)) home i 1) ⌝ }
+{
+    let record = RECORD * i;
+    if octets::word(records, record + HOME) != home {
+        return at;
+    }
+    let start = octets::word(records, record + START);
+    let size = octets::word(records, record + SIZE);
+    let end = start + size;
+    octets::put_bytes(out, at, &b[start..end]);
+    at + size
+}
+
+// Of all n records. The caller has filed them, and has room for all.
+pub fn copy_units(b: &[u8], records: &[u32], n: usize, home: usize, out: &mut [u8], at: usize)
+    requires { ⌜ (recordWords * n ≤ length (now records)) × UnitsInside (now b) (now records) n × (at + length (bytesFrom (now b) (now records) home 0 n) ≤ length (now out)) ⌝ }
+    ensures { λ _. ⌜ now (out .exit) ≡ placed (now (out .entry)) at (bytesFrom (now (b .entry)) (now (records .entry)) home 0 n) ⌝ }
+{
+    let mut o = at;
+    let mut i = 0;
+    while i < n {
+        o = copy_unit(b, records, i, home, out, o);
+        i += 1;
+    }
+}

@@ -1,0 +1,3 @@
+-- What a store in one region leaves of the others.
+-- Assumes nothing.
+pub mod Stores

@@ -1,0 +1,75 @@
+// The regions of lent work, in words for each word of the bundle. No other file knows where a region starts.
+ghost use mathlib.Core.Path.{_≡_};
+ghost use Prim.Native.Nat.{_+_, _*_, _<_, _^_};
+ghost use Rattle.work.specs.Regions.{recordsRegion, stringsRegion, slotsRegion};
+
+// One record of so many words for each kept unit. A unit takes at least five words of the bundle, so that 23 for each five fit.
+pub const RECORD: usize = 23;
+
+pub const LEAST_UNIT: usize = 5;
+
+// The first table, by its number.
+pub const COMPILATION: usize = numbers::tables::COMPILATION as usize;
+
+// Sizes, and the places that follow from them.
+const RECORDS: usize = 5;
+
+const STRINGS: usize = 3;
+
+const SLOTS: usize = 1;
+
+const STRINGS_START: usize = RECORDS;
+
+const COMPILATION_START: usize = STRINGS_START + STRINGS;
+
+const TYPE_START: usize = COMPILATION_START + SLOTS;
+
+// What lies from here to the end of work is free.
+pub const FREE_START: usize = TYPE_START + SLOTS;
+
+// Where a region starts, and how many words it has.
+pub struct Region {
+    pub start: usize,
+    pub size: usize,
+}
+
+// Each for a bundle of n words. Callers have a bundle of fewer than 2 to the power 32.
+pub fn records(n: usize) -> Region
+    requires { ⌜ n < 2 ^ 32 ⌝ }
+    ensures start { λ r. ⌜ r .start ≡ recordsRegion .start * n ⌝ }
+    ensures size { λ r. ⌜ r .size ≡ recordsRegion .words * n ⌝ }
+{
+    Region {
+        start: 0,
+        size: RECORDS * n,
+    }
+}
+
+pub fn strings(n: usize) -> Region
+    requires { ⌜ n < 2 ^ 32 ⌝ }
+    ensures start { λ r. ⌜ r .start ≡ stringsRegion .start * n ⌝ }
+    ensures size { λ r. ⌜ r .size ≡ stringsRegion .words * n ⌝ }
+{
+    Region {
+        start: STRINGS_START * n,
+        size: STRINGS * n,
+    }
+}
+
+// The slots of a table.
+pub fn slots(n: usize, table: usize) -> Region
+    requires { ⌜ n < 2 ^ 32 ⌝ }
+    ensures start { λ r. ⌜ r .start ≡ slotsRegion table .start * n ⌝ }
+    ensures size { λ r. ⌜ r .size ≡ slotsRegion table .words * n ⌝ }
+{
+    if table == COMPILATION {
+        return Region {
+            start: COMPILATION_START * n,
+            size: SLOTS * n,
+        };
+    }
+    Region {
+        start: TYPE_START * n,
+        size: SLOTS * n,
+    }
+}
