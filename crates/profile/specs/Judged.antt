@@ -1,0 +1,2 @@
+-- What the code holds.
+-- Assumes nothing.

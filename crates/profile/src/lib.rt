@@ -1,0 +1,1 @@
+// The archive profile of a package.
