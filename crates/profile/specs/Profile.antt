@@ -47,10 +47,13 @@ profiled p =
     [ pass k ↦ elim (all (λ holds. holds) (conditions k)) [ true ↦ 0 | false ↦ 1 ] | refuse n ↦ badPackage ]
 
 -- a bit for each condition that fails, the first one's the least
+unfoldable pub failedBit : Bool → ℕ
+failedBit true = 0
+failedBit false = 1
+
 unfoldable pub failedBits : List Bool → ℕ
 failedBits [] = 0
-failedBits (true ∷ cs) = 2 * failedBits cs
-failedBits (false ∷ cs) = 1 + 2 * failedBits cs
+failedBits (c ∷ cs) = failedBit c + 2 * failedBits cs
 
 -- which conditions fail; none are told of a bad package
 unfoldable pub failed : List ℕ → ℕ
