@@ -7,11 +7,11 @@ use Rattle.index.specs.Columns.{columnsFour, columnsFive, columnsOf}
 use Rattle.unit.specs.Forms.{forms}
 use Rattle.archive_tables.specs.NameRule.{wordOf, suffixOf, nameByRule}
 use Rattle.archive_tables.specs.ColumnRule.{sectionsTwo, inItsPlace, columnFive, columnByRule, fiveFrom, sectionsByRule, columnsByRule}
-use Rattle.archive_tables.specs.FormRule.{classes, widthAmong, widthByRule, formsFrom, lastForm, formsByRule}
+use Rattle.archive_tables.specs.FormRule.{classes, widthAmong, widthByRule, formsFrom, formsByRule}
 use Rattle.archive_tables.specs.Agreement.{rising, TablesAgree}
 
 pub tables-agree : TablesAgree
 unfolding dwoWords indexWords namePrefix nameSuffix dwoName indexName sectionNames wordOf suffixOf nameByRule rising
-  columnsFour columnsFive columnsOf sectionsTwo inItsPlace columnFive columnByRule fiveFrom sectionsByRule columnsByRule
-  forms has any classes widthAmong widthByRule formsFrom lastForm formsByRule
+    columnsFour columnsFive columnsOf sectionsTwo inItsPlace columnFive columnByRule fiveFrom sectionsByRule columnsByRule
+    forms has any classes widthAmong widthByRule formsFrom formsByRule
 tables-agree = record { names = refl; columnsTwo = refl; columnsFive = refl; forms = refl }

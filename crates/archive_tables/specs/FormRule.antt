@@ -19,8 +19,9 @@ unfoldable pub classes : List Class
 classes =
     -- flag_present
     of (fixed 0) (0x19 ∷ [])
-    -- data1, flag, ref1
-    ∷ of (fixed 1) (0x0B ∷ 0x0C ∷ 0x11 ∷ [])
+    -- data1; flag and ref1
+    ∷ of (fixed 1) (0x0B ∷ [])
+    ∷ of (fixed 1) (0x0C ∷ 0x11 ∷ [])
     -- data2, ref2
     ∷ of (fixed 2) (0x05 ∷ 0x12 ∷ [])
     -- data4, ref4
@@ -31,8 +32,10 @@ classes =
     ∷ of address (0x01 ∷ [])
     -- strp, ref_addr, sec_offset
     ∷ of offset (0x0E ∷ 0x10 ∷ 0x17 ∷ [])
-    -- udata, ref_udata, GNU_addr_index, GNU_str_index
-    ∷ of uleb (0x0F ∷ 0x15 ∷ 0x1F01 ∷ 0x1F02 ∷ [])
+    -- udata and ref_udata; GNU_addr_index; GNU_str_index
+    ∷ of uleb (0x0F ∷ 0x15 ∷ [])
+    ∷ of uleb (0x1F01 ∷ [])
+    ∷ of uleb (0x1F02 ∷ [])
     -- sdata
     ∷ of sleb (0x0D ∷ [])
     -- string
@@ -60,9 +63,6 @@ formsFrom f zero = []
 formsFrom f (suc n) =
     elim (widthByRule f) [ some w ↦ record { form = f; width = w } ∷ formsFrom (suc f) n | none ↦ formsFrom (suc f) n ]
 
--- those of four hexadecimal digits, of which 1F02 is the greatest
-unfoldable pub lastForm : ℕ
-lastForm = 0x1F02
-
+-- no form is greater than 1F02
 unfoldable pub formsByRule : List Form
-formsByRule = formsFrom 0 (suc lastForm)
+formsByRule = formsFrom 0 0x1F03
