@@ -25,7 +25,13 @@ fn vectors() {
     assert_eq!(seen, 216);
 }
 
-/// Packages whole and damaged, of every kind.
+/// A package whose cu_index has no row, of either version.
+fn without_rows(random: &mut Random) -> Vec<u8> {
+    let words = [0xF000_0000, 0x1008_0405, 0x2600_001C, random.pick(&[2u32, 5]), 0, 0, 1, 0, 0, 0, 0x3000_000B];
+    words.iter().flat_map(|w| w.to_le_bytes()).collect()
+}
+
+/// Packages whole and damaged, of every kind, and some without rows, which packing doesn't make.
 #[test]
 fn generated_packages() {
     let mut random = Random::new(50);
@@ -33,12 +39,16 @@ fn generated_packages() {
     for _ in 0..20_000 {
         let c = call(&mut random);
         let Packed::Made(package) = pack(&c.bundle, c.work, c.output) else { continue };
-        let package = question(&mut random, &package).package;
+        let package =
+            if random.one_in(50) { without_rows(&mut random) } else { question(&mut random, &package).package };
         let (code, bits) = conditions(&package);
         assert_eq!((code, bits), kit::profile::profile(&package), "{package:02X?}");
         assert_eq!(code, profile(&package));
         told[code as usize] += 1;
         (0..8).for_each(|i| failed[i] += bits >> i & 1);
     }
-    assert!([0, 1, 21].iter().all(|code| told[*code] > 50) && failed.iter().all(|count| *count > 5), "{told:?} {failed:?}");
+    assert!(
+        [0, 1, 21].iter().all(|code| told[*code] > 50) && failed.iter().all(|count| *count > 5),
+        "{told:?} {failed:?}"
+    );
 }

@@ -33,6 +33,9 @@ pub fn profile(package: &[u8]) -> u32 {
 /// The same, and a bit for each condition that fails.
 pub fn conditions(package: &[u8]) -> (u32, u32) {
     let Verdict { code, failed } = unsafe { barthovin_archive_profile_conditions(package.as_ptr(), package.len()) };
-    assert!((code == 1) == (failed != 0) && failed >> CONDITIONS.len() == 0, "conditions that don't go with the answer");
+    assert!(
+        (code == 1) == (failed != 0) && failed >> CONDITIONS.len() == 0,
+        "conditions that don't go with the answer"
+    );
     (code, failed)
 }
