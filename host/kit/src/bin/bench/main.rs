@@ -55,7 +55,15 @@ fn measure_all(oracle: Option<&str>) -> Result<Paper> {
     let name = "many different strings";
     let strings = growing(&mut bench, name, STRINGS.iter().map(|n| (many_strings(*n), *n)))?;
     let strings = Growth { name, items: "strings", measured: strings };
-    Ok(Paper { thorin, small, kinds, strings, lookups: lookups::all()? })
+    Ok(Paper {
+        thorin,
+        // Packing.
+        small,
+        kinds,
+        strings,
+        // Looking up.
+        lookups: lookups::all()?,
+    })
 }
 
 fn main() -> Result<()> {
