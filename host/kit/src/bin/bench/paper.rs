@@ -19,6 +19,8 @@ pub struct Paper {
     pub small: (Measured, Duration),
     pub kinds: Vec<Growth>,
     pub strings: Growth,
+    /// Of 1,024 questions in one call.
+    pub batch: Duration,
     pub lookups: Vec<Lookup>,
 }
 
@@ -131,6 +133,7 @@ impl Paper {
             ("small", time(self.small.1)),
             ("growth", self.kinds.iter().map(grown).collect()),
             ("verdict", self.verdict()),
+            ("batch", time(self.batch)),
             ("lookups", self.lookups.iter().map(looked_up).collect()),
         ];
         figures.extend(self.string_figures());
@@ -227,6 +230,7 @@ mod tests {
             kinds: vec![growth("a")],
             strings: growth("b"),
             // Looking up.
+            batch: took,
             lookups: vec![Lookup { name: "some", bytes: 12, took }],
         };
         let text = paper.to_string();
