@@ -4,6 +4,7 @@
 pub mod asking;
 pub mod files;
 pub mod many;
+pub mod profiling;
 
 ghost use mathlib.Core.Path.{_≡_};
 ghost use lib.ListN.{length};

@@ -13,6 +13,7 @@ pub mod generate;
 pub mod handed_in;
 pub mod lender;
 pub mod oracle;
+pub mod profile;
 pub mod reference;
 pub mod sample;
 pub mod vectors;

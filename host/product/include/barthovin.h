@@ -132,6 +132,18 @@ struct barthovin_found_from_bundle barthovin_pack_and_look_up_string(const uint8
                                                                      uint32_t version, uint32_t table,
                                                                      uint64_t identity, uint64_t entry);
 
+/* Whether a package is in the archive profile: 0 yes, 1 no, 21 for a bad package. */
+uint32_t barthovin_archive_profile(const uint8_t *package, size_t package_length);
+
+/* The same, and a bit for each condition that fails: 1 DWARF version 5, 2 little-endian, 4 offset width 4, 8 address size 8, 16 no
+ * macro section, 32 a cu_index, 64 its version 5, 128 a row in it. Only code 1 has bits. */
+struct barthovin_verdict {
+    uint32_t code;
+    uint32_t failed;
+};
+
+struct barthovin_verdict barthovin_archive_profile_conditions(const uint8_t *package, size_t package_length);
+
 #ifdef __cplusplus
 }
 #endif

@@ -10,6 +10,7 @@ mod lookup;
 mod meaning;
 mod output;
 mod pack;
+mod profile;
 mod show;
 mod stop;
 
@@ -41,6 +42,8 @@ fn dispatch(arguments: &[OsString]) -> Result<u8, Stop> {
         Some("pack") => pack::run(rest),
         Some("lookup") => lookup::run(rest),
         Some("list") => list::run(rest),
+        Some("profile") => profile::run(rest),
+        Some("tables") => profile::tables(rest),
         Some("help") => help_about(rest),
         Some("-h" | "--help") => output::print(help::about("")),
         Some("-V" | "--version") => output::print(VERSION),

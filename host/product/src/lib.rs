@@ -1,6 +1,6 @@
 //! The verified packer for Rust callers, and what the command does.
 //!
-//! `ffi` calls the proved functions, `answer` has the kinds of their answers, and `names` their numbers. The rest is help for people:
+//! `ffi` and `profile` call the proved functions, `answer` has the kinds of their answers, and `names` their numbers. The rest is help for people:
 //! `reader` takes bundles and packages apart, `explain` says why something was refused, `command` is the command. None of it is proved, and
 //! none of it has a say in an answer. C callers have `include/barthovin.h`.
 
@@ -11,4 +11,5 @@ pub mod elf;
 pub mod explain;
 pub mod ffi;
 pub mod names;
+pub mod profile;
 pub mod reader;

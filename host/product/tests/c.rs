@@ -3,6 +3,7 @@
 use barthovin::answer::{Asked, Found};
 use barthovin::batch::answer_words;
 use barthovin::ffi;
+use barthovin::profile::{conditions, profile};
 use std::path::{Path, PathBuf};
 use std::process::{Command, Output};
 
@@ -94,6 +95,8 @@ fn by_rust() -> String {
     told += &found("lookup", ffi::lookup(package, 5, 2, 1, 1));
     told += &found("lookup_string", ffi::lookup_string(package, 5, 1, 1, 0));
     told += &found("lookup_string", ffi::lookup_string(package, 5, 1, 1, 1));
+    told += &format!("profile {} {}\n", profile(package), profile(&package[..packed - 4]));
+    told += &format!("conditions {}\n", conditions(&bundle).1);
     told
 }
 

@@ -45,5 +45,8 @@ int main(void) {
     show("lookup", barthovin_lookup(output, packed.length, 5, 2, 1, BARTHOVIN_INFO));
     show("lookup_string", barthovin_lookup_string(output, packed.length, 5, 1, 1, 0));
     show("lookup_string", barthovin_lookup_string(output, packed.length, 5, 1, 1, 1));
+    printf("profile %u %u\n", (unsigned)barthovin_archive_profile(output, packed.length),
+           (unsigned)barthovin_archive_profile(output, packed.length - 4));
+    printf("conditions %u\n", (unsigned)barthovin_archive_profile_conditions(bundle, sizeof words).failed);
     return 0;
 }

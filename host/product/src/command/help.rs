@@ -9,6 +9,8 @@ Commands:
   pack      write the package of ELF files or bundles
   lookup    find a part or a string of a unit in a package
   list      list what a package holds
+  profile   say whether a package is in the archive profile
+  tables    print the tables of sections, columns and forms
   help      say how a command is called
 
 Every command takes
@@ -83,6 +85,30 @@ PACKAGE is a file, or - for standard input. Offsets of parts count from the fron
 
 Exit status: 0 listed; 1 refused; 2 a wrong call, or a file that can't be read.";
 
+const PROFILE: &str = "\
+Usage: barthovin profile [OPTION]... PACKAGE
+Say yes where a package is in the archive profile, or no and which of its conditions are not true: DWARF version 5, little-endian, offset
+width 4, address size 8, no macro section, and a cu_index of version 5 with at least one row.
+
+PACKAGE is a file, or - for standard input.
+
+      --json      write the answer as a JSON object
+  -h, --help      show this help and exit
+  -V, --version   show the version and exit
+
+Exit status: 0 yes; 1 no or refused; 2 a wrong call, or a file that can't be read.";
+
+const TABLES: &str = "\
+Usage: barthovin tables [OPTION]
+Print what a reader of packages needs, a line for each entry: section code and name; index version, section code and column code; form
+and width, where a width is its bytes, A an address, O an offset, U or S a LEB128 number, Z a string, I indirect, B a block and its
+count's width.
+
+  -h, --help      show this help and exit
+  -V, --version   show the version and exit
+
+Exit status: 0 printed; 2 a wrong call.";
+
 /// The help of a subcommand, or the general one.
 pub fn about(command: &str) -> &'static str {
     match command {
@@ -90,6 +116,8 @@ pub fn about(command: &str) -> &'static str {
         "pack" => PACK,
         "lookup" => LOOKUP,
         "list" => LIST,
+        "profile" => PROFILE,
+        "tables" => TABLES,
         _ => GENERAL,
     }
 }

@@ -1,0 +1,5 @@
+-- What the proofs of the profile cite.
+-- Assumes nothing.
+pub mod Bits
+pub mod Objects
+pub mod Verdicts
