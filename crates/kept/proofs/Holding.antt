@@ -1,23 +1,22 @@
 -- Work that holds the kept units: none, and one more.
 -- Assumes nothing.
-use mathlib.Core.Path.{_≡_, refl, sym, ap, ap₂, _∙_, subst}
-use mathlib.Core.Bool.{Bool, true, false}
-use mathlib.Core.Logic.{_⊎_, inl, inr, ⊎-elim}
+use mathlib.Core.Path.{_≡_, refl, sym, ap, ap₂, _∙_}
+use mathlib.Core.Bool.{Bool}
+use mathlib.Core.Logic.{inl, inr, ⊎-elim}
 use mathlib.Core.List.{List, [], _∷_, _++_, map, append-nil}
 use mathlib.Core.Option.{Option, some}
-use Prim.Native.Nat.{ℕ, zero, suc, _+_, _*_, _-_, _<_, _≤_}
+use Prim.Native.Nat.{ℕ, zero, suc, _+_, _*_, _<_, _≤_}
 use native.Mathlib.Nat.{not-suc-le-zero}
 use native.Mathlib.Omega.{arith}
 use native.Mathlib.Decide.{ℕ-discrete, decLt}
 use lib.ListN.{length, getD, set, length-append}
 use borrow.Author.Tests.{eq-eqb, ne-eqb}
-use Rattle.octets.specs.Octets.{part, placed, zeros}
-use Rattle.octets.specs.Lists.{has, distinct, those, joined}
+use Rattle.octets.specs.Octets.{part, placed}
+use Rattle.octets.specs.Lists.{has, those, joined}
 use Rattle.octets.proofs.Joined.{map-append}
-use Rattle.octets.proofs.Parts.{length-part}
 use Rattle.index.specs.Index.{Contribution}
 use Rattle.index.specs.Rows.{BySection}
-use Rattle.index.specs.Written.{Row, offsetOf, sizeOf}
+use Rattle.index.specs.Written.{Row}
 use Rattle.index.specs.Contributed.{ContributionsAre}
 use Rattle.index.specs.Held.{PowerOfTwo}
 use Rattle.index.specs.declared.judging.Contributions.{Contributions}
@@ -27,15 +26,15 @@ use Rattle.package.specs.Pack.{cells, rowsOf, unitBytes, entriesFrom}
 use Rattle.package.proofs.Rows.{behindAll, behind-at, rowsFrom, rowAt, rows-are, rows-append, rows-later, row-stands, nothingBefore, unit-append, unit-here, unit-later}
 use Rattle.kept.specs.Columns.{columnsFor, sectionAt, ColumnsHeld, Marked}
 use Rattle.kept.specs.Cells.{cellsBy}
-use Rattle.kept.specs.Records.{KeptUnit, cellWords, wordsOf, cellsLeft, cellsOf, unitOf, recordAt, recordsFrom, ofTable, bytesOf, bytesFrom, UnitsInside}
-use Rattle.kept.specs.Slots.{freeFor, SeenHeld, Numbered}
+use Rattle.kept.specs.Records.{KeptUnit, cellWords, wordsOf, cellsLeft, cellsOf, unitOf, recordAt, recordsFrom, ofTable, bytesOf, bytesFrom}
+use Rattle.kept.specs.Slots.{freeFor, SeenHeld}
 use Rattle.kept.specs.Held.{identitiesOf, RowIs, RowsAre, none, more, TableHeld, pick, OneOrTwo, UnitsHeld}
 use Rattle.kept.specs.declared.records.Unit.{Unit as UnitHead}
 use Rattle.kept.specs.declared.Table.{Table}
 use Rattle.kept.specs.declared.Units.{Units}
-use Rattle.kept.proofs.Columning.{columns-are, columns-none, columns-more}
+use Rattle.kept.proofs.Columning.{columns-are, columns-more}
 use Rattle.kept.proofs.Recording.{cells-many, stored, stored-before, stored-own, stored-other, stored-table, stored-bytes, stored-elsewhere, stored-identity, stored-row, record-stored}
-use Rattle.kept.proofs.Seen.{seen-none, seen-kept, seen-more}
+use Rattle.kept.proofs.Seen.{seen-kept, seen-more}
 
 -- ---- a choice by number
 pub pick-first : {A : Type 0} (k : ℕ) (a b : A) → k ≡ 1 → a ≡ pick k a b

@@ -16,7 +16,7 @@ use Rattle.index.specs.Written.{Row, presentColumns, offsetOf, sizeOf, grid, in
 use Rattle.index.proofs.LawGrid.{getD-map}
 use Rattle.index.proofs.LawPlaces.{noColumn}
 use Rattle.kept.specs.Columns.{versionFor, columnsFor, sectionAt, codeAt, numbersIf, cellsFrom, codesFrom, codesIn, ColumnsHeld}
-use Rattle.kept.specs.Records.{KeptUnit, ofTable, identityFor, rowFor}
+use Rattle.kept.specs.Records.{KeptUnit, ofTable, rowFor}
 use Rattle.kept.specs.Slots.{SeenHeld}
 use Rattle.kept.specs.Indexed.{numbersIn, gridFrom, slotNumber, slotWidth, frontIn, indexIn}
 use Rattle.kept.specs.Held.{identitiesOf, RowIs, RowsAre, none, more}
@@ -57,9 +57,6 @@ module _ (five : Bool) (k : ℕ) (h : k < length (columnsFor five)) where
   code-is = getD-map (λ c. c .column) (columnsFor five) k noColumn h
 
 module _ (five : Bool) (has : List Bool) (rs : List Row) (c : ColumnsHeld five has rs) where
-  abbrev test : Column → Bool
-  test d = any (λ (r : Row). isSome (r .cells (d .section))) rs
-
   has-is : (j : ℕ) → j < length (columnsFor five) → getD has (0 + j) false ≡ any (λ (r : Row). isSome (r .cells (getD (columnsFor five) j noColumn .section))) rs
   has-is j h =
       let z : 0 + j ≡ j = omega arith in

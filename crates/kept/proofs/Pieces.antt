@@ -1,13 +1,12 @@
 -- The pieces of an index, one behind the other: what is stored of each, and their lengths.
 -- Assumes nothing.
 use mathlib.Core.Path.{_≡_, refl, sym, ap, ap₂, _∙_}
-use mathlib.Core.Bool.{Bool, true, false, _||_}
+use mathlib.Core.Bool.{Bool, true, false}
 use mathlib.Core.List.{List, [], _∷_, _++_, map, append-nil, append-assoc}
 use Prim.Native.Nat.{ℕ, zero, suc, _+_, _*_, _-_, _≤_, _<_}
-use native.Mathlib.Nat.{add-mul, one-mul, zero-mul, not-suc-le-zero}
+use native.Mathlib.Nat.{add-mul, one-mul, zero-mul}
 use native.Mathlib.Numerals.{add-one}
 use native.Mathlib.Omega.{arith}
-use native.Mathlib.Decide.{ℕ-discrete}
 use lib.ListN.{length, getD, length-append, length-map}
 use borrow.Author.Tests.{eq-eqb, ne-eqb}
 use Rattle.octets.specs.Octets.{part, bytesOf, numbersOf, placed}
@@ -295,9 +294,6 @@ row-room f w which i at room e h = rw e at h
 
 pub row-some : (big : Bool) (d v : List ℕ) (at next : ℕ) (x y : List ℕ) → x ≡ y → (v ≡ placed d at (numbersOf big 4 y)) × (next ≡ at + 4 * length y) → (v ≡ placed d at (numbersOf big 4 x)) × (next ≡ at + 4 * length x)
 row-some big d v at next x y e h = rw e h
-
-pub not-other : {a b : ℕ} → ((a ≡ b → ⊥) → ⊥) → a ≡ b
-not-other {a} {b} f = elim (ℕ-discrete a b) [ yes e ↦ e | no g ↦ absurd (f g) ]
 
 -- how much room there is for each piece
 module _ (f : IndexForm) (w : List ℕ) (n : ℕ) (slots : List ℕ) (columns at room : ℕ) (fits : at + length (indexIn f w n slots) ≤ room) where

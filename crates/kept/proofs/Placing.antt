@@ -6,14 +6,14 @@ use mathlib.Core.List.{List, [], _∷_, _++_, append-nil, append-assoc}
 use Prim.Native.Nat.{ℕ, zero, suc, _+_, _*_, _-_, _<_, _≤_}
 use native.Mathlib.Omega.{arith}
 use native.Mathlib.Decide.{ℕ-discrete}
-use lib.ListN.{length, getD, take, drop, set, length-append}
+use lib.ListN.{length, take, drop, set, length-append}
 use borrow.Rule.Slice.PartMut.{putMid}
 use Rattle.octets.specs.Octets.{part, placed, zeros}
 use Rattle.octets.specs.Lists.{any, has, those, distinct}
 use Rattle.octets.proofs.Checks.{true-false, or-right}
 use Rattle.octets.proofs.Elements.{distinct-cons, distinct-head, distinct-tail, has-append, has-cons, has-skips}
 use Rattle.octets.proofs.Parts.{part-cut, length-part, part-part}
-use Rattle.octets.proofs.Placed.{length-zeros, getD-zeros, placed-byte, length-placed}
+use Rattle.octets.proofs.Placed.{length-zeros, getD-zeros, placed-byte}
 use Rattle.octets.proofs.Regions.{placed-whole, part-placed}
 use Rattle.index.specs.Held.{PowerOfTwo}
 use Rattle.index.proofs.LawMore.{below-set}
@@ -21,8 +21,7 @@ use Rattle.work.specs.Regions.{Layout, recordsRegion, slotsRegion, recordWords,
 use Rattle.work.proofs.Stores.{part-stored, region-room, region-fits, length-region, store-length, others-stay, own-stored, records-within, slots-within, records-slots, slots-records, one-word}
 use Rattle.numbers.specs.Limits.{workForWord}
 use Rattle.kept.specs.Records.{KeptUnit, cellWords, wordsOf, recordAt, ofTable, identitiesIn, recordsFrom}
-use Rattle.kept.specs.Slots.{Within, soughtIn, SeenHeld, Numbered, slotsIn, Placeable, Seekable, SlotsLeft, Fitting, Placed, PlacedAll, Keepable, keptIn}
-use Rattle.kept.specs.declared.slots.Sought.{Sought}
+use Rattle.kept.specs.Slots.{Within, soughtIn, SeenHeld, slotsIn, Placeable, Seekable, SlotsLeft, Fitting, Placed, PlacedAll, Keepable, keptIn}
 use Rattle.kept.specs.declared.slots.Sought.the-variants.{Known, Free, Full}
 use Rattle.kept.proofs.Recording.{words-long, identities-snoc, identities-other, identities-many}
 use Rattle.kept.proofs.Seeking.{sought-inside}

@@ -1,25 +1,22 @@
 -- Records one behind the other: one more, and that only their own words count.
 -- Assumes nothing.
 use mathlib.Core.Path.{_≡_, refl, sym, ap, ap₂, _∙_}
-use mathlib.Core.Bool.{Bool, true, false}
+use mathlib.Core.Bool.{Bool}
 use mathlib.Core.List.{List, [], _∷_, _++_, map, append-nil}
 use Prim.Native.Nat.{ℕ, zero, suc, _+_, _*_, _-_, _/_, _%_, _^_, _<_, _≤_}
 use native.Mathlib.Omega.{arith}
 use native.Mathlib.Decide.{ℕ-discrete}
-use lib.Dec.{eqb}
-use lib.ListN.{length, getD, length-append, length-map}
+use lib.ListN.{length, getD, length-map}
 use lib.Seq.{take-all}
 use borrow.Author.Tests.{eq-eqb, ne-eqb}
 use Rattle.octets.specs.Octets.{part, placed}
 use Rattle.octets.specs.Lists.{those, joined}
 use Rattle.octets.proofs.Lists.{those-append, those-keeps, those-skips}
 use Rattle.octets.proofs.Joined.{map-append, joined-append}
-use Rattle.octets.proofs.Placed.{placed-placed, placed-none, length-placed}
 use Rattle.octets.proofs.Parts.{part-part}
 use Rattle.octets.proofs.Regions.{part-before, part-placed, getD-placed, getD-before}
 use Rattle.index.specs.declared.judging.Contributions.{Contributions}
 use Rattle.work.specs.Regions.{recordWords}
-use Rattle.kept.specs.Columns.{sectionAt}
 use Rattle.kept.specs.Records.{KeptUnit, cellsPlace, cellWords, wordsOf, cellsLeft, cellsOf, recordAt, recordsFrom, inTable, inHome, ofTable, identitiesIn, bytesOf, bytesFrom, identityFor, rowFor}
 
 -- ---- one behind the other
@@ -131,9 +128,6 @@ module _ (w : List ℕ) (n : ℕ) (k : KeptUnit) (many : length (k .cells) ≡ c
 
   fits : recordWords * n + length (wordsOf k) ≤ length w
   fits = omega (arith, words-long k many)
-
-  pub stored-length : length stored ≡ length w
-  stored-length = length-placed w (recordWords * n) (wordsOf k) fits
 
   pub stored-before : (i : ℕ) → i < n → recordAt stored i ≡ recordAt w i
   stored-before i h = record-kept w (wordsOf k) (recordWords * n) i (omega arith) fits

@@ -17,7 +17,6 @@ use Rattle.index.proofs.Placing.{free-here, free-on}
 use Rattle.work.specs.Regions.{recordWords}
 use Rattle.kept.specs.Records.{identityFor}
 use Rattle.kept.specs.Slots.{Within, freeFor, soughtAs, soughtIn}
-use Rattle.kept.specs.declared.slots.Sought.{Sought}
 use Rattle.kept.specs.declared.slots.Sought.the-variants.{Known, Free, Full}
 
 -- the looks that are left, as the definition counts them

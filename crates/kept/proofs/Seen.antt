@@ -3,7 +3,7 @@
 use mathlib.Core.Path.{_≡_, refl, sym, ap, _∙_}
 use mathlib.Core.Bool.{Bool, true, false}
 use mathlib.Core.List.{List, [], _∷_, _++_, map}
-use mathlib.Core.Option.{Option, some, none}
+use mathlib.Core.Option.{some, none}
 use Prim.Native.Nat.{ℕ, zero, suc, _+_, _-_, _<_, _≤_}
 use native.Mathlib.Omega.{arith}
 use native.Mathlib.Decide.{ℕ-discrete, decLt}
@@ -12,7 +12,7 @@ use lib.Seq.{getD-set-same, getD-set-other}
 use Rattle.octets.specs.Octets.{zeros}
 use Rattle.octets.specs.Lists.{has, distinct}
 use Rattle.octets.specs.Checked.{pass}
-use Rattle.octets.proofs.Checks.{then-pass, true-false}
+use Rattle.octets.proofs.Checks.{then-pass}
 use Rattle.octets.proofs.Placed.{length-zeros, getD-zeros}
 use Rattle.octets.proofs.Elements.{at-has, has-not-at}
 use Rattle.index.specs.Probing.{Probe, found, absent, firstSlot, stride, freeFrom, search, Slots, place, placeAll, unused}
@@ -21,12 +21,11 @@ use Rattle.index.proofs.Slots as slots
 use Rattle.index.proofs.LawGrid.{getD-map}
 use Rattle.index.proofs.Placing.{probed, put, Counted, free-slot, place-is, counted-unused}
 use Rattle.index.proofs.LawPlaced.{distinct-is, Placed}
-use Rattle.index.proofs.Found.{FoundIn, AbsentIn, placed-found, placed-absent}
+use Rattle.index.proofs.Found.{placed-found, placed-absent}
 use Rattle.index.proofs.LawMore.{placeAll-append, place-pass, placeAll-counted, placed-by, below-set}
 use Rattle.index.proofs.Renamed.{Renamed, free-renamed, search-renamed}
 use Rattle.kept.specs.Records.{recordAt, identityFor, rowFor}
-use Rattle.kept.specs.Slots.{Within, freeFor, soughtAs, soughtIn, SeenHeld}
-use Rattle.kept.specs.declared.slots.Sought.{Sought}
+use Rattle.kept.specs.Slots.{freeFor, soughtAs, soughtIn, SeenHeld}
 use Rattle.kept.specs.declared.slots.Sought.the-variants.{Known, Free, Full}
 use Rattle.kept.proofs.Recording.{identity-none, identity-some, row-none, row-some}
 use Rattle.kept.proofs.Moved.{getD-past}

@@ -2,13 +2,13 @@
 -- Assumes nothing.
 use mathlib.Core.Bool.{Bool, true, false}
 use mathlib.Core.List.{List, [], _∷_, _++_, map}
-use Prim.Native.Nat.{ℕ, zero, suc, _+_, _*_}
+use Prim.Native.Nat.{ℕ, _+_, _*_}
 use lib.ListN.{length}
 use Rattle.octets.specs.Octets.{numbersOf}
 use Rattle.octets.specs.Lists.{joined, those}
 use Rattle.index.specs.Written.{startBytes}
 use Rattle.kept.specs.Columns.{versionFor, columnsFor, codesIn, cellsFrom}
-use Rattle.kept.specs.Records.{KeptUnit, recordAt, recordsFrom, inTable, identityFor, rowFor}
+use Rattle.kept.specs.Records.{KeptUnit, recordsFrom, inTable, identityFor, rowFor}
 use Rattle.kept.specs.declared.writing.IndexForm.{IndexForm}
 
 -- the bytes of an index, by its numbers of columns, rows and slots

@@ -1,13 +1,13 @@
 -- Slots of record numbers, and the definition's slots of row numbers.
 -- Assumes nothing.
 use mathlib.Core.Path.{_≡_}
-use mathlib.Core.Bool.{Bool, true, false}
+use mathlib.Core.Bool.{Bool, true}
 use mathlib.Core.List.{List, [], _∷_, map}
 use mathlib.Core.Option.{Option, some, none}
 use Prim.Native.Nat.{ℕ, _+_, _*_, _/_, _<_, _≤_}
 use lib.ListN.{length, getD}
 use Rattle.octets.specs.Octets.{part, placed}
-use Rattle.octets.specs.Lists.{has, distinct}
+use Rattle.octets.specs.Lists.{distinct}
 use Rattle.octets.specs.Checked.{pass}
 use Rattle.numbers.specs.Limits.{bundleLimit, workForWord}
 use Rattle.index.specs.Probing.{Probe, found, absent, firstSlot, stride, freeFrom, search, slotsFor, Slots, unused, placeAll}

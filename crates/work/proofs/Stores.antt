@@ -1,13 +1,13 @@
 -- A store in one region leaves the others, and is a store in that region's own words.
 -- Assumes nothing.
-use mathlib.Core.Path.{_≡_, refl, sym, ap, _∙_}
+use mathlib.Core.Path.{_≡_, sym, ap, _∙_}
 use mathlib.Core.Bool.{true, false}
 use mathlib.Core.Logic.{_⊎_, inl, inr, ⊎-elim}
 use mathlib.Core.List.{List}
 use Prim.Native.Nat.{ℕ, _+_, _*_, _-_, _<_, _≤_}
 use native.Mathlib.Nat.{add-mul, mul-le-mul-right}
 use native.Mathlib.Omega.{arith}
-use native.Mathlib.Decide.{decLt, decLe}
+use native.Mathlib.Decide.{decLt}
 use lib.Dec.{eqb}
 use lib.ListN.{length, getD}
 use lib.Seq.{ext-getD}

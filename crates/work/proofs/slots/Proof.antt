@@ -1,7 +1,7 @@
 -- The slots of a table, by its number.
 -- Assumes nothing.
-use mathlib.Core.Path.{_≡_, sym, ap}
-use Prim.Native.Nat.{ℕ, _*_}
+use mathlib.Core.Path.{sym, ap}
+use Prim.Native.Nat.{_*_}
 use borrow.Author.Needs.{needs}
 use Rattle.work.specs.Regions.{Layout}
 use Rattle.work.proofs.Stores.{compilation-slots, type-slots}

@@ -1,6 +1,5 @@
 -- `kept::columns::version_for` meets its contract.
 -- Assumes nothing.
-use mathlib.Core.Path.{sym, ap}
 use Rattle.kept.specs.Columns.{versionFor}
 use Rattle.kept.proofs.columns.version_for.Statement.{statement}
 use Rattle.kept.proofs.columns.version_for.Tie as tie

@@ -1,6 +1,5 @@
 -- `kept::records::row_for` meets its contract.
 -- Assumes nothing.
-use native.Mathlib.Omega.{arith}
 use Rattle.kept.specs.Records.{recordAt}
 use Rattle.kept.proofs.Recording.{row-none, row-some}
 use borrow.Author.Needs.{needs}

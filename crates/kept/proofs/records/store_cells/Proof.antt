@@ -1,10 +1,8 @@
 -- `kept::records::store_cells` meets its contract: what is left is still to be stored.
 -- Assumes nothing.
-use mathlib.Core.Path.{_≡_, refl}
+use mathlib.Core.Path.{refl}
 use Prim.Native.Nat.{_+_, _*_, _-_, _≤_, _<_}
 use native.Mathlib.Omega.{arith}
-use lib.ListN.{length}
-use denote.Ref.{now}
 use Rattle.kept.specs.Records.{cellsLeft, cellsOf}
 use Rattle.kept.proofs.Columning.{section-lt}
 use Rattle.kept.proofs.Recording.{cells-room}

@@ -1,8 +1,6 @@
 -- `kept::records::store_unit` meets its contract: the head, and behind it the cells.
 -- Assumes nothing.
 use native.Mathlib.Omega.{arith}
-use lib.ListN.{length}
-use Rattle.octets.proofs.Placed.{length-placed}
 use Rattle.kept.proofs.Copying.{head-fits, unit-stored}
 use borrow.Author.Needs.{needs}
 use Rattle.kept.proofs.records.store_unit.Statement.{statement}

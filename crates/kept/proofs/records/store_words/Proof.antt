@@ -1,10 +1,9 @@
 -- `kept::records::store_words` meets its contract: what is left is still to be stored.
 -- Assumes nothing.
-use mathlib.Core.Path.{_≡_, refl}
+use mathlib.Core.Path.{refl}
 use Prim.Native.Nat.{_+_, _-_, _≤_}
 use native.Mathlib.Omega.{arith}
 use lib.ListN.{length, drop, drop-of-length-le}
-use denote.Ref.{now}
 use Rattle.kept.proofs.Copying.{Copying, copying-start, copying-end, copying-more, drop-one}
 use Rattle.kept.proofs.records.store_words.Statement.{statement}
 use Rattle.kept.proofs.records.store_words.Tie as tie

@@ -1,15 +1,7 @@
 -- `kept::slots::keep` meets its contract.
 -- Assumes nothing.
-use mathlib.Core.Path.{_≡_, ap, ap₂, _∙_}
-use mathlib.Core.List.{List, [], _∷_}
-use Prim.Native.Nat.{ℕ, _+_, _*_}
 use native.Mathlib.Omega.{arith}
-use lib.ListN.{length}
-use denote.Ref.{now}
-use Rattle.octets.specs.Octets.{placed}
-use Rattle.work.specs.Regions.{slotsRegion}
-use Rattle.kept.specs.Records.{unitOf, wordsOf}
-use Rattle.kept.specs.Slots.{keptIn}
+use Rattle.kept.specs.Records.{unitOf}
 use Rattle.kept.proofs.Placing.{slot-fits, kept-by}
 use borrow.Author.Needs.{needs}
 use Rattle.kept.proofs.slots.keep.Statement.{statement}

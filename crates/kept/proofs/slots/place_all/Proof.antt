@@ -2,7 +2,7 @@
 -- Assumes nothing.
 use Prim.Native.Nat.{_-_}
 use native.Mathlib.Omega.{arith}
-use mathlib.Core.Path.{_≡_, refl, sym, ap, _∙_}
+use mathlib.Core.Path.{_∙_}
 use Rattle.kept.proofs.Placing.{Placing, placing-none, placing-seekable, placing-more, placing-stops, placing-end}
 use Rattle.kept.proofs.slots.place_all.Statement.{statement}
 use Rattle.kept.proofs.slots.place_all.Tie as tie

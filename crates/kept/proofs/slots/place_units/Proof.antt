@@ -1,15 +1,9 @@
 -- `kept::slots::place_units` meets its contract.
 -- Assumes nothing.
-use mathlib.Core.Path.{_≡_, refl, sym, ap, _∙_}
-use Prim.Native.Nat.{_+_, _*_, _-_}
+use mathlib.Core.Path.{refl, _∙_}
 use native.Mathlib.Omega.{arith}
-use mathlib.Core.List.{List}
-use lib.ListN.{length, take, drop}
 use denote.Ref.{now}
-use Rattle.octets.specs.Octets.{zeros}
-use Rattle.kept.specs.Slots.{slotsIn, SlotsLeft, Placeable}
 use Rattle.kept.proofs.Placing.{slots-end, cleared-slots, placed-over}
-use borrow.Author.Needs.{needs}
 use Rattle.kept.proofs.slots.place_units.Statement.{statement}
 use Rattle.kept.proofs.slots.place_units.Tie as tie
 

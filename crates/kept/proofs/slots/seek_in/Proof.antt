@@ -1,13 +1,10 @@
 -- `kept::slots::seek_in` meets its contract.
 -- Assumes nothing.
-use mathlib.Core.Path.{_≡_, ap₂, _∙_}
-use Prim.Native.Nat.{_+_, _*_, _-_, _≤_}
+use mathlib.Core.Path.{ap₂, _∙_}
 use native.Mathlib.Omega.{arith}
-use lib.ListN.{length, take, drop}
 use denote.Ref.{now}
 use Rattle.kept.specs.Slots.{soughtIn, slotsIn}
 use Rattle.kept.proofs.Placing.{lent-records, lent-slots, slots-end, records-end, seek-asks}
-use borrow.Author.Needs.{needs}
 use Rattle.kept.proofs.slots.seek_in.Statement.{statement}
 use Rattle.kept.proofs.slots.seek_in.Tie as tie
 

@@ -1,9 +1,8 @@
 -- `kept::unit_bytes::copy_units` meets its contract: records that are left are still to be copied.
 -- Assumes nothing.
-use mathlib.Core.Path.{_≡_, refl, sym, ap, _∙_}
-use Prim.Native.Nat.{_+_, _*_, _-_, _≤_, _<_}
+use mathlib.Core.Path.{refl}
+use Prim.Native.Nat.{_-_, _≤_}
 use native.Mathlib.Omega.{arith}
-use lib.ListN.{length}
 use native.Mathlib.Nat.{sub-zero}
 use Rattle.kept.specs.Records.{bytesFrom}
 use Rattle.kept.proofs.Copying.{Copying, copying-start, copying-end, bytes-room, bytes-more, bytes-end}

@@ -1,8 +1,8 @@
 -- `kept::writing::put_cells` meets its contract: numbers that are left are still to be put.
 -- Assumes nothing.
-use Prim.Native.Nat.{_+_, _*_, _-_, _≤_, _<_}
+use Prim.Native.Nat.{_-_, _≤_}
 use native.Mathlib.Omega.{arith}
-use lib.ListN.{length, drop}
+use lib.ListN.{length}
 use Rattle.kept.specs.Columns.{columnsFor, cellsFrom}
 use Rattle.kept.proofs.Columning.{columns-are}
 use Rattle.kept.proofs.Numbering.{Writing, writing-start, writing-end, cells-from, cells-end, cells-room, cells-more}

@@ -1,8 +1,7 @@
 -- `kept::writing::put_codes` meets its contract: codes that are left are still to be put.
 -- Assumes nothing.
-use Prim.Native.Nat.{_+_, _*_, _-_, _≤_, _<_}
+use Prim.Native.Nat.{_-_, _≤_}
 use native.Mathlib.Omega.{arith}
-use lib.ListN.{length, drop}
 use Rattle.kept.specs.Columns.{codesFrom, codesIn}
 use Rattle.kept.proofs.Columning.{columns-are}
 use Rattle.kept.proofs.Numbering.{Writing, writing-start, writing-end, codes-all, codes-end, codes-room, codes-more}

@@ -1,8 +1,7 @@
 -- `kept::writing::put_front` meets its contract: head, identities, row numbers.
 -- Assumes nothing.
-use mathlib.Core.Path.{_≡_, refl, sym, ap, _∙_}
+use mathlib.Core.Path.{refl}
 use native.Mathlib.Omega.{arith}
-use lib.ListN.{length}
 use denote.Ref.{now}
 use Rattle.kept.specs.Indexed.{slotWidth}
 use Rattle.kept.proofs.Pieces.{front-written}

@@ -1,9 +1,7 @@
 -- `kept::writing::put_grid` meets its contract: records that are left are still to be put.
 -- Assumes nothing.
-use mathlib.Core.Path.{_≡_, refl, sym, ap, _∙_}
-use Prim.Native.Nat.{_+_, _*_, _-_, _≤_, _<_}
+use Prim.Native.Nat.{_-_, _≤_}
 use native.Mathlib.Omega.{arith}
-use lib.ListN.{length}
 use native.Mathlib.Nat.{sub-zero}
 use Rattle.kept.specs.Indexed.{gridFrom}
 use Rattle.kept.proofs.Numbering.{Writing, writing-start, writing-end}

@@ -1,6 +1,5 @@
 -- `kept::writing::put_head` meets its contract.
 -- Assumes nothing.
-use native.Mathlib.Omega.{arith}
 use Rattle.kept.proofs.Pieces.{head-written}
 use borrow.Author.Needs.{needs}
 use Rattle.kept.proofs.writing.put_head.Statement.{statement}

@@ -1,11 +1,7 @@
 -- `kept::writing::put_row` meets its contract.
 -- Assumes nothing.
-use mathlib.Core.Path.{_≡_, refl, sym, ap, _∙_}
-use Prim.Native.Nat.{_+_, _*_, _-_, _≤_, _<_}
+use mathlib.Core.Path.{sym, _∙_}
 use native.Mathlib.Omega.{arith}
-use lib.ListN.{length}
-use Rattle.octets.specs.Octets.{placed, numbersOf}
-use Rattle.octets.proofs.Placed.{placed-none}
 use Rattle.kept.proofs.Pieces.{grid-other, grid-own, row-none, row-room, row-some}
 use borrow.Author.Needs.{needs}
 use Rattle.kept.proofs.writing.put_row.Statement.{statement}

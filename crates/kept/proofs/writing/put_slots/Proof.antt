@@ -1,11 +1,10 @@
 -- `kept::writing::put_slots` meets its contract: numbers that are left are still to be put.
 -- Assumes nothing.
-use mathlib.Core.Path.{_≡_, refl, sym, ap, _∙_}
-use Prim.Native.Nat.{_+_, _*_, _-_, _≤_, _<_}
+use mathlib.Core.Path.{_≡_, refl, ap, _∙_}
+use Prim.Native.Nat.{_-_, _≤_}
 use mathlib.Core.List.{map}
 use native.Mathlib.Omega.{arith}
 use lib.ListN.{length, drop, length-map}
-use denote.Ref.{now}
 use Rattle.kept.specs.Indexed.{slotNumber, slotWidth}
 use Rattle.kept.proofs.Numbering.{Writing, writing-start, writing-end, map-end, map-room, map-more}
 use Rattle.kept.proofs.Seeking.{number-fits}
