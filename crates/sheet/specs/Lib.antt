@@ -1,0 +1,3 @@
+-- Document 02, ticket 6: the index on a printed page.
+-- Assumes nothing.
+pub mod Sheet
