@@ -1,3 +1,4 @@
 -- Document 02, ticket 6: the index on a printed page.
 -- Assumes nothing.
 pub mod Sheet
+pub mod Held
