@@ -20,7 +20,7 @@ use Rattle.sheet.proofs.LawLines.{length-line, placed-next}
 use Rattle.sheet.proofs.LawSlots.{in-here, in-other}
 
 -- ---- what is placed in the front and in the rest of a list
-placed-in-front : (a d x : List ℕ) (at : ℕ) → at + length x ≤ length a → placed (a ++ d) at x ≡ placed a at x ++ d
+pub placed-in-front : (a d x : List ℕ) (at : ℕ) → at + length x ≤ length a → placed (a ++ d) at x ≡ placed a at x ++ d
 unfolding placed
 placed-in-front a d x at h =
     let l : at ≤ length a = omega arith in
@@ -67,13 +67,13 @@ module _ (letter : ℕ) (i : Index) where
 
   -- ---- a slot more
   module _ (r x : ℕ) (rs xs : List ℕ) where
-    blocks-skip : (row n : ℕ) → r < row → blocks letter i (r ∷ rs) (x ∷ xs) row n ≡ blocks letter i rs xs row n
+    pub blocks-skip : (row n : ℕ) → r < row → blocks letter i (r ∷ rs) (x ∷ xs) row n ≡ blocks letter i rs xs row n
     unfolding blocks
     blocks-skip row zero h = refl
     blocks-skip row (suc n) h =
         rw (in-other row r x rs xs (λ z. omega arith)) (ap (λ (z : List ℕ). block letter i row (identitiesIn row rs xs) ++ z) (blocks-skip (suc row) n (omega arith)))
 
-    blocks-put : (row n : ℕ) → row ≤ r → r < row + n
+    pub blocks-put : (row n : ℕ) → row ≤ r → r < row + n
         → blocks letter i (r ∷ rs) (x ∷ xs) row n ≡ placed (blocks letter i rs xs row n) (40 * length (i .codes) * (r - row)) (rowLines letter i r x)
     unfolding blocks block
     blocks-put row zero h g = absurd (omega arith)

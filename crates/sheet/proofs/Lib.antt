@@ -6,4 +6,5 @@ pub mod LawSections
 pub mod LawSlots
 pub mod LawSifted
 pub mod LawBlocks
+pub mod LawLaid
 pub mod LawIndex
