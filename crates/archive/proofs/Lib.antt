@@ -9,5 +9,6 @@ pub mod StringPlaces
 pub mod Absences
 pub mod Firsts
 pub mod Demand3
+pub mod Paper
 pub mod Telling
 pub mod Packaged

@@ -2,3 +2,4 @@
 -- Assumes nothing.
 pub mod Theorem
 pub mod Question
+pub mod Paper

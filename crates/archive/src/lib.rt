@@ -1,5 +1,6 @@
 // The C entries, all of them: a thin crate, for one static library. None has a requirement.
 pub mod asking;
+pub mod printing;
 
 ghost use mathlib.Core.Path.{_≡_};
 ghost use lib.ListN.{length};

@@ -43,6 +43,9 @@ module _ (big : Bool) (s : List ℕ) (h : IndexHead) (e : IndexHere big s h) whe
   pub here-units : h .units < h .slots
   here-units = well big s h (e .well) .above
 
+  pub units-most : h .units ≤ 524_288
+  units-most = omega (arith, here-units, here-slots)
+
   pub here-columns : h .columns ≤ 8
   here-columns = omega (arith, well big s h (e .well) .columns-few, columns-eight (h .version))
 

@@ -1,5 +1,6 @@
 -- The laws that the code of the sheet cites.
 -- Assumes nothing.
+pub mod Examples
 pub mod LawLines
 pub mod LawMarks
 pub mod LawSections
@@ -8,3 +9,7 @@ pub mod LawSifted
 pub mod LawBlocks
 pub mod LawLaid
 pub mod LawIndex
+pub mod LawTables
+pub mod LawSheet
+pub mod LawPlacing
+pub mod LawCells

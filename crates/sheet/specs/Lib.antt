@@ -2,3 +2,4 @@
 -- Assumes nothing.
 pub mod Sheet
 pub mod Held
+pub mod Laid

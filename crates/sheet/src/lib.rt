@@ -2,3 +2,5 @@
 pub mod lines;
 pub mod marks;
 pub mod rows;
+pub mod tables;
+pub mod writing;
