@@ -8,9 +8,9 @@ use Prim.Native.Nat.{ℕ, zero, suc, _+_, _*_, _-_, _≤_, _<_}
 use native.Mathlib.Omega.{arith}
 use lib.Dec.{eqb, leb}
 use lib.ListN.{length, getD}
-use borrow.Author.Tests.{leb-true}
+use borrow.Author.Tests.{leb-true, eqb-false}
 use Rattle.octets.specs.Lists.{all, has, distinct}
-use Rattle.octets.proofs.Checks.{true-false, and-right}
+use Rattle.octets.proofs.Checks.{true-false, and-left, and-right}
 use Rattle.octets.proofs.Elements.{all-at, distinct-head, distinct-tail, has-not-at}
 use Rattle.index.specs.Columns.{Column, columnsOf, columnIn, columnsFour, columnsFive}
 use Rattle.index.specs.Index.{Index, Contribution, codeGood, placeOf, cellAt, cellOf}
@@ -28,39 +28,50 @@ record NamedIn (cs : List Column) (code : ℕ) : Type 0 where
   least : 1 ≤ sectionIn cs code
   most : sectionIn cs code ≤ 10
 
-named-four : (code : ℕ) → (leb 1 code && leb code 8) ≡ true → NamedIn columnsFour code
+named-four : (code : ℕ) → 1 ≤ code → code ≤ 8 → NamedIn columnsFour code
 unfolding columnsFour columnIn sectionIn
-named-four zero e = absurd (true-false e refl)
-named-four (suc zero) e = record { column = refl; least = omega arith; most = omega arith }
-named-four (suc (suc zero)) e = record { column = refl; least = omega arith; most = omega arith }
-named-four (suc (suc (suc zero))) e = record { column = refl; least = omega arith; most = omega arith }
-named-four (suc (suc (suc (suc zero)))) e = record { column = refl; least = omega arith; most = omega arith }
-named-four (suc (suc (suc (suc (suc zero))))) e = record { column = refl; least = omega arith; most = omega arith }
-named-four (suc (suc (suc (suc (suc (suc zero)))))) e = record { column = refl; least = omega arith; most = omega arith }
-named-four (suc (suc (suc (suc (suc (suc (suc zero))))))) e = record { column = refl; least = omega arith; most = omega arith }
-named-four (suc (suc (suc (suc (suc (suc (suc (suc zero)))))))) e = record { column = refl; least = omega arith; most = omega arith }
-named-four (suc (suc (suc (suc (suc (suc (suc (suc (suc n))))))))) e = absurd (let h = leb-true _ 8 (and-right _ _ e) in omega arith)
+named-four zero least most = absurd (omega arith)
+named-four (suc zero) least most = record { column = refl; least = omega arith; most = omega arith }
+named-four (suc (suc zero)) least most = record { column = refl; least = omega arith; most = omega arith }
+named-four (suc (suc (suc zero))) least most = record { column = refl; least = omega arith; most = omega arith }
+named-four (suc (suc (suc (suc zero)))) least most = record { column = refl; least = omega arith; most = omega arith }
+named-four (suc (suc (suc (suc (suc zero))))) least most = record { column = refl; least = omega arith; most = omega arith }
+named-four (suc (suc (suc (suc (suc (suc zero)))))) least most = record { column = refl; least = omega arith; most = omega arith }
+named-four (suc (suc (suc (suc (suc (suc (suc zero))))))) least most = record { column = refl; least = omega arith; most = omega arith }
+named-four (suc (suc (suc (suc (suc (suc (suc (suc zero)))))))) least most = record { column = refl; least = omega arith; most = omega arith }
+named-four (suc (suc (suc (suc (suc (suc (suc (suc (suc k))))))))) least most = absurd (omega arith)
 
-named-five : (code : ℕ) → elim (eqb code 2) [ true ↦ false | false ↦ leb 1 code && leb code 8 ] ≡ true → NamedIn columnsFive code
+named-five : (code : ℕ) → (code ≡ 2 → ⊥) → 1 ≤ code → code ≤ 8 → NamedIn columnsFive code
 unfolding columnsFive columnIn sectionIn
-named-five zero e = absurd (true-false e refl)
-named-five (suc zero) e = record { column = refl; least = omega arith; most = omega arith }
-named-five (suc (suc zero)) e = absurd (true-false e refl)
-named-five (suc (suc (suc zero))) e = record { column = refl; least = omega arith; most = omega arith }
-named-five (suc (suc (suc (suc zero)))) e = record { column = refl; least = omega arith; most = omega arith }
-named-five (suc (suc (suc (suc (suc zero))))) e = record { column = refl; least = omega arith; most = omega arith }
-named-five (suc (suc (suc (suc (suc (suc zero)))))) e = record { column = refl; least = omega arith; most = omega arith }
-named-five (suc (suc (suc (suc (suc (suc (suc zero))))))) e = record { column = refl; least = omega arith; most = omega arith }
-named-five (suc (suc (suc (suc (suc (suc (suc (suc zero)))))))) e = record { column = refl; least = omega arith; most = omega arith }
-named-five (suc (suc (suc (suc (suc (suc (suc (suc (suc n))))))))) e = absurd (let h = leb-true _ 8 (and-right _ _ e) in omega arith)
+named-five zero apart least most = absurd (omega arith)
+named-five (suc zero) apart least most = record { column = refl; least = omega arith; most = omega arith }
+named-five (suc (suc zero)) apart least most = absurd (apart refl)
+named-five (suc (suc (suc zero))) apart least most = record { column = refl; least = omega arith; most = omega arith }
+named-five (suc (suc (suc (suc zero)))) apart least most = record { column = refl; least = omega arith; most = omega arith }
+named-five (suc (suc (suc (suc (suc zero))))) apart least most = record { column = refl; least = omega arith; most = omega arith }
+named-five (suc (suc (suc (suc (suc (suc zero)))))) apart least most = record { column = refl; least = omega arith; most = omega arith }
+named-five (suc (suc (suc (suc (suc (suc (suc zero))))))) apart least most = record { column = refl; least = omega arith; most = omega arith }
+named-five (suc (suc (suc (suc (suc (suc (suc (suc zero)))))))) apart least most = record { column = refl; least = omega arith; most = omega arith }
+named-five (suc (suc (suc (suc (suc (suc (suc (suc (suc k))))))))) apart least most = absurd (omega arith)
+
+good-code : (t : Bool) (code : ℕ) → elim t [ true ↦ false | false ↦ leb 1 code && leb code 8 ] ≡ true → (t ≡ false) × (1 ≤ code) × (code ≤ 8)
+good-code true code e = absurd (true-false e refl)
+good-code false code e = (refl, leb-true 1 code (and-left (leb 1 code) (leb code 8) e), leb-true code 8 (and-right (leb 1 code) (leb code 8) e))
 
 named : (version code : ℕ) → codeGood version code ≡ true → Named version code
 unfolding codeGood columnsOf
 named version code e = go (eqb version 5) refl
   where
     go : (t : Bool) → eqb version 5 ≡ t → Named version code
-    go true f = let n = named-five code (rw (codeGood, f) at e) in record { column = rw (columnsOf, f) (n .column); least = rw (columnsOf, f) (n .least); most = rw (columnsOf, f) (n .most) }
-    go false f = let n = named-four code (rw (codeGood, f) at e) in record { column = rw (columnsOf, f) (n .column); least = rw (columnsOf, f) (n .least); most = rw (columnsOf, f) (n .most) }
+    go true f =
+        let r = good-code (eqb version 5 && eqb code 2) code e in
+        let apart : eqb code 2 ≡ false = rw f at (r .0) in
+        let n = named-five code (eqb-false code 2 apart) (r .1) (r .2) in
+        record { column = rw (columnsOf, f) (n .column); least = rw (columnsOf, f) (n .least); most = rw (columnsOf, f) (n .most) }
+    go false f =
+        let r = good-code (eqb version 5 && eqb code 2) code e in
+        let n = named-four code (r .1) (r .2) in
+        record { column = rw (columnsOf, f) (n .column); least = rw (columnsOf, f) (n .least); most = rw (columnsOf, f) (n .most) }
 
 -- ---- the place of a code among others
 place-at : (codes : List ℕ) (j : ℕ) → j < length codes → distinct codes ≡ true → placeOf codes (getD codes j 0) ≡ some j

@@ -6,7 +6,7 @@ use mathlib.Core.List.{List, [], _∷_, _++_, map}
 use mathlib.Core.Option.{Option, some, none}
 use Prim.Native.Nat.{ℕ, zero, suc, _+_, _*_, _-_, _%_, _≤_, _<_}
 use native.Mathlib.Omega.{arith}
-use native.Mathlib.Nat.{mod-lt}
+use native.Mathlib.Nat.{mod-lt, lt-of-le-of-lt}
 use native.Mathlib.Decide.{ℕ-discrete}
 use lib.Dec.{eqb}
 use lib.Bits.{and-le-r}
@@ -41,6 +41,7 @@ module _ (row x : ℕ) where
 
   put-other : (other : ℕ) (rows ids : List ℕ) (at : ℕ) → (row ≡ other → ⊥) → (0 ≡ other → ⊥) → getD rows at 0 ≡ 0 → length rows ≡ length ids
       → identitiesIn other (set rows at row) (set ids at x) ≡ identitiesIn other rows ids
+  unfolding identitiesIn
   put-other other [] ids at f z e l = refl
   put-other other (r ∷ rs) [] at f z e l = absurd (omega arith)
   put-other other (r ∷ rs) (y ∷ ys) zero f z e l = in-other other row x rs ys f ∙ sym (in-other other r y rs ys (λ q. z (sym e ∙ q)))
@@ -74,7 +75,7 @@ put-at t v row x some' e = go (freeFrom (length (t .rows)) (t .rows) (firstSlot 
     go : (o : Option ℕ) → freeFrom (length (t .rows)) (t .rows) (firstSlot x (length (t .rows))) (stride x (length (t .rows))) ≡ o → placeAt t row x o ≡ pass v → PutAt t v row x
     go none f g = absurd (pass-refuse v 17 (sym g))
     go (some at) f g =
-        let first : firstSlot x (length (t .rows)) < length (t .rows) = omega (arith, and-le-r x (length (t .rows) - 1)) in
+        let first : firstSlot x (length (t .rows)) < length (t .rows) = lt-of-le-of-lt (and-le-r x (length (t .rows) - 1)) (omega arith) in
         let i = free-is (length (t .rows)) (t .rows) _ _ at f first in
         record { at = at; inside = i .0; free = i .1; rows-are = sym (ap (λ (z : Slots). z .rows) (pass-inj g)); identities-are = sym (ap (λ (z : Slots). z .identities) (pass-inj g)) }
 
@@ -98,13 +99,13 @@ all-placed (x ∷ xs) t u row p l some' none' e =
     let on = all-placed xs v u (row + 1) (omega arith) (lr ∙ l ∙ sym li) (omega arith) (λ r h. other r (omega arith) (λ z. omega arith) ∙ none' r (omega arith)) g in
     record {
       before = λ r h d. on .before r h (omega arith) ∙ other r h (λ z. omega arith);
-      own = here row (t .rows) (t .identities) on (on .before row p (omega arith) ∙ ap₂ (identitiesIn row) (q .rows-are) (q .identities-are) ∙ put-own row x (t .rows) (t .identities) (q .at) (q .inside) l (none' row (omega arith)));
+      own = here on (on .before row p (omega arith) ∙ ap₂ (identitiesIn row) (q .rows-are) (q .identities-are) ∙ put-own row x (t .rows) (t .identities) (q .at) (q .inside) l (none' row (omega arith)));
     }
   where
-    here : (row : ℕ) (rows ids : List ℕ) {t : Slots} → AllPlaced t u (row + 1) xs → identitiesIn row (u .rows) (u .identities) ≡ x ∷ []
+    here : {s : Slots} → AllPlaced s u (row + 1) xs → identitiesIn row (u .rows) (u .identities) ≡ x ∷ []
         → (j : ℕ) → j < length (x ∷ xs) → identitiesIn (row + j) (u .rows) (u .identities) ≡ getD (x ∷ xs) j 0 ∷ []
-    here row rows ids on first zero h = (let z : row + 0 ≡ row = omega arith in rw z first)
-    here row rows ids on first (suc j) h = (let z : row + suc j ≡ row + 1 + j = omega arith in rw z (on .own j (omega arith)))
+    here on first zero h = (let z : row + 0 ≡ row = omega arith in rw z first)
+    here on first (suc j) h = (let z : row + suc j ≡ row + 1 + j = omega arith in rw z (on .own j (omega arith)))
 
 in-zeros : (n r : ℕ) → 0 < r → identitiesIn r (zeros n) (zeros n) ≡ []
 unfolding zeros identitiesIn

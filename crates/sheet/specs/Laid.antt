@@ -2,12 +2,12 @@
 -- Assumes nothing.
 use mathlib.Core.Path.{_≡_}
 use mathlib.Core.Bool.{true, false}
-use mathlib.Core.List.{List}
-use Prim.Native.Nat.{ℕ, _-_, _≤_}
+use mathlib.Core.List.{List, _++_}
+use Prim.Native.Nat.{ℕ, _+_, _-_, _≤_}
 use lib.Dec.{eqb}
 use lib.ListN.{length}
 use Rattle.octets.specs.Octets.{zeros, padded}
-use Rattle.octets.specs.Checked.{Check, pass, refuse}
+use Rattle.octets.specs.Checked.{Check, pass, refuse, _>>=_}
 use Rattle.lookup.specs.Lookup.{indexFor}
 use Rattle.lookup.specs.Answers.{packageIn}
 use Rattle.sheet.specs.Sheet.{letterC, letterT, tableLines}
@@ -19,6 +19,9 @@ letterOf table = elim (eqb table 1) [ true ↦ letterC | false ↦ letterT ]
 
 unfoldable pub tableOf : List ℕ → ℕ → Check (List ℕ)
 tableOf p table = tableLines (letterOf table) (indexFor (packageIn p) table)
+
+unfoldable pub bothOf : List ℕ → Check (List ℕ)
+bothOf p = tableOf p 1 >>= λ a. tableOf p 2 >>= λ b. pass (a ++ b)
 
 -- the bytes that the lines take
 unfoldable pub measured : Check (List ℕ) → Lines
@@ -35,4 +38,14 @@ pub record TableFits (p : List ℕ) (table : ℕ) (page : List ℕ) : Type 0 whe
   pub lines : List ℕ
   pub are : tableOf p table ≡ pass lines
   pub room : length lines ≤ length page
+  pub blank : page ≡ zeros (length page)
+
+-- the same for both tables, the first of n bytes
+pub record BothFit (p : List ℕ) (n : ℕ) (page : List ℕ) : Type 0 where
+  pub first : List ℕ
+  pub second : List ℕ
+  pub first-are : tableOf p 1 ≡ pass first
+  pub second-are : tableOf p 2 ≡ pass second
+  pub long : length first ≡ n
+  pub room : n + length second ≤ length page
   pub blank : page ≡ zeros (length page)

@@ -1,17 +1,24 @@
 // A table of a package that was opened: the bytes that its lines take, and the lines.
 ghost use mathlib.Core.Path.{_≡_};
-ghost use Prim.Native.Nat.{_-_};
 ghost use lib.ListN.{length};
-ghost use Rattle.octets.specs.Octets.{padded, zeros};
 ghost use Rattle.lookup.specs.Answers.{Opened, tableIndex};
 ghost use Rattle.lookup.specs.declared.opening.PackageIndex.the-variants.{Present};
-ghost use Rattle.sheet.specs.Laid.{letterOf, tableOf, measured, linesOf, TableFits};
+ghost use Rattle.sheet.specs.Laid.{
+  letterOf,
+  tableOf,
+  bothOf,
+  measured,
+  linesOf,
+  TableFits,
+  BothFit,
+};
 use crate::lines::LINE;
 use crate::rows::Table;
 use index::reading::IndexHead;
 use lookup::opening::PackageHead;
 use lookup::opening::PackageIndex;
 use numbers::tables::COMPILATION;
+use numbers::tables::TYPE;
 
 pub enum Lines {
     Bytes(usize),
@@ -73,7 +80,7 @@ fn write_index(
     crate::rows::put_rows(t, s, page);
 }
 
-pub fn write_table(package: &[u8], head: PackageHead, table: u32, page: &mut [u8])
+fn write_table(package: &[u8], head: PackageHead, table: u32, page: &mut [u8])
     requires { ⌜ (Opened (now «package») head) × (TableFits (now «package») table (now page)) ⌝ }
     ensures { λ _. ⌜ now (page .exit) ≡ linesOf (tableOf (now («package» .entry)) table) (length (now (page .entry))) ⌝ }
 {
@@ -84,4 +91,13 @@ pub fn write_table(package: &[u8], head: PackageHead, table: u32, page: &mut [u8
         PackageIndex::Missing => {}
         PackageIndex::IllFormed => {}
     }
+}
+
+// Stores both tables, the second behind the first, whose length the caller gives.
+pub fn write_tables(package: &[u8], head: PackageHead, compilations: usize, page: &mut [u8])
+    requires { ⌜ (Opened (now «package») head) × (BothFit (now «package») compilations (now page)) ⌝ }
+    ensures { λ _. ⌜ now (page .exit) ≡ linesOf (bothOf (now («package» .entry))) (length (now (page .entry))) ⌝ }
+{
+    write_table(package, head, COMPILATION, page);
+    write_table(package, head, TYPE, &mut page[compilations..]);
 }

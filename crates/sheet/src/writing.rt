@@ -34,11 +34,13 @@ pub fn write_sheet(package: &[u8], page: &mut [u8]) -> Written
     let Lines::Bytes(types) = crate::tables::measure_table(package, head, TYPE) else {
         return refused(BAD_PACKAGE);
     };
-    if page.len() < compilations + types {
+    if page.len() < compilations {
         return refused(PAGE_SHORT);
     }
-    crate::tables::write_table(package, head, COMPILATION, page);
-    crate::tables::write_table(package, head, TYPE, &mut page[compilations..]);
+    if page.len() - compilations < types {
+        return refused(PAGE_SHORT);
+    }
+    crate::tables::write_tables(package, head, compilations, page);
     Written {
         code: 0,
         length: compilations + types,
