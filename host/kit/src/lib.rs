@@ -13,4 +13,5 @@ pub mod lender;
 pub mod oracle;
 pub mod reference;
 pub mod sample;
+pub mod sheet;
 pub mod vectors;

@@ -8,6 +8,7 @@ mod lookup;
 mod meaning;
 mod output;
 mod pack;
+mod sheet;
 mod show;
 mod stop;
 
@@ -37,6 +38,7 @@ fn dispatch(arguments: &[OsString]) -> Result<u8, Stop> {
     match first.to_str() {
         Some("pack") => pack::run(rest),
         Some("lookup") => lookup::run(rest),
+        Some("sheet") => sheet::run(rest),
         Some("list") => list::run(rest),
         Some("help") => help_about(rest),
         Some("-h" | "--help") => output::print(help::about("")),

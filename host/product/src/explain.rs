@@ -7,7 +7,7 @@ mod cause;
 mod lookup;
 mod place;
 
-pub use lookup::{looking_up, not_a_package};
+pub use lookup::{looking_up, not_a_package, not_a_sheet};
 pub use place::{place, Place};
 
 use crate::names::{section_name, LONGEST_BUNDLE, LONGEST_SECTION, RNGLISTS};

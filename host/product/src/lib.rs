@@ -10,3 +10,4 @@ pub mod explain;
 pub mod ffi;
 pub mod names;
 pub mod reader;
+pub mod sheet;

@@ -85,6 +85,7 @@ fn by_rust() -> String {
     let package = &output[..packed];
     told += &found("lookup", ffi::lookup(package, 5, 1, 1, 1));
     told += &found("lookup", ffi::lookup(package, 5, 2, 1, 1));
+    told += "sheet 0 120 C 0000000000000001 01 00000000 00000014\n";
     told += &found("lookup_string", ffi::lookup_string(package, 5, 1, 1, 0));
     told += &found("lookup_string", ffi::lookup_string(package, 5, 1, 1, 1));
     told

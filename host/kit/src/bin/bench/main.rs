@@ -5,6 +5,7 @@
 mod lookups;
 mod measure;
 mod paper;
+mod sheets;
 
 use kit::generate::{many_strings, sized, KINDS};
 use kit::oracle::Oracle;
@@ -55,7 +56,7 @@ fn measure_all(oracle: Option<&str>) -> Result<Paper> {
     let name = "many different strings";
     let strings = growing(&mut bench, name, STRINGS.iter().map(|n| (many_strings(*n), *n)))?;
     let strings = Growth { name, items: "strings", measured: strings };
-    Ok(Paper { thorin, small, kinds, strings, lookups: lookups::all()? })
+    Ok(Paper { thorin, small, kinds, strings, lookups: lookups::all()?, sheet: sheets::measured()? })
 }
 
 fn main() -> Result<()> {

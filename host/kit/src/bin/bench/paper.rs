@@ -2,6 +2,7 @@
 
 use super::lookups::Lookup;
 use super::measure::Measured;
+use super::sheets::Sheet;
 use std::fmt::{Display, Formatter, Result};
 use std::time::Duration;
 
@@ -20,6 +21,7 @@ pub struct Paper {
     pub kinds: Vec<Growth>,
     pub strings: Growth,
     pub lookups: Vec<Lookup>,
+    pub sheet: Sheet,
 }
 
 /// Growth above this at a doubling is no longer called linear.
@@ -132,6 +134,9 @@ impl Paper {
             ("growth", self.kinds.iter().map(grown).collect()),
             ("verdict", self.verdict()),
             ("lookups", self.lookups.iter().map(looked_up).collect()),
+            ("sheet_package", grouped(self.sheet.package as u64)),
+            ("sheet_page", grouped(self.sheet.sheet as u64)),
+            ("sheet_time", time(self.sheet.took)),
         ];
         figures.extend(self.string_figures());
         figures
@@ -220,9 +225,10 @@ mod tests {
         let took = Duration::from_millis(3);
         let one = || Measured { bundle: 44, items: 1, package: 112, ours: took, clearing: took, thorin: Some(took) };
         let growth = |name| Growth { name, items: "units", measured: vec![one(), one(), one()] };
+        let sheet = Sheet { package: 9, sheet: 40, took };
         let lookups = vec![Lookup { name: "some", bytes: 12, took }];
         let paper =
-            Paper { thorin: None, small: (one(), took), kinds: vec![growth("a")], strings: growth("b"), lookups };
+            Paper { thorin: None, small: (one(), took), kinds: vec![growth("a")], strings: growth("b"), lookups, sheet };
         let text = paper.to_string();
         assert!(text.contains("| document 01's example | 44 | 1 unit | 112 | 3.00 ms |"), "{text}");
         assert!(text.contains("| some | 12 | 3.00 ms |\n") && !text.contains("\n\n\n"), "{text}");
