@@ -6,9 +6,11 @@
 mod cause;
 mod lookup;
 mod place;
+mod sheet;
 
-pub use lookup::{looking_up, not_a_package, not_a_sheet};
+pub use lookup::{looking_up, not_a_package};
 pub use place::{place, Place};
+pub use sheet::not_a_sheet;
 
 use crate::names::{section_name, LONGEST_BUNDLE, LONGEST_SECTION, RNGLISTS};
 use crate::reader::bundle::Bundle;

@@ -56,7 +56,16 @@ fn measure_all(oracle: Option<&str>) -> Result<Paper> {
     let name = "many different strings";
     let strings = growing(&mut bench, name, STRINGS.iter().map(|n| (many_strings(*n), *n)))?;
     let strings = Growth { name, items: "strings", measured: strings };
-    Ok(Paper { thorin, small, kinds, strings, lookups: lookups::all()?, sheet: sheets::measured()? })
+    Ok(Paper {
+        thorin,
+        // Packing.
+        small,
+        kinds,
+        strings,
+        // Looking up.
+        lookups: lookups::all()?,
+        sheet: sheets::measured()?,
+    })
 }
 
 fn main() -> Result<()> {

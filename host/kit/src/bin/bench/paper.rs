@@ -225,10 +225,16 @@ mod tests {
         let took = Duration::from_millis(3);
         let one = || Measured { bundle: 44, items: 1, package: 112, ours: took, clearing: took, thorin: Some(took) };
         let growth = |name| Growth { name, items: "units", measured: vec![one(), one(), one()] };
-        let sheet = Sheet { package: 9, sheet: 40, took };
-        let lookups = vec![Lookup { name: "some", bytes: 12, took }];
-        let paper =
-            Paper { thorin: None, small: (one(), took), kinds: vec![growth("a")], strings: growth("b"), lookups, sheet };
+        let paper = Paper {
+            thorin: None,
+            // Packing.
+            small: (one(), took),
+            kinds: vec![growth("a")],
+            strings: growth("b"),
+            // Looking up.
+            lookups: vec![Lookup { name: "some", bytes: 12, took }],
+            sheet: Sheet { package: 9, sheet: 40, took },
+        };
         let text = paper.to_string();
         assert!(text.contains("| document 01's example | 44 | 1 unit | 112 | 3.00 ms |"), "{text}");
         assert!(text.contains("| some | 12 | 3.00 ms |\n") && !text.contains("\n\n\n"), "{text}");
