@@ -18,7 +18,7 @@ help:
 	@echo 'make pack-example   packs the example, shows its package and looks a unit up in it'
 	@echo 'make library        proves the packer and writes target/staticlib/libbarthovin.a, for C or Rust on x86-64'
 	@echo 'make command        the same, and builds the command: host/target/release/barthovin'
-	@echo 'make install        installs command, library, barthovin.h and the manual page under PREFIX ($(PREFIX)), behind DESTDIR'
+	@echo 'make install        installs command, library, barthovin.h and the manual page under DESTDIR and PREFIX ($(PREFIX))'
 	@echo 'make uninstall      removes them'
 	@echo 'make test           the gate: every proof from nothing, every edit that must fail, every program, the tests of the host'
 	@echo 'make host           the tests of the host alone'
@@ -36,7 +36,7 @@ test:
 	echo "crates, edits and programs of rt ci:"; \
 	tail -n 1 "$$out"
 
-# The static library is written behind `rt ci`, which removes target/. It is made anew only where a source is newer. The second name is
+# The static library is written after `rt ci`, which removes target/. It is made anew only where a source is newer. The second name is
 # one that no other library has.
 LIBRARY = target/staticlib/libarchive.a
 SOURCES = crates.txt $(shell find crates -name '*.rt' -o -name '*.antt' | grep -v /must-fail/)
@@ -56,7 +56,7 @@ $(LIBRARY): $(SOURCES)
 	test "$$(cat "$$status")" = 0 || exit 1; \
 	echo "[$$((count + 1)) of $$((count + 1))] archive proved; its C entries are in target/staticlib"
 
-# Behind the tests one line counts them.
+# After the tests one line counts them.
 host: library
 	@out=$$(mktemp) || exit 1; trap 'rm -f "$$out" "$$out.status"' EXIT; \
 	{ (cd host && env -u BARTHOVIN_LIBRARY cargo test --release --offline) 2>&1; echo $$? > "$$out.status"; } | tee "$$out"; \

@@ -1,4 +1,5 @@
--- The worked examples of document 01, as one list, with some that show how units are read and filed.
+-- The worked examples of document 01, as one list, with those of each crate: the words of a bundle, LEB128 numbers, units, strings, indexes, packing
+-- with every refusal, looking up with every refusal.
 -- Assumes nothing.
 use mathlib.Core.Path.{_≡_, refl}
 use mathlib.Core.Bool.{false}
@@ -25,11 +26,17 @@ use Rattle.package.specs.Filing
 use Rattle.package.specs.Input
 use Rattle.package.specs.Pack
 use Rattle.lookup.specs.Lookup
-use Rattle.octets.specs.Octets.{numbersOf}
+use Rattle.octets.specs.Octets.{numbersOf, zeros}
 use Rattle.package.specs.Pack.{packed, refused, short, made}
 use Rattle.lookup.specs.Lookup.{lookedUp, part, absent, refused as refusal}
-use Rattle.index.proofs.Examples as Indexes
+use Rattle.packer.specs.Small.{packedSmall}
+use Rattle.bundle.proofs.Examples as Bundles
+use Rattle.leb128.proofs.Examples as Numbers
+use Rattle.unit.proofs.Examples as Units
 use Rattle.strings.proofs.Examples as Texts
+use Rattle.index.proofs.Examples as Indexes
+use Rattle.package.proofs.Examples as Packing
+use Rattle.lookup.proofs.Examples as Lookups
 
 -- document 01, "A whole package": the bundle
 abbrev pub example : List ℕ
@@ -39,10 +46,6 @@ example = numbersOf false 4 (0xF0000000 ∷ 0x10080405 ∷ 0x20800014 ∷ 0x10 �
 abbrev pub exampleMade : List ℕ
 exampleMade = numbersOf false 4 (0xF0000000 ∷ 0x10080405 ∷ 0x20800014 ∷ 0x10 ∷ 0x8050005 ∷ 0 ∷ 1 ∷ 0 ∷ 0x21800001 ∷ 0 ∷ 0x26000040 ∷ 5 ∷ 2 ∷ 1 ∷ 2 ∷ 0 ∷ 0 ∷ 1 ∷ 0 ∷ 0 ∷ 1 ∷ 1 ∷ 3 ∷ 0 ∷ 0 ∷ 0x14 ∷ 1 ∷ 0x3000001C ∷ [])
 
--- a version 4 object that is a package itself, whose one unit has its identity in the root
-abbrev pub packageFour : List ℕ
-packageFour = numbersOf false 4 (0xF0000000 ∷ 0x10080404 ∷ 0x20800014 ∷ 0x10 ∷ 4 ∷ 0x1080000 ∷ 1 ∷ 0 ∷ 0x21800009 ∷ 0xB1001101 ∷ 0x742 ∷ 0 ∷ 0x26000040 ∷ 2 ∷ 2 ∷ 1 ∷ 2 ∷ 0 ∷ 0 ∷ 1 ∷ 0 ∷ 0 ∷ 1 ∷ 1 ∷ 3 ∷ 0 ∷ 0 ∷ 0x14 ∷ 9 ∷ 0x3000001E ∷ [])
-
 -- version 5, a type unit of signature 7 twice
 abbrev pub typeTwice : List ℕ
 typeTwice = numbersOf false 4 (0xF0000000 ∷ 0x10080405 ∷ 0x20800030 ∷ 0x14 ∷ 0x8060005 ∷ 0 ∷ 7 ∷ 0 ∷ 0 ∷ 0x14 ∷ 0x8060005 ∷ 0 ∷ 7 ∷ 0 ∷ 0 ∷ 0x21800000 ∷ 0x30000011 ∷ [])
@@ -51,36 +54,30 @@ typeTwice = numbersOf false 4 (0xF0000000 ∷ 0x10080405 ∷ 0x20800030 ∷ 0x14
 abbrev pub typeOnce : List ℕ
 typeOnce = numbersOf false 4 (0xF0000000 ∷ 0x10080405 ∷ 0x20800018 ∷ 0x14 ∷ 0x8060005 ∷ 0 ∷ 7 ∷ 0 ∷ 0 ∷ 0x26800034 ∷ 5 ∷ 1 ∷ 1 ∷ 2 ∷ 0 ∷ 0 ∷ 7 ∷ 0 ∷ 0 ∷ 1 ∷ 1 ∷ 0 ∷ 0x18 ∷ 0x30000018 ∷ [])
 
--- a unit of identity 0
-abbrev pub zeroIdentity : List ℕ
-zeroIdentity = numbersOf false 4 (0xF0000000 ∷ 0x10080405 ∷ 0x20800014 ∷ 0x10 ∷ 0x8050005 ∷ 0 ∷ 0 ∷ 0 ∷ 0x21800000 ∷ 0x3000000A ∷ [])
-
--- a compilation identity twice
-abbrev pub sameTwice : List ℕ
-sameTwice = numbersOf false 4 (0xF0000000 ∷ 0x10080405 ∷ 0x20800028 ∷ 0x10 ∷ 0x8050005 ∷ 0 ∷ 1 ∷ 0 ∷ 0x10 ∷ 0x8050005 ∷ 0 ∷ 1 ∷ 0 ∷ 0x21800000 ∷ 0x3000000F ∷ [])
-
 abbrev pub Examples : Type 0
 Examples =
-    -- the slots, the probing and the strings of document 01
-    Indexes.Examples
+    -- topic by topic; the slots, the probing and the strings of document 01 among them
+    Bundles.Examples
+    × Numbers.Examples
+    × Units.Examples
     × Texts.Examples
+    × Indexes.Examples
+    × Packing.Examples
+    × Lookups.Examples
     -- the whole package, and the length needed where the output is a byte too short
     × (packed example 176 112 ≡ made exampleMade)
     × (packed example 176 111 ≡ short 112)
-    -- work one word too short
-    × (packed example 175 112 ≡ refused 2)
     -- identity 1: the unit, its part of abbrev; 2 is absent; by version means 22
     × (lookedUp exampleMade 5 1 1 1 ≡ part 12 20 1)
     × (lookedUp exampleMade 5 1 1 3 ≡ part 36 1 1)
     × (lookedUp exampleMade 5 1 2 1 ≡ absent 1)
     × (lookedUp exampleMade 2 1 1 1 ≡ refusal 22)
-    -- a package as input gives itself
-    × (packed packageFour 480 120 ≡ made packageFour)
     -- a type unit already kept is skipped
     × (packed typeTwice 272 96 ≡ made typeOnce)
-    × (packed zeroIdentity 160 200 ≡ refused 13)
-    × (packed sameTwice 240 200 ≡ refused 14)
+    -- the small packer's limit: 1,024 bytes are judged by their words, and a word more is 1
+    × (packedSmall (zeros 1_024) 65_536 ≡ refused 3)
+    × (packedSmall (zeros 1_028) 65_536 ≡ refused 1)
 
 pub examples : Examples
-unfolding Checked._>>=_ Checked.require Checked.renumbered Lists.joined Lists.those Lists.all Lists.any Lists.sum Lists.same Lists.has Lists.distinct Lists.zeroTogether Octets.part Octets.little Octets.bigFrom Octets.number Octets.numberAt Octets.numbersIn Octets.littleOf Octets.bigOf Octets.bytesOf Octets.numbersOf Octets.zeros Bundle.filledUp Bundle.objectStep Bundle.sectionStep Bundle.endStep Bundle.stepOf Bundle.stepAt Bundle.followed Bundle.itemsFrom Bundle.items Bundle.leading Bundle.objectsOf Bundle.objectFirst Bundle.bundleOf Bundle.lengthGood Bundle.partsOf Bundle.count Bundle.firstPart Bundle.body Encoding.encodingOf Encoding.encodingGood BundleWritten.wordBytes BundleWritten.headBytes BundleWritten.sectionBytes BundleWritten.objectBytes BundleWritten.endBytes BundleWritten.written Leb128.groups Leb128.short Leb128.unsigned Leb128.signedSize Abbreviations.attributeAt Abbreviations.attributesThen Abbreviations.attributesFrom Abbreviations.attributesOf Abbreviations.declarationAt Abbreviations.declarationsThen Abbreviations.declarationsFrom Abbreviations.declarationsOf Abbreviations.declarationOf Forms.forms Forms.widthIn Forms.zeroEnded Forms.valueSize Root.needed Root.plainValue Root.valueOf Root.identityAt Root.identityIn Root.rootTag Root.rootIdentity UnitRead.lengthField UnitRead.unitSize UnitRead.isFive UnitRead.addressPlace UnitRead.commonSize UnitRead.behindCommon UnitRead.identityFive UnitRead.identityFour UnitRead.identityOf UnitRead.unitOf Strings.headerSize Strings.headerTrue Strings.entriesIn Strings.entriesOf Strings.upToZero Strings.stringAt Strings.stringsAt Strings.put Strings.putAll Strings.firstUses Strings.ended Strings.strOf Strings.offsetIn Strings.remapped Columns.columnsFour Columns.columnsFive Columns.columnsOf Columns.columnIn Index.versionOf Index.columnsMost Index.codeGood Index.powerFrom Index.leastPower Index.slotsGood Index.layout Index.indexOf Index.placeOf Index.cellAt Index.cellOf Probing.firstSlot Probing.stride Probing.look Probing.search Probing.probe Probing.slotsFor Probing.freeFrom Probing.placeAt Probing.place Probing.placeAll Probing.unused Probing.slotsOf Rows.shared Rows.neededCodes Rows.isSome Rows.rowOf Rows.cellIs Rows.ownPlace Rows.inStep Rows.rowContributions Rows.wholeContributions IndexWritten.presentColumns IndexWritten.offsetOf IndexWritten.sizeOf IndexWritten.grid IndexWritten.startBytes IndexWritten.indexWith IndexWritten.indexBytes Filing.isUnder Filing.indexFor Filing.sums Filing.lengths Filing.contributionsOf Filing.skipped Filing.unitAt Filing.unitsFrom Filing.unitsIn Filing.grown Filing.filingFrom Filing.firstWord Filing.filingOf Filing.keep Filing.keepAll Filing.kept Filing.contributed Filing.entriesOfUnit Input.present Input.repeated Input.wrongEdition Input.onlyOnce Input.editionGood Input.complete Input.usedStrings Input.inputIndex Input.unitSections Input.inputOf Pack.cells Pack.longer Pack.entriesFrom Pack.rowsOf Pack.unitBytes Pack.sharedBytes Pack.allUsed Pack.stringTable Pack.sectionList Pack.nonEmpty Pack.packageSections Pack.packageObjects Pack.judged Pack.answered Pack.packed Pack.handedIn Lookup.codes Lookup.packageIndex Lookup.objectJudged Lookup.objectsJudged Lookup.packageOf Lookup.hasVersion Lookup.versionGood Lookup.tableGood Lookup.indexFor Lookup.placeIn Lookup.cellPlace Lookup.partPlace Lookup.atRow Lookup.inTable Lookup.answered Lookup.partJudged Lookup.lookedUp Lookup.entriesStart Lookup.startOf Lookup.stringPlace Lookup.stringJudged Lookup.stringFound
-examples = (Indexes.examples, Texts.examples, refl, refl, refl, refl, refl, refl, refl, refl, refl, refl, refl)
+unfolding Checked._>>=_ Checked.require Checked.renumbered Lists.joined Lists.those Lists.all Lists.any Lists.sum Lists.same Lists.has Lists.distinct Lists.zeroTogether Octets.part Octets.little Octets.bigFrom Octets.number Octets.numberAt Octets.numbersIn Octets.littleOf Octets.bigOf Octets.bytesOf Octets.numbersOf Octets.zeros Bundle.filledUp Bundle.objectStep Bundle.sectionStep Bundle.endStep Bundle.stepOf Bundle.stepAt Bundle.followed Bundle.itemsFrom Bundle.items Bundle.leading Bundle.objectsOf Bundle.objectFirst Bundle.bundleOf Bundle.lengthGood Bundle.partsOf Bundle.count Bundle.firstPart Bundle.body Encoding.encodingOf Encoding.encodingGood BundleWritten.wordBytes BundleWritten.headBytes BundleWritten.sectionBytes BundleWritten.objectBytes BundleWritten.endBytes BundleWritten.written Leb128.groups Leb128.short Leb128.unsigned Leb128.signedSize Abbreviations.attributeAt Abbreviations.attributesThen Abbreviations.attributesFrom Abbreviations.attributesOf Abbreviations.declarationAt Abbreviations.declarationsThen Abbreviations.declarationsFrom Abbreviations.declarationsOf Abbreviations.declarationOf Forms.forms Forms.widthIn Forms.zeroEnded Forms.valueSize Root.needed Root.plainValue Root.valueOf Root.identityAt Root.identityIn Root.rootTag Root.rootIdentity UnitRead.lengthField UnitRead.unitSize UnitRead.isFive UnitRead.addressPlace UnitRead.commonSize UnitRead.behindCommon UnitRead.identityFive UnitRead.identityFour UnitRead.identityOf UnitRead.unitOf Strings.headerSize Strings.headerTrue Strings.entriesIn Strings.entriesOf Strings.upToZero Strings.stringAt Strings.stringsAt Strings.put Strings.putAll Strings.firstUses Strings.ended Strings.strOf Strings.offsetIn Strings.remapped Columns.columnsFour Columns.columnsFive Columns.columnsOf Columns.columnIn Index.versionOf Index.columnsMost Index.codeGood Index.powerFrom Index.leastPower Index.slotsGood Index.layout Index.indexOf Index.placeOf Index.cellAt Index.cellOf Probing.firstSlot Probing.stride Probing.look Probing.search Probing.probe Probing.slotsFor Probing.freeFrom Probing.placeAt Probing.place Probing.placeAll Probing.unused Probing.slotsOf Rows.shared Rows.neededCodes Rows.isSome Rows.rowOf Rows.cellIs Rows.ownPlace Rows.inStep Rows.rowContributions Rows.wholeContributions IndexWritten.presentColumns IndexWritten.offsetOf IndexWritten.sizeOf IndexWritten.grid IndexWritten.startBytes IndexWritten.indexWith IndexWritten.indexBytes Filing.isUnder Filing.indexFor Filing.sums Filing.lengths Filing.contributionsOf Filing.skipped Filing.unitAt Filing.unitsFrom Filing.unitsIn Filing.grown Filing.filingFrom Filing.firstWord Filing.filingOf Filing.keep Filing.keepAll Filing.kept Filing.contributed Filing.entriesOfUnit Input.present Input.repeated Input.wrongEdition Input.onlyOnce Input.editionGood Input.complete Input.usedStrings Input.inputIndex Input.unitSections Input.inputOf Pack.cells Pack.longer Pack.entriesFrom Pack.rowsOf Pack.unitBytes Pack.sharedBytes Pack.allUsed Pack.stringTable Pack.sectionList Pack.nonEmpty Pack.packageSections Pack.packageObjects Pack.judged Pack.answered Pack.packed Pack.handedIn Lookup.codes Lookup.packageIndex Lookup.objectJudged Lookup.objectsJudged Lookup.packageOf Lookup.hasVersion Lookup.versionGood Lookup.tableGood Lookup.indexFor Lookup.placeIn Lookup.cellPlace Lookup.partPlace Lookup.atRow Lookup.inTable Lookup.answered Lookup.partJudged Lookup.lookedUp Lookup.entriesStart Lookup.startOf Lookup.stringPlace Lookup.stringJudged Lookup.stringFound packedSmall
+examples = (Bundles.examples, Numbers.examples, Units.examples, Texts.examples, Indexes.examples, Packing.examples, Lookups.examples, refl, refl, refl, refl, refl, refl, refl, refl, refl)

@@ -8,8 +8,11 @@ ghost use Rattle.archive.specs.Question.{PartTold, StringTold, unpacked,
 use finish::whole::Finished;
 use lookup::answering::Answer;
 
+// Where no package was made: neither found nor absent, and no refusal of a lookup.
+const NOT_LOOKED_UP: u32 = 2;
+
 // Packing's answer: 0 and the package's length, 18 and the length needed, else the refusal and 0. Where it is 0, the lookup's answer,
-// else zeros.
+// else `NOT_LOOKED_UP` and zeros.
 #[repr(C)]
 pub struct FromBundle {
     pub packing: u32,
@@ -26,7 +29,7 @@ fn not_packed(number: u32, needed: usize) -> FromBundle
     FromBundle {
         packing: number,
         packed: needed,
-        code: 0,
+        code: NOT_LOOKED_UP,
         start: 0,
         length: 0,
         looks: 0,

@@ -3,6 +3,8 @@
 use mathlib.Core.Bool.{Bool, true, false}
 use Prim.Native.Nat.{ℕ}
 use lib.Dec.{eqb}
+use Rattle.octets.specs.Checked.{Check, pass, refuse, _>>=_, require}
+use Rattle.numbers.specs.Refusals.{badEncoding}
 use Rattle.bundle.specs.Encoding.{Encoding, encodingGood}
 use Rattle.bundle.specs.declared.encoding.ObjectEncoding.{ObjectEncoding}
 use Rattle.bundle.specs.declared.encoding.WordRead.{WordRead}
@@ -14,6 +16,14 @@ four false n = 4
 
 unfoldable pub encodingIs : ObjectEncoding → Encoding
 encodingIs e = record { big = e .big; version = four (e .five) 5; width = four (e .wide) 8; address = four (e .long) 8 }
+
+-- what 4 lets pass
+unfoldable pub encodingChecked : Encoding → Check Encoding
+encodingChecked e = require (encodingGood e) badEncoding >>= λ _. pass e
+
+abbrev pub wordCheck : WordRead → Check Encoding
+wordCheck (Good e) = pass (encodingIs e)
+wordCheck Bad = refuse badEncoding
 
 unfoldable pub wordRead : Encoding → WordRead
 wordRead e =

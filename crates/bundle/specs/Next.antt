@@ -4,6 +4,7 @@ use mathlib.Core.Bool.{Bool, true, false}
 use mathlib.Core.List.{List}
 use Prim.Native.Nat.{ℕ, _+_}
 use Rattle.octets.specs.Checked.{Check, pass, refuse}
+use Rattle.numbers.specs.Refusals.{badWords}
 use Rattle.bundle.specs.Bundle as bundle
 use Rattle.bundle.specs.Bundle.{Bundle, Step, more, end, broken, object, section, objectFirst}
 use Rattle.bundle.specs.declared.Item.{Item}
@@ -27,7 +28,11 @@ unfoldable pub itemsGood : Check (List bundle.Item) → Bool
 itemsGood (pass is) = objectFirst is
 itemsGood (refuse n) = false
 
--- of a bundle: its byte order
+-- of a bundle: its byte order, or 3
+abbrev pub wordsCheck : Words → Check Bool
+wordsCheck (Readable big) = pass big
+wordsCheck Unreadable = refuse badWords
+
 unfoldable pub wordsOf : Check Bundle → Words
 wordsOf (pass u) = Readable (u .big)
 wordsOf (refuse n) = Unreadable

@@ -2,7 +2,8 @@
 ghost use lib.Dec.{eqb};
 ghost use mathlib.Core.Bool.{_||_, not};
 ghost use mathlib.Core.Path.{_≡_};
-ghost use Rattle.bundle.specs.Encoded.{encodingIs, wordRead};
+ghost use Rattle.bundle.specs.Answered.{wordFor};
+ghost use Rattle.bundle.specs.Encoded.{encodingIs};
 ghost use Rattle.bundle.specs.Encoding.{encodingOf};
 
 // The byte order of the data, version 5 or else 4, offsets of 8 bytes or else 4, addresses of 8 bytes or else 4.
@@ -50,7 +51,7 @@ fn is_neither(n: u32, a: u32, b: u32) -> bool
 }
 
 pub fn read_word(big: bool, word: u32) -> WordRead
-    ensures { λ r. ⌜ r ≡ wordRead (encodingOf big word) ⌝ }
+    ensures { λ r. ⌜ r ≡ wordFor (encodingOf big word) .answer ⌝ }
 {
     let version = word % 256;
     let width = word / 256 % 256;

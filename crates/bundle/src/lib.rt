@@ -15,11 +15,11 @@ ghost use Rattle.bundle.specs.Bundle.{
   endStep,
   stepAt,
   items,
-  bundleOf,
   lengthGood,
 };
 ghost use Rattle.bundle.specs.Scan.{Notable, Reaches, sectionsOf, scanOf, noted, unitSectionOf};
-ghost use Rattle.bundle.specs.Next.{nextOf, ends, wordsOf, itemsGood};
+ghost use Rattle.bundle.specs.Answered.{wordsFor};
+ghost use Rattle.bundle.specs.Next.{nextOf, ends, itemsGood};
 
 // What stands at a place of a bundle, with the place behind it; of a section also its code, and where its bytes lie.
 pub enum Item {
@@ -189,7 +189,7 @@ fn items_good(b: &[u8]) -> bool
 
 // 3: whether the words of a bundle are well formed, and its byte order.
 pub fn check_words(b: &[u8]) -> Words
-    ensures { λ r. ⌜ r ≡ wordsOf (bundleOf (now (b .entry))) ⌝ }
+    ensures { λ r. ⌜ r ≡ wordsFor (now (b .entry)) .answer ⌝ }
 {
     if b.len() < 4 {
         return Words::Broken;

@@ -1,14 +1,14 @@
--- Document 01's worked examples of slots and probing, its order of columns, and an index of version 5.
+-- Document 01's worked examples of slots and probing, its order of columns in both versions, and where 10 and 17 stand.
 -- Assumes nothing.
 use mathlib.Core.Path.{_≡_, refl}
-use mathlib.Core.Bool.{true}
+use mathlib.Core.Bool.{true, false}
 use mathlib.Core.List.{[], _∷_, map}
 use mathlib.Core.Option.{some}
-use Rattle.octets.specs.Octets.{zeros, bigOf, bytesOf, numbersOf}
+use Rattle.octets.specs.Octets.{zeros, littleOf, bigOf, bytesOf, numbersOf}
 use Rattle.octets.specs.Lists.{joined, those, any}
-use Rattle.octets.specs.Checked.{pass, _>>=_}
-use Rattle.index.specs.Columns.{columnsFive, columnsOf}
-use Rattle.index.specs.Index.{powerFrom, leastPower}
+use Rattle.octets.specs.Checked.{pass, refuse, _>>=_, require}
+use Rattle.index.specs.Columns.{columnsFour, columnsFive, columnsOf}
+use Rattle.index.specs.Index.{powerFrom, leastPower, indexOf}
 use Rattle.index.specs.Probing.{Slots, found, absent, firstSlot, stride, look, search, slotsFor, freeFrom, placeAt, place, placeAll, unused, slotsOf}
 use Rattle.index.specs.Rows.{isSome}
 use Rattle.index.specs.Written.{Row, presentColumns, offsetOf, sizeOf, grid, startBytes, indexWith, indexBytes}
@@ -35,7 +35,15 @@ Examples =
     ≡ pass
     (numbersOf true 4
     (0x5_0000 ∷ 7 ∷ 1 ∷ 2 ∷ 0 ∷ 0 ∷ 0 ∷ 1 ∷ 0 ∷ 1 ∷ 1 ∷ 3 ∷ 4 ∷ 5 ∷ 8 ∷ 6 ∷ 7 ∷ 0 ∷ 0 ∷ 0 ∷ 0 ∷ 0 ∷ 0 ∷ 0 ∷ 1 ∷ 3 ∷ 4 ∷ 9 ∷ 10 ∷ 6 ∷ 8 ∷ [])))
+    -- version 4, little-endian: the word 2, and all eight columns
+    × (indexBytes false 4 (everywhere ∷ [])
+    ≡ pass
+    (numbersOf false 4
+    (2 ∷ 8 ∷ 1 ∷ 2 ∷ 0 ∷ 0 ∷ 1 ∷ 0 ∷ 0 ∷ 1 ∷ 1 ∷ 2 ∷ 3 ∷ 4 ∷ 5 ∷ 6 ∷ 7 ∷ 8 ∷ 0 ∷ 0 ∷ 0 ∷ 0 ∷ 0 ∷ 0 ∷ 0 ∷ 0 ∷ 1 ∷ 2 ∷ 3 ∷ 4 ∷ 5 ∷ 6 ∷ 7 ∷ 8 ∷ [])))
+    -- no free slot, which no accepted bundle meets; an empty index
+    × (placeAll (record { identities = 1 ∷ []; rows = 1 ∷ [] }) 2 (5 ∷ []) ≡ refuse 17)
+    × (indexOf false [] ≡ refuse 10)
 
 pub examples : Examples
-unfolding powerFrom leastPower slotsFor firstSlot stride look search freeFrom placeAt place placeAll unused slotsOf zeros bigOf bytesOf numbersOf joined those any _>>=_ columnsFive columnsOf isSome presentColumns offsetOf sizeOf grid startBytes indexWith indexBytes
-examples = (refl, refl, refl, refl, refl)
+unfolding powerFrom leastPower indexOf require littleOf columnsFour slotsFor firstSlot stride look search freeFrom placeAt place placeAll unused slotsOf zeros bigOf bytesOf numbersOf joined those any _>>=_ columnsFive columnsOf isSome presentColumns offsetOf sizeOf grid startBytes indexWith indexBytes
+examples = (refl, refl, refl, refl, refl, refl, refl, refl)

@@ -8,6 +8,7 @@ use lib.Dec.{eqb, leb, ltb}
 use lib.ListN.{length}
 use Rattle.octets.specs.Octets.{numberAt}
 use Rattle.octets.specs.Checked.{Check, pass, refuse}
+use Rattle.numbers.specs.Refusals.{badIndex}
 use Rattle.index.specs.Index.{Index, versionOf, columnsMost, leastPower, indexOf, layout}
 use Rattle.index.specs.Probing.{Probe, found, absent}
 use Rattle.index.specs.declared.reading.IndexHead.{IndexHead}
@@ -22,6 +23,11 @@ pub record PowerOfTwo (n : ℕ) : Type 0 where
 
 unfoldable pub headOf : Index → IndexHead
 headOf i = record { version = i .version; columns = length (i .codes); units = i .units; slots = length (i .rows) }
+
+-- the number and the value of each answer: 10, which a lookup renumbers to 21
+abbrev pub indexCheck : IndexRead → Check IndexHead
+indexCheck (Good h) = pass h
+indexCheck Bad = refuse badIndex
 
 unfoldable pub indexRead : Check Index → IndexRead
 indexRead (pass i) = Good (headOf i)

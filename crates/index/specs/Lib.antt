@@ -6,5 +6,6 @@ pub mod Probing
 pub mod Rows
 pub mod Written
 pub mod Held
+pub mod Answered
 pub mod Cells
 pub mod Contributed

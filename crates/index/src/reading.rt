@@ -9,9 +9,9 @@ ghost use Rattle.index.specs.Index.{
   codeGood,
   leastPower,
   slotsGood,
-  indexOf,
 };
-ghost use Rattle.index.specs.Held.{Sized, stated, headGood, indexIn, indexRead};
+ghost use Rattle.index.specs.Answered.{indexFor};
+ghost use Rattle.index.specs.Held.{Sized, stated, headGood, indexIn};
 
 pub struct IndexHead {
     // 2 or 5
@@ -252,7 +252,7 @@ fn head_good(s: &[u8], head: IndexHead) -> bool
 }
 
 pub fn read_index(big: bool, s: &[u8]) -> IndexRead
-    ensures { λ r. ⌜ r ≡ indexRead (indexOf big (now (s .entry))) ⌝ }
+    ensures { λ r. ⌜ r ≡ indexFor big (now (s .entry)) .answer ⌝ }
 {
     if s.len() < 16 {
         return IndexRead::Bad;

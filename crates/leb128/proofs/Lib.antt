@@ -3,4 +3,4 @@
 pub mod Taken
 pub mod Readers
 pub mod Tenth
-pub mod Answered
+pub mod Examples

@@ -1,6 +1,6 @@
 -- The answers of the readers, by what three or nine bytes say and what a tenth adds.
 -- Assumes nothing.
-use mathlib.Core.Path.{_≡_, refl, sym, ap, _∙_}
+use mathlib.Core.Path.{_≡_, refl, sym, _∙_}
 use mathlib.Core.Bool.{true, _||_}
 use mathlib.Core.List.{List, [], _∷_}
 use Prim.Native.Nat.{ℕ, zero, suc, _+_, _*_, _-_, _^_, _≤_, _<_}
@@ -17,11 +17,9 @@ use Rattle.octets.proofs.Numbers.{Bytes, bytes-tail}
 use Rattle.leb128.proofs.Taken.{groups-last, groups-more, groups-lt}
 use Rattle.leb128.proofs.Readers.{followed, groups-by}
 use Rattle.leb128.specs.Leb128.{groups, short, unsigned, signedSize}
-use Rattle.leb128.specs.Answers.{groupsRead, before, numberOf, sizeOf}
+use Rattle.leb128.specs.Answers.{groupsRead, before}
 use Rattle.leb128.specs.declared.Groups.{Groups}
 use Rattle.leb128.specs.declared.Groups.the-variants.{Ended, Open, Cut}
-use Rattle.leb128.specs.declared.Number.the-variants as number
-use Rattle.leb128.specs.declared.Size.the-variants as size
 
 -- ---- from so many bytes to the same number of them
 module _ (k : ℕ) (s : List ℕ) where
@@ -39,21 +37,21 @@ module _ (k : ℕ) (s : List ℕ) where
 
 -- ---- a tag, a name or a form
 module _ (s : List ℕ) where
-  pub short-value : (v n : ℕ) → groupsRead 3 s ≡ Ended v n → v ≤ 65535 → number.Is v n ≡ numberOf (short s)
-  unfolding short numberOf
-  short-value v n e h = sym (ap numberOf (then-pass _ _ _ (groups-ended 3 s v n e) ∙ passes _ _ _ (le-leb v 65535 h)))
+  pub short-value : (v n : ℕ) → groupsRead 3 s ≡ Ended v n → v ≤ 65535 → pass (v, n) ≡ short s
+  unfolding short
+  short-value v n e h = sym (then-pass _ _ _ (groups-ended 3 s v n e) ∙ passes _ _ _ (le-leb v 65535 h))
 
-  pub short-large : (v n : ℕ) → groupsRead 3 s ≡ Ended v n → 65535 < v → number.Refused ≡ numberOf (short s)
-  unfolding short numberOf
-  short-large v n e h = sym (ap numberOf (then-pass _ _ _ (groups-ended 3 s v n e) ∙ fails _ _ _ (lt-leb v 65535 h)))
+  pub short-large : (v n : ℕ) → groupsRead 3 s ≡ Ended v n → 65535 < v → refuse 12 ≡ short s
+  unfolding short
+  short-large v n e h = sym (then-pass _ _ _ (groups-ended 3 s v n e) ∙ fails _ _ _ (lt-leb v 65535 h))
 
-  pub short-open : (v : ℕ) → groupsRead 3 s ≡ Open v → number.Refused ≡ numberOf (short s)
-  unfolding short numberOf
-  short-open v e = sym (ap numberOf (then-refuse _ _ _ (groups-open 3 s v e)))
+  pub short-open : (v : ℕ) → groupsRead 3 s ≡ Open v → refuse 12 ≡ short s
+  unfolding short
+  short-open v e = sym (then-refuse _ _ _ (groups-open 3 s v e))
 
-  pub short-cut : groupsRead 3 s ≡ Cut → number.Refused ≡ numberOf (short s)
-  unfolding short numberOf
-  short-cut e = sym (ap numberOf (then-refuse _ _ _ (groups-cut 3 s e)))
+  pub short-cut : groupsRead 3 s ≡ Cut → refuse 12 ≡ short s
+  unfolding short
+  short-cut e = sym (then-refuse _ _ _ (groups-cut 3 s e))
 
 -- ---- ten bytes
 before-open : (b w : ℕ) (g : Groups) → before b g ≡ Open w → (v : ℕ) × (g ≡ Open v) × (w ≡ b - 128 + 128 * v)
@@ -105,69 +103,69 @@ module _ (s : List ℕ) where
 
 -- ---- an unsigned number
 module _ (s : List ℕ) where
-  unsigned-in : (r : ℕ × ℕ) → groups 10 s ≡ pass r → r .0 < 2 ^ 64 → number.Is (r .0) (r .1) ≡ numberOf (unsigned s)
-  unfolding unsigned numberOf
-  unsigned-in r e h = sym (ap numberOf (then-pass _ _ _ e ∙ passes _ _ _ (lt-ltb (r .0) (2 ^ 64) h)))
+  unsigned-in : (r : ℕ × ℕ) → groups 10 s ≡ pass r → r .0 < 2 ^ 64 → pass (r .0, r .1) ≡ unsigned s
+  unfolding unsigned
+  unsigned-in r e h = sym (then-pass _ _ _ e ∙ passes _ _ _ (lt-ltb (r .0) (2 ^ 64) h))
 
-  unsigned-out : (r : ℕ × ℕ) → groups 10 s ≡ pass r → 2 ^ 64 ≤ r .0 → number.Refused ≡ numberOf (unsigned s)
-  unfolding unsigned numberOf
-  unsigned-out r e h = sym (ap numberOf (then-pass _ _ _ e ∙ fails _ _ _ (le-ltb (r .0) (2 ^ 64) h)))
+  unsigned-out : (r : ℕ × ℕ) → groups 10 s ≡ pass r → 2 ^ 64 ≤ r .0 → refuse 12 ≡ unsigned s
+  unfolding unsigned
+  unsigned-out r e h = sym (then-pass _ _ _ e ∙ fails _ _ _ (le-ltb (r .0) (2 ^ 64) h))
 
-  unsigned-not : groups 10 s ≡ refuse 12 → number.Refused ≡ numberOf (unsigned s)
-  unfolding unsigned numberOf
-  unsigned-not e = sym (ap numberOf (then-refuse _ _ _ e))
+  unsigned-not : groups 10 s ≡ refuse 12 → refuse 12 ≡ unsigned s
+  unfolding unsigned
+  unsigned-not e = sym (then-refuse _ _ _ e)
 
-  pub unsigned-cut : groupsRead 9 s ≡ Cut → number.Refused ≡ numberOf (unsigned s)
+  pub unsigned-cut : groupsRead 9 s ≡ Cut → refuse 12 ≡ unsigned s
   unsigned-cut e = unsigned-not (ten-cut s e)
 
-  pub unsigned-nine : (v n : ℕ) → Bytes s → groupsRead 9 s ≡ Ended v n → number.Is v n ≡ numberOf (unsigned s)
+  pub unsigned-nine : (v n : ℕ) → Bytes s → groupsRead 9 s ≡ Ended v n → pass (v, n) ≡ unsigned s
   unsigned-nine v n b e = unsigned-in (v, n) (ten-ended s v n e) (omega (arith, groups-lt 9 s (v, n) b (groups-ended 9 s v n e)))
 
   module _ (v : ℕ) (e : groupsRead 9 s ≡ Open v) where
-    pub unsigned-short : length s < 10 → number.Refused ≡ numberOf (unsigned s)
+    pub unsigned-short : length s < 10 → refuse 12 ≡ unsigned s
     unsigned-short h = unsigned-not (ten-short s v e h)
 
-    pub unsigned-large : (b : ℕ) → 10 ≤ length s → b ≡ getD s 9 0 → 1 < b → number.Refused ≡ numberOf (unsigned s)
+    pub unsigned-large : (b : ℕ) → 10 ≤ length s → b ≡ getD s 9 0 → 1 < b → refuse 12 ≡ unsigned s
     unsigned-large b h d g =
         elim (decLe 128 (getD s 9 0)) [
           | yes f ↦ unsigned-not (ten-more s v e h f)
           | no f ↦ unsigned-out _ (ten-last s v e h (omega arith)) (omega arith)
         ]
 
-    pub unsigned-ten : (b : ℕ) → Bytes s → 10 ≤ length s → b ≡ getD s 9 0 → b ≤ 1 → number.Is (v + 0x8000_0000_0000_0000 * b) 10 ≡ numberOf (unsigned s)
+    pub unsigned-ten : (b : ℕ) → Bytes s → 10 ≤ length s → b ≡ getD s 9 0 → b ≤ 1 → pass (v + 0x8000_0000_0000_0000 * b, 10) ≡ unsigned s
     unsigned-ten b y h d g = rw d (unsigned-in _ (ten-last s v e h (omega arith)) (omega (arith, open-lt 9 s v y e)))
 
 -- ---- a signed number
 module _ (s : List ℕ) where
-  signed-in : (r : ℕ × ℕ) → groups 10 s ≡ pass r → (ltb (r .0) (2 ^ 63) || leb (2 ^ 70 - 2 ^ 63) (r .0)) ≡ true → size.Is (r .1) ≡ sizeOf (signedSize s)
-  unfolding signedSize sizeOf
-  signed-in r e h = sym (ap sizeOf (then-pass _ _ _ e ∙ passes _ _ _ h))
+  signed-in : (r : ℕ × ℕ) → groups 10 s ≡ pass r → (ltb (r .0) (2 ^ 63) || leb (2 ^ 70 - 2 ^ 63) (r .0)) ≡ true → pass (r .1) ≡ signedSize s
+  unfolding signedSize
+  signed-in r e h = sym (then-pass _ _ _ e ∙ passes _ _ _ h)
 
-  signed-not : groups 10 s ≡ refuse 12 → size.Refused ≡ sizeOf (signedSize s)
-  unfolding signedSize sizeOf
-  signed-not e = sym (ap sizeOf (then-refuse _ _ _ e))
+  signed-not : groups 10 s ≡ refuse 12 → refuse 12 ≡ signedSize s
+  unfolding signedSize
+  signed-not e = sym (then-refuse _ _ _ e)
 
-  pub signed-cut : groupsRead 9 s ≡ Cut → size.Refused ≡ sizeOf (signedSize s)
+  pub signed-cut : groupsRead 9 s ≡ Cut → refuse 12 ≡ signedSize s
   signed-cut e = signed-not (ten-cut s e)
 
-  pub signed-nine : (v n : ℕ) → Bytes s → groupsRead 9 s ≡ Ended v n → size.Is n ≡ sizeOf (signedSize s)
+  pub signed-nine : (v n : ℕ) → Bytes s → groupsRead 9 s ≡ Ended v n → pass n ≡ signedSize s
   signed-nine v n b e = signed-in (v, n) (ten-ended s v n e) (or-left _ _ (lt-ltb v (2 ^ 63) (groups-lt 9 s (v, n) b (groups-ended 9 s v n e))))
 
   module _ (v : ℕ) (e : groupsRead 9 s ≡ Open v) where
-    pub signed-short : length s < 10 → size.Refused ≡ sizeOf (signedSize s)
+    pub signed-short : length s < 10 → refuse 12 ≡ signedSize s
     signed-short h = signed-not (ten-short s v e h)
 
     module _ (y : Bytes s) (h : 10 ≤ length s) where
-      pub signed-zero : getD s 9 0 ≡ 0 → size.Is 10 ≡ sizeOf (signedSize s)
+      pub signed-zero : getD s 9 0 ≡ 0 → pass 10 ≡ signedSize s
       signed-zero d = signed-in _ (ten-last s v e h (omega arith)) (or-left _ _ (lt-ltb (v + 0x8000_0000_0000_0000 * getD s 9 0) (2 ^ 63) (omega (arith, open-lt 9 s v y e))))
 
-      pub signed-full : getD s 9 0 ≡ 127 → size.Is 10 ≡ sizeOf (signedSize s)
+      pub signed-full : getD s 9 0 ≡ 127 → pass 10 ≡ signedSize s
       signed-full d = signed-in _ (ten-last s v e h (omega arith)) (or-right (ltb (v + 0x8000_0000_0000_0000 * getD s 9 0) (2 ^ 63)) _ (le-leb (2 ^ 70 - 2 ^ 63) (v + 0x8000_0000_0000_0000 * getD s 9 0) (omega arith)))
 
-      pub signed-large : (getD s 9 0 ≡ 0 → ⊥) → (getD s 9 0 ≡ 127 → ⊥) → size.Refused ≡ sizeOf (signedSize s)
-      unfolding signedSize sizeOf
+      pub signed-large : (getD s 9 0 ≡ 0 → ⊥) → (getD s 9 0 ≡ 127 → ⊥) → refuse 12 ≡ signedSize s
+      unfolding signedSize
       signed-large d f =
           elim (decLe 128 (getD s 9 0)) [
             | yes g ↦ signed-not (ten-more s v e h g)
-            | no g ↦ sym (ap sizeOf (then-pass _ _ _ (ten-last s v e h (omega arith)) ∙ fails _ _ _ (or-neither _ _ (le-ltb (v + 0x8000_0000_0000_0000 * getD s 9 0) (2 ^ 63) (omega arith)) (lt-leb (2 ^ 70 - 2 ^ 63) (v + 0x8000_0000_0000_0000 * getD s 9 0) (omega (arith, open-lt 9 s v y e))))))
+            | no g ↦ sym (then-pass _ _ _ (ten-last s v e h (omega arith)) ∙ fails _ _ _ (or-neither _ _ (le-ltb (v + 0x8000_0000_0000_0000 * getD s 9 0) (2 ^ 63) (omega arith)) (lt-leb (2 ^ 70 - 2 ^ 63) (v + 0x8000_0000_0000_0000 * getD s 9 0) (omega (arith, open-lt 9 s v y e)))))
           ]

@@ -1,10 +1,11 @@
--- What the readers answer, by the definitions of LEB128 numbers.
+-- What the readers answer: the number and the values of each case.
 -- Assumes nothing.
 use mathlib.Core.Bool.{true, false}
 use mathlib.Core.List.{List, [], _∷_}
 use Prim.Native.Nat.{ℕ, zero, suc, _+_, _*_, _-_}
 use lib.Dec.{ltb}
 use Rattle.octets.specs.Checked.{Check, pass, refuse}
+use Rattle.numbers.specs.Refusals.{noIdentity}
 use Rattle.leb128.specs.declared.Groups.{Groups}
 use Rattle.leb128.specs.declared.Groups.the-variants.{Ended, Open, Cut}
 use Rattle.leb128.specs.declared.Number.{Number}
@@ -12,13 +13,15 @@ use Rattle.leb128.specs.declared.Number.the-variants as number
 use Rattle.leb128.specs.declared.Size.{Size}
 use Rattle.leb128.specs.declared.Size.the-variants as size
 
-unfoldable pub numberOf : Check (ℕ × ℕ) → Number
-numberOf (pass r) = number.Is (r .0) (r .1)
-numberOf (refuse n) = number.Refused
+-- the number and the values of each answer
+abbrev pub numberCheck : Number → Check (ℕ × ℕ)
+numberCheck (number.Is v n) = pass (v, n)
+numberCheck number.Refused = refuse noIdentity
 
-unfoldable pub sizeOf : Check ℕ → Size
-sizeOf (pass n) = size.Is n
-sizeOf (refuse n) = size.Refused
+-- sizes are read for 12, and in a unit's header for 11: the contract names the number
+abbrev pub sizeCheck : ℕ → Size → Check ℕ
+sizeCheck k (size.Is n) = pass n
+sizeCheck k size.Refused = refuse k
 
 -- one byte before others, which is not the last
 unfoldable pub before : ℕ → Groups → Groups

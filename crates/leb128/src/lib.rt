@@ -1,8 +1,9 @@
 // LEB128 numbers at the front of lent bytes, with the limits that refusal 12 sets. A padded number counts by its value.
 ghost use mathlib.Core.Path.{_≡_};
 ghost use Prim.Native.Nat.{_≤_};
+ghost use Rattle.numbers.specs.Refusals.{noIdentity};
 ghost use Rattle.leb128.specs.Leb128.{short, unsigned, signedSize};
-ghost use Rattle.leb128.specs.Answers.{groupsRead, numberOf, sizeOf};
+ghost use Rattle.leb128.specs.Answers.{groupsRead, numberCheck, sizeCheck};
 
 // What a number of bytes say: they hold the last byte of a number, or none of them is the last, or there are not so many.
 pub enum Groups {
@@ -48,7 +49,7 @@ fn read_groups(k: usize, s: &[u8]) -> Groups
 
 // A tag, a name or a form: at most 3 bytes, and at most 65,535.
 pub fn read_short(s: &[u8]) -> Number
-    ensures { λ r. ⌜ r ≡ numberOf (short (now (s .entry))) ⌝ }
+    ensures { λ r. ⌜ numberCheck r ≡ short (now (s .entry)) ⌝ }
 {
     match read_groups(3, s) {
         Groups::Ended(value, size) => {
@@ -68,7 +69,7 @@ pub fn read_short(s: &[u8]) -> Number
 
 // Any other unsigned number: at most 10 bytes, of whose last only one bit is left.
 pub fn read_unsigned(s: &[u8]) -> Number
-    ensures { λ r. ⌜ r ≡ numberOf (unsigned (now (s .entry))) ⌝ }
+    ensures { λ r. ⌜ numberCheck r ≡ unsigned (now (s .entry)) ⌝ }
 {
     match read_groups(9, s) {
         Groups::Ended(value, size) => {
@@ -92,7 +93,7 @@ pub fn read_unsigned(s: &[u8]) -> Number
 
 // A signed number: a tenth byte may only repeat the sign.
 pub fn read_signed_size(s: &[u8]) -> Size
-    ensures { λ r. ⌜ r ≡ sizeOf (signedSize (now (s .entry))) ⌝ }
+    ensures { λ r. ⌜ sizeCheck noIdentity r ≡ signedSize (now (s .entry)) ⌝ }
 {
     match read_groups(9, s) {
         Groups::Ended(_, size) => {

@@ -149,9 +149,10 @@ module _ (p : List ℕ) (version table x : ℕ) where
   string-fits entry = numbered-inside p (stringFound p version table x entry) (λ a n looks e. string-inside p version table x a n looks entry e)
 
 -- what stands beside a part, and the part
-pub beside-is : (code looks : ℕ) (a : Answer) → code ≡ a .code → looks ≡ a .looks → code ∷ looks ∷ [] ≡ beside a
+pub beside-is : (code start size looks : ℕ) (r a : Answer) → r ≡ a → code ≡ r .code → start ≡ r .start → size ≡ r .length → looks ≡ r .looks
+    → code ∷ start ∷ size ∷ looks ∷ [] ≡ beside a
 unfolding beside
-beside-is code looks a c d = rw (c, d)
+beside-is code start size looks r a e c s l n = let p : code ∷ start ∷ size ∷ looks ∷ [] ≡ beside r = rw (c, s, l, n) in p ∙ ap beside e
 
 pub bytes-are : (p : List ℕ) (r a : Answer) → r ≡ a → take (r .start + r .length - r .start) (drop (r .start) p) ≡ bytesIn p a
 unfolding bytesIn

@@ -13,3 +13,6 @@ pub mod Searches
 pub mod Lookups
 pub mod Texts
 pub mod Bounds
+pub mod Refusing
+pub mod Limits
+pub mod Examples

@@ -165,6 +165,6 @@ numbered (refused n) = record { code = n; start = 0; length = 0; looks = 0 }
 unfoldable pub bytesIn : List ℕ → Answer → List ℕ
 bytesIn p a = cut p (a .start) (a .length)
 
--- what stands beside them: the code and the looks
+-- what stands beside them: the code, the place in the package, the length and the looks
 unfoldable pub beside : Answer → List ℕ
-beside a = a .code ∷ a .looks ∷ []
+beside a = a .code ∷ a .start ∷ a .length ∷ a .looks ∷ []

@@ -50,40 +50,51 @@ pub fn answer_string(package: &[u8], version: u32, table: u32, identity: u64, en
     answer_of(crate::searching::locate_string(package, version, table, identity, entry))
 }
 
-// The part of the lent package itself, with the code and the looks beside it. It is empty where nothing is found.
+// The part of the lent package itself, and beside it the code, its place in the package, its length and the looks. It is empty where nothing is
+// found.
 pub fn look_up<'a, 'b>(
     package: &'a [u8],
     version: u32,
     table: u32,
     identity: u64,
     section: u32,
-    told: &'b mut [u64; 2],
+    told: &'b mut [u64; 4],
 ) -> &'a [u8]
     ensures { λ r. ⌜ now r ≡ bytesIn (now («package» .entry)) (numbered (lookedUp (now («package» .entry)) version table identity section)) ⌝ }
     ensures { λ _. ⌜ now (told .exit) ≡ beside (numbered (lookedUp (now («package» .entry)) version table identity section)) ⌝ }
 {
     let answer = answer_part(package, version, table, identity, section);
-    *told = [octets::wide64(answer.code), octets::long(answer.looks)];
     let start = answer.start;
     let end = start + answer.length;
+    *told = [
+        octets::wide64(answer.code),
+        octets::long(start),
+        octets::long(answer.length),
+        octets::long(answer.looks),
+    ];
     &package[start..end]
 }
 
-// The string in the lent package itself, without its zero, with the code and the looks beside it.
+// The string in the lent package itself, without its zero, with the same beside it.
 pub fn look_up_string<'a, 'b>(
     package: &'a [u8],
     version: u32,
     table: u32,
     identity: u64,
     entry: u64,
-    told: &'b mut [u64; 2],
+    told: &'b mut [u64; 4],
 ) -> &'a [u8]
     ensures { λ r. ⌜ now r ≡ bytesIn (now («package» .entry)) (numbered (stringFound (now («package» .entry)) version table identity entry)) ⌝ }
     ensures { λ _. ⌜ now (told .exit) ≡ beside (numbered (stringFound (now («package» .entry)) version table identity entry)) ⌝ }
 {
     let answer = answer_string(package, version, table, identity, entry);
-    *told = [octets::wide64(answer.code), octets::long(answer.looks)];
     let start = answer.start;
     let end = start + answer.length;
+    *told = [
+        octets::wide64(answer.code),
+        octets::long(start),
+        octets::long(answer.length),
+        octets::long(answer.looks),
+    ];
     &package[start..end]
 }

@@ -3,4 +3,4 @@
 pub mod Input
 pub mod Filing
 pub mod Pack
-pub mod Counted
+pub mod Units

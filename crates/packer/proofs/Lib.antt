@@ -6,5 +6,4 @@ pub mod OneObject
 pub mod Start
 pub mod OverObjects
 pub mod Clearing
-pub mod Telling
 pub mod Made

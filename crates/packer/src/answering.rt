@@ -2,10 +2,10 @@
 ghost use mathlib.Core.Path.{_≡_};
 ghost use lib.ListN.{length};
 ghost use Rattle.octets.specs.Octets.{zeros};
-ghost use Rattle.package.specs.Pack.{Answer, packed};
-ghost use Rattle.finish.specs.Finish.{finishedOf, outputOf};
+ghost use Rattle.package.specs.Pack.{packed};
+ghost use Rattle.finish.specs.Finish.{outputOf};
 ghost use Rattle.packer.specs.Small.{packedSmall};
-ghost use Rattle.packer.specs.Told.{numbered};
+ghost use Rattle.packer.specs.Told.{toldOf, numbered};
 use finish::whole::Finished;
 
 // Code 0: the package, of that length. 18: the output is too short, with the length needed. Else the refusal and 0.
@@ -16,7 +16,7 @@ pub struct Packed {
 }
 
 fn answer_of(finished: Finished) -> Packed
-    ensures { λ r. ⌜ ((a : Answer) → finished ≡ finishedOf a → r ≡ numbered a) ⌝ }
+    ensures { λ r. ⌜ r ≡ toldOf finished ⌝ }
 {
     match finished {
         Finished::Refused(number) => Packed {

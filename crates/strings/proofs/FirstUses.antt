@@ -18,6 +18,23 @@ use Rattle.strings.specs.Strings.{put, putAll, firstUses}
 abbrev pub isIn : List (List ℕ) → List ℕ → Bool
 isIn table s = any (same s) table
 
+-- ---- strings put in order: those in front first
+pub putAll-one : (table : List (List ℕ)) (s : List ℕ) → putAll table (s ∷ []) ≡ put table s
+unfolding putAll
+putAll-one table s = refl
+
+pub putAll-append : (table xs ys : List (List ℕ)) → putAll table (xs ++ ys) ≡ putAll (putAll table xs) ys
+unfolding putAll
+putAll-append table [] ys = refl
+putAll-append table (x ∷ xs) ys = putAll-append (put table x) xs ys
+
+pub putAll-snoc : (table xs : List (List ℕ)) (s : List ℕ) → putAll table (xs ++ (s ∷ [])) ≡ put (putAll table xs) s
+putAll-snoc table xs s = putAll-append table xs (s ∷ []) ∙ putAll-one (putAll table xs) s
+
+pub firstUses-append : (xs ys : List (List ℕ)) → firstUses (xs ++ ys) ≡ putAll (firstUses xs) ys
+unfolding firstUses
+firstUses-append xs ys = putAll-append [] xs ys
+
 -- ---- one string put
 pub put-known : (table : List (List ℕ)) (s : List ℕ) → isIn table s ≡ true → put table s ≡ table
 unfolding put
@@ -62,23 +79,6 @@ length-putAll table (s ∷ ss) = omega (arith, length-put table s, length-putAll
 pub length-firstUses : (used : List (List ℕ)) → length (firstUses used) ≤ length used
 unfolding firstUses
 length-firstUses used = omega (arith, length-putAll [] used)
-
--- ---- in order
-pub putAll-one : (table : List (List ℕ)) (s : List ℕ) → putAll table (s ∷ []) ≡ put table s
-unfolding putAll
-putAll-one table s = refl
-
-pub putAll-append : (table xs ys : List (List ℕ)) → putAll table (xs ++ ys) ≡ putAll (putAll table xs) ys
-unfolding putAll
-putAll-append table [] ys = refl
-putAll-append table (x ∷ xs) ys = putAll-append (put table x) xs ys
-
-pub putAll-snoc : (table xs : List (List ℕ)) (s : List ℕ) → putAll table (xs ++ (s ∷ [])) ≡ put (putAll table xs) s
-putAll-snoc table xs s = putAll-append table xs (s ∷ []) ∙ putAll-one (putAll table xs) s
-
-pub firstUses-append : (xs ys : List (List ℕ)) → firstUses (xs ++ ys) ≡ putAll (firstUses xs) ys
-unfolding firstUses
-firstUses-append xs ys = putAll-append [] xs ys
 
 -- ---- every used string is in the table
 pub put-has : (table : List (List ℕ)) (s : List ℕ) → isIn (put table s) s ≡ true

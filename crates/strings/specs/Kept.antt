@@ -26,6 +26,10 @@ bytesAt b p = part b (p .start) (p .size)
 unfoldable pub Inside : List ℕ → Place → Type 0
 Inside b p = p .start + p .size ≤ length b
 
+-- entry k of an object's str_offsets
+abbrev pub entryOf : Encoding → List ℕ → Place → ℕ → ℕ
+entryOf e b offsets k = getD (entriesIn e (bytesAt b offsets)) k 0
+
 -- three words for string i of the table: where it lies in the bundle, its length, its offset in str
 pub record RowHeld (b region : List ℕ) (table : List (List ℕ)) (i : ℕ) : Type 0 where
   pub fits : getD region (3 * i) 0 + getD region (3 * i + 1) 0 ≤ length b

@@ -10,10 +10,8 @@ ghost use Rattle.strings.specs.Strings.{
   headerSize,
   headerTrue,
   entriesIn,
-  entriesOf,
-  stringAt,
 };
-ghost use Rattle.strings.specs.Answers.{entriesRead, stringRead};
+ghost use Rattle.strings.specs.Answers.{entriesFor, stringFor};
 use bundle::encoding::ObjectEncoding;
 
 // How many entries a section has.
@@ -98,7 +96,7 @@ fn header_true(e: ObjectEncoding, s: &[u8]) -> bool
 
 // 8: the header is true and whole entries follow.
 pub fn check_entries(e: ObjectEncoding, s: &[u8]) -> Entries
-    ensures { λ r. ⌜ r ≡ entriesRead (entriesOf (encodingIs e) (now (s .entry))) ⌝ }
+    ensures { λ r. ⌜ r ≡ entriesFor (encodingIs e) (now (s .entry)) .answer ⌝ }
 {
     if !header_true(e, s) {
         return Entries::IllFormed;
@@ -135,7 +133,7 @@ pub fn entry_at(e: ObjectEncoding, s: &[u8], k: usize) -> u64
 
 // 9: the bytes from an offset up to a zero byte.
 pub fn string_at(s: &[u8], offset: u64) -> StringRead
-    ensures { λ r. ⌜ ((n : ℕ) → r ≡ stringRead offset (stringAt n (now (s .entry)) offset)) ⌝ }
+    ensures { λ r. ⌜ ((n : ℕ) → r ≡ stringFor n (now (s .entry)) offset offset .answer) ⌝ }
 {
     if octets::long(s.len()) <= offset {
         return StringRead::Missing;

@@ -8,9 +8,11 @@ ghost use lib.ListN.{length, getD};
 ghost use Rattle.octets.specs.Octets.{part, placed};
 ghost use Rattle.octets.specs.Lists.{same};
 ghost use Rattle.bundle.specs.Encoded.{encodingIs};
-ghost use Rattle.strings.specs.Strings.{entriesIn, stringAt, stringsAt, put};
-ghost use Rattle.strings.specs.Answers.{stringRead};
+ghost use Rattle.numbers.specs.Refusals.{noString};
+ghost use Rattle.strings.specs.Strings.{entriesIn, stringsAt, put};
+ghost use Rattle.strings.specs.Answers.{stringFor};
 ghost use Rattle.strings.specs.Kept.{
+  entryOf,
   bytesAt,
   Inside,
   Held,
@@ -129,7 +131,7 @@ pub fn entry_string(
     k: usize,
 ) -> StringRead
     requires { ⌜ Inside (now b) offsets × Inside (now b) strings × (k < length (entriesIn (encodingIs e) (bytesAt (now b) offsets))) ⌝ }
-    ensures { λ r. ⌜ r ≡ stringRead (strings .start + getD (entriesIn (encodingIs e) (bytesAt (now (b .entry)) offsets)) k 0) (stringAt 9 (bytesAt (now (b .entry)) strings) (getD (entriesIn (encodingIs e) (bytesAt (now (b .entry)) offsets)) k 0)) ⌝ }
+    ensures { λ r. ⌜ r ≡ stringFor noString (bytesAt (now (b .entry)) strings) (strings .start + entryOf (encodingIs e) (now (b .entry)) offsets k) (entryOf (encodingIs e) (now (b .entry)) offsets k) .answer ⌝ }
 {
     let first = offsets.start;
     let last = first + offsets.size;

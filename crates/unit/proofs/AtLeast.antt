@@ -11,15 +11,15 @@ use lib.Dec.{eqb, leb}
 use lib.ListN.{length, take, drop, getD, length-take, length-drop}
 use borrow.Author.Tests.{leb-true, eqb-true}
 use Rattle.octets.specs.Octets.{numberAt}
-use Rattle.octets.specs.Checked.{Check, pass, refuse, _>>=_, require}
+use Rattle.octets.specs.Checked.{pass, refuse}
 use Rattle.octets.proofs.Checks.{bind-pass, require-pass, pass-inj, pass-refuse, known}
 use Rattle.leb128.specs.Leb128.{short, unsigned}
 use Rattle.leb128.proofs.Taken.{unsigned-taken}
 use Rattle.bundle.specs.Encoding.{Encoding}
 use Rattle.bundle.specs.Encoded.{four, encodingIs}
 use Rattle.bundle.specs.declared.encoding.ObjectEncoding.{ObjectEncoding}
-use Rattle.unit.specs.Forms.{Width, fixed, forms, widthIn, valueSize}
-use Rattle.unit.specs.Abbreviations.{Attribute, Declaration, declarationsOf, declarationOf}
+use Rattle.unit.specs.Forms.{Width, forms, widthIn, valueSize}
+use Rattle.unit.specs.Abbreviations.{Attribute, declarationsOf, declarationOf}
 use Rattle.unit.specs.Root.{needed, Value, plainValue, valueOf, identityAt, identityIn, rootTag, rootIdentity}
 use Rattle.unit.specs.UnitRead.{Identity, UnitRead, lengthField, unitSize, isFive, addressPlace, commonSize, behindCommon, identityFive, identityFour, identityOf, unitOf}
 

@@ -17,33 +17,32 @@ use Rattle.octets.proofs.Refusals.{Only, only-pass, only-refuse, only-require, 
 use Rattle.leb128.specs.Leb128.{groups, short}
 use Rattle.leb128.proofs.Taken.{short-taken, only-short}
 use Rattle.unit.specs.Abbreviations.{Attribute, attributeAt, attributesThen, attributesFrom, attributesOf}
-use Rattle.unit.specs.Tables.{attributeRead, attributesSize}
-use Rattle.unit.specs.declared.abbreviations.AttributeRead.the-variants.{Is, Refused}
+use Rattle.unit.specs.Tables.{attributesSize}
 use Rattle.unit.proofs.Sizes.{further}
 
 -- ---- one attribute
 module _ (s : List ℕ) where
-  pub attribute-none : (k : ℕ) → short s ≡ refuse k → Refused ≡ attributeRead (attributeAt s)
-  unfolding attributeAt attributeRead
-  attribute-none k e = sym (ap attributeRead (then-refuse _ _ k e))
+  pub attribute-none : short s ≡ refuse 12 → refuse 12 ≡ attributeAt s
+  unfolding attributeAt
+  attribute-none e = sym (then-refuse _ _ 12 e)
 
   module _ (name n : ℕ) (p : short s ≡ pass (name, n)) where
-    pub attribute-formless : (k : ℕ) → short (drop n s) ≡ refuse k → Refused ≡ attributeRead (attributeAt s)
-    unfolding attributeAt attributeRead
-    attribute-formless k e = sym (ap attributeRead (then-pass _ _ _ p ∙ then-refuse _ _ k e))
+    pub attribute-formless : short (drop n s) ≡ refuse 12 → refuse 12 ≡ attributeAt s
+    unfolding attributeAt
+    attribute-formless e = sym (then-pass _ _ _ p ∙ then-refuse _ _ 12 e)
 
     module _ (form m : ℕ) (q : short (drop n s) ≡ pass (form, m)) where
-      pub attribute-half : zeroTogether name form ≡ false → Refused ≡ attributeRead (attributeAt s)
-      unfolding attributeAt attributeRead
-      attribute-half h = sym (ap attributeRead (then-pass _ _ _ p ∙ then-pass _ _ _ q ∙ fails _ _ _ h))
+      pub attribute-half : zeroTogether name form ≡ false → refuse 12 ≡ attributeAt s
+      unfolding attributeAt
+      attribute-half h = sym (then-pass _ _ _ p ∙ then-pass _ _ _ q ∙ fails _ _ _ h)
 
-      pub attribute-implicit : zeroTogether name form ≡ true → form ≡ 0x21 → Refused ≡ attributeRead (attributeAt s)
-      unfolding attributeAt attributeRead
-      attribute-implicit h g = sym (ap attributeRead (then-pass _ _ _ p ∙ then-pass _ _ _ q ∙ passes _ _ _ h ∙ fails _ _ _ (ap not (eq-eqb form 0x21 g))))
+      pub attribute-implicit : zeroTogether name form ≡ true → form ≡ 0x21 → refuse 12 ≡ attributeAt s
+      unfolding attributeAt
+      attribute-implicit h g = sym (then-pass _ _ _ p ∙ then-pass _ _ _ q ∙ passes _ _ _ h ∙ fails _ _ _ (ap not (eq-eqb form 0x21 g)))
 
-      pub attribute-is : zeroTogether name form ≡ true → (form ≡ 0x21 → ⊥) → Is name form (n + m) ≡ attributeRead (attributeAt s)
-      unfolding attributeAt attributeRead
-      attribute-is h g = sym (ap attributeRead (then-pass _ _ _ p ∙ then-pass _ _ _ q ∙ passes _ _ _ h ∙ passes _ _ _ (ap not (ne-eqb form 0x21 g))))
+      pub attribute-is : zeroTogether name form ≡ true → (form ≡ 0x21 → ⊥) → pass (record { name = name; form = form }, n + m) ≡ attributeAt s
+      unfolding attributeAt
+      attribute-is h g = sym (then-pass _ _ _ p ∙ then-pass _ _ _ q ∙ passes _ _ _ h ∙ passes _ _ _ (ap not (ne-eqb form 0x21 g)))
 
 module _ (a b : ℕ) where
   pub both-zero : a ≡ 0 → b ≡ 0 → zeroTogether a b ≡ true
@@ -61,21 +60,6 @@ module _ (a b : ℕ) where
   pub second-zero : (a ≡ 0 → ⊥) → b ≡ 0 → zeroTogether a b ≡ false
   unfolding zeroTogether
   second-zero h g = rw (zeroTogether, ne-eqb a 0 h, eq-eqb b 0 g)
-
--- from the answer back
-pub attribute-told : (m : Check (Attribute × ℕ)) (a f n : ℕ) → attributeRead m ≡ Is a f n → m ≡ pass (record { name = a; form = f }, n)
-unfolding attributeRead
-attribute-told (pass r) a f n e =
-    let p : r .0 .name ≡ a = cc in
-    let q : r .0 .form ≡ f = cc in
-    let t : r .1 ≡ n = cc in
-    rw (← p, ← q, ← t)
-attribute-told (refuse k) a f n e = absurd (let z : _≡_ {A = ℕ} 0 1 = cc in omega arith)
-
-pub attribute-not : (m : Check (Attribute × ℕ)) → attributeRead m ≡ Refused → (k : ℕ) × (m ≡ refuse k)
-unfolding attributeRead
-attribute-not (pass r) e = absurd (let z : _≡_ {A = ℕ} 0 1 = cc in omega arith)
-attribute-not (refuse k) e = (k, refl)
 
 -- it takes at least a byte, and ends in s
 pub attributeAt-taken : (s : List ℕ) (r : Attribute × ℕ) → attributeAt s ≡ pass r → (1 ≤ r .1) × (r .1 ≤ length s)

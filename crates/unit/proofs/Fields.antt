@@ -15,8 +15,6 @@ use Rattle.octets.proofs.Checks.{passes, fails, known}
 use Rattle.bundle.specs.Encoding.{Encoding}
 use Rattle.bundle.specs.Encoded.{four, encodingIs}
 use Rattle.bundle.specs.declared.encoding.ObjectEncoding.{ObjectEncoding}
-use Rattle.leb128.specs.Answers.{sizeOf}
-use Rattle.leb128.specs.declared.Size.the-variants.{Is, Refused}
 use Rattle.unit.specs.UnitRead.{lengthField, unitSize, isFive, addressPlace, commonSize}
 use Rattle.unit.specs.Headers.{fits, unitInside, narrowSize, wideSize, commonGood, fiveKind, kindOf}
 use Rattle.unit.specs.declared.header.Kind.the-variants.{Compilation, Signature, Root, Other}
@@ -109,50 +107,46 @@ unfolding fits
 fits-out s n h = fails _ _ _ (lt-leb n (length s) h)
 
 module _ (big : Bool) (s : List ℕ) where
-  pub narrow-short : length s < 4 → Refused ≡ sizeOf (narrowSize big s)
-  unfolding narrowSize sizeOf
-  narrow-short h = sym (ap sizeOf (fails _ _ _ (lt-leb 4 (length s) h)))
+  pub narrow-short : length s < 4 → refuse 11 ≡ narrowSize big s
+  unfolding narrowSize
+  narrow-short h = sym (fails _ _ _ (lt-leb 4 (length s) h))
 
-  pub wide-short : length s < 12 → Refused ≡ sizeOf (wideSize big s)
-  unfolding wideSize sizeOf
-  wide-short h = sym (ap sizeOf (fails _ _ _ (lt-leb 12 (length s) h)))
+  pub wide-short : length s < 12 → refuse 11 ≡ wideSize big s
+  unfolding wideSize
+  wide-short h = sym (fails _ _ _ (lt-leb 12 (length s) h))
 
   module _ (word : ℕ) (e : word ≡ numberAt big 4 s 0) where
     module _ (h : 4 ≤ length s) where
-      pub narrow-word : 0xFFFF_FFF0 ≤ word → Refused ≡ sizeOf (narrowSize big s)
-      unfolding narrowSize sizeOf
-      narrow-word g = sym (ap sizeOf (passes _ _ _ (le-leb 4 (length s) h) ∙ fails _ _ _ (le-ltb (numberAt big 4 s 0) 0xFFFF_FFF0 (rw e at g))))
+      pub narrow-word : 0xFFFF_FFF0 ≤ word → refuse 11 ≡ narrowSize big s
+      unfolding narrowSize
+      narrow-word g = sym (passes _ _ _ (le-leb 4 (length s) h) ∙ fails _ _ _ (le-ltb (numberAt big 4 s 0) 0xFFFF_FFF0 (rw e at g)))
 
       module _ (g : word < 0xFFFF_FFF0) where
         narrow-is : narrowSize big s ≡ fits s (4 + word)
         unfolding narrowSize
         narrow-is = passes _ _ _ (le-leb 4 (length s) h) ∙ passes _ _ _ (lt-ltb (numberAt big 4 s 0) 0xFFFF_FFF0 (rw e at g)) ∙ ap (λ (n : ℕ). fits s (4 + n)) (sym e)
 
-        pub narrow-out : length s < 4 + word → Refused ≡ sizeOf (narrowSize big s)
-        unfolding sizeOf
-        narrow-out f = sym (ap sizeOf (narrow-is ∙ fits-out s (4 + word) f))
+        pub narrow-out : length s < 4 + word → refuse 11 ≡ narrowSize big s
+        narrow-out f = sym (narrow-is ∙ fits-out s (4 + word) f)
 
-        pub narrow-in : 4 + word ≤ length s → Is (4 + word) ≡ sizeOf (narrowSize big s)
-        unfolding sizeOf
-        narrow-in f = sym (ap sizeOf (narrow-is ∙ fits-in s (4 + word) f))
+        pub narrow-in : 4 + word ≤ length s → pass (4 + word) ≡ narrowSize big s
+        narrow-in f = sym (narrow-is ∙ fits-in s (4 + word) f)
 
     module _ (h : 12 ≤ length s) where
-      pub wide-word : (word ≡ 0xFFFF_FFFF → ⊥) → Refused ≡ sizeOf (wideSize big s)
-      unfolding wideSize sizeOf
-      wide-word g = sym (ap sizeOf (passes _ _ _ (le-leb 12 (length s) h) ∙ fails _ _ _ (ne-eqb (numberAt big 4 s 0) 0xFFFF_FFFF (λ z. g (e ∙ z)))))
+      pub wide-word : (word ≡ 0xFFFF_FFFF → ⊥) → refuse 11 ≡ wideSize big s
+      unfolding wideSize
+      wide-word g = sym (passes _ _ _ (le-leb 12 (length s) h) ∙ fails _ _ _ (ne-eqb (numberAt big 4 s 0) 0xFFFF_FFFF (λ z. g (e ∙ z))))
 
       module _ (g : word ≡ 0xFFFF_FFFF) (rest : ℕ) (d : rest ≡ numberAt big 8 s 4) where
         wide-is : wideSize big s ≡ fits s (12 + rest)
         unfolding wideSize
         wide-is = passes _ _ _ (le-leb 12 (length s) h) ∙ passes _ _ _ (eq-eqb (numberAt big 4 s 0) 0xFFFF_FFFF (sym e ∙ g)) ∙ ap (λ (n : ℕ). fits s (12 + n)) (sym d)
 
-        pub wide-out : length s < 12 + rest → Refused ≡ sizeOf (wideSize big s)
-        unfolding sizeOf
-        wide-out f = sym (ap sizeOf (wide-is ∙ fits-out s (12 + rest) f))
+        pub wide-out : length s < 12 + rest → refuse 11 ≡ wideSize big s
+        wide-out f = sym (wide-is ∙ fits-out s (12 + rest) f)
 
-        pub wide-in : 12 + rest ≤ length s → Is (12 + rest) ≡ sizeOf (wideSize big s)
-        unfolding sizeOf
-        wide-in f = sym (ap sizeOf (wide-is ∙ fits-in s (12 + rest) f))
+        pub wide-in : 12 + rest ≤ length s → pass (12 + rest) ≡ wideSize big s
+        wide-in f = sym (wide-is ∙ fits-in s (12 + rest) f)
 
 -- both tests in a row, and the size judged behind them
 chain : (a b : Bool) (n : ℕ) (s : List ℕ) → (require a 11 >>= (λ _. require b 11 >>= λ _. pass n) >>= fits s) ≡ (require a 11 >>= λ _. (require b 11 >>= λ _. fits s n))

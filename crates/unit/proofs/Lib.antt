@@ -4,6 +4,7 @@ pub mod Entries
 pub mod Sizes
 pub mod Fields
 pub mod AtLeast
+pub mod Alone
 pub mod UnitFacts
 pub mod Attributes
 pub mod Places
@@ -15,3 +16,4 @@ pub mod Stepping
 pub mod Rooted
 pub mod Units
 pub mod Promised
+pub mod Examples

@@ -9,9 +9,8 @@ use native.Mathlib.Omega.{arith}
 use lib.ListN.{length, drop, drop-of-length-le}
 use Rattle.octets.specs.Checked.{Check, pass, refuse, _>>=_}
 use Rattle.octets.proofs.Checks.{true-false, then-pass, then-refuse, passes, fails}
-use Rattle.octets.proofs.Refusals.{Only, only-require, only-bind, only-refuses}
+use Rattle.octets.proofs.Refusals.{only-refuses}
 use Rattle.leb128.specs.Leb128.{unsigned}
-use Rattle.leb128.proofs.Taken.{only-unsigned}
 use Rattle.bundle.specs.Encoding.{Encoding}
 use Rattle.unit.specs.Abbreviations.{Declaration, declarationsFrom, declarationsOf}
 use Rattle.unit.specs.Tables.{passed, tableGood, Located}
@@ -19,23 +18,9 @@ use Rattle.unit.specs.Root.{needed, rootTag, rootIdentity}
 use Rattle.octets.specs.Octets.{numberAt}
 use Rattle.unit.specs.UnitRead.{lengthField}
 use Rattle.unit.specs.Headers.{tableAt}
-use Rattle.unit.specs.Roots.{identityFrom, rootRead, rootCheck}
+use Rattle.unit.specs.Roots.{identityFrom}
 use Rattle.unit.specs.declared.abbreviations.Found.the-variants.{At, Nothing}
 use Rattle.unit.proofs.Declarations.{only-declarationsOf}
-use Rattle.unit.proofs.Values.{only-needed}
-use Rattle.unit.proofs.Stepping.{only-identityIn}
-
-pub only-rootIdentity : (e : Encoding) (table s : List ℕ) → Only 12 (rootIdentity e table s)
-unfolding rootIdentity
-only-rootIdentity e table s =
-    only-bind 12 _ _ (only-declarationsOf table) (λ ds. only-bind 12 _ _ (only-unsigned s) (λ c. only-bind 12 _ _ (only-needed _) (λ d.
-    only-bind 12 _ _ (only-require _ 12) (λ _. only-bind 12 _ _ (only-identityIn e _ _ none) (λ x. only-needed x)))))
-
--- the code's answer as a check, where every refusal is 12
-pub root-check : (m : Check ℕ) → Only 12 m → rootCheck (rootRead m) ≡ m
-unfolding rootCheck rootRead
-root-check (pass x) o = refl
-root-check (refuse k) o = ap refuse (sym (o .is k refl))
 
 refused-true : (k : ℕ) → passed {A = List Declaration} (refuse k) ≡ true → ⊥
 unfolding passed
@@ -64,9 +49,9 @@ module _ (e : Encoding) (table s : List ℕ) where
   root-table h = sym (then-refuse _ _ 12 (bad-table table h))
 
   module _ (ds : List Declaration) (g : declarationsOf table ≡ pass ds) where
-    pub root-code : (k : ℕ) → unsigned s ≡ refuse k → refuse 12 ≡ rootIdentity e table s
+    pub root-code : unsigned s ≡ refuse 12 → refuse 12 ≡ rootIdentity e table s
     unfolding rootIdentity
-    root-code k h = sym (then-pass _ _ _ g ∙ then-refuse _ _ 12 (h ∙ ap refuse (only-unsigned s .is k h)))
+    root-code h = sym (then-pass _ _ _ g ∙ then-refuse _ _ 12 h)
 
     module _ (code n : ℕ) (c : unsigned s ≡ pass (code, n)) where
       pub root-missing : Located table ds code Nothing → refuse 12 ≡ rootIdentity e table s

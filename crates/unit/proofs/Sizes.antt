@@ -15,8 +15,6 @@ use Rattle.octets.specs.Checked.{Check, pass, refuse, _>>=_}
 use Rattle.octets.proofs.Checks.{pass-refuse, pass-inj, bind-pass, then-pass, then-refuse, passes, fails}
 use Rattle.octets.proofs.Refusals.{Only, only-pass, only-refuse, only-require, only-bind}
 use Rattle.leb128.specs.Leb128.{unsigned, signedSize}
-use Rattle.leb128.specs.Answers.{sizeOf}
-use Rattle.leb128.specs.declared.Size.the-variants.{Is, Refused}
 use Rattle.leb128.proofs.Taken.{unsigned-taken, signedSize-taken, only-unsigned, only-signedSize}
 use Rattle.bundle.specs.Encoding.{Encoding}
 use Rattle.unit.specs.Forms.{Width, fixed, address, offset, uleb, sleb, string, indirect, block, ulebBlock, zeroEnded, valueSize}
@@ -112,48 +110,44 @@ module _ (s : List ℕ) (i : ℕ) where
 
 -- ---- a count, and as many bytes behind it
 module _ (big : Bool) (n : ℕ) (s : List ℕ) where
-  pub block-none : length s < n → Refused ≡ sizeOf (blockWithin big n s)
-  unfolding blockWithin sizeOf
-  block-none h = sym (ap sizeOf (then-refuse _ _ 12 (fails _ _ _ (lt-leb n (length s) h))))
+  pub block-none : length s < n → refuse 12 ≡ blockWithin big n s
+  unfolding blockWithin
+  block-none h = sym (then-refuse _ _ 12 (fails _ _ _ (lt-leb n (length s) h)))
 
   module _ (h : n ≤ length s) (count : ℕ) (e : count ≡ numberAt big n s 0) where
     block-counted : blockWithin big n s ≡ ends s (n + count)
     unfolding blockWithin
     block-counted = then-pass _ _ _ (passes _ _ _ (le-leb n (length s) h)) ∙ ap (λ (k : ℕ). ends s (n + k)) (sym e)
 
-    pub block-long : length s < n + count → Refused ≡ sizeOf (blockWithin big n s)
-    unfolding sizeOf
-    block-long g = sym (ap sizeOf (block-counted ∙ ends-out s (n + count) g))
+    pub block-long : length s < n + count → refuse 12 ≡ blockWithin big n s
+    block-long g = sym (block-counted ∙ ends-out s (n + count) g)
 
-    pub block-in : n + count ≤ length s → Is (n + count) ≡ sizeOf (blockWithin big n s)
-    unfolding sizeOf
-    block-in g = sym (ap sizeOf (block-counted ∙ ends-in s (n + count) g))
+    pub block-in : n + count ≤ length s → pass (n + count) ≡ blockWithin big n s
+    block-in g = sym (block-counted ∙ ends-in s (n + count) g)
 
 module _ (s : List ℕ) where
-  pub uleb-none : unsigned s ≡ refuse 12 → Refused ≡ sizeOf (ulebBlockWithin s)
-  unfolding ulebBlockWithin sizeOf
-  uleb-none e = sym (ap sizeOf (then-refuse _ _ 12 (then-refuse _ _ 12 e)))
+  pub uleb-none : unsigned s ≡ refuse 12 → refuse 12 ≡ ulebBlockWithin s
+  unfolding ulebBlockWithin
+  uleb-none e = sym (then-refuse _ _ 12 (then-refuse _ _ 12 e))
 
-  pub uleb-not : unsigned s ≡ refuse 12 → Refused ≡ sizeOf (ulebWithin s)
-  unfolding ulebWithin sizeOf
-  uleb-not e = sym (ap sizeOf (then-refuse _ _ 12 (then-refuse _ _ 12 e)))
+  pub uleb-not : unsigned s ≡ refuse 12 → refuse 12 ≡ ulebWithin s
+  unfolding ulebWithin
+  uleb-not e = sym (then-refuse _ _ 12 (then-refuse _ _ 12 e))
 
   module _ (count n : ℕ) (e : unsigned s ≡ pass (count, n)) where
-    pub uleb-in : Is n ≡ sizeOf (ulebWithin s)
-    unfolding ulebWithin sizeOf
-    uleb-in = sym (ap sizeOf (then-pass _ _ _ (then-pass _ _ _ e) ∙ ends-in s n (unsigned-taken s (count, n) e .within)))
+    pub uleb-in : pass n ≡ ulebWithin s
+    unfolding ulebWithin
+    uleb-in = sym (then-pass _ _ _ (then-pass _ _ _ e) ∙ ends-in s n (unsigned-taken s (count, n) e .within))
 
     counted : ulebBlockWithin s ≡ ends s (n + count)
     unfolding ulebBlockWithin
     counted = then-pass _ _ _ (then-pass _ _ _ e)
 
-    pub uleb-block-long : length s < n + count → Refused ≡ sizeOf (ulebBlockWithin s)
-    unfolding sizeOf
-    uleb-block-long g = sym (ap sizeOf (counted ∙ ends-out s (n + count) g))
+    pub uleb-block-long : length s < n + count → refuse 12 ≡ ulebBlockWithin s
+    uleb-block-long g = sym (counted ∙ ends-out s (n + count) g)
 
-    pub uleb-block-in : n + count ≤ length s → Is (n + count) ≡ sizeOf (ulebBlockWithin s)
-    unfolding sizeOf
-    uleb-block-in g = sym (ap sizeOf (counted ∙ ends-in s (n + count) g))
+    pub uleb-block-in : n + count ≤ length s → pass (n + count) ≡ ulebBlockWithin s
+    uleb-block-in g = sym (counted ∙ ends-in s (n + count) g)
 
 -- ---- the size of a value of each width
 module _ (e : Encoding) (s : List ℕ) where

@@ -13,16 +13,13 @@ use borrow.Author.Tests.{eq-eqb, ne-eqb}
 use Rattle.octets.specs.Octets.{numberAt}
 use Rattle.octets.specs.Checked.{Check, pass, refuse, _>>=_, require}
 use Rattle.octets.proofs.Checks.{pass-refuse, pass-inj, bind-pass, then-pass, then-refuse, passes, fails}
-use Rattle.octets.proofs.Refusals.{Only, only-pass, only-require, only-bind}
+use Rattle.octets.proofs.Refusals.{Only, only-pass, only-require, only-bind, only-refuses}
 use Rattle.bundle.specs.Encoding.{Encoding}
 use Rattle.unit.specs.Abbreviations.{Attribute, attributeAt, attributesOf}
 use Rattle.unit.specs.Root.{needed, Value, valueOf, identityAt, identityIn}
-use Rattle.unit.specs.Roots.{Move, attributeStep, movedRead, seenIs, seenOf, identityFrom, rootRead}
-use Rattle.unit.specs.declared.root.Seen.{Seen}
-use Rattle.unit.specs.declared.root.Moved.the-variants.{On, End, Refused}
-use Rattle.unit.specs.declared.root.RootIdentity.the-variants.{Unreadable}
-use Rattle.unit.proofs.Attributes.{before, attributeAt-taken, attributes-is, attributes-end, attributes-more}
-use Rattle.unit.proofs.Values.{value-within, only-valueOf}
+use Rattle.unit.specs.Roots.{Move, attributeStep, identityFrom}
+use Rattle.unit.proofs.Attributes.{before, attributeAt-taken, attributes-is, attributes-end, attributes-more, only-attributesFrom}
+use Rattle.unit.proofs.Values.{value-within, only-valueOf, only-needed}
 
 -- ---- what an attribute states
 module _ (e : Encoding) (name : ℕ) (v : Value) (s : List ℕ) where
@@ -86,34 +83,6 @@ module _ (e : Encoding) (t s : List ℕ) (seen : Option ℕ) where
         pub step-on : (x : Option ℕ) → identityAt e (a .name) v s seen ≡ pass x
             → attributeStep e t s seen ≡ pass (some (record { taken = n; passed = v .start + v .size; seen = x }))
         step-on x f = valued ∙ then-pass _ _ _ q ∙ then-pass _ _ _ f
-
--- from the answer back
-pub seen-same : (x : Option ℕ) → seenIs (seenOf x) ≡ x
-unfolding seenIs seenOf
-seen-same (some x) = refl
-seen-same none = refl
-
-pub moved-told : (m : Check (Option Move)) (n k : ℕ) (x : Seen) → movedRead m ≡ On n k x → m ≡ pass (some (record { taken = n; passed = k; seen = seenIs x }))
-unfolding movedRead
-moved-told (pass (some r)) n k x e =
-    let p : r .taken ≡ n = cc in
-    let q : r .passed ≡ k = cc in
-    let w : seenOf (r .seen) ≡ x = cc in
-    rw (← p, ← q, ← w, seen-same (r .seen))
-moved-told (pass none) n k x e = absurd (let z : _≡_ {A = ℕ} 0 1 = cc in omega arith)
-moved-told (refuse j) n k x e = absurd (let z : _≡_ {A = ℕ} 0 1 = cc in omega arith)
-
-pub moved-end : (m : Check (Option Move)) → movedRead m ≡ End → m ≡ pass none
-unfolding movedRead
-moved-end (pass (some r)) e = absurd (let z : _≡_ {A = ℕ} 0 1 = cc in omega arith)
-moved-end (pass none) e = refl
-moved-end (refuse j) e = absurd (let z : _≡_ {A = ℕ} 0 1 = cc in omega arith)
-
-pub moved-not : (m : Check (Option Move)) → movedRead m ≡ Refused → (k : ℕ) × (m ≡ refuse k)
-unfolding movedRead
-moved-not (pass (some r)) e = absurd (let z : _≡_ {A = ℕ} 0 1 = cc in omega arith)
-moved-not (pass none) e = absurd (let z : _≡_ {A = ℕ} 0 1 = cc in omega arith)
-moved-not (refuse j) e = (j, refl)
 
 -- ---- the walk
 some-inj : {A : Type 0} {a b : A} → some a ≡ some b → a ≡ b
@@ -218,10 +187,12 @@ module _ (e : Encoding) (t s : List ℕ) (seen : Option ℕ) where
   pub from-not : (k : ℕ) → attributeStep e t s seen ≡ refuse k → (x : ℕ) → identityFrom e t s seen ≡ pass x → ⊥
   from-not k g x h = let y = step-passes x h in pass-refuse (y .0) k (sym (y .1) ∙ g)
 
-pub unread : (m : Check ℕ) → ((x : ℕ) → m ≡ pass x → ⊥) → Unreadable ≡ rootRead m
-unfolding rootRead
-unread (pass x) h = absurd (h x refl)
-unread (refuse k) h = refl
+-- what does not pass is refused by 12
+pub unread : (e : Encoding) (t s : List ℕ) (seen : Option ℕ) → ((x : ℕ) → identityFrom e t s seen ≡ pass x → ⊥) → refuse 12 ≡ identityFrom e t s seen
+unfolding identityFrom attributesOf
+unread e t s seen h =
+    sym (only-refuses 12 (identityFrom e t s seen)
+    (only-bind 12 _ _ (only-attributesFrom _ t) (λ a. only-bind 12 _ _ (only-identityIn e (a .0) s seen) only-needed)) h)
 
 -- the same at places of the table and of the unit
 pub from-turn : (e : Encoding) (t s : List ℕ) (a at : ℕ) (seen : Option ℕ) (m : Move) → attributeStep e (drop a t) (drop at s) seen ≡ pass (some m)

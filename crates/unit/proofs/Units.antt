@@ -5,13 +5,12 @@ use mathlib.Core.Bool.{Bool, true, false, not, _&&_, _||_}
 use mathlib.Core.List.{List}
 use Prim.Native.Nat.{ℕ, _+_, _≤_, _<_}
 use native.Mathlib.Omega.{arith}
-use lib.Dec.{eqb, leb, ltb}
+use lib.Dec.{eqb, leb}
 use lib.ListN.{length, take, getD}
 use borrow.Author.Tests.{eq-eqb, ne-eqb, le-leb, lt-leb, leb-true}
 use Rattle.octets.specs.Octets.{numberAt}
 use Rattle.octets.specs.Checked.{Check, pass, refuse, _>>=_, require}
 use Rattle.octets.proofs.Checks.{passes, fails, then-pass, then-refuse, and-left, bind-pass, require-pass, pass-inj}
-use Rattle.octets.proofs.Refusals.{Only, only-pass, only-require, only-bind}
 use Rattle.bundle.specs.Encoding.{Encoding}
 use Rattle.unit.specs.UnitRead.{Identity, UnitRead, lengthField, unitSize, isFive, addressPlace, commonSize, behindCommon, identityFive, identityFour, identityOf, unitOf}
 use Rattle.unit.specs.Headers.{fits, unitInside, commonGood, fiveKind, kindOf, headerSize, signatureAt, tableAt, identityBy}
@@ -90,18 +89,6 @@ three true true true k = refl
 three true true false k = refl
 three true false r k = refl
 three false q r k = refl
-
-pub only-unitInside : (e : Encoding) (s : List ℕ) → Only 11 (unitInside e s)
-unfolding unitInside unitSize fits
-only-unitInside e s =
-    only-bind 11 _ _ (only-bind 11 _ _ (only-require _ 11) (λ _. go (eqb (e .width) 4))) (λ n. only-bind 11 _ _ (only-require _ 11) (λ _. only-pass 11 n))
-  where
-    go : (b : Bool) → Only {A = ℕ} 11 (elim b [
-      | true ↦ require (ltb (numberAt (e .big) 4 s 0) 0xFFFF_FFF0) 11 >>= λ _. pass (4 + numberAt (e .big) 4 s 0)
-      | false ↦ require (eqb (numberAt (e .big) 4 s 0) 0xFFFF_FFFF) 11 >>= λ _. pass (12 + numberAt (e .big) 8 s 4)
-    ])
-    go true = only-bind 11 _ _ (only-require _ 11) (λ _. only-pass 11 _)
-    go false = only-bind 11 _ _ (only-require _ 11) (λ _. only-pass 11 _)
 
 pub inside-le : (e : Encoding) (s : List ℕ) (n : ℕ) → unitInside e s ≡ pass n → n ≤ length s
 unfolding unitInside fits

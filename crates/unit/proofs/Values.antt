@@ -19,8 +19,6 @@ use Rattle.bundle.specs.Encoding.{Encoding}
 use Rattle.unit.specs.Forms.{Width, fixed, forms, widthIn, valueSize}
 use Rattle.unit.specs.Widths.{ends, sizeWithin}
 use Rattle.unit.specs.Root.{needed, Value, plainValue, valueOf}
-use Rattle.unit.specs.Roots.{valueRead}
-use Rattle.unit.specs.declared.root.Value.the-variants.{Is, Refused}
 use Rattle.unit.proofs.Sizes.{only-valueSize}
 
 abbrev plain : ℕ → ℕ → Value
@@ -72,21 +70,6 @@ module _ (e : Encoding) (form : ℕ) (s : List ℕ) where
 
       pub indirect-value : (v : Value) → plainValue e real (drop n s) ≡ pass v → valueOf e form s ≡ pass (record { form = v .form; start = n; size = v .size })
       indirect-value v f = indirect-is ∙ then-pass _ _ _ g ∙ then-pass _ _ _ f
-
--- from the answer back
-pub value-told : (m : Check Value) (f a n : ℕ) → valueRead m ≡ Is f a n → m ≡ pass (record { form = f; start = a; size = n })
-unfolding valueRead
-value-told (pass v) f a n e =
-    let p : v .form ≡ f = cc in
-    let q : v .start ≡ a = cc in
-    let w : v .size ≡ n = cc in
-    rw (← p, ← q, ← w)
-value-told (refuse k) f a n e = absurd (let z : _≡_ {A = ℕ} 0 1 = cc in omega arith)
-
-pub value-not : (m : Check Value) → valueRead m ≡ Refused → (k : ℕ) × (m ≡ refuse k)
-unfolding valueRead
-value-not (pass v) e = absurd (let z : _≡_ {A = ℕ} 0 1 = cc in omega arith)
-value-not (refuse k) e = (k, refl)
 
 -- ---- a value ends in s, and data8 takes 8 bytes
 eight : widthIn forms 7 ≡ some (fixed 8)

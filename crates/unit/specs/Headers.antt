@@ -7,6 +7,7 @@ use lib.Dec.{eqb, leb, ltb}
 use lib.ListN.{length, drop, getD}
 use Rattle.octets.specs.Octets.{numberAt}
 use Rattle.octets.specs.Checked.{Check, pass, refuse, _>>=_, require}
+use Rattle.numbers.specs.Refusals.{noIdentity}
 use Rattle.bundle.specs.Encoding.{Encoding}
 use Rattle.unit.specs.Root.{rootIdentity}
 use Rattle.unit.specs.UnitRead.{Identity, UnitRead, lengthField, unitSize, isFive, addressPlace, commonSize}
@@ -73,9 +74,9 @@ identityBy e Root abbreviations u = rootIdentity e (tableAt e abbreviations u) (
 identityBy e Other abbreviations u = refuse 12
 
 -- the number and the values of each answer
-unfoldable pub identityCheck : code.Identity → Check Identity
+abbrev pub identityCheck : code.Identity → Check Identity
 identityCheck (Is table identity) = pass (record { table = table; identity = identity })
-identityCheck Unreadable = refuse 12
+identityCheck Unreadable = refuse noIdentity
 
 unfoldable pub unitAnswer : Check UnitRead → UnitAnswer
 unitAnswer (pass u) = Read (u .size) (u .table) (u .identity)

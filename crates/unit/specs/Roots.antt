@@ -6,6 +6,7 @@ use mathlib.Core.Option.{Option, some, none}
 use Prim.Native.Nat.{ℕ, _+_}
 use lib.Dec.{eqb}
 use Rattle.octets.specs.Checked.{Check, pass, refuse, _>>=_}
+use Rattle.numbers.specs.Refusals.{noIdentity}
 use Rattle.bundle.specs.Encoding.{Encoding}
 use Rattle.unit.specs.Abbreviations.{Attribute, attributeAt, attributesOf}
 use Rattle.unit.specs.Root.{needed, Value, valueOf, identityAt, identityIn}
@@ -18,17 +19,14 @@ use Rattle.unit.specs.declared.root.Moved.the-variants as moved
 use Rattle.unit.specs.declared.root.RootIdentity.{RootIdentity}
 use Rattle.unit.specs.declared.root.RootIdentity.the-variants.{Is, Unreadable}
 
-unfoldable pub valueRead : Check Value → code.Value
-valueRead (pass v) = value.Is (v .form) (v .start) (v .size)
-valueRead (refuse n) = value.Refused
+-- ---- the number and the values of each answer
+abbrev pub valueCheck : code.Value → Check Value
+valueCheck (value.Is form start size) = pass (record { form = form; start = start; size = size })
+valueCheck value.Refused = refuse noIdentity
 
-unfoldable pub seenIs : Seen → Option ℕ
+abbrev pub seenIs : Seen → Option ℕ
 seenIs (Stated x) = some x
 seenIs Nothing = none
-
-unfoldable pub seenOf : Option ℕ → Seen
-seenOf (some x) = Stated x
-seenOf none = Nothing
 
 -- past one attribute: its bytes in the table, those of its value, and what is stated then
 pub record Move : Type 0 where
@@ -44,20 +42,15 @@ attributeStep e t s seen = attributeAt t >>= λ r. elim (eqb (r .0 .name) 0) [
       (identityAt e (r .0 .name) v s seen >>= λ x. pass (some (record { taken = r .1; passed = v .start + v .size; seen = x })))
 ]
 
-unfoldable pub movedRead : Check (Option Move) → Moved
-movedRead (pass (some m)) = moved.On (m .taken) (m .passed) (seenOf (m .seen))
-movedRead (pass none) = moved.End
-movedRead (refuse n) = moved.Refused
+abbrev pub movedCheck : Moved → Check (Option Move)
+movedCheck (moved.On taken passed seen) = pass (some (record { taken = taken; passed = passed; seen = seenIs seen }))
+movedCheck moved.End = pass none
+movedCheck moved.Refused = refuse noIdentity
 
 -- the identity that the attributes at the front of t state, where those before them state seen
 unfoldable pub identityFrom : Encoding → List ℕ → List ℕ → Option ℕ → Check ℕ
 identityFrom e t s seen = attributesOf t >>= λ a. (identityIn e (a .0) s seen >>= needed)
 
-unfoldable pub rootRead : Check ℕ → RootIdentity
-rootRead (pass x) = Is x
-rootRead (refuse n) = Unreadable
-
--- the number and the value of each answer
-unfoldable pub rootCheck : RootIdentity → Check ℕ
+abbrev pub rootCheck : RootIdentity → Check ℕ
 rootCheck (Is x) = pass x
-rootCheck Unreadable = refuse 12
+rootCheck Unreadable = refuse noIdentity

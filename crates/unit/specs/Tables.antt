@@ -9,6 +9,7 @@ use lib.Dec.{eqb, leb}
 use lib.ListN.{length, drop, getD}
 use Rattle.octets.specs.Lists.{has}
 use Rattle.octets.specs.Checked.{Check, pass, refuse, _>>=_, require}
+use Rattle.numbers.specs.Refusals.{noIdentity}
 use Rattle.leb128.specs.Leb128.{short, unsigned}
 use Rattle.unit.specs.Abbreviations.{Attribute, Declaration, attributesOf, declarationsFrom, declarationsOf, declarationOf}
 use Rattle.unit.specs.declared.abbreviations.AttributeRead.{AttributeRead}
@@ -20,9 +21,10 @@ use Rattle.unit.specs.declared.abbreviations.Declared.the-variants as de
 use Rattle.unit.specs.declared.abbreviations.Found.{Found}
 use Rattle.unit.specs.declared.abbreviations.Found.the-variants.{At, Nothing}
 
-unfoldable pub attributeRead : Check (Attribute × ℕ) → AttributeRead
-attributeRead (pass r) = attribute.Is (r .0 .name) (r .0 .form) (r .1)
-attributeRead (refuse n) = attribute.Refused
+-- ---- the number and the values of each answer
+abbrev pub attributeCheck : AttributeRead → Check (Attribute × ℕ)
+attributeCheck (attribute.Is name form n) = pass (record { name = name; form = form }, n)
+attributeCheck attribute.Refused = refuse noIdentity
 
 -- the bytes of a declaration's attributes
 unfoldable pub attributesSize : List ℕ → Check ℕ
@@ -43,9 +45,9 @@ placeAt s = do
   size ← attributesSize (drop 1 (drop (tag .1) s))
   pass (record { tag = tag .0; start = tag .1 + 1; end = tag .1 + 1 + size })
 
-unfoldable pub placeRead : Check Place → PlaceRead
-placeRead (pass p) = place.Is (p .tag) (p .start) (p .end)
-placeRead (refuse n) = place.Refused
+abbrev pub placeCheck : PlaceRead → Check Place
+placeCheck (place.Is tag start end) = pass (record { tag = tag; start = start; end = end })
+placeCheck place.Refused = refuse noIdentity
 
 pub record Coded : Type 0 where
   pub code : ℕ
@@ -58,10 +60,10 @@ declaredAt s = unsigned s >>= λ c. elim (eqb (c .0) 0) [
   | false ↦ placeAt (drop (c .1) s) >>= λ p. pass (some (record { code = c .0; place = record { tag = p .tag; start = c .1 + p .start; end = c .1 + p .end } }))
 ]
 
-unfoldable pub declaredRead : Check (Option Coded) → Declared
-declaredRead (pass (some d)) = declared.Is (d .code) (d .place .tag) (d .place .start) (d .place .end)
-declaredRead (pass none) = declared.End
-declaredRead (refuse n) = declared.Refused
+abbrev pub declaredCheck : Declared → Check (Option Coded)
+declaredCheck (declared.Is code tag start end) = pass (some (record { code = code; place = record { tag = tag; start = start; end = end } }))
+declaredCheck declared.End = pass none
+declaredCheck declared.Refused = refuse noIdentity
 
 -- all declarations up to the zero code, repeated codes and all
 unfoldable pub declarations : List ℕ → Check (List Declaration)

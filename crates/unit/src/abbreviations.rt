@@ -5,15 +5,16 @@ ghost use mathlib.Core.Path.{_≡_};
 ghost use mathlib.Core.List.{List};
 ghost use lib.ListN.{length};
 ghost use Rattle.octets.specs.Checked.{pass};
-ghost use Rattle.leb128.specs.Answers.{sizeOf};
+ghost use Rattle.numbers.specs.Refusals.{noIdentity};
+ghost use Rattle.leb128.specs.Answers.{sizeCheck};
 ghost use Rattle.unit.specs.Abbreviations.{attributeAt, Declaration, declarationsOf};
 ghost use Rattle.unit.specs.Tables.{
-  attributeRead,
+  attributeCheck,
   attributesSize,
   placeAt,
-  placeRead,
+  placeCheck,
   declaredAt,
-  declaredRead,
+  declaredCheck,
   codeFree,
   tableGood,
   Located,
@@ -46,7 +47,7 @@ pub enum Found {
 
 // A name and a form, zero together; form 21 hexadecimal is refused.
 pub fn attribute_at(s: &[u8]) -> AttributeRead
-    ensures { λ r. ⌜ r ≡ attributeRead (attributeAt (now (s .entry))) ⌝ }
+    ensures { λ r. ⌜ attributeCheck r ≡ attributeAt (now (s .entry)) ⌝ }
 {
     let Number::Is(name, n) = leb128::read_short(s) else {
         return AttributeRead::Refused;
@@ -71,7 +72,7 @@ pub fn attribute_at(s: &[u8]) -> AttributeRead
 
 // The bytes of a declaration's attributes, with the pair of zeros that ends them.
 fn attributes_size(s: &[u8]) -> Size
-    ensures { λ r. ⌜ r ≡ sizeOf (attributesSize (now (s .entry))) ⌝ }
+    ensures { λ r. ⌜ sizeCheck noIdentity r ≡ attributesSize (now (s .entry)) ⌝ }
 {
     let mut at = 0;
     loop {
@@ -90,7 +91,7 @@ fn attributes_size(s: &[u8]) -> Size
 }
 
 fn place_at(s: &[u8]) -> PlaceRead
-    ensures { λ r. ⌜ r ≡ placeRead (placeAt (now (s .entry))) ⌝ }
+    ensures { λ r. ⌜ placeCheck r ≡ placeAt (now (s .entry)) ⌝ }
 {
     let Number::Is(tag, n) = leb128::read_short(s) else {
         return PlaceRead::Refused;
@@ -113,7 +114,7 @@ fn place_at(s: &[u8]) -> PlaceRead
 
 // The declaration at the front of s.
 fn declared_at(s: &[u8]) -> Declared
-    ensures { λ r. ⌜ r ≡ declaredRead (declaredAt (now (s .entry))) ⌝ }
+    ensures { λ r. ⌜ declaredCheck r ≡ declaredAt (now (s .entry)) ⌝ }
 {
     let Number::Is(code, n) = leb128::read_unsigned(s) else {
         return Declared::Refused;

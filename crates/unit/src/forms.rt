@@ -6,7 +6,8 @@ ghost use mathlib.Core.Path.{_≡_};
 ghost use Prim.Native.Nat.{_≤_, _<_};
 ghost use lib.ListN.{length, getD};
 ghost use Rattle.bundle.specs.Encoded.{encodingIs};
-ghost use Rattle.leb128.specs.Answers.{sizeOf};
+ghost use Rattle.numbers.specs.Refusals.{noIdentity};
+ghost use Rattle.leb128.specs.Answers.{sizeCheck};
 ghost use Rattle.unit.specs.Forms.{forms, widthIn, zeroEnded};
 ghost use Rattle.unit.specs.Widths.{
   formIs,
@@ -184,7 +185,7 @@ pub fn width_of(form: u64) -> FormWidth
 
 // The bytes up to and with the first zero byte.
 fn zero_ended(s: &[u8]) -> Size
-    ensures { λ r. ⌜ r ≡ sizeOf (zeroEnded (now (s .entry))) ⌝ }
+    ensures { λ r. ⌜ sizeCheck noIdentity r ≡ zeroEnded (now (s .entry)) ⌝ }
 {
     let mut i = 0;
     while i < s.len() {
@@ -198,7 +199,7 @@ fn zero_ended(s: &[u8]) -> Size
 
 // So many bytes, where they are there.
 fn within(n: usize, s: &[u8]) -> Size
-    ensures { λ r. ⌜ r ≡ sizeOf (ends (now (s .entry)) n) ⌝ }
+    ensures { λ r. ⌜ sizeCheck noIdentity r ≡ ends (now (s .entry)) n ⌝ }
 {
     if s.len() < n {
         return Size::Refused;
@@ -209,7 +210,7 @@ fn within(n: usize, s: &[u8]) -> Size
 // A count of n bytes, and as many bytes behind it as it says. The widths of the table keep n at most 4.
 fn block_size(big_endian: bool, n: usize, s: &[u8]) -> Size
     requires { ⌜ n ≤ 8 ⌝ }
-    ensures { λ r. ⌜ r ≡ sizeOf (blockWithin «big_endian» n (now (s .entry))) ⌝ }
+    ensures { λ r. ⌜ sizeCheck noIdentity r ≡ blockWithin «big_endian» n (now (s .entry)) ⌝ }
 {
     if s.len() < n {
         return Size::Refused;
@@ -224,7 +225,7 @@ fn block_size(big_endian: bool, n: usize, s: &[u8]) -> Size
 
 // The same with a count in ULEB128.
 fn uleb_block_size(s: &[u8]) -> Size
-    ensures { λ r. ⌜ r ≡ sizeOf (ulebBlockWithin (now (s .entry))) ⌝ }
+    ensures { λ r. ⌜ sizeCheck noIdentity r ≡ ulebBlockWithin (now (s .entry)) ⌝ }
 {
     let Number::Is(count, n) = leb128::read_unsigned(s) else {
         return Size::Refused;
@@ -237,7 +238,7 @@ fn uleb_block_size(s: &[u8]) -> Size
 }
 
 fn uleb_size(s: &[u8]) -> Size
-    ensures { λ r. ⌜ r ≡ sizeOf (ulebWithin (now (s .entry))) ⌝ }
+    ensures { λ r. ⌜ sizeCheck noIdentity r ≡ ulebWithin (now (s .entry)) ⌝ }
 {
     let Number::Is(_, n) = leb128::read_unsigned(s) else {
         return Size::Refused;
@@ -247,7 +248,7 @@ fn uleb_size(s: &[u8]) -> Size
 
 // How many bytes a value takes that ends in s.
 pub fn value_size(e: ObjectEncoding, w: Width, s: &[u8]) -> Size
-    ensures { λ r. ⌜ r ≡ sizeOf (sizeWithin (encodingIs e) (widthIs w) (now (s .entry))) ⌝ }
+    ensures { λ r. ⌜ sizeCheck noIdentity r ≡ sizeWithin (encodingIs e) (widthIs w) (now (s .entry)) ⌝ }
 {
     match w {
         Width::Fixed(n) => within(n, s),

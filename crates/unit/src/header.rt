@@ -8,7 +8,8 @@ ghost use lib.ListN.{length, drop};
 ghost use Rattle.unit.specs.Root.{rootIdentity};
 ghost use Rattle.unit.specs.Roots.{rootCheck};
 ghost use Rattle.bundle.specs.Encoded.{encodingIs};
-ghost use Rattle.leb128.specs.Answers.{sizeOf};
+ghost use Rattle.numbers.specs.Refusals.{badHeader};
+ghost use Rattle.leb128.specs.Answers.{sizeCheck};
 ghost use Rattle.unit.specs.UnitRead.{unitOf, lengthField, addressPlace, commonSize};
 ghost use Rattle.unit.specs.Headers.{
   narrowSize,
@@ -77,7 +78,7 @@ fn common_size(e: ObjectEncoding) -> usize
 
 // The size of a unit of width 4 that ends in s.
 fn narrow_size(big_endian: bool, s: &[u8]) -> Size
-    ensures { λ r. ⌜ r ≡ sizeOf (narrowSize «big_endian» (now (s .entry))) ⌝ }
+    ensures { λ r. ⌜ sizeCheck badHeader r ≡ narrowSize «big_endian» (now (s .entry)) ⌝ }
 {
     if s.len() < 4 {
         return Size::Refused;
@@ -95,7 +96,7 @@ fn narrow_size(big_endian: bool, s: &[u8]) -> Size
 
 // The same of width 8, which FFFFFFFF starts.
 fn wide_size(big_endian: bool, s: &[u8]) -> Size
-    ensures { λ r. ⌜ r ≡ sizeOf (wideSize «big_endian» (now (s .entry))) ⌝ }
+    ensures { λ r. ⌜ sizeCheck badHeader r ≡ wideSize «big_endian» (now (s .entry)) ⌝ }
 {
     if s.len() < 12 {
         return Size::Refused;
@@ -112,7 +113,7 @@ fn wide_size(big_endian: bool, s: &[u8]) -> Size
 }
 
 fn unit_size(e: ObjectEncoding, s: &[u8]) -> Size
-    ensures { λ r. ⌜ r ≡ sizeOf (unitInside (encodingIs e) (now (s .entry))) ⌝ }
+    ensures { λ r. ⌜ sizeCheck badHeader r ≡ unitInside (encodingIs e) (now (s .entry)) ⌝ }
 {
     if e.wide {
         return wide_size(e.big, s);

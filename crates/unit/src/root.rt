@@ -10,12 +10,11 @@ ghost use mathlib.Core.Option.{none};
 ghost use Rattle.bundle.specs.Encoded.{encodingIs};
 ghost use Rattle.unit.specs.Root.{needed, plainValue, valueOf, rootTag, rootIdentity};
 ghost use Rattle.unit.specs.Roots.{
-  valueRead,
+  valueCheck,
   seenIs,
   attributeStep,
-  movedRead,
+  movedCheck,
   identityFrom,
-  rootRead,
   rootCheck,
 };
 
@@ -45,7 +44,7 @@ pub enum RootIdentity {
 
 // A value that ends in s, of a form that is not indirect.
 fn plain_value(e: ObjectEncoding, form: u64, s: &[u8]) -> Value
-    ensures { λ r. ⌜ r ≡ valueRead (plainValue (encodingIs e) form (now (s .entry))) ⌝ }
+    ensures { λ r. ⌜ valueCheck r ≡ plainValue (encodingIs e) form (now (s .entry)) ⌝ }
 {
     let FormWidth::Is(width) = crate::forms::width_of(form) else {
         return Value::Refused;
@@ -58,7 +57,7 @@ fn plain_value(e: ObjectEncoding, form: u64, s: &[u8]) -> Value
 
 // Indirect, 16 hexadecimal, only once.
 fn value_of(e: ObjectEncoding, form: u64, s: &[u8]) -> Value
-    ensures { λ r. ⌜ r ≡ valueRead (valueOf (encodingIs e) form (now (s .entry))) ⌝ }
+    ensures { λ r. ⌜ valueCheck r ≡ valueOf (encodingIs e) form (now (s .entry)) ⌝ }
 {
     if form != 0x16 {
         return plain_value(e, form, s);
@@ -74,7 +73,7 @@ fn value_of(e: ObjectEncoding, form: u64, s: &[u8]) -> Value
 
 // One attribute: t is the table from it on, and s the unit from its value on.
 fn attribute_step(e: ObjectEncoding, t: &[u8], s: &[u8], seen: Seen) -> Moved
-    ensures { λ r. ⌜ r ≡ movedRead (attributeStep (encodingIs e) (now (t .entry)) (now (s .entry)) (seenIs seen)) ⌝ }
+    ensures { λ r. ⌜ movedCheck r ≡ attributeStep (encodingIs e) (now (t .entry)) (now (s .entry)) (seenIs seen) ⌝ }
 {
     let AttributeRead::Is(name, form, n) = crate::abbreviations::attribute_at(t) else {
         return Moved::Refused;
@@ -105,7 +104,7 @@ fn attribute_step(e: ObjectEncoding, t: &[u8], s: &[u8], seen: Seen) -> Moved
 
 // The identity that the attributes at the front of t state, whose values stand at the front of s.
 fn identity_in(e: ObjectEncoding, t: &[u8], s: &[u8]) -> RootIdentity
-    ensures { λ r. ⌜ r ≡ rootRead (identityFrom (encodingIs e) (now (t .entry)) (now (s .entry)) none) ⌝ }
+    ensures { λ r. ⌜ rootCheck r ≡ identityFrom (encodingIs e) (now (t .entry)) (now (s .entry)) none ⌝ }
 {
     let mut a = 0;
     let mut at = 0;
@@ -128,7 +127,7 @@ fn identity_in(e: ObjectEncoding, t: &[u8], s: &[u8]) -> RootIdentity
 }
 
 fn stated(seen: Seen) -> RootIdentity
-    ensures { λ r. ⌜ r ≡ rootRead (needed (seenIs seen)) ⌝ }
+    ensures { λ r. ⌜ rootCheck r ≡ needed (seenIs seen) ⌝ }
 {
     match seen {
         Seen::Stated(x) => RootIdentity::Is(x),

@@ -1,4 +1,4 @@
-//! Memory to lend to the proved functions. It is full of junk before a call, and behind it every byte is judged: what was lent, and the
+//! Memory to lend to the proved functions. It is full of junk before a call, and after it every byte is judged: what was lent, and the
 //! margins around it.
 
 use crate::clock;
@@ -55,8 +55,8 @@ fn fill<T: Copy>(place: &mut Vec<T>, length: usize, junk: &[T], start: usize) {
     for chunk in place[..length].chunks_mut(JUNK) {
         let front = chunk.len().min(first.len());
         chunk[..front].copy_from_slice(&first[..front]);
-        let behind = chunk.len() - front;
-        chunk[front..].copy_from_slice(&rest[..behind]);
+        let following = chunk.len() - front;
+        chunk[front..].copy_from_slice(&rest[..following]);
     }
 }
 
@@ -110,7 +110,7 @@ impl Lender {
         let passed = wall.elapsed();
         self.took = clock::between(start, clock::thread()).map_or(passed, |t| t.min(passed));
         if lent_input != input {
-            return Err(format!("what was lent for reading is changed behind code {code}"));
+            return Err(format!("what was lent for reading is changed after code {code}"));
         }
         self.judge(turn, code, length)?;
         self.last = (front, code, length);
@@ -146,7 +146,7 @@ impl Lender {
         true_length.then_some(second).ok_or_else(|| format!("{length} bytes were asked for and are not what is needed"))
     }
 
-    /// The processor's time of the last call, without the filling before it and the judging behind it.
+    /// The processor's time of the last call, without the filling before it and the judging after it.
     pub fn took(&self) -> Duration {
         self.took
     }
@@ -162,14 +162,14 @@ impl Lender {
             _ => 0,
         };
         if !is_zero(&self.work[MARGIN..MARGIN + work]) {
-            return Err(format!("work is not zero behind code {code}"));
+            return Err(format!("work is not zero after code {code}"));
         }
         if !is_zero(&self.output[front + made..front + output]) {
-            return Err(format!("output is not zero behind code {code}, length {length}"));
+            return Err(format!("output is not zero after code {code}, length {length}"));
         }
         let kept = is_around(&self.input, front, front + input, &self.junk, start)
             && is_around(&self.output, front, front + output, &self.junk, start)
             && is_around(&self.work, MARGIN, MARGIN + work, &self.junk_words, start);
-        kept.then_some(()).ok_or_else(|| format!("memory beside what was lent is changed behind code {code}"))
+        kept.then_some(()).ok_or_else(|| format!("memory beside what was lent is changed after code {code}"))
     }
 }

@@ -21,7 +21,7 @@ pub fn words(text: &str) -> Option<Vec<u8>> {
     Some(text.split_whitespace().map(word).collect::<Option<Vec<_>>>()?.concat())
 }
 
-/// Decimal, or hexadecimal behind 0x.
+/// Decimal, or hexadecimal following 0x.
 pub fn number(text: &str) -> Option<u64> {
     match text.strip_prefix("0x") {
         Some(digits) => u64::from_str_radix(digits, 16).ok(),

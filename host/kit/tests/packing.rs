@@ -180,6 +180,41 @@ fn lengths_around_the_small_limit() {
     }
 }
 
+/// Version 4, one object, nothing but its strings: so many entries, to suffixes of one string of so many letters.
+fn nothing_but_strings(entries: u32, letters: u32) -> Vec<u8> {
+    let mut offsets: Vec<u32> = vec![0x2300_0000 + 4 * entries];
+    offsets.extend(0..entries);
+    let mut strings = (0x2580_0000 + letters + 1).to_le_bytes().to_vec();
+    strings.resize(4 + letters as usize, b'a');
+    strings.resize(4 * (strings.len() / 4 + 1), 0);
+    let mut bundle = bytes(&[0xF000_0000, 0x1008_0404, 0x2080_0000, 0x2180_0000]);
+    bundle.extend(bytes(&offsets));
+    bundle.extend(strings);
+    let words = bundle.len() as u32 / 4 + 1;
+    bundle.extend((0x3000_0000 + words).to_le_bytes());
+    bundle
+}
+
+/// docs/DECISIONS.md, "The small packer's output": 65,536 bytes are always enough.
+#[test]
+fn the_small_output_is_long_enough() {
+    let mut checks = Checks::new(29);
+    // As many entries as leave the letters that fill 1,024 bytes up; from 199 on there are more entries than suffixes.
+    let mut longest = 0;
+    for entries in 1..199 {
+        let bundle = nothing_but_strings(entries, 995 - 4 * entries);
+        assert_eq!(bundle.len(), SMALL_BUNDLE);
+        checks.pack_small(&bundle, 1 << 16);
+        let Packed::Made(package) = reference::pack(&bundle, SMALL_WORK, 1 << 16) else { panic!("{entries}") };
+        longest = longest.max(package.len());
+    }
+    // The worst one known, of 111 entries: 55,167 bytes of strings.
+    assert_eq!(longest, 4 * 5 + 4 * 111 + 55_168);
+    // As many units as there is room for, whose indexes are the longest.
+    checks.pack_small(&many_units(49), 1 << 16);
+    assert_eq!(checks.counts.0[0], 199, "all of them are packed");
+}
+
 #[test]
 fn the_same_over_any_junk() {
     let (mut one, mut other) = (Lender::new(18), Lender::new(19));

@@ -6,7 +6,7 @@
  * Every entry takes any bytes and any numbers: it asks nothing of what the memory holds, and every answer is defined. What it can't
  * check, and what a caller must see to:
  *
- * - A pointer and the length behind it name memory that is there and belongs to the caller for as long as the call runs. The length
+ * - A pointer and the length that follows it name memory that is there and belongs to the caller for as long as the call runs. The length
  *   counts elements: bytes, or words of 32 bits where the pointer is to uint32_t.
  * - No pointer is null. With length 0 nothing is read or written, and any other address will do.
  * - Words are aligned as uint32_t is; bytes may start anywhere.
@@ -16,7 +16,7 @@
  *
  * What work and output held before has no part in the answer. They need not be cleared before a call.
  *
- * docs/FORMAT.md or README.md say what a bundle and a package are, and what each refusal means. */
+ * docs/FORMAT.md says what a bundle and a package are, and what each refusal means. */
 
 #ifndef BARTHOVIN_H
 #define BARTHOVIN_H
@@ -52,7 +52,7 @@ enum { BARTHOVIN_COMPILATION_UNITS = 1, BARTHOVIN_TYPE_UNITS = 2 };
 enum { BARTHOVIN_VERSION_4_INDEX = 2, BARTHOVIN_VERSION_5_INDEX = 5 };
 
 /* Codes of an answer that are no refusals, and the one refusal that carries a length. */
-enum { BARTHOVIN_DONE = 0, BARTHOVIN_ABSENT = 1, BARTHOVIN_OUTPUT_TOO_SHORT = 18 };
+enum { BARTHOVIN_DONE = 0, BARTHOVIN_ABSENT = 1, BARTHOVIN_NOT_LOOKED_UP = 2, BARTHOVIN_OUTPUT_TOO_SHORT = 18 };
 
 /* What packing takes at most, and the words of work it asks for, for each word of the bundle. */
 #define BARTHOVIN_LONGEST_BUNDLE 4194304
@@ -62,7 +62,7 @@ enum { BARTHOVIN_DONE = 0, BARTHOVIN_ABSENT = 1, BARTHOVIN_OUTPUT_TOO_SHORT = 18
 #define BARTHOVIN_LONGEST_SMALL_BUNDLE 1024
 
 /* The answer of a call that writes. Code 0: what it wrote is `length` bytes long and stands at the front of the output, with zeros
- * behind it. 18: the output is too short and `length` bytes are needed. Any other code is a refusal, with length 0. But for code
+ * following it. 18: the output is too short and `length` bytes are needed. Any other code is a refusal, with length 0. But for code
  * 0 the output is all zeros. */
 struct barthovin_written {
     uint32_t code;
@@ -78,7 +78,8 @@ struct barthovin_found {
     size_t looks;
 };
 
-/* Packing's answer, as code and length above, and where it is 0 the lookup's; else its fields are zeros. */
+/* Packing's answer, as code and length above, and where it is 0 the lookup's. Else nothing was looked up: the lookup's code is 2,
+ * which is neither found nor absent nor a refusal, and the fields that follow it are zeros. */
 struct barthovin_found_from_bundle {
     uint32_t packing;
     size_t packed;
@@ -88,7 +89,7 @@ struct barthovin_found_from_bundle {
     size_t looks;
 };
 
-/* Packs a bundle. Behind every answer all of work is zeros. Work that is shorter than BARTHOVIN_WORK_FOR_A_WORD words for each
+/* Packs a bundle. After every answer all of work is zeros. Work that is shorter than BARTHOVIN_WORK_FOR_A_WORD words for each
  * word of the bundle is refused. */
 struct barthovin_written barthovin_pack(const uint8_t *bundle, size_t bundle_length, uint32_t *work, size_t work_length,
                                         uint8_t *output, size_t output_length);

@@ -18,7 +18,10 @@ struct Packing {
     length: usize,
 }
 
-/// Packing's answer as above, and where it is 0 the lookup's.
+/// What `FromBundle` has for the lookup's code where no package was made: neither found nor absent, and no refusal of a lookup.
+const NOT_LOOKED_UP: u32 = 2;
+
+/// Packing's answer as above, and where it is 0 the lookup's; else `NOT_LOOKED_UP` and zeros.
 #[repr(C)]
 struct FromBundle {
     packing: u32,
@@ -153,7 +156,7 @@ pub fn pack_and_look_up(
     };
     let FromBundle { packing, packed, code, start, length, looks } = answer;
     if packing != 0 {
-        assert_eq!((code, start, length, looks), (0, 0, 0, 0), "an answer of no package");
+        assert_eq!((code, start, length, looks), (NOT_LOOKED_UP, 0, 0, 0), "an answer of no package");
         return Err((packing, packed));
     }
     Ok(found(Answer { code, start, length, looks }, &output[..packed]))

@@ -81,6 +81,8 @@ fn by_rust() -> String {
         let answer = ffi::pack_and_look_up(&bundle, &mut work, &mut output, 5, 1, 1, asked).unwrap();
         told += &found(&format!("{name} 0 {packed}"), answer);
     }
+    // Too little work: nothing is looked up.
+    told += "pack_and_look_up 2 0 2 0 0 0\n";
     told += &format!("pack_small 0 {packed}\n");
     let package = &output[..packed];
     told += &found("lookup", ffi::lookup(package, 5, 1, 1, 1));

@@ -32,6 +32,8 @@ int main(void) {
                      barthovin_pack_and_look_up(bundle, sizeof words, work, 16 * 17, output, 1000, 5, 1, 1, 3));
     show_from_bundle("pack_and_look_up_string",
                      barthovin_pack_and_look_up_string(bundle, sizeof words, work, 16 * 17, output, 1000, 5, 1, 1, 0));
+    show_from_bundle("pack_and_look_up",
+                     barthovin_pack_and_look_up(bundle, sizeof words, work, 16, output, 1000, 5, 1, 1, 3));
     packed = barthovin_pack_small(bundle, sizeof words, output, 1000);
     printf("pack_small %u %zu\n", (unsigned)packed.code, packed.length);
     show("lookup", barthovin_lookup(output, packed.length, 5, 1, 1, BARTHOVIN_INFO));

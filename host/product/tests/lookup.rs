@@ -104,10 +104,10 @@ fn strings_are_escaped_and_raw() {
         assert_eq!(status(&output), 0);
         output.stdout
     };
-    let behind_head = |output: Vec<u8>| String::from_utf8(output).unwrap().split_once('\n').unwrap().1.to_string();
-    assert_eq!(behind_head(run(&["0"])), "hi\n");
-    assert_eq!(behind_head(run(&["1"])), "\\x1b[31m\\n\\\\\u{FC}\n");
-    assert_eq!(behind_head(run(&["2"])), "\\xff\\xfe\"\n");
+    let following_head = |output: Vec<u8>| String::from_utf8(output).unwrap().split_once('\n').unwrap().1.to_string();
+    assert_eq!(following_head(run(&["0"])), "hi\n");
+    assert_eq!(following_head(run(&["1"])), "\\x1b[31m\\n\\\\\u{FC}\n");
+    assert_eq!(following_head(run(&["2"])), "\\xff\\xfe\"\n");
     assert_eq!(run(&["0", "--raw"]), b"hi");
     assert_eq!(run(&["1", "-r"]), b"\x1B[31m\n\\\xC3\xBC");
     assert_eq!(run(&["2", "--raw"]), b"\xFF\xFE\"");

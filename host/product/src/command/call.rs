@@ -67,7 +67,7 @@ impl Call {
         }
     }
 
-    /// One or more letters behind one dash; the first that takes a value takes what follows.
+    /// One or more letters following one dash; the first that takes a value takes what follows.
     fn letters<'a>(
         &mut self,
         known: &[Known],
@@ -80,12 +80,12 @@ impl Call {
             let Some(option) = all.find(|k| k.short == Some(*letter)) else {
                 return Err(self.wrong(format!("unrecognized option '{shown}'")));
             };
-            let behind = &letters[at + 1..];
-            if option.value && behind.is_empty() {
+            let following = &letters[at + 1..];
+            if option.value && following.is_empty() {
                 return self.push_next(option, &shown, rest);
             }
             if option.value {
-                return self.push(option, OsStr::from_bytes(behind).to_os_string());
+                return self.push(option, OsStr::from_bytes(following).to_os_string());
             }
             self.push(option, OsString::new())?;
         }

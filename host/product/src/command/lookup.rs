@@ -81,7 +81,7 @@ fn digits(text: &str, radix: u32) -> Option<u64> {
     good.then(|| u64::from_str_radix(text, radix).ok())?
 }
 
-/// Decimal, or hexadecimal behind 0x.
+/// Decimal, or hexadecimal following 0x.
 fn number(text: &str) -> Option<u64> {
     match text.strip_prefix("0x").or(text.strip_prefix("0X")) {
         Some(hexadecimal) => digits(hexadecimal, 16),

@@ -75,11 +75,11 @@ fn string_offsets(object: &Object) -> Option<String> {
     }
     if header > 0 {
         let stated = number(bytes, header - 4 - width, width, big)?;
-        let behind = (bytes.len() + 4 - header) as u64;
+        let following = (bytes.len() + 4 - header) as u64;
         let version = number(bytes, header - 4, 2, big)?;
         let mark = width == 4 || number(bytes, 0, 4, big)? == 0xFFFF_FFFF;
-        if !mark || stated != behind {
-            return Some(format!("str_offsets states a length of {stated}, and {behind} bytes follow"));
+        if !mark || stated != following {
+            return Some(format!("str_offsets states a length of {stated}, and {following} bytes follow"));
         }
         if version != 5 || number(bytes, header - 2, 2, big)? != 0 {
             return Some(format!("the header of str_offsets states version {version}, or its padding is not zero"));
@@ -91,7 +91,7 @@ fn string_offsets(object: &Object) -> Option<String> {
 
 fn lost_string(object: &Object) -> Option<String> {
     let (strings, width) = (object.bytes(STR), object.encoding.width());
-    // An offset behind the last zero leads to no zero.
+    // An offset following the last zero leads to no zero.
     let strings_end = strings.iter().rposition(|b| *b == 0).map_or(0, |last| last + 1);
     let entries = object.bytes(STR_OFFSETS).get(header_size(object)..)?;
     let offsets = entries.chunks(width).map(|entry| number(entry, 0, width, object.encoding.big));

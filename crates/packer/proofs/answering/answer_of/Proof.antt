@@ -1,7 +1,7 @@
 -- `packer::answering::answer_of` meets its contract.
 -- Assumes nothing.
-use mathlib.Core.Path.{sym, _∙_}
-use Rattle.packer.proofs.Telling.{toldOf, told}
+use mathlib.Core.Path.{sym, ap}
+use Rattle.packer.specs.Told.{toldOf}
 use borrow.Author.Needs.{needs}
 use Rattle.packer.proofs.answering.answer_of.Statement.{statement}
 use Rattle.packer.proofs.answering.answer_of.Tie as tie
@@ -17,15 +17,15 @@ enum-known-finished-3 c = search needs
 
 returns : tie.Need-returns
 unfolding toldOf
-returns c = λ a e. told _ a (sym (c .before .finished .given .1) ∙ e)
+returns c = sym (ap toldOf (c .before .finished .given .1))
 
 returns-2 : tie.Need-returns-2
 unfolding toldOf
-returns-2 c = λ a e. told _ a (sym (c .before .finished2 .given .1) ∙ e)
+returns-2 c = sym (ap toldOf (c .before .finished2 .given .1))
 
 returns-3 : tie.Need-returns-3
 unfolding toldOf
-returns-3 c = λ a e. told _ a (sym (c .before .finished3 .given .1) ∙ e)
+returns-3 c = sym (ap toldOf (c .before .finished3 .given .1))
 
 pub answer-of-spec : {M : Type 1} → statement M
 answer-of-spec =

@@ -1,6 +1,8 @@
 -- `packer::answering::answer_pack` meets its contract.
 -- Assumes nothing.
+use mathlib.Core.Path.{ap, _∙_}
 use borrow.Author.Needs.{needs}
+use Rattle.packer.specs.Told.{toldOf, numbered}
 use Rattle.packer.proofs.answering.answer_pack.Statement.{statement}
 use Rattle.packer.proofs.answering.answer_pack.Tie as tie
 
@@ -17,7 +19,8 @@ same-length-2 : tie.Need-same-length-2
 same-length-2 c = search needs
 
 returns : tie.Need-returns
-returns c = let p = c .before .before .before .before .before in (c .answer-of .ensures _ (p .pack .ensures .0), p .pack .ensures .1)
+unfolding numbered
+returns c = let p = c .before .before .before .before .before in (c .answer-of .ensures ∙ ap toldOf (p .pack .ensures .0), p .pack .ensures .1)
 
 pub answer-pack-spec : {M : Type 1} → statement M
 answer-pack-spec =

@@ -3,13 +3,13 @@
 use mathlib.Core.Path.{_≡_, sym, ap, _∙_}
 use Prim.Native.Nat.{ℕ}
 use native.Mathlib.Omega.{arith}
+use Rattle.leb128.specs.Answers.{numberCheck}
 use borrow.Author.Needs.{needs}
 use lib.ListN.{drop}
 use denote.Ref.{now}
 use Rattle.octets.specs.Checked.{pass}
 use Rattle.leb128.specs.Leb128.{short}
 use Rattle.leb128.proofs.Taken.{short-taken}
-use Rattle.leb128.proofs.Answered.{number-is, number-not}
 use Rattle.unit.proofs.Sizes.{rest}
 use Rattle.unit.proofs.Attributes.{attribute-none, attribute-formless, attribute-half, attribute-implicit, attribute-is, both-zero, neither-zero, first-zero, second-zero}
 use borrow.Author.Needs.{needs}
@@ -30,16 +30,16 @@ zero-not h g = omega arith
 
 told : (c : tie.After-known-told)
     → short (now (c .before .before .before .before .before .args .s)) ≡ pass (c .before .name .given .0 .0, c .before .name .given .0 .1 .0)
-told c = number-is _ _ _ (sym (c .before .before .before .read-short .ensures) ∙ c .before .name .given .1)
+told c = sym (c .before .before .before .read-short .ensures) ∙ ap numberCheck (c .before .name .given .1)
 
 told2 : (c : tie.After-known-told2)
     → short (drop (c .before .before .before .before .before .before .name .given .0 .1 .0) (now (c .before .before .before .before .before .before .before .before .before .before .args .s))) ≡ pass (c .before .form .given .0 .0, c .before .form .given .0 .1 .0)
 told2 c =
     let n = c .before .before .before .before .before .before in
-    ap short (sym (rest (n .name .given .0 .1 .0) (now (n .before .before .before .before .args .s)))) ∙ number-is _ _ _ (sym (c .before .before .before .read-short2 .ensures) ∙ c .before .form .given .1)
+    ap short (sym (rest (n .name .given .0 .1 .0) (now (n .before .before .before .before .args .s)))) ∙ sym (c .before .before .before .read-short2 .ensures) ∙ ap numberCheck (c .before .form .given .1)
 
 returns : tie.Need-returns
-returns c = let k = number-not _ (sym (c .before .before .read-short .ensures) ∙ c .enum-told .given .1) in attribute-none _ _ (k .1)
+returns c = let k = sym (c .before .before .read-short .ensures) ∙ ap numberCheck (c .enum-told .given .1) in attribute-none _ k
 
 sub-read-short : tie.Need-sub-read-short
 sub-read-short c = short-taken _ _ (told c) .within
@@ -62,8 +62,8 @@ enum-told-2 c = search needs
 returns-2 : tie.Need-returns-2
 returns-2 c =
     let n = c .before .before .before .before .before in
-    let k = number-not _ (sym (c .before .before .read-short2 .ensures) ∙ c .enum-told2 .given .1) in
-    attribute-formless _ _ _ (told (c .before .before .before .before)) _ (ap short (sym (rest (n .name .given .0 .1 .0) (now (n .before .before .before .before .args .s)))) ∙ k .1)
+    let k = sym (c .before .before .read-short2 .ensures) ∙ ap numberCheck (c .enum-told2 .given .1) in
+    attribute-formless _ _ _ (told (c .before .before .before .before)) (ap short (sym (rest (n .name .given .0 .1 .0) (now (n .before .before .before .before .args .s)))) ∙ k)
 
 returns-3 : tie.Need-returns-3
 returns-3 c = attribute-half _ _ _ (told (c .before .before .before .before .before .before .before)) _ _ (told2 (c .before .before)) (first-zero _ _ (c .before .if1 .taken) (c .if2 .taken))

@@ -7,11 +7,10 @@ use borrow.Author.Needs.{needs}
 use lib.ListN.{length, drop, length-drop}
 use denote.Ref.{now}
 use Rattle.octets.specs.Checked.{pass}
-use Rattle.leb128.specs.Answers.{sizeOf}
 use Rattle.unit.specs.Abbreviations.{attributeAt}
-use Rattle.unit.specs.Tables.{attributesSize}
+use Rattle.unit.specs.Tables.{attributesSize, attributeCheck}
 use Rattle.unit.proofs.Sizes.{further, further-none, rest}
-use Rattle.unit.proofs.Attributes.{attribute-told, attribute-not, attributeAt-taken, walk-refused, walk-end, walk-on}
+use Rattle.unit.proofs.Attributes.{attributeAt-taken, walk-refused, walk-end, walk-on}
 use Rattle.unit.proofs.abbreviations.attributes_size.Statement.{statement}
 use Rattle.unit.proofs.abbreviations.attributes_size.Tie as tie
 
@@ -26,7 +25,7 @@ told : (c : tie.After-known-told Inv-loop μ-loop)
     ≡ pass (record { name = c .before .name .given .0 .0; form = c .before .name .given .0 .1 .0 }, c .before .name .given .0 .1 .1 .0)
 told c =
     let l = c .before .before .before .before .before in
-    ap attributeAt (sym (rest (l .loop .at) (now (l .before .before .args .s)))) ∙ attribute-told _ _ _ _ (sym (c .before .before .before .attribute-at .ensures) ∙ c .before .name .given .1)
+    ap attributeAt (sym (rest (l .loop .at) (now (l .before .before .args .s)))) ∙ sym (c .before .before .before .attribute-at .ensures) ∙ ap attributeCheck (c .before .name .given .1)
 
 -- it takes a byte, and ends in the table
 within : (c : tie.After-known-told Inv-loop μ-loop)
@@ -60,8 +59,7 @@ add-at : tie.Need-add-at Inv-loop μ-loop
 add-at c = omega (arith, within c)
 
 returns : tie.Need-returns Inv-loop μ-loop
-unfolding sizeOf
-returns c = ap sizeOf (sym (walk-end _ _ _ _ (told (c .before)) (c .if1 .taken)) ∙ c .before .before .before .before .before .before .loop .inv .1)
+returns c = sym (walk-end _ _ _ _ (told (c .before)) (c .if1 .taken)) ∙ c .before .before .before .before .before .before .loop .inv .1
 
 loop-less : tie.Need-loop-less Inv-loop μ-loop
 loop-less c = omega (arith, within (c .before))
@@ -73,11 +71,10 @@ enum-told : tie.Need-enum-told Inv-loop μ-loop
 enum-told c = search needs
 
 returns-2 : tie.Need-returns-2 Inv-loop μ-loop
-unfolding sizeOf
 returns-2 c =
     let l = c .before .before .before .before in
-    let k = attribute-not _ (sym (c .before .before .attribute-at .ensures) ∙ c .enum-told .given .1) in
-    ap sizeOf (sym (walk-refused _ (l .loop .at) (k .0) (ap attributeAt (sym (rest (l .loop .at) (now (l .before .before .args .s)))) ∙ k .1)) ∙ l .loop .inv .1)
+    let k = sym (c .before .before .attribute-at .ensures) ∙ ap attributeCheck (c .enum-told .given .1) in
+    sym (walk-refused _ (l .loop .at) 12 (ap attributeAt (sym (rest (l .loop .at) (now (l .before .before .args .s)))) ∙ k)) ∙ l .loop .inv .1
 
 pub attributes-size-spec : {M : Type 1} → statement M
 attributes-size-spec =

@@ -3,17 +3,17 @@
 use mathlib.Core.Path.{_≡_, sym, ap, _∙_}
 use Prim.Native.Nat.{_+_, _≤_}
 use native.Mathlib.Omega.{arith}
+use Rattle.leb128.specs.Answers.{numberCheck}
 use borrow.Author.Needs.{needs}
 use lib.ListN.{length, drop, length-drop}
 use denote.Ref.{now}
 use Rattle.octets.specs.Checked.{pass}
 use Rattle.leb128.specs.Leb128.{unsigned}
 use Rattle.leb128.proofs.Taken.{unsigned-taken}
-use Rattle.leb128.proofs.Answered.{number-is, number-not}
 use Rattle.unit.proofs.Sizes.{rest}
-use Rattle.unit.specs.Tables.{placeAt}
+use Rattle.unit.specs.Tables.{placeAt, placeCheck}
 use Rattle.unit.proofs.Declarations.{place-stands}
-use Rattle.unit.proofs.Places.{place-told, place-not, declared-none, declared-end, declared-broken, declared-is}
+use Rattle.unit.proofs.Places.{declared-none, declared-end, declared-broken, declared-is}
 use borrow.Author.Needs.{needs}
 use Rattle.unit.proofs.abbreviations.declared_at.Statement.{statement}
 use Rattle.unit.proofs.abbreviations.declared_at.Tie as tie
@@ -29,14 +29,14 @@ enum-told c = search needs
 
 told : (c : tie.After-known-told)
     → unsigned (now (c .before .before .before .before .before .args .s)) ≡ pass (c .before .code .given .0 .0, c .before .code .given .0 .1 .0)
-told c = number-is _ _ _ (sym (c .before .before .before .read-unsigned .ensures) ∙ c .before .code .given .1)
+told c = sym (c .before .before .before .read-unsigned .ensures) ∙ ap numberCheck (c .before .code .given .1)
 
 placed : (c : tie.After-known-told2)
     → placeAt (drop (c .before .before .before .before .before .before .before .code .given .0 .1 .0) (now (c .before .before .before .before .before .before .before .before .before .before .before .args .s)))
     ≡ pass (record { tag = c .before .tag .given .0 .0; start = c .before .tag .given .0 .1 .0; end = c .before .tag .given .0 .1 .1 .0 })
 placed c =
     ap placeAt (sym (rest (c .before .before .before .before .before .before .before .code .given .0 .1 .0) (now (c .before .before .before .before .before .before .before .before .before .before .before .args .s))))
-    ∙ place-told _ _ _ _ (sym (c .before .before .before .place-at .ensures) ∙ c .before .tag .given .1)
+    ∙ sym (c .before .before .before .place-at .ensures) ∙ ap placeCheck (c .before .tag .given .1)
 
 room : (c : tie.After-known-told2)
     → (c .before .before .before .before .before .before .before .code .given .0 .1 .0 + c .before .tag .given .0 .1 .0 ≤ length (now (c .before .before .before .before .before .before .before .before .before .before .before .args .s)))
@@ -48,7 +48,7 @@ room c =
     (omega (arith, st .order, st .within, u .within, d), omega (arith, st .within, u .within, d))
 
 returns : tie.Need-returns
-returns c = let k = number-not _ (sym (c .before .before .read-unsigned .ensures) ∙ c .enum-told .given .1) in declared-none _ _ (k .1)
+returns c = let k = sym (c .before .before .read-unsigned .ensures) ∙ ap numberCheck (c .enum-told .given .1) in declared-none _ k
 
 returns-2 : tie.Need-returns-2
 returns-2 c = declared-end _ _ _ (told (c .before)) (c .if1 .taken)
@@ -75,8 +75,8 @@ returns-3 : tie.Need-returns-3
 returns-3 c =
     let f = c .before .before .before .before in
     let t = f .before in
-    let k = place-not _ (sym (c .before .before .place-at .ensures) ∙ c .enum-told2 .given .1) in
-    declared-broken _ _ _ (told t) (f .if1 .left) _ (ap placeAt (sym (rest (t .before .code .given .0 .1 .0) (now (t .before .before .before .before .before .args .s)))) ∙ k .1)
+    let k = sym (c .before .before .place-at .ensures) ∙ ap placeCheck (c .enum-told2 .given .1) in
+    declared-broken _ _ _ (told t) (f .if1 .left) (ap placeAt (sym (rest (t .before .code .given .0 .1 .0) (now (t .before .before .before .before .before .args .s)))) ∙ k)
 
 add-t11 : tie.Need-add-t11
 add-t11 c = omega (arith, room c .0)

@@ -3,12 +3,12 @@
 use mathlib.Core.Path.{_≡_, sym, ap, _∙_}
 use Prim.Native.Nat.{_+_}
 use native.Mathlib.Omega.{arith}
+use Rattle.leb128.specs.Answers.{numberCheck, sizeCheck}
 use borrow.Author.Needs.{needs}
 use lib.ListN.{drop, length-drop}
 use denote.Ref.{now}
 use Rattle.octets.specs.Checked.{pass}
 use Rattle.leb128.specs.Leb128.{short}
-use Rattle.leb128.proofs.Answered.{number-is, number-not, size-is, size-not}
 use Rattle.unit.specs.Tables.{attributesSize}
 use Rattle.unit.proofs.Sizes.{rest}
 use Rattle.unit.proofs.Places.{place-none, place-untagged, place-cut, place-children, place-broken, place-is}
@@ -28,16 +28,16 @@ enum-told c = search needs
 
 told : (c : tie.After-known-told)
     → short (now (c .before .before .before .before .before .args .s)) ≡ pass (c .before .tag .given .0 .0, c .before .tag .given .0 .1 .0)
-told c = number-is _ _ _ (sym (c .before .before .before .read-short .ensures) ∙ c .before .tag .given .1)
+told c = sym (c .before .before .before .read-short .ensures) ∙ ap numberCheck (c .before .tag .given .1)
 
 sized : (c : tie.After-known-told2)
     → attributesSize (drop (c .before .before .before .before .before .before .before .before .before .before .tag .given .0 .1 .0 + 1) (now (c .before .before .before .before .before .before .before .before .before .before .before .before .before .before .args .s))) ≡ pass (c .before .m .given .0 .0)
 sized c =
     ap attributesSize (sym (rest (c .before .before .before .before .before .before .before .before .before .before .tag .given .0 .1 .0 + 1) (now (c .before .before .before .before .before .before .before .before .before .before .before .before .before .before .args .s))))
-    ∙ size-is _ _ (sym (c .before .before .before .attributes-size .ensures) ∙ c .before .m .given .1)
+    ∙ sym (c .before .before .before .attributes-size .ensures) ∙ ap (sizeCheck 12) (c .before .m .given .1)
 
 returns : tie.Need-returns
-returns c = let k = number-not _ (sym (c .before .before .read-short .ensures) ∙ c .enum-told .given .1) in place-none _ _ (k .1)
+returns c = let k = sym (c .before .before .read-short .ensures) ∙ ap numberCheck (c .enum-told .given .1) in place-none _ k
 
 returns-2 : tie.Need-returns-2
 returns-2 c = place-untagged _ _ _ (told (c .before)) (c .if1 .taken)
@@ -76,9 +76,9 @@ returns-5 : tie.Need-returns-5
 returns-5 c =
     let f = c .before .before .before .before in
     let t = f .before .before .before .before in
-    let k = size-not _ (sym (c .before .before .attributes-size .ensures) ∙ c .enum-told2 .given .1) in
-    place-broken _ _ _ (told t) (f .before .before .before .if1 .left) (f .before .before .if2 .left) (f .if3 .left) _
-    (ap attributesSize (sym (rest (t .before .tag .given .0 .1 .0 + 1) (now (t .before .before .before .before .before .args .s)))) ∙ k .1)
+    let k = sym (c .before .before .attributes-size .ensures) ∙ ap (sizeCheck 12) (c .enum-told2 .given .1) in
+    place-broken _ _ _ (told t) (f .before .before .before .if1 .left) (f .before .before .if2 .left) (f .if3 .left)
+    (ap attributesSize (sym (rest (t .before .tag .given .0 .1 .0 + 1) (now (t .before .before .before .before .before .args .s)))) ∙ k)
 
 add-t8 : tie.Need-add-t8
 add-t8 c =

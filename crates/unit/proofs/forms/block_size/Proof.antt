@@ -3,6 +3,7 @@
 use mathlib.Core.Path.{ap, _∙_}
 use Prim.Native.Nat.{ℕ, _+_}
 use native.Mathlib.Omega.{arith}
+use Rattle.leb128.specs.Answers.{sizeCheck}
 use borrow.Author.Needs.{needs}
 use Rattle.leb128.specs.declared.Size.the-variants.{Is}
 use Rattle.unit.specs.Forms.{forms}
@@ -36,7 +37,7 @@ returns-3 : tie.Need-returns-3
 returns-3 c =
     let n = c .before .before .before in
     let a = n .before .before .before .args in
-    ap (λ (k : ℕ). Is (a .n + k)) (c .size .ensures) ∙ block-in _ _ _ (n .before .if1 .left) _ (n .number-at .ensures) (omega (arith, c .before .before .long .ensures))
+    ap (λ (k : ℕ). sizeCheck 12 (Is (a .n + k))) (c .size .ensures) ∙ block-in _ _ _ (n .before .if1 .left) _ (n .number-at .ensures) (omega (arith, c .before .before .long .ensures))
 
 pub block-size-spec : {M : Type 1} → statement M
 block-size-spec =

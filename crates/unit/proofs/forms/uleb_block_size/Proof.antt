@@ -3,13 +3,13 @@
 use mathlib.Core.Path.{_≡_, sym, ap, _∙_}
 use Prim.Native.Nat.{ℕ, _+_}
 use native.Mathlib.Omega.{arith}
+use Rattle.leb128.specs.Answers.{numberCheck, sizeCheck}
 use borrow.Author.Needs.{needs}
 use denote.Ref.{now}
 use Rattle.octets.specs.Checked.{pass}
 use Rattle.leb128.specs.Leb128.{unsigned}
 use Rattle.leb128.specs.declared.Size.the-variants.{Is}
-use Rattle.leb128.proofs.Taken.{unsigned-taken, only-unsigned}
-use Rattle.leb128.proofs.Answered.{number-is, number-refused}
+use Rattle.leb128.proofs.Taken.{unsigned-taken}
 use Rattle.unit.specs.Forms.{forms}
 use Rattle.unit.proofs.Sizes.{uleb-none, uleb-block-long, uleb-block-in}
 use borrow.Author.Needs.{needs}
@@ -27,10 +27,10 @@ enum-told c = search needs
 
 told : (c : tie.After-known-told)
     → unsigned (now (c .before .before .before .before .before .args .s)) ≡ pass (c .before .count .given .0 .0, c .before .count .given .0 .1 .0)
-told c = number-is _ _ _ (sym (c .before .before .before .read-unsigned .ensures) ∙ c .before .count .given .1)
+told c = sym (c .before .before .before .read-unsigned .ensures) ∙ ap numberCheck (c .before .count .given .1)
 
 returns : tie.Need-returns
-returns c = uleb-none _ (number-refused _ (only-unsigned _) (sym (c .before .before .read-unsigned .ensures) ∙ c .enum-told .given .1))
+returns c = uleb-none _ (sym (c .before .before .read-unsigned .ensures) ∙ ap numberCheck (c .enum-told .given .1))
 
 sub-long : tie.Need-sub-long
 sub-long c = omega (arith, unsigned-taken _ _ (told c) .within)
@@ -52,7 +52,7 @@ add-t7 c = search needs
 returns-3 : tie.Need-returns-3
 returns-3 c =
     let k = c .before .before .before in
-    ap (λ (m : ℕ). Is (k .before .count .given .0 .1 .0 + m)) (c .size .ensures)
+    ap (λ (m : ℕ). sizeCheck 12 (Is (k .before .count .given .0 .1 .0 + m))) (c .size .ensures)
     ∙ uleb-block-in _ _ _ (told k) (omega (arith, c .before .before .long .ensures, unsigned-taken _ _ (told k) .within))
 
 pub uleb-block-size-spec : {M : Type 1} → statement M

@@ -5,11 +5,8 @@ use mathlib.Core.List.{List}
 use Prim.Native.Nat.{ℕ}
 use borrow.Author.Needs.{needs}
 use denote.Ref.{now}
-use Rattle.octets.specs.Checked.{Check, refuse}
+use Rattle.octets.specs.Checked.{Check}
 use Rattle.bundle.specs.Encoding.{Encoding}
-use Rattle.leb128.specs.Answers.{sizeOf}
-use Rattle.leb128.specs.declared.Size.{Size}
-use Rattle.leb128.specs.declared.Size.the-variants.{Refused}
 use Rattle.bundle.specs.Encoded.{encodingIs}
 use Rattle.unit.specs.Widths.{widthIs, ends, sizeWithin}
 use Rattle.unit.specs.declared.forms.Width as code
@@ -87,14 +84,9 @@ enum-told-10 c = search needs
 uleb-block-size-requires : tie.Need-uleb-block-size-requires
 uleb-block-size-requires c κs = search needs
 
-none : Refused ≡ sizeOf (refuse 12)
-unfolding sizeOf
-none = refl
-
--- an arm's answer, by the size that its width has
-at : (e : Encoding) (s : List ℕ) {w v : code.Width} {r : Size} {m : Check ℕ} → w ≡ v → r ≡ sizeOf m → m ≡ sizeWithin e (widthIs v) s
-    → r ≡ sizeOf (sizeWithin e (widthIs w) s)
-at e s h p q = p ∙ ap sizeOf q ∙ sym (ap (λ (z : code.Width). sizeOf (sizeWithin e (widthIs z) s)) h)
+-- the code's width is that of the definition
+at : (e : Encoding) (s : List ℕ) {w v : code.Width} {c m : Check ℕ} → w ≡ v → c ≡ m → m ≡ sizeWithin e (widthIs v) s → c ≡ sizeWithin e (widthIs w) s
+at e s h p q = p ∙ q ∙ sym (ap (λ (z : code.Width). sizeWithin e (widthIs z) s) h)
 
 returns : tie.Need-returns
 unfolding widthIs
@@ -106,13 +98,13 @@ returns-2 : tie.Need-returns-2
 unfolding widthIs
 returns-2 c =
     let a = c .before .before .before .before .before .args in
-    at (encodingIs (a .e)) (now (a .s)) (c .before .before .enum-told .given .1) (c .within2 .ensures ∙ ap (λ (n : ℕ). sizeOf (ends (now (a .s)) n)) (c .before .address .ensures)) (size-address _ _)
+    at (encodingIs (a .e)) (now (a .s)) (c .before .before .enum-told .given .1) (c .within2 .ensures ∙ ap (ends (now (a .s))) (c .before .address .ensures)) (size-address _ _)
 
 returns-3 : tie.Need-returns-3
 unfolding widthIs
 returns-3 c =
     let a = c .before .before .before .before .before .args in
-    at (encodingIs (a .e)) (now (a .s)) (c .before .before .enum-told2 .given .1) (c .within3 .ensures ∙ ap (λ (n : ℕ). sizeOf (ends (now (a .s)) n)) (c .before .width .ensures)) (size-offset _ _)
+    at (encodingIs (a .e)) (now (a .s)) (c .before .before .enum-told2 .given .1) (c .within3 .ensures ∙ ap (ends (now (a .s))) (c .before .width .ensures)) (size-offset _ _)
 
 returns-4 : tie.Need-returns-4
 unfolding widthIs
@@ -136,7 +128,7 @@ returns-7 : tie.Need-returns-7
 unfolding widthIs
 returns-7 c =
     let a = c .before .before .before .args in
-    at (encodingIs (a .e)) (now (a .s)) (c .enum-told6 .given .1) none (size-indirect _ _)
+    at (encodingIs (a .e)) (now (a .s)) (c .enum-told6 .given .1) refl (size-indirect _ _)
 
 returns-8 : tie.Need-returns-8
 unfolding widthIs encodingIs

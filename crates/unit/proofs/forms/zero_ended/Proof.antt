@@ -1,10 +1,9 @@
 -- `unit::forms::zero_ended` meets its contract.
 -- Assumes nothing.
-use mathlib.Core.Path.{_≡_, sym, ap, _∙_}
+use mathlib.Core.Path.{_≡_, sym, _∙_}
 use Prim.Native.Nat.{_-_, _≤_}
 use native.Mathlib.Omega.{arith}
 use lib.ListN.{length, drop}
-use Rattle.leb128.specs.Answers.{sizeOf}
 use Rattle.unit.specs.Forms.{forms, zeroEnded}
 use Rattle.unit.proofs.Sizes.{further, further-none, zero-none, zero-here, zero-on}
 use Rattle.unit.proofs.forms.zero_ended.Statement.{statement}
@@ -26,8 +25,7 @@ add-t7 : tie.Need-add-t7 Inv-loop μ-loop
 add-t7 c = omega arith
 
 returns : tie.Need-returns Inv-loop μ-loop
-unfolding sizeOf
-returns c = let l = c .before .before .before in ap sizeOf (sym (zero-here _ _ (c .before .before .loop-test .taken) (c .if1 .taken)) ∙ l .loop .inv .1)
+returns c = let l = c .before .before .before in sym (zero-here _ _ (c .before .before .loop-test .taken) (c .if1 .taken)) ∙ l .loop .inv .1
 
 add-i : tie.Need-add-i Inv-loop μ-loop
 add-i c = omega arith
@@ -39,8 +37,7 @@ loop-again : tie.Need-loop-again Inv-loop μ-loop
 loop-again c = let l = c .before .before .before in (omega arith, zero-on _ _ (c .before .before .loop-test .taken) (c .if1 .left) ∙ l .loop .inv .1)
 
 returns-2 : tie.Need-returns-2 Inv-loop μ-loop
-unfolding sizeOf
-returns-2 c = ap sizeOf (sym (zero-none _ _ (c .loop-test .left)) ∙ c .before .loop .inv .1)
+returns-2 c = sym (zero-none _ _ (c .loop-test .left)) ∙ c .before .loop .inv .1
 
 pub zero-ended-spec : {M : Type 1} → statement M
 zero-ended-spec =

@@ -12,7 +12,7 @@ use Rattle.bundle.specs.Encoded.{encodingIs}
 use Rattle.bundle.specs.Encoding.{Encoding}
 use Rattle.unit.specs.Roots.{rootCheck}
 use Rattle.unit.specs.UnitRead.{Identity, commonSize}
-use Rattle.unit.specs.Headers.{headerSize, identityBy, identityCheck}
+use Rattle.unit.specs.Headers.{headerSize, identityBy}
 use Rattle.unit.specs.declared.header.Kind.{Kind}
 use Rattle.unit.specs.declared.header.Identity as code
 use borrow.Author.Needs.{needs}
@@ -43,7 +43,7 @@ signature-requires : tie.Need-signature-requires
 signature-requires c κs = let k = c .before .before .before .before in need-compilation _ _ _ (c .enum-told .given .1) (k .pre)
 
 returns : tie.Need-returns
-unfolding identityCheck identityBy
+unfolding identityBy
 returns c =
     let a = c .before .before .before .before .before .args in
     ap (λ (x : ℕ). stated 1 x) (c .signature .ensures) ∙ sym (ap (λ (k : Kind). identityBy (encodingIs (a .e)) k (now (a .abbreviations)) (now (a .u))) (c .before .enum-told .given .1))
@@ -55,7 +55,7 @@ signature-requires-2 : tie.Need-signature-requires-2
 signature-requires-2 c κs = let k = c .before .before .before .before in need-signature _ _ _ (c .enum-told2 .given .1) (k .pre)
 
 returns-2 : tie.Need-returns-2
-unfolding identityCheck identityBy
+unfolding identityBy
 returns-2 c =
     let a = c .before .before .before .before .before .args in
     ap (λ (x : ℕ). stated 2 x) (c .signature2 .ensures) ∙ sym (ap (λ (k : Kind). identityBy (encodingIs (a .e)) k (now (a .abbreviations)) (now (a .u))) (c .before .enum-told2 .given .1))
@@ -73,14 +73,14 @@ enum-told-4 : tie.Need-enum-told-4
 enum-told-4 c = search needs
 
 returns-3 : tie.Need-returns-3
-unfolding identityCheck identityBy rootCheck
+unfolding identityBy
 returns-3 c =
     let a = c .before .before .before .before .before .before .before .args in
     sym (then-refuse _ (λ (x : ℕ). stated 1 x) 12 (sym (c .before .before .identity-of-root .ensures) ∙ ap rootCheck (c .enum-told4 .given .1)))
     ∙ sym (ap (λ (k : Kind). identityBy (encodingIs (a .e)) k (now (a .abbreviations)) (now (a .u))) (c .before .before .before .enum-told3 .given .1))
 
 returns-4 : tie.Need-returns-4
-unfolding identityCheck identityBy rootCheck
+unfolding identityBy
 returns-4 c =
     let a = c .before .before .before .before .before .before .before .before .args in
     sym (then-pass _ (λ (x : ℕ). stated 1 x) _ (sym (c .before .before .before .identity-of-root .ensures) ∙ ap rootCheck (c .before .x .given .1)))
@@ -90,7 +90,7 @@ enum-told-5 : tie.Need-enum-told-5
 enum-told-5 c = search needs
 
 returns-5 : tie.Need-returns-5
-unfolding identityCheck identityBy
+unfolding identityBy
 returns-5 c =
     let a = c .before .before .before .before .args in
     sym (ap (λ (k : Kind). identityBy (encodingIs (a .e)) k (now (a .abbreviations)) (now (a .u))) (c .enum-told5 .given .1))

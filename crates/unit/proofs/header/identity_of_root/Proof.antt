@@ -9,7 +9,6 @@ use denote.Ref.{now}
 use Rattle.octets.specs.Octets.{numberAt}
 use Rattle.bundle.specs.Encoded.{encodingIs}
 use Rattle.unit.specs.Root.{rootIdentity}
-use Rattle.unit.specs.Roots.{rootCheck}
 use Rattle.unit.specs.UnitRead.{lengthField, commonSize}
 use Rattle.unit.specs.Headers.{tableAt}
 use Rattle.unit.specs.declared.header.Identity as code
@@ -45,7 +44,6 @@ size-requires : tie.Need-size-requires
 size-requires c κs = search needs
 
 returns : tie.Need-returns
-unfolding rootCheck
 returns c =
     let k = c .before in
     let a = k .before .before .before .before .before .before .args in

@@ -3,6 +3,7 @@
 use mathlib.Core.Path.{ap, _∙_}
 use Prim.Native.Nat.{ℕ, _+_}
 use native.Mathlib.Omega.{arith}
+use Rattle.leb128.specs.Answers.{sizeCheck}
 use borrow.Author.Needs.{needs}
 use Rattle.leb128.specs.declared.Size.the-variants.{Is}
 use Rattle.unit.proofs.Fields.{narrow-short, narrow-word, narrow-out, narrow-in}
@@ -34,7 +35,7 @@ add-t5 c = search needs
 returns-4 : tie.Need-returns-4
 returns-4 c =
     let k = c .before .before .before in
-    ap (λ (n : ℕ). Is (4 + n)) (c .before .wide .ensures)
+    ap (λ (n : ℕ). sizeCheck 11 (Is (4 + n))) (c .before .wide .ensures)
     ∙ narrow-in _ _ _ (k .u32-at .ensures) (k .before .if1 .left) (c .before .before .if2 .left) (omega (arith, c .before .wide .ensures))
 
 pub narrow-size-spec : {M : Type 1} → statement M

@@ -4,6 +4,7 @@ use mathlib.Core.Path.{_≡_, refl, sym, ap, _∙_}
 use mathlib.Core.Bool.{true}
 use mathlib.Core.List.{List}
 use Prim.Native.Nat.{ℕ, _≤_}
+use Rattle.leb128.specs.Answers.{sizeCheck}
 use borrow.Author.Needs.{needs}
 use borrow.Author.Tests.{not-true, not-false}
 use lib.Seq.{length-take-le}
@@ -11,11 +12,10 @@ use lib.ListN.{length, take}
 use denote.Ref.{now}
 use Rattle.octets.specs.Checked.{pass}
 use Rattle.bundle.specs.Encoded.{encodingIs}
-use Rattle.leb128.proofs.Answered.{size-is, size-refused}
 use Rattle.unit.specs.Headers.{unitInside, commonGood, kindOf, headerSize, identityBy, identityCheck, unitAnswer}
 use Rattle.unit.specs.declared.header.Kind.{Kind}
 use Rattle.unit.specs.declared.header.Identity as code
-use Rattle.unit.proofs.Units.{only-unitInside, unit-none, unit-common, common-there, unit-header, unit-unreadable, unit-zero, unit-read, inside-le}
+use Rattle.unit.proofs.Units.{unit-none, unit-common, common-there, unit-header, unit-unreadable, unit-zero, unit-read, inside-le}
 use borrow.Author.Needs.{needs}
 use borrow.Author.Needs.{needs}
 use Rattle.unit.proofs.header.read_unit.Statement.{statement}
@@ -31,7 +31,7 @@ enum-told : tie.Need-enum-told
 enum-told c = search needs
 
 told : (c : tie.After-known-told) → unitInside (encodingIs (c .before .before .before .before .before .before .args .e)) (now (c .before .before .before .before .before .before .args .s)) ≡ pass (c .before .size .given .0 .0)
-told c = size-is _ _ (sym (c .before .before .before .unit-size .ensures) ∙ c .before .size .given .1)
+told c = sym (c .before .before .before .unit-size .ensures) ∙ ap (sizeCheck 11) (c .before .size .given .1)
 
 -- the unit's own bytes
 abbrev own : tie.After-known-told → List ℕ
@@ -59,7 +59,7 @@ named c =
 returns : tie.Need-returns
 unfolding unitAnswer
 returns c =
-    sym (ap unitAnswer (unit-none _ _ _ _ (size-refused _ 11 (only-unitInside _ _) (sym (c .before .before .unit-size .ensures) ∙ c .enum-told .given .1))))
+    sym (ap unitAnswer (unit-none _ _ _ _ (sym (c .before .before .unit-size .ensures) ∙ ap (sizeCheck 11) (c .enum-told .given .1))))
 
 slice-aggregate-u : tie.Need-slice-aggregate-u
 slice-aggregate-u c =
@@ -102,7 +102,7 @@ enum-told-2 : tie.Need-enum-told-2
 enum-told-2 c = search needs
 
 returns-4 : tie.Need-returns-4
-unfolding unitAnswer identityCheck
+unfolding unitAnswer
 returns-4 c =
     let g = c .before .before .before in
     let f = g .before .before .before in
@@ -110,7 +110,7 @@ returns-4 c =
     sym (ap unitAnswer (unit-unreadable _ _ _ _ _ (told k) _ refl (judged f) (whole g) (named (c .before .before) ∙ ap identityCheck (c .enum-told2 .given .1))))
 
 returns-5 : tie.Need-returns-5
-unfolding unitAnswer identityCheck
+unfolding unitAnswer
 returns-5 c =
     let i = c .before .before .before .before in
     let g = i .before in
@@ -119,7 +119,7 @@ returns-5 c =
     sym (ap unitAnswer (unit-zero _ _ _ _ _ (told k) _ refl (judged f) (whole g) _ (named i ∙ ap identityCheck (c .before .before .table .given .1)) (c .if3 .taken)))
 
 returns-6 : tie.Need-returns-6
-unfolding unitAnswer identityCheck
+unfolding unitAnswer
 returns-6 c =
     let i = c .before .before .before .before in
     let g = i .before in

@@ -12,12 +12,12 @@ use Rattle.bundle.specs.Encoded.{encodingIs}
 use Rattle.bundle.specs.Encoding.{Encoding}
 use Rattle.unit.specs.Abbreviations.{attributeAt}
 use Rattle.unit.specs.Root.{Value, valueOf, identityAt}
-use Rattle.unit.specs.Roots.{seenIs, seenOf, attributeStep, movedRead}
+use Rattle.unit.specs.Roots.{seenIs, attributeStep, valueCheck, movedCheck}
 use Rattle.unit.specs.declared.root.Seen.{Seen}
 use Rattle.unit.specs.declared.root.Seen.the-variants.{Stated, Nothing}
 use Rattle.unit.specs.declared.root.Moved.the-variants.{On}
-use Rattle.unit.proofs.Attributes.{attribute-told, attribute-not}
-use Rattle.unit.proofs.Values.{value-told, value-not, value-within}
+use Rattle.unit.specs.Tables.{attributeCheck}
+use Rattle.unit.proofs.Values.{value-within}
 use Rattle.unit.proofs.Stepping.{identity-seen, identity-other, identity-form, identity-stated, step-none, step-end, step-value, step-not, step-on}
 use borrow.Author.Needs.{needs}
 use Rattle.unit.proofs.root.attribute_step.Statement.{statement}
@@ -34,12 +34,12 @@ enum-told c = search needs
 
 told : (c : tie.After-known-told)
     → attributeAt (now (c .before .before .before .before .before .before .args .t)) ≡ pass (record { name = c .before .name .given .0 .0; form = c .before .name .given .0 .1 .0 }, c .before .name .given .0 .1 .1 .0)
-told c = attribute-told _ _ _ _ (sym (c .before .before .before .attribute-at .ensures) ∙ c .before .name .given .1)
+told c = sym (c .before .before .before .attribute-at .ensures) ∙ ap attributeCheck (c .before .name .given .1)
 
 told2 : (c : tie.After-known-told2)
     → valueOf (encodingIs (c .before .before .before .before .before .before .before .before .before .before .before .args .e)) (c .before .before .before .before .before .before .name .given .0 .1 .0) (now (c .before .before .before .before .before .before .before .before .before .before .before .args .s))
     ≡ pass (record { form = c .before .real .given .0 .0; start = c .before .real .given .0 .1 .0; size = c .before .real .given .0 .1 .1 .0 })
-told2 c = value-told _ _ _ _ (sym (c .before .before .before .value-of .ensures) ∙ c .before .real .given .1)
+told2 c = sym (c .before .before .before .value-of .ensures) ∙ ap valueCheck (c .before .real .given .1)
 
 -- past an attribute that is read
 on : (c : tie.After-known-told2) (x : Option ℕ)
@@ -47,30 +47,25 @@ on : (c : tie.After-known-told2) (x : Option ℕ)
     (record { form = c .before .real .given .0 .0; start = c .before .real .given .0 .1 .0; size = c .before .real .given .0 .1 .1 .0 })
     (now (c .before .before .before .before .before .before .before .before .before .before .before .args .s)) (seenIs (c .before .before .before .before .before .before .before .before .before .before .before .args .seen))
     ≡ pass x
-    → On (c .before .before .before .before .before .before .name .given .0 .1 .1 .0) (c .before .real .given .0 .1 .0 + c .before .real .given .0 .1 .1 .0) (seenOf x)
-    ≡ movedRead (attributeStep (encodingIs (c .before .before .before .before .before .before .before .before .before .before .before .args .e)) (now (c .before .before .before .before .before .before .before .before .before .before .before .args .t)) (now (c .before .before .before .before .before .before .before .before .before .before .before .args .s)) (seenIs (c .before .before .before .before .before .before .before .before .before .before .before .args .seen)))
-unfolding movedRead
+    → pass (some (record { taken = c .before .before .before .before .before .before .name .given .0 .1 .1 .0; passed = c .before .real .given .0 .1 .0 + c .before .real .given .0 .1 .1 .0; seen = x }))
+    ≡ attributeStep (encodingIs (c .before .before .before .before .before .before .before .before .before .before .before .args .e)) (now (c .before .before .before .before .before .before .before .before .before .before .before .args .t)) (now (c .before .before .before .before .before .before .before .before .before .before .before .args .s)) (seenIs (c .before .before .before .before .before .before .before .before .before .before .before .args .seen))
 on c x h =
     let f = c .before .before .before .before in
-    sym (ap movedRead (step-on _ _ _ _ _ _ (told (f .before)) (f .if1 .left) _ (told2 c) x h))
+    sym (step-on _ _ _ _ _ _ (told (f .before)) (f .if1 .left) _ (told2 c) x h)
 
 stated-before : (e : Encoding) (name : ℕ) (v : Value) (s : List ℕ) {seen : Seen} {x : ℕ} → seen ≡ Stated x → identityAt e name v s (seenIs seen) ≡ pass (some x)
-unfolding seenIs
 stated-before e name v s h = ap (λ (y : Seen). identityAt e name v s (seenIs y)) h ∙ identity-seen e name v s _
 
 nothing-before : (e : Encoding) (name : ℕ) (v : Value) (s : List ℕ) {seen : Seen} → seen ≡ Nothing → identityAt e name v s (seenIs seen) ≡ identityAt e name v s none
-unfolding seenIs
 nothing-before e name v s h = ap (λ (y : Seen). identityAt e name v s (seenIs y)) h
 
 returns : tie.Need-returns
-unfolding movedRead
 returns c =
-    let k = attribute-not _ (sym (c .before .before .attribute-at .ensures) ∙ c .enum-told .given .1) in
-    sym (ap movedRead (step-none _ _ _ _ (k .0) (k .1)))
+    let k = sym (c .before .before .attribute-at .ensures) ∙ ap attributeCheck (c .enum-told .given .1) in
+    sym (step-none _ _ _ _ 12 k)
 
 returns-2 : tie.Need-returns-2
-unfolding movedRead
-returns-2 c = sym (ap movedRead (step-end _ _ _ _ _ _ (told (c .before)) (c .if1 .taken)))
+returns-2 c = sym (step-end _ _ _ _ _ _ (told (c .before)) (c .if1 .taken))
 
 value-of-requires : tie.Need-value-of-requires
 value-of-requires c κs = search needs
@@ -82,11 +77,10 @@ enum-told-2 : tie.Need-enum-told-2
 enum-told-2 c = search needs
 
 returns-3 : tie.Need-returns-3
-unfolding movedRead
 returns-3 c =
     let f = c .before .before .before in
-    let k = value-not _ (sym (c .before .before .value-of .ensures) ∙ c .enum-told2 .given .1) in
-    sym (ap movedRead (step-value _ _ _ _ _ _ (told (f .before)) (f .if1 .left) (k .0) (k .1)))
+    let k = sym (c .before .before .value-of .ensures) ∙ ap valueCheck (c .enum-told2 .given .1) in
+    sym (step-value _ _ _ _ _ _ (told (f .before)) (f .if1 .left) 12 k)
 
 add-m : tie.Need-add-m
 add-m c = omega (arith, value-within _ _ _ _ (told2 c) .ends)
@@ -95,23 +89,20 @@ enum-known-seen : tie.Need-enum-known-seen
 enum-known-seen c = search needs
 
 returns-4 : tie.Need-returns-4
-unfolding seenOf
 returns-4 c = on (c .before .before .before) _ (stated-before _ _ _ _ (c .before .seen .given .1))
 
 enum-told-3 : tie.Need-enum-told-3
 enum-told-3 c = search needs
 
 returns-5 : tie.Need-returns-5
-unfolding seenOf
 returns-5 c = on (c .before .before .before) _ (nothing-before _ _ _ _ (c .before .enum-told3 .given .1) ∙ identity-other _ _ _ _ (c .if2 .taken))
 
 returns-6 : tie.Need-returns-6
-unfolding movedRead
 returns-6 c =
     let t = c .before .before .before .before in
     let f = t .before .before .before .before in
-    sym (ap movedRead (step-not _ _ _ _ _ _ (told (f .before)) (f .if1 .left) _ (told2 t) 12
-    (nothing-before _ _ _ _ (c .before .before .enum-told3 .given .1) ∙ identity-form _ _ _ _ (c .before .if2 .left) (c .if3 .taken))))
+    sym (step-not _ _ _ _ _ _ (told (f .before)) (f .if1 .left) _ (told2 t) 12
+    (nothing-before _ _ _ _ (c .before .before .enum-told3 .given .1) ∙ identity-form _ _ _ _ (c .before .if2 .left) (c .if3 .taken)))
 
 u64-at-requires : tie.Need-u64-at-requires
 u64-at-requires c κs =
@@ -119,11 +110,11 @@ u64-at-requires c κs =
     omega (arith, w .ends, w .eight (c .if3 .left))
 
 returns-7 : tie.Need-returns-7
-unfolding seenOf encodingIs
+unfolding encodingIs
 returns-7 c =
     let k = c .before in
     let t = k .before .before .before .before in
-    ap (λ (x : ℕ). On (t .before .before .before .before .before .before .name .given .0 .1 .1 .0) (t .before .real .given .0 .1 .0 + t .before .real .given .0 .1 .1 .0) (Stated x)) (c .u64-at .ensures)
+    ap (λ (x : ℕ). movedCheck (On (t .before .before .before .before .before .before .name .given .0 .1 .1 .0) (t .before .real .given .0 .1 .0 + t .before .real .given .0 .1 .1 .0) (Stated x))) (c .u64-at .ensures)
     ∙ on t _ (nothing-before _ _ _ _ (k .before .before .enum-told3 .given .1) ∙ identity-stated _ _ _ _ (k .before .if2 .left) (k .if3 .left))
 
 pub attribute-step-spec : {M : Type 1} → statement M

@@ -11,14 +11,14 @@ use denote.Ref.{now}
 use Rattle.octets.specs.Checked.{pass}
 use Rattle.bundle.specs.Encoded.{encodingIs}
 use Rattle.bundle.specs.Encoding.{Encoding}
-use Rattle.unit.specs.Roots.{seenIs, attributeStep, identityFrom, rootRead}
+use Rattle.unit.specs.Roots.{seenIs, attributeStep, identityFrom, movedCheck}
 use Rattle.unit.proofs.Sizes.{rest}
-use Rattle.unit.proofs.Stepping.{moved-told, moved-end, moved-not, stepped-within, from-end, from-not, unread, from-turn}
+use Rattle.unit.proofs.Stepping.{stepped-within, from-end, from-not, unread, from-turn}
 use Rattle.unit.proofs.root.identity_in.Statement.{statement}
 use Rattle.unit.proofs.root.identity_in.Tie as tie
 
 abbrev Inv-loop : tie.InvT-loop
-Inv-loop e t s a₀ at₀ seen₀ a at seen = (a ≤ length t) × (at ≤ length s) × (rootRead (identityFrom (encodingIs e) (drop a t) (drop at s) (seenIs seen)) ≡ rootRead (identityFrom (encodingIs e) t s none))
+Inv-loop e t s a₀ at₀ seen₀ a at seen = (a ≤ length t) × (at ≤ length s) × (identityFrom (encodingIs e) (drop a t) (drop at s) (seenIs seen) ≡ identityFrom (encodingIs e) t s none)
 
 abbrev μ-loop : tie.MeasureT-loop
 μ-loop e t s a₀ at₀ seen₀ a at seen = length t - a
@@ -35,7 +35,7 @@ told c =
     let l = c .before .before .before .before .before .before in
     let a = l .before .before .before .args in
     cut (encodingIs (a .e)) (now (a .t)) (now (a .s)) (l .loop .a) (l .loop .at) (seenIs (l .loop .seen))
-    ∙ moved-told _ _ _ _ (sym (c .before .before .before .attribute-step .ensures) ∙ c .before .n .given .1)
+    ∙ sym (c .before .before .before .attribute-step .ensures) ∙ ap movedCheck (c .before .n .given .1)
 
 within : (c : tie.After-known-told Inv-loop μ-loop)
     → (1 ≤ c .before .n .given .0 .0)
@@ -50,7 +50,6 @@ within c =
     (w .0, omega (arith, w .0, w .1, d, l .loop .inv .0), omega (arith, w .2, f, l .loop .inv .1))
 
 loop-holds : tie.Need-loop-holds Inv-loop μ-loop
-unfolding seenIs
 loop-holds c = (omega arith, omega arith, refl)
 
 sub-attribute-step : tie.Need-sub-attribute-step Inv-loop μ-loop
@@ -89,7 +88,7 @@ loop-less c = omega (arith, within c)
 loop-again : tie.Need-loop-again Inv-loop μ-loop
 loop-again c =
     let l = c .before .before .before .before .before .before in
-    (omega (arith, within c), omega (arith, within c), ap rootRead (from-turn _ _ _ (l .loop .a) (l .loop .at) _ _ (told c)) ∙ l .loop .inv .2)
+    (omega (arith, within c), omega (arith, within c), from-turn _ _ _ (l .loop .a) (l .loop .at) _ _ (told c) ∙ l .loop .inv .2)
 
 enum-told : tie.Need-enum-told Inv-loop μ-loop
 enum-told c = search needs
@@ -103,8 +102,8 @@ returns c =
     let l = k .before .before .before .before .before in
     let a = l .before .before .before .args in
     c .stated .ensures
-    ∙ sym (ap rootRead (from-end (encodingIs (a .e)) (drop (l .loop .a) (now (a .t))) (drop (l .loop .at) (now (a .s))) (seenIs (l .loop .seen))
-    (cut (encodingIs (a .e)) (now (a .t)) (now (a .s)) (l .loop .a) (l .loop .at) (seenIs (l .loop .seen)) ∙ moved-end _ (sym (k .before .before .attribute-step .ensures) ∙ k .enum-told .given .1))))
+    ∙ sym (from-end (encodingIs (a .e)) (drop (l .loop .a) (now (a .t))) (drop (l .loop .at) (now (a .s))) (seenIs (l .loop .seen))
+    (cut (encodingIs (a .e)) (now (a .t)) (now (a .s)) (l .loop .a) (l .loop .at) (seenIs (l .loop .seen)) ∙ sym (k .before .before .attribute-step .ensures) ∙ ap movedCheck (k .enum-told .given .1)))
     ∙ l .loop .inv .2
 
 enum-told-2 : tie.Need-enum-told-2 Inv-loop μ-loop
@@ -114,9 +113,9 @@ returns-2 : tie.Need-returns-2 Inv-loop μ-loop
 returns-2 c =
     let l = c .before .before .before .before .before in
     let a = l .before .before .before .args in
-    let k = moved-not _ (sym (c .before .before .attribute-step .ensures) ∙ c .enum-told2 .given .1) in
-    unread _ (from-not (encodingIs (a .e)) (drop (l .loop .a) (now (a .t))) (drop (l .loop .at) (now (a .s))) (seenIs (l .loop .seen)) (k .0)
-    (cut (encodingIs (a .e)) (now (a .t)) (now (a .s)) (l .loop .a) (l .loop .at) (seenIs (l .loop .seen)) ∙ k .1))
+    let k = sym (c .before .before .attribute-step .ensures) ∙ ap movedCheck (c .enum-told2 .given .1) in
+    unread (encodingIs (a .e)) (drop (l .loop .a) (now (a .t))) (drop (l .loop .at) (now (a .s))) (seenIs (l .loop .seen)) (from-not (encodingIs (a .e)) (drop (l .loop .a) (now (a .t))) (drop (l .loop .at) (now (a .s))) (seenIs (l .loop .seen)) 12
+    (cut (encodingIs (a .e)) (now (a .t)) (now (a .s)) (l .loop .a) (l .loop .at) (seenIs (l .loop .seen)) ∙ k))
     ∙ l .loop .inv .2
 
 pub identity-in-spec : {M : Type 1} → statement M

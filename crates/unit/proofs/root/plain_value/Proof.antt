@@ -2,11 +2,10 @@
 -- Assumes nothing.
 use mathlib.Core.Path.{_≡_, sym, ap, _∙_}
 use mathlib.Core.Option.{some}
+use Rattle.leb128.specs.Answers.{sizeCheck}
 use borrow.Author.Needs.{needs}
-use Rattle.leb128.proofs.Answered.{size-is, size-not}
 use Rattle.unit.specs.Forms.{forms, widthIn}
 use Rattle.unit.specs.Widths.{widthIs, widthFound}
-use Rattle.unit.specs.Roots.{valueRead}
 use Rattle.unit.proofs.Values.{plain-unknown, plain-not, plain-is}
 use borrow.Author.Needs.{needs}
 use Rattle.unit.proofs.root.plain_value.Statement.{statement}
@@ -26,8 +25,8 @@ unfolding widthFound
 told c = sym (c .before .before .before .width-of .ensures) ∙ ap widthFound (c .before .width .given .1)
 
 returns : tie.Need-returns
-unfolding widthFound valueRead
-returns c = sym (ap valueRead (plain-unknown _ _ _ (sym (c .before .before .width-of .ensures) ∙ ap widthFound (c .enum-told .given .1))))
+unfolding widthFound
+returns c = sym (plain-unknown _ _ _ (sym (c .before .before .width-of .ensures) ∙ ap widthFound (c .enum-told .given .1)))
 
 value-size-requires : tie.Need-value-size-requires
 value-size-requires c κs = search needs
@@ -39,15 +38,13 @@ enum-told-2 : tie.Need-enum-told-2
 enum-told-2 c = search needs
 
 returns-2 : tie.Need-returns-2
-unfolding valueRead
 returns-2 c =
-    let k = size-not _ (sym (c .before .before .value-size .ensures) ∙ c .enum-told2 .given .1) in
-    sym (ap valueRead (plain-not _ _ _ _ (told (c .before .before .before)) (k .0) (k .1)))
+    let k = sym (c .before .before .value-size .ensures) ∙ ap (sizeCheck 12) (c .enum-told2 .given .1) in
+    sym (plain-not _ _ _ _ (told (c .before .before .before)) 12 k)
 
 returns-3 : tie.Need-returns-3
-unfolding valueRead
 returns-3 c =
-    sym (ap valueRead (plain-is _ _ _ _ (told (c .before .before .before .before)) _ (size-is _ _ (sym (c .before .before .before .value-size .ensures) ∙ c .before .size .given .1))))
+    sym (plain-is _ _ _ _ (told (c .before .before .before .before)) _ (sym (c .before .before .before .value-size .ensures) ∙ ap (sizeCheck 12) (c .before .size .given .1)))
 
 pub plain-value-spec : {M : Type 1} → statement M
 plain-value-spec =

@@ -4,23 +4,23 @@ use mathlib.Core.Path.{_≡_, sym, subst, ap, ap₂, _∙_}
 use mathlib.Core.List.{List}
 use mathlib.Core.Option.{none}
 use Prim.Native.Nat.{ℕ, _≤_}
+use Rattle.leb128.specs.Answers.{numberCheck}
 use borrow.Author.Needs.{needs}
 use borrow.Author.Tests.{not-true, not-false}
 use lib.ListN.{length}
 use denote.Ref.{now}
-use Rattle.octets.specs.Checked.{Check, pass}
+use Rattle.octets.specs.Checked.{pass}
 use Rattle.bundle.specs.Encoded.{encodingIs}
 use Rattle.leb128.specs.Leb128.{unsigned}
 use Rattle.leb128.proofs.Taken.{unsigned-taken}
-use Rattle.leb128.proofs.Answered.{number-is, number-not}
-use Rattle.unit.specs.Roots.{identityFrom, rootRead, rootCheck}
+use Rattle.unit.specs.Roots.{identityFrom}
 use Rattle.unit.proofs.Sizes.{rest}
 use Rattle.unit.specs.Abbreviations.{Declaration, declarationsOf}
 use Rattle.unit.specs.Tables.{Located}
 use Rattle.unit.specs.declared.abbreviations.Found.{Found}
 use Rattle.unit.specs.declared.abbreviations.Found.the-variants.{At}
 use Rattle.unit.specs.declared.abbreviations.Found.the-variants as found
-use Rattle.unit.proofs.Rooted.{only-rootIdentity, root-check, good-table, root-table, root-code, root-missing, found-within, root-tag, root-is}
+use Rattle.unit.proofs.Rooted.{good-table, root-table, root-code, root-missing, found-within, root-tag, root-is}
 use borrow.Author.Needs.{needs}
 use Rattle.unit.proofs.root.root_identity.Statement.{statement}
 use Rattle.unit.proofs.root.root_identity.Tie as tie
@@ -32,7 +32,7 @@ good : (c : tie.Else1) → (ds : List Declaration) × (declarationsOf (now (c .b
 good c = good-table _ (sym (c .before .table-good .ensures) ∙ not-false _ (c .if1 .left))
 
 told : (c : tie.After-known-told) → unsigned (now (c .before .before .before .before .before .before .before .before .args .s)) ≡ pass (c .before .code .given .0 .0, c .before .code .given .0 .1 .0)
-told c = number-is _ _ _ (sym (c .before .before .before .read-unsigned .ensures) ∙ c .before .code .given .1)
+told c = sym (c .before .before .before .read-unsigned .ensures) ∙ ap numberCheck (c .before .code .given .1)
 
 at-found : (s : List ℕ) (ds : List Declaration) (code : ℕ) {r q : Found} → r ≡ q → Located s ds code r → Located s ds code q
 at-found s ds code h l = subst (λ (x : Found). Located s ds code x) h l
@@ -45,7 +45,6 @@ inside : (c : tie.After-known-told2) → c .before .tag .given .0 .1 .0 ≤ leng
 inside c = let g = good (c .before .before .before .before .before .before .before .before) in found-within (encodingIs (c .before .before .before .before .before .before .before .before .before .before .before .before .args .e)) (now (c .before .before .before .before .before .before .before .before .before .before .before .before .args .table)) (now (c .before .before .before .before .before .before .before .before .before .before .before .before .args .s)) (g .0) (g .1) _ _ (told (c .before .before .before .before)) _ _ (located c)
 
 returns : tie.Need-returns
-unfolding rootCheck
 returns c = root-table _ _ _ (sym (c .before .table-good .ensures) ∙ not-true _ (c .if1 .taken))
 
 read-unsigned-requires : tie.Need-read-unsigned-requires
@@ -58,11 +57,10 @@ enum-told : tie.Need-enum-told
 enum-told c = search needs
 
 returns-2 : tie.Need-returns-2
-unfolding rootCheck
 returns-2 c =
     let g = good (c .before .before .before) in
-    let k = number-not _ (sym (c .before .before .read-unsigned .ensures) ∙ c .enum-told .given .1) in
-    root-code _ _ _ (g .0) (g .1) (k .0) (k .1)
+    let k = sym (c .before .before .read-unsigned .ensures) ∙ ap numberCheck (c .enum-told .given .1) in
+    root-code _ _ _ (g .0) (g .1) k
 
 find-declaration-requires : tie.Need-find-declaration-requires
 find-declaration-requires c κs = search needs
@@ -74,7 +72,6 @@ enum-told-2 : tie.Need-enum-told-2
 enum-told-2 c = search needs
 
 returns-3 : tie.Need-returns-3
-unfolding rootCheck
 returns-3 c =
     let t = c .before .before .before in
     let g = good (t .before .before .before .before) in
@@ -84,7 +81,6 @@ root-tag-requires : tie.Need-root-tag-requires
 root-tag-requires c κs = search needs
 
 returns-4 : tie.Need-returns-4
-unfolding rootCheck
 returns-4 c =
     let t = c .before .before in
     let g = good (t .before .before .before .before .before .before .before .before) in
@@ -120,9 +116,9 @@ returns-5 c =
     let e = encodingIs (a .e) in
     let g = good (o .before .before .before .before) in
     let i = root-is e (now (a .table)) (now (a .s)) (g .0) (g .1) _ _ (told o) _ _ (located t) (sym (f .before .root-tag .ensures) ∙ not-false _ (f .if2 .left)) in
-    ap rootCheck (c .identity-in .ensures)
-    ∙ ap₂ (λ (x y : List ℕ). rootCheck (rootRead (identityFrom e x y none))) (rest (t .before .tag .given .0 .1 .0) (now (a .table))) (rest (o .before .code .given .0 .1 .0) (now (a .s)))
-    ∙ ap (λ (m : Check ℕ). rootCheck (rootRead m)) (sym i) ∙ root-check _ (only-rootIdentity e (now (a .table)) (now (a .s)))
+    c .identity-in .ensures
+    ∙ ap₂ (λ (x y : List ℕ). identityFrom e x y none) (rest (t .before .tag .given .0 .1 .0) (now (a .table))) (rest (o .before .code .given .0 .1 .0) (now (a .s)))
+    ∙ sym i
 
 pub root-identity-spec : {M : Type 1} → statement M
 root-identity-spec =

@@ -3,7 +3,7 @@
 use mathlib.Core.Path.{sym, ap}
 use borrow.Author.Needs.{needs}
 use Rattle.unit.specs.Root.{needed}
-use Rattle.unit.specs.Roots.{seenIs, rootRead}
+use Rattle.unit.specs.Roots.{seenIs}
 use Rattle.unit.specs.declared.root.Seen.{Seen}
 use borrow.Author.Needs.{needs}
 use Rattle.unit.proofs.root.stated.Statement.{statement}
@@ -16,12 +16,12 @@ enum-told : tie.Need-enum-told
 enum-told c = search needs
 
 returns : tie.Need-returns
-unfolding rootRead needed seenIs
-returns c = sym (ap (λ (x : Seen). rootRead (needed (seenIs x))) (c .before .seen .given .1))
+unfolding needed
+returns c = sym (ap (λ (x : Seen). needed (seenIs x)) (c .before .seen .given .1))
 
 returns-2 : tie.Need-returns-2
-unfolding rootRead needed seenIs
-returns-2 c = sym (ap (λ (x : Seen). rootRead (needed (seenIs x))) (c .enum-told .given .1))
+unfolding needed
+returns-2 c = sym (ap (λ (x : Seen). needed (seenIs x)) (c .enum-told .given .1))
 
 pub stated-spec : {M : Type 1} → statement M
 stated-spec = tie.close (tie.spec enum-known-seen enum-told returns returns-2)

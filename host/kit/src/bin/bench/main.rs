@@ -17,7 +17,7 @@ use std::time::Duration;
 /// Half a megabyte, and each the double of the one before; the last is the longest bundle.
 const LENGTHS: [usize; 4] = [1 << 19, 1 << 20, 1 << 21, 1 << 22];
 const STRINGS: [u64; 6] = [1_250, 2_500, 5_000, 10_000, 20_000, 40_000];
-/// What comes behind a packing of this length is left out.
+/// What comes after a packing of this length is left out.
 const PATIENCE: Duration = Duration::from_secs(8);
 
 /// Document 01's example.
