@@ -16,7 +16,7 @@ extern "C" {
 /// The bytes of a line: table, identity, section, offset, size, newline.
 pub const LINE: usize = 40;
 
-/// Writes the sheet of a package on a page: code and length. Behind it the page holds the sheet and zeros, or zeros only.
+/// Writes the sheet of a package on a page: code and length. After it the page holds the sheet and zeros, or zeros only.
 pub fn write(package: &[u8], page: &mut [u8]) -> (u32, usize) {
     // The entry reads and writes the slices that it is lent, and nothing else.
     let Written { code, length } =
