@@ -112,7 +112,7 @@ pub fn lookup_string(package: &[u8], version: u32, table: u32, identity: u64, en
     found(answer, package)
 }
 
-/// Packs a bundle: code and length. Behind it the output holds the package and zeros, or zeros only, and work zeros.
+/// Packs a bundle: code and length. After it the output holds the package and zeros, or zeros only, and work zeros.
 pub fn pack(bundle: &[u8], work: &mut [u32], output: &mut [u8]) -> (u32, usize) {
     // The entry reads and writes the slices that it is lent, and nothing else.
     let Packing { code, length } = unsafe {

@@ -113,7 +113,8 @@ fn root_identity(root: &Declaration, front: &mut Front, encoding: Encoding) -> R
     identity.ok_or("the root has no DW_AT_GNU_dwo_id".to_string())
 }
 
-/// How many bytes a value takes following a count, which is taken. The outer none is an unknown form, the inner one a value that doesn't end.
+/// How many bytes a value takes following a count, which is taken. The outer none is an unknown form, the inner one a value that
+/// doesn't end.
 fn size_of(form: u64, front: &mut Front, encoding: Encoding) -> Option<Option<usize>> {
     let counted = |front: &mut Front, width: usize| {
         let count = front.take(width).and_then(|field| number(field, 0, width, encoding.big));
