@@ -12,7 +12,7 @@ SEED ?= 1
 PREFIX ?= /usr/local
 INSTALL ?= install
 
-.PHONY: help test library host pack-example command install uninstall clean fmt oracle differential bench
+.PHONY: help test library host pack-example command install uninstall clean fmt oracle differential first-match bench
 
 help:
 	@echo 'make pack-example   packs the example, shows its package and looks a unit up in it'
@@ -23,6 +23,7 @@ help:
 	@echo 'make test           the gate: every proof from nothing, every edit that must fail, every program, the tests of the host'
 	@echo 'make host           the tests of the host alone'
 	@echo 'make differential   compares with thorin itself, where it is at hand, and feeds a million damaged bundles'
+	@echo 'make first-match    times the search for a string against a proved build that walks all kept strings; fails below five times'
 	@echo 'make bench          times packing and looking up and writes docs/PERFORMANCE.md'
 	@echo 'make fmt            formats every file'
 	@echo 'make clean          removes all that was built, proofs too: the next command proves again'
@@ -110,7 +111,24 @@ differential: oracle library
 	host/target/release/against_oracle "$(ORACLE)" $(ACCEPTED) $(SEED)
 	host/target/release/damaged $(DAMAGED) $(SEED)
 
+# A proved build whose search for a string walks all kept strings: the same contract, another body. Its entries have other names, so that one
+# program can call both.
+VARIANT = target/variants/walk_all
+
+$(VARIANT)/libwalkall.a: host/variants/walk_all.patch $(SOURCES)
+	rm -rf $(VARIANT) && mkdir -p $(VARIANT)/tree
+	cp -r crates crates.txt $(VARIANT)/tree
+	cd $(VARIANT)/tree && patch -s -p1 < $(CURDIR)/host/variants/walk_all.patch && rt staticlib archive > /dev/null
+	nm $(VARIANT)/tree/target/staticlib/libarchive.a | sed -n 's/.* T barthovin_\(.*\)/barthovin_\1 walk_all_\1/p' > $(VARIANT)/names
+	objcopy --redefine-syms=$(VARIANT)/names $(VARIANT)/tree/target/staticlib/libarchive.a $@
+
+first-match: library $(VARIANT)/libwalkall.a
+	cd host/walks && cargo run --release --offline --quiet -- ../../target/variants/first-match
+
 bench: library
 	cd host && cargo build --release --offline --bin bench
 	@oracle="$(ORACLE)"; $(MAKE) --no-print-directory oracle || oracle=; \
 	host/target/release/bench docs/PERFORMANCE.md "$$oracle"
+	@$(MAKE) --no-print-directory first-match
+	@awk '{ printf "\n## The search for a string ends at its first match\n\n10,000 different strings, then 100,000 entries for the second: %.0f ms; a proved build that walks all kept\nstrings (`make first-match`) takes %.2f s, %.1f times as long.\n", $$1 / 1e6, $$2 / 1e9, $$2 / $$1 }' \
+	target/variants/first-match >> docs/PERFORMANCE.md

@@ -34,6 +34,8 @@ use Rattle.archive.proofs.Read.{rowsIn, versionIn}
 use Rattle.archive.proofs.Judged.{part-refused, string-refused, version-form, version-wrong}
 use Rattle.archive.proofs.Absences.{no-units, some-rows, opens, absent-is, absent-ends}
 use Rattle.archive.proofs.Tables.{the-tables}
+use Rattle.archive.proofs.Few.{units-counted, finding-takes, absence-takes}
+use Rattle.archive.proofs.StrStrings.{first-uses, each-once, every-reached}
 use Rattle.archive.proofs.Firsts.{the-code, the-part, the-string, no-string}
 
 part-absent : {P : Type 0} (s l n m : ℕ) → part s l n ≡ absent m → P
@@ -85,7 +87,7 @@ module _ (b p : List ℕ) (a : Accepted b p) (h : Bytes b) where
       (r .0, r .1 ∙ ap (λ (n : ℕ). part (r .0) n (looks b t x)) (the-code b p a h v t x u q f 6 .long))
 
   its-strings : theorem.ItsStrings b p
-  its-strings v t x k u q f m = the-string b p a h v t x u q f k m
+  its-strings v t x k u q f m = let r = the-string b p a h v t x u q f k m in (r .0, r .1, r .2)
 
   no-other-string : theorem.NoOtherString b p
   no-other-string v t x k u q f m = no-string b p a h v t x u q f k m
@@ -161,6 +163,12 @@ module _ (b p : List ℕ) (a : Accepted b p) (h : Bytes b) where
     absentIsAbsent = absent-is b p a h;
     absentEnds = absent-ends b p a h;
     looksAtMostSlots = looks-most;
+    unitsCounted = units-counted b p a h;
+    findingTakes = finding-takes b p a h;
+    absenceTakes = absence-takes b p a h;
+    everyStringReached = every-reached b p a h some-first;
+    eachStringOnce = each-once b p a h;
+    firstUsesAndNoOther = first-uses b p a h;
     theOtherVersion = other-version;
     neitherRefuses = neither-refuses;
   }

@@ -15,6 +15,7 @@ use Rattle.octets.proofs.Numbers.{Bytes}
 use Rattle.bundle.specs.Bundle.{Part, Object}
 use Rattle.bundle.proofs.RoundTrip.{partsFrom}
 use Rattle.strings.specs.Strings.{stringAt}
+use Rattle.strings.proofs.FirstUses.{isIn}
 use Rattle.index.specs.Index.{Index, cellOf}
 use Rattle.index.specs.Probing.{found, probe}
 use Rattle.index.proofs.Found.{FoundIn}
@@ -22,7 +23,7 @@ use Rattle.index.proofs.LawColumns.{formOf}
 use Rattle.index.proofs.LawWhole.{Indexed, probe-found}
 use Rattle.index.proofs.RoundTrip.{written}
 use Rattle.package.specs.Filing.{Filed, isUnder, kept, entriesOfUnit}
-use Rattle.package.specs.Pack.{handedIn, rowsOf}
+use Rattle.package.specs.Pack.{handedIn, rowsOf, stringTable}
 use Rattle.package.proofs.Kept.{First, first-any, kept-first, under-table, under-identity}
 use Rattle.package.proofs.Accepted.{Accepted, handed-in}
 use Rattle.package.proofs.PackageRead.{sectionsOf}
@@ -150,12 +151,14 @@ module _ (b p : List ℕ) (a : Accepted b p) (h : Bytes b) where
 
     pub the-string : (n : ℕ) → n < length (entriesOfUnit u)
         → (string : List ℕ) × (stringAt 9 (u .input .bytes 11) (getD (entriesOfUnit u) n 0) ≡ pass string) × Holds p (stringFound p v t x n) (looks b t x) string
+        × (isIn (stringTable (a .filing .inputs)) string ≡ true)
     the-string n m =
         let r = its-string b p a h (s .o) (s .os) (s .objects) t (s .i) (s .xs) u (s .ys) (s .stands) (s .own) (s .k) (s .encoding) (s .parts) v (s .form) n m in (
           r .0,
           r .1,
           subst (λ (z : Found). Holds p z (looks b t x) (r .0)) (sym (string-judged p (s .k) (s .read) v (s .good) t (q .tables) x n))
               (ends-at (λ i m. partPlace (s .k) i m 6 >>= stringPlace p (s .k) v n) (r .0) (r .2)),
+          r .3,
         )
 
     pub no-string : (n : ℕ) → length (entriesOfUnit u) ≤ n → stringFound p v t x n ≡ refused 25

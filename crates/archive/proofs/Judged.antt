@@ -77,7 +77,7 @@ ends-refused i x slot n row m answer e g h =
 
 -- ---- the slots of a table
 module _ (b p : List ℕ) (a : Accepted b p) (t : ℕ) where
-  identities-are : theorem.identitiesOf b t ≡ identitiesOf (rowsIn a t)
+  pub identities-are : theorem.identitiesOf b t ≡ identitiesOf (rowsIn a t)
   unfolding theorem.identitiesOf identitiesIn
   identities-are = ap (λ (us : List Filed). identitiesIn t (kept us)) (handed-in b p a) ∙ sym (rows-named (kept (a .filing .units)) t)
 

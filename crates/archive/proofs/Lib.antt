@@ -7,8 +7,12 @@ pub mod Units
 pub mod Judged
 pub mod StringPlaces
 pub mod Absences
+pub mod Few
+pub mod Sums
 pub mod Tables
 pub mod Firsts
+pub mod StrPieces
+pub mod StrStrings
 pub mod Demand3
 pub mod Telling
 pub mod Packaged

@@ -11,14 +11,15 @@ use Rattle.bundle.specs.Bundle.{lengthGood}
 use Rattle.package.specs.Pack.{Answer, refused, short, made, packed}
 use Rattle.package.proofs.Refusing.{Refusal, packed-refuses}
 use Rattle.packer.specs.Small.{packedSmall}
-use Rattle.packer.specs.Told.{numbered as told}
+use Rattle.finish.specs.Finish.{finishedOf}
+use Rattle.packer.specs.Told.{toldOf, numbered as told}
 use Rattle.lookup.specs.Lookup.{Found, refused as refusal, absent, part, lookedUp, stringFound}
 use Rattle.lookup.specs.Answers.{numbered}
 use Rattle.lookup.proofs.Refusing.{part-refuses, string-refuses}
 use Rattle.archive.specs.Refusing.{PackingCode, LookupCode, RefusesByNumber}
 
 packing-code : (a : Answer) → ((n : ℕ) → a ≡ refused n → Refusal n) → PackingCode (told a .code)
-unfolding told
+unfolding told toldOf finishedOf
 packing-code (refused n) h = ⊎-elim (λ r. inr (inl r)) (λ r. inr (inr (inr r))) (h n refl)
 packing-code (short n) h = inr (inr (inl refl))
 packing-code (made p) h = inl refl
@@ -33,7 +34,7 @@ packs : (b : List ℕ) (w o : ℕ) → PackingCode (told (packed b w o) .code)
 packs b w o = packing-code (packed b w o) (packed-refuses b w o)
 
 packs-small : (b : List ℕ) (o : ℕ) → PackingCode (told (packedSmall b o) .code)
-unfolding packedSmall told
+unfolding packedSmall told toldOf finishedOf
 packs-small b o = ⊎-elim
     (λ (t : lengthGood 1_024 b ≡ true). rw (packedSmall, t) (packs b 4_096 o))
     (λ (t : lengthGood 1_024 b ≡ false). rw (packedSmall, t) (inr (inl (omega arith, omega arith))))

@@ -22,6 +22,7 @@ use Rattle.bundle.proofs.RoundTrip.{partsFrom}
 use Rattle.bundle.proofs.WrittenParts.{bytesIn, SectionIn}
 use Rattle.strings.specs.Strings.{headerSize, stringAt, strOf}
 use Rattle.strings.proofs.StrOffsets.{length-entriesIn}
+use Rattle.strings.proofs.FirstUses.{isIn}
 use Rattle.strings.proofs.Ends.{stringAt-is}
 use Rattle.index.specs.Index.{Index, Contribution, cellOf}
 use Rattle.index.proofs.LawColumns.{formOf}
@@ -173,14 +174,14 @@ module _ (b p : List ℕ) (a : Accepted b p) (h : Bytes b) (o : Object) (os : Li
       (number-is d (place .start) bytes n y size (place .holds) (s .within)) (s .names))
 
   pub its-string : (n : ℕ) → n < length (entriesOfUnit u)
-      → (string : List ℕ) × (stringAt 9 (u .input .bytes 11) (getD (entriesOfUnit u) n 0) ≡ pass string) × PlaceOf p (answer n) string
+      → (string : List ℕ) × (stringAt 9 (u .input .bytes 11) (getD (entriesOfUnit u) n 0) ≡ pass string) × PlaceOf p (answer n) string × (isIn strings string ≡ true)
   its-string n m = from (u .contributions 6) refl
     where
       nothing-there : (d : ℕ) → d ≡ 0 → (d - headerSize encoding) / encoding .width ≡ 0
       nothing-there d z = let y : d - headerSize encoding ≡ 0 = omega arith in rw y (zero-div (encoding .width))
 
       from : (d : Option Contribution) → u .contributions 6 ≡ d
-          → (string : List ℕ) × (stringAt 9 (u .input .bytes 11) (getD (entriesOfUnit u) n 0) ≡ pass string) × PlaceOf p (answer n) string
+          → (string : List ℕ) × (stringAt 9 (u .input .bytes 11) (getD (entriesOfUnit u) n 0) ≡ pass string) × PlaceOf p (answer n) string × (isIn strings string ≡ true)
       from none r =
           absurd (omega (
             arith,
@@ -196,4 +197,4 @@ module _ (b p : List ℕ) (a : Accepted b p) (h : Bytes b) (o : Object) (os : Li
           let bytes = bytesAt (given strings 6 (u .input)) (d .offset) (d .size) in
           let place = part-found bytes (shared-place b p a h o os q t i xs u ys stands own 6 d not-home r) in
           let long = given-length b p a h o os q t i xs u ys stands own 6 d r in
-          (s .string, s .handed, named d bytes n r refl place long m s)
+          (s .string, s .handed, named d bytes n r refl place long m s, s .listed)

@@ -4,7 +4,7 @@ use mathlib.Core.Path.{_≡_, refl, sym, ap, _∙_, subst}
 use mathlib.Core.Logic.{_⊎_, inl, inr, ⊎-elim}
 use mathlib.Core.Bool.{true, false}
 use mathlib.Core.List.{List, []}
-use Prim.Native.Nat.{ℕ, _≤_, _<_}
+use Prim.Native.Nat.{ℕ, _+_, _≤_, _<_}
 use native.Mathlib.Decide.{decLt}
 use native.Mathlib.Omega.{arith}
 use lib.ListN.{length, getD}
@@ -12,7 +12,7 @@ use Rattle.octets.specs.Octets.{part as bytesAt}
 use Rattle.octets.specs.Lists.{any}
 use Rattle.octets.specs.Checked.{pass}
 use Rattle.octets.proofs.Checks.{known}
-use Rattle.strings.specs.Strings.{stringAt}
+use Rattle.strings.specs.Strings.{stringAt, ended}
 use Rattle.package.specs.Filing.{Filed, isUnder, entriesOfUnit}
 use Rattle.package.specs.Pack.{handedIn}
 use Rattle.package.proofs.Kept.{first-stands}
@@ -20,6 +20,8 @@ use Rattle.lookup.specs.Lookup.{Found, refused, absent, part, lookedUp, stringF
 use Rattle.lookup.specs.Answers.{numbered}
 use Rattle.archive.specs.Theorem.{Asked, IsCode, IsHandedIn, IsFirst, handedPart, isIndexVersion, slotsOfTable, looks, IsPart, Holds, FromBundleToAnswer}
 use Rattle.archive.specs.Question.{Looked, Told, ToldAbsent, PartTold, StringTold}
+use Rattle.archive.specs.Looks.{unitsOf}
+use Rattle.archive.specs.StrSection.{pieces, strIn}
 use Rattle.archive.specs.declared.asking.FromBundle.{FromBundle}
 
 module _ (p : List ℕ) (r : FromBundle) where
@@ -47,6 +49,13 @@ module _ (p : List ℕ) (r : FromBundle) where
   unfolding numbered
   refused-looks f n l e = let k : Looked r (refused n) = subst (Looked r) e l in k .looked
 
+  -- looks by units, of what was told; a refusal has none
+  few-told : (f : Found) (u : ℕ) → Looked r f → ((s z n : ℕ) → f ≡ part s z n → n ≤ u) → ((n : ℕ) → f ≡ absent n → n ≤ u + 1) → (r .code ≡ 0 → r .looks ≤ u) × (r .looks ≤ u + 1)
+  unfolding numbered
+  few-told (part s z n) u l h g = ((λ e. omega (arith, l .looked, h s z n refl)), omega (arith, l .looked, h s z n refl))
+  few-told (absent n) u l h g = ((λ e. absurd (omega (arith, l .code))), omega (arith, l .looked, g n refl))
+  few-told (refused n) u l h g = ((λ e. omega (arith, l .looked)), omega (arith, l .looked))
+
 module _ (b p : List ℕ) (t : FromBundleToAnswer b p) (v table x : ℕ) (r : FromBundle) where
   module _ (code : ℕ) (l : Looked r (lookedUp p v table x code)) where
     gone : Asked b v table → IsCode code → any (isUnder table x) (handedIn b) ≡ false → ToldAbsent r (looks b table x)
@@ -64,6 +73,9 @@ module _ (b p : List ℕ) (t : FromBundleToAnswer b p) (v table x : ℕ) (r : Fr
         let e = t .theFirstUnitInLength v table x u q f in
         let k : Looked r (part (e .0) (length (handedPart u 6)) (looks b table x)) = subst (Looked r) (ap (lookedUp p v table x) six ∙ e .1) l in
         (k .code, k .many, k .looked)
+
+    few : (r .code ≡ 0 → r .looks ≤ unitsOf p table) × (r .looks ≤ unitsOf p table + 1)
+    few = few-told p r _ _ l (λ s z n. t .findingTakes v table x code 0 s z n .0) (λ n. t .absenceTakes v table x code 0 n .0)
 
     pub part-told : PartTold b p v table x code r
     part-told = record {
@@ -85,6 +97,8 @@ module _ (b p : List ℕ) (t : FromBundleToAnswer b p) (v table x : ℕ) (r : Fr
           (λ (e : any (isUnder table x) (handedIn b) ≡ true). omega (arith, there q c e .1, t .looksAtMostSlots table x))
           (λ (e : any (isUnder table x) (handedIn b) ≡ false). omega (arith, gone q c e .looked, t .looksAtMostSlots table x))
           (known (any (isUnder table x) (handedIn b)));
+      findingTakes = few .0;
+      absenceTakes = few .1;
       theOtherVersion = λ e n. told-refused p r _ _ l (t .theOtherVersion v table x code 0 e n .0);
       neverRefuses = λ q c. ⊎-elim
           (λ (e : any (isUnder table x) (handedIn b) ≡ true). inl (there q c e .0))
@@ -117,6 +131,18 @@ module _ (b p : List ℕ) (t : FromBundleToAnswer b p) (v table x : ℕ) (r : Fr
         record { codes = inr (inl (g .code)); few = omega (arith, g .looked, t .looksAtMostSlots table x) })
         (known (any (isUnder table x) (handedIn b)))
 
+    string-few : (r .code ≡ 0 → r .looks ≤ unitsOf p table) × (r .looks ≤ unitsOf p table + 1)
+    string-few = few-told p r _ _ l (λ s z n. t .findingTakes v table x 0 k s z n .1) (λ n. t .absenceTakes v table x 0 k n .1)
+
+    reached : Asked b v table → r .code ≡ 0 → (i : ℕ) × (i < length (pieces (strIn p))) × (getD (pieces (strIn p)) i [] ≡ ended (bytesAt p (r .start) (r .length)))
+    unfolding numbered
+    reached q e = go (stringFound p v table x k) refl l
+      where
+        go : (f : Found) → stringFound p v table x k ≡ f → Looked r f → (i : ℕ) × (i < length (pieces (strIn p))) × (getD (pieces (strIn p)) i [] ≡ ended (bytesAt p (r .start) (r .length)))
+        go (part s z n) g m = rw (m .start, m .many) (t .everyStringReached v table x k s z n q g)
+        go (absent n) g m = absurd (omega (arith, m .code))
+        go (refused n) g m = absurd (omega (arith, m .code, t .neitherRefuses v table x 1 k n q (record { from = omega arith; to = omega arith }) .1 g))
+
     pub string-told : StringTold b p v table x k r
     string-told = record {
       answer = l;
@@ -127,6 +153,9 @@ module _ (b p : List ℕ) (t : FromBundleToAnswer b p) (v table x : ℕ) (r : Fr
       absentIsAbsent = no-string;
       absentEnds = λ q e. t .absentEnds table x (q .tables) e;
       looksAtMostSlots = λ q. some-answer q .few;
+      findingTakes = string-few .0;
+      absenceTakes = string-few .1;
+      stringReached = reached;
       theOtherVersion = λ e n. told-refused p r _ _ l (t .theOtherVersion v table x 1 k e n .1);
       neverRefuses = λ q. some-answer q .codes;
     }

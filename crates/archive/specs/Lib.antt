@@ -2,4 +2,7 @@
 -- Assumes nothing.
 pub mod Theorem
 pub mod Question
+pub mod Looks
+pub mod StrSection
+pub mod Many
 pub mod Refusing

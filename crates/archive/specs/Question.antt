@@ -5,18 +5,20 @@ use mathlib.Core.Path.{_≡_}
 use mathlib.Core.Logic.{_⊎_, _↔_}
 use mathlib.Core.Bool.{false}
 use mathlib.Core.List.{List, []}
-use Prim.Native.Nat.{ℕ, _≤_, _<_}
+use Prim.Native.Nat.{ℕ, _+_, _≤_, _<_}
 use lib.ListN.{length, getD}
 use Rattle.octets.specs.Octets.{part as bytesAt}
 use Rattle.octets.specs.Lists.{any}
 use Rattle.octets.specs.Checked.{pass}
-use Rattle.strings.specs.Strings.{stringAt}
+use Rattle.strings.specs.Strings.{stringAt, ended}
 use Rattle.package.specs.Filing.{Filed, isUnder, entriesOfUnit}
 use Rattle.package.specs.Pack.{Answer, refused, short, made, handedIn}
 use Rattle.package.specs.Units.{IsUnit}
 use Rattle.lookup.specs.Lookup.{Found, lookedUp, stringFound}
 use Rattle.lookup.specs.Answers.{numbered}
 use Rattle.archive.specs.Theorem.{Asked, IsCode, IsHandedIn, IsFirst, handedPart, isIndexVersion, slotsOfTable, looks, TableIn, EndsUnused}
+use Rattle.archive.specs.Looks.{unitsOf}
+use Rattle.archive.specs.StrSection.{pieces, strIn}
 use Rattle.archive.specs.declared.asking.FromBundle.{FromBundle}
 
 -- the lookup's part of the answer
@@ -51,6 +53,8 @@ pub record PartTold (b p : List ℕ) (v table x code : ℕ) (r : FromBundle) : T
   pub absentIsAbsent : Asked b v table → IsCode code → any (isUnder table x) (handedIn b) ≡ false → ToldAbsent r (looks b table x)
   pub absentEnds : Asked b v table → any (isUnder table x) (handedIn b) ≡ false → EndsUnused b table x
   pub looksAtMostSlots : Asked b v table → IsCode code → r .looks ≤ length (slotsOfTable b table .rows)
+  pub findingTakes : r .code ≡ 0 → r .looks ≤ unitsOf p table
+  pub absenceTakes : r .looks ≤ unitsOf p table + 1
   pub theOtherVersion : isIndexVersion b v ≡ false → (handedIn b ≡ [] → ⊥) → r .code ≡ 22
   pub neverRefuses : Asked b v table → IsCode code → (r .code ≡ 0) ⊎ (r .code ≡ 1)
 
@@ -65,6 +69,10 @@ pub record StringTold (b p : List ℕ) (v table x k : ℕ) (r : FromBundle) : Ty
   pub absentIsAbsent : Asked b v table → any (isUnder table x) (handedIn b) ≡ false → ToldAbsent r (looks b table x)
   pub absentEnds : Asked b v table → any (isUnder table x) (handedIn b) ≡ false → EndsUnused b table x
   pub looksAtMostSlots : Asked b v table → r .looks ≤ length (slotsOfTable b table .rows)
+  pub findingTakes : r .code ≡ 0 → r .looks ≤ unitsOf p table
+  pub absenceTakes : r .looks ≤ unitsOf p table + 1
+  pub stringReached : Asked b v table → r .code ≡ 0
+      → (i : ℕ) × (i < length (pieces (strIn p))) × (getD (pieces (strIn p)) i [] ≡ ended (bytesAt p (r .start) (r .length)))
   pub theOtherVersion : isIndexVersion b v ≡ false → (handedIn b ≡ [] → ⊥) → r .code ≡ 22
   pub neverRefuses : Asked b v table → (r .code ≡ 0) ⊎ (r .code ≡ 1) ⊎ (r .code ≡ 25)
 

@@ -13,13 +13,15 @@ use Rattle.octets.specs.Octets.{part as bytesAt}
 use Rattle.octets.specs.Lists.{any, those}
 use Rattle.octets.specs.Checked.{Check, pass, refuse}
 use Rattle.bundle.specs.Bundle.{Object, Bundle, bundleOf}
-use Rattle.strings.specs.Strings.{stringAt}
+use Rattle.strings.specs.Strings.{stringAt, ended, firstUses}
 use Rattle.index.specs.Index.{Index}
 use Rattle.index.specs.Probing.{Probe, found, absent as nowhere, Slots, slotsOf, search, firstSlot, stride}
 use Rattle.package.specs.Filing.{Filed, isUnder, firstWord, kept, contributed, entriesOfUnit}
 use Rattle.package.specs.Pack.{packed, made, handedIn}
 use Rattle.package.specs.Units.{FillObjects, IsUnit}
 use Rattle.lookup.specs.Lookup.{Found, refused, absent, part, Package, packageOf, indexFor, lookedUp, stringFound}
+use Rattle.archive.specs.Looks.{unitsOf, FindingTakes, AbsenceTakes}
+use Rattle.archive.specs.StrSection.{pieces, strIn, stringsNamed}
 
 -- ---- what is asked
 -- "The index version is 2 for objects of version 4, 5 for those of 5, and either one without objects"
@@ -163,6 +165,25 @@ AbsentEnds b = (table x : ℕ) → (table ≡ 1) ⊎ (table ≡ 2) → any (isUn
 abbrev pub LooksAtMostSlots : List ℕ → Type 0
 LooksAtMostSlots b = (table x : ℕ) → looks b table x ≤ length (slotsOfTable b table .rows)
 
+-- what a reader counts in the package's index of a table are the units kept for it; `Looks.antt` has the bounds that go by this count
+abbrev pub UnitsCounted : List ℕ → List ℕ → Type 0
+UnitsCounted b p = (table : ℕ) → (table ≡ 1) ⊎ (table ≡ 2) → unitsOf p table ≡ length (identitiesOf b table)
+
+-- the str section, cut after each zero byte, "holds every string that some str_offsets entry reaches": whatever the string lookup finds, of any unit and entry
+abbrev pub EveryStringReached : List ℕ → List ℕ → Type 0
+EveryStringReached b p =
+    (v table x k start size n : ℕ) → Asked b v table → stringFound p v table x k ≡ part start size n
+    → (i : ℕ) × (i < length (pieces (strIn p))) × (getD (pieces (strIn p)) i [] ≡ ended (bytesAt p start size))
+
+-- "exactly once"
+abbrev pub EachStringOnce : List ℕ → Type 0
+EachStringOnce p =
+    (i j : ℕ) → i < length (pieces (strIn p)) → j < length (pieces (strIn p)) → getD (pieces (strIn p)) i [] ≡ getD (pieces (strIn p)) j [] → i ≡ j
+
+-- "in order of first use, and no other string": the first uses of what the entries of str_offsets name, all objects' entries in the order of the bundle
+abbrev pub FirstUsesAndNoOther : List ℕ → List ℕ → Type 0
+FirstUsesAndNoOther b p = pieces (strIn p) ≡ map ended (firstUses (stringsNamed b))
+
 -- "by version means 22": the other version, where an index was written
 abbrev pub TheOtherVersion : List ℕ → List ℕ → Type 0
 TheOtherVersion b p =
@@ -187,6 +208,12 @@ pub record FromBundleToAnswer (b p : List ℕ) : Type 0 where
   pub absentIsAbsent : AbsentIsAbsent b p
   pub absentEnds : AbsentEnds b
   pub looksAtMostSlots : LooksAtMostSlots b
+  pub unitsCounted : UnitsCounted b p
+  pub findingTakes : FindingTakes p
+  pub absenceTakes : AbsenceTakes p
+  pub everyStringReached : EveryStringReached b p
+  pub eachStringOnce : EachStringOnce p
+  pub firstUsesAndNoOther : FirstUsesAndNoOther b p
   pub theOtherVersion : TheOtherVersion b p
   pub neitherRefuses : NeitherRefuses b p
 

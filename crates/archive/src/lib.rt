@@ -2,6 +2,7 @@
 // keep what a Rattle caller can't help keeping: a slice is a pointer and a length, in that order; that many elements are there, for as long as the call
 // runs; `work` is aligned as 32-bit words are; and what is lent to be written, output and work, overlaps neither the other nor the bundle.
 pub mod asking;
+pub mod many;
 
 ghost use mathlib.Core.Path.{_≡_};
 ghost use lib.ListN.{length};

@@ -26,7 +26,7 @@ use Rattle.finish.specs.Ready.{Ready}
 use Rattle.finish.specs.declared.whole.Finished.{Finished}
 use Rattle.finish.specs.declared.whole.Finished.the-variants.{Refused, Short, Made}
 
--- ---- answers
+-- ---- answers; `toldOf` of `packer/specs/Told.antt` gives each case its number
 unfoldable pub finishedOf : Answer → Finished
 finishedOf (refused n) = Refused n
 finishedOf (short n) = Short n

@@ -5,6 +5,7 @@ use mathlib.Core.List.{List}
 use Prim.Native.Nat.{ℕ, zero, suc, _+_, _-_, _^_, _<_, _≤_}
 use native.Mathlib.Nat.{not-suc-le-zero}
 use native.Mathlib.Omega.{arith}
+use native.Mathlib.Decide.{ℕ-discrete}
 use lib.ListN.{length, getD, drop, drop-of-length-le}
 use lib.Seq.{drop-cons}
 use Rattle.octets.specs.Octets.{zeros}
@@ -12,8 +13,8 @@ use Rattle.octets.specs.Checked.{pass}
 use Rattle.octets.proofs.Checks.{then-pass, pass-inj}
 use Rattle.index.specs.Probing.{found, absent, search, slotsFor, Slots, place, placeAll, unused, slotsOf}
 use Rattle.index.proofs.Slots.{PowerOfTwo, slotsFor-power, slotsFor-gt}
-use Rattle.index.proofs.LawCounts.{First}
-use Rattle.index.proofs.Placing.{probed, put, free-slot, place-is, counted-unused}
+use Rattle.index.proofs.LawCounts.{used, used-ge, First}
+use Rattle.index.proofs.Placing.{probed, probed-once, put, free-slot, place-is, counted-unused}
 use Rattle.index.proofs.LawLooks.{search-found, search-absent}
 use Rattle.index.proofs.LawPlaced.{Distinct, Kept, Placed, placed-more}
 
@@ -71,6 +72,8 @@ pub record FoundIn (rows ids : List ℕ) (x row : ℕ) : Type 0 where
   pub row-there : getD rows slot 0 ≡ row
   pub some-looks : 1 ≤ looks
   pub within : looks ≤ length rows
+  -- every slot that was looked at is used
+  pub few : looks ≤ used rows
 
 -- absent, since the last look is at an unused slot
 pub record AbsentIn (rows ids : List ℕ) (x : ℕ) : Type 0 where
@@ -79,16 +82,27 @@ pub record AbsentIn (rows ids : List ℕ) (x : ℕ) : Type 0 where
   pub ends : getD rows (probed (length rows) x (looks - 1)) 0 ≡ 0
   pub some-looks : 1 ≤ looks
   pub within : looks ≤ length rows
+  -- and here every one but the last
+  pub few : looks ≤ used rows + 1
+
+-- the first m slots that a search looks at are different, so m used ones among them are at most all that are used
+looked-few : (rows : List ℕ) (x m : ℕ) → PowerOfTwo (length rows) → m ≤ length rows → ((j : ℕ) → j < m → getD rows (probed (length rows) x j) 0 ≡ 0 → ⊥) → m ≤ used rows
+looked-few rows x m p h all = used-ge m (probed (length rows) x) rows (λ i j hi hj. probed-once (length rows) x i j p (omega arith) (omega arith)) all
 
 kept-found : (t : Slots) (x row : ℕ) → PowerOfTwo (length (t .rows)) → (row ≡ 0 → ⊥) → Kept (length (t .rows)) t x row → FoundIn (t .rows) (t .identities) x row
 kept-found t x row p g k =
+    let n = length (t .rows) in
+    let here : getD (t .rows) (probed n x (k .steps)) 0 ≡ 0 → ⊥ = λ z. g (sym (k .row-there) ∙ z) in
     record {
       slot = probed (length (t .rows)) x (k .steps);
       looks = k .steps + 1;
-      is = search-found (t .rows) (t .identities) x (k .steps) p (k .within) (k .passed) (λ z. g (sym (k .row-there) ∙ z)) (k .identity-there);
+      is = search-found (t .rows) (t .identities) x (k .steps) p (k .within) (k .passed) here (k .identity-there);
       row-there = k .row-there;
       some-looks = omega arith;
       within = omega (arith, k .within);
+      few =
+          looked-few (t .rows) x (k .steps + 1) p (omega (arith, k .within))
+          (λ j h. elim (ℕ-discrete j (k .steps)) [ yes e ↦ rw e here | no e ↦ k .passed .used-there j (omega arith) ]);
     }
 
 module _ (n : ℕ) (p : PowerOfTwo n) (xs : List ℕ) (t : Slots) (s : Placed n xs (length xs) t) where
@@ -110,6 +124,7 @@ module _ (n : ℕ) (p : PowerOfTwo n) (xs : List ℕ) (t : Slots) (s : Placed n 
         ends = rw e (f .zero-there);
         some-looks = omega arith;
         within = omega (arith, f .within);
+        few = omega (arith, looked-few (t .rows) x (f .steps) power-here (omega (arith, f .within)) (f .before));
       }
 
   pub placed-absent : length xs < n → (x : ℕ) → ((i : ℕ) → i < length xs → getD xs i 0 ≡ x → ⊥) → AbsentIn (t .rows) (t .identities) x
@@ -123,6 +138,9 @@ module _ (xs : List ℕ) (t : Slots) (different : Distinct xs) (h : length xs �
 
   pub length-identities : length (t .identities) ≡ slotsFor (length xs)
   length-identities = placed-is xs t different h e .counted .identities-are
+
+  pub used-all : used (t .rows) ≡ length xs
+  used-all = placed-is xs t different h e .counted .used-are
 
   pub slots-found : (i : ℕ) → i < length xs → FoundIn (t .rows) (t .identities) (getD xs i 0) (i + 1)
   slots-found = placed-found (slotsFor (length xs)) (slotsFor-power (length xs)) xs t (placed-is xs t different h e)

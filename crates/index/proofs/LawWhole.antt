@@ -16,8 +16,9 @@ use Rattle.index.specs.Probing.{found, absent, probe, Slots, slotsOf, sl
 use Rattle.index.specs.Rows.{rowOf}
 use Rattle.index.specs.Written.{Row, presentColumns, indexWith, indexBytes}
 use Rattle.index.proofs.Placing.{slotsOf-passes}
+use Rattle.index.proofs.LawCounts.{used}
 use Rattle.index.proofs.LawPlaced.{Distinct, NonZero, distinct-is}
-use Rattle.index.proofs.Found.{FoundIn, AbsentIn, length-rows, length-identities, slots-found, slots-absent}
+use Rattle.index.proofs.Found.{FoundIn, AbsentIn, length-rows, length-identities, used-all, slots-found, slots-absent}
 use Rattle.index.proofs.LawGrid.{noRow, identitiesOf, getD-map}
 use Rattle.index.proofs.LawRead.{length-index}
 use Rattle.index.proofs.RoundTrip.{written, RowsFit, round-trip}
@@ -83,6 +84,7 @@ pub record Indexed (big : Bool) (version : ℕ) (rs : List Row) (s : List ℕ) :
   pub length-is : length s ≡ 16 + 12 * slotsFor (length rs) + 4 * length (presentColumns version rs) + 8 * (length rs * length (presentColumns version rs))
   pub reads : indexOf big s ≡ pass (written version rs slots)
   pub slot-count : length (written version rs slots .rows) ≡ slotsFor (length rs)
+  pub used-are : used (slots .rows) ≡ length rs
   pub finds : (k : ℕ) → k < length rs → FoundIn (written version rs slots .rows) (written version rs slots .identities) (getD rs k noRow .identity) (k + 1)
   pub misses : (x : ℕ) → has (identitiesOf rs) x ≡ false → AbsentIn (written version rs slots .rows) (written version rs slots .identities) x
 
@@ -109,6 +111,7 @@ module _ (big : Bool) (version : ℕ) (rs : List Row) (w : Writable rs) (t : Slo
         length-is = length-index big version (presentColumns version rs) rs t (slotsFor (length rs)) identities-count rows-count;
         reads = round-trip big version rs t (w .fits) (w .few) (w .different) (w .nonzero) e;
         slot-count = rows-count;
+        used-are = used-all (identitiesOf rs) t (w .different) few e ∙ same-length;
         finds = λ k h. rw (getD-map (λ q. q .identity) rs k noRow h) at (slots-found (identitiesOf rs) t (w .different) few e k (omega (arith, same-length)));
         misses = λ x g. slots-absent (identitiesOf rs) t (w .different) few e x (λ i h. has-not-at (identitiesOf rs) x i g h);
       }

@@ -5,7 +5,6 @@ use mathlib.Core.Bool.{true, false, _&&_}
 use mathlib.Core.List.{List}
 use mathlib.Core.Option.{Option, some, none}
 use Prim.Native.Nat.{ℕ}
-use native.Mathlib.Omega.{arith}
 use lib.Dec.{leb}
 use lib.ListN.{getD}
 use Rattle.octets.specs.Checked.{Check, pass, refuse, _>>=_}
@@ -38,73 +37,28 @@ module _ (x : ℕ) (answer : Index → ℕ → Check Place) where
       row-placed s g = row-found ∙ then-pass _ _ _ g
 
 -- a string is looked for in the part of section 6, where that is found
-unfoldable pub thenString : List ℕ → Package → ℕ → ℕ → Check Found → Check Found
-thenString p k version entry (refuse n) = refuse n
-thenString p k version entry (pass (refused n)) = pass (refused n)
-thenString p k version entry (pass (absent looks)) = pass (absent looks)
-thenString p k version entry (pass (part start size looks)) =
-    stringPlace p k version entry (record { start = start; size = size }) >>= λ q. pass (part (q .start) (q .size) looks)
+unfoldable pub followed : List ℕ → Package → ℕ → ℕ → Found → Found
+followed p k version entry (refused n) = refused n
+followed p k version entry (absent looks) = absent looks
+followed p k version entry (part start size looks) = answered (stringPlace p k version entry (record { start = start; size = size }) >>= λ q. pass (part (q .start) (q .size) looks))
 
-module _ (p : List ℕ) (k : Package) (version table x entry : ℕ) where
-  pub string-in : stringIn p k version table x entry ≡ thenString p k version entry (partIn k table x 6)
-  unfolding stringIn partIn thenString inTable atRow _>>=_
-  string-in = go (indexFor k table)
-    where
-      then : (m : Check Place) (looks : ℕ) → (m >>= stringPlace p k version entry >>= λ q. pass (part (q .start) (q .size) looks))
-          ≡ thenString p k version entry (m >>= λ q. pass (part (q .start) (q .size) looks))
-      then (pass s) looks = refl
-      then (refuse n) looks = refl
+pub string-in : (p : List ℕ) (k : Package) (version table x entry : ℕ)
+    → answered (stringIn p k version table x entry) ≡ followed p k version entry (answered (partIn k table x 6))
+unfolding stringIn partIn followed answered inTable atRow _>>=_
+string-in p k version table x entry = go (indexFor k table)
+  where
+    then : (m : Check Place) (looks : ℕ) → answered (m >>= stringPlace p k version entry >>= λ q. pass (part (q .start) (q .size) looks))
+        ≡ followed p k version entry (answered (m >>= λ q. pass (part (q .start) (q .size) looks)))
+    then (pass s) looks = refl
+    then (refuse n) looks = refl
 
-      row : (i : Index) (r : Probe) → atRow i r (λ z. partPlace k i z 6 >>= stringPlace p k version entry) ≡ thenString p k version entry (atRow i r (λ z. partPlace k i z 6))
-      row i (nowhere looks) = refl
-      row i (at slot looks) = then (partPlace k i (getD (i .rows) slot 0) 6) looks
+    row : (i : Index) (r : Probe) → answered (atRow i r (λ z. partPlace k i z 6 >>= stringPlace p k version entry)) ≡ followed p k version entry (answered (atRow i r (λ z. partPlace k i z 6)))
+    row i (nowhere looks) = refl
+    row i (at slot looks) = then (partPlace k i (getD (i .rows) slot 0) 6) looks
 
-      go : (o : Option Index) → inTable o x (λ i z. partPlace k i z 6 >>= stringPlace p k version entry) ≡ thenString p k version entry (inTable o x (λ i z. partPlace k i z 6))
-      go none = refl
-      go (some i) = row i (probe i x)
-
-  -- by what the search for the part of section 6 answers
-  pub string-refused : (n : ℕ) → answered (partIn k table x 6) ≡ refused n → answered (stringIn p k version table x entry) ≡ refused n
-  unfolding thenString answered
-  string-refused n e = ap answered string-in ∙ go (partIn k table x 6) e
-    where
-      go : (m : Check Found) → answered m ≡ refused n → answered (thenString p k version entry m) ≡ refused n
-      go (refuse j) h = h
-      go (pass (refused j)) h = h
-      go (pass (absent l)) h = h
-      go (pass (part a l m)) h = absurd (let z : _≡_ {A = ℕ} 0 1 = cc in omega arith)
-
-  pub string-absent : (looks : ℕ) → answered (partIn k table x 6) ≡ absent looks → answered (stringIn p k version table x entry) ≡ absent looks
-  unfolding thenString answered
-  string-absent looks e = ap answered string-in ∙ go (partIn k table x 6) e
-    where
-      go : (m : Check Found) → answered m ≡ absent looks → answered (thenString p k version entry m) ≡ absent looks
-      go (refuse j) h = h
-      go (pass (refused j)) h = h
-      go (pass (absent l)) h = h
-      go (pass (part a l m)) h = absurd (let z : _≡_ {A = ℕ} 0 1 = cc in omega arith)
-
-  module _ (start size looks : ℕ) (e : answered (partIn k table x 6) ≡ part start size looks) where
-    pub string-part : stringIn p k version table x entry ≡ (stringPlace p k version entry (record { start = start; size = size }) >>= λ q. pass (part (q .start) (q .size) looks))
-    unfolding thenString answered
-    string-part = string-in ∙ go (partIn k table x 6) e
-      where
-        go : (m : Check Found) → answered m ≡ part start size looks
-            → thenString p k version entry m ≡ (stringPlace p k version entry (record { start = start; size = size }) >>= λ q. pass (part (q .start) (q .size) looks))
-        go (refuse j) h = absurd (let z : _≡_ {A = ℕ} 0 1 = cc in omega arith)
-        go (pass (refused j)) h = absurd (let z : _≡_ {A = ℕ} 0 1 = cc in omega arith)
-        go (pass (absent l)) h = absurd (let z : _≡_ {A = ℕ} 0 1 = cc in omega arith)
-        go (pass (part a l m)) h = ap (λ (f : Found). thenString p k version entry (pass f)) h
-
-    pub string-unplaced : (n : ℕ) → stringPlace p k version entry (record { start = start; size = size }) ≡ refuse n
-        → answered (stringIn p k version table x entry) ≡ refused n
-    unfolding answered
-    string-unplaced n f = ap answered (string-part ∙ then-refuse _ _ _ f)
-
-    pub string-placed : (q : Place) → stringPlace p k version entry (record { start = start; size = size }) ≡ pass q
-        → answered (stringIn p k version table x entry) ≡ part (q .start) (q .size) looks
-    unfolding answered
-    string-placed q f = ap answered (string-part ∙ then-pass _ _ _ f)
+    go : (o : Option Index) → answered (inTable o x (λ i z. partPlace k i z 6 >>= stringPlace p k version entry)) ≡ followed p k version entry (answered (inTable o x (λ i z. partPlace k i z 6)))
+    go none = refl
+    go (some i) = row i (probe i x)
 
 -- ---- the refusals, in order: 21, 22, 23, and what the search in the table answers
 module _ (p : List ℕ) (version table x : ℕ) where

@@ -8,18 +8,17 @@ use mathlib.Core.Logic.{_⊎_, inl, inr, ⊎-elim}
 use Prim.Native.Nat.{ℕ, _+_, _≤_}
 use native.Mathlib.Omega.{arith}
 use lib.Dec.{eqb}
-use lib.ListN.{length, getD}
+use lib.ListN.{length}
 use borrow.Author.Tests.{leb-true}
 use Rattle.octets.specs.Checked.{Check, pass, refuse}
-use Rattle.octets.proofs.Checks.{bind-pass, require-pass, pass-inj}
+use Rattle.octets.proofs.Checks.{require-pass, pass-inj}
 use Rattle.bundle.specs.Bundle.{Part as BundlePart, Object, Bundle, bundleOf, firstPart, body}
 use Rattle.bundle.specs.Encoding.{Encoding, encodingOf, encodingGood}
 use Rattle.bundle.specs.Scan.{startIn, sizeIn, startOf, sizeOf}
 use Rattle.bundle.proofs.Within.{First, first-object, first-within}
 use Rattle.index.specs.Index.{Index, Contribution, indexOf, cellOf}
-use Rattle.index.specs.Probing.{Probe, probe, found as at, absent as nowhere}
-use Rattle.lookup.specs.Lookup.{Found, part, Package, packageIndex, objectsJudged, packageOf, indexFor, Place, placeIn, cellPlace, partPlace, atRow, inTable, answered}
-use Rattle.lookup.specs.Answers.{indexCode, partIn}
+use Rattle.lookup.specs.Lookup.{Found, part, Package, packageIndex, objectsJudged, packageOf, indexFor, Place, placeIn, cellPlace, partPlace, answered}
+use Rattle.lookup.specs.Answers.{indexCode}
 use Rattle.lookup.proofs.Packages as P
 use Rattle.lookup.proofs.Packages.{Judged}
 
@@ -103,31 +102,6 @@ pub answered-part : (m : Check Found) (a n looks : ℕ) → answered m ≡ part 
 unfolding answered
 answered-part (pass f) a n looks e = ap pass e
 answered-part (refuse j) a n looks e = absurd (let z : _≡_ {A = ℕ} 0 1 = cc in omega arith)
-
--- the row where the search ended, and its place
-pub record FoundAt (k : Package) (table x code a n looks : ℕ) : Type 0 where
-  pub index : Index
-  pub slot : ℕ
-  pub there : indexFor k table ≡ some index
-  pub ends : probe index x ≡ at slot looks
-  pub placed : partPlace k index (getD (index .rows) slot 0) code ≡ pass (record { start = a; size = n })
-
-pub found-at : (k : Package) (table x code a n looks : ℕ) → answered (partIn k table x code) ≡ part a n looks → FoundAt k table x code a n looks
-unfolding partIn inTable atRow
-found-at k table x code a n looks e = go (indexFor k table) refl (answered-part _ a n looks e)
-  where
-    row : (i : Index) → indexFor k table ≡ some i → (r : Probe) → probe i x ≡ r → atRow i r (λ z. partPlace k i z code) ≡ pass (part a n looks) → FoundAt k table x code a n looks
-    row i f (nowhere l) g h = absurd (let z : _≡_ {A = ℕ} 0 1 = cc in omega arith)
-    row i f (at slot l) g h =
-        let (q, m, s) = bind-pass _ _ _ h in
-        let sl : l ≡ looks = cc in
-        let sa : q .start ≡ a = cc in
-        let sn : q .size ≡ n = cc in
-        record { index = i; slot = slot; there = f; ends = g ∙ ap (at slot) sl; placed = m ∙ ap pass (λ j. record { start = sa j; size = sn j }) }
-
-    go : (o : Option Index) → indexFor k table ≡ o → inTable o x (λ i z. partPlace k i z code) ≡ pass (part a n looks) → FoundAt k table x code a n looks
-    go none f h = absurd (let z : _≡_ {A = ℕ} 0 1 = cc in omega arith)
-    go (some i) f h = row i f (probe i x) refl h
 
 -- it lies in the package
 pub part-within : (p : List ℕ) (k : Package) (i : Index) (row code : ℕ) (q : Place) → packageOf p ≡ pass k → partPlace k i row code ≡ pass q → q .start + q .size ≤ length p

@@ -9,6 +9,7 @@ ghost use Rattle.bundle.specs.Encoding.{encodingGood};
 ghost use Rattle.lookup.specs.Lookup.{
   answered,
   lookedUp,
+  packageOf,
   stringFound,
   tableGood,
 };
@@ -21,6 +22,7 @@ ghost use Rattle.lookup.specs.Answers.{
   indexCode,
   indexHas,
   locatedOf,
+  opened,
   packageIn,
   partIn,
   placeBy,
@@ -222,10 +224,18 @@ fn locate_part(
 }
 
 // The part of a section, code 1 to 10, that a unit contributes. Where its column is missing the part is empty, and its place, which is free, is 0.
-pub fn locate(package: &[u8], version: u32, table: u32, identity: u64, section: u32) -> Located
+// The caller has opened the package, once for as many questions as it has.
+pub fn locate_in(
+    package: &[u8],
+    head: PackageHead,
+    version: u32,
+    table: u32,
+    identity: u64,
+    section: u32,
+) -> Located
+    requires { ⌜ head ≡ opened (packageOf (now «package»)) ⌝ }
     ensures { λ r. ⌜ r ≡ locatedOf (lookedUp (now («package» .entry)) version table identity section) ⌝ }
 {
-    let head = crate::opening::open_package(package);
     if !head.good {
         return Located::Refused(21);
     }
@@ -242,6 +252,14 @@ pub fn locate(package: &[u8], version: u32, table: u32, identity: u64, section: 
         return Located::Refused(23);
     }
     locate_part(package, head, table, identity, octets::wide(section))
+}
+
+// The same for one question.
+pub fn locate(package: &[u8], version: u32, table: u32, identity: u64, section: u32) -> Located
+    ensures { λ r. ⌜ r ≡ locatedOf (lookedUp (now («package» .entry)) version table identity section) ⌝ }
+{
+    let head = crate::opening::open_package(package);
+    locate_in(package, head, version, table, identity, section)
 }
 
 // ---- strings
@@ -302,16 +320,7 @@ pub fn locate_string(package: &[u8], version: u32, table: u32, identity: u64, en
     ensures { λ r. ⌜ r ≡ locatedOf (stringFound (now («package» .entry)) version table identity entry) ⌝ }
 {
     let head = crate::opening::open_package(package);
-    if !head.good {
-        return Located::Refused(21);
-    }
-    if !has_version(head, version) {
-        return Located::Refused(22);
-    }
-    if !is_table(table) {
-        return Located::Refused(23);
-    }
-    match locate_part(package, head, table, identity, 6) {
+    match locate_in(package, head, version, table, identity, 6) {
         Located::Part(start, size, looks) => locate_entry(
             package,
             head,

@@ -25,3 +25,7 @@ smallWork = 4_096
 
 abbrev pub smallOutput : ℕ
 smallOutput = 65_536
+
+-- The most questions that one call answers.
+abbrev pub questionsLimit : ℕ
+questionsLimit = 1_024

@@ -15,3 +15,6 @@ pub const SMALL_BUNDLE: usize = 1_024;
 pub const SMALL_WORK: usize = 4_096;
 
 pub const SMALL_OUTPUT: usize = 65_536;
+
+// The most questions that one call answers.
+pub const QUESTIONS_LIMIT: usize = 1_024;

@@ -9,10 +9,14 @@ use lib.Dec.{eqb}
 use lib.ListN.{take, getD}
 use Rattle.octets.specs.Lists.{any}
 use Rattle.octets.specs.Checked.{Check}
-use Rattle.octets.proofs.Refusals.{Between, between-pass as passes, between-refuse as refuses, between-require as requires, between-bind as binds, between-choice as chooses, between-only as only}
+use Rattle.octets.proofs.Refusals.{Between, between-pass as passes, between-refuse as refuses, between-require as requires, between-bind as binds, between-choice as chooses, between-only as only, Only, only-bind, only-require}
 use Rattle.bundle.specs.Encoding.{Encoding}
 use Rattle.unit.specs.UnitRead.{UnitRead, lengthField, unitSize, isFive, behindCommon, identityFive, identityFour, identityOf, unitOf}
-use Rattle.unit.proofs.Rooted.{only-rootIdentity}
+use Rattle.leb128.proofs.Taken.{only-unsigned}
+use Rattle.unit.specs.Root.{rootIdentity}
+use Rattle.unit.proofs.Declarations.{only-declarationsOf}
+use Rattle.unit.proofs.Values.{only-needed}
+use Rattle.unit.proofs.Stepping.{only-identityIn}
 use Rattle.index.specs.Index.{Index}
 use Rattle.index.specs.Probing.{Probe, found, absent, probe}
 use Rattle.index.specs.Rows.{BySection, rowOf, rowContributions}
@@ -31,9 +35,15 @@ five : (e : Encoding) (type : ℕ) (u : List ℕ) → Numbered (identityFive e t
 unfolding identityFive
 five e type u = chooses (eqb type 4 || eqb type 5) _ _ (behind e 1 8 u) (chooses (eqb type 2 || eqb type 6) _ _ (behind e 2 (8 + e .width) u) (refuses 12 refl))
 
+root : (e : Encoding) (table s : List ℕ) → Only 12 (rootIdentity e table s)
+unfolding rootIdentity
+root e table s =
+    only-bind 12 _ _ (only-declarationsOf table) (λ ds. only-bind 12 _ _ (only-unsigned s) (λ c. only-bind 12 _ _ (only-needed _) (λ d.
+    only-bind 12 _ _ (only-require _ 12) (λ _. only-bind 12 _ _ (only-identityIn e _ _ none) (λ x. only-needed x)))))
+
 four : (e : Encoding) (home : ℕ) (abbreviations u : List ℕ) → Numbered (identityFour e home abbreviations u)
 unfolding identityFour
-four e home abbreviations u = chooses (eqb home 1) _ _ (binds _ _ (only 12 _ refl (only-rootIdentity e _ _)) (λ x. passes _)) (behind e 2 (8 + e .width) u)
+four e home abbreviations u = chooses (eqb home 1) _ _ (binds _ _ (only 12 _ refl (root e _ _)) (λ x. passes _)) (behind e 2 (8 + e .width) u)
 
 identity : (e : Encoding) (home : ℕ) (abbreviations u : List ℕ) → Numbered (identityOf e home abbreviations u)
 unfolding identityOf

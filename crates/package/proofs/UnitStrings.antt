@@ -99,6 +99,7 @@ pub record NamesString (table : List (List ℕ)) (e : Encoding) (u : Filed) (k :
   pub handed : stringAt 9 (u .input .bytes 11) (getD (entriesOfUnit u) j 0) ≡ pass string
   pub names : stringAt 26 (strOf table) (numberAt (e .big) (e .width) (given table 6 (u .input)) (k .offset + headerSize e + e .width * j)) ≡ pass string
   pub within : headerSize e + e .width * j + e .width ≤ k .size
+  pub listed : isIn table string ≡ true
 
 -- the entries that stand before the part
 begins : (e : Encoding) (n : ℕ) (k : Contribution) → Sound e → ((k .offset ≡ 0) × (k .size ≡ n)) ⊎ ((k .offset % e .width ≡ 0) × (k .size % e .width ≡ 0))
@@ -171,4 +172,5 @@ module _ (e : Encoding) (inputs : List Input) (u : Filed) (g : Good e u) (before
             ∙ ap (λ (n : ℕ). stringAt 26 (strOf table) (numberAt (e .big) (e .width) (remapped e table s used) n)) (sym place)
             ∙ remapped-names e ok table s (u .input .bytes 11) used whole (facts .strings) small (m + j) inside 26 has;
         within = entry-ends e ok s m (k .size) fits j h2;
+        listed = has;
       }

@@ -14,11 +14,15 @@ fn digit(d: u8) -> u8
     87 + d
 }
 
+fn digits(b: u8) -> [u8; 2] {
+    [digit(b / 16), digit(b % 16)]
+}
+
 fn write_hexadecimal(s: &[u8]) {
     let mut i = 0;
     while i < s.len() {
         let b = s[i];
-        let text = [digit(b / 16), digit(b % 16)];
+        let text = digits(b);
         io::write_all(STDOUT_FILENO, &text);
         i += 1;
     }

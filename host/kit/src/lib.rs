@@ -5,6 +5,7 @@
 //! from a bundle what must be found in its package, which `claim` asks for. `oracle` asks thorin where it is at hand, and `sample`
 //! keeps some of its answers; `clock` is for timing.
 
+pub mod batch;
 pub mod claim;
 pub mod clock;
 pub mod generate;

@@ -102,6 +102,14 @@ struct barthovin_written barthovin_pack_small(const uint8_t *bundle, size_t bund
 struct barthovin_found barthovin_lookup(const uint8_t *package, size_t package_length, uint32_t version, uint32_t table,
                                         uint64_t identity, uint32_t section);
 
+/* Many questions for one package, at most 1,024, each answered as barthovin_lookup answers it. A question is three words: 40000000
+ * hexadecimal with the table in bits 0 to 3 and the section code in bits 4 to 7, then the identity's low and high word. An answer is
+ * four words: code, start, length and looks. Lengths count words. 38: the questions are ill-formed or too many, or the answers don't
+ * fit; then no question is answered. Words following the answers are zero. */
+struct barthovin_written barthovin_lookup_batch(const uint8_t *package, size_t package_length, uint32_t version,
+                                                const uint32_t *questions, size_t questions_length, uint32_t *answers,
+                                                size_t answers_length);
+
 /* The string, without its zero, that an entry of the unit's part of str_offsets names; entries count from 0. */
 struct barthovin_found barthovin_lookup_string(const uint8_t *package, size_t package_length, uint32_t version,
                                                uint32_t table, uint64_t identity, uint64_t entry);

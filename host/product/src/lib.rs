@@ -5,6 +5,7 @@
 //! none of it has a say in an answer. C callers have `include/barthovin.h`.
 
 pub mod answer;
+pub mod batch;
 pub mod command;
 pub mod explain;
 pub mod ffi;

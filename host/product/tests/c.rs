@@ -1,6 +1,7 @@
 //! barthovin.h declares every C entry as it is, and the example in C does what it says.
 
 use barthovin::answer::{Asked, Found};
+use barthovin::batch::answer_words;
 use barthovin::ffi;
 use std::path::{Path, PathBuf};
 use std::process::{Command, Output};
@@ -86,6 +87,9 @@ fn by_rust() -> String {
     told += &format!("pack_small 0 {packed}\n");
     let package = &output[..packed];
     told += &found("lookup", ffi::lookup(package, 5, 1, 1, 1));
+    let mut a = [0; 9];
+    let (code, length) = answer_words(package, 5, &[0x4000_0011, 1, 0, 0x4000_0012, 1, 0], &mut a);
+    told += &format!("batch {code} {length}: {} {} {} {}, {}\n", a[0], a[1], a[2], a[3], a[4]);
     told += &found("lookup", ffi::lookup(package, 5, 2, 1, 1));
     told += "sheet 0 120 C 0000000000000001 01 00000000 00000014\n";
     told += &found("lookup_string", ffi::lookup_string(package, 5, 1, 1, 0));

@@ -11,6 +11,13 @@ static void show(const char *name, struct barthovin_found f) {
     printf("%s %u %zu %zu %zu\n", name, (unsigned)f.code, f.start, f.length, f.looks);
 }
 
+static const uint32_t questions[] = {0x40000011, 1, 0, 0x40000012, 1, 0};
+
+static void show_batch(struct barthovin_written w, const uint32_t *a) {
+    printf("batch %u %zu: %u %u %u %u, %u\n", (unsigned)w.code, w.length, (unsigned)a[0], (unsigned)a[1], (unsigned)a[2],
+           (unsigned)a[3], (unsigned)a[4]);
+}
+
 static void show_from_bundle(const char *name, struct barthovin_found_from_bundle f) {
     printf("%s %u %zu %u %zu %zu %zu\n", name, (unsigned)f.packing, f.packed, (unsigned)f.code, f.start, f.length, f.looks);
 }
@@ -37,6 +44,7 @@ int main(void) {
     packed = barthovin_pack_small(bundle, sizeof words, output, 1000);
     printf("pack_small %u %zu\n", (unsigned)packed.code, packed.length);
     show("lookup", barthovin_lookup(output, packed.length, 5, 1, 1, BARTHOVIN_INFO));
+    show_batch(barthovin_lookup_batch(output, packed.length, 5, questions, 6, work, 9), work);
     show("lookup", barthovin_lookup(output, packed.length, 5, 2, 1, BARTHOVIN_INFO));
     read_sheet(barthovin_sheet(output, packed.length, page, sizeof page), page);
     show("lookup_string", barthovin_lookup_string(output, packed.length, 5, 1, 1, 0));

@@ -36,6 +36,7 @@ Exit status: 0 written; 1 refused; 2 a wrong call, or a file that can't be read 
 const LOOKUP: &str = "\
 Usage: barthovin lookup [OPTION]... PACKAGE [VERSION] TABLE IDENTITY section CODE
   or:  barthovin lookup [OPTION]... PACKAGE [VERSION] TABLE IDENTITY string ENTRY
+  or:  barthovin lookup [OPTION]... PACKAGE --questions=FILE
 Find a unit's part of a section, or one of its strings, in a package.
 
 PACKAGE    a file, or - for standard input
@@ -49,12 +50,14 @@ ENTRY      of the unit's part of str_offsets, counted from 0
 A part is shown in hexadecimal, a string as text in which what can't be printed is \\n, \\t, \\xNN or \\u{N}. Looks are the slots of
 the index that were looked at.
 
+  -q, --questions=FILE  answer the questions of a file, or of standard input for -: on each line what follows PACKAGE;
+                        each answer is a line; empty lines and those that start with # are left out
   -r, --raw       write the bytes found as they are, and nothing else
-      --json      write the answer as a JSON object
+      --json      write each answer as a JSON object
   -h, --help      show this help and exit
   -V, --version   show the version and exit
 
-Exit status: 0 found; 1 absent or refused; 2 a wrong call, or a file that can't be read.";
+Exit status: 0 found, all of it; 1 something absent or refused; 2 a wrong call, or a file that can't be read.";
 
 const SHEET: &str = "\
 Usage: barthovin sheet [OPTION]... PACKAGE

@@ -1,5 +1,7 @@
 //! `barthovin lookup`: a part or a string of a package.
 
+mod questions;
+
 use super::call::{Call, Known};
 use super::{input, meaning, output, show, Stop, DONE, NOT_DONE};
 use crate::answer::{Asked, Found};
@@ -9,15 +11,19 @@ use crate::names::{section_code, LONGEST_PACKAGE};
 use crate::reader::package::Package;
 use std::ffi::OsString;
 
-const OPTIONS: [Known; 2] =
-    [Known { long: "raw", short: Some(b'r'), value: false }, Known { long: "json", short: None, value: false }];
+const OPTIONS: [Known; 3] = [
+    Known { long: "raw", short: Some(b'r'), value: false },
+    Known { long: "json", short: None, value: false },
+    Known { long: "questions", short: Some(b'q'), value: true },
+];
 
 /// What is asked about a package.
-struct Question {
-    version: Option<u32>,
-    table: u32,
-    identity: u64,
-    asked: Asked,
+#[derive(Clone, Copy)]
+pub struct Question {
+    pub version: Option<u32>,
+    pub table: u32,
+    pub identity: u64,
+    pub asked: Asked,
 }
 
 pub fn run(arguments: &[OsString]) -> Result<u8, Stop> {
@@ -28,9 +34,12 @@ pub fn run(arguments: &[OsString]) -> Result<u8, Stop> {
     if call.has("raw") && call.has("json") {
         return Err(call.wrong("options '--raw' and '--json' don't go together"));
     }
-    let question = question(&call)?;
-    let name = &call.operands[0];
-    let package = input::read(name, LONGEST_PACKAGE)?;
+    if let Some(list) = call.value("questions") {
+        return questions::run(&call, list);
+    }
+    let words: Vec<String> = operands(&call)?.iter().map(|word| show::name(word)).collect();
+    let question = question(&words).map_err(|message| call.wrong(message))?;
+    let package = input::read(&call.operands[0], LONGEST_PACKAGE)?;
     let Question { table, identity, asked, .. } = question;
     // Without a version the index's own is taken; a bad package is refused whatever it is.
     let version = question.version.unwrap_or_else(|| Package::read(&package).map_or(5, |p| p.version()));
@@ -39,38 +48,55 @@ pub fn run(arguments: &[OsString]) -> Result<u8, Stop> {
         Asked::Entry(entry) => ffi::lookup_string(&package, version, table, identity, entry),
     };
     match found {
-        Found::Part { start, length, looks } => part(&call, &package[start..start + length], start, looks, asked),
-        Found::Absent(looks) => absent(&call, looks),
+        Found::Part { start, length, .. } if call.has("raw") => {
+            output::write_standard(&package[start..start + length]).map(|()| DONE)
+        }
+        Found::Part { start, length, looks } => {
+            output::print(&show::part(call.has("json"), &package[start..start + length], start, looks, asked))
+        }
+        // Raw output holds nothing but bytes that were found.
+        Found::Absent(looks) if call.has("raw") => Err(Stop::Refused(show::absent(false, looks))),
+        Found::Absent(looks) => output::print(&show::absent(call.has("json"), looks)).map(|_| NOT_DONE),
         Found::Refused(number) => {
-            if call.has("json") {
-                output::print(&format!("{{\"refused\":{number},\"meaning\":{}}}", show::json(meaning(number))))?;
-            }
             let why = explain::looking_up(&package, version, table, identity, asked, number);
-            let why = why.map(|why| format!(": {why}")).unwrap_or_default();
-            Err(Stop::Refused(format!("{}: refused {number}: {}{why}", input::shown(name), meaning(number))))
+            refused(&call, number, why)
         }
     }
 }
 
-/// The operands but the package: [VERSION] TABLE IDENTITY section CODE, or string ENTRY.
-fn question(call: &Call) -> Result<Question, Stop> {
+fn refused(call: &Call, number: u32, why: Option<String>) -> Result<u8, Stop> {
+    if call.has("json") {
+        output::print(&show::refused_json(number))?;
+    }
+    let why = why.map(|why| format!(": {why}")).unwrap_or_default();
+    let name = input::shown(&call.operands[0]);
+    Err(Stop::Refused(format!("{name}: refused {number}: {}{why}", meaning(number))))
+}
+
+/// The operands but the package.
+fn operands(call: &Call) -> Result<&[OsString], Stop> {
     let names = ["PACKAGE", "VERSION", "TABLE", "IDENTITY", "section or string", "CODE or ENTRY"];
     let without_version = ["PACKAGE", "TABLE", "IDENTITY", "section or string", "CODE or ENTRY"];
     let operands = if call.operands.len() > 5 { call.exactly(&names)? } else { call.exactly(&without_version)? };
-    let word = |at: usize| show::name(&operands[at]);
-    let bad = |what: &str, at: usize| call.wrong(format!("{what} '{}' can't be read", word(at)));
-    let table_at = operands.len() - 4;
-    let version = match table_at {
-        2 => Some(small(&word(1)).ok_or_else(|| bad("version", 1))?),
-        _ => None,
+    Ok(&operands[1..])
+}
+
+/// [VERSION] TABLE IDENTITY section CODE, or string ENTRY; the error says which word is wrong.
+pub fn question(words: &[String]) -> Result<Question, String> {
+    let bad = |what: &str, word: &str| format!("{what} '{word}' can't be read");
+    let (version, rest) = match words {
+        [version, rest @ ..] if rest.len() == 4 => (Some(small(version).ok_or_else(|| bad("version", version))?), rest),
+        rest => (None, rest),
     };
-    let (identity_at, kind_at, last) = (table_at + 1, table_at + 2, table_at + 3);
-    let table = table(&word(table_at)).ok_or_else(|| bad("table", table_at))?;
-    let identity = identity(&word(identity_at)).ok_or_else(|| bad("identity", identity_at))?;
-    let asked = match word(kind_at).as_str() {
-        "section" => Asked::Section(section(&word(last)).ok_or_else(|| bad("section", last))?),
-        "string" => Asked::Entry(number(&word(last)).ok_or_else(|| bad("entry", last))?),
-        other => return Err(call.wrong(format!("'{other}' is neither section nor string"))),
+    let [table_word, identity_word, kind, last] = rest else {
+        return Err(format!("{} where 4 or 5 make a question", show::count(words.len(), "word")));
+    };
+    let table = table(table_word).ok_or_else(|| bad("table", table_word))?;
+    let identity = identity(identity_word).ok_or_else(|| bad("identity", identity_word))?;
+    let asked = match kind.as_str() {
+        "section" => Asked::Section(section(last).ok_or_else(|| bad("section", last))?),
+        "string" => Asked::Entry(number(last).ok_or_else(|| bad("entry", last))?),
+        other => return Err(format!("'{other}' is neither section nor string")),
     };
     Ok(Question { version, table, identity, asked })
 }
@@ -112,30 +138,4 @@ pub fn table(text: &str) -> Option<u32> {
 
 pub fn section(text: &str) -> Option<u32> {
     section_code(text).or_else(|| small(text))
-}
-
-fn part(call: &Call, bytes: &[u8], start: usize, looks: usize, asked: Asked) -> Result<u8, Stop> {
-    if call.has("raw") {
-        return output::write_standard(bytes).map(|()| DONE);
-    }
-    let (length, is_text) = (bytes.len(), matches!(asked, Asked::Entry(_)));
-    if call.has("json") {
-        let text = std::str::from_utf8(bytes).ok().filter(|_| is_text);
-        let text = text.map(|t| format!(",\"text\":{}", show::json(t))).unwrap_or_default();
-        let place = format!("\"start\":{start},\"length\":{length},\"looks\":{looks}");
-        return output::print(&format!("{{\"found\":true,{place},\"bytes\":\"{}\"{text}}}", show::hexadecimal(bytes)));
-    }
-    let shown = if is_text { show::escaped(bytes) } else { show::hexadecimal(bytes) };
-    let head = format!("{} at {start} after {}", show::count(length, "byte"), show::count(looks, "look"));
-    output::print(&format!("{head}\n{shown}"))
-}
-
-/// Raw output holds nothing but bytes that were found.
-fn absent(call: &Call, looks: usize) -> Result<u8, Stop> {
-    let told = format!("absent after {}", show::count(looks, "look"));
-    if call.has("raw") {
-        return Err(Stop::Refused(told));
-    }
-    let json = format!("{{\"found\":false,\"looks\":{looks}}}");
-    output::print(if call.has("json") { &json } else { &told }).map(|_| NOT_DONE)
 }

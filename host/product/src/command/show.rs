@@ -1,5 +1,7 @@
 //! Bytes and names as they are shown.
 
+use super::meaning;
+use crate::answer::Asked;
 use std::ffi::OsStr;
 use std::os::unix::ffi::OsStrExt;
 
@@ -55,4 +57,28 @@ pub fn json(text: &str) -> String {
         }
     }
     shown + "\""
+}
+
+/// A part that was found: its place on a line, and its bytes in hexadecimal or as text on another; as JSON all on one.
+pub fn part(is_json: bool, bytes: &[u8], start: usize, looks: usize, asked: Asked) -> String {
+    let (length, is_text) = (bytes.len(), matches!(asked, Asked::Entry(_)));
+    if is_json {
+        let text = std::str::from_utf8(bytes).ok().filter(|_| is_text);
+        let text = text.map(|t| format!(",\"text\":{}", json(t))).unwrap_or_default();
+        let place = format!("\"start\":{start},\"length\":{length},\"looks\":{looks}");
+        return format!("{{\"found\":true,{place},\"bytes\":\"{}\"{text}}}", hexadecimal(bytes));
+    }
+    let shown = if is_text { escaped(bytes) } else { hexadecimal(bytes) };
+    format!("{} at {start} after {}\n{shown}", count(length, "byte"), count(looks, "look"))
+}
+
+pub fn absent(is_json: bool, looks: usize) -> String {
+    match is_json {
+        true => format!("{{\"found\":false,\"looks\":{looks}}}"),
+        false => format!("absent after {}", count(looks, "look")),
+    }
+}
+
+pub fn refused_json(number: u32) -> String {
+    format!("{{\"refused\":{number},\"meaning\":{}}}", json(meaning(number)))
 }

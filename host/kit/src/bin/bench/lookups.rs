@@ -2,6 +2,7 @@
 //! the words are read.
 
 use super::measure::shortest;
+use barthovin::batch;
 use barthovin::ffi;
 use kit::generate::{Draft, DraftObject};
 use kit::reference::{place, slot_count, Found};
@@ -69,4 +70,20 @@ fn measured(name: &'static str, with_index: bool) -> Result<Lookup> {
 
 pub fn all() -> Result<Vec<Lookup>> {
     Ok(vec![measured("with its index", true)?, measured("without an index: absent", false)?])
+}
+
+/// As many questions as a call takes, in the package with its index.
+pub fn batch() -> Result<Duration> {
+    let package = package(true);
+    let unit = |i: usize| identity(1 + i as u64 * 193 % UNITS);
+    let questions: Vec<u32> = (0..batch::MOST).flat_map(|i| batch::question(1, 1, unit(i)).expect("it fits")).collect();
+    let mut answers = vec![0; batch::ANSWER * batch::MOST];
+    shortest(|| {
+        answers.fill(0xA5A5_A5A5);
+        let clock = Instant::now();
+        let told = batch::answer_words(&package, 5, &questions, &mut answers);
+        let took = clock.elapsed();
+        let right = told == (0, answers.len()) && answers.chunks(4).all(|a| (a[0], a[2]) == (0, SIZE));
+        right.then_some(took).ok_or_else(|| Error::other(format!("the questions are answered {told:?}")))
+    })
 }

@@ -63,6 +63,7 @@ fn measure_all(oracle: Option<&str>) -> Result<Paper> {
         kinds,
         strings,
         // Looking up.
+        batch: lookups::batch()?,
         lookups: lookups::all()?,
         sheet: sheets::measured()?,
     })

@@ -20,6 +20,8 @@ pub struct Paper {
     pub small: (Measured, Duration),
     pub kinds: Vec<Growth>,
     pub strings: Growth,
+    /// Of 1,024 questions in one call.
+    pub batch: Duration,
     pub lookups: Vec<Lookup>,
     pub sheet: Sheet,
 }
@@ -133,6 +135,7 @@ impl Paper {
             ("small", time(self.small.1)),
             ("growth", self.kinds.iter().map(grown).collect()),
             ("verdict", self.verdict()),
+            ("batch", time(self.batch)),
             ("lookups", self.lookups.iter().map(looked_up).collect()),
             ("sheet_package", grouped(self.sheet.package as u64)),
             ("sheet_page", grouped(self.sheet.sheet as u64)),
@@ -232,6 +235,7 @@ mod tests {
             kinds: vec![growth("a")],
             strings: growth("b"),
             // Looking up.
+            batch: took,
             lookups: vec![Lookup { name: "some", bytes: 12, took }],
             sheet: Sheet { package: 9, sheet: 40, took },
         };

@@ -1,4 +1,4 @@
--- `lookup::searching::locate` meets its contract.
+-- `lookup::searching::locate_in` meets its contract.
 -- Assumes nothing.
 use mathlib.Core.Bool.{true}
 use Rattle.lookup.specs.Answers.{Opened, versionBy}
@@ -10,24 +10,21 @@ use native.Mathlib.Omega.{arith}
 use borrow.Author.Tests.{not-true, not-false}
 use mathlib.Core.Path.{_≡_, sym, _∙_}
 use borrow.Author.Needs.{needs}
-use Rattle.lookup.proofs.searching.locate.Statement.{statement}
-use Rattle.lookup.proofs.searching.locate.Tie as tie
+use Rattle.lookup.proofs.searching.locate_in.Statement.{statement}
+use Rattle.lookup.proofs.searching.locate_in.Tie as tie
 
 -- the package was opened, and the version and the table have passed
-is-open : (c : tie.Else1) → Opened (now (c .before .before .before .before .args .«package»)) (c .before .before .open-package .result)
-is-open c = searches.opened-good _ _ (c .before .before .open-package .ensures) (not-false _ (c .if1 .left))
+is-open : (c : tie.Else1) → Opened (now (c .before .before .before .args .«package»)) (c .before .before .before .args .head)
+is-open c = searches.opened-good _ _ (c .before .before .before .pre) (not-false _ (c .if1 .left))
 
-version-good : (c : tie.Else2) → versionBy (c .before .before .before .before .open-package .result) (c .before .before .before .before .before .before .args .version) ≡ true
+version-good : (c : tie.Else2) → versionBy (c .before .before .before .before .before .args .head) (c .before .before .before .before .before .args .version) ≡ true
 version-good c = sym (c .before .has-version .ensures) ∙ not-false _ (c .if2 .left)
 
-table-good : (c : tie.Else3) → tableGood (c .before .before .before .before .before .before .before .before .args .table) ≡ true
+table-good : (c : tie.Else3) → tableGood (c .before .before .before .before .before .before .before .args .table) ≡ true
 table-good c = sym (c .before .is-table .ensures) ∙ not-false _ (c .if3 .left)
 
-open-package-requires : tie.Need-open-package-requires
-open-package-requires c κs = search needs
-
 returns : tie.Need-returns
-returns c = lookups.looked-closed _ _ (c .before .before .open-package .ensures) (not-true _ (c .if1 .taken)) _ _ _ _
+returns c = lookups.looked-closed _ _ (c .before .before .before .pre) (not-true _ (c .if1 .taken)) _ _ _ _
 
 has-version-requires : tie.Need-has-version-requires
 has-version-requires c κs = search needs
@@ -56,11 +53,10 @@ locate-part-requires c κs = (is-open (c .before .before .before .before .before
 returns-6 : tie.Need-returns-6
 returns-6 c = c .locate-part .ensures ∙ lookups.looked-in _ _ (is-open (c .before .before .before .before .before .before .before .before)) _ _ _ (version-good (c .before .before .before .before .before .before)) (table-good (c .before .before .before .before)) _ _ (c .before .wide .ensures) (c .before .before .before .if4 .left) (c .before .before .if5 .left)
 
-pub locate-spec : {M : Type 1} → statement M
-locate-spec =
+pub locate-in-spec : {M : Type 1} → statement M
+locate-in-spec =
     tie.close
     (tie.spec
-    open-package-requires
     returns
     has-version-requires
     returns-2

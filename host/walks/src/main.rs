@@ -1,0 +1,96 @@
+//! Times the search for a string that ends at its first match against a build that walks all kept strings: walks FIGURES
+//!
+//! Both builds are proved, and their contracts are the same. The bundle has 10,000 different strings, and then 100,000 entries for the second
+//! of them. FIGURES gets one line: both times in nanoseconds. It fails where the walk takes less than five times the time.
+
+use kit::clock;
+use std::io::{Error, Result};
+use std::time::Duration;
+
+const STRINGS: usize = 10_000;
+const ENTRIES: usize = 100_000;
+const ROUNDS: usize = 5;
+const LEAST: f64 = 5.0;
+
+#[repr(C)]
+struct Packing {
+    code: u32,
+    length: usize,
+}
+
+type Pack = unsafe extern "C" fn(*const u8, usize, *mut u32, usize, *mut u8, usize) -> Packing;
+
+extern "C" {
+    fn barthovin_pack(b: *const u8, n: usize, work: *mut u32, words: usize, output: *mut u8, room: usize) -> Packing;
+    fn walk_all_pack(b: *const u8, n: usize, work: *mut u32, words: usize, output: *mut u8, room: usize) -> Packing;
+}
+
+fn section(words: &mut Vec<u8>, code: u32, bytes: &[u8]) {
+    words.extend((0x2000_0000 | code << 23 | bytes.len() as u32).to_le_bytes());
+    words.extend(bytes);
+    words.resize(words.len().next_multiple_of(4), 0);
+}
+
+/// One object of version 5 with one unit.
+fn bundle() -> Vec<u8> {
+    let mut text = Vec::new();
+    let mut places = Vec::new();
+    for i in 0..STRINGS {
+        places.push(text.len() as u32);
+        text.extend(format!("string_{i:05}\0").into_bytes());
+    }
+    let second = places[1];
+    places.extend(std::iter::repeat_n(second, ENTRIES));
+    let mut offsets = Vec::from((4 + 4 * places.len() as u32).to_le_bytes());
+    offsets.extend([5, 0, 0, 0]);
+    offsets.extend(places.iter().flat_map(|place| place.to_le_bytes()));
+    let mut out = Vec::from(0xF000_0000u32.to_le_bytes());
+    out.extend(0x1008_0405u32.to_le_bytes());
+    section(&mut out, 1, &[0x10, 0, 0, 0, 5, 0, 5, 8, 0, 0, 0, 0, 1, 0, 0, 0, 0, 0, 0, 0]);
+    section(&mut out, 3, &[0]);
+    section(&mut out, 6, &offsets);
+    section(&mut out, 11, &text);
+    out.extend((0x3000_0000 | (out.len() as u32 / 4 + 1)).to_le_bytes());
+    out
+}
+
+/// The shortest of several calls, and the package.
+fn time(pack: Pack, bundle: &[u8]) -> Result<(Duration, Vec<u8>)> {
+    // As many words as any edition of the packer asks for.
+    let mut work = vec![0u32; 20 * (bundle.len() / 4)];
+    let mut output = vec![0u8; 2 * bundle.len() + 1024];
+    let mut best = Duration::MAX;
+    let mut length = 0;
+    for _ in 0..ROUNDS {
+        let start = clock::thread();
+        let (words, room) = (work.len(), output.len());
+        // The three are apart from each other, and as long as is said.
+        let answer =
+            unsafe { pack(bundle.as_ptr(), bundle.len(), work.as_mut_ptr(), words, output.as_mut_ptr(), room) };
+        let passed = clock::between(start, clock::thread()).ok_or_else(|| Error::other("no clock"))?;
+        if answer.code != 0 {
+            return Err(Error::other(format!("refused {}", answer.code)));
+        }
+        best = best.min(passed);
+        length = answer.length;
+    }
+    output.truncate(length);
+    Ok((best, output))
+}
+
+fn main() -> Result<()> {
+    let file = std::env::args().nth(1).ok_or_else(|| Error::other("walks FIGURES"))?;
+    let bundle = bundle();
+    let (ours, package) = time(barthovin_pack, &bundle)?;
+    let (walk, same) = time(walk_all_pack, &bundle)?;
+    if package != same {
+        return Err(Error::other("the two builds give different packages"));
+    }
+    let ratio = walk.as_secs_f64() / ours.as_secs_f64();
+    println!("{STRINGS} different strings, then {ENTRIES} entries for the second: first match {ours:?}, walking all {walk:?}, {ratio:.1} times");
+    std::fs::write(file, format!("{} {}\n", ours.as_nanos(), walk.as_nanos()))?;
+    if ratio < LEAST {
+        return Err(Error::other(format!("less than {LEAST} times")));
+    }
+    Ok(())
+}
