@@ -5,7 +5,7 @@ use barthovin::answer::Found;
 use barthovin::batch::{answer_words, lookup, question, MOST};
 use barthovin::ffi;
 use kit::generate::{call, question as some_question, Random};
-use kit::reference::{pack, Packed};
+use kit::reference::{number as number_at, pack, Bundle, Packed};
 use kit::vectors::{bytes, lines, number};
 
 const MARGIN: usize = 16;
@@ -67,6 +67,21 @@ fn question_words(random: &mut Random, package: &[u8]) -> [u32; 3] {
     [kind | code << 4 | table, asked.identity as u32, (asked.identity >> 32) as u32]
 }
 
+/// The same package with rows whose parts end outside their sections.
+fn with_parts_outside(package: &[u8]) -> Vec<u8> {
+    let mut changed = package.to_vec();
+    let Some(read) = Bundle::read(package) else { return changed };
+    for section in read.objects.iter().flat_map(|o| &o.sections).filter(|s| s.code >= 12) {
+        let field = |at| number_at(section.bytes, at, 4, read.big).unwrap_or(0) as usize;
+        // The sizes are the last words of an index: columns times units.
+        let (sizes, end) = (4 * field(4) * field(8), section.start + section.bytes.len());
+        if let Some(sizes) = end.checked_sub(sizes).and_then(|start| changed.get_mut(start..end)) {
+            sizes.fill(0x7F);
+        }
+    }
+    changed
+}
+
 #[test]
 fn generated_lists() {
     let mut random = Random::new(80);
@@ -74,7 +89,10 @@ fn generated_lists() {
     for _ in 0..8_000 {
         let c = call(&mut random);
         let Packed::Made(package) = pack(&c.bundle, c.work, c.output) else { continue };
-        let asked = some_question(&mut random, &package);
+        let mut asked = some_question(&mut random, &package);
+        if random.one_in(4) {
+            asked.package = with_parts_outside(&package);
+        }
         let count = random.below(12) as usize;
         let mut questions: Vec<u32> = (0..count).flat_map(|_| question_words(&mut random, &package)).collect();
         if random.one_in(20) {
