@@ -7,7 +7,7 @@ use lib.Dec.{eqb, leb, ltb}
 use lib.ListN.{length, take, drop, getD}
 use Rattle.octets.specs.Octets.{part, numberAt}
 use Rattle.octets.specs.Lists.{all, any, those, same}
-use Rattle.octets.specs.Checked.{Check, pass, require}
+use Rattle.octets.specs.Checked.{Check, pass, _>>=_, require}
 use Rattle.numbers.specs.Names.{sectionNames}
 use Rattle.numbers.specs.Refusals.{notElf}
 

@@ -8,7 +8,7 @@ use lib.Dec.{eqb, leb, ltb}
 use lib.ListN.{length, getD}
 use Rattle.octets.specs.Octets.{part, numberAt, zeros, padded}
 use Rattle.octets.specs.Lists.{all, joined, sum, those}
-use Rattle.octets.specs.Checked.{Check, pass, refuse, require}
+use Rattle.octets.specs.Checked.{Check, pass, refuse, _>>=_, require}
 use Rattle.bundle.specs.Encoding.{Encoding}
 use Rattle.bundle.specs.Bundle.{filledUp}
 use Rattle.bundle.specs.Written.{Section, sectionBytes, written}

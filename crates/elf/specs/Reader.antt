@@ -7,7 +7,7 @@ use lib.Dec.{eqb, leb}
 use lib.ListN.{length, getD}
 use Rattle.octets.specs.Octets.{numberAt}
 use Rattle.octets.specs.Lists.{all, any}
-use Rattle.octets.specs.Checked.{Check, pass, require}
+use Rattle.octets.specs.Checked.{Check, pass, _>>=_, require}
 use Rattle.answers.specs.Answers.{Answer, answered}
 use Rattle.bundle.specs.Encoding.{Encoding}
 use Rattle.bundle.specs.Written.{Section, written}
