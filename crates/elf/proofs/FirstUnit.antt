@@ -7,25 +7,25 @@ use mathlib.Core.List.{List, [], _∷_}
 use Prim.Native.Nat.{ℕ, _+_, _≤_, _<_}
 use native.Mathlib.Numerals.{add-one}
 use native.Mathlib.Omega.{arith}
-use lib.Dec.{eqb}
+use lib.Dec.{eqb, ltb}
 use lib.ListN.{length, take, drop, getD, length-take, drop-of-length-le}
 use lib.Seq.{drop-cons}
 use borrow.Author.Tests.{eq-eqb, eqb-true, ne-eqb}
 use Rattle.octets.specs.Octets.{part, numberAt}
 use Rattle.octets.specs.Lists.{those}
-use Rattle.octets.specs.Checked.{Check, pass, refuse}
+use Rattle.octets.specs.Checked.{Check, pass, refuse, _>>=_, require}
 use Rattle.octets.proofs.Checks.{known, true-false, passes, fails, or-left, or-right, or-neither}
 use Rattle.octets.proofs.Lists.{those-keeps, those-skips}
 use Rattle.octets.proofs.Numbers.{Bytes, bytes-part, number-lt-width}
 use Rattle.octets.proofs.Parts.{part-front}
+use Rattle.octets.proofs.Refusals.{Only, only-pass, only-require, only-bind}
 use Rattle.bundle.specs.Encoding.{Encoding}
 use Rattle.bundle.specs.Encoded.{encodingIs, four}
 use Rattle.bundle.specs.declared.encoding.ObjectEncoding.{ObjectEncoding}
-use Rattle.unit.specs.UnitRead.{lengthField, isFive, addressPlace, headerPasses}
-use Rattle.unit.specs.Headers.{unitInside, withAddress, statedAddress, addressOf}
+use Rattle.unit.specs.UnitRead.{lengthField, unitSize, isFive, addressPlace, headerPasses}
+use Rattle.unit.specs.Headers.{fits, unitInside, withAddress, statedAddress, addressOf}
 use Rattle.unit.specs.declared.header.AddressSize.the-variants as address
 use Rattle.unit.proofs.Fields.{common-ge}
-use Rattle.unit.proofs.Units.{only-unitInside}
 use Rattle.unit.proofs.HeaderAlone.{alone-none, alone-fields, fields-short}
 use Rattle.numbers.specs.Sections.{infoCode}
 use Rattle.numbers.specs.Refusals.{noUnit}
@@ -34,6 +34,19 @@ use Rattle.elf.specs.Reader.{firstInfo, widthStated, versionStated, enco
 use Rattle.elf.specs.Held.{infoOf, fieldSize, statedOf, wordWith}
 use Rattle.elf.specs.declared.stating.Stated.the-variants as stated
 use Rattle.elf.proofs.Judged.{wanted, unwanted}
+
+-- ---- a unit that doesn't end in its section
+only-unitInside : (e : Encoding) (s : List ℕ) → Only 11 (unitInside e s)
+unfolding unitInside unitSize fits
+only-unitInside e s =
+    only-bind 11 _ _ (only-bind 11 _ _ (only-require _ 11) (λ _. go (eqb (e .width) 4))) (λ n. only-bind 11 _ _ (only-require _ 11) (λ _. only-pass 11 n))
+  where
+    go : (b : Bool) → Only {A = ℕ} 11 (elim b [
+      | true ↦ require (ltb (numberAt (e .big) 4 s 0) 0xFFFF_FFF0) 11 >>= λ _. pass (4 + numberAt (e .big) 4 s 0)
+      | false ↦ require (eqb (numberAt (e .big) 4 s 0) 0xFFFF_FFFF) 11 >>= λ _. pass (12 + numberAt (e .big) 8 s 4)
+    ])
+    go true = only-bind 11 _ _ (only-require _ 11) (λ _. only-pass 11 _)
+    go false = only-bind 11 _ _ (only-require _ 11) (λ _. only-pass 11 _)
 
 -- ---- the first info
 module _ (f names : List ℕ) (hs : List Header) (i : ℕ) where
