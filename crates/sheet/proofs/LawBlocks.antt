@@ -8,13 +8,13 @@ use native.Mathlib.Omega.{arith}
 use native.Mathlib.Numerals.{add-one}
 use native.Mathlib.Decide.{ℕ-discrete}
 use lib.ListN.{length, getD, take, drop, length-append, drop-of-length-le}
-use lib.Seq.{drop-cons, take-append-add, drop-append-add, take-append-le, drop-append-le, drop-at}
-use Rattle.octets.specs.Octets.{placed, padded, zeros}
+use lib.Seq.{drop-cons, take-append-add, drop-append-add, take-append-le, drop-append-le}
+use Rattle.octets.specs.Octets.{placed, zeros}
 use Rattle.octets.proofs.Placed.{length-zeros, zeros-add, zeros-none, placed-all, placed-none}
 use Rattle.index.specs.Columns.{columnsOf}
 use Rattle.index.specs.Index.{Index}
 use Rattle.sheet.specs.Sheet.{line, sectionIn, cellLines, rowLines, identitiesIn}
-use Rattle.sheet.specs.Held.{CellLine, block, blocks, laidOut}
+use Rattle.sheet.specs.Held.{CellLine, block, blocks}
 use Rattle.sheet.specs.declared.lines.Line.{Line}
 use Rattle.sheet.proofs.LawLines.{length-line, placed-next}
 use Rattle.sheet.proofs.LawSlots.{in-here, in-other}
@@ -87,8 +87,8 @@ module _ (letter : ℕ) (i : Index) where
           ∙ ap (λ (z : List ℕ). z ++ blocks letter i rs xs (suc row) n) (placed-all (block letter i row (identitiesIn row rs xs)) (rowLines letter i r x) same))
       | no f ↦
           let next : 40 * length (i .codes) * (r - row) ≡ length (block letter i row (identitiesIn row rs xs)) + 40 * length (i .codes) * (r - suc row) =
-              (let z : r - row ≡ suc (r - suc row) = omega (arith, f) in
-              ap (λ (k : ℕ). 40 * length (i .codes) * k) z ∙ omega (arith, mul-suc (40 * length (i .codes)) (r - suc row), length-block row (identitiesIn row rs xs))) in
+          (let z : r - row ≡ suc (r - suc row) = omega (arith, f) in
+          ap (λ (k : ℕ). 40 * length (i .codes) * k) z ∙ omega (arith, mul-suc (40 * length (i .codes)) (r - suc row), length-block row (identitiesIn row rs xs))) in
           ap₂ (λ (a b : List ℕ). a ++ b) (ap (block letter i row) (in-other row r x rs xs f)) (blocks-put (suc row) n (omega (arith, f)) (omega arith))
           ∙ sym (ap (λ (z : ℕ). placed (blocks letter i rs xs row (suc n)) z (rowLines letter i r x)) next
           ∙ placed-in-rest (block letter i row (identitiesIn row rs xs)) (blocks letter i rs xs (suc row) n) (rowLines letter i r x) (40 * length (i .codes) * (r - suc row)))

@@ -1,13 +1,12 @@
 -- Laws of marks: one that was set stands, the others are as they were.
 -- Assumes nothing.
 use mathlib.Core.Path.{_≡_, refl, sym, ap, _∙_}
-use mathlib.Core.Bool.{Bool, true, false}
+use mathlib.Core.Bool.{true, false}
 use mathlib.Core.List.{List}
 use Prim.Native.Nat.{ℕ, zero, suc, _+_, _*_, _-_, _/_, _%_, _^_, _≤_, _<_}
 use native.Mathlib.Omega.{arith}
 use native.Mathlib.Nat.{one-mul, zero-div, div-eq-of-lt}
 use native.Mathlib.Decide.{ℕ-discrete, decLe}
-use lib.Dec.{eqb}
 use borrow.Author.Tests.{eq-eqb}
 use lib.Bits.{bitOr, or-shr, or-mod, or-zero-r, shifted-even}
 use lib.Pow.{pow-lt, pow-add, shl-shr, shl-exact}
@@ -20,7 +19,7 @@ use Rattle.sheet.specs.Held.{marked, withMark, allMarked}
 -- ---- a bit of a word
 -- the shift of one bit stays in the word
 pub bit-fits : (k : ℕ) → k < 32 → 1 * 2 ^ k % 4294967296 ≡ 2 ^ k
-bit-fits k h = 
+bit-fits k h =
     let e : 1 * 2 ^ k % 2 ^ 32 ≡ 1 * 2 ^ k = shl-exact 1 k 32 (omega arith) (omega arith) in
     e ∙ one-mul (2 ^ k)
 
@@ -66,7 +65,7 @@ module _ (words : List ℕ) (n : ℕ) (h : n / 32 < length words) where
         let j = m % 32 in
         let w = getD words (n / 32) 0 in
         let b : bitOr w (2 ^ k) / 2 ^ j % 2 ≡ w / 2 ^ j % 2 =
-            or-bit w (2 ^ k) j ∙ ap (bitOr (w / 2 ^ j % 2)) (bit-other k j (λ z. f (omega arith))) ∙ or-zero-r (w / 2 ^ j % 2) in
+        or-bit w (2 ^ k) j ∙ ap (bitOr (w / 2 ^ j % 2)) (bit-other k j (λ z. f (omega arith))) ∙ or-zero-r (w / 2 ^ j % 2) in
         rw (marked, withMark, e, getD-set-same words (n / 32) (bitOr w (2 ^ k)) 0 h, b)
     | no g ↦ rw (marked, withMark, getD-set-other words (n / 32) (m / 32) (bitOr (getD words (n / 32) 0) (2 ^ (n % 32))) 0 g)
   ]

@@ -4,7 +4,7 @@ use mathlib.Core.Path.{_≡_, refl, sym, ap, ap₂, _∙_}
 use mathlib.Core.Bool.{Bool, true, false}
 use mathlib.Core.List.{List, [], _∷_, _++_, map}
 use mathlib.Core.Option.{Option, some, none}
-use Prim.Native.Nat.{ℕ, zero, suc, _+_, _*_, _-_, _%_, _≤_, _<_}
+use Prim.Native.Nat.{ℕ, zero, suc, _+_, _-_, _%_, _≤_, _<_}
 use native.Mathlib.Omega.{arith}
 use native.Mathlib.Nat.{mod-lt, lt-of-le-of-lt}
 use native.Mathlib.Decide.{ℕ-discrete}
@@ -14,8 +14,8 @@ use lib.ListN.{length, getD, set, length-set}
 use borrow.Author.Tests.{eqb-true}
 use Rattle.octets.specs.Octets.{zeros}
 use Rattle.octets.specs.Lists.{joined}
-use Rattle.octets.specs.Checked.{Check, pass, refuse, _>>=_}
-use Rattle.octets.proofs.Checks.{bind-pass, pass-inj, pass-refuse, then-pass, true-false}
+use Rattle.octets.specs.Checked.{pass}
+use Rattle.octets.proofs.Checks.{bind-pass, pass-inj, pass-refuse, then-pass}
 use Rattle.octets.proofs.Placed.{length-zeros}
 use Rattle.index.specs.Columns.{columnsOf}
 use Rattle.index.specs.Index.{Index}
@@ -95,7 +95,7 @@ all-placed (x ∷ xs) t u row p l some' none' e =
     let lr : length (v .rows) ≡ length (t .rows) = ap length (q .rows-are) ∙ simp length-set in
     let li : length (v .identities) ≡ length (t .identities) = ap length (q .identities-are) ∙ simp length-set in
     let other : (r : ℕ) → 0 < r → (row ≡ r → ⊥) → identitiesIn r (v .rows) (v .identities) ≡ identitiesIn r (t .rows) (t .identities) =
-        (λ r h d. ap₂ (identitiesIn r) (q .rows-are) (q .identities-are) ∙ put-other row x r (t .rows) (t .identities) (q .at) d (λ z. omega arith) (q .free) l) in
+    (λ r h d. ap₂ (identitiesIn r) (q .rows-are) (q .identities-are) ∙ put-other row x r (t .rows) (t .identities) (q .at) d (λ z. omega arith) (q .free) l) in
     let on = all-placed xs v u (row + 1) (omega arith) (lr ∙ l ∙ sym li) (omega arith) (λ r h. other r (omega arith) (λ z. omega arith) ∙ none' r (omega arith)) g in
     record {
       before = λ r h d. on .before r h (omega arith) ∙ other r h (λ z. omega arith);

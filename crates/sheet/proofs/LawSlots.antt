@@ -1,25 +1,22 @@
 -- Laws of the slots of a row: none, one or more, by marks and by the definition.
 -- Assumes nothing.
 use mathlib.Core.Path.{_≡_, refl, sym, ap, _∙_}
-use mathlib.Core.Bool.{Bool, true, false}
-use mathlib.Core.List.{List, [], _∷_, _++_}
+use mathlib.Core.Bool.{true, false}
+use mathlib.Core.List.{List, [], _∷_}
 use mathlib.Core.Logic.{⊎-elim}
 use Prim.Native.Nat.{ℕ, zero, suc, _+_, _≤_, _<_}
 use native.Mathlib.Omega.{arith}
 use native.Mathlib.Decide.{ℕ-discrete}
-use native.Mathlib.Numerals.{add-one}
-use lib.Dec.{eqb}
 use lib.ListN.{length, getD, drop}
-use lib.Seq.{drop-cons}
 use borrow.Author.Tests.{eq-eqb, ne-eqb}
 use Rattle.numbers.specs.Refusals.{badPackage}
 use Rattle.octets.specs.Lists.{has, any}
-use Rattle.octets.specs.Checked.{Check, pass, refuse, _>>=_}
+use Rattle.octets.specs.Checked.{Check, pass, refuse}
 use Rattle.octets.proofs.Checks.{true-false, known, pass-refuse, pass-inj, then-pass, then-refuse}
 use Rattle.octets.proofs.Elements.{has-cons, has-skips, at-has}
 use Rattle.index.specs.Index.{Index}
-use Rattle.sheet.specs.Sheet.{identitiesIn, only, rowsFrom, rowLines}
-use Rattle.sheet.specs.Held.{marked, noneTwice, allMarked, single, Marked, block, blocks}
+use Rattle.sheet.specs.Sheet.{identitiesIn, only, rowsFrom}
+use Rattle.sheet.specs.Held.{noneTwice, allMarked, single, Marked, block, blocks}
 
 -- ---- the identities in a row's slots, slot by slot
 module _ (row r x : ℕ) (rs xs : List ℕ) where
@@ -107,23 +104,23 @@ record Twice (rows ids : List ℕ) : Type 0 where
 twice-more : (r x : ℕ) (rs xs : List ℕ) → Twice rs xs → Twice (r ∷ rs) (x ∷ xs)
 twice-more r x rs xs t = elim (ℕ-discrete r (t .row)) [
   | yes h ↦ record {
-      row = t .row;
-      counted = t .counted;
-      there = has-cons (t .row) r rs (sym h);
-      first = x;
-      second = t .first;
-      more = t .second ∷ t .more;
-      are = in-here (t .row) r x rs xs h ∙ ap (λ (z : List ℕ). x ∷ z) (t .are);
-    }
+    row = t .row;
+    counted = t .counted;
+    there = has-cons (t .row) r rs (sym h);
+    first = x;
+    second = t .first;
+    more = t .second ∷ t .more;
+    are = in-here (t .row) r x rs xs h ∙ ap (λ (z : List ℕ). x ∷ z) (t .are);
+  }
   | no h ↦ record {
-      row = t .row;
-      counted = t .counted;
-      there = has-skips (t .row) r rs (λ z. h (sym z)) ∙ t .there;
-      first = t .first;
-      second = t .second;
-      more = t .more;
-      are = in-other (t .row) r x rs xs h ∙ t .are;
-    }
+    row = t .row;
+    counted = t .counted;
+    there = has-skips (t .row) r rs (λ z. h (sym z)) ∙ t .there;
+    first = t .first;
+    second = t .second;
+    more = t .more;
+    are = in-other (t .row) r x rs xs h ∙ t .are;
+  }
 ]
 
 in-two : (rows ids : List ℕ) → length rows ≡ length ids → noneTwice rows ≡ false → Twice rows ids
@@ -134,16 +131,16 @@ in-two (r ∷ rs) (x ∷ xs) l e = elim (ℕ-discrete r 0) [
   | yes h ↦ twice-more r x rs xs (in-two rs xs (omega arith) (sym (twice-free r rs h) ∙ e))
   | no h ↦ ⊎-elim
       (λ q.
-        let i = in-some r rs xs (omega arith) q in
-        record {
-          row = r;
-          counted = omega (arith, h);
-          there = has-cons r r rs refl;
-          first = x;
-          second = i .0;
-          more = i .1;
-          are = in-here r r x rs xs refl ∙ ap (λ (z : List ℕ). x ∷ z) (i .2);
-        })
+      let i = in-some r rs xs (omega arith) q in
+      record {
+        row = r;
+        counted = omega (arith, h);
+        there = has-cons r r rs refl;
+        first = x;
+        second = i .0;
+        more = i .1;
+        are = in-here r r x rs xs refl ∙ ap (λ (z : List ℕ). x ∷ z) (i .2);
+      })
       (λ q. twice-more r x rs xs (in-two rs xs (omega arith) (sym (twice-on r rs h q) ∙ e)))
       (known (has rs r))
 ]

@@ -1,18 +1,14 @@
 -- `sheet::rows::mark_rows` meets its contract.
 -- Assumes nothing.
 use mathlib.Core.Path.{_≡_, refl, sym, ap, _∙_}
-use mathlib.Core.Bool.{true, false}
-use Prim.Native.Nat.{ℕ, suc, _+_, _*_, _-_, _/_, _≤_, _<_}
+use Prim.Native.Nat.{ℕ, suc, _-_, _/_, _≤_, _<_}
 use native.Mathlib.Omega.{arith}
-use native.Mathlib.Nat.{sub-zero}
 use mathlib.Core.List.{List}
-use lib.ListN.{length, getD}
-use borrow.Author.Tests.{not-true, not-false}
+use lib.ListN.{length}
 use denote.Ref.{now}
 use Rattle.octets.proofs.Checks.{true-false}
 use Rattle.index.specs.Held.{indexIn}
 use Rattle.index.proofs.Heads.{in-rows, rows-length}
-use Rattle.sheet.specs.Held.{noneTwice}
 use Rattle.sheet.proofs.LawIndex.{here-sized, here-units, here-row}
 use Rattle.sheet.proofs.LawMarks.{length-withMark}
 use Rattle.sheet.proofs.LawSifted.{Sifted, sifted-none, sifted-free, sifted-twice, sifted-more, sifted-all}
@@ -74,8 +70,7 @@ next r = omega (arith, r .before .loop-test .taken)
 returns : tie.Need-returns Inv-loop μ-loop
 returns c =
     let r = c .before .before .before .before in
-    let l = r .before .before .loop in
-    (
+    let l = r .before .before .loop in (
       sym (sifted-twice _ _ _ _ _ (l .inv .2) (next r) (inside r) (r .row-at .ensures) (c .before .before .before .if1 .taken) (sym (c .before .is-marked .ensures) ∙ c .if2 .taken)),
       (λ e. absurd (true-false e refl), l .inv .1),
     )
@@ -91,8 +86,7 @@ loop-again c =
     let t = c .before .before .before .before in
     let r = t .before .before .before .before in
     let l = r .before .before .loop in
-    let m = c .before .before .mark .ensures in
-    (
+    let m = c .before .before .mark .ensures in (
       omega (arith, l .inv .0),
       ap length m ∙ length-withMark _ _ ∙ l .inv .1,
       rw (sym m) at (sifted-more _ _ _ _ _ (l .inv .2) (next r) (inside r) (r .row-at .ensures) (t .before .before .before .if1 .taken) (row-fits r) (sym (t .before .is-marked .ensures) ∙ t .if2 .left)),

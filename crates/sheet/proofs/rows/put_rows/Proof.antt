@@ -2,14 +2,13 @@
 -- Assumes nothing.
 use mathlib.Core.Path.{_≡_, refl, sym, ap, _∙_}
 use Prim.Native.Nat.{ℕ, suc, _+_, _*_, _-_, _≤_, _<_}
-use native.Mathlib.Nat.{mul-suc, mul-le-mul-left}
 use native.Mathlib.Omega.{arith}
-use lib.ListN.{length, getD}
+use lib.ListN.{length}
 use denote.Ref.{now}
 use Rattle.index.specs.Index.{Index, layout}
 use Rattle.index.specs.Held.{indexIn}
 use Rattle.index.proofs.Heads.{rows-length, identities-length, codes-length, in-rows, in-identities}
-use Rattle.sheet.proofs.LawIndex.{here-sized, here-columns, here-row, here-units}
+use Rattle.sheet.proofs.LawIndex.{here-sized, here-columns, here-row}
 use Rattle.sheet.proofs.LawLaid.{laidFrom, room-row, laid-none, laid-free, laid-put, laid-all}
 use Rattle.sheet.proofs.rows.put_rows.Statement.{statement}
 use Rattle.sheet.proofs.rows.put_rows.Tie as tie
@@ -99,8 +98,7 @@ loop-again c =
     let i = r .before in
     let l = i .before .loop in
     let a = Args i .args in
-    let w : 40 * a .t .head .columns ≡ 40 * length (In i .codes) = ap (λ (z : ℕ). 40 * z) (sym (codes-length (a .t .big) (now (a .s)) (a .t .head))) in
-    (
+    let w : 40 * a .t .head .columns ≡ 40 * length (In i .codes) = ap (λ (z : ℕ). 40 * z) (sym (codes-length (a .t .big) (now (a .s)) (a .t .head))) in (
       omega (arith, l .inv .0),
       p .put-row .kept .1 .1 .1 .1 .0 ∙ l .inv .1,
       laid-put _ _ _ _ _ _ _ (next r) (row-there i) (identity-there i) (r .row-at .ensures) (x .identity-at .ensures) _ _ _ (omega (arith, x .before .if1 .taken)) (row-most r) w (l .inv .2) (p .put-row .ensures),

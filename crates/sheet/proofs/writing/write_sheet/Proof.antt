@@ -17,13 +17,6 @@ use Rattle.sheet.proofs.LawSheet.{measured-bad, measured-good, refused-
 use borrow.Author.Needs.{needs}
 use Rattle.sheet.proofs.writing.write_sheet.Statement.{statement}
 use Rattle.sheet.proofs.writing.write_sheet.Tie as tie
-use Rattle.sheet.proofs.writing.write_sheet.Reads as reads
-use Rattle.sheet.proofs.writing.write_sheet.Lts as lts
-use Rattle.lookup.proofs.opening.open_package.Reads as open-package-reads
-use Rattle.octets.proofs.clear_bytes.Reads as clear-bytes-reads
-use Rattle.sheet.proofs.tables.measure_table.Reads as measure-table-reads
-use Rattle.sheet.proofs.tables.write_tables.Reads as write-tables-reads
-use Rattle.sheet.proofs.writing.refused.Reads as refused-reads
 
 -- the package was opened, and the page is zero
 abbrev From : tie.Else1 → tie.Start
@@ -165,8 +158,7 @@ write-tables-requires c κs =
     let k = c .before .before .before in
     let o = Opening k in
     let a = first (k .before .before .before .before) in
-    let b = second k in
-    (
+    let b = second k in (
       is-open o,
       record {
         first = a .lines;
@@ -195,8 +187,7 @@ returns-6 c =
     let o = Opening k in
     let a = first (k .before .before .before .before) in
     let b = second k in
-    let s = sheet-made _ (length (now (From o .args .page))) (is-open o .is) _ (a .are) _ (b .are) (omega (arith, fits e, a .long, b .long, page-length o)) in
-    (
+    let s = sheet-made _ (length (now (From o .args .page))) (is-open o .is) _ (a .are) _ (b .are) (omega (arith, fits e, a .long, b .long, page-length o)) in (
       made-told _ (a .lines) (b .lines) _ _ s (a .long) (b .long),
       w .write-tables .ensures ∙ ap (linesOf (bothOf (now (From o .args .«package»)))) (page-length o) ∙ made-page _ _ _ _ _ (a .are) (b .are) s,
     )
