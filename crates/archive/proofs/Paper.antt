@@ -1,37 +1,36 @@
 -- The sheet of an accepted bundle's package says what the lookups answer, proved.
 -- Assumes nothing.
-use mathlib.Core.Path.{_≡_, refl, sym, ap, ap₂, _∙_}
+use mathlib.Core.Path.{_≡_, refl, sym, ap, _∙_}
 use mathlib.Core.Logic.{_⊎_, inl, inr, ⊎-elim}
 use mathlib.Core.Bool.{true, false}
-use mathlib.Core.List.{List, [], _∷_, _++_, map}
+use mathlib.Core.List.{List, _++_, map}
 use mathlib.Core.Option.{Option, some, none}
 use Prim.Native.Nat.{ℕ, _+_, _*_, _-_, _<_, _≤_}
 use native.Mathlib.Omega.{arith}
 use lib.Dec.{leb}
 use lib.ListN.{length, getD, length-map}
 use Rattle.octets.specs.Lists.{joined, all, distinct}
-use Rattle.octets.specs.Checked.{Check, pass, refuse, _>>=_, require}
-use Rattle.octets.proofs.Checks.{passes, fails, then-pass, known, pass-inj}
+use Rattle.octets.specs.Checked.{pass, refuse}
+use Rattle.octets.proofs.Checks.{passes, fails, then-pass, known}
 use Rattle.octets.proofs.Numbers.{Bytes}
 use Rattle.bundle.specs.Bundle.{Part, firstPart}
 use Rattle.index.specs.Columns.{columnsOf}
-use Rattle.index.specs.Index.{Index, Contribution, codeGood, indexOf, cellOf}
-use Rattle.index.specs.Probing.{Slots, slotsOf}
+use Rattle.index.specs.Index.{Index, Contribution, codeGood, cellOf}
 use Rattle.index.proofs.Found.{FoundIn}
 use Rattle.index.proofs.LawGrid.{noRow, identitiesOf, getD-map}
 use Rattle.index.proofs.LawWhole.{Indexed, probe-found}
 use Rattle.index.proofs.RoundTrip.{written, present-good, present-distinct}
-use Rattle.index.specs.Written.{Row, presentColumns}
+use Rattle.index.specs.Written.{Row}
 use Rattle.package.proofs.Accepted.{Accepted, packed-accepted}
 use Rattle.package.proofs.Tables.{indexOfTable}
-use Rattle.lookup.specs.Lookup.{Found, refused, part, Package, packageOf, versionGood, indexFor, Place, placeIn, cellPlace, partPlace, inTable, answered, lookedUp, startOf}
+use Rattle.lookup.specs.Lookup.{refused, part, Package, packageOf, versionGood, indexFor, placeIn, cellPlace, partPlace, inTable, answered, lookedUp, startOf}
 use Rattle.lookup.specs.Answers.{packageIn}
-use Rattle.sheet.specs.Sheet.{letterC, letterT, line, sectionIn, cellLines, rowLines, identitiesIn, rowsFrom, tableLines, sheetLines}
+use Rattle.sheet.specs.Sheet.{letterC, letterT, line, sectionIn, rowLines, rowsFrom, tableLines, sheetLines}
 use Rattle.sheet.proofs.LawPlacing.{slots-one, cells-told, rows-told}
-use Rattle.sheet.proofs.LawCells.{Named, line-named, line-cell}
+use Rattle.sheet.proofs.LawCells.{line-named, line-cell}
 use Rattle.archive.specs.Theorem as theorem
-use Rattle.archive.specs.Theorem.{Asked, IsCode}
-use Rattle.archive.specs.Paper.{sectionsIn, foundLine, linesFound, PaperAndProgram, Paper}
+use Rattle.archive.specs.Theorem.{Asked}
+use Rattle.archive.specs.Paper.{sectionsIn, foundLine, linesFound, Paper}
 use Rattle.archive.proofs.Read.{rowsIn, versionIn, Table, empty, full}
 use Rattle.archive.proofs.Judged.{part-judged, ends-found, ends-refused, identities-are, no-slots}
 use Rattle.archive.proofs.Absences.{Reads, reads}
@@ -149,7 +148,7 @@ module _ (b p : List ℕ) (a : Accepted b p) (h : Bytes b) (v : ℕ) (e : theore
   second = record { version = e; tables = inr refl }
 
   is : packageOf p ≡ pass (packageIn p)
-  is = reads b p a h v 1 first .read ∙ sym (ap pass (same b p a h v 1 first letterC))
+  is = read b p a h v 1 first letterC .read ∙ sym (ap pass (same b p a h v 1 first letterC))
 
   pub paper-told : sheetLines p ≡ pass (linesFound p v 1 letterC (theorem.identitiesOf b 1) ++ linesFound p v 2 letterT (theorem.identitiesOf b 2))
   unfolding sheetLines indexFor

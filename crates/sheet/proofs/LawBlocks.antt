@@ -8,13 +8,13 @@ use native.Mathlib.Omega.{arith}
 use native.Mathlib.Numerals.{add-one}
 use native.Mathlib.Decide.{ℕ-discrete}
 use lib.ListN.{length, getD, take, drop, length-append, drop-of-length-le}
-use lib.Seq.{drop-cons, take-append-add, drop-append-add, take-append-le, drop-append-le, drop-at}
-use Rattle.octets.specs.Octets.{placed, padded, zeros}
+use lib.Seq.{drop-cons, take-append-add, drop-append-add, take-append-le, drop-append-le}
+use Rattle.octets.specs.Octets.{placed, zeros}
 use Rattle.octets.proofs.Placed.{length-zeros, zeros-add, zeros-none, placed-all, placed-none}
 use Rattle.index.specs.Columns.{columnsOf}
 use Rattle.index.specs.Index.{Index}
 use Rattle.sheet.specs.Sheet.{line, sectionIn, cellLines, rowLines, identitiesIn}
-use Rattle.sheet.specs.Held.{CellLine, block, blocks, laidOut}
+use Rattle.sheet.specs.Held.{CellLine, block, blocks}
 use Rattle.sheet.specs.declared.lines.Line.{Line}
 use Rattle.sheet.proofs.LawLines.{length-line, placed-next}
 use Rattle.sheet.proofs.LawSlots.{in-here, in-other}

@@ -1,19 +1,19 @@
 -- The cell that a line names is the one that a lookup reads: by the place of its column, for codes that are good and distinct.
 -- Assumes nothing.
-use mathlib.Core.Path.{_≡_, refl, sym, ap, _∙_}
+use mathlib.Core.Path.{_≡_, refl, sym}
 use mathlib.Core.Bool.{Bool, true, false, _&&_}
 use mathlib.Core.List.{List, [], _∷_}
-use mathlib.Core.Option.{Option, some, none}
+use mathlib.Core.Option.{some}
 use Prim.Native.Nat.{ℕ, zero, suc, _+_, _*_, _-_, _≤_, _<_}
 use native.Mathlib.Omega.{arith}
 use lib.Dec.{eqb, leb}
 use lib.ListN.{length, getD}
 use borrow.Author.Tests.{leb-true, eqb-false}
-use Rattle.octets.specs.Lists.{all, has, distinct}
+use Rattle.octets.specs.Lists.{all, distinct}
 use Rattle.octets.proofs.Checks.{true-false, and-left, and-right}
 use Rattle.octets.proofs.Elements.{all-at, distinct-head, distinct-tail, has-not-at}
 use Rattle.index.specs.Columns.{Column, columnsOf, columnIn, columnsFour, columnsFive}
-use Rattle.index.specs.Index.{Index, Contribution, codeGood, placeOf, cellAt, cellOf}
+use Rattle.index.specs.Index.{Index, codeGood, placeOf, cellAt, cellOf}
 use Rattle.index.proofs.LawPlaces.{placeOf-here, placeOf-on}
 use Rattle.sheet.specs.Sheet.{sectionIn}
 

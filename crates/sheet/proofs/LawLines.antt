@@ -7,7 +7,7 @@ use native.Mathlib.Omega.{arith}
 use lib.ListN.{length, set, length-append}
 use borrow.Author.Tests.{lt-ltb, le-ltb}
 use Rattle.octets.specs.Octets.{placed}
-use Rattle.octets.proofs.Placed.{placed-back, placed-placed, placed-two, placed-three, length-placed}
+use Rattle.octets.proofs.Placed.{placed-back, placed-placed, placed-three}
 use Rattle.sheet.specs.Sheet.{digit, hex, decimal, line, space, newline}
 
 -- ---- digits

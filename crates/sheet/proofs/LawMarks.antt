@@ -1,13 +1,12 @@
 -- Laws of marks: one that was set stands, the others are as they were.
 -- Assumes nothing.
 use mathlib.Core.Path.{_≡_, refl, sym, ap, _∙_}
-use mathlib.Core.Bool.{Bool, true, false}
+use mathlib.Core.Bool.{true, false}
 use mathlib.Core.List.{List}
 use Prim.Native.Nat.{ℕ, zero, suc, _+_, _*_, _-_, _/_, _%_, _^_, _≤_, _<_}
 use native.Mathlib.Omega.{arith}
 use native.Mathlib.Nat.{one-mul, zero-div, div-eq-of-lt}
 use native.Mathlib.Decide.{ℕ-discrete, decLe}
-use lib.Dec.{eqb}
 use borrow.Author.Tests.{eq-eqb}
 use lib.Bits.{bitOr, or-shr, or-mod, or-zero-r, shifted-even}
 use lib.Pow.{pow-lt, pow-add, shl-shr, shl-exact}

@@ -1,8 +1,7 @@
 -- The answer of the sheet and its page, case by case.
 -- Assumes nothing.
-use mathlib.Core.Path.{_≡_, refl, sym, ap, ap₂, _∙_}
-use mathlib.Core.Bool.{Bool, true, false}
-use mathlib.Core.List.{List, [], _∷_, _++_, append-assoc}
+use mathlib.Core.Path.{_≡_, refl, sym, ap, _∙_}
+use mathlib.Core.List.{List, _++_, append-assoc}
 use mathlib.Core.Option.{Option, some, none}
 use mathlib.Core.Logic.{⊎-elim}
 use Prim.Native.Nat.{ℕ, _+_, _-_, _≤_, _<_}
@@ -10,10 +9,10 @@ use native.Mathlib.Omega.{arith}
 use lib.ListN.{length, take, drop, length-append}
 use lib.Seq.{drop-at}
 use borrow.Author.Tests.{le-leb, lt-leb}
-use borrow.Rule.Slice.PartMut.{putMid, midOf}
+use borrow.Rule.Slice.PartMut.{putMid}
 use Rattle.numbers.specs.Refusals.{badPackage, pageShort}
-use Rattle.octets.specs.Octets.{zeros, padded, placed}
-use Rattle.octets.specs.Checked.{Check, pass, refuse, _>>=_}
+use Rattle.octets.specs.Octets.{zeros, padded}
+use Rattle.octets.specs.Checked.{Check, pass, refuse}
 use Rattle.octets.proofs.Checks.{then-pass, then-refuse, pass-refuse, known}
 use Rattle.octets.proofs.Placed.{length-zeros, length-padded, padded-step, padded-full}
 use Rattle.octets.proofs.Parts.{cut-rest}
@@ -22,12 +21,10 @@ use Rattle.answers.specs.Answers.{Answer, refused, made, outputOf, writtenOf}
 use Rattle.answers.specs.declared.Written.{Written}
 use Rattle.index.specs.Index.{Index}
 use Rattle.lookup.specs.Lookup.{packageOf, indexFor}
-use Rattle.lookup.specs.Answers.{packageIn, Opened}
-use Rattle.lookup.specs.declared.opening.PackageHead.{PackageHead}
+use Rattle.lookup.specs.Answers.{packageIn}
 use Rattle.sheet.specs.Sheet.{tableLines, sheetLines, onPage, sheetOf}
 use Rattle.sheet.specs.Held.{single}
 use Rattle.sheet.specs.Laid.{letterOf, tableOf, bothOf, measured, linesOf, TableFits, BothFit}
-use Rattle.sheet.specs.declared.tables.Lines.{Lines}
 use Rattle.sheet.specs.declared.tables.Lines.the-variants.{Bytes, Bad}
 use Rattle.sheet.proofs.LawSlots.{single-lines, not-single-lines}
 

@@ -1,25 +1,22 @@
 -- Laws of the slots of a row: none, one or more, by marks and by the definition.
 -- Assumes nothing.
 use mathlib.Core.Path.{_≡_, refl, sym, ap, _∙_}
-use mathlib.Core.Bool.{Bool, true, false}
-use mathlib.Core.List.{List, [], _∷_, _++_}
+use mathlib.Core.Bool.{true, false}
+use mathlib.Core.List.{List, [], _∷_}
 use mathlib.Core.Logic.{⊎-elim}
 use Prim.Native.Nat.{ℕ, zero, suc, _+_, _≤_, _<_}
 use native.Mathlib.Omega.{arith}
 use native.Mathlib.Decide.{ℕ-discrete}
-use native.Mathlib.Numerals.{add-one}
-use lib.Dec.{eqb}
 use lib.ListN.{length, getD, drop}
-use lib.Seq.{drop-cons}
 use borrow.Author.Tests.{eq-eqb, ne-eqb}
 use Rattle.numbers.specs.Refusals.{badPackage}
 use Rattle.octets.specs.Lists.{has, any}
-use Rattle.octets.specs.Checked.{Check, pass, refuse, _>>=_}
+use Rattle.octets.specs.Checked.{Check, pass, refuse}
 use Rattle.octets.proofs.Checks.{true-false, known, pass-refuse, pass-inj, then-pass, then-refuse}
 use Rattle.octets.proofs.Elements.{has-cons, has-skips, at-has}
 use Rattle.index.specs.Index.{Index}
-use Rattle.sheet.specs.Sheet.{identitiesIn, only, rowsFrom, rowLines}
-use Rattle.sheet.specs.Held.{marked, noneTwice, allMarked, single, Marked, block, blocks}
+use Rattle.sheet.specs.Sheet.{identitiesIn, only, rowsFrom}
+use Rattle.sheet.specs.Held.{noneTwice, allMarked, single, Marked, block, blocks}
 
 -- ---- the identities in a row's slots, slot by slot
 module _ (row r x : ℕ) (rs xs : List ℕ) where

@@ -5,16 +5,15 @@ use mathlib.Core.Bool.{Bool, true, false}
 use mathlib.Core.List.{List, [], _∷_}
 use mathlib.Core.Option.{Option, some, none}
 use mathlib.Core.Logic.{⊎-elim}
-use Prim.Native.Nat.{ℕ, suc, _+_, _*_, _-_, _≤_, _<_}
+use Prim.Native.Nat.{ℕ, _+_, _*_, _≤_, _<_}
 use native.Mathlib.Omega.{arith}
 use native.Mathlib.Nat.{sub-zero, mul-le-mul-right}
 use native.Mathlib.Decide.{ℕ-discrete}
 use lib.ListN.{length}
 use borrow.Author.Tests.{eq-eqb, ne-eqb}
-use Rattle.numbers.specs.Refusals.{badPackage}
 use Rattle.octets.specs.Octets.{zeros, padded, part}
-use Rattle.octets.specs.Checked.{Check, pass, refuse}
-use Rattle.octets.proofs.Checks.{true-false, pass-inj, pass-refuse}
+use Rattle.octets.specs.Checked.{Check, pass}
+use Rattle.octets.proofs.Checks.{pass-inj, pass-refuse}
 use Rattle.octets.proofs.Parts.{length-part-le}
 use Rattle.octets.proofs.Placed.{padded-none}
 use Rattle.bundle.specs.Bundle.{Part, Item, object, section, Object, more, leading, firstPart, body}
@@ -22,11 +21,11 @@ use Rattle.bundle.proofs.Passed.{here, stepHere, left-cons}
 use Rattle.bundle.proofs.Next.{section-step}
 use Rattle.bundle.proofs.Sections.{first-same, first-other}
 use Rattle.bundle.proofs.Within.{First}
-use Rattle.index.specs.Index.{Index, layout}
+use Rattle.index.specs.Index.{layout}
 use Rattle.index.specs.Held.{indexIn}
 use Rattle.index.specs.declared.reading.IndexHead.{IndexHead}
 use Rattle.index.proofs.Heads.{codes-length}
-use Rattle.lookup.specs.Lookup.{Package, packageOf, indexFor}
+use Rattle.lookup.specs.Lookup.{Package, packageOf}
 use Rattle.lookup.specs.Answers.{packageIn, Opened, tableIndex, indexCode}
 use Rattle.lookup.specs.declared.opening.PackageHead.{PackageHead}
 use Rattle.lookup.specs.declared.opening.PackageIndex.the-variants.{Present, Missing}
@@ -35,7 +34,6 @@ use Rattle.lookup.proofs.Searches.{search-well, search-in, table-none}
 use Rattle.sheet.specs.Sheet.{letterC, letterT, rowsFrom, tableLines}
 use Rattle.sheet.specs.Held.{IndexHere, single, blocks, laidOut}
 use Rattle.sheet.specs.Laid.{letterOf, tableOf, measured, linesOf, TableFits}
-use Rattle.sheet.specs.declared.tables.Lines.{Lines}
 use Rattle.sheet.specs.declared.tables.Lines.the-variants.{Bytes, Bad}
 use Rattle.sheet.proofs.LawSlots.{single-lines, not-single-lines}
 use Rattle.sheet.proofs.LawBlocks.{length-blocks}

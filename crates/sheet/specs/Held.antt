@@ -10,7 +10,7 @@ use lib.ListN.{length, getD, set}
 use Rattle.numbers.specs.Limits.{sectionLimit}
 use Rattle.octets.specs.Octets.{zeros, padded}
 use Rattle.octets.specs.Lists.{has}
-use Rattle.octets.specs.Checked.{Check, pass, refuse}
+use Rattle.octets.specs.Checked.{pass, refuse}
 use Rattle.index.specs.Columns.{columnsOf}
 use Rattle.index.specs.Index.{Index}
 use Rattle.index.specs.Held.{ReadWell}

@@ -6,28 +6,19 @@ use Rattle.sheet.proofs.LawLines.{placed-next, length-hex}
 use borrow.Author.Needs.{needs}
 use Rattle.sheet.proofs.lines.put_field.Statement.{statement}
 use Rattle.sheet.proofs.lines.put_field.Tie as tie
-use Rattle.sheet.proofs.lines.put_field.Reads as reads
-use Rattle.sheet.proofs.lines.put_field.Lts as lts
-use Rattle.octets.proofs.put_byte.Reads as put-byte-reads
-use Rattle.sheet.proofs.lines.put_hex.Reads as put-hex-reads
 
--- src/lines.rt:55:5
 put-hex-requires : tie.Need-put-hex-requires
 put-hex-requires c κs = search needs
 
--- src/lines.rt:56:25
 add-put-byte : tie.Need-add-put-byte
 add-put-byte c = search needs
 
--- src/lines.rt:56:5
 put-byte-requires : tie.Need-put-byte-requires
 put-byte-requires c κs = search needs
 
--- src/lines.rt:51:1
 same-length : tie.Need-same-length
 same-length c = search needs
 
--- src/lines.rt:51:1
 returns : tie.Need-returns
 returns c =
     let k = c .before .before .before .before .before .before in

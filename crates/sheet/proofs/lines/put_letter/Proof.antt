@@ -6,26 +6,19 @@ use Rattle.octets.proofs.Placed.{placed-two}
 use borrow.Author.Needs.{needs}
 use Rattle.sheet.proofs.lines.put_letter.Statement.{statement}
 use Rattle.sheet.proofs.lines.put_letter.Tie as tie
-use Rattle.sheet.proofs.lines.put_letter.Reads as reads
-use Rattle.sheet.proofs.lines.put_letter.Lts as lts
 
--- src/lines.rt:64:5
 slice-write-d : tie.Need-slice-write-d
 slice-write-d c = search needs
 
--- src/lines.rt:65:7
 add-d : tie.Need-add-d
 add-d c = search needs
 
--- src/lines.rt:65:5
 slice-write-d-2 : tie.Need-slice-write-d-2
 slice-write-d-2 c = simp length-set (omega arith)
 
--- src/lines.rt:60:1
 same-length : tie.Need-same-length
 same-length c = search needs
 
--- src/lines.rt:60:1
 returns : tie.Need-returns
 returns c = placed-two _ _ _ _ (c .pre)
 

@@ -4,62 +4,43 @@ use Rattle.sheet.proofs.LawLines.{line-placed}
 use borrow.Author.Needs.{needs}
 use Rattle.sheet.proofs.lines.put_line.Statement.{statement}
 use Rattle.sheet.proofs.lines.put_line.Tie as tie
-use Rattle.sheet.proofs.lines.put_line.Reads as reads
-use Rattle.sheet.proofs.lines.put_line.Lts as lts
-use Rattle.octets.proofs.long.Reads as long-reads
-use Rattle.sheet.proofs.lines.put_field.Reads as put-field-reads
-use Rattle.sheet.proofs.lines.put_letter.Reads as put-letter-reads
-use Rattle.sheet.proofs.lines.put_section.Reads as put-section-reads
 
--- src/lines.rt:83:5
 put-letter-requires : tie.Need-put-letter-requires
 put-letter-requires c κs = search needs
 
--- src/lines.rt:84:41
 add-put-field : tie.Need-add-put-field
 add-put-field c = search needs
 
--- src/lines.rt:84:5
 put-field-requires : tie.Need-put-field-requires
 put-field-requires c κs = search needs
 
--- src/lines.rt:85:31
 add-put-section : tie.Need-add-put-section
 add-put-section c = search needs
 
--- src/lines.rt:85:5
 put-section-requires : tie.Need-put-section-requires
 put-section-requires c κs = search needs
 
--- src/lines.rt:86:18
 long-requires : tie.Need-long-requires
 long-requires c κs = search needs
 
--- src/lines.rt:86:52
 add-put-field-2 : tie.Need-add-put-field-2
 add-put-field-2 c = search needs
 
--- src/lines.rt:86:5
 put-field-requires-2 : tie.Need-put-field-requires-2
 put-field-requires-2 c κs = search needs
 
--- src/lines.rt:87:18
 long-requires-2 : tie.Need-long-requires-2
 long-requires-2 c κs = search needs
 
--- src/lines.rt:87:52
 add-put-field-3 : tie.Need-add-put-field-3
 add-put-field-3 c = search needs
 
--- src/lines.rt:87:5
 put-field-requires-3 : tie.Need-put-field-requires-3
 put-field-requires-3 c κs = search needs
 
--- src/lines.rt:79:1
 same-length : tie.Need-same-length
 same-length c = search needs
 
--- src/lines.rt:79:1
 returns : tie.Need-returns
 returns c =
     let k5 = c .before .before in

@@ -11,38 +11,28 @@ use Rattle.sheet.proofs.LawMarks.{bit-fits}
 use borrow.Author.Needs.{needs}
 use Rattle.sheet.proofs.marks.mark.Statement.{statement}
 use Rattle.sheet.proofs.marks.mark.Tie as tie
-use Rattle.sheet.proofs.marks.mark.Reads as reads
-use Rattle.sheet.proofs.marks.mark.Lts as lts
 
--- src/marks.rt:21:16
 mul-word : tie.Need-mul-word
 mul-word c = search needs
 
--- src/marks.rt:21:16
 slice-read-word : tie.Need-slice-read-word
 slice-read-word c = search needs
 
--- src/marks.rt:22:30
 cast-marks : tie.Need-cast-marks
 cast-marks c = search needs
 
--- src/marks.rt:22:24
 shl-marks : tie.Need-shl-marks
 shl-marks c = search needs
 
--- src/marks.rt:22:5
 mul-marks : tie.Need-mul-marks
 mul-marks c = search needs
 
--- src/marks.rt:22:5
 slice-write-marks : tie.Need-slice-write-marks
 slice-write-marks c = search needs
 
--- src/marks.rt:16:1
 same-length : tie.Need-same-length
 same-length c = search needs
 
--- src/marks.rt:16:1
 returns : tie.Need-returns
 unfolding withMark
 returns c =

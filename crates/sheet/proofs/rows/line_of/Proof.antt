@@ -1,9 +1,6 @@
 -- `sheet::rows::line_of` meets its contract.
 -- Assumes nothing.
-use mathlib.Core.Path.{_≡_, refl, ap, _∙_}
 use borrow.Author.Needs.{needs}
-use Rattle.index.specs.Columns.{columnsOf}
-use Rattle.sheet.specs.Sheet.{sectionIn}
 use Rattle.sheet.proofs.LawIndex.{here-sized, line-is}
 use Rattle.sheet.proofs.rows.line_of.Statement.{statement}
 use Rattle.sheet.proofs.rows.line_of.Tie as tie

@@ -1,18 +1,14 @@
 -- `sheet::rows::mark_rows` meets its contract.
 -- Assumes nothing.
 use mathlib.Core.Path.{_≡_, refl, sym, ap, _∙_}
-use mathlib.Core.Bool.{true, false}
-use Prim.Native.Nat.{ℕ, suc, _+_, _*_, _-_, _/_, _≤_, _<_}
+use Prim.Native.Nat.{ℕ, suc, _-_, _/_, _≤_, _<_}
 use native.Mathlib.Omega.{arith}
-use native.Mathlib.Nat.{sub-zero}
 use mathlib.Core.List.{List}
-use lib.ListN.{length, getD}
-use borrow.Author.Tests.{not-true, not-false}
+use lib.ListN.{length}
 use denote.Ref.{now}
 use Rattle.octets.proofs.Checks.{true-false}
 use Rattle.index.specs.Held.{indexIn}
 use Rattle.index.proofs.Heads.{in-rows, rows-length}
-use Rattle.sheet.specs.Held.{noneTwice}
 use Rattle.sheet.proofs.LawIndex.{here-sized, here-units, here-row}
 use Rattle.sheet.proofs.LawMarks.{length-withMark}
 use Rattle.sheet.proofs.LawSifted.{Sifted, sifted-none, sifted-free, sifted-twice, sifted-more, sifted-all}

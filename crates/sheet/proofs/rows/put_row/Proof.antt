@@ -7,13 +7,11 @@ use native.Mathlib.Omega.{arith}
 use lib.ListN.{length, drop}
 use denote.Ref.{now}
 use Rattle.octets.specs.Octets.{placed}
-use Rattle.octets.proofs.Placed.{length-placed}
-use Rattle.index.specs.Index.{Index}
 use Rattle.index.specs.Held.{indexIn}
 use Rattle.index.proofs.Heads.{codes-length, in-codes, past-codes}
 use Rattle.index.proofs.Places.{cell-lt}
 use Rattle.sheet.specs.Sheet.{cellLines, rowLines}
-use Rattle.sheet.proofs.LawIndex.{here-units, here-slots, here-columns, here-cells, line-small}
+use Rattle.sheet.proofs.LawIndex.{here-columns, here-cells, line-small}
 use Rattle.sheet.proofs.LawBlocks.{cells-start, cells-turn, cells-end}
 use Rattle.sheet.proofs.rows.put_row.Statement.{statement}
 use Rattle.sheet.proofs.rows.put_row.Tie as tie

@@ -2,14 +2,13 @@
 -- Assumes nothing.
 use mathlib.Core.Path.{_≡_, refl, sym, ap, _∙_}
 use Prim.Native.Nat.{ℕ, suc, _+_, _*_, _-_, _≤_, _<_}
-use native.Mathlib.Nat.{mul-suc, mul-le-mul-left}
 use native.Mathlib.Omega.{arith}
-use lib.ListN.{length, getD}
+use lib.ListN.{length}
 use denote.Ref.{now}
 use Rattle.index.specs.Index.{Index, layout}
 use Rattle.index.specs.Held.{indexIn}
 use Rattle.index.proofs.Heads.{rows-length, identities-length, codes-length, in-rows, in-identities}
-use Rattle.sheet.proofs.LawIndex.{here-sized, here-columns, here-row, here-units}
+use Rattle.sheet.proofs.LawIndex.{here-sized, here-columns, here-row}
 use Rattle.sheet.proofs.LawLaid.{laidFrom, room-row, laid-none, laid-free, laid-put, laid-all}
 use Rattle.sheet.proofs.rows.put_rows.Statement.{statement}
 use Rattle.sheet.proofs.rows.put_rows.Tie as tie

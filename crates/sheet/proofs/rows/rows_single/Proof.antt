@@ -8,41 +8,31 @@ use Rattle.sheet.proofs.LawIndex.{here-slots, here-units, is-single, no
 use borrow.Author.Needs.{needs}
 use Rattle.sheet.proofs.rows.rows_single.Statement.{statement}
 use Rattle.sheet.proofs.rows.rows_single.Tie as tie
-use Rattle.sheet.proofs.rows.rows_single.Reads as reads
-use Rattle.sheet.proofs.rows.rows_single.Lts as lts
-use Rattle.sheet.proofs.rows.all_marked.Reads as all-marked-reads
-use Rattle.sheet.proofs.rows.mark_rows.Reads as mark-rows-reads
 
--- src/rows.rt:72:33
 slice-aggregate-mark-rows : tie.Need-slice-aggregate-mark-rows
 slice-aggregate-mark-rows c = search needs
 
--- src/rows.rt:72:9
 mark-rows-requires : tie.Need-mark-rows-requires
 unfolding zeros
 mark-rows-requires c κs =
     let a = c .before .before in
     (a .pre, here-slots _ _ _ (a .pre), refl)
 
--- src/rows.rt:73:9
 returns : tie.Need-returns
 returns c =
     let r = c .before .before in
     let a = r .before .before .before in
     sym (not-single _ _ _ (a .pre) (sym (r .mark-rows .ensures .0) ∙ not-true _ (c .if1 .taken)))
 
--- src/rows.rt:75:16
 slice-aggregate-all-marked : tie.Need-slice-aggregate-all-marked
 slice-aggregate-all-marked c = search needs
 
--- src/rows.rt:75:5
 all-marked-requires : tie.Need-all-marked-requires
 all-marked-requires c κs =
     let r = c .before .before .before in
     let a = r .before .before .before in
     omega (arith, r .mark-rows .ensures .1 .1, here-units _ _ _ (a .pre), here-slots _ _ _ (a .pre))
 
--- src/rows.rt:67:1
 returns-2 : tie.Need-returns-2
 returns-2 c =
     let e = c .before .before in

@@ -3,14 +3,10 @@
 use Rattle.sheet.proofs.LawTables.{letter-first, letter-second}
 use Rattle.sheet.proofs.tables.letter_of.Statement.{statement}
 use Rattle.sheet.proofs.tables.letter_of.Tie as tie
-use Rattle.sheet.proofs.tables.letter_of.Reads as reads
-use Rattle.sheet.proofs.tables.letter_of.Lts as lts
 
--- src/tables.rt:26:9
 returns : tie.Need-returns
 returns c = letter-first _ (c .if1 .taken)
 
--- src/tables.rt:22:1
 returns-2 : tie.Need-returns-2
 returns-2 c = letter-second _ (c .if1 .left)
 

@@ -11,17 +11,10 @@ use Rattle.sheet.proofs.LawTables.{table-here, table-bad, table-measure
 use borrow.Author.Needs.{needs}
 use Rattle.sheet.proofs.tables.measure_index.Statement.{statement}
 use Rattle.sheet.proofs.tables.measure_index.Tie as tie
-use Rattle.sheet.proofs.tables.measure_index.Reads as reads
-use Rattle.sheet.proofs.tables.measure_index.Lts as lts
-use Rattle.lookup.proofs.searching.index_code.Reads as index-code-reads
-use Rattle.lookup.proofs.searching.section_bytes.Reads as section-bytes-reads
-use Rattle.sheet.proofs.rows.rows_single.Reads as rows-single-reads
 
--- src/tables.rt:37:61
 index-code-requires : tie.Need-index-code-requires
 index-code-requires c κs = search needs
 
--- src/tables.rt:37:9
 is-here : (c : tie.After-section-bytes) → IndexHere (c .before .before .before .before .args .head .encoding .big) (now (c .section-bytes .result)) (c .before .before .before .before .args .«index-head»)
 is-here c =
     let a = c .before .before .before .before in
@@ -32,28 +25,23 @@ section-bytes-requires c κs =
     let a = c .before .before .before in
     (a .pre .0, rw (c .index-code .ensures) (code-lt (a .args .table)))
 
--- src/tables.rt:38:9
 rows-single-requires : tie.Need-rows-single-requires
 rows-single-requires c κs = is-here c
 
--- src/tables.rt:39:9
 returns : tie.Need-returns
 returns c =
     let s = c .before .before in
     let a = s .before .before .before .before in
     table-bad _ _ (a .pre .0) _ _ (a .pre .1) _ _ (s .before .index-code .ensures) (s .section-bytes .ensures) (sym (c .before .rows-single .ensures) ∙ not-true _ (c .if1 .taken))
 
--- src/tables.rt:41:18
 mul-t7 : tie.Need-mul-t7
 mul-t7 c = omega (arith, here-columns _ _ _ (is-here (c .before .before .before)))
 
--- src/tables.rt:41:18
 mul-t10 : tie.Need-mul-t10
 mul-t10 c =
     let e = is-here (c .before .before .before .before) in
     omega (arith, table-small _ _ (here-columns _ _ _ e) (units-most _ _ _ e))
 
--- src/tables.rt:32:1
 returns-2 : tie.Need-returns-2
 returns-2 c =
     let e = c .before .before in

@@ -6,44 +6,32 @@ use Rattle.sheet.proofs.LawTables.{table-missing, missing-measured}
 use borrow.Author.Needs.{needs}
 use Rattle.sheet.proofs.tables.measure_table.Statement.{statement}
 use Rattle.sheet.proofs.tables.measure_table.Tie as tie
-use Rattle.sheet.proofs.tables.measure_table.Reads as reads
-use Rattle.sheet.proofs.tables.measure_table.Lts as lts
-use Rattle.lookup.proofs.searching.index_for.Reads as index-for-reads
-use Rattle.sheet.proofs.tables.measure_index.Reads as measure-index-reads
 
--- src/tables.rt:48:11
 index-for-requires : tie.Need-index-for-requires
 index-for-requires c κs = search needs
 
--- src/tables.rt:49:31
 enum-known-index-head : tie.Need-enum-known-index-head
 enum-known-index-head c = search needs
 
--- src/tables.rt:49:46
 measure-index-requires : tie.Need-measure-index-requires
 measure-index-requires c κs =
     let f = c .before .before .before in
     (f .before .before .pre, sym (c .before .index-head .given .1) ∙ f .index-for .ensures)
 
--- src/tables.rt:50:34
 enum-told : tie.Need-enum-told
 enum-told c = search needs
 
--- src/tables.rt:51:36
 enum-told-2 : tie.Need-enum-told-2
 enum-told-2 c = search needs
 
--- src/tables.rt:44:1
 returns : tie.Need-returns
 returns c = search needs
 
--- src/tables.rt:44:1
 returns-2 : tie.Need-returns-2
 returns-2 c =
     let f = c .before .before in
     missing-measured _ (table-missing _ _ (f .before .before .pre) _ (sym (c .enum-told .given .1) ∙ f .index-for .ensures))
 
--- src/tables.rt:44:1
 returns-3 : tie.Need-returns-3
 returns-3 c =
     let f = c .before .before in

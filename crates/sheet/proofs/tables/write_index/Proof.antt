@@ -6,28 +6,18 @@ use Rattle.sheet.proofs.LawTables.{table-here, table-room, table-laid}
 use borrow.Author.Needs.{needs}
 use Rattle.sheet.proofs.tables.write_index.Statement.{statement}
 use Rattle.sheet.proofs.tables.write_index.Tie as tie
-use Rattle.sheet.proofs.tables.write_index.Reads as reads
-use Rattle.sheet.proofs.tables.write_index.Lts as lts
-use Rattle.lookup.proofs.searching.index_code.Reads as index-code-reads
-use Rattle.lookup.proofs.searching.section_bytes.Reads as section-bytes-reads
-use Rattle.sheet.proofs.rows.put_rows.Reads as put-rows-reads
-use Rattle.sheet.proofs.tables.letter_of.Reads as letter-of-reads
 
--- src/tables.rt:67:61
 index-code-requires : tie.Need-index-code-requires
 index-code-requires c κs = search needs
 
--- src/tables.rt:67:9
 section-bytes-requires : tie.Need-section-bytes-requires
 section-bytes-requires c κs =
     let a = c .before .before .before .before in
     (a .pre .0, rw (c .index-code .ensures) (code-lt (a .args .table)))
 
--- src/tables.rt:69:17
 letter-of-requires : tie.Need-letter-of-requires
 letter-of-requires c κs = search needs
 
--- src/tables.rt:73:5
 put-rows-requires : tie.Need-put-rows-requires
 put-rows-requires c κs =
     let s = c .before .before in
@@ -38,11 +28,9 @@ put-rows-requires c κs =
       f .blank,
     )
 
--- src/tables.rt:56:1
 same-length : tie.Need-same-length
 same-length c = search needs
 
--- src/tables.rt:56:1
 returns : tie.Need-returns
 returns c =
     let p = c .before .before in

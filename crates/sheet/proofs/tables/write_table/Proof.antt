@@ -6,20 +6,13 @@ use Rattle.sheet.proofs.LawTables.{table-missing, missing-lines}
 use borrow.Author.Needs.{needs}
 use Rattle.sheet.proofs.tables.write_table.Statement.{statement}
 use Rattle.sheet.proofs.tables.write_table.Tie as tie
-use Rattle.sheet.proofs.tables.write_table.Reads as reads
-use Rattle.sheet.proofs.tables.write_table.Lts as lts
-use Rattle.lookup.proofs.searching.index_for.Reads as index-for-reads
-use Rattle.sheet.proofs.tables.write_index.Reads as write-index-reads
 
--- src/tables.rt:80:11
 index-for-requires : tie.Need-index-for-requires
 index-for-requires c κs = search needs
 
--- src/tables.rt:81:31
 enum-known-index-head : tie.Need-enum-known-index-head
 enum-known-index-head c = search needs
 
--- src/tables.rt:82:13
 write-index-requires : tie.Need-write-index-requires
 write-index-requires c κs =
     let f = c .before .before .before .before in
@@ -32,22 +25,18 @@ enum-told c = search needs
 enum-told-2 : tie.Need-enum-told-2
 enum-told-2 c = search needs
 
--- src/tables.rt:76:1
 same-length : tie.Need-same-length
 same-length c = search needs
 
--- src/tables.rt:76:1
 returns : tie.Need-returns
 returns c = search needs
 
--- src/tables.rt:76:1
 returns-2 : tie.Need-returns-2
 returns-2 c =
     let f = c .before .before in
     let a = f .before .before .before in
     missing-lines _ _ (table-missing _ _ (a .pre .0) _ (sym (c .enum-told .given .1) ∙ f .index-for .ensures)) (a .pre .1 .blank)
 
--- src/tables.rt:76:1
 returns-3 : tie.Need-returns-3
 returns-3 c =
     let f = c .before .before in

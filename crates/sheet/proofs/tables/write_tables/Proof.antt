@@ -4,40 +4,30 @@ use Rattle.sheet.proofs.LawSheet.{first-fits, second-fits, both-laid}
 use borrow.Author.Needs.{needs}
 use Rattle.sheet.proofs.tables.write_tables.Statement.{statement}
 use Rattle.sheet.proofs.tables.write_tables.Tie as tie
-use Rattle.sheet.proofs.tables.write_tables.Reads as reads
-use Rattle.sheet.proofs.tables.write_tables.Lts as lts
-use Rattle.sheet.proofs.tables.write_table.Reads as write-table-reads
 
--- src/tables.rt:101:5
 write-table-requires : tie.Need-write-table-requires
 write-table-requires c κs =
     let a = c .before .before .before in
     (a .pre .0, first-fits _ _ _ (a .pre .1))
 
--- src/tables.rt:102:38
 sub-write-table : tie.Need-sub-write-table
 sub-write-table c = search needs
 
--- src/tables.rt:102:38
 part-write-table-start : tie.Need-part-write-table-start
 part-write-table-start c = search needs
 
--- src/tables.rt:102:38
 part-write-table-end : tie.Need-part-write-table-end
 part-write-table-end c = search needs
 
--- src/tables.rt:102:5
 write-table-requires-2 : tie.Need-write-table-requires-2
 write-table-requires-2 c κs =
     let w = c .before .before .before in
     let a = w .before .before .before .before in
     (a .pre .0, second-fits _ _ _ (a .pre .1) _ (w .write-table .ensures))
 
--- src/tables.rt:97:1
 same-length : tie.Need-same-length
 same-length c = search needs
 
--- src/tables.rt:97:1
 returns : tie.Need-returns
 returns c =
     let w2 = c .before .before in

@@ -17,13 +17,6 @@ use Rattle.sheet.proofs.LawSheet.{measured-bad, measured-good, refused-
 use borrow.Author.Needs.{needs}
 use Rattle.sheet.proofs.writing.write_sheet.Statement.{statement}
 use Rattle.sheet.proofs.writing.write_sheet.Tie as tie
-use Rattle.sheet.proofs.writing.write_sheet.Reads as reads
-use Rattle.sheet.proofs.writing.write_sheet.Lts as lts
-use Rattle.lookup.proofs.opening.open_package.Reads as open-package-reads
-use Rattle.octets.proofs.clear_bytes.Reads as clear-bytes-reads
-use Rattle.sheet.proofs.tables.measure_table.Reads as measure-table-reads
-use Rattle.sheet.proofs.tables.write_tables.Reads as write-tables-reads
-use Rattle.sheet.proofs.writing.refused.Reads as refused-reads
 
 -- the package was opened, and the page is zero
 abbrev From : tie.Else1 → tie.Start
