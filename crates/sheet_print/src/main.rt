@@ -9,17 +9,24 @@ fn tell_refused(number: u32) {
     io::write_all(STDOUT_FILENO, b"\n");
 }
 
-fn main() {
-    let mut input = [0u8; 65536];
-    let got = io::read_full(STDIN_FILENO, &mut input);
-    let mut page = [0u8; 327680];
-    let answer = sheet::writing::write_sheet(&input[..got], &mut page);
+fn tell_lines(page: &[u8], length: usize) {
+    if length <= page.len() {
+        io::write_all(STDOUT_FILENO, &page[..length]);
+    }
+}
+
+fn tell_sheet(package: &[u8], page: &mut [u8]) {
+    let answer = sheet::writing::write_sheet(package, page);
     if answer.code != 0 {
         tell_refused(answer.code);
         return;
     }
-    let length = answer.length;
-    if length <= 327680 {
-        io::write_all(STDOUT_FILENO, &page[..length]);
-    }
+    tell_lines(page, answer.length);
+}
+
+fn main() {
+    let mut input = [0u8; 65536];
+    let got = io::read_full(STDIN_FILENO, &mut input);
+    let mut page = [0u8; 327680];
+    tell_sheet(&input[..got], &mut page);
 }
