@@ -2,8 +2,9 @@
 -- Assumes nothing.
 use mathlib.Core.Path.{_≡_, refl, sym, ap, _∙_}
 use mathlib.Core.List.{List, [], _∷_, _++_, append-assoc}
-use Prim.Native.Nat.{ℕ, zero, suc, _+_, _-_, _/_, _%_, _≤_, _<_}
+use Prim.Native.Nat.{ℕ, zero, suc, _+_, _*_, _-_, _/_, _%_, _≤_, _<_}
 use native.Mathlib.Omega.{arith}
+use native.Mathlib.Decide.{decLe}
 use lib.ListN.{length, set, length-append}
 use borrow.Author.Tests.{lt-ltb, le-ltb}
 use Rattle.octets.specs.Octets.{placed}
@@ -11,13 +12,12 @@ use Rattle.octets.proofs.Placed.{placed-back, placed-placed, placed-three}
 use Rattle.sheet.specs.Sheet.{digit, hex, decimal, line, space, newline}
 
 -- ---- digits
-pub digit-low : (n : ℕ) → n < 10 → 48 + n ≡ digit n
+pub digit-is : (n : ℕ) → n < 16 → 48 + n + (n + 6) / 16 * 39 ≡ digit n
 unfolding digit
-digit-low n h = rw (digit, lt-ltb n 10 h)
-
-pub digit-high : (n : ℕ) → 10 ≤ n → 87 + n ≡ digit n
-unfolding digit
-digit-high n h = rw (digit, le-ltb n 10 h)
+digit-is n h = elim (decLe 10 n) [
+  | yes g ↦ rw (digit, le-ltb n 10 g) (omega arith)
+  | no g ↦ let l : n < 10 = omega arith in rw (digit, lt-ltb n 10 l) (omega arith)
+]
 
 pub length-hex : (w n : ℕ) → length (hex w n) ≡ w
 unfolding hex

@@ -22,14 +22,12 @@ const NEWLINE: u8 = 10;
 
 pub const LINE: usize = 40;
 
+// From 10 on 39 is added, which is how far a lies behind the byte that follows 9. No branch, since digits are not foreseen.
 fn digit(n: u64) -> u8
     requires { ⌜ n < 16 ⌝ }
     ensures { λ r. ⌜ r ≡ digit n ⌝ }
 {
-    if n < 10 {
-        return 48 + (n as u8);
-    }
-    87 + (n as u8)
+    (48 + n + (n + 6) / 16 * 39) as u8
 }
 
 // Stores the low w hexadecimal digits of n.
