@@ -14,6 +14,7 @@ pub mod Firsts
 pub mod StrPieces
 pub mod StrStrings
 pub mod Demand3
+pub mod Paper
 pub mod Telling
 pub mod Packaged
 pub mod Refusing

@@ -6,3 +6,4 @@ pub mod Looks
 pub mod StrSection
 pub mod Many
 pub mod Refusing
+pub mod Paper

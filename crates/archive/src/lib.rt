@@ -4,6 +4,7 @@
 pub mod asking;
 pub mod files;
 pub mod many;
+pub mod printing;
 pub mod profiling;
 
 ghost use mathlib.Core.Path.{_≡_};

@@ -92,7 +92,7 @@ fn is_table(table: u32) -> bool
     table == 2
 }
 
-fn index_for(head: PackageHead, table: u32) -> PackageIndex
+pub fn index_for(head: PackageHead, table: u32) -> PackageIndex
     ensures { λ r. ⌜ r ≡ tableIndex head table ⌝ }
 {
     if table == 1 {
@@ -103,7 +103,7 @@ fn index_for(head: PackageHead, table: u32) -> PackageIndex
     tu
 }
 
-fn index_code(table: u32) -> usize
+pub fn index_code(table: u32) -> usize
     ensures { λ r. ⌜ r ≡ indexCode table ⌝ }
 {
     if table == 1 {
@@ -114,7 +114,7 @@ fn index_code(table: u32) -> usize
 
 // ---- parts
 // The bytes of a section, none where it is missing. The caller has opened the package.
-fn section_bytes<'a>(package: &'a [u8], head: PackageHead, code: usize) -> &'a [u8]
+pub fn section_bytes<'a>(package: &'a [u8], head: PackageHead, code: usize) -> &'a [u8]
     requires { ⌜ (Opened (now «package») head) × (code < 14) ⌝ }
     ensures { λ r. ⌜ now r ≡ body (now («package» .entry)) (packageIn (now («package» .entry)) .parts) code ⌝ }
 {

@@ -16,4 +16,5 @@ pub mod oracle;
 pub mod profile;
 pub mod reference;
 pub mod sample;
+pub mod sheet;
 pub mod vectors;

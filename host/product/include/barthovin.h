@@ -119,6 +119,11 @@ struct barthovin_written barthovin_lookup_batch(const uint8_t *package, size_t p
 struct barthovin_found barthovin_lookup_string(const uint8_t *package, size_t package_length, uint32_t version,
                                                uint32_t table, uint64_t identity, uint64_t entry);
 
+/* The indexes of a package as text on a page: for each table, row and column a line of 40 bytes, `C` or `T`, identity, section code,
+ * offset and size. 21 is a bad package, or a row that has not exactly one slot; 35 a page too short, with length 0. */
+struct barthovin_written barthovin_sheet(const uint8_t *package, size_t package_length, uint8_t *page,
+                                         size_t page_length);
+
 /* Packs a bundle and looks one part up in its package. */
 struct barthovin_found_from_bundle barthovin_pack_and_look_up(const uint8_t *bundle, size_t bundle_length, uint32_t *work,
                                                               size_t work_length, uint8_t *output, size_t output_length,

@@ -11,6 +11,7 @@ mod meaning;
 mod output;
 mod pack;
 mod profile;
+mod sheet;
 mod show;
 mod stop;
 
@@ -41,6 +42,7 @@ fn dispatch(arguments: &[OsString]) -> Result<u8, Stop> {
         Some("bundle") => bundle::run(rest),
         Some("pack") => pack::run(rest),
         Some("lookup") => lookup::run(rest),
+        Some("sheet") => sheet::run(rest),
         Some("list") => list::run(rest),
         Some("profile") => profile::run(rest),
         Some("tables") => profile::tables(rest),

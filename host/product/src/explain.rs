@@ -7,10 +7,12 @@ mod cause;
 mod elf;
 mod lookup;
 mod place;
+mod sheet;
 
 pub use elf::reading_elf;
 pub use lookup::{looking_up, not_a_package};
 pub use place::{place, Place};
+pub use sheet::not_a_sheet;
 
 use crate::names::{section_name, LONGEST_BUNDLE, LONGEST_SECTION, RNGLISTS};
 use crate::reader::bundle::Bundle;

@@ -13,3 +13,4 @@ pub mod ffi;
 pub mod names;
 pub mod profile;
 pub mod reader;
+pub mod sheet;

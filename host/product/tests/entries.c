@@ -22,7 +22,12 @@ static void show_from_bundle(const char *name, struct barthovin_found_from_bundl
     printf("%s %u %zu %u %zu %zu %zu\n", name, (unsigned)f.packing, f.packed, (unsigned)f.code, f.start, f.length, f.looks);
 }
 
+static void read_sheet(struct barthovin_written w, const uint8_t *page) {
+    printf("sheet %u %zu %.39s\n", (unsigned)w.code, w.length, (const char *)page);
+}
+
 int main(void) {
+    static uint8_t page[121];
     static uint32_t work[16 * 17];
     static uint8_t output[1000];
     const uint8_t *bundle = (const uint8_t *)words;
@@ -43,6 +48,7 @@ int main(void) {
     show("lookup", barthovin_lookup(output, packed.length, 5, 1, 1, BARTHOVIN_INFO));
     show_batch(barthovin_lookup_batch(output, packed.length, 5, questions, 6, work, 9), work);
     show("lookup", barthovin_lookup(output, packed.length, 5, 2, 1, BARTHOVIN_INFO));
+    read_sheet(barthovin_sheet(output, packed.length, page, sizeof page), page);
     show("lookup_string", barthovin_lookup_string(output, packed.length, 5, 1, 1, 0));
     show("lookup_string", barthovin_lookup_string(output, packed.length, 5, 1, 1, 1));
     printf("profile %u %u\n", (unsigned)barthovin_archive_profile(output, packed.length),

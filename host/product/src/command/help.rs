@@ -8,6 +8,7 @@ Commands:
   bundle    write the bundle of an ELF file's debug sections
   pack      write the package of ELF files or bundles
   lookup    find a part or a string of a unit in a package
+  sheet     print the index of a package as lines for paper
   list      list what a package holds
   profile   say whether a package is in the archive profile
   tables    print the tables of sections, columns and forms
@@ -73,6 +74,19 @@ the index that were looked at.
 
 Exit status: 0 found, all of it; 1 something absent or refused; 2 a wrong call, or a file that can't be read.";
 
+const SHEET: &str = "\
+Usage: barthovin sheet [OPTION]... PACKAGE
+Print the indexes of a package, a line for each unit and section: C for a compilation unit or T for a type unit, the identity, the section's
+code, and the offset and size of the unit's part in that section, all but the code hexadecimal.
+
+PACKAGE is a file, or - for standard input.
+
+  -p, --pages     lay it out for paper: pages of 60 lines, each with the package's name and length and its number
+  -h, --help      show this help and exit
+  -V, --version   show the version and exit
+
+Exit status: 0 printed; 1 refused; 2 a wrong call, or a file that can't be read.";
+
 const LIST: &str = "\
 Usage: barthovin list [OPTION]... PACKAGE
 List the sections of a package and, for each unit of its indexes, the identity and the unit's parts.
@@ -115,6 +129,7 @@ pub fn about(command: &str) -> &'static str {
         "bundle" => BUNDLE,
         "pack" => PACK,
         "lookup" => LOOKUP,
+        "sheet" => SHEET,
         "list" => LIST,
         "profile" => PROFILE,
         "tables" => TABLES,

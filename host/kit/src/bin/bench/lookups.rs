@@ -9,7 +9,7 @@ use kit::reference::{place, slot_count, Found};
 use std::io::{Error, Result};
 use std::time::{Duration, Instant};
 
-const UNITS: u64 = 200_000;
+pub const UNITS: u64 = 200_000;
 const SIZE: u32 = 20;
 
 /// A package, its length, and the time of a lookup.
@@ -42,7 +42,8 @@ fn index() -> Vec<u8> {
     bytes
 }
 
-fn package(with_index: bool) -> Vec<u8> {
+/// With its index, or without one.
+pub fn package(with_index: bool) -> Vec<u8> {
     let mut sections = vec![(1, vec![7; UNITS as usize * SIZE as usize])];
     if with_index {
         sections.push((12, index()));

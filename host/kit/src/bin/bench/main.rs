@@ -6,6 +6,7 @@ mod elves;
 mod lookups;
 mod measure;
 mod paper;
+mod sheets;
 
 use kit::generate::{many_strings, sized, KINDS};
 use kit::oracle::Oracle;
@@ -66,6 +67,7 @@ fn measure_all(oracle: Option<&str>) -> Result<Paper> {
         // Looking up.
         batch: lookups::batch()?,
         lookups: lookups::all()?,
+        sheet: sheets::measured()?,
     })
 }
 

@@ -3,6 +3,7 @@
 use super::elves::Elf;
 use super::lookups::Lookup;
 use super::measure::Measured;
+use super::sheets::Sheet;
 use std::fmt::{Display, Formatter, Result};
 use std::time::Duration;
 
@@ -24,6 +25,7 @@ pub struct Paper {
     /// Of 1,024 questions in one call.
     pub batch: Duration,
     pub lookups: Vec<Lookup>,
+    pub sheet: Sheet,
 }
 
 /// Growth above this at a doubling is no longer called linear.
@@ -138,6 +140,9 @@ impl Paper {
             ("verdict", self.verdict()),
             ("batch", time(self.batch)),
             ("lookups", self.lookups.iter().map(looked_up).collect()),
+            ("sheet_package", grouped(self.sheet.package as u64)),
+            ("sheet_page", grouped(self.sheet.sheet as u64)),
+            ("sheet_time", time(self.sheet.took)),
         ];
         figures.extend(self.string_figures());
         figures
@@ -241,6 +246,7 @@ mod tests {
             // Looking up.
             batch: took,
             lookups: vec![Lookup { name: "some", bytes: 12, took }],
+            sheet: Sheet { package: 9, sheet: 40, took },
         };
         let text = paper.to_string();
         assert!(text.contains("| document 01's example | 44 | 1 unit | 112 | 3.00 ms |"), "{text}");

@@ -1,0 +1,69 @@
+//! `barthovin sheet`: the index of a package as lines for paper.
+
+use super::call::{Call, Known};
+use super::{input, meaning, output, show, Stop, DONE};
+use crate::explain;
+use crate::names::LONGEST_PACKAGE;
+use crate::sheet::sheet;
+use std::ffi::OsString;
+
+const OPTIONS: [Known; 1] = [Known { long: "pages", short: Some(b'p'), value: false }];
+
+/// The lines of a page, and those of its head.
+const PAGE: usize = 60;
+const HEAD: usize = 3;
+
+pub fn run(arguments: &[OsString]) -> Result<u8, Stop> {
+    let call = match Call::read("sheet", &OPTIONS, arguments)? {
+        Ok(call) => call,
+        Err(status) => return Ok(status),
+    };
+    let name = &call.exactly(&["PACKAGE"])?[0];
+    let package = input::read(name, LONGEST_PACKAGE)?;
+    let lines = sheet(&package).map_err(|number| {
+        let why = explain::not_a_sheet(&package).map(|why| format!(": {why}")).unwrap_or_default();
+        Stop::Refused(format!("{}: refused {number}: {}{why}", input::shown(name), meaning(number)))
+    })?;
+    if !call.has("pages") {
+        return output::write_standard(&lines).map(|()| DONE);
+    }
+    let lines = String::from_utf8_lossy(&lines);
+    output::write_standard(pages(&input::shown(name), package.len(), &lines).as_bytes()).map(|()| DONE)
+}
+
+/// Pages of 60 lines: a head with the package's name and length and the page's number, what the columns are, and lines. The last page ends
+/// with its last line.
+fn pages(name: &str, length: usize, lines: &str) -> String {
+    let lines: Vec<&str> = lines.lines().collect();
+    let count = lines.len().div_ceil(PAGE - HEAD).max(1);
+    let mut out = String::new();
+    for page in 0..count {
+        let first = page * (PAGE - HEAD);
+        let here = &lines[first..lines.len().min(first + PAGE - HEAD)];
+        out += &format!("{name}, {}, page {} of {count}\n", show::count(length, "byte"), page + 1);
+        out += "C or T, identity, section, offset and size in it, hexadecimal but for the section\n\n";
+        here.iter().for_each(|line| out += &format!("{line}\n"));
+    }
+    out
+}
+
+#[cfg(test)]
+mod tests {
+    use super::*;
+
+    #[test]
+    fn pages_have_60_lines() {
+        for (count, wanted) in [(0, 3), (1, 4), (57, 60), (58, 64), (114, 120), (115, 124)] {
+            let lines: String = (0..count).map(|i| format!("line {i}\n")).collect();
+            let pages = pages("some", 9, &lines);
+            let all: Vec<&str> = pages.lines().collect();
+            assert_eq!(all.len(), wanted, "{count} lines");
+            let numbers = all.len().div_ceil(PAGE);
+            for (page, lines) in all.chunks(PAGE).enumerate() {
+                assert_eq!(lines[0], format!("some, 9 bytes, page {} of {numbers}", page + 1));
+                assert_eq!(lines[2], "");
+            }
+            assert_eq!(all.iter().filter(|line| line.starts_with("line ")).count(), count);
+        }
+    }
+}
