@@ -9,20 +9,20 @@ use lib.Dec.{eqb}
 use lib.ListN.{getD}
 use Rattle.octets.specs.Lists.{all}
 use Rattle.index.specs.Index.{Index, Contribution, cellOf}
-use Rattle.index.specs.Rows.{BySection, neededCodes, isSome, cellIs, inStep, wholeContributions}
+use Rattle.index.specs.Rows.{BySection, neededCodes, isSome, cellIs, partGood, wholeContributions}
 use Rattle.index.specs.Cells.{cellFound}
-use Rattle.index.specs.Contributed.{byCode, isCell, stepCell, withCell, chosen, ContributionsAre}
+use Rattle.index.specs.Contributed.{byCode, isCell, goodCell, withCell, chosen, ContributionsAre}
 use Rattle.index.specs.declared.cells.Cell.{Cell}
 use Rattle.index.specs.declared.cells.Cell.the-variants.{Is}
 use Rattle.index.specs.declared.judging.Contributions.{Contributions}
-use Rattle.index.proofs.Judgements.{ahead, ahead-start, ahead-on, ahead-stops, ahead-end, is-cell, step-cell}
+use Rattle.index.proofs.Judgements.{ahead, ahead-start, ahead-on, ahead-stops, ahead-end, is-cell, good-cell}
 use Rattle.index.proofs.Filled.{upTo, fill-turn, fill-end, same-held, whole-chosen}
 
 abbrev pub There : Index → ℕ → ℕ → Bool
 There i row c = isSome (cellOf i row c)
 
-abbrev pub Steps : ℕ → List ℕ → List ℕ → Index → ℕ → ℕ → Bool
-Steps width lengths sums i row c = cellIs (inStep width (byCode lengths) (byCode sums) c) (cellOf i row c)
+abbrev pub Good : ℕ → List ℕ → Index → ℕ → ℕ → Bool
+Good width lengths i row c = cellIs (partGood width (byCode lengths) c) (cellOf i row c)
 
 pub codes-start : (f : ℕ → Bool) (lengths : List ℕ) → all f (ahead (byCode lengths) 3) ≡ all f (neededCodes (byCode lengths))
 codes-start f lengths = ap (all f) (ahead-start (byCode lengths))
@@ -41,22 +41,17 @@ module _ (i : Index) (row c : ℕ) (lengths : List ℕ) (cell : Cell) (is : cell
   pub there-stops : false ≡ (eqb (getD lengths c 0) 0 || isCell cell) → false ≡ all (There i row) (ahead (byCode lengths) c)
   there-stops e = ahead-stops (There i row) (byCode lengths) c low high (there false e)
 
-  module _ (width : ℕ) (sums : List ℕ) where
-    steps : (t : Bool) → t ≡ (eqb (getD lengths c 0) 0 || stepCell width (getD lengths c 0) (getD sums c 0) c cell)
-        → t ≡ (eqb (byCode lengths c) 0 || Steps width lengths sums i row c)
+  module _ (width : ℕ) where
+    good : (t : Bool) → t ≡ (eqb (getD lengths c 0) 0 || goodCell width (getD lengths c 0) c cell) → t ≡ (eqb (byCode lengths c) 0 || Good width lengths i row c)
     unfolding byCode
-    steps t e =
-        e
-        ∙ ap (λ (u : Bool). eqb (getD lengths c 0) 0 || u)
-        (ap (stepCell width (getD lengths c 0) (getD sums c 0) c) is ∙ step-cell width (byCode lengths) (byCode sums) c (cellOf i row c))
+    good t e = e ∙ ap (λ (u : Bool). eqb (getD lengths c 0) 0 || u) (ap (goodCell width (getD lengths c 0) c) is ∙ good-cell width (byCode lengths) c (cellOf i row c))
 
-    pub steps-on : true ≡ (eqb (getD lengths c 0) 0 || stepCell width (getD lengths c 0) (getD sums c 0) c cell)
-        → all (Steps width lengths sums i row) (ahead (byCode lengths) (c + 1)) ≡ all (Steps width lengths sums i row) (ahead (byCode lengths) c)
-    steps-on e = ahead-on (Steps width lengths sums i row) (byCode lengths) c low high (steps true e)
+    pub good-on : true ≡ (eqb (getD lengths c 0) 0 || goodCell width (getD lengths c 0) c cell)
+        → all (Good width lengths i row) (ahead (byCode lengths) (c + 1)) ≡ all (Good width lengths i row) (ahead (byCode lengths) c)
+    good-on e = ahead-on (Good width lengths i row) (byCode lengths) c low high (good true e)
 
-    pub steps-stops : false ≡ (eqb (getD lengths c 0) 0 || stepCell width (getD lengths c 0) (getD sums c 0) c cell)
-        → false ≡ all (Steps width lengths sums i row) (ahead (byCode lengths) c)
-    steps-stops e = ahead-stops (Steps width lengths sums i row) (byCode lengths) c low high (steps false e)
+    pub good-stops : false ≡ (eqb (getD lengths c 0) 0 || goodCell width (getD lengths c 0) c cell) → false ≡ all (Good width lengths i row) (ahead (byCode lengths) c)
+    good-stops e = ahead-stops (Good width lengths i row) (byCode lengths) c low high (good false e)
 
   pub cells-turn : (k r : Contributions) → ContributionsAre k (upTo c (chosen (byCode lengths) (cellOf i row))) → r ≡ withCell k c (getD lengths c 0) cell
       → ContributionsAre r (upTo (c + 1) (chosen (byCode lengths) (cellOf i row)))

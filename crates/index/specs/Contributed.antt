@@ -32,9 +32,9 @@ ownCell at size Missing = false
 unfoldable pub wholeEntries : ℕ → ℕ → ℕ → ℕ → Bool
 wholeEntries width section o z = not (eqb section 6) || (eqb (o % width) 0 && eqb (z % width) 0)
 
-unfoldable pub stepCell : ℕ → ℕ → ℕ → ℕ → Cell → Bool
-stepCell width n sum section (Is o z) = eqb o sum && leb (o + z) n && wholeEntries width section o z
-stepCell width n sum section Missing = false
+unfoldable pub goodCell : ℕ → ℕ → ℕ → Cell → Bool
+goodCell width n section (Is o z) = leb (o + z) n && wholeEntries width section o z
+goodCell width n section Missing = false
 
 -- ---- contributions in arrays
 pub record Whole (k : Contributions) : Type 0 where

@@ -15,7 +15,7 @@ use Rattle.octets.specs.Checked.{Check, pass, refuse, _>>=_, require}
 use Rattle.index.specs.Index.{Index, Contribution, cellOf}
 use Rattle.index.specs.Probing.{Probe, found, absent, probe}
 
--- a function of the section code, as the lengths and sums of an object's sections are
+-- a function of the section code, as the lengths of an object's sections are
 abbrev pub BySection : Type 0 → Type 0
 BySection A = ℕ → A
 

@@ -1,4 +1,4 @@
-// A kept unit's row judged: 15 before 16, over all columns that are needed. Lengths and sums of sections are by their code.
+// A kept unit's row judged: 15 before 16, over all columns that are needed. Lengths of sections are by their code.
 ghost use mathlib.Core.Path.{_≡_};
 ghost use mathlib.Core.Bool.{_||_};
 ghost use mathlib.Core.Option.{none};
@@ -10,7 +10,7 @@ ghost use Rattle.index.specs.Rows.{
   neededCodes,
   isSome,
   cellIs,
-  inStep,
+  partGood,
   rowContributions,
   wholeContributions,
 };
@@ -20,7 +20,7 @@ ghost use Rattle.index.specs.Contributed.{
   isCell,
   ownCell,
   wholeEntries,
-  stepCell,
+  goodCell,
   withCell,
   Whole,
   chosen,
@@ -85,9 +85,9 @@ fn multiples(width: usize, section: usize, offset: usize, size: usize) -> bool
     size % width == 0
 }
 
-fn step_needed(width: usize, length: usize, sum: usize, section: usize, cell: Cell) -> bool
+fn part_needed(width: usize, length: usize, section: usize, cell: Cell) -> bool
     requires { ⌜ 0 < width ⌝ }
-    ensures { λ r. ⌜ r ≡ (eqb length 0 || stepCell width length sum section cell) ⌝ }
+    ensures { λ r. ⌜ r ≡ (eqb length 0 || goodCell width length section cell) ⌝ }
 {
     if length == 0 {
         return true;
@@ -95,9 +95,6 @@ fn step_needed(width: usize, length: usize, sum: usize, section: usize, cell: Ce
     let Cell::Is(o, z) = cell else {
         return false;
     };
-    if o != sum {
-        return false;
-    }
     if o > length {
         return false;
     }
@@ -151,22 +148,21 @@ fn columns_there(big: bool, s: &[u8], head: IndexHead, row: usize, lengths: [usi
     true
 }
 
-fn cells_in_step(
+fn parts_good(
     big: bool,
     s: &[u8],
     head: IndexHead,
     row: usize,
     width: usize,
     lengths: [usize; 14],
-    sums: [usize; 14],
 ) -> bool
     requires { ⌜ (Sized (now s) head) × (0 < row) × (row ≤ head .units) × (0 < width) ⌝ }
-    ensures { λ r. ⌜ r ≡ all (λ c. cellIs (inStep width (byCode lengths) (byCode sums) c) (cellOf (indexIn big (now (s .entry)) head) row c)) (neededCodes (byCode lengths)) ⌝ }
+    ensures { λ r. ⌜ r ≡ all (λ c. cellIs (partGood width (byCode lengths) c) (cellOf (indexIn big (now (s .entry)) head) row c)) (neededCodes (byCode lengths)) ⌝ }
 {
     let mut c = 3;
     while c < 11 {
         let cell = crate::cells::cell_of(big, s, head, row, c);
-        if !step_needed(width, lengths[c], sums[c], c, cell) {
+        if !part_needed(width, lengths[c], c, cell) {
             return false;
         }
         c += 1;
@@ -225,15 +221,14 @@ pub fn judge_row(
     head: IndexHead,
     width: usize,
     lengths: [usize; 14],
-    sums: [usize; 14],
     x: u64,
     home: usize,
     at: usize,
     size: usize,
 ) -> RowJudged
     requires { ⌜ (ReadWell big (now s) head) × (0 < width) ⌝ }
-    ensures code { λ r. ⌜ r .code ≡ codeGiven (rowContributions (indexIn big (now (s .entry)) head) width (byCode lengths) (byCode sums) x home at size) ⌝ }
-    ensures contributions { λ r. ⌜ ContributionsAre (r .contributions) (contributionsGiven (rowContributions (indexIn big (now (s .entry)) head) width (byCode lengths) (byCode sums) x home at size)) ⌝ }
+    ensures code { λ r. ⌜ r .code ≡ codeGiven (rowContributions (indexIn big (now (s .entry)) head) width (byCode lengths) x home at size) ⌝ }
+    ensures contributions { λ r. ⌜ ContributionsAre (r .contributions) (contributionsGiven (rowContributions (indexIn big (now (s .entry)) head) width (byCode lengths) x home at size)) ⌝ }
 {
     let Probed::Found(slot, _) = crate::probing::find(big, s, head, x) else {
         return refused(15);
@@ -249,7 +244,7 @@ pub fn judge_row(
     if !own_place(at, size, own) {
         return refused(16);
     }
-    if !cells_in_step(big, s, head, row, width, lengths, sums) {
+    if !parts_good(big, s, head, row, width, lengths) {
         return refused(16);
     }
     let contributions = row_cells(big, s, head, row, lengths);

@@ -3,7 +3,7 @@
 use mathlib.Core.Path.{sym, _∙_}
 use borrow.Author.Tests.{not-true, not-false}
 use borrow.Author.Needs.{needs}
-use Rattle.index.proofs.RowAnswers.{answers-refuse, answers-pass, row-absent, row-no-place, row-no-column, row-apart, row-out-of-step, row-good}
+use Rattle.index.proofs.RowAnswers.{answers-refuse, answers-pass, row-absent, row-no-place, row-no-column, row-apart, row-outside, row-good}
 use Rattle.index.proofs.Ends.{found-row}
 use Rattle.index.proofs.Heads.{read-sized}
 use Rattle.index.proofs.judging.judge_row.Statement.{statement}
@@ -22,7 +22,7 @@ refused-requires : tie.Need-refused-requires
 refused-requires c κs = search needs
 
 returns : tie.Need-returns
-returns c = answers-refuse _ _ _ (row-absent _ _ _ _ _ _ _ _ _ (sym (c .before .enum-told .given .1) ∙ c .before .before .before .find .ensures)) (c .refused .ensures)
+returns c = answers-refuse _ _ _ (row-absent _ _ _ _ _ _ _ _ (sym (c .before .enum-told .given .1) ∙ c .before .before .before .find .ensures)) (c .refused .ensures)
 
 row-at-requires : tie.Need-row-at-requires
 row-at-requires c κs = let a = c .before .before .before .before .before in (read-sized _ _ _ (a .pre .0), found-row _ _ _ (a .pre .0) _ _ _ (sym (c .before .slot .given .1) ∙ c .before .before .before .find .ensures) .inside)
@@ -40,7 +40,7 @@ refused-requires-2 : tie.Need-refused-requires-2
 refused-requires-2 c κs = search needs
 
 returns-2 : tie.Need-returns-2
-returns-2 c = answers-refuse _ _ _ (row-no-place _ _ _ _ _ _ _ _ _ _ _ (sym (c .before .before .before .before .before .before .slot .given .1) ∙ c .before .before .before .before .before .before .before .before .find .ensures) (c .before .before .before .before .row-at .ensures) _ (c .before .before .before .cell-of .ensures) (c .before .enum-told2 .given .1)) (c .refused2 .ensures)
+returns-2 c = answers-refuse _ _ _ (row-no-place _ _ _ _ _ _ _ _ _ _ (sym (c .before .before .before .before .before .before .slot .given .1) ∙ c .before .before .before .before .before .before .before .before .find .ensures) (c .before .before .before .before .row-at .ensures) _ (c .before .before .before .cell-of .ensures) (c .before .enum-told2 .given .1)) (c .refused2 .ensures)
 
 enum-told-3 : tie.Need-enum-told-3
 enum-told-3 c = search needs
@@ -52,7 +52,7 @@ refused-requires-3 : tie.Need-refused-requires-3
 refused-requires-3 c κs = search needs
 
 returns-3 : tie.Need-returns-3
-returns-3 c = answers-refuse _ _ _ (row-no-column _ _ _ _ _ _ _ _ _ _ _ (sym (c .before .before .before .before .before .before .before .before .slot .given .1) ∙ c .before .before .before .before .before .before .before .before .before .before .find .ensures) (c .before .before .before .before .before .before .row-at .ensures) _ (c .before .before .before .before .before .cell-of .ensures) _ _ (c .before .before .before .enum-told3 .given .1) (sym (not-true (c .before .before .columns-there .result) (c .before .if1 .taken)) ∙ c .before .before .columns-there .ensures)) (c .refused3 .ensures)
+returns-3 c = answers-refuse _ _ _ (row-no-column _ _ _ _ _ _ _ _ _ _ (sym (c .before .before .before .before .before .before .before .before .slot .given .1) ∙ c .before .before .before .before .before .before .before .before .before .before .find .ensures) (c .before .before .before .before .before .before .row-at .ensures) _ (c .before .before .before .before .before .cell-of .ensures) _ _ (c .before .before .before .enum-told3 .given .1) (sym (not-true (c .before .before .columns-there .result) (c .before .if1 .taken)) ∙ c .before .before .columns-there .ensures)) (c .refused3 .ensures)
 
 own-place-requires : tie.Need-own-place-requires
 own-place-requires c κs = search needs
@@ -61,22 +61,22 @@ refused-requires-4 : tie.Need-refused-requires-4
 refused-requires-4 c κs = search needs
 
 returns-4 : tie.Need-returns-4
-returns-4 c = answers-refuse _ _ _ (row-apart _ _ _ _ _ _ _ _ _ _ _ (sym (c .before .before .before .before .before .before .before .before .before .before .slot .given .1) ∙ c .before .before .before .before .before .before .before .before .before .before .before .before .find .ensures) (c .before .before .before .before .before .before .before .before .row-at .ensures) _ (c .before .before .before .before .before .before .before .cell-of .ensures) _ _ (c .before .before .before .before .before .enum-told3 .given .1) (sym (not-false (c .before .before .before .before .columns-there .result) (c .before .before .before .if1 .left)) ∙ c .before .before .before .before .columns-there .ensures) (sym (not-true (c .before .before .own-place .result) (c .before .if2 .taken)) ∙ c .before .before .own-place .ensures)) (c .refused4 .ensures)
+returns-4 c = answers-refuse _ _ _ (row-apart _ _ _ _ _ _ _ _ _ _ (sym (c .before .before .before .before .before .before .before .before .before .before .slot .given .1) ∙ c .before .before .before .before .before .before .before .before .before .before .before .before .find .ensures) (c .before .before .before .before .before .before .before .before .row-at .ensures) _ (c .before .before .before .before .before .before .before .cell-of .ensures) _ _ (c .before .before .before .before .before .enum-told3 .given .1) (sym (not-false (c .before .before .before .before .columns-there .result) (c .before .before .before .if1 .left)) ∙ c .before .before .before .before .columns-there .ensures) (sym (not-true (c .before .before .own-place .result) (c .before .if2 .taken)) ∙ c .before .before .own-place .ensures)) (c .refused4 .ensures)
 
-cells-in-step-requires : tie.Need-cells-in-step-requires
-cells-in-step-requires c κs = let p = cell-of-requires (c .before .before .before .before .before .before .before) κs in (p .0, p .1, p .2, c .before .before .before .before .before .before .before .before .before .before .before .before .before .pre .1)
+parts-good-requires : tie.Need-parts-good-requires
+parts-good-requires c κs = let p = cell-of-requires (c .before .before .before .before .before .before .before) κs in (p .0, p .1, p .2, c .before .before .before .before .before .before .before .before .before .before .before .before .before .pre .1)
 
 refused-requires-5 : tie.Need-refused-requires-5
 refused-requires-5 c κs = search needs
 
 returns-5 : tie.Need-returns-5
-returns-5 c = answers-refuse _ _ _ (row-out-of-step _ _ _ _ _ _ _ _ _ _ _ (sym (c .before .before .before .before .before .before .before .before .before .before .before .before .slot .given .1) ∙ c .before .before .before .before .before .before .before .before .before .before .before .before .before .before .find .ensures) (c .before .before .before .before .before .before .before .before .before .before .row-at .ensures) _ (c .before .before .before .before .before .before .before .before .before .cell-of .ensures) _ _ (c .before .before .before .before .before .before .before .enum-told3 .given .1) (sym (not-false (c .before .before .before .before .before .before .columns-there .result) (c .before .before .before .before .before .if1 .left)) ∙ c .before .before .before .before .before .before .columns-there .ensures) (sym (not-false (c .before .before .before .before .own-place .result) (c .before .before .before .if2 .left)) ∙ c .before .before .before .before .own-place .ensures) (sym (not-true (c .before .before .cells-in-step .result) (c .before .if3 .taken)) ∙ c .before .before .cells-in-step .ensures)) (c .refused5 .ensures)
+returns-5 c = answers-refuse _ _ _ (row-outside _ _ _ _ _ _ _ _ _ _ (sym (c .before .before .before .before .before .before .before .before .before .before .before .before .slot .given .1) ∙ c .before .before .before .before .before .before .before .before .before .before .before .before .before .before .find .ensures) (c .before .before .before .before .before .before .before .before .before .before .row-at .ensures) _ (c .before .before .before .before .before .before .before .before .before .cell-of .ensures) _ _ (c .before .before .before .before .before .before .before .enum-told3 .given .1) (sym (not-false (c .before .before .before .before .before .before .columns-there .result) (c .before .before .before .before .before .if1 .left)) ∙ c .before .before .before .before .before .before .columns-there .ensures) (sym (not-false (c .before .before .before .before .own-place .result) (c .before .before .before .if2 .left)) ∙ c .before .before .before .before .own-place .ensures) (sym (not-true (c .before .before .parts-good .result) (c .before .if3 .taken)) ∙ c .before .before .parts-good .ensures)) (c .refused5 .ensures)
 
 row-cells-requires : tie.Need-row-cells-requires
 row-cells-requires c κs = cell-of-requires (c .before .before .before .before .before .before .before .before .before) κs
 
 returns-6 : tie.Need-returns-6
-returns-6 c = answers-pass _ _ _ (row-good _ _ _ _ _ _ _ _ _ _ _ (sym (c .before .before .before .before .before .before .before .before .before .before .before .before .slot .given .1) ∙ c .before .before .before .before .before .before .before .before .before .before .before .before .before .before .find .ensures) (c .before .before .before .before .before .before .before .before .before .before .row-at .ensures) _ (c .before .before .before .before .before .before .before .before .before .cell-of .ensures) _ _ (c .before .before .before .before .before .before .before .enum-told3 .given .1) (sym (not-false (c .before .before .before .before .before .before .columns-there .result) (c .before .before .before .before .before .if1 .left)) ∙ c .before .before .before .before .before .before .columns-there .ensures) (sym (not-false (c .before .before .before .before .own-place .result) (c .before .before .before .if2 .left)) ∙ c .before .before .before .before .own-place .ensures) (sym (not-false (c .before .before .cells-in-step .result) (c .before .if3 .left)) ∙ c .before .before .cells-in-step .ensures)) (c .row-cells .ensures)
+returns-6 c = answers-pass _ _ _ (row-good _ _ _ _ _ _ _ _ _ _ (sym (c .before .before .before .before .before .before .before .before .before .before .before .before .slot .given .1) ∙ c .before .before .before .before .before .before .before .before .before .before .before .before .before .before .find .ensures) (c .before .before .before .before .before .before .before .before .before .before .row-at .ensures) _ (c .before .before .before .before .before .before .before .before .before .cell-of .ensures) _ _ (c .before .before .before .before .before .before .before .enum-told3 .given .1) (sym (not-false (c .before .before .before .before .before .before .columns-there .result) (c .before .before .before .before .before .if1 .left)) ∙ c .before .before .before .before .before .before .columns-there .ensures) (sym (not-false (c .before .before .before .before .own-place .result) (c .before .before .before .if2 .left)) ∙ c .before .before .before .before .own-place .ensures) (sym (not-false (c .before .before .parts-good .result) (c .before .if3 .left)) ∙ c .before .before .parts-good .ensures)) (c .row-cells .ensures)
 
 pub judge-row-spec : {M : Type 1} → statement M
 judge-row-spec =
@@ -99,7 +99,7 @@ judge-row-spec =
     own-place-requires
     refused-requires-4
     returns-4
-    cells-in-step-requires
+    parts-good-requires
     refused-requires-5
     returns-5
     row-cells-requires
