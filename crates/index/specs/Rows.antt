@@ -60,14 +60,14 @@ rowContributions i width lengths x home at size = do
   pass (λ s. elim (has (neededCodes lengths) s) [ true ↦ cellOf i row s | false ↦ none ])
 
 -- ---- a row by its place
--- n row numbers from r on
-unfoldable pub rowNumbers : ℕ → ℕ → List ℕ
-rowNumbers r zero = []
-rowNumbers r (suc n) = r ∷ rowNumbers (suc r) n
+-- the row numbers of n units, the last one first
+unfoldable pub rowNumbers : ℕ → List ℕ
+rowNumbers zero = []
+rowNumbers (suc n) = suc n ∷ rowNumbers n
 
 -- all rows, with or without a slot, "whose info column names the unit's offset and size"
 unfoldable pub naming : Index → ℕ → ℕ → List ℕ
-naming i at size = those (λ r. cellIs (ownPlace at size) (cellOf i r infoCode)) (rowNumbers 1 (i .units))
+naming i at size = those (λ r. cellIs (ownPlace at size) (cellOf i r infoCode)) (rowNumbers (i .units))
 
 -- "first find the one row"; 15 for "no such row or several"
 unfoldable pub theOne : List ℕ → Check ℕ
