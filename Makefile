@@ -1,8 +1,5 @@
-# `make test` is the gate: the layout of every Rattle file; every proof, must-fail edit and program, from nothing; then the host's tests on
-# the proved functions. Its last line is that of `rt ci`, and it stops with an error where any step fails.
-#
-# Beside the gate: `make differential` compares with thorin itself and feeds a million damaged bundles; `make bench` writes
-# docs/PERFORMANCE.md.
+# `make help` lists what there is. `make test` is the gate: the layout of every Rattle file; every proof, must-fail edit and program, from
+# nothing; then the host's tests on the proved functions. Its last line is that of `rt ci`, and it stops with an error where any step fails.
 
 # A program that packs bundles with thorin; it is built where it is and what it needs is at hand.
 ORACLE_SOURCE ?= ../shared/oracle
@@ -11,7 +8,24 @@ ACCEPTED ?= 100000
 DAMAGED ?= 1000000
 SEED ?= 1
 
-.PHONY: test library host pack-example fmt oracle differential bench
+# Where `make install` puts things; DESTDIR stands in front of it.
+PREFIX ?= /usr/local
+INSTALL ?= install
+
+.PHONY: help test library host pack-example command install uninstall clean fmt oracle differential bench
+
+help:
+	@echo 'make pack-example   packs the example, shows its package and looks a unit up in it'
+	@echo 'make library        proves the packer and writes target/staticlib/libbarthovin.a, for C or Rust on x86-64'
+	@echo 'make command        the same, and builds the command: host/target/release/barthovin'
+	@echo 'make install        installs command, library, barthovin.h and the manual page under PREFIX ($(PREFIX)), behind DESTDIR'
+	@echo 'make uninstall      removes them'
+	@echo 'make test           the gate: every proof from nothing, every edit that must fail, every program, the tests of the host'
+	@echo 'make host           the tests of the host alone'
+	@echo 'make differential   compares with thorin itself, where it is at hand, and feeds a million damaged bundles'
+	@echo 'make bench          times packing and looking up and writes docs/PERFORMANCE.md'
+	@echo 'make fmt            formats every file'
+	@echo 'make clean          removes all that was built, proofs too: the next command proves again'
 
 test:
 	rt fmt --check
@@ -19,14 +33,28 @@ test:
 	{ rt ci 2>&1; echo $$? > "$$out.status"; } | tee "$$out"; \
 	test "$$(cat "$$out.status")" = 0 || exit 1; \
 	$(MAKE) --no-print-directory host || exit 1; \
+	echo "crates, edits and programs of rt ci:"; \
 	tail -n 1 "$$out"
 
-# The static library is written behind `rt ci`, which removes target/.
-library:
-	rt staticlib archive > /dev/null
+# The static library is written behind `rt ci`, which removes target/. It is made anew only where a source is newer. The second name is
+# one that no other library has.
+LIBRARY = target/staticlib/libarchive.a
+SOURCES = crates.txt $(shell find crates -name '*.rt' -o -name '*.antt' | grep -v /must-fail/)
 
+library: $(LIBRARY)
+
+$(LIBRARY): $(SOURCES)
+	@echo 'proving the packer, crate by crate: $(words $(shell sed -n 's/^archive://p' crates.txt)) crates, then archive with the theorem'
+	rt staticlib archive > /dev/null
+	@cp $(LIBRARY) target/staticlib/libbarthovin.a
+	@echo 'archive proved: the theorem and the C entries; target/staticlib/libbarthovin.a is written'
+
+# Behind the tests one line counts them.
 host: library
-	cd host && env -u BARTHOVIN_LIBRARY cargo test --release --offline
+	@out=$$(mktemp) || exit 1; trap 'rm -f "$$out" "$$out.status"' EXIT; \
+	{ (cd host && env -u BARTHOVIN_LIBRARY cargo test --release --offline) 2>&1; echo $$? > "$$out.status"; } | tee "$$out"; \
+	test "$$(cat "$$out.status")" = 0 || exit 1; \
+	awk '/^test result: ok/ { passed += $$4; failed += $$6 } END { print "tests of the host: " passed " passed, " failed + 0 " failed" }' "$$out"
 
 # Packs the example, shows the package's words, and looks its unit up in it.
 barthovin = cargo run --release --offline --quiet --bin barthovin --
@@ -34,6 +62,26 @@ pack-example: library
 	cd host && $(barthovin) pack ../examples/one-unit.bundle -o ../target/one-unit.package
 	od -A d -t x4 -v target/one-unit.package
 	cd host && $(barthovin) lookup ../target/one-unit.package 5 cu 1 section info
+
+command: library
+	cd host && env -u BARTHOVIN_LIBRARY cargo build --release --offline --package barthovin
+
+install: command
+	$(INSTALL) -d '$(DESTDIR)$(PREFIX)/bin' '$(DESTDIR)$(PREFIX)/include' '$(DESTDIR)$(PREFIX)/lib' \
+	  '$(DESTDIR)$(PREFIX)/share/man/man1' '$(DESTDIR)$(PREFIX)/share/doc/barthovin'
+	$(INSTALL) -m 755 host/target/release/barthovin '$(DESTDIR)$(PREFIX)/bin/barthovin'
+	$(INSTALL) -m 644 host/product/include/barthovin.h '$(DESTDIR)$(PREFIX)/include/barthovin.h'
+	$(INSTALL) -m 644 target/staticlib/libbarthovin.a '$(DESTDIR)$(PREFIX)/lib/libbarthovin.a'
+	$(INSTALL) -m 644 host/product/man/barthovin.1 '$(DESTDIR)$(PREFIX)/share/man/man1/barthovin.1'
+	$(INSTALL) -m 644 LICENSE-MIT LICENSE-APACHE NOTICE '$(DESTDIR)$(PREFIX)/share/doc/barthovin/'
+
+uninstall:
+	rm -f '$(DESTDIR)$(PREFIX)/bin/barthovin' '$(DESTDIR)$(PREFIX)/include/barthovin.h' \
+	  '$(DESTDIR)$(PREFIX)/lib/libbarthovin.a' '$(DESTDIR)$(PREFIX)/share/man/man1/barthovin.1'
+	rm -rf '$(DESTDIR)$(PREFIX)/share/doc/barthovin'
+
+clean:
+	rm -rf target host/target
 
 fmt:
 	rt fmt

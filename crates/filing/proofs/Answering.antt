@@ -24,8 +24,8 @@ use Rattle.keeping.specs.declared.Table.{Table}
 use Rattle.package.specs.Input.{Input}
 use Rattle.package.specs.Filing.{Filed, isUnder, kept, sums, contributionsOf, unitAt}
 use Rattle.package.specs.Pack.{rowsOf}
-use Rattle.input.specs.Contributing.{GivenIs}
-use Rattle.input.specs.declared.InputObject.{InputObject}
+use Rattle.filing.specs.Contributing.{GivenIs}
+use Rattle.filing.specs.declared.input.InputObject.{InputObject}
 use Rattle.filing.specs.declared.state.InProgress.{InProgress}
 use Rattle.filing.specs.declared.state.Sums.{Sums}
 use Rattle.filing.specs.declared.units.UnitFiled.{UnitFiled}

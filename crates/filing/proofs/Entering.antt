@@ -17,8 +17,8 @@ use Rattle.keeping.specs.Regions.{stringsStart, Replaced}
 use Rattle.keeping.specs.Cells.{Summed}
 use Rattle.package.specs.Input.{Input}
 use Rattle.package.specs.Filing.{Filed, sums, grown}
-use Rattle.input.specs.Judged.{InputIs}
-use Rattle.input.specs.declared.InputObject.{InputObject}
+use Rattle.filing.specs.Judged.{InputIs}
+use Rattle.filing.specs.declared.input.InputObject.{InputObject}
 use Rattle.filing.specs.declared.state.InProgress.{InProgress}
 use Rattle.filing.specs.declared.state.Sums.{Sums}
 use Rattle.filing.specs.State.{Held, SumsHeld}

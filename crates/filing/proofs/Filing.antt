@@ -19,9 +19,9 @@ use Rattle.index.specs.Written.{offsetOf, sizeOf}
 use Rattle.index.proofs.Contributions.{Contributed, whole-contributed, row-contributed}
 use Rattle.package.specs.Input.{Input}
 use Rattle.package.specs.Filing.{Filed, isUnder, indexFor, sums, lengths, contributionsOf, skipped, unitAt}
-use Rattle.input.specs.Judged.{sectionOf, InputIs}
-use Rattle.input.specs.declared.InputObject.{InputObject}
-use Rattle.input.proofs.Contributing.{shared-below}
+use Rattle.filing.specs.Judged.{sectionOf, InputIs}
+use Rattle.filing.specs.declared.input.InputObject.{InputObject}
+use Rattle.filing.proofs.Contributing.{shared-below}
 use Rattle.filing.specs.Choices.{ReadAt}
 
 -- a unit as it is filed

@@ -24,8 +24,8 @@ use Rattle.keeping.specs.Regions.{stringsStart}
 use Rattle.package.specs.Input.{Input, present, usedStrings, inputOf}
 use Rattle.package.proofs.Numbered.{Numbered}
 use Rattle.package.proofs.OverObjects.{used-numbered}
-use Rattle.input.specs.Judged.{objectCheck, JudgedIs}
-use Rattle.input.specs.declared.Judged.{Judged}
+use Rattle.filing.specs.Judged.{objectCheck, JudgedIs}
+use Rattle.filing.specs.declared.input.Judged.{Judged}
 use Rattle.filing.specs.declared.objects.StringsFiled.{StringsFiled}
 use Rattle.filing.specs.declared.objects.IndexesJudged.{IndexesJudged}
 use Rattle.filing.specs.declared.objects.InputFiled.{InputFiled}

@@ -26,10 +26,10 @@ use Rattle.strings.specs.declared.table.StringTable.{StringTable}
 use Rattle.index.specs.Index.{Index}
 use Rattle.keeping.proofs.Moved.{getD-past}
 use Rattle.package.specs.Input.{Input, present, inputOf}
-use Rattle.input.specs.Judged.{indexCheck, JudgedIs, JudgedIndexIs, InputIs, IndexedIs, sectionOf}
-use Rattle.input.specs.declared.Judged.{Judged}
-use Rattle.input.specs.declared.JudgedIndex.{JudgedIndex}
-use Rattle.input.specs.declared.Indexed.{Indexed}
+use Rattle.filing.specs.Judged.{indexCheck, JudgedIs, JudgedIndexIs, InputIs, IndexedIs, sectionOf}
+use Rattle.filing.specs.declared.input.Judged.{Judged}
+use Rattle.filing.specs.declared.input.JudgedIndex.{JudgedIndex}
+use Rattle.filing.specs.declared.input.Indexed.{Indexed}
 use Rattle.filing.specs.declared.objects.IndexesJudged.{IndexesJudged}
 use Rattle.filing.specs.ByObject.{stringsCheck, StringsRoom, scanned, scannedIndex, IndexesAre, InputRoom}
 

@@ -12,7 +12,7 @@ use Rattle.bundle.specs.Bundle.{Part, Object, body}
 use Rattle.bundle.specs.Encoding.{Encoding, encodingOf, encodingGood}
 use Rattle.index.specs.Index.{Index}
 use Rattle.package.specs.Input.{Input, present, editionGood, complete, usedStrings, inputIndex, unitSections, inputOf}
-use Rattle.input.specs.Judged.{objectCheck, indexCheck}
+use Rattle.filing.specs.Judged.{objectCheck, indexCheck}
 use Rattle.filing.specs.ByObject.{stringsCheck}
 
 four-tests : {A B : Type 0} (s t u v : Bool) (a : A) (f : A → Check B)

@@ -1,5 +1,8 @@
 -- Laws of filing: one unit more, the answers of filing it, and what the loops over units, sections and objects keep.
 -- Assumes nothing.
+pub mod Counts
+pub mod Judging
+pub mod Contributing
 pub mod Picked
 pub mod More
 pub mod Kept

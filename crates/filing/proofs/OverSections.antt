@@ -23,7 +23,7 @@ use Rattle.index.specs.Rows.{BySection}
 use Rattle.package.specs.Input.{Input, unitSections}
 use Rattle.package.specs.Filing.{Filed, unitsFrom, unitsIn}
 use Rattle.package.proofs.NumberedWalks.{units-numbered, section-none, section-filed, section-refused}
-use Rattle.input.specs.declared.InputObject.{InputObject}
+use Rattle.filing.specs.declared.input.InputObject.{InputObject}
 use Rattle.filing.specs.declared.state.InProgress.{InProgress}
 use Rattle.filing.specs.declared.state.Sums.{Sums}
 use Rattle.filing.specs.declared.units.UnitsFiled.{UnitsFiled}

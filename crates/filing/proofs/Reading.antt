@@ -20,8 +20,8 @@ use Rattle.unit.proofs.UnitFacts.{UnitFacts, unit-facts}
 use Rattle.index.specs.Rows.{BySection}
 use Rattle.package.specs.Input.{Input}
 use Rattle.package.specs.Filing.{Filed, unitAt}
-use Rattle.input.specs.Judged.{sectionOf, InputIs}
-use Rattle.input.specs.declared.InputObject.{InputObject}
+use Rattle.filing.specs.Judged.{sectionOf, InputIs}
+use Rattle.filing.specs.declared.input.InputObject.{InputObject}
 use Rattle.filing.specs.declared.units.UnitFiled.{UnitFiled}
 use Rattle.filing.specs.Answers.{UnitIs}
 use Rattle.filing.specs.Choices.{ReadAt}

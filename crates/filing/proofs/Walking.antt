@@ -13,7 +13,7 @@ use Rattle.index.specs.Rows.{BySection}
 use Rattle.package.specs.Input.{Input}
 use Rattle.package.specs.Filing.{Filed, unitAt, unitsFrom}
 use Rattle.package.proofs.Walks.{Read, filed-read, unitsOver, units-over, over-end, over-refused, over-more}
-use Rattle.input.specs.declared.InputObject.{InputObject}
+use Rattle.filing.specs.declared.input.InputObject.{InputObject}
 use Rattle.filing.specs.declared.state.InProgress.{InProgress}
 use Rattle.filing.specs.declared.state.Sums.{Sums}
 use Rattle.filing.specs.declared.units.UnitFiled.{UnitFiled}

@@ -8,8 +8,8 @@ use Rattle.octets.specs.Checked.{Check, pass, refuse}
 use Rattle.index.specs.Rows.{BySection}
 use Rattle.package.specs.Input.{Input}
 use Rattle.package.specs.Filing.{Filed}
-use Rattle.input.specs.declared.InputObject.{InputObject}
-use Rattle.input.specs.Judged.{InputIs}
+use Rattle.filing.specs.declared.input.InputObject.{InputObject}
+use Rattle.filing.specs.Judged.{InputIs}
 use Rattle.filing.specs.declared.state.InProgress.{InProgress}
 use Rattle.filing.specs.declared.state.Sums.{Sums}
 use Rattle.filing.specs.declared.units.UnitFiled.{UnitFiled}

@@ -26,7 +26,7 @@ use Rattle.package.specs.Input.{Input}
 use Rattle.package.specs.Filing.{Filed}
 use Rattle.package.specs.Pack.{allUsed, stringTable}
 use Rattle.filing.specs.declared.state.InProgress.{InProgress}
-use Rattle.input.specs.Judged.{IndexedIs, InputIs, indexCheck}
+use Rattle.filing.specs.Judged.{IndexedIs, InputIs, indexCheck}
 use Rattle.filing.specs.declared.objects.StringsFiled.{StringsFiled}
 use Rattle.filing.specs.declared.objects.IndexesJudged.{IndexesJudged}
 use Rattle.filing.specs.declared.objects.InputFiled.{InputFiled}

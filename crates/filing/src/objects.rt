@@ -23,8 +23,8 @@ ghost use Rattle.filing.specs.ByObject.{
 };
 use bundle::Scan;
 use bundle::encoding::ObjectEncoding;
-use input::Indexed;
-use input::InputObject;
+use crate::input::Indexed;
+use crate::input::InputObject;
 use strings::entries::Entries;
 use strings::table::Added;
 use strings::table::Place;
@@ -108,7 +108,7 @@ fn judge_indexes(b: &[u8], e: ObjectEncoding, scan: Scan) -> IndexesJudged
     let count = scan.count;
     let start = scan.start;
     let size = scan.size;
-    let cu = input::judge_index(b, e, start[12], size[12], count[12]);
+    let cu = crate::input::judge_index(b, e, start[12], size[12], count[12]);
     let cu_code = cu.code;
     let cu_index = cu.index;
     if cu_code != 0 {
@@ -118,7 +118,7 @@ fn judge_indexes(b: &[u8], e: ObjectEncoding, scan: Scan) -> IndexesJudged
             tu: Indexed::Nowhere,
         };
     }
-    let tu = input::judge_index(b, e, start[13], size[13], count[13]);
+    let tu = crate::input::judge_index(b, e, start[13], size[13], count[13]);
     let tu_code = tu.code;
     let tu_index = tu.index;
     IndexesJudged {
@@ -162,7 +162,7 @@ pub fn read_input(
     ensures read { λ r. ⌜ ((at : ℕ) (ps : List Part) (ts : List (List ℕ)) → scan ≡ scanOf at ps → InputRoom (now (b .entry)) ps n (length (now (work .entry))) t → Kept (now (b .entry)) (part (now (work .entry)) (stringsStart n) (3 * n)) t ts → InputRead (now (b .entry)) n (now (work .exit)) ts (inputOf (now (b .entry)) big first (record { word = word; parts = ps })) r) ⌝ }
     ensures frame { λ _. ⌜ Replaced (now (work .entry)) (now (work .exit)) (stringsStart n) (3 * n) ⌝ }
 {
-    let judged = input::judge_object(big, first, word, scan);
+    let judged = crate::input::judge_object(big, first, word, scan);
     let e = judged.encoding;
     if judged.code != 0 {
         return input_refused(judged.code, e, scan, t);

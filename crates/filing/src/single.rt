@@ -13,7 +13,7 @@ ghost use Rattle.filing.specs.Choices.{ReadAt};
 use crate::state::InProgress;
 use crate::state::Sums;
 use crate::units::UnitFiled;
-use input::InputObject;
+use crate::input::InputObject;
 use unit::header::UnitAnswer;
 
 fn refused(code: u32, st: InProgress, sums: Sums) -> UnitFiled
@@ -60,7 +60,7 @@ fn file_read(
         };
     }
     let summed = crate::keep::sums_of(sums, table);
-    let judged = input::contributions::contributions_of(
+    let judged = crate::contributions::contributions_of(
         b,
         x,
         summed,

@@ -15,7 +15,7 @@ use crate::state::InProgress;
 use crate::state::Sums;
 use crate::units::UnitsFiled;
 use bundle::UnitSection;
-use input::InputObject;
+use crate::input::InputObject;
 
 // All units of one section, which lies from start to stop.
 pub fn add_units(

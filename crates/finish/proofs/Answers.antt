@@ -14,8 +14,8 @@ use Rattle.octets.specs.Checked.{Check, pass, refuse}
 use Rattle.octets.proofs.Checks.{passes, fails}
 use Rattle.bundle.specs.Written.{written}
 use Rattle.package.specs.Pack.{Answer, short, made, answered}
-use Rattle.sections.specs.Sections.{Sized, sectionsBy, sizesGood, lengthOf}
-use Rattle.sections.proofs.Sizes.{good-is, length-is, bad-sections}
+use Rattle.finish.specs.Sections.{Sized, sectionsBy, sizesGood, lengthOf}
+use Rattle.finish.proofs.SectionSizes.{good-is, length-is, bad-sections}
 use Rattle.finish.specs.Finish.{finishedOf, outputOf, oneObject}
 use Rattle.finish.specs.declared.whole.Finished.the-variants.{Refused, Short, Made}
 

@@ -17,8 +17,8 @@ use Rattle.strings.specs.Kept as kept
 use Rattle.strings.specs.declared.table.StringTable.{StringTable}
 use Rattle.strings.proofs.StrOffsets.{sound}
 use Rattle.places.specs.Places.{PlacesHeld, Copyable}
-use Rattle.joining.specs.Joining.{sectionsJoined, offsetsJoined, Joinable, OffsetsJoinable}
-use Rattle.joining.proofs.Remapping.{length-offsets}
+use Rattle.finish.specs.Joining.{sectionsJoined, offsetsJoined, Joinable, OffsetsJoinable}
+use Rattle.finish.proofs.Remapping.{length-offsets}
 use Rattle.filing.specs.declared.state.InProgress.{InProgress}
 use Rattle.finish.specs.Ready.{IndexHeld, IndexWritable, Ready, SectionWritable}
 

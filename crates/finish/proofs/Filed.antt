@@ -38,9 +38,9 @@ use Rattle.package.proofs.Tables.{rows-named}
 use Rattle.package.proofs.UnitStrings.{good-versions}
 use Rattle.rows.proofs.LawRows.{length-identities}
 use Rattle.bundle.proofs.Sizes.{bundle-totals}
-use Rattle.joining.specs.Joining.{sectionsJoined, offsetsJoined, remappedIn, EntriesGood}
-use Rattle.joining.proofs.Remapping.{remapped-in}
-use Rattle.sections.specs.Sections.{sectionsFrom, sectionsBy, notEmpty}
+use Rattle.finish.specs.Joining.{sectionsJoined, offsetsJoined, remappedIn, EntriesGood}
+use Rattle.finish.proofs.Remapping.{remapped-in}
+use Rattle.finish.specs.Sections.{sectionsFrom, sectionsBy, notEmpty}
 use Rattle.keeping.specs.Regions.{rowsStart, placesStart}
 use Rattle.filing.specs.State.{Held, unitsOf}
 use Rattle.filing.specs.declared.state.InProgress.{InProgress}

@@ -10,10 +10,10 @@ use borrow.Author.Tests.{eq-eqb, ne-eqb}
 use Rattle.octets.specs.Octets.{placed}
 use Rattle.bundle.specs.Bundle.{filledUp}
 use Rattle.bundle.specs.Written.{wordBytes}
-use Rattle.sections.specs.Sections.{framedSize}
-use Rattle.sections.specs.Writing.{Writing}
-use Rattle.sections.proofs.Sizes.{framed-none, framed-some}
-use Rattle.sections.proofs.Writing.{writing-skip, writing-section}
+use Rattle.finish.specs.Sections.{framedSize}
+use Rattle.finish.specs.Writing.{Writing}
+use Rattle.finish.proofs.SectionSizes.{framed-none, framed-some}
+use Rattle.finish.proofs.BeingWritten.{writing-skip, writing-section}
 use Rattle.finish.specs.Ready.{framedIn}
 
 pub frame-none : (d : List ℕ) (at c : ℕ) (x : List ℕ) → length x ≡ 0 → d ≡ framedIn d at c x

@@ -1,5 +1,10 @@
 -- Laws of finishing.
 -- Assumes nothing.
+pub mod Entering
+pub mod JoinedObjects
+pub mod Remapping
+pub mod SectionSizes
+pub mod BeingWritten
 pub mod Sized
 pub mod Frames
 pub mod Dispatch

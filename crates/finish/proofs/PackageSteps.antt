@@ -10,10 +10,10 @@ use Rattle.octets.specs.Octets.{placed, padded, zeros}
 use Rattle.octets.proofs.Placed.{length-placed}
 use Rattle.bundle.specs.Written.{wordBytes, headBytes, endBytes, written}
 use Rattle.bundle.proofs.Putting.{length-word, length-head}
-use Rattle.sections.specs.Sections.{Sized, sectionsBy, sizesGood, lengthOf}
-use Rattle.sections.specs.Writing.{Writing, frontOf}
-use Rattle.sections.proofs.Sizes.{length-is, length-most}
-use Rattle.sections.proofs.Writing.{package-length-is, writing-start, writing-place, writing-done}
+use Rattle.finish.specs.Sections.{Sized, sectionsBy, sizesGood, lengthOf}
+use Rattle.finish.specs.Writing.{Writing, frontOf}
+use Rattle.finish.proofs.SectionSizes.{length-is, length-most}
+use Rattle.finish.proofs.BeingWritten.{package-length-is, writing-start, writing-place, writing-done}
 
 pub length-least : (sizes : List ℕ) → 12 ≤ lengthOf sizes
 unfolding lengthOf

@@ -16,9 +16,9 @@ use Rattle.strings.proofs.StrOffsets.{sound}
 use Rattle.index.specs.Probing.{slotsFor}
 use Rattle.rows.specs.Layout.{codesIn, indexSize}
 use Rattle.rows.proofs.LawPieces.{index-length}
-use Rattle.joining.specs.Joining.{offsetsJoined, sectionsJoined}
-use Rattle.joining.proofs.Remapping.{length-offsets}
-use Rattle.sections.specs.Sections.{Sized}
+use Rattle.finish.specs.Joining.{offsetsJoined, sectionsJoined}
+use Rattle.finish.proofs.Remapping.{length-offsets}
+use Rattle.finish.specs.Sections.{Sized}
 use Rattle.keeping.specs.declared.Table.{Table}
 use Rattle.filing.specs.declared.state.InProgress.{InProgress}
 use Rattle.finish.specs.Ready.{indexSizeOf, sizesOf, IndexHeld, Ready}

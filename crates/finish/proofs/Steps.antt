@@ -18,9 +18,9 @@ use Rattle.bundle.proofs.Sizes.{written-size}
 use Rattle.strings.specs.declared.table.StringTable.{StringTable}
 use Rattle.index.specs.Probing.{slotsFor}
 use Rattle.rows.specs.Layout.{RowsIn, indexIn}
-use Rattle.sections.specs.Writing.{Writing}
-use Rattle.sections.proofs.Sizes.{framed-some, size-good}
-use Rattle.sections.proofs.Writing.{writing-frame-room}
+use Rattle.finish.specs.Writing.{Writing}
+use Rattle.finish.proofs.SectionSizes.{framed-some, size-good}
+use Rattle.finish.proofs.BeingWritten.{writing-frame-room}
 use Rattle.keeping.specs.declared.Table.{Table}
 use Rattle.filing.specs.declared.state.InProgress.{InProgress}
 use Rattle.finish.specs.Ready.{IndexHeld, IndexWritable, SectionWritable, framedIn, FrameWritable, SectionsWritable}

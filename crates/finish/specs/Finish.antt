@@ -18,7 +18,7 @@ use Rattle.index.specs.Rows.{BySection}
 use Rattle.package.specs.Input.{Input}
 use Rattle.package.specs.Filing.{Filing, filingOf, firstWord}
 use Rattle.package.specs.Pack.{Answer, refused, short, made, packageSections, packageObjects, stringTable}
-use Rattle.sections.specs.Sections.{sectionsBy}
+use Rattle.finish.specs.Sections.{sectionsBy}
 use Rattle.keeping.specs.Regions.{stringsStart}
 use Rattle.filing.specs.State.{Held}
 use Rattle.filing.specs.declared.state.InProgress.{InProgress}

@@ -20,9 +20,9 @@ use Rattle.strings.specs.declared.table.StringTable.{StringTable}
 use Rattle.index.specs.Probing.{slotsFor}
 use Rattle.rows.specs.Layout.{RowsIn, codesIn, indexIn, indexSize}
 use Rattle.places.specs.Places.{PlacesHeld}
-use Rattle.joining.specs.Joining.{sectionsJoined, offsetsJoined, EntriesGood}
-use Rattle.sections.specs.Sections.{Sized, sizesGood, framedSize, lengthOf}
-use Rattle.sections.specs.Writing.{Writing}
+use Rattle.finish.specs.Joining.{sectionsJoined, offsetsJoined, EntriesGood}
+use Rattle.finish.specs.Sections.{Sized, sizesGood, framedSize, lengthOf}
+use Rattle.finish.specs.Writing.{Writing}
 use Rattle.keeping.specs.declared.Table.{Table}
 use Rattle.filing.specs.declared.state.InProgress.{InProgress}
 

@@ -58,10 +58,10 @@ fn finish_sections(
     ensures output { λ _. ⌜ ((s : ℕ → List ℕ) → Ready e (now (b .entry)) st t (now (work .entry)) s → now (out .exit) ≡ outputOf (answered (oneObject (e .big) word s) (length (now (out .entry)))) (length (now (out .entry)))) ⌝ }
 {
     let sizes = crate::sizes::section_sizes(e.five, st, t);
-    if !sections::sizes_good(sizes) {
+    if !crate::sections::sizes_good(sizes) {
         return Finished::Refused(19); // before 18
     }
-    let length = sections::package_length(sizes);
+    let length = crate::sections::package_length(sizes);
     if out.len() < length {
         return Finished::Short(length);
     }

@@ -5,8 +5,8 @@ ghost use Prim.Native.Nat.{ℕ, _+_, _-_, _<_};
 ghost use lib.ListN.{length};
 ghost use Rattle.octets.specs.Octets.{placed, padded};
 ghost use Rattle.bundle.specs.Written.{written};
-ghost use Rattle.sections.specs.Sections.{Sized, sectionsBy, framedSize};
-ghost use Rattle.sections.specs.Writing.{Writing};
+ghost use Rattle.finish.specs.Sections.{Sized, sectionsBy, framedSize};
+ghost use Rattle.finish.specs.Writing.{Writing};
 ghost use Rattle.finish.specs.Ready.{
   Ready,
   IndexHeld,
@@ -97,14 +97,14 @@ fn write_section(
     if code == 6 {
         let strings_start = 8 * n;
         let strings_end = 11 * n;
-        joining::copy_str_offsets(e, b, &work[strings_start..strings_end], t, out, at);
+        crate::joining::copy_str_offsets(e, b, &work[strings_start..strings_end], t, out, at);
         return;
     }
     if 10 < code {
         write_last_section(code, e, b, st, t, work, out, at);
         return;
     }
-    joining::copy_sections(b, code, out, at);
+    crate::joining::copy_sections(b, code, out, at);
 }
 
 // One section with its word, where it isn't empty; the place behind it.

@@ -3,4 +3,3 @@
 pub mod Input
 pub mod Filing
 pub mod Pack
-pub mod Counted

@@ -1,2 +1,1 @@
-// What packing accepts, section by section.
-pub mod editions;
+// The definitions of packing and their laws; the code that packs stands in crates above.

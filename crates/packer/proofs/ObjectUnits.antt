@@ -14,8 +14,8 @@ use Rattle.keeping.specs.Cells.{Summed}
 use Rattle.package.specs.Input.{Input, unitSections}
 use Rattle.package.specs.Filing.{Filed, unitsIn}
 use Rattle.package.proofs.NumberedWalks.{sections-numbered}
-use Rattle.input.specs.declared.InputObject.{InputObject}
-use Rattle.input.specs.Judged.{InputIs, sectionOf}
+use Rattle.filing.specs.declared.input.InputObject.{InputObject}
+use Rattle.filing.specs.Judged.{InputIs, sectionOf}
 use Rattle.filing.specs.declared.state.InProgress.{InProgress}
 use Rattle.filing.specs.declared.units.UnitsFiled.{UnitsFiled}
 use Rattle.filing.specs.State.{StringsKept}

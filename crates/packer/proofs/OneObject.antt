@@ -33,7 +33,7 @@ use Rattle.package.specs.Filing.{Filed, unitsIn, grown}
 use Rattle.package.specs.Pack.{allUsed, stringTable}
 use Rattle.package.proofs.Inputs.{input-parts}
 use Rattle.package.proofs.OverObjects.{input-numbered}
-use Rattle.input.specs.Judged.{InputIs}
+use Rattle.filing.specs.Judged.{InputIs}
 use Rattle.filing.specs.declared.state.InProgress.{InProgress}
 use Rattle.filing.specs.declared.objects.InputFiled.{InputFiled}
 use Rattle.filing.specs.State.{Held, StringsKept}

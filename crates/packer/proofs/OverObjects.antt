@@ -21,7 +21,7 @@ use Rattle.bundle.proofs.ScanFacts.{left-sections}
 use Rattle.bundle.proofs.Passed.{here}
 use Rattle.bundle.proofs.Next.{object-here}
 use Rattle.bundle.proofs.Objects.{Objects, Entered, objects-none, objects-object}
-use Rattle.joining.proofs.Entering.{objects-over}
+use Rattle.finish.proofs.Entering.{objects-over}
 use Rattle.strings.specs.declared.table.StringTable.{StringTable}
 use Rattle.keeping.specs.Regions.{stringsStart}
 use Rattle.index.specs.Rows.{BySection}

@@ -13,7 +13,7 @@ use Rattle.strings.specs.declared.table.StringTable.{StringTable}
 use Rattle.index.specs.Rows.{BySection}
 use Rattle.package.specs.Input.{Input, unitSections}
 use Rattle.package.specs.Filing.{Filed, Filing, unitsIn, grown}
-use Rattle.input.specs.declared.InputObject.{InputObject}
+use Rattle.filing.specs.declared.input.InputObject.{InputObject}
 use Rattle.filing.specs.State.{Held, StringsKept}
 use Rattle.filing.specs.Answers.{AtUnit}
 use Rattle.filing.specs.ByObject.{AtObject}

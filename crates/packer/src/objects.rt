@@ -22,7 +22,7 @@ ghost use Rattle.packer.specs.Objects.{
 use bundle::Item;
 use filing::state::InProgress;
 use filing::state::Sums;
-use input::InputObject;
+use filing::input::InputObject;
 use keeping::Table;
 use places::Kept;
 use strings::table::StringTable;

@@ -9,7 +9,7 @@ use Rattle.octets.specs.Checked.{Check}
 use Rattle.octets.proofs.Checks.{true-false}
 use Rattle.bundle.proofs.Objects.{objects-none}
 use Rattle.package.specs.Pack.{answered}
-use Rattle.joining.proofs.Entering.{objects-over, not-object}
+use Rattle.finish.proofs.Entering.{objects-over, not-object}
 use Rattle.finish.specs.Finish.{finishedOf, outputOf}
 use Rattle.finish.proofs.Answers.{refused-answer, refused-output}
 use Rattle.finish.proofs.Finishing.{Ending, empty-package, word-good, ending}

@@ -7,7 +7,7 @@ use native.Mathlib.Omega.{arith}
 use borrow.Author.Tests.{not-true, not-false}
 use lib.ListN.{length}
 use denote.Ref.{now}
-use Rattle.sections.specs.Sections.{Sized}
+use Rattle.finish.specs.Sections.{Sized}
 use Rattle.finish.specs.Ready.{Ready}
 use Rattle.finish.proofs.Sized.{sizes-long, ready-sized}
 use Rattle.finish.proofs.Answers.{refused-answer, refused-output, short-answer, short-output, made-answer, made-output, sized-bad, sized-good, sized-length}

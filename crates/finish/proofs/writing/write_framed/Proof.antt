@@ -3,7 +3,7 @@
 use mathlib.Core.Path.{sym, ap, _∙_}
 use Prim.Native.Nat.{ℕ, _+_}
 use native.Mathlib.Omega.{arith}
-use Rattle.sections.proofs.Sizes.{framed-none, framed-some}
+use Rattle.finish.proofs.SectionSizes.{framed-none, framed-some}
 use Rattle.finish.proofs.Frames.{frame-none}
 use Rattle.finish.proofs.Steps.{frame-room, frame-section, frame-put}
 use borrow.Author.Needs.{needs}

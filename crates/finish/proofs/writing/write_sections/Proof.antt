@@ -5,8 +5,8 @@ use mathlib.Core.List.{List}
 use Prim.Native.Nat.{ℕ, _-_, _≤_}
 use native.Mathlib.Omega.{arith}
 use lib.ListN.{length}
-use Rattle.sections.specs.Sections.{Sized}
-use Rattle.sections.specs.Writing.{Writing}
+use Rattle.finish.specs.Sections.{Sized}
+use Rattle.finish.specs.Writing.{Writing}
 use Rattle.finish.specs.Ready.{Ready}
 use Rattle.finish.proofs.Frames.{frame-turn}
 use Rattle.finish.proofs.Steps.{frame-writable}

@@ -5,7 +5,7 @@ use Prim.Native.Nat.{_-_}
 use native.Mathlib.Omega.{arith}
 use lib.ListN.{length}
 use borrow.Author.Needs.{needs}
-use Rattle.joining.proofs.Entering.{not-object}
+use Rattle.finish.proofs.Entering.{not-object}
 use Rattle.packer.proofs.OverObjects.{SoFar, far-none, far-end, word-ahead, word-held, word-further, far-more, far-refused}
 use Rattle.packer.proofs.objects.add_input_objects.Statement.{statement}
 use Rattle.packer.proofs.objects.add_input_objects.Tie as tie

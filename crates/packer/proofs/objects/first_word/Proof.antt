@@ -2,7 +2,7 @@
 -- Assumes nothing.
 use mathlib.Core.Path.{sym, _∙_}
 use borrow.Author.Needs.{needs}
-use Rattle.joining.proofs.Entering.{not-object}
+use Rattle.finish.proofs.Entering.{not-object}
 use Rattle.packer.proofs.OverObjects.{first-none, first-some}
 use Rattle.packer.proofs.objects.first_word.Statement.{statement}
 use Rattle.packer.proofs.objects.first_word.Tie as tie

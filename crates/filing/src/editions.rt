@@ -1,0 +1,93 @@
+// 6 and 7, by how many sections of each code an object has.
+ghost use mathlib.Core.Path.{_≡_};
+ghost use mathlib.Core.Bool.{not, _&&_, _||_};
+ghost use Prim.Native.Nat.{ℕ, _<_};
+ghost use lib.Dec.{leb};
+ghost use lib.ListN.{length, getD};
+ghost use Rattle.octets.specs.Lists.{all};
+ghost use Rattle.filing.specs.Counted.{editionBy, completeBy, wrongFor};
+ghost use Rattle.package.specs.Input.{onlyOnce};
+
+const WRONG_FOUR: [usize; 2] = [9, 10];
+
+const WRONG_FIVE: [usize; 5] = [2, 5, 7, 12, 13];
+
+const ONLY_ONCE: [usize; 11] = [3, 4, 5, 6, 7, 8, 9, 10, 11, 12, 13];
+
+// Whether no code of a list has so many sections or more. The lists here hold codes below 14 alone.
+fn none_reaches(codes: &[usize], count: [usize; 14], least: usize) -> bool
+    requires { ⌜ ((i : ℕ) → getD (now codes) i 0 < 14) ⌝ }
+    ensures { λ r. ⌜ r ≡ all (λ c. not (leb least (getD count c 0))) (now (codes .entry)) ⌝ }
+{
+    let mut i = 0;
+    while i < codes.len() {
+        let c = codes[i];
+        if least <= count[c] {
+            return false;
+        }
+        i += 1;
+    }
+    true
+}
+
+// Whether no section is of the wrong edition.
+fn edition_right(five: bool, count: [usize; 14]) -> bool
+    ensures { λ r. ⌜ r ≡ all (λ c. not (leb 1 (getD count c 0))) (wrongFor five) ⌝ }
+{
+    if five {
+        return none_reaches(&WRONG_FIVE, count, 1);
+    }
+    none_reaches(&WRONG_FOUR, count, 1)
+}
+
+// Whether no code other than info and types has a second section.
+fn all_once(count: [usize; 14]) -> bool
+    ensures { λ r. ⌜ r ≡ all (λ c. not (leb 2 (getD count c 0))) onlyOnce ⌝ }
+{
+    none_reaches(&ONLY_ONCE, count, 2)
+}
+
+// Whether an index stands beside a second section of units.
+fn second_beside(indexes: usize, units: usize) -> bool
+    ensures { λ r. ⌜ r ≡ (leb 1 indexes && leb 2 units) ⌝ }
+{
+    if indexes < 1 {
+        return false;
+    }
+    2 <= units
+}
+
+// 6
+pub fn edition_good(five: bool, count: [usize; 14]) -> bool
+    ensures { λ r. ⌜ r ≡ editionBy five count ⌝ }
+{
+    if edition_right(five, count) {
+        if all_once(count) {
+            if second_beside(count[12], count[1]) {
+                return false;
+            }
+            if second_beside(count[13], count[2]) {
+                return false;
+            }
+            return true;
+        }
+        return false;
+    }
+    false
+}
+
+// 7
+pub fn complete(count: [usize; 14]) -> bool
+    ensures { λ r. ⌜ r ≡ completeBy count ⌝ }
+{
+    if count[3] < 1 {
+        return false;
+    }
+    if count[1] < 1 {
+        return false;
+    }
+    if count[6] < 1 {
+        return true;
+    }
+    1 <= count[11]
+}

@@ -1,0 +1,137 @@
+-- str_offsets sections by a table, one behind the other.
+-- Assumes nothing.
+use mathlib.Core.Path.{_≡_, refl, sym, ap, ap₂, _∙_}
+use mathlib.Core.List.{List, [], _∷_, _++_, map}
+use Prim.Native.Nat.{ℕ, _+_, _-_, _<_, _≤_}
+use native.Mathlib.Nat.{zero-div}
+use native.Mathlib.Omega.{arith}
+use native.Mathlib.Decide.{ℕ-discrete}
+use lib.ListN.{length, getD, length-append}
+use lib.Seq.{take-nil}
+use Rattle.octets.specs.Octets.{part, placed, numbersIn, numbersOf}
+use Rattle.octets.specs.Lists.{joined}
+use Rattle.octets.specs.Checked.{pass}
+use Rattle.octets.proofs.Parts.{length-part}
+use Rattle.octets.proofs.Placed.{placed-none}
+use Rattle.bundle.specs.Bundle.{Object, body, objectsOf}
+use Rattle.bundle.specs.Encoding.{Encoding}
+use Rattle.bundle.specs.declared.Scan.{Scan}
+use Rattle.bundle.proofs.Every.{Every, nothing, also}
+use Rattle.strings.specs.Strings.{headerSize, entriesIn, stringsAt, remapped}
+use Rattle.strings.specs.Kept.{Inside, bytesAt, Judged}
+use Rattle.strings.specs.declared.table.Place.{Place}
+use Rattle.strings.specs.declared.table.StringTable.{StringTable}
+use Rattle.strings.proofs.StrOffsets.{Sound, entries-whole}
+use Rattle.strings.proofs.Remapped.{length-remapped}
+use Rattle.strings.proofs.Ends.{length-stringsAt}
+use Rattle.finish.specs.Joining.{sectionsJoined, usedIn, remappedIn, EntriesGood, Remappable, OffsetsJoinable}
+use Rattle.finish.proofs.Entering.{AtObject, scanned-body}
+use Rattle.finish.proofs.JoinedObjects.{Joining, joining-room, joining-more}
+
+no-length : (s : List ℕ) → length s ≡ 0 → s ≡ []
+no-length [] e = refl
+no-length (b ∷ s) e = absurd (omega arith)
+
+module _ (e : Encoding) (ts : List (List ℕ)) (offsets str : List ℕ) where
+  pub used-is : (used : List (List ℕ)) → stringsAt str (entriesIn e offsets) ≡ pass used → usedIn e offsets str ≡ used
+  unfolding usedIn
+  used-is used q = rw (usedIn, q)
+
+  pub remapped-in : (used : List (List ℕ)) → stringsAt str (entriesIn e offsets) ≡ pass used → remapped e ts offsets used ≡ remappedIn e ts offsets str
+  unfolding remappedIn
+  remapped-in used q = ap (remapped e ts offsets) (sym (used-is used q))
+
+  -- nothing stands for nothing
+  pub remapped-none : length offsets ≡ 0 → remappedIn e ts offsets str ≡ []
+  unfolding remappedIn remapped entriesIn numbersIn stringsAt numbersOf
+  remapped-none z =
+      let n = no-length offsets z in
+      let h : 0 - headerSize e ≡ 0 = omega arith in
+      let none : entriesIn e [] ≡ [] = rw (h, zero-div (e .width)) in
+      ap (λ (s : List ℕ). remapped e ts s (usedIn e s str)) n
+      ∙ ap (remapped e ts []) (rw n at (used-is [] (rw (n, none))))
+      ∙ rw (take-nil (headerSize e))
+
+  pub remapped-length : Sound e → EntriesGood e offsets str → length (remappedIn e ts offsets str) ≡ length offsets
+  remapped-length ok g = elim (ℕ-discrete (length offsets) 0) [
+    | yes z ↦ ap length (remapped-none z) ∙ sym z
+    | no f ↦ ap length (sym (remapped-in (g .used) (g .strings)))
+        ∙ length-remapped e ts offsets (g .used) ok (entries-whole e offsets (entriesIn e offsets) (g .entries f) .0) (length-stringsAt str (entriesIn e offsets) (g .used) (g .strings))
+  ]
+
+-- what the strings' function asks
+pub judged : (e : Encoding) (b region : List ℕ) (t : StringTable) (offsets strings : Place) (n at : ℕ) (r : Remappable e b region t offsets strings n at)
+    → (offsets .size ≡ 0 → ⊥) → Judged e b offsets strings (r .good .used)
+unfolding Inside bytesAt
+judged e b region t offsets strings n at r f =
+    let l = length-part b (offsets .start) (offsets .size) (r .offsetsInside) in
+    record {
+      offsets-inside = r .offsetsInside;
+      strings-inside = r .stringsInside;
+      entries = r .good .entries (λ z. f (sym l ∙ z));
+      strings-are = r .good .strings;
+    }
+
+-- nothing is written for nothing
+pub remap-none : (e : Encoding) (b region : List ℕ) (t : StringTable) (offsets strings : Place) (n at : ℕ) (r : Remappable e b region t offsets strings n at) (d : List ℕ) (ts : List (List ℕ))
+    → offsets .size ≡ 0 → d ≡ placed d at (remappedIn e ts (part b (offsets .start) (offsets .size)) (part b (strings .start) (strings .size)))
+remap-none e b region t offsets strings n at r d ts z =
+    let l = length-part b (offsets .start) (offsets .size) (r .offsetsInside) in
+    sym (placed-none d at) ∙ ap (placed d at) (sym (remapped-none e ts (part b (offsets .start) (offsets .size)) (part b (strings .start) (strings .size)) (l ∙ z)))
+
+-- ---- over the objects
+every-one : {P : Object → Type 0} (xs : List Object) (y : Object) (zs : List Object) → Every P (xs ++ (y ∷ []) ++ zs) → P y
+every-one [] y zs (also p e) = p
+every-one (x ∷ xs) y zs (also p e) = every-one xs y zs e
+
+pub length-offsets : (e : Encoding) (ts : List (List ℕ)) (b : List ℕ) → Sound e → (os : List Object) → Every (λ o. EntriesGood e (body b (o .parts) 6) (body b (o .parts) 11)) os
+    → length (joined (map (λ o. remappedIn e ts (body b (o .parts) 6) (body b (o .parts) 11)) os)) ≡ length (sectionsJoined b os 6)
+unfolding sectionsJoined joined
+length-offsets e ts b ok [] g = refl
+length-offsets e ts b ok (o ∷ os) (also p g) =
+    let one = remappedIn e ts (body b (o .parts) 6) (body b (o .parts) 11) in
+    length-append one (joined (map (λ o. remappedIn e ts (body b (o .parts) 6) (body b (o .parts) 11)) os))
+    ∙ ap₂ (λ (x y : ℕ). x + y) (remapped-length e ts (body b (o .parts) 6) (body b (o .parts) 11) ok p) (length-offsets e ts b ok os g)
+    ∙ sym (length-append (body b (o .parts) 6) (joined (map (λ o. body b (o .parts) 6) os)))
+
+module _ (e : Encoding) (ok : Sound e) (b region : List ℕ) (t : StringTable) (at : ℕ) (d₀ : List ℕ) (a : OffsetsJoinable e b region t (length d₀) at) (ts : List (List ℕ)) where
+  pub offsets-room : at + length (joined (map (λ o. remappedIn e ts (body b (o .parts) 6) (body b (o .parts) 11)) (a .bundle .objects))) ≤ length d₀
+  offsets-room = omega (arith, length-offsets e ts b ok (a .bundle .objects) (a .good), a .room)
+
+  module _ (d : List ℕ) (o place next : ℕ) (scan : Scan) (j : Joining (λ x. remappedIn e ts (body b (x .parts) 6) (body b (x .parts) 11)) b (a .bundle .objects) d₀ d at o place)
+      (s : AtObject b place next scan (j .done) (a .bundle .objects)) where
+    section-is : (c : ℕ) → c < 14 → part b (getD (scan .start) c 0) (getD (scan .size) c 0) ≡ body b (s .one .parts) c
+    section-is c h = scanned-body b place next scan (j .done) (a .bundle .objects) s c h
+
+    inside : (c : ℕ) → c < 14 → getD (scan .start) c 0 + getD (scan .size) c 0 ≤ length b
+    inside c h = omega (arith, s .start c h, s .size c h, s .lies c)
+
+    good : EntriesGood e (body b (s .one .parts) 6) (body b (s .one .parts) 11)
+    good =
+        let all : Every (λ x. EntriesGood e (body b (x .parts) 6) (body b (x .parts) 11)) (j .done ++ (s .one ∷ []) ++ objectsOf (s .more .rest)) = rw (s .more .is) (a .good) in
+        every-one {P = λ x. EntriesGood e (body b (x .parts) 6) (body b (x .parts) 11)} (j .done) (s .one) (objectsOf (s .more .rest)) all
+
+    size-is : length (remappedIn e ts (body b (s .one .parts) 6) (body b (s .one .parts) 11)) ≡ getD (scan .size) 6 0
+    size-is = remapped-length e ts (body b (s .one .parts) 6) (body b (s .one .parts) 11) ok good ∙ ap length (sym (section-is 6 (omega arith)))
+        ∙ length-part b (getD (scan .start) 6 0) (getD (scan .size) 6 0) (inside 6 (omega arith))
+
+    pub offsets-fit : o + getD (scan .size) 6 0 ≤ length d
+    offsets-fit = omega (arith, size-is, joining-room (λ x. remappedIn e ts (body b (x .parts) 6) (body b (x .parts) 11)) b (a .bundle .objects) d₀ d at o place j offsets-room (scan .next) (s .one) (s .more))
+
+    pub offsets-remappable : Remappable e b region t (record { start = getD (scan .start) 6 0; size = getD (scan .size) 6 0 }) (record { start = getD (scan .start) 11 0; size = getD (scan .size) 11 0 }) (length d) o
+    offsets-remappable = record {
+      table = a .table;
+      kept = a .kept;
+      small = a .small;
+      offsetsInside = inside 6 (omega arith);
+      stringsInside = inside 11 (omega arith);
+      good = rw (section-is 6 (omega arith), section-is 11 (omega arith)) good;
+      room = offsets-fit;
+    }
+
+    pub offsets-joined : (x : List ℕ)
+        → x ≡ placed d o (remappedIn e ts (part b (getD (scan .start) 6 0) (getD (scan .size) 6 0)) (part b (getD (scan .start) 11 0) (getD (scan .size) 11 0)))
+        → Joining (λ x. remappedIn e ts (body b (x .parts) 6) (body b (x .parts) 11)) b (a .bundle .objects) d₀ x at (o + getD (scan .size) 6 0) (scan .next)
+    offsets-joined x q =
+        joining-more (λ x. remappedIn e ts (body b (x .parts) 6) (body b (x .parts) 11)) b (a .bundle .objects) d₀ d at o place j offsets-room (scan .next) (s .one) (s .more) x (getD (scan .size) 6 0)
+        (q ∙ ap₂ (λ (u v : List ℕ). placed d o (remappedIn e ts u v)) (section-is 6 (omega arith)) (section-is 11 (omega arith))) (sym size-is)

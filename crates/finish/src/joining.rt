@@ -1,0 +1,96 @@
+// The shared sections of a package: all objects' bytes of a section, one behind the other.
+ghost use mathlib.Core.Path.{_≡_};
+ghost use Prim.Native.Nat.{ℕ};
+ghost use lib.ListN.{length};
+ghost use mathlib.Core.List.{List};
+ghost use Rattle.octets.specs.Octets.{part, placed};
+ghost use Rattle.octets.specs.Checked.{pass};
+ghost use Rattle.bundle.specs.Bundle.{Bundle, bundleOf};
+ghost use Rattle.bundle.specs.Encoded.{encodingIs};
+ghost use Rattle.strings.specs.Kept.{Kept};
+ghost use Rattle.finish.specs.Joining.{
+  sectionsJoined,
+  Joinable,
+  remappedIn,
+  offsetsJoined,
+  Remappable,
+  OffsetsJoinable,
+};
+use bundle::Item;
+use bundle::encoding::ObjectEncoding;
+use strings::table::Place;
+use strings::table::StringTable;
+
+// Copies each object's first section of a code, where it has one. The caller has checked the words of the bundle, and has room for all.
+pub fn copy_sections(b: &[u8], code: usize, out: &mut [u8], at: usize)
+    requires { ⌜ Joinable (now b) code (length (now out)) at ⌝ }
+    ensures { λ _. ⌜ ((k : Bundle) → bundleOf (now (b .entry)) ≡ pass k → now (out .exit) ≡ placed (now (out .entry)) at (sectionsJoined (now (b .entry)) (k .objects) code)) ⌝ }
+{
+    let mut o = at;
+    let mut place = 4;
+    loop {
+        let Item::Object(_, next) = bundle::next_item(b, place) else {
+            return;
+        };
+        let scan = bundle::scan_object(b, next);
+        let start = scan.start[code];
+        let size = scan.size[code];
+        let end = start + size;
+        octets::put_bytes(out, o, &b[start..end]);
+        o += size;
+        place = scan.next;
+    }
+}
+
+// One object's str_offsets by the table of kept strings, where it has one.
+fn remap_section(
+    e: ObjectEncoding,
+    b: &[u8],
+    offsets: Place,
+    strings: Place,
+    table: &[u32],
+    t: StringTable,
+    out: &mut [u8],
+    at: usize,
+)
+    requires { ⌜ Remappable (encodingIs e) (now b) (now table) t offsets strings (length (now out)) at ⌝ }
+    ensures { λ _. ⌜ ((ts : List (List ℕ)) → Kept (now (b .entry)) (now (table .entry)) t ts → now (out .exit) ≡ placed (now (out .entry)) at (remappedIn (encodingIs e) ts (part (now (b .entry)) (offsets .start) (offsets .size)) (part (now (b .entry)) (strings .start) (strings .size)))) ⌝ }
+{
+    if offsets.size == 0 {
+        return;
+    }
+    strings::sections::remap_str_offsets(e, b, offsets, strings, table, t, out, at);
+}
+
+// Writes each object's str_offsets by the table of kept strings. The caller has filed all objects, which have one encoding, and has room for all.
+pub fn copy_str_offsets(
+    e: ObjectEncoding,
+    b: &[u8],
+    table: &[u32],
+    t: StringTable,
+    out: &mut [u8],
+    at: usize,
+)
+    requires { ⌜ OffsetsJoinable (encodingIs e) (now b) (now table) t (length (now out)) at ⌝ }
+    ensures { λ _. ⌜ ((k : Bundle) (ts : List (List ℕ)) → bundleOf (now (b .entry)) ≡ pass k → Kept (now (b .entry)) (now (table .entry)) t ts → now (out .exit) ≡ placed (now (out .entry)) at (offsetsJoined (encodingIs e) ts (now (b .entry)) (k .objects))) ⌝ }
+{
+    let mut o = at;
+    let mut place = 4;
+    loop {
+        let Item::Object(_, next) = bundle::next_item(b, place) else {
+            return;
+        };
+        let scan = bundle::scan_object(b, next);
+        let offsets = Place {
+            start: scan.start[6],
+            size: scan.size[6],
+        };
+        let strings = Place {
+            start: scan.start[11],
+            size: scan.size[11],
+        };
+        remap_section(e, b, offsets, strings, table, t, out, o);
+        o += offsets.size;
+        place = scan.next;
+    }
+}

@@ -1,5 +1,0 @@
--- Laws of sections joined.
--- Assumes nothing.
-pub mod Entering
-pub mod Joining
-pub mod Remapping

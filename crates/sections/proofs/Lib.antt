@@ -1,4 +1,0 @@
--- Laws of sections by code.
--- Assumes nothing.
-pub mod Sizes
-pub mod Writing

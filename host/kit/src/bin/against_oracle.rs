@@ -1,0 +1,200 @@
+//! Compares the proved packer with thorin.
+//!
+//!     against_oracle ORACLE NUMBER [SEED]
+//!     against_oracle ORACLE --sample NUMBER FILE [SEED]
+//!
+//! ORACLE is a program that packs bundles with thorin (see `kit::oracle`). NUMBER accepted bundles are compared byte for
+//! byte, and none may differ: docs/DIFFERENCES.md names no difference but refusals. For each refusal it is counted what thorin
+//! did; the numbers are compared with the reference's, and where docs/DIFFERENCES.md saw thorin pack nothing, it may not pack.
+//! What an accepted bundle hands in is looked up in its package.
+//!
+//! With --sample, NUMBER accepted bundles and a thirtieth as many of each refusal from 4 to 16 are written to FILE with
+//! thorin's answers. There the proved packer has no say: which are accepted, and the numbers, are the reference's.
+
+use kit::claim::{Claim, Counts};
+use kit::generate::{call, Random};
+use kit::lender::{Lender, Written};
+use kit::oracle::Oracle;
+use kit::reference::{pack, Bundle, Packed};
+use kit::sample::Told;
+use std::collections::BTreeMap;
+use std::io::{Error, Result};
+
+const USAGE: &str = "against_oracle ORACLE NUMBER [SEED], or against_oracle ORACLE --sample NUMBER FILE [SEED]";
+
+/// So many differences end the comparison: a packer that refuses everything would never be done.
+const ENOUGH: u64 = 1_000;
+
+/// Few identities that no unit has are asked for, since there are many packages.
+const TURNS: usize = 1;
+
+/// What was seen: how often thorin gave each kind of answer, by document 01's number, 0 for accepted.
+#[derive(Default)]
+struct Tally {
+    counts: BTreeMap<u32, [u64; 3]>,
+    differences: u64,
+    smallest: Option<Vec<u8>>,
+    /// Accepted bundles of several objects, with an index, and with a type skipped.
+    several: u64,
+    indexed: u64,
+    skipped: u64,
+}
+
+/// The bytes of all units of a bundle.
+fn unit_bytes(bundle: &Bundle) -> usize {
+    let sections = bundle.objects.iter().flat_map(|o| &o.sections);
+    sections.filter(|s| s.code <= 2).map(|s| s.bytes.len()).sum()
+}
+
+impl Tally {
+    fn note(&mut self, number: u32, tag: u8) {
+        self.counts.entry(number).or_default()[usize::from(tag.min(2))] += 1;
+    }
+
+    /// What kind of accepted bundle it is.
+    fn note_kind(&mut self, bundle: &[u8], package: &[u8]) {
+        let (Some(bundle), Some(package)) = (Bundle::read(bundle), Bundle::read(package)) else { return };
+        let indexed = bundle.objects.iter().any(|o| o.count(12) + o.count(13) > 0);
+        self.several += u64::from(bundle.objects.len() > 1);
+        self.indexed += u64::from(indexed);
+        self.skipped += u64::from(unit_bytes(&package) < unit_bytes(&bundle));
+    }
+
+    fn differs(&mut self, bundle: &[u8]) {
+        self.differences += 1;
+        if self.smallest.as_ref().is_none_or(|s| bundle.len() < s.len()) {
+            self.smallest = Some(bundle.to_vec());
+        }
+    }
+
+    fn print(&self) {
+        println!("number  package    error    panic   (thorin's answers; 0 is accepted)");
+        for (number, [package, error, panic]) in &self.counts {
+            println!("{number:6} {package:8} {error:8} {panic:8}");
+        }
+        let (several, indexed, skipped) = (self.several, self.indexed, self.skipped);
+        println!("accepted: {several} of several objects, {indexed} with an index, {skipped} with a type skipped");
+        println!("{} bundles differ", self.differences);
+        if let Some(bundle) = &self.smallest {
+            println!("{}", words(bundle));
+        }
+    }
+}
+
+fn words(bundle: &[u8]) -> String {
+    let word = |w: &[u8]| format!("{:08X}", w.iter().rev().fold(0u32, |v, b| v << 8 | u32::from(*b)));
+    bundle.chunks(4).map(word).collect::<Vec<_>>().join(" ")
+}
+
+/// The refusals for which docs/DIFFERENCES.md saw thorin pack nothing, by its table: number, packages, errors, panics.
+fn never_packed() -> Vec<u32> {
+    let row = |line: &str| -> Option<Vec<u32>> {
+        let cells = line.strip_prefix("| ")?.strip_suffix(" |")?.split(" | ");
+        cells.map(|cell| cell.replace(',', "").parse().ok()).collect()
+    };
+    let rows = include_str!("../../../../docs/DIFFERENCES.md").lines().filter_map(row).filter(|cells| cells.len() == 4);
+    rows.filter(|cells| cells[1] == 0).map(|cells| cells[0]).collect()
+}
+
+/// Whether the packer's answer is thorin's, or a refusal as the reference has it.
+fn is_right(packing: &Written, bundle: &[u8], tag: u8, bytes: &[u8], never: &[u32]) -> bool {
+    if packing.code == 0 {
+        return tag == 0 && packing.bytes == bytes;
+    }
+    let refused = packing.agrees(&pack(bundle, 4 * bundle.len(), usize::MAX));
+    refused && !(tag == 0 && never.contains(&packing.code))
+}
+
+fn compare(oracle: &mut Oracle, wanted: u64, seed: u64) -> Result<(Tally, Counts)> {
+    let (mut random, mut lent) = (Random::new(seed), Lender::new(seed));
+    let (mut tally, mut claim) = (Tally::default(), Claim::new(seed, TURNS));
+    let never = never_packed();
+    let mut bytes = Vec::new();
+    let mut accepted = 0;
+    while accepted < wanted && tally.differences < ENOUGH {
+        let bundle = call(&mut random).bundle;
+        let wrong = |e: String| Error::other(format!("{e}: {}", words(&bundle)));
+        let tag = oracle.ask(&bundle, &mut bytes)?;
+        let packing = lent.pack_whole(&bundle).map_err(wrong)?;
+        tally.note(packing.code, tag);
+        if !is_right(&packing, &bundle, tag, &bytes, &never) {
+            tally.differs(&bundle);
+        } else if packing.code == 0 {
+            claim.check(&bundle, packing.bytes).map_err(wrong)?;
+        }
+        if packing.code == 0 {
+            accepted += 1;
+            tally.note_kind(&bundle, packing.bytes);
+        }
+    }
+    Ok((tally, claim.counts))
+}
+
+/// What thorin said of a bundle; none where only the oracle's own reader spoke.
+fn told(bundle: &[u8], tag: u8, answer: &[u8]) -> Option<Told> {
+    let text = String::from_utf8_lossy(answer).replace('\n', " ");
+    let thorin = match tag {
+        0 => "package".to_string(),
+        1 if text.starts_with("bundle:") || text.starts_with("oracle:") => return None,
+        1 => format!("error {text}"),
+        _ => format!("panic {text}"),
+    };
+    let bundle = bundle.to_vec();
+    match pack(&bundle, 4 * bundle.len(), usize::MAX) {
+        Packed::Made(_) if tag == 0 => Some(Told::Package { bundle, package: answer.to_vec() }),
+        Packed::Refused(number @ 4..=16) => Some(Told::Refused { bundle, number, thorin }),
+        _ => None,
+    }
+}
+
+/// So many accepted bundles, and a thirtieth as many of each refusal, in the order in which they were met.
+fn sample(oracle: &mut Oracle, wanted: usize, seed: u64) -> Result<Vec<Told>> {
+    let mut random = Random::new(seed);
+    let mut left: BTreeMap<u32, usize> = (4..=16).map(|number| (number, wanted / 30)).collect();
+    left.insert(0, wanted);
+    let mut lines = Vec::new();
+    let mut answer = Vec::new();
+    while left.values().any(|n| *n > 0) {
+        let bundle = call(&mut random).bundle;
+        let tag = oracle.ask(&bundle, &mut answer)?;
+        let Some(line) = told(&bundle, tag, &answer) else { continue };
+        let number = if let Told::Refused { number, .. } = line { number } else { 0 };
+        let room = left.entry(number).or_default();
+        if *room > 0 {
+            *room -= 1;
+            lines.push(line);
+        }
+    }
+    Ok(lines)
+}
+
+fn write_sample(path: &str, wanted: usize, file: &str, seed: u64) -> Result<()> {
+    let lines = sample(&mut Oracle::start(path)?, wanted, seed)?;
+    let version = Oracle::version(path)?;
+    let mut text = format!("# against_oracle ORACLE --sample {wanted} FILE {seed}; thorin 810768ceba with {version}\n");
+    lines.iter().for_each(|line| text += &format!("{line}\n"));
+    std::fs::write(file, &text)?;
+    println!("{} bundles with thorin's answers, {} bytes, in {file}", lines.len(), text.len());
+    Ok(())
+}
+
+fn main() -> Result<()> {
+    let words: Vec<String> = std::env::args().skip(1).collect();
+    let words: Vec<&str> = words.iter().map(String::as_str).collect();
+    let number = |i: usize| words.get(i).and_then(|w| w.parse::<u64>().ok());
+    if let [path, "--sample", _, file, ..] = words[..] {
+        let wanted = number(2).ok_or_else(|| Error::other(USAGE))?;
+        return write_sample(path, wanted as usize, file, number(4).unwrap_or(1));
+    }
+    let (Some(path), Some(wanted)) = (words.first(), number(1)) else { return Err(Error::other(USAGE)) };
+    let seed = number(2).unwrap_or(1);
+    let start = std::time::Instant::now();
+    let (tally, claimed) = compare(&mut Oracle::start(path)?, wanted, seed)?;
+    tally.print();
+    println!("{claimed}");
+    println!("{:.1} seconds, seed {seed}", start.elapsed().as_secs_f64());
+    if tally.differences > 0 {
+        return Err(Error::other("the proved packer differs from thorin, or from the reference where it refuses"));
+    }
+    Ok(())
+}

@@ -1,0 +1,73 @@
+//! Times the proved packer, and thorin where it is at hand, on the same bundles: bench PAPER [ORACLE]
+//!
+//! PAPER is written anew, with the figures of this run. Every package is compared with thorin's, byte for byte.
+
+mod lookups;
+mod measure;
+mod paper;
+
+use kit::generate::{many_strings, sized, KINDS};
+use kit::oracle::Oracle;
+use measure::{Bench, Measured};
+use paper::{Growth, Paper};
+use std::io::{Error, Result};
+use std::time::Duration;
+
+/// Half a megabyte, and each the double of the one before; the last is the longest bundle.
+const LENGTHS: [usize; 4] = [1 << 19, 1 << 20, 1 << 21, 1 << 22];
+const STRINGS: [u64; 6] = [1_250, 2_500, 5_000, 10_000, 20_000, 40_000];
+/// What comes behind a packing of this length is left out.
+const PATIENCE: Duration = Duration::from_secs(8);
+
+/// Document 01's example.
+fn example() -> Vec<u8> {
+    let words: [u32; 11] =
+        [0xF000_0000, 0x1008_0405, 0x2080_0014, 0x10, 0x0805_0005, 0, 1, 0, 0x2180_0001, 0, 0x3000_000B];
+    words.iter().flat_map(|w| w.to_le_bytes()).collect()
+}
+
+/// The same kind, longer and longer, until one takes too long.
+fn growing(bench: &mut Bench, name: &str, bundles: impl Iterator<Item = (Vec<u8>, u64)>) -> Result<Vec<Measured>> {
+    let mut measured: Vec<Measured> = Vec::new();
+    for (bundle, items) in bundles {
+        if measured.last().is_some_and(|m| m.ours > PATIENCE) {
+            println!("{name}: the rest is left out, it takes too long");
+            break;
+        }
+        let one = bench.measure(&bundle, items)?;
+        println!("{name}: {} bytes, {items}, {:?}, thorin {:?}", one.bundle, one.ours, one.thorin);
+        measured.push(one);
+    }
+    Ok(measured)
+}
+
+fn measure_all(oracle: Option<&str>) -> Result<Paper> {
+    let thorin = oracle.map(Oracle::version).transpose()?;
+    let mut bench = Bench::new(oracle)?;
+    let example = example();
+    let small = (bench.measure(&example, 1)?, measure::small(&example)?);
+    let mut kinds = Vec::new();
+    for kind in &KINDS {
+        let bundles = LENGTHS.iter().map(|length| sized(kind, *length));
+        let measured = growing(&mut bench, kind.name, bundles)?;
+        kinds.push(Growth { name: kind.name, items: kind.items, measured });
+    }
+    let name = "many different strings";
+    let strings = growing(&mut bench, name, STRINGS.iter().map(|n| (many_strings(*n), *n)))?;
+    let strings = Growth { name, items: "strings", measured: strings };
+    Ok(Paper { thorin, small, kinds, strings, lookups: lookups::all()? })
+}
+
+fn main() -> Result<()> {
+    let words: Vec<String> = std::env::args().skip(1).collect();
+    let file = words.first().ok_or_else(|| Error::other("bench PAPER [ORACLE]"))?;
+    let oracle = words.get(1).map(String::as_str).filter(|path| std::path::Path::new(path).is_file());
+    if oracle.is_none() {
+        println!("thorin is not at hand: only the proved packer is measured");
+    }
+    let paper = measure_all(oracle)?;
+    std::fs::write(file, paper.to_string())?;
+    println!("{}", paper.verdict());
+    println!("{file} is written");
+    Ok(())
+}

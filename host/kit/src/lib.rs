@@ -1,0 +1,16 @@
+//! The kit that tests and times the verified packer from outside.
+//!
+//! `reference` says what document 01 says, in plain Rust. `vectors` reads questions with their answers, `generate` makes questions
+//! without end, `lender` lends memory to the proved functions again and again and judges it behind each call, and `handed_in` reads from a
+//! bundle what must be found in its package, which `claim` asks for. `oracle` asks thorin where it is at hand, and `sample` keeps some of its
+//! answers; `clock` is for timing.
+
+pub mod claim;
+pub mod clock;
+pub mod generate;
+pub mod handed_in;
+pub mod lender;
+pub mod oracle;
+pub mod reference;
+pub mod sample;
+pub mod vectors;

@@ -1,0 +1,230 @@
+//! "Packing": the refusals in order, and the package.
+
+use super::bundle::{self, length_is_good, Bundle, Encoding, Object, Section};
+use super::index::{self, Index, Probe, Row};
+use super::strings::StringTable;
+use super::unit::{self, Table, Unit};
+use std::collections::HashSet;
+
+#[derive(Clone, Debug, PartialEq, Eq)]
+pub enum Packed {
+    Refused(u32),
+    /// 18, with the length needed.
+    Short(usize),
+    Made(Vec<u8>),
+}
+
+pub const LONGEST_BUNDLE: usize = 4_194_304;
+const LONGEST_SECTION: usize = 8_388_607;
+const WORK_FOR_A_WORD: usize = 16;
+
+const INFO: u32 = 1;
+const TYPES: u32 = 2;
+const ABBREV: u32 = 3;
+const STR_OFFSETS: u32 = 6;
+const STR: u32 = 11;
+const CU_INDEX: u32 = 12;
+const TU_INDEX: u32 = 13;
+/// The sections that all units of an object share.
+const SHARED: std::ops::RangeInclusive<u32> = 3..=10;
+
+pub fn pack(bytes: &[u8], work_words: usize, output_bytes: usize) -> Packed {
+    let package = match package_of(bytes, work_words) {
+        Ok(package) => package,
+        Err(refusal) => return Packed::Refused(refusal),
+    };
+    if package.len() > output_bytes {
+        return Packed::Short(package.len());
+    }
+    Packed::Made(package)
+}
+
+fn package_of(bytes: &[u8], work_words: usize) -> Result<Vec<u8>, u32> {
+    if !length_is_good(bytes.len(), LONGEST_BUNDLE) {
+        return Err(1);
+    }
+    if work_words < bytes.len() / 4 * WORK_FOR_A_WORD {
+        return Err(2);
+    }
+    let bundle = Bundle::read(bytes).ok_or(3u32)?;
+    let mut package = InProgress::new();
+    package.add_input_objects(&bundle)?;
+    package.finish(&bundle)
+}
+
+/// 4 to 7.
+fn judge_object(bundle: &Bundle, object: &Object, encoding: Encoding) -> Result<(), u32> {
+    if !encoding.is_known() {
+        return Err(4);
+    }
+    if object.word != bundle.objects[0].word {
+        return Err(5);
+    }
+    if has_wrong_edition(object, encoding.version) || has_second_section(object) {
+        return Err(6);
+    }
+    let lacks = |code| object.count(code) == 0;
+    if lacks(ABBREV) || lacks(INFO) || (!lacks(STR_OFFSETS) && lacks(STR)) {
+        return Err(7);
+    }
+    Ok(())
+}
+
+fn has_wrong_edition(object: &Object, version: u32) -> bool {
+    let wrong: &[u32] = if version == 5 { &[2, 5, 7, 12, 13] } else { &[9, 10] };
+    wrong.iter().any(|code| object.count(*code) > 0)
+}
+
+fn has_second_section(object: &Object) -> bool {
+    let second = |code| object.count(code) > 1;
+    (ABBREV..=TU_INDEX).any(second)
+        || (second(INFO) && object.count(CU_INDEX) > 0)
+        || (second(TYPES) && object.count(TU_INDEX) > 0)
+}
+
+/// One input object while its units are filed.
+struct Input<'o, 'a> {
+    object: &'o Object<'a>,
+    encoding: Encoding,
+    cu_index: Option<Index>,
+    tu_index: Option<Index>,
+    /// Sizes of the parts of this object's kept units so far, by table and section code.
+    cu_sums: [u64; 11],
+    tu_sums: [u64; 11],
+}
+
+impl Input<'_, '_> {
+    /// The parts that a kept unit at `at` of a section has of the shared sections (15, 16).
+    fn contributions(&mut self, section: u32, at: usize, unit: &Unit) -> Result<Vec<(u32, u64, u64)>, u32> {
+        let object = self.object;
+        let shared: Vec<u32> = SHARED.filter(|code| !object.bytes(*code).is_empty()).collect();
+        let (index, sums) = match unit.table {
+            Table::Compilation => (&self.cu_index, &mut self.cu_sums),
+            Table::Type => (&self.tu_index, &mut self.tu_sums),
+        };
+        let Some(index) = index else {
+            return Ok(shared.iter().map(|code| (*code, 0, object.bytes(*code).len() as u64)).collect());
+        };
+        let Probe::Row(row, _) = index.probe(unit.identity) else { return Err(15) };
+        let own = index.cell(row, section).ok_or(15u32)?;
+        let cell = |code: &u32| index.cell(row, *code).map(|(offset, size)| (*code, offset, size));
+        let parts: Vec<(u32, u64, u64)> = shared.iter().map(cell).collect::<Option<_>>().ok_or(15u32)?;
+        if own != (at as u64, unit.size as u64) {
+            return Err(16);
+        }
+        for (code, offset, size) in &parts {
+            let inside = offset + size <= object.bytes(*code).len() as u64;
+            let width = if *code == STR_OFFSETS { self.encoding.width as u64 } else { 1 };
+            if *offset != sums[*code as usize] || !inside || offset % width != 0 || size % width != 0 {
+                return Err(16);
+            }
+            sums[*code as usize] += size;
+        }
+        Ok(parts)
+    }
+}
+
+/// The package while objects are added.
+struct InProgress<'a> {
+    /// Joined sections by code; str and the indexes come at the end.
+    joined: Vec<Vec<u8>>,
+    strings: StringTable<'a>,
+    seen: HashSet<(Table, u64)>,
+    cu_rows: Vec<Row>,
+    tu_rows: Vec<Row>,
+}
+
+impl<'a> InProgress<'a> {
+    fn new() -> InProgress<'a> {
+        InProgress {
+            joined: vec![Vec::new(); 14],
+            strings: StringTable::new(LONGEST_SECTION),
+            seen: HashSet::new(),
+            cu_rows: Vec::new(),
+            tu_rows: Vec::new(),
+        }
+    }
+
+    /// 4 to 16, object by object.
+    fn add_input_objects(&mut self, bundle: &Bundle<'a>) -> Result<(), u32> {
+        for object in &bundle.objects {
+            let encoding = Encoding::of(bundle.big, object.word);
+            judge_object(bundle, object, encoding)?;
+            self.add_input_object(object, encoding)?;
+        }
+        Ok(())
+    }
+
+    /// 8 to 16 of one object.
+    fn add_input_object(&mut self, object: &Object<'a>, encoding: Encoding) -> Result<(), u32> {
+        let mut remapped = Vec::new();
+        if let Some(section) = object.section(STR_OFFSETS) {
+            remapped = self.strings.remap(section.bytes, object.bytes(STR), encoding)?;
+        }
+        let cu_index = load_index(object, CU_INDEX, encoding)?;
+        let tu_index = load_index(object, TU_INDEX, encoding)?;
+        let mut input = Input { object, encoding, cu_index, tu_index, cu_sums: [0; 11], tu_sums: [0; 11] };
+        for section in object.sections.iter().filter(|s| s.code == INFO || s.code == TYPES) {
+            self.add_units(&mut input, section)?;
+        }
+        for code in SHARED {
+            let bytes = if code == STR_OFFSETS { &remapped } else { object.bytes(code) };
+            self.joined[code as usize].extend(bytes);
+        }
+        Ok(())
+    }
+
+    /// The units of one section, from its front.
+    fn add_units(&mut self, input: &mut Input, from: &Section) -> Result<(), u32> {
+        let (section, bytes) = (from.code, from.bytes);
+        let mut at = 0;
+        while at < bytes.len() {
+            let unit = unit::read(section, &bytes[at..], input.object.bytes(ABBREV), input.encoding)?;
+            let new = self.seen.insert((unit.table, unit.identity));
+            if !new && unit.table == Table::Compilation {
+                return Err(14);
+            }
+            if new {
+                let parts = input.contributions(section, at, &unit)?;
+                self.file(section, &bytes[at..at + unit.size], &unit, parts);
+            }
+            at += unit.size;
+        }
+        Ok(())
+    }
+
+    /// Joins a kept unit and notes its row, its object's shared sections lying behind what is joined.
+    fn file(&mut self, section: u32, bytes: &[u8], unit: &Unit, parts: Vec<(u32, u64, u64)>) {
+        let base = |code: u32| self.joined[code as usize].len() as u64;
+        let mut filed = vec![(section, base(section), unit.size as u64)];
+        filed.extend(parts.iter().map(|(code, offset, size)| (*code, base(*code) + offset, *size)));
+        self.joined[section as usize].extend(bytes);
+        let rows = match unit.table {
+            Table::Compilation => &mut self.cu_rows,
+            Table::Type => &mut self.tu_rows,
+        };
+        rows.push(Row { identity: unit.identity, parts: filed });
+    }
+
+    /// 17, 19 and the package.
+    fn finish(mut self, bundle: &Bundle) -> Result<Vec<u8>, u32> {
+        let word = bundle.objects.first().map(|o| o.word);
+        let version = if word.is_some_and(|w| w & 0xFF == 5) { 5 } else { 2 };
+        self.joined[STR as usize] = self.strings.data;
+        self.joined[CU_INDEX as usize] = index::write(version, &self.cu_rows, bundle.big).ok_or(17u32)?;
+        self.joined[TU_INDEX as usize] = index::write(version, &self.tu_rows, bundle.big).ok_or(17u32)?;
+        if self.joined.iter().any(|s| s.len() > LONGEST_SECTION) {
+            return Err(19);
+        }
+        let mut sections: Vec<(u32, Vec<u8>)> = (0..).zip(self.joined).collect();
+        sections.retain(|(_, bytes)| !bytes.is_empty());
+        Ok(bundle::write(bundle.big, word, &sections))
+    }
+}
+
+/// 10, for one of the indexes; only the form of version 2 is taken.
+fn load_index(object: &Object, code: u32, encoding: Encoding) -> Result<Option<Index>, u32> {
+    let Some(section) = object.section(code) else { return Ok(None) };
+    let index = Index::read(section.bytes, encoding.big).filter(|i| i.version == 2);
+    index.map(Some).ok_or(10)
+}

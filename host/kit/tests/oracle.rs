@@ -1,0 +1,68 @@
+//! thorin's answers, as kept in oracle/sample.txt, through the proved packer: where document 01 accepts, thorin's package byte
+//! for byte; where it refuses, the number kept.
+
+use kit::lender::Lender;
+use kit::sample::{parse_all, Told};
+
+fn sample() -> Vec<Told> {
+    parse_all(include_str!("oracle/sample.txt")).expect("a line that is no answer")
+}
+
+/// What is wrong with the packer's answer to one bundle.
+fn fault(lent: &mut Lender, told: &Told) -> Option<String> {
+    let (Told::Package { bundle, .. } | Told::Refused { bundle, .. }) = told;
+    let packing = match lent.pack_whole(bundle) {
+        Ok(packing) => packing,
+        Err(fault) => return Some(fault),
+    };
+    let right = match told {
+        Told::Package { package, .. } => packing.code == 0 && packing.bytes == package,
+        Told::Refused { number, .. } => packing.code == *number,
+    };
+    (!right).then(|| format!("{packing:?} for {told:?}"))
+}
+
+#[test]
+fn the_sample_is_whole() {
+    let sample = sample();
+    let packages = sample.iter().filter(|t| matches!(t, Told::Package { .. })).count();
+    assert_eq!((packages, sample.len()), (510, 731));
+    for wanted in 4..=16 {
+        let is_wanted = |t: &&Told| matches!(t, Told::Refused { number, .. } if *number == wanted);
+        assert_eq!(sample.iter().filter(is_wanted).count(), 17, "of {wanted}");
+    }
+}
+
+#[test]
+fn answers_as_thorin() {
+    let mut lent = Lender::new(1);
+    let faults: Vec<String> = sample().iter().filter_map(|told| fault(&mut lent, told)).collect();
+    assert!(faults.is_empty(), "{} differ; the first: {}", faults.len(), faults[0]);
+}
+
+/// Where thorin packs what document 01 refuses, that is by design; where the fault is of these kinds it never does.
+#[test]
+fn thorin_packs_no_missing_section_lost_string_or_second_unit() {
+    for told in sample() {
+        if let Told::Refused { number: 7 | 9 | 14, thorin, .. } = &told {
+            assert!(thorin.starts_with("error "), "{told:?}");
+        }
+    }
+}
+
+/// A line that is changed in one byte or in its number is found out.
+#[test]
+fn a_changed_line_is_noticed() {
+    let mut lent = Lender::new(2);
+    for (turn, told) in sample().into_iter().enumerate() {
+        let changed = match told {
+            Told::Package { bundle, mut package } => {
+                let at = turn * 31 % package.len();
+                package[at] ^= 1 << (turn % 8);
+                Told::Package { bundle, package }
+            }
+            Told::Refused { bundle, number, thorin } => Told::Refused { bundle, number: number % 16 + 1, thorin },
+        };
+        assert!(fault(&mut lent, &changed).is_some(), "not noticed: {changed:?}");
+    }
+}

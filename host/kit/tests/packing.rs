@@ -1,0 +1,293 @@
+//! The proved packers, through C, answer as the vectors say and as the reference does: the answer, every byte of the output and every
+//! word of work, whatever both held before, and nothing around them is touched. In every package that is made, what its bundle hands in
+//! is found, and nothing else.
+
+use kit::claim::Claim;
+use kit::generate::{call, long_line, many_units, strings_of, suffixes, Call, Random};
+use kit::lender::{Lender, Written};
+use kit::reference::{self, Packed, LONGEST_BUNDLE};
+use kit::vectors::{parse_all, words, Vector};
+
+/// The small packer's limit and work.
+const SMALL_BUNDLE: usize = 1024;
+const SMALL_WORK: usize = 4096;
+
+/// Few identities that no unit has are asked for here, since there are many packages; tests/claim.rs asks for more.
+const TURNS: usize = 1;
+/// The few bundles above this length, none of them random, are asked about so many of their units: a lookup judges the whole package.
+const LONG_BUNDLE: usize = 1 << 16;
+const UNITS_OF_LONG: usize = 8;
+
+/// A call through C. Without work it is the small packer's.
+fn packed<'l>(lent: &'l mut Lender, bundle: &[u8], work: Option<usize>, output: usize) -> Written<'l> {
+    let answer = match work {
+        Some(work) => lent.pack(bundle, work, output),
+        None => lent.pack_small(bundle, output),
+    };
+    answer.unwrap_or_else(|e| panic!("{e}, for work {work:?}, output {output}, {:02X?}", front(bundle)))
+}
+
+/// So much of a bundle as is shown.
+fn front(bundle: &[u8]) -> &[u8] {
+    &bundle[..bundle.len().min(4096)]
+}
+
+/// How often each number was answered, 0 for a package.
+#[derive(Default)]
+struct Counts([usize; 20]);
+
+impl Counts {
+    fn assert_reached(&self, name: &str, numbers: impl Iterator<Item = usize>) {
+        println!("{name}: {:?}", self.0);
+        for number in numbers {
+            assert!(self.0[number] >= 100, "{number} was reached {} times: {:?}", self.0[number], self.0);
+        }
+    }
+}
+
+/// Both packers over one source of junk, each call compared with the answer that is wanted.
+struct Checks {
+    lent: Lender,
+    counts: Counts,
+    claim: Claim,
+}
+
+impl Checks {
+    fn new(seed: u64) -> Checks {
+        Checks { lent: Lender::new(seed), counts: Counts::default(), claim: Claim::new(seed, TURNS) }
+    }
+
+    fn compare(&mut self, bundle: &[u8], work: Option<usize>, output: usize, answer: Packed) {
+        let left = packed(&mut self.lent, bundle, work, output);
+        let told = (left.code, left.length);
+        assert!(left.agrees(&answer), "{told:?} for work {work:?}, output {output}, {:02X?}", front(bundle));
+        self.counts.0[left.code as usize] += 1;
+        if left.code == 0 {
+            let most = if bundle.len() <= LONG_BUNDLE { usize::MAX } else { UNITS_OF_LONG };
+            let claimed = self.claim.check_some(bundle, left.bytes, most);
+            claimed.unwrap_or_else(|e| panic!("{e}, for {:02X?}", front(bundle)));
+        }
+    }
+
+    /// The packer, compared with the reference.
+    fn pack(&mut self, bundle: &[u8], work: usize, output: usize) {
+        let answer = reference::pack(bundle, work, output);
+        self.compare(bundle, Some(work), output, answer);
+    }
+
+    /// The small packer, compared with the reference below its limit.
+    fn pack_small(&mut self, bundle: &[u8], output: usize) {
+        let answer = match bundle.len() {
+            0..=SMALL_BUNDLE => reference::pack(bundle, SMALL_WORK, output),
+            _ => Packed::Refused(1),
+        };
+        self.compare(bundle, None, output, answer);
+    }
+}
+
+fn needed(bundle: &[u8]) -> usize {
+    bundle.len() / 4 * 16
+}
+
+fn bytes(numbers: &[u32]) -> Vec<u8> {
+    numbers.iter().flat_map(|n| n.to_le_bytes()).collect()
+}
+
+fn replay(text: &str, lines: usize) {
+    let mut checks = Checks::new(10);
+    let vectors = parse_all(text).expect("a line that is no vector");
+    assert_eq!(vectors.len(), lines);
+    for vector in vectors {
+        let Vector::Pack { bundle, work, output, answer } = vector else { panic!("{vector:?}") };
+        checks.compare(&bundle, Some(work), output, answer.clone());
+        // The small packer has work enough for what it takes, so that only 2 can differ.
+        if bundle.len() <= SMALL_BUNDLE && answer != Packed::Refused(2) {
+            checks.compare(&bundle, None, output, answer);
+        }
+    }
+}
+
+#[test]
+fn vectors() {
+    replay(include_str!("vectors/pack.txt"), 600);
+}
+
+#[test]
+fn directed_vectors() {
+    replay(include_str!("vectors/pack-directed.txt"), 265);
+}
+
+/// Some length of work or output: none, one less than needed, as needed, more.
+fn around(random: &mut Random, needed: usize) -> usize {
+    let more = needed + 1 + random.below(70) as usize;
+    random.pick(&[0, needed / 2, needed.saturating_sub(1), needed, needed, more])
+}
+
+#[test]
+fn generated_calls() {
+    let mut checks = Checks::new(11);
+    let mut random = Random::new(12);
+    for _ in 0..50_000 {
+        let Call { bundle, work, output } = call(&mut random);
+        checks.pack(&bundle, work, output.min(1 << random.between(9, 16)));
+    }
+    checks.counts.assert_reached("packing generated calls", (0..=16).chain([18]));
+}
+
+#[test]
+fn lengths_of_work_and_output() {
+    let mut checks = Checks::new(13);
+    let mut random = Random::new(14);
+    for _ in 0..10_000 {
+        let bundle = call(&mut random).bundle;
+        let work = around(&mut random, needed(&bundle));
+        checks.pack(&bundle, work, 600);
+        let Packed::Made(package) = reference::pack(&bundle, needed(&bundle), usize::MAX) else { continue };
+        let output = around(&mut random, package.len());
+        checks.pack(&bundle, needed(&bundle), output);
+        checks.pack_small(&bundle, output);
+        checks.compare(&bundle, Some(needed(&bundle)), package.len() - 1, Packed::Short(package.len()));
+        checks.compare(&bundle, Some(needed(&bundle)), package.len(), Packed::Made(package));
+    }
+    checks.counts.assert_reached("lengths of work and output", [0, 2, 18].into_iter());
+}
+
+#[test]
+fn generated_calls_of_the_small_packer() {
+    let mut checks = Checks::new(15);
+    let mut random = Random::new(16);
+    for _ in 0..80_000 {
+        let Call { bundle, output, .. } = call(&mut random);
+        checks.pack_small(&bundle, output.min(1 << random.between(9, 16)));
+    }
+    checks.counts.assert_reached("packing generated calls, small", [0, 1, 18].into_iter().chain(3..=16));
+    assert_eq!(checks.counts.0[2], 0, "the small packer has work enough");
+}
+
+#[test]
+fn lengths_around_the_small_limit() {
+    let mut checks = Checks::new(17);
+    for length in (48..=1200).step_by(4) {
+        let bundle = long_line(length);
+        let wanted = if length <= SMALL_BUNDLE { 0 } else { 1 };
+        let before = checks.counts.0[wanted];
+        checks.pack_small(&bundle, 1 << 16);
+        assert_eq!(checks.counts.0[wanted], before + 1, "{length}");
+        checks.pack(&bundle, needed(&bundle), 1 << 12);
+        for cut in 1..4 {
+            checks.pack_small(&bundle[..length - cut], 1 << 12);
+        }
+    }
+}
+
+#[test]
+fn the_same_over_any_junk() {
+    let (mut one, mut other) = (Lender::new(18), Lender::new(19));
+    let mut random = Random::new(20);
+    let mut claim = Claim::new(20, TURNS);
+    for _ in 0..5_000 {
+        let Call { bundle, work, .. } = call(&mut random);
+        let output = random.between(0, 1000) as usize;
+        for work in [Some(work), None] {
+            let left = packed(&mut one, &bundle, work, output);
+            let again = packed(&mut other, &bundle, work, output);
+            assert_eq!((left.code, left.length, left.bytes), (again.code, again.length, again.bytes));
+            if left.code == 0 {
+                claim.check(&bundle, left.bytes).unwrap_or_else(|e| panic!("{e}, for {bundle:02X?}"));
+            }
+        }
+    }
+}
+
+/// Document 01's example.
+const EXAMPLE: &str = "F0000000 10080405 20800014 10 8050005 0 1 0 21800001 0 3000000B";
+
+/// A version 4 object that is a package: one unit, whose identity stands in its root, an abbrev of 9 bytes and an index.
+const INPUT: &str = "F0000000 10080404 20800014 10 4 1080000 1 0 21800009 B1001101 742 0 26000040
+    2 2 1 2 0 0 1 0 0 1 1 3 0 0 14 9 3000001E";
+
+#[test]
+fn every_change_of_a_byte() {
+    let mut checks = Checks::new(21);
+    for text in [EXAMPLE, INPUT] {
+        let bundle = words(text).expect("words");
+        for at in 0..bundle.len() {
+            for value in 0..=255 {
+                let mut changed = bundle.clone();
+                changed[at] = value;
+                checks.pack(&changed, needed(&bundle), 160);
+            }
+        }
+    }
+    checks.counts.assert_reached("every change of a byte", [0, 3, 4, 10, 11, 12, 15, 16].into_iter());
+}
+
+#[test]
+fn every_short_bundle() {
+    let mut checks = Checks::new(22);
+    let example = words(EXAMPLE).expect("words");
+    for length in 0..=example.len() {
+        checks.pack(&example[..length], 176, 112);
+    }
+    for a in 0..=255 {
+        checks.pack(&[a as u8], 16, 8);
+        for b in 0..=255 {
+            checks.pack(&bytes(&[0xF000_0000 | a, 0x3000_0002 ^ b << 24]), 32, 8);
+            checks.pack(&bytes(&[0xF000_0001, 0x1000_0000 | a << 8 | b, 0x3000_0003]), 48, 12);
+            checks.pack(&bytes(&[0xF000_0000, 0x1008_0405, 0x2000_0000 | a << 20 | b, 0, 0x3000_0005]), 80, 20);
+        }
+    }
+    checks.counts.assert_reached("every short bundle", [1, 3, 4].into_iter());
+}
+
+/// 1, whatever else is wrong.
+#[test]
+fn lengths_that_are_refused() {
+    let mut checks = Checks::new(23);
+    let mut random = Random::new(24);
+    for length in (0..8).chain((9..400).filter(|n| n % 4 != 0)) {
+        let bundle: Vec<u8> = (0..length).map(|_| random.any() as u8).collect();
+        let (work, output) = (random.below(4) as usize * needed(&bundle) / 2, random.below(99) as usize);
+        checks.compare(&bundle, Some(work), output, Packed::Refused(1));
+    }
+    for length in [LONGEST_BUNDLE + 4, LONGEST_BUNDLE + 400] {
+        let bundle = long_line(length);
+        checks.compare(&bundle, Some(0), 100, Packed::Refused(1));
+        checks.compare(&bundle[..LONGEST_BUNDLE + 1], Some(100), 100, Packed::Refused(1));
+    }
+    checks.counts.assert_reached("lengths", [1].into_iter());
+}
+
+/// 19 before 18: the output doesn't matter.
+#[test]
+fn sections_that_are_too_long() {
+    let mut checks = Checks::new(25);
+    for more in 0..50 {
+        let bundle = strings_of(8_388_608 + more * 777);
+        checks.compare(&bundle, Some(needed(&bundle)), 0, Packed::Refused(19));
+        checks.pack(&bundle, needed(&bundle) + 3, 1000 * more as usize);
+    }
+    let bundle = suffixes(4_095);
+    checks.pack(&bundle, needed(&bundle), 1 << 24);
+    checks.counts.assert_reached("sections that are too long", [19].into_iter());
+    assert_eq!(checks.counts.0[19], 101);
+}
+
+#[test]
+fn sections_as_long_as_can_be() {
+    let mut checks = Checks::new(26);
+    for bundle in [strings_of(8_388_607), suffixes(4_094), long_line(LONGEST_BUNDLE)] {
+        checks.pack(&bundle, needed(&bundle), 1 << 24);
+    }
+    assert_eq!(checks.counts.0[0], 3);
+}
+
+#[test]
+fn as_many_units_as_can_be() {
+    let mut checks = Checks::new(27);
+    for units in [174_763, 174_764] {
+        let bundle = many_units(units);
+        checks.pack(&bundle, needed(&bundle), 1 << 24);
+    }
+    assert_eq!((checks.counts.0[0], checks.counts.0[19]), (1, 1));
+}

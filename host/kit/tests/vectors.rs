@@ -1,0 +1,49 @@
+//! The reference answers every vector as its line says.
+
+use kit::reference::{lookup, lookup_string, pack};
+use kit::vectors::{parse_all, Vector};
+
+fn agrees(vector: &Vector) -> Result<(), String> {
+    let (got, wanted) = match vector {
+        Vector::Pack { bundle, work, output, answer } => {
+            (format!("{:?}", pack(bundle, *work, *output)), format!("{answer:?}"))
+        }
+        Vector::Lookup { package, version, table, identity, section, answer } => {
+            (format!("{:?}", lookup(package, *version, *table, *identity, *section)), format!("{answer:?}"))
+        }
+        Vector::String { package, version, table, identity, entry, answer } => {
+            (format!("{:?}", lookup_string(package, *version, *table, *identity, *entry)), format!("{answer:?}"))
+        }
+    };
+    if got == wanted {
+        return Ok(());
+    }
+    Err(format!("got {got}, wanted {wanted}, for {vector:?}"))
+}
+
+fn check(text: &str, lines: usize) {
+    let vectors = parse_all(text).expect("a line that is no vector");
+    assert_eq!(vectors.len(), lines);
+    let wrong: Vec<String> = vectors.iter().filter_map(|v| agrees(v).err()).collect();
+    assert!(wrong.is_empty(), "{} of {lines} differ; the first: {}", wrong.len(), wrong[0]);
+}
+
+#[test]
+fn pack_vectors() {
+    check(include_str!("vectors/pack.txt"), 600);
+}
+
+#[test]
+fn pack_directed_vectors() {
+    check(include_str!("vectors/pack-directed.txt"), 265);
+}
+
+#[test]
+fn lookup_vectors() {
+    check(include_str!("vectors/lookup.txt"), 314);
+}
+
+#[test]
+fn lookup_directed_vectors() {
+    check(include_str!("vectors/lookup-directed.txt"), 381);
+}

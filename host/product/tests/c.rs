@@ -1,0 +1,117 @@
+//! barthovin.h declares every C entry as it is, and the example in C does what it says.
+
+use barthovin::answer::{Asked, Found};
+use barthovin::ffi;
+use std::path::{Path, PathBuf};
+use std::process::{Command, Output};
+
+const HOME: &str = env!("CARGO_MANIFEST_DIR");
+
+/// Compiles a program with every warning an error, as the language given, and runs it.
+fn compiled(source: &Path, language: &[&str], arguments: &[&str]) -> Output {
+    let name = format!("{}-{}", source.file_stem().unwrap().to_str().unwrap(), language[0].replace('=', "-"));
+    let program = PathBuf::from(env!("CARGO_TARGET_TMPDIR")).join(name);
+    let mut compiler = Command::new("cc");
+    compiler.args(["-Wall", "-Wextra", "-Werror", "-pedantic", "-O2", "-I"]).arg(format!("{HOME}/include"));
+    compiler.args(language).arg(source).args(["-x", "none", env!("BARTHOVIN_STATIC_LIBRARY"), "-o"]).arg(&program);
+    let told = compiler.output().expect("cc");
+    assert!(told.status.success(), "{}", String::from_utf8_lossy(&told.stderr));
+    Command::new(program).args(arguments).output().unwrap()
+}
+
+fn text(output: &Output) -> &str {
+    std::str::from_utf8(&output.stdout).unwrap()
+}
+
+#[test]
+fn the_example_in_c_packs_and_finds() {
+    let source = PathBuf::from(HOME).join("../../examples/pack_and_find.c");
+    let bundle = format!("{HOME}/../../examples/one-unit.bundle");
+    let output = compiled(&source, &["-std=c99"], &[&bundle]);
+    let wanted =
+        "a package of 112 bytes\ncode 0: 20 bytes at 12, after 1 look(s)\n1000000005000508000000000100000000000000\n";
+    assert_eq!((text(&output), output.status.code()), (wanted, Some(0)));
+    let zeros = PathBuf::from(env!("CARGO_TARGET_TMPDIR")).join("zeros");
+    std::fs::write(&zeros, [0; 8]).unwrap();
+    let refused = compiled(&source, &["-std=c11"], &[zeros.to_str().unwrap()]);
+    assert_eq!((refused.stderr, refused.status.code()), (b"refused 3\n".to_vec(), Some(1)));
+}
+
+/// The bundle that entries.c has.
+const BUNDLE: [u32; 17] = [
+    0xF000_0000,
+    0x1008_0405,
+    0x2080_0014,
+    0x10,
+    0x0805_0005,
+    0,
+    1,
+    0,
+    0x2180_0001,
+    0,
+    0x2300_000C,
+    8,
+    5,
+    0,
+    0x2580_0003,
+    0x6968,
+    0x3000_0011,
+];
+
+fn found(name: &str, found: Found) -> String {
+    let (code, start, length, looks) = match found {
+        Found::Part { start, length, looks } => (0, start, length, looks),
+        Found::Absent(looks) => (1, 0, 0, looks),
+        Found::Refused(number) => (number, 0, 0, 0),
+    };
+    format!("{name} {code} {start} {length} {looks}\n")
+}
+
+/// What entries.c prints, by Rust's declarations.
+fn by_rust() -> String {
+    let bundle: Vec<u8> = BUNDLE.iter().flat_map(|w| w.to_le_bytes()).collect();
+    let (mut work, mut output) = (vec![0; 16 * 17], vec![0; 1000]);
+    let mut told = String::new();
+    for work_words in [16 * 17, 16] {
+        let (code, length) = ffi::pack(&bundle, &mut work[..work_words], &mut output[..10]);
+        told += &format!("pack {code} {length}\n");
+    }
+    let packed = ffi::pack_small(&bundle, &mut output).1;
+    for (name, asked) in [("pack_and_look_up", Asked::Section(3)), ("pack_and_look_up_string", Asked::Entry(0))] {
+        let answer = ffi::pack_and_look_up(&bundle, &mut work, &mut output, 5, 1, 1, asked).unwrap();
+        told += &found(&format!("{name} 0 {packed}"), answer);
+    }
+    told += &format!("pack_small 0 {packed}\n");
+    let package = &output[..packed];
+    told += &found("lookup", ffi::lookup(package, 5, 1, 1, 1));
+    told += &found("lookup", ffi::lookup(package, 5, 2, 1, 1));
+    told += &found("lookup_string", ffi::lookup_string(package, 5, 1, 1, 0));
+    told += &found("lookup_string", ffi::lookup_string(package, 5, 1, 1, 1));
+    told
+}
+
+#[test]
+fn c_and_rust_are_answered_alike() {
+    let source = PathBuf::from(HOME).join("tests/entries.c");
+    let wanted = by_rust();
+    assert!(wanted.contains("lookup_string 0 ") && wanted.contains("lookup_string 25 "), "{wanted}");
+    for language in [&["-std=c99"][..], &["-std=c++17", "-x", "c++"]] {
+        assert_eq!(text(&compiled(&source, language, &[])), wanted);
+    }
+}
+
+/// The names that the crate of C entries gives away, and those that are declared and called.
+#[test]
+fn every_entry_is_declared_and_called() {
+    let read = |name: &str| std::fs::read_to_string(format!("{HOME}/{name}")).unwrap();
+    let (crate_text, header) = (read("../../crates/archive/src/lib.rt"), read("include/barthovin.h"));
+    let (rust, calls) = (read("src/ffi.rs"), read("tests/entries.c"));
+    let entries: Vec<&str> =
+        crate_text.split("extern \"C\" fn ").skip(1).map(|rest| rest.split('(').next().unwrap()).collect();
+    assert!(entries.len() >= 6, "{entries:?}");
+    for entry in entries {
+        assert!(header.contains(&format!(" {entry}(")), "{entry} is not in barthovin.h");
+        assert!(rust.contains(&format!("fn {entry}(")), "{entry} is not in ffi.rs");
+        assert!(calls.contains(&format!("{entry}(")), "{entry} is not called in entries.c");
+    }
+}

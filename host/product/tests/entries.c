@@ -1,0 +1,37 @@
+/* Calls every entry as barthovin.h declares it; tests/c.rs compares what it prints with what Rust's declarations give. */
+
+#include "barthovin.h"
+#include <stdio.h>
+
+/* One version 5 unit of identity 1 with the string "hi": info, abbrev, str_offsets, str. */
+static const uint32_t words[] = {0xF0000000, 0x10080405, 0x20800014, 0x10, 0x08050005, 0, 1, 0, 0x21800001, 0,
+                                 0x2300000C, 8,          5,          0,    0x25800003, 0x6968, 0x30000011};
+
+static void show(const char *name, struct barthovin_found f) {
+    printf("%s %u %zu %zu %zu\n", name, (unsigned)f.code, f.start, f.length, f.looks);
+}
+
+static void show_from_bundle(const char *name, struct barthovin_found_from_bundle f) {
+    printf("%s %u %zu %u %zu %zu %zu\n", name, (unsigned)f.packing, f.packed, (unsigned)f.code, f.start, f.length, f.looks);
+}
+
+int main(void) {
+    static uint32_t work[16 * 17];
+    static uint8_t output[1000];
+    const uint8_t *bundle = (const uint8_t *)words;
+    struct barthovin_packed packed = barthovin_pack(bundle, sizeof words, work, 16 * 17, output, 10);
+    printf("pack %u %zu\n", (unsigned)packed.code, packed.length);
+    packed = barthovin_pack(bundle, sizeof words, work, 16, output, 10);
+    printf("pack %u %zu\n", (unsigned)packed.code, packed.length);
+    show_from_bundle("pack_and_look_up",
+                     barthovin_pack_and_look_up(bundle, sizeof words, work, 16 * 17, output, 1000, 5, 1, 1, 3));
+    show_from_bundle("pack_and_look_up_string",
+                     barthovin_pack_and_look_up_string(bundle, sizeof words, work, 16 * 17, output, 1000, 5, 1, 1, 0));
+    packed = barthovin_pack_small(bundle, sizeof words, output, 1000);
+    printf("pack_small %u %zu\n", (unsigned)packed.code, packed.length);
+    show("lookup", barthovin_lookup(output, packed.length, 5, 1, 1, BARTHOVIN_INFO));
+    show("lookup", barthovin_lookup(output, packed.length, 5, 2, 1, BARTHOVIN_INFO));
+    show("lookup_string", barthovin_lookup_string(output, packed.length, 5, 1, 1, 0));
+    show("lookup_string", barthovin_lookup_string(output, packed.length, 5, 1, 1, 1));
+    return 0;
+}
