@@ -57,7 +57,7 @@ module _ (b p : List ℕ) (a : Accepted b p) (h : Bytes b) where
   rows-have t x =
       ap (λ (l : List ℕ). has l x) (rows-named (kept units) t) ∙ has-identity t x (kept units) ∙ any-kept t x units ∙ ap (any (isUnder t x)) (sym (handed-in b p a))
 
-  no-rows : (t x : ℕ) → rowsIn a t ≡ [] → any (isUnder t x) (handedIn b) ≡ true → ⊥
+  pub no-rows : (t x : ℕ) → rowsIn a t ≡ [] → any (isUnder t x) (handedIn b) ≡ true → ⊥
   unfolding has any
   no-rows t x z e = true-false (rows-have t x ∙ e) (ap (λ (l : List Row). has (identitiesOf l) x) z)
 
@@ -65,14 +65,7 @@ module _ (b p : List ℕ) (a : Accepted b p) (h : Bytes b) where
   some-rows t x e = ⊎-elim (λ z. absurd (no-rows t x z e)) (λ n. n) (empty-or (rowsIn a t))
 
   -- ---- the package, as it is read
-  pub record Reads (v t : ℕ) : Type 0 where
-    pub k : Package
-    pub read : packageOf p ≡ pass k
-    pub good : versionGood k v ≡ true
-    pub table-read : Table a t (indexFor k t)
-    pub objects : (units ≡ []) ⊎ ((o : Object) × (os : List Object) × (a .bundle .objects ≡ o ∷ os) × (k .encoding ≡ encodingIn b p a h) × (k .parts ≡ partsFrom 8 (sectionsOf b p a)) × (v ≡ formOf (versionIn a)))
-
-  pub table-for : (k : Package) (t : ℕ) → (t ≡ 1) ⊎ (t ≡ 2) → Table a 1 (k .cuIndex) → Table a 2 (k .tuIndex) → Table a t (indexFor k t)
+  table-for : (k : Package) (t : ℕ) → (t ≡ 1) ⊎ (t ≡ 2) → Table a 1 (k .cuIndex) → Table a 2 (k .tuIndex) → Table a t (indexFor k t)
   unfolding indexFor
   table-for k t c one two = ⊎-elim
       (λ (z : t ≡ 1). subst (λ (n : ℕ). Table a n (indexFor k n)) (sym z) one)
@@ -85,32 +78,64 @@ module _ (b p : List ℕ) (a : Accepted b p) (h : Bytes b) where
       none-of : (t : ℕ) → rowsOf [] t ≡ []
       none-of t = unfold rowsOf entriesFrom those in refl
 
-  pub reads : (v t : ℕ) → Asked b v t → Reads v t
-  unfolding versionGood hasVersion firstWord
-  reads v t q = ⊎-elim
+  -- it opens: without objects it has no indexes, else the first object's encoding and the sections written
+  pub record Opens : Type 0 where
+    pub k : Package
+    pub read : packageOf p ≡ pass k
+    pub tables : (t : ℕ) → (t ≡ 1) ⊎ (t ≡ 2) → Table a t (indexFor k t)
+    pub objects : ((a .bundle .objects ≡ []) × (k .cuIndex ≡ none) × (k .tuIndex ≡ none))
+        ⊎ ((o : Object) × (os : List Object) × (a .bundle .objects ≡ o ∷ os) × (k .encoding ≡ encodingIn b p a h) × (k .parts ≡ partsFrom 8 (sectionsOf b p a)))
+
+  pub opens : Opens
+  unfolding firstWord
+  opens = ⊎-elim
       (λ (z : a .bundle .objects ≡ []).
       let e = no-units z in
       let k : Package = record { encoding = encodingOf (a .bundle .big) 0; parts = []; cuIndex = none; tuIndex = none } in
-      record {
-        k = k;
-        read = nothing-read b p a z;
-        good = and-both ((eqb v 2 || eqb v 5) && true) true (and-both (eqb v 2 || eqb v 5) true (sym (version-none b p a v z) ∙ q .version) refl) refl;
-        table-read = table-for k t (q .tables) (no-table 1 e) (no-table 2 e);
-        objects = inl e;
-      })
+      record { k = k; read = nothing-read b p a z; tables = λ t c. table-for k t c (no-table 1 e) (no-table 2 e); objects = inl (z, refl, refl) })
       (λ (z : (o : Object) × (os : List Object) × (a .bundle .objects ≡ o ∷ os)).
       let one = table b p a h 1 (inl refl) in
       let two = table b p a h 2 (inr refl) in
       let k : Package = record { encoding = encodingOf (a .bundle .big) (z .0 .word); parts = partsFrom 8 (sectionsOf b p a); cuIndex = one .0; tuIndex = two .0 } in
-      let form : v ≡ formOf (versionIn a) = eqb-true v (formOf (versionIn a)) (sym (version-form b p a v (z .0) (z .1) (z .2)) ∙ q .version) in
       record {
         k = k;
         read = package-is b p a h (z .0) (z .1) (z .2) (one .0) (two .0) (one .1) (two .1);
-        good = version-good b p a v k (one .1) (two .1) form;
-        table-read = table-for k t (q .tables) (one .1) (two .1);
-        objects = inr (z .0, z .1, z .2, ap (λ (l : List Object). encodingOf (a .bundle .big) (firstWord l)) (sym (z .2)), refl, form);
+        tables = λ t c. table-for k t c (one .1) (two .1);
+        objects = inr (z .0, z .1, z .2, ap (λ (l : List Object). encodingOf (a .bundle .big) (firstWord l)) (sym (z .2)), refl);
       })
       (objects-or (a .bundle .objects))
+
+  -- for what is asked
+  pub record Reads (v t : ℕ) : Type 0 where
+    pub k : Package
+    pub read : packageOf p ≡ pass k
+    pub good : versionGood k v ≡ true
+    pub table-read : Table a t (indexFor k t)
+    pub objects : (units ≡ []) ⊎ ((o : Object) × (os : List Object) × (a .bundle .objects ≡ o ∷ os) × (k .encoding ≡ encodingIn b p a h) × (k .parts ≡ partsFrom 8 (sectionsOf b p a)) × (v ≡ formOf (versionIn a)))
+
+  pub reads : (v t : ℕ) → Asked b v t → Reads v t
+  unfolding versionGood hasVersion indexFor
+  reads v t q =
+      let s = opens in
+      ⊎-elim
+      (λ z. record {
+        k = s .k;
+        read = s .read;
+        good = and-both ((eqb v 2 || eqb v 5) && hasVersion v (s .k .cuIndex)) (hasVersion v (s .k .tuIndex))
+            (and-both (eqb v 2 || eqb v 5) (hasVersion v (s .k .cuIndex)) (sym (version-none b p a v (z .0)) ∙ q .version) (ap (hasVersion v) (z .1))) (ap (hasVersion v) (z .2));
+        table-read = s .tables t (q .tables);
+        objects = inl (no-units (z .0));
+      })
+      (λ z.
+      let form : v ≡ formOf (versionIn a) = eqb-true v (formOf (versionIn a)) (sym (version-form b p a v (z .0) (z .1) (z .2)) ∙ q .version) in
+      record {
+        k = s .k;
+        read = s .read;
+        good = version-good b p a v (s .k) (s .tables 1 (inl refl)) (s .tables 2 (inr refl)) form;
+        table-read = s .tables t (q .tables);
+        objects = inr (z .0, z .1, z .2, z .3, z .4, form);
+      })
+      (s .objects)
 
   -- ---- absent
   absent-in : (t x : ℕ) (o : Option Index) (answer : Index → ℕ → Check Place) → Table a t o → any (isUnder t x) (handedIn b) ≡ false

@@ -3,42 +3,37 @@
 use mathlib.Core.Path.{_≡_, refl, sym, ap, _∙_, subst}
 use mathlib.Core.Logic.{_⊎_, inl, inr, ⊎-elim}
 use mathlib.Core.Bool.{true, false}
-use mathlib.Core.List.{List, [], _∷_, map, _++_}
-use mathlib.Core.Option.{some}
+use mathlib.Core.List.{List, [], _∷_}
 use Prim.Native.Nat.{ℕ, _<_, _≤_}
 use native.Mathlib.Decide.{decLt}
 use native.Mathlib.Omega.{arith}
 use lib.ListN.{length}
 use borrow.Author.Tests.{eqb-false}
-use Rattle.octets.specs.Lists.{any, joined}
-use Rattle.octets.specs.Checked.{pass}
+use Rattle.octets.specs.Lists.{any}
 use Rattle.octets.proofs.Checks.{known, pass-inj}
 use Rattle.octets.proofs.Lists.{any-stops}
 use Rattle.octets.proofs.Numbers.{Bytes}
-use Rattle.bundle.specs.Bundle.{Object, Bundle}
-use Rattle.bundle.specs.Encoding.{encodingOf}
+use Rattle.bundle.specs.Bundle.{Bundle}
 use Rattle.bundle.proofs.Every.{Every}
-use Rattle.bundle.proofs.RoundTrip.{partsFrom}
 use Rattle.index.specs.Probing.{Probe, found, absent as nowhere, search}
 use Rattle.index.proofs.LawColumns.{formOf}
 use Rattle.index.proofs.LawLooks.{looksOf as looksIn, search-looks}
-use Rattle.package.specs.Filing.{Filed, isUnder, entriesOfUnit, filingOf, firstWord}
+use Rattle.package.specs.Filing.{Filed, isUnder, entriesOfUnit, firstWord}
 use Rattle.package.specs.Pack.{handedIn}
-use Rattle.package.proofs.Each.{each-head}
+use Rattle.package.proofs.Each.{each-head, each-middle}
 use Rattle.package.proofs.Kept.{first-stands, under-own}
 use Rattle.package.proofs.Filing.{Good}
 use Rattle.package.proofs.Accepted.{Accepted, packed-accepted, handed-in}
-use Rattle.package.proofs.PackageRead.{sectionsOf}
 use Rattle.package.proofs.Tables.{encodingIn, facts-of}
-use Rattle.lookup.specs.Lookup.{refused, absent, part, Package, packageOf, lookedUp, stringFound}
-use Rattle.bundle.specs.Written.{Section}
-use Rattle.package.specs.Input.{unitSections}
-use Rattle.package.proofs.EveryUnit.{unitBytesOf, filing-all}
+use Rattle.lookup.specs.Lookup.{refused, absent, part, indexFor, lookedUp, stringFound}
+use Rattle.package.specs.Units.{FillObjects}
+use Rattle.package.proofs.Units.{filing-fills}
 use Rattle.archive.specs.Theorem as theorem
-use Rattle.archive.specs.Theorem.{IsHandedIn, IsFirst, slotsOfTable, looksOf, looks, IsPart, Holds, FromBundleToAnswer, Demand3, unitSectionBytes}
-use Rattle.archive.proofs.Read.{rowsIn, versionIn, table, package-is}
+use Rattle.archive.specs.Theorem.{IsHandedIn, IsFirst, slotsOfTable, looksOf, looks, IsPart, Holds, FromBundleToAnswer, Demand3}
+use Rattle.archive.proofs.Read.{rowsIn, versionIn}
 use Rattle.archive.proofs.Judged.{part-refused, string-refused, version-form, version-wrong}
-use Rattle.archive.proofs.Absences.{objects-or, no-units, some-rows, absent-is, absent-ends}
+use Rattle.archive.proofs.Absences.{no-units, some-rows, opens, absent-is, absent-ends}
+use Rattle.archive.proofs.Tables.{the-tables}
 use Rattle.archive.proofs.Firsts.{the-code, the-part, the-string, no-string}
 
 part-absent : {P : Type 0} (s l n m : ℕ) → part s l n ≡ absent m → P
@@ -52,18 +47,16 @@ absent-refusal n m e = let z : _≡_ {A = ℕ} 0 1 = cc in absurd (omega arith)
 
 module _ (b p : List ℕ) (a : Accepted b p) (h : Bytes b) where
   -- ---- every unit
-  sections-same : (os : List Object) → unitBytesOf b os ≡ unitSectionBytes b os
-  unfolding unitBytesOf unitSectionBytes
-  sections-same [] = refl
-  sections-same (o ∷ os) = ap (λ (l : List ℕ). joined (map (λ (s : Section). s .bytes) (unitSections b (o .parts))) ++ l) (sections-same os)
-
   every-unit : theorem.EveryUnitIsHandedIn b
-  unfolding filingOf
   every-unit k e =
-      let same : a .bundle ≡ k = pass-inj (sym (a .read) ∙ e) in
-      ap (λ (us : List Filed). joined (map (λ (u : Filed). u .bytes) us)) (handed-in b p a)
-      ∙ filing-all b (a .bundle .big) (firstWord (a .bundle .objects)) (λ c. 0) [] (a .bundle .objects) (a .filing) (a .filed)
-      ∙ sections-same (a .bundle .objects) ∙ ap (λ (u : Bundle). unitSectionBytes b (u .objects)) same
+      subst (λ (z : Bundle). FillObjects b (z .big) (firstWord (z .objects)) (z .objects) (handedIn b)) (pass-inj (sym (a .read) ∙ e))
+      (subst (FillObjects b (a .bundle .big) (firstWord (a .bundle .objects)) (a .bundle .objects)) (sym (handed-in b p a)) (filing-fills b (a .bundle) (a .filing) (a .filed)))
+
+  good-units : Every (Good (encodingIn b p a h)) (handedIn b)
+  good-units = subst (Every (Good (encodingIn b p a h))) (sym (handed-in b p a)) (facts-of b p a h .units)
+
+  each-unit : theorem.EachIsAUnit b
+  each-unit before behind u e = each-middle before u behind (subst (Every (Good (encodingIn b p a h))) e good-units) .unit
 
   -- some first unit is under what is handed in
   some-first : (t x : ℕ) → IsHandedIn b t x → (u : Filed) × IsFirst b t x u
@@ -111,22 +104,21 @@ module _ (b p : List ℕ) (a : Accepted b p) (h : Bytes b) where
   some-table : (us : List Filed) → handedIn b ≡ us → (us ≡ [] → ⊥) → (t : ℕ) × ((t ≡ 1) ⊎ (t ≡ 2)) × (0 < length (rowsIn a t))
   some-table [] e n = absurd (n refl)
   some-table (u ∷ us) e n =
-      let g = each-head (subst (Every (Good (encodingIn b p a h))) (sym (handed-in b p a) ∙ e) (facts-of b p a h .units)) in
+      let g = each-head (subst (Every (Good (encodingIn b p a h))) e good-units) in
       let here : any (isUnder (u .table) (u .identity)) (handedIn b) ≡ true = ap (any (isUnder (u .table) (u .identity))) e ∙ any-stops (isUnder (u .table) (u .identity)) u us (under-own (u .table) (u .identity) u refl refl) in
-      (u .table, g .tables, some-rows b p a h (u .table) (u .identity) here)
+      (u .table, g .unit .tables, some-rows b p a h (u .table) (u .identity) here)
 
   other-version : theorem.TheOtherVersion b p
-  other-version v t x code k e n = ⊎-elim
-      (λ (z : a .bundle .objects ≡ []). absurd (n (handed-in b p a ∙ no-units b p a h z)))
-      (λ (z : (o : Object) × (os : List Object) × (a .bundle .objects ≡ o ∷ os)).
-      let one = table b p a h 1 (inl refl) in
-      let two = table b p a h 2 (inr refl) in
-      let whole : Package = record { encoding = encodingOf (a .bundle .big) (z .0 .word); parts = partsFrom 8 (sectionsOf b p a); cuIndex = one .0; tuIndex = two .0 } in
-      let read : packageOf p ≡ pass whole = package-is b p a h (z .0) (z .1) (z .2) (one .0) (two .0) (one .1) (two .1) in
+  unfolding indexFor
+  other-version v t x code k e n =
+      let s = opens b p a h in
+      ⊎-elim
+      (λ z. absurd (n (handed-in b p a ∙ no-units b p a h (z .0))))
+      (λ z.
       let other : v ≡ formOf (versionIn a) → ⊥ = eqb-false v (formOf (versionIn a)) (sym (version-form b p a v (z .0) (z .1) (z .2)) ∙ e) in
-      let wrong = version-wrong b p a v whole (one .1) (two .1) other (rows-of (some-table (handedIn b) refl n)) in
-      (part-refused p whole read v wrong t x code, string-refused p whole read v wrong t x k))
-      (objects-or (a .bundle .objects))
+      let wrong = version-wrong b p a v (s .k) (s .tables 1 (inl refl)) (s .tables 2 (inr refl)) other (rows-of (some-table (handedIn b) refl n)) in
+      (part-refused p (s .k) (s .read) v wrong t x code, string-refused p (s .k) (s .read) v wrong t x k))
+      (s .objects)
     where
       rows-of : (t : ℕ) × ((t ≡ 1) ⊎ (t ≡ 2)) × (0 < length (rowsIn a t)) → (0 < length (rowsIn a 1)) ⊎ (0 < length (rowsIn a 2))
       rows-of s = ⊎-elim
@@ -159,6 +151,8 @@ module _ (b p : List ℕ) (a : Accepted b p) (h : Bytes b) where
   pub from-bundle-to-answer : FromBundleToAnswer b p
   from-bundle-to-answer = record {
     everyUnitIsHandedIn = every-unit;
+    eachIsAUnit = each-unit;
+    thePackagesTables = the-tables b p a h;
     foundExactlyWhenHandedIn = found-exactly;
     theFirstUnit = first-unit;
     theFirstUnitInLength = first-length;

@@ -1,4 +1,4 @@
--- The worked examples, and the proof of demand 3.
+-- The worked examples, the proof of demand 3, and the numbers of refusals.
 -- Assumes nothing.
 pub mod Examples
 pub mod Read
@@ -7,7 +7,9 @@ pub mod Units
 pub mod Judged
 pub mod StringPlaces
 pub mod Absences
+pub mod Tables
 pub mod Firsts
 pub mod Demand3
 pub mod Telling
 pub mod Packaged
+pub mod Refusing

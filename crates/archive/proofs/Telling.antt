@@ -68,6 +68,8 @@ module _ (b p : List ℕ) (t : FromBundleToAnswer b p) (v table x : ℕ) (r : Fr
     pub part-told : PartTold b p v table x code r
     part-told = record {
       answer = l;
+      theTable = λ q. t .thePackagesTables table (q .tables);
+      aUnit = λ u f. t .eachIsAUnit (f .before) (f .behind) u (f .stands);
       foundExactlyWhenHandedIn = λ q c. (
         (λ z. ⊎-elim
             (λ (e : any (isUnder table x) (handedIn b) ≡ true). e)
@@ -118,6 +120,8 @@ module _ (b p : List ℕ) (t : FromBundleToAnswer b p) (v table x : ℕ) (r : Fr
     pub string-told : StringTold b p v table x k r
     string-told = record {
       answer = l;
+      theTable = λ q. t .thePackagesTables table (q .tables);
+      aUnit = λ u f. t .eachIsAUnit (f .before) (f .behind) u (f .stands);
       itsStrings = λ u q f m. let s = t .itsStrings v table x k u q f m in (s .0, s .1, told p r _ _ _ l (s .2));
       noOtherString = λ u q f m. told-refused p r _ _ l (t .noOtherString v table x k u q f m);
       absentIsAbsent = no-string;

@@ -1,4 +1,5 @@
--- Demand 3 of document 01: one claim, from bundle to answer; and the same for one question, about the code.
+-- Demand 3 of document 01: one claim, from bundle to answer; the same for one question, about the code; and by which numbers calls refuse.
 -- Assumes nothing.
 pub mod Theorem
 pub mod Question
+pub mod Refusing

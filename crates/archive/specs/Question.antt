@@ -13,9 +13,10 @@ use Rattle.octets.specs.Checked.{pass}
 use Rattle.strings.specs.Strings.{stringAt}
 use Rattle.package.specs.Filing.{Filed, isUnder, entriesOfUnit}
 use Rattle.package.specs.Pack.{Answer, refused, short, made, handedIn}
+use Rattle.package.specs.Units.{IsUnit}
 use Rattle.lookup.specs.Lookup.{Found, lookedUp, stringFound}
 use Rattle.lookup.specs.Answers.{numbered}
-use Rattle.archive.specs.Theorem.{Asked, IsCode, IsHandedIn, IsFirst, handedPart, isIndexVersion, slotsOfTable, looks, EndsUnused}
+use Rattle.archive.specs.Theorem.{Asked, IsCode, IsHandedIn, IsFirst, handedPart, isIndexVersion, slotsOfTable, looks, TableIn, EndsUnused}
 use Rattle.archive.specs.declared.asking.FromBundle.{FromBundle}
 
 -- the lookup's part of the answer
@@ -42,6 +43,8 @@ pub record ToldAbsent (r : FromBundle) (n : ℕ) : Type 0 where
 -- a part: b is accepted, p its package
 pub record PartTold (b p : List ℕ) (v table x code : ℕ) (r : FromBundle) : Type 0 where
   pub answer : Looked r (lookedUp p v table x code)
+  pub theTable : Asked b v table → TableIn b p table
+  pub aUnit : (u : Filed) → IsFirst b table x u → IsUnit u
   pub foundExactlyWhenHandedIn : Asked b v table → IsCode code → (r .code ≡ 0) ↔ IsHandedIn b table x
   pub theFirstUnit : (u : Filed) → Asked b v table → IsCode code → IsFirst b table x u → (code ≡ 6 → ⊥) → Told p r (looks b table x) (handedPart u code)
   pub theFirstUnitInLength : (u : Filed) → Asked b v table → IsFirst b table x u → code ≡ 6 → (r .code ≡ 0) × (r .length ≡ length (handedPart u 6)) × (r .looks ≡ looks b table x)
@@ -54,6 +57,8 @@ pub record PartTold (b p : List ℕ) (v table x code : ℕ) (r : FromBundle) : T
 -- a string
 pub record StringTold (b p : List ℕ) (v table x k : ℕ) (r : FromBundle) : Type 0 where
   pub answer : Looked r (stringFound p v table x k)
+  pub theTable : Asked b v table → TableIn b p table
+  pub aUnit : (u : Filed) → IsFirst b table x u → IsUnit u
   pub itsStrings : (u : Filed) → Asked b v table → IsFirst b table x u → k < length (entriesOfUnit u)
       → (string : List ℕ) × (stringAt 9 (u .input .bytes 11) (getD (entriesOfUnit u) k 0) ≡ pass string) × Told p r (looks b table x) string
   pub noOtherString : (u : Filed) → Asked b v table → IsFirst b table x u → length (entriesOfUnit u) ≤ k → r .code ≡ 25

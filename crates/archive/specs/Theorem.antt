@@ -5,19 +5,21 @@ use mathlib.Core.Path.{_≡_}
 use mathlib.Core.Logic.{_⊎_, _↔_}
 use mathlib.Core.Bool.{Bool, true, false, _||_}
 use mathlib.Core.List.{List, [], _∷_, _++_, map}
+use mathlib.Core.Option.{Option, some, none}
 use Prim.Native.Nat.{ℕ, _+_, _*_, _-_, _%_, _≤_, _<_}
 use lib.Dec.{eqb, leb}
 use lib.ListN.{length, getD}
 use Rattle.octets.specs.Octets.{part as bytesAt}
-use Rattle.octets.specs.Lists.{any, those, joined}
+use Rattle.octets.specs.Lists.{any, those}
 use Rattle.octets.specs.Checked.{Check, pass, refuse}
 use Rattle.bundle.specs.Bundle.{Object, Bundle, bundleOf}
 use Rattle.strings.specs.Strings.{stringAt}
+use Rattle.index.specs.Index.{Index}
 use Rattle.index.specs.Probing.{Probe, found, absent as nowhere, Slots, slotsOf, search, firstSlot, stride}
-use Rattle.package.specs.Input.{unitSections}
-use Rattle.package.specs.Filing.{Filed, isUnder, kept, contributed, entriesOfUnit}
+use Rattle.package.specs.Filing.{Filed, isUnder, firstWord, kept, contributed, entriesOfUnit}
 use Rattle.package.specs.Pack.{packed, made, handedIn}
-use Rattle.lookup.specs.Lookup.{Found, refused, absent, part, lookedUp, stringFound}
+use Rattle.package.specs.Units.{FillObjects, IsUnit}
+use Rattle.lookup.specs.Lookup.{Found, refused, absent, part, Package, packageOf, indexFor, lookedUp, stringFound}
 
 -- ---- what is asked
 -- "The index version is 2 for objects of version 4, 5 for those of 5, and either one without objects"
@@ -43,10 +45,9 @@ pub record IsCode (code : ℕ) : Type 0 where
 abbrev pub IsHandedIn : List ℕ → ℕ → ℕ → Type 0
 IsHandedIn b table x = any (isUnder table x) (handedIn b) ≡ true
 
--- all bytes of info and types, object by object, in the order of the bundle
-unfoldable pub unitSectionBytes : List ℕ → List Object → List ℕ
-unitSectionBytes b [] = []
-unitSectionBytes b (o ∷ os) = joined (map (λ s. s .bytes) (unitSections b (o .parts))) ++ unitSectionBytes b os
+-- some unit was handed in for a table, whatever its identity
+unfoldable pub isFor : ℕ → Filed → Bool
+isFor table u = eqb (u .table) table
 
 -- "First is first in the bundle: the kept one."
 pub record IsFirst (b : List ℕ) (table x : ℕ) (u : Filed) : Type 0 where
@@ -95,16 +96,32 @@ IsPart answer n = (start : ℕ) × (size : ℕ) × (answer ≡ part start size n
 abbrev pub Holds : List ℕ → Found → ℕ → List ℕ → Type 0
 Holds p answer n bytes = (start : ℕ) × (answer ≡ part start (length bytes) n) × (bytesAt p start (length bytes) ≡ bytes)
 
--- the units handed in are all of info and types of every object, none left out
+-- object by object and section by section, the units handed in are all of info and types: none is left out, and each stands in its own object
 abbrev pub EveryUnitIsHandedIn : List ℕ → Type 0
-EveryUnitIsHandedIn b = (k : Bundle) → bundleOf b ≡ pass k → joined (map (λ u. u .bytes) (handedIn b)) ≡ unitSectionBytes b (k .objects)
+EveryUnitIsHandedIn b = (k : Bundle) → bundleOf b ≡ pass k → FillObjects b (k .big) (firstWord (k .objects)) (k .objects) (handedIn b)
 
--- demand 3: "finds the identity exactly when a unit was handed in under it"
+-- and each of them is a unit: read alone it has its size, its table and its identity, and it is for the table that document 01 says
+abbrev pub EachIsAUnit : List ℕ → Type 0
+EachIsAUnit b = (before behind : List Filed) (u : Filed) → handedIn b ≡ before ++ (u ∷ behind) → IsUnit u
+
+-- a table as it is read from the package: missing exactly where no unit was handed in for it, else with the slots that the other clauses speak of
+pub record TableRead (b : List ℕ) (table : ℕ) (read : Option Index) : Type 0 where
+  pub missing : (read ≡ none) ↔ (any (isFor table) (handedIn b) ≡ false)
+  pub slots : (i : Index) → read ≡ some i → (i .identities ≡ slotsOfTable b table .identities) × (i .rows ≡ slotsOfTable b table .rows)
+
+-- the package opens, and has this table
+abbrev pub TableIn : List ℕ → List ℕ → ℕ → Type 0
+TableIn b p table = (k : Package) × (packageOf p ≡ pass k) × TableRead b table (indexFor k table)
+
+abbrev pub ThePackagesTables : List ℕ → List ℕ → Type 0
+ThePackagesTables b p = (table : ℕ) → (table ≡ 1) ⊎ (table ≡ 2) → TableIn b p table
+
+-- an identity is found in a table exactly when a unit was handed in for that table under it
 abbrev pub FoundExactlyWhenHandedIn : List ℕ → List ℕ → Type 0
 FoundExactlyWhenHandedIn b p =
     (v table x code : ℕ) → Asked b v table → IsCode code → IsPart (lookedUp p v table x code) (looks b table x) ↔ IsHandedIn b table x
 
--- demand 3: "and is led to the first such unit: its bytes, its parts, its strings"; at 6 "in length only"
+-- what is found is the first such unit: its bytes and its parts; "at 6 in length only"
 abbrev pub TheFirstUnit : List ℕ → List ℕ → Type 0
 TheFirstUnit b p =
     (v table x code : ℕ) (u : Filed) → Asked b v table → IsCode code → IsFirst b table x u → (code ≡ 6 → ⊥)
@@ -160,6 +177,8 @@ NeitherRefuses b p =
 
 pub record FromBundleToAnswer (b p : List ℕ) : Type 0 where
   pub everyUnitIsHandedIn : EveryUnitIsHandedIn b
+  pub eachIsAUnit : EachIsAUnit b
+  pub thePackagesTables : ThePackagesTables b p
   pub foundExactlyWhenHandedIn : FoundExactlyWhenHandedIn b p
   pub theFirstUnit : TheFirstUnit b p
   pub theFirstUnitInLength : TheFirstUnitInLength b p

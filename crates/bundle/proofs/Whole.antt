@@ -3,13 +3,15 @@
 use mathlib.Core.Path.{_≡_, refl, sym, _∙_}
 use mathlib.Core.Bool.{Bool, true, false, _||_}
 use mathlib.Core.List.{List}
-use Prim.Native.Nat.{ℕ}
+use Prim.Native.Nat.{ℕ, zero, suc, _+_}
 use native.Mathlib.Omega.{arith}
 use lib.Dec.{eqb}
+use lib.ListN.{drop}
 use borrow.Author.Tests.{ne-eqb}
 use Rattle.octets.specs.Octets.{numberAt}
 use Rattle.octets.specs.Checked.{Check, pass, refuse, _>>=_, require}
-use Rattle.bundle.specs.Bundle.{Item, Bundle, items, objectsOf, objectFirst, bundleOf}
+use Rattle.octets.proofs.Refusals.{Only, only-pass, only-refuse, only-require, only-bind}
+use Rattle.bundle.specs.Bundle.{Item, Step, more, end, broken, stepAt, followed, itemsFrom, Bundle, items, objectsOf, objectFirst, bundleOf}
 use Rattle.bundle.proofs.Passed.{here}
 
 -- the checks that follow the head
@@ -78,3 +80,19 @@ readable b u e = head (headGood (numberAt false 4 b 0)) (sym (by-head b) ∙ e)
     head : (t : Bool) → (require t 3 >>= (λ _. behindHead (eqb (numberAt false 4 b 0) 0xF000_0001) (here b 4))) ≡ pass u → Readable b u
     head true p = rest (here b 4) refl p
     head false p = absurd (let z : _≡_ {A = ℕ} 0 1 = cc in omega arith)
+
+-- ---- every refusal is 3
+followed-only : (s : Step) (rest : ℕ → Check (List Item)) → ((n : ℕ) → Only 3 (rest n)) → Only 3 (followed s rest)
+unfolding followed
+followed-only (more i n) rest h = only-bind 3 _ _ (h n) (λ is. only-pass 3 _)
+followed-only end rest h = only-pass 3 _
+followed-only broken rest h = only-refuse 3
+
+items-only : (k at : ℕ) (s : List ℕ) → Only 3 (itemsFrom k at s)
+unfolding itemsFrom
+items-only zero at s = only-refuse 3
+items-only (suc k) at s = followed-only (stepAt at s) _ (λ n. items-only k (at + 4 + n) (drop (4 + n) s))
+
+pub bundle-only : (b : List ℕ) → Only 3 (bundleOf b)
+unfolding bundleOf items
+bundle-only b = only-bind 3 _ _ (only-require _ 3) (λ _. only-bind 3 _ _ (items-only _ 4 (drop 4 b)) (λ is. only-bind 3 _ _ (only-require _ 3) (λ _. only-pass 3 _)))

@@ -13,3 +13,4 @@ pub mod Searches
 pub mod Lookups
 pub mod Texts
 pub mod Bounds
+pub mod Refusing

@@ -1,32 +1,36 @@
 -- What is known of each unit that was filed, and where its object's sections lie.
 -- Assumes nothing.
 use mathlib.Core.Path.{_≡_, refl, sym, ap, _∙_, subst}
-use mathlib.Core.Logic.{_⊎_, ⊎-elim}
+use mathlib.Core.Logic.{_⊎_, _↔_, ⊎-elim}
 use mathlib.Core.Bool.{Bool, true, false}
 use mathlib.Core.List.{List, [], _∷_, _++_, map}
 use mathlib.Core.Option.{Option, some, none}
 use Prim.Native.Nat.{ℕ, zero, suc, _+_, _^_, _<_, _≤_}
 use native.Mathlib.Omega.{arith}
 use lib.Dec.{eqb}
-use lib.ListN.{length, take, drop}
-use lib.Seq.{length-take-le}
+use lib.ListN.{length, drop}
+use lib.Seq.{take-length}
 use Rattle.octets.specs.Lists.{any, sum}
 use Rattle.octets.specs.Checked.{Check, pass}
 use Rattle.octets.proofs.Checks.{bind-pass, pass-inj, pass-refuse, known}
-use Rattle.octets.proofs.Numbers.{Bytes, bytes-drop}
+use Rattle.octets.proofs.Numbers.{Bytes, bytes-drop, bytes-left}
 use Rattle.bundle.specs.Bundle.{Object}
 use Rattle.bundle.specs.Encoding.{Encoding, encodingOf}
 use Rattle.bundle.specs.Written.{Section}
-use Rattle.unit.specs.UnitRead.{UnitRead, unitOf}
-use Rattle.unit.proofs.UnitFacts.{UnitFacts, unit-facts}
+use Rattle.unit.specs.UnitRead.{UnitRead}
+use Rattle.unit.specs.TypeUnits.{IsTypeUnit}
+use Rattle.unit.proofs.Alone.{unit-alone, type-table}
+use Rattle.unit.proofs.UnitFacts.{unit-facts}
 use Rattle.index.specs.Index.{Index, Contribution}
 use Rattle.index.specs.Rows.{BySection, rowContributions, wholeContributions}
 use Rattle.index.proofs.Contributions.{Contributed, Whole, whole-contributed, row-contributed}
 use Rattle.package.specs.Input.{Input, inputOf}
 use Rattle.package.specs.Filing.{Filed, Filing, isUnder, indexFor, sums, lengths, contributionsOf, skipped, unitAt, unitsFrom, unitsIn, grown, filingFrom}
+use Rattle.package.specs.Units.{IsUnit}
 use Rattle.bundle.proofs.Every.{Every, nothing, also}
 use Rattle.package.proofs.Each.{each-head, each-tail, each-append, each-snoc, each-so}
 use Rattle.package.proofs.Inputs.{InputFacts, UnitSection, input-facts}
+use Rattle.package.proofs.Units.{readingOf, unit-taken}
 
 -- ---- contributions
 -- each lies in its section; in version 5 it is the whole section
@@ -71,7 +75,7 @@ module _ (e : Encoding) (i : Input) (facts : InputFacts e i) where
 
 -- ---- one unit
 pub record Good (e : Encoding) (u : Filed) : Type 0 where
-  pub tables : (u .table ≡ 1) ⊎ (u .table ≡ 2)
+  pub unit : IsUnit u
   pub small : u .identity < 2 ^ 64
   pub notZero : u .identity ≡ 0 → ⊥
   pub homes : (u .home ≡ 1) ⊎ (u .home ≡ 2)
@@ -87,34 +91,36 @@ pub record Of (e : Encoding) (i : Input) (bases : BySection ℕ) (u : Filed) : T
   pub base : (c : ℕ) → u .bases c ≡ bases c
 
 module _ (e : Encoding) (i : Input) (facts : InputFacts e i) (bases : BySection ℕ) (earlier : List Filed) where
-  unit-made : (home : ℕ) (s : List ℕ) (u : UnitRead) (g : BySection (Option Contribution)) → UnitFacts s u → (home ≡ 1) ⊎ (home ≡ 2) → (home ≡ 2 → e .version ≡ 5 → ⊥)
-      → Contributes e i g
-      → Of e i bases (record { table = u .table; identity = u .identity; home = home; bytes = take (u .size) s; input = i; contributions = g; bases = bases })
-  unit-made home s u g f h v c = record {
-    good = record {
-      tables = f .tables;
-      small = f .small;
-      notZero = f .notZero;
-      homes = h;
-      four = v;
-      some = rw (length-take-le (u .size) s (f .within)) (f .some);
-      object = facts;
-      contributes = c;
-    };
-    input = refl;
-    base = λ c. refl;
-  }
-
   pub unit-of : (here : List Filed) (home at : ℕ) (s : List ℕ) (u : Filed) → Bytes s → (home ≡ 1) ⊎ (home ≡ 2) → (home ≡ 2 → e .version ≡ 5 → ⊥)
       → unitAt i bases earlier here home at s ≡ pass u → Of e i bases u
-  unfolding unitAt
   unit-of here home at s u h t v q =
-      let r = bind-pass (unitOf (i .encoding) home (i .bytes 3) s) _ u q in
-      let k = bind-pass (elim (any (isUnder (r .0 .table) (r .0 .identity)) (earlier ++ here)) as (λ z. Check (BySection (Option Contribution))) [
-        | true ↦ skipped (r .0 .table)
-        | false ↦ contributionsOf i here home at (r .0)
-      ]) _ u (r .2) in
-      subst (Of e i bases) (pass-inj (k .2)) (unit-made home s (r .0) (k .0) (unit-facts (i .encoding) home (i .bytes 3) s (r .0) h (r .1)) t v (from (r .0) (k .0) (k .1)))
+      let k = unit-taken i bases earlier here home at s u q in
+      let own = u .input .encoding in
+      let bytes : Bytes (u .bytes) = bytes-left (u .bytes) (drop (length (u .bytes)) s) (subst Bytes (k .rest) h) in
+      let f = unit-facts own (u .home) (u .input .bytes 3) (u .bytes) (readingOf u) bytes (k .alone) in
+      let homes : (u .home ≡ 1) ⊎ (u .home ≡ 2) = subst (λ (n : ℕ). (n ≡ 1) ⊎ (n ≡ 2)) (sym (k .section)) t in
+      let coded : own ≡ e = ap (λ (j : Input). j .encoding) (k .object) ∙ facts .encoded in
+      let four : u .home ≡ 2 → e .version ≡ 5 → ⊥ = λ z. v (sym (k .section) ∙ z) in
+      record {
+        good = record {
+          unit = record {
+            alone = k .alone;
+            tables = f .tables;
+            types = subst (λ (l : List ℕ). (u .table ≡ 2) ↔ IsTypeUnit own (u .home) l) (take-length (u .bytes))
+                (type-table own (u .home) homes (λ z y. four z (sym (ap (λ (d : Encoding). d .version) coded) ∙ y)) (u .input .bytes 3) (u .bytes) (readingOf u)
+                (unit-alone own (u .home) (u .input .bytes 3) (u .bytes) (readingOf u) (k .alone)));
+          };
+          small = f .small;
+          notZero = f .notZero;
+          homes = homes;
+          four = four;
+          some = k .some;
+          object = subst (InputFacts e) (sym (k .object)) facts;
+          contributes = subst (λ (j : Input). Contributes e j (u .contributions)) (sym (k .object)) (from (readingOf u) (u .contributions) (k .contributed));
+        };
+        input = k .object;
+        base = k .base;
+      }
     where
       from : (r : UnitRead) (g : BySection (Option Contribution))
           → (elim (any (isUnder (r .table) (r .identity)) (earlier ++ here)) as (λ z. Check (BySection (Option Contribution))) [

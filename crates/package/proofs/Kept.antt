@@ -5,9 +5,10 @@ use mathlib.Core.Logic.{_⊎_, inl, inr, ⊎-elim}
 use mathlib.Core.Bool.{true, false}
 use mathlib.Core.List.{List, [], _∷_, _++_, map, append-assoc, append-nil}
 use mathlib.Core.Option.{Option, some, none}
-use Prim.Native.Nat.{ℕ}
+use Prim.Native.Nat.{ℕ, _+_, _≤_}
 use native.Mathlib.Omega.{arith}
 use lib.Dec.{eqb}
+use lib.ListN.{length, length-append}
 use borrow.Author.Tests.{eqb-true, eqb-false, eq-eqb, ne-eqb}
 use Rattle.octets.specs.Lists.{any, those, has, distinct}
 use Rattle.octets.proofs.Checks.{known, true-false, and-both, and-left, and-right, not-left, not-right}
@@ -121,15 +122,6 @@ pub keep-known : (ks : List Filed) (u : Filed) → any (isUnder (u .table) (u .i
 unfolding keep
 keep-known ks u e = rw (keep, e)
 
-pub keepAll-append : (ks us vs : List Filed) → keepAll ks (us ++ vs) ≡ keepAll (keepAll ks us) vs
-unfolding keepAll
-keepAll-append ks [] vs = refl
-keepAll-append ks (u ∷ us) vs = keepAll-append (keep ks u) us vs
-
-pub kept-snoc : (us : List Filed) (u : Filed) → kept (us ++ (u ∷ [])) ≡ keep (kept us) u
-unfolding kept keepAll
-kept-snoc us u = keepAll-append [] us (u ∷ [])
-
 -- ---- the first of all is the one kept
 first-keep : (t x : ℕ) (ks us : List Filed) (u : Filed) → firstUnder t x (keep ks u ++ us) ≡ firstUnder t x (ks ++ (u ∷ us))
 first-keep t x ks us u = ⊎-elim
@@ -157,6 +149,17 @@ pub first-kept : (t x : ℕ) (us : List Filed) → firstUnder t x (kept us) ≡ 
 unfolding kept
 first-kept t x us = first-keepAll t x [] us
 
+-- ---- one behind the other
+pub keepAll-append : (ks us vs : List Filed) → keepAll ks (us ++ vs) ≡ keepAll (keepAll ks us) vs
+unfolding keepAll
+keepAll-append ks [] vs = refl
+keepAll-append ks (u ∷ us) vs = keepAll-append (keep ks u) us vs
+
+pub kept-snoc : (us : List Filed) (u : Filed) → kept (us ++ (u ∷ [])) ≡ keep (kept us) u
+unfolding kept keepAll
+kept-snoc us u = keepAll-append [] us (u ∷ [])
+
+-- ---- what is kept
 pub any-kept : (t x : ℕ) (us : List Filed) → any (isUnder t x) (kept us) ≡ any (isUnder t x) us
 any-kept t x us = ⊎-elim
     (λ h. ⊎-elim (λ g. h ∙ sym g) (λ g. clash (first-is t x (kept us) _ (first-stands t x (kept us) h .1)) (first-kept t x us ∙ first-none t x us g)) (known (any (isUnder t x) us)))
@@ -165,6 +168,19 @@ any-kept t x us = ⊎-elim
   where
     clash : {o : Option Filed} {u : Filed} {P : Type 0} → o ≡ some u → o ≡ none → P
     clash p q = let z : _≡_ {A = ℕ} 0 1 = cc in absurd (omega arith)
+
+keepAll-le : (ks us : List Filed) → length (keepAll ks us) ≤ length ks + length us
+unfolding keepAll
+keepAll-le ks [] = omega arith
+keepAll-le ks (u ∷ us) = omega (arith, keepAll-le (keep ks u) us, one-more)
+  where
+    one-more : length (keep ks u) ≤ length ks + 1
+    one-more = ⊎-elim
+        (λ h. rw (keep-known ks u h) (omega arith)) (λ h. rw (keep-new ks u h, length-append ks (u ∷ [])) (omega arith)) (known (any (isUnder (u .table) (u .identity)) ks))
+
+pub kept-le : (us : List Filed) → length (kept us) ≤ length us
+unfolding kept
+kept-le us = omega (arith, keepAll-le [] us)
 
 -- ---- what holds of each unit holds of each kept one
 each-keep : {P : Filed → Type 0} (ks : List Filed) (u : Filed) → Every P ks → P u → Every P (keep ks u)

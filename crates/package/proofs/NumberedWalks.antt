@@ -1,4 +1,4 @@
--- No refusal of the walks over units and sections has the number 0; and the walk over sections, section by section.
+-- Refusals of the walks over units and sections have numbers from 1 to 16; and the walk over sections, section by section.
 -- Assumes nothing.
 use mathlib.Core.Path.{_≡_, refl}
 use mathlib.Core.List.{List, [], _∷_, _++_}
@@ -6,16 +6,17 @@ use Prim.Native.Nat.{ℕ, zero, suc, _+_}
 use lib.ListN.{length, drop}
 use Rattle.octets.specs.Checked.{Check, pass, refuse}
 use Rattle.octets.proofs.Checks.{then-pass, then-refuse}
+use Rattle.octets.proofs.Refusals.{between-pass as passes, between-refuse as refuses, between-bind as binds}
 use Rattle.bundle.specs.Written.{Section}
 use Rattle.index.specs.Rows.{BySection}
 use Rattle.package.specs.Input.{Input}
 use Rattle.package.specs.Filing.{Filed, unitsFrom, unitsIn}
-use Rattle.package.proofs.Numbered.{Numbered, passes, refuses, binds, unit-numbered}
+use Rattle.package.proofs.Numbered.{Numbered, unit-numbered}
 
 module _ (i : Input) (bases : BySection ℕ) (earlier : List Filed) where
   pub units-numbered : (k : ℕ) (here : List Filed) (home at : ℕ) (s : List ℕ) → Numbered (unitsFrom k i bases earlier here home at s)
   unfolding unitsFrom
-  units-numbered zero here home at s = refuses 10
+  units-numbered zero here home at s = refuses 11 refl
   units-numbered (suc k) here home at [] = passes here
   units-numbered (suc k) here home at (b ∷ s) =
       binds _ _ (unit-numbered i bases earlier here home at (b ∷ s)) (λ u. units-numbered k (here ++ (u ∷ [])) home (at + length (u .bytes)) (drop (length (u .bytes)) (b ∷ s)))

@@ -1,4 +1,4 @@
--- The walk over objects: what is filed, and the rest. No refusal of an object has the number 0.
+-- The walk over objects: what is filed, and the rest. Refusals of an object, and of all of them, have numbers from 1 to 16.
 -- Assumes nothing.
 use mathlib.Core.Path.{_≡_, refl, sym, ap, ap₂, _∙_}
 use mathlib.Core.Bool.{Bool, true, false}
@@ -8,23 +8,25 @@ use Prim.Native.Nat.{ℕ}
 use lib.Dec.{eqb}
 use Rattle.octets.specs.Checked.{Check, pass, refuse, _>>=_, require}
 use Rattle.octets.proofs.Checks.{then-pass, then-refuse, bind-assoc}
-use Rattle.bundle.specs.Bundle.{Part, Object, body}
+use Rattle.octets.proofs.Refusals.{between-pass as passes, between-refuse as refuses, between-require as requires, between-bind as binds, between-choice as chooses}
+use Rattle.bundle.specs.Bundle.{Part, Object, Bundle, body}
 use Rattle.bundle.specs.Encoding.{Encoding, encodingOf}
 use Rattle.strings.specs.Strings.{entriesOf, upToZero, stringAt, stringsAt}
 use Rattle.index.specs.Index.{Index, indexOf}
 use Rattle.index.specs.Rows.{BySection}
 use Rattle.package.specs.Input.{Input, present, usedStrings, inputIndex, inputOf}
-use Rattle.package.specs.Filing.{Filed, Filing, unitsIn, grown, filingFrom}
-use Rattle.package.proofs.Numbered.{Numbered, passes, refuses, requires, binds, chooses}
+use Rattle.package.specs.Filing.{Filed, Filing, unitsIn, grown, filingFrom, firstWord, filingOf}
+use Rattle.package.proofs.Numbered.{Numbered}
+use Rattle.package.proofs.NumberedWalks.{sections-numbered}
 
 -- ---- one object
 entries-numbered : (e : Encoding) (s : List ℕ) → Numbered (entriesOf e s)
 unfolding entriesOf
-entries-numbered e s = binds _ _ (requires _ 7) (λ _. binds _ _ (requires _ 7) (λ _. passes _))
+entries-numbered e s = binds _ _ (requires _ 8 refl) (λ _. binds _ _ (requires _ 8 refl) (λ _. passes _))
 
 zero-numbered : (s : List ℕ) → Numbered (upToZero 9 s)
 unfolding upToZero
-zero-numbered [] = refuses 8
+zero-numbered [] = refuses 9 refl
 zero-numbered (b ∷ s) = chooses (eqb b 0) _ _ (passes _) (binds _ _ (zero-numbered s) (λ t. passes _))
 
 strings-numbered : (str os : List ℕ) → Numbered (stringsAt str os)
@@ -39,18 +41,30 @@ used-numbered e ps bytes = chooses (present ps 6) _ _ (binds _ _ (entries-number
 index-read : (big : Bool) (s : List ℕ) → Numbered (indexOf big s)
 unfolding indexOf
 index-read big s =
-    binds _ _ (requires _ 9) (λ _. binds _ _ (requires _ 9) (λ _. binds _ _ (requires _ 9) (λ _. binds _ _ (requires _ 9) (λ _.
-    binds _ _ (requires _ 9) (λ _. binds _ _ (requires _ 9) (λ _. binds _ _ (requires _ 9) (λ _. passes _)))))))
+    binds _ _ (requires _ 10 refl) (λ _. binds _ _ (requires _ 10 refl) (λ _. binds _ _ (requires _ 10 refl) (λ _. binds _ _ (requires _ 10 refl) (λ _.
+    binds _ _ (requires _ 10 refl) (λ _. binds _ _ (requires _ 10 refl) (λ _. binds _ _ (requires _ 10 refl) (λ _. passes _)))))))
 
 pub index-numbered : (e : Encoding) (ps : List Part) (bytes : BySection (List ℕ)) (c : ℕ) → Numbered (inputIndex e ps bytes c)
 unfolding inputIndex
-index-numbered e ps bytes c = chooses (present ps c) _ _ (binds _ _ (index-read (e .big) (bytes c)) (λ i. binds _ _ (requires _ 9) (λ _. passes _))) (passes _)
+index-numbered e ps bytes c = chooses (present ps c) _ _ (binds _ _ (index-read (e .big) (bytes c)) (λ i. binds _ _ (requires _ 10 refl) (λ _. passes _))) (passes _)
 
 pub input-numbered : (b : List ℕ) (big : Bool) (first : ℕ) (o : Object) → Numbered (inputOf b big first o)
 unfolding inputOf
 input-numbered b big first o =
-    binds _ _ (requires _ 3) (λ _. binds _ _ (requires _ 4) (λ _. binds _ _ (requires _ 5) (λ _. binds _ _ (requires _ 6) (λ _.
+    binds _ _ (requires _ 4 refl) (λ _. binds _ _ (requires _ 5 refl) (λ _. binds _ _ (requires _ 6 refl) (λ _. binds _ _ (requires _ 7 refl) (λ _.
     binds _ _ (used-numbered _ _ _) (λ used. binds _ _ (index-numbered _ _ _ 12) (λ cu. binds _ _ (index-numbered _ _ _ 13) (λ tu. passes _)))))))
+
+-- ---- all objects
+filing-from : (b : List ℕ) (big : Bool) (first : ℕ) (bases : BySection ℕ) (earlier : List Filed) (os : List Object) → Numbered (filingFrom b big first bases earlier os)
+unfolding filingFrom
+filing-from b big first bases earlier [] = passes _
+filing-from b big first bases earlier (o ∷ os) =
+    binds _ _ (input-numbered b big first o) (λ i. binds _ _ (sections-numbered i bases earlier [] (i .units)) (λ here.
+    binds _ _ (filing-from b big first (grown bases i) (earlier ++ here) os) (λ rest. passes _)))
+
+pub filing-numbered : (b : List ℕ) (k : Bundle) → Numbered (filingOf b k)
+unfolding filingOf
+filing-numbered b k = filing-from b (k .big) (firstWord (k .objects)) (λ c. 0) [] (k .objects)
 
 -- ---- the walk
 -- what is filed, before what is still to come

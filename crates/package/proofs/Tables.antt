@@ -72,7 +72,7 @@ units-few e (u ∷ us) g = ⊎-elim
     one-two : _≡_ {A = ℕ} 1 2 → ⊥
     one-two z = omega arith
 
-rows-count : (us : List Filed) (t : ℕ) → length (rowsOf us t) ≤ length us
+pub rows-count : (us : List Filed) (t : ℕ) → length (rowsOf us t) ≤ length us
 unfolding identitiesIn
 rows-count us t =
     let f : Filed → Bool = λ u. eqb (u .table) t in

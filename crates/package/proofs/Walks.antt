@@ -1,65 +1,28 @@
 -- The walk over the units of a section: any bound that is large enough gives the same, and the equations without a bound.
 -- Assumes nothing.
 use mathlib.Core.Path.{_≡_, refl, sym, ap, _∙_}
-use mathlib.Core.Logic.{⊎-elim}
-use mathlib.Core.Bool.{true, false, not}
 use mathlib.Core.List.{List, [], _∷_, _++_}
-use Prim.Native.Nat.{ℕ, zero, suc, _+_, _-_, _<_, _≤_}
+use Prim.Native.Nat.{ℕ, zero, suc, _+_, _<_, _≤_}
 use native.Mathlib.Nat.{not-suc-le-zero}
 use native.Mathlib.Omega.{arith}
-use lib.Dec.{leb, eqb}
-use lib.ListN.{length, take, drop, getD, length-take, length-drop}
-use lib.Seq.{length-take-le}
-use borrow.Author.Tests.{leb-true}
-use Rattle.octets.specs.Checked.{Check, pass, refuse, _>>=_, require}
-use Rattle.octets.proofs.Checks.{bind-pass, require-pass, pass-inj, then-pass, then-refuse, known}
-use Rattle.octets.specs.Octets.{numberAt}
-use Rattle.bundle.specs.Encoding.{Encoding}
-use Rattle.unit.specs.UnitRead.{UnitRead, lengthField, unitSize, isFive, addressPlace, commonSize, identityOf, unitOf}
+use lib.ListN.{length, drop, length-append, length-drop}
+use Rattle.octets.specs.Checked.{Check, pass, refuse}
+use Rattle.octets.proofs.Checks.{then-pass, then-refuse}
 use Rattle.index.specs.Rows.{BySection}
 use Rattle.package.specs.Input.{Input}
 use Rattle.package.specs.Filing.{Filed, unitAt, unitsFrom}
+use Rattle.package.proofs.Units.{unit-taken}
 
 -- ---- a unit that is read has bytes, and they are of the section
-common-some : (e : Encoding) → 1 ≤ commonSize e
-unfolding commonSize
-common-some e = ⊎-elim five four (known (isFive e))
-  where
-    five : isFive e ≡ true → 1 ≤ commonSize e
-    five k = rw (commonSize, k) (omega arith)
-
-    four : isFive e ≡ false → 1 ≤ commonSize e
-    four k = rw (commonSize, k) (omega arith)
-
 pub record Read (s : List ℕ) (n : ℕ) : Type 0 where
   pub some : 1 ≤ n
   pub within : n ≤ length s
 
-unit-read : (e : Encoding) (home : ℕ) (abbreviations s : List ℕ) (r : UnitRead) → unitOf e home abbreviations s ≡ pass r → Read s (r .size)
-unfolding unitOf
-unit-read e home abbreviations s r p =
-    let size = bind-pass (unitSize e s) _ r p in
-    let a = require-pass (leb (size .0) (length s)) 11 _ r (size .2) in
-    let c = require-pass (leb (commonSize e) (length (take (size .0) s))) 11 _ r (a .1) in
-    let v = require-pass (eqb (numberAt (e .big) 2 (take (size .0) s) (lengthField e)) (e .version)) 11 _ r (c .1) in
-    let d = require-pass (eqb (getD (take (size .0) s) (addressPlace e) 0) (e .address)) 11 _ r (v .1) in
-    let i = bind-pass (identityOf e home abbreviations (take (size .0) s)) _ r (d .1) in
-    let z = require-pass (not (eqb (i .0 .identity) 0)) 13 _ r (i .2) in
-    let q : size .0 ≡ r .size = ap (λ (k : UnitRead). k .size) (pass-inj (z .1)) in
-    let h = simp length-take at (leb-true (commonSize e) (length (take (size .0) s)) (c .0)) in
-    let w = leb-true (size .0) (length s) (a .0) in
-    record { some = omega (arith, common-some e); within = omega arith }
-
 module _ (i : Input) (bases : BySection ℕ) (earlier : List Filed) (home : ℕ) where
   pub filed-read : (here : List Filed) (at : ℕ) (s : List ℕ) (u : Filed) → unitAt i bases earlier here home at s ≡ pass u → Read s (length (u .bytes))
-  unfolding unitAt
   filed-read here at s u p =
-      let r = bind-pass (unitOf (i .encoding) home (i .bytes 3) s) _ u p in
-      let c = bind-pass _ _ u (r .2) in
-      let q : take (r .0 .size) s ≡ u .bytes = ap (λ (k : Filed). k .bytes) (pass-inj (c .2)) in
-      let g = unit-read (i .encoding) home (i .bytes 3) s (r .0) (r .1) in
-      let l : length (u .bytes) ≡ r .0 .size = ap length (sym q) ∙ length-take-le (r .0 .size) s (g .within) in
-      record { some = omega (arith, g .some); within = omega (arith, g .within) }
+      let t = unit-taken i bases earlier here home at s u p in
+      record { some = omega (arith, t .some); within = omega (arith, ap length (t .rest) ∙ length-append (u .bytes) (drop (length (u .bytes)) s)) }
 
   -- ---- any two bounds that are large enough give the same
   next-same : (k j : ℕ) (here : List Filed) (at : ℕ) (b : ℕ) (s : List ℕ) (m : Check Filed) → unitAt i bases earlier here home at (b ∷ s) ≡ m

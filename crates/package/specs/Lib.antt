@@ -3,3 +3,4 @@
 pub mod Input
 pub mod Filing
 pub mod Pack
+pub mod Units

@@ -2,25 +2,23 @@
 -- Assumes nothing.
 use mathlib.Core.Path.{_≡_, refl, sym, ap, _∙_}
 use mathlib.Core.Bool.{Bool, true, false, _&&_}
-use mathlib.Core.List.{List, [], _∷_, _++_}
-use Prim.Native.Nat.{ℕ, zero, suc, _+_, _*_, _/_, _%_, _≤_, _<_}
+use mathlib.Core.List.{List}
+use Prim.Native.Nat.{ℕ, _*_, _/_, _%_, _≤_, _<_}
 use native.Mathlib.Omega.{arith}
 use lib.Dec.{eqb, leb}
-use lib.ListN.{length, drop}
+use lib.ListN.{length}
 use borrow.Author.Tests.{le-leb, lt-leb, leb-true, eqb-true}
 use Rattle.octets.specs.Octets.{zeros}
 use Rattle.octets.specs.Checked.{Check, pass, refuse}
 use Rattle.octets.proofs.Checks.{fails, passes, then-pass, then-refuse, and-left, and-right}
-use Rattle.octets.proofs.Refusals.{Only, only-pass, only-refuse, only-require, only-bind, only-refuses}
-use Rattle.bundle.specs.Bundle.{Item, Step, more, end, broken, stepAt, followed, itemsFrom, items, Object, Bundle, bundleOf, lengthGood}
+use Rattle.octets.proofs.Refusals.{only-refuses}
+use Rattle.bundle.specs.Bundle.{Bundle, bundleOf, lengthGood}
 use Rattle.bundle.specs.Next.{wordsOf}
 use Rattle.bundle.specs.declared.Words.the-variants.{Readable, Broken as Unreadable}
-use Rattle.index.specs.Rows.{BySection}
-use Rattle.package.specs.Filing.{Filed, Filing, grown, filingFrom, firstWord, filingOf}
+use Rattle.bundle.proofs.Whole.{bundle-only}
+use Rattle.package.specs.Filing.{Filing, filingOf}
 use Rattle.package.specs.Pack.{Answer, judged, packed, answered}
-use Rattle.package.proofs.Numbered.{Numbered, passes as passes-numbered, binds}
-use Rattle.package.proofs.NumberedWalks.{sections-numbered}
-use Rattle.package.proofs.OverObjects.{input-numbered}
+use Rattle.package.proofs.OverObjects.{filing-numbered}
 use Rattle.finish.specs.Finish.{finishedOf, outputOf, packageIn, AllFiled}
 use Rattle.finish.specs.declared.whole.Finished.{Finished}
 use Rattle.finish.specs.declared.whole.Finished.the-variants.{Refused}
@@ -28,18 +26,6 @@ use Rattle.finish.proofs.Answers.{refused-answer, refused-output}
 use Rattle.finish.proofs.Judging.{judged-is, packed-is}
 use Rattle.packer.specs.Objects.{ObjectsAre}
 use Rattle.packer.specs.declared.objects.ObjectsFiled.{ObjectsFiled}
-
--- ---- no refusal of filing is 0
-filing-from : (b : List ℕ) (big : Bool) (first : ℕ) (bases : BySection ℕ) (earlier : List Filed) (os : List Object) → Numbered (filingFrom b big first bases earlier os)
-unfolding filingFrom
-filing-from b big first bases earlier [] = passes-numbered _
-filing-from b big first bases earlier (o ∷ os) =
-    binds _ _ (input-numbered b big first o) (λ i. binds _ _ (sections-numbered i bases earlier [] (i .units)) (λ here.
-    binds _ _ (filing-from b big first (grown bases i) (earlier ++ here) os) (λ rest. passes-numbered _)))
-
-pub filing-numbered : (b : List ℕ) (k : Bundle) → Numbered (filingOf b k)
-unfolding filingOf
-filing-numbered b k = filing-from b (k .big) (firstWord (k .objects)) (λ c. 0) [] (k .objects)
 
 -- ---- the length
 module _ (limit : ℕ) (b : List ℕ) (e : lengthGood limit b ≡ true) where
@@ -52,21 +38,6 @@ module _ (limit : ℕ) (b : List ℕ) (e : lengthGood limit b ≡ true) where
   length-whole = eqb-true (length b % 4) 0 (and-right (leb 8 (length b) && leb (length b) limit) _ e)
 
 -- ---- the words
-followed-only : (s : Step) (rest : ℕ → Check (List Item)) → ((n : ℕ) → Only 3 (rest n)) → Only 3 (followed s rest)
-unfolding followed
-followed-only (more i n) rest h = only-bind 3 _ _ (h n) (λ is. only-pass 3 _)
-followed-only end rest h = only-pass 3 _
-followed-only broken rest h = only-refuse 3
-
-items-only : (k at : ℕ) (s : List ℕ) → Only 3 (itemsFrom k at s)
-unfolding itemsFrom
-items-only zero at s = only-refuse 3
-items-only (suc k) at s = followed-only (stepAt at s) _ (λ n. items-only k (at + 4 + n) (drop (4 + n) s))
-
-bundle-only : (b : List ℕ) → Only 3 (bundleOf b)
-unfolding bundleOf items
-bundle-only b = only-bind 3 _ _ (only-require _ 3) (λ _. only-bind 3 _ _ (items-only _ 4 (drop 4 b)) (λ is. only-bind 3 _ _ (only-require _ 3) (λ _. only-pass 3 _)))
-
 pub words-broken : (b : List ℕ) → Unreadable ≡ wordsOf (bundleOf b) → bundleOf b ≡ refuse 3
 unfolding wordsOf
 words-broken b e = only-refuses 3 (bundleOf b) (bundle-only b) (λ k f. let g : Unreadable ≡ wordsOf (pass k) = e ∙ ap wordsOf f in let z : _≡_ {A = ℕ} 0 1 = cc in omega arith)

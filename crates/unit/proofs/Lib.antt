@@ -4,6 +4,7 @@ pub mod Entries
 pub mod Sizes
 pub mod Fields
 pub mod AtLeast
+pub mod Alone
 pub mod UnitFacts
 pub mod Attributes
 pub mod Places

@@ -7,4 +7,5 @@ pub mod Tables
 pub mod Root
 pub mod Roots
 pub mod UnitRead
+pub mod TypeUnits
 pub mod Headers

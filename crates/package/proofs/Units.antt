@@ -1,0 +1,184 @@
+-- A unit is taken from the front of what is left of a section; so the units handed in fill all sections of units.
+-- Assumes nothing.
+use mathlib.Core.Path.{_≡_, refl, sym, ap, _∙_, subst}
+use mathlib.Core.Bool.{Bool, true, false, _||_}
+use mathlib.Core.Logic.{⊎-elim}
+use mathlib.Core.List.{List, [], _∷_, _++_, map, append-assoc, append-nil}
+use mathlib.Core.Option.{Option}
+use Prim.Native.Nat.{ℕ, zero, suc, _+_, _*_, _≤_}
+use native.Mathlib.Omega.{arith}
+use lib.Dec.{eqb}
+use lib.ListN.{length, take, drop, length-append, take-append-drop}
+use lib.Seq.{length-take-le}
+use Rattle.octets.specs.Octets.{part}
+use Rattle.octets.specs.Lists.{any, those, joined, sum}
+use Rattle.octets.specs.Checked.{Check, pass}
+use Rattle.octets.proofs.Checks.{bind-pass, pass-inj, pass-refuse, known}
+use Rattle.octets.proofs.Lists.{those-keeps, those-skips}
+use Rattle.octets.proofs.Parts.{length-part-le}
+use Rattle.bundle.specs.Bundle.{Part, Object, Bundle, bundleOf}
+use Rattle.bundle.specs.Written.{Section}
+use Rattle.bundle.proofs.Sizes.{total, totals, bundle-totals}
+use Rattle.unit.specs.UnitRead.{UnitRead, unitOf}
+use Rattle.unit.proofs.Alone.{Alone, unit-alone}
+use Rattle.index.specs.Index.{Contribution}
+use Rattle.index.specs.Rows.{BySection}
+use Rattle.package.specs.Input.{Input, unitSections, inputOf}
+use Rattle.package.specs.Filing.{Filed, Filing, isUnder, skipped, contributionsOf, unitAt, unitsFrom, unitsIn, grown, filingFrom, firstWord, filingOf}
+use Rattle.package.specs.Units.{FillSection, FillSections, FillObjects}
+use Rattle.package.proofs.Inputs.{input-parts}
+
+-- ---- one unit
+-- the reading that gives a unit
+abbrev pub readingOf : Filed → UnitRead
+readingOf u = record { size = length (u .bytes); table = u .table; identity = u .identity }
+
+pub record Taken (i : Input) (bases : BySection ℕ) (earlier here : List Filed) (home at : ℕ) (s : List ℕ) (u : Filed) : Type 0 where
+  pub alone : unitOf (u .input .encoding) (u .home) (u .input .bytes 3) (u .bytes) ≡ pass (readingOf u)
+  pub some : 4 ≤ length (u .bytes)
+  pub rest : s ≡ u .bytes ++ drop (length (u .bytes)) s
+  pub object : u .input ≡ i
+  pub section : u .home ≡ home
+  pub base : (c : ℕ) → u .bases c ≡ bases c
+  pub contributed : (elim (any (isUnder (u .table) (u .identity)) (earlier ++ here)) as (λ z. Check (BySection (Option Contribution))) [
+    | true ↦ skipped (u .table)
+    | false ↦ contributionsOf i here home at (readingOf u)
+  ]) ≡ pass (u .contributions)
+
+-- the bytes of sections
+unfoldable sizeOf : List Section → ℕ
+sizeOf ss = sum (map (λ s. length (s .bytes)) ss)
+
+module _ (i : Input) (bases : BySection ℕ) (earlier : List Filed) where
+  pub unit-taken : (here : List Filed) (home at : ℕ) (s : List ℕ) (u : Filed) → unitAt i bases earlier here home at s ≡ pass u → Taken i bases earlier here home at s u
+  unfolding unitAt
+  unit-taken here home at s u q =
+      let r = bind-pass (unitOf (i .encoding) home (i .bytes 3) s) _ u q in
+      let k = bind-pass (elim (any (isUnder (r .0 .table) (r .0 .identity)) (earlier ++ here)) as (λ z. Check (BySection (Option Contribution))) [
+        | true ↦ skipped (r .0 .table)
+        | false ↦ contributionsOf i here home at (r .0)
+      ]) _ u (r .2) in
+      subst (Taken i bases earlier here home at s) (pass-inj (k .2)) (from (r .0) (k .0) (unit-alone (i .encoding) home (i .bytes 3) s (r .0) (r .1)) (k .1))
+    where
+      from : (r : UnitRead) (g : BySection (Option Contribution)) → Alone (i .encoding) home (i .bytes 3) s r
+          → (elim (any (isUnder (r .table) (r .identity)) (earlier ++ here)) as (λ z. Check (BySection (Option Contribution))) [
+            | true ↦ skipped (r .table)
+            | false ↦ contributionsOf i here home at r
+          ]) ≡ pass g
+          → Taken i bases earlier here home at s (record { table = r .table; identity = r .identity; home = home; bytes = take (r .size) s; input = i; contributions = g; bases = bases })
+      from r g a c =
+          let long : length (take (r .size) s) ≡ r .size = length-take-le (r .size) s (a .within) in
+          let reading : ℕ → UnitRead = λ n. record { size = n; table = r .table; identity = r .identity } in
+          record {
+            alone = a .alone ∙ ap (λ (n : ℕ). pass (reading n)) (sym long);
+            some = omega (arith, a .some, long);
+            rest = sym (ap (λ (n : ℕ). take (r .size) s ++ drop n s) long ∙ take-append-drop (r .size) s);
+            object = refl;
+            section = refl;
+            base = λ c. refl;
+            contributed = subst (λ (n : ℕ). (elim (any (isUnder (r .table) (r .identity)) (earlier ++ here)) as (λ z. Check (BySection (Option Contribution))) [
+              | true ↦ skipped (r .table)
+              | false ↦ contributionsOf i here home at (reading n)
+            ]) ≡ pass g) (sym long) c;
+          }
+
+  -- ---- the units of a section
+  -- behind those of this object that were filed before, these are filed, of so many bytes
+  pub record Filled (here us : List Filed) (F : List Filed → Type 0) (size : ℕ) : Type 0 where
+    pub new : List Filed
+    pub are : us ≡ here ++ new
+    pub fill : F new
+    pub few : 4 * length new ≤ size
+
+  units-fill : (home k : ℕ) (here : List Filed) (at : ℕ) (s : List ℕ) (us : List Filed) → unitsFrom k i bases earlier here home at s ≡ pass us
+      → Filled here us (FillSection i home s) (length s)
+  unfolding unitsFrom FillSection
+  units-fill home zero here at s us q = absurd (pass-refuse us 11 (sym q))
+  units-fill home (suc k) here at [] us q = record { new = []; are = sym (pass-inj q) ∙ sym (append-nil here); fill = refl; few = omega arith }
+  units-fill home (suc k) here at (b ∷ s) us q =
+      let r = bind-pass (unitAt i bases earlier here home at (b ∷ s)) _ us q in
+      let u = r .0 in
+      let t = unit-taken here home at (b ∷ s) u (r .1) in
+      let rest = drop (length (u .bytes)) (b ∷ s) in
+      let m = units-fill home k (here ++ (u ∷ [])) (at + length (u .bytes)) rest us (r .2) in
+      record {
+        new = u ∷ m .new;
+        are = m .are ∙ append-assoc here (u ∷ []) (m .new);
+        fill = (t .object, t .section, (rest, t .rest, m .fill));
+        few = omega (arith, m .few, t .some, ap length (t .rest) ∙ length-append (u .bytes) rest);
+      }
+
+  sections-fill : (ss : List Section) (here us : List Filed) → unitsIn i bases earlier here ss ≡ pass us → Filled here us (FillSections i ss) (sizeOf ss)
+  unfolding unitsIn FillSections sizeOf sum
+  sections-fill [] here us q = record { new = []; are = sym (pass-inj q) ∙ sym (append-nil here); fill = refl; few = omega arith }
+  sections-fill (s ∷ ss) here us q =
+      let r = bind-pass (unitsFrom (suc (length (s .bytes))) i bases earlier here (s .code) 0 (s .bytes)) _ us q in
+      let m = units-fill (s .code) (suc (length (s .bytes))) here 0 (s .bytes) (r .0) (r .1) in
+      let n = sections-fill ss (r .0) us (r .2) in
+      record {
+        new = m .new ++ n .new;
+        are = n .are ∙ ap (λ (l : List Filed). l ++ n .new) (m .are) ∙ append-assoc here (m .new) (n .new);
+        fill = (m .new, n .new, refl, m .fill, n .fill);
+        few = omega (arith, m .few, n .few, length-append (m .new) (n .new));
+      }
+
+-- ---- all objects
+-- sections of units are no larger than all sections
+sections-total : (b : List ℕ) (ps : List Part) → sizeOf (unitSections b ps) ≤ total ps
+unfolding sizeOf unitSections total sum those
+sections-total b [] = omega arith
+sections-total b (p ∷ ps) = ⊎-elim
+    (λ (t : f p ≡ true). omega (arith, ap sizes (those-keeps f p ps t), length-part-le b (p .start) (p .size), sections-total b ps))
+    (λ (t : f p ≡ false). omega (arith, ap sizes (those-skips f p ps t), sections-total b ps))
+    (known (f p))
+  where
+    f : Part → Bool
+    f q = eqb (q .code) 1 || eqb (q .code) 2
+
+    sizes : List Part → ℕ
+    sizes qs = sizeOf (map (λ q. record { code = q .code; bytes = part b (q .start) (q .size) }) qs)
+
+-- the units of objects, of so many bytes
+pub record FilledObjects (b : List ℕ) (big : Bool) (first : ℕ) (os : List Object) (us : List Filed) : Type 0 where
+  pub fill : FillObjects b big first os us
+  pub few : 4 * length us ≤ totals os
+
+objects-fill : (b : List ℕ) (big : Bool) (first : ℕ) (bases : BySection ℕ) (earlier : List Filed) (os : List Object) (f : Filing)
+    → filingFrom b big first bases earlier os ≡ pass f → FilledObjects b big first os (f .units)
+unfolding filingFrom FillObjects totals sum
+objects-fill b big first bases earlier [] f q = record { fill = ap (λ (g : Filing). g .units) (sym (pass-inj q)); few = omega (arith, ap (λ (g : Filing). length (g .units)) (sym (pass-inj q))) }
+objects-fill b big first bases earlier (o ∷ os) f q =
+    let i = bind-pass (inputOf b big first o) _ f q in
+    let here = bind-pass (unitsIn (i .0) bases earlier [] (i .0 .units)) _ f (i .2) in
+    let rest = bind-pass (filingFrom b big first (grown bases (i .0)) (earlier ++ here .0) os) _ f (here .2) in
+    let units : f .units ≡ here .0 ++ rest .0 .units = ap (λ (g : Filing). g .units) (sym (pass-inj (rest .2))) in
+    let sections : i .0 .units ≡ unitSections b (o .parts) = ap (λ (z : Input). z .units) (input-parts b big first o (i .0) (i .1) .is) in
+    let m = sections-fill (i .0) bases earlier (i .0 .units) [] (here .0) (here .1) in
+    let n = objects-fill b big first (grown bases (i .0)) (earlier ++ here .0) os (rest .0) (rest .1) in
+    let filled : FillSections (i .0) (unitSections b (o .parts)) (here .0) =
+    subst (λ (ss : List Section). FillSections (i .0) ss (here .0)) sections (subst (FillSections (i .0) (i .0 .units)) (sym (m .are)) (m .fill)) in
+    record {
+      fill = (i .0, i .1, (here .0, rest .0 .units, units, filled, n .fill));
+      few = omega (
+        arith,
+        ap length units ∙ length-append (here .0) (rest .0 .units),
+        ap length (m .are),
+        m .few,
+        n .few,
+        ap sizeOf sections,
+        sections-total b (o .parts),
+      );
+    }
+
+module _ (b : List ℕ) (k : Bundle) (f : Filing) (q : filingOf b k ≡ pass f) where
+  filled-objects : FilledObjects b (k .big) (firstWord (k .objects)) (k .objects) (f .units)
+  unfolding filingOf
+  filled-objects = objects-fill b (k .big) (firstWord (k .objects)) (λ c. 0) [] (k .objects) f q
+
+  -- none is left out
+  pub filing-fills : FillObjects b (k .big) (firstWord (k .objects)) (k .objects) (f .units)
+  filing-fills = filled-objects .fill
+
+  -- a unit takes 4 bytes or more of the bundle
+  pub filing-few : bundleOf b ≡ pass k → 4 * length (f .units) ≤ length b
+  filing-few e = omega (arith, filled-objects .few, bundle-totals b k e)

@@ -1,0 +1,44 @@
+-- What it is for units to be handed in with a bundle: they stand in its objects' sections of units and fill them, and each of them is a unit. The theorem
+-- of crate archive says so of every accepted bundle.
+-- Assumes nothing.
+use mathlib.Core.Path.{_≡_}
+use mathlib.Core.Logic.{_⊎_, _↔_}
+use mathlib.Core.Bool.{Bool}
+use mathlib.Core.List.{List, [], _∷_, _++_}
+use Prim.Native.Nat.{ℕ}
+use lib.ListN.{length}
+use Rattle.octets.specs.Checked.{pass}
+use Rattle.numbers.specs.Sections.{abbrevCode}
+use Rattle.numbers.specs.Tables.{compilationTable, typeTable}
+use Rattle.bundle.specs.Bundle.{Object}
+use Rattle.bundle.specs.Written.{Section}
+use Rattle.unit.specs.UnitRead.{unitOf}
+use Rattle.unit.specs.TypeUnits.{IsTypeUnit}
+use Rattle.package.specs.Input.{Input, unitSections, inputOf}
+use Rattle.package.specs.Filing.{Filed}
+
+-- ---- where they stand
+-- these units of the object i, one behind the other, are all of a section
+unfoldable pub FillSection : Input → ℕ → List ℕ → List Filed → Type 0
+FillSection i home s [] = s ≡ []
+FillSection i home s (u ∷ us) = (u .input ≡ i) × (u .home ≡ home) × ((rest : List ℕ) × (s ≡ u .bytes ++ rest) × FillSection i home rest us)
+
+-- all of its sections of units, in order
+unfoldable pub FillSections : Input → List Section → List Filed → Type 0
+FillSections i [] us = us ≡ []
+FillSections i (s ∷ ss) us = (here : List Filed) × (later : List Filed) × (us ≡ here ++ later) × FillSection i (s .code) (s .bytes) here × FillSections i ss later
+
+-- all of info and types of objects that are read from the bundle b, in order
+unfoldable pub FillObjects : List ℕ → Bool → ℕ → List Object → List Filed → Type 0
+FillObjects b big first [] us = us ≡ []
+FillObjects b big first (o ∷ os) us =
+    (i : Input) × (inputOf b big first o ≡ pass i)
+    × ((here : List Filed) × (later : List Filed) × (us ≡ here ++ later) × FillSections i (unitSections b (o .parts)) here × FillObjects b big first os later)
+
+-- ---- each of them
+-- read alone, from its own bytes in its object's encoding and abbreviations, it gives its size, its table and its identity
+pub record IsUnit (u : Filed) : Type 0 where
+  pub alone : unitOf (u .input .encoding) (u .home) (u .input .bytes abbrevCode) (u .bytes)
+      ≡ pass (record { size = length (u .bytes); table = u .table; identity = u .identity })
+  pub tables : (u .table ≡ compilationTable) ⊎ (u .table ≡ typeTable)
+  pub types : (u .table ≡ typeTable) ↔ IsTypeUnit (u .input .encoding) (u .home) (u .bytes)
