@@ -8,7 +8,6 @@ ghost use Rattle.octets.specs.Octets.{part};
 ghost use Rattle.bundle.specs.Bundle.{Part};
 ghost use Rattle.bundle.specs.Scan.{scanOf};
 ghost use Rattle.filing.specs.Judged.{objectCheck, JudgedIs, indexCheck, JudgedIndexIs};
-
 use bundle::Scan;
 use bundle::encoding::ObjectEncoding;
 use bundle::encoding::WordRead;

@@ -21,10 +21,10 @@ ghost use Rattle.filing.specs.ByObject.{
   InputRoom,
   InputRead,
 };
-use bundle::Scan;
-use bundle::encoding::ObjectEncoding;
 use crate::input::Indexed;
 use crate::input::InputObject;
+use bundle::Scan;
+use bundle::encoding::ObjectEncoding;
 use strings::entries::Entries;
 use strings::table::Added;
 use strings::table::Place;

@@ -10,10 +10,10 @@ ghost use Rattle.package.specs.Input.{Input};
 ghost use Rattle.package.specs.Filing.{Filed, unitAt};
 ghost use Rattle.filing.specs.Answers.{AtUnit, UnitIs};
 ghost use Rattle.filing.specs.Choices.{ReadAt};
+use crate::input::InputObject;
 use crate::state::InProgress;
 use crate::state::Sums;
 use crate::units::UnitFiled;
-use crate::input::InputObject;
 use unit::header::UnitAnswer;
 
 fn refused(code: u32, st: InProgress, sums: Sums) -> UnitFiled

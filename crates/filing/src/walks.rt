@@ -11,11 +11,11 @@ ghost use Rattle.bundle.specs.Scan.{Reaches, sectionsOf, placeBehind};
 ghost use Rattle.package.specs.Input.{Input, unitSections};
 ghost use Rattle.package.specs.Filing.{Filed, unitsFrom, unitsIn};
 ghost use Rattle.filing.specs.Answers.{AtUnit, UnitsAre};
+use crate::input::InputObject;
 use crate::state::InProgress;
 use crate::state::Sums;
 use crate::units::UnitsFiled;
 use bundle::UnitSection;
-use crate::input::InputObject;
 
 // All units of one section, which lies from start to stop.
 pub fn add_units(

@@ -44,7 +44,7 @@ unfolding unitSize
 sized e s = binds _ _ (requires _ 11 refl) (λ _. chooses (eqb (e .width) 4) _ _ (binds _ _ (requires _ 11 refl) (λ _. passes _)) (binds _ _ (requires _ 11 refl) (λ _. passes _)))
 
 pub read-numbered : (e : Encoding) (home : ℕ) (abbreviations s : List ℕ) → Numbered (unitOf e home abbreviations s)
-unfolding unitOf
+unfolding unitOf unitBy _>>=_
 read-numbered e home abbreviations s =
     binds _ _ (sized e s) (λ size. binds _ _ (requires _ 11 refl) (λ _. binds _ _ (requires _ 11 refl) (λ _. binds _ _ (requires _ 11 refl) (λ _. binds _ _ (requires _ 11 refl) (λ _.
     binds _ _ (identity e home abbreviations (take size s)) (λ i. binds _ _ (requires _ 13 refl) (λ _. passes _)))))))

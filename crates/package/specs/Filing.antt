@@ -5,7 +5,7 @@ use mathlib.Core.List.{List, [], _∷_, _++_}
 use mathlib.Core.Option.{Option, some, none}
 use Prim.Native.Nat.{ℕ, zero, suc, _+_}
 use lib.Dec.{eqb}
-use lib.ListN.{length, drop}
+use lib.ListN.{length, take, drop}
 use Rattle.numbers.specs.Sections.{infoCode, abbrevCode}
 use Rattle.octets.specs.Octets.{part}
 use Rattle.octets.specs.Lists.{any}
@@ -13,7 +13,7 @@ use Rattle.octets.specs.Checked.{Check, pass, refuse, _>>=_, require}
 use Rattle.bundle.specs.Bundle.{Object, Bundle}
 use Rattle.bundle.specs.Encoding.{Encoding}
 use Rattle.bundle.specs.Written.{Section}
-use Rattle.unit.specs.UnitRead.{Identity, isFive, unitBytesOf, identified}
+use Rattle.unit.specs.UnitRead.{UnitRead, isFive, unitBy}
 use Rattle.strings.specs.Strings.{entriesIn, stringsAt}
 use Rattle.index.specs.Index.{Index, Contribution}
 use Rattle.index.specs.Rows.{BySection, rowContributions, wholeContributions, naming, theOne, abbrevPart}
@@ -46,7 +46,7 @@ lengths i c = length (i .bytes c)
 unfoldable pub indexByPlace : Input → ℕ → Option Index
 indexByPlace i home = elim (not (isFive (i .encoding)) && eqb home infoCode) [ true ↦ i .cuIndex | false ↦ none ]
 
--- the bytes in which a unit's abbreviation table is read: that row's abbrev part, else the object's whole section
+-- the bytes in which the abbreviation table of a unit of this size at a place is read: that row's abbrev part, else the object's whole section
 unfoldable pub abbreviationsFor : Input → ℕ → ℕ → ℕ → Check (List ℕ)
 abbreviationsFor i home at size =
     elim (indexByPlace i home) [
@@ -54,11 +54,11 @@ abbreviationsFor i home at size =
       | none ↦ pass (i .bytes abbrevCode)
     ]
 
--- 15 and 16, of a unit of so many bytes at a place of the section home
-unfoldable pub contributionsOf : Input → ℕ → ℕ → ℕ → Identity → Check (BySection (Option Contribution))
-contributionsOf i home at size x =
-    elim (indexFor i (x .table)) [
-      | some index ↦ rowContributions index (i .encoding .width) (lengths i) (x .identity) home at size
+-- 15 and 16, of a unit at a place of the section home
+unfoldable pub contributionsOf : Input → ℕ → ℕ → UnitRead → Check (BySection (Option Contribution))
+contributionsOf i home at u =
+    elim (indexFor i (u .table)) [
+      | some x ↦ rowContributions x (i .encoding .width) (lengths i) (u .identity) home at (u .size)
       | none ↦ pass (wholeContributions (lengths i))
     ]
 
@@ -69,19 +69,17 @@ skipped table = elim (eqb table 1) [ true ↦ refuse 14 | false ↦ pass (λ c. 
 -- the unit at the front of s, which starts at a place of the section home; earlier objects' units and here this object's are filed
 unfoldable pub unitAt : Input → BySection ℕ → List Filed → List Filed → ℕ → ℕ → List ℕ → Check Filed
 unitAt i bases earlier here home at s = do
-  u ← unitBytesOf (i .encoding) s
-  abbreviations ← abbreviationsFor i home at (length u)
-  x ← identified (i .encoding) home abbreviations u
-  contributions ← elim (any (isUnder (x .table) (x .identity)) (earlier ++ here)) [
-    | true ↦ skipped (x .table)
-    | false ↦ contributionsOf i home at (length u) x
+  u ← unitBy (i .encoding) home (abbreviationsFor i home at) s
+  contributions ← elim (any (isUnder (u .table) (u .identity)) (earlier ++ here)) [
+    | true ↦ skipped (u .table)
+    | false ↦ contributionsOf i home at u
   ]
   pass
       (record {
-        table = x .table;
-        identity = x .identity;
+        table = u .table;
+        identity = u .identity;
         home = home;
-        bytes = u;
+        bytes = take (u .size) s;
         input = i;
         contributions = contributions;
         bases = bases;

@@ -20,9 +20,9 @@ ghost use Rattle.packer.specs.Objects.{
   ObjectsAre,
 };
 use bundle::Item;
+use filing::input::InputObject;
 use filing::state::InProgress;
 use filing::state::Sums;
-use filing::input::InputObject;
 use keeping::Table;
 use places::Kept;
 use strings::table::StringTable;

@@ -16,3 +16,4 @@ pub mod Stepping
 pub mod Rooted
 pub mod Units
 pub mod Promised
+pub mod Plain
