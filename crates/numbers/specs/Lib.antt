@@ -4,3 +4,5 @@ pub mod Sections
 pub mod Tables
 pub mod Limits
 pub mod Refusals
+pub mod Names
+pub mod NameRows
