@@ -1,0 +1,3 @@
+-- Document 02, ticket 9: a package written as an ELF file.
+-- Assumes nothing.
+pub mod Writer
