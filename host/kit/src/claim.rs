@@ -2,7 +2,7 @@
 //! read from the bundle as it was handed in, and the looks are counted here, so that neither packer nor lookups have a say in it.
 
 use crate::generate::Random;
-use crate::handed_in::{firsts, HandedIn};
+use crate::handed_in::{first_uses, firsts, HandedIn};
 use crate::reference::{Bundle, Found};
 use barthovin::answer::Asked;
 use barthovin::ffi;
@@ -10,6 +10,7 @@ use std::collections::BTreeMap;
 use std::fmt::{Display, Formatter};
 
 const STR_OFFSETS: u32 = 6;
+const STR: u32 = 11;
 const OTHER_VERSION: u32 = 22;
 const NO_ENTRY: u32 = 25;
 
@@ -64,6 +65,24 @@ impl<'b> Table<'b> {
     fn looks(&self, identity: u64) -> usize {
         self.slots.as_ref().map_or(0, |slots| slots.looks(identity))
     }
+
+    /// With n units, n looks find one and n + 1 end as absent, at most.
+    fn few_looks(&self, identity: u64, looks: usize) -> Result<(), String> {
+        let absent = usize::from(!self.units.contains_key(&identity));
+        let few = looks <= self.units.len() + absent;
+        few.then_some(()).ok_or_else(|| format!("{looks} looks for {identity:x} among {} units", self.units.len()))
+    }
+}
+
+/// The package's str, cut after each zero byte: the strings that entries name, each once, in the order of first use.
+fn check_str(bundle: &Bundle, package: &[u8]) -> Result<(), String> {
+    let package = Bundle::read(package).ok_or("no package")?;
+    let text = package.objects.first().map_or(&[][..], |object| object.bytes(STR));
+    let pieces = text.split_inclusive(|byte| *byte == 0);
+    let wanted = first_uses(bundle);
+    let right =
+        pieces.clone().count() == wanted.len() && pieces.zip(wanted).all(|(p, s)| p.split_last() == Some((&0, s)));
+    right.then_some(()).ok_or_else(|| "str isn't the strings named, each once, in order of first use".to_string())
 }
 
 /// What was asked, by kind of answer.
@@ -184,6 +203,7 @@ impl Lookups<'_> {
 
     fn check_identity(&mut self, table: &Table, identity: u64) -> Result<(), String> {
         let looks = table.looks(identity);
+        table.few_looks(identity, looks)?;
         let Some(unit) = table.units.get(&identity) else { return self.check_absent(table, identity, looks) };
         self.check_parts(unit, looks)?;
         self.check_strings(unit, looks)?;
@@ -243,6 +263,7 @@ impl Claim {
     /// The same about at most so many of its identities, spread over all: for a bundle of very many.
     pub fn check_some(&mut self, bundle: &[u8], package: &[u8], most: usize) -> Result<(), String> {
         let bundle = Bundle::read(bundle).ok_or("no bundle")?;
+        check_str(&bundle, package)?;
         let (compilations, types) = firsts(&bundle).into_iter().partition(|unit| unit.table == 1);
         let tables = [Table::of(1, compilations), Table::of(2, types)];
         let some_index = tables.iter().any(|t| t.slots.is_some());

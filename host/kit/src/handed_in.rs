@@ -73,12 +73,24 @@ impl<'b> HandedIn<'b> {
 
     /// The strings that the entries of its part of str_offsets name.
     pub fn strings(&self) -> Vec<&'b [u8]> {
-        let Encoding { big, version, width, .. } = self.encoding;
-        let entries = self.part(STR_OFFSETS).get(header_size(version, width)..).unwrap_or(&[]);
-        let string = |entry: &[u8]| {
-            let offset = number(entry, 0, width, big).expect("a whole entry");
-            string_at(self.object.bytes(STR), offset).expect("a string")
-        };
-        entries.chunks(width).map(string).collect()
+        strings_in(self.object, self.part(STR_OFFSETS), self.encoding)
     }
+}
+
+/// The strings that the entries of a part of an object's str_offsets name.
+fn strings_in<'b>(object: &'b Object<'b>, part: &'b [u8], encoding: Encoding) -> Vec<&'b [u8]> {
+    let Encoding { big, version, width, .. } = encoding;
+    let entries = part.get(header_size(version, width)..).unwrap_or(&[]);
+    let string = |entry: &[u8]| {
+        let offset = number(entry, 0, width, big).expect("a whole entry");
+        string_at(object.bytes(STR), offset).expect("a string")
+    };
+    entries.chunks(width).map(string).collect()
+}
+
+/// The strings that all entries name, object by object, each where it is named first.
+pub fn first_uses<'b>(bundle: &'b Bundle<'b>) -> Vec<&'b [u8]> {
+    let of = |object| strings_in(object, object.bytes(STR_OFFSETS), Encoding::of(bundle.big, object.word));
+    let mut seen = HashSet::new();
+    bundle.objects.iter().flat_map(of).filter(|string| seen.insert(*string)).collect()
 }
