@@ -3,6 +3,7 @@ pub mod cells;
 pub mod columns;
 pub mod records;
 pub mod slots;
+pub mod state;
 pub mod unit_bytes;
 pub mod writing;
 
