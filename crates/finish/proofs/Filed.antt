@@ -13,7 +13,7 @@ use Rattle.octets.specs.Lists.{joined, those, all, distinct}
 use Rattle.octets.specs.Checked.{pass, _>>=_, require}
 use Rattle.octets.proofs.Checks.{then-pass}
 use Rattle.octets.proofs.Numbers.{Bytes}
-use Rattle.bundle.specs.Bundle.{Object, Bundle, bundleOf, body}
+use Rattle.bundle.specs.Bundle.{Object, bundleOf, body}
 use Rattle.bundle.specs.Encoding.{Encoding, encodingOf, encodingGood}
 use Rattle.bundle.specs.Encoded.{encodingIs}
 use Rattle.bundle.specs.Written.{Section, written}
@@ -41,7 +41,6 @@ use Rattle.kept.specs.Columns.{versionFor}
 use Rattle.kept.specs.Slots.{Placeable, Fitting, seenSlots, slotsIn}
 use Rattle.kept.specs.Records.{bytesFrom}
 use Rattle.kept.specs.Held.{identitiesOf, pick, OneOrTwo, TableHeld, UnitsHeld}
-use Rattle.kept.specs.State.{Held}
 use Rattle.kept.specs.declared.Table.{Table}
 use Rattle.kept.specs.declared.state.InProgress.{InProgress}
 use Rattle.finish.specs.Ready.{TablesPlaceable, BothPlaced, formOf, IndexHeld, Ready}

@@ -143,7 +143,7 @@ module _ (e : ObjectEncoding) (b : List ℕ) (st : InProgress) (w : List ℕ) (s
     | no n1 ↦ elim (ℕ-discrete c 2) [
       | yes z ↦ rw z (at-2 ∙ r .typesMany)
       | no n2 ↦ elim (ℕ-discrete c 11) [
-        | yes z ↦ rw z (at-11 ∙ r .kepst .strings .size (r .small) ∙ sym (ap length (r .strIs)))
+        | yes z ↦ rw z (at-11 ∙ r .kept .size (r .small) ∙ sym (ap length (r .strIs)))
         | no n11 ↦ elim (ℕ-discrete c 12) [
           | yes z ↦ rw z (at-12 ∙ index-size-is e compilationTable (st .units .cu) _ _ w (s 12) (r .cu))
           | no n12 ↦ elim (ℕ-discrete c 13) [

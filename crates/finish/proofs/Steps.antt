@@ -26,11 +26,15 @@ use Rattle.finish.proofs.BeingWritten.{writing-frame-room}
 use Rattle.finish.specs.declared.writing.Package.{Package}
 use Rattle.finish.specs.Ready.{IndexHeld, IndexWritable, SectionWritable, framedIn, FrameWritable, SectionsWritable}
 use Rattle.finish.proofs.Frames.{frame-some}
+use Rattle.finish.proofs.Indexes.{table-few}
 
 -- ---- an index
 module _ (f : IndexForm) (words n : ℕ) (w : List ℕ) where
   pub no-index : (s d : List ℕ) (at : ℕ) → IndexHeld f words n w s → f .rows ≡ 0 → d ≡ placed d at s
   no-index s d at h z = sym (placed-none d at) ∙ ap (placed d at) (sym (h .none z))
+
+  pub index-few : (s : List ℕ) → IndexHeld f words n w s → f .rows ≤ 1_048_576
+  index-few s h = omega (arith, h .many, table-few (region w words recordsRegion) n (f .table), h .can .units, h .can .limit)
 
   -- R and S are records and slots as the code cuts them
   module _ (k : ℕ) (q : k ≡ slotsFor (f .rows)) (g : f .rows ≡ 0 → ⊥) (R S : List ℕ) (e : R ≡ region w words recordsRegion) (o : S ≡ slotsIn w words (f .table) k) where

@@ -3,19 +3,19 @@
 use mathlib.Core.Path.{_≡_, refl, sym, subst, _∙_}
 use mathlib.Core.Bool.{Bool, true, false}
 use mathlib.Core.List.{List}
-use Prim.Native.Nat.{ℕ, _*_, _≤_}
+use Prim.Native.Nat.{ℕ, _≤_}
 use native.Mathlib.Omega.{arith}
 use lib.ListN.{length}
 use Rattle.octets.proofs.Checks.{true-false}
 use Rattle.numbers.specs.Tables.{compilationTable, typeTable}
 use Rattle.index.specs.Probing.{slotsFor}
-use Rattle.work.specs.Regions.{Layout, recordsRegion, slotsRegion, region, Apart}
+use Rattle.work.specs.Regions.{recordsRegion, slotsRegion, region}
 use Rattle.work.proofs.Stores.{slots-records, tables-apart}
 use Rattle.kept.specs.Records.{identitiesIn}
 use Rattle.kept.specs.Slots.{SeenHeld, slotsIn, Placeable, Fitting, PlacedAll}
 use Rattle.kept.specs.declared.Units.{Units}
 use Rattle.kept.proofs.Placing.{slots-stay}
-use Rattle.finish.specs.Ready.{TablesPlaceable, SlotsHeld, BothPlaced, TablesPlaced}
+use Rattle.finish.specs.Ready.{TablesPlaceable, SlotsHeld, TablesPlaced}
 use Rattle.finish.proofs.Indexes.{slots-small, slots-power}
 
 -- what the placing of a table of so many rows asks

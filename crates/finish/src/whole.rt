@@ -15,10 +15,10 @@ ghost use Rattle.finish.specs.Finish.{
   AnswerFor,
   OutputFor,
 };
+use crate::writing::Package;
 use bundle::Item;
 use bundle::encoding::ObjectEncoding;
 use bundle::encoding::WordRead;
-use crate::writing::Package;
 use kept::state::InProgress;
 use numbers::refusals::BAD_ENCODING;
 use numbers::refusals::NO_SLOT;

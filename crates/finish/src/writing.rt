@@ -18,8 +18,8 @@ ghost use Rattle.finish.specs.Ready.{
   PackageWritable,
   PackagePut,
 };
-use bundle::encoding::ObjectEncoding;
 use crate::tables::TYPE;
+use bundle::encoding::ObjectEncoding;
 use kept::Table;
 use kept::state::InProgress;
 use kept::writing::IndexForm;
@@ -41,12 +41,13 @@ pub struct Package {
 fn index_form(e: ObjectEncoding, table: usize, t: Table) -> IndexForm
     ensures { λ r. ⌜ r ≡ formOf e table t ⌝ }
 {
+    let has = t.has;
     IndexForm {
         big: e.big,
         five: e.five,
         table,
         rows: t.rows,
-        has: t.has,
+        has,
     }
 }
 
@@ -69,14 +70,7 @@ fn write_index(f: IndexForm, words: usize, n: usize, work: &[u32], out: &mut [u8
 }
 
 // The bytes of str or of an index, by its code.
-fn write_last_section(
-    code: usize,
-    p: Package,
-    b: &[u8],
-    work: &[u32],
-    out: &mut [u8],
-    at: usize,
-)
+fn write_last_section(code: usize, p: Package, b: &[u8], work: &[u32], out: &mut [u8], at: usize)
     requires { ⌜ SectionWritable code p (now b) (now work) (length (now out)) at × (10 < code) ⌝ }
     ensures { λ _. ⌜ SectionPut code p (now (b .entry)) (now (work .entry)) at (now (out .entry)) (now (out .exit)) ⌝ }
 {
@@ -101,14 +95,7 @@ fn write_last_section(
 }
 
 // The bytes of one section of the package, by its code.
-fn write_section(
-    code: usize,
-    p: Package,
-    b: &[u8],
-    work: &[u32],
-    out: &mut [u8],
-    at: usize,
-)
+fn write_section(code: usize, p: Package, b: &[u8], work: &[u32], out: &mut [u8], at: usize)
     requires { ⌜ SectionWritable code p (now b) (now work) (length (now out)) at ⌝ }
     ensures { λ _. ⌜ SectionPut code p (now (b .entry)) (now (work .entry)) at (now (out .entry)) (now (out .exit)) ⌝ }
 {
@@ -126,14 +113,7 @@ fn write_section(
         let region = work::strings(words);
         let first = region.start;
         let last = first + region.size;
-        crate::joining::copy_str_offsets(
-            p.encoding,
-            b,
-            &work[first..last],
-            st.strings,
-            out,
-            at,
-        );
+        crate::joining::copy_str_offsets(p.encoding, b, &work[first..last], st.strings, out, at);
         return;
     }
     if LAST_SHARED < code {
