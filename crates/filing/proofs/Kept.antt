@@ -5,10 +5,11 @@ use mathlib.Core.Bool.{Bool, true, false}
 use mathlib.Core.Logic.{⊎-elim}
 use mathlib.Core.List.{List, [], _∷_, _++_}
 use mathlib.Core.Option.{Option, some}
-use Prim.Native.Nat.{ℕ, _+_, _^_, _<_, _≤_}
+use Prim.Native.Nat.{ℕ, _+_, _*_, _^_, _<_, _≤_}
 use native.Mathlib.Omega.{arith}
 use native.Mathlib.Decide.{ℕ-discrete}
 use lib.ListN.{length, getD, set, length-append}
+use Rattle.octets.specs.Octets.{part}
 use Rattle.octets.specs.Lists.{any}
 use Rattle.octets.proofs.Parts.{length-part}
 use Rattle.numbers.specs.Sections.{sectionCodes}
@@ -29,6 +30,7 @@ use Rattle.kept.specs.Held.{identitiesOf, pick, withUnit, OneOrTwo, UnitsHeld}
 use Rattle.kept.specs.State.{UnitGood, Held}
 use Rattle.kept.specs.declared.Units.{Units}
 use Rattle.kept.specs.declared.records.Unit.{Unit as UnitHead}
+use Rattle.kept.specs.declared.slots.Sought.{Sought}
 use Rattle.kept.specs.declared.slots.Sought.the-variants.{Known, Free, Full}
 use Rattle.kept.specs.declared.state.InProgress.{InProgress}
 use Rattle.kept.proofs.Recording.{cells-many}
@@ -71,7 +73,7 @@ module _ {five : Bool} {b : List ℕ} {n place : ℕ} {w : List ℕ} {st : InPro
     seen : SeenHeld R S (st .units .count) xs
     seen = h .held .tables table o .seen
 
-    pub seekable : Seekable n w table (st .units .count) (seenSlots n)
+    seekable : Seekable n w table (st .units .count) (seenSlots n)
     seekable = record { can = placeable table; within = seen .within }
 
     pub power : PowerOfTwo (length S)
@@ -97,6 +99,15 @@ module _ {five : Bool} {b : List ℕ} {n place : ℕ} {w : List ℕ} {st : InPro
     free-is at e =
         let f = sought-free seen power few (rows-distinct us table) identity at e in
         (sym (rows-known us table identity) ∙ f .0, f .1, omega (arith, sought-inside R S identity at power e, long))
+
+    -- as code asks, of so many slots
+    module _ (m : ℕ) (e : m ≡ seenSlots n) where
+      pub seek-asks : Seekable n w table (st .units .count) m
+      seek-asks = rw e seekable
+
+      pub sought-is : (z : Sought) → z ≡ soughtIn R (part w (slotsRegion table .start * n) m) identity → z ≡ soughtIn R S identity
+      unfolding slotsIn
+      sought-is z q = q ∙ ap (λ (k : ℕ). soughtIn R (part w (slotsRegion table .start * n) k) identity) e
 
   -- ---- skipped
   pub held-skip : (size : ℕ) (u : Filed) → any (isUnder (u .table) (u .identity)) us ≡ true → UnitGood u → 20 ≤ size → place + size ≤ length b

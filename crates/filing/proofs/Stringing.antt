@@ -47,9 +47,11 @@ module _ {n : ℕ} (w v : List ℕ) (r : OnlyStrings n w v) where
       slots-front v n t (seenSlots n) (seen-le n h) ∙ ap (λ (l : List ℕ). part l 0 (seenSlots n)) (r .others (slotsRegion t) (strings-slots t))
       ∙ sym (slots-front w n t (seenSlots n) (seen-le n h))
 
+  all-same : 2 ≤ n → _≡_ {A = ℕ → List ℕ} (λ t. slotsIn w n t (seenSlots n)) (λ t. slotsIn v n t (seenSlots n))
+  all-same h = λ j t. sym (slots-same h t) j
+
   pub held-strings : (five : Bool) (b : List ℕ) (place : ℕ) (st : InProgress) (t : StringTable) (bases : BySection ℕ) (us : List Filed) → Held five b n place w st bases us → Held five b n place v (withStrings st t) bases us
   held-strings five b place st t bases us k =
-      let all : (λ (t : ℕ). slotsIn w n t (seenSlots n)) ≡ (λ (t : ℕ). slotsIn v n t (seenSlots n)) = λ j t. sym (slots-same (k .some) t) j in
       record {
         room = rw (r .same) (k .room);
         words = k .words;
@@ -58,7 +60,7 @@ module _ {n : ℕ} (w v : List ℕ) (r : OnlyStrings n w v) where
         spent = k .spent;
         held =
             subst (λ (l : List ℕ). UnitsHeld five b l (λ (t : ℕ). slotsIn v n t (seenSlots n)) (st .units) (kept us)) (sym (r .others recordsRegion strings-records))
-            (subst (λ (f : ℕ → List ℕ). UnitsHeld five b (region w n recordsRegion) f (st .units) (kept us)) all (k .held));
+            (subst (λ (f : ℕ → List ℕ). UnitsHeld five b (region w n recordsRegion) f (st .units) (kept us)) (all-same (k .some)) (k .held));
         based = k .based;
         low = k .low;
         unitsLow = k .unitsLow;

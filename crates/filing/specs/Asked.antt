@@ -56,6 +56,7 @@ pub record ReadAsked (b : List ℕ) (x : InputObject) (h : HomeSection) (at : �
   pub ready : Ready b x at w st ss
   pub bytes : List ℕ
   pub read : ReadAt (ready .input) (h .home) (u .size) (u .table) (u .identity) bytes
+  pub same : take (u .size) bytes ≡ part b at (u .size)
 
 abbrev pub ReadFiled : List ℕ → InputObject → HomeSection → ℕ → ReadUnit → InProgress → Sums → List ℕ → List ℕ → UnitFiled → Type 0
 ReadFiled b x h at u st ss w v r =
@@ -64,7 +65,7 @@ ReadFiled b x h at u st ss w v r =
 
 pub record UnitAsked (b : List ℕ) (x : InputObject) (h : HomeSection) (at : ℕ) (st : InProgress) (ss : Sums) (w : List ℕ) : Type 0 where
   pub from : h .start ≤ at
-  pub before : at < h .stop
+  pub low : at < h .stop
   pub within : h .stop ≤ length b
   pub homes : OneOrTwo (h .home)
   pub ready : Ready b x at w st ss

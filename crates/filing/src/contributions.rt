@@ -35,7 +35,8 @@ fn indexed_contributions(
     ensures { λ r. ⌜ ((o : Option Index) → IndexedIs big (bytesAt (now (b .entry)) place) indexed o → GivenBy o m u r) ⌝ }
 {
     let Indexed::At(head) = indexed else {
-        let contributions = index::judging::whole_contributions(m.lengths);
+        let lengths = m.lengths;
+        let contributions = index::judging::whole_contributions(lengths);
         return RowJudged {
             code: 0,
             contributions,
@@ -60,9 +61,10 @@ pub fn contributions_of(
 {
     let e = x.encoding;
     let width = bundle::encoding::width(e);
+    let lengths = x.size;
     let m = Measures {
         width,
-        lengths: x.size,
+        lengths,
         sums: summed,
     };
     let u = OwnUnit {

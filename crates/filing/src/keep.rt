@@ -71,7 +71,8 @@ pub fn keep_unit(
     let cells = kept::cells::cells_of(k, bases, home, place, size);
     kept::slots::keep(work, n, units.count, slot, unit, five, cells);
     let old = kept::by_number::table_of(units, table);
-    let has = kept::columns::mark_columns(five, old.has, cells);
+    let marked = old.has;
+    let has = kept::columns::mark_columns(five, marked, cells);
     let t = Table {
         rows: unit.row,
         has,

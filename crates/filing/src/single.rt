@@ -91,7 +91,14 @@ fn file_read(
         Sought::Free(slot) => slot,
     };
     let summed = crate::keep::sums_of(sums, table);
-    let judged = crate::contributions::contributions_of(b, x, summed, home, at - section.start, read);
+    let judged = crate::contributions::contributions_of(
+        b,
+        x,
+        summed,
+        home,
+        at - section.start,
+        read,
+    );
     let code = judged.code;
     if code != 0 {
         return refused(code, st, sums);
