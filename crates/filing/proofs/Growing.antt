@@ -17,7 +17,6 @@ use Rattle.bundle.proofs.Every.{Every}
 use Rattle.bundle.proofs.Lies.{Lies}
 use Rattle.bundle.proofs.ScanFacts.{first-within}
 use Rattle.bundle.specs.Encoded.{encodingIs}
-use Rattle.bundle.specs.declared.encoding.ObjectEncoding.{ObjectEncoding}
 use Rattle.strings.proofs.FirstUses.{length-firstUses}
 use Rattle.strings.proofs.StrOffsets.{sound}
 use Rattle.strings.proofs.Callers.{strings-room}

@@ -91,12 +91,12 @@ module _ (b v : List ℕ) (st : InProgress) (ts : List (List ℕ)) (big : Bool) 
           (λ h. tu-refused b big first o (encodingIs (j .encoding)) good (strings .0) (strings .1) (h .0) (here-same 12 (omega arith) _ (h .1)) (x .code) (here-same 13 (omega arith) _ (h .2)))
           (indexes-refused _ _ _ _ _ x are z)) q
 
-      pub read-passed : x .code ≡ 0 → (words : ℕ) (t : StringTable) → InputRoom b ps words t
+      pub read-passed : x .code ≡ 0 → (words : ℕ) (t : StringTable) → InputRoom b ps words t → (next : InProgress) → next ≡ withStrings st (s .strings)
           → InputRead b v st ts (inputOf b big first o)
-          (record { code = 0; input = record { encoding = j .encoding; start = scan .start; size = scan .size; cu = x .cu; tu = x .tu }; st = withStrings st (s .strings) })
+          (record { code = 0; input = record { encoding = j .encoding; start = scan .start; size = scan .size; cu = x .cu; tu = x .tu }; st = next })
       unfolding InputRead
-      read-passed z words t room =
+      read-passed z words t room next is-next =
           let d = indexes-passed _ _ _ _ _ x are z in
           passed-is b v st ts _ _ _
           (input-passed b big first o (encodingIs (j .encoding)) good (strings .0) (strings .1) (d .0) (here-same 12 (omega arith) _ (d .2)) (d .1) (here-same 13 (omega arith) _ (d .3)))
-          (refl, input-is b scan at ps is words t room (j .encoding) (strings .0) (x .cu) (x .tu) (d .0) (d .1) _ refl (d .4) (d .5), refl, strings .2)
+          (rw is-next (refl, input-is b scan at ps is words t room (j .encoding) (strings .0) (x .cu) (x .tu) (d .0) (d .1) _ refl (d .4) (d .5), refl, strings .2))

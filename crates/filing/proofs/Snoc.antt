@@ -1,16 +1,16 @@
 -- The strings of one object more.
 -- Assumes nothing.
-use mathlib.Core.Path.{_≡_, refl, sym, ap, _∙_, subst}
+use mathlib.Core.Path.{_≡_, sym, ap, _∙_}
 use mathlib.Core.List.{List, [], _∷_, _++_, append-nil, append-assoc}
 use mathlib.Core.Bool.{Bool, true, false}
-use Prim.Native.Nat.{ℕ, _*_, _≤_}
+use Prim.Native.Nat.{ℕ, _≤_}
 use native.Mathlib.Omega.{arith}
 use lib.ListN.{length}
 use Rattle.octets.specs.Checked.{pass}
 use Rattle.octets.proofs.Checks.{bind-pass, require-pass, pass-inj}
 use Rattle.bundle.specs.Encoding.{Encoding}
 use Rattle.filing.specs.ByObject.{stringsCheck, StringsIn}
-use Rattle.strings.specs.Strings.{putAll, firstUses, entriesIn, entriesOf, stringsAt}
+use Rattle.strings.specs.Strings.{putAll, firstUses, entriesIn, entriesOf}
 use Rattle.strings.proofs.Ends.{length-stringsAt}
 use Rattle.strings.proofs.FirstUses.{putAll-append}
 use Rattle.package.specs.Input.{Input}

@@ -1,8 +1,8 @@
 -- The strings of an object put into their region of work: nothing else changes, and the answers by the definition.
 -- Assumes nothing.
 use mathlib.Core.Path.{_≡_, refl, sym, ap, ap₂, _∙_, subst}
-use mathlib.Core.Bool.{Bool, true, false}
-use mathlib.Core.List.{List, [], _∷_, _++_}
+use mathlib.Core.Bool.{Bool, true}
+use mathlib.Core.List.{List, []}
 use Prim.Native.Nat.{ℕ, _+_, _*_, _-_, _<_, _≤_}
 use native.Mathlib.Omega.{arith}
 use lib.Dec.{leb}
@@ -10,7 +10,7 @@ use lib.ListN.{length, take, drop}
 use borrow.Rule.Slice.PartMut.{putMid}
 use borrow.Author.Tests.{le-leb, lt-leb}
 use Rattle.octets.specs.Octets.{part, placed}
-use Rattle.octets.specs.Checked.{Check, pass, refuse, _>>=_}
+use Rattle.octets.specs.Checked.{pass, refuse}
 use Rattle.octets.proofs.Checks.{then-pass, then-refuse}
 use Rattle.octets.proofs.Parts.{part-cut}
 use Rattle.octets.proofs.Regions.{placed-whole, part-placed}
@@ -27,7 +27,7 @@ use Rattle.strings.specs.declared.entries.Entries.{Entries}
 use Rattle.strings.proofs.Callers.{entries-counted, entries-ill}
 use Rattle.index.specs.Rows.{BySection}
 use Rattle.numbers.specs.Limits.{workForWord}
-use Rattle.work.specs.Regions.{Layout, recordsRegion, stringsRegion, slotsRegion, region, Apart}
+use Rattle.work.specs.Regions.{recordsRegion, stringsRegion, slotsRegion, region}
 use Rattle.work.proofs.Stores.{region-fits, length-region, store-length, others-stay, strings-within, strings-records, strings-slots}
 use Rattle.package.specs.Filing.{Filed, kept}
 use Rattle.kept.specs.Slots.{seenSlots, slotsIn}
@@ -36,9 +36,8 @@ use Rattle.kept.specs.State.{Held}
 use Rattle.kept.specs.declared.state.InProgress.{InProgress}
 use Rattle.kept.proofs.SeenSlots.{seen-le}
 use Rattle.kept.proofs.Placing.{slots-front}
-use Rattle.filing.specs.declared.objects.StringsFiled.{StringsFiled}
 use Rattle.filing.specs.State.{wordsIn, withStrings, OnlyStrings}
-use Rattle.filing.specs.ByObject.{stringsCheck, StringsIn, StringsRoom, StringsAre}
+use Rattle.filing.specs.ByObject.{stringsCheck, StringsIn, StringsAre}
 
 -- ---- what is filed stays
 module _ {n : ℕ} (w v : List ℕ) (r : OnlyStrings n w v) where

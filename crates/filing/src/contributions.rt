@@ -1,10 +1,6 @@
 // 15 and 16: what a unit that is kept contributes of its object's shared sections.
-ghost use mathlib.Core.Path.{_≡_};
-ghost use mathlib.Core.List.{List};
 ghost use mathlib.Core.Option.{Option};
-ghost use Prim.Native.Nat.{ℕ, _<_};
-ghost use lib.ListN.{getD};
-ghost use Rattle.octets.specs.Octets.{part};
+ghost use Prim.Native.Nat.{_<_};
 ghost use Rattle.index.specs.Index.{Index};
 ghost use Rattle.strings.specs.Kept.{Inside, bytesAt};
 ghost use Rattle.package.specs.Input.{Input};

@@ -1,7 +1,7 @@
 // An object read up to its units: 4 to 10, its strings put into their region of work.
 ghost use mathlib.Core.Path.{_≡_};
 ghost use Rattle.bundle.specs.Encoded.{encodingIs};
-ghost use Rattle.filing.specs.State.{wordsIn, OnlyStrings};
+ghost use Rattle.filing.specs.State.{wordsIn, withStrings, OnlyStrings};
 ghost use Rattle.filing.specs.ByObject.{
   ScanInside,
   IndexesFound,
@@ -124,6 +124,18 @@ fn judge_indexes(b: &[u8], e: ObjectEncoding, scan: Scan) -> IndexesJudged
     }
 }
 
+fn with_strings(st: InProgress, strings: StringTable) -> InProgress
+    ensures { λ r. ⌜ r ≡ withStrings st strings ⌝ }
+{
+    let units = st.units;
+    let bases = st.bases;
+    InProgress {
+        units,
+        bases,
+        strings,
+    }
+}
+
 fn input_refused(code: u32, e: ObjectEncoding, scan: Scan, st: InProgress) -> InputFiled
     ensures { λ r. ⌜ r .code ≡ code ⌝ }
 {
@@ -186,14 +198,8 @@ pub fn read_input(
         cu,
         tu,
     };
-    let units = st.units;
-    let bases = st.bases;
     let strings = put.strings;
-    let known = InProgress {
-        units,
-        bases,
-        strings,
-    };
+    let known = with_strings(st, strings);
     InputFiled {
         code: 0,
         input,

@@ -5,7 +5,7 @@ use mathlib.Core.Path.{refl}
 use denote.Ref.{now}
 use borrow.Author.Tests.{le-leb}
 use Rattle.filing.specs.State.{wordsIn}
-use Rattle.filing.proofs.Stringing.{inside-is, cut-ill, cut-counted, strings-none, strings-ill, strings-put, strings-missing, region-same, region-left, lent-kept, lent-length, lent-fits}
+use Rattle.filing.proofs.Stringing.{inside-is, cut-ill, cut-counted, strings-none, strings-ill, strings-put, strings-missing, region-same, region-left, lent-kept, lent-length}
 use borrow.Author.Needs.{needs}
 use Rattle.filing.proofs.objects.add_object_strings.Statement.{statement}
 use Rattle.filing.proofs.objects.add_object_strings.Tie as tie

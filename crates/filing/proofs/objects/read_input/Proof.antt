@@ -22,14 +22,14 @@ returns c = (
 array-read-add-object-strings : tie.Need-array-read-add-object-strings
 array-read-add-object-strings c = search needs
 
-array-read-t34 : tie.Need-array-read-t34
-array-read-t34 c = search needs
+array-read-t32 : tie.Need-array-read-t32
+array-read-t32 c = search needs
 
 array-read-add-object-strings-2 : tie.Need-array-read-add-object-strings-2
 array-read-add-object-strings-2 c = search needs
 
-array-read-t34-2 : tie.Need-array-read-t34-2
-array-read-t34-2 c = search needs
+array-read-t32-2 : tie.Need-array-read-t32-2
+array-read-t32-2 c = search needs
 
 element-copy-out-add-object-strings : tie.Need-element-copy-out-add-object-strings
 element-copy-out-add-object-strings c = search needs
@@ -66,13 +66,16 @@ returns-3 c = (
   c .before .before .before .before .before .before .before .before .add-object-strings .ensures .1,
 )
 
+with-strings-requires : tie.Need-with-strings-requires
+with-strings-requires c κs = search needs
+
 same-length-3 : tie.Need-same-length-3
 same-length-3 c = search needs
 
 returns-4 : tie.Need-returns-4
 returns-4 c = (
-  λ at ps ts e room k. read-passed _ _ _ ts _ _ _ _ at ps e _ (c .before .before .before .before .before .before .before .before .before .before .before .before .before .before .before .before .before .before .before .judge-object .ensures at ps e) (c .before .before .before .before .before .before .before .before .before .before .before .before .before .before .before .before .if1 .left) _ (c .before .before .before .before .before .before .before .before .before .before .add-object-strings .ensures .0 ts k) (c .before .before .before .before .before .before .if2 .left) _ (c .before .before .before .before .before .judge-indexes .ensures) (c .before .before .before .if3 .left) _ _ room,
-  c .before .before .before .before .before .before .before .before .before .before .add-object-strings .ensures .1,
+  λ at ps ts e room k. read-passed _ _ _ ts _ _ _ _ at ps e _ (c .before .before .before .before .before .before .before .before .before .before .before .before .before .before .before .before .before .before .judge-object .ensures at ps e) (c .before .before .before .before .before .before .before .before .before .before .before .before .before .before .before .if1 .left) _ (c .before .before .before .before .before .before .before .before .before .add-object-strings .ensures .0 ts k) (c .before .before .before .before .before .if2 .left) _ (c .before .before .before .before .judge-indexes .ensures) (c .before .before .if3 .left) _ _ room _ (c .with-strings .ensures),
+  c .before .before .before .before .before .before .before .before .before .add-object-strings .ensures .1,
 )
 
 pub read-input-spec : {M : Type 1} → statement M
@@ -83,9 +86,9 @@ read-input-spec =
     input-refused-requires
     returns
     array-read-add-object-strings
-    array-read-t34
+    array-read-t32
     array-read-add-object-strings-2
-    array-read-t34-2
+    array-read-t32-2
     element-copy-out-add-object-strings
     add-object-strings-requires
     input-refused-requires-2
@@ -95,5 +98,6 @@ read-input-spec =
     input-refused-requires-3
     same-length-2
     returns-3
+    with-strings-requires
     same-length-3
     returns-4)

@@ -1,12 +1,10 @@
 -- `add_sections` meets its contract. What the loop keeps is `Sectioned`.
 -- Assumes nothing.
-use mathlib.Core.Path.{_≡_, refl, sym, ap, _∙_}
-use mathlib.Core.List.{List}
-use Prim.Native.Nat.{ℕ, _-_, _≤_}
+use mathlib.Core.Path.{refl, sym, _∙_}
+use Prim.Native.Nat.{_-_}
 use native.Mathlib.Omega.{arith}
 use lib.ListN.{length}
 use borrow.Author.Needs.{needs}
-use denote.Ref.{now}
 use Rattle.filing.proofs.OverSections.{Sectioned, sectioned-none, sections-reach, section-lies, at-later, sectioned-more, sectioned-refused, sectioned-end}
 use Rattle.filing.proofs.walks.add_sections.Statement.{statement}
 use Rattle.filing.proofs.walks.add_sections.Tie as tie

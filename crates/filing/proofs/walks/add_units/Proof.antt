@@ -1,11 +1,9 @@
 -- `add_units` meets its contract. What the loop keeps is `Walking`.
 -- Assumes nothing.
-use mathlib.Core.Path.{_≡_, refl, sym, ap, _∙_}
+use mathlib.Core.Path.{_≡_, refl, _∙_}
 use mathlib.Core.List.{List}
 use Prim.Native.Nat.{ℕ, _-_, _≤_}
 use native.Mathlib.Omega.{arith}
-use lib.ListN.{length}
-use denote.Ref.{now}
 use Rattle.octets.specs.Octets.{part}
 use Rattle.octets.specs.Checked.{refuse}
 use Rattle.index.specs.Rows.{BySection}
