@@ -11,3 +11,4 @@ pub mod Indexing
 pub mod Placing
 pub mod Copying
 pub mod Holding
+pub mod SeenSlots

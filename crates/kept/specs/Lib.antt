@@ -6,3 +6,4 @@ pub mod Records
 pub mod Slots
 pub mod Indexed
 pub mod Held
+pub mod State

@@ -18,7 +18,7 @@ use Rattle.octets.proofs.Parts.{length-part, getD-part}
 use Rattle.octets.proofs.Placed.{length-placed}
 use Rattle.octets.proofs.Regions.{part-before, part-behind, getD-placed, getD-before, getD-behind}
 use Rattle.numbers.specs.Limits.{workForWord}
-use Rattle.work.specs.Regions.{Layout, recordsRegion, stringsRegion, compilationSlots, typeSlots, slotsRegion, region, Apart}
+use Rattle.work.specs.Regions.{Layout, recordsRegion, stringsRegion, compilationSlots, typeSlots, slotsRegion, rowsRegion, codesRegion, region, Apart}
 
 -- what is stored in a part of a list is stored in that part's own words
 module _ (w : List ℕ) (base size at : ℕ) (x : List ℕ) (fits : base + size ≤ length w) (inside : at + length x ≤ size) where
@@ -143,3 +143,18 @@ type-slots table e = rw (slotsRegion, ne-eqb table 1 e)
 pub tables-apart : (t u : ℕ) → t ≡ 1 → (u ≡ 1 → ⊥) → Apart (slotsRegion t) (slotsRegion u) × Apart (slotsRegion u) (slotsRegion t)
 unfolding Apart
 tables-apart t u e f = rw (compilation-slots t e, type-slots u f) (inl (omega arith), inr (omega arith))
+
+-- the two transient regions lie behind all that is kept
+pub rows-within : Within rowsRegion
+rows-within = record { ends = omega arith }
+
+pub codes-within : Within codesRegion
+codes-within = record { ends = omega arith }
+
+pub rows-behind : (s : Layout) → s .start + s .words ≤ rowsRegion .start → Apart rowsRegion s
+unfolding Apart
+rows-behind s h = inr h
+
+pub codes-behind : (s : Layout) → s .start + s .words ≤ codesRegion .start → Apart codesRegion s
+unfolding Apart
+codes-behind s h = inr h

@@ -1,4 +1,5 @@
--- The regions of work, in words for each word of the bundle: records of kept units 5, strings 3, slots of each table 1. 10 of 16; 6 are free.
+-- The regions of work, in words for each word of the bundle: records of kept units 5, strings 3, slots of each table 1, an object's rows by place 1,
+-- the codes of an abbreviation table 4. 15 of 16; one is free.
 -- Assumes nothing.
 use mathlib.Core.Path.{_≡_}
 use mathlib.Core.Bool.{true, false}
@@ -29,8 +30,11 @@ typeSlots = record { start = 9; words = 1 }
 unfoldable pub slotsRegion : ℕ → Layout
 slotsRegion table = elim (eqb table compilationTable) [ true ↦ compilationSlots | false ↦ typeSlots ]
 
-abbrev pub freeRegion : Layout
-freeRegion = record { start = 10; words = 6 }
+abbrev pub rowsRegion : Layout
+rowsRegion = record { start = 10; words = 1 }
+
+abbrev pub codesRegion : Layout
+codesRegion = record { start = 11; words = 4 }
 
 -- a record's words, and the least words of the bundle that a unit takes
 abbrev pub recordWords : ℕ

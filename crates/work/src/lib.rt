@@ -1,7 +1,13 @@
 // The regions of lent work, in words for each word of the bundle. No other file knows where a region starts.
 ghost use mathlib.Core.Path.{_≡_};
 ghost use Prim.Native.Nat.{_+_, _*_, _<_, _^_};
-ghost use Rattle.work.specs.Regions.{recordsRegion, stringsRegion, slotsRegion};
+ghost use Rattle.work.specs.Regions.{
+  recordsRegion,
+  stringsRegion,
+  slotsRegion,
+  rowsRegion,
+  codesRegion,
+};
 
 // One record of so many words for each kept unit. A unit takes at least five words of the bundle, so that 23 for each five fit.
 pub const RECORD: usize = 23;
@@ -18,14 +24,19 @@ const STRINGS: usize = 3;
 
 const SLOTS: usize = 1;
 
+const ROWS: usize = 1;
+
+const CODES: usize = 4;
+
 const STRINGS_START: usize = RECORDS;
 
 const COMPILATION_START: usize = STRINGS_START + STRINGS;
 
 const TYPE_START: usize = COMPILATION_START + SLOTS;
 
-// What lies from here to the end of work is free.
-pub const FREE_START: usize = TYPE_START + SLOTS;
+const ROWS_START: usize = TYPE_START + SLOTS;
+
+const CODES_START: usize = ROWS_START + ROWS;
 
 // Where a region starts, and how many words it has.
 pub struct Region {
@@ -71,5 +82,29 @@ pub fn slots(n: usize, table: usize) -> Region
     Region {
         start: TYPE_START * n,
         size: SLOTS * n,
+    }
+}
+
+// The rows of an object's index by the place of their unit; what stands there counts for that object alone.
+pub fn rows_by_place(n: usize) -> Region
+    requires { ⌜ n < 2 ^ 32 ⌝ }
+    ensures start { λ r. ⌜ r .start ≡ rowsRegion .start * n ⌝ }
+    ensures size { λ r. ⌜ r .size ≡ rowsRegion .words * n ⌝ }
+{
+    Region {
+        start: ROWS_START * n,
+        size: ROWS * n,
+    }
+}
+
+// The codes of an abbreviation table; what stands there counts for that table alone.
+pub fn codes(n: usize) -> Region
+    requires { ⌜ n < 2 ^ 32 ⌝ }
+    ensures start { λ r. ⌜ r .start ≡ codesRegion .start * n ⌝ }
+    ensures size { λ r. ⌜ r .size ≡ codesRegion .words * n ⌝ }
+{
+    Region {
+        start: CODES_START * n,
+        size: CODES * n,
     }
 }

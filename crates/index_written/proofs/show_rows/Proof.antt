@@ -1,10 +1,6 @@
 -- `index_written::show_rows` meets its contract.
 -- Assumes nothing.
-use native.Mathlib.Omega.{arith}
-use mathlib.Core.Path.{sym, _∙_}
-use Prim.Native.Nat.{_≤_}
-use Rattle.octets.specs.Octets.{zeros}
-use Rattle.index_written.proofs.Laws.{prefix}
+use Rattle.index_written.proofs.Laws.{can-place}
 use borrow.Author.Needs.{needs}
 use Rattle.index_written.proofs.show_rows.Statement.{statement}
 use Rattle.index_written.proofs.show_rows.Tie as tie
@@ -12,19 +8,11 @@ use Rattle.index_written.proofs.show_rows.Tie as tie
 slots-for-requires : tie.Need-slots-for-requires
 slots-for-requires c κs = search needs
 
-array-borrow-prefix-slots : tie.Need-array-borrow-prefix-slots
-array-borrow-prefix-slots c = search needs
-
-slice-aggregate-place : tie.Need-slice-aggregate-place
-slice-aggregate-place c = prefix _ _ (omega arith)
-
 place-requires : tie.Need-place-requires
-unfolding zeros
-place-requires c κs =
-    let n = c .before .before .slots-for .result in
-    let h : n ≤ 32 = c .before .if1 .taken in
-    let e = prefix n (zeros 32) h in
-    (sym e ∙ c .before .before .slots-for .ensures, omega arith, omega arith, omega (arith, e))
+place-requires c κs = let p = c .before .before .before .before .pre in (can-place _ _ _ (p .0) (p .1) (c .before .before .slots-for .ensures) (c .before .if1 .taken), p .0, c .before .if1 .taken)
+
+same-length : tie.Need-same-length
+same-length c = search needs
 
 returns : tie.Need-returns
 returns c = search needs
@@ -37,8 +25,7 @@ show-rows-spec =
     tie.close
     (tie.spec
     slots-for-requires
-    array-borrow-prefix-slots
-    slice-aggregate-place
     place-requires
+    same-length
     returns
     returns-2)
