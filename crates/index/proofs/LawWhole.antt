@@ -64,6 +64,7 @@ writable rs f l d z = record { fits = f; few = l; different = distinct-is (ident
 -- ---- all of it
 -- what is known of an index whose bytes were written from rows
 pub record Indexed (big : Bool) (version : ℕ) (rs : List Row) (s : List ℕ) : Type 0 where
+  pub few : length rs ≤ 2 ^ 30
   pub slots : Slots
   pub slots-are : slotsOf (identitiesOf rs) ≡ slots
   pub bytes-are : s ≡ indexWith big version (presentColumns version rs) rs slots
@@ -94,6 +95,7 @@ module _ (big : Bool) (version : ℕ) (rs : List Row) (w : Writable rs) where
   unfolding written
   indexed-slots =
       record {
+        few = w .few;
         slots = t;
         slots-are = refl;
         bytes-are = refl;

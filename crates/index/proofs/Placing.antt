@@ -5,6 +5,7 @@ use mathlib.Core.List.{List, [], _∷_}
 use Prim.Native.Nat.{ℕ, zero, suc, _+_, _%_, _^_, _<_, _≤_}
 use native.Mathlib.Nat.{not-suc-le-zero, le-of-suc-le-suc, mod-lt}
 use native.Mathlib.Omega.{arith}
+use native.Mathlib.Decide.{ℕ-discrete}
 use lib.ListN.{length, getD, set, length-set, length-replicate}
 use borrow.Author.Tests.{eq-eqb, ne-eqb}
 use Rattle.octets.specs.Octets.{zeros}
@@ -48,6 +49,15 @@ module _ (rows : List ℕ) (step : ℕ) where
       ∙ free-after m k ((at + step) % n) (mod-lt (at + step) (omega arith)) (le-of-suc-le-suc l) (ap (λ (i : ℕ). getD rows i 0) (slotAt-next n at step m) ∙ e)
       (λ j b z. before (suc j) (omega arith) (ap (λ (i : ℕ). getD rows i 0) (sym (slotAt-next n at step j)) ∙ z))
       ∙ slotAt-next n at step m
+
+-- it is one of the slots
+pub free-inside : (k : ℕ) (rows : List ℕ) (at by : ℕ) → at < length rows → freeFrom k rows at by < length rows
+unfolding freeFrom
+free-inside zero rows at by h = h
+free-inside (suc k) rows at by h = elim (ℕ-discrete (getD rows at 0) 0) [
+  | yes z ↦ rw (free-here rows by k at z) h
+  | no f ↦ rw (free-on rows by k at f) (free-inside k rows ((at + by) % length rows) by (mod-lt (at + by) (omega arith)))
+]
 
 -- placing always finds a free slot, where not all are used: the odd step visits every slot
 pub always-free : (rows : List ℕ) (x : ℕ) → PowerOfTwo (length rows) → used rows < length rows
