@@ -176,7 +176,7 @@ module _ (words table i count : ℕ) (w : List ℕ) (s : Seekable words w table 
             let p = slots-power words w table i count (s .can) in
             let row : recordAt R i .row ≡ length xs + 1 = fit .numbered .is i (omega arith) own ∙ ap (λ (k : ℕ). k + 1) (sym (identities-many R i table)) in
             rw (slot-set words w table i count (s .can) at (i + 1) free-inside, more)
-                  (seen-more seen p (few fit seen) x at (sought-free seen p (few fit seen) (different fit seen) x at e .1) (omega (arith, free-inside, slots-long words w table i count (s .can))) (sym is) row);
+            (seen-more seen p (few fit seen) x at (sought-free seen p (few fit seen) (different fit seen) x at e .1) (omega (arith, free-inside, slots-long words w table i count (s .can))) (sym is) row);
       })
 
 -- ---- all of them

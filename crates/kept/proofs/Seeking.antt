@@ -5,14 +5,13 @@ use mathlib.Core.List.{List, map}
 use Prim.Native.Nat.{ℕ, zero, suc, _+_, _*_, _-_, _%_, _≤_, _<_}
 use native.Mathlib.Nat.{sub-zero, mod-lt}
 use native.Mathlib.Omega.{arith}
-use native.Mathlib.Decide.{ℕ-discrete}
 use lib.ListN.{length, getD}
 use Rattle.index.specs.Probing.{Probe, found, absent, firstSlot, stride, look, search, freeFrom}
 use Rattle.index.specs.Held.{PowerOfTwo}
 use Rattle.index.proofs.Masks.{firstSlot-lt}
 use Rattle.index.proofs.LawGrid.{getD-map}
 use Rattle.index.proofs.LawLooks.{look-unused, look-found, look-on}
-use Rattle.index.proofs.Placing.{free-here, free-on}
+use Rattle.index.proofs.Placing.{free-here, free-on, free-inside}
 use Rattle.work.specs.Regions.{recordWords}
 use Rattle.kept.specs.Records.{identityFor}
 use Rattle.kept.specs.Slots.{Within, freeFor, soughtAs, soughtIn}

@@ -98,11 +98,13 @@ fn place_unit(work: &mut [u32], words: usize, table: usize, i: usize, count: usi
         return;
     }
     let x = crate::records::identity_at(&work[first..last], i);
-    let Sought::Free(at) = seek_in(work, words, table, i, count, x) else {
-        return;
-    };
-    let slots = work::slots(words, table);
-    octets::set_word(work, slots.start + at, i + 1);
+    match seek_in(work, words, table, i, count, x) {
+        Sought::Known(_) => {}
+        Sought::Free(at) => {
+            let slots = work::slots(words, table);
+            octets::set_word(work, slots.start + at, i + 1);
+        }
+    }
 }
 
 // All records of the table among n, in slots that are cleared.
