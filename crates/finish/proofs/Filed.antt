@@ -1,54 +1,53 @@
 -- From all objects filed and both tables placed to the sections of the package.
 -- Assumes nothing.
 use mathlib.Core.Path.{_≡_, refl, sym, ap, ap₂, _∙_}
-use mathlib.Core.Logic.{_⊎_, ⊎-elim}
+use mathlib.Core.Logic.{_⊎_, inl, inr, ⊎-elim}
 use mathlib.Core.Bool.{Bool, true, false}
 use mathlib.Core.List.{List, [], _∷_, _++_, map}
-use Prim.Native.Nat.{ℕ, _+_, _*_, _/_, _%_, _<_, _≤_}
+use Prim.Native.Nat.{ℕ, _*_, _/_, _%_, _^_, _<_, _≤_}
 use native.Mathlib.Omega.{arith}
 use lib.Dec.{eqb, leb}
-use lib.ListN.{length, length-map}
+use lib.ListN.{length}
 use borrow.Author.Tests.{ne-eqb, eq-eqb, ltb-true}
-use Rattle.octets.specs.Octets.{part, placed}
 use Rattle.octets.specs.Lists.{joined, those, all, distinct}
 use Rattle.octets.specs.Checked.{pass, _>>=_, require}
 use Rattle.octets.proofs.Checks.{then-pass}
-use Rattle.octets.proofs.Lists.{length-those}
 use Rattle.octets.proofs.Numbers.{Bytes}
-use Rattle.octets.proofs.Parts.{length-part}
-use Rattle.bundle.specs.Bundle.{Object, Bundle, bundleOf, body}
+use Rattle.bundle.specs.Bundle.{Object, bundleOf, body}
 use Rattle.bundle.specs.Encoding.{Encoding, encodingOf, encodingGood}
 use Rattle.bundle.specs.Encoded.{encodingIs}
 use Rattle.bundle.specs.Written.{Section, written}
 use Rattle.bundle.specs.declared.encoding.ObjectEncoding.{ObjectEncoding}
 use Rattle.bundle.proofs.Every.{Every, nothing, also}
 use Rattle.strings.specs.Strings.{strOf, remapped}
-use Rattle.strings.specs.declared.table.StringTable.{StringTable}
 use Rattle.strings.proofs.StrOffsets.{whole-entries}
-use Rattle.index.specs.Probing.{Slots, slotsOf}
 use Rattle.index.specs.Written.{Row, indexBytes}
-use Rattle.rows.specs.Layout.{versionFor, RowsHeld, identitiesOf}
 use Rattle.package.specs.Input.{Input}
 use Rattle.package.specs.Filing.{Filed, Filing, filingOf, firstWord, kept}
 use Rattle.package.specs.Pack.{rowsOf, unitBytes, sharedBytes, stringTable, sectionList, nonEmpty, packageSections, packageObjects}
 use Rattle.package.proofs.Inputs.{StringFacts}
 use Rattle.package.proofs.Filing.{FilingFacts, filing-facts}
-use Rattle.package.proofs.Kept.{identitiesIn, distinct-kept}
+use Rattle.package.proofs.Kept.{distinct-kept}
 use Rattle.package.proofs.Tables.{rows-named}
 use Rattle.package.proofs.UnitStrings.{good-versions}
-use Rattle.rows.proofs.LawRows.{length-identities}
-use Rattle.bundle.proofs.Sizes.{bundle-totals}
 use Rattle.finish.specs.Joining.{sectionsJoined, offsetsJoined, remappedIn, EntriesGood}
 use Rattle.finish.proofs.Remapping.{remapped-in}
 use Rattle.finish.specs.Sections.{sectionsFrom, sectionsBy, notEmpty}
-use Rattle.keeping.specs.Regions.{rowsStart, placesStart}
-use Rattle.filing.specs.State.{Held, unitsOf}
-use Rattle.filing.specs.declared.state.InProgress.{InProgress}
-use Rattle.finish.specs.Ready.{IndexHeld, Ready}
+use Rattle.numbers.specs.Tables.{compilationTable, typeTable}
+use Rattle.index.specs.Probing.{slotsFor}
+use Rattle.work.specs.Regions.{recordsRegion, stringsRegion, region}
+use Rattle.work.proofs.Stores.{slots-records, slots-strings}
+use Rattle.kept.specs.Columns.{versionFor}
+use Rattle.kept.specs.Slots.{Placeable, Fitting, seenSlots, slotsIn}
+use Rattle.kept.specs.Records.{bytesFrom}
+use Rattle.kept.specs.Held.{identitiesOf, pick, OneOrTwo, TableHeld, UnitsHeld}
+use Rattle.kept.specs.declared.Table.{Table}
+use Rattle.kept.specs.declared.state.InProgress.{InProgress}
+use Rattle.finish.specs.Ready.{TablesPlaceable, BothPlaced, formOf, IndexHeld, Ready}
 use Rattle.finish.specs.Finish.{packageOf, packageIn, oneObject, AllFiled}
 use Rattle.finish.proofs.Objects.{Matched, none, more, objects-matched, matched-joined, kept-few}
-use Rattle.finish.proofs.Regions.{regions-same, region-before, region-behind, region-cu, region-tu}
-use Rattle.finish.proofs.Indexes.{slots-small, slots-made, index-held}
+use Rattle.finish.proofs.Indexes.{rows-few, table-fits, index-held}
+use Rattle.finish.proofs.TwoTables.{table-asks}
 
 -- ---- the sections of the package by code
 unfoldable pub sectionOf : Filing → List ℕ → List ℕ → ℕ → List ℕ
@@ -67,6 +66,10 @@ sectionOf f cu tu c =
 list-is : (f : Filing) (cu tu : List ℕ) → those nonEmpty (sectionList f cu tu) ≡ sectionsBy (sectionOf f cu tu)
 unfolding sectionList sectionsBy sectionsFrom sectionOf nonEmpty notEmpty
 list-is f cu tu = refl
+
+section-units : (f : Filing) (cu tu : List ℕ) (c : ℕ) → OneOrTwo c → sectionOf f cu tu c ≡ unitBytes (kept (f .units)) c
+unfolding sectionOf
+section-units f cu tu c h = ⊎-elim (λ (z : c ≡ 1). rw z) (λ (z : c ≡ 2). rw z) h
 
 shared-section : (f : Filing) (cu tu : List ℕ) (c : ℕ) → 3 ≤ c → c ≤ 10 → sectionOf f cu tu c ≡ sharedBytes (stringTable (f .inputs)) (f .inputs) c
 unfolding sectionOf
@@ -103,19 +106,6 @@ matched-offsets b e table (o ∷ os) (i ∷ is) (more p m) =
     ap₂ (λ (x y : List ℕ). x ++ y) one (matched-offsets b e table os is m)
 
 -- ---- rows
-rows-few : (us : List Filed) (t : ℕ) → length (rowsOf (kept us) t) ≤ length us
-unfolding identitiesIn identitiesOf
-rows-few us t =
-    let ks = kept us in
-    omega (
-      arith,
-      length-map (rowsOf ks t) (λ (r : Row). r .identity),
-      ap length (rows-named ks t),
-      length-map (those (λ (u : Filed). eqb (u .table) t) ks) (λ (u : Filed). u .identity),
-      length-those (λ (u : Filed). eqb (u .table) t) ks,
-      kept-few us,
-    )
-
 rows-distinct : (us : List Filed) (t : ℕ) → distinct (identitiesOf (rowsOf (kept us) t)) ≡ true
 unfolding identitiesOf
 rows-distinct us t = ap distinct (rows-named (kept us) t) ∙ distinct-kept t us
@@ -124,12 +114,8 @@ version-for : (v : ℕ) (five : Bool) → five ≡ eqb v 5 → (v ≡ 4) ⊎ (v 
 unfolding versionFor
 version-for v five e d = ⊎-elim (λ (z : v ≡ 4). rw (e, ne-eqb v 5 (λ q. omega arith)) (sym z)) (λ (z : v ≡ 5). rw (e, eq-eqb v 5 z) (sym z)) d
 
--- a bundle that can be read has at least a head and an end
-pub bundle-least : (b : List ℕ) (u : Bundle) → bundleOf b ≡ pass u → 8 ≤ length b
-bundle-least b u e = omega (arith, bundle-totals b u e)
-
 -- ---- all of it
-module _ (big : Bool) (b : List ℕ) (st : InProgress) (t : StringTable) (w : List ℕ) (a : AllFiled big b st t w) (ok : Bytes b) (o : Object) (os : List Object)
+module _ (big : Bool) (b : List ℕ) (st : InProgress) (w : List ℕ) (a : AllFiled big b st w) (ok : Bytes b) (o : Object) (os : List Object)
     (first : a .bundle .objects ≡ o ∷ os) where
   abbrev E : Encoding
   E = encodingOf big (o .word)
@@ -163,33 +149,56 @@ module _ (big : Bool) (b : List ℕ) (st : InProgress) (t : StringTable) (w : Li
   abbrev rows : ℕ → List Row
   rows x = rowsOf (kept (a .filing .units)) x
 
-  pub rows-most : (x : ℕ) → 5 * length (rows x) ≤ length b / 4
-  rows-most x = omega (arith, rows-few (a .filing .units) x, a .held .spent, a .held .words)
+  abbrev n : ℕ
+  n = length b / 4
+
+  -- the records
+  abbrev R : List ℕ
+  R = region w n recordsRegion
+
+  units-few : 5 * st .units .count ≤ n
+  units-few = omega (arith, a .held .held .count, kept-few (a .filing .units), a .held .spent, a .held .words)
 
   module _ (e : ObjectEncoding) (encoding : encodingIs e ≡ E) (same : e .big ≡ big) (five : e .five ≡ eqb (o .word % 256) 5) where
-    held : Held (e .five) b (length b / 4) (length b) w st (a .bases) (a .filing .units)
+    held : UnitsHeld (e .five) b R (λ t. slotsIn w n t (seenSlots n)) (st .units) (kept (a .filing .units))
     held =
         let q : e .five ≡ eqb (firstWord (a .bundle .objects) % 256) 5 = five ∙ ap (λ (v : ℕ). eqb (v % 256) 5) (sym word-is) in
-        rw q (a .held)
+        rw q (a .held .held)
 
     version-is : versionFor (e .five) ≡ firstWord (a .bundle .objects) % 256
     unfolding encodingOf
     version-is = rw word-is (version-for (o .word % 256) (e .five) five (good-versions E first-good))
 
-    -- what the placing of tables is told
-    pub cu-rows : RowsHeld (e .five) (part w 0 (4 * (length b / 4))) (rows 1)
-    unfolding rowsStart
-    cu-rows = held .cu .rows
+    -- both tables
+    cu-table : TableHeld (e .five) R (st .units .count) (slotsIn w n compilationTable (seenSlots n)) compilationTable (st .units .cu) (rows 1)
+    unfolding pick
+    cu-table = held .tables 1 (inl refl)
 
-    pub tu-rows : RowsHeld (e .five) (part w (4 * (length b / 4)) (4 * (length b / 4))) (rows 2)
-    unfolding rowsStart
-    tu-rows = held .tu .rows
+    tu-table : TableHeld (e .five) R (st .units .count) (slotsIn w n typeTable (seenSlots n)) typeTable (st .units .tu) (rows 2)
+    unfolding pick
+    tu-table = held .tables 2 (inr refl)
 
-    pub cu-count : st .cu .count ≡ length (rows 1)
-    cu-count = held .cu .count
+    pub cu-fits : Fitting R (st .units .count) compilationTable (slotsFor (st .units .cu .rows))
+    cu-fits = table-fits (e .five) R (st .units .count) _ compilationTable (st .units .cu) (rows 1) cu-table (rows-distinct (a .filing .units) 1) (omega (arith, units-few, a .held .limit))
 
-    pub tu-count : st .tu .count ≡ length (rows 2)
-    tu-count = held .tu .count
+    pub tu-fits : Fitting R (st .units .count) typeTable (slotsFor (st .units .tu .rows))
+    tu-fits = table-fits (e .five) R (st .units .count) _ typeTable (st .units .tu) (rows 2) tu-table (rows-distinct (a .filing .units) 2) (omega (arith, units-few, a .held .limit))
+
+    pub tables-asks : TablesPlaceable n (st .units) (length w)
+    tables-asks = record {
+      enough = a .held .room;
+      some = a .held .some;
+      limit = omega (arith, a .held .limit, a .held .words);
+      few = units-few;
+      cuFew = rows-few (e .five) R (st .units .count) _ compilationTable (st .units .cu) (rows 1) cu-table;
+      tuFew = rows-few (e .five) R (st .units .count) _ typeTable (st .units .tu) (rows 2) tu-table;
+    }
+
+    pub rows-most : (length (rows 1) ≤ 2 ^ 31) × (length (rows 2) ≤ 2 ^ 31)
+    rows-most = (
+      omega (arith, tables-asks .cuFew, cu-table .count, units-few, a .held .limit),
+      omega (arith, tables-asks .tuFew, tu-table .count, units-few, a .held .limit),
+    )
 
     module _ (cu tu : List ℕ) (cu-is : indexBytes (e .big) (versionFor (e .five)) (rows 1) ≡ pass cu) (tu-is : indexBytes (e .big) (versionFor (e .five)) (rows 2) ≡ pass tu) where
       sections-pass : packageSections (a .bundle .big) (firstWord (a .bundle .objects) % 256) (a .filing) ≡ pass (sectionsBy (sectionOf (a .filing) cu tu))
@@ -214,59 +223,40 @@ module _ (big : Bool) (b : List ℕ) (st : InProgress) (t : StringTable) (w : Li
           ∙ ap₂ (λ (x : Bool) (ps : List Object). require (all (λ (s : Section). leb (length (s .bytes)) 8_388_607) ss) 19 >>= (λ _. pass (written x (packageObjects ps ss)))) g first
 
       -- str is above the limit
-      pub str-over : t .over ≡ true → 8_388_607 < length (sectionOf (a .filing) cu tu 11)
+      pub str-over : st .strings .over ≡ true → 8_388_607 < length (sectionOf (a .filing) cu tu 11)
       unfolding sectionOf
       str-over v = ltb-true 8_388_607 _ (sym (a .strings .over) ∙ v)
 
-      module _ (s1 s2 : Slots) (made1 : slotsOf (identitiesOf (rows 1)) ≡ pass s1) (made2 : slotsOf (identitiesOf (rows 2)) ≡ pass s2) (v : List ℕ)
-          (placed-is : v ≡ placed (placed w (11 * (length b / 4)) (s1 .rows)) (12 * (length b / 4)) (s2 .rows)) (small : t .over ≡ false) where
-        two : 2 ≤ length b / 4
-        two = omega (arith, a .held .words, bundle-least b (a .bundle) (a .reads))
+      -- both tables are placed, which leaves work v
+      module _ (v : List ℕ) (p : BothPlaced n (st .units) w v) (small : st .strings .over ≡ false) where
+        records-same : region v n recordsRegion ≡ R
+        records-same = p .others recordsRegion (slots-records compilationTable) (slots-records typeTable)
 
-        long1 : length (s1 .rows) ≤ length b / 4
-        long1 = rw (slots-made (identitiesOf (rows 1)) s1 made1, length-identities (rows 1)) (slots-small (length b / 4) (length (rows 1)) two (rows-most 1))
+        asks : (table : ℕ) (t : Table) → t .rows ≤ st .units .count → Placeable n (length v) table (st .units .count) (slotsFor (t .rows))
+        asks table t h = rw (p .same) (table-asks n (st .units) (length w) tables-asks table (t .rows) (slotsFor (t .rows)) h refl)
 
-        long2 : length (s2 .rows) ≤ length b / 4
-        long2 = rw (slots-made (identitiesOf (rows 2)) s2 made2, length-identities (rows 2)) (slots-small (length b / 4) (length (rows 2)) two (rows-most 2))
+        cu-held : IndexHeld (formOf e compilationTable (st .units .cu)) n (st .units .count) v cu
+        cu-held = index-held (formOf e compilationTable (st .units .cu)) n (st .units .count) R v (rows 1) cu (cu-table .count) (cu-table .rows) (cu-table .columns) (asks compilationTable (st .units .cu) (tables-asks .cuFew)) records-same (p .cu) cu-is
 
-        before : (x m : ℕ) → x + m ≤ 11 * (length b / 4) → part v x m ≡ part w x m
-        before x m h = region-before w (s1 .rows) (s2 .rows) v (length b / 4) (a .held .room) long1 long2 placed-is x m h
+        tu-held : IndexHeld (formOf e typeTable (st .units .tu)) n (st .units .count) v tu
+        tu-held = index-held (formOf e typeTable (st .units .tu)) n (st .units .count) R v (rows 2) tu (tu-table .count) (tu-table .rows) (tu-table .columns) (asks typeTable (st .units .tu) (tables-asks .tuFew)) records-same (p .tu) tu-is
 
-        behind : (x m : ℕ) → 13 * (length b / 4) ≤ x → part v x m ≡ part w x m
-        behind x m h = region-behind w (s1 .rows) (s2 .rows) v (length b / 4) (a .held .room) long1 long2 placed-is x m h
-
-        long-v : length v ≡ length w
-        long-v = regions-same w (s1 .rows) (s2 .rows) v (length b / 4) (a .held .room) long1 long2 placed-is
-
-        cu-held : IndexHeld e (st .cu) (part v 0 (4 * (length b / 4))) (part v (11 * (length b / 4)) (length b / 4)) cu
-        cu-held = index-held e (st .cu) _ _ (rows 1) s1 cu cu-count (omega (arith, rows-most 1, a .held .limit)) (rw (before 0 (4 * (length b / 4)) (omega arith)) cu-rows) (held .cu .columns)
-            (rows-distinct (a .filing .units) 1) made1
-            (rw (length-part v (11 * (length b / 4)) (length b / 4) (omega (arith, long-v, a .held .room))) (slots-small (length b / 4) (length (rows 1)) two (rows-most 1)))
-            (region-cu w (s1 .rows) (s2 .rows) v (length b / 4) (a .held .room) long1 long2 placed-is) cu-is
-
-        tu-held : IndexHeld e (st .tu) (part v (4 * (length b / 4)) (4 * (length b / 4))) (part v (12 * (length b / 4)) (length b / 4)) tu
-        tu-held = index-held e (st .tu) _ _ (rows 2) s2 tu tu-count (omega (arith, rows-most 2, a .held .limit)) (rw (before (4 * (length b / 4)) (4 * (length b / 4)) (omega arith)) tu-rows) (held .tu .columns)
-            (rows-distinct (a .filing .units) 2) made2
-            (rw (length-part v (12 * (length b / 4)) (length b / 4) (omega (arith, long-v, a .held .room))) (slots-small (length b / 4) (length (rows 2)) two (rows-most 2)))
-            (region-tu w (s1 .rows) (s2 .rows) v (length b / 4) (a .held .room) long1 long2 placed-is) tu-is
-
-        pub all-ready : Ready e b st t v (sectionOf (a .filing) cu tu)
-        unfolding sectionOf unitBytes unitsOf placesStart sectionsJoined
+        pub all-ready : Ready e b st v (sectionOf (a .filing) cu tu)
+        unfolding sectionOf sectionsJoined pick
         all-ready = record {
           bundle = a .bundle;
           reads = a .reads;
           limit = a .held .limit;
-          room = omega (arith, long-v, a .held .room);
-          infoUnits = unitsOf (kept (a .filing .units)) 1;
-          info = rw (behind (13 * (length b / 4)) (length b / 4) (omega arith)) (a .held .info);
-          infoIs = refl;
-          typesUnits = unitsOf (kept (a .filing .units)) 2;
-          types = rw (behind (14 * (length b / 4)) (length b / 4) (omega arith)) (a .held .types);
-          typesIs = refl;
+          room = rw (p .same) (a .held .room);
+          few = omega (arith, units-few);
+          inside = rw records-same (held .inside);
+          unitsAre = λ c h. section-units (a .filing) cu tu c h ∙ sym (ap (λ (x : List ℕ). bytesFrom b x c 0 (st .units .count)) records-same ∙ held .bytes c);
+          infoMany = held .many 1 (inl refl);
+          typesMany = held .many 2 (inr refl);
           based = λ c h g. a .held .based c (omega arith) ∙ a .based c h g ∙ ap length (matched-joined b E (a .bundle .objects) (a .filing .inputs) matched c);
           shared = λ c h g f. shared-section (a .filing) cu tu c h g ∙ shared-other (stringTable (a .filing .inputs)) (a .filing .inputs) c f ∙ matched-joined b E (a .bundle .objects) (a .filing .inputs) matched c;
           table = stringTable (a .filing .inputs);
-          kept = rw (before (8 * (length b / 4)) (3 * (length b / 4)) (omega arith)) (a .strings);
+          kept = rw (p .others stringsRegion (slots-strings compilationTable) (slots-strings typeTable)) (a .strings);
           small = small;
           strIs = refl;
           good = rw encoding (matched-good b E (a .bundle .objects) (a .filing .inputs) matched);

@@ -3,11 +3,9 @@
 use mathlib.Core.Path.{_≡_, refl, sym, ap, _∙_}
 use mathlib.Core.Bool.{Bool, true, false}
 use mathlib.Core.List.{List, [], _∷_}
-use Prim.Native.Nat.{ℕ, _*_, _/_, _%_, _^_, _≤_}
-use native.Mathlib.Omega.{arith}
+use Prim.Native.Nat.{ℕ, _/_, _%_}
 use lib.Dec.{leb}
 use lib.ListN.{length, drop}
-use Rattle.octets.specs.Octets.{part, placed}
 use Rattle.octets.specs.Lists.{joined, those, all}
 use Rattle.octets.specs.Checked.{pass, refuse, _>>=_, require}
 use Rattle.octets.proofs.Checks.{then-pass, pass-inj}
@@ -22,21 +20,17 @@ use Rattle.bundle.specs.declared.encoding.ObjectEncoding.{ObjectEncoding}
 use Rattle.bundle.specs.declared.encoding.WordRead.the-variants.{Good, Bad}
 use Rattle.bundle.proofs.Objects.{objects-none, objects-object}
 use Rattle.strings.specs.Strings.{firstUses, putAll, strOf}
-use Rattle.strings.specs.declared.table.StringTable.{StringTable}
-use Rattle.index.specs.Probing.{Slots, slotsOf}
-use Rattle.index.specs.Written.{Row, indexBytes}
-use Rattle.index.proofs.Placing.{slotsOf-passes}
+use Rattle.index.specs.Written.{indexBytes}
 use Rattle.index.proofs.LawWhole.{indexBytes-passes}
-use Rattle.rows.specs.Layout.{versionFor, RowsHeld, identitiesOf}
-use Rattle.rows.proofs.LawRows.{length-identities}
+use Rattle.kept.specs.Columns.{versionFor}
+use Rattle.kept.specs.declared.state.InProgress.{InProgress}
 use Rattle.package.specs.Filing.{Filing, filingOf, filingFrom, firstWord, kept, keepAll}
 use Rattle.package.specs.Pack.{rowsOf, entriesFrom, unitBytes, sharedBytes, allUsed, stringTable, sectionList, nonEmpty, packageSections, packageObjects}
-use Rattle.filing.specs.declared.state.InProgress.{InProgress}
-use Rattle.finish.specs.Ready.{TablesPlaceable, Ready}
+use Rattle.finish.specs.Ready.{TablesPlaceable, BothPlaced, TablesPlaced, Ready}
 use Rattle.finish.specs.Finish.{packageOf, packageIn, oneObject, AllFiled}
 use Rattle.finish.proofs.Answers.{one-over}
 use Rattle.finish.proofs.Words.{word-never-bad, word-encoding, word-big, word-five}
-use Rattle.finish.proofs.Filed.{sectionOf, bundle-least, first-good, rows-most, cu-rows, tu-rows, cu-count, tu-count, package-one, str-over, all-ready}
+use Rattle.finish.proofs.Filed.{sectionOf, first-good, cu-fits, tu-fits, tables-asks, rows-most, package-one, str-over, all-ready}
 
 -- ---- without objects
 none-filed : (b : List ℕ) (k : Bundle) (f : Filing) → k .objects ≡ [] → filingOf b k ≡ pass f → f ≡ record { inputs = []; units = [] }
@@ -52,9 +46,9 @@ written-none : (x big : Bool) (os : List Object) → x ≡ big → os ≡ []
 unfolding all require _>>=_ packageObjects
 written-none x big os e z = rw (e, z)
 
-pub empty-package : (big : Bool) (b : List ℕ) (st : InProgress) (t : StringTable) (w : List ℕ) (a : AllFiled big b st t w) → a .bundle .objects ≡ [] → packageIn b ≡ pass (written big [])
+pub empty-package : (big : Bool) (b : List ℕ) (st : InProgress) (w : List ℕ) (a : AllFiled big b st w) → a .bundle .objects ≡ [] → packageIn b ≡ pass (written big [])
 unfolding packageIn packageOf
-empty-package big b st t w a z =
+empty-package big b st w a z =
     let k = a .bundle in
     let nothing : packageSections (k .big) (firstWord (k .objects) % 256) (a .filing) ≡ pass [] =
     ap (packageSections (k .big) (firstWord (k .objects) % 256)) (none-filed b k (a .filing) z (a .filed)) ∙ nothing-packed (k .big) (firstWord (k .objects) % 256) in
@@ -69,62 +63,44 @@ first-object b k e word next q =
     (leading (n .ahead), (objectsOf (n .more .rest), sym (n .more .is)))
 
 -- everything that the end of packing cites; s are the sections
-pub record Ending (big : Bool) (b : List ℕ) (st : InProgress) (t : StringTable) (w : List ℕ) (e : ObjectEncoding) (word : ℕ) : Type 0 where
+pub record Ending (big : Bool) (b : List ℕ) (st : InProgress) (w : List ℕ) (e : ObjectEncoding) (word : ℕ) : Type 0 where
   pub s : ℕ → List ℕ
-  pub cu : Slots
-  pub tu : Slots
-  pub asks : TablesPlaceable (length b / 4) (st .cu .count) (st .tu .count) (length w)
+  pub asks : TablesPlaceable (length b / 4) (st .units) (length w)
   pub whole : packageIn b ≡ oneObject (e .big) word s
-  pub over : t .over ≡ true → packageIn b ≡ refuse 19
+  pub over : st .strings .over ≡ true → packageIn b ≡ refuse 19
   -- what the placing of both tables tells
-  pub told : (r : Bool) (v : List ℕ)
-      → ((five : Bool) (cus tus : List Row) (x y : Slots) → RowsHeld five (part w 0 (4 * (length b / 4))) cus → st .cu .count ≡ length cus
-      → RowsHeld five (part w (4 * (length b / 4)) (4 * (length b / 4))) tus → st .tu .count ≡ length tus → slotsOf (identitiesOf cus) ≡ pass x → slotsOf (identitiesOf tus) ≡ pass y
-      → (r ≡ true) × (v ≡ placed (placed w (11 * (length b / 4)) (x .rows)) (12 * (length b / 4)) (y .rows)))
-      → (r ≡ true) × (v ≡ placed (placed w (11 * (length b / 4)) (cu .rows)) (12 * (length b / 4)) (tu .rows))
-  pub ready : (v : List ℕ) → v ≡ placed (placed w (11 * (length b / 4)) (cu .rows)) (12 * (length b / 4)) (tu .rows) → t .over ≡ false → Ready e b st t v s
+  pub told : (r : Bool) (v : List ℕ) → TablesPlaced (length b / 4) (st .units) w v r → (r ≡ true) × BothPlaced (length b / 4) (st .units) w v
+  pub ready : (v : List ℕ) → BothPlaced (length b / 4) (st .units) w v → st .strings .over ≡ false → Ready e b st v s
 
-module _ (big : Bool) (b : List ℕ) (st : InProgress) (t : StringTable) (w : List ℕ) (a : AllFiled big b st t w) (ok : Bytes b) (word next : ℕ)
+module _ (big : Bool) (b : List ℕ) (st : InProgress) (w : List ℕ) (a : AllFiled big b st w) (ok : Bytes b) (word next : ℕ)
     (q : AnObject word next ≡ nextOf 4 (stepAt 4 (drop 4 b))) where
   one : Object
   one = record { word = word; parts = first-object b (a .bundle) (a .reads) word next q .0 }
 
   pub word-good : Bad ≡ wordRead (encodingOf big word) → ⊥
   unfolding one
-  word-good z = let f = first-object b (a .bundle) (a .reads) word next q in word-never-bad (encodingOf big word) (first-good big b st t w a ok one (f .1 .0) (f .1 .1)) z
+  word-good z = let f = first-object b (a .bundle) (a .reads) word next q in word-never-bad (encodingOf big word) (first-good big b st w a ok one (f .1 .0) (f .1 .1)) z
 
-  pub ending : (e : ObjectEncoding) → Good e ≡ wordRead (encodingOf big word) → Ending big b st t w e word
+  pub ending : (e : ObjectEncoding) → Good e ≡ wordRead (encodingOf big word) → Ending big b st w e word
   unfolding one encodingOf
   ending e g =
       let f = first-object b (a .bundle) (a .reads) word next q in
       let os = f .1 .0 in
       let first = f .1 .1 in
       let E = encodingOf big word in
-      let good = first-good big b st t w a ok one os first in
+      let good = first-good big b st w a ok one os first in
       let encoding = word-encoding E good e g in
       let same = word-big E good e g in
       let five = word-five E good e g in
-      let most : (x : ℕ) → length (rowsOf (kept (a .filing .units)) x) ≤ 2 ^ 31 = λ x. omega (arith, rows-most big b st t w a ok one os first x, a .held .limit) in
-      let cu-count-is = cu-count big b st t w a ok one os first e encoding same five in
-      let tu-count-is = tu-count big b st t w a ok one os first e encoding same five in
-      let s1 = slotsOf-passes (identitiesOf (rowsOf (kept (a .filing .units)) 1)) (omega (arith, length-identities (rowsOf (kept (a .filing .units)) 1), most 1)) in
-      let s2 = slotsOf-passes (identitiesOf (rowsOf (kept (a .filing .units)) 2)) (omega (arith, length-identities (rowsOf (kept (a .filing .units)) 2), most 2)) in
-      let c1 = indexBytes-passes (e .big) (versionFor (e .five)) (rowsOf (kept (a .filing .units)) 1) (most 1) in
-      let c2 = indexBytes-passes (e .big) (versionFor (e .five)) (rowsOf (kept (a .filing .units)) 2) (most 2) in
-      let same-package = package-one big b st t w a ok one os first e encoding same five (c1 .0) (c2 .0) (c1 .1) (c2 .1) in
+      let most = rows-most big b st w a ok one os first e encoding same five in
+      let c1 = indexBytes-passes (e .big) (versionFor (e .five)) (rowsOf (kept (a .filing .units)) 1) (most .0) in
+      let c2 = indexBytes-passes (e .big) (versionFor (e .five)) (rowsOf (kept (a .filing .units)) 2) (most .1) in
+      let same-package = package-one big b st w a ok one os first e encoding same five (c1 .0) (c2 .0) (c1 .1) (c2 .1) in
       record {
         s = sectionOf (a .filing) (c1 .0) (c2 .0);
-        cu = s1 .0;
-        tu = s2 .0;
-        asks = record {
-          enough = a .held .room;
-          some = omega (arith, a .held .words, bundle-least b (a .bundle) (a .reads));
-          limit = omega (arith, a .held .limit);
-          cuFew = omega (arith, cu-count-is, rows-most big b st t w a ok one os first 1);
-          tuFew = omega (arith, tu-count-is, rows-most big b st t w a ok one os first 2);
-        };
+        asks = tables-asks big b st w a ok one os first e encoding same five;
         whole = same-package;
-        over = λ v. same-package ∙ one-over (e .big) word (sectionOf (a .filing) (c1 .0) (c2 .0)) (str-over big b st t w a ok one os first e encoding same five (c1 .0) (c2 .0) (c1 .1) (c2 .1) v);
-        told = λ r v h. h (e .five) (rowsOf (kept (a .filing .units)) 1) (rowsOf (kept (a .filing .units)) 2) (s1 .0) (s2 .0) (cu-rows big b st t w a ok one os first e encoding same five) cu-count-is (tu-rows big b st t w a ok one os first e encoding same five) tu-count-is (s1 .1) (s2 .1);
-        ready = λ v p z. all-ready big b st t w a ok one os first e encoding same five (c1 .0) (c2 .0) (c1 .1) (c2 .1) (s1 .0) (s2 .0) (s1 .1) (s2 .1) v p z;
+        over = λ v. same-package ∙ one-over (e .big) word (sectionOf (a .filing) (c1 .0) (c2 .0)) (str-over big b st w a ok one os first e encoding same five (c1 .0) (c2 .0) (c1 .1) (c2 .1) v);
+        told = λ r v h. h .placed (cu-fits big b st w a ok one os first e encoding same five) (tu-fits big b st w a ok one os first e encoding same five);
+        ready = λ v p z. all-ready big b st w a ok one os first e encoding same five (c1 .0) (c2 .0) (c1 .1) (c2 .1) v p z;
       }

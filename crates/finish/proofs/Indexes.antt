@@ -1,31 +1,36 @@
--- A table's index: the rows in work, the slots placed from them, and the definition's bytes.
+-- A table's index: the records in work, the slots placed from them, and the definition's bytes.
 -- Assumes nothing.
-use mathlib.Core.Path.{_≡_, refl, sym, ap, _∙_}
-use mathlib.Core.Bool.{true}
+use mathlib.Core.Path.{_≡_, refl, sym, ap, subst, _∙_}
+use mathlib.Core.Bool.{Bool, true}
 use mathlib.Core.List.{List, [], _∷_}
-use Prim.Native.Nat.{ℕ, _*_, _<_, _≤_}
+use Prim.Native.Nat.{ℕ, _*_, _^_, _<_, _≤_}
 use native.Mathlib.Omega.{arith}
 use native.Mathlib.Decide.{ℕ-discrete}
-use lib.ListN.{length, take}
-use Rattle.octets.specs.Octets.{zeros}
-use Rattle.octets.proofs.Placed.{length-zeros}
+use lib.ListN.{length}
 use Rattle.octets.specs.Lists.{distinct}
 use Rattle.octets.specs.Checked.{pass}
 use Rattle.octets.proofs.Checks.{pass-inj}
-use Rattle.bundle.specs.declared.encoding.ObjectEncoding.{ObjectEncoding}
-use Rattle.index.specs.Probing.{Slots, unused, slotsFor, placeAll, slotsOf}
+use Rattle.octets.proofs.Lists.{length-those}
+use Rattle.index.specs.Held.{PowerOfTwo}
+use Rattle.index.specs.Probing.{unused, slotsFor, placeAll, slotsOf}
 use Rattle.index.specs.Written.{Row, indexBytes, indexWith, presentColumns}
-use Rattle.index.proofs.Slots.{slotsFor-le, slotsFor-few}
+use Rattle.index.proofs.Slots.{slotsFor-le, slotsFor-gt, slotsFor-few, slotsFor-power}
 use Rattle.index.proofs.LawWhole.{indexBytes-is}
-use Rattle.rows.specs.Layout.{versionFor, RowsHeld, ColumnsHeld, SeenHeld, identitiesOf}
-use Rattle.rows.proofs.LawRows.{length-identities}
-use Rattle.rows.proofs.LawSeen.{seen-rows-in}
-use Rattle.rows.proofs.LawPlacing.{placed-slots}
-use Rattle.placing.proofs.Placing.{placed-sized}
-use Rattle.rows.proofs.LawIndex.{index-is}
-use Rattle.keeping.specs.declared.Table.{Table}
+use Rattle.work.specs.Regions.{recordsRegion, region}
+use Rattle.kept.specs.Columns.{versionFor, ColumnsHeld}
+use Rattle.kept.specs.Records.{inTable, recordsFrom, ofTable, identitiesIn}
+use Rattle.kept.specs.Slots.{SeenHeld, slotsIn, Placeable, Fitting}
+use Rattle.kept.specs.Indexed.{indexIn}
+use Rattle.kept.specs.Held.{identitiesOf, RowsAre, TableHeld}
+use Rattle.kept.specs.declared.Table.{Table}
+use Rattle.kept.specs.declared.writing.IndexForm.{IndexForm}
+use Rattle.kept.proofs.Recording.{records-many}
+use Rattle.kept.proofs.Placing.{slots-long}
+use Rattle.kept.proofs.Holding.{rows-many, rows-identities, length-identities}
+use Rattle.kept.proofs.Indexing.{index-is}
 use Rattle.finish.specs.Ready.{IndexHeld}
 
+-- ---- slots
 -- slots for so few rows take no more words than a bundle has
 pub slots-small : (n k : ℕ) → 2 ≤ n → 5 * k ≤ n → slotsFor k ≤ n
 slots-small n k h g = elim (ℕ-discrete k 0) [
@@ -33,47 +38,69 @@ slots-small n k h g = elim (ℕ-discrete k 0) [
   | no f ↦ omega (arith, slotsFor-le k (omega arith))
 ]
 
--- as many slots as the rows take
-pub slots-made : (xs : List ℕ) (s : Slots) → slotsOf xs ≡ pass s → length (s .rows) ≡ slotsFor (length xs)
-slots-made xs s e = placed-sized (zeros (slotsFor (length xs))) 1 xs (s .rows) (placed-slots xs s e) ∙ length-zeros (slotsFor (length xs))
+pub slots-power : (k : ℕ) → PowerOfTwo (slotsFor k)
+slots-power k = let p = slotsFor-power k in record { power = p .power; is = p .is }
 
+-- a table has no more rows than there are records
+pub table-few : (w : List ℕ) (n t : ℕ) → length (ofTable w n t) ≤ n
+unfolding ofTable
+table-few w n t = omega (arith, length-those (inTable t) (recordsFrom w 0 n), records-many w 0 n)
+
+-- the identities of a table are those of its rows; they fit
+module _ (five : Bool) (w : List ℕ) (n : ℕ) (slots : List ℕ) (t : ℕ) (tab : Table) (rs : List Row) (h : TableHeld five w n slots t tab rs) where
+  pub rows-few : tab .rows ≤ n
+  rows-few = omega (arith, h .count, rows-many five (ofTable w n t) rs (h .rows), table-few w n t)
+
+  pub table-fits : distinct (identitiesOf rs) ≡ true → n ≤ 2 ^ 31 → Fitting w n t (slotsFor (tab .rows))
+  unfolding identitiesIn
+  table-fits d few =
+      let ids : identitiesIn w n t ≡ identitiesOf rs = rows-identities five (ofTable w n t) rs (h .rows) in
+      record {
+        numbered = h .numbered;
+        different = ap distinct ids ∙ d;
+        few = rw (ids, length-identities rs, h .count) (slotsFor-gt (length rs) (omega (arith, rows-few, h .count)));
+      }
+
+-- ---- the index
 no-rows : (rs : List Row) → length rs ≡ 0 → rs ≡ []
 no-rows [] z = refl
 no-rows (r ∷ rs) z = absurd (omega arith)
 
-module _ (e : ObjectEncoding) (t : Table) (rows slots : List ℕ) (rs : List Row) (s : Slots) (bytes : List ℕ) (count : t .count ≡ length rs) (few : length rs ≤ 1_048_576)
-    (held : RowsHeld (e .five) rows rs) (columns : ColumnsHeld (e .five) (t .has) rs) (different : distinct (identitiesOf rs) ≡ true)
-    (made : slotsOf (identitiesOf rs) ≡ pass s) (room : slotsFor (length rs) ≤ length slots) (stand : take (length (s .rows)) slots ≡ s .rows)
-    (is : indexBytes (e .big) (versionFor (e .five)) rs ≡ pass bytes) where
-  slots-long : length (s .rows) ≡ slotsFor (length rs)
-  slots-long = slots-made (identitiesOf rs) s made ∙ ap slotsFor (length-identities rs)
+-- R are the records of work v
+module _ (f : IndexForm) (words n : ℕ) (R v : List ℕ) (rs : List Row) (bytes : List ℕ) (count : f .rows ≡ length rs)
+    (held : RowsAre (f .five) (ofTable R n (f .table)) rs) (columns : ColumnsHeld (f .five) (f .has) rs)
+    (can : Placeable words (length v) (f .table) n (slotsFor (f .rows))) (same : region v words recordsRegion ≡ R)
+    (placed : SeenHeld R (slotsIn v words (f .table) (slotsFor (f .rows))) n (identitiesIn R n (f .table)))
+    (is : indexBytes (f .big) (versionFor (f .five)) rs ≡ pass bytes) where
+  S : List ℕ
+  S = slotsIn v words (f .table) (slotsFor (f .rows))
 
-  slots-are : take (slotsFor (t .count)) slots ≡ s .rows
-  slots-are = ap (λ (k : ℕ). take k slots) (ap slotsFor count ∙ sym slots-long) ∙ stand
+  seen : SeenHeld R S n (identitiesOf rs)
+  unfolding S identitiesIn
+  seen = subst (λ (xs : List ℕ). SeenHeld R S n xs) (rows-identities (f .five) (ofTable R n (f .table)) rs held) placed
 
-  seen : SeenHeld (s .rows) (identitiesOf rs)
-  unfolding slotsOf
-  seen =
-      let l : length (s .rows) ≡ slotsFor (length (identitiesOf rs)) = slots-long ∙ ap slotsFor (sym (length-identities rs)) in
-      record { placed = s; made = ap (λ (k : ℕ). placeAll (unused k) 1 (identitiesOf rs)) l ∙ made; holds = refl }
+  made : slotsOf (identitiesOf rs) ≡ pass (seen .placed)
+  unfolding slotsOf S
+  made =
+      let l : slotsFor (length (identitiesOf rs)) ≡ length S = ap slotsFor (length-identities rs ∙ sym count) ∙ sym (slots-long words v (f .table) n (slotsFor (f .rows)) can) in
+      ap (λ (k : ℕ). placeAll (unused k) 1 (identitiesOf rs)) l ∙ seen .made
 
-  some : (t .count ≡ 0 → ⊥) → bytes ≡ indexWith (e .big) (versionFor (e .five)) (presentColumns (versionFor (e .five)) rs) rs s
+  some : (f .rows ≡ 0 → ⊥) → bytes ≡ indexIn f R n S
   unfolding identitiesOf
-  some f =
-      let b = indexBytes-is (e .big) (versionFor (e .five)) rs bytes (omega (arith, positive)) is in
-      let q : b .0 ≡ s = pass-inj (sym (b .1) ∙ made) in
-      b .2 ∙ ap (indexWith (e .big) (versionFor (e .five)) (presentColumns (versionFor (e .five)) rs) rs) q
+  some g =
+      let b = indexBytes-is (f .big) (versionFor (f .five)) rs bytes positive is in
+      b .2 ∙ ap (indexWith (f .big) (versionFor (f .five)) (presentColumns (versionFor (f .five)) rs) rs) (pass-inj (sym (b .1) ∙ made))
+      ∙ sym (index-is f rs columns R n held S count seen)
     where
       positive : 0 < length rs
-      positive = elim (ℕ-discrete (length rs) 0) [ yes z ↦ absurd (f (count ∙ z)) | no g ↦ omega arith ]
+      positive = elim (ℕ-discrete (length rs) 0) [ yes z ↦ absurd (g (count ∙ z)) | no q ↦ omega arith ]
 
-  pub index-held : IndexHeld e t rows slots bytes
-  unfolding indexBytes
+  pub index-held : IndexHeld f words n v bytes
+  unfolding indexBytes S
   index-held = record {
-    few = omega arith;
-    rowsRoom = omega (arith, held .room);
-    slotsRoom = rw count room;
-    none = λ z. let n = no-rows rs (sym count ∙ z) in sym (pass-inj (sym (ap (indexBytes (e .big) (versionFor (e .five))) n) ∙ is));
-    rowsIn = λ f. rw (slots-are, count, sym (length-identities rs)) (seen-rows-in seen);
-    some = λ f. some f ∙ sym (rw (slots-are, count) (index-is held columns (e .big) (s .rows) s different (omega arith) made refl));
+    can = can;
+    many = ap (λ (r : List ℕ). length (ofTable r n (f .table))) same ∙ rows-many (f .five) (ofTable R n (f .table)) rs held ∙ sym count;
+    none = λ z. let e = no-rows rs (sym count ∙ z) in sym (pass-inj (sym (ap (indexBytes (f .big) (versionFor (f .five))) e) ∙ is));
+    within = seen .within;
+    some = λ g. some g ∙ ap (λ (r : List ℕ). indexIn f r n S) (sym same);
   }

@@ -10,7 +10,6 @@ pub mod Frames
 pub mod Dispatch
 pub mod Answers
 pub mod Words
-pub mod Regions
 pub mod Objects
 pub mod Indexes
 pub mod Filed

@@ -19,12 +19,12 @@ use Rattle.bundle.specs.declared.Scan.{Scan}
 use Rattle.bundle.proofs.Every.{Every, nothing, also}
 use Rattle.strings.specs.Strings.{headerSize, entriesIn, stringsAt, remapped}
 use Rattle.strings.specs.Kept.{Inside, bytesAt, Judged}
-use Rattle.strings.specs.declared.table.Place.{Place}
 use Rattle.strings.specs.declared.table.StringTable.{StringTable}
 use Rattle.strings.proofs.StrOffsets.{Sound, entries-whole}
 use Rattle.strings.proofs.Remapped.{length-remapped}
 use Rattle.strings.proofs.Ends.{length-stringsAt}
-use Rattle.finish.specs.Joining.{sectionsJoined, usedIn, remappedIn, EntriesGood, Remappable, OffsetsJoinable}
+use Rattle.finish.specs.Joining.{sectionsJoined, usedIn, remappedIn, EntriesGood, offsetsAt, stringsIn, Remappable, OffsetsJoinable}
+use Rattle.finish.specs.declared.joining.StringPlaces.{StringPlaces}
 use Rattle.finish.proofs.Entering.{AtObject, scanned-body}
 use Rattle.finish.proofs.JoinedObjects.{Joining, joining-room, joining-more}
 
@@ -60,11 +60,11 @@ module _ (e : Encoding) (ts : List (List ℕ)) (offsets str : List ℕ) where
   ]
 
 -- what the strings' function asks
-pub judged : (e : Encoding) (b region : List ℕ) (t : StringTable) (offsets strings : Place) (n at : ℕ) (r : Remappable e b region t offsets strings n at)
-    → (offsets .size ≡ 0 → ⊥) → Judged e b offsets strings (r .good .used)
+pub judged : (e : Encoding) (b region : List ℕ) (t : StringTable) (p : StringPlaces) (n at : ℕ) (r : Remappable e b region t p n at)
+    → (p .offsets .size ≡ 0 → ⊥) → Judged e b (p .offsets) (p .strings) (r .good .used)
 unfolding Inside bytesAt
-judged e b region t offsets strings n at r f =
-    let l = length-part b (offsets .start) (offsets .size) (r .offsetsInside) in
+judged e b region t p n at r f =
+    let l = length-part b (p .offsets .start) (p .offsets .size) (r .offsetsInside) in
     record {
       offsets-inside = r .offsetsInside;
       strings-inside = r .stringsInside;
@@ -73,11 +73,11 @@ judged e b region t offsets strings n at r f =
     }
 
 -- nothing is written for nothing
-pub remap-none : (e : Encoding) (b region : List ℕ) (t : StringTable) (offsets strings : Place) (n at : ℕ) (r : Remappable e b region t offsets strings n at) (d : List ℕ) (ts : List (List ℕ))
-    → offsets .size ≡ 0 → d ≡ placed d at (remappedIn e ts (part b (offsets .start) (offsets .size)) (part b (strings .start) (strings .size)))
-remap-none e b region t offsets strings n at r d ts z =
-    let l = length-part b (offsets .start) (offsets .size) (r .offsetsInside) in
-    sym (placed-none d at) ∙ ap (placed d at) (sym (remapped-none e ts (part b (offsets .start) (offsets .size)) (part b (strings .start) (strings .size)) (l ∙ z)))
+pub remap-none : (e : Encoding) (b region : List ℕ) (t : StringTable) (p : StringPlaces) (n at : ℕ) (r : Remappable e b region t p n at) (d : List ℕ) (ts : List (List ℕ))
+    → p .offsets .size ≡ 0 → d ≡ placed d at (remappedIn e ts (offsetsAt b p) (stringsIn b p))
+remap-none e b region t p n at r d ts z =
+    let l = length-part b (p .offsets .start) (p .offsets .size) (r .offsetsInside) in
+    sym (placed-none d at) ∙ ap (placed d at) (sym (remapped-none e ts (offsetsAt b p) (stringsIn b p) (l ∙ z)))
 
 -- ---- over the objects
 every-one : {P : Object → Type 0} (xs : List Object) (y : Object) (zs : List Object) → Every P (xs ++ (y ∷ []) ++ zs) → P y
@@ -118,7 +118,13 @@ module _ (e : Encoding) (ok : Sound e) (b region : List ℕ) (t : StringTable) (
     pub offsets-fit : o + getD (scan .size) 6 0 ≤ length d
     offsets-fit = omega (arith, size-is, joining-room (λ x. remappedIn e ts (body b (x .parts) 6) (body b (x .parts) 11)) b (a .bundle .objects) d₀ d at o place j offsets-room (scan .next) (s .one) (s .more))
 
-    pub offsets-remappable : Remappable e b region t (record { start = getD (scan .start) 6 0; size = getD (scan .size) 6 0 }) (record { start = getD (scan .start) 11 0; size = getD (scan .size) 11 0 }) (length d) o
+    abbrev places : StringPlaces
+    places = record {
+      offsets = record { start = getD (scan .start) 6 0; size = getD (scan .size) 6 0 };
+      strings = record { start = getD (scan .start) 11 0; size = getD (scan .size) 11 0 };
+    }
+
+    pub offsets-remappable : Remappable e b region t places (length d) o
     offsets-remappable = record {
       table = a .table;
       kept = a .kept;

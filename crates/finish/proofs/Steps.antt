@@ -1,50 +1,62 @@
 -- Steps of the functions that write: an index, a section with its word, the empty package.
 -- Assumes nothing.
-use mathlib.Core.Path.{_≡_, sym, ap, _∙_}
+use mathlib.Core.Path.{_≡_, sym, ap, ap₂, _∙_}
 use mathlib.Core.Bool.{Bool}
 use mathlib.Core.List.{List, [], _++_, append-nil}
 use Prim.Native.Nat.{ℕ, _+_, _*_, _-_, _<_, _≤_}
 use native.Mathlib.Omega.{arith}
-use lib.ListN.{length, take, getD}
+use lib.ListN.{length, getD}
 use Rattle.octets.specs.Octets.{placed, padded, zeros}
 use Rattle.octets.specs.Lists.{joined, sum}
 use Rattle.octets.proofs.Placed.{placed-none}
 use Rattle.bundle.specs.Bundle.{filledUp}
 use Rattle.bundle.specs.Written.{wordBytes, headBytes, endBytes, written}
-use Rattle.bundle.specs.declared.encoding.ObjectEncoding.{ObjectEncoding}
 use Rattle.bundle.proofs.Next.{filledUp-le}
 use Rattle.bundle.proofs.Putting.{length-head, placed-behind, head-put, end-put}
 use Rattle.bundle.proofs.Sizes.{written-size}
-use Rattle.strings.specs.declared.table.StringTable.{StringTable}
 use Rattle.index.specs.Probing.{slotsFor}
-use Rattle.rows.specs.Layout.{RowsIn, indexIn}
+use Rattle.work.specs.Regions.{recordsRegion, recordWords, region}
+use Rattle.kept.specs.Slots.{Within, slotsIn}
+use Rattle.kept.specs.Indexed.{indexIn}
+use Rattle.kept.specs.declared.writing.IndexForm.{IndexForm}
+use Rattle.kept.proofs.Placing.{records-long}
 use Rattle.finish.specs.Writing.{Writing}
 use Rattle.finish.proofs.SectionSizes.{framed-some, size-good}
 use Rattle.finish.proofs.BeingWritten.{writing-frame-room}
-use Rattle.keeping.specs.declared.Table.{Table}
-use Rattle.filing.specs.declared.state.InProgress.{InProgress}
+use Rattle.finish.specs.declared.writing.Package.{Package}
 use Rattle.finish.specs.Ready.{IndexHeld, IndexWritable, SectionWritable, framedIn, FrameWritable, SectionsWritable}
 use Rattle.finish.proofs.Frames.{frame-some}
+use Rattle.finish.proofs.Indexes.{table-few}
 
 -- ---- an index
-module _ (e : ObjectEncoding) (t : Table) (rows slots : List ℕ) where
-  pub no-index : (s d : List ℕ) (at : ℕ) → IndexHeld e t rows slots s → t .count ≡ 0 → d ≡ placed d at s
+module _ (f : IndexForm) (words n : ℕ) (w : List ℕ) where
+  pub no-index : (s d : List ℕ) (at : ℕ) → IndexHeld f words n w s → f .rows ≡ 0 → d ≡ placed d at s
   no-index s d at h z = sym (placed-none d at) ∙ ap (placed d at) (sym (h .none z))
 
-  module _ (k : ℕ) (q : k ≡ slotsFor (t .count)) (f : t .count ≡ 0 → ⊥) where
-    pub index-asks : (n at : ℕ) → IndexWritable e t rows slots n at
-        → RowsIn (take k slots) (t .count) × (18 * t .count ≤ length rows) × (at + length (indexIn (e .big) (e .five) (t .has) rows (t .count) (take k slots)) ≤ n)
-    index-asks n at w = (rw q (w .held .rowsIn f), w .held .rowsRoom, rw (q, sym (w .held .some f)) (w .room))
+  pub index-few : (s : List ℕ) → IndexHeld f words n w s → f .rows ≤ 1_048_576
+  index-few s h = omega (arith, h .many, table-few (region w words recordsRegion) n (f .table), h .can .units, h .can .limit)
 
-    pub index-leaves : (s d x : List ℕ) (at : ℕ) → IndexHeld e t rows slots s → x ≡ placed d at (indexIn (e .big) (e .five) (t .has) rows (t .count) (take k slots)) → x ≡ placed d at s
-    index-leaves s d x at h p = p ∙ ap (placed d at) (ap (λ (j : ℕ). indexIn (e .big) (e .five) (t .has) rows (t .count) (take j slots)) q ∙ sym (h .some f))
+  -- R and S are records and slots as the code cuts them
+  module _ (k : ℕ) (q : k ≡ slotsFor (f .rows)) (g : f .rows ≡ 0 → ⊥) (R S : List ℕ) (e : R ≡ region w words recordsRegion) (o : S ≡ slotsIn w words (f .table) k) where
+    stands : (s : List ℕ) → IndexHeld f words n w s → s ≡ indexIn f R n S
+    stands s h = h .some g ∙ sym (ap₂ (λ (r l : List ℕ). indexIn f r n l) e (o ∙ ap (slotsIn w words (f .table)) q))
+
+    pub index-asks : (long at : ℕ) → IndexWritable f words n w long at → Within S n × (recordWords * n ≤ length R) × (at + length (indexIn f R n S) ≤ long)
+    index-asks long at i = (
+      rw (o, q) (i .held .within),
+      omega (arith, ap length e, records-long words w (f .table) n (slotsFor (f .rows)) (i .held .can), i .held .can .units),
+      rw (sym (stands (i .bytes) (i .held))) (i .room),
+    )
+
+    pub index-leaves : (s d x : List ℕ) (at : ℕ) → IndexHeld f words n w s → x ≡ placed d at (indexIn f R n S) → x ≡ placed d at s
+    index-leaves s d x at h p = p ∙ ap (placed d at) (sym (stands s h))
 
 -- ---- a section with its word
-module _ (code size : ℕ) (e : ObjectEncoding) (b : List ℕ) (st : InProgress) (t : StringTable) (w : List ℕ) (n at : ℕ) (r : FrameWritable code size e b st t w n at) (f : size ≡ 0 → ⊥) where
+module _ (code size : ℕ) (p : Package) (b w : List ℕ) (n at : ℕ) (r : FrameWritable code size p b w n at) (f : size ≡ 0 → ⊥) where
   pub frame-room : at + 4 + filledUp size ≤ n
   frame-room = omega (arith, r .room, framed-some size f)
 
-  pub frame-section : (m : ℕ) → m ≡ n → SectionWritable code e b st t w m (at + 4)
+  pub frame-section : (m : ℕ) → m ≡ n → SectionWritable code p b w m (at + 4)
   frame-section m l = record { sections = r .sections; ready = r .ready; least = r .least; most = r .most; room = omega (arith, frame-room, r .sized, filledUp-le size) }
 
 pub frame-put : (d x y : List ℕ) (at c size : ℕ) (s : List ℕ) → x ≡ placed d at (wordBytes (0x2000_0000 + c * 0x80_0000 + size)) → y ≡ placed x (at + 4) s → at + 4 ≤ length d
@@ -54,9 +66,9 @@ frame-put d x y at c size s p q h e f =
     ∙ frame-some d at c s (λ z. f (e ∙ z))
 
 -- what one turn of the loop over the codes asks
-pub frame-writable : (e : ObjectEncoding) (b : List ℕ) (st : InProgress) (t : StringTable) (sizes w d₀ d : List ℕ) (at c size : ℕ) (r : SectionsWritable e b st t sizes w d₀)
-    → Writing (r .front) (r .sections) d at c → 1 ≤ c → c < 14 → size ≡ getD sizes c 0 → FrameWritable c size e b st t w (length d) at
-frame-writable e b st t sizes w d₀ d at c size r wr l m q =
+pub frame-writable : (p : Package) (b w d₀ d : List ℕ) (at c size : ℕ) (r : SectionsWritable p b w d₀)
+    → Writing (r .front) (r .sections) d at c → 1 ≤ c → c < 14 → size ≡ getD (p .sizes) c 0 → FrameWritable c size p b w (length d) at
+frame-writable p b w d₀ d at c size r wr l m q =
     let is : size ≡ length (r .sections c) = q ∙ r .sized .are c l m in
     let room = writing-frame-room (r .front) (r .sections) d at c wr m size is in
     record {
@@ -65,7 +77,7 @@ frame-writable e b st t sizes w d₀ d at c size r wr l m q =
       least = l;
       most = m;
       sized = is;
-      short = rw q (size-good sizes c (r .sized .fourteen) (r .good) m);
+      short = rw q (size-good (p .sizes) c (r .sized .fourteen) (r .good) m);
       room = omega arith;
     }
 

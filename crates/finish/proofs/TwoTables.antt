@@ -1,82 +1,73 @@
 -- Both tables placed one after the other.
 -- Assumes nothing.
-use mathlib.Core.Path.{_≡_, sym, ap, ap₂, _∙_}
-use mathlib.Core.Bool.{Bool, true}
+use mathlib.Core.Path.{_≡_, refl, sym, subst, _∙_}
+use mathlib.Core.Bool.{Bool, true, false}
 use mathlib.Core.List.{List}
-use mathlib.Core.Option.{some}
-use Prim.Native.Nat.{ℕ, _+_, _*_, _≤_}
+use Prim.Native.Nat.{ℕ, _≤_}
 use native.Mathlib.Omega.{arith}
 use lib.ListN.{length}
-use Rattle.octets.specs.Octets.{part, placed, zeros}
-use Rattle.octets.specs.Checked.{pass}
-use Rattle.octets.proofs.Parts.{getD-part, length-part, length-part-le}
-use Rattle.octets.proofs.Regions.{part-before}
-use Rattle.index.specs.Held.{PowerOfTwo}
-use Rattle.index.specs.Probing.{Slots, slotsFor, slotsOf}
-use Rattle.index.specs.Rows.{isSome}
-use Rattle.index.specs.Written.{Row}
-use Rattle.index.proofs.Slots.{slotsFor-power}
-use Rattle.rows.specs.Layout.{identitiesFrom, identitiesOf, placedRows, RowsHeld}
-use Rattle.rows.proofs.LawRows.{rows-kept, length-identities}
-use Rattle.rows.proofs.LawPlacing.{placed-slots, identities-held}
-use Rattle.placing.specs.Placing.{Placeable}
-use Rattle.finish.specs.Ready.{TablesPlaceable}
-use Rattle.finish.proofs.Indexes.{slots-small, slots-made}
+use Rattle.octets.proofs.Checks.{true-false}
+use Rattle.numbers.specs.Tables.{compilationTable, typeTable}
+use Rattle.index.specs.Probing.{slotsFor}
+use Rattle.work.specs.Regions.{recordsRegion, slotsRegion, region}
+use Rattle.work.proofs.Stores.{slots-records, tables-apart}
+use Rattle.kept.specs.Records.{identitiesIn}
+use Rattle.kept.specs.Slots.{SeenHeld, slotsIn, Placeable, Fitting, PlacedAll}
+use Rattle.kept.specs.declared.Units.{Units}
+use Rattle.kept.proofs.Placing.{slots-stay}
+use Rattle.finish.specs.Ready.{TablesPlaceable, SlotsHeld, TablesPlaced}
+use Rattle.finish.proofs.Indexes.{slots-small, slots-power}
 
-power : (k : ℕ) → PowerOfTwo (slotsFor k)
-power k = let p = slotsFor-power k in record { power = p .power; is = p .is }
+-- what the placing of a table of so many rows asks
+pub table-asks : (words : ℕ) (u : Units) (room : ℕ) → TablesPlaceable words u room → (table rows k : ℕ) → rows ≤ u .count → k ≡ slotsFor rows → Placeable words room table (u .count) k
+table-asks words u room p table rows k h e = record {
+  power = rw e (slots-power rows);
+  fits = rw e (slots-small words rows (p .some) (omega (arith, p .few)));
+  enough = p .enough;
+  limit = p .limit;
+  units = omega (arith, p .few);
+}
 
-module _ (words cu tu room : ℕ) (p : TablesPlaceable words cu tu room) where
-  pub cu-asks : (k : ℕ) → k ≡ slotsFor cu → Placeable room 0 cu (11 * words) k
-  cu-asks k e = record {
-    power = rw e (power cu);
-    rows = omega (arith, p .cuFew);
-    slots = omega (arith, e, slots-small words cu (p .some) (p .cuFew), p .enough);
-    few = omega (arith, p .cuFew, p .limit);
-  }
+-- the first table is placed, k slots for it; then the second
+module _ (words : ℕ) (u : Units) (w x : List ℕ) (a : TablesPlaceable words u (length w)) (k : ℕ) (e : k ≡ slotsFor (u .cu .rows)) (r : Bool)
+    (p : PlacedAll words compilationTable (u .count) k w x r) where
+  pub first-missing : r ≡ false → TablesPlaced words u w x false
+  first-missing z = record { placed = λ f g. absurd (true-false (p .placed (subst (λ (i : ℕ). Fitting (region w words recordsRegion) (u .count) compilationTable i) (sym e) f) .0) z) }
 
-  pub tu-asks : (k : ℕ) → k ≡ slotsFor tu → Placeable room (4 * words) tu (12 * words) k
-  tu-asks k e = record {
-    power = rw e (power tu);
-    rows = omega (arith, p .tuFew);
-    slots = omega (arith, e, slots-small words tu (p .some) (p .tuFew), p .enough);
-    few = omega (arith, p .tuFew, p .limit);
-  }
+  pub second-asks : (j : ℕ) → j ≡ slotsFor (u .tu .rows) → Placeable words (length x) typeTable (u .count) j
+  second-asks j q = subst (λ (m : ℕ). Placeable words m typeTable (u .count) j) (sym (p .left .same)) (table-asks words u (length w) a typeTable (u .tu .rows) j (a .tuFew) q)
 
--- the identities of rows in a region, and the slots that they take
-pub rows-placed : (five : Bool) (w : List ℕ) (start m n k : ℕ) (rs : List Row) (s : Slots) → RowsHeld five (part w start m) rs → n ≡ length rs → start + m ≤ length w → k ≡ slotsFor n
-    → slotsOf (identitiesOf rs) ≡ pass s → placedRows (zeros k) 1 (identitiesFrom (part w start (18 * n)) 0 n) ≡ some (s .rows)
-rows-placed five w start m n k rs s h e fits q made =
-    let most : 18 * n ≤ m = omega (arith, h .room, length-part-le w start m) in
-    let long : length (part w start (18 * n)) ≡ 18 * n = length-part w start (18 * n) (omega arith) in
-    let here : RowsHeld five (part w start (18 * n)) rs =
-    rows-kept five (part w start m) (part w start (18 * n)) rs h (omega (arith, long, e)) (λ j g. getD-part w start (18 * n) j (omega arith) ∙ sym (getD-part w start m j (omega arith))) in
-    let named : identitiesFrom (part w start (18 * n)) 0 n ≡ identitiesOf rs = ap (identitiesFrom (part w start (18 * n)) 0) e ∙ identities-held here in
-    let many : k ≡ slotsFor (length (identitiesOf rs)) = q ∙ ap slotsFor (e ∙ sym (length-identities rs)) in
-    ap₂ (λ (j : ℕ) (xs : List ℕ). placedRows (zeros j) 1 xs) many named ∙ placed-slots (identitiesOf rs) s made
+  module _ (v : List ℕ) (j : ℕ) (q : j ≡ slotsFor (u .tu .rows)) (s : Bool) (t : PlacedAll words typeTable (u .count) j x v s) where
+    records-same : region x words recordsRegion ≡ region w words recordsRegion
+    records-same = p .left .others recordsRegion (slots-records compilationTable)
 
--- where a slot is missing, though there is none missing
-pub never-missing : (w : List ℕ) (start n k : ℕ) (v : List ℕ) (r : Bool) → r ≡ isSome (placedRows (zeros k) 1 (identitiesFrom (part w start (18 * n)) 0 n))
-    → placedRows (zeros k) 1 (identitiesFrom (part w start (18 * n)) 0 n) ≡ some v → r ≡ true
-unfolding isSome
-never-missing w start n k v r a e = a ∙ ap isSome e
+    told : Fitting (region w words recordsRegion) (u .count) typeTable (slotsFor (u .tu .rows)) → (s ≡ true) × SlotsHeld words (u .count) typeTable (u .tu .rows) w v
+    told =
+        subst
+        (λ (R : List ℕ). Fitting R (u .count) typeTable (slotsFor (u .tu .rows)) → (s ≡ true) × SeenHeld R (slotsIn v words typeTable (slotsFor (u .tu .rows))) (u .count) (identitiesIn R (u .count) typeTable))
+        records-same
+        (subst (λ (i : ℕ). Fitting (region x words recordsRegion) (u .count) typeTable i → (s ≡ true) × SeenHeld (region x words recordsRegion) (slotsIn v words typeTable i) (u .count) (identitiesIn (region x words recordsRegion) (u .count) typeTable)) q (t .placed))
 
-module _ (five : Bool) (words cu tu : ℕ) (w : List ℕ) (p : TablesPlaceable words cu tu (length w)) (cus tus : List Row) (s t : Slots)
-    (h : RowsHeld five (part w 0 (4 * words)) cus) (e : cu ≡ length cus) (g : RowsHeld five (part w (4 * words) (4 * words)) tus) (f : tu ≡ length tus)
-    (made : slotsOf (identitiesOf cus) ≡ pass s) (made′ : slotsOf (identitiesOf tus) ≡ pass t) where
-  pub first-placed : (k : ℕ) → k ≡ slotsFor cu → placedRows (zeros k) 1 (identitiesFrom (part w 0 (18 * cu)) 0 cu) ≡ some (s .rows)
-  first-placed k q = rows-placed five w 0 (4 * words) cu k cus s h e (omega (arith, p .enough)) q made
+    first-stays : slotsIn v words compilationTable (slotsFor (u .cu .rows)) ≡ slotsIn x words compilationTable (slotsFor (u .cu .rows))
+    first-stays =
+        slots-stay words x v compilationTable (slotsFor (u .cu .rows)) (table-asks words u (length w) a compilationTable (u .cu .rows) _ (a .cuFew) refl .fits)
+        (t .left .others (slotsRegion compilationTable) (tables-apart compilationTable typeTable refl (λ z. omega arith) .1))
 
-  pub first-short : length (s .rows) ≤ words
-  first-short =
-      let l = length-identities cus in
-      let few : 5 * length cus ≤ words = omega (arith, p .cuFew) in
-      rw (slots-made (identitiesOf cus) s made, l) (slots-small words (length cus) (p .some) few)
+    first-held : Fitting (region w words recordsRegion) (u .count) compilationTable (slotsFor (u .cu .rows)) → SlotsHeld words (u .count) compilationTable (u .cu .rows) w v
+    first-held f =
+        let R = region w words recordsRegion in
+        let h = subst (λ (i : ℕ). Fitting R (u .count) compilationTable i → (r ≡ true) × SeenHeld R (slotsIn x words compilationTable i) (u .count) (identitiesIn R (u .count) compilationTable)) e (p .placed) f .1 in
+        subst (λ (l : List ℕ). SeenHeld R l (u .count) (identitiesIn R (u .count) compilationTable)) (sym first-stays) h
 
-  -- the first table's slots stand, and the second one's rows are as they were
-  module _ (v : List ℕ) (is : v ≡ placed w (11 * words) (s .rows)) (short : length (s .rows) ≤ words) (k : ℕ) (q : k ≡ slotsFor tu) where
-    pub second-placed : length v ≡ length w → placedRows (zeros k) 1 (identitiesFrom (part v (4 * words) (18 * tu)) 0 tu) ≡ some (t .rows)
-    second-placed l =
-        let region : part v (4 * words) (4 * words) ≡ part w (4 * words) (4 * words) =
-        ap (λ (z : List ℕ). part z (4 * words) (4 * words)) is ∙ part-before w (11 * words) (s .rows) (4 * words) (4 * words) (omega arith) (omega (arith, p .enough)) in
-        rows-placed five v (4 * words) (4 * words) tu k tus t (rw region g) f (omega (arith, l, p .enough)) q made′
+    pub both-placed : TablesPlaced words u w v s
+    both-placed = record {
+      placed = λ f g. (
+        told g .0,
+        record {
+          same = t .left .same ∙ p .left .same;
+          others = λ l y z. t .left .others l z ∙ p .left .others l y;
+          cu = first-held f;
+          tu = told g .1;
+        },
+      );
+    }

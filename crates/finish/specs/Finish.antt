@@ -6,22 +6,21 @@ use mathlib.Core.List.{List, [], _∷_, map}
 use Prim.Native.Nat.{ℕ, _+_, _*_, _-_, _/_, _%_, _<_, _≤_}
 use lib.Dec.{eqb, leb}
 use lib.ListN.{length}
-use Rattle.octets.specs.Octets.{part, padded, zeros}
+use Rattle.octets.specs.Octets.{padded, zeros}
 use Rattle.octets.specs.Lists.{joined, all}
 use Rattle.octets.specs.Checked.{Check, pass, refuse, _>>=_, require}
 use Rattle.bundle.specs.Bundle.{Bundle, bundleOf}
 use Rattle.bundle.specs.Written.{Section, written}
 use Rattle.bundle.specs.declared.encoding.ObjectEncoding.{ObjectEncoding}
 use Rattle.strings.specs.Kept.{Kept}
-use Rattle.strings.specs.declared.table.StringTable.{StringTable}
 use Rattle.index.specs.Rows.{BySection}
 use Rattle.package.specs.Input.{Input}
 use Rattle.package.specs.Filing.{Filing, filingOf, firstWord}
-use Rattle.package.specs.Pack.{Answer, refused, short, made, packageSections, packageObjects, stringTable}
+use Rattle.package.specs.Pack.{Answer, refused, short, made, packageSections, packageObjects, stringTable, answered}
 use Rattle.finish.specs.Sections.{sectionsBy}
-use Rattle.keeping.specs.Regions.{stringsStart}
-use Rattle.filing.specs.State.{Held}
-use Rattle.filing.specs.declared.state.InProgress.{InProgress}
+use Rattle.work.specs.Regions.{stringsRegion, region}
+use Rattle.kept.specs.State.{Held}
+use Rattle.kept.specs.declared.state.InProgress.{InProgress}
 use Rattle.finish.specs.Ready.{Ready}
 use Rattle.finish.specs.declared.whole.Finished.{Finished}
 use Rattle.finish.specs.declared.whole.Finished.the-variants.{Refused, Short, Made}
@@ -61,7 +60,7 @@ oneObject big word s = do
 
 -- ---- what the packer has
 -- all objects are filed
-pub record AllFiled (big : Bool) (b : List ℕ) (st : InProgress) (t : StringTable) (w : List ℕ) : Type 0 where
+pub record AllFiled (big : Bool) (b : List ℕ) (st : InProgress) (w : List ℕ) : Type 0 where
   pub bundle : Bundle
   pub reads : bundleOf b ≡ pass bundle
   pub order : bundle .big ≡ big
@@ -70,10 +69,17 @@ pub record AllFiled (big : Bool) (b : List ℕ) (st : InProgress) (t : StringTab
   pub bases : BySection ℕ
   pub based : (c : ℕ) → 3 ≤ c → c ≤ 10 → bases c ≡ length (joined (map (λ i. i .bytes c) (filing .inputs)))
   pub held : Held (eqb (firstWord (bundle .objects) % 256) 5) b (length b / 4) (length b) w st bases (filing .units)
-  pub strings : Kept b (part w (8 * (length b / 4)) (3 * (length b / 4))) t (stringTable (filing .inputs))
+  pub strings : Kept b (region w (length b / 4) stringsRegion) (st .strings) (stringTable (filing .inputs))
 
 -- the sections are ready to be written into an output that is zero
-pub record Writable (e : ObjectEncoding) (b : List ℕ) (st : InProgress) (t : StringTable) (w d : List ℕ) : Type 0 where
+pub record Writable (e : ObjectEncoding) (b : List ℕ) (st : InProgress) (w d : List ℕ) : Type 0 where
   pub sections : ℕ → List ℕ
-  pub ready : Ready e b st t w sections
+  pub ready : Ready e b st w sections
   pub zero : d ≡ zeros (length d)
+
+-- answer and output for any sections that are ready, with an output of o bytes
+abbrev pub AnswerFor : (e : ObjectEncoding) (word : ℕ) (b : List ℕ) (st : InProgress) (w : List ℕ) (o : ℕ) (r : Finished) → Type 0
+AnswerFor e word b st w o r = (s : ℕ → List ℕ) → Ready e b st w s → r ≡ finishedOf (answered (oneObject (e .big) word s) o)
+
+abbrev pub OutputFor : (e : ObjectEncoding) (word : ℕ) (b : List ℕ) (st : InProgress) (w : List ℕ) (o : ℕ) (x : List ℕ) → Type 0
+OutputFor e word b st w o x = (s : ℕ → List ℕ) → Ready e b st w s → x ≡ outputOf (answered (oneObject (e .big) word s) o) o

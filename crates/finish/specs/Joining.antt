@@ -6,15 +6,15 @@ use mathlib.Core.List.{List, [], map}
 use Prim.Native.Nat.{ℕ, _+_, _<_, _≤_}
 use lib.ListN.{length}
 use Rattle.octets.specs.Lists.{joined}
-use Rattle.octets.specs.Octets.{part}
+use Rattle.octets.specs.Octets.{part, placed}
 use Rattle.octets.specs.Checked.{pass, refuse}
 use Rattle.bundle.specs.Bundle.{Object, Bundle, bundleOf, body}
 use Rattle.bundle.specs.Encoding.{Encoding}
 use Rattle.bundle.proofs.Every.{Every}
 use Rattle.strings.specs.Strings.{entriesIn, entriesOf, stringsAt, remapped}
 use Rattle.strings.specs.Kept.{Kept}
-use Rattle.strings.specs.declared.table.Place.{Place}
 use Rattle.strings.specs.declared.table.StringTable.{StringTable}
+use Rattle.finish.specs.declared.joining.StringPlaces.{StringPlaces}
 
 -- each object's first section of a code, one behind the other
 unfoldable pub sectionsJoined : List ℕ → List Object → ℕ → List ℕ
@@ -46,15 +46,26 @@ pub record EntriesGood (e : Encoding) (offsets str : List ℕ) : Type 0 where
   pub used : List (List ℕ)
   pub strings : stringsAt str (entriesIn e offsets) ≡ pass used
 
+-- an object's str_offsets and str, as they stand in the bundle
+abbrev pub offsetsAt : List ℕ → StringPlaces → List ℕ
+offsetsAt b p = part b (p .offsets .start) (p .offsets .size)
+
+abbrev pub stringsIn : List ℕ → StringPlaces → List ℕ
+stringsIn b p = part b (p .strings .start) (p .strings .size)
+
 -- the strings are kept, and one str_offsets fits at a place of n bytes
-pub record Remappable (e : Encoding) (b region : List ℕ) (t : StringTable) (offsets strings : Place) (n at : ℕ) : Type 0 where
+pub record Remappable (e : Encoding) (b region : List ℕ) (t : StringTable) (p : StringPlaces) (n at : ℕ) : Type 0 where
   pub table : List (List ℕ)
   pub kept : Kept b region t table
   pub small : t .over ≡ false
-  pub offsetsInside : offsets .start + offsets .size ≤ length b
-  pub stringsInside : strings .start + strings .size ≤ length b
-  pub good : EntriesGood e (part b (offsets .start) (offsets .size)) (part b (strings .start) (strings .size))
-  pub room : at + offsets .size ≤ n
+  pub offsetsInside : p .offsets .start + p .offsets .size ≤ length b
+  pub stringsInside : p .strings .start + p .strings .size ≤ length b
+  pub good : EntriesGood e (offsetsAt b p) (stringsIn b p)
+  pub room : at + p .offsets .size ≤ n
+
+-- and is put there, for any table that is kept; d is the output before, x behind
+abbrev pub Remapped : (e : Encoding) (b region : List ℕ) (t : StringTable) (p : StringPlaces) (at : ℕ) (d x : List ℕ) → Type 0
+Remapped e b region t p at d x = (ts : List (List ℕ)) → Kept b region t ts → x ≡ placed d at (remappedIn e ts (offsetsAt b p) (stringsIn b p))
 
 -- the same of all objects
 pub record OffsetsJoinable (e : Encoding) (b region : List ℕ) (t : StringTable) (n at : ℕ) : Type 0 where
@@ -65,3 +76,7 @@ pub record OffsetsJoinable (e : Encoding) (b region : List ℕ) (t : StringTable
   pub small : t .over ≡ false
   pub good : Every (λ o. EntriesGood e (body b (o .parts) 6) (body b (o .parts) 11)) (bundle .objects)
   pub room : at + length (sectionsJoined b (bundle .objects) 6) ≤ n
+
+abbrev pub OffsetsPut : (e : Encoding) (b region : List ℕ) (t : StringTable) (at : ℕ) (d x : List ℕ) → Type 0
+OffsetsPut e b region t at d x =
+    (k : Bundle) (ts : List (List ℕ)) → bundleOf b ≡ pass k → Kept b region t ts → x ≡ placed d at (offsetsJoined e ts b (k .objects))

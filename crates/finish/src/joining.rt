@@ -2,19 +2,17 @@
 ghost use mathlib.Core.Path.{_≡_};
 ghost use Prim.Native.Nat.{ℕ};
 ghost use lib.ListN.{length};
-ghost use mathlib.Core.List.{List};
-ghost use Rattle.octets.specs.Octets.{part, placed};
+ghost use Rattle.octets.specs.Octets.{placed};
 ghost use Rattle.octets.specs.Checked.{pass};
 ghost use Rattle.bundle.specs.Bundle.{Bundle, bundleOf};
 ghost use Rattle.bundle.specs.Encoded.{encodingIs};
-ghost use Rattle.strings.specs.Kept.{Kept};
 ghost use Rattle.finish.specs.Joining.{
   sectionsJoined,
   Joinable,
-  remappedIn,
-  offsetsJoined,
   Remappable,
+  Remapped,
   OffsetsJoinable,
+  OffsetsPut,
 };
 use bundle::Item;
 use bundle::encoding::ObjectEncoding;
@@ -44,20 +42,27 @@ pub fn copy_sections(b: &[u8], code: usize, out: &mut [u8], at: usize)
     }
 }
 
+// Where an object's str_offsets and its strings stand in the bundle.
+pub struct StringPlaces {
+    pub offsets: Place,
+    pub strings: Place,
+}
+
 // One object's str_offsets by the table of kept strings, where it has one.
 fn remap_section(
     e: ObjectEncoding,
     b: &[u8],
-    offsets: Place,
-    strings: Place,
+    p: StringPlaces,
     table: &[u32],
     t: StringTable,
     out: &mut [u8],
     at: usize,
 )
-    requires { ⌜ Remappable (encodingIs e) (now b) (now table) t offsets strings (length (now out)) at ⌝ }
-    ensures { λ _. ⌜ ((ts : List (List ℕ)) → Kept (now (b .entry)) (now (table .entry)) t ts → now (out .exit) ≡ placed (now (out .entry)) at (remappedIn (encodingIs e) ts (part (now (b .entry)) (offsets .start) (offsets .size)) (part (now (b .entry)) (strings .start) (strings .size)))) ⌝ }
+    requires { ⌜ Remappable (encodingIs e) (now b) (now table) t p (length (now out)) at ⌝ }
+    ensures { λ _. ⌜ Remapped (encodingIs e) (now (b .entry)) (now (table .entry)) t p at (now (out .entry)) (now (out .exit)) ⌝ }
 {
+    let offsets = p.offsets;
+    let strings = p.strings;
     if offsets.size == 0 {
         return;
     }
@@ -74,7 +79,7 @@ pub fn copy_str_offsets(
     at: usize,
 )
     requires { ⌜ OffsetsJoinable (encodingIs e) (now b) (now table) t (length (now out)) at ⌝ }
-    ensures { λ _. ⌜ ((k : Bundle) (ts : List (List ℕ)) → bundleOf (now (b .entry)) ≡ pass k → Kept (now (b .entry)) (now (table .entry)) t ts → now (out .exit) ≡ placed (now (out .entry)) at (offsetsJoined (encodingIs e) ts (now (b .entry)) (k .objects))) ⌝ }
+    ensures { λ _. ⌜ OffsetsPut (encodingIs e) (now (b .entry)) (now (table .entry)) t at (now (out .entry)) (now (out .exit)) ⌝ }
 {
     let mut o = at;
     let mut place = 4;
@@ -91,7 +96,8 @@ pub fn copy_str_offsets(
             start: scan.start[STR],
             size: scan.size[STR],
         };
-        remap_section(e, b, offsets, strings, table, t, out, o);
+        let places = StringPlaces { offsets, strings };
+        remap_section(e, b, places, table, t, out, o);
         o += offsets.size;
         place = scan.next;
     }

@@ -1,29 +1,28 @@
 // The end of packing: 17, 19, 18, and the package.
 ghost use mathlib.Core.Path.{_≡_};
-ghost use mathlib.Core.List.{List, []};
-ghost use Prim.Native.Nat.{ℕ};
+ghost use mathlib.Core.List.{[]};
 ghost use lib.ListN.{length};
 ghost use Rattle.octets.specs.Octets.{zeros};
 ghost use Rattle.octets.specs.Checked.{pass};
 ghost use Rattle.bundle.specs.Written.{written};
 ghost use Rattle.package.specs.Pack.{answered};
-ghost use Rattle.finish.specs.Ready.{Ready};
 ghost use Rattle.finish.specs.Finish.{
   finishedOf,
   outputOf,
   packageIn,
-  oneObject,
   AllFiled,
   Writable,
+  AnswerFor,
+  OutputFor,
 };
+use crate::writing::Package;
 use bundle::Item;
 use bundle::encoding::ObjectEncoding;
 use bundle::encoding::WordRead;
-use filing::state::InProgress;
+use kept::state::InProgress;
 use numbers::refusals::BAD_ENCODING;
 use numbers::refusals::NO_SLOT;
 use numbers::refusals::SECTION_TOO_LONG;
-use strings::table::StringTable;
 
 // What packing answers: a refusal's number, 18 with the length needed, or the package's length.
 pub enum Finished {
@@ -52,15 +51,14 @@ fn finish_sections(
     word: u32,
     b: &[u8],
     st: InProgress,
-    t: StringTable,
     work: &[u32],
     out: &mut [u8],
 ) -> Finished
-    requires { ⌜ Writable e (now b) st t (now work) (now out) ⌝ }
-    ensures answer { λ r. ⌜ ((s : ℕ → List ℕ) → Ready e (now (b .entry)) st t (now (work .entry)) s → r ≡ finishedOf (answered (oneObject (e .big) word s) (length (now (out .entry))))) ⌝ }
-    ensures output { λ _. ⌜ ((s : ℕ → List ℕ) → Ready e (now (b .entry)) st t (now (work .entry)) s → now (out .exit) ≡ outputOf (answered (oneObject (e .big) word s) (length (now (out .entry)))) (length (now (out .entry)))) ⌝ }
+    requires { ⌜ Writable e (now b) st (now work) (now out) ⌝ }
+    ensures answer { λ r. ⌜ AnswerFor e word (now (b .entry)) st (now (work .entry)) (length (now (out .entry))) r ⌝ }
+    ensures output { λ _. ⌜ OutputFor e word (now (b .entry)) st (now (work .entry)) (length (now (out .entry))) (now (out .exit)) ⌝ }
 {
-    let sizes = crate::sizes::section_sizes(e.five, st, t);
+    let sizes = crate::sizes::section_sizes(e.five, st);
     if !crate::sections::sizes_good(sizes) {
         return Finished::Refused(SECTION_TOO_LONG); // before 18
     }
@@ -68,20 +66,18 @@ fn finish_sections(
     if out.len() < length {
         return Finished::Short(length);
     }
-    crate::writing::write_package(e, word, b, st, t, sizes, work, out);
+    let p = Package {
+        encoding: e,
+        state: st,
+        sizes,
+    };
+    crate::writing::write_package(p, word, b, work, out);
     Finished::Made(length)
 }
 
 // The caller has filed all objects, and cleared the output; it clears work behind this, which holds the slots of both indexes then.
-pub fn finish(
-    b: &[u8],
-    big: bool,
-    st: InProgress,
-    t: StringTable,
-    work: &mut [u32],
-    out: &mut [u8],
-) -> Finished
-    requires { ⌜ AllFiled big (now b) st t (now work) × (now out ≡ zeros (length (now out))) ⌝ }
+pub fn finish(b: &[u8], big: bool, st: InProgress, work: &mut [u32], out: &mut [u8]) -> Finished
+    requires { ⌜ AllFiled big (now b) st (now work) × (now out ≡ zeros (length (now out))) ⌝ }
     ensures answer { λ r. ⌜ r ≡ finishedOf (answered (packageIn (now (b .entry))) (length (now (out .entry)))) ⌝ }
     ensures output { λ _. ⌜ now (out .exit) ≡ outputOf (answered (packageIn (now (b .entry))) (length (now (out .entry)))) (length (now (out .entry))) ⌝ }
 {
@@ -91,13 +87,12 @@ pub fn finish(
     let WordRead::Good(e) = bundle::encoding::read_word(big, word) else {
         return Finished::Refused(BAD_ENCODING);
     };
-    let cu = st.cu;
-    let tu = st.tu;
-    if crate::tables::place_tables(b.len() / 4, cu.count, tu.count, work) {
-        if t.over {
+    let strings = st.strings;
+    if crate::tables::place_tables(b.len() / 4, st.units, work) {
+        if strings.over {
             return Finished::Refused(SECTION_TOO_LONG);
         }
-        return finish_sections(e, word, b, st, t, work, out);
+        return finish_sections(e, word, b, st, work, out);
     }
     Finished::Refused(NO_SLOT)
 }

@@ -1,114 +1,123 @@
 // The package written front to back.
 ghost use mathlib.Core.Path.{_≡_};
-ghost use mathlib.Core.List.{List, [], _∷_};
-ghost use Prim.Native.Nat.{ℕ, _+_, _-_, _<_};
+ghost use mathlib.Core.List.{List};
+ghost use Prim.Native.Nat.{ℕ, _+_, _<_};
 ghost use lib.ListN.{length};
-ghost use Rattle.octets.specs.Octets.{placed, padded};
-ghost use Rattle.bundle.specs.Written.{written};
-ghost use Rattle.finish.specs.Sections.{Sized, sectionsBy, framedSize};
-ghost use Rattle.finish.specs.Writing.{Writing};
+ghost use Rattle.octets.specs.Octets.{placed};
+ghost use Rattle.finish.specs.Sections.{framedSize};
 ghost use Rattle.finish.specs.Ready.{
-  Ready,
+  formOf,
   IndexHeld,
   IndexWritable,
   SectionWritable,
-  framedIn,
+  SectionPut,
   FrameWritable,
+  FramePut,
   SectionsWritable,
+  SectionsPut,
   PackageWritable,
+  PackagePut,
 };
+use crate::tables::TYPE;
 use bundle::encoding::ObjectEncoding;
-use filing::state::InProgress;
-use keeping::Table;
+use kept::Table;
+use kept::state::InProgress;
+use kept::writing::IndexForm;
 use numbers::sections::CODES;
 use numbers::sections::CU_INDEX;
-use numbers::sections::INFO;
 use numbers::sections::LAST_SHARED;
 use numbers::sections::STR;
 use numbers::sections::STR_OFFSETS;
 use numbers::sections::TYPES;
-use strings::table::StringTable;
+use work::COMPILATION;
 
-// A table's index, nothing without rows.
-fn write_index(e: ObjectEncoding, t: Table, rows: &[u32], slots: &[u32], out: &mut [u8], at: usize)
-    requires { ⌜ IndexWritable e t (now rows) (now slots) (length (now out)) at ⌝ }
-    ensures { λ _. ⌜ ((s : List ℕ) → IndexHeld e t (now (rows .entry)) (now (slots .entry)) s → now (out .exit) ≡ placed (now (out .entry)) at s) ⌝ }
+// What is to be written: the encoding of all objects, what is known of them, and the sizes of all sections by code.
+pub struct Package {
+    pub encoding: ObjectEncoding,
+    pub state: InProgress,
+    pub sizes: [usize; CODES],
+}
+
+fn index_form(e: ObjectEncoding, table: usize, t: Table) -> IndexForm
+    ensures { λ r. ⌜ r ≡ formOf e table t ⌝ }
 {
-    let n = t.count;
-    if n == 0 {
+    let has = t.has;
+    IndexForm {
+        big: e.big,
+        five: e.five,
+        table,
+        rows: t.rows,
+        has,
+    }
+}
+
+// A table's index, nothing without rows. Work is for a bundle of so many words, and holds n units.
+fn write_index(f: IndexForm, words: usize, n: usize, work: &[u32], out: &mut [u8], at: usize)
+    requires { ⌜ IndexWritable f words n (now work) (length (now out)) at ⌝ }
+    ensures { λ _. ⌜ ((s : List ℕ) → IndexHeld f words n (now (work .entry)) s → now (out .exit) ≡ placed (now (out .entry)) at s) ⌝ }
+{
+    if f.rows == 0 {
         return;
     }
-    let has = t.has;
-    let count = rows::slots::slots_for(n);
-    rows::writing::write_index(e.big, e.five, rows, n, has, &slots[..count], out, at);
+    let count = kept::slots::slots_for(f.rows);
+    let records = work::records(words);
+    let slots = work::slots(words, f.table);
+    let first = records.start;
+    let last = first + records.size;
+    let from = slots.start;
+    let to = from + count;
+    kept::writing::write_index(f, &work[first..last], n, &work[from..to], out, at);
 }
 
 // The bytes of str or of an index, by its code.
-fn write_last_section(
-    code: usize,
-    e: ObjectEncoding,
-    b: &[u8],
-    st: InProgress,
-    t: StringTable,
-    work: &[u32],
-    out: &mut [u8],
-    at: usize,
-)
-    requires { ⌜ SectionWritable code e (now b) st t (now work) (length (now out)) at × (10 < code) ⌝ }
-    ensures { λ _. ⌜ ((s : ℕ → List ℕ) → Ready e (now (b .entry)) st t (now (work .entry)) s → now (out .exit) ≡ placed (now (out .entry)) at (s code)) ⌝ }
+fn write_last_section(code: usize, p: Package, b: &[u8], work: &[u32], out: &mut [u8], at: usize)
+    requires { ⌜ SectionWritable code p (now b) (now work) (length (now out)) at × (10 < code) ⌝ }
+    ensures { λ _. ⌜ SectionPut code p (now (b .entry)) (now (work .entry)) at (now (out .entry)) (now (out .exit)) ⌝ }
 {
-    let n = b.len() / 4;
-    let rows = 4 * n;
-    let kept = 8 * n;
-    let cu = 11 * n;
-    let tu = 12 * n;
-    let info = 13 * n;
+    let words = b.len() / 4;
+    let st = p.state;
+    let units = st.units;
     if code == STR {
-        let count = t.count;
-        strings::sections::write_strings(b, &work[kept..cu], count, out, at);
+        let strings = st.strings;
+        let region = work::strings(words);
+        let first = region.start;
+        let last = first + region.size;
+        strings::sections::write_strings(b, &work[first..last], strings.count, out, at);
         return;
     }
     if code == CU_INDEX {
-        write_index(e, st.cu, &work[0..rows], &work[cu..tu], out, at);
+        let cu = index_form(p.encoding, COMPILATION, units.cu);
+        write_index(cu, words, units.count, work, out, at);
         return;
     }
-    write_index(e, st.tu, &work[rows..kept], &work[tu..info], out, at);
+    let tu = index_form(p.encoding, TYPE, units.tu);
+    write_index(tu, words, units.count, work, out, at);
 }
 
 // The bytes of one section of the package, by its code.
-fn write_section(
-    code: usize,
-    e: ObjectEncoding,
-    b: &[u8],
-    st: InProgress,
-    t: StringTable,
-    work: &[u32],
-    out: &mut [u8],
-    at: usize,
-)
-    requires { ⌜ SectionWritable code e (now b) st t (now work) (length (now out)) at ⌝ }
-    ensures { λ _. ⌜ ((s : ℕ → List ℕ) → Ready e (now (b .entry)) st t (now (work .entry)) s → now (out .exit) ≡ placed (now (out .entry)) at (s code)) ⌝ }
+fn write_section(code: usize, p: Package, b: &[u8], work: &[u32], out: &mut [u8], at: usize)
+    requires { ⌜ SectionWritable code p (now b) (now work) (length (now out)) at ⌝ }
+    ensures { λ _. ⌜ SectionPut code p (now (b .entry)) (now (work .entry)) at (now (out .entry)) (now (out .exit)) ⌝ }
 {
-    let n = b.len() / 4;
-    let info_start = 13 * n;
-    let types_start = 14 * n;
-    let types_end = 15 * n;
-    if code == INFO {
-        places::copy_units(b, &work[info_start..types_start], st.info, out, at);
-        return;
-    }
-    if code == TYPES {
-        places::copy_units(b, &work[types_start..types_end], st.types, out, at);
+    let words = b.len() / 4;
+    let st = p.state;
+    if code <= TYPES {
+        let units = st.units;
+        let region = work::records(words);
+        let first = region.start;
+        let last = first + region.size;
+        kept::unit_bytes::copy_units(b, &work[first..last], units.count, code, out, at);
         return;
     }
     if code == STR_OFFSETS {
-        let strings_start = 8 * n;
-        let strings_end = 11 * n;
-        crate::joining::copy_str_offsets(e, b, &work[strings_start..strings_end], t, out, at);
+        let region = work::strings(words);
+        let first = region.start;
+        let last = first + region.size;
+        crate::joining::copy_str_offsets(p.encoding, b, &work[first..last], st.strings, out, at);
         return;
     }
     if LAST_SHARED < code {
-        write_last_section(code, e, b, st, t, work, out, at);
+        write_last_section(code, p, b, work, out, at);
         return;
     }
     crate::joining::copy_sections(b, code, out, at);
@@ -118,17 +127,15 @@ fn write_section(
 fn write_framed(
     code: usize,
     size: usize,
-    e: ObjectEncoding,
+    p: Package,
     b: &[u8],
-    st: InProgress,
-    t: StringTable,
     work: &[u32],
     out: &mut [u8],
     at: usize,
 ) -> usize
-    requires { ⌜ FrameWritable code size e (now b) st t (now work) (length (now out)) at ⌝ }
+    requires { ⌜ FrameWritable code size p (now b) (now work) (length (now out)) at ⌝ }
     ensures next { λ r. ⌜ r ≡ at + framedSize size ⌝ }
-    ensures output { λ _. ⌜ ((s : ℕ → List ℕ) → Ready e (now (b .entry)) st t (now (work .entry)) s → size ≡ length (s code) → now (out .exit) ≡ framedIn (now (out .entry)) at code (s code)) ⌝ }
+    ensures output { λ _. ⌜ FramePut code size p (now (b .entry)) (now (work .entry)) at (now (out .entry)) (now (out .exit)) ⌝ }
 {
     if size == 0 {
         return at;
@@ -136,49 +143,34 @@ fn write_framed(
     let start = at + 4;
     let next = start + bundle::filled_up(size);
     bundle::put_section_word(code as u32, size, out, at);
-    write_section(code, e, b, st, t, work, out, start);
+    write_section(code, p, b, work, out, start);
     next
 }
 
 // All sections behind head and object word, in order of code; the place behind them.
-fn write_sections(
-    e: ObjectEncoding,
-    b: &[u8],
-    st: InProgress,
-    t: StringTable,
-    sizes: [usize; CODES],
-    work: &[u32],
-    out: &mut [u8],
-) -> usize
-    requires { ⌜ SectionsWritable e (now b) st t sizes (now work) (now out) ⌝ }
-    ensures { λ r. ⌜ ((front : List ℕ) (s : ℕ → List ℕ) → Ready e (now (b .entry)) st t (now (work .entry)) s → Sized sizes s → Writing front s (now (out .entry)) 8 1 → Writing front s (now (out .exit)) r 14) ⌝ }
+fn write_sections(p: Package, b: &[u8], work: &[u32], out: &mut [u8]) -> usize
+    requires { ⌜ SectionsWritable p (now b) (now work) (now out) ⌝ }
+    ensures { λ r. ⌜ SectionsPut p (now (b .entry)) (now (work .entry)) (now (out .entry)) (now (out .exit)) r ⌝ }
 {
+    let sizes = p.sizes;
     let mut at = 8;
     let mut code = 1;
     while code < CODES {
         let size = sizes[code];
-        at = write_framed(code, size, e, b, st, t, work, out, at);
+        at = write_framed(code, size, p, b, work, out, at);
         code += 1;
     }
     at
 }
 
 // The package, into an output that is zero and long enough.
-pub fn write_package(
-    e: ObjectEncoding,
-    word: u32,
-    b: &[u8],
-    st: InProgress,
-    t: StringTable,
-    sizes: [usize; CODES],
-    work: &[u32],
-    out: &mut [u8],
-)
-    requires { ⌜ PackageWritable e (now b) st t sizes (now work) (now out) ⌝ }
-    ensures { λ _. ⌜ ((s : ℕ → List ℕ) → Ready e (now (b .entry)) st t (now (work .entry)) s → Sized sizes s → now (out .exit) ≡ padded (written (e .big) (record { word = word; sections = sectionsBy s } ∷ [])) (length (now (out .entry)) - length (written (e .big) (record { word = word; sections = sectionsBy s } ∷ [])))) ⌝ }
+pub fn write_package(p: Package, word: u32, b: &[u8], work: &[u32], out: &mut [u8])
+    requires { ⌜ PackageWritable p (now b) (now work) (now out) ⌝ }
+    ensures { λ _. ⌜ PackagePut p word (now (b .entry)) (now (work .entry)) (now (out .entry)) (now (out .exit)) ⌝ }
 {
+    let e = p.encoding;
     bundle::put_head(e.big, out);
     bundle::put_object(word, out, 4);
-    let at = write_sections(e, b, st, t, sizes, work, out);
+    let at = write_sections(p, b, work, out);
     bundle::put_end(out, at);
 }

@@ -1,23 +1,26 @@
--- Numbers that fit in 32 bits, and row numbers in the slots after rows were placed.
+-- Numbers that fit in 32 bits, and the length of an index.
 -- Assumes nothing.
-use mathlib.Core.Path.{_≡_, refl, sym, ap, _∙_}
-use mathlib.Core.Bool.{Bool, true}
-use mathlib.Core.List.{List, [], _∷_}
-use mathlib.Core.Option.{Option, some, none}
-use Prim.Native.Nat.{ℕ, zero, suc, _+_, _*_, _-_, _^_, _<_, _≤_}
+use mathlib.Core.Path.{_≡_, sym, ap, _∙_}
+use mathlib.Core.List.{List}
+use Prim.Native.Nat.{ℕ, _+_, _*_, _-_, _^_, _<_, _≤_}
+use native.Mathlib.Nat.{mul-le-mul-right}
 use native.Mathlib.Omega.{arith}
 use lib.ListN.{length, getD, set, take, length-take}
 use Rattle.octets.specs.Octets.{zeros}
 use Rattle.octets.proofs.Placed.{getD-zeros}
-use Rattle.octets.proofs.Checks.{true-false}
-use Rattle.index.specs.Held.{PowerOfTwo}
+use Rattle.octets.proofs.Lists.{length-those}
 use Rattle.index.specs.Probing.{slotsFor}
 use Rattle.index.proofs.Slots.{slotsFor-power}
-use Rattle.rows.proofs.LawLoops.{is-power}
-use Rattle.index.specs.Rows.{isSome}
 use Rattle.index.proofs.LawMore.{below-set}
-use Rattle.rows.specs.Layout.{identitiesFrom, freeFor, placedRows, RowsIn}
-use Rattle.rows.proofs.LawPlacing.{placed-some, placed-missing}
+use Rattle.work.specs.Regions.{recordsRegion, recordWords, region}
+use Rattle.kept.specs.Columns.{codesIn}
+use Rattle.kept.specs.Records.{inTable, recordsFrom, ofTable}
+use Rattle.kept.specs.Slots.{Within, slotsIn, Placeable, Seekable, SlotsLeft}
+use Rattle.kept.specs.Indexed.{indexSize, indexIn}
+use Rattle.kept.specs.declared.writing.IndexForm.{IndexForm}
+use Rattle.kept.proofs.Recording.{records-many}
+use Rattle.kept.proofs.Pieces.{pieces, length-grid}
+use Rattle.kept.proofs.Placing.{slots-long, records-long}
 
 -- ---- numbers
 pub set-fits : (l : List ℕ) (s x : ℕ) → ((c : ℕ) → getD l c 0 < 2 ^ 32) → x < 2 ^ 32 → (c : ℕ) → getD (set l s x) c 0 < 2 ^ 32
@@ -29,46 +32,32 @@ zeros-fit n c = omega (arith, getD-zeros n c)
 pub prefix : (k : ℕ) (l : List ℕ) → k ≤ length l → k ≡ length (take k l)
 prefix k l h = simp length-take (omega arith)
 
-pub power-slots : (k n : ℕ) → k ≡ slotsFor n → PowerOfTwo k
-power-slots k n e = rw e (is-power (slotsFor-power n))
+-- ---- slots
+pub can-place : (room n k : ℕ) → n ≤ 16 → room ≡ 1280 → k ≡ slotsFor n → k ≤ 32 → Placeable 80 room 1 n k
+can-place room n k h e q l =
+    let p = slotsFor-power n in
+    record { power = rw q (record { power = p .power; is = p .is }); fits = omega arith; enough = omega arith; limit = omega arith; units = omega arith }
 
-pub as-few : {k m n : ℕ} → k ≡ m → m ≤ n → k ≤ n
-as-few e h = omega arith
+-- behind the placing
+pub placed-slots : (w v : List ℕ) (n k : ℕ) → Placeable 80 (length w) 1 n k → SlotsLeft 80 1 n k w v → Seekable 80 v 1 n k
+placed-slots w v n k c l = record { can = rw (l .same) c; within = l .within }
 
--- room for row i of n
-pub row-room : {k m n i : ℕ} → k ≡ m → 18 * n ≤ m → i < n → 18 * i + 18 ≤ k
-row-room e h g = omega arith
+-- ---- the index
+index-most : (f : IndexForm) (w : List ℕ) (n : ℕ) (slots : List ℕ) → length (indexIn f w n slots) ≤ indexSize (length (codesIn (f .five) (f .has))) n (length slots)
+unfolding indexSize ofTable
+index-most f w n slots =
+    let few : length (ofTable w n (f .table)) ≤ n = omega (arith, length-those (inTable (f .table)) (recordsFrom w 0 n), records-many w 0 n) in
+    omega (arith, pieces f w n slots 0 .all-many, length-grid f w 0 n, length-grid f w 1 n, mul-le-mul-right (length (codesIn (f .five) (f .has))) few)
 
--- ---- row numbers
-pub zeros-in : (k n : ℕ) → RowsIn (zeros k) n
-zeros-in k n = record { within = λ j. omega (arith, getD-zeros k j) }
-
-none-some : {A : Type 0} (a : A) → none ≡ some a → ⊥
-none-some a e = let z : _≡_ {A = ℕ} 0 1 = cc in omega arith
-
-placed-in : (xs slots v : List ℕ) (row n : ℕ) → RowsIn slots n → row + length xs ≤ n + 1 → placedRows slots row xs ≡ some v → RowsIn v n
-unfolding placedRows
-placed-in [] slots v row n r h e = let q : slots ≡ v = cc in rw q at r
-placed-in (x ∷ xs) slots v row n r h e = go (freeFor slots x) refl (λ at. placed-in xs (set slots at row) v (row + 1) n (record { within = λ k. below-set slots at row n k (r .within) (omega arith) }) (omega arith))
-  where
-    go : (o : Option ℕ) → freeFor slots x ≡ o → ((at : ℕ) → placedRows (set slots at row) (row + 1) xs ≡ some v → RowsIn v n) → RowsIn v n
-    go (some at) f more = more at (sym (placed-some slots row x xs at f) ∙ e)
-    go none f more = absurd (none-some v (sym (placed-missing slots row x xs f) ∙ e))
-
-length-from : (w : List ℕ) (i n : ℕ) → length (identitiesFrom w i n) ≡ n
-unfolding identitiesFrom
-length-from w i zero = refl
-length-from w i (suc n) = ap suc (length-from w (i + 1) n)
-
--- n rows placed in slots that held none
-pub rows-placed : (w slots v : List ℕ) (k n : ℕ) (r : Bool) → slots ≡ zeros k → r ≡ isSome (placedRows slots 1 (identitiesFrom w 0 n)) → r ≡ true
-    → ((u : List ℕ) → placedRows slots 1 (identitiesFrom w 0 n) ≡ some u → v ≡ u) → RowsIn v n
-unfolding isSome
-rows-placed w slots v k n r z a t same = go (placedRows slots 1 (identitiesFrom w 0 n)) refl
-  where
-    empty : RowsIn slots n
-    empty = rw z (zeros-in k n)
-
-    go : (o : Option (List ℕ)) → placedRows slots 1 (identitiesFrom w 0 n) ≡ o → RowsIn v n
-    go (some u) e = rw (same u e) (placed-in (identitiesFrom w 0 n) slots u 1 n empty (omega (arith, length-from w 0 n)) e)
-    go none e = absurd (true-false t (a ∙ ap isSome e))
+-- R and S are records and slots as the code cuts them
+pub index-asks : (f : IndexForm) (w : List ℕ) (k size room : ℕ) (s : Seekable 80 w 1 (f .rows) k) (R S : List ℕ) → R ≡ region w 80 recordsRegion → S ≡ slotsIn w 80 1 k
+    → size ≡ indexSize (length (codesIn (f .five) (f .has))) (f .rows) k → size ≤ room
+    → Within S (f .rows) × (recordWords * f .rows ≤ length R) × (0 + length (indexIn f R (f .rows) S) ≤ room)
+index-asks f w k size room s R S e o q h =
+    let long : length S ≡ k = ap length o ∙ slots-long 80 w 1 (f .rows) k (s .can) in
+    let most = index-most f R (f .rows) S in
+    let same : indexSize (length (codesIn (f .five) (f .has))) (f .rows) (length S) ≡ size = ap (indexSize (length (codesIn (f .five) (f .has))) (f .rows)) long ∙ sym q in (
+      rw o (s .within),
+      omega (arith, ap length e, records-long 80 w 1 (f .rows) k (s .can), s .can .units),
+      omega arith,
+    )

@@ -3,12 +3,21 @@
 // identity and how many contributions; for each of these its section code, offset and size.
 // Of the stored output, the first 21 indexes are made from document 01; the other 36 stand so in packages that thorin made.
 ghost use mathlib.Core.Path.{_≡_};
-ghost use Prim.Native.Nat.{ℕ, _+_, _*_, _<_, _≤_, _^_};
+ghost use Prim.Native.Nat.{ℕ, _<_, _≤_, _^_};
 ghost use lib.ListN.{length, getD};
-ghost use Rattle.index.specs.Probing.{slotsFor};
-ghost use Rattle.rows.specs.Layout.{CellsFit, RowsIn};
+ghost use Rattle.kept.specs.Columns.{CellsFit};
+ghost use Rattle.kept.specs.Slots.{Seekable, Placeable};
+use index::judging::Contributions;
+use kept::writing::IndexForm;
 use libc::STDOUT_FILENO;
-use rows::Cells;
+use numbers::sections::INFO;
+use work::COMPILATION;
+use work::RECORD;
+
+// The records of a table and its slots lie in work for a bundle of so many words.
+const WORDS: usize = 80;
+
+const WORK: usize = 1280;
 
 // ---- numbers
 // The value of a hexadecimal digit, 16 for any other byte.
@@ -55,7 +64,7 @@ fn read_number(text: &[u8], start: usize) -> Number
 
 // ---- one unit
 struct Unit {
-    cells: Cells,
+    cells: Contributions,
     next: usize,
 }
 
@@ -71,7 +80,7 @@ fn with_number(numbers: [usize; 14], s: usize, x: u64) -> [usize; 14]
 }
 
 // One contribution more; none of a code above 13.
-fn with_cell(cells: Cells, section: u64, first: u64, count: u64) -> Cells
+fn with_cell(cells: Contributions, section: u64, first: u64, count: u64) -> Contributions
     requires { ⌜ CellsFit cells ⌝ }
     ensures { λ r. ⌜ CellsFit r ⌝ }
 {
@@ -85,14 +94,14 @@ fn with_cell(cells: Cells, section: u64, first: u64, count: u64) -> Cells
     has[s] = true;
     let offsets = with_number(offset, s, first);
     let sizes = with_number(size, s, count);
-    Cells {
+    Contributions {
         has,
         offset: offsets,
         size: sizes,
     }
 }
 
-fn read_cell(text: &[u8], at: usize, cells: Cells) -> Unit
+fn read_cell(text: &[u8], at: usize, cells: Contributions) -> Unit
     requires { ⌜ (at ≤ length (now text)) × CellsFit cells ⌝ }
     ensures { λ r. ⌜ (r .next ≤ length (now (text .entry))) × CellsFit (r .cells) ⌝ }
 {
@@ -105,10 +114,10 @@ fn read_cell(text: &[u8], at: usize, cells: Cells) -> Unit
     }
 }
 
-fn no_cells() -> Cells
+fn no_cells() -> Contributions
     ensures { λ r. ⌜ CellsFit r ⌝ }
 {
-    Cells {
+    Contributions {
         has: [false; 14],
         offset: [0; 14],
         size: [0; 14],
@@ -138,31 +147,40 @@ struct Table {
     next: usize,
 }
 
-// Stores one unit as row i; the columns that it or a unit before it has.
-fn read_row(five: bool, text: &[u8], at: usize, rows: &mut [u32], i: usize, has: [bool; 8]) -> Table
-    requires { ⌜ (at ≤ length (now text)) × (18 * i + 18 ≤ length (now rows)) ⌝ }
+// Stores one unit as record i; the columns that it or a unit before it has.
+fn read_row(five: bool, text: &[u8], at: usize, work: &mut [u32], i: usize, has: [bool; 8]) -> Table
+    requires { ⌜ (at ≤ length (now text)) × (i < 16) × (length (now work) ≡ 1280) ⌝ }
     ensures next { λ r. ⌜ r .next ≤ length (now (text .entry)) ⌝ }
-    ensures kept { λ _. ⌜ length (now (rows .exit)) ≡ length (now (rows .entry)) ⌝ }
+    ensures kept { λ _. ⌜ length (now (work .exit)) ≡ length (now (work .entry)) ⌝ }
 {
     let identity = read_number(text, at);
-    let unit = read_cells(text, identity.next);
-    rows::storing::store_row(five, rows, i, identity.is, unit.cells);
+    let read = read_cells(text, identity.next);
+    let unit = kept::records::Unit {
+        table: COMPILATION,
+        row: i + 1,
+        identity: identity.is,
+        home: INFO,
+        start: 0,
+        size: 0,
+    };
+    let records = work::records(WORDS);
+    kept::records::store_unit(work, records.start + RECORD * i, unit, five, read.cells);
     Table {
-        has: rows::columns::mark_columns(five, has, unit.cells),
-        next: unit.next,
+        has: kept::columns::mark_columns(five, has, read.cells),
+        next: read.next,
     }
 }
 
-fn read_rows(five: bool, text: &[u8], at: usize, rows: &mut [u32], n: usize) -> Table
-    requires { ⌜ (at ≤ length (now text)) × (18 * n ≤ length (now rows)) ⌝ }
+fn read_rows(five: bool, text: &[u8], at: usize, work: &mut [u32], n: usize) -> Table
+    requires { ⌜ (at ≤ length (now text)) × (n ≤ 16) × (length (now work) ≡ 1280) ⌝ }
     ensures next { λ r. ⌜ r .next ≤ length (now (text .entry)) ⌝ }
-    ensures kept { λ _. ⌜ length (now (rows .exit)) ≡ length (now (rows .entry)) ⌝ }
+    ensures kept { λ _. ⌜ length (now (work .exit)) ≡ length (now (work .entry)) ⌝ }
 {
     let mut has = [false; 8];
     let mut next = at;
     let mut i = 0;
     while i < n {
-        let table = read_row(five, text, next, rows, i, has);
+        let table = read_row(five, text, next, work, i, has);
         has = table.has;
         next = table.next;
         i += 1;
@@ -189,38 +207,42 @@ fn write_words(big: bool, s: &[u8]) {
     io::write_all(STDOUT_FILENO, b"\n");
 }
 
-// The slots hold rows that are stored.
-fn show_index(big: bool, five: bool, rows: &[u32], n: usize, has: [bool; 8], slots: &[u32])
-    requires { ⌜ RowsIn (now slots) n × (18 * n ≤ length (now rows)) × (n ≤ 16) × (length (now slots) ≤ 32) ⌝ }
+// So many slots hold numbers of the records.
+fn show_index(f: IndexForm, work: &[u32], count: usize)
+    requires { ⌜ Seekable 80 (now work) 1 (f .rows) count × (f .rows ≤ 16) × (count ≤ 32) ⌝ }
 {
     let mut out = [0u8; 2048];
-    let length = rows::columns::index_length(five, has, n, slots.len());
+    let has = f.has;
+    let length = kept::columns::index_length(f.five, has, f.rows, count);
     if 2048 < length {
         return;
     }
-    rows::writing::write_index(big, five, rows, n, has, slots, &mut out, 0);
-    write_words(big, &out[..length]);
+    let records = work::records(WORDS);
+    let slots = work::slots(WORDS, COMPILATION);
+    let first = records.start;
+    let last = first + records.size;
+    let from = slots.start;
+    let to = from + count;
+    kept::writing::write_index(f, &work[first..last], f.rows, &work[from..to], &mut out, 0);
+    write_words(f.big, &out[..length]);
 }
 
-// The rows are placed in slots that hold none.
-fn place(big: bool, five: bool, rows: &[u32], n: usize, has: [bool; 8], slots: &mut [u32])
-    requires { ⌜ (length (now slots) ≡ slotsFor n) × (18 * n ≤ length (now rows)) × (n ≤ 16) × (length (now slots) ≤ 32) ⌝ }
+fn place(f: IndexForm, work: &mut [u32], count: usize)
+    requires { ⌜ Placeable 80 (length (now work)) 1 (f .rows) count × (f .rows ≤ 16) × (count ≤ 32) ⌝ }
 {
-    octets::clear_words(slots);
-    if rows::slots::place_rows(rows, n, slots) {
-        show_index(big, five, rows, n, has, slots);
+    if kept::slots::place_units(work, WORDS, COMPILATION, f.rows, count) {
+        show_index(f, work, count);
     } else {
         io::write_all(STDOUT_FILENO, b"refused 17\n");
     }
 }
 
-fn show_rows(big: bool, five: bool, rows: &[u32], n: usize, has: [bool; 8])
-    requires { ⌜ (18 * n ≤ length (now rows)) × (n ≤ 16) ⌝ }
+fn show_rows(f: IndexForm, work: &mut [u32])
+    requires { ⌜ (f .rows ≤ 16) × (length (now work) ≡ 1280) ⌝ }
 {
-    let mut slots = [0u32; 32];
-    let count = rows::slots::slots_for(n);
+    let count = kept::slots::slots_for(f.rows);
     if count <= 32 {
-        place(big, five, rows, n, has, &mut slots[..count]);
+        place(f, work, count);
     }
 }
 
@@ -229,10 +251,17 @@ fn show_units(big: bool, five: bool, text: &[u8], at: usize, n: usize) -> usize
     requires { ⌜ (at ≤ length (now text)) × (n ≤ 16) ⌝ }
     ensures { λ r. ⌜ r ≤ length (now (text .entry)) ⌝ }
 {
-    let mut rows = [0u32; 288];
-    let table = read_rows(five, text, at, &mut rows, n);
+    let mut work = [0u32; WORK];
+    let table = read_rows(five, text, at, &mut work, n);
     let has = table.has;
-    show_rows(big, five, &rows, n, has);
+    let form = IndexForm {
+        big,
+        five,
+        table: COMPILATION,
+        rows: n,
+        has,
+    };
+    show_rows(form, &mut work);
     table.next
 }
 

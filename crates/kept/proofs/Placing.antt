@@ -272,6 +272,16 @@ unfolding keptIn
 kept-by w u v words count slot first start k e f p q =
     q ∙ ap₂ (λ (l : List ℕ) (a : ℕ). placed l (a + slot) ((count + 1) ∷ [])) (p ∙ ap (λ (a : ℕ). placed w (a + recordWords * count) (wordsOf k)) e) f
 
+-- the first m slots of a table stand at the front of its region, and stay with it
+slots-front : (z : List ℕ) (words t m : ℕ) → m ≤ words → slotsIn z words t m ≡ part (region z words (slotsRegion t)) 0 m
+unfolding slotsIn region
+slots-front z words t m h =
+    let o : slotsRegion t .start * words + 0 ≡ slotsRegion t .start * words = omega arith in
+    sym (part-part z (slotsRegion t .start * words) (slotsRegion t .words * words) 0 m (omega (arith, one-word t words)) ∙ ap (λ (a : ℕ). part z a m) o)
+
+pub slots-stay : (words : ℕ) (w v : List ℕ) (t m : ℕ) → m ≤ words → region v words (slotsRegion t) ≡ region w words (slotsRegion t) → slotsIn v words t m ≡ slotsIn w words t m
+slots-stay words w v t m h e = slots-front v words t m h ∙ ap (λ (r : List ℕ). part r 0 m) e ∙ sym (slots-front w words t m h)
+
 -- ---- a unit kept: its record and its slot change, and nothing else
 module _ (w : List ℕ) (words count slot : ℕ) (k : KeptUnit) (many : length (k .cells) ≡ cellWords) (can : Keepable words (length w) count slot) where
   abbrev u : List ℕ
@@ -307,24 +317,17 @@ module _ (w : List ℕ) (words count slot : ℕ) (k : KeptUnit) (many : length (
       ∙ others-stay recordsRegion records-within words w (can .enough) (recordWords * count) (wordsOf k) record-inside s a
 
   -- its own slots, the first m of them
-  front : (z : List ℕ) (t m : ℕ) → m ≤ words → slotsIn z words t m ≡ part (region z words (slotsRegion t)) 0 m
-  unfolding slotsIn region
-  front z t m h =
-      let o : slotsRegion t .start * words + 0 ≡ slotsRegion t .start * words = omega arith in
-      sym (part-part z (slotsRegion t .start * words) (slotsRegion t .words * words) 0 m (omega (arith, one-word t words)) ∙ ap (λ (a : ℕ). part z a m) o)
-
   pub kept-slots : (m : ℕ) → slot < m → m ≤ words → slotsIn (keptIn w words count slot k) words (k .table) m ≡ set (slotsIn w words (k .table) m) slot (count + 1)
   unfolding keptIn slotsIn
   kept-slots m l h =
       let base = slotsRegion (k .table) .start * words in
       let fits : base + m ≤ length w = omega (arith, region-fits (slotsRegion (k .table)) (slots-within (k .table)) words w (can .enough), one-word (k .table) words) in
       let same : part u base m ≡ part w base m =
-      front u (k .table) m h
-      ∙ ap (λ (r : List ℕ). part r 0 m) (others-stay recordsRegion records-within words w (can .enough) (recordWords * count) (wordsOf k) record-inside (slotsRegion (k .table)) (records-slots (k .table)))
-      ∙ sym (front w (k .table) m h) in
+      slots-stay words w u (k .table) m h
+      (others-stay recordsRegion records-within words w (can .enough) (recordWords * count) (wordsOf k) record-inside (slotsRegion (k .table)) (records-slots (k .table))) in
       let long : length (part w base m) ≡ m = length-part w base m fits in
       part-stored u base m slot ((count + 1) ∷ []) (omega (arith, u-length)) (omega arith) ∙ ap (λ (r : List ℕ). placed r slot ((count + 1) ∷ [])) same
       ∙ sym (placed-byte (part w base m) slot (count + 1) (omega arith))
 
   pub kept-other-slots : (t m : ℕ) → Apart (slotsRegion (k .table)) (slotsRegion t) → m ≤ words → slotsIn (keptIn w words count slot k) words t m ≡ slotsIn w words t m
-  kept-other-slots t m a h = front (keptIn w words count slot k) t m h ∙ ap (λ (r : List ℕ). part r 0 m) (kept-others (slotsRegion t) (records-slots t) a) ∙ sym (front w t m h)
+  kept-other-slots t m a h = slots-stay words w (keptIn w words count slot k) t m h (kept-others (slotsRegion t) (records-slots t) a)

@@ -3,7 +3,7 @@
 use native.Mathlib.Omega.{arith}
 use Prim.Native.Nat.{_≤_}
 use lib.ListN.{length}
-use Rattle.rows.specs.Layout.{CellsFit}
+use Rattle.kept.specs.Columns.{CellsFit}
 use Rattle.index_written.proofs.read_cells.Statement.{statement}
 use Rattle.index_written.proofs.read_cells.Tie as tie
 

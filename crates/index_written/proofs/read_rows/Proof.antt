@@ -3,22 +3,21 @@
 use mathlib.Core.Path.{_≡_, refl, _∙_}
 use Prim.Native.Nat.{_-_, _≤_}
 use lib.ListN.{length}
-use Rattle.index_written.proofs.Laws.{row-room}
 use native.Mathlib.Omega.{arith}
 use Rattle.index_written.proofs.read_rows.Statement.{statement}
 use Rattle.index_written.proofs.read_rows.Tie as tie
 
 abbrev Inv-loop : tie.InvT-loop
-Inv-loop five text at rows₀ n has₀ next₀ i₀ rows has next i = (next ≤ length text) × (length rows ≡ length rows₀)
+Inv-loop five text at work₀ n has₀ next₀ i₀ work has next i = (next ≤ length text) × (length work ≡ length work₀)
 
 abbrev μ-loop : tie.MeasureT-loop
-μ-loop five text at rows₀ n has₀ next₀ i₀ rows has next i = n - i
+μ-loop five text at work₀ n has₀ next₀ i₀ work has next i = n - i
 
 loop-holds : tie.Need-loop-holds Inv-loop μ-loop
 loop-holds c = (omega arith, refl)
 
 read-row-requires : tie.Need-read-row-requires Inv-loop μ-loop
-read-row-requires c κs = let l = c .before .before in (l .loop .inv .0, row-room (l .loop .inv .1) (l .before .before .before .pre .1) (c .before .loop-test .taken))
+read-row-requires c κs = let l = c .before .before in (l .loop .inv .0, omega arith, l .loop .inv .1 ∙ l .before .before .before .pre .2)
 
 add-i : tie.Need-add-i Inv-loop μ-loop
 add-i c = omega arith

@@ -71,17 +71,17 @@ scan-object-requires c κs =
     let j = i .before .loop .inv .1 (pre .bundle) (pre .table) (pre .reads) (pre .kept) in
     object-reaches _ _ _ _ (j .passed) _ _ (sym (n .next .given .1) ∙ i .next-item .ensures)
 
-element-copy-out-t17 : tie.Need-element-copy-out-t17 Inv-loop μ-loop
-element-copy-out-t17 c = omega arith
+element-copy-out-t18 : tie.Need-element-copy-out-t18 Inv-loop μ-loop
+element-copy-out-t18 c = omega arith
 
-element-copy-out-t20 : tie.Need-element-copy-out-t20 Inv-loop μ-loop
-element-copy-out-t20 c = omega arith
+element-copy-out-t21 : tie.Need-element-copy-out-t21 Inv-loop μ-loop
+element-copy-out-t21 c = omega arith
 
-element-copy-out-t17-2 : tie.Need-element-copy-out-t17-2 Inv-loop μ-loop
-element-copy-out-t17-2 c = omega arith
+element-copy-out-t18-2 : tie.Need-element-copy-out-t18-2 Inv-loop μ-loop
+element-copy-out-t18-2 c = omega arith
 
-element-copy-out-t20-2 : tie.Need-element-copy-out-t20-2 Inv-loop μ-loop
-element-copy-out-t20-2 c = omega arith
+element-copy-out-t21-2 : tie.Need-element-copy-out-t21-2 Inv-loop μ-loop
+element-copy-out-t21-2 c = omega arith
 
 remap-section-requires : tie.Need-remap-section-requires Inv-loop μ-loop
 remap-section-requires c κs =
@@ -129,10 +129,10 @@ copy-str-offsets-spec =
     same-length
     returns
     scan-object-requires
-    element-copy-out-t17
-    element-copy-out-t20
-    element-copy-out-t17-2
-    element-copy-out-t20-2
+    element-copy-out-t18
+    element-copy-out-t21
+    element-copy-out-t18-2
+    element-copy-out-t21-2
     remap-section-requires
     add-o
     loop-less

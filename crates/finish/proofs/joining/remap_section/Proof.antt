@@ -9,14 +9,14 @@ use Rattle.finish.proofs.joining.remap_section.Tie as tie
 
 returns : tie.Need-returns
 returns c ts k =
-    let s = c .before .before .before .before .before in
-    remap-none _ _ _ _ _ _ _ _ (s .pre) _ ts (c .if1 .taken)
+    let s = c .before .before .before .before .before .before .before in
+    remap-none _ _ _ _ _ _ _ (s .pre) _ ts (c .if1 .taken)
 
 remap-str-offsets-requires : tie.Need-remap-str-offsets-requires
 remap-str-offsets-requires c κs =
-    let s = c .before .before .before .before .before .before in
+    let s = c .before .before .before .before .before .before .before .before in
     let p = s .pre in
-    (p .small, (p .table, p .kept), (p .good .used, judged _ _ _ _ _ _ _ _ p (c .before .if1 .left)), p .room)
+    (p .small, (p .table, p .kept), (p .good .used, judged _ _ _ _ _ _ _ p (c .before .if1 .left)), p .room)
 
 same-length : tie.Need-same-length
 same-length c = search needs
@@ -24,9 +24,9 @@ same-length c = search needs
 returns-2 : tie.Need-returns-2
 returns-2 c ts k =
     let r = c .before .before in
-    let s = r .before .before .before .before .before .before .before in
+    let s = r .before .before .before .before .before .before .before .before .before in
     let p = s .pre in
-    r .remap-str-offsets .ensures ts (p .good .used) k (judged _ _ _ _ _ _ _ _ p (r .before .before .if1 .left))
+    r .remap-str-offsets .ensures ts (p .good .used) k (judged _ _ _ _ _ _ _ p (r .before .before .if1 .left))
     ∙ ap (placed _ _) (remapped-in _ ts _ _ (p .good .used) (p .good .strings))
 
 pub remap-section-spec : {M : Type 1} → statement M

@@ -36,7 +36,7 @@ returns : tie.Need-returns
 unfolding sizesOf
 returns c =
     let s = c .before .before .before .before .before .before .before in
-    ap₂ (λ (x y : ℕ). set (set (set (set (set (set (s .args .st .bases) 0 0) 1 (s .args .st .info .bytes)) 2 (s .args .st .types .bytes)) 11 (s .args .t .size)) 12 x) 13 y) (c .before .index-size .ensures) (c .index-size2 .ensures)
+    ap₂ (λ (x y : ℕ). set (set (set (set (set (set (s .args .st .bases) 0 0) 1 (s .args .st .units .info)) 2 (s .args .st .units .types)) 11 (s .args .st .strings .size)) 12 x) 13 y) (c .before .index-size .ensures) (c .index-size2 .ensures)
 
 pub section-sizes-spec : {M : Type 1} → statement M
 section-sizes-spec =

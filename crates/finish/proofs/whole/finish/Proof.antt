@@ -20,13 +20,13 @@ use Rattle.finish.proofs.whole.finish.Tie as tie
 -- with an object whose word is good
 end-of : (c : tie.After-e)
     → (let x = c .before .before .before .before .before .before .before .before .before .before in
-    Ending (x .args .big) (now (x .args .b)) (x .args .st) (x .args .t) (now (x .args .work)) (c .e .given .0 .0) (c .before .before .before .before .word .given .0 .0))
+    Ending (x .args .big) (now (x .args .b)) (x .args .st) (now (x .args .work)) (c .e .given .0 .0) (c .before .before .before .before .word .given .0 .0))
 end-of c =
     let x = c .before .before .before .before .before .before .before .before .before .before in
     let n = c .before .before .before .before .before .before in
     let o = c .before .before .before .before in
     let r = c .before .before in
-    ending _ _ _ _ _ (x .pre .0) (λ i. c .before .before .before .before .before .before .before .before .before .shared-slice-known .given i .fits) _ _ (sym (o .word .given .1) ∙ n .next-item .ensures) _ (sym (c .e .given .1) ∙ r .read-word .ensures)
+    ending _ _ _ _ (x .pre .0) (λ i. c .before .before .before .before .before .before .before .before .before .shared-slice-known .given i .fits) _ _ (sym (o .word .given .1) ∙ n .next-item .ensures) _ (sym (c .e .given .1) ∙ r .read-word .ensures)
 
 next-item-requires : tie.Need-next-item-requires
 next-item-requires c κs = search needs
@@ -48,7 +48,7 @@ returns c =
     let f = c .before .before in
     let a = x .pre .0 in
     let over = objects-over _ _ _ _ (objects-none _ _ (a .reads)) (i .next-item .result) (λ w n q. not-object _ w n (m .match .keys2) q) (i .next-item .ensures) in
-    let p = sym (empty-package _ _ _ _ _ a (sym over)) in (
+    let p = sym (empty-package _ _ _ _ a (sym over)) in (
       f .finish-empty .ensures .0 ∙ ap (λ (k : Check (List ℕ)). finishedOf (answered k (length (now (x .args .out))))) p,
       f .finish-empty .ensures .1 ∙ ap (λ (k : Check (List ℕ)). outputOf (answered k (length (now (x .args .out)))) (length (now (x .args .out)))) p,
     )
@@ -65,24 +65,24 @@ enum-told c = search needs
 returns-2 : tie.Need-returns-2
 returns-2 c =
     let x = c .before .before .before .before .before .before .before .before .before .before in
-    absurd (word-good _ _ _ _ _ (x .pre .0) (λ i. c .before .before .before .before .before .before .before .before .before .shared-slice-known .given i .fits) _ _ (sym (c .before .before .before .before .word .given .1) ∙ c .before .before .before .before .before .before .next-item .ensures) (sym (c .enum-told .given .1) ∙ c .before .before .read-word .ensures))
+    absurd (word-good _ _ _ _ (x .pre .0) (λ i. c .before .before .before .before .before .before .before .before .before .shared-slice-known .given i .fits) _ _ (sym (c .before .before .before .before .word .given .1) ∙ c .before .before .before .before .before .before .next-item .ensures) (sym (c .enum-told .given .1) ∙ c .before .before .read-word .ensures))
 
 place-tables-requires : tie.Need-place-tables-requires
-place-tables-requires c κs = end-of (c .before .before .before .before) .asks
+place-tables-requires c κs = end-of (c .before .before .before) .asks
 
 same-length-2 : tie.Need-same-length-2
 same-length-2 c = search needs
 
 returns-3 : tie.Need-returns-3
 returns-3 c =
-    let x = c .before .before .before .before .before .before .before .before .before .before .before .before .before .before .before .before .before .before .before in
-    let over = end-of (c .before .before .before .before .before .before .before .before .before) .over (c .if2 .taken) in
+    let x = c .before .before .before .before .before .before .before .before .before .before .before .before .before .before .before .before .before .before in
+    let over = end-of (c .before .before .before .before .before .before .before .before) .over (c .if2 .taken) in
     (refused-answer _ _ 19 over, refused-output _ _ 19 over _ (x .pre .1))
 
 finish-sections-requires : tie.Need-finish-sections-requires
 finish-sections-requires c κs =
-    let x = c .before .before .before .before .before .before .before .before .before .before .before .before .before .before .before .before .before .before .before .before .before in
-    let g = end-of (c .before .before .before .before .before .before .before .before .before .before .before) in
+    let x = c .before .before .before .before .before .before .before .before .before .before .before .before .before .before .before .before .before .before .before .before in
+    let g = end-of (c .before .before .before .before .before .before .before .before .before .before) in
     let p = c .before .before .before .before .before .before in
     record { sections = g .s; ready = g .ready _ (g .told _ _ (p .place-tables .ensures) .1) (c .before .before .if2 .left); zero = x .pre .1 }
 
@@ -94,8 +94,8 @@ same-length-4 c = search needs
 
 returns-4 : tie.Need-returns-4
 returns-4 c =
-    let x = c .before .before .before .before .before .before .before .before .before .before .before .before .before .before .before .before .before .before .before .before .before .before .before .before in
-    let g = end-of (c .before .before .before .before .before .before .before .before .before .before .before .before .before .before) in
+    let x = c .before .before .before .before .before .before .before .before .before .before .before .before .before .before .before .before .before .before .before .before .before .before .before in
+    let g = end-of (c .before .before .before .before .before .before .before .before .before .before .before .before .before) in
     let p = c .before .before .before .before .before .before .before .before .before in
     let f = c .before .before in
     let ready = g .ready _ (g .told _ _ (p .place-tables .ensures) .1) (c .before .before .before .before .before .if2 .left) in (
@@ -108,7 +108,7 @@ same-length-5 c = search needs
 
 returns-5 : tie.Need-returns-5
 returns-5 c =
-    let g = end-of (c .before .before .before .before .before .before .before .before) in
+    let g = end-of (c .before .before .before .before .before .before .before) in
     absurd (true-false (g .told _ _ (c .before .before .before .place-tables .ensures) .0) (c .if1 .left))
 
 pub finish-spec : {M : Type 1} → statement M

@@ -10,6 +10,7 @@ use denote.Ref.{now}
 use Rattle.finish.specs.Sections.{Sized}
 use Rattle.finish.specs.Ready.{Ready}
 use Rattle.finish.proofs.Sized.{sizes-long, ready-sized}
+use Rattle.finish.proofs.Steps.{index-few}
 use Rattle.finish.proofs.Answers.{refused-answer, refused-output, short-answer, short-output, made-answer, made-output, sized-bad, sized-good, sized-length}
 use borrow.Author.Needs.{needs}
 use Rattle.finish.proofs.whole.finish_sections.Statement.{statement}
@@ -17,15 +18,17 @@ use Rattle.finish.proofs.whole.finish_sections.Tie as tie
 
 sized : (c : tie.After-section-sizes)
     → (let x = c .before .before .before .before in
-    (s : ℕ → List ℕ) → Ready (x .args .e) (now (x .args .b)) (x .args .st) (x .args .t) (now (x .args .work)) s → Sized (c .section-sizes .result) s)
+    (s : ℕ → List ℕ) → Ready (x .args .e) (now (x .args .b)) (x .args .st) (now (x .args .work)) s → Sized (c .section-sizes .result) s)
 sized c s r =
     let x = c .before .before .before .before in
     let long : length (c .section-sizes .result) ≡ 14 = omega arith in
     rw (c .section-sizes .ensures)
-    (ready-sized _ _ _ _ _ s r (sym (sizes-long (x .args .e .five) (x .args .st) (x .args .t)) ∙ ap length (sym (c .section-sizes .ensures)) ∙ long))
+    (ready-sized _ _ _ _ s r (sym (sizes-long (x .args .e .five) (x .args .st)) ∙ ap length (sym (c .section-sizes .ensures)) ∙ long))
 
 section-sizes-requires : tie.Need-section-sizes-requires
-section-sizes-requires c κs = search needs
+section-sizes-requires c κs =
+    let r = c .before .before .before .pre .ready in
+    (index-few _ _ _ _ _ (r .cu), index-few _ _ _ _ _ (r .tu))
 
 sizes-good-requires : tie.Need-sizes-good-requires
 sizes-good-requires c κs = search needs

@@ -25,7 +25,7 @@ add-next : tie.Need-add-next
 add-next c =
     let i = c .before in
     let s = i .before .before .before .before in
-    omega (arith, frame-room _ _ _ _ _ _ _ _ _ (s .pre) (i .if1 .left), c .filled-up .ensures, s .good .1 .1 .1 .1 .1 .1 .1 .0)
+    omega (arith, frame-room _ _ _ _ _ _ _ (s .pre) (i .if1 .left), c .filled-up .ensures, s .good)
 
 cast-put-section-word : tie.Need-cast-put-section-word
 cast-put-section-word c = search needs
@@ -34,7 +34,7 @@ put-section-word-requires : tie.Need-put-section-word-requires
 put-section-word-requires c κs =
     let i = c .before .before in
     let s = i .before .before .before .before in
-    let room = frame-room _ _ _ _ _ _ _ _ _ (s .pre) (i .if1 .left) in
+    let room = frame-room _ _ _ _ _ _ _ (s .pre) (i .if1 .left) in
     (omega (arith, s .pre .most), omega (arith, s .pre .short), omega (arith, room))
 
 write-section-requires : tie.Need-write-section-requires
@@ -42,7 +42,7 @@ write-section-requires c κs =
     let p = c .before .before .before in
     let i = p .before .before .before in
     let s = i .before .before .before .before in
-    frame-section _ _ _ _ _ _ _ _ _ (s .pre) (i .if1 .left) _ (p .put-section-word .kept .1 .1 .0)
+    frame-section _ _ _ _ _ _ _ (s .pre) (i .if1 .left) _ (p .put-section-word .kept .1 .1 .0)
 
 same-length : tie.Need-same-length
 same-length c = search needs
@@ -53,7 +53,7 @@ returns-2 c =
     let p = x .before .before .before .before in
     let i = p .before .before .before in
     let s = i .before .before .before .before in
-    let room = frame-room _ _ _ _ _ _ _ _ _ (s .pre) (i .if1 .left) in (
+    let room = frame-room _ _ _ _ _ _ _ (s .pre) (i .if1 .left) in (
       ap (λ (k : ℕ). s .args .at + 4 + k) (p .before .before .filled-up .ensures) ∙ omega (arith, framed-some (s .args .size) (i .if1 .left)),
       λ y r q. frame-put _ _ _ _ _ _ _ (p .put-section-word .ensures) (x .write-section .ensures y r) (omega (arith, room)) q (i .if1 .left),
     )

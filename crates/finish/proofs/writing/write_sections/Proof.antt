@@ -14,12 +14,12 @@ use Rattle.finish.proofs.writing.write_sections.Statement.{statement}
 use Rattle.finish.proofs.writing.write_sections.Tie as tie
 
 abbrev Inv-loop : tie.InvT-loop
-Inv-loop e b st t work out₀ sizes at₀ code₀ out at code =
+Inv-loop p b work out₀ sizes at₀ code₀ out at code =
     (1 ≤ code) × (code ≤ 14) × (length out ≡ length out₀)
-    × ((front : List ℕ) (s : ℕ → List ℕ) → Ready e b st t work s → Sized sizes s → Writing front s out₀ 8 1 → Writing front s out at code)
+    × ((front : List ℕ) (s : ℕ → List ℕ) → Ready (p .encoding) b (p .state) work s → Sized (p .sizes) s → Writing front s out₀ 8 1 → Writing front s out at code)
 
 abbrev μ-loop : tie.MeasureT-loop
-μ-loop e b st t work out₀ sizes at₀ code₀ out at code = 14 - code
+μ-loop p b work out₀ sizes at₀ code₀ out at code = 14 - code
 
 loop-holds : tie.Need-loop-holds Inv-loop μ-loop
 loop-holds c = (omega arith, omega arith, refl, λ front s r z w. w)
@@ -33,9 +33,9 @@ array-read-size c = omega arith
 write-framed-requires : tie.Need-write-framed-requires Inv-loop μ-loop
 write-framed-requires c κs =
     let l = c .before .before in
-    let s = l .before .before .before .before in
+    let s = l .before .before .before .before .before in
     let p = s .pre in
-    frame-writable _ _ _ _ _ _ _ _ _ _ _ p (l .loop .inv .3 (p .front) (p .sections) (p .ready) (p .sized) (p .started)) (l .loop .inv .0) (c .before .loop-test .taken) refl
+    frame-writable _ _ _ _ _ _ _ _ p (l .loop .inv .3 (p .front) (p .sections) (p .ready) (p .sized) (p .started)) (l .loop .inv .0) (c .before .loop-test .taken) refl
 
 add-code : tie.Need-add-code Inv-loop μ-loop
 add-code c = omega arith
@@ -50,7 +50,7 @@ loop-again c =
     let l = i .before in (
       omega arith,
       omega arith,
-      f .write-framed .kept .1 .1 .1 .1 .1 .1 .1 .0 ∙ l .loop .inv .2,
+      f .write-framed .kept .1 .1 .1 .1 .1 .0 ∙ l .loop .inv .2,
       λ front s r z w. frame-turn front s _ _ _ _ _ _ (l .loop .inv .3 front s r z w) (i .loop-test .taken) (z .are _ (l .loop .inv .0) (i .loop-test .taken)) (f .write-framed .ensures .1 s r (z .are _ (l .loop .inv .0) (i .loop-test .taken))) (f .write-framed .ensures .0),
     )
 
