@@ -206,7 +206,7 @@ impl<'a> InProgress<'a> {
         rows.push(Row { identity: unit.identity, parts: filed });
     }
 
-    /// 17, 19 and the package.
+    /// 19 and the package.
     fn finish(mut self, bundle: &Bundle) -> Result<Vec<u8>, u32> {
         let word = bundle.objects.first().map(|o| o.word);
         let version = if word.is_some_and(|w| w & 0xFF == 5) { 5 } else { 2 };
