@@ -1,9 +1,9 @@
 -- The walk over the objects of a bundle: the first word, and what the loop keeps.
 -- Assumes nothing.
 use mathlib.Core.Path.{_≡_, refl, sym, ap, _∙_, subst}
-use mathlib.Core.Bool.{Bool, false}
+use mathlib.Core.Bool.{Bool}
 use mathlib.Core.List.{List, [], _∷_, _++_, map, map-append, append-nil, append-assoc}
-use Prim.Native.Nat.{ℕ, _+_, _/_, _%_, _<_, _≤_}
+use Prim.Native.Nat.{ℕ, _+_, _%_, _<_, _≤_}
 use native.Mathlib.Omega.{arith}
 use lib.Dec.{eqb}
 use lib.ListN.{length, drop, length-append}
@@ -13,7 +13,7 @@ use Rattle.octets.proofs.Checks.{pass-inj}
 use Rattle.octets.proofs.Joined.{joined-snoc}
 use Rattle.bundle.specs.Bundle.{Part, Item, Object, Bundle, stepAt, leading, objectsOf, bundleOf}
 use Rattle.bundle.specs.Next.{nextOf}
-use Rattle.bundle.specs.Scan.{sectionsOf, placeBehind}
+use Rattle.bundle.specs.Scan.{placeBehind}
 use Rattle.bundle.specs.Encoding.{encodingOf}
 use Rattle.bundle.specs.declared.Item.{Item as Answered}
 use Rattle.bundle.specs.declared.Item.the-variants.{Object as AnObject}

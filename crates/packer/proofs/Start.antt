@@ -4,7 +4,7 @@ use mathlib.Core.Path.{_≡_, refl, subst}
 use mathlib.Core.Bool.{Bool, false}
 use mathlib.Core.Logic.{⊎-elim}
 use mathlib.Core.List.{List, []}
-use Prim.Native.Nat.{ℕ, zero, suc, _/_, _≤_}
+use Prim.Native.Nat.{ℕ, zero, suc, _≤_}
 use native.Mathlib.Nat.{not-suc-le-zero}
 use native.Mathlib.Omega.{arith}
 use lib.ListN.{length, getD, replicate}
@@ -17,12 +17,12 @@ use Rattle.bundle.proofs.Objects.{objects-none}
 use Rattle.strings.specs.Strings.{putAll, firstUses}
 use Rattle.strings.proofs.Keeping.{kept-none}
 use Rattle.work.specs.Regions.{recordsRegion, region}
-use Rattle.package.specs.Filing.{Filed, kept, keepAll}
+use Rattle.package.specs.Filing.{kept, keepAll}
 use Rattle.package.specs.Pack.{unitBytes, allUsed, stringTable}
 use Rattle.kept.specs.Records.{recordsFrom, ofTable}
 use Rattle.kept.specs.Slots.{seenSlots, slotsIn}
 use Rattle.kept.specs.Held.{identitiesOf, none, TableHeld, pick, OneOrTwo, UnitsHeld}
-use Rattle.kept.specs.State.{Held, UnitsGood}
+use Rattle.kept.specs.State.{UnitsGood}
 use Rattle.kept.specs.declared.Table.{Table}
 use Rattle.kept.proofs.Columning.{columns-none}
 use Rattle.kept.proofs.Holding.{pick-first, pick-second, units-none}

@@ -1,7 +1,7 @@
 -- What the functions that file the objects of a bundle require and answer, from the definitions. Nothing here need be believed.
 -- Assumes nothing.
 use mathlib.Core.Path.{_≡_}
-use mathlib.Core.Bool.{Bool, true, false}
+use mathlib.Core.Bool.{Bool, false}
 use mathlib.Core.List.{List, [], _∷_, _++_}
 use Prim.Native.Nat.{ℕ, _+_, _*_, _%_, _≤_}
 use lib.ListN.{length, drop}
