@@ -1,6 +1,6 @@
 -- The statement over each whole table: it is what its rule works out, entry for entry and in its order.
--- These tables are the ones that the source's constants are proved to hold: `numbers::names::section_name`, `index::cells::column_at` and `unit::forms::form_at`
--- are the only readers of the constants, and each promises, for every entry, that what it reads is the entry of the table named here.
+-- These tables are the ones that the source's constants are proved to hold: `numbers::names::section_names`, `index::cells::columns_four`, `columns_five` and
+-- `unit::forms::all_forms` alone read the constants, and each promises that the whole array is the table named here. All other code has its entries from them.
 -- Assumes nothing.
 use mathlib.Core.Path.{_≡_}
 use mathlib.Core.List.{List, [], _∷_, map}

@@ -180,18 +180,23 @@ module _ (b : List ℕ) (x : InputObject) (i : Input) (is : InputIs b x i) where
   lengths-are c h = sym (ap length (is .bytes c h) ∙ length-part b (getD (x .start) c 0) (getD (x .size) c 0) (is .within c))
 
   module _ (here : List Filed) (summed : List ℕ) (table : ℕ) (held : (c : ℕ) → c < 14 → getD summed c 0 ≡ sums here table c) (identity home at size : ℕ) (r : RowJudged) where
-    pub given-is : (o : Option Index) → indexFor i table ≡ o
+    given-width : (o : Option Index) → indexFor i table ≡ o
         → GivenIs (contributionsBy o (encodingIs (x .encoding) .width) (byCode (x .size)) (byCode summed) identity home at size) r
         → GivenIs (contributionsOf i here home at (record { size = size; table = table; identity = identity })) r
     unfolding contributionsOf contributionsBy GivenIs byCode
-    given-is (some y) e a =
+    given-width (some y) e a =
         rw (contributionsOf, e)
         (subst (λ (m : Check (BySection (Option Contribution))). GivenIs m r)
         (row-same (byCode (x .size)) (lengths i) (byCode summed) (sums here table) lengths-are held y (encodingIs (x .encoding) .width) identity home at size
         ∙ ap (λ (z : _). rowContributions y (z .width) (lengths i) (sums here table) identity home at size) (is .encoding)) a)
-    given-is none e a =
+    given-width none e a =
         rw (contributionsOf, e)
         (a .0, contributions-same (r .contributions) (wholeContributions (byCode (x .size))) (wholeContributions (lengths i)) (whole-same (byCode (x .size)) (lengths i) lengths-are) (a .1))
+
+    pub given-is : (o : Option Index) → indexFor i table ≡ o → (width : ℕ) → width ≡ encodingIs (x .encoding) .width
+        → GivenIs (contributionsBy o width (byCode (x .size)) (byCode summed) identity home at size) r
+        → GivenIs (contributionsOf i here home at (record { size = size; table = table; identity = identity })) r
+    given-is o e width q a = given-width o e (subst (λ (z : ℕ). GivenIs (contributionsBy o z (byCode (x .size)) (byCode summed) identity home at size) r) q a)
 
 -- the index of a table
 pub index-first : (i : Input) (table : ℕ) → table ≡ 1 → indexFor i table ≡ i .cuIndex

@@ -2,8 +2,8 @@
 -- Assumes nothing.
 use mathlib.Core.Path.{_≡_, refl, sym, ap, _∙_, subst}
 use mathlib.Core.Bool.{Bool, true, false}
-use mathlib.Core.List.{List, [], _∷_, _++_, append-nil}
-use Prim.Native.Nat.{ℕ, _+_, _*_, _<_, _≤_}
+use mathlib.Core.List.{List, [], _++_, append-nil}
+use Prim.Native.Nat.{ℕ, _+_, _<_, _≤_}
 use native.Mathlib.Omega.{arith}
 use lib.Dec.{eqb}
 use lib.ListN.{length, getD}
@@ -13,15 +13,16 @@ use Rattle.bundle.specs.Encoded.{encodingIs, four}
 use Rattle.bundle.specs.declared.encoding.ObjectEncoding.{ObjectEncoding}
 use Rattle.strings.specs.declared.table.StringTable.{StringTable}
 use Rattle.index.specs.Rows.{BySection}
-use Rattle.keeping.specs.Regions.{stringsStart, Replaced}
-use Rattle.keeping.specs.Cells.{Summed}
+use Rattle.numbers.specs.Sections.{sectionCodes}
+use Rattle.kept.specs.Cells.{Summed}
+use Rattle.kept.specs.State.{Held}
+use Rattle.kept.specs.declared.state.InProgress.{InProgress}
 use Rattle.package.specs.Input.{Input}
 use Rattle.package.specs.Filing.{Filed, sums, grown}
 use Rattle.filing.specs.Judged.{InputIs}
 use Rattle.filing.specs.declared.input.InputObject.{InputObject}
-use Rattle.filing.specs.declared.state.InProgress.{InProgress}
 use Rattle.filing.specs.declared.state.Sums.{Sums}
-use Rattle.filing.specs.State.{Held, SumsHeld}
+use Rattle.filing.specs.State.{wordsIn, withStrings, SumsHeld, OnlyStrings}
 use Rattle.filing.specs.Answers.{AtUnit}
 use Rattle.filing.specs.ByObject.{AtObject}
 use Rattle.filing.proofs.Stringing.{held-strings}
@@ -42,34 +43,31 @@ pub none-summed : (ss : Sums) → ((c : ℕ) → getD (ss .cu) c 0 ≡ 0) → ((
 unfolding sums those sum
 none-summed ss p q = record { cu = λ c h. p c; tu = λ c h. q c; low = λ t c. omega arith }
 
-pub object-enter : (b : List ℕ) (big : Bool) (first n place : ℕ) (w v : List ℕ) (st : InProgress) (t : StringTable) (bases : BySection ℕ) (is : List Input) (us : List Filed) (x : InputObject) (i : Input) (ss : Sums) (from : ℕ)
-    → AtObject b big first n place w st t bases is us → Replaced w v (stringsStart n) (3 * n) → InputIs b x i → encodingIs (x .encoding) ≡ encodingOf big first → SumsHeld ss []
-    → place ≤ from → from ≤ length b → AtUnit b x i n from v st ss bases us []
-object-enter b big first n place w v st t bases is us x i ss from a r input same none low high =
-    let held : Held (x .encoding .five) b n place v st bases (us ++ []) =
-    subst (λ (f : Bool). Held f b n place v st bases (us ++ [])) (sym (five-is (x .encoding) (encodingOf big first) same))
-    (subst (λ (l : List Filed). Held (eqb (encodingOf big first .version) 5) b n place v st bases l) (sym (append-nil us)) (held-strings n w v (a .held .room) r _ b place st bases us (a .held))) in
+pub object-enter : (b : List ℕ) (big : Bool) (first place : ℕ) (w v : List ℕ) (st : InProgress) (t : StringTable) (bases : BySection ℕ) (is : List Input) (us : List Filed) (x : InputObject) (i : Input) (ss : Sums) (from : ℕ)
+    → AtObject b big first place w st bases is us → OnlyStrings (wordsIn b) w v → InputIs b x i → encodingIs (x .encoding) ≡ encodingOf big first → SumsHeld ss []
+    → place ≤ from → from ≤ length b → AtUnit b x i from v (withStrings st t) ss bases us []
+object-enter b big first place w v st t bases is us x i ss from a r input same none low high =
+    let held : Held (x .encoding .five) b (wordsIn b) place v (withStrings st t) bases (us ++ []) =
+    subst (λ (f : Bool). Held f b (wordsIn b) place v (withStrings st t) bases (us ++ [])) (sym (five-is (x .encoding) (encodingOf big first) same))
+    (subst (λ (l : List Filed). Held (eqb (encodingOf big first .version) 5) b (wordsIn b) place v (withStrings st t) bases l) (sym (append-nil us)) (held-strings w v r _ b place st t bases us (a .held))) in
     at-later place from (record { input = input; held = held; sums = none }) low high
 
 -- the bases behind the object
 pub held-grown : (five : Bool) (b : List ℕ) (n place : ℕ) (w : List ℕ) (st : InProgress) (bases : BySection ℕ) (us : List Filed) (i : Input) (size more : List ℕ)
-    → Held five b n place w st bases us → Summed (st .bases) size more 14 → ((c : ℕ) → c < 14 → getD size c 0 ≡ length (i .bytes c)) → ((c : ℕ) → bases c + length (i .bytes c) ≤ place)
-    → Held five b n place w (record { cu = st .cu; tu = st .tu; info = st .info; types = st .types; bases = more }) (grown bases i) us
+    → Held five b n place w st bases us → Summed (st .bases) size more sectionCodes → ((c : ℕ) → c < sectionCodes → getD size c 0 ≡ length (i .bytes c)) → ((c : ℕ) → bases c + length (i .bytes c) ≤ place)
+    → Held five b n place w (record { units = st .units; bases = more; strings = st .strings }) (grown bases i) us
 unfolding grown
 held-grown five b n place w st bases us i size more k s sizes low =
     record {
       room = k .room;
       words = k .words;
+      some = k .some;
       units = k .units;
       spent = k .spent;
-      cu = k .cu;
-      tu = k .tu;
-      info = k .info;
-      types = k .types;
+      held = k .held;
       based = λ c h. let e = s .is c h in let f = k .based c h in let g = sizes c h in omega arith;
       low = low;
-      infoLow = k .infoLow;
-      typesLow = k .typesLow;
+      unitsLow = k .unitsLow;
       within = k .within;
       limit = k .limit;
     }

@@ -17,8 +17,6 @@ use Rattle.bundle.proofs.Every.{Every}
 use Rattle.bundle.proofs.Lies.{Lies}
 use Rattle.bundle.proofs.ScanFacts.{first-within}
 use Rattle.bundle.specs.Encoded.{encodingIs}
-use Rattle.bundle.specs.declared.encoding.ObjectEncoding.{ObjectEncoding}
-use Rattle.strings.specs.declared.table.StringTable.{StringTable}
 use Rattle.strings.proofs.FirstUses.{length-firstUses}
 use Rattle.strings.proofs.StrOffsets.{sound}
 use Rattle.strings.proofs.Callers.{strings-room}
@@ -26,7 +24,8 @@ use Rattle.index.specs.Rows.{BySection}
 use Rattle.package.specs.Input.{Input}
 use Rattle.package.specs.Filing.{Filed}
 use Rattle.package.specs.Pack.{allUsed, stringTable}
-use Rattle.filing.specs.declared.state.InProgress.{InProgress}
+use Rattle.kept.specs.declared.state.InProgress.{InProgress}
+use Rattle.filing.specs.State.{wordsIn}
 use Rattle.filing.specs.ByObject.{AtObject, InputRoom}
 
 table-few : (is : List Input) → length (stringTable is) ≤ length (allUsed is)
@@ -34,20 +33,19 @@ unfolding stringTable
 table-few is = length-firstUses (allUsed is)
 
 -- what `read_input` requires, of the object whose sections start at from
-pub input-room : (b : List ℕ) (big : Bool) (first n place : ℕ) (w : List ℕ) (st : InProgress) (t : StringTable) (bases : BySection ℕ) (is : List Input) (us : List Filed)
-    → AtObject b big first n place w st t bases is us → (from : ℕ) (ahead : List Item) → here b from ≡ pass ahead → place ≤ from → from ≤ length b → Every (Lies b) (leading ahead)
-    → InputRoom b (leading ahead) n (length w) t
-input-room b big first n place w st t bases is us a from ahead left low high lie =
+pub input-room : (b : List ℕ) (big : Bool) (first place : ℕ) (w : List ℕ) (st : InProgress) (bases : BySection ℕ) (is : List Input) (us : List Filed)
+    → AtObject b big first place w st bases is us → (from : ℕ) (ahead : List Item) → here b from ≡ pass ahead → place ≤ from → from ≤ length b → Every (Lies b) (leading ahead)
+    → InputRoom b (leading ahead) (length w) (st .strings)
+input-room b big first place w st bases is us a from ahead left low high lie =
     record {
       room = a .held .room;
       limit = a .held .limit;
-      words-are = a .held .words;
       inside = λ c. first-within b (leading ahead) c lie;
       fits = λ e.
           let ps = leading ahead in
           let l = length-part b (startOf ps 6) (sizeOf ps 6) (first-within b ps 6 lie) in
           let z = size-behind b 6 from ahead left high in
           let o = onward b from ahead left high in
-          strings-room (encodingIs e) (part b (startOf ps 6) (sizeOf ps 6)) (t .count) (length (allUsed is)) place n (sound e)
+          strings-room (encodingIs e) (part b (startOf ps 6) (sizeOf ps 6)) (st .strings .count) (length (allUsed is)) place (wordsIn b) (sound e)
           (omega (arith, a .strings .few, table-few is)) (a .used) (omega (arith, l, z, o .within, a .held .words)) .0;
     }

@@ -5,7 +5,7 @@ use mathlib.Core.Logic.{_⊎_, inl, inr, ⊎-elim}
 use mathlib.Core.Bool.{Bool, true, false}
 use mathlib.Core.List.{List}
 use mathlib.Core.Option.{Option}
-use Prim.Native.Nat.{ℕ, _+_, _<_, _≤_}
+use Prim.Native.Nat.{ℕ, _<_}
 use native.Mathlib.Omega.{arith}
 use lib.Dec.{leb}
 use lib.ListN.{length, getD}
@@ -24,14 +24,14 @@ use Rattle.strings.specs.Kept.{Inside, bytesAt}
 use Rattle.strings.specs.declared.table.Place.{Place}
 use Rattle.strings.specs.declared.table.StringTable.{StringTable}
 use Rattle.index.specs.Index.{Index}
-use Rattle.keeping.proofs.Moved.{getD-past}
+use Rattle.kept.proofs.Moved.{getD-past}
 use Rattle.package.specs.Input.{Input, present, inputOf}
 use Rattle.filing.specs.Judged.{indexCheck, JudgedIs, JudgedIndexIs, InputIs, IndexedIs, sectionOf}
 use Rattle.filing.specs.declared.input.Judged.{Judged}
 use Rattle.filing.specs.declared.input.JudgedIndex.{JudgedIndex}
 use Rattle.filing.specs.declared.input.Indexed.{Indexed}
 use Rattle.filing.specs.declared.objects.IndexesJudged.{IndexesJudged}
-use Rattle.filing.specs.ByObject.{stringsCheck, StringsRoom, scanned, scannedIndex, IndexesAre, InputRoom}
+use Rattle.filing.specs.ByObject.{stringsCheck, StringsRoom, scanned, scannedIndex, IndexesAre, ScanInside, InputRoom}
 
 -- ---- one answer
 pub judged-passed : (m : Check Encoding) (r : Judged) → JudgedIs m r → r .code ≡ 0 → m ≡ pass (encodingIs (r .encoding))
@@ -94,25 +94,24 @@ module _ (b : List ℕ) (scan : Scan) (at : ℕ) (ps : List Part) (is : scan ≡
   unfolding scanned scannedIndex
   index-same big c h = ap₂ (indexCheck big) (there-is c h) (scan-body scan at ps is c h b)
 
-  module _ (n words : ℕ) (t : StringTable) (room : InputRoom b ps n words t) where
-    pub scan-within : (c : ℕ) → getD (scan .start) c 0 + getD (scan .size) c 0 ≤ length b
+  module _ (words : ℕ) (t : StringTable) (room : InputRoom b ps words t) where
+    pub scan-within : (c : ℕ) → ScanInside b scan c
     unfolding scanOf
     scan-within c = ⊎-elim
         (λ (h : leb 14 c ≡ true).
-        let s : getD (scan .start) c 0 ≡ 0 = getD-past (scan .start) c (rw (ap (λ (z : Scan). length (z .start)) is ∙ length-byCode (startOf ps)) (leb-true 14 c h)) in
-        let z : getD (scan .size) c 0 ≡ 0 = getD-past (scan .size) c (rw (ap (λ (y : Scan). length (y .size)) is ∙ length-byCode (sizeOf ps)) (leb-true 14 c h)) in
+        let s : getD (scan .start) c 0 ≡ 0 = getD-past (scan .start) 0 c (rw (ap (λ (z : Scan). length (z .start)) is ∙ length-byCode (startOf ps)) (leb-true 14 c h)) in
+        let z : getD (scan .size) c 0 ≡ 0 = getD-past (scan .size) 0 c (rw (ap (λ (y : Scan). length (y .size)) is ∙ length-byCode (sizeOf ps)) (leb-true 14 c h)) in
         omega arith)
         (λ (h : leb 14 c ≡ false).
         let g = leb-false 14 c h in
         omega (arith, scan-start scan at ps is c g, scan-size scan at ps is c g, room .inside c))
         (known (leb 14 c))
 
-    pub strings-room-of : (e : ObjectEncoding) → StringsRoom b (encodingIs e) (placeOf 6) (placeOf 11) n words t
+    pub strings-room-of : (e : ObjectEncoding) → StringsRoom b (encodingIs e) (placeOf 6) (placeOf 11) words t
     unfolding Inside bytesAt
     strings-room-of e = record {
       room = room .room;
       limit = room .limit;
-      words-are = room .words-are;
       offsets-inside = scan-within 6;
       text-inside = scan-within 11;
       fits = rw (scan-start scan at ps is 6 (omega arith), scan-size scan at ps is 6 (omega arith)) (room .fits e);

@@ -1,76 +1,113 @@
 -- What is held with one unit more, kept or skipped.
 -- Assumes nothing.
 use mathlib.Core.Path.{_≡_, refl, sym, ap, _∙_, subst}
-use mathlib.Core.Bool.{Bool, true}
-use mathlib.Core.Logic.{_⊎_, inl, inr, ⊎-elim}
+use mathlib.Core.Bool.{Bool, true, false}
+use mathlib.Core.Logic.{⊎-elim}
 use mathlib.Core.List.{List, [], _∷_, _++_}
+use mathlib.Core.Option.{Option, some}
 use Prim.Native.Nat.{ℕ, _+_, _*_, _^_, _<_, _≤_}
 use native.Mathlib.Omega.{arith}
 use native.Mathlib.Decide.{ℕ-discrete}
-use lib.ListN.{length, getD, length-append}
+use lib.ListN.{length, getD, set, length-append}
 use Rattle.octets.specs.Octets.{part}
-use Rattle.octets.specs.Lists.{any, joined}
-use Rattle.octets.proofs.Joined.{joined-append}
+use Rattle.octets.specs.Lists.{any}
 use Rattle.octets.proofs.Parts.{length-part}
+use Rattle.numbers.specs.Sections.{sectionCodes}
+use Rattle.index.specs.Index.{Contribution}
 use Rattle.index.specs.Rows.{BySection}
-use Rattle.index.specs.Written.{Row}
+use Rattle.index.specs.Contributed.{ContributionsAre}
+use Rattle.index.specs.Held.{PowerOfTwo}
 use Rattle.index.specs.declared.judging.Contributions.{Contributions}
-use Rattle.rows.specs.Layout.{RowsHeld, SeenHeld, identitiesOf}
-use Rattle.keeping.specs.Regions.{rowsStart, stringsStart, seenStart, placesStart, seenSlots, TableHeld, Replaced, RowRoom, RowFrame, Apart}
-use Rattle.keeping.specs.Cells.{cellsBy, CellsRoom}
-use Rattle.keeping.specs.declared.Table.{Table}
-use Rattle.keeping.proofs.Starts.{rows-le, seen-ge, seen-le, places-ge, places-le, slots-le, replaced-length, replaced-apart}
-use Rattle.places.specs.Places.{PlacesHeld, RoomFor}
-use Rattle.places.specs.declared.Kept.{Kept}
+use Rattle.work.specs.Regions.{recordsRegion, stringsRegion, slotsRegion, region, Apart}
+use Rattle.work.proofs.Stores.{records-strings, slots-strings, tables-apart}
 use Rattle.package.specs.Filing.{Filed, isUnder, kept}
-use Rattle.package.specs.Pack.{rowsOf}
-use Rattle.filing.specs.declared.state.InProgress.{InProgress}
-use Rattle.filing.specs.State.{unitsOf, UnitGood, Held, StringsKept}
-use Rattle.filing.specs.Choices.{pick, tableOf, withTable, keptOf, withKept, NewUnit}
-use Rattle.filing.proofs.Picked.{pick-first, pick-second}
-use Rattle.filing.proofs.More.{kept-new, kept-known, rows-few, units-few, rows-own, rows-other, units-own, units-other, good-more}
+use Rattle.package.specs.Pack.{rowsOf, unitBytes}
+use Rattle.kept.specs.Columns.{columnsFor, Marked}
+use Rattle.kept.specs.Cells.{cellsBy, CellsRoom}
+use Rattle.kept.specs.Records.{cellWords, unitOf, UnitFits}
+use Rattle.kept.specs.Slots.{seenSlots, slotsIn, soughtIn, freeFor, SeenHeld, Placeable, Seekable, Keepable, keptIn}
+use Rattle.kept.specs.Held.{identitiesOf, pick, withUnit, OneOrTwo, UnitsHeld}
+use Rattle.kept.specs.State.{UnitGood, Held}
+use Rattle.kept.specs.declared.Units.{Units}
+use Rattle.kept.specs.declared.records.Unit.{Unit as UnitHead}
+use Rattle.kept.specs.declared.slots.Sought.{Sought}
+use Rattle.kept.specs.declared.slots.Sought.the-variants.{Known, Free, Full}
+use Rattle.kept.specs.declared.state.InProgress.{InProgress}
+use Rattle.kept.proofs.Recording.{cells-many}
+use Rattle.kept.proofs.Seeking.{sought-inside}
+use Rattle.kept.proofs.Seen.{sought-known, sought-full, sought-free}
+use Rattle.kept.proofs.SeenSlots.{seen-power, seen-le, seen-gt}
+use Rattle.kept.proofs.Placing.{slots-long, slots-power, records-long, kept-length, kept-records, kept-others, kept-slots, kept-other-slots}
+use Rattle.kept.proofs.Holding.{length-identities, KeptAs, units-more, bytes-own, bytes-other}
+use Rattle.filing.specs.State.{StringsKept}
+use Rattle.filing.specs.Choices.{NewUnit}
+use Rattle.filing.proofs.More.{kept-new, kept-known, kept-le, rows-few, rows-distinct, rows-known, good-more}
 
-one-not-two : {k : ℕ} → k ≡ 2 → k ≡ 1 → ⊥
-one-not-two e f = omega arith
+module _ {five : Bool} {b : List ℕ} {n place : ℕ} {w : List ℕ} {st : InProgress} {bases : BySection ℕ} {us : List Filed} (h : Held five b n place w st bases us) where
+  pub units-few : st .units .count ≤ length us
+  units-few = omega (arith, h .held .count, kept-le us)
 
--- ---- a table whose regions are as they were
-table-same : (five : Bool) (n : ℕ) (w v : List ℕ) (k : ℕ) (t : Table) (rs : List Row) → part v (rowsStart n k) (4 * n) ≡ part w (rowsStart n k) (4 * n)
-    → part v (seenStart n k) (seenSlots n) ≡ part w (seenStart n k) (seenSlots n) → TableHeld five n w k t rs → TableHeld five n v k t rs
-table-same five n w v k t rs e f h =
-    record {
-      count = h .count;
-      rows = subst (λ (l : List ℕ). RowsHeld five l rs) (sym e) (h .rows);
-      seen = subst (λ (l : List ℕ). SeenHeld l (identitiesOf rs)) (sym f) (h .seen);
-      columns = h .columns;
-    }
+  pub rows-held : (table : ℕ) → OneOrTwo table → pick table (st .units .cu) (st .units .tu) .rows ≤ length us
+  rows-held table o = omega (arith, h .held .tables table o .count, rows-few us table)
 
--- ---- by number
-module _ (five : Bool) (b : List ℕ) (n place : ℕ) (w : List ℕ) (st : InProgress) (bases : BySection ℕ) (us : List Filed) (h : Held five b n place w st bases us) where
-  pub table-held : (k : ℕ) → (k ≡ 1) ⊎ (k ≡ 2) → TableHeld five n w k (tableOf st k) (rowsOf (kept us) k)
-  table-held k (inl e) = rw (← pick-first k (st .cu) (st .tu) e, e) (h .cu)
-  table-held k (inr e) = rw (← pick-second k (st .cu) (st .tu) (one-not-two e), e) (h .tu)
+  pub placeable : (table : ℕ) → Placeable n (length w) table (st .units .count) (seenSlots n)
+  placeable table = record {
+    power = seen-power n;
+    fits = seen-le n (h .some);
+    enough = h .room;
+    limit = omega (arith, h .words, h .limit);
+    units = omega (arith, units-few, h .spent, h .words, h .within);
+  }
 
-  pub places-held : (k : ℕ) → (k ≡ 1) ⊎ (k ≡ 2) → PlacesHeld b (part w (placesStart n k) n) (keptOf st k) (unitsOf (kept us) k)
-  places-held k (inl e) = rw (← pick-first k (st .info) (st .types) e, e) (h .info)
-  places-held k (inr e) = rw (← pick-second k (st .info) (st .types) (one-not-two e), e) (h .types)
+  -- ---- the walk over the slots, where a unit of 20 bytes or more stands at the place
+  module _ (size : ℕ) (least : 20 ≤ size) (fits : place + size ≤ length b) (table identity : ℕ) (o : OneOrTwo table) where
+    abbrev R : List ℕ
+    R = region w n recordsRegion
 
-  pub units-low : (k : ℕ) → (k ≡ 1) ⊎ (k ≡ 2) → length (joined (unitsOf (kept us) k)) ≤ place
-  units-low k (inl e) = rw e (h .infoLow)
-  units-low k (inr e) = rw e (h .typesLow)
+    abbrev S : List ℕ
+    S = slotsIn w n table (seenSlots n)
 
-  -- room for one more, where a unit of 20 bytes or more stands at the place
-  pub row-room : (k size : ℕ) → (k ≡ 1) ⊎ (k ≡ 2) → 20 ≤ size → place + size ≤ length b → RowRoom n (length w) (tableOf st k .count)
-  row-room k size t l g =
-      record { room = h .room; limit = omega (arith, h .words, h .limit); more = omega (arith, h .words, h .spent, table-held k t .count, rows-few us k) }
+    abbrev xs : List ℕ
+    xs = identitiesOf (rowsOf (kept us) table)
 
-  pub place-room : (k size : ℕ) → (k ≡ 1) ⊎ (k ≡ 2) → 20 ≤ size → place + size ≤ length b → RoomFor n (keptOf st k) place size
-  place-room k size t l g =
-      record {
-        words = omega (arith, h .words, h .spent, places-held k t .count, units-few us k);
-        startFits = omega (arith, h .limit);
-        sizeFits = omega (arith, h .limit);
-        bytesFit = omega (arith, h .limit, places-held k t .bytes, units-low k t);
-      }
+    seen : SeenHeld R S (st .units .count) xs
+    seen = h .held .tables table o .seen
+
+    seekable : Seekable n w table (st .units .count) (seenSlots n)
+    seekable = record { can = placeable table; within = seen .within }
+
+    pub power : PowerOfTwo (length S)
+    power = slots-power n w table (st .units .count) (seenSlots n) (placeable table)
+
+    pub long : length S ≡ seenSlots n
+    long = slots-long n w table (st .units .count) (seenSlots n) (placeable table)
+
+    -- a slot is always free
+    pub few-rows : length (rowsOf (kept us) table) < length S
+    few-rows = omega (arith, rows-few us table, long, seen-gt n (length us) (omega (arith, h .words, h .limit)) (omega (arith, h .spent, h .words)))
+
+    few : length xs < length S
+    few = omega (arith, few-rows, length-identities (rowsOf (kept us) table))
+
+    pub known-is : (number : ℕ) → Known number ≡ soughtIn R S identity → any (isUnder table identity) us ≡ true
+    known-is number e = sym (rows-known us table identity) ∙ sought-known seen power few (rows-distinct us table) identity number e
+
+    pub never-full : Full ≡ soughtIn R S identity → ⊥
+    never-full e = sought-full seen power few (rows-distinct us table) identity e
+
+    pub free-is : (at : ℕ) → Free at ≡ soughtIn R S identity → (any (isUnder table identity) us ≡ false) × (freeFor S identity ≡ some at) × (at < seenSlots n)
+    free-is at e =
+        let f = sought-free seen power few (rows-distinct us table) identity at e in
+        (sym (rows-known us table identity) ∙ f .0, f .1, omega (arith, sought-inside R S identity at power e, long))
+
+    -- as code asks, of so many slots
+    module _ (m : ℕ) (e : m ≡ seenSlots n) where
+      pub seek-asks : Seekable n w table (st .units .count) m
+      seek-asks = rw e seekable
+
+      pub sought-is : (z : Sought) → z ≡ soughtIn R (part w (slotsRegion table .start * n) m) identity → z ≡ soughtIn R S identity
+      unfolding slotsIn
+      sought-is z q = q ∙ ap (λ (k : ℕ). soughtIn R (part w (slotsRegion table .start * n) k) identity) e
 
   -- ---- skipped
   pub held-skip : (size : ℕ) (u : Filed) → any (isUnder (u .table) (u .identity)) us ≡ true → UnitGood u → 20 ≤ size → place + size ≤ length b
@@ -80,181 +117,162 @@ module _ (five : Bool) (b : List ℕ) (n place : ℕ) (w : List ℕ) (st : InPro
       record {
         room = h .room;
         words = h .words;
+        some = h .some;
         units = good-more us u (h .units) g;
         spent = omega (arith, h .spent, length-append us (u ∷ []));
-        cu = subst (λ (ks : List Filed). TableHeld five n w 1 (st .cu) (rowsOf ks 1)) (sym same) (h .cu);
-        tu = subst (λ (ks : List Filed). TableHeld five n w 2 (st .tu) (rowsOf ks 2)) (sym same) (h .tu);
-        info = subst (λ (ks : List Filed). PlacesHeld b (part w (placesStart n 1) n) (st .info) (unitsOf ks 1)) (sym same) (h .info);
-        types = subst (λ (ks : List Filed). PlacesHeld b (part w (placesStart n 2) n) (st .types) (unitsOf ks 2)) (sym same) (h .types);
+        held = subst (UnitsHeld five b (region w n recordsRegion) (λ t. slotsIn w n t (seenSlots n)) (st .units)) (sym same) (h .held);
         based = h .based;
         low = λ c. omega (arith, h .low c);
-        infoLow = subst (λ (ks : List Filed). length (joined (unitsOf ks 1)) ≤ place + size) (sym same) (omega (arith, h .infoLow));
-        typesLow = subst (λ (ks : List Filed). length (joined (unitsOf ks 2)) ≤ place + size) (sym same) (omega (arith, h .typesLow));
+        unitsLow = λ c. omega (arith, ap (λ (ks : List Filed). length (unitBytes ks c)) same, h .unitsLow c);
         within = q;
         limit = h .limit;
       }
 
-  -- ---- kept
-  module _ (size table identity home : ℕ) (k : Contributions) (y : Filed) (x : NewUnit b place size table identity home k bases us y) where
-    pub tables : (table ≡ 1) ⊎ (table ≡ 2)
-    tables = subst (λ (z : ℕ). (z ≡ 1) ⊎ (z ≡ 2)) (x .table-is) (x .good .tables)
+-- ---- kept
+module _ {five : Bool} {b : List ℕ} {n slot : ℕ} {u : UnitHead} {k : Contributions} {st : InProgress} {w : List ℕ} {bases : BySection ℕ} {us : List Filed} {y : Filed}
+    (h : Held five b n (u .start) w st bases us) (x : NewUnit b n slot u k st w bases us y) where
+  homes : OneOrTwo (u .home)
+  homes = subst OneOrTwo (sym (x .home-is)) (x .good .homes)
 
-    pub homes : (home ≡ 1) ⊎ (home ≡ 2)
-    homes = subst (λ (z : ℕ). (z ≡ 1) ⊎ (z ≡ 2)) (x .home-is) (x .good .homes)
+  bytes-many : length (y .bytes) ≡ u .size
+  bytes-many = ap length (sym (x .bytes-are)) ∙ length-part b (u .start) (u .size) (x .within)
 
-    pub own-room : RowRoom n (length w) (tableOf st table .count)
-    own-room = row-room table size tables (x .least) (x .within)
+  pub keepable : Keepable n (length w) (st .units .count) slot
+  keepable = record {
+    enough = h .room;
+    limit = omega (arith, h .words, h .limit);
+    units = omega (arith, units-few h, h .spent, h .words, x .within, x .least);
+    inside = omega (arith, x .inside, seen-le n (h .some));
+  }
 
-    pub own-place : RoomFor n (keptOf st home) place size
-    own-place = place-room home size homes (x .least) (x .within)
+  pub few-units : st .units .count < 2 ^ 32
+  few-units = omega (arith, units-few h, h .spent, h .within, h .limit)
 
-    bytes-many : length (y .bytes) ≡ size
-    bytes-many = ap length (x .bytes-is) ∙ length-part b place size (x .within)
+  small : (t : ℕ) → OneOrTwo t → t < 2 ^ 32
+  small t o = ⊎-elim (λ e. omega arith) (λ e. omega arith) o
 
-    pub cells-room : CellsRoom k (st .bases) home (keptOf st home .bytes) size
+  pub unit-fits : UnitFits u
+  unit-fits = record {
+    table = rw (x .table-is) (small (y .table) (x .good .tables));
+    row = omega (arith, x .row-is, rows-held h (y .table) (x .good .tables), h .spent, h .within, h .limit);
+    identity = rw (x .identity-is) (x .good .identityFits);
+    home = small (u .home) homes;
+    start = omega (arith, h .within, h .limit);
+    size = omega (arith, x .within, h .limit);
+  }
+
+  -- ---- the cells, by the bytes that its section has
+  module _ (p : ℕ) (e : p ≡ pick (u .home) (st .units .info) (st .units .types)) where
+    place-is : p ≡ length (unitBytes (kept us) (y .home))
+    place-is = e ∙ h .held .many (u .home) homes ∙ ap (λ (z : ℕ). length (unitBytes (kept us) z)) (x .home-is)
+
+    place-low : p ≤ u .start
+    place-low = omega (arith, place-is, h .unitsLow (y .home))
+
+    pub bytes-fit : p + u .size < 2 ^ 32
+    bytes-fit = omega (arith, place-low, x .within, h .limit)
+
+    pub cells-room : CellsRoom k (st .bases) (u .home) p (u .size)
     cells-room =
         record {
           whole = x .contributes .whole;
           home-in = ⊎-elim (λ e. omega arith) (λ e. omega arith) homes;
-          place-fits = omega (arith, h .limit, places-held home homes .bytes, units-low home homes, x .within);
-          size-fits = omega (arith, h .limit, x .within);
-          offsets = λ c g. base-low c g;
+          place-fits = omega (arith, bytes-fit);
+          size-fits = omega (arith, bytes-fit);
+          offsets = λ c g. omega (arith, x .contributes .offset c, x .bounded c, h .based c g, h .low c, h .limit, h .within);
           sizes = λ c. omega (arith, x .contributes .size c, x .bounded c);
         }
-      where
-        base-low : (c : ℕ) → c < 14 → getD (st .bases) c 0 + getD (k .offset) c 0 < 2 ^ 32
-        base-low c g = omega (arith, x .contributes .offset c, x .bounded c, h .based c g, h .low c, h .limit, h .within)
 
-    abbrev row : Row
-    row = record { identity = identity; cells = cellsBy (y .contributions) bases home (keptOf st home .bytes) size }
+    -- ---- its record is stored, its slot is set, and its columns are marked
+    module _ (cells : Contributions)
+        (cells-are : (f : BySection (Option Contribution)) (base : BySection ℕ) → ContributionsAre k f → ((c : ℕ) → c < sectionCodes → getD (st .bases) c 0 ≡ base c) → ContributionsAre cells (cellsBy f base (u .home) p (u .size)))
+        (has : List Bool) (marked : Marked five (pick (u .table) (st .units .cu) (st .units .tu) .has) has cells (length (columnsFor five))) where
+      own-cells : ContributionsAre cells (cellsBy (y .contributions) (y .bases) (y .home) (length (unitBytes (kept us) (y .home))) (length (y .bytes)))
+      own-cells =
+          let q : cellsBy (y .contributions) bases (u .home) p (u .size) ≡ cellsBy (y .contributions) (y .bases) (y .home) (length (unitBytes (kept us) (y .home))) (length (y .bytes)) =
+          rw (x .home-is, place-is, bytes-many, x .bases-are) in
+          subst (ContributionsAre cells) q (cells-are (y .contributions) bases (x .contributes) (h .based))
 
-    own-rows : rowsOf (kept (us ++ (y ∷ []))) table ≡ rowsOf (kept us) table ++ (row ∷ [])
-    own-rows =
-        ap (λ (ks : List Filed). rowsOf ks table) (kept-new us y (x .fresh)) ∙ rows-own (kept us) y table (x .table-is)
-        ∙ rw (x .identity-is, x .bases-are, x .home-is, bytes-many, ← places-held home homes .bytes)
+      as-kept : KeptAs five b (region w n recordsRegion) (λ t. slotsIn w n t (seenSlots n)) (st .units) (kept us) y u cells slot has
+      as-kept = record {
+        table-is = x .table-is;
+        identity-is = x .identity-is;
+        home-is = x .home-is;
+        row-is = x .row-is;
+        tables = x .good .tables;
+        homes = x .good .homes;
+        bytes-are = x .bytes-are;
+        within = x .within;
+        cells-are = own-cells;
+        room = omega (arith, records-long n w (y .table) (st .units .count) (seenSlots n) (placeable h (y .table)), keepable .units);
+        power = power h (u .size) (x .least) (x .within) (y .table) (y .identity) (x .good .tables);
+        few = few-rows h (u .size) (x .least) (x .within) (y .table) (y .identity) (x .good .tables);
+        free = x .free;
+        inside = omega (arith, x .inside, long h (u .size) (x .least) (x .within) (y .table) (y .identity) (x .good .tables));
+        marked = subst (λ (t : ℕ). Marked five (pick t (st .units .cu) (st .units .tu) .has) has cells (length (columnsFor five))) (x .table-is) marked;
+      }
 
-    own-units : unitsOf (kept (us ++ (y ∷ []))) home ≡ unitsOf (kept us) home ++ (part b place size ∷ [])
-    own-units =
-        ap (λ (ks : List Filed). unitsOf ks home) (kept-new us y (x .fresh)) ∙ units-own (kept us) y home (x .home-is)
-        ∙ ap (λ (l : List ℕ). unitsOf (kept us) home ++ (l ∷ [])) (x .bytes-is)
+      module _ (v : List ℕ) (is : v ≡ keptIn w n (st .units .count) slot (unitOf u five cells)) where
+        many : length (unitOf u five cells .cells) ≡ cellWords
+        unfolding unitOf
+        many = cells-many five cells
 
-    other-rows : (c : ℕ) → (table ≡ c → ⊥) → rowsOf (kept (us ++ (y ∷ []))) c ≡ rowsOf (kept us) c
-    other-rows c e = ap (λ (ks : List Filed). rowsOf ks c) (kept-new us y (x .fresh)) ∙ rows-other (kept us) y c (λ z. e (sym (x .table-is) ∙ z))
+        same : length v ≡ length w
+        same = ap length is ∙ kept-length w n (st .units .count) slot (unitOf u five cells) many keepable
 
-    other-units : (c : ℕ) → (home ≡ c → ⊥) → unitsOf (kept (us ++ (y ∷ []))) c ≡ unitsOf (kept us) c
-    other-units c e = ap (λ (ks : List Filed). unitsOf ks c) (kept-new us y (x .fresh)) ∙ units-other (kept us) y c (λ z. e (sym (x .home-is) ∙ z))
+        own-slots : slotsIn (keptIn w n (st .units .count) slot (unitOf u five cells)) n (y .table) (seenSlots n) ≡ set (slotsIn w n (y .table) (seenSlots n)) slot (st .units .count + 1)
+        unfolding unitOf
+        own-slots =
+            subst (λ (t : ℕ). slotsIn (keptIn w n (st .units .count) slot (unitOf u five cells)) n t (seenSlots n) ≡ set (slotsIn w n t (seenSlots n)) slot (st .units .count + 1)) (x .table-is)
+            (kept-slots w n (st .units .count) slot (unitOf u five cells) many keepable (seenSlots n) (x .inside) (seen-le n (h .some)))
 
-    -- the row is stored, then the place
-    module _ (u v : List ℕ) (t : Table) (z : Kept) (row-held : TableHeld five n u table t (rowsOf (kept us) table ++ (row ∷ []))) (frame : RowFrame n table w u)
-        (left : Replaced u v (placesStart n home) n) (place-held : PlacesHeld b (part v (placesStart n home) n) z (unitsOf (kept us) home ++ (part b place size ∷ []))) where
-      many : 5 ≤ n
-      many = omega (arith, h .words, x .least, x .within)
+        -- the slots of the other table
+        apart : (t : ℕ) → OneOrTwo t → (t ≡ y .table → ⊥) → Apart (slotsRegion (u .table)) (slotsRegion t)
+        apart t o f = ⊎-elim
+            (λ (e : y .table ≡ 1). tables-apart (u .table) t (x .table-is ∙ e) (λ q. f (q ∙ sym e)) .0)
+            (λ (e : y .table ≡ 2). ⊎-elim (λ (g : t ≡ 1). tables-apart t (u .table) g (λ q. omega (arith, x .table-is)) .1) (λ (g : t ≡ 2). absurd (f (g ∙ sym e))) o)
+            (x .good .tables)
 
-      u-room : placesStart n home + n ≤ length u
-      u-room = omega (arith, frame .same, h .room, places-le n home)
+        pub strings-kept : (more : Units) → StringsKept n w v st (record { units = more; bases = st .bases; strings = st .strings })
+        unfolding unitOf
+        strings-kept more = record {
+          same = same;
+          strings = ap (λ (l : List ℕ). region l n stringsRegion) is ∙ kept-others w n (st .units .count) slot (unitOf u five cells) many keepable stringsRegion records-strings (slots-strings (u .table));
+          table = refl;
+        }
 
-      -- what lies before the places of units is as the row left it
-      before : (base size : ℕ) → base + size ≤ 13 * n → part v base size ≡ part u base size
-      before base size e = replaced-apart u v (placesStart n home) n left u-room base size (inl (omega (arith, places-ge n home)))
+        units-held : UnitsHeld five b (region v n recordsRegion) (λ t. slotsIn v n t (seenSlots n))
+            (withUnit (st .units) (y .table) (record { rows = pick (y .table) (st .units .cu) (st .units .tu) .rows + 1; has = has }) (y .home) (p + u .size)) (kept us ++ (y ∷ []))
+        unfolding unitOf
+        units-held =
+            let m = seen-le n (h .some) in
+            units-more (h .held) as-kept (region v n recordsRegion) (λ t. slotsIn v n t (seenSlots n)) (p + u .size)
+            (ap (λ (l : List ℕ). region l n recordsRegion) is ∙ kept-records w n (st .units .count) slot (unitOf u five cells) many keepable)
+            (ap (λ (l : List ℕ). slotsIn l n (y .table) (seenSlots n)) is ∙ own-slots)
+            (λ t o f. ap (λ (l : List ℕ). slotsIn l n t (seenSlots n)) is ∙ kept-other-slots w n (st .units .count) slot (unitOf u five cells) many keepable t (seenSlots n) (apart t o f) m)
+            (omega (arith, place-is, h .held .many (y .home) (x .good .homes), bytes-many))
 
-      slots-within : (c : ℕ) → seenStart n c + seenSlots n ≤ 13 * n
-      slots-within c = omega (arith, seen-le n c, slots-le n many)
+        lower : (c : ℕ) → length (unitBytes (kept (us ++ (y ∷ []))) c) ≤ u .start + u .size
+        lower c = elim (ℕ-discrete (y .home) c) [
+          | yes q ↦ omega (arith, ap (λ (ks : List Filed). length (unitBytes ks c)) (kept-new us y (x .fresh)), ap length (bytes-own (kept us) y c q), length-append (unitBytes (kept us) c) (y .bytes), bytes-many, h .unitsLow c)
+          | no f ↦ omega (arith, ap (λ (ks : List Filed). length (unitBytes ks c)) (kept-new us y (x .fresh)), ap length (bytes-other (kept us) y c f), h .unitsLow c)
+        ]
 
-      rows-within : (c : ℕ) → rowsStart n c + 4 * n ≤ 13 * n
-      rows-within c = omega (arith, rows-le n c)
-
-      own-table : TableHeld five n v table t (rowsOf (kept (us ++ (y ∷ []))) table)
-      own-table =
-          subst (TableHeld five n v table t) (sym own-rows)
-          (table-same five n u v table t (rowsOf (kept us) table ++ (row ∷ [])) (before (rowsStart n table) (4 * n) (rows-within table)) (before (seenStart n table) (seenSlots n) (slots-within table)) row-held)
-
-      other-table : (c : ℕ) (s : Table) → (table ≡ c → ⊥) → Apart (rowsStart n c) (4 * n) (rowsStart n table) (4 * n) → Apart (seenStart n c) (seenSlots n) (seenStart n table) n
-          → TableHeld five n w c s (rowsOf (kept us) c) → TableHeld five n v c s (rowsOf (kept (us ++ (y ∷ []))) c)
-      other-table c s e a d held =
-          subst (TableHeld five n v c s) (sym (other-rows c e))
-          (table-same five n w v c s (rowsOf (kept us) c)
-          (before (rowsStart n c) (4 * n) (rows-within c) ∙ frame .apart (rowsStart n c) (4 * n) a (inl (omega (arith, rows-le n c, seen-ge n table))))
-          (before (seenStart n c) (seenSlots n) (slots-within c) ∙ frame .apart (seenStart n c) (seenSlots n) (inr (omega (arith, rows-le n table, seen-ge n c))) d) held)
-
-      own-units-held : PlacesHeld b (part v (placesStart n home) n) z (unitsOf (kept (us ++ (y ∷ []))) home)
-      own-units-held = subst (PlacesHeld b (part v (placesStart n home) n) z) (sym own-units) place-held
-
-      other-units-held : (c : ℕ) (s : Kept) → (home ≡ c → ⊥) → Apart (placesStart n c) n (placesStart n home) n
-          → PlacesHeld b (part w (placesStart n c) n) s (unitsOf (kept us) c) → PlacesHeld b (part v (placesStart n c) n) s (unitsOf (kept (us ++ (y ∷ []))) c)
-      other-units-held c s e a held =
-          let same : part v (placesStart n c) n ≡ part w (placesStart n c) n =
-          replaced-apart u v (placesStart n home) n left u-room (placesStart n c) n a
-          ∙ frame .apart (placesStart n c) n (inr (omega (arith, rows-le n table, places-ge n c))) (inr (omega (arith, seen-le n table, places-ge n c))) in
-          subst (PlacesHeld b (part v (placesStart n c) n) s) (sym (other-units c e)) (subst (λ (l : List ℕ). PlacesHeld b l s (unitsOf (kept us) c)) (sym same) held)
-
-      new-cu : TableHeld five n v 1 (pick table t (st .cu)) (rowsOf (kept (us ++ (y ∷ []))) 1)
-      unfolding rowsStart seenStart
-      new-cu = ⊎-elim
-          (λ (e : table ≡ 1). rw (← pick-first table t (st .cu) e) (subst (λ (c : ℕ). TableHeld five n v c t (rowsOf (kept (us ++ (y ∷ []))) c)) e own-table))
-          (λ (e : table ≡ 2). rw (← pick-second table t (st .cu) (one-not-two e)) (other-table 1 (st .cu) (one-not-two e) (rw e (inl (omega arith))) (rw e (inl (omega (arith, slots-le n many)))) (h .cu)))
-          tables
-
-      new-tu : TableHeld five n v 2 (pick table (st .tu) t) (rowsOf (kept (us ++ (y ∷ []))) 2)
-      unfolding rowsStart seenStart
-      new-tu = ⊎-elim
-          (λ (e : table ≡ 1). rw (← pick-first table (st .tu) t e) (other-table 2 (st .tu) (λ f. one-not-two f e) (rw e (inr (omega arith))) (rw e (inr (omega arith))) (h .tu)))
-          (λ (e : table ≡ 2). rw (← pick-second table (st .tu) t (one-not-two e)) (subst (λ (c : ℕ). TableHeld five n v c t (rowsOf (kept (us ++ (y ∷ []))) c)) e own-table))
-          tables
-
-      new-info : PlacesHeld b (part v (placesStart n 1) n) (pick home z (st .info)) (unitsOf (kept (us ++ (y ∷ []))) 1)
-      unfolding placesStart
-      new-info = ⊎-elim
-          (λ (e : home ≡ 1). rw (← pick-first home z (st .info) e) (subst (λ (c : ℕ). PlacesHeld b (part v (placesStart n c) n) z (unitsOf (kept (us ++ (y ∷ []))) c)) e own-units-held))
-          (λ (e : home ≡ 2). rw (← pick-second home z (st .info) (one-not-two e)) (other-units-held 1 (st .info) (one-not-two e) (rw e (inl (omega arith))) (h .info)))
-          homes
-
-      new-types : PlacesHeld b (part v (placesStart n 2) n) (pick home (st .types) z) (unitsOf (kept (us ++ (y ∷ []))) 2)
-      unfolding placesStart
-      new-types = ⊎-elim
-          (λ (e : home ≡ 1). rw (← pick-first home (st .types) z e) (other-units-held 2 (st .types) (λ f. one-not-two f e) (rw e (inr (omega arith))) (h .types)))
-          (λ (e : home ≡ 2). rw (← pick-second home (st .types) z (one-not-two e)) (subst (λ (c : ℕ). PlacesHeld b (part v (placesStart n c) n) z (unitsOf (kept (us ++ (y ∷ []))) c)) e own-units-held))
-          homes
-
-      units-lower : (c : ℕ) → (c ≡ 1) ⊎ (c ≡ 2) → length (joined (unitsOf (kept (us ++ (y ∷ []))) c)) ≤ place + size
-      unfolding joined
-      units-lower c d = ⊎-elim
-          (λ (e : home ≡ c).
-          let l = ap (λ (xs : List (List ℕ)). length (joined xs)) (subst (λ (k : ℕ). unitsOf (kept (us ++ (y ∷ []))) k ≡ unitsOf (kept us) k ++ (part b place size ∷ [])) e own-units) in
-          let p = ap length (joined-append (unitsOf (kept us) c) (part b place size ∷ [])) ∙ length-append (joined (unitsOf (kept us) c)) (part b place size ++ []) in
-          omega (arith, l, p, length-append (part b place size) [], length-part b place size (x .within), units-low c d))
-          (λ (e : home ≡ c → ⊥). omega (arith, ap (λ (xs : List (List ℕ)). length (joined xs)) (other-units c e), units-low c d))
-          (equal home c)
-        where
-          equal : (a c : ℕ) → (a ≡ c) ⊎ (a ≡ c → ⊥)
-          equal a c = elim (ℕ-discrete a c) [ yes e ↦ inl e | no e ↦ inr e ]
-
-      pub held-more : Held five b n (place + size) v (withKept (withTable st table t) home z) bases (us ++ (y ∷ []))
-      held-more =
-          record {
-            room = omega (arith, replaced-length u v (placesStart n home) n left u-room, frame .same, h .room);
-            words = h .words;
-            units = good-more us y (h .units) (x .good);
-            spent = omega (arith, h .spent, length-append us (y ∷ []), x .least);
-            cu = new-cu;
-            tu = new-tu;
-            info = new-info;
-            types = new-types;
-            based = h .based;
-            low = λ c. omega (arith, h .low c);
-            infoLow = units-lower 1 (inl refl);
-            typesLow = units-lower 2 (inr refl);
-            within = x .within;
-            limit = h .limit;
-          }
-
--- ---- strings, of any table and section
-pub strings-kept : (n table home : ℕ) (w u v : List ℕ) → 16 * n ≤ length w → RowFrame n table w u → Replaced u v (placesStart n home) n → StringsKept n w v
-unfolding stringsStart
-strings-kept n table home w u v room frame left =
-    let fits : placesStart n home + n ≤ length u = omega (arith, frame .same, places-le n home) in
-    record {
-      same = replaced-length u v (placesStart n home) n left fits ∙ frame .same;
-      strings =
-          replaced-apart u v (placesStart n home) n left fits (8 * n) (3 * n) (inl (omega (arith, places-ge n home)))
-          ∙ frame .apart (8 * n) (3 * n) (inr (omega (arith, rows-le n table))) (inl (omega (arith, seen-ge n table)));
-    }
+        pub unit-held : (more : Units) → more ≡ withUnit (st .units) (u .table) (record { rows = u .row; has = has }) (u .home) (p + u .size)
+            → Held five b n (u .start + u .size) v (record { units = more; bases = st .bases; strings = st .strings }) bases (us ++ (y ∷ []))
+        unit-held more q =
+            let z : more ≡ withUnit (st .units) (y .table) (record { rows = pick (y .table) (st .units .cu) (st .units .tu) .rows + 1; has = has }) (y .home) (p + u .size) =
+            q ∙ rw (x .row-is, x .table-is, x .home-is) in
+            record {
+              room = rw same (h .room);
+              words = h .words;
+              some = h .some;
+              units = good-more us y (h .units) (x .good);
+              spent = omega (arith, h .spent, length-append us (y ∷ []), x .least);
+              held = rw (z, kept-new us y (x .fresh)) units-held;
+              based = h .based;
+              low = λ c. omega (arith, h .low c);
+              unitsLow = lower;
+              within = x .within;
+              limit = h .limit;
+            }

@@ -8,7 +8,6 @@ pub mod More
 pub mod Kept
 pub mod Summed
 pub mod Filing
-pub mod Placing
 pub mod Answering
 pub mod Reading
 pub mod Walking

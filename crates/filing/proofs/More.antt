@@ -1,6 +1,6 @@
--- Kept units, rows, units of a section and sums with one unit more.
+-- Kept units, rows and sums with one unit more.
 -- Assumes nothing.
-use mathlib.Core.Path.{_≡_, refl, sym, ap, _∙_}
+use mathlib.Core.Path.{_≡_, refl, ap, _∙_}
 use mathlib.Core.Bool.{Bool, true, false}
 use mathlib.Core.Logic.{⊎-elim}
 use mathlib.Core.List.{List, [], _∷_, _++_, map, append-nil}
@@ -9,19 +9,18 @@ use native.Mathlib.Omega.{arith}
 use lib.Dec.{eqb}
 use lib.ListN.{length, length-append}
 use borrow.Author.Tests.{eq-eqb, ne-eqb}
-use Rattle.octets.specs.Lists.{any, those, joined, sum, has, distinct}
+use Rattle.octets.specs.Lists.{any, those, sum, has, distinct}
 use Rattle.octets.proofs.Checks.{known}
 use Rattle.octets.proofs.Lists.{those-append, those-keeps, those-skips}
 use Rattle.octets.proofs.Joined.{map-append}
 use Rattle.index.specs.Rows.{BySection}
 use Rattle.index.specs.Written.{Row, sizeOf}
-use Rattle.rows.specs.Layout.{identitiesOf}
-use Rattle.keeping.specs.Cells.{cellsBy}
+use Rattle.kept.specs.Held.{identitiesOf}
+use Rattle.kept.specs.State.{UnitGood, UnitsGood}
 use Rattle.package.specs.Filing.{Filed, isUnder, keep, keepAll, kept, sums}
-use Rattle.package.specs.Pack.{cells, Entry, longer, entriesFrom, rowsOf, unitBytes}
+use Rattle.package.specs.Pack.{Entry, longer, entriesFrom, rowsOf}
 use Rattle.package.proofs.Kept.{keep-new, keep-known, kept-snoc, any-kept, has-identity, distinct-kept}
-use Rattle.package.proofs.Rows.{behindAll, behind-at, rowsFrom, rowAt, rows-are, rows-append, rows-later, rows-identities, row-stands, nothingBefore}
-use Rattle.filing.specs.State.{unitsOf, UnitGood, UnitsGood}
+use Rattle.package.proofs.Rows.{rows-are, rows-identities, nothingBefore}
 
 -- ---- kept units
 pub kept-new : (us : List Filed) (u : Filed) → any (isUnder (u .table) (u .identity)) us ≡ false → kept (us ++ (u ∷ [])) ≡ kept us ++ (u ∷ [])
@@ -70,39 +69,7 @@ rows-few us t =
     let f : Entry → Bool = λ e. eqb (e .table) t in
     omega (arith, map-many (λ (e : Entry). e .row) (those f es), those-le f es, entries-many (λ c. 0) (kept us), kept-le us)
 
-pub units-few : (us : List Filed) (home : ℕ) → length (unitsOf (kept us) home) ≤ length us
-unfolding unitsOf
-units-few us home =
-    let f : Filed → Bool = λ u. eqb (u .home) home in
-    omega (arith, map-many (λ (u : Filed). u .bytes) (those f (kept us)), those-le f (kept us), kept-le us)
-
 -- ---- rows
-pub joined-units : (ks : List Filed) (home : ℕ) → unitBytes ks home ≡ joined (unitsOf ks home)
-unfolding unitBytes unitsOf
-joined-units ks home = refl
-
-cells-by : (u : Filed) (at : ℕ) → cells u at ≡ cellsBy (u .contributions) (u .bases) (u .home) at (length (u .bytes))
-unfolding cells cellsBy
-cells-by u at = refl
-
-pub rows-own : (ks : List Filed) (u : Filed) (t : ℕ) → u .table ≡ t
-    → rowsOf (ks ++ (u ∷ [])) t
-    ≡ rowsOf ks t ++ (record { identity = u .identity; cells = cellsBy (u .contributions) (u .bases) (u .home) (length (joined (unitsOf ks (u .home)))) (length (u .bytes)) } ∷ [])
-unfolding rowsFrom rowAt entriesFrom those
-rows-own ks u t e =
-    let place : behindAll nothingBefore ks (u .home) ≡ length (joined (unitsOf ks (u .home))) =
-    behind-at nothingBefore ks (u .home) ∙ (rw (joined-units ks (u .home)) (omega arith)) in
-    row-stands ks u [] t e
-    ∙ ap (λ (p : ℕ). rowsOf ks t ++ (record { identity = u .identity; cells = cells u p } ∷ [])) place
-    ∙ ap (λ (f : _). rowsOf ks t ++ (record { identity = u .identity; cells = f } ∷ [])) (cells-by u (length (joined (unitsOf ks (u .home)))))
-
-pub rows-other : (ks : List Filed) (u : Filed) (t : ℕ) → (u .table ≡ t → ⊥) → rowsOf (ks ++ (u ∷ [])) t ≡ rowsOf ks t
-unfolding rowsFrom entriesFrom those
-rows-other ks u t e =
-    rows-are (ks ++ (u ∷ [])) t ∙ rows-append nothingBefore ks (u ∷ []) t
-    ∙ ap (λ (l : List Row). rowsFrom nothingBefore ks t ++ l) (rows-later (behindAll nothingBefore ks) u [] t e)
-    ∙ append-nil (rowsFrom nothingBefore ks t) ∙ sym (rows-are ks t)
-
 pub rows-distinct : (us : List Filed) (t : ℕ) → distinct (identitiesOf (rowsOf (kept us) t)) ≡ true
 unfolding identitiesOf
 rows-distinct us t = ap distinct (ap (map (λ (r : Row). r .identity)) (rows-are (kept us) t) ∙ rows-identities nothingBefore (kept us) t) ∙ distinct-kept t us
@@ -112,20 +79,6 @@ unfolding identitiesOf
 rows-known us t x =
     ap (λ (l : List ℕ). has l x) (ap (map (λ (r : Row). r .identity)) (rows-are (kept us) t) ∙ rows-identities nothingBefore (kept us) t)
     ∙ has-identity t x (kept us) ∙ any-kept t x us
-
--- ---- units of a section
-pub units-own : (ks : List Filed) (u : Filed) (home : ℕ) → u .home ≡ home → unitsOf (ks ++ (u ∷ [])) home ≡ unitsOf ks home ++ (u .bytes ∷ [])
-unfolding unitsOf those
-units-own ks u home e =
-    let f : Filed → Bool = λ v. eqb (v .home) home in
-    ap (map (λ (v : Filed). v .bytes)) (those-append f ks (u ∷ []) ∙ ap (λ (l : List Filed). those f ks ++ l) (those-keeps f u [] (eq-eqb _ _ e)))
-    ∙ map-append (λ (v : Filed). v .bytes) (those f ks) (u ∷ [])
-
-pub units-other : (ks : List Filed) (u : Filed) (home : ℕ) → (u .home ≡ home → ⊥) → unitsOf (ks ++ (u ∷ [])) home ≡ unitsOf ks home
-unfolding unitsOf those
-units-other ks u home e =
-    let f : Filed → Bool = λ v. eqb (v .home) home in
-    ap (map (λ (v : Filed). v .bytes)) (those-append f ks (u ∷ []) ∙ ap (λ (l : List Filed). those f ks ++ l) (those-skips f u [] (ne-eqb _ _ e)) ∙ append-nil (those f ks))
 
 -- ---- sums
 sum-append : (xs ys : List ℕ) → sum (xs ++ ys) ≡ sum xs + sum ys

@@ -2,8 +2,8 @@
 -- Assumes nothing.
 use mathlib.Core.Path.{_≡_, refl, sym, ap, _∙_, subst}
 use mathlib.Core.Logic.{_⊎_, inl, inr}
-use mathlib.Core.Bool.{Bool, true, false}
-use mathlib.Core.List.{List, [], _∷_, _++_, map}
+use mathlib.Core.Bool.{Bool}
+use mathlib.Core.List.{List, [], _∷_, map}
 use Prim.Native.Nat.{ℕ, suc, _+_, _-_, _<_, _≤_}
 use native.Mathlib.Omega.{arith}
 use borrow.Author.Tests.{eqb-true}
@@ -24,10 +24,11 @@ use Rattle.package.specs.Input.{Input, unitSections}
 use Rattle.package.specs.Filing.{Filed, unitsFrom, unitsIn}
 use Rattle.package.proofs.NumberedWalks.{units-numbered, section-none, section-filed, section-refused}
 use Rattle.filing.specs.declared.input.InputObject.{InputObject}
-use Rattle.filing.specs.declared.state.InProgress.{InProgress}
+use Rattle.kept.specs.State.{Held}
+use Rattle.kept.specs.declared.state.InProgress.{InProgress}
 use Rattle.filing.specs.declared.state.Sums.{Sums}
 use Rattle.filing.specs.declared.units.UnitsFiled.{UnitsFiled}
-use Rattle.filing.specs.State.{Held, StringsKept}
+use Rattle.filing.specs.State.{wordsIn, StringsKept}
 use Rattle.filing.specs.Answers.{AtUnit, UnitsAre}
 use Rattle.filing.proofs.Walking.{kept-none, kept-more}
 
@@ -38,22 +39,19 @@ held-later p q k h g =
     record {
       room = k .room;
       words = k .words;
+      some = k .some;
       units = k .units;
       spent = omega (arith, k .spent);
-      cu = k .cu;
-      tu = k .tu;
-      info = k .info;
-      types = k .types;
+      held = k .held;
       based = k .based;
       low = λ c. omega (arith, k .low c);
-      infoLow = omega (arith, k .infoLow);
-      typesLow = omega (arith, k .typesLow);
+      unitsLow = λ c. omega (arith, k .unitsLow c);
       within = g;
       limit = k .limit;
     }
 
-pub at-later : {b : List ℕ} {x : InputObject} {i : Input} {n : ℕ} (p q : ℕ) {w : List ℕ} {st : InProgress} {ss : Sums} {bases : BySection ℕ} {earlier here : List Filed}
-    → AtUnit b x i n p w st ss bases earlier here → p ≤ q → q ≤ length b → AtUnit b x i n q w st ss bases earlier here
+pub at-later : {b : List ℕ} {x : InputObject} {i : Input} (p q : ℕ) {w : List ℕ} {st : InProgress} {ss : Sums} {bases : BySection ℕ} {earlier here : List Filed}
+    → AtUnit b x i p w st ss bases earlier here → p ≤ q → q ≤ length b → AtUnit b x i q w st ss bases earlier here
 at-later p q a h g = record { input = a .input; held = held-later p q (a .held) h g; sums = a .sums }
 
 -- the sections of units of an object whose sections start at a place
@@ -73,34 +71,34 @@ unfolding here sectionsOf
 all-from b at ahead e = ap (λ (c : Check (List Item)). sectionsOf c) e
 
 -- for one input and one list of units filed before: the units filed since, and that the rest of the walk is still to come
-pub record On (b : List ℕ) (x : InputObject) (n from at : ℕ) (w₀ w : List ℕ) (st : InProgress) (ss : Sums) (i : Input) (bases : BySection ℕ) (earlier here₀ : List Filed) : Type 0 where
+pub record On (b : List ℕ) (x : InputObject) (from at : ℕ) (w₀ w : List ℕ) (st₀ st : InProgress) (ss : Sums) (i : Input) (bases : BySection ℕ) (earlier here₀ : List Filed) : Type 0 where
   pub filed : List Filed
-  pub atUnit : AtUnit b x i n at w st ss bases earlier filed
-  pub kept : StringsKept n w₀ w
+  pub atUnit : AtUnit b x i at w st ss bases earlier filed
+  pub kept : StringsKept (wordsIn b) w₀ w st₀ st
   pub is : unitsIn i bases earlier filed (unitSections b (allFrom b at)) ≡ unitsIn i bases earlier here₀ (unitSections b (allFrom b from))
 
 -- what the loop keeps
-pub record Sectioned (b : List ℕ) (x : InputObject) (n from at : ℕ) (w₀ w : List ℕ) (st₀ st : InProgress) (ss₀ ss : Sums) : Type 0 where
+pub record Sectioned (b : List ℕ) (x : InputObject) (from at : ℕ) (w₀ w : List ℕ) (st₀ st : InProgress) (ss₀ ss : Sums) : Type 0 where
   pub same : length w ≡ length w₀
   pub ahead : List Item
   pub left : here b at ≡ pass ahead
   pub within : at ≤ length b
   pub behind : placeBehind at (allFrom b at) ≡ placeBehind from (allFrom b from)
-  pub goes : (i : Input) (bases : BySection ℕ) (earlier here : List Filed) → AtUnit b x i n from w₀ st₀ ss₀ bases earlier here → On b x n from at w₀ w st ss i bases earlier here
+  pub goes : (i : Input) (bases : BySection ℕ) (earlier here : List Filed) → AtUnit b x i from w₀ st₀ ss₀ bases earlier here → On b x from at w₀ w st₀ st ss i bases earlier here
 
-pub sectioned-none : (b : List ℕ) (x : InputObject) (n from : ℕ) (w : List ℕ) (st : InProgress) (ss : Sums) → Reaches b from → from ≤ length b → Sectioned b x n from from w w st st ss ss
+pub sectioned-none : (b : List ℕ) (x : InputObject) (from : ℕ) (w : List ℕ) (st : InProgress) (ss : Sums) → Reaches b from → from ≤ length b → Sectioned b x from from w w st st ss ss
 unfolding here
-sectioned-none b x n from w st ss r h =
+sectioned-none b x from w st ss r h =
     record {
       same = refl;
       ahead = r .ahead;
       left = r .left;
       within = h;
       behind = refl;
-      goes = λ i bases earlier here a. record { filed = here; atUnit = a; kept = kept-none n w; is = refl };
+      goes = λ i bases earlier here a. record { filed = here; atUnit = a; kept = kept-none (wordsIn b) w st; is = refl };
     }
 
-module _ {b : List ℕ} {x : InputObject} {n from at : ℕ} {w₀ w : List ℕ} {st₀ st : InProgress} {ss₀ ss : Sums} (k : Sectioned b x n from at w₀ w st₀ st ss₀ ss) where
+module _ {b : List ℕ} {x : InputObject} {from at : ℕ} {w₀ w : List ℕ} {st₀ st : InProgress} {ss₀ ss : Sums} (k : Sectioned b x from at w₀ w st₀ st ss₀ ss) where
   abbrev left-here : UnitsLeft b at [] (unitParts (leading (k .ahead)))
   left-here = record { ahead = k .ahead; left = k .left; is = refl }
 
@@ -108,8 +106,8 @@ module _ {b : List ℕ} {x : InputObject} {n from at : ℕ} {w₀ w : List ℕ} 
   sections-reach = units-reach b at [] _ left-here
 
   -- at the end of the object
-  pub sectioned-end : Done ≡ unitSectionOf (allFrom b at) → (i : Input) (bases : BySection ℕ) (earlier here : List Filed) → AtUnit b x i n from w₀ st₀ ss₀ bases earlier here
-      → UnitsAre b x i n (placeBehind from (allFrom b from)) w₀ w bases earlier (unitsIn i bases earlier here (unitSections b (allFrom b from))) (record { code = 0; st = st; sums = ss })
+  pub sectioned-end : Done ≡ unitSectionOf (allFrom b at) → (i : Input) (bases : BySection ℕ) (earlier here : List Filed) → AtUnit b x i from w₀ st₀ ss₀ bases earlier here
+      → UnitsAre b x i (placeBehind from (allFrom b from)) w₀ w st₀ bases earlier (unitsIn i bases earlier here (unitSections b (allFrom b from))) (record { code = 0; st = st; sums = ss })
   unfolding UnitsAre
   sectioned-end e i bases earlier here a =
       let o = k .goes i bases earlier here a in
@@ -153,20 +151,20 @@ module _ {b : List ℕ} {x : InputObject} {n from at : ℕ} {w₀ w : List ℕ} 
 
     -- the answer of `add_units` for it
     module _ (home stop : ℕ) (same-home : home ≡ code) (same-stop : stop ≡ start + size) (v : List ℕ) (r : UnitsFiled) (same : length v ≡ length w)
-        (added : (i : Input) (bases : BySection ℕ) (earlier here : List Filed) → AtUnit b x i n start w st ss bases earlier here
-        → UnitsAre b x i n stop w v bases earlier (unitsFrom (suc (length (part b start (stop - start)))) i bases earlier here home 0 (part b start (stop - start))) r) where
+        (added : (i : Input) (bases : BySection ℕ) (earlier here : List Filed) → AtUnit b x i start w st ss bases earlier here
+        → UnitsAre b x i stop w v st bases earlier (unitsFrom (suc (length (part b start (stop - start)))) i bases earlier here home 0 (part b start (stop - start))) r) where
       section-is : (i : Input) (bases : BySection ℕ) (earlier here : List Filed)
           → unitsFrom (suc (length (part b start (stop - start)))) i bases earlier here home 0 (part b start (stop - start)) ≡ unitsFrom (suc (length (part b start size))) i bases earlier here code 0 (part b start size)
       section-is i bases earlier here = let z : stop - start ≡ size = omega arith in rw (z, same-home)
 
       -- the walk of one section, from what is filed before it
-      answered : (i : Input) (bases : BySection ℕ) (earlier here : List Filed) → AtUnit b x i n at w st ss bases earlier here
-          → UnitsAre b x i n stop w v bases earlier (unitsFrom (suc (length (part b start size))) i bases earlier here code 0 (part b start size)) r
+      answered : (i : Input) (bases : BySection ℕ) (earlier here : List Filed) → AtUnit b x i at w st ss bases earlier here
+          → UnitsAre b x i stop w v st bases earlier (unitsFrom (suc (length (part b start size))) i bases earlier here code 0 (part b start size)) r
       answered i bases earlier here a =
-          subst (λ (m : Check (List Filed)). UnitsAre b x i n stop w v bases earlier m r) (section-is i bases earlier here)
+          subst (λ (m : Check (List Filed)). UnitsAre b x i stop w v st bases earlier m r) (section-is i bases earlier here)
           (added i bases earlier here (at-later at start a (section-lies .low) (let h = section-lies in omega (arith, h .inside, h .within))))
 
-      pub sectioned-more : r .code ≡ 0 → Sectioned b x n from next w₀ v st₀ (r .st) ss₀ (r .sums)
+      pub sectioned-more : r .code ≡ 0 → Sectioned b x from next w₀ v st₀ (r .st) ss₀ (r .sums)
       unfolding UnitsAre
       sectioned-more z =
           let h = found in
@@ -180,11 +178,11 @@ module _ {b : List ℕ} {x : InputObject} {n from at : ℕ} {w₀ w : List ℕ} 
             goes = λ i bases earlier here a. on i bases earlier here (k .goes i bases earlier here a);
           }
         where
-          on : (i : Input) (bases : BySection ℕ) (earlier here : List Filed) → On b x n from at w₀ w st ss i bases earlier here → On b x n from next w₀ v (r .st) (r .sums) i bases earlier here
+          on : (i : Input) (bases : BySection ℕ) (earlier here : List Filed) → On b x from at w₀ w st₀ st ss i bases earlier here → On b x from next w₀ v st₀ (r .st) (r .sums) i bases earlier here
           on i bases earlier here o = go _ refl (answered i bases earlier (o .filed) (o .atUnit))
             where
-              go : (m : Check (List Filed)) → unitsFrom (suc (length (part b start size))) i bases earlier (o .filed) code 0 (part b start size) ≡ m → UnitsAre b x i n stop w v bases earlier m r
-                  → On b x n from next w₀ v (r .st) (r .sums) i bases earlier here
+              go : (m : Check (List Filed)) → unitsFrom (suc (length (part b start size))) i bases earlier (o .filed) code 0 (part b start size) ≡ m → UnitsAre b x i stop w v st bases earlier m r
+                  → On b x from next w₀ v st₀ (r .st) (r .sums) i bases earlier here
               go (pass us) q f =
                   let l = section-lies in
                   record {
@@ -195,16 +193,16 @@ module _ {b : List ℕ} {x : InputObject} {n from at : ℕ} {w₀ w : List ℕ} 
                   }
               go (refuse m) q f = absurd (let g = units-numbered i bases earlier _ (o .filed) code 0 (part b start size) .is m q in let y : m ≡ 0 = sym f ∙ z in omega arith)
 
-      pub sectioned-refused : (r .code ≡ 0 → ⊥) → (i : Input) (bases : BySection ℕ) (earlier here : List Filed) → AtUnit b x i n from w₀ st₀ ss₀ bases earlier here
-          → (u : UnitsFiled) → u .code ≡ r .code → UnitsAre b x i n (placeBehind from (allFrom b from)) w₀ v bases earlier (unitsIn i bases earlier here (unitSections b (allFrom b from))) u
+      pub sectioned-refused : (r .code ≡ 0 → ⊥) → (i : Input) (bases : BySection ℕ) (earlier here : List Filed) → AtUnit b x i from w₀ st₀ ss₀ bases earlier here
+          → (u : UnitsFiled) → u .code ≡ r .code → UnitsAre b x i (placeBehind from (allFrom b from)) w₀ v st₀ bases earlier (unitsIn i bases earlier here (unitSections b (allFrom b from))) u
       unfolding UnitsAre
       sectioned-refused z i bases earlier here a u q = go _ refl (answered i bases earlier (o .filed) (o .atUnit))
         where
-          o : On b x n from at w₀ w st ss i bases earlier here
+          o : On b x from at w₀ w st₀ st ss i bases earlier here
           o = k .goes i bases earlier here a
 
-          go : (m : Check (List Filed)) → unitsFrom (suc (length (part b start size))) i bases earlier (o .filed) code 0 (part b start size) ≡ m → UnitsAre b x i n stop w v bases earlier m r
-              → UnitsAre b x i n (placeBehind from (allFrom b from)) w₀ v bases earlier (unitsIn i bases earlier here (unitSections b (allFrom b from))) u
+          go : (m : Check (List Filed)) → unitsFrom (suc (length (part b start size))) i bases earlier (o .filed) code 0 (part b start size) ≡ m → UnitsAre b x i stop w v st bases earlier m r
+              → UnitsAre b x i (placeBehind from (allFrom b from)) w₀ v st₀ bases earlier (unitsIn i bases earlier here (unitSections b (allFrom b from))) u
           go (pass us) y f = absurd (z (f .0))
           go (refuse m) y f =
               rw (sym (o .is) ∙ ap (unitsIn i bases earlier (o .filed)) rest-is ∙ section-refused i bases earlier (o .filed) _ _ m y) (q ∙ f)

@@ -22,6 +22,7 @@ use Rattle.package.specs.Input.{Input}
 use Rattle.package.specs.Filing.{Filed, unitAt}
 use Rattle.filing.specs.Judged.{sectionOf, InputIs}
 use Rattle.filing.specs.declared.input.InputObject.{InputObject}
+use Rattle.kept.specs.declared.state.InProgress.{InProgress}
 use Rattle.filing.specs.declared.units.UnitFiled.{UnitFiled}
 use Rattle.filing.specs.Answers.{UnitIs}
 use Rattle.filing.specs.Choices.{ReadAt}
@@ -61,10 +62,10 @@ module _ (b : List ℕ) (x : InputObject) (i : Input) (is : InputIs b x i) (home
       ∙ ap (λ (k : ℕ). unitAnswer (unitOf (encodingIs (x .encoding)) k (i .bytes 3) s)) e
       ∙ ap (λ (k : Encoding). unitAnswer (unitOf k home (i .bytes 3) s)) (is .encoding)
 
-  pub answer-refused : (bases : BySection ℕ) (earlier here : List Filed) (n place from : ℕ) (w v : List ℕ) (m : ℕ) (z : UnitFiled) → Refused m ≡ unitAnswer (unitOf (i .encoding) home (i .bytes 3) s) → z .code ≡ m
-      → UnitIs b x i n place w v bases earlier here (unitAt i bases earlier here home from s) z
+  pub answer-refused : (bases : BySection ℕ) (earlier here : List Filed) (place from : ℕ) (w v : List ℕ) (st : InProgress) (m : ℕ) (z : UnitFiled) → Refused m ≡ unitAnswer (unitOf (i .encoding) home (i .bytes 3) s) → z .code ≡ m
+      → UnitIs b x i place w v st bases earlier here (unitAt i bases earlier here home from s) z
   unfolding UnitIs
-  answer-refused bases earlier here n place from w v m z e c = rw (unit-refused i bases earlier here home from s m (was-refused (unitOf (i .encoding) home (i .bytes 3) s) m e)) c
+  answer-refused bases earlier here place from w v st m z e c = rw (unit-refused i bases earlier here home from s m (was-refused (unitOf (i .encoding) home (i .bytes 3) s) m e)) c
 
   module _ (size table identity : ℕ) (e : Read size table identity ≡ unitAnswer (unitOf (i .encoding) home (i .bytes 3) s)) (bytes : Bytes b) where
     passed : unitOf (i .encoding) home (i .bytes 3) s ≡ pass (record { size = size; table = table; identity = identity })

@@ -1,25 +1,22 @@
 -- The strings of one object more.
 -- Assumes nothing.
-use mathlib.Core.Path.{_≡_, refl, sym, ap, _∙_, subst}
+use mathlib.Core.Path.{_≡_, sym, ap, _∙_}
 use mathlib.Core.List.{List, [], _∷_, _++_, append-nil, append-assoc}
 use mathlib.Core.Bool.{Bool, true, false}
-use Prim.Native.Nat.{ℕ, _*_, _≤_}
+use Prim.Native.Nat.{ℕ, _≤_}
 use native.Mathlib.Omega.{arith}
 use lib.ListN.{length}
 use Rattle.octets.specs.Checked.{pass}
 use Rattle.octets.proofs.Checks.{bind-pass, require-pass, pass-inj}
 use Rattle.bundle.specs.Encoding.{Encoding}
-use Rattle.filing.specs.ByObject.{stringsCheck}
-use Rattle.octets.specs.Octets.{part}
-use Rattle.strings.specs.Strings.{putAll, firstUses, entriesIn, entriesOf, stringsAt}
-use Rattle.strings.specs.Kept.{Kept}
-use Rattle.strings.specs.declared.table.StringTable.{StringTable}
+use Rattle.filing.specs.ByObject.{stringsCheck, StringsIn}
+use Rattle.strings.specs.Strings.{putAll, firstUses, entriesIn, entriesOf}
 use Rattle.strings.proofs.Ends.{length-stringsAt}
 use Rattle.strings.proofs.FirstUses.{putAll-append}
-use Rattle.keeping.specs.Regions.{stringsStart}
 use Rattle.package.specs.Input.{Input}
 use Rattle.package.specs.Pack.{allUsed, stringTable}
-use Rattle.filing.specs.State.{StringsKept}
+use Rattle.kept.specs.declared.state.InProgress.{InProgress}
+use Rattle.filing.specs.State.{wordsIn, StringsKept}
 
 pub used-snoc : (is : List Input) (i : Input) → allUsed (is ++ (i ∷ [])) ≡ allUsed is ++ i .used
 unfolding allUsed
@@ -31,9 +28,9 @@ unfolding stringTable firstUses
 table-snoc is i = ap (putAll []) (used-snoc is i) ∙ putAll-append [] (allUsed is) (i .used)
 
 -- they stay while units are filed
-pub strings-stay : (b : List ℕ) (n : ℕ) (w v : List ℕ) (t : StringTable) (is : List Input) (i : Input) → Kept b (part w (stringsStart n) (3 * n)) t (putAll (stringTable is) (i .used)) → StringsKept n w v
-    → Kept b (part v (stringsStart n) (3 * n)) t (stringTable (is ++ (i ∷ [])))
-strings-stay b n w v t is i k s = rw (s .strings, table-snoc is i) k
+pub strings-stay : (b w v : List ℕ) (st next : InProgress) (is : List Input) (i : Input) → StringsIn b w (st .strings) (putAll (stringTable is) (i .used)) → StringsKept (wordsIn b) w v st next
+    → StringsIn b v (next .strings) (stringTable (is ++ (i ∷ [])))
+strings-stay b w v st next is i k s = rw (s .strings, s .table, table-snoc is i) k
 
 -- an object names no more strings than its str_offsets has entries
 pub check-few : (e : Encoding) (there : Bool) (o s : List ℕ) (used : List (List ℕ)) → stringsCheck e there o s ≡ pass used → length used ≤ length (entriesIn e o)

@@ -11,12 +11,12 @@ use lib.ListN.{length, getD, length-append}
 use Rattle.index.specs.Written.{sizeOf}
 use Rattle.index.specs.Contributed.{ContributionsAre}
 use Rattle.index.specs.declared.judging.Contributions.{Contributions}
-use Rattle.keeping.specs.Cells as cells
+use Rattle.kept.specs.Cells as cells
 use Rattle.package.specs.Filing.{Filed, sums}
 use Rattle.filing.specs.declared.state.Sums.{Sums}
 use Rattle.filing.specs.State.{SumsHeld}
 use Rattle.filing.specs.Choices.{sumsOf, withSums, SumsRoom}
-use Rattle.filing.proofs.Picked.{pick-first, pick-second}
+use Rattle.kept.proofs.Holding.{pick-first, pick-second}
 use Rattle.filing.proofs.More.{sums-own, sums-other}
 
 one-not-two : {k : ℕ} → k ≡ 2 → k ≡ 1 → ⊥

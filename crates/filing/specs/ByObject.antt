@@ -10,7 +10,7 @@ use lib.ListN.{length, getD}
 use Rattle.octets.specs.Octets.{part}
 use Rattle.octets.specs.Checked.{Check, pass, refuse, _>>=_}
 use Rattle.bundle.specs.Bundle.{Part}
-use Rattle.bundle.specs.Scan.{startOf, sizeOf}
+use Rattle.bundle.specs.Scan.{scanOf, startOf, sizeOf}
 use Rattle.bundle.specs.declared.Scan.{Scan}
 use Rattle.bundle.specs.Encoding.{Encoding, encodingOf}
 use Rattle.bundle.specs.Encoded.{encodingIs}
@@ -19,42 +19,60 @@ use Rattle.strings.specs.Strings.{entriesIn, entriesOf, stringsAt, putAll}
 use Rattle.strings.specs.Kept.{Kept, Inside, bytesAt}
 use Rattle.strings.specs.declared.table.Place.{Place}
 use Rattle.strings.specs.declared.table.StringTable.{StringTable}
-use Rattle.keeping.specs.Regions.{stringsStart}
+use Rattle.numbers.specs.Limits.{bundleLimit, workForWord}
+use Rattle.work.specs.Regions.{stringsRegion, region}
+use Rattle.kept.specs.State.{Held}
+use Rattle.kept.specs.declared.state.InProgress.{InProgress}
 use Rattle.index.specs.Index.{Index}
 use Rattle.index.specs.Rows.{BySection}
-use Rattle.package.specs.Input.{Input}
+use Rattle.package.specs.Input.{Input, inputOf}
 use Rattle.package.specs.Filing.{Filed}
 use Rattle.package.specs.Pack.{allUsed, stringTable}
-use Rattle.filing.specs.declared.state.InProgress.{InProgress}
 use Rattle.filing.specs.Judged.{IndexedIs, InputIs, indexCheck}
 use Rattle.filing.specs.declared.objects.StringsFiled.{StringsFiled}
 use Rattle.filing.specs.declared.objects.IndexesJudged.{IndexesJudged}
 use Rattle.filing.specs.declared.objects.InputFiled.{InputFiled}
-use Rattle.filing.specs.State.{Held}
+use Rattle.filing.specs.State.{wordsIn, withStrings}
 
 -- ---- 8 and 9
 -- the strings of a str_offsets that is there
 unfoldable pub stringsCheck : Encoding → Bool → List ℕ → List ℕ → Check (List (List ℕ))
 stringsCheck e there offsets text = elim there [ true ↦ entriesOf e offsets >>= stringsAt text | false ↦ pass [] ]
 
+-- the region of strings holds those of a table, in work w for the bundle b
+abbrev pub StringsIn : List ℕ → List ℕ → StringTable → List (List ℕ) → Type 0
+StringsIn b w t ts = Kept b (region w (wordsIn b) stringsRegion) t ts
+
 -- what it takes to put them
-pub record StringsRoom (b : List ℕ) (e : Encoding) (offsets text : Place) (n words : ℕ) (t : StringTable) : Type 0 where
-  pub room : 16 * n ≤ words
-  pub limit : length b ≤ 4_194_304
-  pub words-are : length b ≡ 4 * n
+pub record StringsRoom (b : List ℕ) (e : Encoding) (offsets text : Place) (words : ℕ) (t : StringTable) : Type 0 where
+  pub room : workForWord * wordsIn b ≤ words
+  pub limit : length b ≤ bundleLimit
   pub offsets-inside : Inside b offsets
   pub text-inside : Inside b text
-  pub fits : 3 * (t .count + length (entriesIn e (bytesAt b offsets))) ≤ 3 * n
+  pub fits : 3 * (t .count + length (entriesIn e (bytesAt b offsets))) ≤ stringsRegion .words * wordsIn b
+
+pub record StringsAsked (b : List ℕ) (e : Encoding) (offsets text : Place) (t : StringTable) (w : List ℕ) : Type 0 where
+  pub room : StringsRoom b e offsets text (length w) t
+  pub strings : List (List ℕ)
+  pub kept : StringsIn b w t strings
 
 -- the refusal, or that they are put into the region of strings
-unfoldable pub StringsAre : List ℕ → ℕ → List ℕ → List (List ℕ) → Check (List (List ℕ)) → StringsFiled → Type 0
-StringsAre b n v ts (refuse m) r = r .code ≡ m
-StringsAre b n v ts (pass used) r = (r .code ≡ 0) × Kept b (part v (stringsStart n) (3 * n)) (r .strings) (putAll ts used)
+unfoldable pub StringsAre : List ℕ → List ℕ → List (List ℕ) → Check (List (List ℕ)) → StringsFiled → Type 0
+StringsAre b v ts (refuse m) r = r .code ≡ m
+StringsAre b v ts (pass used) r = (r .code ≡ 0) × StringsIn b v (r .strings) (putAll ts used)
+
+abbrev pub StringsAnswered : List ℕ → Encoding → ℕ → Place → Place → StringTable → List ℕ → List ℕ → StringsFiled → Type 0
+StringsAnswered b e count offsets text t w v r =
+    (ts : List (List ℕ)) → StringsIn b w t ts → StringsAre b v ts (stringsCheck e (leb 1 count) (bytesAt b offsets) (bytesAt b text)) r
 
 -- ---- 10
 -- the first section of a code, where a scan has it
 unfoldable pub scanned : List ℕ → Scan → ℕ → List ℕ
 scanned b scan c = part b (getD (scan .start) c 0) (getD (scan .size) c 0)
+
+-- it lies in the bundle
+abbrev pub ScanInside : List ℕ → Scan → ℕ → Type 0
+ScanInside b scan c = getD (scan .start) c 0 + getD (scan .size) c 0 ≤ length b
 
 -- the index in it, where it is there
 unfoldable pub scannedIndex : Bool → List ℕ → Scan → ℕ → Check (Option Index)
@@ -66,23 +84,40 @@ IndexesAre big cs ts (refuse m) tu r = (r .code ≡ m) × (0 < m)
 IndexesAre big cs ts (pass c) (refuse m) r = (r .code ≡ m) × (0 < m)
 IndexesAre big cs ts (pass c) (pass t) r = (r .code ≡ 0) × IndexedIs big cs (r .cu) c × IndexedIs big ts (r .tu) t
 
+-- of those that a scan has
+abbrev pub IndexesFound : List ℕ → Bool → Scan → IndexesJudged → Type 0
+IndexesFound b big scan r = IndexesAre big (scanned b scan 12) (scanned b scan 13) (scannedIndex big b scan 12) (scannedIndex big b scan 13) r
+
 -- ---- everything at hand between two objects: inputs and units are filed up to a place
-pub record AtObject (b : List ℕ) (big : Bool) (first n place : ℕ) (w : List ℕ) (st : InProgress) (t : StringTable) (bases : BySection ℕ) (is : List Input) (us : List Filed) : Type 0 where
-  pub held : Held (eqb (encodingOf big first .version) 5) b n place w st bases us
-  pub strings : Kept b (part w (stringsStart n) (3 * n)) t (stringTable is)
+pub record AtObject (b : List ℕ) (big : Bool) (first place : ℕ) (w : List ℕ) (st : InProgress) (bases : BySection ℕ) (is : List Input) (us : List Filed) : Type 0 where
+  pub held : Held (eqb (encodingOf big first .version) 5) b (wordsIn b) place w st bases us
+  pub strings : StringsIn b w (st .strings) (stringTable is)
   -- an entry takes at least 4 bytes of the bundle
   pub used : 4 * length (allUsed is) ≤ place
 
 -- ---- 4 to 10
--- the refusal, or that the object is there by value and its strings are put
-unfoldable pub InputRead : List ℕ → ℕ → List ℕ → List (List ℕ) → Check Input → InputFiled → Type 0
-InputRead b n v ts (refuse m) r = r .code ≡ m
-InputRead b n v ts (pass i) r = (r .code ≡ 0) × InputIs b (r .input) i × Kept b (part v (stringsStart n) (3 * n)) (r .strings) (putAll ts (i .used))
+-- the refusal, or that the object is there by value and its strings are put; nothing else has changed of what is by value
+unfoldable pub InputRead : List ℕ → List ℕ → InProgress → List (List ℕ) → Check Input → InputFiled → Type 0
+InputRead b v st ts (refuse m) r = r .code ≡ m
+InputRead b v st ts (pass i) r =
+    (r .code ≡ 0) × InputIs b (r .input) i × (r .st ≡ withStrings st (r .st .strings)) × StringsIn b v (r .st .strings) (putAll ts (i .used))
 
 -- what it takes, of an object with sections ps: they lie in the bundle, and there is room for its strings, whatever its encoding
-pub record InputRoom (b : List ℕ) (ps : List Part) (n words : ℕ) (t : StringTable) : Type 0 where
-  pub room : 16 * n ≤ words
-  pub limit : length b ≤ 4_194_304
-  pub words-are : length b ≡ 4 * n
+pub record InputRoom (b : List ℕ) (ps : List Part) (words : ℕ) (t : StringTable) : Type 0 where
+  pub room : workForWord * wordsIn b ≤ words
+  pub limit : length b ≤ bundleLimit
   pub inside : (c : ℕ) → startOf ps c + sizeOf ps c ≤ length b
-  pub fits : (e : ObjectEncoding) → 3 * (t .count + length (entriesIn (encodingIs e) (part b (startOf ps 6) (sizeOf ps 6)))) ≤ 3 * n
+  pub fits : (e : ObjectEncoding) → 3 * (t .count + length (entriesIn (encodingIs e) (part b (startOf ps 6) (sizeOf ps 6)))) ≤ stringsRegion .words * wordsIn b
+
+pub record InputAsked (b : List ℕ) (scan : Scan) (st : InProgress) (w : List ℕ) : Type 0 where
+  pub at : ℕ
+  pub parts : List Part
+  pub is : scan ≡ scanOf at parts
+  pub room : InputRoom b parts (length w) (st .strings)
+  pub strings : List (List ℕ)
+  pub kept : StringsIn b w (st .strings) strings
+
+abbrev pub InputAnswered : List ℕ → Bool → ℕ → ℕ → Scan → InProgress → List ℕ → List ℕ → InputFiled → Type 0
+InputAnswered b big first word scan st w v r =
+    (at : ℕ) (ps : List Part) (ts : List (List ℕ)) → scan ≡ scanOf at ps → InputRoom b ps (length w) (st .strings) → StringsIn b w (st .strings) ts
+    → InputRead b v st ts (inputOf b big first (record { word = word; parts = ps })) r

@@ -6,4 +6,5 @@ pub mod Contributing
 pub mod State
 pub mod Answers
 pub mod Choices
+pub mod Asked
 pub mod ByObject

@@ -1,30 +1,20 @@
 // An object read up to its units: 4 to 10, its strings put into their region of work.
 ghost use mathlib.Core.Path.{_≡_};
-ghost use mathlib.Core.List.{List};
-ghost use Prim.Native.Nat.{ℕ, _+_, _*_, _≤_};
-ghost use lib.Dec.{leb};
-ghost use lib.ListN.{length, getD};
-ghost use Rattle.octets.specs.Octets.{part};
 ghost use Rattle.bundle.specs.Encoded.{encodingIs};
-ghost use Rattle.strings.specs.Kept.{Kept, bytesAt};
-ghost use Rattle.keeping.specs.Regions.{stringsStart, Replaced};
-ghost use Rattle.bundle.specs.Bundle.{Part};
-ghost use Rattle.bundle.specs.Scan.{scanOf};
-ghost use Rattle.package.specs.Input.{inputOf};
+ghost use Rattle.filing.specs.State.{wordsIn, withStrings, OnlyStrings};
 ghost use Rattle.filing.specs.ByObject.{
-  stringsCheck,
-  StringsRoom,
-  StringsAre,
-  scanned,
-  scannedIndex,
-  IndexesAre,
-  InputRoom,
-  InputRead,
+  ScanInside,
+  IndexesFound,
+  StringsAsked,
+  StringsAnswered,
+  InputAsked,
+  InputAnswered,
 };
 use crate::input::Indexed;
 use crate::input::InputObject;
 use bundle::Scan;
 use bundle::encoding::ObjectEncoding;
+use kept::state::InProgress;
 use numbers::refusals::BAD_STR_OFFSETS;
 use numbers::refusals::NO_STRING;
 use numbers::sections::CU_INDEX;
@@ -49,11 +39,11 @@ pub struct IndexesJudged {
     pub tu: Indexed,
 }
 
-// An object judged: 0 or the refusal, the object, and the table with its strings.
+// An object judged: 0 or the refusal, the object, and what is known with its strings.
 pub struct InputFiled {
     pub code: u32,
     pub input: InputObject,
-    pub strings: StringTable,
+    pub st: InProgress,
 }
 
 // 8 and 9, where the object has str_offsets: count says how often.
@@ -63,13 +53,12 @@ pub fn add_object_strings(
     count: usize,
     offsets: Place,
     text: Place,
-    n: usize,
     t: StringTable,
     work: &mut [u32],
 ) -> StringsFiled
-    requires { ⌜ StringsRoom (now b) (encodingIs e) offsets text n (length (now work)) t × ((ts : List (List ℕ)) × Kept (now b) (part (now work) (stringsStart n) (3 * n)) t ts) ⌝ }
-    ensures put { λ r. ⌜ ((ts : List (List ℕ)) → Kept (now (b .entry)) (part (now (work .entry)) (stringsStart n) (3 * n)) t ts → StringsAre (now (b .entry)) n (now (work .exit)) ts (stringsCheck (encodingIs e) (leb 1 count) (bytesAt (now (b .entry)) offsets) (bytesAt (now (b .entry)) text)) r) ⌝ }
-    ensures frame { λ _. ⌜ Replaced (now (work .entry)) (now (work .exit)) (stringsStart n) (3 * n) ⌝ }
+    requires { ⌜ StringsAsked (now b) (encodingIs e) offsets text t (now work) ⌝ }
+    ensures put { λ r. ⌜ StringsAnswered (now (b .entry)) (encodingIs e) count offsets text t (now (work .entry)) (now (work .exit)) r ⌝ }
+    ensures frame { λ _. ⌜ OnlyStrings (wordsIn (now (b .entry))) (now (work .entry)) (now (work .exit)) ⌝ }
 {
     if count < 1 {
         return StringsFiled {
@@ -85,9 +74,10 @@ pub fn add_object_strings(
             strings: t,
         };
     };
-    let from = 8 * n;
-    let to = from + 3 * n;
-    let Added::Table(kept) = strings::table::add_strings(
+    let region = work::strings(b.len() / 4);
+    let from = region.start;
+    let to = from + region.size;
+    let Added::Table(more) = strings::table::add_strings(
         e,
         b,
         offsets,
@@ -102,14 +92,14 @@ pub fn add_object_strings(
     };
     StringsFiled {
         code: 0,
-        strings: kept,
+        strings: more,
     }
 }
 
 // 10, of both indexes: that of the type units is judged where that of the compilation units passed.
 fn judge_indexes(b: &[u8], e: ObjectEncoding, scan: Scan) -> IndexesJudged
-    requires { ⌜ (getD (scan .start) 12 0 + getD (scan .size) 12 0 ≤ length (now b)) × (getD (scan .start) 13 0 + getD (scan .size) 13 0 ≤ length (now b)) ⌝ }
-    ensures { λ r. ⌜ IndexesAre (e .big) (scanned (now (b .entry)) scan 12) (scanned (now (b .entry)) scan 13) (scannedIndex (e .big) (now (b .entry)) scan 12) (scannedIndex (e .big) (now (b .entry)) scan 13) r ⌝ }
+    requires { ⌜ ScanInside (now b) scan 12 × ScanInside (now b) scan 13 ⌝ }
+    ensures { λ r. ⌜ IndexesFound (now (b .entry)) (e .big) scan r ⌝ }
 {
     let count = scan.count;
     let start = scan.start;
@@ -134,7 +124,19 @@ fn judge_indexes(b: &[u8], e: ObjectEncoding, scan: Scan) -> IndexesJudged
     }
 }
 
-fn input_refused(code: u32, e: ObjectEncoding, scan: Scan, t: StringTable) -> InputFiled
+fn with_strings(st: InProgress, strings: StringTable) -> InProgress
+    ensures { λ r. ⌜ r ≡ withStrings st strings ⌝ }
+{
+    let units = st.units;
+    let bases = st.bases;
+    InProgress {
+        units,
+        bases,
+        strings,
+    }
+}
+
+fn input_refused(code: u32, e: ObjectEncoding, scan: Scan, st: InProgress) -> InputFiled
     ensures { λ r. ⌜ r .code ≡ code ⌝ }
 {
     let start = scan.start;
@@ -146,11 +148,7 @@ fn input_refused(code: u32, e: ObjectEncoding, scan: Scan, t: StringTable) -> In
         cu: Indexed::Nowhere,
         tu: Indexed::Nowhere,
     };
-    InputFiled {
-        code,
-        input,
-        strings: t,
-    }
+    InputFiled { code, input, st }
 }
 
 // 4 to 10, of the object with a word and sections that were scanned; first is the first object's word. Callers have the sections from the bundle.
@@ -160,18 +158,17 @@ pub fn read_input(
     first: u32,
     word: u32,
     scan: Scan,
-    n: usize,
-    t: StringTable,
+    st: InProgress,
     work: &mut [u32],
 ) -> InputFiled
-    requires { ⌜ ((at : ℕ) × (ps : List Part) × (ts : List (List ℕ)) × (scan ≡ scanOf at ps) × InputRoom (now b) ps n (length (now work)) t × Kept (now b) (part (now work) (stringsStart n) (3 * n)) t ts) ⌝ }
-    ensures read { λ r. ⌜ ((at : ℕ) (ps : List Part) (ts : List (List ℕ)) → scan ≡ scanOf at ps → InputRoom (now (b .entry)) ps n (length (now (work .entry))) t → Kept (now (b .entry)) (part (now (work .entry)) (stringsStart n) (3 * n)) t ts → InputRead (now (b .entry)) n (now (work .exit)) ts (inputOf (now (b .entry)) big first (record { word = word; parts = ps })) r) ⌝ }
-    ensures frame { λ _. ⌜ Replaced (now (work .entry)) (now (work .exit)) (stringsStart n) (3 * n) ⌝ }
+    requires { ⌜ InputAsked (now b) scan st (now work) ⌝ }
+    ensures read { λ r. ⌜ InputAnswered (now (b .entry)) big first word scan st (now (work .entry)) (now (work .exit)) r ⌝ }
+    ensures frame { λ _. ⌜ OnlyStrings (wordsIn (now (b .entry))) (now (work .entry)) (now (work .exit)) ⌝ }
 {
     let judged = crate::input::judge_object(big, first, word, scan);
     let e = judged.encoding;
     if judged.code != 0 {
-        return input_refused(judged.code, e, scan, t);
+        return input_refused(judged.code, e, scan, st);
     }
     let start = scan.start;
     let size = scan.size;
@@ -183,14 +180,14 @@ pub fn read_input(
         start: start[STR],
         size: size[STR],
     };
-    let put = add_object_strings(b, e, scan.count[STR_OFFSETS], offsets, text, n, t, work);
-    let strings = put.strings;
+    let t = st.strings;
+    let put = add_object_strings(b, e, scan.count[STR_OFFSETS], offsets, text, t, work);
     if put.code != 0 {
-        return input_refused(put.code, e, scan, strings);
+        return input_refused(put.code, e, scan, st);
     }
     let indexes = judge_indexes(b, e, scan);
     if indexes.code != 0 {
-        return input_refused(indexes.code, e, scan, strings);
+        return input_refused(indexes.code, e, scan, st);
     }
     let cu = indexes.cu;
     let tu = indexes.tu;
@@ -201,9 +198,11 @@ pub fn read_input(
         cu,
         tu,
     };
+    let strings = put.strings;
+    let known = with_strings(st, strings);
     InputFiled {
         code: 0,
         input,
-        strings,
+        st: known,
     }
 }

@@ -1,20 +1,19 @@
 // One unit read and filed: 11 to 16.
 ghost use mathlib.Core.Path.{_≡_};
-ghost use mathlib.Core.List.{List};
-ghost use mathlib.Core.Logic.{_⊎_};
-ghost use Prim.Native.Nat.{ℕ, _+_, _-_, _<_, _≤_};
-ghost use lib.ListN.{length, take};
-ghost use Rattle.octets.specs.Octets.{part};
-ghost use Rattle.index.specs.Rows.{BySection};
-ghost use Rattle.package.specs.Input.{Input};
-ghost use Rattle.package.specs.Filing.{Filed, unitAt};
-ghost use Rattle.filing.specs.Answers.{AtUnit, UnitIs};
-ghost use Rattle.filing.specs.Choices.{ReadAt};
+ghost use Prim.Native.Nat.{_<_, _^_};
+ghost use Rattle.kept.specs.Held.{pick};
+ghost use Rattle.filing.specs.Choices.{KnownIs, unitFor};
+ghost use Rattle.filing.specs.Asked.{ReadAsked, ReadFiled, UnitAsked, UnitAnswered};
 use crate::input::InputObject;
 use crate::state::COMPILATION;
-use crate::state::InProgress;
 use crate::state::Sums;
+use crate::units::HomeSection;
+use crate::units::ReadUnit;
 use crate::units::UnitFiled;
+use kept::Units;
+use kept::records::Unit;
+use kept::slots::Sought;
+use kept::state::InProgress;
 use numbers::refusals::IDENTITY_SEEN;
 use numbers::sections::ABBREV;
 use unit::header::UnitAnswer;
@@ -30,55 +29,83 @@ fn refused(code: u32, st: InProgress, sums: Sums) -> UnitFiled
     }
 }
 
-// A unit that was read: 14, skipped, 15 and 16, or kept.
+// A unit of a table and identity that are kept: 14, or skipped.
+fn file_known(table: usize, size: usize, st: InProgress, sums: Sums) -> UnitFiled
+    ensures { λ r. ⌜ KnownIs table size st sums r ⌝ }
+{
+    if table == COMPILATION {
+        return refused(IDENTITY_SEEN, st, sums);
+    }
+    UnitFiled {
+        code: 0,
+        size,
+        st,
+        sums,
+    }
+}
+
+// What is stored of a unit that was read at a place of the bundle. Callers have few rows.
+fn unit_for(units: Units, home: usize, at: usize, read: ReadUnit) -> Unit
+    requires { ⌜ pick (read .table) (units .cu) (units .tu) .rows < 2 ^ 32 ⌝ }
+    ensures { λ r. ⌜ r ≡ unitFor units home at read ⌝ }
+{
+    let table = kept::by_number::table_of(units, read.table);
+    Unit {
+        table: read.table,
+        row: table.rows + 1,
+        identity: read.identity,
+        home,
+        start: at,
+        size: read.size,
+    }
+}
+
+// A unit that was read: 14, skipped, 15 and 16, or kept. There is always a free slot, since a unit takes words of the bundle.
 fn file_read(
     b: &[u8],
     x: InputObject,
-    home: usize,
-    start: usize,
+    section: HomeSection,
     at: usize,
-    n: usize,
+    read: ReadUnit,
     st: InProgress,
     sums: Sums,
-    size: usize,
-    table: usize,
-    identity: u64,
     work: &mut [u32],
 ) -> UnitFiled
-    requires { ⌜ (start ≤ at) × ((home ≡ 1) ⊎ (home ≡ 2)) × ((i : Input) × (bases : BySection ℕ) × (earlier : List Filed) × (here : List Filed) × (s : List ℕ) × AtUnit (now b) x i n at (now work) st sums bases earlier here × ReadAt i home size table identity s × (at + size ≤ length (now b)) × (take size s ≡ part (now b) at size)) ⌝ }
-    ensures { λ r. ⌜ ((i : Input) (bases : BySection ℕ) (earlier here : List Filed) (s : List ℕ) → AtUnit (now (b .entry)) x i n at (now (work .entry)) st sums bases earlier here → ReadAt i home size table identity s → take size s ≡ part (now (b .entry)) at size → UnitIs (now (b .entry)) x i n at (now (work .entry)) (now (work .exit)) bases earlier here (unitAt i bases earlier here home (at - start) s) r) ⌝ }
+    requires { ⌜ ReadAsked (now b) x section at read st sums (now work) ⌝ }
+    ensures { λ r. ⌜ ReadFiled (now (b .entry)) x section at read st sums (now (work .entry)) (now (work .exit)) r ⌝ }
 {
+    let n = b.len() / 4;
+    let home = section.home;
+    let table = read.table;
+    let size = read.size;
+    let units = st.units;
     let e = x.encoding;
-    let five = e.five;
-    let t = crate::keep::table_of(st, table);
-    if keeping::is_seen(five, n, table, t, identity, work) {
-        if table == COMPILATION {
+    let count = kept::slots::seen_slots(n);
+    let slot = match kept::slots::seek_in(work, n, table, units.count, count, read.identity) {
+        Sought::Known(_) => {
+            return file_known(table, size, st, sums);
+        }
+        Sought::Full => {
             return refused(IDENTITY_SEEN, st, sums);
         }
-        return UnitFiled {
-            code: 0,
-            size,
-            st,
-            sums,
-        };
-    }
+        Sought::Free(slot) => slot,
+    };
     let summed = crate::keep::sums_of(sums, table);
     let judged = crate::contributions::contributions_of(
         b,
         x,
         summed,
-        table,
-        identity,
         home,
-        at - start,
-        size,
+        at - section.start,
+        read,
     );
     let code = judged.code;
     if code != 0 {
         return refused(code, st, sums);
     }
     let k = judged.contributions;
-    let next = crate::keep::keep_unit(five, n, table, identity, home, at, size, k, st, work);
+    let unit = unit_for(units, home, at, read);
+    let next = crate::keep::keep_unit(e.five, n, slot, unit, k, st, work);
     let more = crate::keep::grow_sums(sums, table, k);
     UnitFiled {
         code: 0,
@@ -88,41 +115,35 @@ fn file_read(
     }
 }
 
-// The unit at a place of a section of units, which lies from start to stop.
+// The unit at a place of a section of units.
 pub fn file_unit(
     b: &[u8],
     x: InputObject,
-    home: usize,
-    start: usize,
-    stop: usize,
+    section: HomeSection,
     at: usize,
-    n: usize,
     st: InProgress,
     sums: Sums,
     work: &mut [u32],
 ) -> UnitFiled
-    requires { ⌜ (start ≤ at) × (at < stop) × (stop ≤ length (now b)) × ((home ≡ 1) ⊎ (home ≡ 2)) × ((i : Input) × (bases : BySection ℕ) × (earlier : List Filed) × (here : List Filed) × AtUnit (now b) x i n at (now work) st sums bases earlier here) ⌝ }
-    ensures { λ r. ⌜ ((i : Input) (bases : BySection ℕ) (earlier here : List Filed) → AtUnit (now (b .entry)) x i n at (now (work .entry)) st sums bases earlier here → UnitIs (now (b .entry)) x i n at (now (work .entry)) (now (work .exit)) bases earlier here (unitAt i bases earlier here home (at - start) (part (now (b .entry)) at (stop - at))) r) ⌝ }
+    requires { ⌜ UnitAsked (now b) x section at st sums (now work) ⌝ }
+    ensures { λ r. ⌜ UnitAnswered (now (b .entry)) x section at st sums (now (work .entry)) (now (work .exit)) r ⌝ }
 {
     let e = x.encoding;
     let first = x.start[ABBREV];
     let last = first + x.size[ABBREV];
-    let answer = unit::header::read_unit(e, octets::narrow(home), &b[first..last], &b[at..stop]);
+    let home = octets::narrow(section.home);
+    let stop = section.stop;
+    let answer = unit::header::read_unit(e, home, &b[first..last], &b[at..stop]);
     match answer {
         UnitAnswer::Refused(code) => refused(code, st, sums),
-        UnitAnswer::Read(size, table, identity) => file_read(
-            b,
-            x,
-            home,
-            start,
-            at,
-            n,
-            st,
-            sums,
-            size,
-            octets::wide(table),
-            identity,
-            work,
-        ),
+        UnitAnswer::Read(size, number, identity) => {
+            let table = octets::wide(number);
+            let read = ReadUnit {
+                size,
+                table,
+                identity,
+            };
+            file_read(b, x, section, at, read, st, sums, work)
+        }
     }
 }

@@ -1,6 +1,20 @@
-// What filing a unit, and the units of a section or an object, answers.
-use crate::state::InProgress;
+// What filing units takes and answers by value.
 use crate::state::Sums;
+use kept::state::InProgress;
+
+// The section of units at hand: its code, and where it lies in the bundle.
+pub struct HomeSection {
+    pub home: usize,
+    pub start: usize,
+    pub stop: usize,
+}
+
+// A unit that was read, as its header states it.
+pub struct ReadUnit {
+    pub size: usize,
+    pub table: usize,
+    pub identity: u64,
+}
 
 // A unit filed: 0 or the refusal, its size, and what is known behind it.
 pub struct UnitFiled {

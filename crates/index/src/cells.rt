@@ -3,7 +3,7 @@ ghost use mathlib.Core.Path.{_≡_};
 ghost use mathlib.Core.List.{map};
 ghost use Prim.Native.Nat.{_+_, _*_, _-_, _^_, _<_, _≤_};
 ghost use lib.ListN.{length, getD};
-ghost use Rattle.index.specs.Columns.{columnsOf, columnIn};
+ghost use Rattle.index.specs.Columns.{columnsFour, columnsFive, columnsOf, columnIn};
 ghost use Rattle.index.specs.Index.{placeOf, cellOf};
 ghost use Rattle.index.specs.Held.{Sized, indexIn};
 ghost use Rattle.index.specs.Cells.{columnPlace, noColumn, placeFound, cellFound};
@@ -98,7 +98,20 @@ pub fn columns_count(version: u32) -> usize
     COLUMNS
 }
 
-// Column k: the one place that reads the tables. Section and code are 0 where there is no column k.
+// The two places that read the constants. Their contracts are the statements over the whole tables.
+fn columns_four() -> [ColumnPlace; COLUMNS]
+    ensures { λ r. ⌜ r ≡ map columnPlace columnsFour ⌝ }
+{
+    FOUR
+}
+
+fn columns_five() -> [ColumnPlace; COLUMNS_FIVE]
+    ensures { λ r. ⌜ r ≡ map columnPlace columnsFive ⌝ }
+{
+    FIVE
+}
+
+// Column k. Section and code are 0 where there is no column k.
 pub fn column_at(version: u32, k: usize) -> ColumnPlace
     ensures { λ r. ⌜ r ≡ getD (map columnPlace (columnsOf version)) k noColumn ⌝ }
 {
@@ -108,12 +121,14 @@ pub fn column_at(version: u32, k: usize) -> ColumnPlace
     };
     if version == DWARF_5 {
         if k < COLUMNS_FIVE {
-            return FIVE[k];
+            let five = columns_five();
+            return five[k];
         }
         return none;
     }
     if k < COLUMNS {
-        return FOUR[k];
+        let four = columns_four();
+        return four[k];
     }
     none
 }

@@ -28,7 +28,7 @@ use Rattle.kept.specs.Columns.{columnsFor, sectionAt, ColumnsHeld, Marke
 use Rattle.kept.specs.Cells.{cellsBy}
 use Rattle.kept.specs.Records.{KeptUnit, cellWords, wordsOf, cellsLeft, cellsOf, unitOf, recordAt, recordsFrom, ofTable, bytesOf, bytesFrom}
 use Rattle.kept.specs.Slots.{freeFor, SeenHeld}
-use Rattle.kept.specs.Held.{identitiesOf, RowIs, RowsAre, none, more, TableHeld, pick, OneOrTwo, UnitsHeld}
+use Rattle.kept.specs.Held.{identitiesOf, RowIs, RowsAre, none, more, TableHeld, pick, withUnit, OneOrTwo, UnitsHeld}
 use Rattle.kept.specs.declared.records.Unit.{Unit as UnitHead}
 use Rattle.kept.specs.declared.Table.{Table}
 use Rattle.kept.specs.declared.Units.{Units}
@@ -191,18 +191,13 @@ rows-other ks y t e =
     ∙ ap (λ (l : List Row). rowsFrom nothingBefore ks t ++ l) (rows-later (behindAll nothingBefore ks) y [] t e)
     ∙ append-nil (rowsFrom nothingBefore ks t) ∙ sym (rows-are ks t)
 
-bytes-own : (ks : List Filed) (y : Filed) (h : ℕ) → y .home ≡ h → unitBytes (ks ++ (y ∷ [])) h ≡ unitBytes ks h ++ y .bytes
+pub bytes-own : (ks : List Filed) (y : Filed) (h : ℕ) → y .home ≡ h → unitBytes (ks ++ (y ∷ [])) h ≡ unitBytes ks h ++ y .bytes
 unfolding unitBytes those joined
 bytes-own ks y h e = unit-append ks (y ∷ []) h ∙ ap (λ (l : List ℕ). unitBytes ks h ++ l) (unit-here y [] h e ∙ append-nil (y .bytes))
 
-bytes-other : (ks : List Filed) (y : Filed) (h : ℕ) → (y .home ≡ h → ⊥) → unitBytes (ks ++ (y ∷ [])) h ≡ unitBytes ks h
+pub bytes-other : (ks : List Filed) (y : Filed) (h : ℕ) → (y .home ≡ h → ⊥) → unitBytes (ks ++ (y ∷ [])) h ≡ unitBytes ks h
 unfolding unitBytes those joined
 bytes-other ks y h e = unit-append ks (y ∷ []) h ∙ ap (λ (l : List ℕ). unitBytes ks h ++ l) (unit-later y [] h e) ∙ append-nil (unitBytes ks h)
-
--- the units by value with one more
-abbrev pub withUnit : Units → ℕ → Table → ℕ → ℕ → Units
-withUnit u table t home bytes =
-    record { count = u .count + 1; cu = pick table t (u .cu); tu = pick table (u .tu) t; info = pick home bytes (u .info); types = pick home (u .types) bytes }
 
 -- what is stored of a unit that is kept: its record behind the others, its number in a free slot, and its columns marked
 pub record KeptAs (five : Bool) (b w : List ℕ) (slots : ℕ → List ℕ) (u : Units) (ks : List Filed) (y : Filed) (k : UnitHead) (cells : Contributions) (at : ℕ) (has : List Bool) : Type 0 where

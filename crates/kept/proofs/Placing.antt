@@ -273,7 +273,7 @@ kept-by w u v words count slot first start k e f p q =
     q ∙ ap₂ (λ (l : List ℕ) (a : ℕ). placed l (a + slot) ((count + 1) ∷ [])) (p ∙ ap (λ (a : ℕ). placed w (a + recordWords * count) (wordsOf k)) e) f
 
 -- the first m slots of a table stand at the front of its region, and stay with it
-slots-front : (z : List ℕ) (words t m : ℕ) → m ≤ words → slotsIn z words t m ≡ part (region z words (slotsRegion t)) 0 m
+pub slots-front : (z : List ℕ) (words t m : ℕ) → m ≤ words → slotsIn z words t m ≡ part (region z words (slotsRegion t)) 0 m
 unfolding slotsIn region
 slots-front z words t m h =
     let o : slotsRegion t .start * words + 0 ≡ slotsRegion t .start * words = omega arith in

@@ -41,6 +41,11 @@ pub record TableHeld (five : Bool) (w : List ℕ) (n : ℕ) (slots : List ℕ) (
 unfoldable pub pick : {A : Type 0} → ℕ → A → A → A
 pick k a b = elim (eqb k 1) [ true ↦ a | false ↦ b ]
 
+-- the units by value with one more: its table is t behind it, and its section has so many bytes
+abbrev pub withUnit : Units → ℕ → Table → ℕ → ℕ → Units
+withUnit u table t home bytes =
+    record { count = u .count + 1; cu = pick table t (u .cu); tu = pick table (u .tu) t; info = pick home bytes (u .info); types = pick home (u .types) bytes }
+
 -- tables and sections of units are numbered so
 abbrev pub OneOrTwo : ℕ → Type 0
 OneOrTwo k = (k ≡ 1) ⊎ (k ≡ 2)

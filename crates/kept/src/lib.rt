@@ -1,4 +1,5 @@
 // The units that are kept: one record for each in lent work, the slots of both tables, and what is written from them.
+pub mod by_number;
 pub mod cells;
 pub mod columns;
 pub mod records;

@@ -1,8 +1,9 @@
 // The names of the sections in an object file, one table for all that read, write or print them.
 ghost use mathlib.Core.Path.{_≡_};
+ghost use mathlib.Core.List.{map};
 ghost use Prim.Native.Nat.{_<_};
 ghost use Rattle.numbers.specs.NameRows.{nameRow};
-ghost use Rattle.numbers.specs.Names.{sectionName};
+ghost use Rattle.numbers.specs.Names.{sectionNames, sectionName};
 use crate::sections::CODES;
 
 // The length of the longest name.
@@ -74,10 +75,18 @@ const NAMES: [Name; CODES] = [
     },
 ];
 
-// The name of the section of a code: the one place that reads the table.
+// The one place that reads the constant. Its contract is the statement over the whole table.
+fn section_names() -> [Name; CODES]
+    ensures { λ r. ⌜ r ≡ map nameRow sectionNames ⌝ }
+{
+    NAMES
+}
+
+// The name of the section of a code.
 pub fn section_name(code: usize) -> Name
     requires { ⌜ code < 14 ⌝ }
     ensures { λ r. ⌜ r ≡ nameRow (sectionName code) ⌝ }
 {
-    NAMES[code]
+    let names = section_names();
+    names[code]
 }

@@ -66,13 +66,12 @@ module _ (big : Bool) (s : List ℕ) (h : IndexHead) (e : IndexHere big s h) whe
   is-single words m t = marked-single words (indexIn big s h .rows) (indexIn big s h .identities) m same-length t 1 (h .units) (omega arith)
 
 -- the line of a cell, by what is read of it
-pub line-is : (letter : ℕ) (big : Bool) (s : List ℕ) (h : IndexHead) (identity k n code section offset size : ℕ) → code ≡ getD (indexIn big s h .codes) k 0
-    → section ≡ sectionIn (columnsOf (h .version)) code → offset ≡ getD (indexIn big s h .offsets) n 0 → size ≡ getD (indexIn big s h .sizes) n 0
+pub line-is : (letter : ℕ) (big : Bool) (s : List ℕ) (h : IndexHead) (identity k n section offset size : ℕ)
+    → section ≡ sectionIn (columnsOf (indexIn big s h .version)) (getD (indexIn big s h .codes) k 0)
+    → offset ≡ getD (indexIn big s h .offsets) n 0 → size ≡ getD (indexIn big s h .sizes) n 0
     → CellLine letter (indexIn big s h) identity k n (record { letter = letter; identity = identity; section = section; offset = offset; size = size })
-unfolding indexIn layout
-line-is letter big s h identity k n code section offset size c e o z =
-    let f : section ≡ sectionIn (columnsOf (indexIn big s h .version)) (getD (indexIn big s h .codes) k 0) = e ∙ ap (sectionIn (columnsOf (h .version))) c in
-    record { is = λ j. record { letter = letter; identity = identity; section = f j; offset = o j; size = z j } }
+line-is letter big s h identity k n section offset size e o z =
+    record { is = λ j. record { letter = letter; identity = identity; section = e j; offset = o j; size = z j } }
 
 pub line-small : (letter : ℕ) (i : Index) (identity k n : ℕ) (l : Line) → CellLine letter i identity k n l → l .section < 100
 line-small letter i identity k n l c = rw (c .is) (section-small (i .version) (getD (i .codes) k 0))

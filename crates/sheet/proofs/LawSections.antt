@@ -4,16 +4,20 @@ use mathlib.Core.Path.{_≡_, refl, _∙_}
 use mathlib.Core.Bool.{Bool, true, false}
 use mathlib.Core.List.{List, [], _∷_}
 use Prim.Native.Nat.{ℕ, _+_, _≤_, _<_}
+use native.Mathlib.Nat.{not-suc-le-zero}
+use native.Mathlib.Decide.{ℕ-discrete}
 use native.Mathlib.Omega.{arith}
 use native.Mathlib.Numerals.{add-one}
 use lib.Dec.{eqb, leb}
-use lib.ListN.{length, drop, getD, drop-of-length-le}
-use lib.Seq.{drop-cons}
+use lib.ListN.{length, drop, getD, set, drop-of-length-le, length-set}
+use lib.Seq.{drop-cons, getD-set-same, getD-set-other}
 use borrow.Author.Tests.{eq-eqb, ne-eqb, leb-true}
 use Rattle.octets.specs.Lists.{all}
 use Rattle.octets.proofs.Lists.{all-head, all-tail}
 use Rattle.index.specs.Columns.{Column, columnsOf, columnsFour, columnsFive}
+use Rattle.index.specs.Index.{Index}
 use Rattle.sheet.specs.Sheet.{sectionIn}
+use Rattle.sheet.specs.Held.{Sections}
 
 abbrev nothing : Column
 nothing = record { section = 0; column = 0 }
@@ -50,3 +54,18 @@ section-small version code = go (eqb version 5)
     go : (t : Bool) → sectionIn (elim t [ true ↦ columnsFive | false ↦ columnsFour ]) code < 100
     go true = below columnsFive refl code
     go false = below columnsFour refl code
+
+-- ---- the sections of all columns, one by one
+module _ (i : Index) (xs : List ℕ) where
+  pub sections-none : Sections i xs 0
+  sections-none = record { room = omega arith; is = λ k h. absurd (not-suc-le-zero h) }
+
+  pub sections-more : (n section : ℕ) → Sections i xs n → n < length xs → section ≡ sectionIn (columnsOf (i .version)) (getD (i .codes) n 0)
+      → Sections i (set xs n section) (n + 1)
+  sections-more n section h l e = record { room = simp length-set (omega arith); is = here }
+    where
+      here : (k : ℕ) → k < n + 1 → getD (set xs n section) k 0 ≡ sectionIn (columnsOf (i .version)) (getD (i .codes) k 0)
+      here k g = elim (ℕ-discrete k n) [
+        | yes q ↦ rw q (getD-set-same xs n section 0 l ∙ e)
+        | no q ↦ getD-set-other xs n k section 0 q ∙ h .is k (omega (arith, q))
+      ]

@@ -51,6 +51,11 @@ pub record IndexHere (big : Bool) (s : List ℕ) (h : IndexHead) : Type 0 where
   pub short : length s ≤ sectionLimit
 
 -- ---- lines
+-- the first n of these are our codes of the index's first n columns
+pub record Sections (i : Index) (sections : List ℕ) (n : ℕ) : Type 0 where
+  pub room : n ≤ length sections
+  pub is : (k : ℕ) → k < n → getD sections k 0 ≡ sectionIn (columnsOf (i .version)) (getD (i .codes) k 0)
+
 -- the line of column k and of cell n
 pub record CellLine (letter : ℕ) (i : Index) (identity k n : ℕ) (l : Line) : Type 0 where
   pub is : l ≡ record {

@@ -10,6 +10,7 @@ ghost use Rattle.sheet.specs.Sheet.{sectionIn, rowLines};
 ghost use Rattle.sheet.specs.Held.{
   IndexHere,
   Marked,
+  Sections,
   CellLine,
   noneTwice,
   allMarked,
@@ -17,6 +18,7 @@ ghost use Rattle.sheet.specs.Held.{
   laidOut,
 };
 use crate::lines::Line;
+use index::cells::COLUMNS;
 use index::reading::IndexHead;
 
 // An index beside its bytes: the letter of its table, and its byte order.
@@ -92,15 +94,32 @@ fn section_of(version: u32, code: usize) -> usize
     0
 }
 
+// Our codes of an index's columns: worked out once, since a search of the table for each line would take longer than the line.
+fn sections_of(big: bool, s: &[u8], head: IndexHead) -> [usize; COLUMNS]
+    requires { ⌜ IndexHere big (now s) head ⌝ }
+    ensures { λ r. ⌜ Sections (indexIn big (now (s .entry)) head) r (head .columns) ⌝ }
+{
+    let columns = head.columns;
+    let mut sections = [0usize; COLUMNS];
+    let mut k = 0;
+    while k < columns {
+        let code = index::reading::code_at(big, s, head, k);
+        sections[k] = section_of(head.version, code);
+        k += 1;
+    }
+    sections
+}
+
 // The line of a row's column k, whose cell has number n.
-fn line_of(t: Table, s: &[u8], identity: u64, k: usize, n: usize) -> Line
-    requires { ⌜ (IndexHere (t .big) (now s) (t .head)) × (k < t .head .columns) × (n < t .head .units * t .head .columns) ⌝ }
+fn line_of(t: Table, s: &[u8], sections: &[usize], identity: u64, k: usize, n: usize) -> Line
+    requires index { ⌜ IndexHere (t .big) (now s) (t .head) ⌝ }
+    requires sections { ⌜ Sections (indexIn (t .big) (now s) (t .head)) (now sections) (t .head .columns) ⌝ }
+    requires cell { ⌜ (k < t .head .columns) × (n < t .head .units * t .head .columns) ⌝ }
     ensures { λ r. ⌜ CellLine (t .letter) (indexIn (t .big) (now (s .entry)) (t .head)) identity k n r ⌝ }
 {
     let head = t.head;
     let big = t.big;
-    let code = index::reading::code_at(big, s, head, k);
-    let section = section_of(head.version, code);
+    let section = sections[k];
     let offset = index::reading::offset_at(big, s, head, n);
     let size = index::reading::size_at(big, s, head, n);
     Line {
@@ -113,8 +132,18 @@ fn line_of(t: Table, s: &[u8], identity: u64, k: usize, n: usize) -> Line
 }
 
 // Stores the lines of a row, counted from 1.
-fn put_row(t: Table, s: &[u8], row: usize, identity: u64, d: &mut [u8], at: usize)
-    requires { ⌜ (IndexHere (t .big) (now s) (t .head)) × (0 < row) × (row ≤ t .head .units) × (at + 40 * t .head .columns ≤ length (now d)) ⌝ }
+fn put_row(
+    t: Table,
+    s: &[u8],
+    sections: &[usize],
+    row: usize,
+    identity: u64,
+    d: &mut [u8],
+    at: usize,
+)
+    requires index { ⌜ IndexHere (t .big) (now s) (t .head) ⌝ }
+    requires sections { ⌜ Sections (indexIn (t .big) (now s) (t .head)) (now sections) (t .head .columns) ⌝ }
+    requires room { ⌜ (0 < row) × (row ≤ t .head .units) × (at + 40 * t .head .columns ≤ length (now d)) ⌝ }
     ensures { λ _. ⌜ now (d .exit) ≡ placed (now (d .entry)) at (rowLines (t .letter) (indexIn (t .big) (now (s .entry)) (t .head)) row identity) ⌝ }
 {
     let head = t.head;
@@ -122,15 +151,17 @@ fn put_row(t: Table, s: &[u8], row: usize, identity: u64, d: &mut [u8], at: usiz
     let first = (row - 1) * columns;
     let mut k = 0;
     while k < columns {
-        let l = line_of(t, s, identity, k, first + k);
+        let l = line_of(t, s, sections, identity, k, first + k);
         crate::lines::put_line(l, d, at + 40 * k);
         k += 1;
     }
 }
 
 // Stores the lines of all rows, each where its slot is met, over zeros. From the last slot to the first.
-pub fn put_rows(t: Table, s: &[u8], d: &mut [u8])
-    requires { ⌜ (IndexHere (t .big) (now s) (t .head)) × (40 * t .head .columns * t .head .units ≤ length (now d)) × (now d ≡ zeros (length (now d))) ⌝ }
+fn put_slots(t: Table, s: &[u8], sections: &[usize], d: &mut [u8])
+    requires index { ⌜ IndexHere (t .big) (now s) (t .head) ⌝ }
+    requires sections { ⌜ Sections (indexIn (t .big) (now s) (t .head)) (now sections) (t .head .columns) ⌝ }
+    requires page { ⌜ (40 * t .head .columns * t .head .units ≤ length (now d)) × (now d ≡ zeros (length (now d))) ⌝ }
     ensures { λ _. ⌜ now (d .exit) ≡ laidOut (t .letter) (indexIn (t .big) (now (s .entry)) (t .head)) (length (now (d .entry))) ⌝ }
 {
     let head = t.head;
@@ -142,7 +173,15 @@ pub fn put_rows(t: Table, s: &[u8], d: &mut [u8])
         let row = index::reading::row_at(big, s, head, k);
         if row != 0 {
             let identity = index::reading::identity_at(big, s, head, k);
-            put_row(t, s, row, identity, d, block * (row - 1));
+            put_row(t, s, sections, row, identity, d, block * (row - 1));
         }
     }
+}
+
+pub fn put_rows(t: Table, s: &[u8], d: &mut [u8])
+    requires { ⌜ (IndexHere (t .big) (now s) (t .head)) × (40 * t .head .columns * t .head .units ≤ length (now d)) × (now d ≡ zeros (length (now d))) ⌝ }
+    ensures { λ _. ⌜ now (d .exit) ≡ laidOut (t .letter) (indexIn (t .big) (now (s .entry)) (t .head)) (length (now (d .entry))) ⌝ }
+{
+    let sections = sections_of(t.big, s, t.head);
+    put_slots(t, s, &sections, d);
 }

@@ -1,20 +1,16 @@
 -- The table of forms: that the code's is the definition's, and a law for each case of a look into it.
 -- Assumes nothing.
-use mathlib.Core.Path.{_≡_, refl}
+use mathlib.Core.Path.{_≡_, refl, ap, _∙_}
 use mathlib.Core.List.{List, [], _∷_, map}
 use mathlib.Core.Option.{some, none}
 use Prim.Native.Nat.{ℕ, zero, suc, _+_, _≤_, _<_}
-use native.Mathlib.Nat.{not-suc-le-zero, le-of-suc-le-suc}
 use native.Mathlib.Numerals.{add-one}
-use mathlib.Core.Bool.{true, false}
-use lib.Dec.{eqb}
 use lib.ListN.{length, getD, drop, drop-of-length-le}
 use lib.Seq.{drop-cons}
 use borrow.Author.Tests.{eq-eqb, ne-eqb}
-use Rattle.unit.specs.Forms.{Width, fixed, address, offset, uleb, sleb, string, indirect, block, ulebBlock, Form, forms, widthIn}
-use Rattle.unit.specs.declared.forms.Width as code
+use Rattle.unit.specs.Forms.{Form, forms, widthIn}
 use Rattle.unit.specs.declared.forms.Width.the-variants as the
-use Rattle.unit.specs.Widths.{noForm, formIs}
+use Rattle.unit.specs.Widths.{noForm, formIs, widthIs}
 use Rattle.unit.specs.declared.forms.Form as row
 
 module _ (fs : List Form) (i f : ℕ) (h : i < length fs) where
@@ -38,23 +34,12 @@ pub past-forms : {i : ℕ} → 27 ≤ i → length forms ≤ i
 unfolding forms
 past-forms h = h
 
--- an entry of a table, read as the definition has it
-pub read-at : (rows : List row.Form) (d : row.Form) (i : ℕ) → i < length rows → formIs (getD rows i d) ≡ getD (map formIs rows) i noForm
-read-at [] d i h = absurd (not-suc-le-zero h)
-read-at (r ∷ rs) d zero h = refl
-read-at (r ∷ rs) d (suc i) h = read-at rs d i (le-of-suc-le-suc h)
+-- an entry of the code's table, where the whole of it is the definition's
+entry : (rows : List row.Form) (i : ℕ) → formIs (getD rows i (record { form = 0; width = the.Fixed 0 })) ≡ getD (map formIs rows) i noForm
+unfolding formIs widthIs noForm
+entry [] i = refl
+entry (r ∷ rs) zero = refl
+entry (r ∷ rs) (suc i) = entry rs i
 
--- the definition's table as the code holds it
-abbrev pub widthRow : Width → code.Width
-widthRow (fixed n) = the.Fixed n
-widthRow address = the.Address
-widthRow offset = the.Offset
-widthRow uleb = the.Uleb
-widthRow sleb = the.Sleb
-widthRow string = the.String
-widthRow indirect = the.Indirect
-widthRow (block n) = elim (eqb n 1) [ true ↦ the.Block1 | false ↦ elim (eqb n 2) [ true ↦ the.Block2 | false ↦ the.Block4 ] ]
-widthRow ulebBlock = the.UlebBlock
-
-abbrev pub rowOf : Form → row.Form
-rowOf f = record { form = f .form; width = widthRow (f .width) }
+pub read-at : (rows : List row.Form) (i : ℕ) → map formIs rows ≡ forms → formIs (getD rows i (record { form = 0; width = the.Fixed 0 })) ≡ getD forms i noForm
+read-at rows i e = entry rows i ∙ ap (λ (fs : List Form). getD fs i noForm) e

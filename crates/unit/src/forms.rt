@@ -3,15 +3,15 @@ use bundle::encoding::ObjectEncoding;
 use leb128::Number;
 use leb128::Size;
 ghost use mathlib.Core.Path.{_≡_};
-ghost use Prim.Native.Nat.{_≤_, _<_};
-ghost use lib.ListN.{length, getD};
+ghost use mathlib.Core.List.{map};
+ghost use Prim.Native.Nat.{_≤_};
+ghost use lib.ListN.{length};
 ghost use Rattle.bundle.specs.Encoded.{encodingIs};
 ghost use Rattle.numbers.specs.Refusals.{noIdentity};
 ghost use Rattle.leb128.specs.Answers.{sizeCheck};
 ghost use Rattle.unit.specs.Forms.{forms, widthIn, zeroEnded};
 ghost use Rattle.unit.specs.Widths.{
   formIs,
-  noForm,
   widthIs,
   widthFound,
   ends,
@@ -160,20 +160,20 @@ const FORMS: [Form; 27] = [
     },
 ];
 
-// Entry i of the table: the one place that reads it. The search below keeps i in the table.
-fn form_at(i: usize) -> Form
-    requires { ⌜ i < 27 ⌝ }
-    ensures { λ r. ⌜ formIs r ≡ getD forms i noForm ⌝ }
+// The one place that reads the constant. Its contract is the statement over the whole table.
+fn all_forms() -> [Form; 27]
+    ensures { λ r. ⌜ map formIs r ≡ forms ⌝ }
 {
-    FORMS[i]
+    FORMS
 }
 
 pub fn width_of(form: u64) -> FormWidth
     ensures { λ r. ⌜ widthFound r ≡ widthIn forms form ⌝ }
 {
+    let table = all_forms();
     let mut i = 0;
     while i < 27 {
-        let f = form_at(i);
+        let f = table[i];
         if f.form == form {
             let width = f.width;
             return FormWidth::Is(width);

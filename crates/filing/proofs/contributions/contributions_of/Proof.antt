@@ -1,48 +1,53 @@
 -- `contributions_of` meets its contract.
 -- Assumes nothing.
+use Rattle.strings.specs.Kept.{Inside, bytesAt}
 use Rattle.filing.specs.Judged.{sectionOf}
-use Rattle.filing.proofs.Contributing.{given-is, index-first, index-second}
+use Rattle.filing.proofs.Contributing.{given-is, index-first, index-second, width-some}
 use borrow.Author.Needs.{needs}
 use Rattle.filing.proofs.contributions.contributions_of.Statement.{statement}
 use Rattle.filing.proofs.contributions.contributions_of.Tie as tie
 
-element-copy-out-indexed-contributions : tie.Need-element-copy-out-indexed-contributions
-element-copy-out-indexed-contributions c = search needs
+width-requires : tie.Need-width-requires
+width-requires c κs = search needs
 
-element-copy-out-indexed-contributions-2 : tie.Need-element-copy-out-indexed-contributions-2
-element-copy-out-indexed-contributions-2 c = search needs
+element-copy-out-t20 : tie.Need-element-copy-out-t20
+element-copy-out-t20 c = search needs
+
+element-copy-out-t23 : tie.Need-element-copy-out-t23
+element-copy-out-t23 c = search needs
 
 indexed-contributions-requires : tie.Need-indexed-contributions-requires
-unfolding sectionOf
-indexed-contributions-requires c κs = let p = c .before .before .before .before .before .before .pre in (p .1 .within 12, (p .0 .cuIndex, p .1 .cuIndex))
+unfolding sectionOf bytesAt Inside
+indexed-contributions-requires c κs = let p = c .before .before .before .before .before .before .before .before .pre in (rw (c .before .before .before .before .before .width .ensures) (width-some _), p .1 .within 12, (p .0 .cuIndex, p .1 .cuIndex))
 
 returns : tie.Need-returns
-unfolding sectionOf
-returns c = λ i here is held. given-is _ _ i is here _ _ held _ _ _ _ _ (i .cuIndex) (index-first i _ (c .before .before .before .before .if1 .taken)) (c .indexed-contributions .ensures (i .cuIndex) (is .cuIndex))
+unfolding sectionOf bytesAt
+returns c = λ i here is held. given-is _ _ i is here _ _ held _ _ _ _ _ (i .cuIndex) (index-first i _ (c .before .before .before .if1 .taken)) _ (c .before .before .before .before .before .before .width .ensures) (c .indexed-contributions .ensures (i .cuIndex) (is .cuIndex))
 
-element-copy-out-indexed-contributions-3 : tie.Need-element-copy-out-indexed-contributions-3
-element-copy-out-indexed-contributions-3 c = search needs
+element-copy-out-t26 : tie.Need-element-copy-out-t26
+element-copy-out-t26 c = search needs
 
-element-copy-out-indexed-contributions-4 : tie.Need-element-copy-out-indexed-contributions-4
-element-copy-out-indexed-contributions-4 c = search needs
+element-copy-out-t29 : tie.Need-element-copy-out-t29
+element-copy-out-t29 c = search needs
 
 indexed-contributions-requires-2 : tie.Need-indexed-contributions-requires-2
-unfolding sectionOf
-indexed-contributions-requires-2 c κs = let p = c .before .before .before .before .before .before .pre in (p .1 .within 13, (p .0 .tuIndex, p .1 .tuIndex))
+unfolding sectionOf bytesAt Inside
+indexed-contributions-requires-2 c κs = let p = c .before .before .before .before .before .before .before .before .pre in (rw (c .before .before .before .before .before .width .ensures) (width-some _), p .1 .within 13, (p .0 .tuIndex, p .1 .tuIndex))
 
 returns-2 : tie.Need-returns-2
-unfolding sectionOf
-returns-2 c = λ i here is held. given-is _ _ i is here _ _ held _ _ _ _ _ (i .tuIndex) (index-second i _ (c .before .before .before .before .if1 .left)) (c .indexed-contributions2 .ensures (i .tuIndex) (is .tuIndex))
+unfolding sectionOf bytesAt
+returns-2 c = λ i here is held. given-is _ _ i is here _ _ held _ _ _ _ _ (i .tuIndex) (index-second i _ (c .before .before .before .if1 .left)) _ (c .before .before .before .before .before .before .width .ensures) (c .indexed-contributions2 .ensures (i .tuIndex) (is .tuIndex))
 
 pub contributions-of-spec : {M : Type 1} → statement M
 contributions-of-spec =
     tie.close
     (tie.spec
-    element-copy-out-indexed-contributions
-    element-copy-out-indexed-contributions-2
+    width-requires
+    element-copy-out-t20
+    element-copy-out-t23
     indexed-contributions-requires
     returns
-    element-copy-out-indexed-contributions-3
-    element-copy-out-indexed-contributions-4
+    element-copy-out-t26
+    element-copy-out-t29
     indexed-contributions-requires-2
     returns-2)

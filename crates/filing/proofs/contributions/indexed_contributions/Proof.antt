@@ -3,11 +3,14 @@
 use mathlib.Core.Path.{refl, sym, subst}
 use mathlib.Core.List.{List}
 use Prim.Native.Nat.{ℕ}
+use native.Mathlib.Omega.{arith}
 use denote.Ref.{now}
 use Rattle.octets.proofs.Parts.{part-cut}
 use Rattle.index.specs.Held.{ReadWell}
 use Rattle.index.specs.Contributed.{judgedRow}
-use Rattle.filing.proofs.Contributing.{given-none, index-well, given-at, width-some}
+use Rattle.strings.specs.Kept.{bytesAt}
+use Rattle.filing.proofs.Stringing.{inside-is}
+use Rattle.filing.proofs.Contributing.{given-none, index-well, given-at}
 use borrow.Author.Needs.{needs}
 use Rattle.filing.proofs.contributions.indexed_contributions.Statement.{statement}
 use Rattle.filing.proofs.contributions.indexed_contributions.Tie as tie
@@ -22,13 +25,10 @@ whole-contributions-requires : tie.Need-whole-contributions-requires
 whole-contributions-requires c κs = search needs
 
 returns : tie.Need-returns
-returns c = λ o h. given-none _ _ _ o h _ _ _ _ _ _ _ _ (c .before .enum-told .given .1) refl (c .whole-contributions .ensures)
+returns c = λ o h. given-none _ _ _ o h _ _ _ _ _ _ _ _ (c .before .before .enum-told .given .1) refl (c .whole-contributions .ensures)
 
 add-end : tie.Need-add-end
-add-end c = search needs
-
-width-requires : tie.Need-width-requires
-width-requires c κs = search needs
+add-end c = let a = c .before .before .before .before .before in omega (arith, inside-is _ (a .args .place) (a .pre .1))
 
 sub-judge-row : tie.Need-sub-judge-row
 sub-judge-row c = search needs
@@ -37,20 +37,20 @@ part-judge-row-start : tie.Need-part-judge-row-start
 part-judge-row-start c = search needs
 
 part-judge-row-end : tie.Need-part-judge-row-end
-part-judge-row-end c = search needs
+part-judge-row-end c = let a = c .before .before .before .before .before in omega (arith, inside-is _ (a .args .place) (a .pre .1))
 
 judge-row-requires : tie.Need-judge-row-requires
+unfolding bytesAt
 judge-row-requires c κs =
-    let s = c .before .before .before .before .before .before in
-    let a = s .args in
-    let w = index-well _ _ _ _ (s .pre .1 .1) _ (c .before .before .before .indexed .given .1) in
-    (subst (λ (l : List ℕ). ReadWell (a .e .big) l (c .before .before .before .indexed .given .0 .0)) (sym (part-cut (now (a .b)) (a .start) (a .size))) (w .0), rw (c .before .width .ensures) (width-some (a .e)))
+    let a = c .before .before .before .before .before .before .args in
+    let w = index-well _ _ _ _ (c .before .before .before .before .before .before .pre .2 .1) _ (c .before .before .before .indexed .given .1) in
+    (subst (λ (l : List ℕ). ReadWell (a .big) l (c .before .before .before .indexed .given .0 .0)) (sym (part-cut (now (a .b)) (a .place .start) (a .place .size))) (w .0), c .before .before .before .before .before .before .pre .0)
 
 returns-2 : tie.Need-returns-2
-unfolding judgedRow
+unfolding judgedRow bytesAt
 returns-2 c =
     let a = c .before .before .before .before .before .before .before .args in
-    λ o h. given-at _ _ _ o h _ _ _ _ _ _ _ _ _ _ _ (c .before .before .before .before .indexed .given .1) (part-cut (now (a .b)) (a .start) (a .size)) (c .before .before .width .ensures) (c .judge-row .ensures .code) (c .judge-row .ensures .contributions)
+    λ o h. given-at _ _ _ o h _ _ _ _ _ _ _ _ _ _ _ (c .before .before .before .before .indexed .given .1) (part-cut (now (a .b)) (a .place .start) (a .place .size)) refl (c .judge-row .ensures .code) (c .judge-row .ensures .contributions)
 
 pub indexed-contributions-spec : {M : Type 1} → statement M
 indexed-contributions-spec =
@@ -61,7 +61,6 @@ indexed-contributions-spec =
     whole-contributions-requires
     returns
     add-end
-    width-requires
     sub-judge-row
     part-judge-row-start
     part-judge-row-end

@@ -4,7 +4,7 @@ use mathlib.Core.Path.{sym, subst}
 use mathlib.Core.List.{List, [], _∷_, _++_}
 use Prim.Native.Nat.{ℕ, _+_, _^_, _<_}
 use lib.ListN.{getD}
-use Rattle.keeping.specs.Cells.{Summed}
+use Rattle.kept.specs.Cells.{Summed}
 use Rattle.filing.specs.State.{SumsHeld}
 use Rattle.filing.specs.declared.state.Sums.{Sums}
 use Rattle.filing.proofs.Summed.{sums-more}

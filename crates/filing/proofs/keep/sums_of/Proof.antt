@@ -1,6 +1,6 @@
 -- `sums_of` meets its contract.
 -- Assumes nothing.
-use Rattle.filing.proofs.Picked.{pick-first, pick-second}
+use Rattle.kept.proofs.Holding.{pick-first, pick-second}
 use Rattle.filing.proofs.keep.sums_of.Statement.{statement}
 use Rattle.filing.proofs.keep.sums_of.Tie as tie
 

@@ -16,28 +16,28 @@ input-refused-requires c κs = search needs
 returns : tie.Need-returns
 returns c = (
   λ at ps ts e room k. read-refused _ _ _ ts _ _ _ _ at ps e _ (c .before .before .before .before .judge-object .ensures at ps e) (c .before .if1 .taken) _ (c .input-refused .ensures),
-  region-same _ _ (c .before .before .before .before .before .before .before .pre .4 .room),
+  region-same _ _,
 )
 
 array-read-add-object-strings : tie.Need-array-read-add-object-strings
 array-read-add-object-strings c = search needs
 
-array-read-t31 : tie.Need-array-read-t31
-array-read-t31 c = search needs
+array-read-t32 : tie.Need-array-read-t32
+array-read-t32 c = search needs
 
 array-read-add-object-strings-2 : tie.Need-array-read-add-object-strings-2
 array-read-add-object-strings-2 c = search needs
 
-array-read-t31-2 : tie.Need-array-read-t31-2
-array-read-t31-2 c = search needs
+array-read-t32-2 : tie.Need-array-read-t32-2
+array-read-t32-2 c = search needs
 
 element-copy-out-add-object-strings : tie.Need-element-copy-out-add-object-strings
 element-copy-out-add-object-strings c = search needs
 
 add-object-strings-requires : tie.Need-add-object-strings-requires
 add-object-strings-requires c κs =
-    let p = c .before .before .before .before .before .before .before .before .before .before .pre in
-    (strings-room-of _ _ (p .0) (p .1) (p .3) _ _ _ (p .4) _, (p .2, p .5))
+    let p = c .before .before .before .before .before .before .before .before .before .before .before .pre in
+    record { room = strings-room-of _ _ (p .at) (p .parts) (p .is) _ _ (p .room) _; strings = p .strings; kept = p .kept }
 
 input-refused-requires-2 : tie.Need-input-refused-requires-2
 input-refused-requires-2 c κs = search needs
@@ -47,15 +47,12 @@ same-length c = search needs
 
 returns-2 : tie.Need-returns-2
 returns-2 c = (
-  λ at ps ts e room k. read-strings-refused _ _ _ ts _ _ _ _ at ps e _ (c .before .before .before .before .before .before .before .before .before .before .before .before .before .before .judge-object .ensures at ps e) (c .before .before .before .before .before .before .before .before .before .before .before .if1 .left) _
-      (c .before .before .before .before .before .before .add-object-strings .ensures .0 ts k) (c .before .if2 .taken) _ (c .input-refused2 .ensures),
-  c .before .before .before .before .before .before .add-object-strings .ensures .1,
+  λ at ps ts e room k. read-strings-refused _ _ _ ts _ _ _ _ at ps e _ (c .before .before .before .before .before .before .before .before .before .before .before .before .before .before .judge-object .ensures at ps e) (c .before .before .before .before .before .before .before .before .before .before .before .if1 .left) _ (c .before .before .before .before .before .add-object-strings .ensures .0 ts k) (c .before .if2 .taken) _ (c .input-refused2 .ensures),
+  c .before .before .before .before .before .add-object-strings .ensures .1,
 )
 
 judge-indexes-requires : tie.Need-judge-indexes-requires
-judge-indexes-requires c κs =
-    let p = c .before .before .before .before .before .before .before .before .before .before .before .before .before .before .before .before .pre in
-    (scan-within _ _ (p .0) (p .1) (p .3) _ _ _ (p .4) 12, scan-within _ _ (p .0) (p .1) (p .3) _ _ _ (p .4) 13)
+judge-indexes-requires c κs = let p = c .before .before .before .before .before .before .before .before .before .before .before .before .before .before .before .before .pre in (scan-within _ _ (p .at) (p .parts) (p .is) _ _ (p .room) 12, scan-within _ _ (p .at) (p .parts) (p .is) _ _ (p .room) 13)
 
 input-refused-requires-3 : tie.Need-input-refused-requires-3
 input-refused-requires-3 c κs = search needs
@@ -65,19 +62,20 @@ same-length-2 c = search needs
 
 returns-3 : tie.Need-returns-3
 returns-3 c = (
-  λ at ps ts e room k. read-indexes-refused _ _ _ ts _ _ _ _ at ps e _ (c .before .before .before .before .before .before .before .before .before .before .before .before .before .before .before .before .before .judge-object .ensures at ps e) (c .before .before .before .before .before .before .before .before .before .before .before .before .before .before .if1 .left) _
-      (c .before .before .before .before .before .before .before .before .before .add-object-strings .ensures .0 ts k) (c .before .before .before .before .if2 .left) _ (c .before .before .before .judge-indexes .ensures) (c .before .if3 .taken) _ (c .input-refused3 .ensures),
-  c .before .before .before .before .before .before .before .before .before .add-object-strings .ensures .1,
+  λ at ps ts e room k. read-indexes-refused _ _ _ ts _ _ _ _ at ps e _ (c .before .before .before .before .before .before .before .before .before .before .before .before .before .before .before .before .before .judge-object .ensures at ps e) (c .before .before .before .before .before .before .before .before .before .before .before .before .before .before .if1 .left) _ (c .before .before .before .before .before .before .before .before .add-object-strings .ensures .0 ts k) (c .before .before .before .before .if2 .left) _ (c .before .before .before .judge-indexes .ensures) (c .before .if3 .taken) _ (c .input-refused3 .ensures),
+  c .before .before .before .before .before .before .before .before .add-object-strings .ensures .1,
 )
+
+with-strings-requires : tie.Need-with-strings-requires
+with-strings-requires c κs = search needs
 
 same-length-3 : tie.Need-same-length-3
 same-length-3 c = search needs
 
 returns-4 : tie.Need-returns-4
 returns-4 c = (
-  λ at ps ts e room k. read-passed _ _ _ ts _ _ _ _ at ps e _ (c .before .before .before .before .before .before .before .before .before .before .before .before .before .before .before .before .judge-object .ensures at ps e) (c .before .before .before .before .before .before .before .before .before .before .before .before .before .if1 .left) _
-      (c .before .before .before .before .before .before .before .before .add-object-strings .ensures .0 ts k) (c .before .before .before .if2 .left) _ (c .before .before .judge-indexes .ensures) (c .if3 .left) _ _ room,
-  c .before .before .before .before .before .before .before .before .add-object-strings .ensures .1,
+  λ at ps ts e room k. read-passed _ _ _ ts _ _ _ _ at ps e _ (c .before .before .before .before .before .before .before .before .before .before .before .before .before .before .before .before .before .before .judge-object .ensures at ps e) (c .before .before .before .before .before .before .before .before .before .before .before .before .before .before .before .if1 .left) _ (c .before .before .before .before .before .before .before .before .before .add-object-strings .ensures .0 ts k) (c .before .before .before .before .before .if2 .left) _ (c .before .before .before .before .judge-indexes .ensures) (c .before .before .if3 .left) _ _ room _ (c .with-strings .ensures),
+  c .before .before .before .before .before .before .before .before .before .add-object-strings .ensures .1,
 )
 
 pub read-input-spec : {M : Type 1} → statement M
@@ -88,9 +86,9 @@ read-input-spec =
     input-refused-requires
     returns
     array-read-add-object-strings
-    array-read-t31
+    array-read-t32
     array-read-add-object-strings-2
-    array-read-t31-2
+    array-read-t32-2
     element-copy-out-add-object-strings
     add-object-strings-requires
     input-refused-requires-2
@@ -100,5 +98,6 @@ read-input-spec =
     input-refused-requires-3
     same-length-2
     returns-3
+    with-strings-requires
     same-length-3
     returns-4)

@@ -1,41 +1,51 @@
 -- `file_read` meets its contract.
 -- Assumes nothing.
-use mathlib.Core.Path.{_∙_}
-use Rattle.filing.proofs.Answering.{seen-requires, seen-is, summed-is, answer-second, answer-skipped, answer-bad, keep-requires, sums-requires, answer-filed}
+use mathlib.Core.Path.{sym, _∙_}
+use native.Mathlib.Omega.{arith}
+use Rattle.filing.proofs.Kept.{seek-asks, sought-is, known-is, never-full, free-is, rows-held}
+use Rattle.filing.proofs.Answering.{summed-is, answer-known, answer-bad, sums-requires, keep-requires, answer-filed}
 use borrow.Author.Needs.{needs}
 use Rattle.filing.proofs.single.file_read.Statement.{statement}
 use Rattle.filing.proofs.single.file_read.Tie as tie
 
-table-of-requires : tie.Need-table-of-requires
-table-of-requires c κs = search needs
+seen-slots-requires : tie.Need-seen-slots-requires
+seen-slots-requires c κs = search needs
 
-is-seen-requires : tie.Need-is-seen-requires
-is-seen-requires c κs =
-    let p = c .before .before .before .before .before .pre in
-    seen-requires _ _ _ _ _ _ _ _ _ _ _ (p .2 .5) _ _ _ _ _ (p .2 .6) (p .2 .7) _ (c .before .table-of .ensures)
+seek-in-requires : tie.Need-seek-in-requires
+seek-in-requires c κs = let p = c .before .before .before .before .before .before .pre in seek-asks (p .ready .atUnit .held) _ (p .read .least) (p .fits) _ (c .before .before .before .before .before .before .args .read .identity) (p .read .tables) _ (c .before .seen-slots .ensures)
 
-refused-requires : tie.Need-refused-requires
-refused-requires c κs = search needs
+enum-told : tie.Need-enum-told
+enum-told c = search needs
+
+file-known-requires : tie.Need-file-known-requires
+file-known-requires c κs = search needs
 
 same-length : tie.Need-same-length
 same-length c = search needs
 
 returns : tie.Need-returns
 returns c =
-    let p = c .before .before .before .before .before .before .before .before .before .pre in
-    let t = c .before .before .before in
+    let p = c .before .before .before .before .before .before .before .before .before .before .pre in
     λ i bases earlier here s a r y.
-    answer-second _ _ _ _ _ _ _ _ _ _ _ a _ _ _ _ _ r (p .2 .7) _ (p .1) y _ _ (seen-is _ _ _ _ _ _ _ _ _ _ _ a _ _ _ _ _ r (p .2 .7) _ (t .before .before .table-of .ensures) _ (t .is-seen .ensures) ∙ c .before .before .if1 .taken) (c .before .if2 .taken) (c .refused .ensures)
+    answer-known a r (p .fits) _ (p .homes) y (known-is (a .held) _ (r .least) (p .fits) _ _ (r .tables) _ (sym (c .before .enum-told .given .1) ∙ sought-is (a .held) _ (r .least) (p .fits) _ _ (r .tables) _ (c .before .before .before .before .before .seen-slots .ensures) _ (c .before .before .before .seek-in .ensures))) _ (c .file-known .ensures)
+
+enum-told-2 : tie.Need-enum-told-2
+enum-told-2 c = search needs
+
+refused-requires : tie.Need-refused-requires
+refused-requires c κs = search needs
 
 same-length-2 : tie.Need-same-length-2
 same-length-2 c = search needs
 
 returns-2 : tie.Need-returns-2
 returns-2 c =
-    let p = c .before .before .before .before .before .before .before .before .pre in
-    let t = c .before .before in
+    let p = c .before .before .before .before .before .before .before .before .before .before .pre in
     λ i bases earlier here s a r y.
-    answer-skipped _ _ _ _ _ _ _ _ _ _ _ a _ _ _ _ _ r (p .2 .7) _ (p .1) y (seen-is _ _ _ _ _ _ _ _ _ _ _ a _ _ _ _ _ r (p .2 .7) _ (t .before .before .table-of .ensures) _ (t .is-seen .ensures) ∙ c .before .if1 .taken) (c .if2 .left)
+    absurd (never-full (a .held) _ (r .least) (p .fits) _ _ (r .tables) (sym (c .before .enum-told2 .given .1) ∙ sought-is (a .held) _ (r .least) (p .fits) _ _ (r .tables) _ (c .before .before .before .before .before .seen-slots .ensures) _ (c .before .before .before .seek-in .ensures)))
+
+enum-known-slot : tie.Need-enum-known-slot
+enum-known-slot c = search needs
 
 sums-of-requires : tie.Need-sums-of-requires
 sums-of-requires c κs = search needs
@@ -54,58 +64,65 @@ same-length-3 c = search needs
 
 returns-3 : tie.Need-returns-3
 returns-3 c =
-    let p = c .before .before .before .before .before .before .before .before .before .before .before .pre in
-    let k = c .before .before in
-    let t = k .before .before .before in
+    let p = c .before .before .before .before .before .before .before .before .before .before .before .before .before .before .before .pre in
     λ i bases earlier here s a r y.
-    answer-bad _ _ _ _ _ _ _ _ _ _ _ a _ _ _ _ _ r (p .2 .7) _ (p .1) y _ (k .contributions-of .ensures i here (a .input) (summed-is _ _ _ _ _ _ _ _ _ _ _ a _ _ _ _ _ r (p .2 .7) _ (k .before .sums-of .ensures)))
-    (seen-is _ _ _ _ _ _ _ _ _ _ _ a _ _ _ _ _ r (p .2 .7) _ (t .before .before .table-of .ensures) _ (t .is-seen .ensures) ∙ k .before .before .if1 .left) _ _ (c .before .if3 .taken) (c .refused2 .ensures)
+    let f = free-is (a .held) _ (r .least) (p .fits) _ _ (r .tables) _ (sym (c .before .before .before .before .before .before .slot .given .1) ∙ sought-is (a .held) _ (r .least) (p .fits) _ _ (r .tables) _ (c .before .before .before .before .before .before .before .before .before .before .seen-slots .ensures) _ (c .before .before .before .before .before .before .before .before .seek-in .ensures)) in
+    answer-bad a r (p .fits) _ (p .homes) y _ (c .before .before .contributions-of .ensures i here (a .input) (summed-is a r (p .fits) _ (c .before .before .before .before .sums-of .ensures))) (f .0) _ _ (c .before .if1 .taken) (c .refused2 .ensures)
+
+unit-for-requires : tie.Need-unit-for-requires
+unit-for-requires c κs =
+    let p = c .before .before .before .before .before .before .before .before .before .before .before .before .before .before .before .pre in
+    let h = p .ready .atUnit .held in
+    omega (arith, rows-held h (c .before .before .before .before .before .before .before .before .before .before .before .before .before .before .before .args .read .table) (p .read .tables), h .spent, h .within, h .limit)
 
 keep-unit-requires : tie.Need-keep-unit-requires
 keep-unit-requires c κs =
-    let p = c .before .before .before .before .before .before .before .before .before .before .before .before .pre in
-    let k = c .before .before .before in
-    let t = k .before .before .before in
-    keep-requires _ _ _ _ _ _ _ _ _ _ _ (p .2 .5) _ _ _ _ _ (p .2 .6) (p .2 .7) _ (p .1) (p .2 .8) _ (k .contributions-of .ensures (p .2 .0) (p .2 .3) (p .2 .5 .input) (summed-is _ _ _ _ _ _ _ _ _ _ _ (p .2 .5) _ _ _ _ _ (p .2 .6) (p .2 .7) _ (k .before .sums-of .ensures)))
-    (seen-is _ _ _ _ _ _ _ _ _ _ _ (p .2 .5) _ _ _ _ _ (p .2 .6) (p .2 .7) _ (t .before .before .table-of .ensures) _ (t .is-seen .ensures) ∙ k .before .before .if1 .left) (c .before .before .if3 .left)
+    let p = c .before .before .before .before .before .before .before .before .before .before .before .before .before .before .before .before .before .pre in
+    let a = p .ready .atUnit in
+    let r = p .read in
+    let f = free-is (a .held) _ (r .least) (p .fits) _ _ (r .tables) _ (sym (c .before .before .before .before .before .before .before .before .slot .given .1) ∙ sought-is (a .held) _ (r .least) (p .fits) _ _ (r .tables) _ (c .before .before .before .before .before .before .before .before .before .before .before .before .seen-slots .ensures) _ (c .before .before .before .before .before .before .before .before .before .before .seek-in .ensures)) in
+    keep-requires a r (p .fits) _ (p .homes) (p .same) _ (c .before .before .before .before .contributions-of .ensures (p .ready .input) (p .ready .here) (a .input) (summed-is a r (p .fits) _ (c .before .before .before .before .before .before .sums-of .ensures))) (f .0) (c .before .before .before .if1 .left) _ (f .1) (f .2) _ (c .before .unit-for .ensures)
 
 grow-sums-requires : tie.Need-grow-sums-requires
 grow-sums-requires c κs =
-    let p = c .before .before .before .before .before .before .before .before .before .before .before .before .before .before .before .pre in
-    let k = c .before .before .before .before .before .before in
-    let t = k .before .before .before in
-    sums-requires _ _ _ _ _ _ _ _ _ _ _ (p .2 .5) _ _ _ _ _ (p .2 .6) (p .2 .7) _ (p .1) (p .2 .8) _ (k .contributions-of .ensures (p .2 .0) (p .2 .3) (p .2 .5 .input) (summed-is _ _ _ _ _ _ _ _ _ _ _ (p .2 .5) _ _ _ _ _ (p .2 .6) (p .2 .7) _ (k .before .sums-of .ensures)))
-    (seen-is _ _ _ _ _ _ _ _ _ _ _ (p .2 .5) _ _ _ _ _ (p .2 .6) (p .2 .7) _ (t .before .before .table-of .ensures) _ (t .is-seen .ensures) ∙ k .before .before .if1 .left) (c .before .before .before .before .before .if3 .left)
+    let p = c .before .before .before .before .before .before .before .before .before .before .before .before .before .before .before .before .before .before .before .before .pre in
+    let a = p .ready .atUnit in
+    let r = p .read in
+    let f = free-is (a .held) _ (r .least) (p .fits) _ _ (r .tables) _ (sym (c .before .before .before .before .before .before .before .before .before .before .before .slot .given .1) ∙ sought-is (a .held) _ (r .least) (p .fits) _ _ (r .tables) _ (c .before .before .before .before .before .before .before .before .before .before .before .before .before .before .before .seen-slots .ensures) _ (c .before .before .before .before .before .before .before .before .before .before .before .before .before .seek-in .ensures)) in
+    sums-requires a r (p .fits) _ (p .homes) (p .same) _ (c .before .before .before .before .before .before .before .contributions-of .ensures (p .ready .input) (p .ready .here) (a .input) (summed-is a r (p .fits) _ (c .before .before .before .before .before .before .before .before .before .sums-of .ensures))) (f .0) (c .before .before .before .before .before .before .if1 .left)
 
 same-length-4 : tie.Need-same-length-4
 same-length-4 c = search needs
 
 returns-4 : tie.Need-returns-4
 returns-4 c =
-    let p = c .before .before .before .before .before .before .before .before .before .before .before .before .before .before .before .before .pre in
-    let k = c .before .before .before .before .before .before .before in
-    let t = k .before .before .before in
+    let p = c .before .before .before .before .before .before .before .before .before .before .before .before .before .before .before .before .before .before .before .before .before .pre in
     λ i bases earlier here s a r y.
-    answer-filed _ _ _ _ _ _ _ _ _ _ _ a _ _ _ _ _ r (p .2 .7) _ (p .1) y _ (k .contributions-of .ensures i here (a .input) (summed-is _ _ _ _ _ _ _ _ _ _ _ a _ _ _ _ _ r (p .2 .7) _ (k .before .sums-of .ensures)))
-    (seen-is _ _ _ _ _ _ _ _ _ _ _ a _ _ _ _ _ r (p .2 .7) _ (t .before .before .table-of .ensures) _ (t .is-seen .ensures) ∙ k .before .before .if1 .left) (c .before .before .before .before .before .before .if3 .left) _ _ _ (c .before .before .before .keep-unit .ensures .0) (c .grow-sums .ensures) (c .before .before .before .keep-unit .ensures .1)
+    let f = free-is (a .held) _ (r .least) (p .fits) _ _ (r .tables) _ (sym (c .before .before .before .before .before .before .before .before .before .before .before .before .slot .given .1) ∙ sought-is (a .held) _ (r .least) (p .fits) _ _ (r .tables) _ (c .before .before .before .before .before .before .before .before .before .before .before .before .before .before .before .before .seen-slots .ensures) _ (c .before .before .before .before .before .before .before .before .before .before .before .before .before .before .seek-in .ensures)) in
+    answer-filed a r (p .fits) _ (p .homes) y _ (c .before .before .before .before .before .before .before .before .contributions-of .ensures i here (a .input) (summed-is a r (p .fits) _ (c .before .before .before .before .before .before .before .before .before .before .sums-of .ensures))) (f .0) (c .before .before .before .before .before .before .before .if1 .left) _ (f .1) (f .2) _ (c .before .before .before .before .before .unit-for .ensures) _ _ _ (c .before .before .before .keep-unit .ensures .0) (c .grow-sums .ensures) (c .before .before .before .keep-unit .ensures .1)
 
 pub file-read-spec : {M : Type 1} → statement M
 file-read-spec =
     tie.close
     (tie.spec
-    table-of-requires
-    is-seen-requires
-    refused-requires
+    seen-slots-requires
+    seek-in-requires
+    enum-told
+    file-known-requires
     same-length
     returns
+    enum-told-2
+    refused-requires
     same-length-2
     returns-2
+    enum-known-slot
     sums-of-requires
     sub-contributions-of
     contributions-of-requires
     refused-requires-2
     same-length-3
     returns-3
+    unit-for-requires
     keep-unit-requires
     grow-sums-requires
     same-length-4

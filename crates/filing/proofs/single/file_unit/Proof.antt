@@ -19,10 +19,10 @@ element-copy-out-last : tie.Need-element-copy-out-last
 element-copy-out-last c = search needs
 
 add-last : tie.Need-add-last
-add-last c = omega (arith, c .before .before .before .before .before .pre .4 .4 .input .within 3)
+add-last c = omega (arith, c .before .before .before .before .before .pre .ready .atUnit .input .within 3)
 
 narrow-requires : tie.Need-narrow-requires
-narrow-requires c κs = ⊎-elim (λ e. omega arith) (λ e. omega arith) (c .before .before .before .before .before .pre .3)
+narrow-requires c κs = ⊎-elim (λ e. omega arith) (λ e. omega arith) (c .before .before .before .before .before .pre .homes)
 
 sub-read-unit : tie.Need-sub-read-unit
 sub-read-unit c = search needs
@@ -31,7 +31,7 @@ part-read-unit-start : tie.Need-part-read-unit-start
 part-read-unit-start c = search needs
 
 part-read-unit-end : tie.Need-part-read-unit-end
-part-read-unit-end c = omega (arith, c .before .before .before .before .before .before .pre .4 .4 .input .within 3)
+part-read-unit-end c = omega (arith, c .before .before .before .before .before .before .pre .ready .atUnit .input .within 3)
 
 sub-read-unit-2 : tie.Need-sub-read-unit-2
 sub-read-unit-2 c = search needs
@@ -59,46 +59,38 @@ wide-requires c κs = search needs
 
 file-read-requires : tie.Need-file-read-requires
 file-read-requires c κs =
-    let n = c .before .before .before .before .before .before .before .before in
-    let s = n .before .before .before .before .before .before in
-    let p = s .pre in
-    let a = p .4 .4 in
-    let e = sym (c .before .before .before .answer2 .given .1) ∙ answer-is _ _ _ (a .input) _ _ _ (p .1) (p .2) _ _ (n .narrow .ensures) (c .before .before .before .before .before .read-unit .ensures) in
-    let y : Bytes (now (s .args .b)) = λ j. c .before .before .before .before .before .before .before .before .before .before .before .before .before .shared-slice-known .given j .fits in (
-      p .0,
-      p .3,
-      (
-        p .4 .0,
-        p .4 .1,
-        p .4 .2,
-        p .4 .3,
-        part (now (s .args .b)) (s .args .at) (s .args .stop - s .args .at),
-        a,
-        read-at _ _ _ (a .input) _ _ _ (p .1) (p .2) _ _ _ e y _ (c .before .wide .ensures),
-        read-fits _ _ _ (a .input) _ _ _ (p .1) (p .2) _ _ _ e y,
-        read-bytes _ _ _ (a .input) _ _ _ (p .1) (p .2) _ _ _ e y,
-      ),
-    )
+    let s = c .before .before .before .before .before .before .before .before .before .before .before .before .before .before .args in
+    let p = c .before .before .before .before .before .before .before .before .before .before .before .before .before .before .pre in
+    let a = p .ready .atUnit in
+    let e = sym (c .before .before .before .answer2 .given .1) ∙ answer-is _ _ _ (a .input) _ _ _ (p .low) (p .within) _ _ (c .before .before .before .before .before .before .before .before .narrow .ensures) (c .before .before .before .before .before .read-unit .ensures) in
+    let y : Bytes (now (s .b)) = λ j. c .before .before .before .before .before .before .before .before .before .before .before .before .before .shared-slice-known .given j .fits in
+    record {
+      from = p .from;
+      homes = p .homes;
+      fits = read-fits _ _ _ (a .input) _ _ _ (p .low) (p .within) _ _ _ e y;
+      ready = p .ready;
+      bytes = part (now (s .b)) (s .at) (s .section .stop - s .at);
+      read = read-at _ _ _ (a .input) _ _ _ (p .low) (p .within) _ _ _ e y _ (c .before .wide .ensures);
+      same = read-bytes _ _ _ (a .input) _ _ _ (p .low) (p .within) _ _ _ e y;
+    }
 
 returns : tie.Need-returns
 returns c =
-    let n = c .before .before .before .before .before .before .before in
-    let p = n .before .before .before .before .before .before .pre in
+    let p = c .before .before .before .before .before .before .before .before .before .before .before .before .before .pre in
     λ i bases earlier here a.
-    answer-refused _ _ _ (a .input) _ _ _ (p .1) (p .2) bases earlier here _ _ _ _ _ _ _ (sym (c .before .before .answer .given .1) ∙ answer-is _ _ _ (a .input) _ _ _ (p .1) (p .2) _ _ (n .narrow .ensures) (c .before .before .before .before .read-unit .ensures)) (c .refused .ensures)
+    answer-refused _ _ _ (a .input) _ _ _ (p .low) (p .within) bases earlier here _ _ _ _ _ _ _ (sym (c .before .before .answer .given .1) ∙ answer-is _ _ _ (a .input) _ _ _ (p .low) (p .within) _ _ (c .before .before .before .before .before .before .before .narrow .ensures) (c .before .before .before .before .read-unit .ensures)) (c .refused .ensures)
 
 same-length : tie.Need-same-length
 same-length c = search needs
 
 returns-2 : tie.Need-returns-2
 returns-2 c =
-    let n = c .before .before .before .before .before .before .before .before .before .before .before in
-    let s = n .before .before .before .before .before .before in
-    let p = s .pre in
-    let y : Bytes (now (s .args .b)) = λ j. c .before .before .before .before .before .before .before .before .before .before .before .before .before .before .before .before .shared-slice-known .given j .fits in
+    let s = c .before .before .before .before .before .before .before .before .before .before .before .before .before .before .before .before .before .args in
+    let p = c .before .before .before .before .before .before .before .before .before .before .before .before .before .before .before .before .before .pre in
+    let y : Bytes (now (s .b)) = λ j. c .before .before .before .before .before .before .before .before .before .before .before .before .before .before .before .before .shared-slice-known .given j .fits in
     λ i bases earlier here a.
-    let e = sym (c .before .before .before .before .before .before .answer2 .given .1) ∙ answer-is _ _ _ (a .input) _ _ _ (p .1) (p .2) _ _ (n .narrow .ensures) (c .before .before .before .before .before .before .before .before .read-unit .ensures) in
-    c .before .before .file-read .ensures i bases earlier here _ a (read-at _ _ _ (a .input) _ _ _ (p .1) (p .2) _ _ _ e y _ (c .before .before .before .before .wide .ensures)) (read-bytes _ _ _ (a .input) _ _ _ (p .1) (p .2) _ _ _ e y)
+    let e = sym (c .before .before .before .before .before .before .answer2 .given .1) ∙ answer-is _ _ _ (a .input) _ _ _ (p .low) (p .within) _ _ (c .before .before .before .before .before .before .before .before .before .before .before .narrow .ensures) (c .before .before .before .before .before .before .before .before .read-unit .ensures) in
+    c .before .before .file-read .ensures i bases earlier here _ a (read-at _ _ _ (a .input) _ _ _ (p .low) (p .within) _ _ _ e y _ (c .before .before .before .before .wide .ensures)) (read-bytes _ _ _ (a .input) _ _ _ (p .low) (p .within) _ _ _ e y)
 
 pub file-unit-spec : {M : Type 1} → statement M
 file-unit-spec =

@@ -1,30 +1,28 @@
 -- `add_sections` meets its contract. What the loop keeps is `Sectioned`.
 -- Assumes nothing.
-use mathlib.Core.Path.{_≡_, refl, sym, ap, _∙_}
-use mathlib.Core.List.{List}
-use Prim.Native.Nat.{ℕ, _-_, _≤_}
+use mathlib.Core.Path.{refl, sym, _∙_}
+use Prim.Native.Nat.{_-_}
 use native.Mathlib.Omega.{arith}
 use lib.ListN.{length}
 use borrow.Author.Needs.{needs}
-use denote.Ref.{now}
 use Rattle.filing.proofs.OverSections.{Sectioned, sectioned-none, sections-reach, section-lies, at-later, sectioned-more, sectioned-refused, sectioned-end}
 use Rattle.filing.proofs.walks.add_sections.Statement.{statement}
 use Rattle.filing.proofs.walks.add_sections.Tie as tie
 
 abbrev Inv-loop : tie.InvT-loop
-Inv-loop b x from n work₀ at₀ known₀ totals₀ work at known totals = Sectioned b x n from at work₀ work known₀ known totals₀ totals
+Inv-loop b x from work₀ at₀ known₀ totals₀ work at known totals = Sectioned b x from at work₀ work known₀ known totals₀ totals
 
 abbrev μ-loop : tie.MeasureT-loop
-μ-loop b x from n work₀ at₀ known₀ totals₀ work at known totals = length b - at
+μ-loop b x from work₀ at₀ known₀ totals₀ work at known totals = length b - at
 
 loop-holds : tie.Need-loop-holds Inv-loop μ-loop
-loop-holds c = let pre = c .before .before .pre in sectioned-none _ _ _ _ _ _ _ (pre .0) (pre .1)
+loop-holds c = let pre = c .before .before .pre in sectioned-none _ _ _ _ _ _ (pre .reaches) (pre .within)
 
 next-unit-section-requires : tie.Need-next-unit-section-requires Inv-loop μ-loop
 next-unit-section-requires c κs = sections-reach (c .loop .inv)
 
-enum-known-section : tie.Need-enum-known-section Inv-loop μ-loop
-enum-known-section c = search needs
+enum-known-number : tie.Need-enum-known-number Inv-loop μ-loop
+enum-known-number c = search needs
 
 wide-requires : tie.Need-wide-requires Inv-loop μ-loop
 wide-requires c κs = search needs
@@ -32,7 +30,7 @@ wide-requires c κs = search needs
 add-stop : tie.Need-add-stop Inv-loop μ-loop
 add-stop c =
     let s = c .before .before in
-    let n = s .section .given in
+    let n = s .number .given in
     let f = s .before .before in
     let l = f .before in
     let e = sym (n .1) ∙ f .next-unit-section .ensures in
@@ -42,39 +40,41 @@ add-stop c =
 add-units-requires : tie.Need-add-units-requires Inv-loop μ-loop
 add-units-requires c κs =
     let s = c .before .before .before in
-    let n = s .section .given in
+    let n = s .number .given in
     let f = s .before .before in
     let l = f .before in
     let e = sym (n .1) ∙ f .next-unit-section .ensures in
     let pre = l .before .before .before .pre in
     let h = section-lies (l .loop .inv) (n .0 .0) (n .0 .1 .0) (n .0 .1 .1 .0) (n .0 .1 .1 .1 .0) e in
-    let o = l .loop .inv .goes (pre .2 .0) (pre .2 .1) (pre .2 .2) (pre .2 .3) (pre .2 .4) in (
-      omega arith,
-      omega (arith, h .inside, h .within),
-      rw (c .before .wide .ensures) (h .home),
-      (pre .2 .0, pre .2 .1, pre .2 .2, o .filed, at-later _ _ (o .atUnit) (h .low) (omega (arith, h .inside, h .within))),
-    )
+    let r = pre .ready in
+    let o = l .loop .inv .goes (r .input) (r .bases) (r .earlier) (r .here) (r .atUnit) in
+    record {
+      from = omega arith;
+      within = omega (arith, h .inside, h .within);
+      homes = rw (c .before .wide .ensures) (h .home);
+      ready = record { input = r .input; bases = r .bases; earlier = r .earlier; here = o .filed; atUnit = at-later _ _ (o .atUnit) (h .low) (omega (arith, h .inside, h .within)) };
+    }
 
 same-length : tie.Need-same-length Inv-loop μ-loop
 same-length c =
     let a = c .before .before .before .before .before in
-    a .add-units .kept .1 .1 .1 .1 .1 .1 .1 .1 .0 ∙ a .before .before .before .before .before .before .before .loop .inv .same
+    a .add-units .kept .1 .1 .1 .1 .1 .0 ∙ a .before .before .before .before .before .before .before .loop .inv .same
 
 returns : tie.Need-returns Inv-loop μ-loop
 returns c i bases earlier here a =
     let u = c .before .before .before .before .before in
     let s = c .before .before .before .before .before .before .before .before .before in
-    let n = s .section .given in
+    let n = s .number .given in
     let f = s .before .before in
     let l = f .before in
     let e = sym (n .1) ∙ f .next-unit-section .ensures in
-    sectioned-refused (l .loop .inv) (n .0 .0) (n .0 .1 .0) (n .0 .1 .1 .0) (n .0 .1 .1 .1 .0) e _ _ (u .before .before .wide .ensures) refl _ (u .add-units .result) (u .add-units .kept .1 .1 .1 .1 .1 .1 .1 .1 .0) (u .add-units .ensures)
+    sectioned-refused (l .loop .inv) (n .0 .0) (n .0 .1 .0) (n .0 .1 .1 .0) (n .0 .1 .1 .1 .0) e _ _ (u .before .before .wide .ensures) refl _ (u .add-units .result) (u .add-units .kept .1 .1 .1 .1 .1 .0) (u .add-units .ensures)
     (c .if1 .taken) i bases earlier here a _ refl
 
 loop-less : tie.Need-loop-less Inv-loop μ-loop
 loop-less c =
     let s = c .before .before .before .before .before .before .before .before .before in
-    let n = s .section .given in
+    let n = s .number .given in
     let f = s .before .before in
     let l = f .before in
     let e = sym (n .1) ∙ f .next-unit-section .ensures in
@@ -85,11 +85,11 @@ loop-again : tie.Need-loop-again Inv-loop μ-loop
 loop-again c =
     let u = c .before .before .before .before .before in
     let s = c .before .before .before .before .before .before .before .before .before in
-    let n = s .section .given in
+    let n = s .number .given in
     let f = s .before .before in
     let l = f .before in
     let e = sym (n .1) ∙ f .next-unit-section .ensures in
-    sectioned-more (l .loop .inv) (n .0 .0) (n .0 .1 .0) (n .0 .1 .1 .0) (n .0 .1 .1 .1 .0) e _ _ (u .before .before .wide .ensures) refl _ (u .add-units .result) (u .add-units .kept .1 .1 .1 .1 .1 .1 .1 .1 .0) (u .add-units .ensures)
+    sectioned-more (l .loop .inv) (n .0 .0) (n .0 .1 .0) (n .0 .1 .1 .0) (n .0 .1 .1 .1 .0) e _ _ (u .before .before .wide .ensures) refl _ (u .add-units .result) (u .add-units .kept .1 .1 .1 .1 .1 .0) (u .add-units .ensures)
     (c .if1 .left)
 
 enum-told : tie.Need-enum-told Inv-loop μ-loop
@@ -111,7 +111,7 @@ add-sections-spec =
     μ-loop
     loop-holds
     next-unit-section-requires
-    enum-known-section
+    enum-known-number
     wide-requires
     add-stop
     add-units-requires

@@ -17,46 +17,46 @@ use Rattle.sheet.proofs.rows.put_row.Statement.{statement}
 use Rattle.sheet.proofs.rows.put_row.Tie as tie
 
 abbrev Inv-loop : tie.InvT-loop
-Inv-loop t s row identity d₀ at columns first k₀ d k =
+Inv-loop t s sections row identity d₀ at columns first k₀ d k =
     (k ≤ columns) × (length d ≡ length d₀)
     × (placed d (at + 40 * k) (cellLines (t .letter) (indexIn (t .big) s (t .head)) identity (first + k) (drop k (indexIn (t .big) s (t .head) .codes)))
     ≡ placed d₀ at (rowLines (t .letter) (indexIn (t .big) s (t .head)) row identity))
 
 abbrev μ-loop : tie.MeasureT-loop
-μ-loop t s row identity d₀ at columns first k₀ d k = columns - k
+μ-loop t s sections row identity d₀ at columns first k₀ d k = columns - k
 
 sub-first : tie.Need-sub-first Inv-loop μ-loop
 sub-first c = omega arith
 
 mul-first : tie.Need-mul-first Inv-loop μ-loop
 mul-first c =
-    let a = c .before .before .before in
+    let a = c .before .before .before .before in
     let e = a .pre .0 in
-    let h : a .args .row - 1 ≤ a .args .t .head .units = omega (arith, a .pre .2) in
+    let h : a .args .row - 1 ≤ a .args .t .head .units = omega (arith, a .pre .1 .1 .1) in
     omega (arith, mul-le-mul-right (a .args .t .head .columns) h, here-cells _ _ _ e)
 
 loop-holds : tie.Need-loop-holds Inv-loop μ-loop
 loop-holds c =
-    let a = c .before .before .before in
+    let a = c .before .before .before .before in
     let l = codes-length (a .args .t .big) (now (a .args .s)) (a .args .t .head) in
     (omega arith, refl, cells-start _ _ _ _ _ _ _ (ap (λ (z : ℕ). (a .args .row - 1) * z) (sym l)))
 
 -- in a turn: the cell is one of the index's, and there is room for its line
 abbrev Args : tie.In-loop Inv-loop μ-loop → tie.Start Inv-loop μ-loop
-Args i = i .before .before .before .before .before
+Args i = i .before .before .before .before .before .before
 
 cell : (i : tie.In-loop Inv-loop μ-loop)
     → (Args i .args .row - 1) * Args i .args .t .head .columns + i .before .loop .k < Args i .args .t .head .units * Args i .args .t .head .columns
-cell i = cell-lt _ _ _ _ (Args i .pre .1) (Args i .pre .2) (i .loop-test .taken)
+cell i = cell-lt _ _ _ _ (Args i .pre .1 .1 .0) (Args i .pre .1 .1 .1) (i .loop-test .taken)
 
 room : (i : tie.In-loop Inv-loop μ-loop) → Args i .args .at + 40 * i .before .loop .k + 40 ≤ length (i .before .loop .d)
-room i = omega (arith, Args i .pre .3, i .before .loop .inv .1, i .loop-test .taken)
+room i = omega (arith, Args i .pre .1 .1 .2, i .before .loop .inv .1, i .loop-test .taken)
 
 add-line-of : tie.Need-add-line-of Inv-loop μ-loop
 add-line-of c = omega (arith, cell c, here-cells _ _ _ (Args c .pre .0))
 
 line-of-requires : tie.Need-line-of-requires Inv-loop μ-loop
-line-of-requires c κs = (Args c .pre .0, c .loop-test .taken, cell c)
+line-of-requires c κs = (Args c .pre .0, (Args c .pre .1 .0, (c .loop-test .taken, cell c)))
 
 mul-put-line : tie.Need-mul-put-line Inv-loop μ-loop
 mul-put-line c =
@@ -92,7 +92,7 @@ same-length c = omega arith
 returns : tie.Need-returns Inv-loop μ-loop
 returns c =
     let l = c .before in
-    let a = l .before .before .before .before .args in
+    let a = l .before .before .before .before .before .args in
     sym (cells-end _ _ _ _ _ _ _ (past-codes (a .t .big) (now (a .s)) (a .t .head) (c .loop-test .left))) ∙ l .loop .inv .2
 
 pub put-row-spec : {M : Type 1} → statement M

@@ -24,7 +24,7 @@ fn identity(unit: u64) -> u64 {
 }
 
 /// Version 5, one column: info, of 20 bytes for each unit.
-fn index() -> Vec<u8> {
+pub fn index() -> Vec<u8> {
     let identities: Vec<u64> = (1..=UNITS).map(identity).collect();
     let rows = place(&identities, slot_count(identities.len())).expect("a free slot");
     let mut bytes = Vec::new();

@@ -1,4 +1,4 @@
-//! Times the proved packer, and thorin where it is at hand, on the same bundles: bench PAPER [ORACLE]
+//! Times the proved packer, and thorin where it is at hand, on the same bundles: bench PAPER [ORACLE], or bench --sheet for the sheet alone
 //!
 //! PAPER is written anew, with the figures of this run. Every package is compared with thorin's, byte for byte.
 
@@ -74,6 +74,10 @@ fn measure_all(oracle: Option<&str>) -> Result<Paper> {
 fn main() -> Result<()> {
     let words: Vec<String> = std::env::args().skip(1).collect();
     let file = words.first().ok_or_else(|| Error::other("bench PAPER [ORACLE]"))?;
+    if file == "--sheet" {
+        sheets::measured()?.rows().iter().for_each(|(name, took)| println!("{name}: {took:?}"));
+        return Ok(());
+    }
     let oracle = words.get(1).map(String::as_str).filter(|path| std::path::Path::new(path).is_file());
     if oracle.is_none() {
         println!("thorin is not at hand: only the proved packer is measured");

@@ -142,7 +142,7 @@ impl Paper {
             ("lookups", self.lookups.iter().map(looked_up).collect()),
             ("sheet_package", grouped(self.sheet.package as u64)),
             ("sheet_page", grouped(self.sheet.sheet as u64)),
-            ("sheet_time", time(self.sheet.took)),
+            ("sheet_rows", self.sheet.rows().iter().map(|row| sheet_row(row, self.sheet.took)).collect()),
         ];
         figures.extend(self.string_figures());
         figures
@@ -220,6 +220,10 @@ fn looked_up(one: &Lookup) -> String {
     format!("| {} | {} | {} |\n", one.name, grouped(one.bytes as u64), time(one.took))
 }
 
+fn sheet_row((name, took): &(&str, Duration), sheet: Duration) -> String {
+    format!("| {name} | {} | {:.1} |\n", time(*took), sheet.as_secs_f64() / took.as_secs_f64())
+}
+
 impl Display for Paper {
     fn fmt(&self, out: &mut Formatter) -> Result {
         out.write_str(&filled(TEXT, &self.figures()))
@@ -246,7 +250,7 @@ mod tests {
             // Looking up.
             batch: took,
             lookups: vec![Lookup { name: "some", bytes: 12, took }],
-            sheet: Sheet { package: 9, sheet: 40, took },
+            sheet: Sheet { package: 9, sheet: 40, took, stored: took, by_slots: took, plain: took, copied: took },
         };
         let text = paper.to_string();
         assert!(text.contains("| document 01's example | 44 | 1 unit | 112 | 3.00 ms |"), "{text}");

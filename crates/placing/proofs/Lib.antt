@@ -1,3 +1,0 @@
--- Laws of slots placed in a work area.
--- Assumes nothing.
-pub mod Placing
