@@ -17,8 +17,17 @@ use Rattle.lookup.specs.Lookup.{Package, packageOf, codes}
 use Rattle.answers.specs.Answers.{Answer, refused, made}
 
 -- ---- 36: "machine 62, 183 or 243"
+abbrev pub amd64 : ℕ
+amd64 = 62
+
+abbrev pub aarch64 : ℕ
+aarch64 = 183
+
+abbrev pub riscv : ℕ
+riscv = 243
+
 unfoldable pub machineGood : ℕ → Bool
-machineGood machine = eqb machine 62 || eqb machine 183 || eqb machine 243
+machineGood machine = eqb machine amd64 || eqb machine aarch64 || eqb machine riscv
 
 -- ---- sections "in order of code": every one that is there, empty ones too
 unfoldable pub sectionsHere : List ℕ → List Part → List Section
