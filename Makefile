@@ -121,6 +121,7 @@ differential: oracle library
 	host/target/release/against_oracle "$(ORACLE)" $(ACCEPTED) $(SEED)
 	host/target/release/damaged $(DAMAGED) $(SEED)
 	host/target/release/damaged_elf $(DAMAGED) $(SEED)
+	host/target/release/written_elf 100000 $(SEED)
 
 # A proved build whose search for a string walks all kept strings: the same contract, another body. Its entries have other names, so that one
 # program can call both.
