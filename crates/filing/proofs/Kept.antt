@@ -31,11 +31,11 @@ use Rattle.kept.specs.State.{UnitGood, Held}
 use Rattle.kept.specs.declared.Units.{Units}
 use Rattle.kept.specs.declared.records.Unit.{Unit as UnitHead}
 use Rattle.kept.specs.declared.slots.Sought.{Sought}
-use Rattle.kept.specs.declared.slots.Sought.the-variants.{Known, Free, Full}
+use Rattle.kept.specs.declared.slots.Sought.the-variants.{Known, Free}
 use Rattle.kept.specs.declared.state.InProgress.{InProgress}
 use Rattle.kept.proofs.Recording.{cells-many}
 use Rattle.kept.proofs.Seeking.{sought-inside}
-use Rattle.kept.proofs.Seen.{sought-known, sought-full, sought-free}
+use Rattle.kept.proofs.Seen.{sought-known, sought-free}
 use Rattle.kept.proofs.SeenSlots.{seen-power, seen-le, seen-gt}
 use Rattle.kept.proofs.Placing.{slots-long, slots-power, records-long, kept-length, kept-records, kept-others, kept-slots, kept-other-slots}
 use Rattle.kept.proofs.Holding.{length-identities, KeptAs, units-more, bytes-own, bytes-other}
@@ -92,10 +92,7 @@ module _ {five : Bool} {b : List ℕ} {n place : ℕ} {w : List ℕ} {st : InPro
     pub known-is : (number : ℕ) → Known number ≡ soughtIn R S identity → any (isUnder table identity) us ≡ true
     known-is number e = sym (rows-known us table identity) ∙ sought-known seen power few (rows-distinct us table) identity number e
 
-    pub never-full : Full ≡ soughtIn R S identity → ⊥
-    never-full e = sought-full seen power few (rows-distinct us table) identity e
-
-    pub free-is : (at : ℕ) → Free at ≡ soughtIn R S identity → (any (isUnder table identity) us ≡ false) × (freeFor S identity ≡ some at) × (at < seenSlots n)
+    pub free-is : (at : ℕ) → Free at ≡ soughtIn R S identity → (any (isUnder table identity) us ≡ false) × (freeFor S identity ≡ at) × (at < seenSlots n)
     free-is at e =
         let f = sought-free seen power few (rows-distinct us table) identity at e in
         (sym (rows-known us table identity) ∙ f .0, f .1, omega (arith, sought-inside R S identity at power e, long))

@@ -60,7 +60,7 @@ fn unit_for(units: Units, home: usize, at: usize, read: ReadUnit) -> Unit
     }
 }
 
-// A unit that was read: 14, skipped, 15 and 16, or kept. There is always a free slot, since a unit takes words of the bundle.
+// A unit that was read: 14, skipped, 15 and 16, or kept. A free slot is always found, since slots exceed units.
 fn file_read(
     b: &[u8],
     x: InputObject,
@@ -84,9 +84,6 @@ fn file_read(
     let slot = match kept::slots::seek_in(work, n, table, units.count, count, read.identity) {
         Sought::Known(_) => {
             return file_known(table, size, st, sums);
-        }
-        Sought::Full => {
-            return refused(IDENTITY_SEEN, st, sums);
         }
         Sought::Free(slot) => slot,
     };

@@ -230,11 +230,8 @@ fn show_index(f: IndexForm, work: &[u32], count: usize)
 fn place(f: IndexForm, work: &mut [u32], count: usize)
     requires { ⌜ Placeable 80 (length (now work)) 1 (f .rows) count × (f .rows ≤ 16) × (count ≤ 32) ⌝ }
 {
-    if kept::slots::place_units(work, WORDS, COMPILATION, f.rows, count) {
-        show_index(f, work, count);
-    } else {
-        io::write_all(STDOUT_FILENO, b"refused 17\n");
-    }
+    kept::slots::place_units(work, WORDS, COMPILATION, f.rows, count);
+    show_index(f, work, count);
 }
 
 fn show_rows(f: IndexForm, work: &mut [u32])

@@ -2,7 +2,7 @@
 -- Assumes nothing.
 use mathlib.Core.Path.{sym, _∙_}
 use native.Mathlib.Omega.{arith}
-use Rattle.filing.proofs.Kept.{seek-asks, sought-is, known-is, never-full, free-is, rows-held}
+use Rattle.filing.proofs.Kept.{seek-asks, sought-is, known-is, free-is, rows-held}
 use Rattle.filing.proofs.Answering.{summed-is, answer-known, answer-bad, sums-requires, keep-requires, answer-filed}
 use borrow.Author.Needs.{needs}
 use Rattle.filing.proofs.single.file_read.Statement.{statement}
@@ -29,21 +29,6 @@ returns c =
     λ i bases earlier here s a r y.
     answer-known a r (p .fits) _ (p .homes) y (known-is (a .held) _ (r .least) (p .fits) _ _ (r .tables) _ (sym (c .before .enum-told .given .1) ∙ sought-is (a .held) _ (r .least) (p .fits) _ _ (r .tables) _ (c .before .before .before .before .before .seen-slots .ensures) _ (c .before .before .before .seek-in .ensures))) _ (c .file-known .ensures)
 
-enum-told-2 : tie.Need-enum-told-2
-enum-told-2 c = search needs
-
-refused-requires : tie.Need-refused-requires
-refused-requires c κs = search needs
-
-same-length-2 : tie.Need-same-length-2
-same-length-2 c = search needs
-
-returns-2 : tie.Need-returns-2
-returns-2 c =
-    let p = c .before .before .before .before .before .before .before .before .before .before .pre in
-    λ i bases earlier here s a r y.
-    absurd (never-full (a .held) _ (r .least) (p .fits) _ _ (r .tables) (sym (c .before .enum-told2 .given .1) ∙ sought-is (a .held) _ (r .least) (p .fits) _ _ (r .tables) _ (c .before .before .before .before .before .seen-slots .ensures) _ (c .before .before .before .seek-in .ensures)))
-
 enum-known-slot : tie.Need-enum-known-slot
 enum-known-slot c = search needs
 
@@ -56,18 +41,18 @@ sub-contributions-of c = search needs
 contributions-of-requires : tie.Need-contributions-of-requires
 contributions-of-requires c κs = search needs
 
-refused-requires-2 : tie.Need-refused-requires-2
-refused-requires-2 c κs = search needs
+refused-requires : tie.Need-refused-requires
+refused-requires c κs = search needs
 
-same-length-3 : tie.Need-same-length-3
-same-length-3 c = search needs
+same-length-2 : tie.Need-same-length-2
+same-length-2 c = search needs
 
-returns-3 : tie.Need-returns-3
-returns-3 c =
+returns-2 : tie.Need-returns-2
+returns-2 c =
     let p = c .before .before .before .before .before .before .before .before .before .before .before .before .before .before .before .pre in
     λ i bases earlier here s a r y.
     let f = free-is (a .held) _ (r .least) (p .fits) _ _ (r .tables) _ (sym (c .before .before .before .before .before .before .slot .given .1) ∙ sought-is (a .held) _ (r .least) (p .fits) _ _ (r .tables) _ (c .before .before .before .before .before .before .before .before .before .before .seen-slots .ensures) _ (c .before .before .before .before .before .before .before .before .seek-in .ensures)) in
-    answer-bad a r (p .fits) _ (p .homes) y _ (c .before .before .contributions-of .ensures i here (a .input) (summed-is a r (p .fits) _ (c .before .before .before .before .sums-of .ensures))) (f .0) _ _ (c .before .if1 .taken) (c .refused2 .ensures)
+    answer-bad a r (p .fits) _ (p .homes) y _ (c .before .before .contributions-of .ensures i here (a .input) (summed-is a r (p .fits) _ (c .before .before .before .before .sums-of .ensures))) (f .0) _ _ (c .before .if1 .taken) (c .refused .ensures)
 
 unit-for-requires : tie.Need-unit-for-requires
 unit-for-requires c κs =
@@ -91,11 +76,11 @@ grow-sums-requires c κs =
     let f = free-is (a .held) _ (r .least) (p .fits) _ _ (r .tables) _ (sym (c .before .before .before .before .before .before .before .before .before .before .before .slot .given .1) ∙ sought-is (a .held) _ (r .least) (p .fits) _ _ (r .tables) _ (c .before .before .before .before .before .before .before .before .before .before .before .before .before .before .before .seen-slots .ensures) _ (c .before .before .before .before .before .before .before .before .before .before .before .before .before .seek-in .ensures)) in
     sums-requires a r (p .fits) _ (p .homes) (p .same) _ (c .before .before .before .before .before .before .before .contributions-of .ensures (p .ready .input) (p .ready .here) (a .input) (summed-is a r (p .fits) _ (c .before .before .before .before .before .before .before .before .before .sums-of .ensures))) (f .0) (c .before .before .before .before .before .before .if1 .left)
 
-same-length-4 : tie.Need-same-length-4
-same-length-4 c = search needs
+same-length-3 : tie.Need-same-length-3
+same-length-3 c = search needs
 
-returns-4 : tie.Need-returns-4
-returns-4 c =
+returns-3 : tie.Need-returns-3
+returns-3 c =
     let p = c .before .before .before .before .before .before .before .before .before .before .before .before .before .before .before .before .before .before .before .before .before .pre in
     λ i bases earlier here s a r y.
     let f = free-is (a .held) _ (r .least) (p .fits) _ _ (r .tables) _ (sym (c .before .before .before .before .before .before .before .before .before .before .before .before .slot .given .1) ∙ sought-is (a .held) _ (r .least) (p .fits) _ _ (r .tables) _ (c .before .before .before .before .before .before .before .before .before .before .before .before .before .before .before .before .seen-slots .ensures) _ (c .before .before .before .before .before .before .before .before .before .before .before .before .before .before .seek-in .ensures)) in
@@ -111,19 +96,15 @@ file-read-spec =
     file-known-requires
     same-length
     returns
-    enum-told-2
-    refused-requires
-    same-length-2
-    returns-2
     enum-known-slot
     sums-of-requires
     sub-contributions-of
     contributions-of-requires
-    refused-requires-2
-    same-length-3
-    returns-3
+    refused-requires
+    same-length-2
+    returns-2
     unit-for-requires
     keep-unit-requires
     grow-sums-requires
-    same-length-4
-    returns-4)
+    same-length-3
+    returns-3)
