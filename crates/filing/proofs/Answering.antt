@@ -126,7 +126,7 @@ module _ {b : List ℕ} {x : InputObject} {i : Input} {place : ℕ} {w : List �
         abbrev head : UnitHead
         head = record { table = table; row = pick table (st .units .cu) (st .units .tu) .rows + 1; identity = identity; home = home; start = place; size = size }
 
-        new-unit : (slot : ℕ) → freeFor (slotsIn w n table (seenSlots n)) identity ≡ some slot → slot < seenSlots n → NewUnit b n slot head (j .contributions) st w bases us new
+        new-unit : (slot : ℕ) → freeFor (slotsIn w n table (seenSlots n)) identity ≡ slot → slot < seenSlots n → NewUnit b n slot head (j .contributions) st w bases us new
         new-unit slot free inside =
             record {
               table-is = refl;
@@ -168,7 +168,7 @@ module _ {b : List ℕ} {x : InputObject} {i : Input} {place : ℕ} {w : List �
               strings,
             )
 
-        module _ (slot : ℕ) (free : freeFor (slotsIn w n table (seenSlots n)) identity ≡ some slot) (inside : slot < seenSlots n) (u : UnitHead) (is : u ≡ head) where
+        module _ (slot : ℕ) (free : freeFor (slotsIn w n table (seenSlots n)) identity ≡ slot) (inside : slot < seenSlots n) (u : UnitHead) (is : u ≡ head) where
           pub keep-requires : KeepAsked five n slot u (j .contributions) st w
           keep-requires =
               subst (λ (z : UnitHead). KeepAsked five n slot z (j .contributions) st w) (sym is)

@@ -3,7 +3,6 @@
 use mathlib.Core.Path.{_≡_}
 use mathlib.Core.Bool.{false}
 use mathlib.Core.List.{List, [], _∷_, _++_}
-use mathlib.Core.Option.{some}
 use Prim.Native.Nat.{ℕ, _+_, _^_, _<_, _≤_}
 use lib.ListN.{length, getD}
 use Rattle.octets.specs.Octets.{part}
@@ -76,7 +75,7 @@ pub record NewUnit (b : List ℕ) (n slot : ℕ) (u : UnitHead) (k : Contributio
   pub bases-are : y .bases ≡ bases
   pub contributes : ContributionsAre k (y .contributions)
   pub fresh : any (isUnder (y .table) (y .identity)) us ≡ false
-  pub free : freeFor (slotsIn w n (y .table) (seenSlots n)) (y .identity) ≡ some slot
+  pub free : freeFor (slotsIn w n (y .table) (seenSlots n)) (y .identity) ≡ slot
   pub inside : slot < seenSlots n
   pub good : UnitGood y
   pub least : 20 ≤ u .size
