@@ -12,11 +12,12 @@ SEED ?= 1
 PREFIX ?= /usr/local
 INSTALL ?= install
 
-.PHONY: help test library host pack-example real-files command install uninstall clean fmt oracle differential first-match bench
+.PHONY: help test library host pack-example real-files readers command install uninstall clean fmt oracle differential first-match bench
 
 help:
 	@echo 'make pack-example   packs the example, shows its package and looks a unit up in it'
 	@echo 'make real-files     compiles small sources with gcc and clang, and reads, packs and lists the .dwo files'
+	@echo 'make readers        packs small programs and has llvm-dwarfdump, readelf, lldb and gdb open the packages, where they are at hand'
 	@echo 'make library        proves the packer and writes target/staticlib/libbarthovin.a, for C or Rust on x86-64'
 	@echo 'make command        the same, and builds the command: host/target/release/barthovin'
 	@echo 'make install        installs command, library, barthovin.h and the manual page under DESTDIR and PREFIX ($(PREFIX))'
@@ -82,6 +83,10 @@ real-files: command
 	  $(barthovin) list target/real-files/out.package || exit 1; \
 	done
 
+# Readers of other makers, on packages written as ELF files: each must say of a package what it says of the .dwo files.
+readers: command
+	examples/real/readers target/readers $(barthovin)
+
 command: library
 	cd host && env -u BARTHOVIN_LIBRARY cargo build --release --offline --quiet --package barthovin
 
@@ -121,6 +126,7 @@ differential: oracle library
 	host/target/release/against_oracle "$(ORACLE)" $(ACCEPTED) $(SEED)
 	host/target/release/damaged $(DAMAGED) $(SEED)
 	host/target/release/damaged_elf $(DAMAGED) $(SEED)
+	host/target/release/written_elf 100000 $(SEED)
 
 # A proved build whose search for a string walks all kept strings: the same contract, another body. Its entries have other names, so that one
 # program can call both.

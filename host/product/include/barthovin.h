@@ -124,6 +124,12 @@ struct barthovin_found barthovin_lookup_string(const uint8_t *package, size_t pa
 struct barthovin_written barthovin_sheet(const uint8_t *package, size_t package_length, uint8_t *page,
                                          size_t page_length);
 
+/* A package as a relocatable ELF64 file, as debuggers open it: its sections in order of code under their names, in the package's byte
+ * order. The machine is 62 (x86-64), 183 (AArch64) or 243 (RISC-V). 36 is another machine, 21 a bad package, 37 an output too short, with
+ * length 0. */
+struct barthovin_written barthovin_write_elf(const uint8_t *package, size_t package_length, uint32_t machine,
+                                             uint8_t *output, size_t output_length);
+
 /* Packs a bundle and looks one part up in its package. */
 struct barthovin_found_from_bundle barthovin_pack_and_look_up(const uint8_t *bundle, size_t bundle_length, uint32_t *work,
                                                               size_t work_length, uint8_t *output, size_t output_length,

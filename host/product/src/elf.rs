@@ -1,6 +1,6 @@
-//! ELF files read, through the C entry.
+//! ELF files read and written, through the C entries.
 
-/// Code 0: the bundle has that length. 18: that length is needed. Else the refusal, with 0.
+/// Code 0: what is written has that length. 18, of reading: that length is needed. Else the refusal, with 0.
 #[repr(C)]
 struct Written {
     code: u32,
@@ -9,6 +9,13 @@ struct Written {
 
 extern "C" {
     fn barthovin_read_elf(file: *const u8, file_length: usize, output: *mut u8, output_length: usize) -> Written;
+    fn barthovin_write_elf(
+        package: *const u8,
+        package_length: usize,
+        machine: u32,
+        output: *mut u8,
+        output_length: usize,
+    ) -> Written;
 }
 
 /// The first bytes of an ELF file.
@@ -21,4 +28,37 @@ pub fn read(file: &[u8], output: &mut [u8]) -> (u32, usize) {
     let Written { code, length } =
         unsafe { barthovin_read_elf(file.as_ptr(), file.len(), output.as_mut_ptr(), output.len()) };
     (code, length)
+}
+
+/// The machines that a package can be written for, the usual one first.
+pub const MACHINES: [(&str, u32); 3] = [("x86-64", 62), ("aarch64", 183), ("riscv64", 243)];
+
+/// What a file has beside the package's bytes, at most: its header, the names, zeros, and 15 section headers.
+const ROOM: usize = 64 + 310 + 7 + 15 * 64;
+
+/// Writes a package as an ELF file for a machine: code and length. After it the output holds the file and zeros, or zeros only.
+pub fn write(package: &[u8], machine: u32, output: &mut [u8]) -> (u32, usize) {
+    // The entry reads and writes the slices that it is lent, and nothing else.
+    let Written { code, length } =
+        unsafe { barthovin_write_elf(package.as_ptr(), package.len(), machine, output.as_mut_ptr(), output.len()) };
+    (code, length)
+}
+
+/// The ELF file of a package, or the refusal's number.
+pub fn file_of(package: &[u8], machine: u32) -> Result<Vec<u8>, u32> {
+    let mut output = vec![0; package.len() + ROOM];
+    match write(package, machine, &mut output) {
+        (0, length) => {
+            output.truncate(length);
+            Ok(output)
+        }
+        (number, _) => Err(number),
+    }
+}
+
+/// The machine that an ELF file's header names, in the byte order that it names.
+pub fn machine_of(file: &[u8]) -> Option<u32> {
+    let [order, low, high] = [*file.get(5)?, *file.get(18)?, *file.get(19)?];
+    let bytes = if order == 2 { [high, low] } else { [low, high] };
+    file.starts_with(MAGIC).then(|| u16::from_le_bytes(bytes).into())
 }

@@ -93,6 +93,8 @@ fn by_rust() -> String {
     let (code, length) = answer_words(package, 5, &[0x4000_0011, 1, 0, 0x4000_0012, 1, 0], &mut a);
     told += &format!("batch {code} {length}: {} {} {} {}, {}\n", a[0], a[1], a[2], a[3], a[4]);
     told += &found("lookup", ffi::lookup(package, 5, 2, 1, 1));
+    let file = barthovin::elf::file_of(package, 62).unwrap();
+    told += &format!("write_elf 0 {} 62\n", file.len());
     told += "sheet 0 120 C 0000000000000001 01 00000000 00000014\n";
     told += &found("lookup_string", ffi::lookup_string(package, 5, 1, 1, 0));
     told += &found("lookup_string", ffi::lookup_string(package, 5, 1, 1, 1));

@@ -190,3 +190,34 @@ fn the_file_at_fault_is_named() {
     let length = "8000 files together: refused 1: a bundle has 8 to 4,194,304 bytes, a multiple of 4: this makes ";
     told(&many, length);
 }
+
+/// A package written as an ELF file, by its name or by `--elf`, has the machine of its first file, and every command takes it as the package.
+#[test]
+fn a_dwp_is_taken_as_its_package() {
+    let home = directory("dwp");
+    for (version, big) in [(4, false), (5, false)] {
+        let files = files(version, big);
+        let with = |more: &[&str]| -> Vec<u8> {
+            let call = [&["pack"], more, &files.iter().map(String::as_str).collect::<Vec<_>>()[..]].concat();
+            let output = run_in(&home, &call, &[]);
+            assert_eq!((message(&output), status(&output)), (String::new(), 0));
+            output.stdout
+        };
+        with(&["-o", "out.dwp"]);
+        with(&["-o", "out"]);
+        let file = fs::read(home.join("out.dwp")).unwrap();
+        assert_eq!(file, with(&["--elf", "-o-"]));
+        assert_eq!(file[18..20], fs::read(&files[0]).unwrap()[18..20]);
+        assert_eq!(with(&["--elf", "--machine=riscv64", "-o-"])[18..20], [243, 0]);
+        for command in ["list", "sheet", "profile"] {
+            let [dwp, package] = ["out.dwp", "out"].map(|name| run_in(&home, &[command, name], &[]));
+            assert_eq!((status(&dwp), dwp.stdout), (status(&package), package.stdout), "{command}");
+        }
+        let back = run_in(&home, &["bundle", "out.dwp", "-o-"], &[]);
+        assert_eq!(back.stdout, fs::read(home.join("out")).unwrap());
+    }
+    for call in [&["--machine=x86-64", "-o", "out"][..], &["--machine=vax", "-o", "out.dwp"]] {
+        let output = run_in(&home, &[&["pack", "some.dwo"], call].concat(), &[]);
+        assert_eq!(status(&output), 2, "{}", message(&output));
+    }
+}

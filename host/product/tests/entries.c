@@ -28,6 +28,7 @@ static void read_sheet(struct barthovin_written w, const uint8_t *page) {
 
 int main(void) {
     static uint8_t page[121];
+    static uint8_t elf[2000];
     static uint32_t work[16 * 17];
     static uint8_t output[1000];
     const uint8_t *bundle = (const uint8_t *)words;
@@ -48,6 +49,8 @@ int main(void) {
     show("lookup", barthovin_lookup(output, packed.length, 5, 1, 1, BARTHOVIN_INFO));
     show_batch(barthovin_lookup_batch(output, packed.length, 5, questions, 6, work, 9), work);
     show("lookup", barthovin_lookup(output, packed.length, 5, 2, 1, BARTHOVIN_INFO));
+    struct barthovin_written file = barthovin_write_elf(output, packed.length, 62, elf, sizeof elf);
+    printf("write_elf %u %zu %u\n", (unsigned)file.code, file.length, (unsigned)elf[18]);
     read_sheet(barthovin_sheet(output, packed.length, page, sizeof page), page);
     show("lookup_string", barthovin_lookup_string(output, packed.length, 5, 1, 1, 0));
     show("lookup_string", barthovin_lookup_string(output, packed.length, 5, 1, 1, 1));

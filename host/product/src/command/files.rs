@@ -4,9 +4,9 @@ use super::pack::package_of;
 use super::{input, meaning, Stop};
 use crate::elf;
 use crate::explain::{self, Names};
-use crate::names::{LONGEST_BUNDLE, OUTPUT_TOO_SHORT};
+use crate::names::{LONGEST_BUNDLE, LONGEST_PACKAGE, OUTPUT_TOO_SHORT};
 use crate::reader::bundle::{put_end, Bundle};
-use std::ffi::OsString;
+use std::ffi::{OsStr, OsString};
 
 /// The longest ELF file that is read; most of one may be sections that aren't wanted.
 pub const LONGEST_FILE: usize = 1 << 30;
@@ -16,6 +16,8 @@ pub struct Joined {
     pub bundle: Vec<u8>,
     /// One for each object; none where the bundle was handed in as it is, and its objects have numbers.
     pub files: Vec<String>,
+    /// The machine of the first ELF file, if there is one.
+    pub machine: Option<u32>,
 }
 
 /// A refusal of one file.
@@ -24,13 +26,22 @@ pub fn refused(file: &str, number: u32, why: Option<String>) -> Stop {
     Stop::Refused(format!("{file}: refused {number}: {}{why}", meaning(number)))
 }
 
-/// Reads a file; an ELF file as the bundle of its sections. The flag says whether it was one.
-fn bundle_of(name: &OsString) -> Result<(Vec<u8>, bool), Stop> {
+/// Reads a file; an ELF file as the bundle of its sections, with the machine that it names.
+fn bundle_of(name: &OsString) -> Result<(Vec<u8>, Option<u32>), Stop> {
     let bytes = input::read_either(name, elf::MAGIC, LONGEST_FILE, LONGEST_BUNDLE)?;
     if !bytes.starts_with(elf::MAGIC) {
-        return Ok((bytes, false));
+        return Ok((bytes, None));
     }
-    from_elf(&bytes, &input::shown(name)).map(|bundle| (bundle, true))
+    from_elf(&bytes, &input::shown(name)).map(|bundle| (bundle, elf::machine_of(&bytes)))
+}
+
+/// Reads a package; of an ELF file (.dwp) the package that it holds. One that can't be read stays as it is, and is then no package.
+pub fn read_package(name: &OsStr) -> Result<Vec<u8>, Stop> {
+    let bytes = input::read_either(name, elf::MAGIC, LONGEST_FILE, LONGEST_PACKAGE)?;
+    if !bytes.starts_with(elf::MAGIC) {
+        return Ok(bytes);
+    }
+    Ok(from_elf(&bytes, &input::shown(name)).unwrap_or(bytes))
 }
 
 /// The bundle of an ELF file.
@@ -52,13 +63,14 @@ pub fn from_elf(file: &[u8], shown: &str) -> Result<Vec<u8>, Stop> {
 /// All files as one bundle, in the order given. A single bundle is taken as it is, whatever it holds.
 pub fn join(names: &[OsString]) -> Result<Joined, Stop> {
     if let [name] = names {
-        let (bundle, is_elf) = bundle_of(name)?;
-        let files = if is_elf { vec![input::shown(name)] } else { Vec::new() };
-        return Ok(Joined { bundle, files });
+        let (bundle, machine) = bundle_of(name)?;
+        let files = machine.map(|_| input::shown(name)).into_iter().collect();
+        return Ok(Joined { bundle, files, machine });
     }
-    let mut joined = Joined { bundle: Vec::new(), files: Vec::new() };
+    let mut joined = Joined { bundle: Vec::new(), files: Vec::new(), machine: None };
     for name in names {
-        let (bytes, is_elf) = bundle_of(name)?;
+        let (bytes, machine) = bundle_of(name)?;
+        joined.machine = joined.machine.or(machine);
         let shown = input::shown(name);
         let read = match Bundle::read(&bytes) {
             Ok(read) => read,
@@ -71,7 +83,8 @@ pub fn join(names: &[OsString]) -> Result<Joined, Stop> {
             return Err(Stop::Refused(format!("{shown}: its byte order is not that of {first}")));
         }
         joined.bundle.extend(&bytes[4..bytes.len() - 4]);
-        let object = |number: usize| if is_elf { shown.clone() } else { format!("{shown}, object {number}") };
+        let object =
+            |number: usize| if machine.is_some() { shown.clone() } else { format!("{shown}, object {number}") };
         joined.files.extend((1..=read.objects.len()).map(object));
     }
     put_end(&mut joined.bundle);

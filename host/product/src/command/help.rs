@@ -39,7 +39,9 @@ Write the package of files, in the order given, or say why there is none and wri
 
 FILE is a relocatable ELF64 file (.dwo) or a bundle, told apart by their first bytes, or - for standard input.
 
-  -o, --output=PACKAGE   the file to write, or - for standard output
+  -o, --output=PACKAGE   the file to write, or - for standard output; where its name ends in .dwp, an ELF file
+      --elf              write an ELF file whatever its name
+      --machine=MACHINE  of the ELF file: x86-64, aarch64 or riscv64; else that of the first ELF file read, else x86-64
   -h, --help             show this help and exit
   -V, --version          show the version and exit
 
@@ -54,7 +56,7 @@ Usage: barthovin lookup [OPTION]... PACKAGE [VERSION] TABLE IDENTITY section COD
   or:  barthovin lookup [OPTION]... PACKAGE --questions=FILE
 Find a unit's part of a section, or one of its strings, in a package.
 
-PACKAGE    a file, or - for standard input
+PACKAGE    a file, as it is or as an ELF file (.dwp), or - for standard input
 VERSION    of the index, 2 or 5; without it, that of the package
 TABLE      1 or cu, compilation units; 2 or tu, type units
 IDENTITY   of the unit; hexadecimal with 0x, with 16 digits or with a letter, else decimal
@@ -79,7 +81,7 @@ Usage: barthovin sheet [OPTION]... PACKAGE
 Print the indexes of a package, a line for each unit and section: C for a compilation unit or T for a type unit, the identity, the section's
 code, and the offset and size of the unit's part in that section, all but the code hexadecimal.
 
-PACKAGE is a file, or - for standard input.
+PACKAGE is a file, as it is or as an ELF file (.dwp), or - for standard input.
 
   -p, --pages     lay it out for paper: pages of 60 lines, each with the package's name and length and its number
   -h, --help      show this help and exit
@@ -91,7 +93,7 @@ const LIST: &str = "\
 Usage: barthovin list [OPTION]... PACKAGE
 List the sections of a package and, for each unit of its indexes, the identity and the unit's parts.
 
-PACKAGE is a file, or - for standard input. Offsets of parts count from the front of their section.
+PACKAGE is a file, as it is or as an ELF file (.dwp), or - for standard input. Offsets of parts count from the front of their section.
 
       --json      write the list as a JSON object
   -h, --help      show this help and exit
@@ -104,7 +106,7 @@ Usage: barthovin profile [OPTION]... PACKAGE
 Say yes where a package is in the archive profile, or no and which of its conditions are not true: DWARF version 5, little-endian, offset
 width 4, address size 8, no macro section, and a cu_index of version 5 with at least one row.
 
-PACKAGE is a file, or - for standard input.
+PACKAGE is a file, as it is or as an ELF file (.dwp), or - for standard input.
 
       --json      write the answer as a JSON object
   -h, --help      show this help and exit

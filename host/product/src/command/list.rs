@@ -1,11 +1,12 @@
 //! `barthovin list`: what a package holds.
 
 use super::call::{Call, Known};
+use super::files::read_package;
 use super::{input, meaning, output, show, Stop, DONE};
 use crate::answer::Found;
 use crate::explain;
 use crate::ffi;
-use crate::names::{file_name, section_name, table_name, LONGEST_PACKAGE};
+use crate::names::{file_name, section_name, table_name};
 use crate::reader::index::Index;
 use crate::reader::package::Package;
 use std::ffi::OsString;
@@ -21,7 +22,7 @@ pub fn run(arguments: &[OsString]) -> Result<u8, Stop> {
         Err(status) => return Ok(status),
     };
     let name = &call.exactly(&["PACKAGE"])?[0];
-    let bytes = input::read(name, LONGEST_PACKAGE)?;
+    let bytes = read_package(name)?;
     // Whether it is a package the proved lookup says, to any question.
     if ffi::lookup(&bytes, 5, 1, 1, 1) == Found::Refused(NOT_A_PACKAGE) {
         let why = explain::not_a_package(&bytes).map(|why| format!(": {why}")).unwrap_or_default();

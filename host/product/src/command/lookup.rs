@@ -3,11 +3,12 @@
 mod questions;
 
 use super::call::{Call, Known};
+use super::files::read_package;
 use super::{input, meaning, output, show, Stop, DONE, NOT_DONE};
 use crate::answer::{Asked, Found};
 use crate::explain;
 use crate::ffi;
-use crate::names::{section_code, LONGEST_PACKAGE};
+use crate::names::section_code;
 use crate::reader::package::Package;
 use std::ffi::OsString;
 
@@ -39,7 +40,7 @@ pub fn run(arguments: &[OsString]) -> Result<u8, Stop> {
     }
     let words: Vec<String> = operands(&call)?.iter().map(|word| show::name(word)).collect();
     let question = question(&words).map_err(|message| call.wrong(message))?;
-    let package = input::read(&call.operands[0], LONGEST_PACKAGE)?;
+    let package = read_package(&call.operands[0])?;
     let Question { table, identity, asked, .. } = question;
     // Without a version the index's own is taken; a bad package is refused whatever it is.
     let version = question.version.unwrap_or_else(|| Package::read(&package).map_or(5, |p| p.version()));

@@ -1,9 +1,9 @@
 //! `barthovin profile`: whether a package is in the archive profile; `barthovin tables`: the tables that a reader of packages needs.
 
 use super::call::{Call, Known};
+use super::files::read_package;
 use super::{input, meaning, output, Stop, DONE, NOT_DONE};
 use crate::explain;
-use crate::names::LONGEST_PACKAGE;
 use crate::profile::{conditions, CONDITIONS};
 use std::ffi::OsString;
 
@@ -20,7 +20,7 @@ pub fn run(arguments: &[OsString]) -> Result<u8, Stop> {
         Err(status) => return Ok(status),
     };
     let name = &call.exactly(&["PACKAGE"])?[0];
-    let package = input::read(name, LONGEST_PACKAGE)?;
+    let package = read_package(name)?;
     let (code, failed) = conditions(&package);
     if code == NOT_A_PACKAGE {
         let why = explain::not_a_package(&package).map(|why| format!(": {why}")).unwrap_or_default();

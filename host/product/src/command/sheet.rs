@@ -1,9 +1,9 @@
 //! `barthovin sheet`: the index of a package as lines for paper.
 
 use super::call::{Call, Known};
+use super::files::read_package;
 use super::{input, meaning, output, show, Stop, DONE};
 use crate::explain;
-use crate::names::LONGEST_PACKAGE;
 use crate::sheet::sheet;
 use std::ffi::OsString;
 
@@ -19,7 +19,7 @@ pub fn run(arguments: &[OsString]) -> Result<u8, Stop> {
         Err(status) => return Ok(status),
     };
     let name = &call.exactly(&["PACKAGE"])?[0];
-    let package = input::read(name, LONGEST_PACKAGE)?;
+    let package = read_package(name)?;
     let lines = sheet(&package).map_err(|number| {
         let why = explain::not_a_sheet(&package).map(|why| format!(": {why}")).unwrap_or_default();
         Stop::Refused(format!("{}: refused {number}: {}{why}", input::shown(name), meaning(number)))

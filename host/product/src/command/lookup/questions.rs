@@ -4,9 +4,9 @@ use super::{question, Question};
 use crate::answer::{Asked, Found};
 use crate::batch;
 use crate::command::call::Call;
+use crate::command::files::read_package;
 use crate::command::{input, meaning, output, show, Stop, DONE, NOT_DONE};
 use crate::ffi;
-use crate::names::LONGEST_PACKAGE;
 use crate::reader::package::Package;
 use std::ffi::OsStr;
 
@@ -22,7 +22,7 @@ pub fn run(call: &Call, list: &OsStr) -> Result<u8, Stop> {
         return Err(call.wrong("package and questions can't both come from standard input"));
     }
     let questions = read(call, list)?;
-    let package = input::read(name, LONGEST_PACKAGE)?;
+    let package = read_package(name)?;
     let version = Package::read(&package).map_or(5, |p| p.version());
     let answers = answers(&package, version, &questions);
     let all_found = answers.iter().all(|found| matches!(found, Found::Part { .. }));
