@@ -118,5 +118,5 @@ Examples =
     × (unitSize wide (numbersOf false 4 (0xFFFF_FFFE ∷ 7 ∷ 0 ∷ [])) ≡ refuse 11)
 
 pub examples : Examples
-unfolding part little number numberAt littleOf bytesOf numbersOf joined any has distinct zeroTogether _>>=_ require groups short unsigned signedSize attributeAt attributesThen attributesFrom attributesOf declarationAt declarationsThen declarationsFrom declarationsOf declarationOf forms widthIn zeroEnded valueSize needed plainValue valueOf identityAt identityIn rootTag rootIdentity lengthField unitSize isFive addressPlace commonSize behindCommon identityFive identityFour identityOf unitOf
+unfolding part little number numberAt littleOf bytesOf numbersOf joined any has distinct zeroTogether _>>=_ require groups short unsigned signedSize attributeAt attributesThen attributesFrom attributesOf declarationAt declarationsThen declarationsFrom declarationsOf declarationOf forms widthIn zeroEnded valueSize needed plainValue valueOf identityAt identityIn rootTag rootIdentity lengthField unitSize isFive addressPlace commonSize behindCommon identityFive identityFour identityOf unitBy unitOf
 examples = (refl, refl, refl, refl, refl, refl, refl, refl, refl, refl, refl, refl, refl, refl, refl, refl, refl, refl, refl, refl)
