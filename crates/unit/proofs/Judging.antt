@@ -66,7 +66,7 @@ all-read : (s : List ℕ) (ds : List Declaration) → declarations s ≡ pass ds
 unfolding declarationsOf declarations
 all-read s ds e g = then-pass _ _ _ e ∙ passes _ _ _ g
 
-table-good : (s : List ℕ) (ds : List Declaration) → declarationsOf s ≡ pass ds → tableGood s ≡ true
+pub table-good : (s : List ℕ) (ds : List Declaration) → declarationsOf s ≡ pass ds → tableGood s ≡ true
 unfolding tableGood passed
 table-good s ds e = ap passed e
 

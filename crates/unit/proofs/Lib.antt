@@ -18,6 +18,7 @@ pub mod Stepping
 pub mod Rooted
 pub mod Units
 pub mod Heads
+pub mod Remembering
 pub mod HeaderAlone
 pub mod Promised
 pub mod Examples

@@ -1,74 +1,92 @@
+-- `unit::header::identity_of_root` meets its contract.
+-- Assumes nothing.
+use mathlib.Core.Path.{_≡_, ap, ap₂, _∙_}
+use Prim.Native.Nat.{ℕ, _+_}
+use native.Mathlib.Omega.{arith}
+use lib.ListN.{drop}
+use denote.Ref.{now}
+use Rattle.octets.specs.Octets.{numberAt}
+use Rattle.bundle.specs.Encoded.{encodingIs}
+use Rattle.unit.specs.Root.{rootIdentity}
+use Rattle.unit.specs.UnitRead.{lengthField, commonSize}
+use Rattle.unit.specs.Headers.{tableAt}
+use Rattle.unit.specs.TableTrees.{between}
+use Rattle.unit.proofs.Sizes.{rest}
+use Rattle.unit.proofs.Fields.{width-le, field-le, common-ge}
+use Rattle.unit.proofs.Rooted.{root-past}
+use Rattle.unit.proofs.Remembering.{between-length, between-drop}
 use borrow.Author.Needs.{needs}
 use Rattle.unit.proofs.header.identity_of_root.Statement.{statement}
 use Rattle.unit.proofs.header.identity_of_root.Tie as tie
-use Rattle.unit.proofs.header.identity_of_root.Reads as reads
-use Rattle.unit.proofs.header.identity_of_root.Lts as lts
-use Rattle.bundle.proofs.encoding.width.Reads as width-reads
-use Rattle.octets.proofs.number_at.Reads as number-at-reads
-use Rattle.octets.proofs.size.Reads as size-reads
-use Rattle.unit.proofs.header.common_size.Reads as common-size-reads
-use Rattle.unit.proofs.header.length_field.Reads as length-field-reads
-use Rattle.unit.proofs.root.root_identity.Reads as root-identity-reads
 
--- src/header.rt:262:17
+offset : (c : tie.After-size)
+    → c .size .result ≡ numberAt (encodingIs (c .before .before .before .before .before .before .before .args .e) .big) (encodingIs (c .before .before .before .before .before .before .before .args .e) .width) (now (c .before .before .before .before .before .before .before .args .u)) (lengthField (encodingIs (c .before .before .before .before .before .before .before .args .e)) + 2)
+unfolding encodingIs
+offset c =
+    let a = c .before .before .before .before .before .before .before .args in
+    c .size .ensures ∙ (c .before .number-at .ensures ∙ ap₂ (λ (w n : ℕ). numberAt (a .e .big) w (now (a .u)) (n + 2)) (c .before .before .width .ensures) (c .before .before .before .length-field .ensures))
+
 length-field-requires : tie.Need-length-field-requires
 length-field-requires c κs = search needs
 
--- src/header.rt:262:17
 add-field : tie.Need-add-field
-add-field c = ?
+add-field c = omega (arith, c .length-field .ensures, field-le (encodingIs (c .before .before .before .before .args .e)))
 
--- src/header.rt:263:56
 width-requires : tie.Need-width-requires
 width-requires c κs = search needs
 
--- src/header.rt:263:31
 number-at-requires : tie.Need-number-at-requires
-number-at-requires c κs = ?
+number-at-requires c κs =
+    let k = c .before .before .before .before .before in
+    (omega (arith, c .width .ensures, width-le (k .args .e)), omega (arith, c .width .ensures, c .before .length-field .ensures, k .pre .0, common-ge (encodingIs (k .args .e))))
 
--- src/header.rt:263:9
 size-requires : tie.Need-size-requires
 size-requires c κs = search needs
 
--- src/header.rt:266:8
 sub-if1 : tie.Need-sub-if1
 sub-if1 c = search needs
 
--- src/header.rt:267:9
 returns : tie.Need-returns
-returns c = ?
+returns c =
+    let k = c .before in
+    let p = k .before .before .before .before .before .before .before in
+    let a = p .args in
+    let l = between-length (now (a .b)) (a .place .first) (a .place .last) (p .pre .1 .order) (p .pre .1 .abbreviations) in
+    (root-past (encodingIs (a .e)) (between (now (a .b)) (a .place .first) (a .place .last)) (now (a .u)) (drop (commonSize (encodingIs (a .e))) (now (a .u))) (k .size .result) (offset k) (omega (arith, l, c .if1 .taken)), p .pre .2 .memory)
 
--- src/header.rt:272:9
 common-size-requires : tie.Need-common-size-requires
 common-size-requires c κs = search needs
 
--- src/header.rt:273:38
 add-root-identity : tie.Need-add-root-identity
 add-root-identity c = search needs
 
--- src/header.rt:273:60
 sub-root-identity : tie.Need-sub-root-identity
 sub-root-identity c = search needs
 
--- src/header.rt:273:60
 part-root-identity-start : tie.Need-part-root-identity-start
 part-root-identity-start c = search needs
 
--- src/header.rt:273:60
 part-root-identity-end : tie.Need-part-root-identity-end
 part-root-identity-end c = search needs
 
--- src/header.rt:273:5
 root-identity-requires : tie.Need-root-identity-requires
 root-identity-requires c κs = search needs
 
--- src/header.rt:250:1
 same-length : tie.Need-same-length
 same-length c = search needs
 
--- src/header.rt:250:1
 returns-2 : tie.Need-returns-2
-returns-2 c = ?
+unfolding tableAt
+returns-2 c =
+    let r = c .before .before in
+    let k = r .before .before .before .before .before in
+    let m = r .before .before .before in
+    let a = k .before .before .before .before .before .before .before .args in
+    let ab = between (now (a .b)) (a .place .first) (a .place .last) in
+    (r .root-identity .ensures .0
+    ∙ ap₂ (rootIdentity (encodingIs (a .e)))
+    (between-drop (now (a .b)) (a .place .first) (a .place .last) (k .size .result) ∙ ap (λ (n : ℕ). drop n ab) (offset k))
+    (rest (m .common-size .result) (now (a .u)) ∙ ap (λ (n : ℕ). drop n (now (a .u))) (m .common-size .ensures)), r .root-identity .ensures .1)
 
 pub identity-of-root-spec : {M : Type 1} → statement M
 identity-of-root-spec =

@@ -1,56 +1,58 @@
+-- `unit::header::unit_identity` meets its contract.
+-- Assumes nothing.
+use mathlib.Core.List.{[]}
+use native.Mathlib.Omega.{arith}
+use denote.Ref.{now}
+use Rattle.bundle.specs.Encoded.{encodingIs}
+use Rattle.unit.proofs.Remembering.{cut-length, answer-short, answer-whole, answer-good}
 use borrow.Author.Needs.{needs}
 use Rattle.unit.proofs.header.unit_identity.Statement.{statement}
 use Rattle.unit.proofs.header.unit_identity.Tie as tie
-use Rattle.unit.proofs.header.unit_identity.Reads as reads
-use Rattle.unit.proofs.header.unit_identity.Lts as lts
-use Rattle.unit.proofs.header.answer_of.Reads as answer-of-reads
-use Rattle.unit.proofs.header.header_size.Reads as header-size-reads
-use Rattle.unit.proofs.header.identity_of.Reads as identity-of-reads
-use Rattle.unit.proofs.header.kind_of.Reads as kind-of-reads
 
--- src/header.rt:358:15
 add-end : tie.Need-add-end
 add-end c = search needs
 
--- src/header.rt:359:13
 sub-u : tie.Need-sub-u
 sub-u c = search needs
 
--- src/header.rt:359:13
 part-u-start : tie.Need-part-u-start
 part-u-start c = search needs
 
--- src/header.rt:359:13
 part-u-end : tie.Need-part-u-end
 part-u-end c = search needs
 
--- src/header.rt:360:9
 kind-of-requires : tie.Need-kind-of-requires
-kind-of-requires c κs = search needs
+kind-of-requires c κs =
+    let k = c .before .before .before .before in
+    omega (arith, k .pre .0, cut-length (encodingIs (k .args .e)) 0 [] (now (k .args .b)) (k .args .place .at) (k .args .place .size) (k .pre .1 .unit))
 
--- src/header.rt:361:21
 header-size-requires : tie.Need-header-size-requires
 header-size-requires c κs = search needs
 
--- src/header.rt:362:9
 returns : tie.Need-returns
-returns c = ?
+returns c =
+    let k = c .before .before .before .before .before .before .before .before in
+    let a = k .args in
+    (answer-short (encodingIs (a .e)) (a .home) _ (now (a .b)) (a .place .at) (a .place .size) (k .pre .1 .unit) _ _ (c .before .before .before .kind-of .ensures) (c .before .before .header-size .ensures) (k .pre .0) (c .if1 .taken), k .pre .2 .memory)
 
--- src/header.rt:367:9
 identity-of-requires : tie.Need-identity-of-requires
-identity-of-requires c κs = search needs
+identity-of-requires c κs =
+    let k = c .before .before .before .before .before .before .before .before .before in
+    let a = k .args in
+    (answer-whole (encodingIs (a .e)) (a .home) [] (now (a .b)) (a .place .at) (a .place .size) (k .pre .1 .unit) _ _ (c .before .before .before .before .kind-of .ensures) (c .before .before .before .header-size .ensures) (c .before .if1 .left), k .pre .1, k .pre .2)
 
--- src/header.rt:371:17
 answer-of-requires : tie.Need-answer-of-requires
 answer-of-requires c κs = search needs
 
--- src/header.rt:345:1
 same-length : tie.Need-same-length
 same-length c = search needs
 
--- src/header.rt:345:1
 returns-2 : tie.Need-returns-2
-returns-2 c = ?
+returns-2 c =
+    let k = c .before .before .before .before .before .before .before .before .before .before .before .before .before .before in
+    let a = k .args in
+    let i = c .before .before .before .before in
+    (answer-good (encodingIs (a .e)) (a .home) _ (now (a .b)) (a .place .at) (a .place .size) (k .pre .1 .unit) _ _ (i .before .before .before .before .before .kind-of .ensures) (i .before .before .before .before .header-size .ensures) (i .before .before .if1 .left) (i .identity-of .result .identity) _ (i .identity-of .ensures .0) (c .answer-of .ensures), i .identity-of .ensures .1)
 
 pub unit-identity-spec : {M : Type 1} → statement M
 unit-identity-spec =
