@@ -7,12 +7,12 @@ use mathlib.Core.List.{List}
 use Prim.Native.Nat.{ℕ, _+_, _≤_}
 use native.Mathlib.Omega.{arith}
 use lib.Dec.{eqb, leb, ltb}
-use lib.ListN.{length, take, drop, getD}
+use lib.ListN.{length, take, getD}
 use lib.Seq.{length-take-le, take-take}
 use borrow.Author.Tests.{eqb-true, eqb-false, leb-true, le-leb}
 use Rattle.octets.specs.Octets.{number, numberAt}
 use Rattle.octets.specs.Checked.{Check, pass, _>>=_, require}
-use Rattle.octets.proofs.Checks.{bind-pass, require-pass, pass-inj, pass-refuse, passes, then-pass, known, or-cases, or-fails-left, or-fails-right}
+use Rattle.octets.proofs.Checks.{bind-pass, require-pass, pass-inj, pass-refuse, passes, then-pass, known, or-cases}
 use Rattle.octets.proofs.Parts.{part-take}
 use Rattle.bundle.specs.Encoding.{Encoding}
 use Rattle.unit.specs.Root.{rootIdentity}

@@ -1,23 +1,22 @@
 -- The search for a code in an abbreviation table that is held in a tree.
 -- Assumes nothing.
-use mathlib.Core.Path.{_≡_, refl, sym, subst, ap, _∙_}
+use mathlib.Core.Path.{_≡_, refl, sym, ap, _∙_}
 use mathlib.Core.Bool.{true, false}
-use mathlib.Core.List.{List, [], _∷_, map}
+use mathlib.Core.List.{List, [], _∷_}
 use mathlib.Core.Option.{some, none}
 use Prim.Native.Nat.{ℕ, zero, suc, _+_, _*_, _<_, _≤_}
 use native.Mathlib.Nat.{not-suc-le-zero, le-of-suc-le-suc}
 use native.Mathlib.Omega.{arith}
-use native.Mathlib.Decide.{ℕ-discrete}
 use lib.ListN.{length, drop, getD, length-map}
 use borrow.Author.Tests.{eq-eqb, ne-eqb}
 use Rattle.octets.specs.Lists.{has, any, distinct}
 use Rattle.octets.specs.Checked.{pass, refuse}
 use Rattle.octets.proofs.Checks.{pass-refuse, pass-inj, bind-pass, require-pass, true-false}
 use Rattle.octets.proofs.Elements.{has-at, has-cons, has-skips, distinct-head, distinct-tail}
-use Rattle.unit.specs.Abbreviations.{Declaration, attributesOf, declarationsOf, declarationOf}
+use Rattle.unit.specs.Abbreviations.{Declaration, declarationsOf, declarationOf}
 use Rattle.unit.specs.Tables.{Coded, declaredAt, declarations, Located}
-use Rattle.unit.specs.Trees.{codeAt, carriedAt, Rising, Tree, EndsFree, Ends}
-use Rattle.unit.specs.TableTrees.{codesOf, noDeclaration, Declares, TableTree, TableHeld}
+use Rattle.unit.specs.Trees.{codeAt, carriedAt, Rising, Ends}
+use Rattle.unit.specs.TableTrees.{codesOf, noDeclaration, Declares, TableHeld}
 use Rattle.unit.specs.declared.tree.Walked.{Walked}
 use Rattle.unit.specs.declared.tree.Walked.the-variants as walked
 use Rattle.unit.specs.declared.abbreviations.Found.the-variants.{At, Nothing}
@@ -113,7 +112,7 @@ module _ (s w : List ℕ) (n code : ℕ) (t : TableHeld s w n) where
         let h = node-declares in
         let same-coded : h .coded ≡ d = some-inj (pass-inj (sym (h .is) ∙ ap (λ (x : ℕ). declaredAt (drop x s)) (sym a) ∙ g)) in
         let its : getD (t .declared) k noDeclaration .code ≡ code =
-              sym (code-at (t .declared) k inside) ∙ sym (t .held .tree .codes k (rw (codes-count) (ends-at .0))) ∙ ends-at .1 in
+        sym (code-at (t .declared) k inside) ∙ sym (t .held .tree .codes k (rw (codes-count) (ends-at .0))) ∙ ends-at .1 in
         rw (a, ← same-coded) (
           getD (t .declared) k noDeclaration,
           ap (λ (x : List Declaration). declarationOf x code) (same ds e) ∙ the-declaration (t .declared) k code (read-distinct s (t .declared) (t .read)) inside its,

@@ -2,12 +2,12 @@
 -- Assumes nothing.
 use mathlib.Core.Path.{_≡_, refl, sym, subst, ap, _∙_}
 use mathlib.Core.Bool.{Bool, true, false}
-use mathlib.Core.List.{List, [], _∷_, _++_, map, append-nil, append-assoc}
+use mathlib.Core.List.{List, [], _∷_, _++_, append-nil, append-assoc}
 use mathlib.Core.Option.{some, none}
-use Prim.Native.Nat.{ℕ, zero, _+_, _*_, _<_, _≤_}
+use Prim.Native.Nat.{ℕ, _+_, _*_, _<_, _≤_}
 use native.Mathlib.Omega.{arith}
 use native.Mathlib.Decide.{decLe}
-use lib.ListN.{length, drop, getD, length-append, length-map, List·getD-append}
+use lib.ListN.{length, drop, length-append, length-map, List·getD-append}
 use lib.Seq.{drop-drop, getD-append-seam}
 use Rattle.octets.specs.Lists.{has, distinct}
 use Rattle.octets.specs.Checked.{Check, pass, refuse, _>>=_, require}
@@ -16,10 +16,10 @@ use Rattle.octets.proofs.Joined.{map-append}
 use Rattle.octets.proofs.Elements.{distinct-snoc, distinct-repeats}
 use Rattle.unit.specs.Abbreviations.{Declaration, attributesOf, declarationsOf}
 use Rattle.unit.specs.Tables.{Coded, declaredAt, declarations, passed, tableGood}
-use Rattle.unit.specs.Trees.{carriedAt, Reaches, Rising, Tree, Grown, Added}
-use Rattle.unit.specs.TableTrees.{codesOf, noDeclaration, Declares, TableTree, TableHeld, Judges}
+use Rattle.unit.specs.Trees.{carriedAt, Rising, Tree, Grown, Added}
+use Rattle.unit.specs.TableTrees.{codesOf, noDeclaration, Declares, TableTree, Judges}
 use Rattle.unit.specs.declared.abbreviations.TableRead.the-variants.{Good, Bad}
-use Rattle.unit.proofs.Walks.{declared, before, Fronts, table-end, table-more, table-not, walk-within}
+use Rattle.unit.proofs.Walks.{declared, before, table-end, table-more, table-not, walk-within}
 
 -- ---- the declarations before a place
 pub record Met (s : List ℕ) (at : ℕ) (ds : List Declaration) : Type 0 where
@@ -47,9 +47,6 @@ module _ (s : List ℕ) (at : ℕ) (ds : List Declaration) (m : Met s at ds) whe
   met-not k e = m .is ∙ then-refuse _ _ 12 (table-not (drop at s) k e)
 
   module _ (d : Coded) (e : declaredAt (drop at s) ≡ pass (some d)) where
-    here : Declaration
-    here = declared d (table-more (drop at s) d e .attributes)
-
     met-more : declarations s ≡ (declarations (drop (at + d .place .end) s) >>= λ es. pass ((ds ++ (declared d (table-more (drop at s) d e .attributes) ∷ [])) ++ es))
     met-more =
         let f = table-more (drop at s) d e in

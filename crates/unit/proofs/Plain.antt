@@ -7,10 +7,10 @@ use Prim.Native.Nat.{ℕ}
 use lib.Dec.{eqb, leb}
 use lib.ListN.{length, take, getD}
 use Rattle.octets.specs.Octets.{numberAt}
-use Rattle.octets.specs.Checked.{Check, pass, refuse, _>>=_, require}
+use Rattle.octets.specs.Checked.{Check, pass, _>>=_, require}
 use Rattle.octets.proofs.Checks.{bind-pass, require-pass, pass-inj, passes, then-pass}
 use Rattle.bundle.specs.Encoding.{Encoding}
-use Rattle.unit.specs.UnitRead.{Identity, UnitRead, lengthField, unitSize, addressPlace, commonSize, identityOf, unitBy, unitOf}
+use Rattle.unit.specs.UnitRead.{UnitRead, lengthField, unitSize, addressPlace, commonSize, identityOf, unitBy, unitOf}
 
 unfoldable pub plain : Encoding → ℕ → List ℕ → List ℕ → Check UnitRead
 plain e home abbreviations s = do

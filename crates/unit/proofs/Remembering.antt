@@ -1,6 +1,6 @@
 -- The table judged last, and the parts of a bundle that a unit is read from.
 -- Assumes nothing.
-use mathlib.Core.Path.{_≡_, refl, sym, subst, ap, ap₂, _∙_}
+use mathlib.Core.Path.{_≡_, sym, subst, ap, ap₂, _∙_}
 use mathlib.Core.Logic.{⊎-elim, inr}
 use mathlib.Core.Bool.{true, false}
 use mathlib.Core.List.{List}
@@ -9,8 +9,7 @@ use native.Mathlib.Omega.{arith}
 use lib.ListN.{length, take, drop, length-drop}
 use lib.Seq.{drop-drop, take-take, length-take-le}
 use Rattle.octets.specs.Octets.{part}
-use Rattle.octets.specs.Checked.{Check, pass, refuse, _>>=_}
-use Rattle.octets.proofs.Checks.{then-pass, then-refuse}
+use Rattle.octets.specs.Checked.{Check, pass, refuse}
 use Rattle.octets.proofs.Parts.{drop-take, length-part, part-cut}
 use Rattle.bundle.specs.Encoding.{Encoding}
 use Rattle.unit.specs.Tables.{tableGood}
@@ -27,7 +26,7 @@ use Rattle.unit.specs.declared.header.IdentityAnswer.the-variants as ans
 use Rattle.unit.specs.declared.header.UnitAnswer.{UnitAnswer}
 use Rattle.unit.specs.declared.header.UnitAnswer.the-variants as whole
 use Rattle.unit.proofs.Judging.{table-good}
-use Rattle.unit.proofs.Heads.{good-short, good-whole, head-within, unit-headless, unit-headed, answer-sized, unitWith}
+use Rattle.unit.proofs.Heads.{good-short, good-whole, head-within, unit-headless, unit-headed, answer-sized}
 
 -- ---- the memory
 pub recall-good : (b w : List ℕ) (j : Judged) (at end : ℕ) → at ≤ end → j .at ≡ at → j .end ≡ end → Remembers b w j → Judges (between b at end) w (Good (j .count))

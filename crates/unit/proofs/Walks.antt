@@ -1,23 +1,20 @@
 -- Walks over an abbreviation table: what the declaration at the front says of the whole table.
 -- Assumes nothing.
-use mathlib.Core.Path.{_≡_, refl, sym, ap, _∙_}
-use mathlib.Core.Bool.{Bool, true, false, not}
-use mathlib.Core.List.{List, [], _∷_, map}
+use mathlib.Core.Path.{_≡_, sym, ap, _∙_}
+use mathlib.Core.List.{List, [], _∷_}
 use mathlib.Core.Option.{Option, some, none}
 use Prim.Native.Nat.{ℕ, zero, _+_, _≤_}
 use native.Mathlib.Omega.{arith}
 use native.Mathlib.Decide.{ℕ-discrete}
 use lib.ListN.{length, drop, length-drop}
 use lib.Seq.{drop-drop}
-use borrow.Author.Tests.{not-true, not-false}
-use Rattle.octets.specs.Lists.{any, has, distinct}
-use Rattle.octets.specs.Checked.{Check, pass, refuse, _>>=_, require}
-use Rattle.octets.proofs.Checks.{pass-refuse, pass-inj, bind-pass, then-pass, fails, true-false}
+use Rattle.octets.specs.Lists.{has}
+use Rattle.octets.specs.Checked.{Check, pass, refuse, _>>=_}
+use Rattle.octets.proofs.Checks.{pass-refuse, pass-inj, bind-pass, then-pass}
 use Rattle.octets.proofs.Refusals.{only-refuses}
-use Rattle.octets.proofs.Elements.{has-cons, has-skips, distinct-cons, distinct-stops}
 use Rattle.leb128.specs.Leb128.{unsigned}
 use Rattle.leb128.proofs.Taken.{unsigned-taken}
-use Rattle.unit.specs.Abbreviations.{Attribute, Declaration, attributesOf, declarationAt, declarationsOf}
+use Rattle.unit.specs.Abbreviations.{Attribute, Declaration, attributesOf, declarationAt}
 use Rattle.unit.specs.Tables.{Place, placeAt, Coded, declaredAt, declarations}
 use Rattle.unit.proofs.Places.{end-is, coded}
 use Rattle.unit.proofs.Declarations.{place-stands, declaration-place, then-end, then-more, declarations-is, only-declarationsFrom}

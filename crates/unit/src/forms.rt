@@ -3,15 +3,13 @@ use bundle::encoding::ObjectEncoding;
 use leb128::Number;
 use leb128::Size;
 ghost use mathlib.Core.Path.{_≡_};
-ghost use Prim.Native.Nat.{_≤_, _<_};
-ghost use lib.ListN.{length, getD};
+ghost use Prim.Native.Nat.{_≤_};
+ghost use lib.ListN.{length};
 ghost use Rattle.bundle.specs.Encoded.{encodingIs};
 ghost use Rattle.numbers.specs.Refusals.{noIdentity};
 ghost use Rattle.leb128.specs.Answers.{sizeCheck};
 ghost use Rattle.unit.specs.Forms.{forms, widthIn, zeroEnded};
 ghost use Rattle.unit.specs.Widths.{
-  formIs,
-  noForm,
   widthIs,
   widthFound,
   ends,
@@ -160,20 +158,14 @@ const FORMS: [Form; 27] = [
     },
 ];
 
-// Entry i of the table: the one place that reads it. The search below keeps i in the table.
-fn form_at(i: usize) -> Form
-    requires { ⌜ i < 27 ⌝ }
-    ensures { λ r. ⌜ formIs r ≡ getD forms i noForm ⌝ }
-{
-    FORMS[i]
-}
-
+// The table is copied once: an element read from the constant itself would store all of it at each turn.
 pub fn width_of(form: u64) -> FormWidth
     ensures { λ r. ⌜ widthFound r ≡ widthIn forms form ⌝ }
 {
+    let table = FORMS;
     let mut i = 0;
     while i < 27 {
-        let f = form_at(i);
+        let f = table[i];
         if f.form == form {
             let width = f.width;
             return FormWidth::Is(width);

@@ -37,7 +37,6 @@ ghost use Rattle.unit.specs.Headers.{
   unitAnswer,
   addressOf,
 };
-
 ghost use Rattle.unit.specs.TableTrees.{
   Remembers,
   Lent,
@@ -211,7 +210,7 @@ fn five_kind(unit_type: u8) -> Kind
     Kind::Other
 }
 
-// Home is the code of the unit's section. The common fields are there: `read_unit` has tested it.
+// Home is the code of the unit's section. The common fields are there: `unit_head` has tested it.
 fn kind_of(e: ObjectEncoding, home: u32, u: &[u8]) -> Kind
     requires { ⌜ commonSize (encodingIs e) ≤ length (now u) ⌝ }
     ensures { λ r. ⌜ r ≡ kindOf (encodingIs e) home (now (u .entry)) ⌝ }

@@ -1,7 +1,6 @@
 -- `unit::header::unit_head` meets its contract.
 -- Assumes nothing.
 use mathlib.Core.Path.{_≡_, sym, ap, _∙_}
-use Prim.Native.Nat.{ℕ}
 use Rattle.leb128.specs.Answers.{sizeCheck}
 use borrow.Author.Tests.{not-true, not-false}
 use lib.Seq.{length-take-le}

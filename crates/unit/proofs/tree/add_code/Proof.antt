@@ -1,11 +1,10 @@
 -- `unit::tree::add_code` meets its contract.
 -- Assumes nothing.
-use mathlib.Core.Path.{_≡_, ap, _∙_}
+use mathlib.Core.Path.{ap, _∙_}
 use mathlib.Core.List.{List}
 use Prim.Native.Nat.{ℕ, _*_}
 use Rattle.octets.specs.Octets.{placed}
 use Rattle.unit.specs.Trees.{nodeOf}
-use native.Mathlib.Omega.{arith}
 use Rattle.unit.proofs.Trees.{added-first, added-not, ends-within, added-more}
 use borrow.Author.Needs.{needs}
 use Rattle.unit.proofs.tree.add_code.Statement.{statement}
@@ -53,7 +52,7 @@ returns-3 c =
     let k = o .before .before .before .before .before .before in
     let a = k .args in
     λ cs l t. added-more _ _ cs _ _ _ l (k .pre .1) t _ _ (o .link .given .1) (o .before .before .walk .ensures)
-      (c .before .before .store-node2 .ensures ∙ ap (λ (x : List ℕ). placed x (5 * a .count) (nodeOf (a .carried) (a .code))) (m .set-word .ensures))
+    (c .before .before .store-node2 .ensures ∙ ap (λ (x : List ℕ). placed x (5 * a .count) (nodeOf (a .carried) (a .code))) (m .set-word .ensures))
 
 pub add-code-spec : {M : Type 1} → statement M
 add-code-spec =

@@ -1,7 +1,7 @@
 -- `unit::tree::walk` meets its contract.
 -- Assumes nothing.
-use mathlib.Core.Path.{_≡_, sym, _∙_}
-use Prim.Native.Nat.{_+_, _*_, _-_}
+use mathlib.Core.Path.{sym, _∙_}
+use Prim.Native.Nat.{_-_}
 use native.Mathlib.Omega.{arith}
 use Rattle.unit.proofs.Trees.{Walking, walking-start, walking-at, walking-later, walking-on, walking-free}
 use Rattle.unit.proofs.tree.walk.Statement.{statement}
