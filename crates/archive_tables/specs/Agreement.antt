@@ -1,5 +1,5 @@
 -- The statement over each whole table: it is what its rule works out, entry for entry and in its order.
--- These tables are the ones that the source's constants are proved to hold: `numbers::names::section_name`, `index::cells::column_at` and `unit::forms::form_at`
+-- These tables are the ones that the source's constants are proved to hold: `numbers::names::section_name`, `index::cells::column_at` and `unit::forms::width_of`
 -- are the only readers of the constants, and each promises, for every entry, that what it reads is the entry of the table named here.
 -- Assumes nothing.
 use mathlib.Core.Path.{_≡_}

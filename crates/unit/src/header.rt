@@ -376,17 +376,13 @@ pub fn unit_identity(
 fn answer_of(read: Identity) -> IdentityAnswer
     ensures { λ r. ⌜ r ≡ identityAnswer (nonZero (identityCheck read)) ⌝ }
 {
-    match read {
-        Identity::Is(table, identity) => {
-            if identity == 0 {
-                return IdentityAnswer::Refused(IDENTITY_ZERO);
-            }
-            return IdentityAnswer::Is(table, identity);
-        }
-        Identity::Unreadable => {
-            return IdentityAnswer::Refused(NO_IDENTITY);
-        }
+    let Identity::Is(table, identity) = read else {
+        return IdentityAnswer::Refused(NO_IDENTITY);
+    };
+    if identity == 0 {
+        return IdentityAnswer::Refused(IDENTITY_ZERO);
     }
+    IdentityAnswer::Is(table, identity)
 }
 
 // A whole unit, whose section goes on to the end of the place's bytes.
