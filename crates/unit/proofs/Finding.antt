@@ -113,7 +113,7 @@ module _ (s w : List ℕ) (n code : ℕ) (t : TableHeld s w n) where
         let h = node-declares in
         let same-coded : h .coded ≡ d = some-inj (pass-inj (sym (h .is) ∙ ap (λ (x : ℕ). declaredAt (drop x s)) (sym a) ∙ g)) in
         let its : getD (t .declared) k noDeclaration .code ≡ code =
-              sym (code-at (t .declared) k inside) ∙ sym (t .held .tree .codes k (rw (codes-count) (ends-at .0))) ∙ ends-at .1 in
+        sym (code-at (t .declared) k inside) ∙ sym (t .held .tree .codes k (rw (codes-count) (ends-at .0))) ∙ ends-at .1 in
         rw (a, ← same-coded) (
           getD (t .declared) k noDeclaration,
           ap (λ (x : List Declaration). declarationOf x code) (same ds e) ∙ the-declaration (t .declared) k code (read-distinct s (t .declared) (t .read)) inside its,

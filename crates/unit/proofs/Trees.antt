@@ -71,8 +71,8 @@ module _ {w : List ℕ} {n code rest node : ℕ} (s : Walking w n code rest node
         inside = r .among node (rest % 2) (s .inside) (omega arith);
         ahead = λ k e q. further k e q .1;
         behind = λ v m k l q.
-          let e : getD v (5 * node + rest % 2) 0 ≡ getD w (5 * node + rest % 2) 0 = l .same (5 * node + rest % 2) (omega (arith, s .inside)) (λ x. f (step ∙ x)) in
-          s .behind v (suc m) k l (subst (λ (x : ℕ). (x ≡ 0 → ⊥) × Reaches m v (rest / 2) x k) (sym e) ((λ x. f (step ∙ x)), q));
+            let e : getD v (5 * node + rest % 2) 0 ≡ getD w (5 * node + rest % 2) 0 = l .same (5 * node + rest % 2) (omega (arith, s .inside)) (λ x. f (step ∙ x)) in
+            s .behind v (suc m) k l (subst (λ (x : ℕ). (x ≡ 0 → ⊥) × Reaches m v (rest / 2) x k) (sym e) ((λ x. f (step ∙ x)), q));
       })
 
       pub walking-free : next ≡ 0 → Ends w n code (Free (5 * node + side))

@@ -37,7 +37,6 @@ ghost use Rattle.unit.specs.Headers.{
   unitAnswer,
   addressOf,
 };
-
 ghost use Rattle.unit.specs.TableTrees.{
   Remembers,
   Lent,

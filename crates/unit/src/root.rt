@@ -196,10 +196,6 @@ pub fn root_identity(
     let identity = root_in(e, &b[at..end], codes, count, s);
     RootRead {
         identity,
-        judged: Judged {
-            at,
-            end,
-            count,
-        },
+        judged: Judged { at, end, count },
     }
 }

@@ -82,11 +82,13 @@ returns-2 c =
     let k = r .before .before .before .before .before in
     let m = r .before .before .before in
     let a = k .before .before .before .before .before .before .before .args in
-    let ab = between (now (a .b)) (a .place .first) (a .place .last) in
-    (r .root-identity .ensures .0
-    ∙ ap₂ (rootIdentity (encodingIs (a .e)))
-    (between-drop (now (a .b)) (a .place .first) (a .place .last) (k .size .result) ∙ ap (λ (n : ℕ). drop n ab) (offset k))
-    (rest (m .common-size .result) (now (a .u)) ∙ ap (λ (n : ℕ). drop n (now (a .u))) (m .common-size .ensures)), r .root-identity .ensures .1)
+    let ab = between (now (a .b)) (a .place .first) (a .place .last) in (
+      r .root-identity .ensures .0
+          ∙ ap₂ (rootIdentity (encodingIs (a .e)))
+          (between-drop (now (a .b)) (a .place .first) (a .place .last) (k .size .result) ∙ ap (λ (n : ℕ). drop n ab) (offset k))
+          (rest (m .common-size .result) (now (a .u)) ∙ ap (λ (n : ℕ). drop n (now (a .u))) (m .common-size .ensures)),
+      r .root-identity .ensures .1,
+    )
 
 pub identity-of-root-spec : {M : Type 1} → statement M
 identity-of-root-spec =

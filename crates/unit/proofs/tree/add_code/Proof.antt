@@ -53,7 +53,7 @@ returns-3 c =
     let k = o .before .before .before .before .before .before in
     let a = k .args in
     λ cs l t. added-more _ _ cs _ _ _ l (k .pre .1) t _ _ (o .link .given .1) (o .before .before .walk .ensures)
-      (c .before .before .store-node2 .ensures ∙ ap (λ (x : List ℕ). placed x (5 * a .count) (nodeOf (a .carried) (a .code))) (m .set-word .ensures))
+    (c .before .before .store-node2 .ensures ∙ ap (λ (x : List ℕ). placed x (5 * a .count) (nodeOf (a .carried) (a .code))) (m .set-word .ensures))
 
 pub add-code-spec : {M : Type 1} → statement M
 add-code-spec =
