@@ -25,7 +25,7 @@ use Rattle.package.proofs.Accepted.{Accepted, packed-accepted}
 use Rattle.package.proofs.Tables.{indexOfTable}
 use Rattle.lookup.specs.Lookup.{refused, part, Package, packageOf, versionGood, indexFor, placeIn, cellPlace, partPlace, inTable, answered, lookedUp, startOf}
 use Rattle.lookup.specs.Answers.{packageIn}
-use Rattle.sheet.specs.Sheet.{letterC, letterT, line, sectionIn, rowLines, rowsFrom, tableLines, sheetLines}
+use Rattle.sheet.specs.Sheet.{identitiesIn, letterC, letterT, line, sectionIn, rowLines, rowsFrom, tableLines, sheetLines}
 use Rattle.sheet.proofs.LawPlacing.{slots-one, cells-told, rows-told}
 use Rattle.sheet.proofs.LawCells.{line-named, line-cell}
 use Rattle.archive.specs.Theorem as theorem
