@@ -25,7 +25,8 @@ use Rattle.filing.specs.declared.state.Sums.{Sums}
 use Rattle.filing.specs.State.{wordsIn, withStrings, SumsHeld, OnlyStrings}
 use Rattle.filing.specs.Answers.{AtUnit}
 use Rattle.filing.specs.ByObject.{AtObject}
-use Rattle.filing.proofs.Stringing.{held-strings}
+use Rattle.filing.proofs.Stringing.{strings-beside}
+use Rattle.filing.proofs.Lending.{held-stays}
 use Rattle.filing.proofs.OverSections.{at-later}
 
 -- the version by value
@@ -49,7 +50,7 @@ pub object-enter : (b : List ℕ) (big : Bool) (first place : ℕ) (w v : List �
 object-enter b big first place w v st t bases is us x i ss from a r input same none low high =
     let held : Held (x .encoding .five) b (wordsIn b) place v (withStrings st t) bases (us ++ []) =
     subst (λ (f : Bool). Held f b (wordsIn b) place v (withStrings st t) bases (us ++ [])) (sym (five-is (x .encoding) (encodingOf big first) same))
-    (subst (λ (l : List Filed). Held (eqb (encodingOf big first .version) 5) b (wordsIn b) place v (withStrings st t) bases l) (sym (append-nil us)) (held-strings w v r _ b place st t bases us (a .held))) in
+    (subst (λ (l : List Filed). Held (eqb (encodingOf big first .version) 5) b (wordsIn b) place v (withStrings st t) bases l) (sym (append-nil us)) (held-stays strings-beside r _ b place st t bases us (a .held))) in
     at-later place from (record { input = input; held = held; sums = none }) low high
 
 -- the bases behind the object

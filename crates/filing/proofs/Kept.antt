@@ -18,8 +18,8 @@ use Rattle.index.specs.Rows.{BySection}
 use Rattle.index.specs.Contributed.{ContributionsAre}
 use Rattle.index.specs.Held.{PowerOfTwo}
 use Rattle.index.specs.declared.judging.Contributions.{Contributions}
-use Rattle.work.specs.Regions.{recordsRegion, stringsRegion, slotsRegion, region, Apart}
-use Rattle.work.proofs.Stores.{records-strings, slots-strings, tables-apart}
+use Rattle.work.specs.Regions.{recordsRegion, stringsRegion, slotsRegion, rowsRegion, codesRegion, region, Apart}
+use Rattle.work.proofs.Stores.{records-strings, slots-strings, records-rows, slots-rows, records-codes, slots-codes, tables-apart}
 use Rattle.package.specs.Filing.{Filed, isUnder, kept}
 use Rattle.package.specs.Pack.{rowsOf, unitBytes}
 use Rattle.kept.specs.Columns.{columnsFor, Marked}
@@ -39,7 +39,7 @@ use Rattle.kept.proofs.Seen.{sought-known, sought-free}
 use Rattle.kept.proofs.SeenSlots.{seen-power, seen-le, seen-gt}
 use Rattle.kept.proofs.Placing.{slots-long, slots-power, records-long, kept-length, kept-records, kept-others, kept-slots, kept-other-slots}
 use Rattle.kept.proofs.Holding.{length-identities, KeptAs, units-more, bytes-own, bytes-other}
-use Rattle.filing.specs.State.{StringsKept}
+use Rattle.filing.specs.State.{StringsKept, TransientStay}
 use Rattle.filing.specs.Choices.{NewUnit}
 use Rattle.filing.proofs.More.{kept-new, kept-known, kept-le, rows-few, rows-distinct, rows-known, good-more}
 
@@ -236,6 +236,13 @@ module _ {five : Bool} {b : List ℕ} {n slot : ℕ} {u : UnitHead} {k : Contrib
           same = same;
           strings = ap (λ (l : List ℕ). region l n stringsRegion) is ∙ kept-others w n (st .units .count) slot (unitOf u five cells) many keepable stringsRegion records-strings (slots-strings (u .table));
           table = refl;
+        }
+
+        pub transient-kept : TransientStay n w v
+        unfolding unitOf
+        transient-kept = record {
+          rows = ap (λ (l : List ℕ). region l n rowsRegion) is ∙ kept-others w n (st .units .count) slot (unitOf u five cells) many keepable rowsRegion records-rows (slots-rows (u .table));
+          codes = ap (λ (l : List ℕ). region l n codesRegion) is ∙ kept-others w n (st .units .count) slot (unitOf u five cells) many keepable codesRegion records-codes (slots-codes (u .table));
         }
 
         units-held : UnitsHeld five b (region v n recordsRegion) (λ t. slotsIn v n t (seenSlots n))

@@ -12,6 +12,8 @@ pub mod Answering
 pub mod Reading
 pub mod Walking
 pub mod OverSections
+pub mod Lending
+pub mod Codes
 pub mod Stringing
 pub mod Inputting
 pub mod InputLaws

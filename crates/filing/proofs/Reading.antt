@@ -50,18 +50,6 @@ module _ (b : List ℕ) (x : InputObject) (i : Input) (is : InputIs b x i) (home
   many : length s ≡ stop - at
   many = length-part b at (stop - at) (omega arith)
 
-  -- what was read is the definition's unit
-  pub answer-is : (h : ℕ) (z : UnitAnswer) → h ≡ home
-      → z ≡ unitAnswer (unitOf (encodingIs (x .encoding)) h (take (getD (x .start) 3 0 + getD (x .size) 3 0 - getD (x .start) 3 0) (drop (getD (x .start) 3 0) b)) (take (stop - at) (drop at b)))
-      → z ≡ unitAnswer (unitOf (i .encoding) home (i .bytes 3) s)
-  unfolding sectionOf
-  answer-is h z e q =
-      q
-      ∙ ap (λ (l : List ℕ). unitAnswer (unitOf (encodingIs (x .encoding)) h l (take (stop - at) (drop at b)))) (part-cut b (getD (x .start) 3 0) (getD (x .size) 3 0) ∙ sym (is .bytes 3 (omega arith)))
-      ∙ ap (λ (l : List ℕ). unitAnswer (unitOf (encodingIs (x .encoding)) h (i .bytes 3) l)) (part-is b at (stop - at))
-      ∙ ap (λ (k : ℕ). unitAnswer (unitOf (encodingIs (x .encoding)) k (i .bytes 3) s)) e
-      ∙ ap (λ (k : Encoding). unitAnswer (unitOf k home (i .bytes 3) s)) (is .encoding)
-
   pub answer-refused : (bases : BySection ℕ) (earlier here : List Filed) (place from : ℕ) (w v : List ℕ) (st : InProgress) (m : ℕ) (z : UnitFiled) → Refused m ≡ unitAnswer (unitOf (i .encoding) home (i .bytes 3) s) → z .code ≡ m
       → UnitIs b x i place w v st bases earlier here (unitAt i bases earlier here home from s) z
   unfolding UnitIs

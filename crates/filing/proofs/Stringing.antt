@@ -37,78 +37,24 @@ use Rattle.kept.specs.declared.state.InProgress.{InProgress}
 use Rattle.kept.proofs.SeenSlots.{seen-le}
 use Rattle.kept.proofs.Placing.{slots-front}
 use Rattle.filing.specs.State.{wordsIn, withStrings, OnlyStrings}
+use Rattle.filing.proofs.Lending.{Beside, lent-is, lent-left}
 use Rattle.filing.specs.ByObject.{stringsCheck, StringsIn, StringsAre}
 
 -- ---- what is filed stays
-module _ {n : ℕ} (w v : List ℕ) (r : OnlyStrings n w v) where
-  slots-same : 2 ≤ n → (t : ℕ) → slotsIn v n t (seenSlots n) ≡ slotsIn w n t (seenSlots n)
-  slots-same h t =
-      slots-front v n t (seenSlots n) (seen-le n h) ∙ ap (λ (l : List ℕ). part l 0 (seenSlots n)) (r .others (slotsRegion t) (strings-slots t))
-      ∙ sym (slots-front w n t (seenSlots n) (seen-le n h))
-
-  all-same : 2 ≤ n → _≡_ {A = ℕ → List ℕ} (λ t. slotsIn w n t (seenSlots n)) (λ t. slotsIn v n t (seenSlots n))
-  all-same h = λ j t. sym (slots-same h t) j
-
-  pub held-strings : (five : Bool) (b : List ℕ) (place : ℕ) (st : InProgress) (t : StringTable) (bases : BySection ℕ) (us : List Filed) → Held five b n place w st bases us → Held five b n place v (withStrings st t) bases us
-  held-strings five b place st t bases us k =
-      record {
-        room = rw (r .same) (k .room);
-        words = k .words;
-        some = k .some;
-        units = k .units;
-        spent = k .spent;
-        held =
-            subst (λ (l : List ℕ). UnitsHeld five b l (λ (t : ℕ). slotsIn v n t (seenSlots n)) (st .units) (kept us)) (sym (r .others recordsRegion strings-records))
-            (subst (λ (f : ℕ → List ℕ). UnitsHeld five b (region w n recordsRegion) f (st .units) (kept us)) (all-same (k .some)) (k .held));
-        based = k .based;
-        low = k .low;
-        unitsLow = k .unitsLow;
-        within = k .within;
-        limit = k .limit;
-      }
+pub strings-beside : Beside stringsRegion
+strings-beside = record { records = strings-records; slots = strings-slots }
 
 -- ---- the region as it is lent
-pub region-same : (n : ℕ) (w : List ℕ) → OnlyStrings n w w
-region-same n w = record { same = refl; others = λ s a. refl }
-
 module _ (n from many : ℕ) (w : List ℕ) (room : workForWord * n ≤ length w) (ef : from ≡ stringsRegion .start * n) (em : many ≡ stringsRegion .words * n) where
-  pub lent-fits : from + many ≤ length w
-  lent-fits = omega (arith, region-fits stringsRegion strings-within n w room)
-
   abbrev lent : List ℕ
   lent = take (from + many - from) (drop from w)
 
-  lent-is : lent ≡ region w n stringsRegion
-  unfolding region
-  lent-is = part-cut w from many ∙ ap₂ (part w) ef em
-
-  pub lent-length : length lent ≡ stringsRegion .words * n
-  lent-length = ap length lent-is ∙ length-region stringsRegion strings-within n w room
-
   pub lent-kept : (b : List ℕ) (t : StringTable) (ts : List (List ℕ)) → Kept b (region w n stringsRegion) t ts → Kept b lent t ts
-  lent-kept b t ts k = subst (λ (l : List ℕ). Kept b l t ts) (sym lent-is) k
+  lent-kept b t ts k = subst (λ (l : List ℕ). Kept b l t ts) (sym (lent-is stringsRegion strings-within n from many w room ef em)) k
 
   module _ (words v : List ℕ) (same : length words ≡ length lent) (is : v ≡ putMid from (from + many - from) w words) where
-    words-many : length words ≡ stringsRegion .words * n
-    words-many = same ∙ lent-length
-
-    stored : v ≡ placed w from words
-    stored = is ∙ placed-whole w from (from + many - from) words (words-many ∙ omega arith)
-
-    pub region-left : OnlyStrings n w v
-    region-left =
-        let o : from ≡ stringsRegion .start * n + 0 = omega arith in
-        let p : v ≡ placed w (stringsRegion .start * n + 0) words = stored ∙ ap (λ (a : ℕ). placed w a words) o in
-        let inside : 0 + length words ≤ stringsRegion .words * n = omega (arith, words-many) in
-        record {
-          same = ap length p ∙ store-length stringsRegion strings-within n w room 0 words inside;
-          others = λ s a. ap (λ (l : List ℕ). region l n s) p ∙ others-stay stringsRegion strings-within n w room 0 words inside s a;
-        }
-
     region-part : region v n stringsRegion ≡ words
-    unfolding region
-    region-part =
-        sym (ap₂ (part v) ef words-many) ∙ ap (λ (l : List ℕ). part l from (length words)) stored ∙ part-placed w from words (omega (arith, lent-fits, words-many))
+    region-part = lent-left stringsRegion strings-within n from many w room ef em words v same is
 
     module _ (b : List ℕ) (wide : n ≡ wordsIn b) (e : Encoding) (there : Bool) (o s : List ℕ) (t : StringTable) (yes-there : there ≡ true) (counted : entriesOf e o ≡ pass (entriesIn e o))
         (ts : List (List ℕ)) (r : Added) (added : AddedIs b words ts (stringsAt s (entriesIn e o)) r) where

@@ -3,13 +3,19 @@
 use mathlib.Core.Path.{_≡_}
 use mathlib.Core.Bool.{Bool}
 use mathlib.Core.List.{List, [], _∷_, _++_}
-use Prim.Native.Nat.{ℕ, suc, _+_, _-_, _<_, _≤_}
-use lib.ListN.{length, take, drop}
+use Prim.Native.Nat.{ℕ, suc, _+_, _*_, _-_, _<_, _≤_}
+use lib.ListN.{length, take, drop, getD}
 use Rattle.octets.specs.Octets.{part}
 use Rattle.bundle.specs.Bundle.{items}
 use Rattle.bundle.specs.Scan.{Reaches, sectionsOf, placeBehind}
 use Rattle.index.specs.Rows.{BySection}
 use Rattle.index.specs.declared.judging.Contributions.{Contributions}
+use Rattle.numbers.specs.Limits.{bundleLimit, workForWord}
+use Rattle.numbers.specs.Sections.{abbrevCode}
+use Rattle.unit.specs.UnitRead.{unitOf}
+use Rattle.unit.specs.Headers.{unitAnswer}
+use Rattle.unit.specs.declared.header.UnitRead.{UnitRead}
+use Rattle.unit.specs.declared.judged.Judged.{Judged}
 use Rattle.package.specs.Input.{Input, unitSections}
 use Rattle.package.specs.Filing.{Filed, unitAt, unitsFrom, unitsIn}
 use Rattle.kept.specs.Held.{OneOrTwo}
@@ -22,6 +28,8 @@ use Rattle.filing.specs.declared.units.HomeSection.{HomeSection}
 use Rattle.filing.specs.declared.units.ReadUnit.{ReadUnit}
 use Rattle.filing.specs.declared.units.UnitFiled.{UnitFiled}
 use Rattle.filing.specs.declared.units.UnitsFiled.{UnitsFiled}
+use Rattle.filing.specs.Judged.{InputIs}
+use Rattle.filing.specs.State.{wordsIn, Remembered}
 use Rattle.filing.specs.Answers.{AtUnit, UnitIs, UnitsAre}
 use Rattle.filing.specs.Choices.{ReadAt, NewUnit}
 
@@ -62,6 +70,20 @@ abbrev pub ReadFiled : List ℕ → InputObject → HomeSection → ℕ → Read
 ReadFiled b x h at u st ss w v r =
     (i : Input) (bases : BySection ℕ) (earlier here : List Filed) (s : List ℕ) → AtUnit b x i at w st ss bases earlier here → ReadAt i (h .home) (u .size) (u .table) (u .identity) s
     → take (u .size) s ≡ part b at (u .size) → UnitIs b x i at w v st bases earlier here (unitAt i bases earlier here (h .home) (at - h .start) s) r
+
+-- the unit at a place is read, with the table judged last
+pub record PlaceAsked (b : List ℕ) (x : InputObject) (h : HomeSection) (at : ℕ) (j : Judged) (w : List ℕ) : Type 0 where
+  pub low : at < h .stop
+  pub within : h .stop ≤ length b
+  pub homes : OneOrTwo (h .home)
+  pub abbreviations : getD (x .start) abbrevCode 0 + getD (x .size) abbrevCode 0 ≤ length b
+  pub room : workForWord * wordsIn b ≤ length w
+  pub words : length b ≡ 4 * wordsIn b
+  pub limit : length b ≤ bundleLimit
+  pub memory : Remembered b w j
+
+abbrev pub PlaceRead : List ℕ → InputObject → HomeSection → ℕ → UnitRead → Type 0
+PlaceRead b x h at r = (i : Input) → InputIs b x i → r .answer ≡ unitAnswer (unitOf (i .encoding) (h .home) (i .bytes abbrevCode) (part b at (h .stop - at)))
 
 pub record UnitAsked (b : List ℕ) (x : InputObject) (h : HomeSection) (at : ℕ) (st : InProgress) (ss : Sums) (w : List ℕ) : Type 0 where
   pub from : h .start ≤ at

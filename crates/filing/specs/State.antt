@@ -7,7 +7,9 @@ use lib.ListN.{length, getD}
 use Rattle.numbers.specs.Limits.{bundleLimit}
 use Rattle.numbers.specs.Sections.{sectionCodes}
 use Rattle.strings.specs.declared.table.StringTable.{StringTable}
-use Rattle.work.specs.Regions.{Layout, stringsRegion, region, Apart}
+use Rattle.work.specs.Regions.{Layout, stringsRegion, rowsRegion, codesRegion, region, Apart}
+use Rattle.unit.specs.TableTrees.{Remembers}
+use Rattle.unit.specs.declared.judged.Judged.{Judged}
 use Rattle.package.specs.Filing.{Filed, sums}
 use Rattle.kept.specs.declared.state.InProgress.{InProgress}
 use Rattle.filing.specs.declared.state.Sums.{Sums}
@@ -31,7 +33,19 @@ pub record StringsKept (n : ℕ) (w v : List ℕ) (st next : InProgress) : Type 
   pub strings : region v n stringsRegion ≡ region w n stringsRegion
   pub table : next .strings ≡ st .strings
 
--- nothing but the region of strings has changed
-pub record OnlyStrings (n : ℕ) (w v : List ℕ) : Type 0 where
+-- nothing but one region has changed
+pub record Only (r : Layout) (n : ℕ) (w v : List ℕ) : Type 0 where
   pub same : length v ≡ length w
-  pub others : (s : Layout) → Apart stringsRegion s → region v n s ≡ region w n s
+  pub others : (s : Layout) → Apart r s → region v n s ≡ region w n s
+
+abbrev pub OnlyStrings : ℕ → List ℕ → List ℕ → Type 0
+OnlyStrings n w v = Only stringsRegion n w v
+
+-- what counts for one object or one table alone is as it was
+pub record TransientStay (n : ℕ) (w v : List ℕ) : Type 0 where
+  pub rows : region v n rowsRegion ≡ region w n rowsRegion
+  pub codes : region v n codesRegion ≡ region w n codesRegion
+
+-- the abbreviation table that was judged last, in work w for the bundle b
+abbrev pub Remembered : List ℕ → List ℕ → Judged → Type 0
+Remembered b w j = Remembers b (region w (wordsIn b) codesRegion) j

@@ -1,6 +1,6 @@
 // A unit that is kept: its record, its slot and its object's sums.
 ghost use mathlib.Core.Path.{_≡_};
-ghost use Rattle.filing.specs.State.{StringsKept};
+ghost use Rattle.filing.specs.State.{StringsKept, TransientStay};
 ghost use Rattle.filing.specs.Choices.{sumsOf, withSums, SumsRoom, SumsGrown};
 ghost use Rattle.filing.specs.Asked.{KeepAsked, UnitKept};
 use crate::state::COMPILATION;
@@ -60,6 +60,7 @@ pub fn keep_unit(
     requires { ⌜ KeepAsked five n slot unit k st (now work) ⌝ }
     ensures held { λ r. ⌜ UnitKept five n slot unit k st (now (work .entry)) (now (work .exit)) r ⌝ }
     ensures strings { λ r. ⌜ StringsKept n (now (work .entry)) (now (work .exit)) st r ⌝ }
+    ensures transient { λ _. ⌜ TransientStay n (now (work .entry)) (now (work .exit)) ⌝ }
 {
     let units = st.units;
     let bases = st.bases;

@@ -2,13 +2,24 @@
 ghost use mathlib.Core.Path.{_≡_};
 ghost use Prim.Native.Nat.{_<_, _^_};
 ghost use Rattle.kept.specs.Held.{pick};
+ghost use Rattle.work.specs.Regions.{codesRegion};
+ghost use Rattle.filing.specs.State.{wordsIn, Only, TransientStay, Remembered};
 ghost use Rattle.filing.specs.Choices.{KnownIs, unitFor};
-ghost use Rattle.filing.specs.Asked.{ReadAsked, ReadFiled, UnitAsked, UnitAnswered};
+ghost use Rattle.filing.specs.Asked.{
+  ReadAsked,
+  ReadFiled,
+  PlaceAsked,
+  PlaceRead,
+  UnitAsked,
+  UnitAnswered,
+};
 use crate::input::InputObject;
 use crate::state::COMPILATION;
 use crate::state::Sums;
+use crate::units::Carried;
 use crate::units::HomeSection;
 use crate::units::ReadUnit;
+use crate::units::UnitDone;
 use crate::units::UnitFiled;
 use kept::Units;
 use kept::records::Unit;
@@ -17,6 +28,9 @@ use kept::state::InProgress;
 use numbers::refusals::IDENTITY_SEEN;
 use numbers::sections::ABBREV;
 use unit::header::UnitAnswer;
+use unit::header::UnitPlace;
+use unit::header::UnitRead;
+use unit::judged::Judged;
 
 fn refused(code: u32, st: InProgress, sums: Sums) -> UnitFiled
     ensures { λ r. ⌜ r .code ≡ code ⌝ }
@@ -72,7 +86,8 @@ fn file_read(
     work: &mut [u32],
 ) -> UnitFiled
     requires { ⌜ ReadAsked (now b) x section at read st sums (now work) ⌝ }
-    ensures { λ r. ⌜ ReadFiled (now (b .entry)) x section at read st sums (now (work .entry)) (now (work .exit)) r ⌝ }
+    ensures filed { λ r. ⌜ ReadFiled (now (b .entry)) x section at read st sums (now (work .entry)) (now (work .exit)) r ⌝ }
+    ensures transient { λ _. ⌜ TransientStay (wordsIn (now (b .entry))) (now (work .entry)) (now (work .exit)) ⌝ }
 {
     let n = b.len() / 4;
     let home = section.home;
@@ -112,6 +127,37 @@ fn file_read(
     }
 }
 
+// Reads the unit at a place of a section, with its object's abbreviations. One table judged is remembered in the region of codes.
+fn read_at(
+    b: &[u8],
+    x: InputObject,
+    section: HomeSection,
+    at: usize,
+    judged: Judged,
+    work: &mut [u32],
+) -> UnitRead
+    requires { ⌜ PlaceAsked (now b) x section at judged (now work) ⌝ }
+    ensures read { λ r. ⌜ PlaceRead (now (b .entry)) x section at r ⌝ }
+    ensures memory { λ r. ⌜ Remembered (now (b .entry)) (now (work .exit)) (r .judged) ⌝ }
+    ensures frame { λ _. ⌜ Only codesRegion (wordsIn (now (b .entry))) (now (work .entry)) (now (work .exit)) ⌝ }
+{
+    let e = x.encoding;
+    let first = x.start[ABBREV];
+    let last = first + x.size[ABBREV];
+    let home = octets::narrow(section.home);
+    let size = section.stop - at;
+    let place = UnitPlace {
+        at,
+        size,
+        first,
+        last,
+    };
+    let region = work::codes(b.len() / 4);
+    let from = region.start;
+    let to = from + region.size;
+    unit::header::read_unit(e, home, b, place, &mut work[from..to], judged)
+}
+
 // The unit at a place of a section of units.
 pub fn file_unit(
     b: &[u8],
@@ -119,20 +165,23 @@ pub fn file_unit(
     section: HomeSection,
     at: usize,
     st: InProgress,
-    sums: Sums,
+    carried: Carried,
     work: &mut [u32],
-) -> UnitFiled
-    requires { ⌜ UnitAsked (now b) x section at st sums (now work) ⌝ }
-    ensures { λ r. ⌜ UnitAnswered (now (b .entry)) x section at st sums (now (work .entry)) (now (work .exit)) r ⌝ }
+) -> UnitDone
+    requires { ⌜ UnitAsked (now b) x section at st (carried .sums) (now work) × Remembered (now b) (now work) (carried .judged) ⌝ }
+    ensures filed { λ r. ⌜ UnitAnswered (now (b .entry)) x section at st (carried .sums) (now (work .entry)) (now (work .exit)) (r .filed) ⌝ }
+    ensures memory { λ r. ⌜ Remembered (now (b .entry)) (now (work .exit)) (r .judged) ⌝ }
 {
-    let e = x.encoding;
-    let first = x.start[ABBREV];
-    let last = first + x.size[ABBREV];
-    let home = octets::narrow(section.home);
-    let stop = section.stop;
-    let answer = unit::header::read_unit(e, home, &b[first..last], &b[at..stop]);
+    let sums = carried.sums;
+    let last = carried.judged;
+    let unit = read_at(b, x, section, at, last, work);
+    let judged = unit.judged;
+    let answer = unit.answer;
     match answer {
-        UnitAnswer::Refused(code) => refused(code, st, sums),
+        UnitAnswer::Refused(code) => {
+            let filed = refused(code, st, sums);
+            UnitDone { filed, judged }
+        }
         UnitAnswer::Read(size, number, identity) => {
             let table = octets::wide(number);
             let read = ReadUnit {
@@ -140,7 +189,8 @@ pub fn file_unit(
                 table,
                 identity,
             };
-            file_read(b, x, section, at, read, st, sums, work)
+            let filed = file_read(b, x, section, at, read, st, sums, work);
+            UnitDone { filed, judged }
         }
     }
 }

@@ -1,6 +1,7 @@
 // What filing units takes and answers by value.
 use crate::state::Sums;
 use kept::state::InProgress;
+use unit::judged::Judged;
 
 // The section of units at hand: its code, and where it lies in the bundle.
 pub struct HomeSection {
@@ -16,6 +17,12 @@ pub struct ReadUnit {
     pub identity: u64,
 }
 
+// What the unit before has left: its object's sums, and the abbreviation table that was judged last.
+pub struct Carried {
+    pub sums: Sums,
+    pub judged: Judged,
+}
+
 // A unit filed: 0 or the refusal, its size, and what is known behind it.
 pub struct UnitFiled {
     pub code: u32,
@@ -29,4 +36,15 @@ pub struct UnitsFiled {
     pub code: u32,
     pub st: InProgress,
     pub sums: Sums,
+}
+
+// Both with the abbreviation table that was judged last.
+pub struct UnitDone {
+    pub filed: UnitFiled,
+    pub judged: Judged,
+}
+
+pub struct UnitsDone {
+    pub filed: UnitsFiled,
+    pub judged: Judged,
 }

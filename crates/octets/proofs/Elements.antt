@@ -14,7 +14,7 @@ use lib.Seq.{drop-cons}
 use borrow.Author.Tests.{eqb-true, eqb-false, eq-eqb, ne-eqb}
 use Rattle.octets.specs.Octets.{zeros}
 use Rattle.octets.specs.Lists.{all, any, has, distinct, same}
-use Rattle.octets.proofs.Checks.{true-false, known, or-neither}
+use Rattle.octets.proofs.Checks.{true-false, known, or-right, or-neither}
 use Rattle.octets.proofs.Lists.{all-cons, all-stops, all-head, all-tail, any-cons, any-stops, any-more, any-none-head, any-none-tail, any-append}
 
 module _ {A : Type 0} (f : A → Bool) (d : A) where
@@ -144,3 +144,15 @@ distinct-snoc (n ∷ ns) x e g =
     let back : eqb n x ≡ false = ne-eqb n x (λ q. eqb-false x n new (sym q)) in
     let none : has (ns ++ (x ∷ [])) n ≡ false = has-append ns (x ∷ []) n ∙ or-neither (has ns n) (has (x ∷ []) n) (distinct-head n ns e) (any-cons (eqb n) x [] back) in
     distinct-cons n (ns ++ (x ∷ [])) none ∙ distinct-snoc ns x (distinct-tail n ns e) (any-none-tail (eqb x) n ns g)
+
+-- a number that stands there already, and once more behind
+pub distinct-repeats : (ns ms : List ℕ) (x : ℕ) → has ns x ≡ true → distinct (ns ++ (x ∷ ms)) ≡ false
+unfolding has any
+distinct-repeats [] ms x e = absurd (true-false e refl)
+distinct-repeats (n ∷ ns) ms x e = ⊎-elim
+    (λ p. distinct-stops n (ns ++ (x ∷ ms)) p)
+    (λ p. distinct-cons n (ns ++ (x ∷ ms)) p ∙ distinct-repeats ns ms x (sym (has-skips x n ns (differs p)) ∙ e))
+    (known (has (ns ++ (x ∷ ms)) n))
+  where
+    differs : has (ns ++ (x ∷ ms)) n ≡ false → x ≡ n → ⊥
+    differs p q = true-false (has-append ns (x ∷ ms) n ∙ or-right (has ns n) (has (x ∷ ms) n) (has-cons n x ms (sym q))) p

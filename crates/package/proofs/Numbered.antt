@@ -11,7 +11,7 @@ use Rattle.octets.specs.Lists.{any}
 use Rattle.octets.specs.Checked.{Check}
 use Rattle.octets.proofs.Refusals.{Between, between-pass as passes, between-refuse as refuses, between-require as requires, between-bind as binds, between-choice as chooses, between-only as only}
 use Rattle.bundle.specs.Encoding.{Encoding}
-use Rattle.unit.specs.UnitRead.{UnitRead, lengthField, unitSize, isFive, behindCommon, identityFive, identityFour, identityOf, unitOf}
+use Rattle.unit.specs.UnitRead.{UnitRead, lengthField, unitSize, isFive, behindCommon, identityFive, identityFour, identityOf, unitBy, unitOf}
 use Rattle.unit.proofs.Rooted.{only-rootIdentity}
 use Rattle.index.specs.Index.{Index}
 use Rattle.index.specs.Probing.{Probe, found, absent, probe}
@@ -44,10 +44,10 @@ unfolding unitSize
 sized e s = binds _ _ (requires _ 11 refl) (λ _. chooses (eqb (e .width) 4) _ _ (binds _ _ (requires _ 11 refl) (λ _. passes _)) (binds _ _ (requires _ 11 refl) (λ _. passes _)))
 
 pub read-numbered : (e : Encoding) (home : ℕ) (abbreviations s : List ℕ) → Numbered (unitOf e home abbreviations s)
-unfolding unitOf
+unfolding unitOf unitBy
 read-numbered e home abbreviations s =
     binds _ _ (sized e s) (λ size. binds _ _ (requires _ 11 refl) (λ _. binds _ _ (requires _ 11 refl) (λ _. binds _ _ (requires _ 11 refl) (λ _. binds _ _ (requires _ 11 refl) (λ _.
-    binds _ _ (identity e home abbreviations (take size s)) (λ i. binds _ _ (requires _ 13 refl) (λ _. passes _)))))))
+    binds _ _ (passes abbreviations) (λ table. binds _ _ (identity e home table (take size s)) (λ i. binds _ _ (requires _ 13 refl) (λ _. passes _))))))))
 
 -- ---- filing it
 row : (i : Index) (p : Probe) → Numbered (rowOf i p)

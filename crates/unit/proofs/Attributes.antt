@@ -61,8 +61,8 @@ module _ (a b : ℕ) where
   unfolding zeroTogether
   second-zero h g = rw (zeroTogether, ne-eqb a 0 h, eq-eqb b 0 g)
 
--- it takes at least a byte, and ends in s
-pub attributeAt-taken : (s : List ℕ) (r : Attribute × ℕ) → attributeAt s ≡ pass r → (1 ≤ r .1) × (r .1 ≤ length s)
+-- it takes at least two bytes, and ends in s
+pub attributeAt-taken : (s : List ℕ) (r : Attribute × ℕ) → attributeAt s ≡ pass r → (2 ≤ r .1) × (r .1 ≤ length s)
 unfolding attributeAt
 attributeAt-taken s r e =
     let p = bind-pass (short s) _ r e in
@@ -72,7 +72,7 @@ attributeAt-taken s r e =
     let h = short-taken s (p .0) (p .1) in
     let g = short-taken (drop (p .0 .1) s) (q .0) (q .1) in
     let n : p .0 .1 + q .0 .1 ≡ r .1 = ap (λ (x : Attribute × ℕ). x .1) (pass-inj (v .1)) in
-    (omega (arith, h .some), omega (arith, h .within, g .within, length-drop (p .0 .1) s))
+    (omega (arith, h .some, g .some), omega (arith, h .within, g .within, length-drop (p .0 .1) s))
 
 pub only-attributeAt : (s : List ℕ) → Only 12 (attributeAt s)
 unfolding attributeAt
@@ -138,8 +138,8 @@ then-more : (a : Attribute) (n : ℕ) (f : ℕ → Check (List Attribute × ℕ)
 unfolding attributesThen
 then-more a n f h = rw (attributesThen, ne-eqb (a .name) 0 h)
 
--- they take at least a byte, and end in s
-from-within : (k : ℕ) (s : List ℕ) (r : List Attribute × ℕ) → attributesFrom k s ≡ pass r → (1 ≤ r .1) × (r .1 ≤ length s)
+-- they take at least two bytes, and end in s
+from-within : (k : ℕ) (s : List ℕ) (r : List Attribute × ℕ) → attributesFrom k s ≡ pass r → (2 ≤ r .1) × (r .1 ≤ length s)
 unfolding attributesFrom
 from-within zero s r e = absurd (pass-refuse r 12 (sym e))
 from-within (suc k) s r e =
@@ -156,7 +156,7 @@ from-within (suc k) s r e =
           (omega (arith, t .0), omega (arith, t .1, i .1, length-drop (p .0 .1) s))
     ]
 
-pub attributes-within : (s : List ℕ) (r : List Attribute × ℕ) → attributesOf s ≡ pass r → (1 ≤ r .1) × (r .1 ≤ length s)
+pub attributes-within : (s : List ℕ) (r : List Attribute × ℕ) → attributesOf s ≡ pass r → (2 ≤ r .1) × (r .1 ≤ length s)
 unfolding attributesOf
 attributes-within s r e = from-within (length s) s r e
 

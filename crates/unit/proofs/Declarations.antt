@@ -27,7 +27,8 @@ pub record Stands (s : List ℕ) (p : Place) : Type 0 where
   pub attributes : List Attribute
   pub size : ℕ
   pub read : attributesOf (drop (p .start) s) ≡ pass (attributes, size)
-  pub order : p .start ≤ p .end
+  pub head : 2 ≤ p .start
+  pub order : p .start + 2 ≤ p .end
   pub within : p .end ≤ length s
   pub is : (code : ℕ) → declarationAt code s ≡ pass (declared code (p .tag) attributes, p .end)
 
@@ -48,7 +49,8 @@ place-stands s p e =
       attributes = read .0 .0;
       size = read .0 .1;
       read = ap attributesOf (sym (drop-drop 1 (tag .0 .1) s)) ∙ read .1;
-      order = omega arith;
+      head = omega (arith, h .some);
+      order = omega (arith, w .0, m);
       within = omega (arith, w .1, w .0, h .within, m, length-drop (tag .0 .1) s, length-drop 1 (drop (tag .0 .1) s));
       is = λ code. then-pass _ _ _ (tag .1) ∙ passes _ _ _ (named .0) ∙ passes _ _ _ (child .0) ∙ then-pass _ _ _ (read .1)
           ∙ ap (λ (k : ℕ). pass (declared code (tag .0 .0) (read .0 .0), tag .0 .1 + 1 + k)) m;

@@ -1,32 +1,31 @@
--- The search for a code in an abbreviation table that is good.
+-- The search for a code in an abbreviation table that is held in a tree.
 -- Assumes nothing.
 use mathlib.Core.Path.{_≡_, refl, sym, ap, _∙_}
-use mathlib.Core.List.{List, _∷_}
+use mathlib.Core.Bool.{true, false}
+use mathlib.Core.List.{List, [], _∷_}
 use mathlib.Core.Option.{some, none}
-use Prim.Native.Nat.{ℕ, _+_, _≤_}
-use lib.ListN.{length, drop}
-use lib.Seq.{drop-drop}
+use Prim.Native.Nat.{ℕ, zero, suc, _+_, _*_, _<_, _≤_}
+use native.Mathlib.Nat.{not-suc-le-zero, le-of-suc-le-suc}
+use native.Mathlib.Omega.{arith}
+use lib.ListN.{length, drop, getD, length-map}
 use borrow.Author.Tests.{eq-eqb, ne-eqb}
+use Rattle.octets.specs.Lists.{has, any, distinct}
 use Rattle.octets.specs.Checked.{pass, refuse}
-use Rattle.octets.proofs.Checks.{pass-refuse, pass-inj, bind-pass, require-pass}
-use Rattle.unit.specs.Abbreviations.{Declaration, attributesOf, declarationsOf, declarationOf}
+use Rattle.octets.proofs.Checks.{pass-refuse, pass-inj, bind-pass, require-pass, true-false}
+use Rattle.octets.proofs.Elements.{has-at, has-cons, has-skips, distinct-head, distinct-tail}
+use Rattle.unit.specs.Abbreviations.{Declaration, declarationsOf, declarationOf}
 use Rattle.unit.specs.Tables.{Coded, declaredAt, declarations, Located}
+use Rattle.unit.specs.Trees.{codeAt, carriedAt, Rising, Ends}
+use Rattle.unit.specs.TableTrees.{codesOf, noDeclaration, Declares, TableHeld}
+use Rattle.unit.specs.declared.tree.Walked.{Walked}
+use Rattle.unit.specs.declared.tree.Walked.the-variants as walked
 use Rattle.unit.specs.declared.abbreviations.Found.the-variants.{At, Nothing}
-use Rattle.unit.proofs.Walks.{declared, before, Fronts, table-end, table-more, table-not, walk-within}
+use Rattle.unit.proofs.Trees.{free-not}
 
--- what is left of the table, in which the same is found
-pub record Ahead (s : List ℕ) (at : ℕ) (ds : List Declaration) (code : ℕ) : Type 0 where
-  pub left : List Declaration
-  pub is : declarations (drop at s) ≡ pass left
-  pub same : declarationOf left code ≡ declarationOf ds code
+some-inj : {A : Type 0} {a b : A} → some a ≡ some b → a ≡ b
+some-inj e = cc
 
-pub ahead-all : (s : List ℕ) (ds : List Declaration) (code : ℕ) → declarationsOf s ≡ pass ds → Ahead s 0 ds code
-unfolding declarationsOf declarations
-ahead-all s ds code e =
-    let p = bind-pass (declarations s) _ ds e in
-    let q = require-pass _ _ _ _ (p .2) in
-    record { left = p .0; is = p .1; same = ap (λ (es : List Declaration). declarationOf es code) (pass-inj (q .1)) }
-
+-- ---- the first declaration of a code, where codes differ
 matched : (d : Declaration) (es : List Declaration) (code : ℕ) → d .code ≡ code → declarationOf (d ∷ es) code ≡ some d
 unfolding declarationOf
 matched d es code g = rw (declarationOf, eq-eqb (d .code) code g)
@@ -35,36 +34,103 @@ skipped : (d : Declaration) (es : List Declaration) (code : ℕ) → (d .code �
 unfolding declarationOf
 skipped d es code g = rw (declarationOf, ne-eqb (d .code) code g)
 
-module _ (s : List ℕ) (at : ℕ) (ds : List Declaration) (code : ℕ) (a : Ahead s at ds code) where
-  pub found-not : (k : ℕ) → declaredAt (drop at s) ≡ refuse k → ⊥
-  found-not k e = pass-refuse (a .left) 12 (sym (a .is) ∙ table-not (drop at s) k e)
+code-at : (ds : List Declaration) (k : ℕ) → k < length ds → getD (codesOf ds) k 0 ≡ getD ds k noDeclaration .code
+code-at [] k l = absurd (not-suc-le-zero l)
+code-at (d ∷ ds) zero l = refl
+code-at (d ∷ ds) (suc k) l = code-at ds k (le-of-suc-le-suc l)
 
-  pub found-end : declaredAt (drop at s) ≡ pass none → Located s ds code Nothing
-  unfolding Located declarationOf
-  found-end e = sym (a .same) ∙ ap (λ (es : List Declaration). declarationOf es code) (pass-inj (sym (a .is) ∙ table-end (drop at s) e))
+the-declaration : (ds : List Declaration) (k code : ℕ) → distinct (codesOf ds) ≡ true → k < length ds → getD ds k noDeclaration .code ≡ code
+    → declarationOf ds code ≡ some (getD ds k noDeclaration)
+the-declaration [] k code e l g = absurd (not-suc-le-zero l)
+the-declaration (d ∷ ds) zero code e l g = matched d ds code g
+the-declaration (d ∷ ds) (suc k) code e l g =
+    let m : k < length ds = le-of-suc-le-suc l in
+    skipped d ds code (λ h. true-false (has-at (codesOf ds) (d .code) k (rw (length-map ds (λ x. x .code)) m) (code-at ds k m ∙ g ∙ sym h)) (distinct-head (d .code) (codesOf ds) e))
+    ∙ the-declaration ds k code (distinct-tail (d .code) (codesOf ds) e) m g
 
-  module _ (d : Coded) (e : declaredAt (drop at s) ≡ pass (some d)) where
-    front : Fronts (drop at s) d
-    front = table-more (drop at s) d e
+no-declaration : (ds : List Declaration) (code : ℕ) → has (codesOf ds) code ≡ false → declarationOf ds code ≡ none
+unfolding declarationOf
+no-declaration [] code e = refl
+no-declaration (d ∷ ds) code e =
+    let z : d .code ≡ code → ⊥ = λ h. true-false (has-cons code (d .code) (codesOf ds) (sym h)) e in
+    skipped d ds code z ∙ no-declaration ds code (sym (has-skips code (d .code) (codesOf ds) (λ h. z (sym h))) ∙ e)
 
-    next : (es : List Declaration) × (declarations (drop (d .place .end) (drop at s)) ≡ pass es) × (declared d (front .attributes) ∷ es ≡ a .left)
-    next =
-        let p = bind-pass (declarations (drop (d .place .end) (drop at s))) (before (declared d (front .attributes))) (a .left) (sym (front .is) ∙ a .is) in
-        (p .0, p .1, pass-inj (p .2))
+read-distinct : (s : List ℕ) (ds : List Declaration) → declarationsOf s ≡ pass ds → distinct (codesOf ds) ≡ true
+unfolding declarationsOf declarations
+read-distinct s ds e =
+    let p = bind-pass (declarations s) _ ds e in
+    let q = require-pass _ _ _ _ (p .2) in
+    ap (λ (x : List Declaration). distinct (codesOf x)) (sym (pass-inj (q .1))) ∙ q .0
 
-    pub found-here : at ≤ length s → d .code ≡ code → Located s ds code (At (d .place .tag) (at + d .place .start))
+-- ---- in the tree
+module _ (s w : List ℕ) (n code : ℕ) (t : TableHeld s w n) where
+  codes-count : length (codesOf (t .declared)) ≡ n
+  codes-count = length-map (t .declared) (λ d. d .code) ∙ t .counted
+
+  pub held-rising : Rising w n
+  held-rising = rw (← codes-count) (t .held .tree .rising)
+
+  module _ (ds : List Declaration) (e : declarationsOf s ≡ pass ds) where
+    same : ds ≡ t .declared
+    same = pass-inj (sym e ∙ t .read)
+
+    located-not : has (codesOf (t .declared)) code ≡ false → Located s ds code Nothing
     unfolding Located
-    found-here h g = (
-      declared d (front .attributes),
-      sym (a .same) ∙ ap (λ (es : List Declaration). declarationOf es code) (sym (next .2)) ∙ matched (declared d (front .attributes)) (next .0) code g,
-      refl,
-      walk-within s at d e h .2,
-      (front .size, ap attributesOf (sym (drop-drop (d .place .start) at s)) ∙ front .read),
-    )
+    located-not h = ap (λ (x : List Declaration). declarationOf x code) same ∙ no-declaration (t .declared) code h
 
-    pub found-on : (d .code ≡ code → ⊥) → Ahead s (at + d .place .end) ds code
-    found-on g = record {
-      left = next .0;
-      is = ap declarations (sym (drop-drop (d .place .end) at s)) ∙ next .1;
-      same = sym (skipped (declared d (front .attributes)) (next .0) code g) ∙ ap (λ (es : List Declaration). declarationOf es code) (next .2) ∙ a .same;
-    }
+    pub located-none : n ≡ 0 → Located s ds code Nothing
+    unfolding has any
+    located-none z = located-not (none (codesOf (t .declared)) (codes-count ∙ z))
+      where
+        none : (cs : List ℕ) → length cs ≡ 0 → has cs code ≡ false
+        none [] l = refl
+        none (c ∷ cs) l = absurd (omega arith)
+
+    pub located-free : (link : ℕ) (r : Walked) → r ≡ walked.Free link → Ends w n code r → Located s ds code Nothing
+    unfolding Ends
+    located-free link r i f = located-not (free-not w (codesOf (t .declared)) (t .held .tree) code link (rw (i, ← codes-count) at f))
+
+  -- a node that was found
+  module _ (k : ℕ) (r : Walked) (i : r ≡ walked.At k) (f : Ends w n code r) where
+    ends-at : (k < n) × (codeAt w k ≡ code)
+    unfolding Ends
+    ends-at = rw i at f
+
+    inside : k < length (t .declared)
+    inside = omega (arith, t .counted, ends-at .0)
+
+    pub node-within : 5 * k + 5 ≤ length w
+    node-within = omega (arith, ends-at .0, held-rising .room)
+
+    pub node-declares : Declares s (carriedAt w k) (getD (t .declared) k noDeclaration)
+    node-declares = t .held .declares k inside
+
+    pub located-at : (ds : List Declaration) → declarationsOf s ≡ pass ds → (d : Coded) (at : ℕ) → at ≡ carriedAt w k → declaredAt (drop at s) ≡ pass (some d)
+        → Located s ds code (At (d .place .tag) (at + d .place .start))
+    unfolding Located
+    located-at ds e d at a g =
+        let h = node-declares in
+        let same-coded : h .coded ≡ d = some-inj (pass-inj (sym (h .is) ∙ ap (λ (x : ℕ). declaredAt (drop x s)) (sym a) ∙ g)) in
+        let its : getD (t .declared) k noDeclaration .code ≡ code =
+        sym (code-at (t .declared) k inside) ∙ sym (t .held .tree .codes k (rw (codes-count) (ends-at .0))) ∙ ends-at .1 in
+        rw (a, ← same-coded) (
+          getD (t .declared) k noDeclaration,
+          ap (λ (x : List Declaration). declarationOf x code) (same ds e) ∙ the-declaration (t .declared) k code (read-distinct s (t .declared) (t .read)) inside its,
+          h .tag,
+          h .inside,
+          (h .size, h .read),
+        )
+
+-- what stands there is a declaration
+module _ (s : List ℕ) (at place : ℕ) (d : Declaration) (h : Declares s place d) (e : at ≡ place) where
+  pub declares-some : declaredAt (drop at s) ≡ pass none → ⊥
+  declares-some g = let z : _≡_ {A = ℕ} 0 1 = same (pass-inj (sym (h .is) ∙ ap (λ (x : ℕ). declaredAt (drop x s)) (sym e) ∙ g)) in omega arith
+    where
+      same : some (h .coded) ≡ none → _≡_ {A = ℕ} 0 1
+      same q = cc
+
+  pub declares-read : (k : ℕ) → declaredAt (drop at s) ≡ refuse k → ⊥
+  declares-read k g = pass-refuse (some (h .coded)) k (sym (h .is) ∙ ap (λ (x : ℕ). declaredAt (drop x s)) (sym e) ∙ g)
+
+  pub declares-within : at ≤ length s
+  declares-within = omega (arith, h .inside, e)

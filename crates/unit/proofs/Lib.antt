@@ -10,11 +10,16 @@ pub mod Attributes
 pub mod Places
 pub mod Declarations
 pub mod Walks
+pub mod Trees
+pub mod Judging
 pub mod Finding
 pub mod Values
 pub mod Stepping
 pub mod Rooted
 pub mod Units
+pub mod Heads
+pub mod Remembering
 pub mod HeaderAlone
 pub mod Promised
 pub mod Examples
+pub mod Plain

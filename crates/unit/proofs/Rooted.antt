@@ -7,7 +7,7 @@ use mathlib.Core.Option.{none}
 use Prim.Native.Nat.{ℕ, _+_, _≤_, _<_}
 use native.Mathlib.Omega.{arith}
 use lib.ListN.{length, drop, drop-of-length-le}
-use Rattle.octets.specs.Checked.{Check, pass, refuse, _>>=_}
+use Rattle.octets.specs.Checked.{pass, refuse, _>>=_}
 use Rattle.octets.proofs.Checks.{true-false, then-pass, then-refuse, passes, fails}
 use Rattle.octets.proofs.Refusals.{Only, only-require, only-bind, only-refuses}
 use Rattle.leb128.specs.Leb128.{unsigned}
@@ -31,10 +31,6 @@ only-rootIdentity e table s =
     only-bind 12 _ _ (only-declarationsOf table) (λ ds. only-bind 12 _ _ (only-unsigned s) (λ c. only-bind 12 _ _ (only-needed _) (λ d.
     only-bind 12 _ _ (only-require _ 12) (λ _. only-bind 12 _ _ (only-identityIn e _ _ none) (λ x. only-needed x)))))
 
-refused-true : (k : ℕ) → passed {A = List Declaration} (refuse k) ≡ true → ⊥
-unfolding passed
-refused-true k h = true-false h refl
-
 passed-false : (ds : List Declaration) → passed (pass ds) ≡ false → ⊥
 unfolding passed
 passed-false ds h = true-false refl h
@@ -42,15 +38,6 @@ passed-false ds h = true-false refl h
 bad-table : (table : List ℕ) → tableGood table ≡ false → declarationsOf table ≡ refuse 12
 unfolding tableGood
 bad-table table h = only-refuses 12 (declarationsOf table) (only-declarationsOf table) (λ ds e. passed-false ds (ap passed (sym e) ∙ h))
-
--- a table that is good has declarations
-pub good-table : (table : List ℕ) → tableGood table ≡ true → (ds : List Declaration) × (declarationsOf table ≡ pass ds)
-unfolding tableGood
-good-table table h = go (declarationsOf table) refl h
-  where
-    go : (m : Check (List Declaration)) → declarationsOf table ≡ m → passed m ≡ true → (ds : List Declaration) × (declarationsOf table ≡ pass ds)
-    go (pass ds) e h = (ds, e)
-    go (refuse k) e h = absurd (refused-true k h)
 
 module _ (e : Encoding) (table s : List ℕ) where
   pub root-table : tableGood table ≡ false → refuse 12 ≡ rootIdentity e table s

@@ -119,7 +119,7 @@ module _ (e : Encoding) (t s : List ℕ) (seen : Option ℕ) where
   stepped-within m g =
       let st = stepped m g in
       let a = attributeAt-taken t _ (st .read) in
-      (a .0, a .1, omega (arith, value-within e _ s (st .value) (st .valued) .ends, st .passes))
+      (omega (arith, a .0), a .1, omega (arith, value-within e _ s (st .value) (st .valued) .ends, st .passes))
 
   -- at the pair of zeros
   ended : attributeStep e t s seen ≡ pass none → (n : ℕ) × (attributesOf t ≡ pass ([], n))

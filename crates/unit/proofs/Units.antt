@@ -13,6 +13,7 @@ use Rattle.octets.specs.Checked.{Check, pass, refuse, _>>=_, require}
 use Rattle.octets.proofs.Checks.{passes, fails, then-pass, then-refuse, and-left, bind-pass, require-pass, pass-inj}
 use Rattle.bundle.specs.Encoding.{Encoding}
 use Rattle.unit.specs.UnitRead.{Identity, UnitRead, lengthField, unitSize, isFive, addressPlace, commonSize, behindCommon, identityFive, identityFour, identityOf, unitOf}
+use Rattle.unit.proofs.Plain.{plain, unit-plain}
 use Rattle.unit.specs.Headers.{fits, unitInside, commonGood, fiveKind, kindOf, headerSize, signatureAt, tableAt, identityBy}
 use Rattle.unit.specs.declared.header.Kind.{Kind}
 use Rattle.unit.specs.declared.header.Kind.the-variants.{Compilation, Signature, Root, Other}
@@ -47,14 +48,14 @@ kinds e home a u = go (isFive e) (eqb t 4 || eqb t 5) (eqb t 2 || eqb t 6) (eqb 
     go false first second false = refl
 
 module _ (e : Encoding) (a u : List ℕ) where
-  kind-short : (k : Kind) → commonSize e ≤ length u → length u < headerSize e k → byKind e k a u ≡ refuse 11
+  pub kind-short : (k : Kind) → commonSize e ≤ length u → length u < headerSize e k → byKind e k a u ≡ refuse 11
   unfolding byKind headerSize behindCommon
   kind-short Compilation h g = fails _ _ _ (lt-leb (commonSize e + 8) (length u) g)
   kind-short Signature h g = fails _ _ _ (lt-leb (commonSize e + (8 + e .width)) (length u) g)
   kind-short Root h g = absurd (omega arith)
   kind-short Other h g = absurd (omega arith)
 
-  kind-whole : (k : Kind) → headerSize e k ≤ length u → byKind e k a u ≡ identityBy e k a u
+  pub kind-whole : (k : Kind) → headerSize e k ≤ length u → byKind e k a u ≡ identityBy e k a u
   unfolding byKind headerSize behindCommon identityBy signatureAt
   kind-whole Compilation g = passes _ _ _ (le-leb (commonSize e + 8) (length u) g)
   kind-whole Signature g = passes _ _ _ (le-leb (commonSize e + (8 + e .width)) (length u) g)
@@ -73,7 +74,7 @@ behindSize e home a s size = do
   _ ← require (not (eqb (i .identity) 0)) 13
   pass (record { size = size; table = i .table; identity = i .identity })
 
-sized : (s : List ℕ) (m : Check ℕ) (f : ℕ → Check UnitRead) → (m >>= λ n. (require (leb n (length s)) 11 >>= λ _. f n)) ≡ (m >>= fits s >>= f)
+pub sized : {B : Type 0} (s : List ℕ) (m : Check ℕ) (f : ℕ → Check B) → (m >>= λ n. (require (leb n (length s)) 11 >>= λ _. f n)) ≡ (m >>= fits s >>= f)
 unfolding fits require _>>=_
 sized s (pass n) f = go (leb n (length s))
   where
@@ -83,7 +84,7 @@ sized s (pass n) f = go (leb n (length s))
 sized s (refuse k) f = refl
 
 -- three tests with one number
-three : (p q r : Bool) (k : Check UnitRead) → (require p 11 >>= λ _. (require q 11 >>= λ _. (require r 11 >>= λ _. k))) ≡ (require (p && (q && r)) 11 >>= λ _. k)
+pub three : {B : Type 0} (p q r : Bool) (k : Check B) → (require p 11 >>= λ _. (require q 11 >>= λ _. (require r 11 >>= λ _. k))) ≡ (require (p && (q && r)) 11 >>= λ _. k)
 unfolding require _>>=_
 three true true true k = refl
 three true true false k = refl
@@ -99,8 +100,8 @@ inside-le e s n h =
 
 module _ (e : Encoding) (home : ℕ) (a s : List ℕ) where
   pub unit-is : unitOf e home a s ≡ (unitInside e s >>= behindSize e home a s)
-  unfolding unitOf behindSize unitInside
-  unit-is = sized s (unitSize e s) (behindSize e home a s)
+  unfolding plain behindSize unitInside
+  unit-is = unit-plain e home a s ∙ sized s (unitSize e s) (behindSize e home a s)
 
   pub unit-none : unitInside e s ≡ refuse 11 → unitOf e home a s ≡ refuse 11
   unit-none h = unit-is ∙ then-refuse _ _ 11 h

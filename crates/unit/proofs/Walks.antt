@@ -1,24 +1,21 @@
 -- Walks over an abbreviation table: what the declaration at the front says of the whole table.
 -- Assumes nothing.
-use mathlib.Core.Path.{_≡_, refl, sym, ap, _∙_}
-use mathlib.Core.Bool.{Bool, true, false, not}
-use mathlib.Core.List.{List, [], _∷_, map}
+use mathlib.Core.Path.{_≡_, sym, ap, _∙_}
+use mathlib.Core.List.{List, [], _∷_}
 use mathlib.Core.Option.{Option, some, none}
 use Prim.Native.Nat.{ℕ, zero, _+_, _≤_}
 use native.Mathlib.Omega.{arith}
 use native.Mathlib.Decide.{ℕ-discrete}
 use lib.ListN.{length, drop, length-drop}
 use lib.Seq.{drop-drop}
-use borrow.Author.Tests.{not-true, not-false}
-use Rattle.octets.specs.Lists.{any, has, distinct}
-use Rattle.octets.specs.Checked.{Check, pass, refuse, _>>=_, require}
-use Rattle.octets.proofs.Checks.{pass-refuse, pass-inj, bind-pass, then-pass, fails, true-false}
+use Rattle.octets.specs.Lists.{has}
+use Rattle.octets.specs.Checked.{Check, pass, refuse, _>>=_}
+use Rattle.octets.proofs.Checks.{pass-refuse, pass-inj, bind-pass, then-pass}
 use Rattle.octets.proofs.Refusals.{only-refuses}
-use Rattle.octets.proofs.Elements.{has-cons, has-skips, distinct-cons, distinct-stops}
 use Rattle.leb128.specs.Leb128.{unsigned}
 use Rattle.leb128.proofs.Taken.{unsigned-taken}
-use Rattle.unit.specs.Abbreviations.{Attribute, Declaration, attributesOf, declarationAt, declarationsOf}
-use Rattle.unit.specs.Tables.{Place, placeAt, Coded, declaredAt, declarations, free, codeFree, passed, tableGood}
+use Rattle.unit.specs.Abbreviations.{Attribute, Declaration, attributesOf, declarationAt}
+use Rattle.unit.specs.Tables.{Place, placeAt, Coded, declaredAt, declarations}
 use Rattle.unit.proofs.Places.{end-is, coded}
 use Rattle.unit.proofs.Declarations.{place-stands, declaration-place, then-end, then-more, declarations-is, only-declarationsFrom}
 
@@ -40,7 +37,8 @@ pub record Fronts (s : List ℕ) (d : Coded) : Type 0 where
   pub attributes : List Attribute
   pub size : ℕ
   pub read : attributesOf (drop (d .place .start) s) ≡ pass (attributes, size)
-  pub some : 1 ≤ d .place .end
+  -- a code, a tag, the children byte, and a pair of zeros
+  pub least : 5 ≤ d .place .end
   pub order : d .place .start ≤ d .place .end
   pub within : d .place .end ≤ length s
   pub is : declarations s ≡ (declarations (drop (d .place .end) s) >>= before (declared d attributes))
@@ -66,7 +64,7 @@ fronted s d c p e z q i =
       attributes = st .attributes;
       size = st .size;
       read = ap attributesOf (sym (drop-drop (p .start) (c .1) s)) ∙ st .read;
-      some = omega (arith, h .some);
+      least = omega (arith, h .some, st .head, st .order);
       order = omega (arith, st .order);
       within = omega (arith, st .within, h .within, length-drop (c .1) s);
       is = declarations-is s ∙ then-pass _ _ _ e ∙ then-more _ _ _ z ∙ then-pass _ _ _ (st .is (c .0))
@@ -100,90 +98,9 @@ pub table-not : (s : List ℕ) (k : ℕ) → declaredAt s ≡ refuse k → decla
 unfolding declarations
 table-not s k e = only-refuses 12 (declarations s) (only-declarationsFrom (length s) s) (λ ds h. let x = table-front s ds h in pass-refuse (x .0) k (sym (x .1) ∙ e))
 
--- ---- a code that no declaration has
-free-before : (code : ℕ) (d : Declaration) (m : Check (List Declaration)) → (code ≡ d .code → ⊥) → free code (m >>= before d) ≡ free code m
-unfolding free _>>=_
-free-before code d (pass ds) h = ap not (has-skips code (d .code) (map (λ x. x .code) ds) h)
-free-before code d (refuse k) h = refl
-
-free-same : (code : ℕ) (d : Declaration) (m : Check (List Declaration)) → code ≡ d .code → free code (m >>= before d) ≡ false
-unfolding free _>>=_
-free-same code d (pass ds) h = ap not (has-cons code (d .code) (map (λ x. x .code) ds) h)
-free-same code d (refuse k) h = refl
-
-module _ (s : List ℕ) (code : ℕ) where
-  pub code-end : declaredAt s ≡ pass none → codeFree s code ≡ true
-  unfolding codeFree free has any
-  code-end e = ap (free code) (table-end s e)
-
-  pub code-not : (k : ℕ) → declaredAt s ≡ refuse k → codeFree s code ≡ false
-  unfolding codeFree free
-  code-not k e = ap (free code) (table-not s k e)
-
-  module _ (d : Coded) (e : declaredAt s ≡ pass (some d)) where
-    pub code-same : d .code ≡ code → codeFree s code ≡ false
-    unfolding codeFree
-    code-same h = let f = table-more s d e in ap (free code) (f .is) ∙ free-same code (declared d (f .attributes)) _ (sym h)
-
-    pub code-on : (d .code ≡ code → ⊥) → codeFree s code ≡ codeFree (drop (d .place .end) s) code
-    unfolding codeFree
-    code-on h = let f = table-more s d e in ap (free code) (f .is) ∙ free-before code (declared d (f .attributes)) _ (λ z. h (sym z))
-
--- ---- a table in which no code repeats
-abbrev judged : Check (List Declaration) → Check (List Declaration)
-judged m = m >>= λ ds. (require (distinct (map (λ d. d .code) ds)) 12 >>= λ _. pass ds)
-
-same-pass : (t : Bool) (ds es : List Declaration) → passed (require t 12 >>= λ _. pass ds) ≡ passed (require t 12 >>= λ _. pass es)
-unfolding passed require _>>=_
-same-pass true ds es = refl
-same-pass false ds es = refl
-
-judged-on : (d : Declaration) (m : Check (List Declaration)) → free (d .code) m ≡ true → passed (judged (m >>= before d)) ≡ passed (judged m)
-unfolding free _>>=_
-judged-on d (pass ds) h = ap (λ (t : Bool). passed (require t 12 >>= λ _. pass (d ∷ ds))) (distinct-cons (d .code) (map (λ x. x .code) ds) (not-true _ h)) ∙ same-pass (distinct (map (λ x. x .code) ds)) (d ∷ ds) ds
-judged-on d (refuse k) h = absurd (true-false h refl)
-
-judged-stops : (d : Declaration) (m : Check (List Declaration)) → free (d .code) m ≡ false → passed (judged (m >>= before d)) ≡ false
-unfolding free _>>=_ passed
-judged-stops d (pass ds) h = ap passed (fails _ _ _ (distinct-stops (d .code) (map (λ x. x .code) ds) (not-false _ h)))
-judged-stops d (refuse k) h = refl
-
-good-is : (s : List ℕ) → tableGood s ≡ passed (judged (declarations s))
-unfolding tableGood declarationsOf declarations
-good-is s = refl
-
-module _ (s : List ℕ) where
-  pub good-end : declaredAt s ≡ pass none → tableGood s ≡ true
-  unfolding passed _>>=_ require distinct
-  good-end e = good-is s ∙ ap (λ (m : Check (List Declaration)). passed (judged m)) (table-end s e)
-
-  pub good-not : (k : ℕ) → declaredAt s ≡ refuse k → tableGood s ≡ false
-  unfolding passed _>>=_
-  good-not k e = good-is s ∙ ap (λ (m : Check (List Declaration)). passed (judged m)) (table-not s k e)
-
-  module _ (d : Coded) (e : declaredAt s ≡ pass (some d)) where
-    pub good-repeats : codeFree (drop (d .place .end) s) (d .code) ≡ false → tableGood s ≡ false
-    unfolding codeFree
-    good-repeats h = let f = table-more s d e in good-is s ∙ ap (λ (m : Check (List Declaration)). passed (judged m)) (f .is) ∙ judged-stops (declared d (f .attributes)) _ h
-
-    pub good-on : codeFree (drop (d .place .end) s) (d .code) ≡ true → tableGood s ≡ tableGood (drop (d .place .end) s)
-    unfolding codeFree
-    good-on h = let f = table-more s d e in good-is s ∙ ap (λ (m : Check (List Declaration)). passed (judged m)) (f .is) ∙ judged-on (declared d (f .attributes)) _ h ∙ sym (good-is (drop (d .place .end) s))
-
 -- ---- the same at a place of the table, as a loop with a cursor reads it
 module _ (s : List ℕ) (at : ℕ) (d : Coded) (e : declaredAt (drop at s) ≡ pass (some d)) where
-  pub walk-within : at ≤ length s → (1 ≤ d .place .end) × (at + d .place .end ≤ length s) × (at + d .place .start ≤ length s)
+  pub walk-within : at ≤ length s → (5 ≤ d .place .end) × (at + d .place .end ≤ length s) × (at + d .place .start ≤ length s)
   walk-within h =
       let f = table-more (drop at s) d e in
-      (f .some, omega (arith, f .some, f .within, length-drop at s), omega (arith, f .some, f .within, f .order, length-drop at s))
-
-  pub free-turn : (code : ℕ) → (d .code ≡ code → ⊥) → codeFree (drop (at + d .place .end) s) code ≡ codeFree (drop at s) code
-  free-turn code h = ap (λ (t : List ℕ). codeFree t code) (sym (drop-drop (d .place .end) at s)) ∙ sym (code-on (drop at s) code d e h)
-
-  pub good-turn : codeFree (drop (at + d .place .end) s) (d .code) ≡ true → tableGood (drop (at + d .place .end) s) ≡ tableGood (drop at s)
-  good-turn h =
-      ap tableGood (sym (drop-drop (d .place .end) at s))
-      ∙ sym (good-on (drop at s) d e (ap (λ (t : List ℕ). codeFree t (d .code)) (drop-drop (d .place .end) at s) ∙ h))
-
-  pub good-stops : codeFree (drop (at + d .place .end) s) (d .code) ≡ false → tableGood (drop at s) ≡ false
-  good-stops h = good-repeats (drop at s) d e (ap (λ (t : List ℕ). codeFree t (d .code)) (drop-drop (d .place .end) at s) ∙ h)
+      (f .least, omega (arith, f .least, f .within, length-drop at s), omega (arith, f .least, f .within, f .order, length-drop at s))

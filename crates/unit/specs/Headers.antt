@@ -4,17 +4,19 @@ use mathlib.Core.Bool.{Bool, true, false, not, _&&_, _||_}
 use mathlib.Core.List.{List}
 use Prim.Native.Nat.{ℕ, _+_}
 use lib.Dec.{eqb, leb, ltb}
-use lib.ListN.{length, drop, getD}
+use lib.ListN.{length, take, drop, getD}
 use Rattle.octets.specs.Octets.{numberAt}
 use Rattle.octets.specs.Checked.{Check, pass, refuse, _>>=_, require}
 use Rattle.numbers.specs.Refusals.{noIdentity}
 use Rattle.bundle.specs.Encoding.{Encoding}
 use Rattle.unit.specs.Root.{rootIdentity}
-use Rattle.unit.specs.UnitRead.{Identity, UnitRead, lengthField, unitSize, isFive, addressPlace, commonSize, headerPasses}
+use Rattle.unit.specs.UnitRead.{Identity, UnitRead, lengthField, unitSize, isFive, addressPlace, commonSize, identityOf, headerPasses}
 use Rattle.unit.specs.declared.header.Kind.{Kind}
 use Rattle.unit.specs.declared.header.Kind.the-variants.{Compilation, Signature, Root, Other}
 use Rattle.unit.specs.declared.header.Identity as code
 use Rattle.unit.specs.declared.header.Identity.the-variants.{Is, Unreadable}
+use Rattle.unit.specs.declared.header.IdentityAnswer.{IdentityAnswer}
+use Rattle.unit.specs.declared.header.IdentityAnswer.the-variants as answer
 use Rattle.unit.specs.declared.header.UnitAnswer.{UnitAnswer}
 use Rattle.unit.specs.declared.header.UnitAnswer.the-variants.{Read, Refused}
 use Rattle.unit.specs.declared.header.AddressSize.{AddressSize}
@@ -73,6 +75,12 @@ signatureAt e u = numberAt (e .big) 8 u (commonSize e)
 unfoldable pub tableAt : Encoding → List ℕ → List ℕ → List ℕ
 tableAt e abbreviations u = drop (numberAt (e .big) (e .width) u (lengthField e + 2)) abbreviations
 
+abbrev pub rootStated : Encoding → List ℕ → List ℕ → Check ℕ
+rootStated e abbreviations u = rootIdentity e (tableAt e abbreviations u) (drop (commonSize e) u)
+
+abbrev pub forCompilation : Check ℕ → Check Identity
+forCompilation m = m >>= λ x. pass (record { table = 1; identity = x })
+
 unfoldable pub identityBy : Encoding → Kind → List ℕ → List ℕ → Check Identity
 identityBy e Compilation abbreviations u = pass (record { table = 1; identity = signatureAt e u })
 identityBy e Signature abbreviations u = pass (record { table = 2; identity = signatureAt e u })
@@ -83,6 +91,34 @@ identityBy e Other abbreviations u = refuse 12
 abbrev pub identityCheck : code.Identity → Check Identity
 identityCheck (Is table identity) = pass (record { table = table; identity = identity })
 identityCheck Unreadable = refuse noIdentity
+
+-- ---- a unit in two parts. `unitBy` reads the one, then its abbreviations, then the other
+-- 11: the size of a unit whose common fields are good
+unfoldable pub headOf : Encoding → List ℕ → Check ℕ
+headOf e s = do
+  size ← unitSize e s
+  _ ← require (leb size (length s)) 11
+  let u = take size s
+  _ ← require (leb (commonSize e) (length u)) 11
+  _ ← require (eqb (numberAt (e .big) 2 u (lengthField e)) (e .version)) 11
+  _ ← require (eqb (getD u (addressPlace e) 0) (e .address)) 11
+  pass size
+
+-- 13
+unfoldable pub nonZero : Check Identity → Check Identity
+nonZero m = m >>= λ i. (require (not (eqb (i .identity) 0)) 13 >>= λ _. pass i)
+
+-- 11 by the kind, 12 and 13: the identity of the unit u
+unfoldable pub identityGood : Encoding → ℕ → List ℕ → List ℕ → Check Identity
+identityGood e home abbreviations u = nonZero (identityOf e home abbreviations u)
+
+unfoldable pub identityAnswer : Check Identity → IdentityAnswer
+identityAnswer (pass i) = answer.Is (i .table) (i .identity)
+identityAnswer (refuse n) = answer.Refused n
+
+unfoldable pub withSize : ℕ → IdentityAnswer → UnitAnswer
+withSize size (answer.Is table identity) = Read size table identity
+withSize size (answer.Refused n) = Refused n
 
 unfoldable pub unitAnswer : Check UnitRead → UnitAnswer
 unitAnswer (pass u) = Read (u .size) (u .table) (u .identity)

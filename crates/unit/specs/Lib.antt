@@ -4,6 +4,8 @@ pub mod Forms
 pub mod Widths
 pub mod Abbreviations
 pub mod Tables
+pub mod Trees
+pub mod TableTrees
 pub mod Root
 pub mod Roots
 pub mod UnitRead

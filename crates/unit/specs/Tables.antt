@@ -69,13 +69,6 @@ declaredCheck declared.Refused = refuse noIdentity
 unfoldable pub declarations : List ℕ → Check (List Declaration)
 declarations s = declarationsFrom (length s) s
 
-unfoldable pub free : ℕ → Check (List Declaration) → Bool
-free code (pass ds) = not (has (map (λ d. d .code) ds) code)
-free code (refuse n) = false
-
-unfoldable pub codeFree : List ℕ → ℕ → Bool
-codeFree s code = free code (declarations s)
-
 unfoldable pub passed : {A : Type 0} → Check A → Bool
 passed (pass a) = true
 passed (refuse n) = false

@@ -1,8 +1,10 @@
 // The abbreviation table at the front of lent bytes, read to its zero code. Every fault gives 12.
+use crate::tree::Walked;
 use leb128::Number;
 use leb128::Size;
 ghost use mathlib.Core.Path.{_≡_};
 ghost use mathlib.Core.List.{List};
+ghost use Prim.Native.Nat.{_≤_, _<_, _^_};
 ghost use lib.ListN.{length};
 ghost use Rattle.octets.specs.Checked.{pass};
 ghost use Rattle.numbers.specs.Refusals.{noIdentity};
@@ -15,10 +17,9 @@ ghost use Rattle.unit.specs.Tables.{
   placeCheck,
   declaredAt,
   declaredCheck,
-  codeFree,
-  tableGood,
   Located,
 };
+ghost use Rattle.unit.specs.TableTrees.{TableHeld, Judges};
 
 // A name, a form, and the bytes that they take.
 pub enum AttributeRead {
@@ -43,6 +44,12 @@ pub enum Declared {
 pub enum Found {
     At(u64, usize),
     Nothing,
+}
+
+// A table of so many declarations that is good, or one that is not.
+pub enum TableRead {
+    Good(usize),
+    Bad,
 }
 
 // A name and a form, zero together; form 21 hexadecimal is refused.
@@ -128,72 +135,54 @@ fn declared_at(s: &[u8]) -> Declared
     Declared::Is(code, tag, n + start, n + end)
 }
 
-// The table ends, and no declaration in it has the code.
-fn code_free(s: &[u8], code: u64) -> bool
-    ensures { λ r. ⌜ r ≡ codeFree (now (s .entry)) code ⌝ }
+// The table ends, and no code repeats: then codes hold its declarations, by where they stand. Callers lend a word for each byte: a declaration takes at
+// least five bytes, and a node five words. The bytes are read once, and each declaration takes one walk in the tree.
+pub fn judge_table(s: &[u8], codes: &mut [u32]) -> TableRead
+    requires { ⌜ (length (now s) ≤ length (now codes)) × (length (now s) < 2 ^ 32) ⌝ }
+    ensures { λ r. ⌜ Judges (now (s .entry)) (now (codes .exit)) r ⌝ }
 {
     let mut at = 0;
-    loop {
-        match declared_at(&s[at..]) {
-            Declared::Is(other, _, _, n) => {
-                if other == code {
-                    return false;
-                }
-                at += n;
-            }
-            Declared::End => {
-                return true;
-            }
-            Declared::Refused => {
-                return false;
-            }
-        }
-    }
-}
-
-// The table ends, and no code repeats. Each declaration's code is looked for in all behind it: n declarations take about n * n / 2
-// steps, for each unit that the table is read for.
-pub fn table_good(s: &[u8]) -> bool
-    ensures { λ r. ⌜ r ≡ tableGood (now (s .entry)) ⌝ }
-{
-    let mut at = 0;
+    let mut count = 0;
     loop {
         match declared_at(&s[at..]) {
             Declared::Is(code, _, _, n) => {
-                at += n;
-                if !code_free(&s[at..], code) {
-                    return false;
+                if !crate::tree::add_code(codes, count, at, code) {
+                    return TableRead::Bad;
                 }
+                at += n;
+                count += 1;
             }
             Declared::End => {
-                return true;
+                return TableRead::Good(count);
             }
             Declared::Refused => {
-                return false;
+                return TableRead::Bad;
             }
         }
     }
 }
 
-// The declaration of a code. Callers have seen that the table is good; of another one nothing is said.
-pub fn find_declaration(s: &[u8], code: u64) -> Found
+// The declaration of a code, in a table that was judged.
+pub fn find_in(s: &[u8], codes: &[u32], count: usize, code: u64) -> Found
+    requires { ⌜ TableHeld (now s) (now codes) count ⌝ }
     ensures { λ r. ⌜ ((ds : List Declaration) → declarationsOf (now (s .entry)) ≡ pass ds → Located (now (s .entry)) ds code r) ⌝ }
 {
-    let mut at = 0;
-    loop {
-        match declared_at(&s[at..]) {
-            Declared::Is(other, tag, start, n) => {
-                if other == code {
-                    return Found::At(tag, at + start);
-                }
-                at += n;
-            }
-            Declared::End => {
-                return Found::Nothing;
-            }
-            Declared::Refused => {
-                return Found::Nothing;
-            }
+    if count == 0 {
+        return Found::Nothing;
+    }
+    let Walked::At(node) = crate::tree::walk(codes, count, code) else {
+        return Found::Nothing;
+    };
+    let at = crate::tree::carried_at(codes, node);
+    match declared_at(&s[at..]) {
+        Declared::Is(_, tag, start, _) => {
+            return Found::At(tag, at + start);
+        }
+        Declared::End => {
+            return Found::Nothing;
+        }
+        Declared::Refused => {
+            return Found::Nothing;
         }
     }
 }

@@ -1,11 +1,15 @@
 // The header of a unit, and the unit read whole.
+use crate::judged::Judged;
 use crate::root::RootIdentity;
+use crate::root::RootRead;
 use bundle::encoding::ObjectEncoding;
 use leb128::Size;
+use numbers::refusals::BAD_HEADER;
+use numbers::refusals::IDENTITY_ZERO;
+use numbers::refusals::NO_IDENTITY;
 ghost use mathlib.Core.Path.{_≡_};
 ghost use Prim.Native.Nat.{_+_, _≤_};
-ghost use lib.ListN.{length, drop};
-ghost use Rattle.unit.specs.Root.{rootIdentity};
+ghost use lib.ListN.{length};
 ghost use Rattle.unit.specs.Roots.{rootCheck};
 ghost use Rattle.bundle.specs.Encoded.{encodingIs};
 ghost use Rattle.numbers.specs.Refusals.{badHeader};
@@ -21,11 +25,24 @@ ghost use Rattle.unit.specs.Headers.{
   kindOf,
   headerSize,
   signatureAt,
-  tableAt,
+  headOf,
+  rootStated,
+  forCompilation,
   identityCheck,
   identityBy,
+  nonZero,
+  identityGood,
+  identityAnswer,
+  withSize,
   unitAnswer,
   addressOf,
+};
+ghost use Rattle.unit.specs.TableTrees.{
+  Remembers,
+  Lent,
+  unitBytes,
+  abbreviationsBytes,
+  Inside,
 };
 
 // Where a unit's identity stands.
@@ -44,10 +61,40 @@ pub enum Identity {
     Unreadable,
 }
 
+// The same, with the table that was judged last.
+pub struct IdentityRead {
+    pub identity: Identity,
+    pub judged: Judged,
+}
+
+// The table and the identity, or the number by which the unit is refused.
+pub enum IdentityAnswer {
+    Is(u32, u64),
+    Refused(u32),
+}
+
+pub struct Identified {
+    pub answer: IdentityAnswer,
+    pub judged: Judged,
+}
+
+// Where a unit lies in the bundle, and from where to where the abbreviations that it is read with.
+pub struct UnitPlace {
+    pub at: usize,
+    pub size: usize,
+    pub first: usize,
+    pub last: usize,
+}
+
 // A unit's size, its table and its identity.
 pub enum UnitAnswer {
     Read(usize, u32, u64),
     Refused(u32),
+}
+
+pub struct UnitRead {
+    pub answer: UnitAnswer,
+    pub judged: Judged,
 }
 
 // The address size that a header states.
@@ -163,7 +210,7 @@ fn five_kind(unit_type: u8) -> Kind
     Kind::Other
 }
 
-// Home is the code of the unit's section. The common fields are there: `read_unit` has tested it.
+// Home is the code of the unit's section. The common fields are there: `unit_head` has tested it.
 fn kind_of(e: ObjectEncoding, home: u32, u: &[u8]) -> Kind
     requires { ⌜ commonSize (encodingIs e) ≤ length (now u) ⌝ }
     ensures { λ r. ⌜ r ≡ kindOf (encodingIs e) home (now (u .entry)) ⌝ }
@@ -198,66 +245,189 @@ fn signature(e: ObjectEncoding, u: &[u8]) -> u64
     octets::u64_at(e.big, u, common_size(e))
 }
 
-// What the root states. The common fields are there.
-fn identity_of_root(e: ObjectEncoding, abbreviations: &[u8], u: &[u8]) -> RootIdentity
-    requires { ⌜ commonSize (encodingIs e) ≤ length (now u) ⌝ }
-    ensures { λ r. ⌜ rootCheck r ≡ rootIdentity (encodingIs e) (tableAt (encodingIs e) (now (abbreviations .entry)) (now (u .entry))) (drop (commonSize (encodingIs e)) (now (u .entry))) ⌝ }
+// What the root of the unit u states. The common fields are there.
+fn identity_of_root(
+    e: ObjectEncoding,
+    b: &[u8],
+    place: UnitPlace,
+    u: &[u8],
+    codes: &mut [u32],
+    judged: Judged,
+) -> RootRead
+    requires { ⌜ (commonSize (encodingIs e) ≤ length (now u)) × Inside (now b) place × Lent (now b) (now codes) judged ⌝ }
+    ensures is { λ r. ⌜ rootCheck (r .identity) ≡ rootStated (encodingIs e) (abbreviationsBytes (now (b .entry)) place) (now (u .entry)) ⌝ }
+    ensures memory { λ r. ⌜ Remembers (now (b .entry)) (now (codes .exit)) (r .judged) ⌝ }
 {
-    let place = length_field(e) + 2;
-    let at = octets::size(octets::number_at(e.big, bundle::encoding::width(e), u, place));
-    if abbreviations.len() < at {
-        return RootIdentity::Unreadable;
+    let field = length_field(e) + 2;
+    let offset = octets::size(octets::number_at(e.big, bundle::encoding::width(e), u, field));
+    let first = place.first;
+    let last = place.last;
+    if last - first < offset {
+        return RootRead {
+            identity: RootIdentity::Unreadable,
+            judged,
+        };
     }
     let common = common_size(e);
-    crate::root::root_identity(e, &abbreviations[at..], &u[common..])
+    crate::root::root_identity(e, b, first + offset, last, &u[common..], codes, judged)
 }
 
-// The identity of a unit whose kind's header is there.
-fn identity_of(e: ObjectEncoding, kind: Kind, abbreviations: &[u8], u: &[u8]) -> Identity
-    requires { ⌜ headerSize (encodingIs e) kind ≤ length (now u) ⌝ }
-    ensures { λ r. ⌜ identityCheck r ≡ identityBy (encodingIs e) kind (now (abbreviations .entry)) (now (u .entry)) ⌝ }
+// The identity of a unit u whose kind's header is there.
+fn identity_of(
+    e: ObjectEncoding,
+    kind: Kind,
+    b: &[u8],
+    place: UnitPlace,
+    u: &[u8],
+    codes: &mut [u32],
+    judged: Judged,
+) -> IdentityRead
+    requires { ⌜ (headerSize (encodingIs e) kind ≤ length (now u)) × Inside (now b) place × Lent (now b) (now codes) judged ⌝ }
+    ensures is { λ r. ⌜ identityCheck (r .identity) ≡ identityBy (encodingIs e) kind (abbreviationsBytes (now (b .entry)) place) (now (u .entry)) ⌝ }
+    ensures memory { λ r. ⌜ Remembers (now (b .entry)) (now (codes .exit)) (r .judged) ⌝ }
 {
     match kind {
         Kind::Compilation => {
-            return Identity::Is(1, signature(e, u));
+            return IdentityRead {
+                identity: Identity::Is(1, signature(e, u)),
+                judged,
+            };
         }
         Kind::Signature => {
-            return Identity::Is(2, signature(e, u));
+            return IdentityRead {
+                identity: Identity::Is(2, signature(e, u)),
+                judged,
+            };
         }
         Kind::Root => {
-            let RootIdentity::Is(x) = identity_of_root(e, abbreviations, u) else {
-                return Identity::Unreadable;
+            let root = identity_of_root(e, b, place, u, codes, judged);
+            let stated = root.identity;
+            let memory = root.judged;
+            return IdentityRead {
+                identity: of_root(stated),
+                judged: memory,
             };
-            return Identity::Is(1, x);
         }
         Kind::Other => {
-            return Identity::Unreadable;
+            return IdentityRead {
+                identity: Identity::Unreadable,
+                judged,
+            };
         }
     }
 }
 
-// A whole unit, from the part s of its section that starts at it. Home is the section's code, 1 info or 2 types, and abbreviations is abbrev.
-pub fn read_unit(e: ObjectEncoding, home: u32, abbreviations: &[u8], s: &[u8]) -> UnitAnswer
-    ensures { λ r. ⌜ r ≡ unitAnswer (unitOf (encodingIs e) home (now (abbreviations .entry)) (now (s .entry))) ⌝ }
+// A unit with a root is handed in for the compilation table.
+fn of_root(root: RootIdentity) -> Identity
+    ensures { λ r. ⌜ identityCheck r ≡ forCompilation (rootCheck root) ⌝ }
+{
+    match root {
+        RootIdentity::Is(x) => Identity::Is(1, x),
+        RootIdentity::Unreadable => Identity::Unreadable,
+    }
+}
+
+// The size of the unit at the front of s, whose common fields are good.
+pub fn unit_head(e: ObjectEncoding, s: &[u8]) -> Size
+    ensures { λ r. ⌜ sizeCheck badHeader r ≡ headOf (encodingIs e) (now (s .entry)) ⌝ }
 {
     let Size::Is(size) = unit_size(e, s) else {
-        return UnitAnswer::Refused(11);
+        return Size::Refused;
     };
-    let u = &s[..size];
-    if !common_good(e, u) {
-        return UnitAnswer::Refused(11);
+    if !common_good(e, &s[..size]) {
+        return Size::Refused;
     }
+    Size::Is(size)
+}
+
+// The identity of a unit whose head was read, and the table that it is handed in for. Home is the section's code, 1 info or 2 types.
+pub fn unit_identity(
+    e: ObjectEncoding,
+    home: u32,
+    b: &[u8],
+    place: UnitPlace,
+    codes: &mut [u32],
+    judged: Judged,
+) -> Identified
+    requires { ⌜ (commonSize (encodingIs e) ≤ place .size) × Inside (now b) place × Lent (now b) (now codes) judged ⌝ }
+    ensures is { λ r. ⌜ r .answer ≡ identityAnswer (identityGood (encodingIs e) home (abbreviationsBytes (now (b .entry)) place) (unitBytes (now (b .entry)) place)) ⌝ }
+    ensures memory { λ r. ⌜ Remembers (now (b .entry)) (now (codes .exit)) (r .judged) ⌝ }
+{
+    let at = place.at;
+    let end = at + place.size;
+    let u = &b[at..end];
     let kind = kind_of(e, home, u);
-    if u.len() < header_size(e, kind) {
-        return UnitAnswer::Refused(11);
+    if place.size < header_size(e, kind) {
+        return Identified {
+            answer: IdentityAnswer::Refused(BAD_HEADER),
+            judged,
+        };
     }
-    let Identity::Is(table, identity) = identity_of(e, kind, abbreviations, u) else {
-        return UnitAnswer::Refused(12);
+    let read = identity_of(e, kind, b, place, u, codes, judged);
+    let identity = read.identity;
+    let memory = read.judged;
+    Identified {
+        answer: answer_of(identity),
+        judged: memory,
+    }
+}
+
+// An identity of 0 is refused.
+fn answer_of(read: Identity) -> IdentityAnswer
+    ensures { λ r. ⌜ r ≡ identityAnswer (nonZero (identityCheck read)) ⌝ }
+{
+    let Identity::Is(table, identity) = read else {
+        return IdentityAnswer::Refused(NO_IDENTITY);
     };
     if identity == 0 {
-        return UnitAnswer::Refused(13);
+        return IdentityAnswer::Refused(IDENTITY_ZERO);
     }
-    UnitAnswer::Read(size, table, identity)
+    IdentityAnswer::Is(table, identity)
+}
+
+// A whole unit, whose section goes on to the end of the place's bytes.
+pub fn read_unit(
+    e: ObjectEncoding,
+    home: u32,
+    b: &[u8],
+    place: UnitPlace,
+    codes: &mut [u32],
+    judged: Judged,
+) -> UnitRead
+    requires { ⌜ Inside (now b) place × Lent (now b) (now codes) judged ⌝ }
+    ensures is { λ r. ⌜ r .answer ≡ unitAnswer (unitOf (encodingIs e) home (abbreviationsBytes (now (b .entry)) place) (unitBytes (now (b .entry)) place)) ⌝ }
+    ensures memory { λ r. ⌜ Remembers (now (b .entry)) (now (codes .exit)) (r .judged) ⌝ }
+{
+    let at = place.at;
+    let end = at + place.size;
+    let Size::Is(size) = unit_head(e, &b[at..end]) else {
+        return UnitRead {
+            answer: UnitAnswer::Refused(BAD_HEADER),
+            judged,
+        };
+    };
+    let own = UnitPlace {
+        at,
+        size,
+        first: place.first,
+        last: place.last,
+    };
+    let read = unit_identity(e, home, b, own, codes, judged);
+    let answer = read.answer;
+    let memory = read.judged;
+    UnitRead {
+        answer: with_size(size, answer),
+        judged: memory,
+    }
+}
+
+fn with_size(size: usize, answer: IdentityAnswer) -> UnitAnswer
+    ensures { λ r. ⌜ r ≡ withSize size answer ⌝ }
+{
+    match answer {
+        IdentityAnswer::Is(table, identity) => UnitAnswer::Read(size, table, identity),
+        IdentityAnswer::Refused(number) => UnitAnswer::Refused(number),
+    }
 }
 
 // The common fields are there, and the version is the object's.

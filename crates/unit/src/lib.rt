@@ -2,4 +2,6 @@
 pub mod abbreviations;
 pub mod forms;
 pub mod header;
+pub mod judged;
 pub mod root;
+pub mod tree;

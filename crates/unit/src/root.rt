@@ -1,14 +1,19 @@
 // The root of a unit of version 4 in info: its attributes are walked to their end, and the first 2131 hexadecimal states the identity.
 use crate::abbreviations::AttributeRead;
 use crate::abbreviations::Found;
+use crate::abbreviations::TableRead;
 use crate::forms::FormWidth;
+use crate::judged::Judged;
 use bundle::encoding::ObjectEncoding;
 use leb128::Number;
 use leb128::Size;
 ghost use mathlib.Core.Path.{_≡_};
 ghost use mathlib.Core.Option.{none};
+ghost use Prim.Native.Nat.{_≤_};
+ghost use lib.ListN.{length};
 ghost use Rattle.bundle.specs.Encoded.{encodingIs};
 ghost use Rattle.unit.specs.Root.{needed, plainValue, valueOf, rootTag, rootIdentity};
+ghost use Rattle.unit.specs.TableTrees.{between, TableHeld, Remembers, Lent};
 ghost use Rattle.unit.specs.Roots.{
   valueCheck,
   seenIs,
@@ -40,6 +45,12 @@ pub enum Moved {
 pub enum RootIdentity {
     Is(u64),
     Unreadable,
+}
+
+// With the table that was judged last.
+pub struct RootRead {
+    pub identity: RootIdentity,
+    pub judged: Judged,
 }
 
 // A value that ends in s, of a form that is not indirect.
@@ -145,21 +156,46 @@ fn root_tag(tag: u64) -> bool
     tag == 0x41
 }
 
-// The table is what stands in abbrev at the header's offset, s the unit behind its header.
-pub fn root_identity(e: ObjectEncoding, table: &[u8], s: &[u8]) -> RootIdentity
+// In a table that was judged, whose declarations codes hold. s is the unit behind its header.
+fn root_in(e: ObjectEncoding, table: &[u8], codes: &[u32], count: usize, s: &[u8]) -> RootIdentity
+    requires { ⌜ TableHeld (now table) (now codes) count ⌝ }
     ensures { λ r. ⌜ rootCheck r ≡ rootIdentity (encodingIs e) (now (table .entry)) (now (s .entry)) ⌝ }
 {
-    if !crate::abbreviations::table_good(table) {
-        return RootIdentity::Unreadable;
-    }
     let Number::Is(code, n) = leb128::read_unsigned(s) else {
         return RootIdentity::Unreadable;
     };
-    let Found::At(tag, start) = crate::abbreviations::find_declaration(table, code) else {
+    let Found::At(tag, start) = crate::abbreviations::find_in(table, codes, count, code) else {
         return RootIdentity::Unreadable;
     };
     if !root_tag(tag) {
         return RootIdentity::Unreadable;
     }
     identity_in(e, &table[start..], &s[n..])
+}
+
+// The table is what stands in abbrev from the header's offset on: from at to end in the bundle. s is the unit behind its header.
+pub fn root_identity(
+    e: ObjectEncoding,
+    b: &[u8],
+    at: usize,
+    end: usize,
+    s: &[u8],
+    codes: &mut [u32],
+    judged: Judged,
+) -> RootRead
+    requires { ⌜ (at ≤ end) × (end ≤ length (now b)) × Lent (now b) (now codes) judged ⌝ }
+    ensures is { λ r. ⌜ rootCheck (r .identity) ≡ rootIdentity (encodingIs e) (between (now (b .entry)) at end) (now (s .entry)) ⌝ }
+    ensures memory { λ r. ⌜ Remembers (now (b .entry)) (now (codes .exit)) (r .judged) ⌝ }
+{
+    let TableRead::Good(count) = crate::judged::recall(b, at, end, codes, judged) else {
+        return RootRead {
+            identity: RootIdentity::Unreadable,
+            judged: crate::judged::nothing(),
+        };
+    };
+    let identity = root_in(e, &b[at..end], codes, count, s);
+    RootRead {
+        identity,
+        judged: Judged { at, end, count },
+    }
 }

@@ -1,7 +1,8 @@
 // Reads cases from standard input, each a unit with its abbreviations, and writes what reading it answers. CASES.md lists them.
 use bundle::encoding::ObjectEncoding;
 use unit::header::UnitAnswer;
-ghost use Prim.Native.Nat.{_≤_};
+use unit::header::UnitPlace;
+ghost use Prim.Native.Nat.{_≤_, _<_, _^_};
 ghost use lib.ListN.{length};
 
 // Bit 0 is big-endian data, bit 1 version 5, bit 2 offsets and bit 3 addresses of 8 bytes.
@@ -43,7 +44,8 @@ fn write_answer(answer: UnitAnswer) {
 }
 
 // The case at the front of s: flags, the section's code, the sizes of abbreviations and section, and both. Answers how many bytes it takes.
-fn run_case(s: &[u8]) -> usize
+fn run_case(s: &[u8], codes: &mut [u32]) -> usize
+    requires { ⌜ (length (now s) ≤ length (now codes)) × (length (now s) < 2 ^ 32) ⌝ }
     ensures { λ r. ⌜ r ≤ length (now (s .entry)) ⌝ }
 {
     if s.len() < 4 {
@@ -56,14 +58,24 @@ fn run_case(s: &[u8]) -> usize
     if s.len() < end {
         return 0;
     }
-    write_answer(unit::header::read_unit(e, code, &s[4..mid], &s[mid..end]));
+    let place = UnitPlace {
+        at: mid,
+        size: end - mid,
+        first: 4,
+        last: mid,
+    };
+    let read = unit::header::read_unit(e, code, s, place, codes, unit::judged::nothing());
+    let answer = read.answer;
+    write_answer(answer);
     end
 }
 
-fn run_cases(s: &[u8]) {
+fn run_cases(s: &[u8], codes: &mut [u32])
+    requires { ⌜ (length (now s) ≤ length (now codes)) × (length (now s) < 2 ^ 32) ⌝ }
+{
     let mut at = 0;
     loop {
-        let n = run_case(&s[at..]);
+        let n = run_case(&s[at..], codes);
         if n == 0 {
             return;
         }
@@ -74,5 +86,6 @@ fn run_cases(s: &[u8]) {
 fn main() {
     let mut input = [0u8; 65536];
     let got = io::read_full(0, &mut input);
-    run_cases(&input[..got]);
+    let mut codes = [0u32; 65536];
+    run_cases(&input[..got], &mut codes);
 }

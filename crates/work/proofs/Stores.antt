@@ -151,6 +151,34 @@ rows-within = record { ends = omega arith }
 pub codes-within : Within codesRegion
 codes-within = record { ends = omega arith }
 
+module _ (table : ℕ) where
+  slots-before : slotsRegion table .start + slotsRegion table .words ≤ rowsRegion .start
+  slots-before = ⊎-elim (λ e. rw e (omega arith)) (λ e. rw e (omega arith)) (slots-are table)
+
+  pub slots-rows : Apart (slotsRegion table) rowsRegion
+  unfolding Apart
+  slots-rows = inl slots-before
+
+  pub slots-codes : Apart (slotsRegion table) codesRegion
+  unfolding Apart
+  slots-codes = inl (omega (arith, slots-before))
+
+  pub rows-slots : Apart rowsRegion (slotsRegion table)
+  unfolding Apart
+  rows-slots = inr slots-before
+
+  pub codes-slots : Apart codesRegion (slotsRegion table)
+  unfolding Apart
+  codes-slots = inr (omega (arith, slots-before))
+
+pub records-rows : Apart recordsRegion rowsRegion
+unfolding Apart
+records-rows = inl (omega arith)
+
+pub records-codes : Apart recordsRegion codesRegion
+unfolding Apart
+records-codes = inl (omega arith)
+
 pub rows-behind : (s : Layout) → s .start + s .words ≤ rowsRegion .start → Apart rowsRegion s
 unfolding Apart
 rows-behind s h = inr h

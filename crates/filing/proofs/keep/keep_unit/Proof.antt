@@ -5,7 +5,7 @@ use native.Mathlib.Omega.{arith}
 use lib.ListN.{length}
 use Rattle.kept.specs.Columns.{columnsFor, Marked}
 use Rattle.kept.specs.declared.Table.{Table}
-use Rattle.filing.proofs.Kept.{cells-room, keepable, unit-fits, bytes-fit, few-units, unit-held, strings-kept}
+use Rattle.filing.proofs.Kept.{cells-room, keepable, unit-fits, bytes-fit, few-units, unit-held, strings-kept, transient-kept}
 use borrow.Author.Needs.{needs}
 use Rattle.filing.proofs.keep.keep_unit.Statement.{statement}
 use Rattle.filing.proofs.keep.keep_unit.Tie as tie
@@ -40,7 +40,10 @@ returns c =
     let a = c .before .before .before .before .before .before .before .before .before .before .before .before .before .before .args in
     let marked = subst (λ (t : Table). Marked (a .five) (t .has) (c .before .mark-columns .result) (c .before .before .before .before .before .before .before .before .cells-of .result) (length (columnsFor (a .five)))) (c .before .before .before .table-of .ensures) (c .before .mark-columns .ensures) in (
       λ b bases us y h x. unit-held h x _ (c .before .before .before .before .before .before .before .before .before .bytes-of .ensures) _ (c .before .before .before .before .before .before .before .before .cells-of .ensures .0) _ marked _ (c .before .before .before .before .before .before .keep .ensures) _ (c .with-unit .ensures),
-      strings-kept (p .held) (p .new) _ (c .before .before .before .before .before .before .before .before .before .bytes-of .ensures) _ (c .before .before .before .before .before .before .before .before .cells-of .ensures .0) _ marked _ (c .before .before .before .before .before .before .keep .ensures) _,
+      (
+        strings-kept (p .held) (p .new) _ (c .before .before .before .before .before .before .before .before .before .bytes-of .ensures) _ (c .before .before .before .before .before .before .before .before .cells-of .ensures .0) _ marked _ (c .before .before .before .before .before .before .keep .ensures) _,
+        transient-kept (p .held) (p .new) _ (c .before .before .before .before .before .before .before .before .before .bytes-of .ensures) _ (c .before .before .before .before .before .before .before .before .cells-of .ensures .0) _ marked _ (c .before .before .before .before .before .before .keep .ensures),
+      ),
     )
 
 pub keep-unit-spec : {M : Type 1} → statement M

@@ -5,13 +5,16 @@ use mathlib.Core.Path.{refl}
 use denote.Ref.{now}
 use borrow.Author.Tests.{le-leb}
 use Rattle.filing.specs.State.{wordsIn}
-use Rattle.filing.proofs.Stringing.{inside-is, cut-ill, cut-counted, strings-none, strings-ill, strings-put, strings-missing, region-same, region-left, lent-kept, lent-length}
+use Rattle.filing.proofs.Stringing.{inside-is, cut-ill, cut-counted, strings-none, strings-ill, strings-put, strings-missing, lent-kept}
+use Rattle.filing.proofs.Lending.{only-same, only-lent, lent-length}
+use Rattle.work.specs.Regions.{stringsRegion}
+use Rattle.work.proofs.Stores.{strings-within}
 use borrow.Author.Needs.{needs}
 use Rattle.filing.proofs.objects.add_object_strings.Statement.{statement}
 use Rattle.filing.proofs.objects.add_object_strings.Tie as tie
 
 returns : tie.Need-returns
-returns c = (λ ts k. strings-none _ _ ts _ _ _ _ _ (c .if1 .taken) k, region-same _ _)
+returns c = (λ ts k. strings-none _ _ ts _ _ _ _ _ (c .if1 .taken) k, only-same stringsRegion _ _)
 
 add-last : tie.Need-add-last
 add-last c = let p = c .before .before .before .before .pre .room in omega (arith, inside-is _ _ (p .offsets-inside), p .limit)
@@ -35,7 +38,7 @@ enum-told-2 : tie.Need-enum-told-2
 enum-told-2 c = search needs
 
 returns-2 : tie.Need-returns-2
-returns-2 c = (λ ts q. strings-ill _ _ ts _ _ _ _ _ (c .before .before .before .before .before .if1 .left) (cut-ill _ (c .before .before .before .before .before .before .before .before .args .offsets) _ _ (c .before .before .check-entries .ensures) (c .enum-told2 .given .1)), region-same _ _)
+returns-2 c = (λ ts q. strings-ill _ _ ts _ _ _ _ _ (c .before .before .before .before .before .if1 .left) (cut-ill _ (c .before .before .before .before .before .before .before .before .args .offsets) _ _ (c .before .before .check-entries .ensures) (c .enum-told2 .given .1)), only-same stringsRegion _ _)
 
 strings-requires : tie.Need-strings-requires
 strings-requires c κs = search needs
@@ -59,7 +62,7 @@ add-strings-requires : tie.Need-add-strings-requires
 add-strings-requires c κs =
     let a = c .before .before .before .before .before .before .before .before .before .before .before .args in
     let p = c .before .before .before .before .before .before .before .before .before .before .before .pre in
-    (omega (arith, p .room .limit), p .room .offsets-inside, p .room .text-inside, rw (lent-length (wordsIn (now (a .b))) (c .before .before .strings .result .start) (c .before .before .strings .result .size) (now (a .work)) (p .room .room) (c .before .before .strings .ensures .0) (c .before .before .strings .ensures .1)) (p .room .fits), (p .strings, lent-kept (wordsIn (now (a .b))) (c .before .before .strings .result .start) (c .before .before .strings .result .size) (now (a .work)) (p .room .room) (c .before .before .strings .ensures .0) (c .before .before .strings .ensures .1) _ _ _ (p .kept)))
+    (omega (arith, p .room .limit), p .room .offsets-inside, p .room .text-inside, rw (lent-length stringsRegion strings-within (wordsIn (now (a .b))) (c .before .before .strings .result .start) (c .before .before .strings .result .size) (now (a .work)) (p .room .room) (c .before .before .strings .ensures .0) (c .before .before .strings .ensures .1)) (p .room .fits), (p .strings, lent-kept (wordsIn (now (a .b))) (c .before .before .strings .result .start) (c .before .before .strings .result .size) (now (a .work)) (p .room .room) (c .before .before .strings .ensures .0) (c .before .before .strings .ensures .1) _ _ _ (p .kept)))
 
 enum-known-more : tie.Need-enum-known-more
 enum-known-more c = search needs
@@ -76,7 +79,7 @@ returns-3 c =
     let p = c .before .before .before .before .before .before .before .before .before .before .before .before .before .before .before .before .pre in (
       λ ts k. strings-missing (wordsIn (now (a .b))) (c .before .before .before .before .before .before .before .strings .result .start) (c .before .before .before .before .before .before .before .strings .result .size) (now (a .work)) (p .room .room) (c .before .before .before .before .before .before .before .strings .ensures .0) (c .before .before .before .before .before .before .before .strings .ensures .1) _ _ (c .before .before .before .before .add-strings .kept .1 .1 .1 .1 .0) refl _ refl _ _ _ _ (a .t) (le-leb 1 (a .count) (c .before .before .before .before .before .before .before .before .before .before .before .before .before .if1 .left)) (cut-counted _ (a .offsets) _ _ (c .before .before .before .before .before .before .before .before .before .before .check-entries .ensures) _ (c .before .before .before .before .before .before .before .before .enum-told .given .1)) ts (c .before .before .before .before .add-strings .result)
           (c .before .before .before .before .add-strings .ensures ts (lent-kept (wordsIn (now (a .b))) (c .before .before .before .before .before .before .before .strings .result .start) (c .before .before .before .before .before .before .before .strings .result .size) (now (a .work)) (p .room .room) (c .before .before .before .before .before .before .before .strings .ensures .0) (c .before .before .before .before .before .before .before .strings .ensures .1) _ _ _ k)) (c .enum-told3 .given .1),
-      region-left (wordsIn (now (a .b))) (c .before .before .before .before .before .before .before .strings .result .start) (c .before .before .before .before .before .before .before .strings .result .size) (now (a .work)) (p .room .room) (c .before .before .before .before .before .before .before .strings .ensures .0) (c .before .before .before .before .before .before .before .strings .ensures .1) (c .before .before .before .before .add-strings .last .1 .1 .1 .1 .0) _ (c .before .before .before .before .add-strings .kept .1 .1 .1 .1 .0) refl,
+      only-lent stringsRegion strings-within (wordsIn (now (a .b))) (c .before .before .before .before .before .before .before .strings .result .start) (c .before .before .before .before .before .before .before .strings .result .size) (now (a .work)) (p .room .room) (c .before .before .before .before .before .before .before .strings .ensures .0) (c .before .before .before .before .before .before .before .strings .ensures .1) (c .before .before .before .before .add-strings .last .1 .1 .1 .1 .0) _ (c .before .before .before .before .add-strings .kept .1 .1 .1 .1 .0) refl,
     )
 
 same-length-2 : tie.Need-same-length-2
@@ -88,7 +91,7 @@ returns-4 c =
     let p = c .before .before .before .before .before .before .before .before .before .before .before .before .before .before .before .before .before .pre in (
       λ ts k. strings-put (wordsIn (now (a .b))) (c .before .before .before .before .before .before .before .before .strings .result .start) (c .before .before .before .before .before .before .before .before .strings .result .size) (now (a .work)) (p .room .room) (c .before .before .before .before .before .before .before .before .strings .ensures .0) (c .before .before .before .before .before .before .before .before .strings .ensures .1) _ _ (c .before .before .before .before .before .add-strings .kept .1 .1 .1 .1 .0) refl _ refl _ _ _ _ (a .t) (le-leb 1 (a .count) (c .before .before .before .before .before .before .before .before .before .before .before .before .before .before .if1 .left)) (cut-counted _ (a .offsets) _ _ (c .before .before .before .before .before .before .before .before .before .before .before .check-entries .ensures) _ (c .before .before .before .before .before .before .before .before .before .enum-told .given .1)) ts (c .before .before .before .before .before .add-strings .result)
           (c .before .before .before .before .before .add-strings .ensures ts (lent-kept (wordsIn (now (a .b))) (c .before .before .before .before .before .before .before .before .strings .result .start) (c .before .before .before .before .before .before .before .before .strings .result .size) (now (a .work)) (p .room .room) (c .before .before .before .before .before .before .before .before .strings .ensures .0) (c .before .before .before .before .before .before .before .before .strings .ensures .1) _ _ _ k)) _ (c .before .more .given .1),
-      region-left (wordsIn (now (a .b))) (c .before .before .before .before .before .before .before .before .strings .result .start) (c .before .before .before .before .before .before .before .before .strings .result .size) (now (a .work)) (p .room .room) (c .before .before .before .before .before .before .before .before .strings .ensures .0) (c .before .before .before .before .before .before .before .before .strings .ensures .1) (c .before .before .before .before .before .add-strings .last .1 .1 .1 .1 .0) _ (c .before .before .before .before .before .add-strings .kept .1 .1 .1 .1 .0) refl,
+      only-lent stringsRegion strings-within (wordsIn (now (a .b))) (c .before .before .before .before .before .before .before .before .strings .result .start) (c .before .before .before .before .before .before .before .before .strings .result .size) (now (a .work)) (p .room .room) (c .before .before .before .before .before .before .before .before .strings .ensures .0) (c .before .before .before .before .before .before .before .before .strings .ensures .1) (c .before .before .before .before .before .add-strings .last .1 .1 .1 .1 .0) _ (c .before .before .before .before .before .add-strings .kept .1 .1 .1 .1 .0) refl,
     )
 
 pub add-object-strings-spec : {M : Type 1} → statement M

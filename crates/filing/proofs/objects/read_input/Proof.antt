@@ -1,6 +1,6 @@
 -- `read_input` meets its contract.
 -- Assumes nothing.
-use Rattle.filing.proofs.Stringing.{region-same}
+use Rattle.filing.proofs.Lending.{only-same}
 use Rattle.filing.proofs.InputLaws.{scan-within, strings-room-of}
 use Rattle.filing.proofs.InputEnds.{read-refused, read-strings-refused, read-indexes-refused, read-passed}
 use borrow.Author.Needs.{needs}
@@ -16,7 +16,7 @@ input-refused-requires c κs = search needs
 returns : tie.Need-returns
 returns c = (
   λ at ps ts e room k. read-refused _ _ _ ts _ _ _ _ at ps e _ (c .before .before .before .before .judge-object .ensures at ps e) (c .before .if1 .taken) _ (c .input-refused .ensures),
-  region-same _ _,
+  only-same _ _ _,
 )
 
 array-read-add-object-strings : tie.Need-array-read-add-object-strings

@@ -4,6 +4,7 @@ use mathlib.Core.Path.{sym, _∙_}
 use native.Mathlib.Omega.{arith}
 use Rattle.filing.proofs.Kept.{seek-asks, sought-is, known-is, free-is, rows-held}
 use Rattle.filing.proofs.Answering.{summed-is, answer-known, answer-bad, sums-requires, keep-requires, answer-filed}
+use Rattle.filing.proofs.Codes.{transient-none}
 use borrow.Author.Needs.{needs}
 use Rattle.filing.proofs.single.file_read.Statement.{statement}
 use Rattle.filing.proofs.single.file_read.Tie as tie
@@ -25,9 +26,11 @@ same-length c = search needs
 
 returns : tie.Need-returns
 returns c =
-    let p = c .before .before .before .before .before .before .before .before .before .before .pre in
-    λ i bases earlier here s a r y.
-    answer-known a r (p .fits) _ (p .homes) y (known-is (a .held) _ (r .least) (p .fits) _ _ (r .tables) _ (sym (c .before .enum-told .given .1) ∙ sought-is (a .held) _ (r .least) (p .fits) _ _ (r .tables) _ (c .before .before .before .before .before .seen-slots .ensures) _ (c .before .before .before .seek-in .ensures))) _ (c .file-known .ensures)
+    let p = c .before .before .before .before .before .before .before .before .before .before .pre in (
+      λ i bases earlier here s a r y.
+          answer-known a r (p .fits) _ (p .homes) y (known-is (a .held) _ (r .least) (p .fits) _ _ (r .tables) _ (sym (c .before .enum-told .given .1) ∙ sought-is (a .held) _ (r .least) (p .fits) _ _ (r .tables) _ (c .before .before .before .before .before .seen-slots .ensures) _ (c .before .before .before .seek-in .ensures))) _ (c .file-known .ensures),
+      transient-none _ _,
+    )
 
 enum-known-slot : tie.Need-enum-known-slot
 enum-known-slot c = search needs
@@ -49,10 +52,12 @@ same-length-2 c = search needs
 
 returns-2 : tie.Need-returns-2
 returns-2 c =
-    let p = c .before .before .before .before .before .before .before .before .before .before .before .before .before .before .before .pre in
-    λ i bases earlier here s a r y.
-    let f = free-is (a .held) _ (r .least) (p .fits) _ _ (r .tables) _ (sym (c .before .before .before .before .before .before .slot .given .1) ∙ sought-is (a .held) _ (r .least) (p .fits) _ _ (r .tables) _ (c .before .before .before .before .before .before .before .before .before .before .seen-slots .ensures) _ (c .before .before .before .before .before .before .before .before .seek-in .ensures)) in
-    answer-bad a r (p .fits) _ (p .homes) y _ (c .before .before .contributions-of .ensures i here (a .input) (summed-is a r (p .fits) _ (c .before .before .before .before .sums-of .ensures))) (f .0) _ _ (c .before .if1 .taken) (c .refused .ensures)
+    let p = c .before .before .before .before .before .before .before .before .before .before .before .before .before .before .before .pre in (
+      λ i bases earlier here s a r y.
+          let f = free-is (a .held) _ (r .least) (p .fits) _ _ (r .tables) _ (sym (c .before .before .before .before .before .before .slot .given .1) ∙ sought-is (a .held) _ (r .least) (p .fits) _ _ (r .tables) _ (c .before .before .before .before .before .before .before .before .before .before .seen-slots .ensures) _ (c .before .before .before .before .before .before .before .before .seek-in .ensures)) in
+          answer-bad a r (p .fits) _ (p .homes) y _ (c .before .before .contributions-of .ensures i here (a .input) (summed-is a r (p .fits) _ (c .before .before .before .before .sums-of .ensures))) (f .0) _ _ (c .before .if1 .taken) (c .refused .ensures),
+      transient-none _ _,
+    )
 
 unit-for-requires : tie.Need-unit-for-requires
 unit-for-requires c κs =
@@ -81,10 +86,12 @@ same-length-3 c = search needs
 
 returns-3 : tie.Need-returns-3
 returns-3 c =
-    let p = c .before .before .before .before .before .before .before .before .before .before .before .before .before .before .before .before .before .before .before .before .before .pre in
-    λ i bases earlier here s a r y.
-    let f = free-is (a .held) _ (r .least) (p .fits) _ _ (r .tables) _ (sym (c .before .before .before .before .before .before .before .before .before .before .before .before .slot .given .1) ∙ sought-is (a .held) _ (r .least) (p .fits) _ _ (r .tables) _ (c .before .before .before .before .before .before .before .before .before .before .before .before .before .before .before .before .seen-slots .ensures) _ (c .before .before .before .before .before .before .before .before .before .before .before .before .before .before .seek-in .ensures)) in
-    answer-filed a r (p .fits) _ (p .homes) y _ (c .before .before .before .before .before .before .before .before .contributions-of .ensures i here (a .input) (summed-is a r (p .fits) _ (c .before .before .before .before .before .before .before .before .before .before .sums-of .ensures))) (f .0) (c .before .before .before .before .before .before .before .if1 .left) _ (f .1) (f .2) _ (c .before .before .before .before .before .unit-for .ensures) _ _ _ (c .before .before .before .keep-unit .ensures .0) (c .grow-sums .ensures) (c .before .before .before .keep-unit .ensures .1)
+    let p = c .before .before .before .before .before .before .before .before .before .before .before .before .before .before .before .before .before .before .before .before .before .pre in (
+      λ i bases earlier here s a r y.
+          let f = free-is (a .held) _ (r .least) (p .fits) _ _ (r .tables) _ (sym (c .before .before .before .before .before .before .before .before .before .before .before .before .slot .given .1) ∙ sought-is (a .held) _ (r .least) (p .fits) _ _ (r .tables) _ (c .before .before .before .before .before .before .before .before .before .before .before .before .before .before .before .before .seen-slots .ensures) _ (c .before .before .before .before .before .before .before .before .before .before .before .before .before .before .seek-in .ensures)) in
+          answer-filed a r (p .fits) _ (p .homes) y _ (c .before .before .before .before .before .before .before .before .contributions-of .ensures i here (a .input) (summed-is a r (p .fits) _ (c .before .before .before .before .before .before .before .before .before .before .sums-of .ensures))) (f .0) (c .before .before .before .before .before .before .before .if1 .left) _ (f .1) (f .2) _ (c .before .before .before .before .before .unit-for .ensures) _ _ _ (c .before .before .before .keep-unit .ensures .0) (c .grow-sums .ensures) (c .before .before .before .keep-unit .ensures .1 .0),
+      c .before .before .before .keep-unit .ensures .1 .1,
+    )
 
 pub file-read-spec : {M : Type 1} → statement M
 file-read-spec =

@@ -1,49 +1,31 @@
 -- `file_unit` meets its contract.
 -- Assumes nothing.
 use mathlib.Core.Path.{sym, _∙_}
-use mathlib.Core.Logic.{⊎-elim}
 use Prim.Native.Nat.{_-_}
 use native.Mathlib.Omega.{arith}
 use denote.Ref.{now}
 use Rattle.octets.specs.Octets.{part}
 use Rattle.octets.proofs.Numbers.{Bytes}
-use Rattle.filing.proofs.Reading.{answer-is, answer-refused, read-at, read-fits, read-bytes}
+use Rattle.filing.proofs.Reading.{answer-refused, read-at, read-fits, read-bytes}
+use Rattle.filing.proofs.Codes.{at-coded, unit-coded, remembered-stays}
 use borrow.Author.Needs.{needs}
 use Rattle.filing.proofs.single.file_unit.Statement.{statement}
 use Rattle.filing.proofs.single.file_unit.Tie as tie
 
-element-copy-out-first : tie.Need-element-copy-out-first
-element-copy-out-first c = search needs
-
-element-copy-out-last : tie.Need-element-copy-out-last
-element-copy-out-last c = search needs
-
-add-last : tie.Need-add-last
-add-last c = omega (arith, c .before .before .before .before .before .pre .ready .atUnit .input .within 3)
-
-narrow-requires : tie.Need-narrow-requires
-narrow-requires c κs = ⊎-elim (λ e. omega arith) (λ e. omega arith) (c .before .before .before .before .before .pre .homes)
-
-sub-read-unit : tie.Need-sub-read-unit
-sub-read-unit c = search needs
-
-part-read-unit-start : tie.Need-part-read-unit-start
-part-read-unit-start c = search needs
-
-part-read-unit-end : tie.Need-part-read-unit-end
-part-read-unit-end c = omega (arith, c .before .before .before .before .before .before .pre .ready .atUnit .input .within 3)
-
-sub-read-unit-2 : tie.Need-sub-read-unit-2
-sub-read-unit-2 c = search needs
-
-part-read-unit-start-2 : tie.Need-part-read-unit-start-2
-part-read-unit-start-2 c = search needs
-
-part-read-unit-end-2 : tie.Need-part-read-unit-end-2
-part-read-unit-end-2 c = search needs
-
-read-unit-requires : tie.Need-read-unit-requires
-read-unit-requires c κs = search needs
+read-at-requires : tie.Need-read-at-requires
+read-at-requires c κs =
+    let p = c .before .before .before .before .before .pre in
+    let h = p .0 .ready .atUnit .held in
+    record {
+      low = p .0 .low;
+      within = p .0 .within;
+      homes = p .0 .homes;
+      abbreviations = p .0 .ready .atUnit .input .within 3;
+      room = h .room;
+      words = h .words;
+      limit = h .limit;
+      memory = p .1;
+    }
 
 enum-known-answer : tie.Need-enum-known-answer
 enum-known-answer c = search needs
@@ -60,58 +42,60 @@ wide-requires c κs = search needs
 file-read-requires : tie.Need-file-read-requires
 file-read-requires c κs =
     let s = c .before .before .before .before .before .before .before .before .before .before .before .before .before .before .args in
-    let p = c .before .before .before .before .before .before .before .before .before .before .before .before .before .before .pre in
+    let p = c .before .before .before .before .before .before .before .before .before .before .before .before .before .before .pre .0 in
+    let r = c .before .before .before .before .before .before .before .before .read-at in
     let a = p .ready .atUnit in
-    let e = sym (c .before .before .before .answer2 .given .1) ∙ answer-is _ _ _ (a .input) _ _ _ (p .low) (p .within) _ _ (c .before .before .before .before .before .before .before .before .narrow .ensures) (c .before .before .before .before .before .read-unit .ensures) in
+    let e = sym (c .before .before .before .answer2 .given .1) ∙ r .ensures .0 (p .ready .input) (a .input) in
     let y : Bytes (now (s .b)) = λ j. c .before .before .before .before .before .before .before .before .before .before .before .before .before .shared-slice-known .given j .fits in
     record {
       from = p .from;
       homes = p .homes;
       fits = read-fits _ _ _ (a .input) _ _ _ (p .low) (p .within) _ _ _ e y;
-      ready = p .ready;
+      ready = record { input = p .ready .input; bases = p .ready .bases; earlier = p .ready .earlier; here = p .ready .here; atUnit = at-coded _ (r .ensures .1 .1) a };
       bytes = part (now (s .b)) (s .at) (s .section .stop - s .at);
       read = read-at _ _ _ (a .input) _ _ _ (p .low) (p .within) _ _ _ e y _ (c .before .wide .ensures);
       same = read-bytes _ _ _ (a .input) _ _ _ (p .low) (p .within) _ _ _ e y;
     }
 
-returns : tie.Need-returns
-returns c =
-    let p = c .before .before .before .before .before .before .before .before .before .before .before .before .before .pre in
-    λ i bases earlier here a.
-    answer-refused _ _ _ (a .input) _ _ _ (p .low) (p .within) bases earlier here _ _ _ _ _ _ _ (sym (c .before .before .answer .given .1) ∙ answer-is _ _ _ (a .input) _ _ _ (p .low) (p .within) _ _ (c .before .before .before .before .before .before .before .narrow .ensures) (c .before .before .before .before .read-unit .ensures)) (c .refused .ensures)
-
 same-length : tie.Need-same-length
 same-length c = search needs
+
+returns : tie.Need-returns
+returns c =
+    let p = c .before .before .before .before .before .before .before .before .before .before .before .before .before .pre .0 in
+    let r = c .before .before .before .before .before .before .before .read-at in (
+      λ i bases earlier here a.
+          answer-refused _ _ _ (a .input) _ _ _ (p .low) (p .within) bases earlier here _ _ _ _ _ _ _ (sym (c .before .before .answer .given .1) ∙ r .ensures .0 i (a .input)) (c .refused .ensures),
+      r .ensures .1 .0,
+    )
+
+same-length-2 : tie.Need-same-length-2
+same-length-2 c = c .before .before .file-read .kept .1 .1 .1 .1 .1 .1 .1 .0 ∙ c .before .before .before .before .before .before .before .before .before .before .before .read-at .kept .1 .1 .1 .1 .1 .0
 
 returns-2 : tie.Need-returns-2
 returns-2 c =
     let s = c .before .before .before .before .before .before .before .before .before .before .before .before .before .before .before .before .before .args in
-    let p = c .before .before .before .before .before .before .before .before .before .before .before .before .before .before .before .before .before .pre in
-    let y : Bytes (now (s .b)) = λ j. c .before .before .before .before .before .before .before .before .before .before .before .before .before .before .before .before .shared-slice-known .given j .fits in
-    λ i bases earlier here a.
-    let e = sym (c .before .before .before .before .before .before .answer2 .given .1) ∙ answer-is _ _ _ (a .input) _ _ _ (p .low) (p .within) _ _ (c .before .before .before .before .before .before .before .before .before .before .before .narrow .ensures) (c .before .before .before .before .before .before .before .before .read-unit .ensures) in
-    c .before .before .file-read .ensures i bases earlier here _ a (read-at _ _ _ (a .input) _ _ _ (p .low) (p .within) _ _ _ e y _ (c .before .before .before .before .wide .ensures)) (read-bytes _ _ _ (a .input) _ _ _ (p .low) (p .within) _ _ _ e y)
+    let p = c .before .before .before .before .before .before .before .before .before .before .before .before .before .before .before .before .before .pre .0 in
+    let r = c .before .before .before .before .before .before .before .before .before .before .before .read-at in
+    let y : Bytes (now (s .b)) = λ j. c .before .before .before .before .before .before .before .before .before .before .before .before .before .before .before .before .shared-slice-known .given j .fits in (
+      λ i bases earlier here a.
+          let e = sym (c .before .before .before .before .before .before .answer2 .given .1) ∙ r .ensures .0 i (a .input) in
+          unit-coded _ (r .ensures .1 .1) _ i _ _ _ bases earlier here _ _
+          (c .before .before .file-read .ensures .0 i bases earlier here _ (at-coded _ (r .ensures .1 .1) a) (read-at _ _ _ (a .input) _ _ _ (p .low) (p .within) _ _ _ e y _ (c .before .before .before .before .wide .ensures)) (read-bytes _ _ _ (a .input) _ _ _ (p .low) (p .within) _ _ _ e y)),
+      remembered-stays _ _ _ _ (c .before .before .file-read .ensures .1) (r .ensures .1 .0),
+    )
 
 pub file-unit-spec : {M : Type 1} → statement M
 file-unit-spec =
     tie.close
     (tie.spec
-    element-copy-out-first
-    element-copy-out-last
-    add-last
-    narrow-requires
-    sub-read-unit
-    part-read-unit-start
-    part-read-unit-end
-    sub-read-unit-2
-    part-read-unit-start-2
-    part-read-unit-end-2
-    read-unit-requires
+    read-at-requires
     enum-known-answer
     refused-requires
     enum-known-answer-2
     wide-requires
     file-read-requires
-    returns
     same-length
+    returns
+    same-length-2
     returns-2)

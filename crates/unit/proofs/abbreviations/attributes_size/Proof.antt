@@ -35,7 +35,7 @@ within c =
     let l = c .before .before .before .before .before in
     let s = now (l .before .before .args .s) in
     let t = attributeAt-taken _ _ (told c) in
-    (t .0, omega (arith, t .0, t .1, length-drop (l .loop .at) s, l .loop .inv .0))
+    (omega (arith, t .0), omega (arith, t .0, t .1, length-drop (l .loop .at) s, l .loop .inv .0))
 
 loop-holds : tie.Need-loop-holds Inv-loop μ-loop
 loop-holds c = (omega arith, further-none _)

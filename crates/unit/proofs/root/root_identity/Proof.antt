@@ -1,146 +1,60 @@
 -- `unit::root::root_identity` meets its contract.
 -- Assumes nothing.
-use mathlib.Core.Path.{_≡_, sym, subst, ap, ap₂, _∙_}
-use mathlib.Core.List.{List}
-use mathlib.Core.Option.{none}
-use Prim.Native.Nat.{ℕ, _≤_}
-use Rattle.leb128.specs.Answers.{numberCheck}
-use borrow.Author.Needs.{needs}
-use borrow.Author.Tests.{not-true, not-false}
-use lib.ListN.{length}
-use denote.Ref.{now}
-use Rattle.octets.specs.Checked.{pass}
-use Rattle.bundle.specs.Encoded.{encodingIs}
-use Rattle.leb128.specs.Leb128.{unsigned}
-use Rattle.leb128.proofs.Taken.{unsigned-taken}
-use Rattle.unit.specs.Roots.{identityFrom}
-use Rattle.unit.proofs.Sizes.{rest}
-use Rattle.unit.specs.Abbreviations.{Declaration, declarationsOf}
-use Rattle.unit.specs.Tables.{Located}
-use Rattle.unit.specs.declared.abbreviations.Found.{Found}
-use Rattle.unit.specs.declared.abbreviations.Found.the-variants.{At}
-use Rattle.unit.specs.declared.abbreviations.Found.the-variants as found
-use Rattle.unit.proofs.Rooted.{good-table, root-table, root-code, root-missing, found-within, root-tag, root-is}
+use Rattle.unit.proofs.Rooted.{root-table}
+use Rattle.unit.proofs.Remembering.{judged-bad, judged-good, remembered}
 use borrow.Author.Needs.{needs}
 use Rattle.unit.proofs.root.root_identity.Statement.{statement}
 use Rattle.unit.proofs.root.root_identity.Tie as tie
 
-table-good-requires : tie.Need-table-good-requires
-table-good-requires c κs = search needs
+recall-requires : tie.Need-recall-requires
+recall-requires c κs = search needs
 
-good : (c : tie.Else1) → (ds : List Declaration) × (declarationsOf (now (c .before .before .before .before .args .table)) ≡ pass ds)
-good c = good-table _ (sym (c .before .table-good .ensures) ∙ not-false _ (c .if1 .left))
-
-told : (c : tie.After-known-told) → unsigned (now (c .before .before .before .before .before .before .before .before .args .s)) ≡ pass (c .before .code .given .0 .0, c .before .code .given .0 .1 .0)
-told c = sym (c .before .before .before .read-unsigned .ensures) ∙ ap numberCheck (c .before .code .given .1)
-
-at-found : (s : List ℕ) (ds : List Declaration) (code : ℕ) {r q : Found} → r ≡ q → Located s ds code r → Located s ds code q
-at-found s ds code h l = subst (λ (x : Found). Located s ds code x) h l
-
-located : (c : tie.After-known-told2)
-    → Located (now (c .before .before .before .before .before .before .before .before .before .before .before .before .args .table)) (good (c .before .before .before .before .before .before .before .before) .0) (c .before .before .before .before .before .code .given .0 .0) (At (c .before .tag .given .0 .0) (c .before .tag .given .0 .1 .0))
-located c = let g = good (c .before .before .before .before .before .before .before .before) in at-found _ _ _ (c .before .tag .given .1) (c .before .before .before .find-declaration .ensures (g .0) (g .1))
-
-inside : (c : tie.After-known-told2) → c .before .tag .given .0 .1 .0 ≤ length (now (c .before .before .before .before .before .before .before .before .before .before .before .before .args .table))
-inside c = let g = good (c .before .before .before .before .before .before .before .before) in found-within (encodingIs (c .before .before .before .before .before .before .before .before .before .before .before .before .args .e)) (now (c .before .before .before .before .before .before .before .before .before .before .before .before .args .table)) (now (c .before .before .before .before .before .before .before .before .before .before .before .before .args .s)) (g .0) (g .1) _ _ (told (c .before .before .before .before)) _ _ (located c)
-
-returns : tie.Need-returns
-returns c = root-table _ _ _ (sym (c .before .table-good .ensures) ∙ not-true _ (c .if1 .taken))
-
-read-unsigned-requires : tie.Need-read-unsigned-requires
-read-unsigned-requires c κs = search needs
-
-enum-known-code : tie.Need-enum-known-code
-enum-known-code c = search needs
+enum-known-count : tie.Need-enum-known-count
+enum-known-count c = search needs
 
 enum-told : tie.Need-enum-told
 enum-told c = search needs
 
+nothing-requires : tie.Need-nothing-requires
+nothing-requires c κs = search needs
+
+same-length : tie.Need-same-length
+same-length c = search needs
+
+returns : tie.Need-returns
+returns c = (root-table _ _ _ (judged-bad _ _ _ (c .before .before .before .before .before .recall .ensures) (c .before .enum-told .given .1)), c .nothing .ensures _ _)
+
+sub-root-in : tie.Need-sub-root-in
+sub-root-in c = search needs
+
+part-root-in-start : tie.Need-part-root-in-start
+part-root-in-start c = search needs
+
+part-root-in-end : tie.Need-part-root-in-end
+part-root-in-end c = search needs
+
+root-in-requires : tie.Need-root-in-requires
+root-in-requires c κs = judged-good _ _ _ (c .before .before .before .before .before .before .before .recall .ensures) _ (c .before .before .before .count .given .1)
+
+same-length-2 : tie.Need-same-length-2
+same-length-2 c = search needs
+
 returns-2 : tie.Need-returns-2
-returns-2 c =
-    let g = good (c .before .before .before) in
-    let k = sym (c .before .before .read-unsigned .ensures) ∙ ap numberCheck (c .enum-told .given .1) in
-    root-code _ _ _ (g .0) (g .1) k
-
-find-declaration-requires : tie.Need-find-declaration-requires
-find-declaration-requires c κs = search needs
-
-enum-known-tag : tie.Need-enum-known-tag
-enum-known-tag c = search needs
-
-enum-told-2 : tie.Need-enum-told-2
-enum-told-2 c = search needs
-
-returns-3 : tie.Need-returns-3
-returns-3 c =
-    let t = c .before .before .before in
-    let g = good (t .before .before .before .before) in
-    root-missing _ _ _ (g .0) (g .1) _ _ (told t) (at-found _ _ _ (c .enum-told2 .given .1) (c .before .before .find-declaration .ensures (g .0) (g .1)))
-
-root-tag-requires : tie.Need-root-tag-requires
-root-tag-requires c κs = search needs
-
-returns-4 : tie.Need-returns-4
-returns-4 c =
-    let t = c .before .before in
-    let g = good (t .before .before .before .before .before .before .before .before) in
-    root-tag _ _ _ (g .0) (g .1) _ _ (told (t .before .before .before .before)) _ _ (located t) (sym (c .before .root-tag .ensures) ∙ not-true _ (c .if2 .taken))
-
-sub-identity-in : tie.Need-sub-identity-in
-sub-identity-in c = inside (c .before .before)
-
-part-identity-in-start : tie.Need-part-identity-in-start
-part-identity-in-start c = inside (c .before .before)
-
-part-identity-in-end : tie.Need-part-identity-in-end
-part-identity-in-end c = search needs
-
-sub-identity-in-2 : tie.Need-sub-identity-in-2
-sub-identity-in-2 c = unsigned-taken _ _ (told (c .before .before .before .before .before .before .before)) .within
-
-part-identity-in-start-2 : tie.Need-part-identity-in-start-2
-part-identity-in-start-2 c = unsigned-taken _ _ (told (c .before .before .before .before .before .before .before)) .within
-
-part-identity-in-end-2 : tie.Need-part-identity-in-end-2
-part-identity-in-end-2 c = search needs
-
-identity-in-requires : tie.Need-identity-in-requires
-identity-in-requires c κs = search needs
-
-returns-5 : tie.Need-returns-5
-returns-5 c =
-    let f = c .before .before .before in
-    let t = f .before .before in
-    let o = t .before .before .before .before in
-    let a = o .before .before .before .before .before .before .before .before .args in
-    let e = encodingIs (a .e) in
-    let g = good (o .before .before .before .before) in
-    let i = root-is e (now (a .table)) (now (a .s)) (g .0) (g .1) _ _ (told o) _ _ (located t) (sym (f .before .root-tag .ensures) ∙ not-false _ (f .if2 .left)) in
-    c .identity-in .ensures
-    ∙ ap₂ (λ (x y : List ℕ). identityFrom e x y none) (rest (t .before .tag .given .0 .1 .0) (now (a .table))) (rest (o .before .code .given .0 .1 .0) (now (a .s)))
-    ∙ sym i
+returns-2 c = (c .root-in .ensures, remembered _ _ _ _ _ (judged-good _ _ _ (c .before .before .before .before .before .before .before .before .recall .ensures) _ (c .before .before .before .before .count .given .1)))
 
 pub root-identity-spec : {M : Type 1} → statement M
 root-identity-spec =
     tie.close
     (tie.spec
-    table-good-requires
-    returns
-    read-unsigned-requires
-    enum-known-code
+    recall-requires
+    enum-known-count
     enum-told
-    returns-2
-    find-declaration-requires
-    enum-known-tag
-    enum-told-2
-    returns-3
-    root-tag-requires
-    returns-4
-    sub-identity-in
-    part-identity-in-start
-    part-identity-in-end
-    sub-identity-in-2
-    part-identity-in-start-2
-    part-identity-in-end-2
-    identity-in-requires
-    returns-5)
+    nothing-requires
+    same-length
+    returns
+    sub-root-in
+    part-root-in-start
+    part-root-in-end
+    root-in-requires
+    same-length-2
+    returns-2)
