@@ -6,10 +6,14 @@ use crate::elf;
 use crate::explain::{self, Names};
 use crate::names::{LONGEST_BUNDLE, OUTPUT_TOO_SHORT};
 use crate::reader::bundle::{put_end, Bundle};
-use std::ffi::OsString;
+use std::ffi::{OsStr, OsString};
+use std::os::unix::ffi::OsStrExt;
 
 /// The longest ELF file that is read; most of one may be sections that aren't wanted.
 pub const LONGEST_FILE: usize = 1 << 30;
+
+/// The longest list of files.
+const LONGEST_LIST: usize = 1 << 26;
 
 /// What is packed: the bundle, and how each of its objects is called.
 pub struct Joined {
@@ -47,6 +51,22 @@ pub fn from_elf(file: &[u8], shown: &str) -> Result<Vec<u8>, Stop> {
     }
     output.truncate(length);
     Ok(output)
+}
+
+/// The names, each `@LIST` replaced by those in the file LIST, a line for each; empty lines and those that start with # are left out.
+pub fn listed(names: &[OsString]) -> Result<Vec<OsString>, Stop> {
+    let mut all = Vec::new();
+    for name in names {
+        let Some(list) = name.as_bytes().strip_prefix(b"@") else {
+            all.push(name.clone());
+            continue;
+        };
+        let list = input::read(OsStr::from_bytes(list), LONGEST_LIST)?;
+        let lines = list.split(|b| *b == b'\n').map(|line| line.strip_suffix(b"\r").unwrap_or(line));
+        let named = lines.filter(|line| !line.is_empty() && !line.starts_with(b"#"));
+        all.extend(named.map(|line| OsStr::from_bytes(line).to_os_string()));
+    }
+    Ok(all)
 }
 
 /// All files as one bundle, in the order given. A single bundle is taken as it is, whatever it holds.

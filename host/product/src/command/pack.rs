@@ -1,8 +1,8 @@
 //! `barthovin pack`: files in, their package out, or nothing and the reason.
 
 use super::call::{Call, Known};
-use super::files::{join, refused, Joined};
-use super::{input, output, show, Stop, DONE};
+use super::files::{join, listed, refused, Joined};
+use super::{input, output, progress, show, Stop, DONE};
 use crate::explain::{self, Names};
 use crate::ffi;
 use crate::names::{OUTPUT_TOO_SHORT, WORK_FOR_A_WORD};
@@ -19,16 +19,22 @@ pub fn run(arguments: &[OsString]) -> Result<u8, Stop> {
         return Err(call.wrong("operand FILE is missing"));
     }
     let to = call.value("output").ok_or_else(|| call.wrong("no output is named: -o PACKAGE"))?;
-    let joined = join(&call.operands)?;
-    let package = package_of(&joined.bundle).map_err(|number| told(&call, &joined, number))?;
+    let names = listed(&call.operands)?;
+    if names.is_empty() {
+        return Err(call.wrong("the list names no file"));
+    }
+    let joined = join(&names)?;
+    let about = format!("packing {}, {} bytes", show::count(names.len(), "file"), joined.bundle.len());
+    let package =
+        progress::shown(about, || package_of(&joined.bundle)).map_err(|number| told(&names, &joined, number))?;
     output::write(to, &package).map(|()| DONE)
 }
 
 /// The refusal of what was joined, by the file that it comes from where that is known.
-fn told(call: &Call, joined: &Joined, number: u32) -> Stop {
+fn told(operands: &[OsString], joined: &Joined, number: u32) -> Stop {
     let names = Names { files: &joined.files };
     let why = explain::packing(&joined.bundle, number, &names);
-    let all = match &call.operands[..] {
+    let all = match operands {
         [name] => input::shown(name),
         operands => format!("{} together", show::count(operands.len(), "file")),
     };
