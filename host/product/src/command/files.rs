@@ -1,7 +1,8 @@
 //! Files that are packed: ELF files and bundles, told apart by their first bytes, each made a bundle and all joined under one head.
 
+use super::call::Call;
 use super::pack::package_of;
-use super::{input, meaning, Stop};
+use super::{input, meaning, output, show, Stop};
 use crate::elf;
 use crate::explain::{self, Names};
 use crate::names::{LONGEST_BUNDLE, OUTPUT_TOO_SHORT};
@@ -26,6 +27,16 @@ pub struct Joined {
 pub fn refused(file: &str, number: u32, why: Option<String>) -> Stop {
     let why = why.filter(|why| !why.is_empty()).map(|why| format!(": {why}")).unwrap_or_default();
     Stop::Refused(format!("{file}: refused {number}: {}{why}", meaning(number)))
+}
+
+/// A refusal of what a call asks about; where it asks for JSON, as an object on standard output too.
+pub fn refused_call(call: &Call, file: &str, number: u32, why: Option<String>) -> Stop {
+    if call.has("json") {
+        if let Err(stop) = output::print(&show::refused_json(number)) {
+            return stop;
+        }
+    }
+    refused(file, number, why)
 }
 
 /// Reads a file; an ELF file as the bundle of its sections. The flag says whether it was one.

@@ -1,7 +1,8 @@
 //! `barthovin sheet`: the index of a package as lines for paper.
 
 use super::call::{Call, Known};
-use super::{input, meaning, output, show, Stop, DONE};
+use super::files::refused_call;
+use super::{input, output, show, Stop, DONE};
 use crate::explain;
 use crate::names::{section_name, table_name, LONGEST_PACKAGE};
 use crate::sheet::sheet;
@@ -24,10 +25,8 @@ pub fn run(arguments: &[OsString]) -> Result<u8, Stop> {
     }
     let name = &call.exactly(&["PACKAGE"])?[0];
     let package = input::read(name, LONGEST_PACKAGE)?;
-    let lines = sheet(&package).map_err(|number| {
-        let why = explain::not_a_sheet(&package).map(|why| format!(": {why}")).unwrap_or_default();
-        Stop::Refused(format!("{}: refused {number}: {}{why}", input::shown(name), meaning(number)))
-    })?;
+    let lines = sheet(&package)
+        .map_err(|number| refused_call(&call, &input::shown(name), number, explain::not_a_sheet(&package)))?;
     if call.has("json") {
         return output::print(&json(&String::from_utf8_lossy(&lines)));
     }

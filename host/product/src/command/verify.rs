@@ -1,8 +1,8 @@
 //! `barthovin verify`: whether a package holds all that files were packed into it, before they are deleted.
 
 use super::call::{Call, Known};
-use super::files::{from_elf, join, listed, LONGEST_FILE};
-use super::{input, meaning, output, progress, show, Stop, DONE, NOT_DONE};
+use super::files::{from_elf, join, listed, refused_call, LONGEST_FILE};
+use super::{input, output, progress, show, Stop, DONE, NOT_DONE};
 use crate::answer::Found;
 use crate::elf;
 use crate::explain;
@@ -28,7 +28,7 @@ pub fn run(arguments: &[OsString]) -> Result<u8, Stop> {
     if files.is_empty() {
         return Err(call.wrong("operand FILE is missing"));
     }
-    let package = package(name)?;
+    let package = package(&call, name)?;
     let joined = join(&files)?;
     let about = format!("looking for {} in the package", show::count(files.len(), "file"));
     let report = progress::shown(about, || verify(&package, &joined.bundle));
@@ -52,13 +52,12 @@ pub fn run(arguments: &[OsString]) -> Result<u8, Stop> {
 }
 
 /// A package as bytes, or the one in an ELF file; that it is one the proved lookup says, to any question.
-fn package(name: &OsStr) -> Result<Vec<u8>, Stop> {
+fn package(call: &Call, name: &OsStr) -> Result<Vec<u8>, Stop> {
     let bytes = input::read_either(name, elf::MAGIC, LONGEST_FILE, LONGEST_PACKAGE)?;
     let shown = input::shown(name);
     let bytes = if bytes.starts_with(elf::MAGIC) { from_elf(&bytes, &shown)? } else { bytes };
     if ffi::lookup(&bytes, 5, 1, 1, 1) == Found::Refused(NOT_A_PACKAGE) {
-        let why = explain::not_a_package(&bytes).map(|why| format!(": {why}")).unwrap_or_default();
-        return Err(Stop::Refused(format!("{shown}: refused {NOT_A_PACKAGE}: {}{why}", meaning(NOT_A_PACKAGE))));
+        return Err(refused_call(call, &shown, NOT_A_PACKAGE, explain::not_a_package(&bytes)));
     }
     Ok(bytes)
 }
