@@ -3,7 +3,7 @@
 use mathlib.Core.Path.{_≡_, refl, sym, ap, _∙_}
 use mathlib.Core.Logic.{_⊎_, inl, inr, ⊎-elim}
 use mathlib.Core.Bool.{true, false}
-use mathlib.Core.List.{List, _++_, map}
+use mathlib.Core.List.{List, [], _∷_, _++_, map}
 use mathlib.Core.Option.{Option, some, none}
 use Prim.Native.Nat.{ℕ, _+_, _*_, _-_, _<_, _≤_}
 use native.Mathlib.Omega.{arith}
@@ -25,7 +25,7 @@ use Rattle.package.proofs.Accepted.{Accepted, packed-accepted}
 use Rattle.package.proofs.Tables.{indexOfTable}
 use Rattle.lookup.specs.Lookup.{refused, part, Package, packageOf, versionGood, indexFor, placeIn, cellPlace, partPlace, inTable, answered, lookedUp, startOf}
 use Rattle.lookup.specs.Answers.{packageIn}
-use Rattle.sheet.specs.Sheet.{letterC, letterT, line, sectionIn, rowLines, rowsFrom, tableLines, sheetLines}
+use Rattle.sheet.specs.Sheet.{identitiesIn, letterC, letterT, line, sectionIn, rowLines, rowsFrom, tableLines, sheetLines}
 use Rattle.sheet.proofs.LawPlacing.{slots-one, cells-told, rows-told}
 use Rattle.sheet.proofs.LawCells.{line-named, line-cell}
 use Rattle.archive.specs.Theorem as theorem
