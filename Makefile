@@ -12,11 +12,14 @@ SEED ?= 1
 PREFIX ?= /usr/local
 INSTALL ?= install
 
-.PHONY: help test library host pack-example real-files command install uninstall clean fmt oracle differential first-match bench
+.PHONY: help test library host pack-example real-files readers command install uninstall clean fmt oracle differential first-match bench
 
 help:
 	@echo 'make pack-example   packs two .dwo files and document 01'"'"'s example, verifies, lists and looks up in their packages'
 	@echo 'make real-files     compiles small sources with gcc and clang, and reads, packs, verifies and lists the .dwo files'
+	@echo 'make pack-example   packs the example, shows its package and looks a unit up in it'
+	@echo 'make real-files     compiles small sources with gcc and clang, and reads, packs and lists the .dwo files'
+	@echo 'make readers        packs small programs and has llvm-dwarfdump, readelf, lldb and gdb open the packages, where they are at hand'
 	@echo 'make library        proves the packer and writes target/staticlib/libbarthovin.a, for C or Rust on x86-64'
 	@echo 'make command        the same, and builds the command: host/target/release/barthovin'
 	@echo 'make install        installs command, library, barthovin.h and the manual page under DESTDIR and PREFIX ($(PREFIX))'
@@ -87,6 +90,10 @@ real-files: command
 	  $(barthovin) verify target/real-files/out.package target/real-files/*-$$kind*.dwo || exit 1; \
 	  $(barthovin) list target/real-files/out.package || exit 1; \
 	done
+
+# Readers of other makers, on packages written as ELF files: each must say of a package what it says of the .dwo files.
+readers: command
+	examples/real/readers target/readers $(barthovin)
 
 command: library
 	cd host && env -u BARTHOVIN_LIBRARY cargo build --release --offline --quiet --package barthovin
