@@ -17,8 +17,6 @@ INSTALL ?= install
 help:
 	@echo 'make pack-example   packs two .dwo files and document 01'"'"'s example, verifies, lists and looks up in their packages'
 	@echo 'make real-files     compiles small sources with gcc and clang, and reads, packs, verifies and lists the .dwo files'
-	@echo 'make pack-example   packs the example, shows its package and looks a unit up in it'
-	@echo 'make real-files     compiles small sources with gcc and clang, and reads, packs and lists the .dwo files'
 	@echo 'make readers        packs small programs and has llvm-dwarfdump, readelf, lldb and gdb open the packages, where they are at hand'
 	@echo 'make library        proves the packer and writes target/staticlib/libbarthovin.a, for C or Rust on x86-64'
 	@echo 'make command        the same, and builds the command: host/target/release/barthovin'
