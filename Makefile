@@ -15,8 +15,8 @@ INSTALL ?= install
 .PHONY: help test library host pack-example real-files readers command install uninstall clean fmt oracle differential first-match bench
 
 help:
-	@echo 'make pack-example   packs the example, shows its package and looks a unit up in it'
-	@echo 'make real-files     compiles small sources with gcc and clang, and reads, packs and lists the .dwo files'
+	@echo 'make pack-example   packs two .dwo files and document 01'"'"'s example, verifies, lists and looks up in their packages'
+	@echo 'make real-files     compiles small sources with gcc and clang, and reads, packs, verifies and lists the .dwo files'
 	@echo 'make readers        packs small programs and has llvm-dwarfdump, readelf, lldb and gdb open the packages, where they are at hand'
 	@echo 'make library        proves the packer and writes target/staticlib/libbarthovin.a, for C or Rust on x86-64'
 	@echo 'make command        the same, and builds the command: host/target/release/barthovin'
@@ -66,9 +66,14 @@ host: library
 	test "$$(cat "$$out.status")" = 0 || exit 1; \
 	awk '/^test result: ok/ { passed += $$4; failed += $$6 } END { print "tests of the host: " passed " passed, " failed + 0 " failed" }' "$$out"
 
-# Packs the example, shows the package's words, lists it, and looks its unit up in it.
+# Packs two files of gcc, verifies the package, lists it and looks a string up in it. Then document 01's example, with the words of its package.
 barthovin = host/target/release/barthovin
+two-files = examples/real/files/gcc-5-main.dwo examples/real/files/gcc-5-race.dwo
 pack-example: command
+	$(barthovin) pack $(two-files) -o target/race.package
+	$(barthovin) verify target/race.package $(two-files)
+	$(barthovin) list target/race.package
+	$(barthovin) lookup target/race.package cu 0x22c301d58dbb9946 string 3
 	$(barthovin) pack examples/one-unit.bundle -o target/one-unit.package
 	od -A d -t x4 -v target/one-unit.package
 	$(barthovin) list target/one-unit.package
@@ -80,6 +85,7 @@ real-files: command
 	@for kind in '4[-t]' '5[-t]' 4be 5be; do \
 	  echo "*-$$kind*.dwo"; \
 	  $(barthovin) pack target/real-files/*-$$kind*.dwo -o target/real-files/out.package || exit 1; \
+	  $(barthovin) verify target/real-files/out.package target/real-files/*-$$kind*.dwo || exit 1; \
 	  $(barthovin) list target/real-files/out.package || exit 1; \
 	done
 

@@ -1,6 +1,6 @@
 -- What is known of an index that was read from a section of a package.
 -- Assumes nothing.
-use mathlib.Core.Path.{_≡_, sym, ap, _∙_}
+use mathlib.Core.Path.{_≡_, sym, _∙_}
 use mathlib.Core.Bool.{Bool, true, false}
 use mathlib.Core.List.{List}
 use Prim.Native.Nat.{ℕ, _*_, _^_, _≤_, _<_}
@@ -9,7 +9,7 @@ use native.Mathlib.Decide.{decLe}
 use lib.Pow.{pow-mono}
 use lib.ListN.{length, getD}
 use Rattle.index.specs.Columns.{columnsOf}
-use Rattle.index.specs.Index.{Index, layout}
+use Rattle.index.specs.Index.{Index}
 use Rattle.index.specs.Held.{Sized, indexIn, PowerOfTwo}
 use Rattle.index.specs.declared.reading.IndexHead.{IndexHead}
 use Rattle.index.proofs.Heads.{well, read-sized, read-power, in-identities, in-rows, rows-length, identities-length}

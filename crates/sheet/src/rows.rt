@@ -94,7 +94,7 @@ fn section_of(version: u32, code: usize) -> usize
     0
 }
 
-// Our codes of an index's columns: worked out once, since a search of the table for each line would take longer than the line.
+// Our codes of an index's columns: worked out once and not for each line, since each look into the table of columns stores all of it anew.
 fn sections_of(big: bool, s: &[u8], head: IndexHead) -> [usize; COLUMNS]
     requires { ⌜ IndexHere big (now s) head ⌝ }
     ensures { λ r. ⌜ Sections (indexIn big (now (s .entry)) head) r (head .columns) ⌝ }

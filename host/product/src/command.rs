@@ -1,4 +1,4 @@
-//! What the command does. Every subcommand ends with the same statuses: 0 done, 1 refused or absent, 2 a wrong call or file trouble.
+//! What the command does. Every subcommand ends with the same statuses: 0 done, 1 refused, absent or not verified, 2 a wrong call or file trouble.
 
 mod bundle;
 mod call;
@@ -11,9 +11,11 @@ mod meaning;
 mod output;
 mod pack;
 mod profile;
+mod progress;
 mod sheet;
 mod show;
 mod stop;
+mod verify;
 
 pub use meaning::meaning;
 pub use show::escaped;
@@ -23,7 +25,7 @@ use stop::Stop;
 
 /// Asked and answered.
 const DONE: u8 = 0;
-/// Refused or absent.
+/// Refused, absent or not verified.
 const NOT_DONE: u8 = 1;
 /// A wrong call, or a file that can't be read or written.
 const TROUBLE: u8 = 2;
@@ -45,6 +47,7 @@ fn dispatch(arguments: &[OsString]) -> Result<u8, Stop> {
         Some("sheet") => sheet::run(rest),
         Some("list") => list::run(rest),
         Some("profile") => profile::run(rest),
+        Some("verify") => verify::run(rest),
         Some("tables") => profile::tables(rest),
         Some("help") => help_about(rest),
         Some("-h" | "--help") => output::print(help::about("")),

@@ -68,7 +68,8 @@ pub fn packing(bytes: &[u8], number: u32, names: &Names) -> Option<Why> {
     match number {
         1 if bytes.len() > LONGEST_BUNDLE && !names.files.is_empty() => {
             let over = bytes.len() - LONGEST_BUNDLE;
-            Some(Why::cause(format!("this makes {}, {over} too many", bytes.len())))
+            let most = longest(bytes, names).unwrap_or_default();
+            Some(Why::cause(format!("this makes {}, {over} too many{most}", bytes.len())))
         }
         1 if bytes.len() > LONGEST_BUNDLE => Some(Why::cause("it is longer".to_string())),
         1 => Some(Why::cause(format!("it has {} bytes", bytes.len()))),
@@ -83,6 +84,16 @@ pub fn packing(bytes: &[u8], number: u32, names: &Names) -> Option<Why> {
         }
         _ => None,
     }
+}
+
+/// The files that take most.
+fn longest(bytes: &[u8], names: &Names) -> Option<String> {
+    let bundle = Bundle::read(bytes).ok()?;
+    let length = |at: usize| bundle.objects[at].end - bundle.objects[at].start;
+    let mut objects: Vec<usize> = (0..bundle.objects.len()).collect();
+    objects.sort_by_key(|at| (usize::MAX - length(*at), *at));
+    let told = |at: &usize| format!("{} {}", names.object(at + 1), length(*at));
+    Some(format!("; most take {}", objects.iter().take(3).map(told).collect::<Vec<_>>().join(", ")))
 }
 
 /// The first shared section that is too long once it is joined; of str and the indexes nothing is known here.

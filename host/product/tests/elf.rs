@@ -136,7 +136,11 @@ fn files_without_a_unit_are_refused_with_the_cause() {
     let no_unit = "refused 33: there is no unit of DWARF version 4 or 5 to pack";
     let mut empty = good.clone();
     empty[info + 32..info + 40].fill(0);
-    refused("no-info", &empty, &format!("{no_unit}: it has no .debug_info.dwo, or an empty one"));
+    refused(
+        "no-info",
+        &empty,
+        &format!("{no_unit}: it has no .debug_info.dwo, or an empty one: there is nothing to pack, leave it out"),
+    );
     let unit = good[info + 24] as usize | (good[info + 25] as usize) << 8;
     refused("version", &changed(unit + 4, 3), &format!("{no_unit}: its first unit is of version 3"));
     refused("header", &changed(unit + 1, 0x7F), &format!("{no_unit}: its first unit's header is ill-formed"));
@@ -180,7 +184,7 @@ fn the_file_at_fault_is_named() {
     let twice = "gcc-5-race.dwo: refused 14: a compilation unit of this identity was there before: the unit at byte 0 of info: identity 0x";
     told(&["gcc-5-main.dwo", "gcc-5-race.dwo", "gcc-5-race.dwo"], twice);
     let differs = "gcc-4-race.dwo: refused 5: the object differs from the first one in DWARF version, offset width or address size: it \
-                   states DWARF version 4, offset width 4, address size 8, gcc-5-race.dwo DWARF version 5,";
+                   states DWARF version 4, offset width 4, address size 8, gcc-5-race.dwo DWARF version 5, offset width 4, address size 8; pack each DWARF version by itself\n";
     told(&["gcc-5-race.dwo", "gcc-5-main.dwo", "gcc-4-race.dwo"], differs);
     told(
         &["gcc-5-race.dwo", "clang-5be-race.dwo"],
@@ -189,6 +193,8 @@ fn the_file_at_fault_is_named() {
     let many = vec!["gcc-5-main.dwo"; 8_000];
     let length = "8000 files together: refused 1: a bundle has 8 to 4,194,304 bytes, a multiple of 4: this makes ";
     told(&many, length);
+    let output = run_in(&home, &[&["pack", "-o", "new"], &many[..]].concat(), &[]);
+    assert!(message(&output).contains(" too many; most take gcc-5-main.dwo "), "{}", message(&output));
 }
 
 /// A package written as an ELF file, by its name or by `--elf`, has the machine of its first file, and every command takes it as the package.

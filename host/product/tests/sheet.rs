@@ -33,3 +33,17 @@ fn refuses_with_the_cause() {
     refused(&PACKAGE.replace("0 0 1 0 0 1 1 3", "2 0 1 0 1 1 1 3"), "row 1 of cu_index has 2 slots, not one");
     refused(&PACKAGE.replace("0 0 1 0 0 1 1 3", "0 0 0 0 0 0 1 3"), "row 1 of cu_index has 0 slots, not one");
 }
+
+#[test]
+fn is_written_as_json() {
+    let home = directory("sheet-json");
+    let output = run_in(&home, &["sheet", "-", "--json"], &bytes(PACKAGE));
+    let line = |section: &str, size: u32| {
+        let unit = "{\"table\":\"cu\",\"identity\":\"0x0000000000000001\"";
+        format!("{unit},\"section\":\"{section}\",\"offset\":0,\"size\":{size}}}")
+    };
+    assert_eq!((text(&output), status(&output)), (format!("[{},{}]\n", line("info", 20), line("abbrev", 1)), 0));
+    let both = run_in(&home, &["sheet", "-", "--json", "-p"], &bytes(PACKAGE));
+    assert!(message(&both).starts_with("barthovin: options '--pages' and '--json' don't go together\n"));
+    assert_eq!(status(&both), 2);
+}

@@ -57,6 +57,23 @@ fn commands(home: &Path) -> Vec<String> {
     names
 }
 
+/// Whatever is asked of something that is no package is refused alike, and as JSON too where that is asked for.
+#[test]
+fn no_package_is_refused_alike() {
+    let home = directory("no-package");
+    fs::write(home.join("text"), "int main;\n").unwrap();
+    let told = "barthovin: text: refused 21: this is no package: it has 10 bytes\n";
+    let json = "{\"refused\":21,\"meaning\":\"this is no package\"}\n";
+    let lookup = ["lookup", "text", "cu", "1", "section", "info"];
+    for call in [&["list", "text"][..], &["sheet", "text"], &["profile", "text"], &["verify", "text", EXAMPLE], &lookup]
+    {
+        let output = run_in(&home, call, &[]);
+        assert_eq!((message(&output).as_str(), text(&output).as_str(), status(&output)), (told, "", 1), "{call:?}");
+        let output = run_in(&home, &[call, &["--json"]].concat(), &[]);
+        assert_eq!((message(&output).as_str(), text(&output).as_str(), status(&output)), (told, json, 1), "{call:?}");
+    }
+}
+
 /// Calls that write to standard output.
 fn calls() -> Vec<Vec<&'static str>> {
     let mut calls = vec![vec!["--help"]];
@@ -70,6 +87,10 @@ fn calls() -> Vec<Vec<&'static str>> {
         [&[][..], &["--raw"], &["--json"]]
             .map(|option| [&["lookup", "package", "cu", "1", "section", "info"], option].concat()),
     );
+    for command in ["sheet", "profile"] {
+        calls.extend([vec![command, "package"], vec![command, "package", "--json"]]);
+    }
+    calls.extend([vec!["verify", "package", EXAMPLE], vec!["verify", "--json", "package", EXAMPLE], vec!["tables"]]);
     calls.push(vec!["pack", EXAMPLE, "-o", "-"]);
     calls
 }

@@ -1,15 +1,20 @@
 //! Files that are packed: ELF files and bundles, told apart by their first bytes, each made a bundle and all joined under one head.
 
+use super::call::Call;
 use super::pack::package_of;
-use super::{input, meaning, Stop};
+use super::{input, meaning, output, show, Stop};
 use crate::elf;
 use crate::explain::{self, Names};
 use crate::names::{LONGEST_BUNDLE, LONGEST_PACKAGE, OUTPUT_TOO_SHORT};
 use crate::reader::bundle::{put_end, Bundle};
 use std::ffi::{OsStr, OsString};
+use std::os::unix::ffi::OsStrExt;
 
 /// The longest ELF file that is read; most of one may be sections that aren't wanted.
 pub const LONGEST_FILE: usize = 1 << 30;
+
+/// The longest list of files.
+const LONGEST_LIST: usize = 1 << 26;
 
 /// What is packed: the bundle, and how each of its objects is called.
 pub struct Joined {
@@ -24,6 +29,16 @@ pub struct Joined {
 pub fn refused(file: &str, number: u32, why: Option<String>) -> Stop {
     let why = why.filter(|why| !why.is_empty()).map(|why| format!(": {why}")).unwrap_or_default();
     Stop::Refused(format!("{file}: refused {number}: {}{why}", meaning(number)))
+}
+
+/// A refusal of what a call asks about; where it asks for JSON, as an object on standard output too.
+pub fn refused_call(call: &Call, file: &str, number: u32, why: Option<String>) -> Stop {
+    if call.has("json") {
+        if let Err(stop) = output::print(&show::refused_json(number)) {
+            return stop;
+        }
+    }
+    refused(file, number, why)
 }
 
 /// Reads a file; an ELF file as the bundle of its sections, with the machine that it names.
@@ -58,6 +73,22 @@ pub fn from_elf(file: &[u8], shown: &str) -> Result<Vec<u8>, Stop> {
     }
     output.truncate(length);
     Ok(output)
+}
+
+/// The names, each `@LIST` replaced by those in the file LIST, a line for each; empty lines and those that start with # are left out.
+pub fn listed(names: &[OsString]) -> Result<Vec<OsString>, Stop> {
+    let mut all = Vec::new();
+    for name in names {
+        let Some(list) = name.as_bytes().strip_prefix(b"@") else {
+            all.push(name.clone());
+            continue;
+        };
+        let list = input::read(OsStr::from_bytes(list), LONGEST_LIST)?;
+        let lines = list.split(|b| *b == b'\n').map(|line| line.strip_suffix(b"\r").unwrap_or(line));
+        let named = lines.filter(|line| !line.is_empty() && !line.starts_with(b"#"));
+        all.extend(named.map(|line| OsStr::from_bytes(line).to_os_string()));
+    }
+    Ok(all)
 }
 
 /// All files as one bundle, in the order given. A single bundle is taken as it is, whatever it holds.

@@ -7,6 +7,7 @@ Pack split-debug sections and find them again, by proved functions.
 Commands:
   bundle    write the bundle of an ELF file's debug sections
   pack      write the package of ELF files or bundles
+  verify    find all that files were packed into a package, before they are deleted
   lookup    find a part or a string of a unit in a package
   sheet     print the index of a package as lines for paper
   list      list what a package holds
@@ -18,7 +19,7 @@ Every command takes
   -h, --help      show its help and exit
   -V, --version   show the version and exit
 
-Exit status: 0 done; 1 refused or absent; 2 a wrong call, or a file that can't be read or written.
+Exit status: 0 done; 1 refused, absent or not verified; 2 a wrong call, or a file that can't be read or written.
 A refusal is a number with its meaning; README.md has the list.";
 
 const BUNDLE: &str = "\
@@ -37,7 +38,8 @@ const PACK: &str = "\
 Usage: barthovin pack [OPTION]... FILE... -o PACKAGE
 Write the package of files, in the order given, or say why there is none and write nothing.
 
-FILE is a relocatable ELF64 file (.dwo) or a bundle, told apart by their first bytes, or - for standard input.
+FILE is a relocatable ELF64 file (.dwo) or a bundle, told apart by their first bytes, or - for standard input; @LIST stands for the
+files that the lines of LIST name (./@NAME for a file that is called so).
 
   -o, --output=PACKAGE   the file to write, or - for standard output; where its name ends in .dwp, an ELF file
       --elf              write an ELF file whatever its name
@@ -49,6 +51,20 @@ All files together make a bundle of at most 4,194,304 bytes. A file that is ther
 or not at all wherever a second file can stand beside it meanwhile.
 
 Exit status: 0 written; 1 refused; 2 a wrong call, or a file that can't be read or written.";
+
+const VERIFY: &str = "\
+Usage: barthovin verify [OPTION]... PACKAGE FILE...
+Look for every unit of the files in a package, with its parts and strings, and say whether the files may be deleted.
+
+PACKAGE is a file, or - for standard input; FILE is what was packed into it, in the same order: ELF files (.dwo), bundles or @LIST. Parts are
+compared byte for byte and strings letter for letter where the proved lookups find them. Of type units with one signature the package
+has the first; the others are often in other bytes, since they count strings and abbreviations as their own file does. Of the files only the debug sections are compared, the rest is not in the package.
+
+      --json      write the answer as a JSON object
+  -h, --help      show this help and exit
+  -V, --version   show the version and exit
+
+Exit status: 0 all found; 1 something not found, or refused; 2 a wrong call, or a file that can't be read.";
 
 const LOOKUP: &str = "\
 Usage: barthovin lookup [OPTION]... PACKAGE [VERSION] TABLE IDENTITY section CODE
@@ -84,6 +100,7 @@ code, and the offset and size of the unit's part in that section, all but the co
 PACKAGE is a file, as it is or as an ELF file (.dwp), or - for standard input.
 
   -p, --pages     lay it out for paper: pages of 60 lines, each with the package's name and length and its number
+      --json      write the lines as a JSON list of objects
   -h, --help      show this help and exit
   -V, --version   show the version and exit
 
@@ -130,6 +147,7 @@ pub fn about(command: &str) -> &'static str {
     match command {
         "bundle" => BUNDLE,
         "pack" => PACK,
+        "verify" => VERIFY,
         "lookup" => LOOKUP,
         "sheet" => SHEET,
         "list" => LIST,

@@ -1,8 +1,8 @@
 //! `barthovin list`: what a package holds.
 
 use super::call::{Call, Known};
-use super::files::read_package;
-use super::{input, meaning, output, show, Stop, DONE};
+use super::files::{read_package, refused_call};
+use super::{input, output, show, Stop, DONE};
 use crate::answer::Found;
 use crate::explain;
 use crate::ffi;
@@ -25,9 +25,7 @@ pub fn run(arguments: &[OsString]) -> Result<u8, Stop> {
     let bytes = read_package(name)?;
     // Whether it is a package the proved lookup says, to any question.
     if ffi::lookup(&bytes, 5, 1, 1, 1) == Found::Refused(NOT_A_PACKAGE) {
-        let why = explain::not_a_package(&bytes).map(|why| format!(": {why}")).unwrap_or_default();
-        let told = format!("{}: refused {NOT_A_PACKAGE}: {}{why}", input::shown(name), meaning(NOT_A_PACKAGE));
-        return Err(Stop::Refused(told));
+        return Err(refused_call(&call, &input::shown(name), NOT_A_PACKAGE, explain::not_a_package(&bytes)));
     }
     let package = Package::read(&bytes).map_err(|why| Stop::Trouble(format!("{}: {why}", input::shown(name))))?;
     let told = if call.has("json") { json(&package, bytes.len()) } else { text(&package, bytes.len()) };

@@ -3,8 +3,8 @@
 mod questions;
 
 use super::call::{Call, Known};
-use super::files::read_package;
-use super::{input, meaning, output, show, Stop, DONE, NOT_DONE};
+use super::files::{read_package, refused_call};
+use super::{input, output, show, Stop, DONE, NOT_DONE};
 use crate::answer::{Asked, Found};
 use crate::explain;
 use crate::ffi;
@@ -60,18 +60,9 @@ pub fn run(arguments: &[OsString]) -> Result<u8, Stop> {
         Found::Absent(looks) => output::print(&show::absent(call.has("json"), looks)).map(|_| NOT_DONE),
         Found::Refused(number) => {
             let why = explain::looking_up(&package, version, table, identity, asked, number);
-            refused(&call, number, why)
+            Err(refused_call(&call, &input::shown(&call.operands[0]), number, why))
         }
     }
-}
-
-fn refused(call: &Call, number: u32, why: Option<String>) -> Result<u8, Stop> {
-    if call.has("json") {
-        output::print(&show::refused_json(number))?;
-    }
-    let why = why.map(|why| format!(": {why}")).unwrap_or_default();
-    let name = input::shown(&call.operands[0]);
-    Err(Stop::Refused(format!("{name}: refused {number}: {}{why}", meaning(number))))
 }
 
 /// The operands but the package.

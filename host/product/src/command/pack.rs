@@ -1,8 +1,8 @@
 //! `barthovin pack`: files in, their package out, as it is or as an ELF file, or nothing and the reason.
 
 use super::call::{Call, Known};
-use super::files::{join, refused, Joined};
-use super::{input, output, show, Stop, DONE};
+use super::files::{join, listed, refused, Joined};
+use super::{input, output, progress, show, Stop, DONE};
 use crate::elf;
 use crate::explain::{self, Names};
 use crate::ffi;
@@ -30,8 +30,14 @@ pub fn run(arguments: &[OsString]) -> Result<u8, Stop> {
     let to = call.value("output").ok_or_else(|| call.wrong("no output is named: -o PACKAGE"))?;
     let as_elf = call.has("elf") || to.as_bytes().ends_with(b".dwp");
     let named = machine_named(&call, as_elf)?;
-    let joined = join(&call.operands)?;
-    let package = package_of(&joined.bundle).map_err(|number| told(&call, &joined, number))?;
+    let names = listed(&call.operands)?;
+    if names.is_empty() {
+        return Err(call.wrong("the list names no file"));
+    }
+    let joined = join(&names)?;
+    let about = format!("packing {}, {} bytes", show::count(names.len(), "file"), joined.bundle.len());
+    let package =
+        progress::shown(about, || package_of(&joined.bundle)).map_err(|number| told(&names, &joined, number))?;
     if !as_elf {
         return output::write(to, &package).map(|()| DONE);
     }
@@ -59,10 +65,10 @@ fn machine_named(call: &Call, as_elf: bool) -> Result<Option<u32>, Stop> {
 }
 
 /// The refusal of what was joined, by the file that it comes from where that is known.
-fn told(call: &Call, joined: &Joined, number: u32) -> Stop {
+fn told(operands: &[OsString], joined: &Joined, number: u32) -> Stop {
     let names = Names { files: &joined.files };
     let why = explain::packing(&joined.bundle, number, &names);
-    let all = match &call.operands[..] {
+    let all = match operands {
         [name] => input::shown(name),
         operands => format!("{} together", show::count(operands.len(), "file")),
     };

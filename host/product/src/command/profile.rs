@@ -1,8 +1,8 @@
 //! `barthovin profile`: whether a package is in the archive profile; `barthovin tables`: the tables that a reader of packages needs.
 
 use super::call::{Call, Known};
-use super::files::read_package;
-use super::{input, meaning, output, Stop, DONE, NOT_DONE};
+use super::files::{read_package, refused_call};
+use super::{input, output, Stop, DONE, NOT_DONE};
 use crate::explain;
 use crate::profile::{conditions, CONDITIONS};
 use std::ffi::OsString;
@@ -23,9 +23,7 @@ pub fn run(arguments: &[OsString]) -> Result<u8, Stop> {
     let package = read_package(name)?;
     let (code, failed) = conditions(&package);
     if code == NOT_A_PACKAGE {
-        let why = explain::not_a_package(&package).map(|why| format!(": {why}")).unwrap_or_default();
-        let told = format!("{}: refused {NOT_A_PACKAGE}: {}{why}", input::shown(name), meaning(NOT_A_PACKAGE));
-        return Err(Stop::Refused(told));
+        return Err(refused_call(&call, &input::shown(name), NOT_A_PACKAGE, explain::not_a_package(&package)));
     }
     let failing: Vec<&str> = (0..CONDITIONS.len()).filter(|i| failed >> i & 1 == 1).map(|i| CONDITIONS[i]).collect();
     let told = match (call.has("json"), failing.is_empty()) {

@@ -17,7 +17,7 @@ pub fn of(bundle: &Bundle, place: &Place, refusal: u32, names: &Names) -> Option
     let object = &bundle.objects[place.object - 1];
     match (refusal, &place.unit) {
         (4, _) => Some(format!("it states {}", object.encoding)),
-        (5, _) => Some(format!("it states {}, {} {}", object.encoding, names.object(1), bundle.objects[0].encoding)),
+        (5, _) => Some(other_encoding(object, &bundle.objects[0], &names.object(1))),
         (6, _) => wrong_section(object),
         (7, _) => missing_section(object),
         (8, _) => string_offsets(object),
@@ -37,6 +37,12 @@ pub fn of(bundle: &Bundle, place: &Place, refusal: u32, names: &Names) -> Option
     }
 }
 
+fn other_encoding(object: &Object, first: &Object, name: &str) -> String {
+    let other = object.encoding.version() != first.encoding.version();
+    let hint = if other { "; pack each DWARF version by itself" } else { "" };
+    format!("it states {}, {name} {}{hint}", object.encoding, first.encoding)
+}
+
 fn wrong_section(object: &Object) -> Option<String> {
     let version = object.encoding.version();
     let wrong: &[u32] = if version == 5 { &NOT_IN_VERSION_5 } else { &NOT_IN_VERSION_4 };
@@ -44,7 +50,7 @@ fn wrong_section(object: &Object) -> Option<String> {
         return Some(format!("it has {}, which objects of DWARF {version} don't have", section_name(*code)));
     }
     if let Some(code) = (ABBREV..=TU_INDEX).find(|code| object.count(*code) > 1) {
-        let hint = if code == MACRO { "; gcc -g3 writes several, -g2 none" } else { "" };
+        let hint = if code == MACRO { "; gcc -g3 writes several: build with -g2" } else { "" };
         return Some(format!("it has {} {} sections{hint}", object.count(code), section_name(code)));
     }
     let beside = |code: u32, index: u32| object.count(code) > 1 && object.count(index) > 0;

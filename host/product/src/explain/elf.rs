@@ -100,7 +100,7 @@ fn no_unit(file: &[u8]) -> Option<String> {
     let is_info = |section: &&Section| code(section.name) == Some(INFO);
     let size = |section: &Section| number(section.header, 32, 8, big).unwrap_or(0);
     let Some(info) = sections.iter().filter(is_info).find(|section| size(section) > 0) else {
-        return Some(format!("it has no {}, or an empty one", file_name(INFO)));
+        return Some(format!("it has no {}, or an empty one: there is nothing to pack, leave it out", file_name(INFO)));
     };
     let at = number(info.header, 24, 8, big)? as usize;
     let version_at = if number(file, at, 4, big)? == 0xFFFF_FFFF { at + 12 } else { at + 4 };
