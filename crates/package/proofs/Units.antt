@@ -19,12 +19,13 @@ use Rattle.octets.proofs.Parts.{length-part-le}
 use Rattle.bundle.specs.Bundle.{Part, Object, Bundle, bundleOf}
 use Rattle.bundle.specs.Written.{Section}
 use Rattle.bundle.proofs.Sizes.{total, totals, bundle-totals}
-use Rattle.unit.specs.UnitRead.{UnitRead, unitOf}
-use Rattle.unit.proofs.Alone.{unit-alone}
+use Rattle.unit.specs.UnitRead.{UnitRead, unitBy, unitOf}
+use Rattle.unit.proofs.Plain.{read-by}
+use Rattle.unit.proofs.Alone.{Alone, unit-alone}
 use Rattle.index.specs.Index.{Contribution}
 use Rattle.index.specs.Rows.{BySection}
 use Rattle.package.specs.Input.{Input, unitSections, inputOf}
-use Rattle.package.specs.Filing.{Filed, Filing, isUnder, skipped, contributionsOf, unitAt, unitsFrom, unitsIn, grown, filingFrom, firstWord, filingOf}
+use Rattle.package.specs.Filing.{Filed, Filing, isUnder, skipped, abbreviationsFor, contributionsOf, unitAt, unitsFrom, unitsIn, grown, filingFrom, firstWord, filingOf}
 use Rattle.package.specs.Units.{FillSection, FillSections, FillObjects}
 use Rattle.package.proofs.Inputs.{input-parts}
 
@@ -34,7 +35,9 @@ abbrev pub readingOf : Filed → UnitRead
 readingOf u = record { size = length (u .bytes); table = u .table; identity = u .identity }
 
 pub record Taken (i : Input) (bases : BySection ℕ) (earlier here : List Filed) (home at : ℕ) (s : List ℕ) (u : Filed) : Type 0 where
-  pub alone : unitOf (u .input .encoding) (u .home) (u .input .bytes 3) (u .bytes) ≡ pass (readingOf u)
+  pub abbreviations : List ℕ
+  pub theirs : abbreviationsFor (u .input) (u .home) at (length (u .bytes)) ≡ pass abbreviations
+  pub alone : unitOf (u .input .encoding) (u .home) abbreviations (u .bytes) ≡ pass (readingOf u)
   pub some : 4 ≤ length (u .bytes)
   pub rest : s ≡ u .bytes ++ drop (length (u .bytes)) s
   pub object : u .input ≡ i
@@ -42,7 +45,7 @@ pub record Taken (i : Input) (bases : BySection ℕ) (earlier here : List Filed)
   pub base : (c : ℕ) → u .bases c ≡ bases c
   pub contributed : (elim (any (isUnder (u .table) (u .identity)) (earlier ++ here)) as (λ z. Check (BySection (Option Contribution))) [
     | true ↦ skipped (u .table)
-    | false ↦ contributionsOf i here home at (readingOf u)
+    | false ↦ contributionsOf i home at (readingOf u)
   ]) ≡ pass (u .contributions)
 
 -- the bytes of sections
@@ -53,27 +56,37 @@ module _ (i : Input) (bases : BySection ℕ) (earlier : List Filed) where
   pub unit-taken : (here : List Filed) (home at : ℕ) (s : List ℕ) (u : Filed) → unitAt i bases earlier here home at s ≡ pass u → Taken i bases earlier here home at s u
   unfolding unitAt
   unit-taken here home at s u q =
-      let r = bind-pass (unitOf (i .encoding) home (i .bytes 3) s) _ u q in
+      let r = bind-pass (unitBy (i .encoding) home (abbreviationsFor i home at) s) _ u q in
+      let y = read-by (i .encoding) home (abbreviationsFor i home at) s (r .0) (r .1) in
       let k = bind-pass (elim (any (isUnder (r .0 .table) (r .0 .identity)) (earlier ++ here)) as (λ z. Check (BySection (Option Contribution))) [
         | true ↦ skipped (r .0 .table)
-        | false ↦ contributionsOf i here home at (r .0)
+        | false ↦ contributionsOf i home at (r .0)
       ]) _ u (r .2) in
-      let a = unit-alone (i .encoding) home (i .bytes 3) s (r .0) (r .1) in
-      let long : length (take (r .0 .size) s) ≡ r .0 .size = length-take-le (r .0 .size) s (a .within) in
-      let reading : ℕ → UnitRead = λ n. record { size = n; table = r .0 .table; identity = r .0 .identity } in
-      subst (Taken i bases earlier here home at s) (pass-inj (k .2))
-      (record {
-        alone = a .alone ∙ ap (λ (n : ℕ). pass (reading n)) (sym long);
-        some = omega (arith, a .some, long);
-        rest = sym (ap (λ (n : ℕ). take (r .0 .size) s ++ drop n s) long ∙ take-append-drop (r .0 .size) s);
-        object = refl;
-        section = refl;
-        base = λ c. refl;
-        contributed = subst (λ (n : ℕ). (elim (any (isUnder (r .0 .table) (r .0 .identity)) (earlier ++ here)) as (λ z. Check (BySection (Option Contribution))) [
-          | true ↦ skipped (r .0 .table)
-          | false ↦ contributionsOf i here home at (reading n)
-        ]) ≡ pass (k .0)) (sym long) (k .1);
-      })
+      subst (Taken i bases earlier here home at s) (pass-inj (k .2)) (from (r .0) (k .0) (y .abbreviations) (y .theirs) (unit-alone (i .encoding) home (y .abbreviations) s (r .0) (y .read)) (k .1))
+    where
+      from : (r : UnitRead) (g : BySection (Option Contribution)) (table : List ℕ) → abbreviationsFor i home at (r .size) ≡ pass table → Alone (i .encoding) home table s r
+          → (elim (any (isUnder (r .table) (r .identity)) (earlier ++ here)) as (λ z. Check (BySection (Option Contribution))) [
+            | true ↦ skipped (r .table)
+            | false ↦ contributionsOf i home at r
+          ]) ≡ pass g
+          → Taken i bases earlier here home at s (record { table = r .table; identity = r .identity; home = home; bytes = take (r .size) s; input = i; contributions = g; bases = bases })
+      from r g table y a c =
+          let long : length (take (r .size) s) ≡ r .size = length-take-le (r .size) s (a .within) in
+          let reading : ℕ → UnitRead = λ n. record { size = n; table = r .table; identity = r .identity } in
+          record {
+            abbreviations = table;
+            theirs = ap (abbreviationsFor i home at) long ∙ y;
+            alone = a .alone ∙ ap (λ (n : ℕ). pass (reading n)) (sym long);
+            some = omega (arith, a .some, long);
+            rest = sym (ap (λ (n : ℕ). take (r .size) s ++ drop n s) long ∙ take-append-drop (r .size) s);
+            object = refl;
+            section = refl;
+            base = λ c. refl;
+            contributed = subst (λ (n : ℕ). (elim (any (isUnder (r .table) (r .identity)) (earlier ++ here)) as (λ z. Check (BySection (Option Contribution))) [
+              | true ↦ skipped (r .table)
+              | false ↦ contributionsOf i home at (reading n)
+            ]) ≡ pass g) (sym long) c;
+          }
 
   -- ---- the units of a section
   -- behind those of this object that were filed before, these are filed, of so many bytes

@@ -8,14 +8,13 @@ use mathlib.Core.List.{List, [], _∷_, _++_}
 use Prim.Native.Nat.{ℕ}
 use lib.ListN.{length}
 use Rattle.octets.specs.Checked.{pass}
-use Rattle.numbers.specs.Sections.{abbrevCode}
 use Rattle.numbers.specs.Tables.{compilationTable, typeTable}
 use Rattle.bundle.specs.Bundle.{Object}
 use Rattle.bundle.specs.Written.{Section}
 use Rattle.unit.specs.UnitRead.{unitOf}
 use Rattle.unit.specs.TypeUnits.{IsTypeUnit}
 use Rattle.package.specs.Input.{Input, unitSections, inputOf}
-use Rattle.package.specs.Filing.{Filed}
+use Rattle.package.specs.Filing.{Filed, abbreviationsFor}
 
 -- ---- where they stand
 -- these units of the object i, one behind the other, are all of a section
@@ -36,9 +35,13 @@ FillObjects b big first (o ∷ os) us =
     × ((here : List Filed) × (later : List Filed) × (us ≡ here ++ later) × FillSections i (unitSections b (o .parts)) here × FillObjects b big first os later)
 
 -- ---- each of them
--- read alone, from its own bytes in its object's encoding and abbreviations, it gives its size, its table and its identity
+-- read alone, from its own bytes in its object's encoding and abbreviations, it gives its size, its table and its identity; where its row was found by its place,
+-- the abbreviations are that row's part of them
 pub record IsUnit (u : Filed) : Type 0 where
-  pub alone : unitOf (u .input .encoding) (u .home) (u .input .bytes abbrevCode) (u .bytes)
+  pub place : ℕ
+  pub abbreviations : List ℕ
+  pub theirs : abbreviationsFor (u .input) (u .home) place (length (u .bytes)) ≡ pass abbreviations
+  pub alone : unitOf (u .input .encoding) (u .home) abbreviations (u .bytes)
       ≡ pass (record { size = length (u .bytes); table = u .table; identity = u .identity })
   pub tables : (u .table ≡ compilationTable) ⊎ (u .table ≡ typeTable)
   pub types : (u .table ≡ typeTable) ↔ IsTypeUnit (u .input .encoding) (u .home) (u .bytes)

@@ -17,6 +17,7 @@ use Rattle.octets.proofs.Parts.{part-take}
 use Rattle.bundle.specs.Encoding.{Encoding}
 use Rattle.unit.specs.Root.{rootIdentity}
 use Rattle.unit.specs.UnitRead.{Identity, UnitRead, isFive, lengthField, unitSize, addressPlace, commonSize, behindCommon, identityFive, identityFour, identityOf, unitOf}
+use Rattle.unit.proofs.Plain.{plain, unit-plain}
 use Rattle.unit.specs.TypeUnits.{unitType, IsTypeUnit}
 
 -- ---- read alone
@@ -94,9 +95,9 @@ pub record Alone (e : Encoding) (home : ℕ) (abbreviations s : List ℕ) (r : U
   pub headed : Headed e home abbreviations (r .size) (take (r .size) s) r
 
 pub unit-alone : (e : Encoding) (home : ℕ) (abbreviations s : List ℕ) (r : UnitRead) → unitOf e home abbreviations s ≡ pass r → Alone e home abbreviations s r
-unfolding unitOf behindSize
+unfolding plain behindSize
 unit-alone e home abbreviations s r q =
-    let size = bind-pass (unitSize e s) _ r q in
+    let size = bind-pass (unitSize e s) _ r (sym (unit-plain e home abbreviations s) ∙ q) in
     let n = size .0 in
     let a = require-pass (leb n (length s)) 11 _ r (size .2) in
     let h = headed e home abbreviations n (take n s) r (a .1) in
@@ -108,7 +109,8 @@ unit-alone e home abbreviations s r q =
         let least : lengthField e ≤ n = omega (arith, common-least e, h .header, long) in
         let same : n ≡ r .size = sym (h .size-is) in
         let alone : unitOf e home abbreviations (take n s) ≡ pass r =
-        then-pass (unitSize e (take n s)) _ n (size-alone e s n least l z)
+        unit-plain e home abbreviations (take n s)
+        ∙ then-pass (unitSize e (take n s)) _ n (size-alone e s n least l z)
         ∙ passes (leb n (length (take n s))) 11 _ (le-leb n (length (take n s)) (omega (arith, long)))
         ∙ ap (behindSize e home abbreviations n) (take-take n n s (omega arith)) ∙ b in
         record {

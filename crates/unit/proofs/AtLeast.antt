@@ -22,6 +22,7 @@ use Rattle.unit.specs.Forms.{Width, forms, widthIn, valueSize}
 use Rattle.unit.specs.Abbreviations.{Attribute, declarationsOf, declarationOf}
 use Rattle.unit.specs.Root.{needed, Value, plainValue, valueOf, identityAt, identityIn, rootTag, rootIdentity}
 use Rattle.unit.specs.UnitRead.{Identity, UnitRead, lengthField, unitSize, isFive, addressPlace, commonSize, behindCommon, identityFive, identityFour, identityOf, unitOf}
+use Rattle.unit.proofs.Plain.{plain, unit-plain}
 
 -- a value of form data8 has 8 bytes
 eight : (e : Encoding) (s : List ℕ) (w : Width) (n : ℕ) → needed (widthIn forms 7) ≡ pass w → valueSize e w s ≡ pass n → n ≡ 8
@@ -173,9 +174,9 @@ module _ (e : ObjectEncoding) (home : ℕ) (abbreviations u : List ℕ) (i : Ide
 
 -- a unit takes at least 20 bytes
 pub unit-at-least : (e : ObjectEncoding) (home : ℕ) (abbreviations s : List ℕ) (r : UnitRead) → unitOf (encodingIs e) home abbreviations s ≡ pass r → 20 ≤ r .size
-unfolding unitOf
+unfolding plain
 unit-at-least e home abbreviations s r p =
-    let size = bind-pass (unitSize (encodingIs e) s) _ r p in
+    let size = bind-pass (unitSize (encodingIs e) s) _ r (sym (unit-plain (encodingIs e) home abbreviations s) ∙ p) in
     let u = take (size .0) s in
     let a = require-pass (leb (size .0) (length s)) 11 _ r (size .2) in
     let c = require-pass (leb (commonSize (encodingIs e)) (length u)) 11 _ r (a .1) in

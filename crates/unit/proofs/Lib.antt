@@ -18,3 +18,4 @@ pub mod Units
 pub mod HeaderAlone
 pub mod Promised
 pub mod Examples
+pub mod Plain

@@ -1,6 +1,6 @@
 -- What is known of a unit that was read: its size, its table, its identity.
 -- Assumes nothing.
-use mathlib.Core.Path.{_≡_, refl, sym, subst}
+use mathlib.Core.Path.{_≡_, refl, sym, subst, _∙_}
 use mathlib.Core.Logic.{_⊎_, inl, inr, ⊎-elim}
 use mathlib.Core.Bool.{true, false, not, _||_}
 use mathlib.Core.List.{List, [], _∷_}
@@ -19,6 +19,7 @@ use Rattle.leb128.specs.Leb128.{unsigned}
 use Rattle.unit.specs.Abbreviations.{Attribute, declarationsOf, declarationOf}
 use Rattle.unit.specs.Root.{Value, needed, valueOf, identityAt, identityIn, rootTag, rootIdentity}
 use Rattle.unit.specs.UnitRead.{Identity, UnitRead, isFive, lengthField, unitSize, addressPlace, commonSize, behindCommon, identityFive, identityFour, identityOf, unitOf}
+use Rattle.unit.proofs.Plain.{plain, unit-plain}
 
 -- ---- the root's identity has 64 bits
 abbrev Small : Option ℕ → Type 0
@@ -117,9 +118,9 @@ pub record UnitFacts (s : List ℕ) (u : UnitRead) : Type 0 where
   pub notZero : u .identity ≡ 0 → ⊥
 
 pub unit-facts : (e : Encoding) (home : ℕ) (abbreviations s : List ℕ) (u : UnitRead) → Bytes s → unitOf e home abbreviations s ≡ pass u → UnitFacts s u
-unfolding unitOf
+unfolding plain
 unit-facts e home abbreviations s u h q =
-    let size = bind-pass (unitSize e s) _ u q in
+    let size = bind-pass (unitSize e s) _ u (sym (unit-plain e home abbreviations s) ∙ q) in
     let n = size .0 in
     let a = require-pass (leb n (length s)) 11 _ u (size .2) in
     let b = require-pass (leb (commonSize e) (length (take n s))) 11 _ u (a .1) in

@@ -1,6 +1,6 @@
 -- A whole unit, by its size, its common fields, its kind and its identity.
 -- Assumes nothing.
-use mathlib.Core.Path.{_≡_, refl, ap, _∙_}
+use mathlib.Core.Path.{_≡_, refl, ap, _∙_, sym}
 use mathlib.Core.Bool.{Bool, true, false, not, _&&_, _||_}
 use mathlib.Core.List.{List}
 use Prim.Native.Nat.{ℕ, _+_, _≤_, _<_}
@@ -13,6 +13,7 @@ use Rattle.octets.specs.Checked.{Check, pass, refuse, _>>=_, require}
 use Rattle.octets.proofs.Checks.{passes, fails, then-pass, then-refuse, and-left, bind-pass, require-pass, pass-inj}
 use Rattle.bundle.specs.Encoding.{Encoding}
 use Rattle.unit.specs.UnitRead.{Identity, UnitRead, lengthField, unitSize, isFive, addressPlace, commonSize, behindCommon, identityFive, identityFour, identityOf, unitOf}
+use Rattle.unit.proofs.Plain.{plain, unit-plain}
 use Rattle.unit.specs.Headers.{fits, unitInside, commonGood, fiveKind, kindOf, headerSize, signatureAt, tableAt, identityBy}
 use Rattle.unit.specs.declared.header.Kind.{Kind}
 use Rattle.unit.specs.declared.header.Kind.the-variants.{Compilation, Signature, Root, Other}
@@ -99,8 +100,8 @@ inside-le e s n h =
 
 module _ (e : Encoding) (home : ℕ) (a s : List ℕ) where
   pub unit-is : unitOf e home a s ≡ (unitInside e s >>= behindSize e home a s)
-  unfolding unitOf behindSize unitInside
-  unit-is = sized s (unitSize e s) (behindSize e home a s)
+  unfolding plain behindSize unitInside
+  unit-is = unit-plain e home a s ∙ sized s (unitSize e s) (behindSize e home a s)
 
   pub unit-none : unitInside e s ≡ refuse 11 → unitOf e home a s ≡ refuse 11
   unit-none h = unit-is ∙ then-refuse _ _ 11 h

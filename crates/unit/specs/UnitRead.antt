@@ -72,18 +72,23 @@ unfoldable pub identityOf : Encoding → ℕ → List ℕ → List ℕ → Check
 identityOf e home abbreviations u =
     elim (isFive e) [ true ↦ identityFive e (getD u (lengthField e + 2) 0) u | false ↦ identityFour e home abbreviations u ]
 
--- s is the section from the unit's start on
-unfoldable pub unitOf : Encoding → ℕ → List ℕ → List ℕ → Check UnitRead
-unitOf e home abbreviations s = do
+-- s is the section from the unit's start on. By the unit's size it is known in which bytes its abbreviation table is read: what refuses there comes after 11 and before 12
+unfoldable pub unitBy : Encoding → ℕ → (ℕ → Check (List ℕ)) → List ℕ → Check UnitRead
+unitBy e home abbreviations s = do
   size ← unitSize e s
   _ ← require (leb size (length s)) 11
   let u = take size s
   _ ← require (leb (commonSize e) (length u)) 11
   _ ← require (eqb (numberAt (e .big) 2 u (lengthField e)) (e .version)) 11
   _ ← require (eqb (getD u (addressPlace e) 0) (e .address)) 11
-  i ← identityOf e home abbreviations u
+  table ← abbreviations size
+  i ← identityOf e home table u
   _ ← require (not (eqb (i .identity) 0)) 13
   pass (record { size = size; table = i .table; identity = i .identity })
+
+-- where those bytes are known
+unfoldable pub unitOf : Encoding → ℕ → List ℕ → List ℕ → Check UnitRead
+unitOf e home abbreviations s = unitBy e home (λ size. pass abbreviations) s
 
 -- the header passes 11, whatever else of the unit is refused
 unfoldable pub notEleven : Check UnitRead → Bool
