@@ -30,7 +30,7 @@ use Rattle.package.specs.Units.{IsUnit}
 use Rattle.bundle.proofs.Every.{Every, nothing, also}
 use Rattle.package.proofs.Each.{each-head, each-tail, each-append, each-snoc, each-so}
 use Rattle.package.proofs.Inputs.{InputFacts, UnitSection, input-facts}
-use Rattle.package.proofs.Units.{readingOf, unit-taken}
+use Rattle.package.proofs.Units.{readingOf, unit-taken, read-at}
 
 -- ---- contributions
 -- each lies in its section; in version 5 it is the whole section
@@ -105,9 +105,7 @@ module _ (e : Encoding) (i : Input) (facts : InputFacts e i) (bases : BySection 
         good = record {
           unit = record {
             place = at;
-            abbreviations = k .abbreviations;
-            theirs = k .theirs;
-            alone = k .alone;
+            read = read-at i bases earlier (facts .cuRead) here home at s u k;
             tables = f .tables;
             types = subst (λ (l : List ℕ). (u .table ≡ 2) ↔ IsTypeUnit own (u .home) l) (take-length (u .bytes))
                 (type-table own (u .home) homes (λ z y. four z (sym (ap (λ (d : Encoding). d .version) coded) ∙ y)) (k .abbreviations) (u .bytes) (readingOf u)
