@@ -6,7 +6,6 @@ use mathlib.Core.Logic.{_⊎_, inl, inr, ⊎-elim}
 use mathlib.Core.List.{List}
 use Prim.Native.Nat.{ℕ, _+_, _*_, _/_, _^_, _<_, _≤_}
 use native.Mathlib.Omega.{arith}
-use native.Mathlib.Decide.{decLt}
 use lib.Dec.{eqb}
 use lib.ListN.{length}
 use borrow.Author.Tests.{eq-eqb, ne-eqb}
@@ -15,7 +14,7 @@ use Rattle.octets.proofs.Checks.{known}
 use Rattle.octets.proofs.Placed.{length-placed}
 use Rattle.octets.proofs.Regions.{part-before, part-behind, part-placed}
 use Rattle.index.specs.Held as held
-use Rattle.index.proofs.Slots.{leastPower-ge, leastPower-lt, slotsFor-few, slotsFor-many, slotsFor-power}
+use Rattle.index.proofs.Slots.{slotsFor-gt, slotsFor-le, slotsFor-power}
 use Rattle.rows.proofs.LawLoops.{is-power}
 use Rattle.keeping.specs.Regions.{rowsStart, seenStart, placesStart, seenSlots, Replaced, Apart}
 
@@ -79,25 +78,11 @@ slots-power n = is-power (slotsFor-power (n / 5))
 
 pub slots-le : (n : ℕ) → 5 ≤ n → seenSlots n ≤ n
 unfolding seenSlots
-slots-le n h =
-    elim (decLt (n / 5) 2) [
-      | yes g ↦ omega (arith, slotsFor-few (n / 5) g)
-      | no g ↦
-          let m = n / 5 in
-          let p : 0 < 3 * m / 2 = omega arith in
-          omega (arith, slotsFor-many m (omega arith), leastPower-lt (3 * m / 2) p)
-    ]
+slots-le n h = omega (arith, slotsFor-le (n / 5) (omega arith))
 
 pub slots-gt : (n k : ℕ) → n ≤ 1_048_576 → 5 * k + 5 ≤ n → k < seenSlots n
 unfolding seenSlots
-slots-gt n k l h =
-    elim (decLt (n / 5) 2) [
-      | yes g ↦ omega (arith, slotsFor-few (n / 5) g)
-      | no g ↦
-          let m = n / 5 in
-          let p : 3 * m / 2 ≤ 2 ^ 32 = omega arith in
-          omega (arith, slotsFor-many m (omega arith), leastPower-ge (3 * m / 2) p)
-    ]
+slots-gt n k l h = omega (arith, slotsFor-gt (n / 5) (omega arith))
 
 -- ---- a region replaced
 module _ (w v : List ℕ) (base size : ℕ) (r : Replaced w v base size) (fits : base + size ≤ length w) where
