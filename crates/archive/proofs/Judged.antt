@@ -87,15 +87,15 @@ module _ (b p : List ℕ) (a : Accepted b p) (t : ℕ) where
       let e : theorem.identitiesOf b t ≡ [] = identities-are ∙ ap identitiesOf z in
       (e, ap slotsWritten e)
 
-  some-slots : (xs : List ℕ) (s : Slots) → 0 < length xs → slotsOf xs ≡ pass s → slotsWritten xs ≡ s
+  some-slots : (xs : List ℕ) → 0 < length xs → slotsWritten xs ≡ slotsOf xs
   unfolding slotsWritten
-  some-slots [] s n e = absurd (omega arith)
-  some-slots (x ∷ xs) s n e = rw (slotsWritten, e)
+  some-slots [] n = absurd (omega arith)
+  some-slots (x ∷ xs) n = refl
 
   pub slots-are : 0 < length (rowsIn a t) → (i : Indexed (a .bundle .big) (versionIn a) (rowsIn a t) (indexOfTable a t)) → slotsOfTable b t ≡ i .slots
   slots-are n i =
       ap slotsWritten identities-are
-      ∙ some-slots (identitiesOf (rowsIn a t)) (i .slots) (omega (arith, length-map (rowsIn a t) (λ (r : Row). r .identity))) (i .slots-are)
+      ∙ some-slots (identitiesOf (rowsIn a t)) (omega (arith, length-map (rowsIn a t) (λ (r : Row). r .identity))) ∙ i .slots-are
 
   pub looks-none : (x : ℕ) → rowsIn a t ≡ [] → looks b t x ≡ 0
   unfolding looks search look looksOf

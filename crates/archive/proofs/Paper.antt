@@ -122,9 +122,13 @@ module _ (b p : List ℕ) (a : Accepted b p) (h : Bytes b) (v t : ℕ) (q : Aske
         cells-told letter index (identity m) (λ code. foundLine p letter (identity m) code (lookedUp p v t (identity m) code)) ((1 + m - 1) * length (index .codes)) (index .codes)
         (cell-told m (omega (arith, length-map (rowsIn a t) (λ (r : Row). r .identity))))
 
+    one-slot : (m : ℕ) → m < length (identitiesOf (rowsIn a t)) → identitiesIn (1 + m) (i .slots .rows) (i .slots .identities) ≡ identity m ∷ []
+    one-slot m l =
+        rw (← i .slots-are) (slots-one (identitiesOf (rowsIn a t)) (omega (arith, i .few, length-map (rowsIn a t) (λ (r : Row). r .identity))) m l)
+
     rows-lines : rowsFrom letter index 1 (length (identitiesOf (rowsIn a t))) ≡ pass (joined (map (of (some index)) (identitiesOf (rowsIn a t))))
     unfolding written
-    rows-lines = rows-told letter index (of (some index)) 1 (identitiesOf (rowsIn a t)) (slots-one (identitiesOf (rowsIn a t)) (i .slots) (i .slots-are)) row-told
+    rows-lines = rows-told letter index (of (some index)) 1 (identitiesOf (rowsIn a t)) one-slot row-told
 
   told : (o : Option Index) → indexFor (read .k) t ≡ o → Table a t o → tableLines letter o ≡ pass (joined (map (of o) (theorem.identitiesOf b t)))
   unfolding tableLines joined written

@@ -40,14 +40,10 @@ packs-small b o = ⊎-elim
     (λ (t : lengthGood 1_024 b ≡ false). rw (packedSmall, t) (inr (inl (omega arith, omega arith))))
     (known (lengthGood 1_024 b))
 
-not-17 : (n : ℕ) → PackingCode n → n ≡ 17 → ⊥
-not-17 n c e = ⊎-elim (λ z. omega arith) (λ d. ⊎-elim (λ z. omega (arith, z .1)) (λ f. ⊎-elim (λ z. omega arith) (λ z. omega arith) f) d) c
-
 pub refuses-by-number : RefusesByNumber
 refuses-by-number = record {
   packing = packs;
   packingSmall = packs-small;
-  slotsSuffice = λ b w o. not-17 (told (packed b w o) .code) (packs b w o);
   lookingUp = λ p v table x code. lookup-code (lookedUp p v table x code) (part-refuses p v table x code);
   lookingUpString = λ p v table x k. lookup-code (stringFound p v table x k) (string-refuses p v table x k);
 }

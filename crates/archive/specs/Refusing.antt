@@ -1,10 +1,10 @@
--- By which numbers calls refuse: packing by 1 to 16, 18 and 19, and never by 17; looking up by 21 to 26. The number is the code that a caller is told.
+-- By which numbers calls refuse: packing by 1 to 16, 18 and 19; looking up by 21 to 26. The number is the code that a caller is told.
 -- Assumes nothing.
 use mathlib.Core.Path.{_≡_}
 use mathlib.Core.Logic.{_⊎_}
 use mathlib.Core.List.{List}
 use Prim.Native.Nat.{ℕ, _≤_}
-use Rattle.numbers.specs.Refusals.{badLength, rowOutOfStep, noSlot, outputShort, sectionTooLong, badPackage, noStringThere}
+use Rattle.numbers.specs.Refusals.{badLength, rowOutOfStep, outputShort, sectionTooLong, badPackage, noStringThere}
 use Rattle.package.specs.Pack.{packed}
 use Rattle.packer.specs.Small.{packedSmall}
 use Rattle.packer.specs.Told.{numbered as told}
@@ -22,7 +22,5 @@ LookupCode n = (n ≡ 0) ⊎ (n ≡ 1) ⊎ ((badPackage ≤ n) × (n ≤ noStrin
 pub record RefusesByNumber : Type 0 where
   pub packing : (b : List ℕ) (w o : ℕ) → PackingCode (told (packed b w o) .code)
   pub packingSmall : (b : List ℕ) (o : ℕ) → PackingCode (told (packedSmall b o) .code)
-  -- 17, which `PackingCode` leaves out
-  pub slotsSuffice : (b : List ℕ) (w o : ℕ) → told (packed b w o) .code ≡ noSlot → ⊥
   pub lookingUp : (p : List ℕ) (v table x code : ℕ) → LookupCode (numbered (lookedUp p v table x code) .code)
   pub lookingUpString : (p : List ℕ) (v table x k : ℕ) → LookupCode (numbered (stringFound p v table x k) .code)

@@ -72,7 +72,7 @@ identitiesOf b table = map (λ u. u .identity) (those (λ u. eqb (u .table) tabl
 -- the slots written for them, none where there are no units
 unfoldable pub slotsWritten : List ℕ → Slots
 slotsWritten [] = record { identities = []; rows = [] }
-slotsWritten (x ∷ xs) = elim (slotsOf (x ∷ xs)) [ pass t ↦ t | refuse n ↦ record { identities = []; rows = [] } ]
+slotsWritten (x ∷ xs) = slotsOf (x ∷ xs)
 
 abbrev pub slotsOfTable : List ℕ → ℕ → Slots
 slotsOfTable b table = slotsWritten (identitiesOf b table)

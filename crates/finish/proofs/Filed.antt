@@ -194,23 +194,17 @@ module _ (big : Bool) (b : List ℕ) (st : InProgress) (w : List ℕ) (a : AllFi
       tuFew = rows-few (e .five) R (st .units .count) _ typeTable (st .units .tu) (rows 2) tu-table;
     }
 
-    pub rows-most : (length (rows 1) ≤ 2 ^ 31) × (length (rows 2) ≤ 2 ^ 31)
-    rows-most = (
-      omega (arith, tables-asks .cuFew, cu-table .count, units-few, a .held .limit),
-      omega (arith, tables-asks .tuFew, tu-table .count, units-few, a .held .limit),
-    )
-
-    module _ (cu tu : List ℕ) (cu-is : indexBytes (e .big) (versionFor (e .five)) (rows 1) ≡ pass cu) (tu-is : indexBytes (e .big) (versionFor (e .five)) (rows 2) ≡ pass tu) where
-      sections-pass : packageSections (a .bundle .big) (firstWord (a .bundle .objects) % 256) (a .filing) ≡ pass (sectionsBy (sectionOf (a .filing) cu tu))
+    module _ (cu tu : List ℕ) (cu-is : indexBytes (e .big) (versionFor (e .five)) (rows 1) ≡ cu) (tu-is : indexBytes (e .big) (versionFor (e .five)) (rows 2) ≡ tu) where
+      sections-are : packageSections (a .bundle .big) (firstWord (a .bundle .objects) % 256) (a .filing) ≡ sectionsBy (sectionOf (a .filing) cu tu)
       unfolding packageSections
-      sections-pass =
+      sections-are =
           let f = a .filing in
           let g : a .bundle .big ≡ e .big = a .order ∙ sym same in
-          let cu-here : indexBytes (a .bundle .big) (firstWord (a .bundle .objects) % 256) (rowsOf (kept (f .units)) 1) ≡ pass cu =
+          let cu-here : indexBytes (a .bundle .big) (firstWord (a .bundle .objects) % 256) (rowsOf (kept (f .units)) 1) ≡ cu =
           ap₂ (λ (x : Bool) (v : ℕ). indexBytes x v (rowsOf (kept (f .units)) 1)) g (sym version-is) ∙ cu-is in
-          let tu-here : indexBytes (a .bundle .big) (firstWord (a .bundle .objects) % 256) (rowsOf (kept (f .units)) 2) ≡ pass tu =
+          let tu-here : indexBytes (a .bundle .big) (firstWord (a .bundle .objects) % 256) (rowsOf (kept (f .units)) 2) ≡ tu =
           ap₂ (λ (x : Bool) (v : ℕ). indexBytes x v (rowsOf (kept (f .units)) 2)) g (sym version-is) ∙ tu-is in
-          then-pass _ _ cu cu-here ∙ then-pass _ _ tu tu-here ∙ ap pass (list-is f cu tu)
+          ap₂ (λ (x y : List ℕ). those nonEmpty (sectionList f x y)) cu-here tu-here ∙ list-is f cu tu
 
       -- the definition, by the sections
       pub package-one : packageIn b ≡ oneObject (e .big) (o .word) (sectionOf (a .filing) cu tu)
@@ -219,7 +213,7 @@ module _ (big : Bool) (b : List ℕ) (st : InProgress) (w : List ℕ) (a : AllFi
           let ss = sectionsBy (sectionOf (a .filing) cu tu) in
           let g : a .bundle .big ≡ e .big = a .order ∙ sym same in
           then-pass (bundleOf b) _ (a .bundle) (a .reads) ∙ then-pass (filingOf b (a .bundle)) _ (a .filing) (a .filed)
-          ∙ then-pass (packageSections (a .bundle .big) (firstWord (a .bundle .objects) % 256) (a .filing)) _ ss sections-pass
+          ∙ ap (λ (l : List Section). require (all (λ (s : Section). leb (length (s .bytes)) 8_388_607) l) 19 >>= (λ _. pass (written (a .bundle .big) (packageObjects (a .bundle .objects) l)))) sections-are
           ∙ ap₂ (λ (x : Bool) (ps : List Object). require (all (λ (s : Section). leb (length (s .bytes)) 8_388_607) ss) 19 >>= (λ _. pass (written x (packageObjects ps ss)))) g first
 
       -- str is above the limit

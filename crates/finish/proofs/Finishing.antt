@@ -21,7 +21,6 @@ use Rattle.bundle.specs.declared.encoding.WordRead.the-variants.{Good, Bad}
 use Rattle.bundle.proofs.Objects.{objects-none, objects-object}
 use Rattle.strings.specs.Strings.{firstUses, putAll, strOf}
 use Rattle.index.specs.Written.{indexBytes}
-use Rattle.index.proofs.LawWhole.{indexBytes-passes}
 use Rattle.kept.specs.Columns.{versionFor}
 use Rattle.kept.specs.declared.state.InProgress.{InProgress}
 use Rattle.package.specs.Filing.{Filing, filingOf, filingFrom, firstWord, kept, keepAll}
@@ -30,14 +29,14 @@ use Rattle.finish.specs.Ready.{TablesPlaceable, BothPlaced, TablesPlaced
 use Rattle.finish.specs.Finish.{packageOf, packageIn, oneObject, AllFiled}
 use Rattle.finish.proofs.Answers.{one-over}
 use Rattle.finish.proofs.Words.{word-never-bad, word-encoding, word-big, word-five}
-use Rattle.finish.proofs.Filed.{sectionOf, first-good, cu-fits, tu-fits, tables-asks, rows-most, package-one, str-over, all-ready}
+use Rattle.finish.proofs.Filed.{sectionOf, first-good, cu-fits, tu-fits, tables-asks, package-one, str-over, all-ready}
 
 -- ---- without objects
 none-filed : (b : List ℕ) (k : Bundle) (f : Filing) → k .objects ≡ [] → filingOf b k ≡ pass f → f ≡ record { inputs = []; units = [] }
 unfolding filingOf filingFrom
 none-filed b k f z e = sym (pass-inj (rw z at e))
 
-nothing-packed : (big : Bool) (word : ℕ) → packageSections big word (record { inputs = []; units = [] }) ≡ pass []
+nothing-packed : (big : Bool) (word : ℕ) → packageSections big word (record { inputs = []; units = [] }) ≡ []
 unfolding packageSections indexBytes rowsOf entriesFrom those kept keepAll sectionList nonEmpty unitBytes sharedBytes joined stringTable allUsed firstUses putAll strOf _>>=_
 nothing-packed big word = refl
 
@@ -50,10 +49,10 @@ pub empty-package : (big : Bool) (b : List ℕ) (st : InProgress) (w : List ℕ)
 unfolding packageIn packageOf
 empty-package big b st w a z =
     let k = a .bundle in
-    let nothing : packageSections (k .big) (firstWord (k .objects) % 256) (a .filing) ≡ pass [] =
+    let nothing : packageSections (k .big) (firstWord (k .objects) % 256) (a .filing) ≡ [] =
     ap (packageSections (k .big) (firstWord (k .objects) % 256)) (none-filed b k (a .filing) z (a .filed)) ∙ nothing-packed (k .big) (firstWord (k .objects) % 256) in
     then-pass (bundleOf b) _ k (a .reads) ∙ then-pass (filingOf b k) _ (a .filing) (a .filed)
-    ∙ then-pass (packageSections (k .big) (firstWord (k .objects) % 256) (a .filing)) _ [] nothing ∙ written-none (k .big) big (k .objects) (a .order) z
+    ∙ ap (λ (l : List Section). require (all (λ (s : Section). leb (length (s .bytes)) 8_388_607) l) 19 >>= (λ _. pass (written (k .big) (packageObjects (k .objects) l)))) nothing ∙ written-none (k .big) big (k .objects) (a .order) z
 
 -- ---- with objects
 first-object : (b : List ℕ) (k : Bundle) → bundleOf b ≡ pass k → (word next : ℕ) → AnObject word next ≡ nextOf 4 (stepAt 4 (drop 4 b))
@@ -69,7 +68,7 @@ pub record Ending (big : Bool) (b : List ℕ) (st : InProgress) (w : List ℕ) (
   pub whole : packageIn b ≡ oneObject (e .big) word s
   pub over : st .strings .over ≡ true → packageIn b ≡ refuse 19
   -- what the placing of both tables tells
-  pub told : (r : Bool) (v : List ℕ) → TablesPlaced (length b / 4) (st .units) w v r → (r ≡ true) × BothPlaced (length b / 4) (st .units) w v
+  pub told : (v : List ℕ) → TablesPlaced (length b / 4) (st .units) w v → BothPlaced (length b / 4) (st .units) w v
   pub ready : (v : List ℕ) → BothPlaced (length b / 4) (st .units) w v → st .strings .over ≡ false → Ready e b st v s
 
 module _ (big : Bool) (b : List ℕ) (st : InProgress) (w : List ℕ) (a : AllFiled big b st w) (ok : Bytes b) (word next : ℕ)
@@ -92,15 +91,14 @@ module _ (big : Bool) (b : List ℕ) (st : InProgress) (w : List ℕ) (a : AllFi
       let encoding = word-encoding E good e g in
       let same = word-big E good e g in
       let five = word-five E good e g in
-      let most = rows-most big b st w a ok one os first e encoding same five in
-      let c1 = indexBytes-passes (e .big) (versionFor (e .five)) (rowsOf (kept (a .filing .units)) 1) (most .0) in
-      let c2 = indexBytes-passes (e .big) (versionFor (e .five)) (rowsOf (kept (a .filing .units)) 2) (most .1) in
-      let same-package = package-one big b st w a ok one os first e encoding same five (c1 .0) (c2 .0) (c1 .1) (c2 .1) in
+      let c1 = indexBytes (e .big) (versionFor (e .five)) (rowsOf (kept (a .filing .units)) 1) in
+      let c2 = indexBytes (e .big) (versionFor (e .five)) (rowsOf (kept (a .filing .units)) 2) in
+      let same-package = package-one big b st w a ok one os first e encoding same five c1 c2 refl refl in
       record {
-        s = sectionOf (a .filing) (c1 .0) (c2 .0);
+        s = sectionOf (a .filing) c1 c2;
         asks = tables-asks big b st w a ok one os first e encoding same five;
         whole = same-package;
-        over = λ v. same-package ∙ one-over (e .big) word (sectionOf (a .filing) (c1 .0) (c2 .0)) (str-over big b st w a ok one os first e encoding same five (c1 .0) (c2 .0) (c1 .1) (c2 .1) v);
-        told = λ r v h. h .placed (cu-fits big b st w a ok one os first e encoding same five) (tu-fits big b st w a ok one os first e encoding same five);
-        ready = λ v p z. all-ready big b st w a ok one os first e encoding same five (c1 .0) (c2 .0) (c1 .1) (c2 .1) v p z;
+        over = λ v. same-package ∙ one-over (e .big) word (sectionOf (a .filing) c1 c2) (str-over big b st w a ok one os first e encoding same five c1 c2 refl refl v);
+        told = λ v h. h .placed (cu-fits big b st w a ok one os first e encoding same five) (tu-fits big b st w a ok one os first e encoding same five);
+        ready = λ v p z. all-ready big b st w a ok one os first e encoding same five c1 c2 refl refl v p z;
       }

@@ -8,14 +8,13 @@ use native.Mathlib.Omega.{arith}
 use native.Mathlib.Decide.{ℕ-discrete}
 use lib.ListN.{length}
 use Rattle.octets.specs.Lists.{distinct}
-use Rattle.octets.specs.Checked.{pass}
-use Rattle.octets.proofs.Checks.{pass-inj}
 use Rattle.octets.proofs.Lists.{length-those}
 use Rattle.index.specs.Held.{PowerOfTwo}
 use Rattle.index.specs.Probing.{unused, slotsFor, placeAll, slotsOf}
 use Rattle.index.specs.Written.{Row, indexBytes, indexWith, presentColumns}
 use Rattle.index.proofs.Slots.{slotsFor-le, slotsFor-gt, slotsFor-few, slotsFor-power}
 use Rattle.index.proofs.LawWhole.{indexBytes-is}
+use Rattle.index.proofs.LawExact.{indexBytes-none}
 use Rattle.work.specs.Regions.{recordsRegion, region}
 use Rattle.kept.specs.Columns.{versionFor, ColumnsHeld}
 use Rattle.kept.specs.Records.{inTable, recordsFrom, ofTable, identitiesIn}
@@ -71,7 +70,7 @@ module _ (f : IndexForm) (words n : ℕ) (R v : List ℕ) (rs : List Row) (bytes
     (held : RowsAre (f .five) (ofTable R n (f .table)) rs) (columns : ColumnsHeld (f .five) (f .has) rs)
     (can : Placeable words (length v) (f .table) n (slotsFor (f .rows))) (same : region v words recordsRegion ≡ R)
     (placed : SeenHeld R (slotsIn v words (f .table) (slotsFor (f .rows))) n (identitiesIn R n (f .table)))
-    (is : indexBytes (f .big) (versionFor (f .five)) rs ≡ pass bytes) where
+    (is : indexBytes (f .big) (versionFor (f .five)) rs ≡ bytes) where
   S : List ℕ
   S = slotsIn v words (f .table) (slotsFor (f .rows))
 
@@ -79,7 +78,7 @@ module _ (f : IndexForm) (words n : ℕ) (R v : List ℕ) (rs : List Row) (bytes
   unfolding S identitiesIn
   seen = subst (λ (xs : List ℕ). SeenHeld R S n xs) (rows-identities (f .five) (ofTable R n (f .table)) rs held) placed
 
-  made : slotsOf (identitiesOf rs) ≡ pass (seen .placed)
+  made : slotsOf (identitiesOf rs) ≡ seen .placed
   unfolding slotsOf S
   made =
       let l : slotsFor (length (identitiesOf rs)) ≡ length S = ap slotsFor (length-identities rs ∙ sym count) ∙ sym (slots-long words v (f .table) n (slotsFor (f .rows)) can) in
@@ -88,19 +87,18 @@ module _ (f : IndexForm) (words n : ℕ) (R v : List ℕ) (rs : List Row) (bytes
   some : (f .rows ≡ 0 → ⊥) → bytes ≡ indexIn f R n S
   unfolding identitiesOf
   some g =
-      let b = indexBytes-is (f .big) (versionFor (f .five)) rs bytes positive is in
-      b .2 ∙ ap (indexWith (f .big) (versionFor (f .five)) (presentColumns (versionFor (f .five)) rs) rs) (pass-inj (sym (b .1) ∙ made))
+      sym is ∙ indexBytes-is (f .big) (versionFor (f .five)) rs positive ∙ ap (indexWith (f .big) (versionFor (f .five)) (presentColumns (versionFor (f .five)) rs) rs) made
       ∙ sym (index-is f rs columns R n held S count seen)
     where
       positive : 0 < length rs
       positive = elim (ℕ-discrete (length rs) 0) [ yes z ↦ absurd (g (count ∙ z)) | no q ↦ omega arith ]
 
   pub index-held : IndexHeld f words n v bytes
-  unfolding indexBytes S
+  unfolding S
   index-held = record {
     can = can;
     many = ap (λ (r : List ℕ). length (ofTable r n (f .table))) same ∙ rows-many (f .five) (ofTable R n (f .table)) rs held ∙ sym count;
-    none = λ z. let e = no-rows rs (sym count ∙ z) in sym (pass-inj (sym (ap (indexBytes (f .big) (versionFor (f .five))) e) ∙ is));
+    none = λ z. let e = no-rows rs (sym count ∙ z) in sym is ∙ ap (indexBytes (f .big) (versionFor (f .five))) e ∙ indexBytes-none (f .big) (versionFor (f .five));
     within = seen .within;
     some = λ g. some g ∙ ap (λ (r : List ℕ). indexIn f r n S) (sym same);
   }

@@ -38,10 +38,10 @@ outputOf (short n) o = zeros o
 outputOf (made p) o = padded p (o - length p)
 
 -- ---- the package
--- 17 and 19
+-- 19
 unfoldable pub packageOf : Bundle → Filing → Check (List ℕ)
 packageOf k f = do
-  ss ← packageSections (k .big) (firstWord (k .objects) % 256) f
+  let ss = packageSections (k .big) (firstWord (k .objects) % 256) f
   _ ← require (all (λ s. leb (length (s .bytes)) 8_388_607) ss) 19
   pass (written (k .big) (packageObjects (k .objects) ss))
 

@@ -46,7 +46,7 @@ sizesOf five st =
     13
     (indexSizeOf five (st .units .tu))
 
--- ---- 17
+-- ---- slots
 -- records and slots of both tables fit the work area
 pub record TablesPlaceable (words : ℕ) (u : Units) (room : ℕ) : Type 0 where
   pub enough : workForWord * words ≤ room
@@ -69,10 +69,10 @@ pub record BothPlaced (words : ℕ) (u : Units) (w v : List ℕ) : Type 0 where
   pub tu : SlotsHeld words (u .count) typeTable (u .tu .rows) w v
 
 -- both tables fit, so that they are placed
-pub record TablesPlaced (words : ℕ) (u : Units) (w v : List ℕ) (r : Bool) : Type 0 where
+pub record TablesPlaced (words : ℕ) (u : Units) (w v : List ℕ) : Type 0 where
   pub placed : Fitting (region w words recordsRegion) (u .count) compilationTable (slotsFor (u .cu .rows))
       → Fitting (region w words recordsRegion) (u .count) typeTable (slotsFor (u .tu .rows))
-      → (r ≡ true) × BothPlaced words u w v
+      → BothPlaced words u w v
 
 -- ---- one table's index
 abbrev pub formOf : ObjectEncoding → ℕ → Table → IndexForm

@@ -1,4 +1,4 @@
-// The end of packing: 17, 19, 18, and the package.
+// The end of packing: 19, 18, and the package.
 ghost use mathlib.Core.Path.{_≡_};
 ghost use mathlib.Core.List.{[]};
 ghost use lib.ListN.{length};
@@ -21,7 +21,6 @@ use bundle::encoding::ObjectEncoding;
 use bundle::encoding::WordRead;
 use kept::state::InProgress;
 use numbers::refusals::BAD_ENCODING;
-use numbers::refusals::NO_SLOT;
 use numbers::refusals::SECTION_TOO_LONG;
 
 // What packing answers: a refusal's number, 18 with the length needed, or the package's length.
@@ -88,11 +87,9 @@ pub fn finish(b: &[u8], big: bool, st: InProgress, work: &mut [u32], out: &mut [
         return Finished::Refused(BAD_ENCODING);
     };
     let strings = st.strings;
-    if crate::tables::place_tables(b.len() / 4, st.units, work) {
-        if strings.over {
-            return Finished::Refused(SECTION_TOO_LONG);
-        }
-        return finish_sections(e, word, b, st, work, out);
+    crate::tables::place_tables(b.len() / 4, st.units, work);
+    if strings.over {
+        return Finished::Refused(SECTION_TOO_LONG);
     }
-    Finished::Refused(NO_SLOT)
+    finish_sections(e, word, b, st, work, out)
 }

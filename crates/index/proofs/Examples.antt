@@ -1,4 +1,4 @@
--- Document 01's worked examples of slots and probing, its order of columns in both versions, where 10 and 17 stand, and rows by the place that they name.
+-- Document 01's worked examples of slots and probing, its order of columns in both versions, where 10 stands, and rows by the place that they name.
 -- Assumes nothing.
 use mathlib.Core.Path.{_≡_, refl}
 use mathlib.Core.Bool.{true, false}
@@ -9,7 +9,7 @@ use Rattle.octets.specs.Lists.{joined, those, any}
 use Rattle.octets.specs.Checked.{pass, refuse, _>>=_, require}
 use Rattle.index.specs.Columns.{columnsFour, columnsFive, columnsOf, columnIn}
 use Rattle.index.specs.Index.{Index, powerFrom, leastPower, indexOf, placeOf, cellAt, cellOf}
-use Rattle.index.specs.Probing.{Slots, found, absent, firstSlot, stride, look, search, slotsFor, freeFrom, placeAt, place, placeAll, unused, slotsOf}
+use Rattle.index.specs.Probing.{Slots, found, absent, firstSlot, stride, look, search, slotsFor, freeFrom, place, placeAll, unused, slotsOf}
 use Rattle.index.specs.Rows.{isSome, cellIs, ownPlace, rowNumbers, naming, theOne, abbrevPart}
 use Rattle.index.specs.Written.{Row, presentColumns, offsetOf, sizeOf, grid, startBytes, indexWith, indexBytes}
 
@@ -50,27 +50,24 @@ Examples =
     -- n to slots
     (map slotsFor (0 ∷ 1 ∷ 2 ∷ 3 ∷ 4 ∷ 5 ∷ 6 ∷ 11 ∷ 12 ∷ []) ≡ 2 ∷ 2 ∷ 4 ∷ 8 ∷ 8 ∷ 8 ∷ 16 ∷ 32 ∷ 32 ∷ [])
     -- identities 1 and 5 lie in slots 1 and 2 of 4
-    × (slotsOf (1 ∷ 5 ∷ []) ≡ pass four)
+    × (slotsOf (1 ∷ 5 ∷ []) ≡ four)
     -- looking for 9 ends as absent after 3 looks
     × (search (four .rows) (four .identities) 9 ≡ absent 3)
     × (search (four .rows) (four .identities) 5 ≡ found 2 2)
     -- version 5, big-endian: 16-bit 5 and 0, columns in document 01's order, rows from 1
     × (indexBytes true 5 (everywhere ∷ [])
-    ≡ pass
-    (numbersOf true 4
-    (0x5_0000 ∷ 7 ∷ 1 ∷ 2 ∷ 0 ∷ 0 ∷ 0 ∷ 1 ∷ 0 ∷ 1 ∷ 1 ∷ 3 ∷ 4 ∷ 5 ∷ 8 ∷ 6 ∷ 7 ∷ 0 ∷ 0 ∷ 0 ∷ 0 ∷ 0 ∷ 0 ∷ 0 ∷ 1 ∷ 3 ∷ 4 ∷ 9 ∷ 10 ∷ 6 ∷ 8 ∷ [])))
+    ≡ numbersOf true 4
+    (0x5_0000 ∷ 7 ∷ 1 ∷ 2 ∷ 0 ∷ 0 ∷ 0 ∷ 1 ∷ 0 ∷ 1 ∷ 1 ∷ 3 ∷ 4 ∷ 5 ∷ 8 ∷ 6 ∷ 7 ∷ 0 ∷ 0 ∷ 0 ∷ 0 ∷ 0 ∷ 0 ∷ 0 ∷ 1 ∷ 3 ∷ 4 ∷ 9 ∷ 10 ∷ 6 ∷ 8 ∷ []))
     -- version 4, little-endian: the word 2, and all eight columns
     × (indexBytes false 4 (everywhere ∷ [])
-    ≡ pass
-    (numbersOf false 4
-    (2 ∷ 8 ∷ 1 ∷ 2 ∷ 0 ∷ 0 ∷ 1 ∷ 0 ∷ 0 ∷ 1 ∷ 1 ∷ 2 ∷ 3 ∷ 4 ∷ 5 ∷ 6 ∷ 7 ∷ 8 ∷ 0 ∷ 0 ∷ 0 ∷ 0 ∷ 0 ∷ 0 ∷ 0 ∷ 0 ∷ 1 ∷ 2 ∷ 3 ∷ 4 ∷ 5 ∷ 6 ∷ 7 ∷ 8 ∷ [])))
-    -- no free slot, which no accepted bundle meets; an empty index
-    × (placeAll (record { identities = 1 ∷ []; rows = 1 ∷ [] }) 2 (5 ∷ []) ≡ refuse 17)
+    ≡ numbersOf false 4
+    (2 ∷ 8 ∷ 1 ∷ 2 ∷ 0 ∷ 0 ∷ 1 ∷ 0 ∷ 0 ∷ 1 ∷ 1 ∷ 2 ∷ 3 ∷ 4 ∷ 5 ∷ 6 ∷ 7 ∷ 8 ∷ 0 ∷ 0 ∷ 0 ∷ 0 ∷ 0 ∷ 0 ∷ 0 ∷ 0 ∷ 1 ∷ 2 ∷ 3 ∷ 4 ∷ 5 ∷ 6 ∷ 7 ∷ 8 ∷ []))
+    -- an empty index
     × (indexOf false [] ≡ refuse 10)
 
 pub examples : Examples
-unfolding powerFrom leastPower indexOf require littleOf columnsFour slotsFor firstSlot stride look search freeFrom placeAt place placeAll unused slotsOf zeros bigOf bytesOf numbersOf joined those any _>>=_ columnsFive columnsOf isSome presentColumns offsetOf sizeOf grid startBytes indexWith indexBytes
-examples = (refl, refl, refl, refl, refl, refl, refl, refl)
+unfolding powerFrom leastPower indexOf require littleOf columnsFour slotsFor firstSlot stride look search freeFrom place placeAll unused slotsOf zeros bigOf bytesOf numbersOf joined those any _>>=_ columnsFive columnsOf isSome presentColumns offsetOf sizeOf grid startBytes indexWith indexBytes
+examples = (refl, refl, refl, refl, refl, refl, refl)
 
 pub by-place : ByPlace
 unfolding those columnsFour columnsOf columnIn placeOf cellAt cellOf cellIs ownPlace rowNumbers naming theOne abbrevPart part require _>>=_

@@ -1,6 +1,6 @@
 -- What is placed is found, and nothing else: after `slotsOf xs`, a search for each of xs ends at its slot, and for anything else at an unused slot.
 -- Assumes nothing.
-use mathlib.Core.Path.{_≡_, refl, sym, ap, _∙_}
+use mathlib.Core.Path.{_≡_, refl, sym, ap, _∙_, subst}
 use mathlib.Core.List.{List}
 use Prim.Native.Nat.{ℕ, zero, suc, _+_, _-_, _^_, _<_, _≤_}
 use native.Mathlib.Nat.{not-suc-le-zero}
@@ -9,9 +9,7 @@ use native.Mathlib.Decide.{ℕ-discrete}
 use lib.ListN.{length, getD, drop, drop-of-length-le}
 use lib.Seq.{drop-cons}
 use Rattle.octets.specs.Octets.{zeros}
-use Rattle.octets.specs.Checked.{pass}
-use Rattle.octets.proofs.Checks.{then-pass, pass-inj}
-use Rattle.index.specs.Probing.{found, absent, search, slotsFor, Slots, place, placeAll, unused, slotsOf}
+use Rattle.index.specs.Probing.{found, absent, search, slotsFor, Slots, placeAll, unused, slotsOf}
 use Rattle.index.proofs.Slots.{PowerOfTwo, slotsFor-power, slotsFor-gt}
 use Rattle.index.proofs.LawCounts.{used, used-ge, First}
 use Rattle.index.proofs.Placing.{probed, probed-once, put, free-slot, place-is, counted-unused}
@@ -20,20 +18,20 @@ use Rattle.index.proofs.LawPlaced.{Distinct, Kept, Placed, placed-more}
 
 -- ---- all are placed
 module _ (n : ℕ) (p : PowerOfTwo n) (xs : List ℕ) (different : Distinct xs) (few : length xs < n) where
-  pub placed-all : (k m : ℕ) (t : Slots) → m + k ≡ length xs → Placed n xs m t → (u : Slots) × (placeAll t (m + 1) (drop m xs) ≡ pass u) × Placed n xs (length xs) u
+  pub placed-all : (k m : ℕ) (t : Slots) → m + k ≡ length xs → Placed n xs m t → Placed n xs (length xs) (placeAll t (m + 1) (drop m xs))
   unfolding placeAll
-  placed-all zero m t e s = let q : m ≡ length xs = omega arith in (t, let g : length xs ≤ m = omega arith in rw (drop-of-length-le xs g), rw (← q) s)
+  placed-all zero m t e s = let q : m ≡ length xs = omega arith in let g : length xs ≤ m = omega arith in rw (drop-of-length-le xs g, ← q) s
   placed-all (suc k) m t e s =
       let f = free-slot n m p t (s .counted) (getD xs m 0) (omega arith) in
       let u = put t (probed n (getD xs m 0) (f .steps)) (m + 1) (getD xs m 0) in
       let r = placed-all k (suc m) u (omega arith) (placed-more n p xs different m t s (omega arith) f) in
-      let next : suc m + 1 ≡ m + 1 + 1 = omega arith in (
-        r .0,
-        ap (placeAll t (m + 1)) (drop-cons xs m 0 (omega arith))
-            ∙ then-pass (place t (m + 1) (getD xs m 0)) (λ v. placeAll v (m + 1 + 1) (drop (suc m) xs)) u (place-is n m p t (s .counted) (getD xs m 0) (m + 1) f)
-            ∙ ap (λ (z : ℕ). placeAll u z (drop (suc m) xs)) (sym next) ∙ r .1,
-        r .2,
-      )
+      let next : m + 1 + 1 ≡ suc m + 1 = omega arith in
+      subst (Placed n xs (length xs))
+      (sym
+      (ap (placeAll t (m + 1)) (drop-cons xs m 0 (omega arith))
+      ∙ ap (λ (v : Slots). placeAll v (m + 1 + 1) (drop (suc m) xs)) (place-is n m p t (s .counted) (getD xs m 0) (m + 1) f)
+      ∙ ap (λ (z : ℕ). placeAll u z (drop (suc m) xs)) next))
+      r
 
 zeros-at : (n i : ℕ) → getD (zeros n) i 0 ≡ 0
 unfolding zeros
@@ -51,17 +49,11 @@ placed-none n xs =
       kept = λ i h. absurd (not-suc-le-zero h);
     }
 
-pub slots-placed : (xs : List ℕ) → Distinct xs → length xs ≤ 2 ^ 31 → (t : Slots) × (slotsOf xs ≡ pass t) × Placed (slotsFor (length xs)) xs (length xs) t
+pub slots-placed : (xs : List ℕ) → Distinct xs → length xs ≤ 2 ^ 31 → Placed (slotsFor (length xs)) xs (length xs) (slotsOf xs)
 unfolding slotsOf
 slots-placed xs different h =
     let n = slotsFor (length xs) in
     placed-all n (slotsFor-power (length xs)) xs different (slotsFor-gt (length xs) h) (length xs) 0 (unused n) (omega arith) (placed-none n xs)
-
-pub placed-is : (xs : List ℕ) (t : Slots) → Distinct xs → length xs ≤ 2 ^ 31 → slotsOf xs ≡ pass t → Placed (slotsFor (length xs)) xs (length xs) t
-placed-is xs t different h e =
-    let r = slots-placed xs different h in
-    let q : r .0 ≡ t = pass-inj (sym (r .1) ∙ e) in
-    rw q at (r .2)
 
 -- ---- searches
 -- found, with the row number of its slot
@@ -132,18 +124,18 @@ module _ (n : ℕ) (p : PowerOfTwo n) (xs : List ℕ) (t : Slots) (s : Placed n 
       absent-there x other (free-slot (length (t .rows)) (length xs) power-here t (rw (s .counted .rows-are) (s .counted)) x (rw (s .counted .rows-are) few))
 
 -- ---- the laws of `slotsOf`
-module _ (xs : List ℕ) (t : Slots) (different : Distinct xs) (h : length xs ≤ 2 ^ 31) (e : slotsOf xs ≡ pass t) where
-  pub length-rows : length (t .rows) ≡ slotsFor (length xs)
-  length-rows = placed-is xs t different h e .counted .rows-are
+module _ (xs : List ℕ) (different : Distinct xs) (h : length xs ≤ 2 ^ 31) where
+  pub length-rows : length (slotsOf xs .rows) ≡ slotsFor (length xs)
+  length-rows = slots-placed xs different h .counted .rows-are
 
-  pub length-identities : length (t .identities) ≡ slotsFor (length xs)
-  length-identities = placed-is xs t different h e .counted .identities-are
+  pub length-identities : length (slotsOf xs .identities) ≡ slotsFor (length xs)
+  length-identities = slots-placed xs different h .counted .identities-are
 
-  pub used-all : used (t .rows) ≡ length xs
-  used-all = placed-is xs t different h e .counted .used-are
+  pub used-all : used (slotsOf xs .rows) ≡ length xs
+  used-all = slots-placed xs different h .counted .used-are
 
-  pub slots-found : (i : ℕ) → i < length xs → FoundIn (t .rows) (t .identities) (getD xs i 0) (i + 1)
-  slots-found = placed-found (slotsFor (length xs)) (slotsFor-power (length xs)) xs t (placed-is xs t different h e)
+  pub slots-found : (i : ℕ) → i < length xs → FoundIn (slotsOf xs .rows) (slotsOf xs .identities) (getD xs i 0) (i + 1)
+  slots-found = placed-found (slotsFor (length xs)) (slotsFor-power (length xs)) xs (slotsOf xs) (slots-placed xs different h)
 
-  pub slots-absent : (x : ℕ) → ((i : ℕ) → i < length xs → getD xs i 0 ≡ x → ⊥) → AbsentIn (t .rows) (t .identities) x
-  slots-absent = placed-absent (slotsFor (length xs)) (slotsFor-power (length xs)) xs t (placed-is xs t different h e) (slotsFor-gt (length xs) h)
+  pub slots-absent : (x : ℕ) → ((i : ℕ) → i < length xs → getD xs i 0 ≡ x → ⊥) → AbsentIn (slotsOf xs .rows) (slotsOf xs .identities) x
+  slots-absent = placed-absent (slotsFor (length xs)) (slotsFor-power (length xs)) xs (slotsOf xs) (slots-placed xs different h) (slotsFor-gt (length xs) h)

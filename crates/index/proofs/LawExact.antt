@@ -9,18 +9,17 @@ use native.Mathlib.Omega.{arith}
 use lib.ListN.{length, getD, length-map}
 use Rattle.octets.specs.Octets.{bytesOf, numbersOf}
 use Rattle.octets.specs.Lists.{has}
-use Rattle.octets.specs.Checked.{pass}
-use Rattle.octets.proofs.Checks.{known, pass-inj}
+use Rattle.octets.proofs.Checks.{known}
 use Rattle.octets.proofs.Numbers.{Bytes, bytes-none, bytes-append, bytes-bytesOf}
 use Rattle.octets.proofs.Tables.{bytes-numbersOf}
 use Rattle.octets.proofs.Elements.{has-at, at-has}
 use Rattle.index.specs.Columns.{Column}
-use Rattle.index.specs.Probing.{found, absent, probe, Slots}
+use Rattle.index.specs.Probing.{found, absent, probe, Slots, slotsOf}
 use Rattle.index.specs.Written.{Row, presentColumns, offsetOf, sizeOf, grid, startBytes, indexWith, indexBytes}
 use Rattle.index.proofs.LawColumns.{formOf, forms, codesOf}
 use Rattle.index.proofs.LawGrid.{noRow, identitiesOf, getD-map}
 use Rattle.index.proofs.RoundTrip.{written}
-use Rattle.index.proofs.LawWhole.{Indexed, indexBytes-is, probe-found, probe-absent}
+use Rattle.index.proofs.LawWhole.{Indexed, probe-found, probe-absent}
 
 -- ---- identities and rows
 pub identity-at : (rs : List Row) (x : ℕ) → has (identitiesOf rs) x ≡ true → (k : ℕ) × (k < length rs) × (getD rs k noRow .identity ≡ x)
@@ -79,13 +78,11 @@ bytes-indexWith big version columns rs t =
     bytes-seven (startBytes big version) (numbersOf big 4 counts) (numbersOf big 8 (t .identities)) (numbersOf big 4 (t .rows)) (numbersOf big 4 (codesOf columns)) (numbersOf big 4 (grid offsetOf columns rs)) (numbersOf big 4 (grid sizeOf columns rs))
     (bytes-start big version) (bytes-numbersOf big 4 counts) (bytes-numbersOf big 8 (t .identities)) (bytes-numbersOf big 4 (t .rows)) (bytes-numbersOf big 4 (codesOf columns)) (bytes-numbersOf big 4 (grid offsetOf columns rs)) (bytes-numbersOf big 4 (grid sizeOf columns rs))
 
-pub bytes-indexBytes : (big : Bool) (version : ℕ) (rs : List Row) (s : List ℕ) → indexBytes big version rs ≡ pass s → Bytes s
+pub bytes-indexBytes : (big : Bool) (version : ℕ) (rs : List Row) → Bytes (indexBytes big version rs)
 unfolding indexBytes
-bytes-indexBytes big version [] s e = let q : [] ≡ s = pass-inj e in rw (← q) bytes-none
-bytes-indexBytes big version (r ∷ rs) s e =
-    let b = indexBytes-is big version (r ∷ rs) s (omega arith) e in
-    rw (b .2) (bytes-indexWith big version (presentColumns version (r ∷ rs)) (r ∷ rs) (b .0))
+bytes-indexBytes big version [] = bytes-none
+bytes-indexBytes big version (r ∷ rs) = bytes-indexWith big version (presentColumns version (r ∷ rs)) (r ∷ rs) (slotsOf (identitiesOf (r ∷ rs)))
 
-pub indexBytes-none : (big : Bool) (version : ℕ) → indexBytes big version [] ≡ pass []
+pub indexBytes-none : (big : Bool) (version : ℕ) → indexBytes big version [] ≡ []
 unfolding indexBytes
 indexBytes-none big version = refl

@@ -9,13 +9,11 @@ use native.Mathlib.Omega.{arith}
 use lib.ListN.{length, getD, length-map}
 use Rattle.octets.specs.Lists.{has, distinct}
 use Rattle.octets.specs.Checked.{pass, refuse}
-use Rattle.octets.proofs.Checks.{pass-inj, then-pass, bind-pass, known}
 use Rattle.octets.proofs.Elements.{has-not-at}
 use Rattle.index.specs.Index.{Index, indexOf}
 use Rattle.index.specs.Probing.{found, absent, probe, Slots, slotsOf, slotsFor}
 use Rattle.index.specs.Rows.{rowOf}
 use Rattle.index.specs.Written.{Row, presentColumns, indexWith, indexBytes}
-use Rattle.index.proofs.Placing.{slotsOf-passes}
 use Rattle.index.proofs.LawCounts.{used}
 use Rattle.index.proofs.LawPlaced.{Distinct, NonZero, distinct-is}
 use Rattle.index.proofs.Found.{FoundIn, AbsentIn, length-rows, length-identities, used-all, slots-found, slots-absent}
@@ -43,23 +41,11 @@ module _ (i : Index) (x : ℕ) (a : AbsentIn (i .rows) (i .identities) x) where
   row-absent = ap (rowOf i) probe-absent
 
 -- ---- bytes written
-pub indexBytes-is : (big : Bool) (version : ℕ) (rs : List Row) (s : List ℕ) → 0 < length rs → indexBytes big version rs ≡ pass s
-    → (t : Slots) × (slotsOf (identitiesOf rs) ≡ pass t) × (s ≡ indexWith big version (presentColumns version rs) rs t)
+pub indexBytes-is : (big : Bool) (version : ℕ) (rs : List Row) → 0 < length rs
+    → indexBytes big version rs ≡ indexWith big version (presentColumns version rs) rs (slotsOf (identitiesOf rs))
 unfolding indexBytes
-indexBytes-is big version [] s h e = absurd (not-suc-le-zero h)
-indexBytes-is big version (r ∷ rs) s h e =
-    let b = bind-pass (slotsOf (identitiesOf (r ∷ rs))) (λ t. pass (indexWith big version (presentColumns version (r ∷ rs)) (r ∷ rs) t)) s e in
-    (b .0, b .1, sym (pass-inj (b .2)))
-
--- packing never runs out of slots
-pub indexBytes-passes : (big : Bool) (version : ℕ) (rs : List Row) → length rs ≤ 2 ^ 31 → (s : List ℕ) × (indexBytes big version rs ≡ pass s)
-unfolding indexBytes
-indexBytes-passes big version [] h = ([], refl)
-indexBytes-passes big version (r ∷ rs) h =
-    let p = slotsOf-passes (identitiesOf (r ∷ rs)) (omega (arith, length-map (r ∷ rs) (λ q. q .identity))) in (
-      indexWith big version (presentColumns version (r ∷ rs)) (r ∷ rs) (p .0),
-      then-pass (slotsOf (identitiesOf (r ∷ rs))) (λ t. pass (indexWith big version (presentColumns version (r ∷ rs)) (r ∷ rs) t)) (p .0) (p .1),
-    )
+indexBytes-is big version [] h = absurd (not-suc-le-zero h)
+indexBytes-is big version (r ∷ rs) h = refl
 
 -- ---- rows that an index can hold
 pub record Writable (rs : List Row) : Type 0 where
@@ -78,8 +64,9 @@ writable rs f l d z = record { fits = f; few = l; different = distinct-is (ident
 -- ---- all of it
 -- what is known of an index whose bytes were written from rows
 pub record Indexed (big : Bool) (version : ℕ) (rs : List Row) (s : List ℕ) : Type 0 where
+  pub few : length rs ≤ 2 ^ 30
   pub slots : Slots
-  pub slots-are : slotsOf (identitiesOf rs) ≡ pass slots
+  pub slots-are : slotsOf (identitiesOf rs) ≡ slots
   pub bytes-are : s ≡ indexWith big version (presentColumns version rs) rs slots
   pub length-is : length s ≡ 16 + 12 * slotsFor (length rs) + 4 * length (presentColumns version rs) + 8 * (length rs * length (presentColumns version rs))
   pub reads : indexOf big s ≡ pass (written version rs slots)
@@ -88,7 +75,10 @@ pub record Indexed (big : Bool) (version : ℕ) (rs : List Row) (s : List ℕ) :
   pub finds : (k : ℕ) → k < length rs → FoundIn (written version rs slots .rows) (written version rs slots .identities) (getD rs k noRow .identity) (k + 1)
   pub misses : (x : ℕ) → has (identitiesOf rs) x ≡ false → AbsentIn (written version rs slots .rows) (written version rs slots .identities) x
 
-module _ (big : Bool) (version : ℕ) (rs : List Row) (w : Writable rs) (t : Slots) (e : slotsOf (identitiesOf rs) ≡ pass t) where
+module _ (big : Bool) (version : ℕ) (rs : List Row) (w : Writable rs) where
+  abbrev t : Slots
+  t = slotsOf (identitiesOf rs)
+
   same-length : length (identitiesOf rs) ≡ length rs
   same-length = length-map rs (λ q. q .identity)
 
@@ -96,27 +86,26 @@ module _ (big : Bool) (version : ℕ) (rs : List Row) (w : Writable rs) (t : Slo
   few = omega (arith, same-length, w .few)
 
   rows-count : length (t .rows) ≡ slotsFor (length rs)
-  rows-count = length-rows (identitiesOf rs) t (w .different) few e ∙ ap slotsFor same-length
+  rows-count = length-rows (identitiesOf rs) (w .different) few ∙ ap slotsFor same-length
 
   identities-count : length (t .identities) ≡ slotsFor (length rs)
-  identities-count = length-identities (identitiesOf rs) t (w .different) few e ∙ ap slotsFor same-length
+  identities-count = length-identities (identitiesOf rs) (w .different) few ∙ ap slotsFor same-length
 
   pub indexed-slots : Indexed big version rs (indexWith big version (presentColumns version rs) rs t)
   unfolding written
   indexed-slots =
       record {
+        few = w .few;
         slots = t;
-        slots-are = e;
+        slots-are = refl;
         bytes-are = refl;
         length-is = length-index big version (presentColumns version rs) rs t (slotsFor (length rs)) identities-count rows-count;
-        reads = round-trip big version rs t (w .fits) (w .few) (w .different) (w .nonzero) e;
+        reads = round-trip big version rs t (w .fits) (w .few) (w .different) (w .nonzero) refl;
         slot-count = rows-count;
-        used-are = used-all (identitiesOf rs) t (w .different) few e ∙ same-length;
-        finds = λ k h. rw (getD-map (λ q. q .identity) rs k noRow h) at (slots-found (identitiesOf rs) t (w .different) few e k (omega (arith, same-length)));
-        misses = λ x g. slots-absent (identitiesOf rs) t (w .different) few e x (λ i h. has-not-at (identitiesOf rs) x i g h);
+        used-are = used-all (identitiesOf rs) (w .different) few ∙ same-length;
+        finds = λ k h. rw (getD-map (λ q. q .identity) rs k noRow h) at (slots-found (identitiesOf rs) (w .different) few k (omega (arith, same-length)));
+        misses = λ x g. slots-absent (identitiesOf rs) (w .different) few x (λ i h. has-not-at (identitiesOf rs) x i g h);
       }
 
-pub indexed : (big : Bool) (version : ℕ) (rs : List Row) (s : List ℕ) → Writable rs → 0 < length rs → indexBytes big version rs ≡ pass s → Indexed big version rs s
-indexed big version rs s w h e =
-    let b = indexBytes-is big version rs s h e in
-    rw (b .2) (indexed-slots big version rs w (b .0) (b .1))
+pub indexed : (big : Bool) (version : ℕ) (rs : List Row) → Writable rs → 0 < length rs → Indexed big version rs (indexBytes big version rs)
+indexed big version rs w h = rw (indexBytes-is big version rs h) (indexed-slots big version rs w)

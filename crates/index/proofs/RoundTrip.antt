@@ -22,7 +22,7 @@ use Rattle.index.specs.Rows.{isSome}
 use Rattle.index.specs.Written.{Row, presentColumns, offsetOf, sizeOf, grid, indexWith}
 use Rattle.index.proofs.Slots.{slotsFor-gt, slotsFor-fits, leastPower-slotsFor}
 use Rattle.index.proofs.LawPlaced.{Distinct, NonZero, Placed}
-use Rattle.index.proofs.Found.{placed-is}
+use Rattle.index.proofs.Found.{slots-placed}
 use Rattle.index.proofs.LawColumns.{formOf, forms, codesOf, columns-good, columns-distinct, columns-most, codes-all, codes-distinct}
 use Rattle.index.proofs.LawGrid.{noRow, identitiesOf, getD-map, Below, grid-below}
 use Rattle.index.proofs.LawSlotsGood.{rows-le, identities-below, placed-good}
@@ -91,7 +91,7 @@ form-good : (version : ℕ) → (eqb (formOf version) 2 || eqb (formOf version) 
 form-good version = ⊎-elim (λ r. rw (r .1)) (λ r. rw (r .1)) (forms version)
 
 -- ---- the whole index
-module _ (big : Bool) (version : ℕ) (rs : List Row) (t : Slots) (fits : RowsFit rs) (few : length rs ≤ 2 ^ 30) (different : Distinct (identitiesOf rs)) (nonzero : NonZero (identitiesOf rs)) (e : slotsOf (identitiesOf rs) ≡ pass t) where
+module _ (big : Bool) (version : ℕ) (rs : List Row) (t : Slots) (fits : RowsFit rs) (few : length rs ≤ 2 ^ 30) (different : Distinct (identitiesOf rs)) (nonzero : NonZero (identitiesOf rs)) (e : slotsOf (identitiesOf rs) ≡ t) where
   abbrev columns : List Column
   columns = presentColumns version rs
 
@@ -105,7 +105,7 @@ module _ (big : Bool) (version : ℕ) (rs : List Row) (t : Slots) (fits : RowsFi
   same-length = length-map rs (λ q. q .identity)
 
   placed : Placed n (identitiesOf rs) (length (identitiesOf rs)) t
-  placed = rw (← same-length) (placed-is (identitiesOf rs) t different (omega (arith, same-length)) e)
+  placed = rw (← same-length, ← e) (slots-placed (identitiesOf rs) different (omega (arith, same-length)))
 
   rows-are : length (t .rows) ≡ n
   rows-are = placed .counted .rows-are

@@ -2,13 +2,11 @@
 -- Assumes nothing.
 use mathlib.Core.Bool.{true, false}
 use mathlib.Core.List.{List, [], _∷_}
-use mathlib.Core.Option.{Option, some, none}
 use Prim.Native.Nat.{ℕ, zero, suc, _+_, _*_, _-_, _/_, _%_, _^_}
 use lib.Dec.{eqb, ltb}
 use lib.Bits.{bitAnd, bitOr}
 use lib.ListN.{length, getD, set}
 use Rattle.octets.specs.Octets.{zeros}
-use Rattle.octets.specs.Checked.{Check, pass, refuse, _>>=_}
 use Rattle.index.specs.Index.{Index, leastPower}
 
 -- "X AND mask (slots - 1)"
@@ -50,30 +48,26 @@ pub record Slots : Type 0 where
   pub identities : List ℕ
   pub rows : List ℕ
 
--- the first free slot, within so many steps
-unfoldable pub freeFrom : ℕ → List ℕ → ℕ → ℕ → Option ℕ
-freeFrom zero rows at by = none
-freeFrom (suc k) rows at by =
-    elim (eqb (getD rows at 0) 0) [ true ↦ some at | false ↦ freeFrom k rows ((at + by) % length rows) by ]
+-- the first free slot, within so many steps. Slots exceed units and an odd step visits them all, so that there is one (`always-free` of `proofs/Placing.antt`)
+unfoldable pub freeFrom : ℕ → List ℕ → ℕ → ℕ → ℕ
+freeFrom zero rows at by = at
+freeFrom (suc k) rows at by = elim (eqb (getD rows at 0) 0) [ true ↦ at | false ↦ freeFrom k rows ((at + by) % length rows) by ]
 
--- "goes to the first free slot"; 17 where there is none
-unfoldable pub placeAt : Slots → ℕ → ℕ → Option ℕ → Check Slots
-placeAt t row x none = refuse 17
-placeAt t row x (some at) = pass (record { identities = set (t .identities) at x; rows = set (t .rows) at row })
-
-unfoldable pub place : Slots → ℕ → ℕ → Check Slots
+-- "goes to the first free slot"
+unfoldable pub place : Slots → ℕ → ℕ → Slots
 place t row x =
     let slots = length (t .rows) in
-    placeAt t row x (freeFrom slots (t .rows) (firstSlot x slots) (stride x slots))
+    let at = freeFrom slots (t .rows) (firstSlot x slots) (stride x slots) in
+    record { identities = set (t .identities) at x; rows = set (t .rows) at row }
 
 -- identities one after the other, under row numbers that count on
-unfoldable pub placeAll : Slots → ℕ → List ℕ → Check Slots
-placeAll t row [] = pass t
-placeAll t row (x ∷ xs) = place t row x >>= λ u. placeAll u (row + 1) xs
+unfoldable pub placeAll : Slots → ℕ → List ℕ → Slots
+placeAll t row [] = t
+placeAll t row (x ∷ xs) = placeAll (place t row x) (row + 1) xs
 
 unfoldable pub unused : ℕ → Slots
 unused n = record { identities = zeros n; rows = zeros n }
 
 -- row numbers count from 1
-unfoldable pub slotsOf : List ℕ → Check Slots
+unfoldable pub slotsOf : List ℕ → Slots
 slotsOf xs = placeAll (unused (slotsFor (length xs))) 1 xs

@@ -8,7 +8,6 @@ use lib.Dec.{eqb}
 use lib.ListN.{length}
 use Rattle.octets.specs.Octets.{bytesOf, numbersOf}
 use Rattle.octets.specs.Lists.{joined, those, any}
-use Rattle.octets.specs.Checked.{Check, pass, refuse, _>>=_}
 use Rattle.index.specs.Columns.{Column, columnsOf}
 use Rattle.index.specs.Index.{Contribution}
 use Rattle.index.specs.Probing.{Slots, slotsOf}
@@ -51,7 +50,7 @@ indexWith big version columns rows slots =
     ++ numbersOf big 4 (grid sizeOf columns rows)
 
 -- "No units: no index."
-unfoldable pub indexBytes : Bool → ℕ → List Row → Check (List ℕ)
-indexBytes big version [] = pass []
+unfoldable pub indexBytes : Bool → ℕ → List Row → List ℕ
+indexBytes big version [] = []
 indexBytes big version (r ∷ rs) =
-    slotsOf (map (λ q. q .identity) (r ∷ rs)) >>= λ slots. pass (indexWith big version (presentColumns version (r ∷ rs)) (r ∷ rs) slots)
+    indexWith big version (presentColumns version (r ∷ rs)) (r ∷ rs) (slotsOf (map (λ q. q .identity) (r ∷ rs)))

@@ -141,7 +141,7 @@ module _ (five : Bool) (w : List ℕ) (n : ℕ) (k : KeptUnit) (many : length (k
 
   -- of this one, at a free slot
   module _ (own : k .table ≡ t) (r : Row) (is : RowIs five k r) (row : k .row ≡ tab .rows + 1) (power : PowerOfTwo (length slots)) (few : length rs < length slots)
-      (at : ℕ) (free : freeFor slots (r .identity) ≡ some at) (inside : at < length slots) (has : List Bool) (columns : ColumnsHeld five has (rs ++ (r ∷ []))) where
+      (at : ℕ) (free : freeFor slots (r .identity) ≡ at) (inside : at < length slots) (has : List Bool) (columns : ColumnsHeld five has (rs ++ (r ∷ []))) where
     pub table-own : TableHeld five v (n + 1) (set slots at (n + 1)) t (record { rows = tab .rows + 1; has = has }) (rs ++ (r ∷ []))
     table-own =
         let new = record-stored w n k many room in
@@ -213,7 +213,7 @@ pub record KeptAs (five : Bool) (b w : List ℕ) (slots : ℕ → List ℕ) (u :
   pub room : recordWords * u .count + recordWords ≤ length w
   pub power : PowerOfTwo (length (slots (y .table)))
   pub few : length (rowsOf ks (y .table)) < length (slots (y .table))
-  pub free : freeFor (slots (y .table)) (y .identity) ≡ some at
+  pub free : freeFor (slots (y .table)) (y .identity) ≡ at
   pub inside : at < length (slots (y .table))
   pub marked : Marked five (pick (y .table) (u .cu) (u .tu) .has) has cells (length (columnsFor five))
 

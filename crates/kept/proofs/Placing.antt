@@ -22,10 +22,10 @@ use Rattle.work.proofs.Stores.{part-stored, region-room, region-fits, length-re
 use Rattle.numbers.specs.Limits.{workForWord}
 use Rattle.kept.specs.Records.{KeptUnit, cellWords, wordsOf, recordAt, ofTable, identitiesIn, recordsFrom}
 use Rattle.kept.specs.Slots.{Within, soughtIn, SeenHeld, slotsIn, Placeable, Seekable, SlotsLeft, Fitting, Placed, PlacedAll, Keepable, keptIn}
-use Rattle.kept.specs.declared.slots.Sought.the-variants.{Known, Free, Full}
+use Rattle.kept.specs.declared.slots.Sought.the-variants.{Known, Free}
 use Rattle.kept.proofs.Recording.{words-long, identities-snoc, identities-other, identities-many}
 use Rattle.kept.proofs.Seeking.{sought-inside}
-use Rattle.kept.proofs.Seen.{seen-none, seen-later, seen-more, sought-known, sought-full, sought-free}
+use Rattle.kept.proofs.Seen.{seen-none, seen-later, seen-more, sought-known, sought-free}
 
 -- ---- where slots and records lie
 module _ (words : ℕ) (w : List ℕ) (table n count : ℕ) (can : Placeable words (length w) table n count) where
@@ -128,10 +128,10 @@ module _ (words table i count : ℕ) (w : List ℕ) (s : Seekable words w table 
   S = slotsIn w words table count
 
   -- it is one of the other table
-  pub placed-other : (recordAt R i .table ≡ table → ⊥) → Placed words table i count w w true
+  pub placed-other : (recordAt R i .table ≡ table → ⊥) → Placed words table i count w w
   placed-other f = record {
     left = record { same = refl; within = record { within = λ k. let g = s .within .within k in omega arith }; others = λ z a. refl };
-    placed = λ fit seen. (refl, rw (identities-other R i table f) (seen-later (i + 1) seen (omega arith)));
+    placed = λ fit seen. rw (identities-other R i table f) (seen-later (i + 1) seen (omega arith));
   }
 
   module _ (x : ℕ) (own : recordAt R i .table ≡ table) (is : x ≡ recordAt R i .identity) where
@@ -151,30 +151,21 @@ module _ (words table i count : ℕ) (w : List ℕ) (s : Seekable words w table 
       new : has xs x ≡ false
       new = snoc-new xs x (ap distinct (sym more) ∙ fit .different)
 
-      never-full : Full ≡ soughtIn R S x → ⊥
-      never-full = sought-full seen (slots-power words w table i count (s .can)) few different x
-
       never-known : (number : ℕ) → Known number ≡ soughtIn R S x → ⊥
       never-known number e = true-false (sought-known seen (slots-power words w table i count (s .can)) few different x number e) new
 
-    -- no slot is free, which is never so
-    stuck : ((fit : Fitting R (i + 1) table count) (seen : SeenHeld R S i xs) → ⊥) → Placed words table i count w w false
-    stuck f = record {
+    -- identities are different, so that this is never so
+    pub placed-known : (number : ℕ) → Known number ≡ soughtIn R S x → Placed words table i count w w
+    placed-known number e = record {
       left = record { same = refl; within = record { within = λ k. let g = s .within .within k in omega arith }; others = λ z a. refl };
-      placed = λ fit seen. absurd (f fit seen);
+      placed = λ fit seen. absurd (never-known fit seen number e);
     }
-
-    pub placed-full : Full ≡ soughtIn R S x → Placed words table i count w w false
-    placed-full e = stuck (λ fit seen. never-full fit seen e)
-
-    pub placed-known : (number : ℕ) → Known number ≡ soughtIn R S x → Placed words table i count w w false
-    placed-known number e = stuck (λ fit seen. never-known fit seen number e)
 
     module _ (at : ℕ) (e : Free at ≡ soughtIn R S x) where
       pub free-inside : at < count
       free-inside = omega (arith, sought-inside R S x at (slots-power words w table i count (s .can)) e, slots-long words w table i count (s .can))
 
-      pub placed-free : (v : List ℕ) → v ≡ placed w (slotsRegion table .start * words + at) ((i + 1) ∷ []) → Placed words table i count w v true
+      pub placed-free : (v : List ℕ) → v ≡ placed w (slotsRegion table .start * words + at) ((i + 1) ∷ []) → Placed words table i count w v
       placed-free v q = rw q (record {
         left = record {
           same = slot-same words w table i count (s .can) at (i + 1) free-inside;
@@ -183,11 +174,9 @@ module _ (words table i count : ℕ) (w : List ℕ) (s : Seekable words w table 
         };
         placed = λ fit seen.
             let p = slots-power words w table i count (s .can) in
-            let row : recordAt R i .row ≡ length xs + 1 = fit .numbered .is i (omega arith) own ∙ ap (λ (k : ℕ). k + 1) (sym (identities-many R i table)) in (
-              refl,
-              rw (slot-set words w table i count (s .can) at (i + 1) free-inside, more)
-                  (seen-more seen p (few fit seen) x at (sought-free seen p (few fit seen) (different fit seen) x at e .1) (omega (arith, free-inside, slots-long words w table i count (s .can))) (sym is) row),
-            );
+            let row : recordAt R i .row ≡ length xs + 1 = fit .numbered .is i (omega arith) own ∙ ap (λ (k : ℕ). k + 1) (sym (identities-many R i table)) in
+            rw (slot-set words w table i count (s .can) at (i + 1) free-inside, more)
+            (seen-more seen p (few fit seen) x at (sought-free seen p (few fit seen) (different fit seen) x at e .1) (omega (arith, free-inside, slots-long words w table i count (s .can))) (sym is) row);
       })
 
 -- ---- all of them
@@ -235,10 +224,10 @@ placing-none words table n count w e = record {
 }
 
 -- what is placed in cleared slots is placed in work as it was lent
-pub placed-over : {words table n count : ℕ} {w₀ w v : List ℕ} {r : Bool} → SlotsLeft words table 0 count w₀ w → PlacedAll words table n count w v r → PlacedAll words table n count w₀ v r
-placed-over {words} {table} {n} {count} {w₀} {w} {v} {r} l p = record {
+pub placed-over : {words table n count : ℕ} {w₀ w v : List ℕ} → SlotsLeft words table 0 count w₀ w → PlacedAll words table n count w v → PlacedAll words table n count w₀ v
+placed-over {words} {table} {n} {count} {w₀} {w} {v} l p = record {
   left = record { same = p .left .same ∙ l .same; within = p .left .within; others = λ s a. p .left .others s a ∙ l .others s a };
-  placed = subst (λ (R : List ℕ). Fitting R n table count → (r ≡ true) × SeenHeld R (slotsIn v words table count) n (identitiesIn R n table)) (l .others recordsRegion (slots-records table)) (p .placed);
+  placed = subst (λ (R : List ℕ). Fitting R n table count → SeenHeld R (slotsIn v words table count) n (identitiesIn R n table)) (l .others recordsRegion (slots-records table)) (p .placed);
 }
 
 module _ {words table n count : ℕ} {w₀ w : List ℕ} {i : ℕ} (can : Placeable words (length w₀) table n count) (p : Placing words table n count w₀ w i) where
@@ -251,34 +240,28 @@ module _ {words table n count : ℕ} {w₀ w : List ℕ} {i : ℕ} (can : Placea
   records-same : region w words recordsRegion ≡ region w₀ words recordsRegion
   records-same = p .left .others recordsRegion (slots-records table)
 
-  pub placing-end : n ≤ i → PlacedAll words table n count w₀ w true
+  pub placing-end : n ≤ i → PlacedAll words table n count w₀ w
   placing-end h =
       let e : i ≡ n = omega (arith, p .most) in
       record {
         left = subst (λ (k : ℕ). SlotsLeft words table k count w₀ w) e (p .left);
-        placed = λ fit. (refl, subst (λ (k : ℕ). SeenHeld (region w₀ words recordsRegion) (slotsIn w words table count) k (identitiesIn (region w₀ words recordsRegion) k table)) e (p .seen fit));
+        placed = λ fit. subst (λ (k : ℕ). SeenHeld (region w₀ words recordsRegion) (slotsIn w words table count) k (identitiesIn (region w₀ words recordsRegion) k table)) e (p .seen fit);
       }
 
-  module _ (h : i < n) (v : List ℕ) (r : Bool) (q : Placed words table i count w v r) where
+  module _ (h : i < n) (v : List ℕ) (q : Placed words table i count w v) where
     left-more : SlotsLeft words table (i + 1) count w₀ v
     left-more = record { same = q .left .same ∙ p .left .same; within = q .left .within; others = λ s a. q .left .others s a ∙ p .left .others s a }
 
     told : Fitting (region w₀ words recordsRegion) n table count
-        → (r ≡ true) × SeenHeld (region w₀ words recordsRegion) (slotsIn v words table count) (i + 1) (identitiesIn (region w₀ words recordsRegion) (i + 1) table)
+        → SeenHeld (region w₀ words recordsRegion) (slotsIn v words table count) (i + 1) (identitiesIn (region w₀ words recordsRegion) (i + 1) table)
     told fit =
         subst
         (λ (R : List ℕ). Fitting R (i + 1) table count → SeenHeld R (slotsIn w words table count) i (identitiesIn R i table)
-        → (r ≡ true) × SeenHeld R (slotsIn v words table count) (i + 1) (identitiesIn R (i + 1) table))
+        → SeenHeld R (slotsIn v words table count) (i + 1) (identitiesIn R (i + 1) table))
         records-same (q .placed) (fitting-before (i + 1) fit (omega arith)) (p .seen fit)
 
     pub placing-more : Placing words table n count w₀ v (i + 1)
-    placing-more = record { most = omega arith; left = left-more; seen = λ fit. told fit .1 }
-
-    pub placing-stops : r ≡ false → PlacedAll words table n count w₀ v false
-    placing-stops f = record {
-      left = record { same = left-more .same; within = record { within = λ k. let g = q .left .within .within k in omega arith }; others = left-more .others };
-      placed = λ fit. absurd (true-false (told fit .0) f);
-    }
+    placing-more = record { most = omega arith; left = left-more; seen = told }
 
 pub slot-fits : (words room count slot t start : ℕ) → Keepable words room count slot → start ≡ slotsRegion t .start * words → start + slot < room
 slot-fits words room count slot t start can e = omega (arith, region-room (slotsRegion t) (slots-within t) words room (can .enough), one-word t words, can .inside)

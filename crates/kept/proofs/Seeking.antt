@@ -2,22 +2,20 @@
 -- Assumes nothing.
 use mathlib.Core.Path.{_≡_, refl, sym, ap, ap₂, _∙_}
 use mathlib.Core.List.{List, map}
-use mathlib.Core.Option.{Option, some, none}
 use Prim.Native.Nat.{ℕ, zero, suc, _+_, _*_, _-_, _%_, _≤_, _<_}
 use native.Mathlib.Nat.{sub-zero, mod-lt}
 use native.Mathlib.Omega.{arith}
-use native.Mathlib.Decide.{ℕ-discrete}
 use lib.ListN.{length, getD}
 use Rattle.index.specs.Probing.{Probe, found, absent, firstSlot, stride, look, search, freeFrom}
 use Rattle.index.specs.Held.{PowerOfTwo}
 use Rattle.index.proofs.Masks.{firstSlot-lt}
 use Rattle.index.proofs.LawGrid.{getD-map}
 use Rattle.index.proofs.LawLooks.{look-unused, look-found, look-on}
-use Rattle.index.proofs.Placing.{free-here, free-on}
+use Rattle.index.proofs.Placing.{free-here, free-on, free-inside}
 use Rattle.work.specs.Regions.{recordWords}
 use Rattle.kept.specs.Records.{identityFor}
 use Rattle.kept.specs.Slots.{Within, freeFor, soughtAs, soughtIn}
-use Rattle.kept.specs.declared.slots.Sought.the-variants.{Known, Free, Full}
+use Rattle.kept.specs.declared.slots.Sought.the-variants.{Known, Free}
 
 -- the looks that are left, as the definition counts them
 one : (n looks : ℕ) → looks < n → n - looks ≡ suc (n - (looks + 1))
@@ -40,15 +38,16 @@ seek-start w slots x first by p f b =
     record { within = omega arith; inside = rw f (firstSlot-lt x (length slots) p); search = rw (f, b, sub-zero); free = rw (f, b, sub-zero) }
 
 module _ {w slots : List ℕ} {x at by looks : ℕ} (s : Seeking w slots x at by looks) where
-  ended : {p : Probe} {o : Option ℕ} → p ≡ search slots (map (identityFor w) slots) x → o ≡ freeFor slots x → soughtAs slots p o ≡ soughtIn w slots x
+  ended : {p : Probe} {o : ℕ} → p ≡ search slots (map (identityFor w) slots) x → o ≡ freeFor slots x → soughtAs slots p o ≡ soughtIn w slots x
   unfolding soughtIn
   ended e f = ap₂ (soughtAs slots) e f
 
-  pub seek-full : length slots ≤ looks → Full ≡ soughtIn w slots x
+  -- after as many looks as slots
+  pub seek-last : length slots ≤ looks → Free at ≡ soughtIn w slots x
   unfolding look freeFrom soughtAs
-  seek-full h =
+  seek-last h =
       let z : length slots - looks ≡ 0 = omega arith in
-      ended {p = absent looks} {o = none} (rw z at (s .search)) (rw z at (s .free))
+      ended {p = absent looks} {o = at} (rw z at (s .search)) (rw z at (s .free))
 
   module _ {number : ℕ} (h : looks < length slots) (r : number ≡ getD slots at 0) where
     search-left : look (suc (length slots - (looks + 1))) slots (map (identityFor w) slots) x at by looks ≡ search slots (map (identityFor w) slots) x
@@ -87,21 +86,13 @@ pub number-fits : {slots : List ℕ} {n number : ℕ} (at room : ℕ) → Within
 number-fits {slots} {n} {number} at room i h e = let g = i .within at in omega arith
 
 -- ---- a free slot is one of the slots
-free-inside : (k : ℕ) (rows : List ℕ) (at by a : ℕ) → at < length rows → freeFrom k rows at by ≡ some a → a < length rows
-unfolding freeFrom
-free-inside zero rows at by a h e = absurd (let z : _≡_ {A = ℕ} 0 1 = cc in omega arith)
-free-inside (suc k) rows at by a h e = elim (ℕ-discrete (getD rows at 0) 0) [
-  | yes z ↦ let q : some at ≡ some a = sym (free-here rows by k at z) ∙ e in let y : at ≡ a = cc in rw (← y) h
-  | no f ↦ free-inside k rows ((at + by) % length rows) by a (mod-lt (at + by) (omega arith)) (sym (free-on rows by k at f) ∙ e)
-]
-
 pub sought-inside : (w slots : List ℕ) (x at : ℕ) → PowerOfTwo (length slots) → Free at ≡ soughtIn w slots x → at < length slots
 unfolding soughtIn soughtAs freeFor
-sought-inside w slots x at p e = go (search slots (map (identityFor w) slots) x) (freeFor slots x) refl e
+sought-inside w slots x at p e = go (search slots (map (identityFor w) slots) x) e
   where
-    go : (z : Probe) (o : Option ℕ) → freeFor slots x ≡ o → Free at ≡ soughtAs slots z o → at < length slots
-    go (found k m) o q f = absurd (let y : _≡_ {A = ℕ} 0 1 = cc in omega arith)
-    go (absent m) none q f = absurd (let y : _≡_ {A = ℕ} 0 1 = cc in omega arith)
-    go (absent m) (some a) q f =
-        let y : a ≡ at = cc in
-        rw (← y) (free-inside (length slots) slots (firstSlot x (length slots)) (stride x (length slots)) a (firstSlot-lt x (length slots) p) q)
+    inside : freeFor slots x < length slots
+    inside = free-inside (length slots) slots (firstSlot x (length slots)) (stride x (length slots)) (firstSlot-lt x (length slots) p)
+
+    go : (z : Probe) → Free at ≡ soughtAs slots z (freeFor slots x) → at < length slots
+    go (found k m) f = absurd (let y : _≡_ {A = ℕ} 0 1 = cc in omega arith)
+    go (absent m) f = let y : at ≡ freeFor slots x = cc in rw y inside

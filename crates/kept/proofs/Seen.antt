@@ -3,7 +3,6 @@
 use mathlib.Core.Path.{_≡_, refl, sym, ap, _∙_}
 use mathlib.Core.Bool.{Bool, true, false}
 use mathlib.Core.List.{List, [], _∷_, _++_, map}
-use mathlib.Core.Option.{some, none}
 use Prim.Native.Nat.{ℕ, zero, suc, _+_, _-_, _<_, _≤_}
 use native.Mathlib.Omega.{arith}
 use native.Mathlib.Decide.{ℕ-discrete, decLt}
@@ -11,22 +10,20 @@ use lib.ListN.{length, getD, set, length-set, length-map}
 use lib.Seq.{getD-set-same, getD-set-other}
 use Rattle.octets.specs.Octets.{zeros}
 use Rattle.octets.specs.Lists.{has, distinct}
-use Rattle.octets.specs.Checked.{pass}
-use Rattle.octets.proofs.Checks.{then-pass}
 use Rattle.octets.proofs.Placed.{length-zeros, getD-zeros}
 use Rattle.octets.proofs.Elements.{at-has, has-not-at}
 use Rattle.index.specs.Probing.{Probe, found, absent, firstSlot, stride, freeFrom, search, Slots, place, placeAll, unused}
 use Rattle.index.specs.Held as held
 use Rattle.index.proofs.Slots as slots
 use Rattle.index.proofs.LawGrid.{getD-map}
-use Rattle.index.proofs.Placing.{probed, put, Counted, free-slot, place-is, counted-unused}
+use Rattle.index.proofs.Placing.{put, Counted, place-put, counted-unused}
 use Rattle.index.proofs.LawPlaced.{distinct-is, Placed}
 use Rattle.index.proofs.Found.{placed-found, placed-absent}
-use Rattle.index.proofs.LawMore.{placeAll-append, place-pass, placeAll-counted, placed-by, below-set}
+use Rattle.index.proofs.LawMore.{placeAll-append, placeAll-counted, placed-by, below-set}
 use Rattle.index.proofs.Renamed.{Renamed, free-renamed, search-renamed}
 use Rattle.kept.specs.Records.{recordAt, identityFor, rowFor}
 use Rattle.kept.specs.Slots.{freeFor, soughtAs, soughtIn, SeenHeld}
-use Rattle.kept.specs.declared.slots.Sought.the-variants.{Known, Free, Full}
+use Rattle.kept.specs.declared.slots.Sought.the-variants.{Known, Free}
 use Rattle.kept.proofs.Recording.{identity-none, identity-some, row-none, row-some}
 use Rattle.kept.proofs.Moved.{getD-past}
 
@@ -113,35 +110,22 @@ module _ {w slots : List ℕ} {n : ℕ} {xs : List ℕ} (s : SeenHeld w slots n 
     counted : Counted (length slots) (length xs) (s .placed)
     counted =
         let z : 0 + length xs ≡ length xs = omega arith in
-        rw z at (placeAll-counted (length slots) (power-is p) xs (unused (length slots)) (s .placed) 1 0 (counted-unused (length slots)) (omega arith) (λ z. omega arith) (s .made))
+        rw (z, s .made) at (placeAll-counted (length slots) (power-is p) xs (unused (length slots)) 1 0 (counted-unused (length slots)) (omega arith) (λ z. omega arith))
 
     -- ---- one more
     module _ (x : ℕ) where
-      next : (u : Slots) × (place (s .placed) (length xs + 1) x ≡ pass u)
-      next =
-          let f = free-slot (length slots) (length xs) (power-is p) (s .placed) counted x few in
-          (put (s .placed) (probed (length slots) x (f .steps)) (length xs + 1) x, place-is (length slots) (length xs) (power-is p) (s .placed) counted x (length xs + 1) f)
-
-      free-at : (at : ℕ) × (freeFor (s .placed .rows) x ≡ some at) × (next .0 ≡ put (s .placed) at (length xs + 1) x)
+      next : place (s .placed) (length xs + 1) x ≡ put (s .placed) (freeFor slots x) (length xs + 1) x
       unfolding freeFor
-      free-at = place-pass (s .placed) (next .0) (length xs + 1) x (next .1)
+      next = place-put (s .placed) (length xs + 1) x ∙ ap (λ (at : ℕ). put (s .placed) at (length xs + 1) x) (sym (free-same x))
 
-      free-is : freeFor slots x ≡ some (free-at .0)
-      free-is = free-same x ∙ free-at .1
-
-      all-made : placeAll (unused (length slots)) 1 (xs ++ (x ∷ [])) ≡ pass (next .0)
+      all-made : placeAll (unused (length slots)) 1 (xs ++ (x ∷ [])) ≡ put (s .placed) (freeFor slots x) (length xs + 1) x
       unfolding placeAll
       all-made =
           let e : 1 + length xs ≡ length xs + 1 = omega arith in
-          placeAll-append xs (x ∷ []) (unused (length slots)) 1
-          ∙ then-pass (placeAll (unused (length slots)) 1 xs) (λ u. placeAll u (1 + length xs) (x ∷ [])) (s .placed) (s .made)
-          ∙ ap (λ (r : ℕ). placeAll (s .placed) r (x ∷ [])) e
-          ∙ then-pass (place (s .placed) (length xs + 1) x) (λ u. placeAll u (length xs + 1 + 1) []) (next .0) (next .1)
+          placeAll-append xs (x ∷ []) (unused (length slots)) 1 ∙ ap (λ (u : Slots). placeAll u (1 + length xs) (x ∷ [])) (s .made)
+          ∙ ap (λ (r : ℕ). placeAll (s .placed) r (x ∷ [])) e ∙ next
 
-      module _ (at : ℕ) (q : freeFor slots x ≡ some at) (inside : at < length slots) (i : recordAt w n .identity ≡ x) (r : recordAt w n .row ≡ length xs + 1) where
-        at-is : free-at .0 ≡ at
-        at-is = let e : some (free-at .0) ≡ some at = sym free-is ∙ q in cc
-
+      module _ (at : ℕ) (q : freeFor slots x ≡ at) (inside : at < length slots) (i : recordAt w n .identity ≡ x) (r : recordAt w n .row ≡ length xs + 1) where
         number-row : rowFor w (n + 1) ≡ length xs + 1
         number-row = let e : n + 1 - 1 ≡ n = omega arith in sym (row-some w (n + 1) (length xs + 1) (λ z. omega arith) (rw e (sym r)))
 
@@ -151,7 +135,7 @@ module _ {w slots : List ℕ} {n : ℕ} {xs : List ℕ} (s : SeenHeld w slots n 
         pub seen-more : SeenHeld w (set slots at (n + 1)) (n + 1) (xs ++ (x ∷ []))
         unfolding put
         seen-more = record {
-          placed = next .0;
+          placed = put (s .placed) (freeFor slots x) (length xs + 1) x;
           made = ap (λ (m : ℕ). placeAll (unused m) 1 (xs ++ (x ∷ []))) (length-set slots at (n + 1)) ∙ all-made;
           within = record { within = λ k. below-set slots at (n + 1) (n + 1) k (λ j. let g = s .within .within j in omega arith) (omega arith) };
           used = λ k z. elim (ℕ-discrete k at) [
@@ -162,14 +146,14 @@ module _ {w slots : List ℕ} {n : ℕ} {xs : List ℕ} (s : SeenHeld w slots n 
                 let there = getD-set-other slots at k (n + 1) 0 f in
                 there ∙ s .used k (ap (rowFor w) (sym there) ∙ z)
           ];
-          rows = map-set (rowFor w) slots at (n + 1) ∙ rw (number-row, s .rows, ← at-is) (sym (ap (λ (z : Slots). z .rows) (free-at .2)));
-          identities = map-set (identityFor w) slots at (n + 1) ∙ rw (number-identity, s .identities, ← at-is) (sym (ap (λ (z : Slots). z .identities) (free-at .2)));
+          rows = map-set (rowFor w) slots at (n + 1) ∙ rw (number-row, s .rows, ← q) refl;
+          identities = map-set (identityFor w) slots at (n + 1) ∙ rw (number-identity, s .identities, ← q) refl;
         }
 
     -- ---- known or not
     module _ (d : distinct xs ≡ true) (x : ℕ) where
       seen-placed : Placed (length slots) xs (length xs) (s .placed)
-      seen-placed = placed-by (length slots) (power-is p) xs (s .placed) (distinct-is xs d) few (s .made)
+      seen-placed = rw (s .made) at (placed-by (length slots) (power-is p) xs (distinct-is xs d) few)
 
       -- a search ends at one of them, or at none
       pub record Told : Type 0 where
@@ -200,33 +184,25 @@ module _ {w slots : List ℕ} {n : ℕ} {xs : List ℕ} (s : SeenHeld w slots n 
                 absent-is = λ m z. e;
               }
 
-      sought-is : soughtIn w slots x ≡ soughtAs slots (told .probe) (some (free-at x .0))
+      sought-is : soughtIn w slots x ≡ soughtAs slots (told .probe) (freeFor slots x)
       unfolding soughtIn
-      sought-is = ap (λ (z : Probe). soughtAs slots z (freeFor slots x)) (told .ends) ∙ ap (soughtAs slots (told .probe)) (free-is x)
+      sought-is = ap (λ (z : Probe). soughtAs slots z (freeFor slots x)) (told .ends)
 
       pub sought-known : (number : ℕ) → Known number ≡ soughtIn w slots x → has xs x ≡ true
       unfolding soughtAs
       sought-known number e = go (told .probe) refl (e ∙ sought-is)
         where
-          go : (z : Probe) → told .probe ≡ z → Known number ≡ soughtAs slots (told .probe) (some (free-at x .0)) → has xs x ≡ true
+          go : (z : Probe) → told .probe ≡ z → Known number ≡ soughtAs slots (told .probe) (freeFor slots x) → has xs x ≡ true
           go (found at m) q f = told .found-is at m q
-          go (absent m) q f = absurd (let g : Known number ≡ Free (free-at x .0) = f ∙ ap (λ (y : Probe). soughtAs slots y (some (free-at x .0))) q in let y : _≡_ {A = ℕ} 0 1 = cc in omega arith)
+          go (absent m) q f = absurd (let g : Known number ≡ Free (freeFor slots x) = f ∙ ap (λ (y : Probe). soughtAs slots y (freeFor slots x)) q in let y : _≡_ {A = ℕ} 0 1 = cc in omega arith)
 
-      pub sought-full : Full ≡ soughtIn w slots x → ⊥
-      unfolding soughtAs
-      sought-full e = go (told .probe) refl (e ∙ sought-is)
-        where
-          go : (z : Probe) → told .probe ≡ z → Full ≡ soughtAs slots (told .probe) (some (free-at x .0)) → ⊥
-          go (found at m) q f = let g : Full ≡ Known (getD slots at 0) = f ∙ ap (λ (y : Probe). soughtAs slots y (some (free-at x .0))) q in let y : _≡_ {A = ℕ} 0 1 = cc in omega arith
-          go (absent m) q f = let g : Full ≡ Free (free-at x .0) = f ∙ ap (λ (y : Probe). soughtAs slots y (some (free-at x .0))) q in let y : _≡_ {A = ℕ} 0 1 = cc in omega arith
-
-      pub sought-free : (at : ℕ) → Free at ≡ soughtIn w slots x → (has xs x ≡ false) × (freeFor slots x ≡ some at)
+      pub sought-free : (at : ℕ) → Free at ≡ soughtIn w slots x → (has xs x ≡ false) × (freeFor slots x ≡ at)
       unfolding soughtAs
       sought-free at e = go (told .probe) refl (e ∙ sought-is)
         where
-          go : (z : Probe) → told .probe ≡ z → Free at ≡ soughtAs slots (told .probe) (some (free-at x .0)) → (has xs x ≡ false) × (freeFor slots x ≡ some at)
-          go (found k m) q f = absurd (let g : Free at ≡ Known (getD slots k 0) = f ∙ ap (λ (y : Probe). soughtAs slots y (some (free-at x .0))) q in let y : _≡_ {A = ℕ} 0 1 = cc in omega arith)
+          go : (z : Probe) → told .probe ≡ z → Free at ≡ soughtAs slots (told .probe) (freeFor slots x) → (has xs x ≡ false) × (freeFor slots x ≡ at)
+          go (found k m) q f = absurd (let g : Free at ≡ Known (getD slots k 0) = f ∙ ap (λ (y : Probe). soughtAs slots y (freeFor slots x)) q in let y : _≡_ {A = ℕ} 0 1 = cc in omega arith)
           go (absent m) q f =
-              let g : Free at ≡ Free (free-at x .0) = f ∙ ap (λ (y : Probe). soughtAs slots y (some (free-at x .0))) q in
-              let y : at ≡ free-at x .0 = cc in
-              (told .absent-is m q, free-is x ∙ ap some (sym y))
+              let g : Free at ≡ Free (freeFor slots x) = f ∙ ap (λ (y : Probe). soughtAs slots y (freeFor slots x)) q in
+              let y : at ≡ freeFor slots x = cc in
+              (told .absent-is m q, sym y)

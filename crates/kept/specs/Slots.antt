@@ -1,21 +1,19 @@
 -- Slots of record numbers, and the definition's slots of row numbers.
 -- Assumes nothing.
 use mathlib.Core.Path.{_≡_}
-use mathlib.Core.Bool.{Bool, true}
+use mathlib.Core.Bool.{true}
 use mathlib.Core.List.{List, [], _∷_, map}
-use mathlib.Core.Option.{Option, some, none}
 use Prim.Native.Nat.{ℕ, _+_, _*_, _/_, _<_, _≤_}
 use lib.ListN.{length, getD}
 use Rattle.octets.specs.Octets.{part, placed}
 use Rattle.octets.specs.Lists.{distinct}
-use Rattle.octets.specs.Checked.{pass}
 use Rattle.numbers.specs.Limits.{bundleLimit, workForWord}
 use Rattle.index.specs.Probing.{Probe, found, absent, firstSlot, stride, freeFrom, search, slotsFor, Slots, unused, placeAll}
 use Rattle.index.specs.Held.{PowerOfTwo}
 use Rattle.work.specs.Regions.{Layout, recordsRegion, slotsRegion, recordWords, leastUnit, region, Apart}
 use Rattle.kept.specs.Records.{KeptUnit, wordsOf, recordAt, ofTable, identitiesIn, identityFor, rowFor}
 use Rattle.kept.specs.declared.slots.Sought.{Sought}
-use Rattle.kept.specs.declared.slots.Sought.the-variants.{Known, Free, Full}
+use Rattle.kept.specs.declared.slots.Sought.the-variants.{Known, Free}
 
 -- the slots for identities seen: a unit takes at least 5 words of the bundle
 unfoldable pub seenSlots : ℕ → ℕ
@@ -26,13 +24,12 @@ pub record Within (slots : List ℕ) (n : ℕ) : Type 0 where
   pub within : (k : ℕ) → getD slots k 0 ≤ n
 
 -- ---- the walk
-unfoldable pub freeFor : List ℕ → ℕ → Option ℕ
+unfoldable pub freeFor : List ℕ → ℕ → ℕ
 freeFor slots x = freeFrom (length slots) slots (firstSlot x (length slots)) (stride x (length slots))
 
-unfoldable pub soughtAs : List ℕ → Probe → Option ℕ → Sought
-soughtAs slots (found at n) o = Known (getD slots at 0)
-soughtAs slots (absent n) (some at) = Free at
-soughtAs slots (absent n) none = Full
+unfoldable pub soughtAs : List ℕ → Probe → ℕ → Sought
+soughtAs slots (found at n) free = Known (getD slots at 0)
+soughtAs slots (absent n) free = Free free
 
 -- w are the records, and the identity of a slot is that of its record
 unfoldable pub soughtIn : List ℕ → List ℕ → ℕ → Sought
@@ -42,7 +39,7 @@ soughtIn w slots x = soughtAs slots (search slots (map (identityFor w) slots) x)
 -- identities placed under the numbers of n records; read off the records, the slots are the definition's
 pub record SeenHeld (w slots : List ℕ) (n : ℕ) (xs : List ℕ) : Type 0 where
   pub placed : Slots
-  pub made : placeAll (unused (length slots)) 1 xs ≡ pass placed
+  pub made : placeAll (unused (length slots)) 1 xs ≡ placed
   pub within : Within slots n
   pub used : (k : ℕ) → rowFor w (getD slots k 0) ≡ 0 → getD slots k 0 ≡ 0
   pub rows : map (rowFor w) slots ≡ placed .rows
@@ -79,16 +76,16 @@ pub record Fitting (w : List ℕ) (n table count : ℕ) : Type 0 where
   pub different : distinct (identitiesIn w n table) ≡ true
   pub few : length (identitiesIn w n table) < count
 
-pub record Placed (words table i count : ℕ) (w v : List ℕ) (r : Bool) : Type 0 where
+pub record Placed (words table i count : ℕ) (w v : List ℕ) : Type 0 where
   pub left : SlotsLeft words table (i + 1) count w v
   pub placed : Fitting (region w words recordsRegion) (i + 1) table count
       → SeenHeld (region w words recordsRegion) (slotsIn w words table count) i (identitiesIn (region w words recordsRegion) i table)
-      → (r ≡ true) × SeenHeld (region w words recordsRegion) (slotsIn v words table count) (i + 1) (identitiesIn (region w words recordsRegion) (i + 1) table)
+      → SeenHeld (region w words recordsRegion) (slotsIn v words table count) (i + 1) (identitiesIn (region w words recordsRegion) (i + 1) table)
 
-pub record PlacedAll (words table n count : ℕ) (w v : List ℕ) (r : Bool) : Type 0 where
+pub record PlacedAll (words table n count : ℕ) (w v : List ℕ) : Type 0 where
   pub left : SlotsLeft words table n count w v
   pub placed : Fitting (region w words recordsRegion) n table count
-      → (r ≡ true) × SeenHeld (region w words recordsRegion) (slotsIn v words table count) n (identitiesIn (region w words recordsRegion) n table)
+      → SeenHeld (region w words recordsRegion) (slotsIn v words table count) n (identitiesIn (region w words recordsRegion) n table)
 
 -- ---- a unit kept: its record behind count others, its number in a slot of its table
 pub record Keepable (words room count slot : ℕ) : Type 0 where

@@ -24,11 +24,10 @@ use crate::records::Unit;
 use index::judging::Contributions;
 use work::RECORD;
 
-// Where a walk ends: at a record of the identity, at a free slot, or nowhere.
+// Where a walk ends: at a record of the identity, or at a free slot.
 pub enum Sought {
     Known(usize),
     Free(usize),
-    Full,
 }
 
 // Callers have slots of records that are stored.
@@ -51,7 +50,7 @@ pub fn seek(records: &[u32], slots: &[u32], n: usize, x: u64) -> Sought
         at = index::probing::next_slot(at, by, count);
         looks += 1;
     }
-    Sought::Full
+    Sought::Free(at)
 }
 
 // The slots of an index of n rows.
@@ -87,55 +86,49 @@ pub fn seek_in(work: &[u32], words: usize, table: usize, n: usize, count: usize,
     seek(&work[first..last], &work[from..to], n, x)
 }
 
-// Places record i where it is one of the table; false where there is no free slot.
-fn place_unit(work: &mut [u32], words: usize, table: usize, i: usize, count: usize) -> bool
+// Places record i where it is one of the table.
+fn place_unit(work: &mut [u32], words: usize, table: usize, i: usize, count: usize)
     requires { ⌜ Seekable words (now work) table i count × (recordWords * i + recordWords ≤ recordsRegion .words * words) ⌝ }
-    ensures { λ r. ⌜ Placed words table i count (now (work .entry)) (now (work .exit)) r ⌝ }
+    ensures { λ _. ⌜ Placed words table i count (now (work .entry)) (now (work .exit)) ⌝ }
 {
     let records = work::records(words);
     let first = records.start;
     let last = first + records.size;
     if crate::records::table_at(&work[first..last], i) != table {
-        return true;
+        return;
     }
     let x = crate::records::identity_at(&work[first..last], i);
     match seek_in(work, words, table, i, count, x) {
-        Sought::Known(_) => false,
-        Sought::Full => false,
+        Sought::Known(_) => {}
         Sought::Free(at) => {
             let slots = work::slots(words, table);
             octets::set_word(work, slots.start + at, i + 1);
-            true
         }
     }
 }
 
-// All records of the table among n, in slots that are cleared; false where a slot is missing.
-fn place_all(work: &mut [u32], words: usize, table: usize, n: usize, count: usize) -> bool
+// All records of the table among n, in slots that are cleared.
+fn place_all(work: &mut [u32], words: usize, table: usize, n: usize, count: usize)
     requires { ⌜ Placeable words (length (now work)) table n count × (slotsIn (now work) words table count ≡ zeros count) ⌝ }
-    ensures { λ r. ⌜ PlacedAll words table n count (now (work .entry)) (now (work .exit)) r ⌝ }
+    ensures { λ _. ⌜ PlacedAll words table n count (now (work .entry)) (now (work .exit)) ⌝ }
 {
     let mut i = 0;
     while i < n {
-        if place_unit(work, words, table, i, count) {
-            i += 1;
-        } else {
-            return false;
-        }
+        place_unit(work, words, table, i, count);
+        i += 1;
     }
-    true
 }
 
 // The same in slots that are cleared first.
-pub fn place_units(work: &mut [u32], words: usize, table: usize, n: usize, count: usize) -> bool
+pub fn place_units(work: &mut [u32], words: usize, table: usize, n: usize, count: usize)
     requires { ⌜ Placeable words (length (now work)) table n count ⌝ }
-    ensures { λ r. ⌜ PlacedAll words table n count (now (work .entry)) (now (work .exit)) r ⌝ }
+    ensures { λ _. ⌜ PlacedAll words table n count (now (work .entry)) (now (work .exit)) ⌝ }
 {
     let slots = work::slots(words, table);
     let from = slots.start;
     let to = from + count;
     octets::clear_words(&mut work[from..to]);
-    place_all(work, words, table, n, count)
+    place_all(work, words, table, n, count);
 }
 
 // The record of a unit behind count others, and its number in a free slot of its table. Callers have sought the slot.

@@ -51,9 +51,7 @@ noRow = 15
 abbrev pub rowOutOfStep : ℕ
 rowOutOfStep = 16
 
-abbrev pub noSlot : ℕ
-noSlot = 17
-
+-- 17 is not used
 abbrev pub outputShort : ℕ
 outputShort = 18
 

@@ -33,8 +33,7 @@ pub const NO_ROW: u32 = 15;
 
 pub const ROW_OUT_OF_STEP: u32 = 16;
 
-pub const NO_SLOT: u32 = 17;
-
+// 17 is not used.
 pub const OUTPUT_SHORT: u32 = 18;
 
 pub const SECTION_TOO_LONG: u32 = 19;

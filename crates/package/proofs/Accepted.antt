@@ -1,6 +1,6 @@
 -- What an accepted bundle's package is made of.
 -- Assumes nothing.
-use mathlib.Core.Path.{_≡_, sym, ap, _∙_}
+use mathlib.Core.Path.{_≡_, refl, sym, ap, _∙_}
 use mathlib.Core.Logic.{⊎-elim}
 use mathlib.Core.Bool.{Bool, true, false}
 use mathlib.Core.List.{List, [], _∷_}
@@ -33,8 +33,8 @@ pub record Accepted (b p : List ℕ) : Type 0 where
   pub filed : filingOf b bundle ≡ pass filing
   pub cu : List ℕ
   pub tu : List ℕ
-  pub cuIs : indexBytes (bundle .big) (versionOf bundle) (rowsOf (kept (filing .units)) 1) ≡ pass cu
-  pub tuIs : indexBytes (bundle .big) (versionOf bundle) (rowsOf (kept (filing .units)) 2) ≡ pass tu
+  pub cuIs : indexBytes (bundle .big) (versionOf bundle) (rowsOf (kept (filing .units)) 1) ≡ cu
+  pub tuIs : indexBytes (bundle .big) (versionOf bundle) (rowsOf (kept (filing .units)) 2) ≡ tu
   pub small : all (λ s. leb (length (s .bytes)) 8_388_607) (those nonEmpty (sectionList filing cu tu)) ≡ true
   pub is : p ≡ written (bundle .big) (packageObjects (bundle .objects) (those nonEmpty (sectionList filing cu tu)))
 
@@ -49,36 +49,25 @@ made-judged (pass q) o p e = ⊎-elim
     same q t e = let z : q ≡ p = cc in (ap pass z, leb-true (length p) o (ap (λ (s : List ℕ). leb (length s) o) (sym z) ∙ t))
 made-judged (refuse n) o p e = let z : _≡_ {A = ℕ} 0 1 = cc in absurd (omega arith)
 
-sections-are : (big : Bool) (version : ℕ) (f : Filing) (ss : List Section) → packageSections big version f ≡ pass ss
-    → (cu : List ℕ) × (tu : List ℕ) × (indexBytes big version (rowsOf (kept (f .units)) 1) ≡ pass cu) × (indexBytes big version (rowsOf (kept (f .units)) 2) ≡ pass tu)
-    × (those nonEmpty (sectionList f cu tu) ≡ ss)
-unfolding packageSections
-sections-are big version f ss q =
-    let cu = bind-pass (indexBytes big version (rowsOf (kept (f .units)) 1)) _ ss q in
-    let tu = bind-pass (indexBytes big version (rowsOf (kept (f .units)) 2)) _ ss (cu .2) in
-    (cu .0, tu .0, cu .1, tu .1, pass-inj (tu .2))
-
 pub judged-accepted : (b : List ℕ) (w : ℕ) (p : List ℕ) → judged b w ≡ pass p → Accepted b p
-unfolding judged
+unfolding judged packageSections
 judged-accepted b w p q =
     let one = require-pass (lengthGood 4_194_304 b) 1 _ p q in
     let two = require-pass (leb (16 * (length b / 4)) w) 2 _ p (one .1) in
     let k = bind-pass (bundleOf b) _ p (two .1) in
     let f = bind-pass (filingOf b (k .0)) _ p (k .2) in
-    let ss = bind-pass (packageSections (k .0 .big) (firstWord (k .0 .objects) % 256) (f .0)) _ p (f .2) in
-    let small = require-pass (all (λ (s : Section). leb (length (s .bytes)) 8_388_607) (ss .0)) 19 _ p (ss .2) in
-    let r = sections-are (k .0 .big) (firstWord (k .0 .objects) % 256) (f .0) (ss .0) (ss .1) in
+    let small = require-pass (all (λ (s : Section). leb (length (s .bytes)) 8_388_607) (packageSections (k .0 .big) (firstWord (k .0 .objects) % 256) (f .0))) 19 _ p (f .2) in
     record {
       bundle = k .0;
       read = k .1;
       filing = f .0;
       filed = f .1;
-      cu = r .0;
-      tu = r .1;
-      cuIs = r .2;
-      tuIs = r .3;
-      small = ap (all (λ (s : Section). leb (length (s .bytes)) 8_388_607)) (r .4) ∙ small .0;
-      is = sym (ap (λ (l : List Section). written (k .0 .big) (packageObjects (k .0 .objects) l)) (r .4) ∙ pass-inj (small .1));
+      cu = indexBytes (k .0 .big) (firstWord (k .0 .objects) % 256) (rowsOf (kept (f .0 .units)) 1);
+      tu = indexBytes (k .0 .big) (firstWord (k .0 .objects) % 256) (rowsOf (kept (f .0 .units)) 2);
+      cuIs = refl;
+      tuIs = refl;
+      small = small .0;
+      is = sym (pass-inj (small .1));
     }
 
 pub packed-accepted : (b : List ℕ) (w o : ℕ) (p : List ℕ) → packed b w o ≡ made p → Accepted b p

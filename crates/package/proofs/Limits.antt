@@ -7,7 +7,7 @@ use Prim.Native.Nat.{ℕ, _*_, _/_, _%_}
 use lib.Dec.{leb}
 use lib.ListN.{length}
 use Rattle.octets.specs.Lists.{all}
-use Rattle.octets.specs.Checked.{Check, pass, refuse}
+use Rattle.octets.specs.Checked.{Check, pass, _>>=_, require}
 use Rattle.octets.proofs.Checks.{passes, fails, then-pass}
 use Rattle.bundle.specs.Bundle.{Bundle, bundleOf, lengthGood}
 use Rattle.bundle.specs.Written.{Section, written}
@@ -28,17 +28,21 @@ module _ (b : List ℕ) (o : ℕ) where
 
 -- a package of one section
 module _ (b : List ℕ) (w o : ℕ) (k : Bundle) (f : Filing) (s : Section) (long : lengthGood 4_194_304 b ≡ true) (work : leb (16 * (length b / 4)) w ≡ true)
-    (read : bundleOf b ≡ pass k) (filed : filingOf b k ≡ pass f) (is : packageSections (k .big) (firstWord (k .objects) % 256) f ≡ pass (s ∷ [])) where
+    (read : bundleOf b ≡ pass k) (filed : filingOf b k ≡ pass f) (is : packageSections (k .big) (firstWord (k .objects) % 256) f ≡ s ∷ []) where
+  -- what follows the sections
+  abbrev rest : List Section → Check (List ℕ)
+  rest ss = require (all (λ x. leb (length (x .bytes)) 8_388_607) ss) 19 >>= λ _. pass (written (k .big) (packageObjects (k .objects) ss))
+
   pub longest-section : length (s .bytes) ≡ 8_388_607 → packed b w o ≡ answered (pass (written (k .big) (packageObjects (k .objects) (s ∷ [])))) o
   unfolding packed judged all
   longest-section e =
       ap (λ (c : Check (List ℕ)). answered c o)
-      (passes _ 1 _ long ∙ passes _ 2 _ work ∙ then-pass _ _ _ read ∙ then-pass _ _ _ filed ∙ then-pass _ _ _ is
+      (passes _ 1 _ long ∙ passes _ 2 _ work ∙ then-pass _ _ _ read ∙ then-pass _ _ _ filed ∙ ap rest is
       ∙ passes (all (λ x. leb (length (x .bytes)) 8_388_607) (s ∷ [])) 19 _ (rw (all, e)))
 
   pub longer-section : length (s .bytes) ≡ 8_388_608 → packed b w o ≡ refused 19
   unfolding packed judged all answered
   longer-section e =
       ap (λ (c : Check (List ℕ)). answered c o)
-      (passes _ 1 _ long ∙ passes _ 2 _ work ∙ then-pass _ _ _ read ∙ then-pass _ _ _ filed ∙ then-pass _ _ _ is
+      (passes _ 1 _ long ∙ passes _ 2 _ work ∙ then-pass _ _ _ read ∙ then-pass _ _ _ filed ∙ ap rest is
       ∙ fails (all (λ x. leb (length (x .bytes)) 8_388_607) (s ∷ [])) 19 _ (rw (all, e)))

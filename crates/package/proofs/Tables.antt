@@ -12,7 +12,7 @@ use lib.Dec.{eqb}
 use lib.ListN.{length, getD, length-append, length-map}
 use Rattle.octets.specs.Lists.{those, distinct}
 use Rattle.octets.specs.Checked.{pass}
-use Rattle.octets.proofs.Checks.{known, pass-inj}
+use Rattle.octets.proofs.Checks.{known}
 use Rattle.octets.proofs.Lists.{length-those}
 use Rattle.octets.proofs.Numbers.{Bytes}
 use Rattle.bundle.specs.Encoding.{Encoding, encodingOf}
@@ -25,6 +25,7 @@ use Rattle.index.proofs.LawGrid.{noRow, identitiesOf, getD-map}
 use Rattle.index.proofs.LawPlaced.{distinct-is}
 use Rattle.index.proofs.RoundTrip.{RowsFit}
 use Rattle.index.proofs.LawWhole.{Writable, Indexed, indexed}
+use Rattle.index.proofs.LawExact.{indexBytes-none}
 use Rattle.package.specs.Filing.{Filed, Filing, firstWord, kept}
 use Rattle.package.specs.Pack.{rowsOf, unitBytes, sectionList}
 use Rattle.package.proofs.Each.{each-head, each-tail}
@@ -139,21 +140,19 @@ module _ (b p : List ℕ) (a : Accepted b p) (h : Bytes b) where
   section-small c = bytes-small (sectionList (a .filing) (a .cu) (a .tu)) c (sections-small b p a)
 
   pub table-bytes : (t : ℕ) → (t ≡ 1) ⊎ (t ≡ 2)
-      → indexBytes (a .bundle .big) (firstWord (a .bundle .objects) % 256) (rowsOf (kept (a .filing .units)) t) ≡ pass (indexOfTable a t)
+      → indexBytes (a .bundle .big) (firstWord (a .bundle .objects) % 256) (rowsOf (kept (a .filing .units)) t) ≡ indexOfTable a t
   unfolding indexOfTable
   table-bytes t c = ⊎-elim
-      (λ (z : t ≡ 1). subst (λ (n : ℕ). indexBytes (a .bundle .big) (firstWord (a .bundle .objects) % 256) (rowsOf (kept (a .filing .units)) n) ≡ pass (indexOfTable a n)) (sym z) (a .cuIs))
-      (λ (z : t ≡ 2). subst (λ (n : ℕ). indexBytes (a .bundle .big) (firstWord (a .bundle .objects) % 256) (rowsOf (kept (a .filing .units)) n) ≡ pass (indexOfTable a n)) (sym z) (a .tuIs)) c
+      (λ (z : t ≡ 1). subst (λ (n : ℕ). indexBytes (a .bundle .big) (firstWord (a .bundle .objects) % 256) (rowsOf (kept (a .filing .units)) n) ≡ indexOfTable a n) (sym z) (a .cuIs))
+      (λ (z : t ≡ 2). subst (λ (n : ℕ). indexBytes (a .bundle .big) (firstWord (a .bundle .objects) % 256) (rowsOf (kept (a .filing .units)) n) ≡ indexOfTable a n) (sym z) (a .tuIs)) c
 
   pub table-indexed : (t : ℕ) → (t ≡ 1) ⊎ (t ≡ 2) → 0 < length (rowsOf (kept (a .filing .units)) t)
       → Indexed (a .bundle .big) (firstWord (a .bundle .objects) % 256) (rowsOf (kept (a .filing .units)) t) (indexOfTable a t)
   table-indexed t c n =
-      indexed (a .bundle .big) (firstWord (a .bundle .objects) % 256) (rowsOf (kept (a .filing .units)) t) (indexOfTable a t)
-      (rows-writable encodingIn (a .filing) (a .cu) (a .tu) facts-of section-small t) n (table-bytes t c)
-
-  no-rows : (big : Bool) (version : ℕ) (rs : List Row) (s : List ℕ) → rs ≡ [] → indexBytes big version rs ≡ pass s → s ≡ []
-  unfolding indexBytes
-  no-rows big version rs s z q = sym (pass-inj (ap (indexBytes big version) (sym z) ∙ q))
+      subst (Indexed (a .bundle .big) (firstWord (a .bundle .objects) % 256) (rowsOf (kept (a .filing .units)) t)) (table-bytes t c)
+      (indexed (a .bundle .big) (firstWord (a .bundle .objects) % 256) (rowsOf (kept (a .filing .units)) t)
+      (rows-writable encodingIn (a .filing) (a .cu) (a .tu) facts-of section-small t) n)
 
   pub table-empty : (t : ℕ) → (t ≡ 1) ⊎ (t ≡ 2) → rowsOf (kept (a .filing .units)) t ≡ [] → indexOfTable a t ≡ []
-  table-empty t c z = no-rows (a .bundle .big) (firstWord (a .bundle .objects) % 256) (rowsOf (kept (a .filing .units)) t) (indexOfTable a t) z (table-bytes t c)
+  table-empty t c z =
+      sym (table-bytes t c) ∙ ap (indexBytes (a .bundle .big) (firstWord (a .bundle .objects) % 256)) z ∙ indexBytes-none (a .bundle .big) (firstWord (a .bundle .objects) % 256)

@@ -79,13 +79,11 @@ sectionList f cu tu =
 unfoldable pub nonEmpty : Section → Bool
 nonEmpty s = leb 1 (length (s .bytes))
 
--- 17: both indexes
-unfoldable pub packageSections : Bool → ℕ → Filing → Check (List Section)
-packageSections big version f = do
-  let ks = kept (f .units)
-  cu ← indexBytes big version (rowsOf ks 1)
-  tu ← indexBytes big version (rowsOf ks 2)
-  pass (those nonEmpty (sectionList f cu tu))
+-- with both indexes
+unfoldable pub packageSections : Bool → ℕ → Filing → List Section
+packageSections big version f =
+    let ks = kept (f .units) in
+    those nonEmpty (sectionList f (indexBytes big version (rowsOf ks 1)) (indexBytes big version (rowsOf ks 2)))
 
 -- "The package is a bundle: the same head, the first object's word, each non-empty section once in order of code, end. Without objects it is head and end."
 unfoldable pub packageObjects : List Object → List Section → List Sections
@@ -100,7 +98,7 @@ judged b w = do
   _ ← require (leb (16 * (length b / 4)) w) 2
   k ← bundleOf b
   f ← filingOf b k
-  ss ← packageSections (k .big) (firstWord (k .objects) % 256) f
+  let ss = packageSections (k .big) (firstWord (k .objects) % 256) f
   _ ← require (all (λ s. leb (length (s .bytes)) 8_388_607) ss) 19
   pass (written (k .big) (packageObjects (k .objects) ss))
 

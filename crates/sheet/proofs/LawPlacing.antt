@@ -1,26 +1,24 @@
 -- An index whose slots were filled by placing: each row has exactly one slot, that of its identity. And the lines of such an index, row by row.
 -- Assumes nothing.
-use mathlib.Core.Path.{_≡_, refl, sym, ap, ap₂, _∙_}
+use mathlib.Core.Path.{_≡_, refl, sym, ap, ap₂, _∙_, subst}
 use mathlib.Core.Bool.{Bool, true, false}
 use mathlib.Core.List.{List, [], _∷_, _++_, map}
-use mathlib.Core.Option.{Option, some, none}
-use Prim.Native.Nat.{ℕ, zero, suc, _+_, _-_, _%_, _≤_, _<_}
+use Prim.Native.Nat.{ℕ, zero, suc, _+_, _-_, _^_, _≤_, _<_}
 use native.Mathlib.Omega.{arith}
-use native.Mathlib.Nat.{mod-lt, lt-of-le-of-lt}
 use native.Mathlib.Decide.{ℕ-discrete}
 use lib.Dec.{eqb}
-use lib.Bits.{and-le-r}
 use lib.ListN.{length, getD, set, length-set}
-use borrow.Author.Tests.{eqb-true}
 use Rattle.octets.specs.Octets.{zeros}
 use Rattle.octets.specs.Lists.{joined}
 use Rattle.octets.specs.Checked.{pass}
-use Rattle.octets.proofs.Checks.{bind-pass, pass-inj, pass-refuse, then-pass}
+use Rattle.octets.proofs.Checks.{then-pass}
 use Rattle.octets.proofs.Placed.{length-zeros}
 use Rattle.index.specs.Columns.{columnsOf}
 use Rattle.index.specs.Index.{Index}
-use Rattle.index.specs.Probing.{Slots, freeFrom, placeAt, place, placeAll, unused, slotsFor, slotsOf, firstSlot, stride}
-use Rattle.index.proofs.Slots.{slotsFor-power, positive}
+use Rattle.index.specs.Probing.{Slots, freeFrom, place, placeAll, unused, slotsFor, slotsOf, firstSlot, stride}
+use Rattle.index.proofs.Slots.{PowerOfTwo, firstSlot-lt, slotsFor-power, slotsFor-gt}
+use Rattle.index.proofs.LawCounts.{used, used-zeros, used-takes}
+use Rattle.index.proofs.Placing.{free-inside, always-free}
 use Rattle.sheet.specs.Sheet.{line, sectionIn, cellLines, rowLines, identitiesIn, only, rowsFrom}
 use Rattle.sheet.proofs.LawSlots.{in-here, in-other}
 
@@ -50,17 +48,7 @@ module _ (row x : ℕ) where
     | no q ↦ in-other other r y (set rs k row) (set ys k x) q ∙ put-other other rs ys k f z e (omega arith) ∙ sym (in-other other r y rs ys q)
   ]
 
--- a slot that was found free
-free-is : (k : ℕ) (rows : List ℕ) (at by slot : ℕ) → freeFrom k rows at by ≡ some slot → at < length rows → (slot < length rows) × (getD rows slot 0 ≡ 0)
-unfolding freeFrom
-free-is zero rows at by slot e h = absurd (let z : _≡_ {A = ℕ} 0 1 = cc in omega arith)
-free-is (suc k) rows at by slot e h = go (eqb (getD rows at 0) 0) refl e (λ q. free-is k rows ((at + by) % length rows) by slot q (mod-lt (at + by) (omega arith)))
-  where
-    go : (t : Bool) → eqb (getD rows at 0) 0 ≡ t → elim t [ true ↦ some at | false ↦ freeFrom k rows ((at + by) % length rows) by ] ≡ some slot
-        → (freeFrom k rows ((at + by) % length rows) by ≡ some slot → (slot < length rows) × (getD rows slot 0 ≡ 0)) → (slot < length rows) × (getD rows slot 0 ≡ 0)
-    go true f g on = let s : at ≡ slot = cc in (omega arith, ap (λ (z : ℕ). getD rows z 0) (sym s) ∙ eqb-true (getD rows at 0) 0 f)
-    go false f g on = on g
-
+-- one identity placed, where not all slots are used
 record PutAt (t v : Slots) (row x : ℕ) : Type 0 where
   at : ℕ
   inside : at < length (t .rows)
@@ -68,41 +56,45 @@ record PutAt (t v : Slots) (row x : ℕ) : Type 0 where
   rows-are : v .rows ≡ set (t .rows) at row
   identities-are : v .identities ≡ set (t .identities) at x
 
-put-at : (t v : Slots) (row x : ℕ) → 0 < length (t .rows) → place t row x ≡ pass v → PutAt t v row x
-unfolding place placeAt firstSlot
-put-at t v row x some' e = go (freeFrom (length (t .rows)) (t .rows) (firstSlot x (length (t .rows))) (stride x (length (t .rows)))) refl e
-  where
-    go : (o : Option ℕ) → freeFrom (length (t .rows)) (t .rows) (firstSlot x (length (t .rows))) (stride x (length (t .rows))) ≡ o → placeAt t row x o ≡ pass v → PutAt t v row x
-    go none f g = absurd (pass-refuse v 17 (sym g))
-    go (some at) f g =
-        let first : firstSlot x (length (t .rows)) < length (t .rows) = lt-of-le-of-lt (and-le-r x (length (t .rows) - 1)) (omega arith) in
-        let i = free-is (length (t .rows)) (t .rows) _ _ at f first in
-        record { at = at; inside = i .0; free = i .1; rows-are = sym (ap (λ (z : Slots). z .rows) (pass-inj g)); identities-are = sym (ap (λ (z : Slots). z .identities) (pass-inj g)) }
+put-at : (t : Slots) (row x : ℕ) → PowerOfTwo (length (t .rows)) → used (t .rows) < length (t .rows) → PutAt t (place t row x) row x
+unfolding place
+put-at t row x p h =
+    record {
+      at = freeFrom (length (t .rows)) (t .rows) (firstSlot x (length (t .rows))) (stride x (length (t .rows)));
+      inside = free-inside (length (t .rows)) (t .rows) (firstSlot x (length (t .rows))) (stride x (length (t .rows))) (firstSlot-lt x (length (t .rows)) p);
+      free = always-free (t .rows) x p h;
+      rows-are = refl;
+      identities-are = refl;
+    }
 
 -- ---- all of them, under row numbers that count on
 record AllPlaced (t u : Slots) (row : ℕ) (xs : List ℕ) : Type 0 where
   before : (r : ℕ) → 0 < r → r < row → identitiesIn r (u .rows) (u .identities) ≡ identitiesIn r (t .rows) (t .identities)
   own : (j : ℕ) → j < length xs → identitiesIn (row + j) (u .rows) (u .identities) ≡ getD xs j 0 ∷ []
 
-all-placed : (xs : List ℕ) (t u : Slots) (row : ℕ) → 0 < row → length (t .rows) ≡ length (t .identities) → 0 < length (t .rows)
-    → ((r : ℕ) → row ≤ r → identitiesIn r (t .rows) (t .identities) ≡ []) → placeAll t row xs ≡ pass u → AllPlaced t u row xs
+all-placed : (xs : List ℕ) (t : Slots) (row : ℕ) → 0 < row → length (t .rows) ≡ length (t .identities) → PowerOfTwo (length (t .rows))
+    → used (t .rows) + length xs < length (t .rows) → ((r : ℕ) → row ≤ r → identitiesIn r (t .rows) (t .identities) ≡ []) → AllPlaced t (placeAll t row xs) row xs
 unfolding placeAll
-all-placed [] t u row p l some' none' e =
-    record { before = λ r h g. ap (λ (z : Slots). identitiesIn r (z .rows) (z .identities)) (sym (pass-inj e)); own = λ j h. absurd (omega arith) }
-all-placed (x ∷ xs) t u row p l some' none' e =
-    let (v, f, g) = bind-pass _ _ u e in
-    let q = put-at t v row x some' f in
+all-placed [] t row p l w few none' = record { before = λ r h g. refl; own = λ j h. absurd (omega arith) }
+all-placed (x ∷ xs) t row p l w few none' =
+    let v = place t row x in
+    let q = put-at t row x w (omega arith) in
     let lr : length (v .rows) ≡ length (t .rows) = ap length (q .rows-are) ∙ simp length-set in
     let li : length (v .identities) ≡ length (t .identities) = ap length (q .identities-are) ∙ simp length-set in
+    let more : used (v .rows) ≡ suc (used (t .rows)) = ap used (q .rows-are) ∙ used-takes (t .rows) (q .at) row (q .inside) (q .free) (λ z. omega arith) in
     let other : (r : ℕ) → 0 < r → (row ≡ r → ⊥) → identitiesIn r (v .rows) (v .identities) ≡ identitiesIn r (t .rows) (t .identities) =
     (λ r h d. ap₂ (identitiesIn r) (q .rows-are) (q .identities-are) ∙ put-other row x r (t .rows) (t .identities) (q .at) d (λ z. omega arith) (q .free) l) in
-    let on = all-placed xs v u (row + 1) (omega arith) (lr ∙ l ∙ sym li) (omega arith) (λ r h. other r (omega arith) (λ z. omega arith) ∙ none' r (omega arith)) g in
+    let on =
+    all-placed xs v (row + 1) (omega arith) (lr ∙ l ∙ sym li) (subst PowerOfTwo (sym lr) w) (omega (arith, more, lr))
+    (λ r h. other r (omega arith) (λ z. omega arith) ∙ none' r (omega arith)) in
     record {
       before = λ r h d. on .before r h (omega arith) ∙ other r h (λ z. omega arith);
-      own = here on (on .before row p (omega arith) ∙ ap₂ (identitiesIn row) (q .rows-are) (q .identities-are) ∙ put-own row x (t .rows) (t .identities) (q .at) (q .inside) l (none' row (omega arith)));
+      own =
+          here on
+          (on .before row p (omega arith) ∙ ap₂ (identitiesIn row) (q .rows-are) (q .identities-are) ∙ put-own row x (t .rows) (t .identities) (q .at) (q .inside) l (none' row (omega arith)));
     }
   where
-    here : {s : Slots} → AllPlaced s u (row + 1) xs → identitiesIn row (u .rows) (u .identities) ≡ x ∷ []
+    here : {s u : Slots} → AllPlaced s u (row + 1) xs → identitiesIn row (u .rows) (u .identities) ≡ x ∷ []
         → (j : ℕ) → j < length (x ∷ xs) → identitiesIn (row + j) (u .rows) (u .identities) ≡ getD (x ∷ xs) j 0 ∷ []
     here on first zero h = (let z : row + 0 ≡ row = omega arith in rw z first)
     here on first (suc j) h = (let z : row + suc j ≡ row + 1 + j = omega arith in rw z (on .own j (omega arith)))
@@ -113,12 +105,13 @@ in-zeros zero r h = refl
 in-zeros (suc n) r h = in-other r 0 0 (zeros n) (zeros n) (λ z. omega arith) ∙ in-zeros n r h
 
 -- the slots of an index that was written
-pub slots-one : (xs : List ℕ) (t : Slots) → slotsOf xs ≡ pass t → (j : ℕ) → j < length xs → identitiesIn (1 + j) (t .rows) (t .identities) ≡ getD xs j 0 ∷ []
+pub slots-one : (xs : List ℕ) → length xs ≤ 2 ^ 31 → (j : ℕ) → j < length xs → identitiesIn (1 + j) (slotsOf xs .rows) (slotsOf xs .identities) ≡ getD xs j 0 ∷ []
 unfolding slotsOf unused
-slots-one xs t e j h =
+slots-one xs few j h =
     let n = slotsFor (length xs) in
     let l : length (zeros n) ≡ n = length-zeros n in
-    all-placed xs (unused n) t 1 (omega arith) refl (omega (arith, positive (slotsFor-power (length xs)))) (λ r g. in-zeros n r (omega arith)) e .own j h
+    all-placed xs (unused n) 1 (omega arith) refl (subst PowerOfTwo (sym l) (slotsFor-power (length xs))) (omega (arith, l, used-zeros n, slotsFor-gt (length xs) few))
+    (λ r g. in-zeros n r (omega arith)) .own j h
 
 -- ---- lines, given what each one says
 module _ (letter : ℕ) (i : Index) where

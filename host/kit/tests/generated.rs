@@ -1,4 +1,4 @@
-//! The generator reaches every refusal but 17, which can't be reached, and every answer of the lookups.
+//! The generator reaches every refusal and every answer of the lookups; 17 is not used.
 
 use barthovin::answer::Asked;
 use kit::generate::{call, good, long_line, many_units, question, suffixes, Random};

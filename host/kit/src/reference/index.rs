@@ -115,7 +115,7 @@ pub fn slot_count(units: usize) -> usize {
     }
 }
 
-/// The row number in each slot, 0 where it is unused; none where some unit finds no slot (17).
+/// The row number in each slot, 0 where it is unused; none where the slots are too few, which `slot_count` excludes.
 pub fn place(identities: &[u64], slots: usize) -> Option<Vec<u64>> {
     let mut rows = vec![0; slots];
     for (i, identity) in identities.iter().enumerate() {
@@ -138,13 +138,13 @@ impl Row {
     }
 }
 
-/// The index of one table, empty without units; none is 17.
-pub fn write(version: u32, rows: &[Row], big: bool) -> Option<Vec<u8>> {
+/// The index of one table, empty without units.
+pub fn write(version: u32, rows: &[Row], big: bool) -> Vec<u8> {
     if rows.is_empty() {
-        return Some(Vec::new());
+        return Vec::new();
     }
     let identities: Vec<u64> = rows.iter().map(|r| r.identity).collect();
-    let slots = place(&identities, slot_count(rows.len()))?;
+    let slots = place(&identities, slot_count(rows.len())).expect("slots exceed units");
     let mut columns = column_codes(version).to_vec();
     columns.retain(|(section, _)| rows.iter().any(|r| r.part(*section).is_some()));
     let mut out = Vec::new();
@@ -162,5 +162,5 @@ pub fn write(version: u32, rows: &[Row], big: bool) -> Option<Vec<u8>> {
     let cells = || rows.iter().flat_map(|r| columns.iter().map(|(section, _)| r.part(*section).unwrap_or((0, 0))));
     cells().for_each(|(offset, _)| put(&mut out, offset, 4, big));
     cells().for_each(|(_, size)| put(&mut out, size, 4, big));
-    Some(out)
+    out
 }

@@ -206,13 +206,13 @@ impl<'a> InProgress<'a> {
         rows.push(Row { identity: unit.identity, parts: filed });
     }
 
-    /// 17, 19 and the package.
+    /// 19 and the package.
     fn finish(mut self, bundle: &Bundle) -> Result<Vec<u8>, u32> {
         let word = bundle.objects.first().map(|o| o.word);
         let version = if word.is_some_and(|w| w & 0xFF == 5) { 5 } else { 2 };
         self.joined[STR as usize] = self.strings.data;
-        self.joined[CU_INDEX as usize] = index::write(version, &self.cu_rows, bundle.big).ok_or(17u32)?;
-        self.joined[TU_INDEX as usize] = index::write(version, &self.tu_rows, bundle.big).ok_or(17u32)?;
+        self.joined[CU_INDEX as usize] = index::write(version, &self.cu_rows, bundle.big);
+        self.joined[TU_INDEX as usize] = index::write(version, &self.tu_rows, bundle.big);
         if self.joined.iter().any(|s| s.len() > LONGEST_SECTION) {
             return Err(19);
         }

@@ -19,7 +19,6 @@ pub fn meaning(number: u32) -> &'static str {
         14 => "a compilation unit of this identity was there before",
         15 => "the object's index has no row for the unit, or lacks a column",
         16 => "the row of the unit in the object's index doesn't fit",
-        17 => "no free slot",
         18 => "the output is too short",
         19 => "a section of the package would be above 8,388,607 bytes",
         21 => "this is no package",

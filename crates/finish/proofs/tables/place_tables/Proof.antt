@@ -1,6 +1,6 @@
--- Both tables placed: neither misses a slot.
+-- Both tables placed.
 -- Assumes nothing.
-use Rattle.finish.proofs.TwoTables.{table-asks, first-missing, second-asks, both-placed}
+use Rattle.finish.proofs.TwoTables.{table-asks, second-asks, both-placed}
 use borrow.Author.Needs.{needs}
 use Rattle.finish.proofs.tables.place_tables.Statement.{statement}
 use Rattle.finish.proofs.tables.place_tables.Tie as tie
@@ -15,19 +15,13 @@ slots-for-requires-2 : tie.Need-slots-for-requires-2
 slots-for-requires-2 c κs = search needs
 
 place-units-requires-2 : tie.Need-place-units-requires-2
-place-units-requires-2 c κs = second-asks _ _ _ _ (c .before .before .before .before .before .before .before .before .before .before .before .pre) _ (c .before .before .before .before .before .before .before .slots-for .ensures) _ (c .before .before .before .before .before .place-units .ensures) _ (c .before .slots-for2 .ensures)
+place-units-requires-2 c κs = second-asks _ _ _ _ (c .before .before .before .before .before .before .before .before .before .before .pre) _ (c .before .before .before .before .before .before .slots-for .ensures) (c .before .before .before .before .place-units .ensures) _ (c .before .slots-for2 .ensures)
 
 same-length : tie.Need-same-length
 same-length c = search needs
 
 returns : tie.Need-returns
-returns c = both-placed _ _ _ _ (c .before .before .before .before .before .before .before .before .before .before .before .before .before .before .pre) _ (c .before .before .before .before .before .before .before .before .before .before .slots-for .ensures) _ (c .before .before .before .before .before .before .before .before .place-units .ensures) _ _ (c .before .before .before .before .slots-for2 .ensures) _ (c .before .before .place-units2 .ensures)
-
-same-length-2 : tie.Need-same-length-2
-same-length-2 c = search needs
-
-returns-2 : tie.Need-returns-2
-returns-2 c = first-missing _ _ _ _ (c .before .before .before .before .before .before .before .before .before .pre) _ (c .before .before .before .before .before .slots-for .ensures) _ (c .before .before .before .place-units .ensures) (c .if1 .left)
+returns c = both-placed _ _ _ _ (c .before .before .before .before .before .before .before .before .before .before .before .before .before .pre) _ (c .before .before .before .before .before .before .before .before .before .slots-for .ensures) (c .before .before .before .before .before .before .before .place-units .ensures) _ _ (c .before .before .before .before .slots-for2 .ensures) (c .before .before .place-units2 .ensures)
 
 pub place-tables-spec : {M : Type 1} → statement M
 place-tables-spec =
@@ -38,6 +32,4 @@ place-tables-spec =
     slots-for-requires-2
     place-units-requires-2
     same-length
-    returns
-    same-length-2
-    returns-2)
+    returns)

@@ -1,4 +1,4 @@
--- Each way out is the definition's answer; neither 4 nor 17 can occur here.
+-- Each way out is the definition's answer; 4 can't occur here.
 -- Assumes nothing.
 use mathlib.Core.Path.{sym, ap, _∙_}
 use mathlib.Core.List.{List}
@@ -6,7 +6,6 @@ use Prim.Native.Nat.{ℕ}
 use lib.ListN.{length}
 use denote.Ref.{now}
 use Rattle.octets.specs.Checked.{Check}
-use Rattle.octets.proofs.Checks.{true-false}
 use Rattle.bundle.proofs.Objects.{objects-none}
 use Rattle.package.specs.Pack.{answered}
 use Rattle.finish.proofs.Entering.{objects-over, not-object}
@@ -75,16 +74,15 @@ same-length-2 c = search needs
 
 returns-3 : tie.Need-returns-3
 returns-3 c =
-    let x = c .before .before .before .before .before .before .before .before .before .before .before .before .before .before .before .before .before .before in
-    let over = end-of (c .before .before .before .before .before .before .before .before) .over (c .if2 .taken) in
+    let x = c .before .before .before .before .before .before .before .before .before .before .before .before .before .before .before .before .before in
+    let over = end-of (c .before .before .before .before .before .before .before) .over (c .if1 .taken) in
     (refused-answer _ _ 19 over, refused-output _ _ 19 over _ (x .pre .1))
 
 finish-sections-requires : tie.Need-finish-sections-requires
 finish-sections-requires c κs =
-    let x = c .before .before .before .before .before .before .before .before .before .before .before .before .before .before .before .before .before .before .before .before in
-    let g = end-of (c .before .before .before .before .before .before .before .before .before .before) in
-    let p = c .before .before .before .before .before .before in
-    record { sections = g .s; ready = g .ready _ (g .told _ _ (p .place-tables .ensures) .1) (c .before .before .if2 .left); zero = x .pre .1 }
+    let x = c .before .before .before .before .before .before .before .before .before .before .before .before .before .before .before .before .before .before .before in
+    let g = end-of (c .before .before .before .before .before .before .before .before .before) in
+    record { sections = g .s; ready = g .ready _ (g .told _ (c .before .before .before .before .before .place-tables .ensures)) (c .before .before .if1 .left); zero = x .pre .1 }
 
 same-length-3 : tie.Need-same-length-3
 same-length-3 c = search needs
@@ -94,22 +92,13 @@ same-length-4 c = search needs
 
 returns-4 : tie.Need-returns-4
 returns-4 c =
-    let x = c .before .before .before .before .before .before .before .before .before .before .before .before .before .before .before .before .before .before .before .before .before .before .before in
-    let g = end-of (c .before .before .before .before .before .before .before .before .before .before .before .before .before) in
-    let p = c .before .before .before .before .before .before .before .before .before in
+    let x = c .before .before .before .before .before .before .before .before .before .before .before .before .before .before .before .before .before .before .before .before .before .before in
+    let g = end-of (c .before .before .before .before .before .before .before .before .before .before .before .before) in
     let f = c .before .before in
-    let ready = g .ready _ (g .told _ _ (p .place-tables .ensures) .1) (c .before .before .before .before .before .if2 .left) in (
+    let ready = g .ready _ (g .told _ (c .before .before .before .before .before .before .before .before .place-tables .ensures)) (c .before .before .before .before .before .if1 .left) in (
       f .finish-sections .ensures .0 (g .s) ready ∙ ap (λ (k : Check (List ℕ)). finishedOf (answered k (length (now (x .args .out))))) (sym (g .whole)),
       f .finish-sections .ensures .1 (g .s) ready ∙ ap (λ (k : Check (List ℕ)). outputOf (answered k (length (now (x .args .out)))) (length (now (x .args .out)))) (sym (g .whole)),
     )
-
-same-length-5 : tie.Need-same-length-5
-same-length-5 c = search needs
-
-returns-5 : tie.Need-returns-5
-returns-5 c =
-    let g = end-of (c .before .before .before .before .before .before .before) in
-    absurd (true-false (g .told _ _ (c .before .before .before .place-tables .ensures) .0) (c .if1 .left))
 
 pub finish-spec : {M : Type 1} → statement M
 finish-spec =
@@ -130,6 +119,4 @@ finish-spec =
     finish-sections-requires
     same-length-3
     same-length-4
-    returns-4
-    same-length-5
-    returns-5)
+    returns-4)

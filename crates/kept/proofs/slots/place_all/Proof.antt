@@ -3,7 +3,7 @@
 use Prim.Native.Nat.{_-_}
 use native.Mathlib.Omega.{arith}
 use mathlib.Core.Path.{_∙_}
-use Rattle.kept.proofs.Placing.{Placing, placing-none, placing-seekable, placing-more, placing-stops, placing-end}
+use Rattle.kept.proofs.Placing.{Placing, placing-none, placing-seekable, placing-more, placing-end}
 use Rattle.kept.proofs.slots.place_all.Statement.{statement}
 use Rattle.kept.proofs.slots.place_all.Tie as tie
 
@@ -26,19 +26,13 @@ loop-less : tie.Need-loop-less Inv-loop μ-loop
 loop-less c = omega arith
 
 loop-again : tie.Need-loop-again Inv-loop μ-loop
-loop-again c = placing-more (c .before .before .before .before .before .before .before .before .pre .0) (c .before .before .before .before .before .before .loop .inv) (c .before .before .before .before .before .loop-test .taken) _ _ (c .before .before .before .place-unit .ensures)
+loop-again c = placing-more (c .before .before .before .before .before .before .before .pre .0) (c .before .before .before .before .before .loop .inv) (c .before .before .before .before .loop-test .taken) _ (c .before .before .place-unit .ensures)
 
 same-length : tie.Need-same-length Inv-loop μ-loop
-same-length c = c .before .before .before .place-unit .ensures .left .same ∙ c .before .before .before .before .before .before .loop .inv .left .same
+same-length c = c .before .loop .inv .left .same
 
 returns : tie.Need-returns Inv-loop μ-loop
-returns c = placing-stops (c .before .before .before .before .before .before .before .before .pre .0) (c .before .before .before .before .before .before .loop .inv) (c .before .before .before .before .before .loop-test .taken) _ _ (c .before .before .before .place-unit .ensures) (c .if1 .left)
-
-same-length-2 : tie.Need-same-length-2 Inv-loop μ-loop
-same-length-2 c = c .before .loop .inv .left .same
-
-returns-2 : tie.Need-returns-2 Inv-loop μ-loop
-returns-2 c = placing-end (c .before .before .before .pre .0) (c .before .loop .inv) (c .loop-test .left)
+returns c = placing-end (c .before .before .before .pre .0) (c .before .loop .inv) (c .loop-test .left)
 
 pub place-all-spec : {M : Type 1} → statement M
 place-all-spec =
@@ -52,6 +46,4 @@ place-all-spec =
     loop-less
     loop-again
     same-length
-    returns
-    same-length-2
-    returns-2)
+    returns)

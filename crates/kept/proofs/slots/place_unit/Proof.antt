@@ -10,7 +10,7 @@ use Rattle.octets.specs.Octets.{placed}
 use Rattle.work.specs.Regions.{recordsRegion, region}
 use Rattle.kept.specs.Records.{recordAt}
 use Rattle.kept.specs.Slots.{soughtIn, slotsIn}
-use Rattle.kept.proofs.Placing.{lent-records, records-end, records-long, slots-fit, placed-other, placed-full, placed-known, free-inside, placed-free}
+use Rattle.kept.proofs.Placing.{lent-records, records-end, records-long, slots-fit, placed-other, placed-known, free-inside, placed-free}
 use borrow.Author.Needs.{needs}
 use Rattle.kept.proofs.slots.place_unit.Statement.{statement}
 use Rattle.kept.proofs.slots.place_unit.Tie as tie
@@ -71,9 +71,6 @@ seek-in-requires c κs = c .before .before .before .before .before .before .befo
 enum-told : tie.Need-enum-told
 enum-told c = search needs
 
-enum-told-2 : tie.Need-enum-told-2
-enum-told-2 c = search needs
-
 enum-known-at : tie.Need-enum-known-at
 enum-known-at c = search needs
 
@@ -96,16 +93,10 @@ returns-2 : tie.Need-returns-2
 returns-2 c = placed-known _ _ _ _ _ (c .before .before .before .before .before .before .before .before .before .before .before .before .before .before .pre .0) _ (sym (c .before .before .before .before .before .before .before .before .table-at .ensures ∙ ap (λ (l : List ℕ). recordAt l (c .before .before .before .before .before .before .before .before .before .before .before .before .before .before .args .i) .table) (lent-records _ (now (c .before .before .before .before .before .before .before .before .before .before .before .before .before .before .args .work)) _ _ _ (c .before .before .before .before .before .before .before .before .before .before .before .before .before .before .pre .0 .can) _ _ (c .before .before .before .before .before .before .before .before .before .before .before .before .records .ensures .0) (c .before .before .before .before .before .before .before .before .before .before .before .before .records .ensures .1))) ∙ c .before .before .before .before .before .before .before .if1 .left) (c .before .before .before .before .identity-at .ensures ∙ ap (λ (l : List ℕ). recordAt l (c .before .before .before .before .before .before .before .before .before .before .before .before .before .before .args .i) .identity) (lent-records _ (now (c .before .before .before .before .before .before .before .before .before .before .before .before .before .before .args .work)) _ _ _ (c .before .before .before .before .before .before .before .before .before .before .before .before .before .before .pre .0 .can) _ _ (c .before .before .before .before .before .before .before .before .before .before .before .before .records .ensures .0) (c .before .before .before .before .before .before .before .before .before .before .before .before .records .ensures .1))) _ (sym (c .enum-told .given .1) ∙ sought (c .before .before))
 
 same-length-3 : tie.Need-same-length-3
-same-length-3 c = refl
+same-length-3 c = search needs
 
 returns-3 : tie.Need-returns-3
-returns-3 c = placed-full _ _ _ _ _ (c .before .before .before .before .before .before .before .before .before .before .before .before .before .before .pre .0) _ (sym (c .before .before .before .before .before .before .before .before .table-at .ensures ∙ ap (λ (l : List ℕ). recordAt l (c .before .before .before .before .before .before .before .before .before .before .before .before .before .before .args .i) .table) (lent-records _ (now (c .before .before .before .before .before .before .before .before .before .before .before .before .before .before .args .work)) _ _ _ (c .before .before .before .before .before .before .before .before .before .before .before .before .before .before .pre .0 .can) _ _ (c .before .before .before .before .before .before .before .before .before .before .before .before .records .ensures .0) (c .before .before .before .before .before .before .before .before .before .before .before .before .records .ensures .1))) ∙ c .before .before .before .before .before .before .before .if1 .left) (c .before .before .before .before .identity-at .ensures ∙ ap (λ (l : List ℕ). recordAt l (c .before .before .before .before .before .before .before .before .before .before .before .before .before .before .args .i) .identity) (lent-records _ (now (c .before .before .before .before .before .before .before .before .before .before .before .before .before .before .args .work)) _ _ _ (c .before .before .before .before .before .before .before .before .before .before .before .before .before .before .pre .0 .can) _ _ (c .before .before .before .before .before .before .before .before .before .before .before .before .records .ensures .0) (c .before .before .before .before .before .before .before .before .before .before .before .before .records .ensures .1))) (sym (c .enum-told2 .given .1) ∙ sought (c .before .before))
-
-same-length-4 : tie.Need-same-length-4
-same-length-4 c = search needs
-
-returns-4 : tie.Need-returns-4
-returns-4 c = let a = c .before .before .before .before .before .before .before .before .before .before .before .before .before .before .before .before .before .before .before .before .before in placed-free _ _ _ _ _ (a .pre .0) _ (sym (c .before .before .before .before .before .before .before .before .before .before .before .before .before .before .before .table-at .ensures ∙ ap (λ (l : List ℕ). recordAt l (c .before .before .before .before .before .before .before .before .before .before .before .before .before .before .before .before .before .before .before .before .before .args .i) .table) (lent-records _ (now (c .before .before .before .before .before .before .before .before .before .before .before .before .before .before .before .before .before .before .before .before .before .args .work)) _ _ _ (c .before .before .before .before .before .before .before .before .before .before .before .before .before .before .before .before .before .before .before .before .before .pre .0 .can) _ _ (c .before .before .before .before .before .before .before .before .before .before .before .before .before .before .before .before .before .before .before .records .ensures .0) (c .before .before .before .before .before .before .before .before .before .before .before .before .before .before .before .before .before .before .before .records .ensures .1))) ∙ c .before .before .before .before .before .before .before .before .before .before .before .before .before .before .if1 .left) (c .before .before .before .before .before .before .before .before .before .before .before .identity-at .ensures ∙ ap (λ (l : List ℕ). recordAt l (c .before .before .before .before .before .before .before .before .before .before .before .before .before .before .before .before .before .before .before .before .before .args .i) .identity) (lent-records _ (now (c .before .before .before .before .before .before .before .before .before .before .before .before .before .before .before .before .before .before .before .before .before .args .work)) _ _ _ (c .before .before .before .before .before .before .before .before .before .before .before .before .before .before .before .before .before .before .before .before .before .pre .0 .can) _ _ (c .before .before .before .before .before .before .before .before .before .before .before .before .before .before .before .before .before .before .before .records .ensures .0) (c .before .before .before .before .before .before .before .before .before .before .before .before .before .before .before .before .before .before .before .records .ensures .1))) _ (sym (c .before .before .before .before .before .before .before .at .given .1) ∙ sought (c .before .before .before .before .before .before .before .before .before)) _ (c .before .before .set-word .ensures ∙ ap (λ (k : ℕ). placed (now (a .args .work)) (k + c .before .before .before .before .before .before .before .at .given .0 .0) ((a .args .i + 1) ∷ [])) (c .before .before .before .before .before .slots .ensures .0))
+returns-3 c = let a = c .before .before .before .before .before .before .before .before .before .before .before .before .before .before .before .before .before .before .before .before .before in placed-free _ _ _ _ _ (a .pre .0) _ (sym (c .before .before .before .before .before .before .before .before .before .before .before .before .before .before .before .table-at .ensures ∙ ap (λ (l : List ℕ). recordAt l (c .before .before .before .before .before .before .before .before .before .before .before .before .before .before .before .before .before .before .before .before .before .args .i) .table) (lent-records _ (now (c .before .before .before .before .before .before .before .before .before .before .before .before .before .before .before .before .before .before .before .before .before .args .work)) _ _ _ (c .before .before .before .before .before .before .before .before .before .before .before .before .before .before .before .before .before .before .before .before .before .pre .0 .can) _ _ (c .before .before .before .before .before .before .before .before .before .before .before .before .before .before .before .before .before .before .before .records .ensures .0) (c .before .before .before .before .before .before .before .before .before .before .before .before .before .before .before .before .before .before .before .records .ensures .1))) ∙ c .before .before .before .before .before .before .before .before .before .before .before .before .before .before .if1 .left) (c .before .before .before .before .before .before .before .before .before .before .before .identity-at .ensures ∙ ap (λ (l : List ℕ). recordAt l (c .before .before .before .before .before .before .before .before .before .before .before .before .before .before .before .before .before .before .before .before .before .args .i) .identity) (lent-records _ (now (c .before .before .before .before .before .before .before .before .before .before .before .before .before .before .before .before .before .before .before .before .before .args .work)) _ _ _ (c .before .before .before .before .before .before .before .before .before .before .before .before .before .before .before .before .before .before .before .before .before .pre .0 .can) _ _ (c .before .before .before .before .before .before .before .before .before .before .before .before .before .before .before .before .before .before .before .records .ensures .0) (c .before .before .before .before .before .before .before .before .before .before .before .before .before .before .before .before .before .before .before .records .ensures .1))) _ (sym (c .before .before .before .before .before .before .before .at .given .1) ∙ sought (c .before .before .before .before .before .before .before .before .before)) _ (c .before .before .set-word .ensures ∙ ap (λ (k : ℕ). placed (now (a .args .work)) (k + c .before .before .before .before .before .before .before .at .given .0 .0) ((a .args .i + 1) ∷ [])) (c .before .before .before .before .before .slots .ensures .0))
 
 pub place-unit-spec : {M : Type 1} → statement M
 place-unit-spec =
@@ -127,7 +118,6 @@ place-unit-spec =
     identity-at-requires
     seek-in-requires
     enum-told
-    enum-told-2
     enum-known-at
     slots-requires
     add-set-word
@@ -136,6 +126,4 @@ place-unit-spec =
     same-length-2
     returns-2
     same-length-3
-    returns-3
-    same-length-4
-    returns-4)
+    returns-3)

@@ -4,7 +4,7 @@ use Prim.Native.Nat.{_-_}
 use native.Mathlib.Omega.{arith}
 use lib.ListN.{length}
 use Rattle.index.proofs.Masks.{stride-le}
-use Rattle.kept.proofs.Seeking.{Seeking, seek-start, seek-full, seek-free, seek-known, seek-on, number-fits}
+use Rattle.kept.proofs.Seeking.{Seeking, seek-start, seek-last, seek-free, seek-known, seek-on, number-fits}
 use Rattle.kept.proofs.slots.seek.Statement.{statement}
 use Rattle.kept.proofs.slots.seek.Tie as tie
 
@@ -48,7 +48,7 @@ loop-again : tie.Need-loop-again Inv-loop μ-loop
 loop-again c = seek-on (c .before .before .before .before .before .before .loop .inv) (c .before .before .before .before .before .loop-test .taken) (c .before .before .before .before .word .ensures) (c .before .before .before .if1 .left) (c .before .before .identity-for .ensures) (c .before .if2 .left) (c .next-slot .ensures)
 
 returns-3 : tie.Need-returns-3 Inv-loop μ-loop
-returns-3 c = seek-full (c .before .loop .inv) (c .loop-test .left)
+returns-3 c = seek-last (c .before .loop .inv) (c .loop-test .left)
 
 pub seek-spec : {M : Type 1} → statement M
 seek-spec =
