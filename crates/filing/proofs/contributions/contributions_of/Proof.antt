@@ -22,7 +22,7 @@ indexed-contributions-requires c κs = let p = c .before .before .before .before
 
 returns : tie.Need-returns
 unfolding sectionOf bytesAt
-returns c = λ i here is held. given-is _ _ i is here _ _ held _ _ _ _ _ (i .cuIndex) (index-first i _ (c .before .before .before .if1 .taken)) _ (c .before .before .before .before .before .before .width .ensures) (c .indexed-contributions .ensures (i .cuIndex) (is .cuIndex))
+returns c = λ i is. given-is _ _ i is _ _ _ _ _ _ (i .cuIndex) (index-first i _ (c .before .before .before .if1 .taken)) _ (c .before .before .before .before .before .before .width .ensures) (c .indexed-contributions .ensures (i .cuIndex) (is .cuIndex))
 
 element-copy-out-t26 : tie.Need-element-copy-out-t26
 element-copy-out-t26 c = search needs
@@ -36,7 +36,7 @@ indexed-contributions-requires-2 c κs = let p = c .before .before .before .befo
 
 returns-2 : tie.Need-returns-2
 unfolding sectionOf bytesAt
-returns-2 c = λ i here is held. given-is _ _ i is here _ _ held _ _ _ _ _ (i .tuIndex) (index-second i _ (c .before .before .before .if1 .left)) _ (c .before .before .before .before .before .before .width .ensures) (c .indexed-contributions2 .ensures (i .tuIndex) (is .tuIndex))
+returns-2 c = λ i is. given-is _ _ i is _ _ _ _ _ _ (i .tuIndex) (index-second i _ (c .before .before .before .if1 .left)) _ (c .before .before .before .before .before .before .width .ensures) (c .indexed-contributions2 .ensures (i .tuIndex) (is .tuIndex))
 
 pub contributions-of-spec : {M : Type 1} → statement M
 contributions-of-spec =
