@@ -17,7 +17,7 @@ use Rattle.bundle.specs.Encoding.{Encoding}
 use Rattle.bundle.specs.Encoded.{encodingIs}
 use Rattle.unit.specs.UnitRead.{commonSize, unitBy}
 use Rattle.unit.specs.Headers.{headOf, identityGood, identityAnswer, withSize, unitAnswer}
-use Rattle.unit.specs.TableTrees.{Remembers, Lent, Inside, between}
+use Rattle.unit.specs.TableTrees.{Remembers, Lent, between}
 use Rattle.unit.specs.declared.header.UnitAnswer.{UnitAnswer}
 use Rattle.unit.specs.declared.header.UnitAnswer.the-variants.{Refused}
 use Rattle.unit.specs.declared.judged.Judged.{Judged}
@@ -34,6 +34,7 @@ use Rattle.work.proofs.Stores.{codes-within}
 use Rattle.package.specs.Input.{Input}
 use Rattle.package.specs.Filing.{indexByPlace, abbreviationsFor}
 use Rattle.filing.specs.declared.input.InputObject.{InputObject}
+use Rattle.filing.specs.declared.input.Indexed.{Indexed}
 use Rattle.filing.specs.declared.input.Indexed.the-variants.{At, Nowhere}
 use Rattle.filing.specs.declared.reading.Abbreviations.{Abbreviations}
 use Rattle.filing.specs.declared.units.HomeSection.{HomeSection}
@@ -109,7 +110,7 @@ module _ (b : List ℕ) (x : InputObject) (i : Input) (is : InputIs b x i) (home
   pub given-whole : Nowhere ≡ indexedByPlace x home
       → AbbreviationsAre b (abbreviationsFor i home at size) (record { code = 0; first = getD (x .start) 3 0; last = getD (x .start) 3 0 + getD (x .size) 3 0 })
   unfolding abbreviationsFor AbbreviationsAre IndexedIs sectionOf
-  given-whole e = go (indexByPlace i home) refl (rw (← e) at by-place-is b x i is home)
+  given-whole e = go (indexByPlace i home) refl (subst (λ (z : Indexed). IndexedIs (x .encoding .big) (sectionOf b x 12) z (indexByPlace i home)) (sym e) (by-place-is b x i is home))
     where
       go : (o : Option Index) → indexByPlace i home ≡ o → IndexedIs (x .encoding .big) (sectionOf b x 12) Nowhere o
           → AbbreviationsAre b (abbreviationsFor i home at size) (record { code = 0; first = getD (x .start) 3 0; last = getD (x .start) 3 0 + getD (x .size) 3 0 })

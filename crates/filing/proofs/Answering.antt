@@ -7,7 +7,7 @@ use mathlib.Core.Option.{Option, some, none}
 use Prim.Native.Nat.{ℕ, _+_, _<_, _≤_}
 use native.Mathlib.Omega.{arith}
 use native.Mathlib.Decide.{ℕ-discrete}
-use lib.ListN.{length, take, getD, length-append}
+use lib.ListN.{length, take}
 use Rattle.octets.specs.Octets.{part}
 use Rattle.octets.specs.Lists.{any}
 use Rattle.octets.specs.Checked.{Check, pass, refuse}

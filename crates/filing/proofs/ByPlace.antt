@@ -1,10 +1,10 @@
 -- Rows by place: the index that has them, their chains in work, and the one row of a place.
 -- Assumes nothing.
 use mathlib.Core.Path.{_≡_, refl, sym, ap, _∙_, subst}
-use mathlib.Core.Bool.{Bool, true, false, not, _&&_}
+use mathlib.Core.Bool.{Bool, true, false}
 use mathlib.Core.Logic.{⊎-elim}
 use mathlib.Core.List.{List, [], _∷_}
-use mathlib.Core.Option.{Option, some, none}
+use mathlib.Core.Option.{some}
 use Prim.Native.Nat.{ℕ, zero, suc, _+_, _*_, _-_, _/_, _^_, _<_, _≤_}
 use native.Mathlib.Omega.{arith}
 use lib.Dec.{eqb}
@@ -16,7 +16,6 @@ use Rattle.octets.specs.Checked.{Check, pass, refuse}
 use Rattle.octets.proofs.Checks.{known, pass-inj, refuse-inj, pass-refuse}
 use Rattle.octets.proofs.Lists.{those-keeps, those-skips}
 use Rattle.octets.proofs.Parts.{length-part, part-cut}
-use Rattle.numbers.specs.Limits.{workForWord}
 use Rattle.numbers.specs.Sections.{infoCode}
 use Rattle.unit.specs.UnitRead.{isFive}
 use Rattle.index.specs.Index.{Index}
@@ -25,17 +24,17 @@ use Rattle.index.specs.Held.{Sized, ReadWell, indexIn}
 use Rattle.index.specs.declared.reading.IndexHead.{IndexHead}
 use Rattle.index.proofs.Heads.{well}
 use Rattle.by_place.specs.Chains.{Chained, rowTold}
+use Rattle.by_place.proofs.Laws.{units-are}
 use Rattle.work.specs.Regions.{rowsRegion, region}
 use Rattle.work.proofs.Stores.{rows-within}
 use Rattle.package.specs.Input.{Input}
 use Rattle.package.specs.Filing.{indexByPlace}
 use Rattle.filing.specs.declared.input.InputObject.{InputObject}
-use Rattle.filing.specs.declared.input.Indexed.{Indexed}
 use Rattle.filing.specs.declared.input.Indexed.the-variants.{At, Nowhere}
 use Rattle.filing.specs.declared.units.HomeSection.{HomeSection}
 use Rattle.filing.specs.Judged.{sectionOf, IndexedIs, InputIs}
 use Rattle.filing.specs.State.{wordsIn}
-use Rattle.filing.specs.ByPlace.{WorkFor, indexedByPlace, headsFor, ChainsHeld, RowsChained}
+use Rattle.filing.specs.ByPlace.{indexedByPlace, headsFor, ChainsHeld, RowsChained}
 use Rattle.filing.specs.Asked.{ChainAsked, PlaceAsked}
 use Rattle.filing.proofs.Contributing.{index-well}
 use Rattle.filing.proofs.Entering.{five-is}
@@ -56,7 +55,7 @@ module _ (x : InputObject) (home : ℕ) where
   by-place-cu e h = rw (indexedByPlace, e, eq-eqb home 1 h)
 
 pub by-place-is : (b : List ℕ) (x : InputObject) (i : Input) → InputIs b x i → (home : ℕ) → IndexedIs (x .encoding .big) (sectionOf b x 12) (indexedByPlace x home) (indexByPlace i home)
-unfolding indexedByPlace indexByPlace isFive IndexedIs
+unfolding indexedByPlace indexByPlace isFive IndexedIs sectionOf
 by-place-is b x i is home = go (x .encoding .five) refl (eqb home 1) refl
   where
     f : x .encoding .five ≡ eqb (i .encoding .version) 5
@@ -107,12 +106,12 @@ module _ (i : Index) (at size row : ℕ) (is : row ≡ rowTold (theOne (naming i
       go (pass r) q = q ∙ ap (λ (k : ℕ). pass k) (sym (is ∙ ap rowTold q))
       go (refuse n) q = absurd (z (is ∙ ap rowTold q))
 
-  pub row-counted : (row ≡ 0 → ⊥) → (0 < row) × (row ≤ i .units)
+  row-counted : (row ≡ 0 → ⊥) → (0 < row) × (row ≤ i .units)
   row-counted z = one-counted row (row-one z)
 
 -- ---- an index that is there; s is its section as code cuts it out
 module _ (b : List ℕ) (x : InputObject) (i : Input) (is : InputIs b x i) (limit : length b ≤ 4_194_304) (home : ℕ) (head : IndexHead) (e : At head ≡ indexedByPlace x home) where
-  abbrev cut : List ℕ
+  abbrev pub cut : List ℕ
   cut = take (getD (x .start) 12 0 + getD (x .size) 12 0 - getD (x .start) 12 0) (drop (getD (x .start) 12 0) b)
 
   pub cut-section : cut ≡ sectionOf b x 12
@@ -135,6 +134,11 @@ module _ (b : List ℕ) (x : InputObject) (i : Input) (is : InputIs b x i) (limi
   -- three words for each slot, and more slots than rows
   pub few-rows : 12 * head .units + 16 ≤ length b
   few-rows = omega (arith, cut-sized .is, cut-length, well (x .encoding .big) (sectionOf b x 12) head read-well .above)
+
+  pub row-within : (at size row : ℕ) → row ≡ rowTold (theOne (naming (indexIn (x .encoding .big) cut head) at size)) → (row ≡ 0 → ⊥) → (0 < row) × (row ≤ head .units)
+  row-within at size row t z =
+      let r = row-counted (indexIn (x .encoding .big) cut head) at size row t z in
+      (r .0, omega (arith, r .1, units-are (x .encoding .big) cut head))
 
 -- ---- their chains
 pub chained-nowhere : (b : List ℕ) (x : InputObject) (h : HomeSection) (w : List ℕ) → Nowhere ≡ indexedByPlace x (h .home) → RowsChained b x h w
@@ -177,6 +181,6 @@ module _ {b : List ℕ} {x : InputObject} {h : HomeSection} {at : ℕ} {w : List
     cut-sized b x (p .input) (p .is) (p .work .limit) (h .home) head e,
     omega (arith, q, p .from, p .low),
     subst (λ (l : List ℕ). Chained (indexIn (x .encoding .big) l head) infoCode heads (take (from + many - from) (drop from w))) (sym (cut-section b x (p .input) (p .is) (p .work .limit) (h .home) head e))
-    (subst (λ (k : ℕ). Chained (indexIn (x .encoding .big) (sectionOf b x 12) head) infoCode k (take (from + many - from) (drop from w))) (sym q)
-    (subst (λ (l : List ℕ). Chained (indexIn (x .encoding .big) (sectionOf b x 12) head) infoCode (headsFor h) l) (sym (lent-is rowsRegion rows-within (wordsIn b) from many w (p .work .room) ef em)) chained-here)),
+        (subst (λ (k : ℕ). Chained (indexIn (x .encoding .big) (sectionOf b x 12) head) infoCode k (take (from + many - from) (drop from w))) (sym q)
+        (subst (λ (l : List ℕ). Chained (indexIn (x .encoding .big) (sectionOf b x 12) head) infoCode (headsFor h) l) (sym (lent-is rowsRegion rows-within (wordsIn b) from many w (p .work .room) ef em)) chained-here)),
   )

@@ -12,7 +12,6 @@ use Rattle.octets.proofs.Parts.{length-part, part-front, part-part}
 use Rattle.bundle.specs.Encoding.{Encoding}
 use Rattle.unit.specs.UnitRead.{UnitRead, unitBy, unitOf}
 use Rattle.unit.specs.Headers.{unitAnswer}
-use Rattle.unit.specs.declared.header.UnitAnswer.{UnitAnswer}
 use Rattle.unit.specs.declared.header.UnitAnswer.the-variants.{Read, Refused}
 use Rattle.unit.proofs.AtLeast.{unit-at-least}
 use Rattle.unit.proofs.Plain.{ReadBy, read-by}

@@ -2,15 +2,14 @@
 -- Assumes nothing.
 use mathlib.Core.Path.{_≡_}
 use mathlib.Core.Bool.{false}
-use mathlib.Core.List.{List, [], _∷_, _++_}
+use mathlib.Core.List.{List}
 use mathlib.Core.Option.{some}
 use Prim.Native.Nat.{ℕ, _+_, _^_, _<_, _≤_}
-use lib.ListN.{length, getD}
+use lib.ListN.{length}
 use Rattle.octets.specs.Octets.{part}
 use Rattle.octets.specs.Lists.{any}
 use Rattle.octets.specs.Checked.{pass}
 use Rattle.numbers.specs.Limits.{bundleLimit}
-use Rattle.numbers.specs.Sections.{sectionCodes}
 use Rattle.unit.specs.UnitRead.{unitBy}
 use Rattle.index.specs.Rows.{BySection}
 use Rattle.index.specs.Written.{offsetOf, sizeOf}

@@ -56,10 +56,7 @@ pub fn contributions_of(
     let e = x.encoding;
     let width = bundle::encoding::width(e);
     let lengths = x.size;
-    let m = Measures {
-        width,
-        lengths,
-    };
+    let m = Measures { width, lengths };
     let u = OwnUnit {
         identity: read.identity,
         home,

@@ -92,7 +92,14 @@ pub fn chain_section(b: &[u8], x: InputObject, section: HomeSection, work: &mut 
     let region = work::rows_by_place(b.len() / 4);
     let from = region.start;
     let to = from + region.size;
-    by_place::chain_rows(e.big, &b[start..end], head, INFO, heads, &mut work[from..to]);
+    by_place::chain_rows(
+        e.big,
+        &b[start..end],
+        head,
+        INFO,
+        heads,
+        &mut work[from..to],
+    );
 }
 
 fn refused(code: u32) -> Abbreviations

@@ -28,11 +28,7 @@ use unit::judged::Judged;
 fn refused(code: u32, st: InProgress) -> UnitFiled
     ensures { λ r. ⌜ r .code ≡ code ⌝ }
 {
-    UnitFiled {
-        code,
-        size: 0,
-        st,
-    }
+    UnitFiled { code, size: 0, st }
 }
 
 // A unit of a table and identity that are kept: 14, or skipped.
@@ -42,11 +38,7 @@ fn file_known(table: usize, size: usize, st: InProgress) -> UnitFiled
     if table == COMPILATION {
         return refused(IDENTITY_SEEN, st);
     }
-    UnitFiled {
-        code: 0,
-        size,
-        st,
-    }
+    UnitFiled { code: 0, size, st }
 }
 
 // What is stored of a unit that was read at a place of the bundle. Callers have few rows.
@@ -95,13 +87,7 @@ fn file_read(
         }
         Sought::Free(slot) => slot,
     };
-    let judged = crate::contributions::contributions_of(
-        b,
-        x,
-        home,
-        at - section.start,
-        read,
-    );
+    let judged = crate::contributions::contributions_of(b, x, home, at - section.start, read);
     let code = judged.code;
     if code != 0 {
         return refused(code, st);

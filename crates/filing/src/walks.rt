@@ -48,10 +48,7 @@ pub fn add_units(
         }
         at += size;
     }
-    let filed = UnitsFiled {
-        code: 0,
-        st: known,
-    };
+    let filed = UnitsFiled { code: 0, st: known };
     UnitsDone { filed, judged }
 }
 
@@ -89,10 +86,7 @@ pub fn add_sections(
                 at = next;
             }
             UnitSection::Done => {
-                return UnitsFiled {
-                    code: 0,
-                    st: known,
-                };
+                return UnitsFiled { code: 0, st: known };
             }
         }
     }
