@@ -1,4 +1,4 @@
--- What the packer answers over work and output that it has cleared itself, and the small packer's answers.
+-- What the packer answers over an output that it has cleared itself, and the small packer's answers.
 -- Assumes nothing.
 use mathlib.Core.Path.{_≡_, sym, ap, _∙_}
 use mathlib.Core.Bool.{true, false}
@@ -21,11 +21,11 @@ cleared-length n v e = ap (λ (x : List ℕ). length x) e ∙ length-zeros n
 pub cleared-again : (n : ℕ) (v : List ℕ) → v ≡ zeros n → v ≡ zeros (length v)
 cleared-again n v e = e ∙ sym (ap zeros (cleared-length n v e))
 
--- the answers are those for the lengths before
-pub over-cleared : (b : List ℕ) (w o : ℕ) (v d e : List ℕ) (r : Finished) → v ≡ zeros w → d ≡ zeros o
-    → r ≡ finishedOf (packed b (length v) (length d)) → e ≡ outputOf (packed b (length v) (length d)) (length d)
+-- the answers are those for the length of the output before
+pub over-cleared : (b : List ℕ) (w o : ℕ) (d e : List ℕ) (r : Finished) → d ≡ zeros o
+    → r ≡ finishedOf (packed b w (length d)) → e ≡ outputOf (packed b w (length d)) (length d)
     → (r ≡ finishedOf (packed b w o)) × (e ≡ outputOf (packed b w o) o)
-over-cleared b w o v d e r f g h k = (rw (cleared-length w v f, cleared-length o d g) at h, rw (cleared-length w v f, cleared-length o d g) at k)
+over-cleared b w o d e r g h k = (rw (cleared-length o d g) at h, rw (cleared-length o d g) at k)
 
 -- ---- the small packer
 module _ (b : List ℕ) (o : ℕ) where

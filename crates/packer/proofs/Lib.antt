@@ -3,6 +3,7 @@
 pub mod Outcomes
 pub mod ObjectUnits
 pub mod OneObject
+pub mod Slots
 pub mod Start
 pub mod OverObjects
 pub mod Clearing

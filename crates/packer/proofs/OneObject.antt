@@ -6,7 +6,7 @@ use mathlib.Core.List.{List, [], _∷_, _++_}
 use Prim.Native.Nat.{ℕ, _+_, _*_, _≤_}
 use native.Mathlib.Omega.{arith}
 use lib.ListN.{length, drop, getD, length-append}
-use Rattle.octets.specs.Octets.{part, zeros}
+use Rattle.octets.specs.Octets.{zeros}
 use Rattle.octets.specs.Checked.{Check, pass, refuse}
 use Rattle.octets.proofs.Parts.{length-part}
 use Rattle.octets.proofs.Placed.{getD-zeros}
@@ -22,28 +22,27 @@ use Rattle.bundle.proofs.Onward.{Onward, onward, size-behind}
 use Rattle.bundle.proofs.Sections.{body-part}
 use Rattle.bundle.proofs.ScanFacts.{left-sections, scan-next, first-within}
 use Rattle.strings.specs.Strings.{putAll}
-use Rattle.strings.specs.Kept.{Kept}
-use Rattle.strings.specs.declared.table.StringTable.{StringTable}
 use Rattle.strings.proofs.StrOffsets.{Sound, sound}
 use Rattle.strings.proofs.Callers.{strings-room}
 use Rattle.index.specs.Rows.{BySection}
-use Rattle.keeping.specs.Regions.{stringsStart, Replaced}
 use Rattle.package.specs.Input.{Input, present, usedStrings, unitSections, inputOf}
 use Rattle.package.specs.Filing.{Filed, unitsIn, grown}
 use Rattle.package.specs.Pack.{allUsed, stringTable}
 use Rattle.package.proofs.Inputs.{input-parts}
 use Rattle.package.proofs.OverObjects.{input-numbered}
+use Rattle.kept.specs.State.{Held}
+use Rattle.kept.specs.declared.state.InProgress.{InProgress}
 use Rattle.filing.specs.Judged.{InputIs}
-use Rattle.filing.specs.declared.state.InProgress.{InProgress}
 use Rattle.filing.specs.declared.objects.InputFiled.{InputFiled}
-use Rattle.filing.specs.State.{Held, StringsKept}
-use Rattle.filing.specs.ByObject.{stringsCheck, AtObject, InputRoom, InputRead}
+use Rattle.filing.specs.State.{wordsIn, withStrings, StringsKept, OnlyStrings}
+use Rattle.filing.specs.Answers.{AtUnit}
+use Rattle.filing.specs.ByObject.{stringsCheck, StringsIn, AtObject, InputRoom, InputRead, InputAsked, InputAnswered}
 use Rattle.filing.proofs.Growing.{input-room}
 use Rattle.filing.proofs.Entering.{five-is, none-summed, object-enter}
 use Rattle.filing.proofs.Snoc.{used-snoc, strings-stay, check-few}
 use Rattle.packer.specs.declared.objects.UnitsAdded.{UnitsAdded}
 use Rattle.packer.specs.declared.objects.ObjectFiled.{ObjectFiled}
-use Rattle.packer.specs.Objects.{sectionsFrom, Ahead, noSums, InputReady, UnitsAddedIs, UnitsThen, ObjectIs}
+use Rattle.packer.specs.Objects.{sectionsFrom, behindFrom, Ahead, noSums, InputReady, UnitsAddedIs, UnitsAnswered, UnitsThen, ObjectIs}
 
 -- ---- an object that passed
 pub record ObjectParts (b : List ℕ) (e : Encoding) (ps : List Part) (i : Input) : Type 0 where
@@ -87,20 +86,20 @@ module _ (b : List ℕ) (from : ℕ) (h : Ahead b from) where
   lie : Every (Lies b) (leading ahead)
   lie = leading-lie b from ahead left (h .whole) (h .far)
 
-  sizes-behind : (c : ℕ) → from + length (body b (sectionsFrom b from) c) ≤ placeBehind from (sectionsFrom b from)
+  sizes-behind : (c : ℕ) → from + length (body b (sectionsFrom b from) c) ≤ behindFrom b from
   sizes-behind c =
       subst (λ (ps : List Part). from + length (body b ps c) ≤ placeBehind from ps) (sym parts-are)
       (let l = ap length (body-part c b (leading ahead)) ∙ length-part b (startOf (leading ahead) c) (sizeOf (leading ahead) c) (first-within b (leading ahead) c lie) in
       omega (arith, l, size-behind b c from ahead left (h .within)))
 
-  behind : Onward b from (placeBehind from (sectionsFrom b from))
+  behind : Onward b from (behindFrom b from)
   behind = subst (λ (ps : List Part). Onward b from (placeBehind from ps)) (sym parts-are) (onward b from ahead left (h .within))
 
   -- what `read_input` requires
-  pub object-room : (big : Bool) (first n : ℕ) (w : List ℕ) (st : InProgress) (t : StringTable) (bases : BySection ℕ) (is : List Input) (us : List Filed)
-      → AtObject b big first n from w st t bases is us → InputRoom b (sectionsFrom b from) n (length w) t
-  object-room big first n w st t bases is us a =
-      subst (λ (ps : List Part). InputRoom b ps n (length w) t) (sym parts-are) (input-room b big first n from w st t bases is us a from ahead left (omega arith) (h .within) lie)
+  object-room : (big : Bool) (first : ℕ) (w : List ℕ) (st : InProgress) (bases : BySection ℕ) (is : List Input) (us : List Filed)
+      → AtObject b big first from w st bases is us → InputRoom b (sectionsFrom b from) (length w) (st .strings)
+  object-room big first w st bases is us a =
+      subst (λ (ps : List Part). InputRoom b ps (length w) (st .strings)) (sym parts-are) (input-room b big first from w st bases is us a from ahead left (omega arith) (h .within) lie)
 
   -- ---- what `scan_object` and `read_input` answer
   module _ (scan : Scan) (scanned : scan ≡ scanOf from (sectionsOf (items from (drop from b)))) where
@@ -108,30 +107,34 @@ module _ (b : List ℕ) (from : ℕ) (h : Ahead b from) where
     unfolding sectionsFrom
     scan-is = scanned
 
-    pub next-is : scan .next ≡ placeBehind from (sectionsFrom b from)
+    pub next-is : scan .next ≡ behindFrom b from
     next-is = scan-next scan from (sectionsFrom b from) scan-is
 
-    module _ (big : Bool) (first n : ℕ) (w : List ℕ) (st : InProgress) (t : StringTable) where
-      pub read-requires : (bases : BySection ℕ) (is : List Input) (us : List Filed) → AtObject b big first n from w st t bases is us
-          → (at : ℕ) × (ps : List Part) × (ts : List (List ℕ)) × (scan ≡ scanOf at ps) × InputRoom b ps n (length w) t × Kept b (part w (stringsStart n) (3 * n)) t ts
-      read-requires bases is us a = (from, sectionsFrom b from, stringTable is, scan-is, object-room big first n w st t bases is us a, a .strings)
+    module _ (big : Bool) (first : ℕ) (w : List ℕ) (st : InProgress) where
+      pub read-requires : (bases : BySection ℕ) (is : List Input) (us : List Filed) → AtObject b big first from w st bases is us → InputAsked b scan st w
+      read-requires bases is us a = record {
+        at = from;
+        parts = sectionsFrom b from;
+        is = scan-is;
+        room = object-room big first w st bases is us a;
+        strings = stringTable is;
+        kept = a .strings;
+      }
 
-      module _ (word : ℕ) (v : List ℕ) (r : InputFiled)
-          (read : (at : ℕ) (ps : List Part) (ts : List (List ℕ)) → scan ≡ scanOf at ps → InputRoom b ps n (length w) t → Kept b (part w (stringsStart n) (3 * n)) t ts
-          → InputRead b n v ts (inputOf b big first (record { word = word; parts = ps })) r)
-          (frame : Replaced w v (stringsStart n) (3 * n)) (bases : BySection ℕ) (is : List Input) (us : List Filed) (a : AtObject b big first n from w st t bases is us) where
+      module _ (word : ℕ) (v : List ℕ) (r : InputFiled) (read : InputAnswered b big first word scan st w v r) (frame : OnlyStrings (wordsIn b) w v)
+          (bases : BySection ℕ) (is : List Input) (us : List Filed) (a : AtObject b big first from w st bases is us) where
         abbrev checked : Check Input
         checked = inputOf b big first (record { word = word; parts = sectionsFrom b from })
 
-        answered : InputRead b n v (stringTable is) checked r
-        answered = read from (sectionsFrom b from) (stringTable is) scan-is (object-room big first n w st t bases is us a) (a .strings)
+        answered : InputRead b v st (stringTable is) checked r
+        answered = read from (sectionsFrom b from) (stringTable is) scan-is (object-room big first w st bases is us a) (a .strings)
 
         -- the object is refused
-        pub object-refused : (r .code ≡ 0 → ⊥) → (u : ObjectFiled) → u .code ≡ r .code → (v′ : List ℕ) → ObjectIs b big first n v′ bases is us checked u
+        pub object-refused : (r .code ≡ 0 → ⊥) → (u : ObjectFiled) → u .code ≡ r .code → (v′ : List ℕ) → ObjectIs b big first v′ bases is us checked u
         unfolding InputRead ObjectIs
         object-refused z u q v′ = go checked answered
           where
-            go : (m : Check Input) → InputRead b n v (stringTable is) m r → ObjectIs b big first n v′ bases is us m u
+            go : (m : Check Input) → InputRead b v st (stringTable is) m r → ObjectIs b big first v′ bases is us m u
             go (pass i) f = absurd (z (f .0))
             go (refuse m) f = q ∙ f
 
@@ -141,54 +144,54 @@ module _ (b : List ℕ) (from : ℕ) (h : Ahead b from) where
           pub is-checked : checked ≡ pass i
           pub parts : ObjectParts b (encodingOf big first) (sectionsFrom b from) i
           pub input : InputIs b (r .input) i
-          pub strings : Kept b (part v (stringsStart n) (3 * n)) (r .strings) (putAll (stringTable is) (i .used))
-          pub ready : InputReady b (r .input) i n from v st bases us
+          pub strings : StringsIn b v (r .st .strings) (putAll (stringTable is) (i .used))
+          pub ready : InputReady b (r .input) i from v (r .st) bases us
 
         pub object-read : r .code ≡ 0 → ObjectRead
         unfolding InputRead
         object-read z = go checked refl answered
           where
-            go : (m : Check Input) → checked ≡ m → InputRead b n v (stringTable is) m r → ObjectRead
+            go : (m : Check Input) → checked ≡ m → InputRead b v st (stringTable is) m r → ObjectRead
             go (pass i) e f =
                 let p = object-parts b big first (record { word = word; parts = sectionsFrom b from }) i e in
+                let at : AtUnit b (r .input) i from v (withStrings st (r .st .strings)) noSums bases us [] =
+                object-enter b big first from w v st (r .st .strings) bases is us (r .input) i noSums from a frame (f .1) (f .1 .encoding ∙ p .encoding) (none-summed noSums none-at none-at) (omega arith) (h .within) in
                 record {
                   i = i;
                   is-checked = e;
                   parts = p;
                   input = f .1;
-                  strings = f .2;
+                  strings = f .3;
                   ready = record {
-                    atUnit = object-enter b big first n from w v st t bases is us (r .input) i noSums from a frame (f .1) (f .1 .encoding ∙ p .encoding) (none-summed noSums none-at none-at) (omega arith) (h .within);
+                    atUnit = subst (λ (s : InProgress). AtUnit b (r .input) i from v s noSums bases us []) (sym (f .2)) at;
                     units = p .units;
-                    sizes = λ c. subst (λ (s : List ℕ). from + length s ≤ placeBehind from (sectionsFrom b from)) (sym (p .bytes c)) (sizes-behind c);
+                    sizes = λ c. subst (λ (s : List ℕ). from + length s ≤ behindFrom b from) (sym (p .bytes c)) (sizes-behind c);
                   };
                 }
             go (refuse m) e f = absurd (let g = input-numbered b big first (record { word = word; parts = sectionsFrom b from }) .is m e in let y : m ≡ 0 = sym f ∙ z in omega arith)
 
         -- behind its units
-        module _ (z : r .code ≡ 0) (v′ : List ℕ) (q : UnitsAdded)
-            (added : (i : Input) (bases : BySection ℕ) (us : List Filed) → InputReady b (r .input) i n from v st bases us
-            → UnitsAddedIs b (r .input) i n (placeBehind from (sectionsFrom b from)) v v′ bases us (unitsIn i bases us [] (i .units)) q) where
-          at-next : (d : ObjectRead) (us′ : List Filed) → Held (r .input .encoding .five) b n (placeBehind from (sectionsFrom b from)) v′ (q .st) (grown bases (d .i)) us′ → StringsKept n v v′
-              → AtObject b big first n (scan .next) v′ (q .st) (r .strings) (grown bases (d .i)) (is ++ (d .i ∷ [])) us′
+        module _ (z : r .code ≡ 0) (v′ : List ℕ) (q : UnitsAdded) (added : UnitsAnswered b (r .input) from (r .st) v v′ q) where
+          at-next : (d : ObjectRead) (us′ : List Filed) → Held (r .input .encoding .five) b (wordsIn b) (behindFrom b from) v′ (q .st) (grown bases (d .i)) us′ → StringsKept (wordsIn b) v v′ (r .st) (q .st)
+              → AtObject b big first (scan .next) v′ (q .st) (grown bases (d .i)) (is ++ (d .i ∷ [])) us′
           at-next d us′ k s =
               let x = r .input .encoding in
-              subst (λ (place : ℕ). AtObject b big first n place v′ (q .st) (r .strings) (grown bases (d .i)) (is ++ (d .i ∷ [])) us′) (sym next-is)
+              subst (λ (place : ℕ). AtObject b big first place v′ (q .st) (grown bases (d .i)) (is ++ (d .i ∷ [])) us′) (sym next-is)
               (record {
-                held = subst (λ (f : Bool). Held f b n (placeBehind from (sectionsFrom b from)) v′ (q .st) (grown bases (d .i)) us′) (five-is x (encodingOf big first) (d .input .encoding ∙ d .parts .encoding)) k;
-                strings = strings-stay b n v v′ (r .strings) is (d .i) (d .strings) s;
-                used = used-behind (encodingIs x) (sound x) _ (d .i .bytes 6) (d .i .bytes 11) is (d .i) from _ n
+                held = subst (λ (f : Bool). Held f b (wordsIn b) (behindFrom b from) v′ (q .st) (grown bases (d .i)) us′) (five-is x (encodingOf big first) (d .input .encoding ∙ d .parts .encoding)) k;
+                strings = strings-stay b v v′ (r .st) (q .st) is (d .i) (d .strings) s;
+                used = used-behind (encodingIs x) (sound x) _ (d .i .bytes 6) (d .i .bytes 11) is (d .i) from _ (wordsIn b)
                     (subst (λ (e : Encoding). stringsCheck e (present (sectionsFrom b from) 6) (d .i .bytes 6) (d .i .bytes 11) ≡ pass (d .i .used)) (sym (d .input .encoding)) (d .parts .used))
                     (a .used) (d .ready .sizes 6) (omega (arith, behind .within, a .held .words));
               })
 
-          pub object-filed : ObjectIs b big first n v′ bases is us checked (record { code = q .code; next = scan .next; st = q .st; strings = r .strings })
+          pub object-filed : ObjectIs b big first v′ bases is us checked (record { code = q .code; next = scan .next; st = q .st })
           unfolding ObjectIs UnitsThen UnitsAddedIs
           object-filed =
               let d = object-read z in
               rw (d .is-checked) (go d (unitsIn (d .i) bases us [] (d .i .units)) (added (d .i) bases us (d .ready)))
             where
-              go : (d : ObjectRead) (m : Check (List Filed)) → UnitsAddedIs b (r .input) (d .i) n (placeBehind from (sectionsFrom b from)) v v′ bases us m q
-                  → UnitsThen b big first n v′ bases is us (d .i) m (record { code = q .code; next = scan .next; st = q .st; strings = r .strings })
+              go : (d : ObjectRead) (m : Check (List Filed)) → UnitsAddedIs b (r .input) (d .i) (behindFrom b from) v v′ (r .st) bases us m q
+                  → UnitsThen b big first v′ bases is us (d .i) m (record { code = q .code; next = scan .next; st = q .st })
               go d (pass hs) f = (f .0, at-next d (us ++ hs) (f .1) (f .2))
               go d (refuse m) f = f

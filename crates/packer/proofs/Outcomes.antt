@@ -33,6 +33,10 @@ module _ (limit : ℕ) (b : List ℕ) (e : lengthGood limit b ≡ true) where
   unfolding lengthGood
   length-within = leb-true (length b) limit (and-right (leb 8 (length b)) _ (and-left _ (eqb (length b % 4) 0) e))
 
+  pub length-some : 8 ≤ length b
+  unfolding lengthGood
+  length-some = leb-true 8 (length b) (and-left (leb 8 (length b)) (leb (length b) limit) (and-left _ (eqb (length b % 4) 0) e))
+
   pub length-whole : length b % 4 ≡ 0
   unfolding lengthGood
   length-whole = eqb-true (length b % 4) 0 (and-right (leb 8 (length b) && leb (length b) limit) _ e)
@@ -60,11 +64,11 @@ module _ (big : Bool) (b v : List ℕ) (k : Bundle) (r : ObjectsFiled) (e : Obje
       go (pass f) q g = absurd (h (g .0))
       go (refuse n) q g = q ∙ ap refuse (sym g)
 
-  pub filing-passed : r .code ≡ 0 → AllFiled big b (r .st) (r .strings) v
+  pub filing-passed : r .code ≡ 0 → AllFiled big b (r .st) v
   unfolding ObjectsAre
   filing-passed h = go (filingOf b k) refl e
     where
-      go : (m : Check Filing) → filingOf b k ≡ m → ObjectsAre big b v m r → AllFiled big b (r .st) (r .strings) v
+      go : (m : Check Filing) → filingOf b k ≡ m → ObjectsAre big b v m r → AllFiled big b (r .st) v
       go (pass f) q g = g .1
       go (refuse n) q g = absurd (let p : 1 ≤ n = filing-numbered b k .is n q in let z : n ≡ 0 = sym g ∙ h in omega (arith, p, z))
 

@@ -1,9 +1,9 @@
 -- The walk over the objects of a bundle: the first word, and what the loop keeps.
 -- Assumes nothing.
 use mathlib.Core.Path.{_≡_, refl, sym, ap, _∙_, subst}
-use mathlib.Core.Bool.{Bool, false}
+use mathlib.Core.Bool.{Bool}
 use mathlib.Core.List.{List, [], _∷_, _++_, map, map-append, append-nil, append-assoc}
-use Prim.Native.Nat.{ℕ, _+_, _/_, _%_, _<_, _≤_}
+use Prim.Native.Nat.{ℕ, _+_, _%_, _<_, _≤_}
 use native.Mathlib.Omega.{arith}
 use lib.Dec.{eqb}
 use lib.ListN.{length, drop, length-append}
@@ -13,7 +13,7 @@ use Rattle.octets.proofs.Checks.{pass-inj}
 use Rattle.octets.proofs.Joined.{joined-snoc}
 use Rattle.bundle.specs.Bundle.{Part, Item, Object, Bundle, stepAt, leading, objectsOf, bundleOf}
 use Rattle.bundle.specs.Next.{nextOf}
-use Rattle.bundle.specs.Scan.{sectionsOf, placeBehind}
+use Rattle.bundle.specs.Scan.{placeBehind}
 use Rattle.bundle.specs.Encoding.{encodingOf}
 use Rattle.bundle.specs.declared.Item.{Item as Answered}
 use Rattle.bundle.specs.declared.Item.the-variants.{Object as AnObject}
@@ -22,18 +22,17 @@ use Rattle.bundle.proofs.Passed.{here}
 use Rattle.bundle.proofs.Next.{object-here}
 use Rattle.bundle.proofs.Objects.{Objects, Entered, objects-none, objects-object}
 use Rattle.finish.proofs.Entering.{objects-over}
-use Rattle.strings.specs.declared.table.StringTable.{StringTable}
-use Rattle.keeping.specs.Regions.{stringsStart}
 use Rattle.index.specs.Rows.{BySection}
 use Rattle.package.specs.Input.{Input, inputOf}
 use Rattle.package.specs.Filing.{Filed, unitsIn, grown, filingFrom, firstWord, filingOf}
 use Rattle.package.proofs.OverObjects.{ObjectsAhead, ahead-all, ahead-end, ahead-input-refused, ahead-unit-refused, ahead-more, input-numbered}
 use Rattle.package.proofs.NumberedWalks.{sections-numbered}
-use Rattle.filing.specs.State.{Held}
+use Rattle.kept.specs.State.{Held}
+use Rattle.kept.specs.declared.state.InProgress.{InProgress}
+use Rattle.filing.specs.State.{wordsIn}
 use Rattle.filing.specs.ByObject.{AtObject}
-use Rattle.filing.specs.declared.state.InProgress.{InProgress}
 use Rattle.filing.proofs.OverSections.{held-later}
-use Rattle.packer.specs.Objects.{sectionsFrom, Ahead, UnitsThen, ObjectIs, noneFiled, Cleared, ObjectsAre}
+use Rattle.packer.specs.Objects.{sectionsFrom, behindFrom, Ahead, UnitsThen, ObjectIs, HeadAsked, HeadAnswered, noneFiled, Cleared, ObjectsAre}
 use Rattle.packer.specs.declared.objects.ObjectFiled.{ObjectFiled}
 use Rattle.packer.specs.declared.objects.ObjectsFiled.{ObjectsFiled}
 use Rattle.packer.proofs.Start.{at-start}
@@ -50,8 +49,8 @@ module _ (b : List ℕ) (k : Bundle) (e : bundleOf b ≡ pass k) where
 
 -- ---- places
 -- what is filed up to a place is filed up to a later one
-object-later : {b : List ℕ} {big : Bool} {first n : ℕ} (p q : ℕ) {w : List ℕ} {st : InProgress} {t : StringTable} {bases : BySection ℕ} {is : List Input} {us : List Filed}
-    → AtObject b big first n p w st t bases is us → p ≤ q → q ≤ length b → AtObject b big first n q w st t bases is us
+object-later : {b : List ℕ} {big : Bool} {first : ℕ} (p q : ℕ) {w : List ℕ} {st : InProgress} {bases : BySection ℕ} {is : List Input} {us : List Filed}
+    → AtObject b big first p w st bases is us → p ≤ q → q ≤ length b → AtObject b big first q w st bases is us
 object-later p q a h g = record { held = held-later p q (a .held) h g; strings = a .strings; used = omega (arith, a .used) }
 
 sections-are : (b : List ℕ) (from : ℕ) (ahead : List Item) → here b from ≡ pass ahead → sectionsFrom b from ≡ leading ahead
@@ -60,7 +59,7 @@ sections-are b from ahead e = left-sections b from ahead e
 
 -- ---- the loop
 -- at a place the objects done are filed, of all that the bundle has
-pub record SoFar (b : List ℕ) (big : Bool) (first at : ℕ) (w₀ w : List ℕ) (st : InProgress) (t : StringTable) : Type 0 where
+pub record SoFar (b : List ℕ) (big : Bool) (first at : ℕ) (w₀ w : List ℕ) (st : InProgress) : Type 0 where
   pub same : length w ≡ length w₀
   pub bundle : Bundle
   pub reads : bundleOf b ≡ pass bundle
@@ -71,12 +70,12 @@ pub record SoFar (b : List ℕ) (big : Bool) (first at : ℕ) (w₀ w : List ℕ
   pub inputs : List Input
   pub units : List Filed
   pub bases : BySection ℕ
-  pub held : AtObject b big first (length b / 4) at w st t bases inputs units
+  pub held : AtObject b big first at w st bases inputs units
   pub ahead : (rest : List Object) → done ++ rest ≡ bundle .objects → ObjectsAhead b big first inputs units bases rest (bundle .objects)
   pub based : (c : ℕ) → bases c ≡ length (joined (map (λ i. i .bytes c) inputs))
 
 pub far-none : {big : Bool} {b w : List ℕ} (first : ℕ) → Cleared big b w → ((k : Bundle) → bundleOf b ≡ pass k → first ≡ firstWord (k .objects))
-    → (st : InProgress) → st ≡ noneFiled → SoFar b big first 4 w w st (record { count = 0; size = 0; over = false })
+    → (st : InProgress) → st ≡ noneFiled → SoFar b big first 4 w w st
 unfolding joined
 far-none {big} {b} first c f st z =
     record {
@@ -102,7 +101,7 @@ unfolding grown
 grown-is bases is i h c =
     rw (map-append (λ i. i .bytes c) is (i ∷ []), joined-snoc (map (λ i. i .bytes c) is) (i .bytes c), length-append (joined (map (λ i. i .bytes c) is)) (i .bytes c)) (ap (λ (n : ℕ). n + length (i .bytes c)) (h c))
 
-module _ {b : List ℕ} {big : Bool} {first at : ℕ} {w₀ w : List ℕ} {st : InProgress} {t : StringTable} (s : SoFar b big first at w₀ w st t) where
+module _ {b : List ℕ} {big : Bool} {first at : ℕ} {w₀ w : List ℕ} {st : InProgress} (s : SoFar b big first at w₀ w st) where
   -- the definition's walk
   filing-is : (k : Bundle) → bundleOf b ≡ pass k → filingOf b k ≡ filingFrom b big first (λ c. 0) [] (s .bundle .objects)
   unfolding filingOf
@@ -112,8 +111,8 @@ module _ {b : List ℕ} {big : Bool} {first at : ℕ} {w₀ w : List ℕ} {st : 
 
   -- at the end
   pub far-end : (r : Answered) → ((word next : ℕ) → r ≡ AnObject word next → ⊥) → r ≡ nextOf at (stepAt at (drop at b))
-      → (k : Bundle) → bundleOf b ≡ pass k → ObjectsAre big b w (filingOf b k) (record { code = 0; st = st; strings = t })
-  unfolding ObjectsAre stringsStart encodingOf
+      → (k : Bundle) → bundleOf b ≡ pass k → ObjectsAre big b w (filingOf b k) (record { code = 0; st = st })
+  unfolding ObjectsAre encodingOf
   far-end r f h k e =
       let over = objects-over b at (s .done) (s .bundle .objects) (s .passed) r f h in
       let whole = ahead-end b big first (s .inputs) (s .units) (s .bases) (s .bundle .objects) (s .ahead [] (append-nil (s .done) ∙ over)) in
@@ -128,7 +127,7 @@ module _ {b : List ℕ} {big : Bool} {first at : ℕ} {w₀ w : List ℕ} {st : 
           filed = filing-is (s .bundle) (s .reads) ∙ whole;
           bases = s .bases;
           based = λ c l g. s .based c;
-          held = subst (λ (five : Bool). Held five b (length b / 4) (length b) w st (s .bases) (s .units)) v (held-later at (length b) (s .held .held) (s .held .held .within) (omega arith));
+          held = subst (λ (five : Bool). Held five b (wordsIn b) (length b) w st (s .bases) (s .units)) v (held-later at (length b) (s .held .held) (s .held .held .within) (omega arith));
           strings = s .held .strings;
         },
       )
@@ -141,7 +140,7 @@ module _ {b : List ℕ} {big : Bool} {first at : ℕ} {w₀ w : List ℕ} {st : 
     behind-word : next ≡ at + 4
     behind-word = omega (arith, object-here b at word next e .place)
 
-    pub word-ahead : Ahead b next
+    word-ahead : Ahead b next
     unfolding here
     word-ahead = record {
       reaches = record { ahead = entered .ahead; left = entered .left };
@@ -150,16 +149,18 @@ module _ {b : List ℕ} {big : Bool} {first at : ℕ} {w₀ w : List ℕ} {st : 
       within = omega (arith, entered .further, entered .within);
     }
 
-    pub word-held : AtObject b big first (length b / 4) next w st t (s .bases) (s .inputs) (s .units)
+    word-held : AtObject b big first next w st (s .bases) (s .inputs) (s .units)
     word-held = object-later at next (s .held) (omega (arith, behind-word)) (word-ahead .within)
+
+    pub word-asked : HeadAsked b (record { big = big; first = first; word = word; from = next }) st w
+    word-asked = record { ahead = word-ahead; bases = s .bases; inputs = s .inputs; units = s .units; held = word-held }
 
     abbrev one : Object
     one = record { word = word; parts = leading (entered .ahead) }
 
     -- the answer of `add_input_object` for it
-    module _ (v : List ℕ) (r : ObjectFiled) (same : length v ≡ length w) (behind : r .next ≡ placeBehind next (sectionsFrom b next))
-        (filed : (bases : BySection ℕ) (is : List Input) (us : List Filed) → AtObject b big first (length b / 4) next w st t bases is us
-        → ObjectIs b big first (length b / 4) v bases is us (inputOf b big first (record { word = word; parts = sectionsFrom b next })) r) where
+    module _ (v : List ℕ) (r : ObjectFiled) (same : length v ≡ length w) (behind : r .next ≡ behindFrom b next)
+        (filed : HeadAnswered b (record { big = big; first = first; word = word; from = next }) st w v r) where
       sections : sectionsFrom b next ≡ leading (entered .ahead)
       sections = sections-are b next (entered .ahead) (entered .left)
 
@@ -169,20 +170,20 @@ module _ {b : List ℕ} {big : Bool} {first at : ℕ} {w₀ w : List ℕ} {st : 
       pub word-further : (at < r .next) × (r .next ≤ length b)
       word-further = (omega (arith, next-is, behind-word, entered .further), omega (arith, next-is, entered .within))
 
-      answered : ObjectIs b big first (length b / 4) v (s .bases) (s .inputs) (s .units) (inputOf b big first one) r
-      answered = subst (λ (ps : List Part). ObjectIs b big first (length b / 4) v (s .bases) (s .inputs) (s .units) (inputOf b big first (record { word = word; parts = ps })) r) sections
+      answered : ObjectIs b big first v (s .bases) (s .inputs) (s .units) (inputOf b big first one) r
+      answered = subst (λ (ps : List Part). ObjectIs b big first v (s .bases) (s .inputs) (s .units) (inputOf b big first (record { word = word; parts = ps })) r) sections
           (filed (s .bases) (s .inputs) (s .units) word-held)
 
-      pub far-more : r .code ≡ 0 → SoFar b big first (r .next) w₀ v (r .st) (r .strings)
+      pub far-more : r .code ≡ 0 → SoFar b big first (r .next) w₀ v (r .st)
       unfolding ObjectIs UnitsThen
       far-more z = go _ refl answered
         where
-          go : (m : Check Input) → inputOf b big first one ≡ m → ObjectIs b big first (length b / 4) v (s .bases) (s .inputs) (s .units) m r → SoFar b big first (r .next) w₀ v (r .st) (r .strings)
+          go : (m : Check Input) → inputOf b big first one ≡ m → ObjectIs b big first v (s .bases) (s .inputs) (s .units) m r → SoFar b big first (r .next) w₀ v (r .st)
           go (refuse m) q f = absurd (let g = input-numbered b big first one .is m q in let y : m ≡ 0 = sym f ∙ z in omega arith)
           go (pass i) q f = on _ refl f
             where
-              on : (m : Check (List Filed)) → unitsIn i (s .bases) (s .units) [] (i .units) ≡ m → UnitsThen b big first (length b / 4) v (s .bases) (s .inputs) (s .units) i m r
-                  → SoFar b big first (r .next) w₀ v (r .st) (r .strings)
+              on : (m : Check (List Filed)) → unitsIn i (s .bases) (s .units) [] (i .units) ≡ m → UnitsThen b big first v (s .bases) (s .inputs) (s .units) i m r
+                  → SoFar b big first (r .next) w₀ v (r .st)
               on (refuse m) u g = absurd (let h = sections-numbered i (s .bases) (s .units) [] (i .units) .is m u in let y : m ≡ 0 = sym g ∙ z in omega arith)
               on (pass us) u g = record {
                 same = same ∙ s .same;
@@ -210,10 +211,10 @@ module _ {b : List ℕ} {big : Bool} {first at : ℕ} {w₀ w : List ℕ} {st : 
           left : ObjectsAhead b big first (s .inputs) (s .units) (s .bases) (one ∷ behind-it) (s .bundle .objects)
           left = s .ahead (one ∷ behind-it) (sym (append-assoc (s .done) (one ∷ []) behind-it) ∙ entered .more .is)
 
-          go : (m : Check Input) → inputOf b big first one ≡ m → ObjectIs b big first (length b / 4) v (s .bases) (s .inputs) (s .units) m r → ObjectsAre big b v (filingOf b k) u
+          go : (m : Check Input) → inputOf b big first one ≡ m → ObjectIs b big first v (s .bases) (s .inputs) (s .units) m r → ObjectsAre big b v (filingOf b k) u
           go (refuse m) q f = rw (filing-is k p ∙ ahead-input-refused b big first (s .inputs) (s .units) (s .bases) (s .bundle .objects) one behind-it left m q) (h ∙ f)
           go (pass i) q f = on _ refl f
             where
-              on : (m : Check (List Filed)) → unitsIn i (s .bases) (s .units) [] (i .units) ≡ m → UnitsThen b big first (length b / 4) v (s .bases) (s .inputs) (s .units) i m r → ObjectsAre big b v (filingOf b k) u
+              on : (m : Check (List Filed)) → unitsIn i (s .bases) (s .units) [] (i .units) ≡ m → UnitsThen b big first v (s .bases) (s .inputs) (s .units) i m r → ObjectsAre big b v (filingOf b k) u
               on (refuse m) y g = rw (filing-is k p ∙ ahead-unit-refused b big first (s .inputs) (s .units) (s .bases) (s .bundle .objects) one behind-it left i m q y) (h ∙ g)
               on (pass us) y g = absurd (z (g .0))

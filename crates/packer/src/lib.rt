@@ -1,5 +1,6 @@
 // Packing: any bytes in, a package or a number out.
 pub mod answering;
+pub mod clear;
 pub mod objects;
 
 ghost use mathlib.Core.Path.{_≡_};
@@ -18,9 +19,9 @@ use numbers::refusals::BAD_LENGTH;
 use numbers::refusals::BAD_WORDS;
 use numbers::refusals::WORK_SHORT;
 
-// Over work and output that are cleared; work is not cleared behind it.
+// Over an output that is cleared; work may hold anything, and is not cleared behind it.
 fn pack_cleared(b: &[u8], work: &mut [u32], out: &mut [u8]) -> Finished
-    requires { ⌜ (now work ≡ zeros (length (now work))) × (now out ≡ zeros (length (now out))) ⌝ }
+    requires { ⌜ now out ≡ zeros (length (now out)) ⌝ }
     ensures answer { λ r. ⌜ r ≡ finishedOf (packed (now (b .entry)) (length (now (work .entry))) (length (now (out .entry)))) ⌝ }
     ensures output { λ _. ⌜ now (out .exit) ≡ outputOf (packed (now (b .entry)) (length (now (work .entry))) (length (now (out .entry)))) (length (now (out .entry))) ⌝ }
 {
@@ -33,14 +34,14 @@ fn pack_cleared(b: &[u8], work: &mut [u32], out: &mut [u8]) -> Finished
     let Words::Readable(big) = bundle::check_words(b) else {
         return Finished::Refused(BAD_WORDS);
     };
+    clear::clear_slots(b.len() / 4, work);
     let filed = objects::add_input_objects(b, big, work);
     let code = filed.code;
     if code != 0 {
         return Finished::Refused(code);
     }
     let st = filed.st;
-    let strings = filed.strings;
-    finish::whole::finish(b, big, st, strings, work, out)
+    finish::whole::finish(b, big, st, work, out)
 }
 
 // Whatever the three hold: the package, 18 with the length needed, or a refusal; behind it the output is the package and zeros, or
@@ -51,7 +52,6 @@ pub fn pack(b: &[u8], work: &mut [u32], out: &mut [u8]) -> Finished
     ensures work { λ _. ⌜ now (work .exit) ≡ zeros (length (now (work .entry))) ⌝ }
 {
     octets::clear_bytes(out);
-    octets::clear_words(work);
     let r = pack_cleared(b, work, out);
     octets::clear_words(work); // of what was filed
     r

@@ -1,39 +1,41 @@
 // The objects of a bundle, one behind the other: 4 to 16.
 ghost use mathlib.Core.Path.{_≡_};
-ghost use mathlib.Core.List.{List, []};
-ghost use Prim.Native.Nat.{ℕ};
 ghost use Rattle.octets.specs.Checked.{pass};
 ghost use Rattle.bundle.specs.Bundle.{Bundle, bundleOf};
-ghost use Rattle.bundle.specs.Scan.{placeBehind};
-ghost use Rattle.index.specs.Rows.{BySection};
-ghost use Rattle.package.specs.Input.{Input, inputOf};
-ghost use Rattle.package.specs.Filing.{Filed, unitsIn, filingOf, firstWord};
-ghost use Rattle.filing.specs.ByObject.{AtObject};
+ghost use Rattle.package.specs.Filing.{firstWord};
 ghost use Rattle.packer.specs.Objects.{
-  sectionsFrom,
-  Ahead,
-  InputReady,
-  UnitsAddedIs,
-  ObjectIs,
+  behindFrom,
+  UnitsAsked,
+  UnitsAnswered,
+  HeadAsked,
+  HeadAnswered,
   noneFiled,
   Cleared,
-  ObjectsAre,
+  ObjectsAnswered,
 };
 use bundle::Item;
 use filing::input::InputObject;
-use filing::state::InProgress;
 use filing::state::Sums;
-use keeping::Table;
+use index::cells::COLUMNS;
+use kept::Table;
+use kept::Units;
+use kept::state::InProgress;
 use numbers::sections::CODES;
-use places::Kept;
 use strings::table::StringTable;
+
+// The object at hand: the byte order, the first object's word and its own, and where its sections start.
+pub struct ObjectHead {
+    pub big: bool,
+    pub first: u32,
+    pub word: u32,
+    pub from: usize,
+}
 
 // An object filed: 0 or the refusal, the place behind it, and what is held.
 pub struct ObjectFiled {
     pub code: u32,
     pub next: usize,
     pub st: InProgress,
-    pub strings: StringTable,
 }
 
 // The units of an object filed: 0 or the refusal, and what is held.
@@ -46,22 +48,17 @@ pub struct UnitsAdded {
 pub struct ObjectsFiled {
     pub code: u32,
     pub st: InProgress,
-    pub strings: StringTable,
 }
 
 fn with_bases(st: InProgress, bases: [usize; CODES]) -> InProgress
-    ensures { λ r. ⌜ r ≡ record { cu = st .cu; tu = st .tu; info = st .info; types = st .types; bases = bases } ⌝ }
+    ensures { λ r. ⌜ r ≡ record { units = st .units; bases = bases; strings = st .strings } ⌝ }
 {
-    let cu = st.cu;
-    let tu = st.tu;
-    let info = st.info;
-    let types = st.types;
+    let units = st.units;
+    let strings = st.strings;
     InProgress {
-        cu,
-        tu,
-        info,
-        types,
+        units,
         bases,
+        strings,
     }
 }
 
@@ -70,18 +67,17 @@ fn add_object_units(
     b: &[u8],
     x: InputObject,
     from: usize,
-    n: usize,
     st: InProgress,
     work: &mut [u32],
 ) -> UnitsAdded
-    requires { ⌜ Ahead (now b) from × ((i : Input) × (bases : BySection ℕ) × (us : List Filed) × InputReady (now b) x i n from (now work) st bases us) ⌝ }
-    ensures { λ r. ⌜ ((i : Input) (bases : BySection ℕ) (us : List Filed) → InputReady (now (b .entry)) x i n from (now (work .entry)) st bases us → UnitsAddedIs (now (b .entry)) x i n (placeBehind from (sectionsFrom (now (b .entry)) from)) (now (work .entry)) (now (work .exit)) bases us (unitsIn i bases us [] (i .units)) r) ⌝ }
+    requires { ⌜ UnitsAsked (now b) x from st (now work) ⌝ }
+    ensures { λ r. ⌜ UnitsAnswered (now (b .entry)) x from st (now (work .entry)) (now (work .exit)) r ⌝ }
 {
     let none = Sums {
         cu: [0; CODES],
         tu: [0; CODES],
     };
-    let filed = filing::walks::add_sections(b, x, from, n, st, none, work);
+    let filed = filing::walks::add_sections(b, x, from, st, none, work);
     let known = filed.st;
     let code = filed.code;
     if code != 0 {
@@ -89,7 +85,7 @@ fn add_object_units(
     }
     let bases = known.bases;
     let size = x.size;
-    let more = keeping::cells::grown(bases, size);
+    let more = kept::cells::grown(bases, size);
     let behind = with_bases(known, more);
     UnitsAdded {
         code: 0,
@@ -97,44 +93,36 @@ fn add_object_units(
     }
 }
 
-// The object of a word, whose sections start at a place; first is the first object's word.
-pub fn add_input_object(
-    b: &[u8],
-    big: bool,
-    first: u32,
-    word: u32,
-    from: usize,
-    n: usize,
-    st: InProgress,
-    t: StringTable,
-    work: &mut [u32],
-) -> ObjectFiled
-    requires { ⌜ Ahead (now b) from × ((bases : BySection ℕ) × (is : List Input) × (us : List Filed) × AtObject (now b) big first n from (now work) st t bases is us) ⌝ }
-    ensures next { λ r. ⌜ r .next ≡ placeBehind from (sectionsFrom (now (b .entry)) from) ⌝ }
-    ensures filed { λ r. ⌜ ((bases : BySection ℕ) (is : List Input) (us : List Filed) → AtObject (now (b .entry)) big first n from (now (work .entry)) st t bases is us → ObjectIs (now (b .entry)) big first n (now (work .exit)) bases is us (inputOf (now (b .entry)) big first (record { word = word; parts = sectionsFrom (now (b .entry)) from })) r) ⌝ }
+// One object whole.
+pub fn add_input_object(b: &[u8], head: ObjectHead, st: InProgress, work: &mut [u32]) -> ObjectFiled
+    requires { ⌜ HeadAsked (now b) head st (now work) ⌝ }
+    ensures next { λ r. ⌜ r .next ≡ behindFrom (now (b .entry)) (head .from) ⌝ }
+    ensures filed { λ r. ⌜ HeadAnswered (now (b .entry)) head st (now (work .entry)) (now (work .exit)) r ⌝ }
 {
+    let from = head.from;
     let scan = bundle::scan_object(b, from);
     let next = scan.next;
-    let read = filing::objects::read_input(b, big, first, word, scan, n, t, work);
-    let strings = read.strings;
+    let big = head.big;
+    let first = head.first;
+    let word = head.word;
+    let read = filing::objects::read_input(b, big, first, word, scan, st, work);
+    let known = read.st;
     let code = read.code;
     if code != 0 {
         return ObjectFiled {
             code,
             next,
-            st,
-            strings,
+            st: known,
         };
     }
     let x = read.input;
-    let added = add_object_units(b, x, from, n, st, work);
-    let known = added.st;
+    let added = add_object_units(b, x, from, known, work);
+    let held = added.st;
     let added_code = added.code;
     ObjectFiled {
         code: added_code,
         next,
-        st: known,
-        strings,
+        st: held,
     }
 }
 
@@ -143,17 +131,25 @@ fn nothing_filed() -> InProgress
     ensures { λ r. ⌜ r ≡ noneFiled ⌝ }
 {
     InProgress {
-        cu: Table {
+        units: Units {
             count: 0,
-            has: [false; 8],
+            cu: Table {
+                rows: 0,
+                has: [false; COLUMNS],
+            },
+            tu: Table {
+                rows: 0,
+                has: [false; COLUMNS],
+            },
+            info: 0,
+            types: 0,
         },
-        tu: Table {
-            count: 0,
-            has: [false; 8],
-        },
-        info: Kept { count: 0, bytes: 0 },
-        types: Kept { count: 0, bytes: 0 },
         bases: [0; CODES],
+        strings: StringTable {
+            count: 0,
+            size: 0,
+            over: false,
+        },
     }
 }
 
@@ -167,34 +163,29 @@ fn first_word(b: &[u8]) -> u32
     word
 }
 
-// All objects, into work that is cleared. The caller has checked 1 to 3.
+// All objects, into work whose slots are cleared. The caller has checked 1 to 3.
 pub fn add_input_objects(b: &[u8], big: bool, work: &mut [u32]) -> ObjectsFiled
     requires { ⌜ Cleared big (now b) (now work) ⌝ }
-    ensures { λ r. ⌜ ((k : Bundle) → bundleOf (now (b .entry)) ≡ pass k → ObjectsAre big (now (b .entry)) (now (work .exit)) (filingOf (now (b .entry)) k) r) ⌝ }
+    ensures { λ r. ⌜ ObjectsAnswered big (now (b .entry)) (now (work .exit)) r ⌝ }
 {
-    let n = b.len() / 4;
     let first = first_word(b);
     let mut st = nothing_filed();
-    let mut strings = StringTable {
-        count: 0,
-        size: 0,
-        over: false,
-    };
     let mut at = 4;
     loop {
         let Item::Object(word, from) = bundle::next_item(b, at) else {
-            return ObjectsFiled {
-                code: 0,
-                st,
-                strings,
-            };
+            return ObjectsFiled { code: 0, st };
         };
-        let r = add_input_object(b, big, first, word, from, n, st, strings, work);
+        let head = ObjectHead {
+            big,
+            first,
+            word,
+            from,
+        };
+        let r = add_input_object(b, head, st, work);
         let code = r.code;
         st = r.st;
-        strings = r.strings;
         if code != 0 {
-            return ObjectsFiled { code, st, strings };
+            return ObjectsFiled { code, st };
         }
         at = r.next;
     }

@@ -2,7 +2,7 @@
 -- Assumes nothing.
 use mathlib.Core.Path.{ap, _∙_}
 use Rattle.octets.specs.Octets.{zeros}
-use Rattle.packer.proofs.Clearing.{cleared-length, cleared-again, over-cleared}
+use Rattle.packer.proofs.Clearing.{cleared-again, over-cleared}
 use borrow.Author.Needs.{needs}
 use Rattle.packer.proofs.pack.Statement.{statement}
 use Rattle.packer.proofs.pack.Tie as tie
@@ -10,14 +10,11 @@ use Rattle.packer.proofs.pack.Tie as tie
 clear-bytes-requires : tie.Need-clear-bytes-requires
 clear-bytes-requires c κs = search needs
 
+pack-cleared-requires : tie.Need-pack-cleared-requires
+pack-cleared-requires c κs = cleared-again _ _ (c .before .before .before .before .clear-bytes .ensures)
+
 clear-words-requires : tie.Need-clear-words-requires
 clear-words-requires c κs = search needs
-
-pack-cleared-requires : tie.Need-pack-cleared-requires
-pack-cleared-requires c κs = (cleared-again _ _ (c .before .before .before .before .clear-words .ensures), cleared-again _ _ (c .before .before .before .before .before .before .before .before .clear-bytes .ensures))
-
-clear-words-requires-2 : tie.Need-clear-words-requires-2
-clear-words-requires-2 c κs = search needs
 
 same-length : tie.Need-same-length
 same-length c = search needs
@@ -28,19 +25,8 @@ same-length-2 c = search needs
 returns : tie.Need-returns
 returns c =
     let p = c .before .before .before .before .before .before .before .before in
-    let w = c .before .before .before .before .before .before .before .before .before .before .before .before .before .clear-words .ensures in
-    let o = c .before .before .before .before .before .before .before .before .before .before .before .before .before .before .before .before .before .clear-bytes .ensures in
-    let r = over-cleared _ _ _ _ _ _ _ w o (p .pack-cleared .ensures .0) (p .pack-cleared .ensures .1) in
-    (r .0, (r .1, c .before .before .clear-words2 .ensures ∙ ap zeros (p .pack-cleared .kept .1 .0 ∙ cleared-length _ _ w)))
+    let r = over-cleared _ _ _ _ _ _ (c .before .before .before .before .before .before .before .before .before .before .before .before .before .clear-bytes .ensures) (p .pack-cleared .ensures .0) (p .pack-cleared .ensures .1) in
+    (r .0, (r .1, c .before .before .clear-words .ensures ∙ ap zeros (p .pack-cleared .kept .1 .0)))
 
 pub pack-spec : {M : Type 1} → statement M
-pack-spec =
-    tie.close
-    (tie.spec
-    clear-bytes-requires
-    clear-words-requires
-    pack-cleared-requires
-    clear-words-requires-2
-    same-length
-    same-length-2
-    returns)
+pack-spec = tie.close (tie.spec clear-bytes-requires pack-cleared-requires clear-words-requires same-length same-length-2 returns)

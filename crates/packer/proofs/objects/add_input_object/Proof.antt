@@ -12,7 +12,7 @@ scan-object-requires c κs = search needs
 read-input-requires : tie.Need-read-input-requires
 read-input-requires c κs =
     let p = c .before .before .before .before .pre in
-    read-requires _ _ (p .0) _ (c .before .scan-object .ensures) _ _ _ _ _ _ (p .1 .0) (p .1 .1) (p .1 .2) (p .1 .3)
+    read-requires _ _ (p .ahead) _ (c .before .scan-object .ensures) _ _ _ _ (p .bases) (p .inputs) (p .units) (p .held)
 
 same-length : tie.Need-same-length
 same-length c = search needs
@@ -22,8 +22,8 @@ returns c =
     let p = c .before .before .before .before .before .before .before .before .before .pre in
     let s = c .before .before .before .before .before .before .scan-object .ensures in
     let r = c .before .before .before .before .read-input in (
-      next-is _ _ (p .0) _ s,
-      λ bases is us a. object-refused _ _ (p .0) _ s _ _ _ _ _ _ _ _ (r .result) (r .ensures .0) (r .ensures .1) bases is us a (c .if1 .taken) _ refl _,
+      next-is _ _ (p .ahead) _ s,
+      λ bases is us a. object-refused _ _ (p .ahead) _ s _ _ _ _ _ _ (r .result) (r .ensures .0) (r .ensures .1) bases is us a (c .if1 .taken) _ refl _,
     )
 
 add-object-units-requires : tie.Need-add-object-units-requires
@@ -31,8 +31,8 @@ add-object-units-requires c κs =
     let p = c .before .before .before .before .before .before .before .before .before .before .before .pre in
     let s = c .before .before .before .before .before .before .before .before .scan-object .ensures in
     let r = c .before .before .before .before .before .before .read-input in
-    let d = object-read _ _ (p .0) _ s _ _ _ _ _ _ _ _ (r .result) (r .ensures .0) (r .ensures .1) (p .1 .0) (p .1 .1) (p .1 .2) (p .1 .3) (c .before .before .if1 .left) in
-    (p .0, (d .i, p .1 .0, p .1 .2, d .ready))
+    let d = object-read _ _ (p .ahead) _ s _ _ _ _ _ _ (r .result) (r .ensures .0) (r .ensures .1) (p .bases) (p .inputs) (p .units) (p .held) (c .before .before .if1 .left) in
+    record { ahead = p .ahead; input = d .i; bases = p .bases; units = p .units; ready = d .ready }
 
 same-length-2 : tie.Need-same-length-2
 same-length-2 c = search needs
@@ -43,8 +43,8 @@ returns-2 c =
     let s = c .before .before .before .before .before .before .before .before .before .before .before .before .scan-object .ensures in
     let r = c .before .before .before .before .before .before .before .before .before .before .read-input in
     let u = c .before .before .before .add-object-units in (
-      next-is _ _ (p .0) _ s,
-      λ bases is us a. object-filed _ _ (p .0) _ s _ _ _ _ _ _ _ _ (r .result) (r .ensures .0) (r .ensures .1) bases is us a (c .before .before .before .before .before .before .if1 .left) _ (u .result) (u .ensures),
+      next-is _ _ (p .ahead) _ s,
+      λ bases is us a. object-filed _ _ (p .ahead) _ s _ _ _ _ _ _ (r .result) (r .ensures .0) (r .ensures .1) bases is us a (c .before .before .before .before .before .before .if1 .left) _ (u .result) (u .ensures),
     )
 
 pub add-input-object-spec : {M : Type 1} → statement M
