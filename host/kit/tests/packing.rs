@@ -109,7 +109,7 @@ fn replay(text: &str, lines: usize) {
 
 #[test]
 fn vectors() {
-    replay(include_str!("vectors/pack.txt"), 600);
+    replay(include_str!("vectors/pack-t01.txt"), 375);
 }
 
 #[test]

@@ -30,7 +30,7 @@ fn check(text: &str, lines: usize) {
 
 #[test]
 fn pack_vectors() {
-    check(include_str!("vectors/pack.txt"), 600);
+    check(include_str!("vectors/pack-t01.txt"), 375);
 }
 
 #[test]
