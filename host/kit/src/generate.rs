@@ -8,6 +8,7 @@ mod honest;
 mod inputs;
 mod large;
 mod objects;
+mod parts;
 mod questions;
 mod random;
 mod spoil;
