@@ -83,7 +83,8 @@ fn check_section(
     let version = if encoding.version == 5 { 5 } else { 2 };
     let mut at = 0;
     while at < bytes.len() {
-        let unit: Unit = read_unit(section, &bytes[at..], |size| Ok(abbrev(object, encoding, at, size)), encoding).expect("a unit");
+        let unit: Unit =
+            read_unit(section, &bytes[at..], |size| Ok(abbrev(object, encoding, at, size)), encoding).expect("a unit");
         let table = if unit.table == Table::Compilation { 1 } else { 2 };
         let index = object.section(11 + table).and_then(|s| Index::read(s.bytes, encoding.big));
         let asked = Asked { package, version, table, identity: unit.identity };
