@@ -84,7 +84,8 @@ fn damage_rows(random: &mut Random, big: bool, object: &mut DraftObject) {
 fn mix_rows(random: &mut Random, big: bool, index: &mut [u8]) -> Option<()> {
     let field = |at| number(index, at, 4, big).map(|n| n as usize);
     let (columns, units, slots) = (field(4)?, field(8)?, field(12)?);
-    if units < 2 || index.len() != 16 + 12 * slots + 4 * columns + 8 * units * columns {
+    let few = columns <= 8 && units.max(slots) <= index.len();
+    if units < 2 || !few || index.len() != 16 + 12 * slots + 4 * columns + 8 * units * columns {
         return None;
     }
     let (one, other) = (random.below(units as u64) as usize, random.below(units as u64) as usize);
