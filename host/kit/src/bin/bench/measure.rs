@@ -65,9 +65,11 @@ impl Bench {
         Ok(Measured { bundle: bundle.len(), items, package: package.len(), ours, clearing, thorin })
     }
 
-    /// The time of an answer by this number.
+    /// The time of an answer by this number, with as much output as the package takes.
     pub fn answered(&mut self, bundle: &[u8], code: u32) -> Result<Duration> {
-        self.ours(bundle, bundle.len() / 4 * 16, ENOUGH * bundle.len() + LEAST, code)
+        let work = bundle.len() / 4 * 16;
+        let length = self.lent.pack(bundle, work, ENOUGH * bundle.len() + LEAST).map_err(Error::other)?.length;
+        self.ours(bundle, work, length, code)
     }
 
     fn ours(&mut self, bundle: &[u8], work: usize, output: usize, code: u32) -> Result<Duration> {
