@@ -142,7 +142,8 @@ impl Tally {
         let Packed::Made(wanted) = pack(bundle, 4 * bundle.len(), usize::MAX) else { return false };
         let by = measure(&read);
         let thorins = by_thorins(bytes, &wanted).filter(|_| tag == 0);
-        self.note_accepted(by, packing.bytes, tag, thorins.as_deref().unwrap_or(bytes));
+        let told = thorins.as_deref().filter(|_| by == Measure::Thorin);
+        self.note_accepted(by, packing.bytes, tag, told.unwrap_or(bytes));
         if by != Measure::Thorin {
             return packing.bytes == wanted;
         }
