@@ -1,75 +1,52 @@
-use lib.ListN.{length}
-use Rattle.strings.proofs.Holding.{row-room, row-fits}
--- `find_string` meets its contract. The loop: none of the strings passed is the one that is looked for.
--- Assumes nothing.
-use mathlib.Core.List.{List}
-use Prim.Native.Nat.{ℕ, _+_, _*_, _-_, _≤_}
-use native.Mathlib.Omega.{arith}
-use denote.Ref.{now}
-use Rattle.octets.specs.Octets.{part}
-use Rattle.strings.specs.Kept.{Held}
-use Rattle.strings.proofs.Holding.{Looking, looking-none, looking-more, looking-found, looking-end}
+use borrow.Author.Needs.{needs}
 use Rattle.strings.proofs.table.find_string.Statement.{statement}
 use Rattle.strings.proofs.table.find_string.Tie as tie
+use Rattle.strings.proofs.table.find_string.Reads as reads
+use Rattle.strings.proofs.table.find_string.Lts as lts
+use Rattle.octets.proofs.word.Reads as word-reads
+use Rattle.strings.proofs.slots.seek_string.Reads as seek-string-reads
 
-abbrev Inv-loop : tie.InvT-loop
-Inv-loop b table count start size i₀ i = (i ≤ count) × ((ts : List (List ℕ)) → Held b table count ts → Looking ts (part b start size) i)
+-- src/table.rt:74:26
+seek-string-requires : tie.Need-seek-string-requires
+seek-string-requires c κs = search needs
 
-abbrev μ-loop : tie.MeasureT-loop
-μ-loop b table count start size i₀ i = count - i
+-- src/table.rt:74:21
+enum-known-i : tie.Need-enum-known-i
+enum-known-i c = search needs
 
-room : (c : tie.In-loop Inv-loop μ-loop) → 3 * c .before .loop .i + 3 ≤ length (now (c .before .before .before .before .args .table))
-room c = let a = c .before .before .before .before in row-room _ _ _ _ (a .pre .1 .1) _ (c .loop-test .taken)
+-- src/table.rt:75:9
+enum-told : tie.Need-enum-told
+enum-told c = search needs
 
-loop-holds : tie.Need-loop-holds Inv-loop μ-loop
-loop-holds c = (omega arith, λ ts k. looking-none ts _)
+-- src/table.rt:75:9
+returns : tie.Need-returns
+returns c = ?
 
-row-same-requires : tie.Need-row-same-requires Inv-loop μ-loop
-row-same-requires c κs =
-    let a = c .before .before .before .before in
-    (room c, a .pre .0, row-fits _ _ _ _ (a .pre .1 .1) _ (c .loop-test .taken))
+-- src/table.rt:77:35
+mul-word : tie.Need-mul-word
+mul-word c = ?
 
-mul-word : tie.Need-mul-word Inv-loop μ-loop
-mul-word c = omega (arith, room (c .before .before))
+-- src/table.rt:77:35
+add-word : tie.Need-add-word
+add-word c = ?
 
-add-word : tie.Need-add-word Inv-loop μ-loop
-add-word c = omega (arith, room (c .before .before))
+-- src/table.rt:77:15
+word-requires : tie.Need-word-requires
+word-requires c κs = ?
 
-word-requires : tie.Need-word-requires Inv-loop μ-loop
-word-requires c κs = omega (arith, room (c .before .before))
-
-returns : tie.Need-returns Inv-loop μ-loop
-returns c =
-    let i = c .before .before .before in
-    λ ts k. looking-found _ _ _ ts k _ _ (i .before .loop .inv .1 ts k) (i .loop-test .taken) _ (c .before .before .row-same .ensures) _ (c .word .ensures) (c .before .if1 .taken)
-
-add-i : tie.Need-add-i Inv-loop μ-loop
-add-i c = omega arith
-
-loop-less : tie.Need-loop-less Inv-loop μ-loop
-loop-less c = omega arith
-
-loop-again : tie.Need-loop-again Inv-loop μ-loop
-loop-again c =
-    let i = c .before .before in
-    (omega arith, λ ts k. looking-more _ _ _ ts k _ _ (i .before .loop .inv .1 ts k) (i .loop-test .taken) _ (c .before .row-same .ensures) (c .if1 .left))
-
-returns-2 : tie.Need-returns-2 Inv-loop μ-loop
-returns-2 c = λ ts k. looking-end _ _ _ ts k _ _ (c .before .loop .inv .1 ts k) (c .loop-test .left)
+-- src/table.rt:70:1
+returns-2 : tie.Need-returns-2
+returns-2 c = ?
 
 pub find-string-spec : {M : Type 1} → statement M
 find-string-spec =
     tie.close
     (tie.spec
-    Inv-loop
-    μ-loop
-    loop-holds
-    row-same-requires
+    seek-string-requires
+    enum-known-i
+    enum-told
+    returns
     mul-word
     add-word
     word-requires
-    returns
-    add-i
-    loop-less
-    loop-again
     returns-2)
