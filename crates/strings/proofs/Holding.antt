@@ -60,6 +60,9 @@ module _ (b region : List ℕ) (n : ℕ) (table : List (List ℕ)) (k : Held b r
   pub sought-none : (at : ℕ) → r ≡ Free at → Missing ≡ foundIn table s
   sought-none at e = sym (found-none table s (f .free at e .0))
 
+pub sought-free : (region : List ℕ) (n : ℕ) (table : List (List ℕ)) (s : List ℕ) (r : Sought) → SoughtIs region n table s r → (at : ℕ) → r ≡ Free at → SoughtIs region n table s (Free at)
+sought-free region n table s r f at e = rw e at f
+
 -- turns of the search: at a slot that is free, at one that holds the string's number, and at another's
 module _ (b region : List ℕ) (n : ℕ) (table : List (List ℕ)) (k : Held b region n table) (s : List ℕ) (at : ℕ) (p : Passing (roomOf region) region table s at) where
   pub slot-number : getD region at 0 ≤ n

@@ -11,13 +11,13 @@ use Rattle.octets.specs.Octets.{part, placed, zeros}
 use Rattle.octets.proofs.Checks.{true-false}
 use Rattle.octets.proofs.Parts.{length-part}
 use Rattle.octets.proofs.Placed.{getD-zeros}
-use Rattle.strings.specs.Strings.{put, strOf}
+use Rattle.strings.specs.Strings.{put, strOf, offsetIn}
 use Rattle.strings.specs.Indexed.{roomOf, SoughtIs}
 use Rattle.strings.specs.Kept.{Kept}
 use Rattle.strings.specs.declared.slots.Sought.the-variants.{Free}
 use Rattle.strings.specs.declared.table.StringTable.{StringTable}
 use Rattle.strings.proofs.FirstUses.{isIn, put-known, put-new, put-grows}
-use Rattle.strings.proofs.Offsets.{strOf-none, length-strOf-snoc, put-longer, strOf-counts}
+use Rattle.strings.proofs.Offsets.{strOf-none, length-strOf-snoc, put-longer, strOf-counts, offset-le}
 use Rattle.strings.proofs.Holding.{held-none, held-more, slot-inside}
 
 -- an empty table: the slots are free
@@ -96,3 +96,11 @@ module _ (b region : List ℕ) (t : StringTable) (table : List (List ℕ)) (k : 
           size = λ _. sym longer;
           held = λ _. rw new (held-more b region (t .count) table (k .held f) start size (t .size) slot room fits (k .size f) e);
         }
+
+-- the string put, by its bytes
+pub kept-as : (b x : List ℕ) (t : StringTable) (table : List (List ℕ)) (u s : List ℕ) → u ≡ s → Kept b x t (put table u) → Kept b x t (put table s)
+kept-as b x t table u s e k = rw e at k
+
+-- a place in str is far below 32 bits
+pub place-small : (b region : List ℕ) (t : StringTable) (table : List (List ℕ)) → Kept b region t table → t .over ≡ false → (s : List ℕ) (o : ℕ) → o ≡ offsetIn table s → o ≤ 8388607
+place-small b region t table k f s o e = omega (arith, offset-le table s, k .size f, kept-within b region t table k f)

@@ -14,16 +14,18 @@ use borrow.Author.Tests.{eqb-true, eqb-false}
 use borrow.Rule.Slice.PartMut.{putMid}
 use Rattle.octets.specs.Octets.{placed, zeros}
 use Rattle.octets.specs.Checked.{Check, pass, refuse}
-use Rattle.octets.proofs.Checks.{known, then-pass}
+use Rattle.octets.proofs.Checks.{known, then-pass, pass-inj}
 use Rattle.octets.proofs.Placed.{length-zeros, getD-zeros}
 use Rattle.octets.proofs.Regions.{placed-whole, getD-placed, getD-before, getD-behind}
-use Rattle.strings.specs.Strings.{upToZero, stringAt, put}
+use Rattle.strings.specs.Strings.{upToZero, stringAt, put, offsetIn}
 use Rattle.strings.specs.Kept.{Kept, bytesAt}
-use Rattle.strings.specs.Remembered.{Remembered, isPut, Putting, LastZero}
+use Rattle.strings.specs.Remembered.{Remembered, isPut, placeIs, Putting, LastZero}
 use Rattle.strings.specs.declared.table.Place.{Place}
 use Rattle.strings.specs.declared.table.StringTable.{StringTable}
 use Rattle.strings.proofs.FirstUses.{put-has, put-keeps}
 use Rattle.strings.proofs.Ends.{upTo-zero, upTo-more, stringAt-is, stringAt-refused}
+use Rattle.strings.proofs.Keeping.{kept-known}
+use Rattle.strings.proofs.Places.{cut, cut-is}
 
 -- ---- memory
 -- the part that is cleared
@@ -59,9 +61,9 @@ module _ (memo x : List ℕ) (at v : ℕ) (h : at < length memo) (e : x ≡ plac
   remembered-more str told s r g t =
       record {
         known = λ o l u. elim (ℕ-discrete o at) [
-            | yes p ↦ told-of str told s o v (getD x o 0) (rw p g) t (word-new o p)
-            | no p ↦ (let k = r .known o l (λ z. u (word-old o p ∙ z)) in told-of str told (k .0) o (getD memo o 0) (getD x o 0) (k .1) (k .2) (word-old o p))
-          ];
+          | yes p ↦ told-of str told s o v (getD x o 0) (rw p g) t (word-new o p)
+          | no p ↦ (let k = r .known o l (λ z. u (word-old o p ∙ z)) in told-of str told (k .0) o (getD memo o 0) (getD x o 0) (k .1) (k .2) (word-old o p))
+        ];
       }
 
 -- a table that grows keeps what it has
@@ -77,6 +79,26 @@ put-remembered b strings region t table memo x s at r k h e g =
       kept = k;
       memory = remembered-more memo x at 1 h e (bytesAt b strings) (isPut (put table s)) s (remembered-put (bytesAt b strings) table s memo r) g (put-has table s);
     }
+
+-- a string that is remembered is kept already
+pub known-put : (b : List ℕ) (strings : Place) (region memo : List ℕ) (t : StringTable) (table : List (List ℕ)) (s : List ℕ) (o v : ℕ) → Putting b strings region memo t table
+    → stringAt 9 (bytesAt b strings) o ≡ pass s → v ≡ getD memo o 0 → (v ≡ 0 → ⊥) → Putting b strings region memo t (put table s)
+known-put b strings region memo t table s o v p e q u =
+    let k = p .memory .known o (omega (arith, stringAt-is 9 (bytesAt b strings) o s e .within)) (λ z. u (q ∙ z)) in
+    let same : k .0 ≡ s = pass-inj (sym (k .1) ∙ e) in
+    record { kept = kept-known b region t table (p .kept) s (rw same at (k .2)); memory = remembered-put (bytesAt b strings) table s memo (p .memory) }
+
+-- and so is its place
+pub known-place : (str : List ℕ) (table : List (List ℕ)) (s memo : List ℕ) (o v : ℕ) → Remembered str (placeIs table) memo → stringAt 9 str o ≡ pass s → v ≡ getD memo o 0 → (v ≡ 0 → ⊥)
+    → v - 1 ≡ offsetIn table s
+known-place str table s memo o v m e q u =
+    let k = m .known o (omega (arith, stringAt-is 9 str o s e .within)) (λ z. u (q ∙ z)) in
+    let same : offsetIn table (k .0) ≡ offsetIn table s = ap (offsetIn table) (pass-inj (sym (k .1) ∙ e)) in
+    omega (arith, k .2)
+
+pub place-remembered : (str : List ℕ) (table : List (List ℕ)) (s memo x : List ℕ) (o v : ℕ) → Remembered str (placeIs table) memo → stringAt 9 str o ≡ pass s → v ≡ offsetIn table s
+    → o < length memo → x ≡ placed memo o ((v + 1) ∷ []) → (v ≡ offsetIn table s) × Remembered str (placeIs table) x
+place-remembered str table s memo x o v m e q h g = (q, remembered-more memo x o (v + 1) h g str (placeIs table) s m e (ap (λ (n : ℕ). n + 1) q))
 
 -- ---- strings start up to the last zero byte, and nowhere behind it
 upTo-has : (n : ℕ) (s : List ℕ) (i : ℕ) → i < length s → getD s i 0 ≡ 0 → (t : List ℕ) × (upToZero n s ≡ pass t)
@@ -111,3 +133,7 @@ last-found s n i e z = let m : n - 1 ≡ i = omega arith in rw m at z
 pub last-turn : (s : List ℕ) (n : ℕ) → 0 < n → (getD s (n - 1) 0 ≡ 0 → ⊥) → ((i : ℕ) → n ≤ i → i < length s → getD s i 0 ≡ 0 → ⊥)
     → (i : ℕ) → n - 1 ≤ i → i < length s → getD s i 0 ≡ 0 → ⊥
 last-turn s n h u f i g l z = elim (ℕ-discrete i (n - 1)) [ yes e ↦ u (rw e at z) | no e ↦ f i (omega arith) l z ]
+
+-- in the part that the code cuts
+pub last-cut : (b : List ℕ) (strings : Place) (n : ℕ) → LastZero (cut b strings) n → LastZero (bytesAt b strings) n
+last-cut b strings n z = rw (cut-is b strings) at z

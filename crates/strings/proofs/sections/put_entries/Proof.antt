@@ -1,80 +1,110 @@
+-- `put_entries` meets its contract. The loop: what is left to be placed.
+-- Assumes nothing.
+use mathlib.Core.Path.{_≡_, refl, sym, ap, _∙_}
+use mathlib.Core.List.{List, map}
+use Prim.Native.Nat.{ℕ, _+_, _*_, _-_, _<_, _≤_}
+use native.Mathlib.Omega.{arith}
+use denote.Ref.{now}
+use lib.ListN.{length, drop}
+use Rattle.octets.specs.Octets.{placed, numbersOf}
+use Rattle.octets.proofs.Regions.{entry-next}
+use Rattle.bundle.specs.Encoded.{encodingIs}
+use Rattle.strings.specs.Strings.{offsetIn}
+use Rattle.strings.specs.Kept.{bytesAt}
+use Rattle.strings.specs.Remembered.{Remembered, placeIs}
+use Rattle.strings.specs.Objects.{JudgedOf, EnteringAs}
+use Rattle.strings.proofs.Writing.{judged-count, judged-string, entries-turn, entries-end, entry-room}
 use Rattle.strings.proofs.sections.put_entries.Statement.{statement}
 use Rattle.strings.proofs.sections.put_entries.Tie as tie
-use Rattle.strings.proofs.sections.put_entries.Reads as reads
-use Rattle.strings.proofs.sections.put_entries.Lts as lts
-use Rattle.bundle.proofs.encoding.width.Reads as width-reads
-use Rattle.octets.proofs.long.Reads as long-reads
-use Rattle.octets.proofs.put_number.Reads as put-number-reads
-use Rattle.octets.proofs.size.Reads as size-reads
-use Rattle.strings.proofs.sections.string_offset.Reads as string-offset-reads
-use Rattle.strings.proofs.table.entries_of.Reads as entries-of-reads
-use Rattle.strings.proofs.table.entry_of.Reads as entry-of-reads
 
 abbrev Inv-loop : tie.InvT-loop
-Inv-loop o b table t memo₀ d₀ at e w count k₀ place₀ memo d k place = ?
+Inv-loop o b table t memo₀ d₀ at e w count k₀ place₀ memo d k place = (k ≤ count) × (place ≡ at + w * k) × (length d ≡ length d₀) × (length memo ≡ length memo₀) × ((ts used : List (List ℕ)) → EnteringAs b o table memo₀ t ts used → Remembered (bytesAt b (o .strings)) (placeIs ts) memo × (placed d place (numbersOf (encodingIs (o .encoding) .big) w (drop k (map (offsetIn ts) used))) ≡ placed d₀ at (numbersOf (encodingIs (o .encoding) .big) w (map (offsetIn ts) used))))
 
 abbrev μ-loop : tie.MeasureT-loop
-μ-loop o b table t memo₀ d₀ at e w count k₀ place₀ memo d k place = ?
+μ-loop o b table t memo₀ d₀ at e w count k₀ place₀ memo d k place = count - k
 
--- src/sections.rt:78:9
+counted : (c : tie.After-entries-of Inv-loop μ-loop) (used : List (List ℕ)) → (let a = c .before .before .before .before .before .before .before .args in JudgedOf (a .o) (now (a .b)) used → c .entries-of .result ≡ length used)
+counted c used j = c .entries-of .ensures ∙ sym (judged-count _ _ _ _ used j)
+
+passed : (c : tie.In-loop Inv-loop μ-loop) (used : List (List ℕ)) → (let a = c .before .before .before .before .before .before .before .before .before .args in JudgedOf (a .o) (now (a .b)) used → c .before .loop .k < length used)
+passed c used j = rw (counted (c .before .before) used j) at (c .loop-test .taken)
+
+room : (c : tie.In-loop Inv-loop μ-loop) → c .before .before .before .before .before .before .before .before .before .args .at + c .before .before .before .width .result * c .before .loop .k + c .before .before .before .width .result ≤ length (c .before .loop .d)
+room c =
+    let p = c .before .before .before .before .before .before .before .before .before .pre .1 in
+    entry-room _ _ _ _ _ _ _ _ (c .before .before .before .width .ensures) (passed c (p .used) (p .is .judged)) (p .room) (c .before .loop .inv .2) (c .before .loop .inv .1)
+
 width-requires : tie.Need-width-requires Inv-loop μ-loop
-width-requires c κs = ?
+width-requires c κs = tt
 
--- src/sections.rt:79:9
 entries-of-requires : tie.Need-entries-of-requires Inv-loop μ-loop
-entries-of-requires c κs = ?
+entries-of-requires c κs = c .before .before .before .before .before .before .pre .1 .is .judged .offsets-inside
 
--- src/sections.rt:82:5
 loop-holds : tie.Need-loop-holds Inv-loop μ-loop
-loop-holds c = ?
+loop-holds c = (omega arith, omega arith, refl, refl, λ ts used p. (p .memory, refl))
 
--- src/sections.rt:83:13
 entry-of-requires : tie.Need-entry-of-requires Inv-loop μ-loop
-entry-of-requires c κs = ?
+entry-of-requires c κs = (c .before .before .before .before .before .before .before .before .before .pre .1 .is .judged .offsets-inside, rw (← c .before .before .entries-of .ensures) (c .loop-test .taken))
 
--- src/sections.rt:84:45
 size-requires : tie.Need-size-requires Inv-loop μ-loop
-size-requires c κs = ?
+size-requires c κs = tt
 
--- src/sections.rt:84:13
 string-offset-requires : tie.Need-string-offset-requires Inv-loop μ-loop
-string-offset-requires c κs = ?
+string-offset-requires c κs =
+    let a = c .before .before .before .before .before .before .before .before .before .before .before .before in
+    let l = c .before .before .before .before in
+    let p = a .pre .1 in (
+      a .pre .0,
+      record {
+        inside = p .is .judged .strings-inside;
+        memory = omega (arith, p .memory, l .loop .inv .3);
+        string = _;
+        starts = judged-string _ _ _ _ (p .used) (p .is .judged) _ _ (passed (c .before .before .before) (p .used) (p .is .judged)) (c .before .size .ensures ∙ c .before .before .entry-of .ensures);
+      },
+      (p .table, p .is .kept, l .loop .inv .4 (p .table) (p .used) (p .is) .0),
+    )
 
--- src/sections.rt:85:38
 long-requires : tie.Need-long-requires Inv-loop μ-loop
-long-requires c κs = ?
+long-requires c κs = tt
 
--- src/sections.rt:85:9
 put-number-requires : tie.Need-put-number-requires Inv-loop μ-loop
-put-number-requires c κs = ?
+put-number-requires c κs = omega (arith, room (c .before .before .before .before .before .before .before .before), c .before .before .before .before .before .before .before .before .before .loop .inv .1)
 
--- src/sections.rt:86:9
 add-k : tie.Need-add-k Inv-loop μ-loop
-add-k c = ?
+add-k c = omega arith
 
--- src/sections.rt:87:9
 add-place : tie.Need-add-place Inv-loop μ-loop
-add-place c = ?
+add-place c = omega (arith, room (c .before .before .before .before .before .before .before .before .before .before .before), c .before .before .before .before .before .before .before .before .before .before .before .before .loop .inv, c .before .before .before .before .before .before .before .before .before .before .before .before .before .before .before .before .before .before .before .before .good)
 
--- src/sections.rt:82:5
 loop-less : tie.Need-loop-less Inv-loop μ-loop
-loop-less c = ?
+loop-less c = omega arith
 
--- src/sections.rt:82:5
 loop-again : tie.Need-loop-again Inv-loop μ-loop
-loop-again c = ?
+unfolding encodingIs
+loop-again c =
+    let i = c .before .before .before .before .before .before .before .before .before .before .before in
+    let l = c .before .before .before .before .before .before .before .before .before .before .before .before in
+    let v = l .loop .inv in
+    let s = c .before .before .before .before .before .before .before in (
+      omega arith,
+      ap (λ (n : ℕ). n + c .before .before .before .before .before .before .before .before .before .before .before .before .before .before .width .result) (v .1) ∙ entry-next _ _ _,
+      c .before .before .put-number .kept .1 .1 .1 .0 ∙ v .2,
+      s .string-offset .kept .1 .1 .1 .1 .1 .0 ∙ v .3,
+      λ ts used p. (let r = s .string-offset .ensures ts _ (p .kept) (judged-string _ _ _ _ used (p .judged) _ _ (passed i used (p .judged)) (c .before .before .before .before .before .before .before .before .before .size .ensures ∙ c .before .before .before .before .before .before .before .before .before .before .entry-of .ensures)) (v .4 ts used p .0) in (r .1, entries-turn _ _ ts used _ _ _ _ _ _ (passed i used (p .judged)) (room i) (v .1) (c .before .before .before .before .long .ensures ∙ r .0) (c .before .before .put-number .ensures) ∙ v .4 ts used p .1)),
+    )
 
--- src/sections.rt:65:1
 same-length : tie.Need-same-length Inv-loop μ-loop
-same-length c = ?
+same-length c = c .before .loop .inv .3
 
--- src/sections.rt:65:1
 same-length-2 : tie.Need-same-length-2 Inv-loop μ-loop
-same-length-2 c = ?
+same-length-2 c = c .before .loop .inv .2
 
--- src/sections.rt:65:1
 returns : tie.Need-returns Inv-loop μ-loop
-returns c = ?
+returns c =
+    let l = c .before in
+    let a = c .before .before .before .before .before .before .before .before .before in
+    λ ts used p. sym (entries-end _ _ ts used _ _ _ (rw (counted (c .before .before) used (p .judged)) at (c .loop-test .left))) ∙ l .loop .inv .4 ts used p .1
+    ∙ ap (λ (w : ℕ). placed (now (a .args .d)) (a .args .at) (numbersOf (encodingIs (a .args .o .encoding) .big) w (map (offsetIn ts) used))) (c .before .before .before .width .ensures)
 
 pub put-entries-spec : {M : Type 1} → statement M
 put-entries-spec =

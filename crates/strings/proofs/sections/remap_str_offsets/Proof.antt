@@ -1,59 +1,86 @@
+-- `remap_str_offsets` meets its contract.
+-- Assumes nothing.
+use mathlib.Core.Path.{refl}
+use mathlib.Core.List.{List}
+use Prim.Native.Nat.{ℕ, _+_, _*_, _≤_}
+use native.Mathlib.Omega.{arith}
+use denote.Ref.{now}
+use lib.ListN.{length, length-take, length-drop}
+use Rattle.bundle.specs.Encoded.{encodingIs}
+use Rattle.strings.specs.Kept.{Inside, bytesAt}
+use Rattle.strings.specs.Remembered.{Remembered, placeIs}
+use Rattle.strings.proofs.StrOffsets.{sound}
+use Rattle.strings.proofs.Places.{length-bytesAt}
+use Rattle.strings.proofs.Remembering.{forgotten}
+use Rattle.strings.proofs.Writing.{header-inside, header-entries, remapped-is, remap-room}
+use borrow.Author.Needs.{needs}
 use Rattle.strings.proofs.sections.remap_str_offsets.Statement.{statement}
 use Rattle.strings.proofs.sections.remap_str_offsets.Tie as tie
-use Rattle.strings.proofs.sections.remap_str_offsets.Reads as reads
-use Rattle.strings.proofs.sections.remap_str_offsets.Lts as lts
-use Rattle.octets.proofs.put_bytes.Reads as put-bytes-reads
-use Rattle.strings.proofs.entries.header_size.Reads as header-size-reads
-use Rattle.strings.proofs.sections.put_entries.Reads as put-entries-reads
-use Rattle.strings.proofs.table.forget.Reads as forget-reads
 
--- src/sections.rt:105:9
+inside : (c : tie.After-header-size) → (let a = c .before .before .before .before .before .args in (c .header-size .result ≤ a .o .offsets .size) × (a .o .offsets .start + a .o .offsets .size ≤ length (now (a .b))))
+unfolding Inside
+inside c =
+    let a = c .before .before .before .before .before in
+    let e = a .args .o .encoding in
+    (header-inside (encodingIs e) (sound e) _ _ _ _ (a .pre .3 .1) _ (c .header-size .ensures), a .pre .3 .1 .offsets-inside)
+
+cleared : (c : tie.After-forget) (ts : List (List ℕ)) → (let a = c .before .before .before .before .before .before .before .before .before .before .before .before .before .before .args in Remembered (bytesAt (now (a .b)) (a .o .strings)) (placeIs ts) (c .forget .last .0))
+cleared c ts =
+    let a = c .before .before .before .before .before .before .before .before .before .before .before .before .before .before in
+    forgotten _ _ _ _ _ (c .forget .ensures) (omega (arith, length-bytesAt (now (a .args .b)) (a .args .o .strings) (a .pre .3 .1 .strings-inside)))
+
 header-size-requires : tie.Need-header-size-requires
-header-size-requires c κs = ?
+header-size-requires c κs = tt
 
--- src/sections.rt:109:22
 add-header-end : tie.Need-add-header-end
-add-header-end c = ?
+add-header-end c = omega (arith, inside (c .before .before), c .before .before .before .before .before .before .before .good)
 
--- src/sections.rt:110:30
 sub-put-bytes : tie.Need-sub-put-bytes
-sub-put-bytes c = ?
+sub-put-bytes c = omega arith
 
--- src/sections.rt:110:30
 part-put-bytes-start : tie.Need-part-put-bytes-start
-part-put-bytes-start c = ?
+part-put-bytes-start c = omega arith
 
--- src/sections.rt:110:30
 part-put-bytes-end : tie.Need-part-put-bytes-end
-part-put-bytes-end c = ?
+part-put-bytes-end c = omega (arith, inside (c .before .before .before))
 
--- src/sections.rt:110:5
 put-bytes-requires : tie.Need-put-bytes-requires
-put-bytes-requires c κs = ?
+put-bytes-requires c κs = simp (length-take, length-drop) (omega (arith, inside (c .before .before .before .before), c .before .before .before .before .before .before .before .before .before .pre .1 .room))
 
--- src/sections.rt:111:5
 forget-requires : tie.Need-forget-requires
-forget-requires c κs = ?
+forget-requires c κs = c .before .before .before .before .before .before .before .before .before .before .before .before .before .pre .1 .memory
 
--- src/sections.rt:112:42
 add-put-entries : tie.Need-add-put-entries
-add-put-entries c = ?
+add-put-entries c = omega (arith, inside (c .before .before .before .before .before .before .before .before .before .before .before .before .before), c .before .before .before .before .before .before .before .before .before .before .before .before .before .before .before .before .before .before .pre .1 .room, c .before .before .before .before .before .before .before .before .before .before .before .before .before .before .before .before .before .before .good)
 
--- src/sections.rt:112:5
 put-entries-requires : tie.Need-put-entries-requires
-put-entries-requires c κs = ?
+put-entries-requires c κs =
+    let s = c .before .before .before .before .before .before .before .before .before .before .before .before .before in
+    let a = c .before .before .before .before .before .before .before .before .before .before .before .before .before .before .before .before .before .before in
+    let e = a .args .o .encoding in
+    let j = a .pre .3 .1 in (
+      a .pre .0,
+      record {
+        table = a .pre .2 .0;
+        used = a .pre .3 .0;
+        is = record { kept = a .pre .2 .1; judged = j; memory = cleared (c .before .before .before .before) (a .pre .2 .0) };
+        memory = omega (arith, a .pre .1 .memory, c .before .before .before .before .forget .kept .0);
+        room = remap-room _ _ _ _ _ _ _ _ refl (header-entries (encodingIs e) (sound e) _ _ _ _ j _ (s .header-size .ensures)) (a .pre .1 .room) (c .before .before .before .before .before .before .before .before .put-bytes .kept .0);
+      },
+    )
 
--- src/sections.rt:93:1
 same-length : tie.Need-same-length
-same-length c = ?
+same-length c = search needs
 
--- src/sections.rt:93:1
 same-length-2 : tie.Need-same-length-2
-same-length-2 c = ?
+same-length-2 c = search needs
 
--- src/sections.rt:93:1
 returns : tie.Need-returns
-returns c = ?
+returns c =
+    let s = c .before .before .before .before .before .before .before .before .before .before .before .before .before .before .before .before .before .before in
+    let a = c .before .before .before .before .before .before .before .before .before .before .before .before .before .before .before .before .before .before .before .before .before .before .before in
+    let e = a .args .o .encoding in
+    λ ts used k j. remapped-is (encodingIs e) (sound e) _ _ _ used j _ (s .header-size .ensures) ts _ _ _ _ (a .pre .1 .room) (c .before .before .before .before .before .before .before .before .before .before .before .before .before .put-bytes .ensures) (c .before .before .before .before .put-entries .ensures ts used (record { kept = k; judged = j; memory = cleared (c .before .before .before .before .before .before .before .before .before) ts }))
 
 pub remap-str-offsets-spec : {M : Type 1} → statement M
 remap-str-offsets-spec =

@@ -1,42 +1,42 @@
+-- `find_string` meets its contract.
+-- Assumes nothing.
+use Prim.Native.Nat.{_+_, _*_, _≤_}
+use native.Mathlib.Omega.{arith}
+use denote.Ref.{now}
+use lib.ListN.{length}
+use Rattle.strings.proofs.Holding.{sought-row, sought-none, row-room}
 use borrow.Author.Needs.{needs}
 use Rattle.strings.proofs.table.find_string.Statement.{statement}
 use Rattle.strings.proofs.table.find_string.Tie as tie
-use Rattle.strings.proofs.table.find_string.Reads as reads
-use Rattle.strings.proofs.table.find_string.Lts as lts
-use Rattle.octets.proofs.word.Reads as word-reads
-use Rattle.strings.proofs.slots.seek_string.Reads as seek-string-reads
 
--- src/table.rt:74:26
+room : (c : tie.After-i) → 3 * c .i .given .0 .0 + 3 ≤ length (now (c .before .before .before .before .before .args .table))
+room c =
+    let p = c .before .before .before .before .before .pre .1 in
+    row-room _ _ _ _ (p .2) _ (c .before .before .seek-string .ensures (p .0) (p .1) (p .2) .row _ (c .i .given .1) .0)
+
 seek-string-requires : tie.Need-seek-string-requires
-seek-string-requires c κs = search needs
+seek-string-requires c κs = c .before .before .pre
 
--- src/table.rt:74:21
 enum-known-i : tie.Need-enum-known-i
 enum-known-i c = search needs
 
--- src/table.rt:75:9
 enum-told : tie.Need-enum-told
 enum-told c = search needs
 
--- src/table.rt:75:9
 returns : tie.Need-returns
-returns c = ?
+returns c = λ n ts k. sought-none _ _ n ts k _ _ (c .before .before .seek-string .ensures n ts k) _ (c .enum-told .given .1)
 
--- src/table.rt:77:35
 mul-word : tie.Need-mul-word
-mul-word c = ?
+mul-word c = omega (arith, room (c .before))
 
--- src/table.rt:77:35
 add-word : tie.Need-add-word
-add-word c = ?
+add-word c = omega (arith, room (c .before))
 
--- src/table.rt:77:15
 word-requires : tie.Need-word-requires
-word-requires c κs = ?
+word-requires c κs = omega (arith, room (c .before))
 
--- src/table.rt:70:1
 returns-2 : tie.Need-returns-2
-returns-2 c = ?
+returns-2 c = λ n ts k. sought-row _ _ n ts k _ _ (c .before .before .before .before .seek-string .ensures n ts k) _ _ (c .before .before .i .given .1) (c .word .ensures)
 
 pub find-string-spec : {M : Type 1} → statement M
 find-string-spec =

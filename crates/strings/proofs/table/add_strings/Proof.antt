@@ -1,0 +1,77 @@
+-- `add_strings` meets its contract.
+-- Assumes nothing.
+use native.Mathlib.Omega.{arith}
+use denote.Ref.{now}
+use Rattle.strings.specs.Kept.{Inside, bytesAt}
+use Rattle.strings.specs.Remembered.{Remembered, isPut}
+use mathlib.Core.List.{List}
+use Prim.Native.Nat.{ℕ}
+use Rattle.strings.proofs.Places.{length-bytesAt}
+use Rattle.strings.proofs.Remembering.{forgotten, last-cut}
+use borrow.Author.Needs.{needs}
+use Rattle.strings.proofs.table.add_strings.Statement.{statement}
+use Rattle.strings.proofs.table.add_strings.Tie as tie
+
+cleared : (c : tie.After-forget) (ts : List (List ℕ)) → (let a = c .before .before .before .before .before .before .before .before .before .args in Remembered (bytesAt (now (a .b)) (a .o .strings)) (isPut ts) (c .forget .last .0))
+cleared c ts =
+    let a = c .before .before .before .before .before .before .before .before .before in
+    forgotten _ _ _ _ _ (c .forget .ensures) (omega (arith, length-bytesAt (now (a .args .b)) (a .args .o .strings) (a .pre .0 .strings-inside)))
+
+add-end : tie.Need-add-end
+unfolding Inside
+add-end c = omega (arith, c .before .before .before .before .before .pre .0 .strings-inside)
+
+sub-last-zero : tie.Need-sub-last-zero
+sub-last-zero c = omega arith
+
+part-last-zero-start : tie.Need-part-last-zero-start
+part-last-zero-start c = omega arith
+
+part-last-zero-end : tie.Need-part-last-zero-end
+unfolding Inside
+part-last-zero-end c = omega (arith, c .before .before .before .before .before .pre .0 .strings-inside)
+
+last-zero-requires : tie.Need-last-zero-requires
+last-zero-requires c κs = tt
+
+forget-requires : tie.Need-forget-requires
+forget-requires c κs = c .before .before .before .before .before .before .before .before .pre .0 .memory
+
+add-entries-requires : tie.Need-add-entries-requires
+add-entries-requires c κs =
+    let a = c .before .before .before .before .before .before .before .before .before .before .before .before .before in
+    let p = a .pre .0 in (
+      record {
+        limit = p .limit;
+        offsets-inside = p .offsets-inside;
+        strings-inside = p .strings-inside;
+        memory = omega (arith, p .memory, c .before .before .before .before .forget .kept .0);
+        room = p .room;
+      },
+      last-cut _ _ _ (c .before .before .before .before .before .before .last-zero .ensures),
+      (a .pre .1 .0, record { kept = a .pre .1 .1; memory = cleared (c .before .before .before .before) (a .pre .1 .0) }),
+    )
+
+same-length : tie.Need-same-length
+same-length c = search needs
+
+same-length-2 : tie.Need-same-length-2
+same-length-2 c = search needs
+
+returns : tie.Need-returns
+returns c = λ ts k. c .before .before .before .before .add-entries .ensures ts (record { kept = k; memory = cleared (c .before .before .before .before .before .before .before .before .before) ts })
+
+pub add-strings-spec : {M : Type 1} → statement M
+add-strings-spec =
+    tie.close
+    (tie.spec
+    add-end
+    sub-last-zero
+    part-last-zero-start
+    part-last-zero-end
+    last-zero-requires
+    forget-requires
+    add-entries-requires
+    same-length
+    same-length-2
+    returns)
