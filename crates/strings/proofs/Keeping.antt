@@ -13,7 +13,7 @@ use Rattle.octets.proofs.Parts.{length-part}
 use Rattle.octets.proofs.Placed.{getD-zeros}
 use Rattle.strings.specs.Strings.{put, strOf, offsetIn}
 use Rattle.strings.specs.Indexed.{roomOf, SoughtIs}
-use Rattle.strings.specs.Kept.{Kept}
+use Rattle.strings.specs.Kept.{none, Kept}
 use Rattle.strings.specs.declared.slots.Sought.the-variants.{Free}
 use Rattle.strings.specs.declared.table.StringTable.{StringTable}
 use Rattle.strings.proofs.FirstUses.{isIn, put-known, put-new, put-grows}
@@ -21,7 +21,7 @@ use Rattle.strings.proofs.Offsets.{strOf-none, length-strOf-snoc, put-l
 use Rattle.strings.proofs.Holding.{held-none, held-more, slot-inside}
 
 -- an empty table: the slots are free
-pub kept-none : (b region : List ℕ) → ((j : ℕ) → 3 * roomOf region ≤ j → getD region j 0 ≡ 0) → Kept b region (record { count = 0; size = 0; over = false }) []
+pub kept-none : (b region : List ℕ) → ((j : ℕ) → 3 * roomOf region ≤ j → getD region j 0 ≡ 0) → Kept b region none []
 kept-none b region z =
     record {
       few = omega arith;
@@ -30,7 +30,7 @@ kept-none b region z =
       held = λ _. held-none b region z;
     }
 
-pub kept-cleared : (b region : List ℕ) → region ≡ zeros (length region) → Kept b region (record { count = 0; size = 0; over = false }) []
+pub kept-cleared : (b region : List ℕ) → region ≡ zeros (length region) → Kept b region none []
 kept-cleared b region e = kept-none b region (λ j _. ap (λ (z : List ℕ). getD z j 0) e ∙ getD-zeros (length region) j)
 
 put-more : (table : List (List ℕ)) (s : List ℕ) → length table ≤ length (put table s)

@@ -9,7 +9,6 @@ use lib.ListN.{length, take, drop, getD, drop-of-length-le}
 use lib.Seq.{ext-getD, take-all, take-take}
 use Rattle.octets.specs.Octets.{part, placed, bytesOf, numbersOf}
 use Rattle.octets.specs.Checked.{pass}
-use Rattle.octets.proofs.Checks.{pass-inj}
 use Rattle.octets.proofs.Parts.{part-cut, length-part}
 use Rattle.octets.proofs.Placed.{placed-none, placed-placed}
 use Rattle.octets.proofs.Regions.{numbers-step, entry-fits}
@@ -25,7 +24,7 @@ use Rattle.strings.proofs.Remapped.{length-map, getD-map}
 use Rattle.strings.proofs.Holding.{known-found, none-found}
 use Rattle.strings.proofs.Places.{length-bytesAt}
 
--- ---- what a region holds is one table, and what is judged is one list of strings
+-- ---- what a region holds is one table
 pub held-unique : (b region : List ℕ) (n : ℕ) (ts us : List (List ℕ)) → Held b region n ts → Held b region n us → ts ≡ us
 held-unique b region n ts us p q =
     ext-getD [] ts us (sym (p .count) ∙ q .count)
@@ -41,9 +40,6 @@ none-offset table s size e g = g ∙ sym (offset-absent table s (none-found tabl
 module _ (e : Encoding) (b : List ℕ) (offsets strings : Place) (used : List (List ℕ)) (j : Judged e b offsets strings used) where
   pub judged-count : length used ≡ length (entriesIn e (bytesAt b offsets))
   judged-count = length-stringsAt (bytesAt b strings) (entriesIn e (bytesAt b offsets)) used (j .strings-are)
-
-  pub judged-unique : (others : List (List ℕ)) → Judged e b offsets strings others → used ≡ others
-  judged-unique others k = pass-inj (sym (j .strings-are) ∙ k .strings-are)
 
   pub judged-whole : Whole e (bytesAt b offsets)
   judged-whole = entries-whole e (bytesAt b offsets) (entriesIn e (bytesAt b offsets)) (j .entries) .0

@@ -48,6 +48,10 @@ pub record Kept (b region : List ℕ) (t : StringTable) (table : List (List ℕ)
   pub size : t .over ≡ false → t .size ≡ length (strOf table)
   pub held : t .over ≡ false → Held b region (t .count) table
 
+-- the state for no strings
+abbrev pub none : StringTable
+none = record { count = 0; size = 0; over = false }
+
 -- a search of the table
 unfoldable pub foundIn : List (List ℕ) → List ℕ → Found
 foundIn table s = elim (any (same s) table) [ true ↦ At (offsetIn table s) | false ↦ Missing ]

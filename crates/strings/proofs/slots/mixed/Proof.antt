@@ -1,7 +1,6 @@
 -- `mixed` meets its contract.
 -- Assumes nothing.
 use mathlib.Core.Path.{refl}
-use native.Mathlib.Omega.{arith}
 use borrow.Author.Needs.{needs}
 use Rattle.strings.specs.Indexed.{mixed}
 use Rattle.strings.proofs.slots.mixed.Statement.{statement}
