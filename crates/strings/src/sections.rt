@@ -6,16 +6,16 @@ ghost use Prim.Native.Nat.{ℕ, _+_, _≤_};
 ghost use lib.ListN.{length};
 ghost use Rattle.octets.specs.Octets.{part, placed};
 ghost use Rattle.strings.specs.Strings.{ended, strOf, offsetIn};
-ghost use Rattle.strings.specs.Kept.{Held, Kept, bytesAt};
-ghost use Rattle.strings.specs.Remembered.{Remembered, placeIs};
+ghost use Rattle.strings.specs.Kept.{Held, Kept};
 ghost use Rattle.strings.specs.Objects.{
   JudgedOf,
-  remappedOf,
   entriesOut,
   Placeable,
+  Placing,
   PlacesString,
   Entering,
-  EnteringAs,
+  Enters,
+  Remaps,
   Writable,
 };
 use crate::entries;
@@ -46,7 +46,7 @@ fn string_offset(
     t: StringTable,
     memo: &mut [u32],
 ) -> usize
-    requires { ⌜ (t .over ≡ false) × Placeable (now b) strings offset (now memo) × ((ts : List (List ℕ)) × Kept (now b) (now table) t ts × Remembered (bytesAt (now b) strings) (placeIs ts) (now memo)) ⌝ }
+    requires { ⌜ (t .over ≡ false) × Placeable (now b) strings offset (now memo) × ((ts : List (List ℕ)) × Placing (now b) strings (now table) (now memo) t ts) ⌝ }
     ensures { λ r. ⌜ PlacesString (now (b .entry)) strings offset (now (table .entry)) (now (memo .entry)) t (now (memo .exit)) r ⌝ }
 {
     let known = octets::word(memo, offset);
@@ -72,7 +72,7 @@ fn put_entries(
     at: usize,
 )
     requires { ⌜ (t .over ≡ false) × Entering (now b) o (now table) (now memo) t (length (now d)) at ⌝ }
-    ensures { λ _. ⌜ ((ts used : List (List ℕ)) → EnteringAs (now (b .entry)) o (now (table .entry)) (now (memo .entry)) t ts used → now (d .exit) ≡ placed (now (d .entry)) at (entriesOut o ts used)) ⌝ }
+    ensures { λ _. ⌜ ((ts used : List (List ℕ)) → Enters (now (b .entry)) o (now (table .entry)) (now (memo .entry)) t ts used → now (d .exit) ≡ placed (now (d .entry)) at (entriesOut o ts used)) ⌝ }
 {
     let e = o.encoding;
     let w = bundle::encoding::width(e);
@@ -100,7 +100,7 @@ pub fn remap_str_offsets(
     at: usize,
 )
     requires { ⌜ (t .over ≡ false) × Writable o (now memo) (now d) at × ((ts : List (List ℕ)) × Kept (now b) (now table) t ts) × ((used : List (List ℕ)) × JudgedOf o (now b) used) ⌝ }
-    ensures { λ _. ⌜ ((ts used : List (List ℕ)) → Kept (now (b .entry)) (now (table .entry)) t ts → JudgedOf o (now (b .entry)) used → now (d .exit) ≡ placed (now (d .entry)) at (remappedOf o (now (b .entry)) ts used)) ⌝ }
+    ensures { λ _. ⌜ Remaps (now (b .entry)) o (now (table .entry)) t (now (d .entry)) at (now (d .exit)) ⌝ }
 {
     let h = entries::header_size(o.encoding);
     let offsets = o.offsets;

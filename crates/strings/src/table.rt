@@ -17,12 +17,11 @@ ghost use Rattle.strings.specs.Kept.{
   Held,
   Kept,
   foundIn,
-  AddedIs,
 };
 ghost use Rattle.strings.specs.Remembered.{Putting, LastZero};
 ghost use Rattle.strings.specs.Objects.{
   entriesAt,
-  stringsOf,
+  AddedOf,
   Insertable,
   Addable,
   AllAddable,
@@ -205,7 +204,7 @@ fn add_entries(
     memo: &mut [u32],
 ) -> Added
     requires { ⌜ AllAddable (now b) o (now table) (now memo) t × LastZero (bytesAt (now b) (o .strings)) ended × ((ts : List (List ℕ)) × Putting (now b) (o .strings) (now table) (now memo) t ts) ⌝ }
-    ensures { λ r. ⌜ ((ts : List (List ℕ)) → Putting (now (b .entry)) (o .strings) (now (table .entry)) (now (memo .entry)) t ts → AddedIs (now (b .entry)) (now (table .exit)) ts (stringsOf o (now (b .entry))) r) ⌝ }
+    ensures { λ r. ⌜ ((ts : List (List ℕ)) → Putting (now (b .entry)) (o .strings) (now (table .entry)) (now (memo .entry)) t ts → AddedOf (now (b .entry)) o (now (table .exit)) ts r) ⌝ }
 {
     let count = entries_of(o, b);
     let mut kept = t;
@@ -231,7 +230,7 @@ pub fn add_strings(
     memo: &mut [u32],
 ) -> Added
     requires { ⌜ AllAddable (now b) o (now table) (now memo) t × ((ts : List (List ℕ)) × Kept (now b) (now table) t ts) ⌝ }
-    ensures { λ r. ⌜ ((ts : List (List ℕ)) → Kept (now (b .entry)) (now (table .entry)) t ts → AddedIs (now (b .entry)) (now (table .exit)) ts (stringsOf o (now (b .entry))) r) ⌝ }
+    ensures { λ r. ⌜ ((ts : List (List ℕ)) → Kept (now (b .entry)) (now (table .entry)) t ts → AddedOf (now (b .entry)) o (now (table .exit)) ts r) ⌝ }
 {
     let strings = o.strings;
     let base = strings.start;

@@ -12,13 +12,13 @@ use Rattle.bundle.specs.Encoded.{encodingIs}
 use Rattle.strings.specs.Strings.{offsetIn}
 use Rattle.strings.specs.Kept.{bytesAt}
 use Rattle.strings.specs.Remembered.{Remembered, placeIs}
-use Rattle.strings.specs.Objects.{JudgedOf, EnteringAs}
+use Rattle.strings.specs.Objects.{JudgedOf, Enters}
 use Rattle.strings.proofs.Writing.{judged-count, judged-string, entries-turn, entries-end, entry-room}
 use Rattle.strings.proofs.sections.put_entries.Statement.{statement}
 use Rattle.strings.proofs.sections.put_entries.Tie as tie
 
 abbrev Inv-loop : tie.InvT-loop
-Inv-loop o b table t memo₀ d₀ at e w count k₀ place₀ memo d k place = (k ≤ count) × (place ≡ at + w * k) × (length d ≡ length d₀) × (length memo ≡ length memo₀) × ((ts used : List (List ℕ)) → EnteringAs b o table memo₀ t ts used → Remembered (bytesAt b (o .strings)) (placeIs ts) memo × (placed d place (numbersOf (encodingIs (o .encoding) .big) w (drop k (map (offsetIn ts) used))) ≡ placed d₀ at (numbersOf (encodingIs (o .encoding) .big) w (map (offsetIn ts) used))))
+Inv-loop o b table t memo₀ d₀ at e w count k₀ place₀ memo d k place = (k ≤ count) × (place ≡ at + w * k) × (length d ≡ length d₀) × (length memo ≡ length memo₀) × ((ts used : List (List ℕ)) → Enters b o table memo₀ t ts used → Remembered (bytesAt b (o .strings)) (placeIs ts) memo × (placed d place (numbersOf (encodingIs (o .encoding) .big) w (drop k (map (offsetIn ts) used))) ≡ placed d₀ at (numbersOf (encodingIs (o .encoding) .big) w (map (offsetIn ts) used))))
 
 abbrev μ-loop : tie.MeasureT-loop
 μ-loop o b table t memo₀ d₀ at e w count k₀ place₀ memo d k place = count - k
@@ -61,7 +61,7 @@ string-offset-requires c κs =
         string = _;
         starts = judged-string _ _ _ _ (p .used) (p .is .judged) _ _ (passed (c .before .before .before) (p .used) (p .is .judged)) (c .before .size .ensures ∙ c .before .before .entry-of .ensures);
       },
-      (p .table, p .is .kept, l .loop .inv .4 (p .table) (p .used) (p .is) .0),
+      (p .table, (p .is .kept, l .loop .inv .4 (p .table) (p .used) (p .is) .0)),
     )
 
 long-requires : tie.Need-long-requires Inv-loop μ-loop

@@ -22,7 +22,7 @@ named c =
     string-named (now (a .args .b)) (a .args .strings) (a .args .offset) _ _ (a .pre .1 .inside) (sym (c .start .given .1) ∙ c .before .before .string-in .ensures)
 
 small : (c : tie.After-offset-of) → c .offset-of .result ≤ 8388607
-small c = let a = c .before .before .before .before .before .before .before .before .before .before .before .pre in place-small _ _ _ _ (a .2 .1) (a .0) _ _ (c .offset-of .ensures (a .2 .0) (a .2 .1))
+small c = let a = c .before .before .before .before .before .before .before .before .before .before .before .pre in place-small _ _ _ _ (a .2 .1 .0) (a .0) _ _ (c .offset-of .ensures (a .2 .0) (a .2 .1 .0))
 
 word-requires : tie.Need-word-requires
 word-requires c κs = within (c .before .before .before .before)
@@ -54,7 +54,7 @@ returns-2 c = λ ts s k e m. absurd (string-there _ _ _ _ (c .before .before .be
 offset-of-requires : tie.Need-offset-of-requires
 offset-of-requires c κs =
     let a = c .before .before .before .before .before .before .before .before .before .before .pre in
-    (named (c .before) .fits, a .0, (a .2 .0, a .2 .1))
+    (named (c .before) .fits, a .0, (a .2 .0, a .2 .1 .0))
 
 add-set-word : tie.Need-add-set-word
 add-set-word c = omega (arith, small (c .before))
