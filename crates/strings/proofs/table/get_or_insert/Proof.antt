@@ -61,7 +61,7 @@ set-word-requires c κs =
     let a = c .before .before .before .before .before .before .before .before .before .before .before .before .before .before in
     let k = a .pre .1 .1 in
     let off = c .before .before .before .before .before .before .before .before .before .before .before .if1 .left in
-    (omega (arith, c .before .before .before .set-row .kept .0, kept-slot _ _ _ _ k off _ _ _ (a .pre .0 .fits) (free (c .before .before .before .before .before .before .before) _ k) (a .pre .0 .room)), kept-count _ _ _ _ k off)
+    (omega (arith, c .before .before .before .set-row .kept .0, kept-slot _ _ _ _ k off _ _ _ (a .pre .0 .fits) (free (c .before .before .before .before .before .before .before) _ k) (a .pre .0 .room)), omega (arith, kept-count _ _ _ _ k off))
 
 add-t13 : tie.Need-add-t13
 add-t13 c = search needs
