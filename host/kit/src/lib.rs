@@ -5,6 +5,8 @@
 //! from a bundle what must be found in its package, which `claim` asks for. `oracle` asks thorin where it is at hand, and `sample`
 //! keeps some of its answers; `clock` is for timing. `elf` reads ELF files as document 02 says, and
 //! `elf_writer` writes them.
+//! from a bundle what must be found in its package, which `claim` asks for. `oracle` asks thorin where it is at hand, `measured` says of
+//! which bundles its package is the measure, and `sample` keeps some of its answers; `clock` is for timing. `elf` reads ELF files as document 02 says.
 
 pub mod batch;
 pub mod claim;
@@ -14,6 +16,7 @@ pub mod elf_writer;
 pub mod generate;
 pub mod handed_in;
 pub mod lender;
+pub mod measured;
 pub mod oracle;
 pub mod profile;
 pub mod reference;
