@@ -1,5 +1,6 @@
--- The regions of work, in words for each word of the bundle: records of kept units 5, strings 3, slots of each table 1, an object's rows by place 2,
--- the codes of an abbreviation table 4: 16 in all.
+-- The regions of work, in words for each word of the bundle: records of kept units 5, strings 7 (their rows 3, the slots of their index 4), slots of
+-- each table 1, an object's rows by place 2, the codes of an abbreviation table 4: 20 in all. What is remembered of an object's str by a string's
+-- start stands where the codes do, a word for each byte: codes count while units are filed, memory while strings are put or written.
 -- Assumes nothing.
 use mathlib.Core.Path.{_≡_}
 use mathlib.Core.Bool.{true, false}
@@ -19,22 +20,25 @@ abbrev pub recordsRegion : Layout
 recordsRegion = record { start = 0; words = 5 }
 
 abbrev pub stringsRegion : Layout
-stringsRegion = record { start = 5; words = 3 }
+stringsRegion = record { start = 5; words = 7 }
 
 abbrev pub compilationSlots : Layout
-compilationSlots = record { start = 8; words = 1 }
+compilationSlots = record { start = 12; words = 1 }
 
 abbrev pub typeSlots : Layout
-typeSlots = record { start = 9; words = 1 }
+typeSlots = record { start = 13; words = 1 }
 
 unfoldable pub slotsRegion : ℕ → Layout
 slotsRegion table = elim (eqb table compilationTable) [ true ↦ compilationSlots | false ↦ typeSlots ]
 
 abbrev pub rowsRegion : Layout
-rowsRegion = record { start = 10; words = 2 }
+rowsRegion = record { start = 14; words = 2 }
 
 abbrev pub codesRegion : Layout
-codesRegion = record { start = 12; words = 4 }
+codesRegion = record { start = 16; words = 4 }
+
+abbrev pub memoryRegion : Layout
+memoryRegion = codesRegion
 
 -- a record's words, and the least words of the bundle that a unit takes
 abbrev pub recordWords : ℕ

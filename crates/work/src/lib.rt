@@ -7,6 +7,7 @@ ghost use Rattle.work.specs.Regions.{
   slotsRegion,
   rowsRegion,
   codesRegion,
+  memoryRegion,
 };
 
 // One record of so many words for each kept unit. A unit takes at least five words of the bundle, so that 23 for each five fit.
@@ -20,7 +21,7 @@ pub const COMPILATION: usize = numbers::tables::COMPILATION as usize;
 // Sizes, and the places that follow from them.
 const RECORDS: usize = 5;
 
-const STRINGS: usize = 3;
+const STRINGS: usize = 7;
 
 const SLOTS: usize = 1;
 
@@ -108,4 +109,14 @@ pub fn codes(n: usize) -> Region
         start: CODES_START * n,
         size: CODES * n,
     }
+}
+
+// What is remembered of an object's str by a string's start, a word for each byte. It stands where the codes do: these count while
+// units are filed, the memory while strings are put or written.
+pub fn memory(n: usize) -> Region
+    requires { ⌜ n < 2 ^ 32 ⌝ }
+    ensures start { λ r. ⌜ r .start ≡ memoryRegion .start * n ⌝ }
+    ensures size { λ r. ⌜ r .size ≡ memoryRegion .words * n ⌝ }
+{
+    codes(n)
 }

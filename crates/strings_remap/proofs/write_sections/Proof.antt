@@ -19,17 +19,18 @@ remap-str-offsets-requires c κs = search needs
 
 write-strings-requires : tie.Need-write-strings-requires
 write-strings-requires c κs =
-    let g = c .before .before .before in
-    let i = g .before .before in
-    let a = i .before .before .before .before .before in
-    let k = a .pre .1 .1 in
-    (a .pre .1 .0, k .held (a .pre .0), omega (arith, k .size (a .pre .0), g .remap-str-offsets .kept .1 .1 .1 .1 .1 .1 .0, i .if2 .left, i .before .if1 .left))
+    let a = c .before .before .before .before .before .before .before .before .before .before .before .before .before .before .before in
+    let k = a .pre .2 .1 in
+    (a .pre .2 .0, k .held (a .pre .0), omega (arith, k .size (a .pre .0), c .before .before .before .before .before .remap-str-offsets .kept .1 .1 .1 .1 .1 .0, c .before .before .before .before .before .before .before .before .if2 .left, c .before .before .before .before .before .before .before .before .before .if1 .left))
 
 add-t11 : tie.Need-add-t11
 add-t11 c = search needs
 
 same-length : tie.Need-same-length
 same-length c = search needs
+
+same-length-2 : tie.Need-same-length-2
+same-length-2 c = search needs
 
 returns-3 : tie.Need-returns-3
 returns-3 c = search needs
@@ -45,4 +46,5 @@ write-sections-spec =
     write-strings-requires
     add-t11
     same-length
+    same-length-2
     returns-3)
