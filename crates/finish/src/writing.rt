@@ -116,8 +116,15 @@ fn write_section(code: usize, p: Package, b: &[u8], work: &mut [u32], out: &mut 
         let store = work::store(words);
         let first = store.start;
         let last = first + store.size;
-        let part = &mut work[first..last];
-        crate::joining::copy_str_offsets(p.encoding, b, part, table.size, st.strings, out, at);
+        crate::joining::copy_str_offsets(
+            p.encoding,
+            b,
+            &mut work[first..last],
+            table.size,
+            st.strings,
+            out,
+            at,
+        );
         return;
     }
     if LAST_SHARED < code {
