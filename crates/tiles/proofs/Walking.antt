@@ -62,7 +62,8 @@ pub walk-end : (ms : List ℕ) (i left : ℕ) → length ms ≤ i → marksGood 
 walk-end ms i left h = rw (drop-of-length-le ms h) (good-end left)
 
 -- ---- a turn that passed
-turned-cases : (left n : ℕ) → ((left ≡ 0) × ((n ≡ 0 → ⊥) × (turned left n ≡ Left (n - 1)))) ⊎ ((left ≡ 0 → ⊥) × ((n ≡ 0) × (turned left n ≡ Left (left - 1)))) ⊎ (turned left n ≡ Broken)
+turned-cases : (left n : ℕ)
+    → ((left ≡ 0) × (n ≡ 0 → ⊥) × (turned left n ≡ Left (n - 1))) ⊎ ((left ≡ 0 → ⊥) × (n ≡ 0) × (turned left n ≡ Left (left - 1))) ⊎ (turned left n ≡ Broken)
 turned-cases left n = elim (ℕ-discrete left 0) [
   | yes l ↦ elim (ℕ-discrete n 0) [ yes z ↦ inr (inr (turned-none left n l z)) | no z ↦ inl (l, z, turned-start left n l z) ]
   | no l ↦ elim (ℕ-discrete n 0) [ yes z ↦ inr (inl (l, z, turned-on left n l z)) | no z ↦ inr (inr (turned-inside left n l z)) ]
