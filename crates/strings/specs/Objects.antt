@@ -5,12 +5,14 @@ use mathlib.Core.List.{List, map}
 use Prim.Native.Nat.{ℕ, _+_, _*_, _<_, _≤_, _^_}
 use lib.ListN.{length, take, drop}
 use Rattle.octets.specs.Octets.{part, placed, numbersOf}
-use Rattle.octets.specs.Checked.{Check, pass}
+use Rattle.octets.specs.Checked.{Check, pass, refuse}
+use Rattle.numbers.specs.Refusals.{noString}
 use Rattle.bundle.specs.Encoded.{encodingIs}
-use Rattle.strings.specs.Strings.{entriesIn, stringAt, stringsAt, put, offsetIn, remapped}
+use Rattle.strings.specs.Strings.{entriesIn, stringAt, stringsAt, put, putAll, offsetIn, remapped}
 use Rattle.strings.specs.Kept.{Kept, Judged, AddedIs, Inside, bytesAt}
 use Rattle.strings.specs.Remembered.{Remembered, Putting, placeIs}
 use Rattle.strings.specs.declared.table.Added.{Added}
+use Rattle.strings.specs.declared.table.Added.the-variants.{Table, NoString}
 use Rattle.strings.specs.declared.table.Place.{Place}
 use Rattle.strings.specs.declared.table.StrOffsets.{StrOffsets}
 use Rattle.strings.specs.declared.table.StringTable.{StringTable}
@@ -73,6 +75,12 @@ pub record AllAddable (b : List ℕ) (o : StrOffsets) (words : ℕ) (store : Lis
   pub strings-inside : Inside b (o .strings)
   pub memory : words + o .strings .size ≤ length store
   pub room : 7 * (t .count + length (entriesAt o b)) ≤ words
+
+-- the strings that entries os name are put, and it is remembered which, so that those of more entries can follow; t and x are the state before and the store after
+pub record AllPut (b : List ℕ) (strings : Place) (os : List ℕ) (words : ℕ) (x : List ℕ) (t : StringTable) (table : List (List ℕ)) (r : Added) : Type 0 where
+  pub put : (u : StringTable) → r ≡ Table u → (used : List (List ℕ)) × (stringsAt (bytesAt b strings) os ≡ pass used) × PuttingIn b strings words x u (putAll table used)
+  pub missing : r ≡ NoString → stringsAt (bytesAt b strings) os ≡ refuse noString
+  pub few : (u : StringTable) → r ≡ Table u → u .count ≤ t .count + length os
 
 -- the string that starts at an offset of str is put; u and x are the state and the store after that
 abbrev pub PutsString : List ℕ → Place → ℕ → ℕ → List ℕ → StringTable → List ℕ → StringTable → Type 0
