@@ -128,7 +128,7 @@ module _ (e : Encoding) (str : List ℕ) where
 
   all-more : (done : List (List ℕ)) (p : List ℕ) (used us : List (List ℕ)) → stringsOfAll e str done ≡ pass used → stringsAt str (entriesIn e p) ≡ pass us
       → stringsOfAll e str (done ++ (p ∷ [])) ≡ pass (used ++ us)
-  unfolding stringsOfAll
+  unfolding stringsOfAll _>>=_
   all-more done p used us d q =
       all-behind done (p ∷ []) used d
       ∙ then-pass (stringsOfAll e str (p ∷ [])) _ us (then-pass (stringsAt str (entriesIn e p)) _ us q ∙ ap pass (append-nil us))
@@ -148,12 +148,18 @@ pub record PiecesPut (b : List ℕ) (e : Encoding) (strings : Place) (words : �
   pub are : stringsOfAll e (bytesAt b strings) done ≡ pass used
   pub putting : PuttingIn b strings words store t (putAll table used)
 
-pub pieces-none : (b : List ℕ) (e : Encoding) (strings offsets : Place) (words : ℕ) (store : List ℕ) (t : StringTable) (table ps : List (List ℕ)) → PuttingIn b strings words store t table
-    → Headed e (bytesAt b offsets) ps → PiecesPut b e strings words store t table ps (offsets .start) (offsets .start + offsets .size)
-unfolding bytesAt stringsOfAll putAll
-pieces-none b e strings offsets words store t table ps p h =
+-- a section as the walk over it begins
+pub headed-cut : (e : Encoding) (b : List ℕ) (offsets : Place) (ps : List (List ℕ)) → Headed e (bytesAt b offsets) ps
+    → Headed e (part b (offsets .start) (offsets .start + offsets .size - offsets .start)) ps
+unfolding bytesAt
+headed-cut e b offsets ps h =
     let z : offsets .size ≡ offsets .start + offsets .size - offsets .start = omega arith in
-    record { done = []; ahead = ps; all = refl; headed = subst (λ (n : ℕ). Headed e (part b (offsets .start) n) ps) z h; used = []; are = refl; putting = p }
+    subst (λ (n : ℕ). Headed e (part b (offsets .start) n) ps) z h
+
+pub pieces-none : (b : List ℕ) (e : Encoding) (strings : Place) (words : ℕ) (store : List ℕ) (t : StringTable) (table ps : List (List ℕ)) (at end : ℕ)
+    → PuttingIn b strings words store t table → Headed e (part b at (end - at)) ps → PiecesPut b e strings words store t table ps at end
+unfolding stringsOfAll putAll
+pieces-none b e strings words store t table ps at end p h = record { done = []; ahead = ps; all = refl; headed = h; used = []; are = refl; putting = p }
 
 module _ (b : List ℕ) (e : Encoding) (ok : Sound e) (strings : Place) (words : ℕ) (store : List ℕ) (t : StringTable) (table ps : List (List ℕ)) (at end : ℕ) (inside : end ≤ length b)
     (p : PiecesPut b e strings words store t table ps at end) where
@@ -178,14 +184,16 @@ module _ (b : List ℕ) (e : Encoding) (ok : Sound e) (strings : Place) (words :
       pub size-within : at + size ≤ end
       size-within = omega (arith, size-is, front-within e ok b at (end - at) fits (p .ahead) front)
 
-      pub size-few : 4 * length (entriesIn e (part b at size)) ≤ size
+      pub size-few : 4 * length (entriesIn e (bytesAt b (record { start = at; size = size }))) ≤ size
+      unfolding bytesAt
       size-few = front-few e ok b at (end - at) fits (p .ahead) front size size-is
 
-      own : part b at size ≡ front .piece
+      own : bytesAt b (record { start = at; size = size }) ≡ front .piece
+      unfolding bytesAt
       own = front-piece e ok b at (end - at) fits (p .ahead) front size size-is
 
       -- its strings are put
-      pub pieces-more : (x : List ℕ) (r : Added) (u : StringTable) → AllPut b strings (entriesIn e (part b at size)) words x t (putAll table (p .used)) r → r ≡ Table u
+      pub pieces-more : (x : List ℕ) (r : Added) (u : StringTable) → AllPut b strings (entriesIn e (bytesAt b (record { start = at; size = size }))) words x t (putAll table (p .used)) r → r ≡ Table u
           → PiecesPut b e strings words x u table ps (at + size) end
       pieces-more x r u a y =
           let g = a .put u y in
@@ -202,7 +210,7 @@ module _ (b : List ℕ) (e : Encoding) (ok : Sound e) (strings : Place) (words :
           }
 
       -- one is missing
-      pub pieces-missing : (x : List ℕ) (r : Added) → AllPut b strings (entriesIn e (part b at size)) words x t (putAll table (p .used)) r → r ≡ NoString
+      pub pieces-missing : (x : List ℕ) (r : Added) → AllPut b strings (entriesIn e (bytesAt b (record { start = at; size = size }))) words x t (putAll table (p .used)) r → r ≡ NoString
           → AddedIs b (tableIn words x) table (stringsOfAll e (bytesAt b strings) ps) NoString
       pieces-missing x r a y = record {
         kept = λ u g. absurd (let z : _≡_ {A = ℕ} 0 1 = cc in omega arith);

@@ -2,3 +2,4 @@
 -- Assumes nothing.
 pub mod Marking
 pub mod Walking
+pub mod Parts

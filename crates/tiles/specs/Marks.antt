@@ -8,11 +8,14 @@ use mathlib.Core.Option.{some}
 use Prim.Native.Nat.{ℕ, _+_, _-_, _<_, _≤_}
 use lib.Dec.{eqb}
 use lib.ListN.{length, getD}
+use Rattle.octets.specs.Checked.{pass, refuse}
+use Rattle.bundle.specs.Encoding.{Encoding}
+use Rattle.strings.specs.Strings.{entriesOf}
 use Rattle.index.specs.Index.{Contribution}
 use Rattle.index.specs.Tiles.{namedIn}
 use Rattle.index.specs.declared.cells.Cell.{Cell}
 use Rattle.index.specs.declared.cells.Cell.the-variants.{Is, Missing}
-use Rattle.index.proofs.Tiles.{isOne}
+use Rattle.index.proofs.Tiles.{isOne, Tiling, partOf}
 use Rattle.tiles.specs.declared.Turn.{Turn}
 use Rattle.tiles.specs.declared.Turn.the-variants.{Left, Broken}
 
@@ -53,3 +56,13 @@ turned left n =
 unfoldable pub marksGood : ℕ → List ℕ → Bool
 marksGood left [] = eqb left 0
 marksGood left (n ∷ ms) = elim (turned left n) [ Left more ↦ marksGood more ms | Broken ↦ false ]
+
+-- parts that tile the section, one behind the other, each of the size that is marked at its place
+pub record TiledBy (ms : List ℕ) (ts : List Contribution) : Type 0 where
+  pub tiling : Tiling 0 (length ms) ts
+  pub sizes : (c : Contribution) → isOne ts c ≡ true → getD ms (c .offset) 0 ≡ c .size
+
+-- where the first of them starts that 8 refuses; the section's end where there is none
+unfoldable pub goodEnd : Encoding → List ℕ → List Contribution → ℕ
+goodEnd e s [] = length s
+goodEnd e s (t ∷ ts) = elim (entriesOf e (partOf s t)) [ pass ns ↦ goodEnd e s ts | refuse n ↦ t .offset ]

@@ -8,10 +8,21 @@ ghost use lib.ListN.{length};
 ghost use Rattle.index.specs.Held.{Sized, indexIn};
 ghost use Rattle.index.specs.Index.{Contribution};
 ghost use Rattle.index.specs.Tiles.{named};
-ghost use Rattle.tiles.specs.Marks.{partsIn, Marks, Marked, turned, marksGood};
+ghost use Rattle.bundle.specs.Encoded.{encodingIs};
+ghost use Rattle.tiles.specs.Marks.{
+  partsIn,
+  Marks,
+  Marked,
+  turned,
+  marksGood,
+  TiledBy,
+  goodEnd,
+};
+use bundle::encoding::ObjectEncoding;
 use index::cells::Cell;
 use index::reading::IndexHead;
 use numbers::sections::STR_OFFSETS;
+use strings::entries::Entries;
 
 // Marks the part that a cell names, where it is not empty. False where it ends outside, or where a part of another size starts at its place.
 fn mark_part(marks: &mut [u32], cell: Cell) -> bool
@@ -93,4 +104,20 @@ pub fn tiled(marks: &[u32]) -> bool
         i += 1;
     }
     left == 0
+}
+
+// Where the first part starts that 8 refuses; the section's end where there is none. The caller has marked parts that tile the section.
+pub fn good_parts(e: ObjectEncoding, s: &[u8], marks: &[u32]) -> usize
+    requires { ⌜ (length (now marks) ≡ length (now s)) × ((ts : List Contribution) × TiledBy (now marks) ts) ⌝ }
+    ensures { λ r. ⌜ ((ts : List Contribution) → TiledBy (now (marks .entry)) ts → r ≡ goodEnd (encodingIs e) (now (s .entry)) ts) ⌝ }
+{
+    let mut at = 0;
+    while at < s.len() {
+        let end = at + octets::word(marks, at);
+        let Entries::Count(_) = strings::entries::check_entries(e, &s[at..end]) else {
+            return at;
+        };
+        at = end;
+    }
+    at
 }
