@@ -13,7 +13,7 @@ use Rattle.finish.proofs.writing.write_framed.Tie as tie
 returns : tie.Need-returns
 returns c =
     let s = c .before .before .before .before in
-    (omega (arith, framed-none (s .args .size) (c .if1 .taken)), λ x r q. frame-none _ _ _ _ (sym q ∙ c .if1 .taken), λ x r. r)
+    (omega (arith, framed-none (s .args .size) (c .if1 .taken)), (λ x r q. frame-none _ _ _ _ (sym q ∙ c .if1 .taken), λ x r. r))
 
 add-start : tie.Need-add-start
 add-start c = search needs
@@ -51,8 +51,7 @@ returns-2 c =
     let s = c .before .before .before .before .before .before .before .before .before .before .before .before .before .before .before .before in
     let room = frame-room _ _ _ _ _ _ _ (s .pre) (i .if1 .left) in (
       ap (λ (k : ℕ). s .args .at + 4 + k) (c .before .before .before .before .before .before .before .before .before .before .before .filled-up .ensures) ∙ omega (arith, framed-some (s .args .size) (i .if1 .left)),
-      λ y r q. frame-put _ _ _ _ _ _ _ (c .before .before .before .before .before .before .before .before .before .put-section-word .ensures) (x .write-section .ensures .0 y r) (omega (arith, room)) q (i .if1 .left),
-      x .write-section .ensures .1,
+      (λ y r q. frame-put _ _ _ _ _ _ _ (c .before .before .before .before .before .before .before .before .before .put-section-word .ensures) (x .write-section .ensures .0 y r) (omega (arith, room)) q (i .if1 .left), x .write-section .ensures .1),
     )
 
 pub write-framed-spec : {M : Type 1} → statement M

@@ -52,8 +52,8 @@ loop-again c =
       omega arith,
       f .write-framed .kept .1 .1 .1 .1 .1 .0 ∙ v .2,
       f .write-framed .kept .1 .1 .1 .1 .0 ∙ v .3,
-      λ s r. f .write-framed .ensures .2 s (v .4 s r),
-      λ front s r z w. frame-turn front s _ _ _ _ _ _ (v .5 front s r z w) (i .loop-test .taken) (z .are _ (v .0) (i .loop-test .taken)) (f .write-framed .ensures .1 s (v .4 s r) (z .are _ (v .0) (i .loop-test .taken))) (f .write-framed .ensures .0),
+      λ s r. f .write-framed .ensures .1 .1 s (v .4 s r),
+      λ front s r z w. frame-turn front s _ _ _ _ _ _ (v .5 front s r z w) (i .loop-test .taken) (z .are _ (v .0) (i .loop-test .taken)) (f .write-framed .ensures .1 .0 s (v .4 s r) (z .are _ (v .0) (i .loop-test .taken))) (f .write-framed .ensures .0),
     )
 
 same-length : tie.Need-same-length Inv-loop μ-loop
