@@ -1,7 +1,7 @@
 -- The regions that count for one section or one table: what is at hand stays while they are written, and they stay while units are filed.
 -- Assumes nothing.
 use mathlib.Core.Path.{_≡_, refl, sym, subst}
-use mathlib.Core.Logic.{inl}
+use mathlib.Core.Logic.{inr}
 use mathlib.Core.List.{List}
 use Prim.Native.Nat.{ℕ}
 use native.Mathlib.Omega.{arith}
@@ -63,7 +63,7 @@ module _ {r : Layout} (passing : Passing r) (b : List ℕ) {w v : List ℕ} (o :
 -- ---- each stays where the other is written
 rows-codes : Apart rowsRegion codesRegion
 unfolding Apart
-rows-codes = inl (omega arith)
+rows-codes = inr (omega arith)
 
 pub remembered-stays : (b w v : List ℕ) (j : Judged) → region v (wordsIn b) codesRegion ≡ region w (wordsIn b) codesRegion → Remembered b w j → Remembered b v j
 remembered-stays b w v j e m = subst (λ (l : List ℕ). Remembers b l j) (sym e) m
