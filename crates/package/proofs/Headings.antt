@@ -67,8 +67,7 @@ headed-all : (e : Encoding) (str : List ℕ) (ps : List Piece) → Sound e → e
 unfolding Headed joined
 headed-all e str [] ok v f = refl
 headed-all e str (p ∷ ps) ok v f =
-    let w = each-head f .whole in
-    (
+    let w = each-head f .whole in (
       joined (bytesOf ps),
       refl,
       omega (arith, header-within e (p .bytes) ok (w .header), header-five e v, ok .low),

@@ -58,7 +58,8 @@ fn put_pieces(
             offsets,
             strings,
         };
-        let Added::Table(more) = crate::table::add_entries(piece, b, ended, store, words, kept) else {
+        let Added::Table(more) = crate::table::add_entries(piece, b, ended, store, words, kept)
+        else {
             return Added::NoString;
         };
         kept = more;
@@ -69,13 +70,7 @@ fn put_pieces(
 
 // Puts the strings that the entries of all pieces name, each of which check_entries let pass. What is remembered of str serves all of them. The store holds the
 // table in its first words, with a row for each entry, and behind them a word of memory for each byte of str; what the memory holds after the call is not promised.
-pub fn add_pieces(
-    o: StrOffsets,
-    b: &[u8],
-    store: &mut [u32],
-    words: usize,
-    t: StringTable,
-) -> Added
+pub fn add_pieces(o: StrOffsets, b: &[u8], store: &mut [u32], words: usize, t: StringTable) -> Added
     requires { ⌜ PiecesAddable (now b) o words (now store) t × ((ts : List (List ℕ)) × KeptIn (now b) words (now store) t ts) × ((ps : List (List ℕ)) × HeadedOf o (now b) ps) ⌝ }
     ensures { λ r. ⌜ ((ts ps : List (List ℕ)) → KeptIn (now (b .entry)) words (now (store .entry)) t ts → HeadedOf o (now (b .entry)) ps → PiecesAdded (now (b .entry)) o (tableIn words (now (store .exit))) ts ps r) ⌝ }
 {

@@ -125,8 +125,8 @@ loop-again c =
       g .add-entries .kept .1 .1 .1 .0 ∙ l .loop .inv .2,
       omega (arith, l .loop .inv .0, l .loop .inv .3, f, n),
       λ ts ps k h.
-      let q = l .loop .inv .4 ts ps k h in
-      pieces-more _ _ (sound _) _ _ _ _ ts ps _ _ (inside i) q (i .loop-test .taken) _ (z .piece-size .ensures) _ _ _ (g .add-entries .ensures (putAll ts (q .used)) (q .putting)) (c .before .more .given .1),
+          let q = l .loop .inv .4 ts ps k h in
+          pieces-more _ _ (sound _) _ _ _ _ ts ps _ _ (inside i) q (i .loop-test .taken) _ (z .piece-size .ensures) _ _ _ (g .add-entries .ensures (putAll ts (q .used)) (q .putting)) (c .before .more .given .1),
     )
 
 same-length-2 : tie.Need-same-length-2 Inv-loop μ-loop
