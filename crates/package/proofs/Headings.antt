@@ -37,7 +37,7 @@ unfolding pieceSize
 size-four e s v = rw (pieceSize, ne-eqb (e .version) 5 v)
 
 -- a true header states the length of its piece, whatever follows it
-whole-size : (e : Encoding) (p rest : List ℕ) → e .version ≡ 5 → headerTrue e p ≡ true → pieceSize e (p ++ rest) ≡ length p
+pub whole-size : (e : Encoding) (p rest : List ℕ) → e .version ≡ 5 → headerTrue e p ≡ true → pieceSize e (p ++ rest) ≡ length p
 whole-size e p rest v h = ⊎-elim
     (λ (t : eqb (e .width) 4 ≡ true).
     let w = eqb-true (e .width) 4 t in

@@ -126,6 +126,16 @@ pub record Entering (b : List ℕ) (o : StrOffsets) (words : ℕ) (store : List 
 abbrev pub EntriesPut : List ℕ → StrOffsets → ℕ → List ℕ → StringTable → List ℕ → ℕ → List ℕ → Type 0
 EntriesPut b o words store t d at x = (table used : List (List ℕ)) → Enters b o words store t table used → x ≡ placed d at (entriesOut o table used)
 
+-- and it is remembered where their strings stand, so that more entries can follow; x is the store after that
+abbrev pub PlacesStay : List ℕ → StrOffsets → ℕ → List ℕ → StringTable → List ℕ → Type 0
+PlacesStay b o words store t x = (table used : List (List ℕ)) → Enters b o words store t table used → PlacesIn b (o .strings) words x table
+
+-- a table and strings for which entries can be written
+pub record PieceHeld (b : List ℕ) (o : StrOffsets) (words : ℕ) (store : List ℕ) (t : StringTable) : Type 0 where
+  pub table : List (List ℕ)
+  pub used : List (List ℕ)
+  pub is : Enters b o words store t table used
+
 -- a word of memory for each byte of str, and room for the object's str_offsets at a place of the output
 pub record Writable (o : StrOffsets) (words : ℕ) (store d : List ℕ) (at : ℕ) : Type 0 where
   pub memory : words + o .strings .size ≤ length store
@@ -134,3 +144,7 @@ pub record Writable (o : StrOffsets) (words : ℕ) (store d : List ℕ) (at : �
 -- an object's str_offsets is written to a place of the output, by every table that is kept; x is the output after that
 abbrev pub Remaps : List ℕ → StrOffsets → ℕ → List ℕ → StringTable → List ℕ → ℕ → List ℕ → Type 0
 Remaps b o words store t d at x = (table used : List (List ℕ)) → KeptIn b words store t table → JudgedOf o b used → x ≡ placed d at (remappedOf o b table used)
+
+-- the same of one piece, whatever is remembered of str before it
+abbrev pub PieceRemaps : List ℕ → StrOffsets → ℕ → List ℕ → StringTable → List ℕ → ℕ → List ℕ → Type 0
+PieceRemaps b o words store t d at x = (table used : List (List ℕ)) → Enters b o words store t table used → x ≡ placed d at (remappedOf o b table used)
