@@ -54,19 +54,6 @@ module _ (e : Encoding) (str s : List ℕ) where
     pub all : (used : List (List ℕ)) → stringsOfAll e str (map (partOf s) (goodParts ts)) ≡ pass used → length (goodParts ts) ≡ length ts
         → (ps : List Piece) × (piecesOf e str s ts ≡ pass ps) × (usedIn ps ≡ used)
 
-  all-refused : (ps : List (List ℕ)) (n : ℕ) → stringsOfAll e str ps ≡ refuse n → n ≡ 9
-  unfolding stringsOfAll
-  all-refused [] n q = absurd (pass-refuse _ n q)
-  all-refused (p ∷ ps) n q = go (stringsAt str (entriesIn e p)) refl
-    where
-      go : (m : Check (List (List ℕ))) → stringsAt str (entriesIn e p) ≡ m → n ≡ 9
-      go (refuse k) z = sym (refuse-inj (sym (then-refuse _ _ k z) ∙ q)) ∙ stringsAt-refused str (entriesIn e p) k z
-      go (pass us) z = on (stringsOfAll e str ps) refl (sym (then-pass _ _ us z) ∙ q)
-        where
-          on : (m : Check (List (List ℕ))) → stringsOfAll e str ps ≡ m → (stringsOfAll e str ps >>= λ vs. pass (us ++ vs)) ≡ refuse n → n ≡ 9
-          on (pass vs) y w = absurd (pass-refuse (us ++ vs) n (sym (then-pass _ _ vs y) ∙ w))
-          on (refuse k) y w = sym (refuse-inj (sym (then-refuse _ _ k y) ∙ w)) ∙ all-refused ps k y
-
   -- ---- one piece
   piece-ill : (p : List ℕ) (n : ℕ) → entriesOf e p ≡ refuse n → pieceOf e str p ≡ refuse 8
   unfolding pieceOf
@@ -146,18 +133,15 @@ module _ (e : Encoding) (str s : List ℕ) where
     ill = λ used z l. absurd (omega arith);
     all = λ used z l. ([], refl, pass-inj z);
   }
-  parts-judged (t ∷ ts) = go (entriesOf e (partOf s t)) refl
+  parts-judged (t ∷ ts) = go (entriesOf e (partOf s t)) refl (parts-judged ts)
     where
-      rest : Judged ts
-      rest = parts-judged ts
+      on : (ns : List ℕ) → entriesOf e (partOf s t) ≡ pass ns → (m : Check (List (List ℕ))) → stringsAt str (entriesIn e (partOf s t)) ≡ m → Judged ts → Judged (t ∷ ts)
+      on ns q (pass us) z rest = good-here t ts ns us q z rest
+      on ns q (refuse n) z rest = missing-here t ts ns n q z
 
-      on : (ns : List ℕ) → entriesOf e (partOf s t) ≡ pass ns → (m : Check (List (List ℕ))) → stringsAt str (entriesIn e (partOf s t)) ≡ m → Judged (t ∷ ts)
-      on ns q (pass us) z = good-here t ts ns us q z rest
-      on ns q (refuse n) z = missing-here t ts ns n q z
-
-      go : (m : Check (List ℕ)) → entriesOf e (partOf s t) ≡ m → Judged (t ∷ ts)
-      go (refuse n) q = ill-here t ts n q
-      go (pass ns) q = on ns q (stringsAt str (entriesIn e (partOf s t))) refl
+      go : (m : Check (List ℕ)) → entriesOf e (partOf s t) ≡ m → Judged ts → Judged (t ∷ ts)
+      go (refuse n) q rest = ill-here t ts n q
+      go (pass ns) q rest = on ns q (stringsAt str (entriesIn e (partOf s t))) refl rest
 
   -- ---- where they end
   pub record Ending (at : ℕ) (ts : List Contribution) : Type 0 where
@@ -221,11 +205,8 @@ module _ (e : Encoding) (str s : List ℕ) where
           few = omega arith;
           headed = ap (part s at) z ∙ part-none s at;
         }
-    parts-ending at (t ∷ ts) r = go (entriesOf e (partOf s t)) refl
+    parts-ending at (t ∷ ts) r = go (entriesOf e (partOf s t)) refl (parts-ending (at + t .size) ts (r .2))
       where
-        rest : Ending (at + t .size) ts
-        rest = parts-ending (at + t .size) ts (r .2)
-
-        go : (m : Check (List ℕ)) → entriesOf e (partOf s t) ≡ m → Ending at (t ∷ ts)
-        go (refuse n) q = ends-here at t ts n r q
-        go (pass ns) q = ends-on at t ts ns r q rest
+        go : (m : Check (List ℕ)) → entriesOf e (partOf s t) ≡ m → Ending (at + t .size) ts → Ending at (t ∷ ts)
+        go (refuse n) q rest = ends-here at t ts n r q
+        go (pass ns) q rest = ends-on at t ts ns r q rest
