@@ -1,13 +1,13 @@
 -- 6 and 7 by counts: the cases of the code, and that they are the definitions.
 -- Assumes nothing.
-use mathlib.Core.Path.{_≡_, refl}
+use mathlib.Core.Path.{_≡_, refl, sym, ap, _∙_}
 use mathlib.Core.Bool.{Bool, true, false, not, _&&_, _||_}
 use mathlib.Core.List.{List, [], _∷_}
-use Prim.Native.Nat.{ℕ, zero, suc, _<_}
+use Prim.Native.Nat.{ℕ, zero, suc, _<_, _≤_}
 use native.Mathlib.Omega.{arith}
 use lib.Dec.{leb, ltb}
 use lib.ListN.{getD}
-use borrow.Author.Tests.{ltb-true}
+use borrow.Author.Tests.{ltb-true, le-leb}
 use Rattle.octets.specs.Lists.{all}
 use Rattle.octets.proofs.Lists.{all-head, all-tail}
 use Rattle.bundle.specs.Bundle.{Part, count}
@@ -22,6 +22,21 @@ pub all-below : (xs : List ℕ) → all (λ c. ltb c 14) xs ≡ true → (i : �
 all-below [] h i = omega arith
 all-below (x ∷ xs) h zero = ltb-true x 14 (all-head (λ c. ltb c 14) x xs h)
 all-below (x ∷ xs) h (suc i) = all-below xs (all-tail (λ c. ltb c 14) x xs h) i
+
+-- ---- an index beside info
+module _ (five : Bool) (cu tu : ℕ) where
+  pub beside-cu : 1 ≤ cu → leb 1 cu ≡ (leb 1 cu || (five && leb 1 tu))
+  beside-cu h = rw (le-leb 1 cu h)
+
+  pub beside-tu : (1 ≤ cu → ⊥) → five ≡ true → leb 1 tu ≡ (leb 1 cu || (five && leb 1 tu))
+  beside-tu h f = let z : cu ≡ 0 = omega arith in rw (z, f)
+
+  pub beside-none : (1 ≤ cu → ⊥) → five ≡ false → leb 1 0 ≡ (leb 1 cu || (five && leb 1 tu))
+  beside-none h f = let z : cu ≡ 0 = omega arith in rw (z, f)
+
+-- by what the code has of it
+pub beside-both : (r : ℕ) (x y : Bool) → leb 1 r ≡ x → {t : Bool} → (leb 1 r && y) ≡ t → (x && y) ≡ t
+beside-both r x y e {t} q = ap (λ (b : Bool). b && y) (sym e) ∙ q
 
 -- ---- four tests in a row
 module _ (five : Bool) (counts : List ℕ) where

@@ -18,6 +18,7 @@ pub mod Stringing
 pub mod Inputting
 pub mod InputLaws
 pub mod InputEnds
+pub mod GoodParts
 pub mod Growing
 pub mod Entering
 pub mod Snoc
