@@ -28,10 +28,10 @@ module _ (five : Bool) (cu tu : ℕ) where
   pub beside-cu : 1 ≤ cu → leb 1 cu ≡ (leb 1 cu || (five && leb 1 tu))
   beside-cu h = rw (le-leb 1 cu h)
 
-  pub beside-tu : (1 ≤ cu → ⊥) → five ≡ true → leb 1 tu ≡ (leb 1 cu || (five && leb 1 tu))
+  pub beside-tu : cu < 1 → five ≡ true → leb 1 tu ≡ (leb 1 cu || (five && leb 1 tu))
   beside-tu h f = let z : cu ≡ 0 = omega arith in rw (z, f)
 
-  pub beside-none : (1 ≤ cu → ⊥) → five ≡ false → leb 1 0 ≡ (leb 1 cu || (five && leb 1 tu))
+  pub beside-none : cu < 1 → five ≡ false → leb 1 0 ≡ (leb 1 cu || (five && leb 1 tu))
   beside-none h f = let z : cu ≡ 0 = omega arith in rw (z, f)
 
 -- by what the code has of it
