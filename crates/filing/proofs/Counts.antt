@@ -1,6 +1,6 @@
 -- 6 and 7 by counts: the cases of the code, and that they are the definitions.
 -- Assumes nothing.
-use mathlib.Core.Path.{_≡_, refl, sym, ap, _∙_}
+use mathlib.Core.Path.{_≡_, refl}
 use mathlib.Core.Bool.{Bool, true, false, not, _&&_, _||_}
 use mathlib.Core.List.{List, [], _∷_}
 use Prim.Native.Nat.{ℕ, zero, suc, _<_, _≤_}
@@ -33,10 +33,6 @@ module _ (five : Bool) (cu tu : ℕ) where
 
   pub beside-none : cu < 1 → five ≡ false → leb 1 0 ≡ (leb 1 cu || (five && leb 1 tu))
   beside-none h f = let z : cu ≡ 0 = omega arith in rw (z, f)
-
--- by what the code has of it
-pub beside-both : (r : ℕ) (x y : Bool) → leb 1 r ≡ x → {t : Bool} → (leb 1 r && y) ≡ t → (x && y) ≡ t
-beside-both r x y e {t} q = ap (λ (b : Bool). b && y) (sym e) ∙ q
 
 -- ---- four tests in a row
 module _ (five : Bool) (counts : List ℕ) where

@@ -65,7 +65,7 @@ unfolding Headed
 headed-front e s [] h l = absurd (omega (arith, ap length h))
 headed-front e s (p ∷ ps) h l = record { piece = p; others = ps; rest = h .0; parts = refl; shape = h .1; some = h .2; size = h .3; entries = h .4; on = h .5 }
 
-headed-end : (e : Encoding) (s : List ℕ) (ps : List (List ℕ)) → Headed e s ps → length s ≡ 0 → ps ≡ []
+pub headed-end : (e : Encoding) (s : List ℕ) (ps : List (List ℕ)) → Headed e s ps → length s ≡ 0 → ps ≡ []
 unfolding Headed
 headed-end e s [] h l = refl
 headed-end e s (p ∷ ps) h l = absurd (omega (arith, ap length (h .1) ∙ length-append p (h .0), h .2))

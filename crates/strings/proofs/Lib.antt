@@ -17,5 +17,6 @@ pub mod Remembering
 pub mod Adding
 pub mod Headed
 pub mod Writing
+pub mod HeadedWriting
 pub mod PartEntries
 pub mod Callers

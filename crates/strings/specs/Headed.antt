@@ -7,12 +7,13 @@ use mathlib.Core.List.{List, [], _∷_, _++_}
 use Prim.Native.Nat.{ℕ, _+_, _*_, _/_, _<_, _≤_, _^_}
 use lib.Dec.{eqb}
 use lib.ListN.{length}
-use Rattle.octets.specs.Octets.{numberAt}
-use Rattle.octets.specs.Checked.{Check, pass, _>>=_}
+use Rattle.octets.specs.Octets.{numberAt, placed}
+use Rattle.octets.specs.Checked.{Check, pass, refuse, _>>=_}
 use Rattle.bundle.specs.Encoding.{Encoding}
 use Rattle.bundle.specs.Encoded.{encodingIs}
-use Rattle.strings.specs.Strings.{entriesIn, entriesOf, stringsAt}
+use Rattle.strings.specs.Strings.{entriesIn, entriesOf, stringsAt, remapped}
 use Rattle.strings.specs.Kept.{Inside, bytesAt, AddedIs}
+use Rattle.strings.specs.Objects.{KeptIn, PlacesIn}
 use Rattle.strings.specs.declared.table.Added.{Added}
 use Rattle.strings.specs.declared.table.StrOffsets.{StrOffsets}
 use Rattle.strings.specs.declared.table.StringTable.{StringTable}
@@ -51,3 +52,41 @@ pub record PiecesAddable (b : List ℕ) (o : StrOffsets) (words : ℕ) (store : 
 -- the strings of all pieces are put into a table, or 9
 abbrev pub PiecesAdded : List ℕ → StrOffsets → List ℕ → List (List ℕ) → List (List ℕ) → Added → Type 0
 PiecesAdded b o x table ps r = AddedIs b x table (stringsOfAll (encodingIs (o .encoding)) (bytesAt b (o .strings)) ps) r
+
+-- ---- written
+-- the strings of a piece, none where 9 refuses them
+unfoldable pub usedOf : Encoding → List ℕ → List ℕ → List (List ℕ)
+usedOf e str p = elim (stringsAt str (entriesIn e p)) [ pass us ↦ us | refuse n ↦ [] ]
+
+-- pieces by a table, one behind the other
+unfoldable pub remappedPieces : Encoding → List (List ℕ) → List ℕ → List (List ℕ) → List ℕ
+remappedPieces e table str [] = []
+remappedPieces e table str (p ∷ ps) = remapped e table p (usedOf e str p) ++ remappedPieces e table str ps
+
+-- an object's pieces, which 8 and 9 let pass
+pub record PiecesJudged (b : List ℕ) (o : StrOffsets) (ps : List (List ℕ)) : Type 0 where
+  pub offsets-inside : Inside b (o .offsets)
+  pub strings-inside : Inside b (o .strings)
+  pub headed : HeadedOf o b ps
+  pub used : List (List ℕ)
+  pub strings : stringsOfAll (encodingIs (o .encoding)) (bytesAt b (o .strings)) ps ≡ pass used
+
+-- a table and pieces for which they can be written
+pub record PiecesHeld (b : List ℕ) (o : StrOffsets) (words : ℕ) (store : List ℕ) (t : StringTable) : Type 0 where
+  pub table : List (List ℕ)
+  pub pieces : List (List ℕ)
+  pub kept : KeptIn b words store t table
+  pub memory : PlacesIn b (o .strings) words store table
+  pub judged : PiecesJudged b o pieces
+
+-- they are written to a place of the output, by every table that is kept; x is the output after that
+abbrev pub PiecesOut : List ℕ → StrOffsets → ℕ → List ℕ → StringTable → List ℕ → ℕ → List ℕ → Type 0
+PiecesOut b o words store t d at x =
+    (table ps : List (List ℕ)) → KeptIn b words store t table → PlacesIn b (o .strings) words store table → PiecesJudged b o ps
+    → x ≡ placed d at (remappedPieces (encodingIs (o .encoding)) table (bytesAt b (o .strings)) ps)
+
+-- the same, whatever is remembered of str before it
+abbrev pub PiecesRemap : List ℕ → StrOffsets → ℕ → List ℕ → StringTable → List ℕ → ℕ → List ℕ → Type 0
+PiecesRemap b o words store t d at x =
+    (table ps : List (List ℕ)) → KeptIn b words store t table → PiecesJudged b o ps
+    → x ≡ placed d at (remappedPieces (encodingIs (o .encoding)) table (bytesAt b (o .strings)) ps)

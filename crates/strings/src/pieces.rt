@@ -7,8 +7,9 @@ ghost use Rattle.bundle.specs.Encoded.{encodingIs};
 ghost use Rattle.strings.specs.Strings.{headerSize};
 ghost use Rattle.strings.specs.Kept.{bytesAt};
 ghost use Rattle.strings.specs.Remembered.{LastZero};
-ghost use Rattle.strings.specs.Objects.{tableIn, KeptIn, PuttingIn};
-ghost use Rattle.strings.specs.Headed.{pieceSize, HeadedOf, PiecesAddable, PiecesAdded};
+ghost use mathlib.Core.Bool.{false};
+ghost use Rattle.strings.specs.Objects.{tableIn, KeptIn, PuttingIn, Writable};
+ghost use Rattle.strings.specs.Headed.{pieceSize, HeadedOf, PiecesAddable, PiecesAdded, PiecesJudged, PiecesHeld, PiecesOut, PiecesRemap};
 use crate::entries;
 use crate::table::Added;
 use crate::table::Place;
@@ -80,4 +81,58 @@ pub fn add_pieces(o: StrOffsets, b: &[u8], store: &mut [u32], words: usize, t: S
     let ended = entries::last_zero(&b[base..end]);
     crate::table::forget(store, words, strings.size);
     put_pieces(o, b, ended, store, words, t)
+}
+
+// Writes all pieces by the final table, one behind the other.
+fn write_pieces(
+    o: StrOffsets,
+    b: &[u8],
+    store: &mut [u32],
+    words: usize,
+    t: StringTable,
+    d: &mut [u8],
+    at: usize,
+)
+    requires { ⌜ (t .over ≡ false) × Writable o words (now store) (now d) at × PiecesHeld (now b) o words (now store) t ⌝ }
+    ensures { λ _. ⌜ PiecesOut (now (b .entry)) o words (now (store .entry)) t (now (d .entry)) at (now (d .exit)) ⌝ }
+    ensures { λ _. ⌜ tableIn words (now (store .exit)) ≡ tableIn words (now (store .entry)) ⌝ }
+{
+    let e = o.encoding;
+    let strings = o.strings;
+    let start = o.offsets.start;
+    let end = start + o.offsets.size;
+    let mut place = start;
+    let mut out = at;
+    while place < end {
+        let size = piece_size(e, &b[place..end]);
+        let offsets = Place { start: place, size };
+        let piece = StrOffsets {
+            encoding: e,
+            offsets,
+            strings,
+        };
+        crate::sections::remap_piece(piece, b, store, words, t, d, out);
+        place += size;
+        out += size;
+    }
+}
+
+// Writes an object's str_offsets by the final table, piece by piece: each header as it was, and for each entry its string's place in str. The store holds the table
+// in its first words, and behind them a word of memory for each byte of the object's str; what the memory holds after the call is not promised.
+pub fn remap_pieces(
+    o: StrOffsets,
+    b: &[u8],
+    store: &mut [u32],
+    words: usize,
+    t: StringTable,
+    d: &mut [u8],
+    at: usize,
+)
+    requires { ⌜ (t .over ≡ false) × Writable o words (now store) (now d) at × ((ts : List (List ℕ)) × KeptIn (now b) words (now store) t ts) × ((ps : List (List ℕ)) × PiecesJudged (now b) o ps) ⌝ }
+    ensures { λ _. ⌜ PiecesRemap (now (b .entry)) o words (now (store .entry)) t (now (d .entry)) at (now (d .exit)) ⌝ }
+    ensures { λ _. ⌜ tableIn words (now (store .exit)) ≡ tableIn words (now (store .entry)) ⌝ }
+{
+    let strings = o.strings;
+    crate::table::forget(store, words, strings.size);
+    write_pieces(o, b, store, words, t, d, at);
 }

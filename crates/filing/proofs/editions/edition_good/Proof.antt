@@ -1,10 +1,8 @@
 -- `edition_good` meets its contract.
 -- Assumes nothing.
 use mathlib.Core.Path.{sym, _∙_}
-use lib.Dec.{leb}
-use lib.ListN.{getD}
 use borrow.Author.Needs.{needs}
-use Rattle.filing.proofs.Counts.{beside-both, wrong-edition, second-one, second-info, second-types, good-edition}
+use Rattle.filing.proofs.Counts.{wrong-edition, second-one, second-info, second-types, good-edition}
 use Rattle.filing.proofs.editions.edition_good.Statement.{statement}
 use Rattle.filing.proofs.editions.edition_good.Tie as tie
 
@@ -35,7 +33,7 @@ returns c =
     let a = i .before .before in
     let e = a .before .before in
     second-info _ _ (sym (e .edition-right .ensures) ∙ a .before .if1 .taken) (sym (a .all-once .ensures) ∙ i .before .if2 .taken)
-    (beside-both (i .beside-info .result) _ (leb 2 (getD (e .before .args .count) 1 0)) (i .beside-info .ensures) (sym (c .before .second-beside .ensures) ∙ c .if3 .taken))
+    (rw (i .beside-info .ensures) at (sym (c .before .second-beside .ensures) ∙ c .if3 .taken))
 
 array-read-second-beside-2 : tie.Need-array-read-second-beside-2
 array-read-second-beside-2 c = search needs
@@ -53,7 +51,7 @@ returns-2 c =
     let a = i .before .before in
     let e = a .before .before in
     second-types _ _ (sym (e .edition-right .ensures) ∙ a .before .if1 .taken) (sym (a .all-once .ensures) ∙ i .before .if2 .taken)
-    (beside-both (i .beside-info .result) _ (leb 2 (getD (e .before .args .count) 1 0)) (i .beside-info .ensures) (sym (s .second-beside .ensures) ∙ c .before .before .if3 .left)) (sym (c .before .second-beside2 .ensures) ∙ c .if4 .taken)
+    (rw (i .beside-info .ensures) at (sym (s .second-beside .ensures) ∙ c .before .before .if3 .left)) (sym (c .before .second-beside2 .ensures) ∙ c .if4 .taken)
 
 returns-3 : tie.Need-returns-3
 returns-3 c =
@@ -62,7 +60,7 @@ returns-3 c =
     let a = i .before .before in
     let e = a .before .before in
     good-edition _ _ (sym (e .edition-right .ensures) ∙ a .before .if1 .taken) (sym (a .all-once .ensures) ∙ i .before .if2 .taken)
-    (beside-both (i .beside-info .result) _ (leb 2 (getD (e .before .args .count) 1 0)) (i .beside-info .ensures) (sym (s .second-beside .ensures) ∙ c .before .before .if3 .left)) (sym (c .before .second-beside2 .ensures) ∙ c .if4 .left)
+    (rw (i .beside-info .ensures) at (sym (s .second-beside .ensures) ∙ c .before .before .if3 .left)) (sym (c .before .second-beside2 .ensures) ∙ c .if4 .left)
 
 returns-4 : tie.Need-returns-4
 returns-4 c =
