@@ -1,0 +1,82 @@
+-- The name table: each name is found at its place, and gives its section's code.
+-- Assumes nothing.
+use mathlib.Core.Path.{_≡_, refl, sym, ap, _∙_, subst}
+use mathlib.Core.Logic.{⊎-elim}
+use mathlib.Core.Bool.{true, false, _||_}
+use mathlib.Core.List.{List, [], _∷_, _++_, map, append-assoc}
+use Prim.Native.Nat.{ℕ, _+_, _*_, _≤_, _<_}
+use native.Mathlib.Omega.{arith}
+use lib.Dec.{eqb}
+use lib.ListN.{length, drop, length-append}
+use lib.Seq.{drop-at}
+use borrow.Author.Tests.{eqb-true}
+use Rattle.octets.specs.Lists.{joined, any, has, same}
+use Rattle.octets.proofs.Checks.{true-false, or-left, or-right}
+use Rattle.octets.proofs.Lists.{any-append, any-cases}
+use Rattle.numbers.specs.Names.{dwoWords, indexWords, namePrefix, nameSuffix, dwoName, indexName, sectionNames, sectionName}
+use Rattle.bundle.specs.Written.{Section}
+use Rattle.bundle.proofs.Every.{Every, nothing, also}
+use Rattle.lookup.specs.Lookup.{codes}
+use Rattle.elf.specs.File.{Header, startsWith, codeAmong, codeOf, ended}
+use Rattle.elf.specs.Writer.{bodies, tableName, endedName}
+use Rattle.elf_writer.proofs.Cases.{length-ended}
+
+-- ---- names and bytes joined
+abbrev pub namesIn : List Section → List ℕ
+namesIn ss = joined (map (λ (s : Section). endedName (sectionName (s .code))) ss)
+
+pub names-more : (s : Section) (ss : List Section) → length (namesIn (s ∷ ss)) ≡ length (sectionName (s .code)) + 1 + length (namesIn ss)
+unfolding joined
+names-more s ss = length-append (endedName (sectionName (s .code))) (namesIn ss) ∙ omega (arith, length-ended (sectionName (s .code)))
+
+pub bodies-more : (s : Section) (ss : List Section) → length (bodies (s ∷ ss)) ≡ length (s .bytes) + length (bodies ss)
+unfolding bodies joined
+bodies-more s ss = length-append (s .bytes) (bodies ss)
+
+-- ---- the code of a name
+CodeNamed : ℕ → Type 0
+CodeNamed c = (rest : List ℕ) → codeAmong (drop 1 sectionNames) 1 (endedName (sectionName c) ++ rest) ≡ c
+
+each-named : Every CodeNamed (1 ∷ 2 ∷ 3 ∷ 4 ∷ 5 ∷ 6 ∷ 7 ∷ 8 ∷ 9 ∷ 10 ∷ 11 ∷ 12 ∷ 13 ∷ [])
+unfolding CodeNamed codeAmong startsWith same endedName sectionName sectionNames dwoWords indexWords namePrefix nameSuffix dwoName indexName
+each-named =
+    also (λ r. refl) (also (λ r. refl) (also (λ r. refl) (also (λ r. refl) (also (λ r. refl) (also (λ r. refl) (also (λ r. refl)
+    (also (λ r. refl) (also (λ r. refl) (also (λ r. refl) (also (λ r. refl) (also (λ r. refl) (also (λ r. refl) nothing))))))))))))
+
+one-named : (c : ℕ) (cs : List ℕ) → Every CodeNamed cs → has cs c ≡ true → CodeNamed c
+unfolding has any
+one-named c [] e h = absurd (true-false h refl)
+one-named c (d ∷ cs) (also x e) h = ⊎-elim
+    (λ (t : eqb c d ≡ true). subst CodeNamed (sym (eqb-true c d t)) x)
+    (λ t. one-named c cs e t)
+    (any-cases (eqb c) d cs h)
+
+pub code-named : (c : ℕ) (rest : List ℕ) → has codes c ≡ true → codeAmong (drop 1 sectionNames) 1 (endedName (sectionName c) ++ rest) ≡ c
+unfolding codes CodeNamed
+code-named c rest h = one-named c codes each-named h rest
+
+-- the name table's own name, and the empty name of the null header, are none of them
+pub table-unnamed : codeAmong (drop 1 sectionNames) 1 (endedName tableName) ≡ 0
+unfolding codeAmong startsWith same endedName tableName sectionNames dwoWords indexWords namePrefix nameSuffix dwoName indexName
+table-unnamed = refl
+
+pub null-unnamed : (rest : List ℕ) → codeAmong (drop 1 sectionNames) 1 (0 ∷ rest) ≡ 0
+unfolding codeAmong startsWith same sectionNames dwoWords indexWords namePrefix nameSuffix dwoName indexName
+null-unnamed rest = refl
+
+-- ---- at its place
+module _ (names p x : List ℕ) (h : Header) (e : names ≡ p ++ x) (l : length p ≡ h .name) where
+  name-there : drop (h .name) names ≡ x
+  name-there = ap (drop (h .name)) e ∙ drop-at p x (h .name) l
+
+  pub code-there : (c : ℕ) → codeAmong (drop 1 sectionNames) 1 x ≡ c → codeOf names h ≡ c
+  unfolding codeOf
+  code-there c g = ap (codeAmong (drop 1 sectionNames) 1) name-there ∙ g
+
+  pub ended-there : (name rest : List ℕ) → x ≡ endedName name ++ rest → ended names h ≡ true
+  unfolding ended endedName any
+  ended-there name rest g =
+      ap (any (eqb 0)) (name-there ∙ g)
+      ∙ any-append (eqb 0) (name ++ (0 ∷ [])) rest
+      ∙ or-left (any (eqb 0) (name ++ (0 ∷ []))) (any (eqb 0) rest)
+      (any-append (eqb 0) name (0 ∷ []) ∙ or-right (any (eqb 0) name) (any (eqb 0) (0 ∷ [])) refl)
