@@ -2,8 +2,8 @@
 -- Assumes nothing.
 pub mod Headers
 pub mod Names
--- pub mod Listed
--- pub mod Wanted
+pub mod Listed
+pub mod Wanted
 -- pub mod Front
 -- pub mod Stated
 -- pub mod FileRead
