@@ -39,7 +39,7 @@ entry big w ns f p q at i place fit h l e k = ap₂ (numberAt big w) e k ∙ ent
 abbrev pub plain : ℕ → ℕ → ℕ → ℕ → ℕ → Header
 plain i name kind offset size = record { number = i; name = name; type = kind; flags = 0; offset = offset; size = size; info = 0 }
 
-by-fields : (big : Bool) (f : List ℕ) (i at name kind offset size : ℕ) → numberAt big 4 f at ≡ name → numberAt big 4 f (at + 4) ≡ kind
+pub by-fields : (big : Bool) (f : List ℕ) (i at name kind offset size : ℕ) → numberAt big 4 f at ≡ name → numberAt big 4 f (at + 4) ≡ kind
     → numberAt big 8 f (at + 8) ≡ 0 → numberAt big 8 f (at + 24) ≡ offset → numberAt big 8 f (at + 32) ≡ size → numberAt big 4 f (at + 44) ≡ 0
     → headerAt big f i at ≡ plain i name kind offset size
 unfolding headerAt

@@ -4,6 +4,6 @@ pub mod Headers
 pub mod Names
 pub mod Listed
 pub mod Wanted
--- pub mod Front
--- pub mod Stated
--- pub mod FileRead
+pub mod Front
+pub mod Stated
+pub mod FileRead

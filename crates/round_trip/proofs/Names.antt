@@ -6,20 +6,21 @@ use mathlib.Core.Bool.{true, false, _||_}
 use mathlib.Core.List.{List, [], _∷_, _++_, map, append-assoc}
 use Prim.Native.Nat.{ℕ, _+_, _*_, _≤_, _<_}
 use native.Mathlib.Omega.{arith}
-use lib.Dec.{eqb}
+use lib.Dec.{eqb, ltb}
 use lib.ListN.{length, drop, length-append}
 use lib.Seq.{drop-at}
-use borrow.Author.Tests.{eqb-true}
-use Rattle.octets.specs.Lists.{joined, any, has, same}
+use borrow.Author.Tests.{eqb-true, ltb-true}
+use Rattle.octets.specs.Lists.{joined, all, any, has, same}
 use Rattle.octets.proofs.Checks.{true-false, or-left, or-right}
 use Rattle.octets.proofs.Lists.{any-append, any-cases}
+use Rattle.octets.proofs.Elements.{all-at, at-has}
 use Rattle.numbers.specs.Names.{dwoWords, indexWords, namePrefix, nameSuffix, dwoName, indexName, sectionNames, sectionName}
 use Rattle.bundle.specs.Written.{Section}
 use Rattle.bundle.proofs.Every.{Every, nothing, also}
 use Rattle.lookup.specs.Lookup.{codes}
 use Rattle.elf.specs.File.{Header, startsWith, codeAmong, codeOf, ended}
-use Rattle.elf.specs.Writer.{bodies, tableName, endedName}
-use Rattle.elf_writer.proofs.Cases.{length-ended}
+use Rattle.elf.specs.Writer.{bodies, tableName, endedName, nameTable}
+use Rattle.elf_writer.proofs.Cases.{length-ended, name-short}
 
 -- ---- names and bytes joined
 abbrev pub namesIn : List Section → List ℕ
@@ -34,6 +35,12 @@ unfolding bodies joined
 bodies-more s ss = length-append (s .bytes) (bodies ss)
 
 -- ---- the code of a name
+-- what holds of each code holds of one of them
+one-of : {P : ℕ → Type 0} (c : ℕ) (cs : List ℕ) → Every P cs → has cs c ≡ true → P c
+unfolding has any
+one-of c [] e h = absurd (true-false h refl)
+one-of {P} c (d ∷ cs) (also x e) h = ⊎-elim (λ (t : eqb c d ≡ true). subst P (sym (eqb-true c d t)) x) (λ t. one-of c cs e t) (any-cases (eqb c) d cs h)
+
 CodeNamed : ℕ → Type 0
 CodeNamed c = (rest : List ℕ) → codeAmong (drop 1 sectionNames) 1 (endedName (sectionName c) ++ rest) ≡ c
 
@@ -43,17 +50,9 @@ each-named =
     also (λ r. refl) (also (λ r. refl) (also (λ r. refl) (also (λ r. refl) (also (λ r. refl) (also (λ r. refl) (also (λ r. refl)
     (also (λ r. refl) (also (λ r. refl) (also (λ r. refl) (also (λ r. refl) (also (λ r. refl) (also (λ r. refl) nothing))))))))))))
 
-one-named : (c : ℕ) (cs : List ℕ) → Every CodeNamed cs → has cs c ≡ true → CodeNamed c
-unfolding has any
-one-named c [] e h = absurd (true-false h refl)
-one-named c (d ∷ cs) (also x e) h = ⊎-elim
-    (λ (t : eqb c d ≡ true). subst CodeNamed (sym (eqb-true c d t)) x)
-    (λ t. one-named c cs e t)
-    (any-cases (eqb c) d cs h)
-
 pub code-named : (c : ℕ) (rest : List ℕ) → has codes c ≡ true → codeAmong (drop 1 sectionNames) 1 (endedName (sectionName c) ++ rest) ≡ c
 unfolding codes CodeNamed
-code-named c rest h = one-named c codes each-named h rest
+code-named c rest h = one-of c codes each-named h rest
 
 -- the name table's own name, and the empty name of the null header, are none of them
 pub table-unnamed : codeAmong (drop 1 sectionNames) 1 (endedName tableName) ≡ 0
@@ -80,3 +79,24 @@ module _ (names p x : List ℕ) (h : Header) (e : names ≡ p ++ x) (l : length 
       ∙ any-append (eqb 0) (name ++ (0 ∷ [])) rest
       ∙ or-left (any (eqb 0) (name ++ (0 ∷ []))) (any (eqb 0) rest)
       (any-append (eqb 0) name (0 ∷ []) ∙ or-right (any (eqb 0) name) (any (eqb 0) (0 ∷ [])) refl)
+
+-- ---- how long
+code-below : (c : ℕ) → has codes c ≡ true → c < 14
+unfolding codes all
+code-below c h =
+    let r = at-has codes c h in
+    ltb-true c 14 (ap (λ (k : ℕ). ltb k 14) (sym (r .2)) ∙ all-at (λ (k : ℕ). ltb k 14) 0 codes (r .0) refl (r .1))
+
+pub names-most : (ss : List Section) → Every (λ s. has codes (s .code) ≡ true) ss → length (namesIn ss) ≤ 23 * length ss
+unfolding joined
+names-most [] e = omega arith
+names-most (s ∷ ss) (also h e) = omega (arith, names-more s ss, names-most ss e, name-short (s .code) (code-below (s .code) h))
+
+pub bodies-most : (ss : List Section) → Every (λ s. length (s .bytes) ≤ 8_388_607) ss → length (bodies ss) ≤ 8_388_607 * length ss
+unfolding bodies joined
+bodies-most [] e = omega arith
+bodies-most (s ∷ ss) (also h e) = omega (arith, bodies-more s ss, bodies-most ss e, h)
+
+pub table-length : (ss : List Section) → length (nameTable ss) ≡ 11 + length (namesIn ss)
+unfolding nameTable endedName tableName
+table-length ss = omega (arith, length-append (namesIn ss) (endedName tableName))

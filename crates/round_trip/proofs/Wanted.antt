@@ -8,14 +8,14 @@ use Prim.Native.Nat.{ℕ, _+_, _/_, _%_}
 use native.Mathlib.Omega.{arith}
 use lib.Dec.{eqb, leb}
 use lib.ListN.{length}
-use borrow.Author.Tests.{eq-eqb, ne-eqb, leb-true, eqb-true}
+use borrow.Author.Tests.{eq-eqb, ne-eqb, leb-true}
 use Rattle.octets.specs.Lists.{all, any, those, has}
 use Rattle.octets.proofs.Checks.{true-false, and-both, known, not-left}
 use Rattle.octets.proofs.Lists.{all-cons, any-cons, those-keeps, those-skips}
 use Rattle.numbers.specs.Sections.{infoCode}
 use Rattle.bundle.specs.Written.{Section}
 use Rattle.bundle.proofs.Every.{Every, nothing, also}
-use Rattle.bundle.proofs.WrittenParts.{isOf, bytesIn, bytes-here, bytes-later}
+use Rattle.bundle.proofs.WrittenParts.{isOf, code-is, code-not, bytesIn, bytes-here, bytes-later}
 use Rattle.lookup.specs.Lookup.{codes}
 use Rattle.elf.specs.File.{Header, unstored, bodyOf, inside, codeOf, isWanted, ended}
 use Rattle.elf.specs.Reader.{compressed, relocates, readable, firstInfo}
@@ -101,15 +101,9 @@ module _ (names f : List ℕ) where
       ap (firstInfo f names) (those-keeps (isWanted names) h hs (is-wanted h s n r))
       ∙ ⊎-elim
       (λ (t : isOf infoCode s ≡ true).
-      info-here h w (r .code ∙ own s t) (λ z. empty-not (s .bytes) y (sym (ap length (r .body)) ∙ z)) ∙ r .body ∙ sym (bytes-here s ss infoCode t))
-      (λ (t : isOf infoCode s ≡ false). info-later h w (λ z. other s t (sym (r .code) ∙ z)) ∙ info-is l some ∙ sym (bytes-later s ss infoCode t))
+      info-here h w (r .code ∙ code-is s infoCode t) (λ z. empty-not (s .bytes) y (sym (ap length (r .body)) ∙ z)) ∙ r .body ∙ sym (bytes-here s ss infoCode t))
+      (λ (t : isOf infoCode s ≡ false). info-later h w (λ z. code-not s infoCode t (sym (r .code) ∙ z)) ∙ info-is l some ∙ sym (bytes-later s ss infoCode t))
       (known (isOf infoCode s))
     where
-      own : (s : Section) → isOf infoCode s ≡ true → s .code ≡ infoCode
-      own s t = unfold isOf in eqb-true (s .code) infoCode t
-
-      other : (s : Section) → isOf infoCode s ≡ false → s .code ≡ infoCode → ⊥
-      other s t = unfold isOf in λ z. true-false (eq-eqb (s .code) infoCode z) t
-
       empty-not : (b : List ℕ) → leb 1 (length b) ≡ true → length b ≡ 0 → ⊥
       empty-not b y z = let m = leb-true 1 (length b) y in omega arith
