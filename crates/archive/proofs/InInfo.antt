@@ -27,7 +27,7 @@ stands : (u : Filed) → standsInInfo u ≡ true → u .home ≡ infoCode
 unfolding standsInInfo
 stands u e = eqb-true (u .home) infoCode e
 
-stands-not : (u : Filed) → standsInInfo u ≡ false → u .home ≡ infoCode → ⊥
+pub stands-not : (u : Filed) → standsInInfo u ≡ false → u .home ≡ infoCode → ⊥
 unfolding standsInInfo
 stands-not u e z = true-false (eq-eqb (u .home) infoCode z) e
 

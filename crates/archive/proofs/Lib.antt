@@ -19,4 +19,5 @@ pub mod Telling
 pub mod Packaged
 pub mod InInfo
 pub mod RoundTrip
+pub mod Unread
 pub mod Refusing

@@ -53,7 +53,7 @@ use Rattle.archive.proofs.Absences.{objects-or, no-units, opens}
 use Rattle.archive.proofs.InInfo.{StartsInfo, starts-info, kept-in-info}
 
 -- ---- numbers
-machine-fits : (machine : ℕ) → machineGood machine ≡ true → machine < 256 ^ 2
+pub machine-fits : (machine : ℕ) → machineGood machine ≡ true → machine < 256 ^ 2
 unfolding machineGood
 machine-fits machine g = ⊎-elim
     (λ e. ⊎-elim
@@ -130,7 +130,7 @@ module _ (b p : List ℕ) (a : Accepted b p) (h : Bytes b) (o : Object) (os : Li
   unfolding sectionList
   few = length-those nonEmpty list
 
-  writable : Writable ss
+  pub writable : Writable ss
   unfolding nonEmpty
   writable = record { named = each-those nonEmpty list named; some = each-passed nonEmpty list; short = each-those nonEmpty list (sections-small b p a); few = few }
 
@@ -150,7 +150,7 @@ module _ (b p : List ℕ) (a : Accepted b p) (h : Bytes b) (o : Object) (os : Li
       let good = facts-of b p a h .units in
       starts-info e (kept (a .filing .units)) (each-kept (a .filing .units) good) (kept-in-info e (a .filing .units) good (ap (any standsInInfo) (sym (handed-in b p a)) ∙ t))
 
-  info-is : bytesIn ss infoCode ≡ unitBytes (kept (a .filing .units)) infoCode
+  pub info-is : bytesIn ss infoCode ≡ unitBytes (kept (a .filing .units)) infoCode
   info-is = left list infoCode (list-distinct (a .filing) (a .cu) (a .tu)) .bytes ∙ info-bytes (a .filing) (a .cu) (a .tu)
 
   word-stated : any standsInInfo (handedIn b) ≡ true → Is (o .word) ≡ statedOf (unitStated big (bytesIn ss infoCode))
@@ -179,11 +179,11 @@ module _ (b p : List ℕ) (a : Accepted b p) (h : Bytes b) (o : Object) (os : Li
         some-objects : o ∷ os ≡ [] → ⊥
         some-objects z = let l = ap length z in omega arith
 
-    package-in : packageOf p ≡ pass (packageIn p)
+    pub package-in : packageOf p ≡ pass (packageIn p)
     unfolding packageIn
     package-in = let r = opened in r .1 ∙ ap pass (sym (rw (packageIn, r .1)))
 
-    file-is : fileOf p machine ≡ file
+    pub file-is : fileOf p machine ≡ file
     unfolding fileOf packageIn encodingOf
     file-is =
         let r = opened in

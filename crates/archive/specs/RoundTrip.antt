@@ -2,13 +2,13 @@
 -- So whoever holds only the .dwp file holds the package.
 -- Assumes nothing.
 use mathlib.Core.Path.{_≡_}
-use mathlib.Core.Bool.{Bool, true}
+use mathlib.Core.Bool.{Bool, true, false}
 use mathlib.Core.List.{List}
 use Prim.Native.Nat.{ℕ, _≤_, _<_}
 use lib.Dec.{eqb}
 use lib.ListN.{length}
 use Rattle.numbers.specs.Sections.{infoCode}
-use Rattle.numbers.specs.Refusals.{fileShort}
+use Rattle.numbers.specs.Refusals.{noUnit, fileShort}
 use Rattle.octets.specs.Lists.{any}
 use Rattle.answers.specs.Answers.{refused, short, made}
 use Rattle.package.specs.Filing.{Filed}
@@ -36,3 +36,9 @@ abbrev pub RoundTrip : Type 0
 RoundTrip =
     (b : List ℕ) (w o : ℕ) (p : List ℕ) (machine : ℕ) → AreBytes b → packed b w o ≡ packedInto p → InfoHoldsAUnit b → machineGood machine ≡ true
     → ThereAndBack p machine
+
+-- it can't do without its premise: every file of another accepted bundle's package is refused by 33
+abbrev pub ElseRefused : Type 0
+ElseRefused =
+    (b : List ℕ) (w o : ℕ) (p : List ℕ) (machine n m : ℕ) (file : List ℕ) → AreBytes b → packed b w o ≡ packedInto p → any standsInInfo (handedIn b) ≡ false
+    → elfWritten p machine n ≡ made file → elfRead file m ≡ refused noUnit

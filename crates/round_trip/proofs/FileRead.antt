@@ -1,34 +1,37 @@
 -- A file that was written of sections is read as a bundle of one object with these sections.
 -- Assumes nothing.
 use mathlib.Core.Path.{_≡_, refl, sym, ap, ap₂, _∙_}
-use mathlib.Core.Bool.{Bool, true, false, _&&_}
+use mathlib.Core.Bool.{Bool, true, false, _&&_, _||_}
 use mathlib.Core.List.{List, [], _∷_, _++_, map, append-assoc}
 use Prim.Native.Nat.{ℕ, suc, _+_, _*_, _-_, _^_, _≤_, _<_}
 use native.Mathlib.Omega.{arith}
 use lib.Dec.{eqb, leb}
 use lib.ListN.{length, drop, getD, length-append}
 use borrow.Author.Tests.{le-leb}
-use Rattle.octets.specs.Octets.{part, zeros}
+use Rattle.octets.specs.Octets.{part, little, bigFrom, number, numberAt, zeros}
 use Rattle.octets.specs.Lists.{joined, all, any, those}
-use Rattle.octets.specs.Checked.{pass}
+use Rattle.octets.specs.Checked.{pass, refuse}
 use Rattle.octets.proofs.Checks.{and-both}
 use Rattle.octets.proofs.Lists.{all-cons, any-cons, any-stops, those-skips}
 use Rattle.octets.proofs.Parts.{part-middle}
 use Rattle.octets.proofs.Placed.{length-zeros}
 use Rattle.numbers.specs.Sections.{infoCode}
 use Rattle.numbers.specs.Names.{sectionName}
+use Rattle.numbers.specs.Refusals.{noUnit}
 use Rattle.numbers.specs.Limits.{sectionLimit, packageLimit}
 use Rattle.bundle.specs.Written.{Section, written}
+use Rattle.unit.specs.UnitRead.{lengthField}
 use Rattle.bundle.proofs.Every.{Every, nothing, also}
 use Rattle.bundle.proofs.WrittenParts.{bytesIn}
 use Rattle.elf.specs.File.{Header, File, headerAt, headersAt, noHeader, unstored, bodyOf, inside, codeOf, isWanted, ended, wantedOf, fileOf, elfOf}
-use Rattle.elf.specs.Reader.{relocates, readable, firstInfo, unitStated, bundleRead}
+use Rattle.elf.specs.Reader.{relocates, readable, firstInfo, widthStated, versionStated, encodingStated, unitStated, bundleRead}
 use Rattle.elf.specs.Held.{fromType, sectionsIn, sectionOf, shortEnough, oneObject, statedOf}
 use Rattle.elf.specs.declared.stating.Stated.the-variants.{Is}
 use Rattle.elf.proofs.Headers.{header-there}
 use Rattle.elf.proofs.Judged.{unwanted}
 use Rattle.elf.proofs.Opening.{open-type, table-there, names-there}
-use Rattle.elf.proofs.Refusals.{elf-good, read-from, from-word, word-pass}
+use Rattle.elf.proofs.Refusals.{elf-good, read-from, from-unstated, from-word, word-pass}
+use Rattle.elf.proofs.FirstUnit.{bad-version}
 use Rattle.elf.specs.Writer.{bodies, nameTable, tableName, endedName, programBits, stringTable, headersFrom, headers, fileHeader, aligned, fileBytes}
 use Rattle.elf_writer.proofs.Headers.{length-file-header}
 use Rattle.elf_writer.proofs.Whole.{length-headers, length-whole}
@@ -256,3 +259,14 @@ module _ (big : Bool) (machine : ℕ) (fm : machine < 256 ^ 2) (ss : List Sectio
       ∙ sym (from-word f file are-readable (bytesIn ss infoCode) info-is word u)
       ∙ word-pass f file word all-short (omega (arith, ap (λ (xs : List Section). length (oneObject big word xs)) sections-are, h))
       ∙ ap (λ (xs : List Section). pass (oneObject big word xs)) sections-are
+
+  -- without info there is no unit to state the object word
+  pub file-unread : bytesIn ss infoCode ≡ [] → bundleRead (fileBytes big machine ss) ≡ refuse noUnit
+  file-unread e =
+      ap bundleRead file-is
+      ∙ sym (read-from f file is-elf)
+      ∙ from-unstated f file are-readable [] (sym e ∙ info-is) (bad-version big [] (no-version big))
+    where
+      no-version : (big : Bool) → (eqb (encodingStated big [] .version) 4 || eqb (encodingStated big [] .version) 5) ≡ false
+      no-version true = unfold encodingStated versionStated widthStated lengthField numberAt number part bigFrom in refl
+      no-version false = unfold encodingStated versionStated widthStated lengthField numberAt number part little in refl
