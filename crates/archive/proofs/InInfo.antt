@@ -76,9 +76,9 @@ same-home : (e : Encoding) (u k : Filed) → Good e u → Good e k → u .home �
 same-home e u k gu gk h t = ⊎-elim
     (λ z. z)
     (λ (z : k .home ≡ 2). absurd (⊎-elim
-        (λ (y : u .home ≡ 2). one-two (sym h ∙ y))
-        (λ y. gk .four z (ap (λ (d : Encoding). d .version) (sym (gu .object .encoded)) ∙ y .0))
-        (gu .unit .types .0 (sym t ∙ gk .unit .types .1 (inl z)))))
+    (λ (y : u .home ≡ 2). one-two (sym h ∙ y))
+    (λ y. gk .four z (ap (λ (d : Encoding). d .version) (sym (gu .object .encoded)) ∙ y .0))
+    (gu .unit .types .0 (sym t ∙ gk .unit .types .1 (inl z)))))
     (gk .homes)
   where
     one-two : _≡_ {A = ℕ} 1 2 → ⊥

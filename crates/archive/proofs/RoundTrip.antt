@@ -118,7 +118,9 @@ module _ (b p : List ℕ) (a : Accepted b p) (h : Bytes b) (o : Object) (os : Li
       let f : ℕ → Section = λ c. record { code = c; bytes = body p parts c } in
       let g : ℕ → Section = λ c. record { code = c; bytes = bytesIn list c } in
       let same : f ≡ g = λ i c. record { code = c; bytes = at-code c .bytes i } in
-      let keeps : (λ (c : ℕ). leb 1 (count parts c)) ≡ (λ (c : ℕ). leb 1 (length (bytesIn list c))) = λ i c. at-code c .there i in
+      let k : ℕ → Bool = λ c. leb 1 (count parts c) in
+      let l : ℕ → Bool = λ c. leb 1 (length (bytesIn list c)) in
+      let keeps : k ≡ l = λ i c. at-code c .there i in
       ap₂ (λ (x : ℕ → Section) (y : ℕ → Bool). map x (those y codes)) same keeps ∙ sym (those-map g nonEmpty codes) ∙ ap (those nonEmpty) list-is
 
   -- ---- they can be written
@@ -210,8 +212,8 @@ module _ (b p : List ℕ) (a : Accepted b p) (h : Bytes b) (o : Object) (os : Li
 
 pub round-trip : RoundTrip
 unfolding any
-round-trip b w o p machine h made t m =
-    let a = packed-accepted b w o p made in
+round-trip b w o p machine h accepted t m =
+    let a = packed-accepted b w o p accepted in
     ⊎-elim
     (λ (z : a .bundle .objects ≡ []). absurd (true-false t (ap (any standsInInfo) (handed-in b p a ∙ no-units b p a h z))))
     (λ (z : (x : Object) × (xs : List Object) × (a .bundle .objects ≡ x ∷ xs)). there-and-back b p a h (z .0) (z .1) (z .2) machine m t)

@@ -4,6 +4,7 @@ use mathlib.Core.Path.{_≡_, refl, sym, ap, _∙_}
 use mathlib.Core.Logic.{⊎-elim}
 use mathlib.Core.Bool.{Bool, true, false}
 use mathlib.Core.List.{List, [], _∷_}
+use mathlib.Core.Option.{none}
 use Prim.Native.Nat.{ℕ}
 use native.Mathlib.Decide.{decLe}
 use native.Mathlib.Omega.{arith}
@@ -11,7 +12,7 @@ use lib.Dec.{leb}
 use lib.ListN.{length}
 use Rattle.numbers.specs.Sections.{infoCode}
 use Rattle.numbers.specs.Refusals.{noUnit}
-use Rattle.octets.specs.Lists.{any, those}
+use Rattle.octets.specs.Lists.{joined, any, those}
 use Rattle.octets.specs.Checked.{Check, pass, refuse}
 use Rattle.octets.proofs.Checks.{true-false, known}
 use Rattle.octets.proofs.Lists.{any-none-head, any-none-tail}
@@ -46,7 +47,7 @@ each-none f [] e = nothing
 each-none f (x ∷ xs) e = also (any-none-head f x xs e) (each-none f xs (any-none-tail f x xs e))
 
 no-info : (us : List Filed) → Every (λ u. standsInInfo u ≡ false) us → unitBytes us infoCode ≡ []
-no-info [] e = unfold unitBytes those in refl
+no-info [] e = unfold unitBytes those joined in refl
 no-info (u ∷ us) (also z e) = unit-later u us infoCode (stands-not u z) ∙ no-info us e
 
 -- ---- a file that is made
@@ -74,7 +75,10 @@ module _ (p : List ℕ) (machine n : ℕ) (f : List ℕ) (e : elfWritten p machi
 
     no-sections : fileOf p machine ≡ fileBytes (a .bundle .big) machine []
     unfolding fileOf packageIn encodingOf sectionsHere count partsOf those codes
-    no-sections = ap (λ (k : Package). fileBytes (k .encoding .big) machine (sectionsHere p (k .parts))) (rw (packageIn, nothing-read b p a q))
+    no-sections =
+        let k : Package = record { encoding = encodingOf (a .bundle .big) 0; parts = []; cuIndex = none; tuIndex = none } in
+        let is : packageIn p ≡ k = rw (packageIn, nothing-read b p a q) in
+        ap (λ (x : Package). fileBytes (x .encoding .big) machine (sectionsHere p (x .parts))) is
 
     none-unread : bundleRead f ≡ refuse noUnit
     unfolding bytesIn
@@ -93,8 +97,8 @@ module _ (p : List ℕ) (machine n : ℕ) (f : List ℕ) (e : elfWritten p machi
 
 pub else-refused : ElseRefused
 unfolding elfRead answered
-else-refused b w o p machine n m f h made t e =
-    let a = packed-accepted b w o p made in
+else-refused b w o p machine n m f h accepted t e =
+    let a = packed-accepted b w o p accepted in
     ap (λ (c : Check (List ℕ)). answered c m)
     (⊎-elim
     (λ (z : a .bundle .objects ≡ []). none-unread p machine n f e b a z)
