@@ -3,22 +3,21 @@
 use mathlib.Core.Path.{_≡_, refl, sym, ap, ap₂, _∙_, subst}
 use mathlib.Core.Logic.{_⊎_, inl, inr, ⊎-elim}
 use mathlib.Core.Bool.{Bool, true, false, _||_}
-use mathlib.Core.List.{List, [], _∷_, _++_, map}
+use mathlib.Core.List.{List, [], _∷_, map}
 use mathlib.Core.Option.{some, none}
-use Prim.Native.Nat.{ℕ, _+_, _/_, _%_, _^_, _≤_, _<_}
+use Prim.Native.Nat.{ℕ, _/_, _^_, _≤_, _<_}
 use native.Mathlib.Omega.{arith}
 use lib.Dec.{eqb, leb}
 use lib.ListN.{length}
 use borrow.Author.Tests.{eqb-true, le-leb, lt-leb, leb-true, leb-false}
 use Rattle.numbers.specs.Sections.{infoCode, abbrevCode}
-use Rattle.numbers.specs.Limits.{packageLimit}
 use Rattle.octets.specs.Lists.{those, any, has}
 use Rattle.octets.specs.Checked.{Check, pass}
 use Rattle.octets.proofs.Checks.{true-false, known, or-cases}
 use Rattle.octets.proofs.Lists.{length-those}
 use Rattle.octets.proofs.Mapped.{those-map}
 use Rattle.octets.proofs.Numbers.{Bytes}
-use Rattle.answers.specs.Answers.{Answer, short, made, answered}
+use Rattle.answers.specs.Answers.{short, made, answered}
 use Rattle.bundle.specs.Bundle.{Part, Object, count, firstPart, body}
 use Rattle.bundle.specs.Encoding.{Encoding, encodingOf}
 use Rattle.bundle.specs.Written.{Section, written}
@@ -28,7 +27,7 @@ use Rattle.bundle.proofs.RoundTrip.{partsFrom}
 use Rattle.bundle.proofs.Sections.{none-counted, counted-none}
 use Rattle.bundle.proofs.WrittenParts.{isOf, bytesIn}
 use Rattle.unit.specs.UnitRead.{unitOf}
-use Rattle.package.specs.Filing.{Filed, firstWord, kept}
+use Rattle.package.specs.Filing.{firstWord, kept}
 use Rattle.package.specs.Pack.{unitBytes, nonEmpty, sectionList, handedIn}
 use Rattle.package.proofs.Accepted.{Accepted, packed-accepted, handed-in, sections-small}
 use Rattle.package.proofs.ByCode.{left, list-distinct, info-bytes}
@@ -47,7 +46,7 @@ use Rattle.elf_writer.proofs.Answering.{written-short, written-made}
 use Rattle.round_trip.proofs.Listed.{Named}
 use Rattle.round_trip.proofs.Stated.{unit-stated}
 use Rattle.round_trip.proofs.FileRead.{Writable, file-read}
-use Rattle.archive.specs.RoundTrip.{standsInInfo, InfoHoldsAUnit, ThereAndBack, RoundTrip}
+use Rattle.archive.specs.RoundTrip.{standsInInfo, ThereAndBack, RoundTrip}
 use Rattle.archive.proofs.Read.{body-is}
 use Rattle.archive.proofs.Absences.{objects-or, no-units, opens}
 use Rattle.archive.proofs.InInfo.{StartsInfo, starts-info, kept-in-info}

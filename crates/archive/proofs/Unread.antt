@@ -8,19 +8,17 @@ use mathlib.Core.Option.{none}
 use Prim.Native.Nat.{ℕ}
 use native.Mathlib.Decide.{decLe}
 use native.Mathlib.Omega.{arith}
-use lib.Dec.{leb}
 use lib.ListN.{length}
 use Rattle.numbers.specs.Sections.{infoCode}
 use Rattle.numbers.specs.Refusals.{noUnit}
 use Rattle.octets.specs.Lists.{joined, any, those}
 use Rattle.octets.specs.Checked.{Check, pass, refuse}
-use Rattle.octets.proofs.Checks.{true-false, known}
+use Rattle.octets.proofs.Checks.{known}
 use Rattle.octets.proofs.Lists.{any-none-head, any-none-tail}
 use Rattle.octets.proofs.Numbers.{Bytes}
 use Rattle.answers.specs.Answers.{Answer, refused, made, answered}
-use Rattle.bundle.specs.Bundle.{Part, Object, count, partsOf}
+use Rattle.bundle.specs.Bundle.{Object, count, partsOf}
 use Rattle.bundle.specs.Encoding.{encodingOf}
-use Rattle.bundle.specs.Written.{Section}
 use Rattle.bundle.proofs.Every.{Every, nothing, also}
 use Rattle.bundle.proofs.WrittenParts.{bytesIn}
 use Rattle.package.specs.Filing.{Filed, kept}
@@ -31,10 +29,10 @@ use Rattle.package.proofs.Rows.{unit-later}
 use Rattle.lookup.specs.Lookup.{Package, packageOf, codes}
 use Rattle.lookup.specs.Answers.{packageIn}
 use Rattle.elf.specs.Reader.{bundleRead, elfRead}
-use Rattle.elf.specs.Writer.{machineGood, sectionsHere, fileBytes, inOutput, elfWritten}
+use Rattle.elf.specs.Writer.{machineGood, sectionsHere, fileBytes, elfWritten}
 use Rattle.elf_writer.specs.Held.{fileOf}
 use Rattle.elf_writer.proofs.Answering.{written-machine, written-short, written-made}
-use Rattle.round_trip.proofs.FileRead.{Writable, file-unread}
+use Rattle.round_trip.proofs.FileRead.{file-unread}
 use Rattle.archive.specs.RoundTrip.{standsInInfo, ElseRefused}
 use Rattle.archive.proofs.Read.{nothing-read}
 use Rattle.archive.proofs.Absences.{objects-or}

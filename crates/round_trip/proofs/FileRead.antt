@@ -1,12 +1,12 @@
 -- A file that was written of sections is read as a bundle of one object with these sections.
 -- Assumes nothing.
 use mathlib.Core.Path.{_≡_, refl, sym, ap, ap₂, _∙_}
-use mathlib.Core.Bool.{Bool, true, false, _&&_, _||_}
+use mathlib.Core.Bool.{Bool, true, false, _||_}
 use mathlib.Core.List.{List, [], _∷_, _++_, map, append-assoc}
 use Prim.Native.Nat.{ℕ, suc, _+_, _*_, _-_, _^_, _≤_, _<_}
 use native.Mathlib.Omega.{arith}
 use lib.Dec.{eqb, leb}
-use lib.ListN.{length, drop, getD, length-append}
+use lib.ListN.{length, getD, length-append}
 use borrow.Author.Tests.{le-leb}
 use Rattle.octets.specs.Octets.{part, little, bigFrom, number, numberAt, zeros}
 use Rattle.octets.specs.Lists.{joined, all, any, those}
@@ -32,7 +32,7 @@ use Rattle.elf.proofs.Judged.{unwanted}
 use Rattle.elf.proofs.Opening.{open-type, table-there, names-there}
 use Rattle.elf.proofs.Refusals.{elf-good, read-from, from-unstated, from-word, word-pass}
 use Rattle.elf.proofs.FirstUnit.{bad-version}
-use Rattle.elf.specs.Writer.{bodies, nameTable, tableName, endedName, programBits, stringTable, headersFrom, headers, fileHeader, aligned, fileBytes}
+use Rattle.elf.specs.Writer.{bodies, nameTable, tableName, endedName, stringTable, headersFrom, headers, fileHeader, aligned, fileBytes}
 use Rattle.elf_writer.proofs.Headers.{length-file-header}
 use Rattle.elf_writer.proofs.Whole.{length-headers, length-whole}
 use Rattle.round_trip.proofs.Names.{namesIn, bodies-more, names-most, bodies-most, table-length, null-unnamed}
@@ -59,7 +59,7 @@ table-body f p x q j n at size e l m = ap (λ (z : List ℕ). part z at size) e 
 pub record Writable (ss : List Section) : Type 0 where
   pub named : Every Named ss
   pub some : Every (λ s. leb 1 (length (s .bytes)) ≡ true) ss
-  pub short : Every (λ s. length (s .bytes) ≤ 8_388_607) ss
+  pub short : Every (λ s. length (s .bytes) ≤ sectionLimit) ss
   pub few : length ss ≤ 13
 
 module _ (big : Bool) (machine : ℕ) (fm : machine < 256 ^ 2) (ss : List Section) (good : Writable ss) where
@@ -246,7 +246,7 @@ module _ (big : Bool) (machine : ℕ) (fm : machine < 256 ^ 2) (ss : List Sectio
   all-short : all shortEnough (sectionsIn f T (null ∷ hs)) ≡ true
   all-short = ap (all shortEnough) sections-are ∙ short-all ss (good .short)
     where
-      short-all : (xs : List Section) → Every (λ s. length (s .bytes) ≤ 8_388_607) xs → all shortEnough xs ≡ true
+      short-all : (xs : List Section) → Every (λ s. length (s .bytes) ≤ sectionLimit) xs → all shortEnough xs ≡ true
       short-all [] e = unfold all in refl
       short-all (x ∷ xs) (also h e) = all-cons shortEnough x xs (unfold shortEnough in le-leb (length (x .bytes)) sectionLimit h) ∙ short-all xs e
 

@@ -2,8 +2,8 @@
 -- Assumes nothing.
 use mathlib.Core.Path.{_≡_, refl, sym, ap, _∙_, subst}
 use mathlib.Core.Logic.{⊎-elim}
-use mathlib.Core.Bool.{true, false, _||_}
-use mathlib.Core.List.{List, [], _∷_, _++_, map, append-assoc}
+use mathlib.Core.Bool.{true}
+use mathlib.Core.List.{List, [], _∷_, _++_, map}
 use Prim.Native.Nat.{ℕ, _+_, _*_, _≤_, _<_}
 use native.Mathlib.Omega.{arith}
 use lib.Dec.{eqb, ltb}
@@ -15,6 +15,7 @@ use Rattle.octets.proofs.Checks.{true-false, or-left, or-right}
 use Rattle.octets.proofs.Lists.{any-append, any-cases}
 use Rattle.octets.proofs.Elements.{all-at, at-has}
 use Rattle.numbers.specs.Names.{dwoWords, indexWords, namePrefix, nameSuffix, dwoName, indexName, sectionNames, sectionName}
+use Rattle.numbers.specs.Limits.{sectionLimit}
 use Rattle.bundle.specs.Written.{Section}
 use Rattle.bundle.proofs.Every.{Every, nothing, also}
 use Rattle.lookup.specs.Lookup.{codes}
@@ -92,7 +93,7 @@ unfolding joined
 names-most [] e = omega arith
 names-most (s ∷ ss) (also h e) = omega (arith, names-more s ss, names-most ss e, name-short (s .code) (code-below (s .code) h))
 
-pub bodies-most : (ss : List Section) → Every (λ s. length (s .bytes) ≤ 8_388_607) ss → length (bodies ss) ≤ 8_388_607 * length ss
+pub bodies-most : (ss : List Section) → Every (λ s. length (s .bytes) ≤ sectionLimit) ss → length (bodies ss) ≤ sectionLimit * length ss
 unfolding bodies joined
 bodies-most [] e = omega arith
 bodies-most (s ∷ ss) (also h e) = omega (arith, bodies-more s ss, bodies-most ss e, h)

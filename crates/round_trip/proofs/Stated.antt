@@ -1,26 +1,25 @@
 -- The encoding that the first unit of info states is the one that it was read in.
 -- Assumes nothing.
-use mathlib.Core.Path.{_≡_, refl, sym, ap, ap₂, _∙_, subst}
-use mathlib.Core.Logic.{_⊎_, ⊎-elim}
-use mathlib.Core.Bool.{Bool, true, false, _&&_, _||_}
-use mathlib.Core.List.{List, [], _++_}
-use Prim.Native.Nat.{ℕ, _+_, _≤_, _<_}
+use mathlib.Core.Path.{_≡_, sym, ap, _∙_, subst}
+use mathlib.Core.Logic.{⊎-elim}
+use mathlib.Core.Bool.{Bool, true, _&&_, _||_}
+use mathlib.Core.List.{List, _++_}
+use Prim.Native.Nat.{ℕ, _+_, _≤_}
 use native.Mathlib.Omega.{arith}
 use native.Mathlib.Decide.{decLe}
 use lib.Dec.{eqb, leb, ltb}
 use lib.ListN.{length, take, getD, length-append}
 use lib.Seq.{take-append-le, length-take-le}
-use borrow.Author.Tests.{eqb-true, eq-eqb, ne-eqb, le-leb, leb-true, lt-ltb, ltb-true}
+use borrow.Author.Tests.{eqb-true, ne-eqb, le-leb, leb-true, ltb-true}
 use Rattle.octets.specs.Octets.{number, numberAt}
-use Rattle.octets.specs.Checked.{Check, pass, refuse, require}
-use Rattle.octets.proofs.Checks.{bind-pass, require-pass, pass-inj, pass-refuse, passes, and-both, and-left, and-right, or-cases}
+use Rattle.octets.specs.Checked.{pass}
+use Rattle.octets.proofs.Checks.{bind-pass, require-pass, pass-refuse, passes, and-both, and-left, and-right, or-cases}
 use Rattle.octets.proofs.Numbers.{numberAt-front}
 use Rattle.octets.proofs.Parts.{part-take}
 use Rattle.bundle.specs.Encoding.{Encoding, encodingGood}
 use Rattle.unit.specs.UnitRead.{UnitRead, lengthField, isFive, addressPlace, commonSize, identityOf, unitOf}
-use Rattle.unit.specs.Headers.{fits, unitInside, narrowSize, wideSize, fieldsGood, kindOf, headerSize, withAddress, statedAddress, addressOf}
-use Rattle.unit.specs.declared.header.AddressSize.the-variants.{Is as Address}
-use Rattle.unit.proofs.Fields.{inside-narrow, inside-wide, fits-in, common-ge, field-narrow, field-wide}
+use Rattle.unit.specs.Headers.{fits, unitInside, narrowSize, wideSize, fieldsGood, kindOf, headerSize, withAddress, statedAddress}
+use Rattle.unit.proofs.Fields.{inside-narrow, inside-wide, fits-in, common-ge}
 use Rattle.unit.proofs.Units.{unit-is, behindSize, inside-le, kinds, kind-short}
 use Rattle.unit.proofs.HeaderAlone.{address-there, alone-whole}
 use Rattle.elf.specs.Reader.{widthStated, versionStated, encodingStated, unitStated, objectWord}

@@ -2,9 +2,9 @@
 -- Assumes nothing.
 use mathlib.Core.Path.{_≡_, refl, sym, ap, ap₂, _∙_}
 use mathlib.Core.Logic.{⊎-elim}
-use mathlib.Core.Bool.{Bool, true, false, not, _&&_, _||_}
+use mathlib.Core.Bool.{true, false, not, _&&_, _||_}
 use mathlib.Core.List.{List, [], _∷_, map}
-use Prim.Native.Nat.{ℕ, _+_, _/_, _%_}
+use Prim.Native.Nat.{ℕ, _/_, _%_}
 use native.Mathlib.Omega.{arith}
 use lib.Dec.{eqb, leb}
 use lib.ListN.{length}
@@ -21,7 +21,6 @@ use Rattle.elf.specs.File.{Header, unstored, bodyOf, inside, codeOf, isWanted, 
 use Rattle.elf.specs.Reader.{compressed, relocates, readable, firstInfo}
 use Rattle.elf.specs.Held.{sectionOf, sectionsIn}
 use Rattle.elf.proofs.Judged.{wanted, unwanted}
-use Rattle.elf.specs.Writer.{programBits, stringTable}
 use Rattle.round_trip.proofs.Listed.{Named, Shows, Listed, last, next}
 
 named-some : (c : ℕ) → has codes c ≡ true → c ≡ 0 → ⊥
