@@ -10,7 +10,7 @@ use native.Mathlib.Omega.{arith}
 use lib.Dec.{eqb, leb}
 use lib.ListN.{length}
 use borrow.Author.Tests.{eqb-true, le-leb, lt-leb, leb-true, leb-false}
-use Rattle.numbers.specs.Sections.{infoCode, abbrevCode}
+use Rattle.numbers.specs.Sections.{infoCode}
 use Rattle.octets.specs.Lists.{those, any, has}
 use Rattle.octets.specs.Checked.{Check, pass}
 use Rattle.octets.proofs.Checks.{true-false, known, or-cases}
@@ -159,9 +159,10 @@ module _ (b p : List ℕ) (a : Accepted b p) (h : Bytes b) (o : Object) (os : Li
   word-stated t =
       let i = in-info t in
       let u = i .unit in
-      let alone = ap₂ (λ (d : Encoding) (n : ℕ). unitOf d n (u .input .bytes abbrevCode) (u .bytes)) (sym (i .good .object .encoded)) (sym (i .home)) ∙ i .good .unit .alone in
+      let r = i .good .unit .read in
+      let alone = ap₂ (λ (d : Encoding) (n : ℕ). unitOf d n (r .abbreviations) (u .bytes)) (sym (i .good .object .encoded)) (sym (i .home)) ∙ r .alone in
       ap Is (sym word-is)
-      ∙ unit-stated e (u .input .bytes abbrevCode) (u .bytes) (i .rest) _ (i .good .object .good) alone
+      ∙ unit-stated e (r .abbreviations) (u .bytes) (i .rest) _ (i .good .object .good) alone
       ∙ ap (λ (s : List ℕ). statedOf (unitStated big s)) (sym (info-is ∙ i .is))
 
   -- ---- there and back

@@ -7,7 +7,7 @@ use mathlib.Core.Option.{Option, some, none}
 use Prim.Native.Nat.{ℕ, _+_, _<_, _≤_}
 use native.Mathlib.Omega.{arith}
 use native.Mathlib.Decide.{ℕ-discrete}
-use lib.ListN.{length, take, getD, length-append}
+use lib.ListN.{length, take}
 use Rattle.octets.specs.Octets.{part}
 use Rattle.octets.specs.Lists.{any}
 use Rattle.octets.specs.Checked.{Check, pass, refuse}
@@ -19,7 +19,7 @@ use Rattle.index.specs.Written.{offsetOf, sizeOf}
 use Rattle.index.specs.Contributed.{ContributionsAre}
 use Rattle.index.specs.declared.judging.RowJudged.{RowJudged}
 use Rattle.package.specs.Input.{Input}
-use Rattle.package.specs.Filing.{Filed, isUnder, sums, contributionsOf, unitAt}
+use Rattle.package.specs.Filing.{Filed, isUnder, contributionsOf, unitAt}
 use Rattle.kept.specs.Slots.{seenSlots, slotsIn, freeFor}
 use Rattle.kept.specs.Held.{pick, OneOrTwo}
 use Rattle.kept.specs.State.{UnitGood, Held}
@@ -27,18 +27,16 @@ use Rattle.kept.specs.declared.records.Unit.{Unit as UnitHead}
 use Rattle.kept.specs.declared.state.InProgress.{InProgress}
 use Rattle.filing.specs.Contributing.{GivenIs}
 use Rattle.filing.specs.declared.input.InputObject.{InputObject}
-use Rattle.filing.specs.declared.state.Sums.{Sums}
 use Rattle.filing.specs.declared.units.UnitFiled.{UnitFiled}
-use Rattle.filing.specs.State.{wordsIn, SumsHeld, StringsKept}
+use Rattle.filing.specs.State.{wordsIn, StringsKept}
 use Rattle.filing.specs.Answers.{AtUnit, UnitIs}
-use Rattle.filing.specs.Choices.{sumsOf, SumsRoom, SumsGrown, KnownIs, NewUnit, ReadAt}
+use Rattle.filing.specs.Choices.{KnownIs, NewUnit, ReadAt}
 use Rattle.filing.specs.Asked.{KeepAsked, UnitKept}
 use Rattle.filing.proofs.Kept.{held-skip}
-use Rattle.filing.proofs.Summed.{sums-held, sums-room, sums-skip}
 use Rattle.filing.proofs.Filing.{filed, unit-second, unit-skipped, unit-bad, unit-new, contributed-low}
 
-module _ {b : List ℕ} {x : InputObject} {i : Input} {place : ℕ} {w : List ℕ} {st : InProgress} {ss : Sums} {bases : BySection ℕ} {earlier here : List Filed}
-    (a : AtUnit b x i place w st ss bases earlier here) {home size table identity : ℕ} {s : List ℕ} (r : ReadAt i home size table identity s) (fits : place + size ≤ length b) where
+module _ {b : List ℕ} {x : InputObject} {i : Input} {place : ℕ} {w : List ℕ} {st : InProgress} {bases : BySection ℕ} {earlier here : List Filed}
+    (a : AtUnit b x i place w st bases earlier here) {home at size table identity : ℕ} {s : List ℕ} (r : ReadAt i home at size table identity s) (fits : place + size ≤ length b) where
   abbrev us : List Filed
   us = earlier ++ here
 
@@ -51,12 +49,8 @@ module _ {b : List ℕ} {x : InputObject} {i : Input} {place : ℕ} {w : List �
   abbrev read : UnitRead
   read = record { size = size; table = table; identity = identity }
 
-  -- the sums at hand are those of the definition
-  pub summed-is : (l : List ℕ) → l ≡ sumsOf ss table → (c : ℕ) → c < 14 → getD l c 0 ≡ sums here table c
-  summed-is l e c g = ap (λ (m : List ℕ). getD m c 0) e ∙ sums-held ss here (a .sums) table (r .tables) c g
-
   -- ---- answers
-  module _ (at : ℕ) (homes : OneOrTwo home) (bytes : take size s ≡ part b place size) where
+  module _ (homes : OneOrTwo home) (bytes : take size s ≡ part b place size) where
     bytes-many : length (take size s) ≡ size
     bytes-many = ap length bytes ∙ length-part b place size fits
 
@@ -72,7 +66,7 @@ module _ {b : List ℕ} {x : InputObject} {i : Input} {place : ℕ} {w : List �
     answer-second v z e t c = rw (unit-second i bases earlier here home at s size table identity r e t) c
 
     answer-skipped : any (isUnder table identity) us ≡ true → (table ≡ 1 → ⊥)
-        → UnitIs b x i place w w st bases earlier here (unitAt i bases earlier here home at s) (record { code = 0; size = size; st = st; sums = ss })
+        → UnitIs b x i place w w st bases earlier here (unitAt i bases earlier here home at s) (record { code = 0; size = size; st = st })
     unfolding UnitIs
     answer-skipped e t =
         rw (unit-skipped i bases earlier here home at s size table identity r e t) (
@@ -83,36 +77,35 @@ module _ {b : List ℕ} {x : InputObject} {i : Input} {place : ℕ} {w : List �
             held =
                 subst (Held five b n (place + size) w st bases) (append-assoc earlier here (unit (λ c. none) ∷ []))
                 (held-skip (a .held) size (unit (λ c. none)) e (unit-good (λ c. none)) (r .least) fits);
-            sums = sums-skip ss here (a .sums) (unit (λ c. none)) (λ c. refl);
           },
           record { same = refl; strings = refl; table = refl },
         )
 
     -- 14, or skipped
-    pub answer-known : any (isUnder table identity) us ≡ true → (z : UnitFiled) → KnownIs table size st ss z → UnitIs b x i place w w st bases earlier here (unitAt i bases earlier here home at s) z
+    pub answer-known : any (isUnder table identity) us ≡ true → (z : UnitFiled) → KnownIs table size st z → UnitIs b x i place w w st bases earlier here (unitAt i bases earlier here home at s) z
     answer-known e z k = elim (ℕ-discrete table 1) [
       | yes t ↦ answer-second w z e t (k .second t)
       | no t ↦ subst (UnitIs b x i place w w st bases earlier here (unitAt i bases earlier here home at s)) (sym (k .skipped t)) (answer-skipped e t)
     ]
 
-    module _ (j : RowJudged) (g : GivenIs (contributionsOf i here home at read) j) (e : any (isUnder table identity) us ≡ false) where
+    module _ (j : RowJudged) (g : GivenIs (contributionsOf i home at read) j) (e : any (isUnder table identity) us ≡ false) where
       pub answer-bad : (v : List ℕ) (z : UnitFiled) → (j .code ≡ 0 → ⊥) → z .code ≡ j .code
           → UnitIs b x i place w v st bases earlier here (unitAt i bases earlier here home at s) z
       unfolding UnitIs GivenIs
-      answer-bad v z d c = go (contributionsOf i here home at read) refl g
+      answer-bad v z d c = go (contributionsOf i home at read) refl g
         where
-          go : (m : Check (BySection (Option Contribution))) → contributionsOf i here home at read ≡ m → GivenIs m j
+          go : (m : Check (BySection (Option Contribution))) → contributionsOf i home at read ≡ m → GivenIs m j
               → UnitIs b x i place w v st bases earlier here (unitAt i bases earlier here home at s) z
           go (pass f) q k = absurd (d (k .0))
           go (refuse m) q k = rw (unit-bad i bases earlier here home at s size table identity r m e q) (c ∙ k .0)
 
       module _ (d : j .code ≡ 0) where
-        given : (f : BySection (Option Contribution)) × (contributionsOf i here home at read ≡ pass f) × ContributionsAre (j .contributions) f
+        given : (f : BySection (Option Contribution)) × (contributionsOf i home at read ≡ pass f) × ContributionsAre (j .contributions) f
         unfolding GivenIs
-        given = go (contributionsOf i here home at read) refl g
+        given = go (contributionsOf i home at read) refl g
           where
-            go : (m : Check (BySection (Option Contribution))) → contributionsOf i here home at read ≡ m → GivenIs m j
-                → (f : BySection (Option Contribution)) × (contributionsOf i here home at read ≡ pass f) × ContributionsAre (j .contributions) f
+            go : (m : Check (BySection (Option Contribution))) → contributionsOf i home at read ≡ m → GivenIs m j
+                → (f : BySection (Option Contribution)) × (contributionsOf i home at read ≡ pass f) × ContributionsAre (j .contributions) f
             go (pass f) q k = (f, q, k .1)
             go (refuse m) q k = absurd (omega (arith, k .0, k .1, d))
 
@@ -120,7 +113,7 @@ module _ {b : List ℕ} {x : InputObject} {i : Input} {place : ℕ} {w : List �
         new = unit (given .0)
 
         low : (c : ℕ) → offsetOf (given .0 c) + sizeOf (given .0 c) ≤ 4_194_304
-        low c = contributed-low b x i (a .input) (a .held .limit) here home at read (given .0) (given .1) c
+        low c = contributed-low b x i (a .input) (a .held .limit) home at read (given .0) (given .1) c
 
         -- what is stored of it
         abbrev head : UnitHead
@@ -145,25 +138,16 @@ module _ {b : List ℕ} {x : InputObject} {i : Input} {place : ℕ} {w : List �
               bounded = low;
             }
 
-        size-low : (c : ℕ) → sizeOf (given .0 c) ≤ 4_194_304
-        size-low c = omega (arith, low c)
-
-        pub sums-requires : SumsRoom ss table (j .contributions)
-        sums-requires =
-            sums-room ss here (a .sums) table (j .contributions) (r .tables) (omega (arith, a .held .spent, a .held .within, a .held .limit, length-append earlier here))
-            (λ c. omega (arith, given .2 .size c, low c))
-
-        answer-kept : (v : List ℕ) (next : InProgress) (more : Sums) → Held five b n (place + size) v next bases (us ++ (new ∷ [])) → SumsHeld more (here ++ (new ∷ [])) → StringsKept n w v st next
-            → UnitIs b x i place w v st bases earlier here (unitAt i bases earlier here home at s) (record { code = 0; size = size; st = next; sums = more })
+        answer-kept : (v : List ℕ) (next : InProgress) → Held five b n (place + size) v next bases (us ++ (new ∷ [])) → StringsKept n w v st next
+            → UnitIs b x i place w v st bases earlier here (unitAt i bases earlier here home at s) (record { code = 0; size = size; st = next })
         unfolding UnitIs
-        answer-kept v next more held summed strings =
+        answer-kept v next held strings =
             rw (unit-new i bases earlier here home at s size table identity r (given .0) e (given .1)) (
               refl,
               sym bytes-many,
               record {
                 input = a .input;
                 held = subst (Held five b n (place + size) v next bases) (append-assoc earlier here (new ∷ [])) held;
-                sums = summed;
               },
               strings,
             )
@@ -174,8 +158,7 @@ module _ {b : List ℕ} {x : InputObject} {i : Input} {place : ℕ} {w : List �
               subst (λ (z : UnitHead). KeepAsked five n slot z (j .contributions) st w) (sym is)
               (record { bundle = b; bases = bases; units = us; unit = new; held = a .held; new = new-unit slot free inside })
 
-          pub answer-filed : (v : List ℕ) (next : InProgress) (more : Sums) → UnitKept five n slot u (j .contributions) st w v next → SumsGrown ss table (j .contributions) more → StringsKept n w v st next
-              → UnitIs b x i place w v st bases earlier here (unitAt i bases earlier here home at s) (record { code = 0; size = size; st = next; sums = more })
-          answer-filed v next more keeps grows strings =
-              answer-kept v next more (subst (λ (z : UnitHead). UnitKept five n slot z (j .contributions) st w v next) is keeps b bases us new (a .held) (new-unit slot free inside))
-              (grows here new (a .sums) refl (r .tables) (given .2) size-low) strings
+          pub answer-filed : (v : List ℕ) (next : InProgress) → UnitKept five n slot u (j .contributions) st w v next → StringsKept n w v st next
+              → UnitIs b x i place w v st bases earlier here (unitAt i bases earlier here home at s) (record { code = 0; size = size; st = next })
+          answer-filed v next keeps strings =
+              answer-kept v next (subst (λ (z : UnitHead). UnitKept five n slot z (j .contributions) st w v next) is keeps b bases us new (a .held) (new-unit slot free inside)) strings

@@ -19,7 +19,7 @@ use Rattle.bundle.specs.Encoded.{four, encodingIs}
 use Rattle.bundle.specs.declared.encoding.ObjectEncoding.{ObjectEncoding}
 use Rattle.index.specs.Index.{Index, Contribution, cellOf}
 use Rattle.index.specs.Probing.{Probe, found, absent, probe}
-use Rattle.index.specs.Rows.{BySection, shared, neededCodes, isSome, rowOf, cellIs, ownPlace, inStep, rowContributions, wholeContributions}
+use Rattle.index.specs.Rows.{BySection, shared, neededCodes, isSome, rowOf, cellIs, ownPlace, partGood, rowContributions, wholeContributions}
 use Rattle.index.specs.Written.{offsetOf, sizeOf}
 use Rattle.index.specs.Held.{ReadWell, indexIn}
 use Rattle.index.specs.Contributed.{byCode, ContributionsAre, codeGiven, contributionsGiven}
@@ -28,7 +28,7 @@ use Rattle.index.specs.declared.judging.RowJudged.{RowJudged}
 use Rattle.index.specs.declared.judging.Contributions.{Contributions}
 use Rattle.index.proofs.Contributions.{needed-shared}
 use Rattle.package.specs.Input.{Input}
-use Rattle.package.specs.Filing.{Filed, indexFor, sums, lengths, contributionsOf}
+use Rattle.package.specs.Filing.{indexFor, lengths, contributionsOf}
 use Rattle.filing.specs.Judged.{sectionOf, IndexedIs, InputIs}
 use Rattle.filing.specs.Contributing.{contributionsBy, GivenIs}
 use Rattle.filing.specs.declared.input.InputObject.{InputObject}
@@ -58,31 +58,31 @@ unfolding rowOf
 row-found i (found slot looks) = above-pass _
 row-found i (absent looks) = above-refuse 15 (omega arith)
 
-pub row-above : (i : Index) (width : ℕ) (ls ss : BySection ℕ) (x home at size : ℕ) → Above (rowContributions i width ls ss x home at size)
+pub row-above : (i : Index) (width : ℕ) (ls : BySection ℕ) (x home at size : ℕ) → Above (rowContributions i width ls x home at size)
 unfolding rowContributions
-row-above i width ls ss x home at size =
+row-above i width ls x home at size =
     above-bind _ _ (row-found i (probe i x))
     (λ row. above-bind _ _ (above-require _ 15 (omega arith)) (λ _. above-bind _ _ (above-require _ 16 (omega arith)) (λ _. above-bind _ _ (above-require _ 16 (omega arith)) (λ _. above-pass _))))
 
 -- ---- an answer by an index
-pub given-row : (i : Index) (width : ℕ) (ls ss : BySection ℕ) (x home at size : ℕ) (r : RowJudged)
-    → r .code ≡ codeGiven (rowContributions i width ls ss x home at size)
-    → ContributionsAre (r .contributions) (contributionsGiven (rowContributions i width ls ss x home at size))
-    → GivenIs (rowContributions i width ls ss x home at size) r
+pub given-row : (i : Index) (width : ℕ) (ls : BySection ℕ) (x home at size : ℕ) (r : RowJudged)
+    → r .code ≡ codeGiven (rowContributions i width ls x home at size)
+    → ContributionsAre (r .contributions) (contributionsGiven (rowContributions i width ls x home at size))
+    → GivenIs (rowContributions i width ls x home at size) r
 unfolding GivenIs codeGiven contributionsGiven
-given-row i width ls ss x home at size r e k = go (rowContributions i width ls ss x home at size) refl
+given-row i width ls x home at size r e k = go (rowContributions i width ls x home at size) refl
   where
-    go : (m : Check (BySection (Option Contribution))) → rowContributions i width ls ss x home at size ≡ m → GivenIs (rowContributions i width ls ss x home at size) r
+    go : (m : Check (BySection (Option Contribution))) → rowContributions i width ls x home at size ≡ m → GivenIs (rowContributions i width ls x home at size) r
     go (pass f) q = rw q ((rw q at e), (rw q at k))
-    go (refuse n) q = rw q ((rw q at e), row-above i width ls ss x home at size .is n q)
+    go (refuse n) q = rw q ((rw q at e), row-above i width ls x home at size .is n q)
 
 module _ (big : Bool) (s : List ℕ) (indexed : Indexed) (o : Option Index) (is : IndexedIs big s indexed o) where
-  pub given-none : (width : ℕ) (ls ss : BySection ℕ) (x home at size : ℕ) (r : RowJudged) → indexed ≡ Nowhere → r .code ≡ 0
-      → ContributionsAre (r .contributions) (wholeContributions ls) → GivenIs (contributionsBy o width ls ss x home at size) r
+  pub given-none : (width : ℕ) (ls : BySection ℕ) (x home at size : ℕ) (r : RowJudged) → indexed ≡ Nowhere → r .code ≡ 0
+      → ContributionsAre (r .contributions) (wholeContributions ls) → GivenIs (contributionsBy o width ls x home at size) r
   unfolding GivenIs contributionsBy IndexedIs
-  given-none width ls ss x home at size r e c k = go o (rw e at is)
+  given-none width ls x home at size r e c k = go o (rw e at is)
     where
-      go : (p : Option Index) → IndexedIs big s Nowhere p → GivenIs (contributionsBy p width ls ss x home at size) r
+      go : (p : Option Index) → IndexedIs big s Nowhere p → GivenIs (contributionsBy p width ls x home at size) r
       go none h = (c, k)
       go (some y) h = absurd h
 
@@ -94,15 +94,15 @@ module _ (big : Bool) (s : List ℕ) (indexed : Indexed) (o : Option Index) (is 
       go none h = absurd h
       go (some y) h = (h .0, ap some (h .1))
 
-  pub given-at : (t : List ℕ) (head : IndexHead) (width w : ℕ) (ls ss : BySection ℕ) (x home at size : ℕ) (r : RowJudged) → indexed ≡ At head → t ≡ s → w ≡ width
-      → r .code ≡ codeGiven (rowContributions (indexIn big t head) w ls ss x home at size)
-      → ContributionsAre (r .contributions) (contributionsGiven (rowContributions (indexIn big t head) w ls ss x home at size))
-      → GivenIs (contributionsBy o width ls ss x home at size) r
+  pub given-at : (t : List ℕ) (head : IndexHead) (width w : ℕ) (ls : BySection ℕ) (x home at size : ℕ) (r : RowJudged) → indexed ≡ At head → t ≡ s → w ≡ width
+      → r .code ≡ codeGiven (rowContributions (indexIn big t head) w ls x home at size)
+      → ContributionsAre (r .contributions) (contributionsGiven (rowContributions (indexIn big t head) w ls x home at size))
+      → GivenIs (contributionsBy o width ls x home at size) r
   unfolding contributionsBy
-  given-at t head width w ls ss x home at size r e p q c k =
+  given-at t head width w ls x home at size r e p q c k =
       rw (index-well head e .1)
-      (subst (λ (l : List ℕ). GivenIs (rowContributions (indexIn big l head) width ls ss x home at size) r) p
-      (subst (λ (n : ℕ). GivenIs (rowContributions (indexIn big t head) n ls ss x home at size) r) q (given-row (indexIn big t head) w ls ss x home at size r c k)))
+      (subst (λ (l : List ℕ). GivenIs (rowContributions (indexIn big l head) width ls x home at size) r) p
+      (subst (λ (n : ℕ). GivenIs (rowContributions (indexIn big t head) n ls x home at size) r) q (given-row (indexIn big t head) w ls x home at size r c k)))
 
 -- ---- only shared codes count
 among : (c : ℕ) (xs : List ℕ) → all (λ d. ltb d 14) xs ≡ true → has xs c ≡ true → c < 14
@@ -143,13 +143,13 @@ module _ (f g : BySection ℕ) (same : (c : ℕ) → c < 14 → f c ≡ g c) whe
       go true t = rw (wholeContributions, needed-same, t, same c (shared-below c (needed-shared g c t .0)))
       go false t = rw (wholeContributions, needed-same, t)
 
-module _ (f g p q : BySection ℕ) (same : (c : ℕ) → c < 14 → f c ≡ g c) (also : (c : ℕ) → c < 14 → p c ≡ q c) (i : Index) (width : ℕ) where
-  step-same : (row x : ℕ) → x < 14 → cellIs (inStep width f p x) (cellOf i row x) ≡ cellIs (inStep width g q x) (cellOf i row x)
-  unfolding inStep
-  step-same row x h = rw (inStep, same x h, also x h)
+module _ (f g : BySection ℕ) (same : (c : ℕ) → c < 14 → f c ≡ g c) (i : Index) (width : ℕ) where
+  step-same : (row x : ℕ) → x < 14 → cellIs (partGood width f x) (cellOf i row x) ≡ cellIs (partGood width g x) (cellOf i row x)
+  unfolding partGood
+  step-same row x h = rw (partGood, same x h)
 
   steps-same : (row : ℕ) (xs : List ℕ) → ((c : ℕ) → has xs c ≡ true → c < 14)
-      → all (λ s. cellIs (inStep width f p s) (cellOf i row s)) xs ≡ all (λ s. cellIs (inStep width g q s) (cellOf i row s)) xs
+      → all (λ s. cellIs (partGood width f s) (cellOf i row s)) xs ≡ all (λ s. cellIs (partGood width g s) (cellOf i row s)) xs
   unfolding all has
   steps-same row [] b = refl
   steps-same row (x ∷ xs) b =
@@ -164,10 +164,10 @@ module _ (f g p q : BySection ℕ) (same : (c : ℕ) → c < 14 → f c ≡ g c)
         (require (cellIs (ownPlace at size) (cellOf i row home)) 16 >>= λ _.
         (require (steps row) 16 >>= λ _. pass (λ s. elim (has needed s) [ true ↦ cellOf i row s | false ↦ none ]))))
 
-    pub row-same : rowContributions i width f p x home at size ≡ rowContributions i width g q x home at size
+    pub row-same : rowContributions i width f x home at size ≡ rowContributions i width g x home at size
     unfolding rowContributions
     row-same =
-        ap (λ (l : List ℕ). body l (λ row. all (λ s. cellIs (inStep width f p s) (cellOf i row s)) l)) (needed-same f g same)
+        ap (λ (l : List ℕ). body l (λ row. all (λ s. cellIs (partGood width f s) (cellOf i row s)) l)) (needed-same f g same)
         ∙ ap (body (neededCodes g)) (λ j row. steps-same row (neededCodes g) (λ c h. shared-below c (needed-shared g c h .0)) j)
 
 -- ---- the definition
@@ -179,24 +179,24 @@ module _ (b : List ℕ) (x : InputObject) (i : Input) (is : InputIs b x i) where
   unfolding byCode lengths sectionOf
   lengths-are c h = sym (ap length (is .bytes c h) ∙ length-part b (getD (x .start) c 0) (getD (x .size) c 0) (is .within c))
 
-  module _ (here : List Filed) (summed : List ℕ) (table : ℕ) (held : (c : ℕ) → c < 14 → getD summed c 0 ≡ sums here table c) (identity home at size : ℕ) (r : RowJudged) where
+  module _ (table identity home at size : ℕ) (r : RowJudged) where
     given-width : (o : Option Index) → indexFor i table ≡ o
-        → GivenIs (contributionsBy o (encodingIs (x .encoding) .width) (byCode (x .size)) (byCode summed) identity home at size) r
-        → GivenIs (contributionsOf i here home at (record { size = size; table = table; identity = identity })) r
+        → GivenIs (contributionsBy o (encodingIs (x .encoding) .width) (byCode (x .size)) identity home at size) r
+        → GivenIs (contributionsOf i home at (record { size = size; table = table; identity = identity })) r
     unfolding contributionsOf contributionsBy GivenIs byCode
     given-width (some y) e a =
         rw (contributionsOf, e)
         (subst (λ (m : Check (BySection (Option Contribution))). GivenIs m r)
-        (row-same (byCode (x .size)) (lengths i) (byCode summed) (sums here table) lengths-are held y (encodingIs (x .encoding) .width) identity home at size
-        ∙ ap (λ (z : _). rowContributions y (z .width) (lengths i) (sums here table) identity home at size) (is .encoding)) a)
+        (row-same (byCode (x .size)) (lengths i) lengths-are y (encodingIs (x .encoding) .width) identity home at size
+        ∙ ap (λ (z : _). rowContributions y (z .width) (lengths i) identity home at size) (is .encoding)) a)
     given-width none e a =
         rw (contributionsOf, e)
         (a .0, contributions-same (r .contributions) (wholeContributions (byCode (x .size))) (wholeContributions (lengths i)) (whole-same (byCode (x .size)) (lengths i) lengths-are) (a .1))
 
     pub given-is : (o : Option Index) → indexFor i table ≡ o → (width : ℕ) → width ≡ encodingIs (x .encoding) .width
-        → GivenIs (contributionsBy o width (byCode (x .size)) (byCode summed) identity home at size) r
-        → GivenIs (contributionsOf i here home at (record { size = size; table = table; identity = identity })) r
-    given-is o e width q a = given-width o e (subst (λ (z : ℕ). GivenIs (contributionsBy o z (byCode (x .size)) (byCode summed) identity home at size) r) q a)
+        → GivenIs (contributionsBy o width (byCode (x .size)) identity home at size) r
+        → GivenIs (contributionsOf i home at (record { size = size; table = table; identity = identity })) r
+    given-is o e width q a = given-width o e (subst (λ (z : ℕ). GivenIs (contributionsBy o z (byCode (x .size)) identity home at size) r) q a)
 
 -- the index of a table
 pub index-first : (i : Input) (table : ℕ) → table ≡ 1 → indexFor i table ≡ i .cuIndex

@@ -1,17 +1,16 @@
 -- 6 and 7 by counts: the cases of the code, and that they are the definitions.
 -- Assumes nothing.
-use mathlib.Core.Path.{_≡_, refl, sym, ap, _∙_}
-use mathlib.Core.Bool.{Bool, true, false, not, _&&_, _||_}
+use mathlib.Core.Path.{_≡_, refl}
+use mathlib.Core.Bool.{Bool, true, false, not, _&&_}
 use mathlib.Core.List.{List, [], _∷_}
 use Prim.Native.Nat.{ℕ, zero, suc, _<_}
 use native.Mathlib.Omega.{arith}
-use lib.Dec.{leb, ltb, eqb}
-use lib.ListN.{length, getD}
+use lib.Dec.{leb, ltb}
+use lib.ListN.{getD}
 use borrow.Author.Tests.{ltb-true}
 use Rattle.octets.specs.Lists.{all}
 use Rattle.octets.proofs.Lists.{all-head, all-tail}
 use Rattle.bundle.specs.Bundle.{Part, count}
-use Rattle.bundle.specs.Encoding.{Encoding}
 use Rattle.bundle.specs.Encoded.{four, encodingIs}
 use Rattle.bundle.specs.Scan.{byCode, numbered}
 use Rattle.bundle.specs.declared.encoding.ObjectEncoding.{ObjectEncoding}

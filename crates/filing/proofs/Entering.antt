@@ -7,7 +7,6 @@ use Prim.Native.Nat.{ℕ, _+_, _<_, _≤_}
 use native.Mathlib.Omega.{arith}
 use lib.Dec.{eqb}
 use lib.ListN.{length, getD}
-use Rattle.octets.specs.Lists.{those, sum}
 use Rattle.bundle.specs.Encoding.{Encoding, encodingOf}
 use Rattle.bundle.specs.Encoded.{encodingIs, four}
 use Rattle.bundle.specs.declared.encoding.ObjectEncoding.{ObjectEncoding}
@@ -18,11 +17,10 @@ use Rattle.kept.specs.Cells.{Summed}
 use Rattle.kept.specs.State.{Held}
 use Rattle.kept.specs.declared.state.InProgress.{InProgress}
 use Rattle.package.specs.Input.{Input}
-use Rattle.package.specs.Filing.{Filed, sums, grown}
+use Rattle.package.specs.Filing.{Filed, grown}
 use Rattle.filing.specs.Judged.{InputIs}
 use Rattle.filing.specs.declared.input.InputObject.{InputObject}
-use Rattle.filing.specs.declared.state.Sums.{Sums}
-use Rattle.filing.specs.State.{wordsIn, withStrings, SumsHeld, OnlyStrings}
+use Rattle.filing.specs.State.{wordsIn, withStrings, OnlyStrings}
 use Rattle.filing.specs.Answers.{AtUnit}
 use Rattle.filing.specs.ByObject.{AtObject}
 use Rattle.filing.proofs.Stringing.{strings-beside}
@@ -40,18 +38,14 @@ unfolding encodingIs
 five-is e y q = five-four (e .five) ∙ ap (λ (z : Encoding). eqb (z .version) 5) q
 
 -- no unit of the object is filed yet
-pub none-summed : (ss : Sums) → ((c : ℕ) → getD (ss .cu) c 0 ≡ 0) → ((c : ℕ) → getD (ss .tu) c 0 ≡ 0) → SumsHeld ss []
-unfolding sums those sum
-none-summed ss p q = record { cu = λ c h. p c; tu = λ c h. q c; low = λ t c. omega arith }
-
-pub object-enter : (b : List ℕ) (big : Bool) (first place : ℕ) (w v : List ℕ) (st : InProgress) (t : StringTable) (bases : BySection ℕ) (is : List Input) (us : List Filed) (x : InputObject) (i : Input) (ss : Sums) (from : ℕ)
-    → AtObject b big first place w st bases is us → OnlyStrings (wordsIn b) w v → InputIs b x i → encodingIs (x .encoding) ≡ encodingOf big first → SumsHeld ss []
-    → place ≤ from → from ≤ length b → AtUnit b x i from v (withStrings st t) ss bases us []
-object-enter b big first place w v st t bases is us x i ss from a r input same none low high =
+pub object-enter : (b : List ℕ) (big : Bool) (first place : ℕ) (w v : List ℕ) (st : InProgress) (t : StringTable) (bases : BySection ℕ) (is : List Input) (us : List Filed) (x : InputObject) (i : Input) (from : ℕ)
+    → AtObject b big first place w st bases is us → OnlyStrings (wordsIn b) w v → InputIs b x i → encodingIs (x .encoding) ≡ encodingOf big first
+    → place ≤ from → from ≤ length b → AtUnit b x i from v (withStrings st t) bases us []
+object-enter b big first place w v st t bases is us x i from a r input same low high =
     let held : Held (x .encoding .five) b (wordsIn b) place v (withStrings st t) bases (us ++ []) =
     subst (λ (f : Bool). Held f b (wordsIn b) place v (withStrings st t) bases (us ++ [])) (sym (five-is (x .encoding) (encodingOf big first) same))
     (subst (λ (l : List Filed). Held (eqb (encodingOf big first .version) 5) b (wordsIn b) place v (withStrings st t) bases l) (sym (append-nil us)) (held-stays strings-beside r _ b place st t bases us (a .held))) in
-    at-later place from (record { input = input; held = held; sums = none }) low high
+    at-later place from (record { input = input; held = held }) low high
 
 -- the bases behind the object
 pub held-grown : (five : Bool) (b : List ℕ) (n place : ℕ) (w : List ℕ) (st : InProgress) (bases : BySection ℕ) (us : List Filed) (i : Input) (size more : List ℕ)

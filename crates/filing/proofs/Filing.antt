@@ -12,13 +12,13 @@ use Rattle.octets.specs.Lists.{any}
 use Rattle.octets.specs.Checked.{Check, pass, refuse, _>>=_}
 use Rattle.octets.proofs.Checks.{then-pass, then-refuse, pass-inj}
 use Rattle.octets.proofs.Parts.{length-part}
-use Rattle.unit.specs.UnitRead.{UnitRead, unitOf}
+use Rattle.unit.specs.UnitRead.{UnitRead, unitBy}
 use Rattle.index.specs.Index.{Index, Contribution}
 use Rattle.index.specs.Rows.{BySection, rowContributions, wholeContributions}
 use Rattle.index.specs.Written.{offsetOf, sizeOf}
 use Rattle.index.proofs.Contributions.{Contributed, whole-contributed, row-contributed}
 use Rattle.package.specs.Input.{Input}
-use Rattle.package.specs.Filing.{Filed, isUnder, indexFor, sums, lengths, contributionsOf, skipped, unitAt}
+use Rattle.package.specs.Filing.{Filed, isUnder, indexFor, lengths, abbreviationsFor, contributionsOf, skipped, unitAt}
 use Rattle.filing.specs.Judged.{sectionOf, InputIs}
 use Rattle.filing.specs.declared.input.InputObject.{InputObject}
 use Rattle.filing.proofs.Contributing.{shared-below}
@@ -30,11 +30,11 @@ filed i bases table identity home bytes f = record { table = table; identity = i
 
 -- ---- the cases of `unitAt`
 module _ (i : Input) (bases : BySection ℕ) (earlier here : List Filed) (home at : ℕ) (s : List ℕ) where
-  pub unit-refused : (m : ℕ) → unitOf (i .encoding) home (i .bytes 3) s ≡ refuse m → unitAt i bases earlier here home at s ≡ refuse m
+  pub unit-refused : (m : ℕ) → unitBy (i .encoding) home (abbreviationsFor i home at) s ≡ refuse m → unitAt i bases earlier here home at s ≡ refuse m
   unfolding unitAt
-  unit-refused m e = then-refuse (unitOf (i .encoding) home (i .bytes 3) s) _ m e
+  unit-refused m e = then-refuse (unitBy (i .encoding) home (abbreviationsFor i home at) s) _ m e
 
-  module _ (size table identity : ℕ) (r : ReadAt i home size table identity s) where
+  module _ (size table identity : ℕ) (r : ReadAt i home at size table identity s) where
     abbrev read : UnitRead
     read = record { size = size; table = table; identity = identity }
 
@@ -43,11 +43,11 @@ module _ (i : Input) (bases : BySection ℕ) (earlier here : List Filed) (home a
 
     known-rest : (m : Check (BySection (Option Contribution))) → any (isUnder table identity) (earlier ++ here) ≡ true → skipped table ≡ m → unitAt i bases earlier here home at s ≡ rest m
     unfolding unitAt
-    known-rest m e q = then-pass (unitOf (i .encoding) home (i .bytes 3) s) _ read (r .is) ∙ (rw (e, q))
+    known-rest m e q = then-pass (unitBy (i .encoding) home (abbreviationsFor i home at) s) _ read (r .is) ∙ (rw (e, q))
 
-    new-rest : (m : Check (BySection (Option Contribution))) → any (isUnder table identity) (earlier ++ here) ≡ false → contributionsOf i here home at read ≡ m → unitAt i bases earlier here home at s ≡ rest m
+    new-rest : (m : Check (BySection (Option Contribution))) → any (isUnder table identity) (earlier ++ here) ≡ false → contributionsOf i home at read ≡ m → unitAt i bases earlier here home at s ≡ rest m
     unfolding unitAt
-    new-rest m e q = then-pass (unitOf (i .encoding) home (i .bytes 3) s) _ read (r .is) ∙ (rw (e, q))
+    new-rest m e q = then-pass (unitBy (i .encoding) home (abbreviationsFor i home at) s) _ read (r .is) ∙ (rw (e, q))
 
     pub unit-second : any (isUnder table identity) (earlier ++ here) ≡ true → table ≡ 1 → unitAt i bases earlier here home at s ≡ refuse 14
     unfolding skipped _>>=_
@@ -57,11 +57,11 @@ module _ (i : Input) (bases : BySection ℕ) (earlier here : List Filed) (home a
     unfolding skipped _>>=_
     unit-skipped e t = known-rest (pass (λ c. none)) e (rw (skipped, ne-eqb table 1 t))
 
-    pub unit-bad : (m : ℕ) → any (isUnder table identity) (earlier ++ here) ≡ false → contributionsOf i here home at read ≡ refuse m → unitAt i bases earlier here home at s ≡ refuse m
+    pub unit-bad : (m : ℕ) → any (isUnder table identity) (earlier ++ here) ≡ false → contributionsOf i home at read ≡ refuse m → unitAt i bases earlier here home at s ≡ refuse m
     unfolding _>>=_
     unit-bad m e q = new-rest (refuse m) e q
 
-    pub unit-new : (f : BySection (Option Contribution)) → any (isUnder table identity) (earlier ++ here) ≡ false → contributionsOf i here home at read ≡ pass f
+    pub unit-new : (f : BySection (Option Contribution)) → any (isUnder table identity) (earlier ++ here) ≡ false → contributionsOf i home at read ≡ pass f
         → unitAt i bases earlier here home at s ≡ pass (filed i bases table identity home (take size s) f)
     unfolding _>>=_
     unit-new f e q = new-rest (pass f) e q
@@ -72,12 +72,12 @@ unfolding offsetOf sizeOf
 none-low none h = omega arith
 none-low (some k) h = h k refl
 
-module _ (b : List ℕ) (x : InputObject) (i : Input) (is : InputIs b x i) (limit : length b ≤ 4_194_304) (here : List Filed) (home at : ℕ) (u : UnitRead) where
+module _ (b : List ℕ) (x : InputObject) (i : Input) (is : InputIs b x i) (limit : length b ≤ 4_194_304) (home at : ℕ) (u : UnitRead) where
   length-low : (c : ℕ) → c < 14 → lengths i c ≤ 4_194_304
   unfolding lengths sectionOf
   length-low c h = omega (arith, ap length (is .bytes c h) ∙ length-part b (getD (x .start) c 0) (getD (x .size) c 0) (is .within c), is .within c)
 
-  pub contributed-low : (f : BySection (Option Contribution)) → contributionsOf i here home at u ≡ pass f → (c : ℕ) → offsetOf (f c) + sizeOf (f c) ≤ 4_194_304
+  pub contributed-low : (f : BySection (Option Contribution)) → contributionsOf i home at u ≡ pass f → (c : ℕ) → offsetOf (f c) + sizeOf (f c) ≤ 4_194_304
   unfolding contributionsOf
   contributed-low f e c = none-low (f c) (λ k q. low k (from (indexFor i (u .table)) refl e k q))
     where
@@ -86,8 +86,8 @@ module _ (b : List ℕ) (x : InputObject) (i : Input) (is : InputIs b x i) (limi
 
       from : (o : Option Index) → indexFor i (u .table) ≡ o
           → (elim o as (λ z. Check (BySection (Option Contribution))) [
-            | some y ↦ rowContributions y (i .encoding .width) (lengths i) (sums here (u .table)) (u .identity) home at (u .size)
+            | some y ↦ rowContributions y (i .encoding .width) (lengths i) (u .identity) home at (u .size)
             | none ↦ pass (wholeContributions (lengths i))
           ]) ≡ pass f → (k : Contribution) → f c ≡ some k → Contributed (i .encoding .width) (lengths i) c k
-      from (some y) t r k q = row-contributed y (i .encoding .width) (lengths i) (sums here (u .table)) (u .identity) home at (u .size) f r c k q
+      from (some y) t r k q = row-contributed y (i .encoding .width) (lengths i) (u .identity) home at (u .size) f r c k q
       from none t r k q = whole-contributed (i .encoding .width) (lengths i) c k (ap (λ (g : BySection (Option Contribution)). g c) (pass-inj r) ∙ q) .0

@@ -25,7 +25,7 @@ use Rattle.strings.specs.declared.table.Place.{Place}
 use Rattle.strings.specs.declared.table.StringTable.{StringTable}
 use Rattle.index.specs.Index.{Index}
 use Rattle.kept.proofs.Moved.{getD-past}
-use Rattle.package.specs.Input.{Input, present, inputOf}
+use Rattle.package.specs.Input.{Input, present}
 use Rattle.filing.specs.Judged.{indexCheck, JudgedIs, JudgedIndexIs, InputIs, IndexedIs, sectionOf}
 use Rattle.filing.specs.declared.input.Judged.{Judged}
 use Rattle.filing.specs.declared.input.JudgedIndex.{JudgedIndex}

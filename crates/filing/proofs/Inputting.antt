@@ -1,14 +1,14 @@
 -- The checks of one object, in the order of `inputOf`: 4 to 7, the strings, both indexes.
 -- Assumes nothing.
-use mathlib.Core.Path.{_≡_, refl, sym, ap, _∙_}
+use mathlib.Core.Path.{_≡_, refl, sym, _∙_}
 use mathlib.Core.Bool.{Bool, true, false}
-use mathlib.Core.List.{List, []}
+use mathlib.Core.List.{List}
 use mathlib.Core.Option.{Option}
 use Prim.Native.Nat.{ℕ}
 use lib.Dec.{eqb}
 use Rattle.octets.specs.Checked.{Check, pass, refuse, _>>=_, require}
 use Rattle.octets.proofs.Checks.{then-pass, then-refuse}
-use Rattle.bundle.specs.Bundle.{Part, Object, body}
+use Rattle.bundle.specs.Bundle.{Object, body}
 use Rattle.bundle.specs.Encoding.{Encoding, encodingOf, encodingGood}
 use Rattle.index.specs.Index.{Index}
 use Rattle.package.specs.Input.{Input, present, editionGood, complete, usedStrings, inputIndex, unitSections, inputOf}

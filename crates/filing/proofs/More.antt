@@ -1,23 +1,21 @@
--- Kept units, rows and sums with one unit more.
+-- Kept units and rows with one unit more.
 -- Assumes nothing.
 use mathlib.Core.Path.{_≡_, refl, ap, _∙_}
 use mathlib.Core.Bool.{Bool, true, false}
 use mathlib.Core.Logic.{⊎-elim}
-use mathlib.Core.List.{List, [], _∷_, _++_, map, append-nil}
+use mathlib.Core.List.{List, [], _∷_, _++_, map}
 use Prim.Native.Nat.{ℕ, suc, _+_, _≤_}
 use native.Mathlib.Omega.{arith}
 use lib.Dec.{eqb}
 use lib.ListN.{length, length-append}
-use borrow.Author.Tests.{eq-eqb, ne-eqb}
-use Rattle.octets.specs.Lists.{any, those, sum, has, distinct}
+use Rattle.octets.specs.Lists.{any, those, has, distinct}
 use Rattle.octets.proofs.Checks.{known}
-use Rattle.octets.proofs.Lists.{those-append, those-keeps, those-skips}
-use Rattle.octets.proofs.Joined.{map-append}
+use Rattle.octets.proofs.Lists.{those-keeps, those-skips}
 use Rattle.index.specs.Rows.{BySection}
-use Rattle.index.specs.Written.{Row, sizeOf}
+use Rattle.index.specs.Written.{Row}
 use Rattle.kept.specs.Held.{identitiesOf}
 use Rattle.kept.specs.State.{UnitGood, UnitsGood}
-use Rattle.package.specs.Filing.{Filed, isUnder, keep, keepAll, kept, sums}
+use Rattle.package.specs.Filing.{Filed, isUnder, keep, keepAll, kept}
 use Rattle.package.specs.Pack.{Entry, longer, entriesFrom, rowsOf}
 use Rattle.package.proofs.Kept.{keep-new, keep-known, kept-snoc, any-kept, has-identity, distinct-kept}
 use Rattle.package.proofs.Rows.{rows-are, rows-identities, nothingBefore}
@@ -79,27 +77,6 @@ unfolding identitiesOf
 rows-known us t x =
     ap (λ (l : List ℕ). has l x) (ap (map (λ (r : Row). r .identity)) (rows-are (kept us) t) ∙ rows-identities nothingBefore (kept us) t)
     ∙ has-identity t x (kept us) ∙ any-kept t x us
-
--- ---- sums
-sum-append : (xs ys : List ℕ) → sum (xs ++ ys) ≡ sum xs + sum ys
-unfolding sum
-sum-append [] ys = omega arith
-sum-append (x ∷ xs) ys = omega (arith, sum-append xs ys)
-
-pub sums-own : (here : List Filed) (u : Filed) (t c : ℕ) → u .table ≡ t → sums (here ++ (u ∷ [])) t c ≡ sums here t c + sizeOf (u .contributions c)
-unfolding sums those sum
-sums-own here u t c e =
-    let f : Filed → Bool = λ v. eqb (v .table) t in
-    let g : Filed → ℕ = λ v. sizeOf (v .contributions c) in
-    ap (λ (l : List Filed). sum (map g l)) (those-append f here (u ∷ []) ∙ ap (λ (l : List Filed). those f here ++ l) (those-keeps f u [] (eq-eqb _ _ e)))
-    ∙ ap sum (map-append g (those f here) (u ∷ [])) ∙ sum-append (map g (those f here)) (g u ∷ []) ∙ omega arith
-
-pub sums-other : (here : List Filed) (u : Filed) (t c : ℕ) → (u .table ≡ t → ⊥) → sums (here ++ (u ∷ [])) t c ≡ sums here t c
-unfolding sums those
-sums-other here u t c e =
-    let f : Filed → Bool = λ v. eqb (v .table) t in
-    let g : Filed → ℕ = λ v. sizeOf (v .contributions c) in
-    ap (λ (l : List Filed). sum (map g l)) (those-append f here (u ∷ []) ∙ ap (λ (l : List Filed). those f here ++ l) (those-skips f u [] (ne-eqb _ _ e)) ∙ append-nil (those f here))
 
 -- ---- good units
 pub good-more : (us : List Filed) (u : Filed) → UnitsGood us → UnitGood u → UnitsGood (us ++ (u ∷ []))

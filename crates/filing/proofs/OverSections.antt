@@ -26,7 +26,6 @@ use Rattle.package.proofs.NumberedWalks.{units-numbered, section-none, section-
 use Rattle.filing.specs.declared.input.InputObject.{InputObject}
 use Rattle.kept.specs.State.{Held}
 use Rattle.kept.specs.declared.state.InProgress.{InProgress}
-use Rattle.filing.specs.declared.state.Sums.{Sums}
 use Rattle.filing.specs.declared.units.UnitsFiled.{UnitsFiled}
 use Rattle.filing.specs.State.{wordsIn, StringsKept}
 use Rattle.filing.specs.Answers.{AtUnit, UnitsAre}
@@ -50,9 +49,9 @@ held-later p q k h g =
       limit = k .limit;
     }
 
-pub at-later : {b : List ℕ} {x : InputObject} {i : Input} (p q : ℕ) {w : List ℕ} {st : InProgress} {ss : Sums} {bases : BySection ℕ} {earlier here : List Filed}
-    → AtUnit b x i p w st ss bases earlier here → p ≤ q → q ≤ length b → AtUnit b x i q w st ss bases earlier here
-at-later p q a h g = record { input = a .input; held = held-later p q (a .held) h g; sums = a .sums }
+pub at-later : {b : List ℕ} {x : InputObject} {i : Input} (p q : ℕ) {w : List ℕ} {st : InProgress} {bases : BySection ℕ} {earlier here : List Filed}
+    → AtUnit b x i p w st bases earlier here → p ≤ q → q ≤ length b → AtUnit b x i q w st bases earlier here
+at-later p q a h g = record { input = a .input; held = held-later p q (a .held) h g }
 
 -- the sections of units of an object whose sections start at a place
 abbrev pub allFrom : List ℕ → ℕ → List Part
@@ -71,24 +70,24 @@ unfolding here sectionsOf
 all-from b at ahead e = ap (λ (c : Check (List Item)). sectionsOf c) e
 
 -- for one input and one list of units filed before: the units filed since, and that the rest of the walk is still to come
-pub record On (b : List ℕ) (x : InputObject) (from at : ℕ) (w₀ w : List ℕ) (st₀ st : InProgress) (ss : Sums) (i : Input) (bases : BySection ℕ) (earlier here₀ : List Filed) : Type 0 where
+pub record On (b : List ℕ) (x : InputObject) (from at : ℕ) (w₀ w : List ℕ) (st₀ st : InProgress) (i : Input) (bases : BySection ℕ) (earlier here₀ : List Filed) : Type 0 where
   pub filed : List Filed
-  pub atUnit : AtUnit b x i at w st ss bases earlier filed
+  pub atUnit : AtUnit b x i at w st bases earlier filed
   pub kept : StringsKept (wordsIn b) w₀ w st₀ st
   pub is : unitsIn i bases earlier filed (unitSections b (allFrom b at)) ≡ unitsIn i bases earlier here₀ (unitSections b (allFrom b from))
 
 -- what the loop keeps
-pub record Sectioned (b : List ℕ) (x : InputObject) (from at : ℕ) (w₀ w : List ℕ) (st₀ st : InProgress) (ss₀ ss : Sums) : Type 0 where
+pub record Sectioned (b : List ℕ) (x : InputObject) (from at : ℕ) (w₀ w : List ℕ) (st₀ st : InProgress) : Type 0 where
   pub same : length w ≡ length w₀
   pub ahead : List Item
   pub left : here b at ≡ pass ahead
   pub within : at ≤ length b
   pub behind : placeBehind at (allFrom b at) ≡ placeBehind from (allFrom b from)
-  pub goes : (i : Input) (bases : BySection ℕ) (earlier here : List Filed) → AtUnit b x i from w₀ st₀ ss₀ bases earlier here → On b x from at w₀ w st₀ st ss i bases earlier here
+  pub goes : (i : Input) (bases : BySection ℕ) (earlier here : List Filed) → AtUnit b x i from w₀ st₀ bases earlier here → On b x from at w₀ w st₀ st i bases earlier here
 
-pub sectioned-none : (b : List ℕ) (x : InputObject) (from : ℕ) (w : List ℕ) (st : InProgress) (ss : Sums) → Reaches b from → from ≤ length b → Sectioned b x from from w w st st ss ss
+pub sectioned-none : (b : List ℕ) (x : InputObject) (from : ℕ) (w : List ℕ) (st : InProgress) → Reaches b from → from ≤ length b → Sectioned b x from from w w st st
 unfolding here
-sectioned-none b x from w st ss r h =
+sectioned-none b x from w st r h =
     record {
       same = refl;
       ahead = r .ahead;
@@ -98,7 +97,7 @@ sectioned-none b x from w st ss r h =
       goes = λ i bases earlier here a. record { filed = here; atUnit = a; kept = kept-none (wordsIn b) w st; is = refl };
     }
 
-module _ {b : List ℕ} {x : InputObject} {from at : ℕ} {w₀ w : List ℕ} {st₀ st : InProgress} {ss₀ ss : Sums} (k : Sectioned b x from at w₀ w st₀ st ss₀ ss) where
+module _ {b : List ℕ} {x : InputObject} {from at : ℕ} {w₀ w : List ℕ} {st₀ st : InProgress} (k : Sectioned b x from at w₀ w st₀ st) where
   abbrev left-here : UnitsLeft b at [] (unitParts (leading (k .ahead)))
   left-here = record { ahead = k .ahead; left = k .left; is = refl }
 
@@ -106,8 +105,8 @@ module _ {b : List ℕ} {x : InputObject} {from at : ℕ} {w₀ w : List ℕ} {s
   sections-reach = units-reach b at [] _ left-here
 
   -- at the end of the object
-  pub sectioned-end : Done ≡ unitSectionOf (allFrom b at) → (i : Input) (bases : BySection ℕ) (earlier here : List Filed) → AtUnit b x i from w₀ st₀ ss₀ bases earlier here
-      → UnitsAre b x i (placeBehind from (allFrom b from)) w₀ w st₀ bases earlier (unitsIn i bases earlier here (unitSections b (allFrom b from))) (record { code = 0; st = st; sums = ss })
+  pub sectioned-end : Done ≡ unitSectionOf (allFrom b at) → (i : Input) (bases : BySection ℕ) (earlier here : List Filed) → AtUnit b x i from w₀ st₀ bases earlier here
+      → UnitsAre b x i (placeBehind from (allFrom b from)) w₀ w st₀ bases earlier (unitsIn i bases earlier here (unitSections b (allFrom b from))) (record { code = 0; st = st })
   unfolding UnitsAre
   sectioned-end e i bases earlier here a =
       let o = k .goes i bases earlier here a in
@@ -146,25 +145,25 @@ module _ {b : List ℕ} {x : InputObject} {from at : ℕ} {w₀ w : List ℕ} {s
     rest-is =
         let h = found in
         sections-map b (allFrom b at) ∙ ap (λ (ps : List Part). map (sectionAt b) (unitParts ps)) (all-from b at (k .ahead) (k .left)) ∙ ap (map (sectionAt b)) (h .first)
-        ∙ ap (λ (ss : List Section). record { code = code; bytes = part b start size } ∷ ss)
+        ∙ ap (λ (zs : List Section). record { code = code; bytes = part b start size } ∷ zs)
         (ap (λ (ps : List Part). map (sectionAt b) (unitParts ps)) (sym (all-from b next (h .ahead) (h .left))) ∙ sym (sections-map b (allFrom b next)))
 
     -- the answer of `add_units` for it
     module _ (home stop : ℕ) (same-home : home ≡ code) (same-stop : stop ≡ start + size) (v : List ℕ) (r : UnitsFiled) (same : length v ≡ length w)
-        (added : (i : Input) (bases : BySection ℕ) (earlier here : List Filed) → AtUnit b x i start w st ss bases earlier here
+        (added : (i : Input) (bases : BySection ℕ) (earlier here : List Filed) → AtUnit b x i start w st bases earlier here
         → UnitsAre b x i stop w v st bases earlier (unitsFrom (suc (length (part b start (stop - start)))) i bases earlier here home 0 (part b start (stop - start))) r) where
       section-is : (i : Input) (bases : BySection ℕ) (earlier here : List Filed)
           → unitsFrom (suc (length (part b start (stop - start)))) i bases earlier here home 0 (part b start (stop - start)) ≡ unitsFrom (suc (length (part b start size))) i bases earlier here code 0 (part b start size)
       section-is i bases earlier here = let z : stop - start ≡ size = omega arith in rw (z, same-home)
 
       -- the walk of one section, from what is filed before it
-      answered : (i : Input) (bases : BySection ℕ) (earlier here : List Filed) → AtUnit b x i at w st ss bases earlier here
+      answered : (i : Input) (bases : BySection ℕ) (earlier here : List Filed) → AtUnit b x i at w st bases earlier here
           → UnitsAre b x i stop w v st bases earlier (unitsFrom (suc (length (part b start size))) i bases earlier here code 0 (part b start size)) r
       answered i bases earlier here a =
           subst (λ (m : Check (List Filed)). UnitsAre b x i stop w v st bases earlier m r) (section-is i bases earlier here)
           (added i bases earlier here (at-later at start a (section-lies .low) (let h = section-lies in omega (arith, h .inside, h .within))))
 
-      pub sectioned-more : r .code ≡ 0 → Sectioned b x from next w₀ v st₀ (r .st) ss₀ (r .sums)
+      pub sectioned-more : r .code ≡ 0 → Sectioned b x from next w₀ v st₀ (r .st)
       unfolding UnitsAre
       sectioned-more z =
           let h = found in
@@ -178,11 +177,11 @@ module _ {b : List ℕ} {x : InputObject} {from at : ℕ} {w₀ w : List ℕ} {s
             goes = λ i bases earlier here a. on i bases earlier here (k .goes i bases earlier here a);
           }
         where
-          on : (i : Input) (bases : BySection ℕ) (earlier here : List Filed) → On b x from at w₀ w st₀ st ss i bases earlier here → On b x from next w₀ v st₀ (r .st) (r .sums) i bases earlier here
+          on : (i : Input) (bases : BySection ℕ) (earlier here : List Filed) → On b x from at w₀ w st₀ st i bases earlier here → On b x from next w₀ v st₀ (r .st) i bases earlier here
           on i bases earlier here o = go _ refl (answered i bases earlier (o .filed) (o .atUnit))
             where
               go : (m : Check (List Filed)) → unitsFrom (suc (length (part b start size))) i bases earlier (o .filed) code 0 (part b start size) ≡ m → UnitsAre b x i stop w v st bases earlier m r
-                  → On b x from next w₀ v st₀ (r .st) (r .sums) i bases earlier here
+                  → On b x from next w₀ v st₀ (r .st) i bases earlier here
               go (pass us) q f =
                   let l = section-lies in
                   record {
@@ -193,12 +192,12 @@ module _ {b : List ℕ} {x : InputObject} {from at : ℕ} {w₀ w : List ℕ} {s
                   }
               go (refuse m) q f = absurd (let g = units-numbered i bases earlier _ (o .filed) code 0 (part b start size) .is m q in let y : m ≡ 0 = sym f ∙ z in omega arith)
 
-      pub sectioned-refused : (r .code ≡ 0 → ⊥) → (i : Input) (bases : BySection ℕ) (earlier here : List Filed) → AtUnit b x i from w₀ st₀ ss₀ bases earlier here
+      pub sectioned-refused : (r .code ≡ 0 → ⊥) → (i : Input) (bases : BySection ℕ) (earlier here : List Filed) → AtUnit b x i from w₀ st₀ bases earlier here
           → (u : UnitsFiled) → u .code ≡ r .code → UnitsAre b x i (placeBehind from (allFrom b from)) w₀ v st₀ bases earlier (unitsIn i bases earlier here (unitSections b (allFrom b from))) u
       unfolding UnitsAre
       sectioned-refused z i bases earlier here a u q = go _ refl (answered i bases earlier (o .filed) (o .atUnit))
         where
-          o : On b x from at w₀ w st₀ st ss i bases earlier here
+          o : On b x from at w₀ w st₀ st i bases earlier here
           o = k .goes i bases earlier here a
 
           go : (m : Check (List Filed)) → unitsFrom (suc (length (part b start size))) i bases earlier (o .filed) code 0 (part b start size) ≡ m → UnitsAre b x i stop w v st bases earlier m r

@@ -1,19 +1,16 @@
 -- The strings of an object put into their region of work: nothing else changes, and the answers by the definition.
 -- Assumes nothing.
-use mathlib.Core.Path.{_≡_, refl, sym, ap, ap₂, _∙_, subst}
+use mathlib.Core.Path.{_≡_, refl, sym, ap, _∙_, subst}
 use mathlib.Core.Bool.{Bool, true}
 use mathlib.Core.List.{List, []}
 use Prim.Native.Nat.{ℕ, _+_, _*_, _-_, _<_, _≤_}
-use native.Mathlib.Omega.{arith}
 use lib.Dec.{leb}
 use lib.ListN.{length, take, drop}
 use borrow.Rule.Slice.PartMut.{putMid}
 use borrow.Author.Tests.{le-leb, lt-leb}
-use Rattle.octets.specs.Octets.{part, placed}
 use Rattle.octets.specs.Checked.{pass, refuse}
 use Rattle.octets.proofs.Checks.{then-pass, then-refuse}
 use Rattle.octets.proofs.Parts.{part-cut}
-use Rattle.octets.proofs.Regions.{placed-whole, part-placed}
 use Rattle.bundle.specs.Encoding.{Encoding}
 use Rattle.strings.specs.Strings.{entriesIn, entriesOf, stringsAt, putAll}
 use Rattle.strings.specs.Answers.{entriesRead}
@@ -25,18 +22,11 @@ use Rattle.strings.specs.declared.table.Place.{Place}
 use Rattle.strings.specs.declared.table.StringTable.{StringTable}
 use Rattle.strings.specs.declared.entries.Entries.{Entries}
 use Rattle.strings.proofs.Callers.{entries-counted, entries-ill}
-use Rattle.index.specs.Rows.{BySection}
 use Rattle.numbers.specs.Limits.{workForWord}
-use Rattle.work.specs.Regions.{recordsRegion, stringsRegion, slotsRegion, region}
-use Rattle.work.proofs.Stores.{region-fits, length-region, store-length, others-stay, strings-within, strings-records, strings-slots}
-use Rattle.package.specs.Filing.{Filed, kept}
-use Rattle.kept.specs.Slots.{seenSlots, slotsIn}
-use Rattle.kept.specs.Held.{UnitsHeld}
-use Rattle.kept.specs.State.{Held}
-use Rattle.kept.specs.declared.state.InProgress.{InProgress}
-use Rattle.kept.proofs.SeenSlots.{seen-le}
-use Rattle.kept.proofs.Placing.{slots-front}
-use Rattle.filing.specs.State.{wordsIn, withStrings, OnlyStrings}
+use Rattle.work.specs.Regions.{stringsRegion, region}
+use Rattle.work.proofs.Stores.{strings-within, strings-records, strings-slots}
+use Rattle.package.specs.Filing.{kept}
+use Rattle.filing.specs.State.{wordsIn}
 use Rattle.filing.proofs.Lending.{Beside, lent-is, lent-left}
 use Rattle.filing.specs.ByObject.{stringsCheck, StringsIn, StringsAre}
 

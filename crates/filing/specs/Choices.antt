@@ -1,54 +1,33 @@
--- Sums by the number of a table, and a unit that is to be kept.
+-- A unit that was read, and one that is to be kept.
 -- Assumes nothing.
 use mathlib.Core.Path.{_≡_}
 use mathlib.Core.Bool.{false}
-use mathlib.Core.List.{List, [], _∷_, _++_}
+use mathlib.Core.List.{List}
 use Prim.Native.Nat.{ℕ, _+_, _^_, _<_, _≤_}
-use lib.ListN.{length, getD}
+use lib.ListN.{length}
 use Rattle.octets.specs.Octets.{part}
 use Rattle.octets.specs.Lists.{any}
 use Rattle.octets.specs.Checked.{pass}
 use Rattle.numbers.specs.Limits.{bundleLimit}
-use Rattle.numbers.specs.Sections.{sectionCodes}
-use Rattle.unit.specs.UnitRead.{unitOf}
+use Rattle.unit.specs.UnitRead.{unitBy}
 use Rattle.index.specs.Rows.{BySection}
 use Rattle.index.specs.Written.{offsetOf, sizeOf}
 use Rattle.index.specs.Contributed.{ContributionsAre}
 use Rattle.index.specs.declared.judging.Contributions.{Contributions}
 use Rattle.package.specs.Input.{Input}
-use Rattle.package.specs.Filing.{Filed, isUnder}
+use Rattle.package.specs.Filing.{Filed, isUnder, abbreviationsFor}
 use Rattle.kept.specs.Slots.{seenSlots, slotsIn, freeFor}
 use Rattle.kept.specs.Held.{pick, OneOrTwo}
 use Rattle.kept.specs.State.{UnitGood}
 use Rattle.kept.specs.declared.Units.{Units}
 use Rattle.kept.specs.declared.records.Unit.{Unit as UnitHead}
 use Rattle.kept.specs.declared.state.InProgress.{InProgress}
-use Rattle.filing.specs.declared.state.Sums.{Sums}
 use Rattle.filing.specs.declared.units.ReadUnit.{ReadUnit}
 use Rattle.filing.specs.declared.units.UnitFiled.{UnitFiled}
-use Rattle.filing.specs.State.{SumsHeld}
 
--- ---- sums
-abbrev pub sumsOf : Sums → ℕ → List ℕ
-sumsOf s k = pick k (s .cu) (s .tu)
-
-abbrev pub withSums : Sums → ℕ → List ℕ → Sums
-withSums s k z = record { cu = pick k z (s .cu); tu = pick k (s .tu) z }
-
--- the sums with a unit's contributions fit
-pub record SumsRoom (s : Sums) (table : ℕ) (k : Contributions) : Type 0 where
-  pub fits : (c : ℕ) → c < sectionCodes → getD (sumsOf s table) c 0 + getD (k .size) c 0 < 2 ^ 64
-
--- the sums have grown by any unit of the table that contributes k
-abbrev pub SumsGrown : Sums → ℕ → Contributions → Sums → Type 0
-SumsGrown s table k r =
-    (here : List Filed) (u : Filed) → SumsHeld s here → u .table ≡ table → OneOrTwo table → ContributionsAre k (u .contributions)
-    → ((c : ℕ) → sizeOf (u .contributions c) ≤ bundleLimit) → SumsHeld r (here ++ (u ∷ []))
-
--- ---- units
--- a unit of so many bytes was read from the front of s
-pub record ReadAt (i : Input) (home size table identity : ℕ) (s : List ℕ) : Type 0 where
-  pub is : unitOf (i .encoding) home (i .bytes 3) s ≡ pass (record { size = size; table = table; identity = identity })
+-- a unit of so many bytes was read from the front of s, which stands at a place of the section home
+pub record ReadAt (i : Input) (home at size table identity : ℕ) (s : List ℕ) : Type 0 where
+  pub is : unitBy (i .encoding) home (abbreviationsFor i home at) s ≡ pass (record { size = size; table = table; identity = identity })
   pub tables : OneOrTwo table
   pub not-zero : identity ≡ 0 → ⊥
   pub small : identity < 2 ^ 64
@@ -56,9 +35,9 @@ pub record ReadAt (i : Input) (home size table identity : ℕ) (s : List ℕ) : 
   pub within : size ≤ length s
 
 -- the answer for a unit whose table and identity are kept: 14, or nothing changes
-pub record KnownIs (table size : ℕ) (st : InProgress) (ss : Sums) (r : UnitFiled) : Type 0 where
+pub record KnownIs (table size : ℕ) (st : InProgress) (r : UnitFiled) : Type 0 where
   pub second : table ≡ 1 → r .code ≡ 14
-  pub skipped : (table ≡ 1 → ⊥) → r ≡ record { code = 0; size = size; st = st; sums = ss }
+  pub skipped : (table ≡ 1 → ⊥) → r ≡ record { code = 0; size = size; st = st }
 
 -- what is stored of a unit that was read at a place
 abbrev pub unitFor : Units → ℕ → ℕ → ReadUnit → UnitHead

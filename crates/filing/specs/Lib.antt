@@ -6,5 +6,6 @@ pub mod Contributing
 pub mod State
 pub mod Answers
 pub mod Choices
+pub mod ByPlace
 pub mod Asked
 pub mod ByObject

@@ -1,18 +1,14 @@
--- The sums of one object, and what stays of work while units or strings are filed; `kept/specs/State.antt` says what is held. Nothing here need be believed.
+-- What stays of work while units or strings are filed; `kept/specs/State.antt` says what is held. Nothing here need be believed.
 -- Assumes nothing.
 use mathlib.Core.Path.{_≡_}
 use mathlib.Core.List.{List}
-use Prim.Native.Nat.{ℕ, _*_, _/_, _<_, _≤_}
-use lib.ListN.{length, getD}
-use Rattle.numbers.specs.Limits.{bundleLimit}
-use Rattle.numbers.specs.Sections.{sectionCodes}
+use Prim.Native.Nat.{ℕ, _/_}
+use lib.ListN.{length}
 use Rattle.strings.specs.declared.table.StringTable.{StringTable}
 use Rattle.work.specs.Regions.{Layout, stringsRegion, rowsRegion, codesRegion, region, Apart}
 use Rattle.unit.specs.TableTrees.{Remembers}
 use Rattle.unit.specs.declared.judged.Judged.{Judged}
-use Rattle.package.specs.Filing.{Filed, sums}
 use Rattle.kept.specs.declared.state.InProgress.{InProgress}
-use Rattle.filing.specs.declared.state.Sums.{Sums}
 
 -- the words of a bundle, by which work is laid out
 abbrev pub wordsIn : List ℕ → ℕ
@@ -20,12 +16,6 @@ wordsIn b = length b / 4
 
 abbrev pub withStrings : InProgress → StringTable → InProgress
 withStrings st t = record { units = st .units; bases = st .bases; strings = t }
-
--- the sums of the units of one object
-pub record SumsHeld (x : Sums) (here : List Filed) : Type 0 where
-  pub cu : (c : ℕ) → c < sectionCodes → getD (x .cu) c 0 ≡ sums here 1 c
-  pub tu : (c : ℕ) → c < sectionCodes → getD (x .tu) c 0 ≡ sums here 2 c
-  pub low : (t c : ℕ) → sums here t c ≤ length here * bundleLimit
 
 -- the strings are as they were, in work for a bundle of n words and by value
 pub record StringsKept (n : ℕ) (w v : List ℕ) (st next : InProgress) : Type 0 where

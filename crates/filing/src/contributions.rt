@@ -13,7 +13,6 @@ use crate::units::ReadUnit;
 use index::judging::Measures;
 use index::judging::OwnUnit;
 use index::judging::RowJudged;
-use numbers::sections::CODES;
 use numbers::sections::CU_INDEX;
 use numbers::sections::TU_INDEX;
 use strings::table::Place;
@@ -43,26 +42,21 @@ fn indexed_contributions(
     index::judging::judge_row(big, &b[start..end], head, m, u)
 }
 
-// A unit that was read at a place of the section home; summed are the sums of its table in this object.
+// A unit that was read at a place of the section home.
 pub fn contributions_of(
     b: &[u8],
     x: InputObject,
-    summed: [usize; CODES],
     home: usize,
     at: usize,
     read: ReadUnit,
 ) -> RowJudged
     requires { ⌜ ((i : Input) × InputIs (now b) x i) ⌝ }
-    ensures { λ r. ⌜ ContributionsGiven (now (b .entry)) x summed home at read r ⌝ }
+    ensures { λ r. ⌜ ContributionsGiven (now (b .entry)) x home at read r ⌝ }
 {
     let e = x.encoding;
     let width = bundle::encoding::width(e);
     let lengths = x.size;
-    let m = Measures {
-        width,
-        lengths,
-        sums: summed,
-    };
+    let m = Measures { width, lengths };
     let u = OwnUnit {
         identity: read.identity,
         home,

@@ -1,9 +1,9 @@
 // 6 and 7, by how many sections of each code an object has.
 ghost use mathlib.Core.Path.{_≡_};
-ghost use mathlib.Core.Bool.{not, _&&_, _||_};
+ghost use mathlib.Core.Bool.{not, _&&_};
 ghost use Prim.Native.Nat.{ℕ, _<_};
 ghost use lib.Dec.{leb};
-ghost use lib.ListN.{length, getD};
+ghost use lib.ListN.{getD};
 ghost use Rattle.octets.specs.Lists.{all};
 ghost use Rattle.filing.specs.Counted.{editionBy, completeBy, wrongFor};
 ghost use Rattle.package.specs.Input.{onlyOnce};

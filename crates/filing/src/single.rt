@@ -2,21 +2,17 @@
 ghost use mathlib.Core.Path.{_≡_};
 ghost use Prim.Native.Nat.{_<_, _^_};
 ghost use Rattle.kept.specs.Held.{pick};
-ghost use Rattle.work.specs.Regions.{codesRegion};
-ghost use Rattle.filing.specs.State.{wordsIn, Only, TransientStay, Remembered};
+ghost use Rattle.filing.specs.State.{wordsIn, TransientStay};
 ghost use Rattle.filing.specs.Choices.{KnownIs, unitFor};
 ghost use Rattle.filing.specs.Asked.{
   ReadAsked,
   ReadFiled,
-  PlaceAsked,
-  PlaceRead,
+  Transient,
   UnitAsked,
   UnitAnswered,
 };
 use crate::input::InputObject;
 use crate::state::COMPILATION;
-use crate::state::Sums;
-use crate::units::Carried;
 use crate::units::HomeSection;
 use crate::units::ReadUnit;
 use crate::units::UnitDone;
@@ -26,36 +22,23 @@ use kept::records::Unit;
 use kept::slots::Sought;
 use kept::state::InProgress;
 use numbers::refusals::IDENTITY_SEEN;
-use numbers::sections::ABBREV;
 use unit::header::UnitAnswer;
-use unit::header::UnitPlace;
-use unit::header::UnitRead;
 use unit::judged::Judged;
 
-fn refused(code: u32, st: InProgress, sums: Sums) -> UnitFiled
+fn refused(code: u32, st: InProgress) -> UnitFiled
     ensures { λ r. ⌜ r .code ≡ code ⌝ }
 {
-    UnitFiled {
-        code,
-        size: 0,
-        st,
-        sums,
-    }
+    UnitFiled { code, size: 0, st }
 }
 
 // A unit of a table and identity that are kept: 14, or skipped.
-fn file_known(table: usize, size: usize, st: InProgress, sums: Sums) -> UnitFiled
-    ensures { λ r. ⌜ KnownIs table size st sums r ⌝ }
+fn file_known(table: usize, size: usize, st: InProgress) -> UnitFiled
+    ensures { λ r. ⌜ KnownIs table size st r ⌝ }
 {
     if table == COMPILATION {
-        return refused(IDENTITY_SEEN, st, sums);
+        return refused(IDENTITY_SEEN, st);
     }
-    UnitFiled {
-        code: 0,
-        size,
-        st,
-        sums,
-    }
+    UnitFiled { code: 0, size, st }
 }
 
 // What is stored of a unit that was read at a place of the bundle. Callers have few rows.
@@ -82,11 +65,10 @@ fn file_read(
     at: usize,
     read: ReadUnit,
     st: InProgress,
-    sums: Sums,
     work: &mut [u32],
 ) -> UnitFiled
-    requires { ⌜ ReadAsked (now b) x section at read st sums (now work) ⌝ }
-    ensures filed { λ r. ⌜ ReadFiled (now (b .entry)) x section at read st sums (now (work .entry)) (now (work .exit)) r ⌝ }
+    requires { ⌜ ReadAsked (now b) x section at read st (now work) ⌝ }
+    ensures filed { λ r. ⌜ ReadFiled (now (b .entry)) x section at read st (now (work .entry)) (now (work .exit)) r ⌝ }
     ensures transient { λ _. ⌜ TransientStay (wordsIn (now (b .entry))) (now (work .entry)) (now (work .exit)) ⌝ }
 {
     let n = b.len() / 4;
@@ -98,64 +80,23 @@ fn file_read(
     let count = kept::slots::seen_slots(n);
     let slot = match kept::slots::seek_in(work, n, table, units.count, count, read.identity) {
         Sought::Known(_) => {
-            return file_known(table, size, st, sums);
+            return file_known(table, size, st);
         }
         Sought::Free(slot) => slot,
     };
-    let summed = crate::keep::sums_of(sums, table);
-    let judged = crate::contributions::contributions_of(
-        b,
-        x,
-        summed,
-        home,
-        at - section.start,
-        read,
-    );
+    let judged = crate::contributions::contributions_of(b, x, home, at - section.start, read);
     let code = judged.code;
     if code != 0 {
-        return refused(code, st, sums);
+        return refused(code, st);
     }
     let k = judged.contributions;
     let unit = unit_for(units, home, at, read);
     let next = crate::keep::keep_unit(e.five, n, slot, unit, k, st, work);
-    let more = crate::keep::grow_sums(sums, table, k);
     UnitFiled {
         code: 0,
         size,
         st: next,
-        sums: more,
     }
-}
-
-// Reads the unit at a place of a section, with its object's abbreviations. One table judged is remembered in the region of codes.
-fn read_at(
-    b: &[u8],
-    x: InputObject,
-    section: HomeSection,
-    at: usize,
-    judged: Judged,
-    work: &mut [u32],
-) -> UnitRead
-    requires { ⌜ PlaceAsked (now b) x section at judged (now work) ⌝ }
-    ensures read { λ r. ⌜ PlaceRead (now (b .entry)) x section at r ⌝ }
-    ensures memory { λ r. ⌜ Remembered (now (b .entry)) (now (work .exit)) (r .judged) ⌝ }
-    ensures frame { λ _. ⌜ Only codesRegion (wordsIn (now (b .entry))) (now (work .entry)) (now (work .exit)) ⌝ }
-{
-    let e = x.encoding;
-    let first = x.start[ABBREV];
-    let last = first + x.size[ABBREV];
-    let home = octets::narrow(section.home);
-    let size = section.stop - at;
-    let place = UnitPlace {
-        at,
-        size,
-        first,
-        last,
-    };
-    let region = work::codes(b.len() / 4);
-    let from = region.start;
-    let to = from + region.size;
-    unit::header::read_unit(e, home, b, place, &mut work[from..to], judged)
 }
 
 // The unit at a place of a section of units.
@@ -165,21 +106,19 @@ pub fn file_unit(
     section: HomeSection,
     at: usize,
     st: InProgress,
-    carried: Carried,
+    last: Judged,
     work: &mut [u32],
 ) -> UnitDone
-    requires { ⌜ UnitAsked (now b) x section at st (carried .sums) (now work) × Remembered (now b) (now work) (carried .judged) ⌝ }
-    ensures filed { λ r. ⌜ UnitAnswered (now (b .entry)) x section at st (carried .sums) (now (work .entry)) (now (work .exit)) (r .filed) ⌝ }
-    ensures memory { λ r. ⌜ Remembered (now (b .entry)) (now (work .exit)) (r .judged) ⌝ }
+    requires { ⌜ UnitAsked (now b) x section at st (now work) × Transient (now b) x section last (now work) ⌝ }
+    ensures filed { λ r. ⌜ UnitAnswered (now (b .entry)) x section at st (now (work .entry)) (now (work .exit)) (r .filed) ⌝ }
+    ensures transient { λ r. ⌜ Transient (now (b .entry)) x section (r .judged) (now (work .exit)) ⌝ }
 {
-    let sums = carried.sums;
-    let last = carried.judged;
-    let unit = read_at(b, x, section, at, last, work);
+    let unit = crate::reading::read_at(b, x, section, at, last, work);
     let judged = unit.judged;
     let answer = unit.answer;
     match answer {
         UnitAnswer::Refused(code) => {
-            let filed = refused(code, st, sums);
+            let filed = refused(code, st);
             UnitDone { filed, judged }
         }
         UnitAnswer::Read(size, number, identity) => {
@@ -189,7 +128,7 @@ pub fn file_unit(
                 table,
                 identity,
             };
-            let filed = file_read(b, x, section, at, read, st, sums, work);
+            let filed = file_read(b, x, section, at, read, st, work);
             UnitDone { filed, judged }
         }
     }

@@ -1,5 +1,4 @@
 // What filing units takes and answers by value.
-use crate::state::Sums;
 use kept::state::InProgress;
 use unit::judged::Judged;
 
@@ -17,25 +16,17 @@ pub struct ReadUnit {
     pub identity: u64,
 }
 
-// What the unit before has left: its object's sums, and the abbreviation table that was judged last.
-pub struct Carried {
-    pub sums: Sums,
-    pub judged: Judged,
-}
-
 // A unit filed: 0 or the refusal, its size, and what is known behind it.
 pub struct UnitFiled {
     pub code: u32,
     pub size: usize,
     pub st: InProgress,
-    pub sums: Sums,
 }
 
 // The units of a section, or of an object: 0 or the refusal, and what is known behind them.
 pub struct UnitsFiled {
     pub code: u32,
     pub st: InProgress,
-    pub sums: Sums,
 }
 
 // Both with the abbreviation table that was judged last.

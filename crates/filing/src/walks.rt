@@ -7,59 +7,48 @@ ghost use Rattle.filing.specs.Asked.{
   ObjectAnswered,
 };
 use crate::input::InputObject;
-use crate::state::Sums;
-use crate::units::Carried;
 use crate::units::HomeSection;
 use crate::units::UnitsDone;
 use crate::units::UnitsFiled;
 use bundle::UnitSection;
 use kept::state::InProgress;
+use unit::judged::Judged;
 
-// All units of one section.
+// All units of one section. Where they are read by their place, the rows are chained first.
 pub fn add_units(
     b: &[u8],
     x: InputObject,
     section: HomeSection,
     st: InProgress,
-    carried: Carried,
+    last: Judged,
     work: &mut [u32],
 ) -> UnitsDone
-    requires { ⌜ SectionAsked (now b) x section st (carried .sums) (now work) × Remembered (now b) (now work) (carried .judged) ⌝ }
-    ensures filed { λ r. ⌜ SectionAnswered (now (b .entry)) x section st (carried .sums) (now (work .entry)) (now (work .exit)) (r .filed) ⌝ }
+    requires { ⌜ SectionAsked (now b) x section st (now work) × Remembered (now b) (now work) last ⌝ }
+    ensures filed { λ r. ⌜ SectionAnswered (now (b .entry)) x section st (now (work .entry)) (now (work .exit)) (r .filed) ⌝ }
     ensures memory { λ r. ⌜ Remembered (now (b .entry)) (now (work .exit)) (r .judged) ⌝ }
 {
+    crate::reading::chain_section(b, x, section, work);
     let stop = section.stop;
     let mut at = section.start;
     let mut known = st;
-    let mut totals = carried.sums;
-    let mut judged = carried.judged;
+    let mut judged = last;
     while at < stop {
-        let left = Carried {
-            sums: totals,
-            judged,
-        };
-        let r = crate::single::file_unit(b, x, section, at, known, left, work);
+        let r = crate::single::file_unit(b, x, section, at, known, judged, work);
         let unit = r.filed;
         judged = r.judged;
         let code = unit.code;
         let size = unit.size;
         known = unit.st;
-        totals = unit.sums;
         if code != 0 {
             let filed = UnitsFiled {
                 code: code,
                 st: known,
-                sums: totals,
             };
             return UnitsDone { filed, judged };
         }
         at += size;
     }
-    let filed = UnitsFiled {
-        code: 0,
-        st: known,
-        sums: totals,
-    };
+    let filed = UnitsFiled { code: 0, st: known };
     UnitsDone { filed, judged }
 }
 
@@ -69,15 +58,13 @@ pub fn add_sections(
     x: InputObject,
     from: usize,
     st: InProgress,
-    sums: Sums,
     work: &mut [u32],
 ) -> UnitsFiled
-    requires { ⌜ ObjectAsked (now b) x from st sums (now work) ⌝ }
-    ensures { λ r. ⌜ ObjectAnswered (now (b .entry)) x from st sums (now (work .entry)) (now (work .exit)) r ⌝ }
+    requires { ⌜ ObjectAsked (now b) x from st (now work) ⌝ }
+    ensures { λ r. ⌜ ObjectAnswered (now (b .entry)) x from st (now (work .entry)) (now (work .exit)) r ⌝ }
 {
     let mut at = from;
     let mut known = st;
-    let mut totals = sums;
     let mut judged = unit::judged::nothing();
     loop {
         match bundle::next_unit_section(b, at) {
@@ -85,31 +72,21 @@ pub fn add_sections(
                 let home = octets::wide(number);
                 let stop = start + size;
                 let section = HomeSection { home, start, stop };
-                let left = Carried {
-                    sums: totals,
-                    judged,
-                };
-                let r = add_units(b, x, section, known, left, work);
+                let r = add_units(b, x, section, known, judged, work);
                 let filed = r.filed;
                 judged = r.judged;
                 let code = filed.code;
                 known = filed.st;
-                totals = filed.sums;
                 if code != 0 {
                     return UnitsFiled {
                         code: code,
                         st: known,
-                        sums: totals,
                     };
                 }
                 at = next;
             }
             UnitSection::Done => {
-                return UnitsFiled {
-                    code: 0,
-                    st: known,
-                    sums: totals,
-                };
+                return UnitsFiled { code: 0, st: known };
             }
         }
     }

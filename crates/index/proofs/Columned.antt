@@ -14,21 +14,21 @@ use Rattle.octets.proofs.Checks.{known}
 use Rattle.octets.proofs.Lists.{all-cons, all-stops}
 use Rattle.octets.proofs.Elements.{has-cons, has-skips}
 use Rattle.index.specs.Index.{Index, Contribution, cellOf}
-use Rattle.index.specs.Rows.{BySection, neededCodes, isSome, cellIs, inStep, wholeContributions}
+use Rattle.index.specs.Rows.{BySection, neededCodes, isSome, cellIs, partGood, wholeContributions}
 use Rattle.index.specs.Cells.{cellFound}
-use Rattle.index.specs.Contributed.{byCode, stepCell, withCell, chosen, ContributionsAre, cellHeld, stepHeld}
+use Rattle.index.specs.Contributed.{byCode, goodCell, withCell, chosen, ContributionsAre, cellHeld, goodHeld}
 use Rattle.index.specs.Written.{offsetOf, sizeOf}
 use Rattle.index.specs.declared.cells.Cell.{Cell}
 use Rattle.index.specs.declared.cells.Cell.the-variants.{Is, Missing}
 use Rattle.index.specs.declared.judging.Contributions.{Contributions}
-use Rattle.index.proofs.Judgements.{ahead, ahead-start, ahead-on, ahead-stops, ahead-end, step-cell}
+use Rattle.index.proofs.Judgements.{ahead, ahead-start, ahead-on, ahead-stops, ahead-end, good-cell}
 use Rattle.index.proofs.Filled.{upTo, fill-turn, fill-end, same-held, whole-chosen}
 
 abbrev pub There : Index → ℕ → ℕ → Bool
 There i row c = isSome (cellOf i row c)
 
-abbrev pub Steps : ℕ → List ℕ → List ℕ → Index → ℕ → ℕ → Bool
-Steps width lengths sums i row c = cellIs (inStep width (byCode lengths) (byCode sums) c) (cellOf i row c)
+abbrev pub Good : ℕ → List ℕ → Index → ℕ → ℕ → Bool
+Good width lengths i row c = cellIs (partGood width (byCode lengths) c) (cellOf i row c)
 
 has-later : (x n : ℕ) (ns : List ℕ) → has ns x ≡ true → has (n ∷ ns) x ≡ true
 has-later x n ns h = elim (ℕ-discrete x n) [ yes e ↦ has-cons x n ns e | no e ↦ has-skips x n ns e ∙ h ]
@@ -52,11 +52,10 @@ module _ (k : Contributions) (c : ℕ) where
   held-missing e = rw (cellHeld, e)
 
   -- as a loop tests it
-  pub step-held : (width : ℕ) (lengths sums : List ℕ) (cell : Cell) {t : Bool} → cell ≡ cellHeld k c
-      → t ≡ (eqb (getD lengths c 0) 0 || stepCell width (getD lengths c 0) (getD sums c 0) c cell)
-      → t ≡ (eqb (getD lengths c 0) 0 || stepHeld width (byCode lengths) (byCode sums) k c)
-  unfolding stepHeld byCode
-  step-held width lengths sums cell e q = q ∙ ap (λ (z : Cell). eqb (getD lengths c 0) 0 || stepCell width (getD lengths c 0) (getD sums c 0) c z) e
+  pub good-held : (width : ℕ) (lengths : List ℕ) (cell : Cell) {t : Bool} → cell ≡ cellHeld k c
+      → t ≡ (eqb (getD lengths c 0) 0 || goodCell width (getD lengths c 0) c cell) → t ≡ (eqb (getD lengths c 0) 0 || goodHeld width (byCode lengths) k c)
+  unfolding goodHeld byCode
+  good-held width lengths cell e q = q ∙ ap (λ (z : Cell). eqb (getD lengths c 0) 0 || goodCell width (getD lengths c 0) c z) e
 
 held-as : (k : Contributions) (c : ℕ) (o : Option Contribution) → getD (k .has) c false ≡ isSome o → getD (k .offset) c 0 ≡ offsetOf o → getD (k .size) c 0 ≡ sizeOf o
     → cellHeld k c ≡ cellFound o
@@ -91,12 +90,11 @@ module _ (i : Index) (row : ℕ) (lengths : List ℕ) (k : Contributions) (h : C
   held-is : (c : ℕ) → has (neededCodes (byCode lengths)) c ≡ true → cellHeld k c ≡ cellFound (cellOf i row c)
   held-is c e = let q = chosen-is c e in held-as k c (cellOf i row c) (h .has c ∙ ap isSome q) (h .offset c ∙ ap offsetOf q) (h .size c ∙ ap sizeOf q)
 
-  pub steps-held : (width : ℕ) (sums : List ℕ)
-      → all (stepHeld width (byCode lengths) (byCode sums) k) (neededCodes (byCode lengths)) ≡ all (Steps width lengths sums i row) (neededCodes (byCode lengths))
-  unfolding stepHeld
-  steps-held width sums =
-      all-same (stepHeld width (byCode lengths) (byCode sums) k) (Steps width lengths sums i row) (neededCodes (byCode lengths))
-      (λ c e. ap (stepCell width (byCode lengths c) (byCode sums c) c) (held-is c e) ∙ step-cell width (byCode lengths) (byCode sums) c (cellOf i row c))
+  pub parts-held : (width : ℕ) → all (goodHeld width (byCode lengths) k) (neededCodes (byCode lengths)) ≡ all (Good width lengths i row) (neededCodes (byCode lengths))
+  unfolding goodHeld
+  parts-held width =
+      all-same (goodHeld width (byCode lengths) k) (Good width lengths i row) (neededCodes (byCode lengths))
+      (λ c e. ap (goodCell width (byCode lengths c) c) (held-is c e) ∙ good-cell width (byCode lengths) c (cellOf i row c))
 
 module _ (i : Index) (row c : ℕ) (lengths : List ℕ) (cell : Cell) (is : cell ≡ cellFound (cellOf i row c)) (low : 3 ≤ c) (high : c < 11) where
   pub cells-turn : (k r : Contributions) → ContributionsAre k (upTo c (chosen (byCode lengths) (cellOf i row))) → r ≡ withCell k c (getD lengths c 0) cell

@@ -15,7 +15,7 @@ use Rattle.octets.proofs.Checks.{bind-pass, require-pass, pass-inj, known, true
 use Rattle.octets.proofs.Lists.{all-head, all-tail, any-cases, any-stops, any-more, those-keeps, those-skips}
 use Rattle.index.specs.Index.{Index, Contribution, cellOf}
 use Rattle.index.specs.Probing.{probe}
-use Rattle.index.specs.Rows.{BySection, shared, neededCodes, isSome, rowOf, cellIs, ownPlace, inStep, rowContributions, wholeContributions}
+use Rattle.index.specs.Rows.{BySection, shared, neededCodes, isSome, rowOf, cellIs, ownPlace, partGood, rowContributions, wholeContributions}
 
 -- ---- lists of codes
 pub all-has : (f : ℕ → Bool) (xs : List ℕ) (c : ℕ) → all f xs ≡ true → has xs c ≡ true → f c ≡ true
@@ -79,37 +79,31 @@ stepped width c k q e = ⊎-elim
     (λ (p : (eqb (k .offset % width) 0 && eqb (k .size % width) 0) ≡ true). (eqb-true _ _ (and-left (eqb (k .offset % width) 0) (eqb (k .size % width) 0) p), eqb-true _ _ (and-right (eqb (k .offset % width) 0) (eqb (k .size % width) 0) p)))
     (or-cases (not (eqb c 6)) (eqb (k .offset % width) 0 && eqb (k .size % width) 0) q)
 
-in-step : (width : ℕ) (lengths sums : BySection ℕ) (c : ℕ) (k : Contribution) → has (neededCodes lengths) c ≡ true
-    → inStep width lengths sums c k ≡ true → Contributed width lengths c k
-unfolding inStep
-in-step width lengths sums c k p q =
+part-good : (width : ℕ) (lengths : BySection ℕ) (c : ℕ) (k : Contribution) → has (neededCodes lengths) c ≡ true → partGood width lengths c k ≡ true → Contributed width lengths c k
+unfolding partGood
+part-good width lengths c k p q =
     let n = needed-shared lengths c p in
-    let front = and-left (eqb (k .offset) (sums c) && leb (k .offset + k .size) (lengths c)) (not (eqb c 6) || (eqb (k .offset % width) 0 && eqb (k .size % width) 0)) q in
-    let last = and-right (eqb (k .offset) (sums c) && leb (k .offset + k .size) (lengths c)) (not (eqb c 6) || (eqb (k .offset % width) 0 && eqb (k .size % width) 0)) q in
-    record {
-      isShared = n .0;
-      some = n .1;
-      within = leb-true _ _ (and-right (eqb (k .offset) (sums c)) (leb (k .offset + k .size) (lengths c)) front);
-      parts = inr (stepped width c k last);
-    }
+    let inside = leb (k .offset + k .size) (lengths c) in
+    let divides = not (eqb c 6) || (eqb (k .offset % width) 0 && eqb (k .size % width) 0) in
+    record { isShared = n .0; some = n .1; within = leb-true _ _ (and-left inside divides q); parts = inr (stepped width c k (and-right inside divides q)) }
 
 cell-is : (f : Contribution → Bool) (o : Option Contribution) (k : Contribution) → o ≡ some k → cellIs f o ≡ true → f k ≡ true
 unfolding cellIs
 cell-is f o k e q = rw e at q
 
-pub row-contributed : (i : Index) (width : ℕ) (lengths sums : BySection ℕ) (x home at size : ℕ) (g : BySection (Option Contribution))
-    → rowContributions i width lengths sums x home at size ≡ pass g → (c : ℕ) (k : Contribution) → g c ≡ some k → Contributed width lengths c k
+pub row-contributed : (i : Index) (width : ℕ) (lengths : BySection ℕ) (x home at size : ℕ) (g : BySection (Option Contribution))
+    → rowContributions i width lengths x home at size ≡ pass g → (c : ℕ) (k : Contribution) → g c ≡ some k → Contributed width lengths c k
 unfolding rowContributions
-row-contributed i width lengths sums x home at size g q c k e =
+row-contributed i width lengths x home at size g q c k e =
     let row = bind-pass (rowOf i (probe i x)) _ g q in
     let there = require-pass (all (λ s. isSome (cellOf i (row .0) s)) (home ∷ neededCodes lengths)) 15 _ g (row .2) in
     let own = require-pass (cellIs (ownPlace at size) (cellOf i (row .0) home)) 16 _ g (there .1) in
-    let steps = require-pass (all (λ s. cellIs (inStep width lengths sums s) (cellOf i (row .0) s)) (neededCodes lengths)) 16 _ g (own .1) in
+    let steps = require-pass (all (λ s. cellIs (partGood width lengths s) (cellOf i (row .0) s)) (neededCodes lengths)) 16 _ g (own .1) in
     from (row .0) (steps .0) (ap (λ (h : BySection (Option Contribution)). h c) (pass-inj (steps .1)) ∙ e)
   where
-    from : (row : ℕ) → all (λ s. cellIs (inStep width lengths sums s) (cellOf i row s)) (neededCodes lengths) ≡ true
+    from : (row : ℕ) → all (λ s. cellIs (partGood width lengths s) (cellOf i row s)) (neededCodes lengths) ≡ true
         → (elim (has (neededCodes lengths) c) as (λ b. Option Contribution) [ true ↦ cellOf i row c | false ↦ none ]) ≡ some k → Contributed width lengths c k
     from row a h = ⊎-elim
-        (λ (p : has (neededCodes lengths) c ≡ true). in-step width lengths sums c k p (cell-is (inStep width lengths sums c) (cellOf i row c) k (rw p at h) (all-has (λ s. cellIs (inStep width lengths sums s) (cellOf i row s)) (neededCodes lengths) c a p)))
+        (λ (p : has (neededCodes lengths) c ≡ true). part-good width lengths c k p (cell-is (partGood width lengths c) (cellOf i row c) k (rw p at h) (all-has (λ s. cellIs (partGood width lengths s) (cellOf i row s)) (neededCodes lengths) c a p)))
         (λ (p : has (neededCodes lengths) c ≡ false). some-none (sym (rw p at h)))
         (known (has (neededCodes lengths) c))

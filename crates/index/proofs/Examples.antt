@@ -1,16 +1,16 @@
--- Document 01's worked examples of slots and probing, its order of columns in both versions, and where 10 stands.
+-- Document 01's worked examples of slots and probing, its order of columns in both versions, where 10 stands, and rows by the place that they name.
 -- Assumes nothing.
 use mathlib.Core.Path.{_≡_, refl}
 use mathlib.Core.Bool.{true, false}
 use mathlib.Core.List.{[], _∷_, map}
 use mathlib.Core.Option.{some}
-use Rattle.octets.specs.Octets.{zeros, littleOf, bigOf, bytesOf, numbersOf}
+use Rattle.octets.specs.Octets.{part, zeros, littleOf, bigOf, bytesOf, numbersOf}
 use Rattle.octets.specs.Lists.{joined, those, any}
 use Rattle.octets.specs.Checked.{pass, refuse, _>>=_, require}
-use Rattle.index.specs.Columns.{columnsFour, columnsFive, columnsOf}
-use Rattle.index.specs.Index.{powerFrom, leastPower, indexOf}
+use Rattle.index.specs.Columns.{columnsFour, columnsFive, columnsOf, columnIn}
+use Rattle.index.specs.Index.{Index, powerFrom, leastPower, indexOf, placeOf, cellAt, cellOf}
 use Rattle.index.specs.Probing.{Slots, found, absent, firstSlot, stride, look, search, slotsFor, freeFrom, place, placeAll, unused, slotsOf}
-use Rattle.index.specs.Rows.{isSome}
+use Rattle.index.specs.Rows.{isSome, cellIs, ownPlace, rowNumbers, naming, theOne, abbrevPart}
 use Rattle.index.specs.Written.{Row, presentColumns, offsetOf, sizeOf, grid, startBytes, indexWith, indexBytes}
 
 -- identities 1 and 5 in 4 slots
@@ -20,6 +20,30 @@ four = record { identities = 0 ∷ 1 ∷ 5 ∷ 0 ∷ []; rows = 0 ∷ 1 ∷ 2 �
 -- a unit of identity 1 that has of each section as many bytes as its code says
 abbrev pub everywhere : Row
 everywhere = record { identity = 1; cells = λ c. some (record { offset = 0; size = c }) }
+
+-- three rows of info and abbrev, the last two of one place of info
+abbrev pub three : Index
+three = record {
+  version = 2;
+  codes = 1 ∷ 3 ∷ [];
+  units = 3;
+  identities = 0 ∷ 1 ∷ 5 ∷ 0 ∷ [];
+  rows = 0 ∷ 1 ∷ 2 ∷ 0 ∷ [];
+  offsets = 0 ∷ 0 ∷ 20 ∷ 2 ∷ 20 ∷ 2 ∷ [];
+  sizes = 20 ∷ 2 ∷ 24 ∷ 2 ∷ 24 ∷ 3 ∷ [];
+}
+
+abbrev pub ByPlace : Type 0
+ByPlace =
+    -- the one row of a place, none where the size is another, and two, one of them without a slot
+    (theOne (naming three 0 20) ≡ pass 1)
+    × (theOne (naming three 0 24) ≡ refuse 15)
+    × (naming three 20 24 ≡ 3 ∷ 2 ∷ [])
+    × (theOne (naming three 20 24) ≡ refuse 15)
+    -- the row's part of abbrev, one that ends outside, and an empty section
+    × (abbrevPart three 2 (6 ∷ 7 ∷ 8 ∷ 9 ∷ []) ≡ pass (8 ∷ 9 ∷ []))
+    × (abbrevPart three 3 (6 ∷ 7 ∷ 8 ∷ 9 ∷ []) ≡ refuse 16)
+    × (abbrevPart three 3 [] ≡ pass [])
 
 abbrev pub Examples : Type 0
 Examples =
@@ -44,3 +68,7 @@ Examples =
 pub examples : Examples
 unfolding powerFrom leastPower indexOf require littleOf columnsFour slotsFor firstSlot stride look search freeFrom place placeAll unused slotsOf zeros bigOf bytesOf numbersOf joined those any _>>=_ columnsFive columnsOf isSome presentColumns offsetOf sizeOf grid startBytes indexWith indexBytes
 examples = (refl, refl, refl, refl, refl, refl, refl)
+
+pub by-place : ByPlace
+unfolding those columnsFour columnsOf columnIn placeOf cellAt cellOf cellIs ownPlace rowNumbers naming theOne abbrevPart part require _>>=_
+by-place = (refl, refl, refl, refl, refl, refl, refl)

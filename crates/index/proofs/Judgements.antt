@@ -16,9 +16,9 @@ use Rattle.octets.specs.Lists.{all, those}
 use Rattle.octets.proofs.Checks.{known, true-false}
 use Rattle.octets.proofs.Lists.{all-cons, all-stops, those-keeps, those-skips}
 use Rattle.index.specs.Index.{Contribution}
-use Rattle.index.specs.Rows.{BySection, shared, neededCodes, isSome, cellIs, ownPlace, inStep}
+use Rattle.index.specs.Rows.{BySection, shared, neededCodes, isSome, cellIs, ownPlace, partGood}
 use Rattle.index.specs.Cells.{cellFound}
-use Rattle.index.specs.Contributed.{isCell, ownCell, wholeEntries, stepCell}
+use Rattle.index.specs.Contributed.{isCell, ownCell, wholeEntries, goodCell}
 use Rattle.index.specs.declared.cells.Cell.{Cell}
 use Rattle.index.specs.declared.cells.Cell.the-variants.{Is, Missing}
 
@@ -62,22 +62,18 @@ module _ (width section o z : ℕ) where
   unfolding wholeEntries
   entries-size h g = rw (wholeEntries, eq-eqb section 6 h, eq-eqb (o % width) 0 g)
 
-pub step-missing : (width n sum section : ℕ) (cell : Cell) → cell ≡ Missing → false ≡ stepCell width n sum section cell
-unfolding stepCell
-step-missing width n sum section cell e = rw e
+pub part-missing : (width n section : ℕ) (cell : Cell) → cell ≡ Missing → false ≡ goodCell width n section cell
+unfolding goodCell
+part-missing width n section cell e = rw e
 
-module _ (width n sum section : ℕ) (cell : Cell) (o z : ℕ) (e : cell ≡ Is o z) where
-  pub step-apart : (o ≡ sum → ⊥) → false ≡ stepCell width n sum section cell
-  unfolding stepCell
-  step-apart h = rw (e, stepCell, ne-eqb o sum h)
+module _ (width n section : ℕ) (cell : Cell) (o z : ℕ) (e : cell ≡ Is o z) where
+  pub part-outside : n < o + z → false ≡ goodCell width n section cell
+  unfolding goodCell
+  part-outside g = rw (e, goodCell, lt-leb (o + z) n g)
 
-  pub step-long : o ≡ sum → n < o + z → false ≡ stepCell width n sum section cell
-  unfolding stepCell
-  step-long h g = rw (e, stepCell, eq-eqb o sum h, lt-leb (o + z) n g)
-
-  pub step-entries : o ≡ sum → o + z ≤ n → wholeEntries width section o z ≡ stepCell width n sum section cell
-  unfolding stepCell
-  step-entries h g = rw (e, stepCell, eq-eqb o sum h, le-leb (o + z) n g)
+  pub part-entries : o + z ≤ n → wholeEntries width section o z ≡ goodCell width n section cell
+  unfolding goodCell
+  part-entries g = rw (e, goodCell, le-leb (o + z) n g)
 
 -- ---- the definition's tests of a cell are these
 pub is-cell : (o : Option Contribution) → isCell (cellFound o) ≡ isSome o
@@ -90,11 +86,11 @@ unfolding ownCell cellFound cellIs ownPlace
 own-cell at size (some c) = refl
 own-cell at size none = refl
 
-pub step-cell : (width : ℕ) (lengths sums : BySection ℕ) (s : ℕ) (o : Option Contribution)
-    → stepCell width (lengths s) (sums s) s (cellFound o) ≡ cellIs (inStep width lengths sums s) o
-unfolding stepCell wholeEntries cellFound cellIs inStep
-step-cell width lengths sums s (some c) = refl
-step-cell width lengths sums s none = refl
+pub good-cell : (width : ℕ) (lengths : BySection ℕ) (s : ℕ) (o : Option Contribution)
+    → goodCell width (lengths s) s (cellFound o) ≡ cellIs (partGood width lengths s) o
+unfolding goodCell wholeEntries cellFound cellIs partGood
+good-cell width lengths s (some c) = refl
+good-cell width lengths s none = refl
 
 -- ---- the shared sections' codes
 pub shared-at : (i : ℕ) → i < 8 → getD shared i 0 ≡ i + 3

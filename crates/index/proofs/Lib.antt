@@ -28,6 +28,7 @@ pub mod Renamed
 pub mod WellFormed
 pub mod Places
 pub mod Ends
+pub mod OneRow
 pub mod Judgements
 pub mod Filled
 pub mod Columned

@@ -24,7 +24,7 @@ use Rattle.index.specs.declared.cells.Cell.the-variants.{Is, Missing}
 use Rattle.index.specs.declared.judging.Contributions.{Contributions}
 use Rattle.index.specs.declared.judging.RowJudged.{RowJudged}
 use Rattle.index.proofs.Judgements.{is-cell, own-cell, cell-there, cell-missing}
-use Rattle.index.proofs.Columned.{There, Steps}
+use Rattle.index.proofs.Columned.{There, Good}
 
 pub answers-refuse : (r : RowJudged) (m : Check (BySection (Option Contribution))) (n : ℕ) → m ≡ refuse n
     → (r .code ≡ n) × (ContributionsAre (r .contributions) (λ c. none)) → Answers r m
@@ -47,21 +47,21 @@ unfolding probedOf
 absent-is (absent n) looks e = let r : looks ≡ n = cc in rw r
 absent-is (found a n) looks e = absurd (let z : _≡_ {A = ℕ} 0 1 = cc in omega arith)
 
-module _ (i : Index) (width : ℕ) (lengths sums : List ℕ) (x home at size : ℕ) where
+module _ (i : Index) (width : ℕ) (lengths : List ℕ) (x home at size : ℕ) where
   -- the tests of a row that was found
   unfoldable pub judged : ℕ → Check (BySection (Option Contribution))
   judged row =
       require (all (There i row) (home ∷ neededCodes (byCode lengths))) 15
       >>= λ _. require (cellIs (ownPlace at size) (cellOf i row home)) 16
-      >>= λ _. require (all (Steps width lengths sums i row) (neededCodes (byCode lengths))) 16
+      >>= λ _. require (all (Good width lengths i row) (neededCodes (byCode lengths))) 16
       >>= λ _. pass (chosen (byCode lengths) (cellOf i row))
 
-  pub row-absent : (looks : ℕ) → Absent looks ≡ probedOf (probe i x) → rowContributions i width (byCode lengths) (byCode sums) x home at size ≡ refuse 15
+  pub row-absent : (looks : ℕ) → Absent looks ≡ probedOf (probe i x) → rowContributions i width (byCode lengths) x home at size ≡ refuse 15
   unfolding rowContributions rowOf
   row-absent looks e = let p : rowOf i (probe i x) ≡ refuse 15 = ap (rowOf i) (absent-is (probe i x) looks e) in then-refuse _ _ _ p
 
   module _ (slot looks row : ℕ) (f : Found slot looks ≡ probedOf (probe i x)) (r : row ≡ getD (i .rows) slot 0) where
-    row-judged : rowContributions i width (byCode lengths) (byCode sums) x home at size ≡ judged row
+    row-judged : rowContributions i width (byCode lengths) x home at size ≡ judged row
     unfolding rowContributions rowOf judged chosen
     row-judged = let p : rowOf i (probe i x) ≡ pass row = ap (rowOf i) (found-is (probe i x) slot looks f) ∙ ap pass (sym r) in then-pass _ _ _ p
 
@@ -69,7 +69,7 @@ module _ (i : Index) (width : ℕ) (lengths sums : List ℕ) (x home at size : �
       own-is : (t : Bool) → t ≡ isCell own → There i row home ≡ t
       own-is t e = sym (e ∙ ap isCell is ∙ is-cell (cellOf i row home))
 
-      pub row-no-place : own ≡ Missing → rowContributions i width (byCode lengths) (byCode sums) x home at size ≡ refuse 15
+      pub row-no-place : own ≡ Missing → rowContributions i width (byCode lengths) x home at size ≡ refuse 15
       unfolding judged
       row-no-place e = row-judged ∙ fails _ _ _ (all-stops (There i row) home (neededCodes (byCode lengths)) (own-is false (cell-missing own e)))
 
@@ -77,7 +77,7 @@ module _ (i : Index) (width : ℕ) (lengths sums : List ℕ) (x home at size : �
         columns : (t : Bool) → t ≡ all (There i row) (neededCodes (byCode lengths)) → all (There i row) (home ∷ neededCodes (byCode lengths)) ≡ t
         columns t e = all-cons (There i row) home (neededCodes (byCode lengths)) (own-is true (cell-there own o z there)) ∙ sym e
 
-        pub row-no-column : false ≡ all (There i row) (neededCodes (byCode lengths)) → rowContributions i width (byCode lengths) (byCode sums) x home at size ≡ refuse 15
+        pub row-no-column : false ≡ all (There i row) (neededCodes (byCode lengths)) → rowContributions i width (byCode lengths) x home at size ≡ refuse 15
         unfolding judged
         row-no-column e = row-judged ∙ fails _ _ _ (columns false e)
 
@@ -85,17 +85,17 @@ module _ (i : Index) (width : ℕ) (lengths sums : List ℕ) (x home at size : �
           place : (t : Bool) → t ≡ ownCell at size own → cellIs (ownPlace at size) (cellOf i row home) ≡ t
           place t e = sym (e ∙ ap (ownCell at size) is ∙ own-cell at size (cellOf i row home))
 
-          pub row-apart : false ≡ ownCell at size own → rowContributions i width (byCode lengths) (byCode sums) x home at size ≡ refuse 16
+          pub row-apart : false ≡ ownCell at size own → rowContributions i width (byCode lengths) x home at size ≡ refuse 16
           unfolding judged
           row-apart e = row-judged ∙ passes _ _ _ (columns true all-there) ∙ fails _ _ _ (place false e)
 
           module _ (placed : true ≡ ownCell at size own) where
-            pub row-out-of-step : false ≡ all (Steps width lengths sums i row) (neededCodes (byCode lengths))
-                → rowContributions i width (byCode lengths) (byCode sums) x home at size ≡ refuse 16
+            pub row-outside : false ≡ all (Good width lengths i row) (neededCodes (byCode lengths))
+                → rowContributions i width (byCode lengths) x home at size ≡ refuse 16
             unfolding judged
-            row-out-of-step e = row-judged ∙ passes _ _ _ (columns true all-there) ∙ passes _ _ _ (place true placed) ∙ fails _ _ _ (sym e)
+            row-outside e = row-judged ∙ passes _ _ _ (columns true all-there) ∙ passes _ _ _ (place true placed) ∙ fails _ _ _ (sym e)
 
-            pub row-good : true ≡ all (Steps width lengths sums i row) (neededCodes (byCode lengths))
-                → rowContributions i width (byCode lengths) (byCode sums) x home at size ≡ pass (chosen (byCode lengths) (cellOf i row))
+            pub row-good : true ≡ all (Good width lengths i row) (neededCodes (byCode lengths))
+                → rowContributions i width (byCode lengths) x home at size ≡ pass (chosen (byCode lengths) (cellOf i row))
             unfolding judged
             row-good e = row-judged ∙ passes _ _ _ (columns true all-there) ∙ passes _ _ _ (place true placed) ∙ passes _ _ _ (sym e)

@@ -35,9 +35,9 @@ ownCell at size Missing = false
 unfoldable pub wholeEntries : ℕ → ℕ → ℕ → ℕ → Bool
 wholeEntries width section o z = not (eqb section 6) || (eqb (o % width) 0 && eqb (z % width) 0)
 
-unfoldable pub stepCell : ℕ → ℕ → ℕ → ℕ → Cell → Bool
-stepCell width n sum section (Is o z) = eqb o sum && leb (o + z) n && wholeEntries width section o z
-stepCell width n sum section Missing = false
+unfoldable pub goodCell : ℕ → ℕ → ℕ → Cell → Bool
+goodCell width n section (Is o z) = leb (o + z) n && wholeEntries width section o z
+goodCell width n section Missing = false
 
 -- ---- contributions in arrays
 pub record Whole (k : Contributions) : Type 0 where
@@ -55,8 +55,8 @@ pub record ContributionsAre (k : Contributions) (f : BySection (Option Contribut
 unfoldable pub cellHeld : Contributions → ℕ → Cell
 cellHeld k c = elim (getD (k .has) c false) [ true ↦ Is (getD (k .offset) c 0) (getD (k .size) c 0) | false ↦ Missing ]
 
-unfoldable pub stepHeld : ℕ → BySection ℕ → BySection ℕ → Contributions → ℕ → Bool
-stepHeld width lengths sums k c = stepCell width (lengths c) (sums c) c (cellHeld k c)
+unfoldable pub goodHeld : ℕ → BySection ℕ → Contributions → ℕ → Bool
+goodHeld width lengths k c = goodCell width (lengths c) c (cellHeld k c)
 
 unfoldable pub withCell : Contributions → ℕ → ℕ → Cell → Contributions
 withCell k c n Missing = k
@@ -78,7 +78,7 @@ contributionsGiven (refuse n) = λ c. none
 
 -- the row of a unit by value
 unfoldable pub judgedRow : Index → Measures → OwnUnit → Check (BySection (Option Contribution))
-judgedRow i m u = rowContributions i (m .width) (byCode (m .lengths)) (byCode (m .sums)) (u .identity) (u .home) (u .at) (u .size)
+judgedRow i m u = rowContributions i (m .width) (byCode (m .lengths)) (u .identity) (u .home) (u .at) (u .size)
 
 pub record Answers (r : RowJudged) (m : Check (BySection (Option Contribution))) : Type 0 where
   pub code : r .code ≡ codeGiven m

@@ -1,17 +1,21 @@
--- "A kept unit's row": where probing ends; no row, or a needed column missing in it (15); row out of step (16).
+-- "A kept unit's row": where probing ends; no row, or a needed column missing in it (15); a row that names another place or a part outside (16).
+-- A compilation unit of version 4 has the row found by its place first.
 -- Assumes nothing.
 use mathlib.Core.Bool.{Bool, true, false, not, _&&_, _||_}
 use mathlib.Core.List.{List, [], _∷_}
 use mathlib.Core.Option.{Option, some, none}
-use Prim.Native.Nat.{ℕ, _+_, _%_}
+use Prim.Native.Nat.{ℕ, zero, suc, _+_, _%_}
 use lib.Dec.{eqb, leb}
-use lib.ListN.{getD}
+use lib.ListN.{length, getD}
+use Rattle.numbers.specs.Sections.{infoCode, abbrevCode, strOffsetsCode}
+use Rattle.numbers.specs.Refusals.{noRow, rowOutOfStep}
+use Rattle.octets.specs.Octets.{part}
 use Rattle.octets.specs.Lists.{all, those, has}
 use Rattle.octets.specs.Checked.{Check, pass, refuse, _>>=_, require}
 use Rattle.index.specs.Index.{Index, Contribution, cellOf}
 use Rattle.index.specs.Probing.{Probe, found, absent, probe}
 
--- a function of the section code, as the lengths and sums of an object's sections are
+-- a function of the section code, as the lengths of an object's sections are
 abbrev pub BySection : Type 0 → Type 0
 BySection A = ℕ → A
 
@@ -30,7 +34,7 @@ isSome none = false
 -- 15: no row
 unfoldable pub rowOf : Index → Probe → Check ℕ
 rowOf i (found slot looks) = pass (getD (i .rows) slot 0)
-rowOf i (absent looks) = refuse 15
+rowOf i (absent looks) = refuse noRow
 
 unfoldable pub cellIs : (Contribution → Bool) → Option Contribution → Bool
 cellIs f (some c) = f c
@@ -40,20 +44,45 @@ cellIs f none = false
 unfoldable pub ownPlace : ℕ → ℕ → Contribution → Bool
 ownPlace at size c = eqb (c .offset) at && eqb (c .size) size
 
--- "the row's offset must equal the sum of the sizes of earlier kept units of the same table in this object, and its end lie in the section;
--- for str_offsets both are multiples of the width"
-unfoldable pub inStep : ℕ → BySection ℕ → BySection ℕ → ℕ → Contribution → Bool
-inStep width lengths sums s c =
-    eqb (c .offset) (sums s) && leb (c .offset + c .size) (lengths s) && (not (eqb s 6) || (eqb (c .offset % width) 0 && eqb (c .size % width) 0))
+-- "a part that ends outside, and widths that don't divide"
+unfoldable pub partGood : ℕ → BySection ℕ → ℕ → Contribution → Bool
+partGood width lengths s c =
+    leb (c .offset + c .size) (lengths s) && (not (eqb s strOffsetsCode) || (eqb (c .offset % width) 0 && eqb (c .size % width) 0))
 
--- the contributions of a unit of identity x that stands at a place of the section home: those parts
-unfoldable pub rowContributions : Index → ℕ → BySection ℕ → BySection ℕ → ℕ → ℕ → ℕ → ℕ → Check (BySection (Option Contribution))
-rowContributions i width lengths sums x home at size = do
+-- the contributions of a unit of identity x that stands at a place of the section home: "the row's own offset, counted from where the object's section begins,
+-- whatever earlier rows held". Where a row was found by that place, no other row names it, so that the search ends at that row or at one that is refused here.
+unfoldable pub rowContributions : Index → ℕ → BySection ℕ → ℕ → ℕ → ℕ → ℕ → Check (BySection (Option Contribution))
+rowContributions i width lengths x home at size = do
   row ← rowOf i (probe i x)
-  _ ← require (all (λ s. isSome (cellOf i row s)) (home ∷ neededCodes lengths)) 15
-  _ ← require (cellIs (ownPlace at size) (cellOf i row home)) 16
-  _ ← require (all (λ s. cellIs (inStep width lengths sums s) (cellOf i row s)) (neededCodes lengths)) 16
+  _ ← require (all (λ s. isSome (cellOf i row s)) (home ∷ neededCodes lengths)) noRow
+  _ ← require (cellIs (ownPlace at size) (cellOf i row home)) rowOutOfStep
+  _ ← require (all (λ s. cellIs (partGood width lengths s) (cellOf i row s)) (neededCodes lengths)) rowOutOfStep
   pass (λ s. elim (has (neededCodes lengths) s) [ true ↦ cellOf i row s | false ↦ none ])
+
+-- ---- a row by its place
+-- the row numbers of n units, the last one first
+unfoldable pub rowNumbers : ℕ → List ℕ
+rowNumbers zero = []
+rowNumbers (suc n) = suc n ∷ rowNumbers n
+
+-- all rows, with or without a slot, "whose info column names the unit's offset and size"
+unfoldable pub naming : Index → ℕ → ℕ → List ℕ
+naming i at size = those (λ r. cellIs (ownPlace at size) (cellOf i r infoCode)) (rowNumbers (i .units))
+
+-- "first find the one row"; 15 for "no such row or several"
+unfoldable pub theOne : List ℕ → Check ℕ
+theOne [] = refuse noRow
+theOne (r ∷ []) = pass r
+theOne (r ∷ q ∷ rs) = refuse noRow
+
+-- "its abbreviation table is read in that row's abbrev part alone": 15 without that column, 16 where it ends outside; an empty section has no part
+unfoldable pub abbrevPart : Index → ℕ → List ℕ → Check (List ℕ)
+abbrevPart i row [] = pass []
+abbrevPart i row (b ∷ s) =
+    elim (cellOf i row abbrevCode) [
+      | some c ↦ require (leb (c .offset + c .size) (length (b ∷ s))) rowOutOfStep >>= λ _. pass (part (b ∷ s) (c .offset) (c .size))
+      | none ↦ refuse noRow
+    ]
 
 -- "Without an index for its table, a unit's contribution is its object's whole section."
 unfoldable pub wholeContributions : BySection ℕ → BySection (Option Contribution)

@@ -1,4 +1,4 @@
-// A kept unit's row judged: 15 before 16, over all columns that are needed. Lengths and sums of sections are by their code.
+// A kept unit's row judged: 15 before 16, over all columns that are needed. Lengths of sections are by their code.
 ghost use mathlib.Core.Path.{_≡_};
 ghost use mathlib.Core.Bool.{false, _||_};
 ghost use mathlib.Core.Option.{none};
@@ -18,13 +18,13 @@ ghost use Rattle.index.specs.Contributed.{
   isCell,
   ownCell,
   wholeEntries,
-  stepCell,
+  goodCell,
   withCell,
   Whole,
   chosen,
   ContributionsAre,
   cellHeld,
-  stepHeld,
+  goodHeld,
   Answers,
   judgedRow,
 };
@@ -54,11 +54,10 @@ pub struct RowJudged {
     pub contributions: Contributions,
 }
 
-// What a row is judged by: the width of offsets, 4 or 8, and the lengths and sums of the object's sections by their code.
+// What a row is judged by: the width of offsets, 4 or 8, and the lengths of the object's sections by their code.
 pub struct Measures {
     pub width: usize,
     pub lengths: [usize; CODES],
-    pub sums: [usize; CODES],
 }
 
 // The unit: its identity, and where it stands in the section home.
@@ -118,9 +117,10 @@ fn multiples(width: usize, section: usize, offset: usize, size: usize) -> bool
     size % width == 0
 }
 
-fn step_needed(width: usize, length: usize, sum: usize, section: usize, cell: Cell) -> bool
+// Whether a part ends in its section, where the section asks for one. It may start anywhere: rows may share parts.
+fn part_needed(width: usize, length: usize, section: usize, cell: Cell) -> bool
     requires { ⌜ 0 < width ⌝ }
-    ensures { λ r. ⌜ r ≡ (eqb length 0 || stepCell width length sum section cell) ⌝ }
+    ensures { λ r. ⌜ r ≡ (eqb length 0 || goodCell width length section cell) ⌝ }
 {
     if length == 0 {
         return true;
@@ -128,9 +128,6 @@ fn step_needed(width: usize, length: usize, sum: usize, section: usize, cell: Ce
     let Cell::Is(o, z) = cell else {
         return false;
     };
-    if o != sum {
-        return false;
-    }
     if o > length {
         return false;
     }
@@ -184,14 +181,15 @@ fn columns_there(lengths: [usize; CODES], k: Contributions) -> bool
     true
 }
 
-fn cells_in_step(m: Measures, k: Contributions) -> bool
+// Whether each section that isn't empty has a part that ends in it.
+fn parts_good(m: Measures, k: Contributions) -> bool
     requires { ⌜ (Whole k) × (0 < m .width) ⌝ }
-    ensures { λ r. ⌜ r ≡ all (stepHeld (m .width) (byCode (m .lengths)) (byCode (m .sums)) k) (neededCodes (byCode (m .lengths))) ⌝ }
+    ensures { λ r. ⌜ r ≡ all (goodHeld (m .width) (byCode (m .lengths)) k) (neededCodes (byCode (m .lengths))) ⌝ }
 {
     let mut c = FIRST_SHARED;
     while c < SHARED_END {
         let cell = cell_in(k, c);
-        if !step_needed(m.width, m.lengths[c], m.sums[c], c, cell) {
+        if !part_needed(m.width, m.lengths[c], c, cell) {
             return false;
         }
         c += 1;
@@ -265,7 +263,7 @@ pub fn judge_row(big: bool, s: &[u8], head: IndexHead, m: Measures, u: OwnUnit) 
     if !own_place(u.at, u.size, own) {
         return refused(ROW_OUT_OF_STEP);
     }
-    if !cells_in_step(m, cells) {
+    if !parts_good(m, cells) {
         return refused(ROW_OUT_OF_STEP);
     }
     RowJudged {

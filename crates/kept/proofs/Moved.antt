@@ -1,4 +1,4 @@
--- The cells of a unit, and sums, one section after the other.
+-- The cells of a unit, and bases, one section after the other.
 -- Assumes nothing.
 use mathlib.Core.Path.{_≡_, refl, sym, ap, _∙_}
 use mathlib.Core.Bool.{Bool, true, false}
@@ -59,17 +59,17 @@ moving-more k bases offset m v a h e =
           ];
     }
 
-pub record Growing (sums size more : List ℕ) (m : ℕ) : Type 0 where
-  pub same : length more ≡ length sums
+pub record Growing (bases size more : List ℕ) (m : ℕ) : Type 0 where
+  pub same : length more ≡ length bases
   pub within : m ≤ 14
-  pub done : Summed sums size more m
+  pub done : Summed bases size more m
 
-pub growing-none : (sums size : List ℕ) → Growing sums size sums 0
-growing-none sums size = record { same = refl; within = omega arith; done = record { is = λ c h. absurd (not-suc-le-zero h) } }
+pub growing-none : (bases size : List ℕ) → Growing bases size bases 0
+growing-none bases size = record { same = refl; within = omega arith; done = record { is = λ c h. absurd (not-suc-le-zero h) } }
 
-pub growing-more : (sums size more : List ℕ) (m v : ℕ) → length sums ≡ 14 → Growing sums size more m → m < 14
-    → v ≡ getD sums m 0 + getD size m 0 → Growing sums size (set more m v) (m + 1)
-growing-more sums size more m v l a h e =
+pub growing-more : (bases size more : List ℕ) (m v : ℕ) → length bases ≡ 14 → Growing bases size more m → m < 14
+    → v ≡ getD bases m 0 + getD size m 0 → Growing bases size (set more m v) (m + 1)
+growing-more bases size more m v l a h e =
     record {
       same = length-set more m v ∙ a .same;
       within = omega arith;

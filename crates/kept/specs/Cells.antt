@@ -1,4 +1,4 @@
--- The cells of a unit by what it contributes, and sums with one unit more.
+-- The cells of a unit by what it contributes, and the bases with one object more.
 -- Assumes nothing.
 use mathlib.Core.Path.{_≡_}
 use mathlib.Core.Bool.{Bool, true, false}
@@ -34,6 +34,6 @@ pub record CellsRoom (k : Contributions) (bases : List ℕ) (home place size : �
   pub offsets : (c : ℕ) → c < sectionCodes → getD bases c 0 + getD (k .offset) c 0 < 2 ^ 32
   pub sizes : (c : ℕ) → getD (k .size) c 0 < 2 ^ 32
 
--- the first m sums have grown
-pub record Summed (sums size more : List ℕ) (m : ℕ) : Type 0 where
-  pub is : (c : ℕ) → c < m → getD more c 0 ≡ getD sums c 0 + getD size c 0
+-- the first m bases have grown
+pub record Summed (bases size more : List ℕ) (m : ℕ) : Type 0 where
+  pub is : (c : ℕ) → c < m → getD more c 0 ≡ getD bases c 0 + getD size c 0

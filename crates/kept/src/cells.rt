@@ -1,4 +1,4 @@
-// What a unit has of each section: where it lies in the package's sections, and the sums of an object's units.
+// What a unit has of each section: where it lies in the package's sections. And the bases there, which grow with each object.
 ghost use mathlib.Core.Path.{_≡_};
 ghost use mathlib.Core.Bool.{false};
 ghost use mathlib.Core.Option.{Option};
@@ -62,15 +62,15 @@ pub fn cells_of(
     }
 }
 
-// The sums with one unit more.
-pub fn grown(sums: [usize; CODES], size: [usize; CODES]) -> [usize; CODES]
-    requires { ⌜ ((c : ℕ) → c < sectionCodes → getD sums c 0 + getD size c 0 < 2 ^ 64) ⌝ }
-    ensures { λ r. ⌜ Summed sums size r sectionCodes ⌝ }
+// The bases with one object more, whose sections have these sizes.
+pub fn grown(bases: [usize; CODES], size: [usize; CODES]) -> [usize; CODES]
+    requires { ⌜ ((c : ℕ) → c < sectionCodes → getD bases c 0 + getD size c 0 < 2 ^ 64) ⌝ }
+    ensures { λ r. ⌜ Summed bases size r sectionCodes ⌝ }
 {
-    let mut more = sums;
+    let mut more = bases;
     let mut c = 0;
     while c < CODES {
-        more[c] = sums[c] + size[c];
+        more[c] = bases[c] + size[c];
         c += 1;
     }
     more

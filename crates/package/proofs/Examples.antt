@@ -1,4 +1,4 @@
--- Bundles packed, as the checker computes them: one for each refusal, and sums by table. What can't be computed, the lengths at a limit, is in Limits.
+-- Bundles packed, as the checker computes them: one for each refusal, and rows that share parts. What can't be computed, the lengths at a limit, is in Limits.
 -- Assumes nothing.
 use mathlib.Core.Path.{_≡_, refl}
 use mathlib.Core.Bool.{false}
@@ -79,6 +79,19 @@ tuIndex row = indexed 0x2680_0040 7 2 row
 abbrev pub bothTables : List ℕ → List ℕ
 bothTables row = one four (rooted ++ typed ++ table ++ cuIndex (0 ∷ 0 ∷ 20 ∷ 9 ∷ []) ++ tuIndex row)
 
+-- two units of identities 1 and 2, as rooted is
+abbrev pub twoRooted : List ℕ
+twoRooted = 0x2080_0028 ∷ 0x10 ∷ 4 ∷ 0x108_0000 ∷ 1 ∷ 0 ∷ 0x10 ∷ 4 ∷ 0x108_0000 ∷ 2 ∷ 0 ∷ []
+
+-- the same two in the other order
+abbrev pub swapped : List ℕ
+swapped = 0x2080_0028 ∷ 0x10 ∷ 4 ∷ 0x108_0000 ∷ 2 ∷ 0 ∷ 0x10 ∷ 4 ∷ 0x108_0000 ∷ 1 ∷ 0 ∷ []
+
+-- the index of two rows with the same part of abbrev: the identity and the row of the second used slot, both 0 where it is none, and the second row's place in info
+abbrev pub twoRows : ℕ → ℕ → ℕ → List ℕ
+twoRows identity row place =
+    0x2600_0068 ∷ 2 ∷ 2 ∷ 2 ∷ 4 ∷ 0 ∷ 0 ∷ 1 ∷ 0 ∷ identity ∷ 0 ∷ 0 ∷ 0 ∷ 0 ∷ 1 ∷ row ∷ 0 ∷ 1 ∷ 3 ∷ 0 ∷ 0 ∷ place ∷ 0 ∷ 20 ∷ 9 ∷ 20 ∷ 9 ∷ []
+
 abbrev pub Refusals : Type 0
 Refusals =
     -- 1: below 8 bytes, no multiple of 4
@@ -113,9 +126,16 @@ Refusals =
     -- 15: an index without rows, a row without the abbrev column
     × (pack (one four (rooted ++ table ++ (0x2600_001C ∷ 2 ∷ 0 ∷ 0 ∷ 1 ∷ 0 ∷ 0 ∷ 0 ∷ []))) ≡ refused 15)
     × (pack (one four (rooted ++ table ++ (0x2600_0034 ∷ 2 ∷ 1 ∷ 1 ∷ 2 ∷ 0 ∷ 0 ∷ 1 ∷ 0 ∷ 0 ∷ 1 ∷ 1 ∷ 0 ∷ 20 ∷ []))) ≡ refused 15)
-    -- 16: another place of the unit, a part that does not start where the sums say
-    × (pack (one four (rooted ++ table ++ cuIndex (0 ∷ 0 ∷ 19 ∷ 9 ∷ []))) ≡ refused 16)
-    × (pack (one four (rooted ++ table ++ cuIndex (0 ∷ 1 ∷ 20 ∷ 8 ∷ []))) ≡ refused 16)
+    -- 15: no row names the unit's place; two rows name it, one of them without a slot
+    × (pack (one four (rooted ++ table ++ cuIndex (0 ∷ 0 ∷ 19 ∷ 9 ∷ []))) ≡ refused 15)
+    × (pack (one four (rooted ++ table ++ twoRows 0 0 0)) ≡ refused 15)
+    -- 12: the row's part of abbrev alone is read, the header's offset counted from where it begins; without its last byte, the table has no end
+    × (pack (one four (rooted ++ table ++ cuIndex (0 ∷ 1 ∷ 20 ∷ 8 ∷ []))) ≡ refused 12)
+    × (pack (one four (rooted ++ table ++ cuIndex (0 ∷ 0 ∷ 20 ∷ 8 ∷ []))) ≡ refused 12)
+    -- 16: a part that ends outside; identities 1 and 2 lead to each other's rows; another place of a type unit
+    × (pack (one four (rooted ++ table ++ cuIndex (0 ∷ 0 ∷ 20 ∷ 10 ∷ []))) ≡ refused 16)
+    × (pack (one four (swapped ++ table ++ twoRows 2 2 20)) ≡ refused 16)
+    × (pack (bothTables (1 ∷ 0 ∷ 23 ∷ 9 ∷ [])) ≡ refused 16)
     -- 18: a byte of output too few
     × (packed (one five (unit 5 1 ++ abbreviations)) 176 111 ≡ short 112)
 
@@ -123,13 +143,16 @@ abbrev pub Tables : Type 0
 Tables =
     -- a package as input gives itself
     (pack (one four (rooted ++ table ++ cuIndex (0 ∷ 0 ∷ 20 ∷ 9 ∷ []))) ≡ made (one four (rooted ++ table ++ cuIndex (0 ∷ 0 ∷ 20 ∷ 9 ∷ []))))
-    -- the sums are those of one table: the first type unit's part starts at 0, and not behind the compilation's
+    -- a row's part starts anywhere in its section
     × (pack (bothTables (0 ∷ 0 ∷ 23 ∷ 9 ∷ [])) ≡ made (bothTables (0 ∷ 0 ∷ 23 ∷ 9 ∷ [])))
-    × (pack (bothTables (0 ∷ 9 ∷ 23 ∷ 0 ∷ [])) ≡ refused 16)
+    × (pack (bothTables (0 ∷ 9 ∷ 23 ∷ 0 ∷ [])) ≡ made (bothTables (0 ∷ 9 ∷ 23 ∷ 0 ∷ [])))
+    -- two units share one part; a row that names no unit is left out
+    × (pack (one four (twoRooted ++ table ++ twoRows 2 2 20)) ≡ made (one four (twoRooted ++ table ++ twoRows 2 2 20)))
+    × (pack (one four (rooted ++ table ++ twoRows 0 0 20)) ≡ made (one four (rooted ++ table ++ cuIndex (0 ∷ 0 ∷ 20 ∷ 9 ∷ []))))
 
 abbrev pub Examples : Type 0
 Examples = Refusals × Tables
 
 pub examples : Examples
-unfolding Checked._>>=_ Checked.require Lists.joined Lists.those Lists.all Lists.any Lists.sum Lists.same Lists.has Lists.distinct Lists.zeroTogether Octets.part Octets.little Octets.bigFrom Octets.number Octets.numberAt Octets.numbersIn Octets.littleOf Octets.bigOf Octets.bytesOf Octets.numbersOf Octets.zeros Bundle.filledUp Bundle.objectStep Bundle.sectionStep Bundle.endStep Bundle.stepOf Bundle.stepAt Bundle.followed Bundle.itemsFrom Bundle.items Bundle.leading Bundle.objectsOf Bundle.objectFirst Bundle.bundleOf Bundle.lengthGood Bundle.partsOf Bundle.count Bundle.firstPart Bundle.body Encoding.encodingOf Encoding.encodingGood BundleWritten.wordBytes BundleWritten.headBytes BundleWritten.sectionBytes BundleWritten.objectBytes BundleWritten.endBytes BundleWritten.written Leb128.groups Leb128.short Leb128.unsigned Leb128.signedSize Abbreviations.attributeAt Abbreviations.attributesThen Abbreviations.attributesFrom Abbreviations.attributesOf Abbreviations.declarationAt Abbreviations.declarationsThen Abbreviations.declarationsFrom Abbreviations.declarationsOf Abbreviations.declarationOf Forms.forms Forms.widthIn Forms.zeroEnded Forms.valueSize Root.needed Root.plainValue Root.valueOf Root.identityAt Root.identityIn Root.rootTag Root.rootIdentity UnitRead.lengthField UnitRead.unitSize UnitRead.isFive UnitRead.addressPlace UnitRead.commonSize UnitRead.behindCommon UnitRead.identityFive UnitRead.identityFour UnitRead.identityOf UnitRead.unitBy UnitRead.unitOf Strings.headerSize Strings.headerTrue Strings.entriesIn Strings.entriesOf Strings.upToZero Strings.stringAt Strings.stringsAt Strings.put Strings.putAll Strings.firstUses Strings.ended Strings.strOf Strings.offsetIn Strings.remapped Columns.columnsFour Columns.columnsFive Columns.columnsOf Columns.columnIn Index.versionOf Index.columnsMost Index.codeGood Index.powerFrom Index.leastPower Index.slotsGood Index.layout Index.indexOf Index.placeOf Index.cellAt Index.cellOf Probing.firstSlot Probing.stride Probing.look Probing.search Probing.probe Probing.slotsFor Probing.freeFrom Probing.place Probing.placeAll Probing.unused Probing.slotsOf Rows.shared Rows.neededCodes Rows.isSome Rows.rowOf Rows.cellIs Rows.ownPlace Rows.inStep Rows.rowContributions Rows.wholeContributions IndexWritten.presentColumns IndexWritten.offsetOf IndexWritten.sizeOf IndexWritten.grid IndexWritten.startBytes IndexWritten.indexWith IndexWritten.indexBytes Filing.isUnder Filing.indexFor Filing.sums Filing.lengths Filing.contributionsOf Filing.skipped Filing.unitAt Filing.unitsFrom Filing.unitsIn Filing.grown Filing.filingFrom Filing.firstWord Filing.filingOf Filing.keep Filing.keepAll Filing.kept Input.present Input.repeated Input.wrongEdition Input.onlyOnce Input.editionGood Input.complete Input.usedStrings Input.inputIndex Input.unitSections Input.inputOf Pack.cells Pack.longer Pack.entriesFrom Pack.rowsOf Pack.unitBytes Pack.sharedBytes Pack.allUsed Pack.stringTable Pack.sectionList Pack.nonEmpty Pack.packageSections Pack.packageObjects Pack.judged Pack.answered Pack.packed
-examples = ((refl, refl, refl, refl, refl, refl, refl, refl, refl, refl, refl, refl, refl, refl, refl, refl, refl, refl, refl, refl, refl, refl, refl, refl), (refl, refl, refl))
+unfolding Checked._>>=_ Checked.require Lists.joined Lists.those Lists.all Lists.any Lists.same Lists.has Lists.distinct Lists.zeroTogether Octets.part Octets.little Octets.bigFrom Octets.number Octets.numberAt Octets.numbersIn Octets.littleOf Octets.bigOf Octets.bytesOf Octets.numbersOf Octets.zeros Bundle.filledUp Bundle.objectStep Bundle.sectionStep Bundle.endStep Bundle.stepOf Bundle.stepAt Bundle.followed Bundle.itemsFrom Bundle.items Bundle.leading Bundle.objectsOf Bundle.objectFirst Bundle.bundleOf Bundle.lengthGood Bundle.partsOf Bundle.count Bundle.firstPart Bundle.body Encoding.encodingOf Encoding.encodingGood BundleWritten.wordBytes BundleWritten.headBytes BundleWritten.sectionBytes BundleWritten.objectBytes BundleWritten.endBytes BundleWritten.written Leb128.groups Leb128.short Leb128.unsigned Leb128.signedSize Abbreviations.attributeAt Abbreviations.attributesThen Abbreviations.attributesFrom Abbreviations.attributesOf Abbreviations.declarationAt Abbreviations.declarationsThen Abbreviations.declarationsFrom Abbreviations.declarationsOf Abbreviations.declarationOf Forms.forms Forms.widthIn Forms.zeroEnded Forms.valueSize Root.needed Root.plainValue Root.valueOf Root.identityAt Root.identityIn Root.rootTag Root.rootIdentity UnitRead.lengthField UnitRead.unitSize UnitRead.isFive UnitRead.addressPlace UnitRead.commonSize UnitRead.behindCommon UnitRead.identityFive UnitRead.identityFour UnitRead.identityOf UnitRead.unitBy Strings.headerSize Strings.headerTrue Strings.entriesIn Strings.entriesOf Strings.upToZero Strings.stringAt Strings.stringsAt Strings.put Strings.putAll Strings.firstUses Strings.ended Strings.strOf Strings.offsetIn Strings.remapped Columns.columnsFour Columns.columnsFive Columns.columnsOf Columns.columnIn Index.versionOf Index.columnsMost Index.codeGood Index.powerFrom Index.leastPower Index.slotsGood Index.layout Index.indexOf Index.placeOf Index.cellAt Index.cellOf Probing.firstSlot Probing.stride Probing.look Probing.search Probing.probe Probing.slotsFor Probing.freeFrom Probing.place Probing.placeAll Probing.unused Probing.slotsOf Rows.shared Rows.neededCodes Rows.isSome Rows.rowOf Rows.cellIs Rows.ownPlace Rows.partGood Rows.rowContributions Rows.rowNumbers Rows.naming Rows.theOne Rows.abbrevPart Rows.wholeContributions IndexWritten.presentColumns IndexWritten.offsetOf IndexWritten.sizeOf IndexWritten.grid IndexWritten.startBytes IndexWritten.indexWith IndexWritten.indexBytes Filing.isUnder Filing.indexFor Filing.lengths Filing.indexByPlace Filing.abbreviationsFor Filing.contributionsOf Filing.skipped Filing.unitAt Filing.unitsFrom Filing.unitsIn Filing.grown Filing.filingFrom Filing.firstWord Filing.filingOf Filing.keep Filing.keepAll Filing.kept Input.present Input.repeated Input.wrongEdition Input.onlyOnce Input.editionGood Input.complete Input.usedStrings Input.inputIndex Input.unitSections Input.inputOf Pack.cells Pack.longer Pack.entriesFrom Pack.rowsOf Pack.unitBytes Pack.sharedBytes Pack.allUsed Pack.stringTable Pack.sectionList Pack.nonEmpty Pack.packageSections Pack.packageObjects Pack.judged Pack.answered Pack.packed
+examples = ((refl, refl, refl, refl, refl, refl, refl, refl, refl, refl, refl, refl, refl, refl, refl, refl, refl, refl, refl, refl, refl, refl, refl, refl, refl, refl, refl, refl, refl), (refl, refl, refl, refl, refl))

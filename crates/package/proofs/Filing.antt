@@ -25,12 +25,12 @@ use Rattle.index.specs.Index.{Index, Contribution}
 use Rattle.index.specs.Rows.{BySection, rowContributions, wholeContributions}
 use Rattle.index.proofs.Contributions.{Contributed, Whole, whole-contributed, row-contributed}
 use Rattle.package.specs.Input.{Input, inputOf}
-use Rattle.package.specs.Filing.{Filed, Filing, isUnder, indexFor, sums, lengths, contributionsOf, skipped, unitAt, unitsFrom, unitsIn, grown, filingFrom}
+use Rattle.package.specs.Filing.{Filed, Filing, isUnder, indexFor, lengths, contributionsOf, skipped, unitAt, unitsFrom, unitsIn, grown, filingFrom}
 use Rattle.package.specs.Units.{IsUnit}
 use Rattle.bundle.proofs.Every.{Every, nothing, also}
 use Rattle.package.proofs.Each.{each-head, each-tail, each-append, each-snoc, each-so}
 use Rattle.package.proofs.Inputs.{InputFacts, UnitSection, input-facts}
-use Rattle.package.proofs.Units.{readingOf, unit-taken}
+use Rattle.package.proofs.Units.{readingOf, unit-taken, read-at}
 
 -- ---- contributions
 -- each lies in its section; in version 5 it is the whole section
@@ -54,23 +54,23 @@ contributes-whole : (e : Encoding) (i : Input) → Contributes e i (wholeContrib
 contributes-whole e i c k q = let r = whole-contributed (e .width) (lengths i) c k q in (r .0, λ v. r .1)
 
 module _ (e : Encoding) (i : Input) (facts : InputFacts e i) where
-  contributes-row : (x : Index) (table : ℕ) (s : BySection ℕ) (identity home at size : ℕ) (g : BySection (Option Contribution)) → indexFor i table ≡ some x
-      → rowContributions x (i .encoding .width) (lengths i) s identity home at size ≡ pass g → Contributes e i g
-  contributes-row x table s identity home at size g t q c k h = (
-    row-contributed x (e .width) (lengths i) s identity home at size g (ap (λ (d : Encoding). rowContributions x (d .width) (lengths i) s identity home at size) (sym (facts .encoded)) ∙ q) c k h,
+  contributes-row : (x : Index) (table identity home at size : ℕ) (g : BySection (Option Contribution)) → indexFor i table ≡ some x
+      → rowContributions x (i .encoding .width) (lengths i) identity home at size ≡ pass g → Contributes e i g
+  contributes-row x table identity home at size g t q c k h = (
+    row-contributed x (e .width) (lengths i) identity home at size g (ap (λ (d : Encoding). rowContributions x (d .width) (lengths i) identity home at size) (sym (facts .encoded)) ∙ q) c k h,
     λ v. absurd (facts .indexes table x t v),
   )
 
-  contributes-filed : (here : List Filed) (home at : ℕ) (u : UnitRead) (g : BySection (Option Contribution)) → contributionsOf i here home at u ≡ pass g → Contributes e i g
+  contributes-filed : (home at : ℕ) (u : UnitRead) (g : BySection (Option Contribution)) → contributionsOf i home at u ≡ pass g → Contributes e i g
   unfolding contributionsOf
-  contributes-filed here home at u g q = from (indexFor i (u .table)) refl q
+  contributes-filed home at u g q = from (indexFor i (u .table)) refl q
     where
       from : (o : Option Index) → indexFor i (u .table) ≡ o
           → (elim o as (λ z. Check (BySection (Option Contribution))) [
-            | some x ↦ rowContributions x (i .encoding .width) (lengths i) (sums here (u .table)) (u .identity) home at (u .size)
+            | some x ↦ rowContributions x (i .encoding .width) (lengths i) (u .identity) home at (u .size)
             | none ↦ pass (wholeContributions (lengths i))
           ]) ≡ pass g → Contributes e i g
-      from (some x) t r = contributes-row x (u .table) (sums here (u .table)) (u .identity) home at (u .size) g t r
+      from (some x) t r = contributes-row x (u .table) (u .identity) home at (u .size) g t r
       from none t r = subst (Contributes e i) (pass-inj r) (contributes-whole e i)
 
 -- ---- one unit
@@ -97,18 +97,19 @@ module _ (e : Encoding) (i : Input) (facts : InputFacts e i) (bases : BySection 
       let k = unit-taken i bases earlier here home at s u q in
       let own = u .input .encoding in
       let bytes : Bytes (u .bytes) = bytes-left (u .bytes) (drop (length (u .bytes)) s) (subst Bytes (k .rest) h) in
-      let f = unit-facts own (u .home) (u .input .bytes 3) (u .bytes) (readingOf u) bytes (k .alone) in
+      let f = unit-facts own (u .home) (k .abbreviations) (u .bytes) (readingOf u) bytes (k .alone) in
       let homes : (u .home ≡ 1) ⊎ (u .home ≡ 2) = subst (λ (n : ℕ). (n ≡ 1) ⊎ (n ≡ 2)) (sym (k .section)) t in
       let coded : own ≡ e = ap (λ (j : Input). j .encoding) (k .object) ∙ facts .encoded in
       let four : u .home ≡ 2 → e .version ≡ 5 → ⊥ = λ z. v (sym (k .section) ∙ z) in
       record {
         good = record {
           unit = record {
-            alone = k .alone;
+            place = at;
+            read = read-at i bases earlier (facts .cuRead) here home at s u k;
             tables = f .tables;
             types = subst (λ (l : List ℕ). (u .table ≡ 2) ↔ IsTypeUnit own (u .home) l) (take-length (u .bytes))
-                (type-table own (u .home) homes (λ z y. four z (sym (ap (λ (d : Encoding). d .version) coded) ∙ y)) (u .input .bytes 3) (u .bytes) (readingOf u)
-                (unit-alone own (u .home) (u .input .bytes 3) (u .bytes) (readingOf u) (k .alone)));
+                (type-table own (u .home) homes (λ z y. four z (sym (ap (λ (d : Encoding). d .version) coded) ∙ y)) (k .abbreviations) (u .bytes) (readingOf u)
+                (unit-alone own (u .home) (k .abbreviations) (u .bytes) (readingOf u) (k .alone)));
           };
           small = f .small;
           notZero = f .notZero;
@@ -125,11 +126,11 @@ module _ (e : Encoding) (i : Input) (facts : InputFacts e i) (bases : BySection 
       from : (r : UnitRead) (g : BySection (Option Contribution))
           → (elim (any (isUnder (r .table) (r .identity)) (earlier ++ here)) as (λ z. Check (BySection (Option Contribution))) [
             | true ↦ skipped (r .table)
-            | false ↦ contributionsOf i here home at r
+            | false ↦ contributionsOf i home at r
           ]) ≡ pass g → Contributes e i g
       from r g p = ⊎-elim
           (λ (z : any (isUnder (r .table) (r .identity)) (earlier ++ here) ≡ true). contributes-skipped e i (r .table) g (rw z at p))
-          (λ (z : any (isUnder (r .table) (r .identity)) (earlier ++ here) ≡ false). contributes-filed e i facts here home at r g (rw z at p))
+          (λ (z : any (isUnder (r .table) (r .identity)) (earlier ++ here) ≡ false). contributes-filed e i facts home at r g (rw z at p))
           (known (any (isUnder (r .table) (r .identity)) (earlier ++ here)))
 
   units-from : (home : ℕ) → (home ≡ 1) ⊎ (home ≡ 2) → (home ≡ 2 → e .version ≡ 5 → ⊥) → (k : ℕ) (here : List Filed) (at : ℕ) (s : List ℕ) (us : List Filed)

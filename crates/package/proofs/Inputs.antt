@@ -21,7 +21,7 @@ use Rattle.bundle.specs.Bundle.{Part, Object, partsOf, count, firstPart, body}
 use Rattle.bundle.specs.Encoding.{Encoding, encodingOf, encodingGood}
 use Rattle.bundle.specs.Written.{Section}
 use Rattle.strings.specs.Strings.{headerSize, headerTrue, entriesIn, entriesOf, stringsAt}
-use Rattle.index.specs.Index.{Index}
+use Rattle.index.specs.Index.{Index, indexOf}
 use Rattle.index.specs.Rows.{BySection}
 use Rattle.index.proofs.Contributions.{all-has}
 use Rattle.package.specs.Input.{Input, present, repeated, wrongEdition, onlyOnce, editionGood, complete, usedStrings, inputIndex, unitSections, inputOf}
@@ -147,6 +147,10 @@ unfolding inputIndex
 no-index e ps bytes c o t q = sym (pass-inj (rw (inputIndex, t) at q))
 
 -- ---- all of it
+-- an index that was read from some bytes
+abbrev pub IndexRead : Index → Type 0
+IndexRead x = (big : Bool) × (s : List ℕ) × (indexOf big s ≡ pass x)
+
 pub record InputFacts (e : Encoding) (i : Input) : Type 0 where
   pub encoded : i .encoding ≡ e
   pub good : encodingGood e ≡ true
@@ -154,6 +158,7 @@ pub record InputFacts (e : Encoding) (i : Input) : Type 0 where
   -- sections of the wrong edition are empty, and version 5 has no indexes
   pub edition : (c : ℕ) → has (wrongEdition e) c ≡ true → i .bytes c ≡ []
   pub indexes : (table : ℕ) (x : Index) → indexFor i table ≡ some x → e .version ≡ 5 → ⊥
+  pub cuRead : (x : Index) → i .cuIndex ≡ some x → IndexRead x
   pub sections : Every (UnitSection e) (i .units)
   pub strings : StringFacts e (i .bytes 6) (i .bytes 11) (i .used)
 
@@ -167,6 +172,20 @@ no-indexes cu tu table x p q h = ⊎-elim
     (λ (t : eqb table 1 ≡ false). some-none (sym (rw t at h) ∙ q))
     (known (eqb table 1))
 
+some-inj : {A : Type 0} {a b : A} → some a ≡ some b → a ≡ b
+some-inj e = cc
+
+pub index-read : (e : Encoding) (ps : List Part) (bytes : BySection (List ℕ)) (c : ℕ) (o : Option Index) → inputIndex e ps bytes c ≡ pass o
+    → (x : Index) → o ≡ some x → IndexRead x
+unfolding inputIndex
+index-read e ps bytes c o q x h = ⊎-elim
+    (λ (t : present ps c ≡ true).
+    let r = bind-pass (indexOf (e .big) (bytes c)) _ o (rw (inputIndex, t) at q) in
+    let v = require-pass (eqb (r .0 .version) 2) 10 _ o (r .2) in
+    (e .big, bytes c, r .1 ∙ ap pass (some-inj (pass-inj (v .1) ∙ h))))
+    (λ (t : present ps c ≡ false). some-none (sym h ∙ sym (pass-inj (rw (inputIndex, t) at q))))
+    (known (present ps c))
+
 made : (b : List ℕ) (e : Encoding) (ps : List Part) (used : List (List ℕ)) (cu tu : Option Index) → Bytes b → encodingGood e ≡ true → editionGood e ps ≡ true
     → usedStrings e ps (body b ps) ≡ pass used → inputIndex e ps (body b ps) 12 ≡ pass cu → inputIndex e ps (body b ps) 13 ≡ pass tu
     → InputFacts e (record { encoding = e; bytes = body b ps; units = unitSections b ps; used = used; cuIndex = cu; tuIndex = tu })
@@ -179,6 +198,7 @@ made b e ps used cu tu h g d u c t = record {
   indexes = λ table x q v. no-indexes cu tu table x
       (no-index e ps (body b ps) 12 cu (no-wrong-edition e ps 12 d (wrong-five e 12 v refl)) c)
       (no-index e ps (body b ps) 13 tu (no-wrong-edition e ps 13 d (wrong-five e 13 v refl)) t) q;
+  cuRead = index-read e ps (body b ps) 12 cu c;
   sections = unit-sections b e ps h d;
   strings = used-facts e b ps used u;
 }

@@ -1,22 +1,22 @@
 -- Unit by unit: each is read (11 to 13) and filed (14 to 16) before the next one, object by object.
 -- Assumes nothing.
-use mathlib.Core.Bool.{Bool, true, false, _&&_}
-use mathlib.Core.List.{List, [], _∷_, _++_, map}
+use mathlib.Core.Bool.{Bool, true, false, not, _&&_}
+use mathlib.Core.List.{List, [], _∷_, _++_}
 use mathlib.Core.Option.{Option, some, none}
 use Prim.Native.Nat.{ℕ, zero, suc, _+_}
 use lib.Dec.{eqb}
 use lib.ListN.{length, take, drop}
+use Rattle.numbers.specs.Sections.{infoCode, abbrevCode}
 use Rattle.octets.specs.Octets.{part}
-use Rattle.octets.specs.Lists.{any, those, sum}
+use Rattle.octets.specs.Lists.{any}
 use Rattle.octets.specs.Checked.{Check, pass, refuse, _>>=_, require}
 use Rattle.bundle.specs.Bundle.{Object, Bundle}
 use Rattle.bundle.specs.Encoding.{Encoding}
 use Rattle.bundle.specs.Written.{Section}
-use Rattle.unit.specs.UnitRead.{UnitRead, unitOf}
+use Rattle.unit.specs.UnitRead.{UnitRead, isFive, unitBy}
 use Rattle.strings.specs.Strings.{entriesIn, stringsAt}
 use Rattle.index.specs.Index.{Index, Contribution}
-use Rattle.index.specs.Rows.{BySection, rowContributions, wholeContributions}
-use Rattle.index.specs.Written.{sizeOf}
+use Rattle.index.specs.Rows.{BySection, rowContributions, wholeContributions, naming, theOne, abbrevPart}
 use Rattle.package.specs.Input.{Input, inputOf}
 
 -- a unit handed in
@@ -39,18 +39,26 @@ isUnder table identity u = eqb (u .table) table && eqb (u .identity) identity
 unfoldable pub indexFor : Input → ℕ → Option Index
 indexFor i table = elim (eqb table 1) [ true ↦ i .cuIndex | false ↦ i .tuIndex ]
 
--- "the sum of the sizes of earlier kept units of the same table in this object"; a skipped unit has none
-unfoldable pub sums : List Filed → ℕ → BySection ℕ
-sums here table c = sum (map (λ u. sizeOf (u .contributions c)) (those (λ u. eqb (u .table) table) here))
-
 unfoldable pub lengths : Input → BySection ℕ
 lengths i c = length (i .bytes c)
 
+-- Ticket 1: "For a compilation unit of a version 4 object with cu_index, first find the one row"; 15 and 16 here come before 12
+unfoldable pub indexByPlace : Input → ℕ → Option Index
+indexByPlace i home = elim (not (isFive (i .encoding)) && eqb home infoCode) [ true ↦ i .cuIndex | false ↦ none ]
+
+-- the bytes in which the abbreviation table of a unit of this size at a place is read: that row's abbrev part, else the object's whole section
+unfoldable pub abbreviationsFor : Input → ℕ → ℕ → ℕ → Check (List ℕ)
+abbreviationsFor i home at size =
+    elim (indexByPlace i home) [
+      | some x ↦ theOne (naming x at size) >>= λ row. abbrevPart x row (i .bytes abbrevCode)
+      | none ↦ pass (i .bytes abbrevCode)
+    ]
+
 -- 15 and 16, of a unit at a place of the section home
-unfoldable pub contributionsOf : Input → List Filed → ℕ → ℕ → UnitRead → Check (BySection (Option Contribution))
-contributionsOf i here home at u =
+unfoldable pub contributionsOf : Input → ℕ → ℕ → UnitRead → Check (BySection (Option Contribution))
+contributionsOf i home at u =
     elim (indexFor i (u .table)) [
-      | some x ↦ rowContributions x (i .encoding .width) (lengths i) (sums here (u .table)) (u .identity) home at (u .size)
+      | some x ↦ rowContributions x (i .encoding .width) (lengths i) (u .identity) home at (u .size)
       | none ↦ pass (wholeContributions (lengths i))
     ]
 
@@ -61,10 +69,10 @@ skipped table = elim (eqb table 1) [ true ↦ refuse 14 | false ↦ pass (λ c. 
 -- the unit at the front of s, which starts at a place of the section home; earlier objects' units and here this object's are filed
 unfoldable pub unitAt : Input → BySection ℕ → List Filed → List Filed → ℕ → ℕ → List ℕ → Check Filed
 unitAt i bases earlier here home at s = do
-  u ← unitOf (i .encoding) home (i .bytes 3) s
+  u ← unitBy (i .encoding) home (abbreviationsFor i home at) s
   contributions ← elim (any (isUnder (u .table) (u .identity)) (earlier ++ here)) [
     | true ↦ skipped (u .table)
-    | false ↦ contributionsOf i here home at u
+    | false ↦ contributionsOf i home at u
   ]
   pass
       (record {

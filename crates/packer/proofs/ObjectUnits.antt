@@ -22,10 +22,10 @@ use Rattle.filing.specs.Answers.{AtUnit, UnitsAre}
 use Rattle.filing.specs.Asked.{ObjectAsked, ObjectAnswered}
 use Rattle.filing.proofs.Entering.{held-grown}
 use Rattle.packer.specs.declared.objects.UnitsAdded.{UnitsAdded}
-use Rattle.packer.specs.Objects.{sectionsFrom, behindFrom, noSums, InputReady, UnitsAsked, UnitsAddedIs}
+use Rattle.packer.specs.Objects.{sectionsFrom, behindFrom, InputReady, UnitsAsked, UnitsAddedIs}
 
 -- what `add_sections` requires
-pub sections-asked : (b : List ℕ) (x : InputObject) (from : ℕ) (st : InProgress) (w : List ℕ) → UnitsAsked b x from st w → ObjectAsked b x from st noSums w
+pub sections-asked : (b : List ℕ) (x : InputObject) (from : ℕ) (st : InProgress) (w : List ℕ) → UnitsAsked b x from st w → ObjectAsked b x from st w
 sections-asked b x from st w u = record {
   reaches = u .ahead .reaches;
   within = u .ahead .within;
@@ -37,7 +37,7 @@ size-is : (b : List ℕ) (x : InputObject) (i : Input) → InputIs b x i → (c 
 unfolding sectionOf
 size-is b x i k c h = sym (ap length (k .bytes c h) ∙ length-part b (getD (x .start) c 0) (getD (x .size) c 0) (k .within c))
 
-module _ (b : List ℕ) (x : InputObject) (from : ℕ) (w v : List ℕ) (st : InProgress) (r : UnitsFiled) (added : ObjectAnswered b x from st noSums w v r) where
+module _ (b : List ℕ) (x : InputObject) (from : ℕ) (w v : List ℕ) (st : InProgress) (r : UnitsFiled) (added : ObjectAnswered b x from st w v r) where
   module _ (i : Input) (bases : BySection ℕ) (us : List Filed) (k : InputReady b x i from w st bases us) where
     abbrev found : Check (List Filed)
     found = unitsIn i bases us [] (i .units)
@@ -58,12 +58,12 @@ module _ (b : List ℕ) (x : InputObject) (from : ℕ) (w v : List ℕ) (st : In
         go (refuse m) f = q ∙ f
 
     -- all are filed
-    filed-all : r .code ≡ 0 → (here : List Filed) × (found ≡ pass here) × AtUnit b x i (behindFrom b from) v (r .st) (r .sums) bases us here × StringsKept (wordsIn b) w v st (r .st)
+    filed-all : r .code ≡ 0 → (here : List Filed) × (found ≡ pass here) × AtUnit b x i (behindFrom b from) v (r .st) bases us here × StringsKept (wordsIn b) w v st (r .st)
     unfolding UnitsAre
     filed-all z = go _ refl answered
       where
         go : (m : Check (List Filed)) → found ≡ m → UnitsAre b x i (behindFrom b from) w v st bases us m r
-            → (here : List Filed) × (found ≡ pass here) × AtUnit b x i (behindFrom b from) v (r .st) (r .sums) bases us here × StringsKept (wordsIn b) w v st (r .st)
+            → (here : List Filed) × (found ≡ pass here) × AtUnit b x i (behindFrom b from) v (r .st) bases us here × StringsKept (wordsIn b) w v st (r .st)
         go (pass here) e f = (here, e, f .1, f .2)
         go (refuse m) e f = absurd (let g = sections-numbered i bases us [] (i .units) .is m e in let y : m ≡ 0 = sym f ∙ z in omega arith)
 

@@ -5,11 +5,9 @@ use mathlib.Core.Bool.{Bool}
 use mathlib.Core.List.{List, [], _∷_, _++_}
 use Prim.Native.Nat.{ℕ, _+_, _*_, _≤_}
 use native.Mathlib.Omega.{arith}
-use lib.ListN.{length, drop, getD, length-append}
-use Rattle.octets.specs.Octets.{zeros}
+use lib.ListN.{length, drop, length-append}
 use Rattle.octets.specs.Checked.{Check, pass, refuse}
 use Rattle.octets.proofs.Parts.{length-part}
-use Rattle.octets.proofs.Placed.{getD-zeros}
 use Rattle.bundle.specs.Bundle.{Part, Item, Object, items, leading, body}
 use Rattle.bundle.specs.Encoding.{Encoding, encodingOf}
 use Rattle.bundle.specs.Encoded.{encodingIs}
@@ -38,11 +36,11 @@ use Rattle.filing.specs.State.{wordsIn, withStrings, StringsKept, OnlyStrings}
 use Rattle.filing.specs.Answers.{AtUnit}
 use Rattle.filing.specs.ByObject.{stringsCheck, StringsIn, AtObject, InputRoom, InputRead, InputAsked, InputAnswered}
 use Rattle.filing.proofs.Growing.{input-room}
-use Rattle.filing.proofs.Entering.{five-is, none-summed, object-enter}
+use Rattle.filing.proofs.Entering.{five-is, object-enter}
 use Rattle.filing.proofs.Snoc.{used-snoc, strings-stay, check-few}
 use Rattle.packer.specs.declared.objects.UnitsAdded.{UnitsAdded}
 use Rattle.packer.specs.declared.objects.ObjectFiled.{ObjectFiled}
-use Rattle.packer.specs.Objects.{sectionsFrom, behindFrom, Ahead, noSums, InputReady, UnitsAddedIs, UnitsAnswered, UnitsThen, ObjectIs}
+use Rattle.packer.specs.Objects.{sectionsFrom, behindFrom, Ahead, InputReady, UnitsAddedIs, UnitsAnswered, UnitsThen, ObjectIs}
 
 -- ---- an object that passed
 pub record ObjectParts (b : List ℕ) (e : Encoding) (ps : List Part) (i : Input) : Type 0 where
@@ -65,10 +63,6 @@ used-behind e ok there o s is i from place n q h g l =
     let f = check-few e there o s (i .used) q in
     let r = strings-room e o 0 (length (allUsed is)) from n ok (omega arith) h (omega arith) in
     omega (arith, a, f, r .1)
-
-none-at : (c : ℕ) → getD (noSums .cu) c 0 ≡ 0
-unfolding zeros
-none-at c = getD-zeros 14 c
 
 -- ---- its sections
 module _ (b : List ℕ) (from : ℕ) (h : Ahead b from) where
@@ -154,8 +148,8 @@ module _ (b : List ℕ) (from : ℕ) (h : Ahead b from) where
             go : (m : Check Input) → checked ≡ m → InputRead b v st (stringTable is) m r → ObjectRead
             go (pass i) e f =
                 let p = object-parts b big first (record { word = word; parts = sectionsFrom b from }) i e in
-                let at : AtUnit b (r .input) i from v (withStrings st (r .st .strings)) noSums bases us [] =
-                object-enter b big first from w v st (r .st .strings) bases is us (r .input) i noSums from a frame (f .1) (f .1 .encoding ∙ p .encoding) (none-summed noSums none-at none-at) (omega arith) (h .within) in
+                let at : AtUnit b (r .input) i from v (withStrings st (r .st .strings)) bases us [] =
+                object-enter b big first from w v st (r .st .strings) bases is us (r .input) i from a frame (f .1) (f .1 .encoding ∙ p .encoding) (omega arith) (h .within) in
                 record {
                   i = i;
                   is-checked = e;
@@ -163,7 +157,7 @@ module _ (b : List ℕ) (from : ℕ) (h : Ahead b from) where
                   input = f .1;
                   strings = f .3;
                   ready = record {
-                    atUnit = subst (λ (s : InProgress). AtUnit b (r .input) i from v s noSums bases us []) (sym (f .2)) at;
+                    atUnit = subst (λ (s : InProgress). AtUnit b (r .input) i from v s bases us []) (sym (f .2)) at;
                     units = p .units;
                     sizes = λ c. subst (λ (s : List ℕ). from + length s ≤ behindFrom b from) (sym (p .bytes c)) (sizes-behind c);
                   };

@@ -21,7 +21,6 @@ use Rattle.filing.specs.declared.input.InputObject.{InputObject}
 use Rattle.filing.specs.State.{wordsIn, StringsKept}
 use Rattle.filing.specs.Answers.{AtUnit}
 use Rattle.filing.specs.ByObject.{AtObject}
-use Rattle.filing.specs.declared.state.Sums.{Sums}
 use Rattle.finish.specs.Finish.{AllFiled}
 use Rattle.packer.specs.declared.objects.ObjectHead.{ObjectHead}
 use Rattle.packer.specs.declared.objects.UnitsAdded.{UnitsAdded}
@@ -47,13 +46,9 @@ pub record Ahead (b : List ℕ) (from : ℕ) : Type 0 where
 abbrev pub noSizes : List ℕ
 noSizes = 0 ∷ 0 ∷ 0 ∷ 0 ∷ 0 ∷ 0 ∷ 0 ∷ 0 ∷ 0 ∷ 0 ∷ 0 ∷ 0 ∷ 0 ∷ 0 ∷ []
 
--- no unit of the object is filed
-abbrev pub noSums : Sums
-noSums = record { cu = noSizes; tu = noSizes }
-
 -- an object is read, and no unit of it is filed; its sections start at a place
 pub record InputReady (b : List ℕ) (x : InputObject) (i : Input) (from : ℕ) (w : List ℕ) (st : InProgress) (bases : BySection ℕ) (us : List Filed) : Type 0 where
-  pub atUnit : AtUnit b x i from w st noSums bases us []
+  pub atUnit : AtUnit b x i from w st bases us []
   pub units : i .units ≡ unitSections b (sectionsFrom b from)
   pub sizes : (c : ℕ) → from + length (i .bytes c) ≤ behindFrom b from
 

@@ -15,7 +15,6 @@ ghost use Rattle.packer.specs.Objects.{
 };
 use bundle::Item;
 use filing::input::InputObject;
-use filing::state::Sums;
 use index::cells::COLUMNS;
 use kept::Table;
 use kept::Units;
@@ -73,11 +72,7 @@ fn add_object_units(
     requires { ⌜ UnitsAsked (now b) x from st (now work) ⌝ }
     ensures { λ r. ⌜ UnitsAnswered (now (b .entry)) x from st (now (work .entry)) (now (work .exit)) r ⌝ }
 {
-    let none = Sums {
-        cu: [0; CODES],
-        tu: [0; CODES],
-    };
-    let filed = filing::walks::add_sections(b, x, from, st, none, work);
+    let filed = filing::walks::add_sections(b, x, from, st, work);
     let known = filed.st;
     let code = filed.code;
     if code != 0 {

@@ -175,7 +175,13 @@ module _ (e : Encoding) (home : ℕ) (homes : (home ≡ 1) ⊎ (home ≡ 2)) (fo
       (λ (t : isFive e ≡ false). four-table abbreviations (eqb-false (e .version) 5 t) (rw (identityOf, t) at q))
       (known (isFive e))
 
--- of a unit that was read alone
+-- of a unit that was read alone: in version 4 all of info are for the compilation table
+pub info-table : (e : Encoding) (home : ℕ) (abbreviations s : List ℕ) (r : UnitRead) → Alone e home abbreviations s r → isFive e ≡ false → eqb home 1 ≡ true
+    → r .table ≡ 1
+unfolding identityOf identityFour
+info-table e home abbreviations s r a v h =
+    a .headed .table ∙ root-table e _ _ (a .headed .identity) (rw (identityOf, v, identityFour, h) at (a .headed .read))
+
 pub type-table : (e : Encoding) (home : ℕ) → (home ≡ 1) ⊎ (home ≡ 2) → (home ≡ 2 → e .version ≡ 5 → ⊥) → (abbreviations s : List ℕ) (r : UnitRead)
     → Alone e home abbreviations s r → (r .table ≡ 2) ↔ IsTypeUnit e home (take (r .size) s)
 type-table e home homes four abbreviations s r a =

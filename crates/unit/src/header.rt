@@ -421,7 +421,7 @@ pub fn read_unit(
     }
 }
 
-fn with_size(size: usize, answer: IdentityAnswer) -> UnitAnswer
+pub fn with_size(size: usize, answer: IdentityAnswer) -> UnitAnswer
     ensures { λ r. ⌜ r ≡ withSize size answer ⌝ }
 {
     match answer {

@@ -1,5 +1,5 @@
--- The regions of work, in words for each word of the bundle: records of kept units 5, strings 3, slots of each table 1, an object's rows by place 1,
--- the codes of an abbreviation table 4. 15 of 16; one is free.
+-- The regions of work, in words for each word of the bundle: records of kept units 5, strings 3, slots of each table 1, an object's rows by place 2,
+-- the codes of an abbreviation table 4: 16 in all.
 -- Assumes nothing.
 use mathlib.Core.Path.{_≡_}
 use mathlib.Core.Bool.{true, false}
@@ -31,10 +31,10 @@ unfoldable pub slotsRegion : ℕ → Layout
 slotsRegion table = elim (eqb table compilationTable) [ true ↦ compilationSlots | false ↦ typeSlots ]
 
 abbrev pub rowsRegion : Layout
-rowsRegion = record { start = 10; words = 1 }
+rowsRegion = record { start = 10; words = 2 }
 
 abbrev pub codesRegion : Layout
-codesRegion = record { start = 11; words = 4 }
+codesRegion = record { start = 12; words = 4 }
 
 -- a record's words, and the least words of the bundle that a unit takes
 abbrev pub recordWords : ℕ

@@ -24,7 +24,7 @@ const STRINGS: usize = 3;
 
 const SLOTS: usize = 1;
 
-const ROWS: usize = 1;
+const ROWS: usize = 2;
 
 const CODES: usize = 4;
 
@@ -85,7 +85,8 @@ pub fn slots(n: usize, table: usize) -> Region
     }
 }
 
-// The rows of an object's index by the place of their unit; what stands there counts for that object alone.
+// The rows of an object's index by the place of their unit: a word for each word of a section, and one for each row. What stands there counts for that
+// object alone.
 pub fn rows_by_place(n: usize) -> Region
     requires { ⌜ n < 2 ^ 32 ⌝ }
     ensures start { λ r. ⌜ r .start ≡ rowsRegion .start * n ⌝ }

@@ -8,8 +8,10 @@ mod honest;
 mod inputs;
 mod large;
 mod objects;
+mod parts;
 mod questions;
 mod random;
+mod rows;
 mod spoil;
 
 pub use damage::damage;
@@ -19,6 +21,7 @@ pub use large::{long_line, many_units, strings_of, suffixes, units_of};
 pub use objects::{good, Draft, DraftObject};
 pub use questions::{question, Question};
 pub use random::Random;
+pub use rows::{reversed_rows, rows_beside_one_place, rows_of_one_place};
 pub use spoil::damaged_call;
 
 /// What packing is asked: the bundle, the words of work, the bytes of output.

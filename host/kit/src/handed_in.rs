@@ -1,12 +1,39 @@
 //! What a bundle hands in, read from the bundle alone: its units in order, each with its bytes, its parts and its strings.
 
 use crate::reference::{header_size, number, read_unit, string_at, Bundle, Encoding, Index, Object, Probe, Table};
-use std::collections::HashSet;
+use std::collections::{HashMap, HashSet};
+use std::rc::Rc;
 
+const INFO: u32 = 1;
 const ABBREV: u32 = 3;
 const STR_OFFSETS: u32 = 6;
 const STR: u32 = 11;
 const CU_INDEX: u32 = 12;
+const TU_INDEX: u32 = 13;
+
+/// The index of a table, and its rows by the place that their info cells name.
+struct Rows {
+    index: Index,
+    places: HashMap<(u64, u64), u64>,
+}
+
+impl Rows {
+    fn of(object: &Object, code: u32, big: bool) -> Option<Rc<Rows>> {
+        let index = Index::read(object.section(code)?.bytes, big).expect("an index");
+        let place = |row| index.cell(row, INFO).map(|place| (place, row));
+        let places = (1..=index.units).filter_map(place).collect();
+        Some(Rc::new(Rows { index, places }))
+    }
+
+    /// The part that a row names of an object's section, empty where the section is.
+    fn part<'b>(&self, row: u64, whole: &'b [u8], code: u32) -> &'b [u8] {
+        if whole.is_empty() {
+            return whole;
+        }
+        let (offset, size) = self.index.cell(row, code).expect("a column");
+        &whole[offset as usize..][..size as usize]
+    }
+}
 
 /// A unit where it stands in its object.
 pub struct HandedIn<'b> {
@@ -16,24 +43,62 @@ pub struct HandedIn<'b> {
     /// The code of its section: 1 info, 2 types.
     pub section: u32,
     pub bytes: &'b [u8],
+    /// Its object's number, counted from 0.
+    pub nth: usize,
     object: &'b Object<'b>,
     encoding: Encoding,
+    /// The index of its table, where its object has one.
+    rows: Option<Rc<Rows>>,
+}
+
+/// An object while its units are read.
+struct Reader<'b> {
+    nth: usize,
+    object: &'b Object<'b>,
+    encoding: Encoding,
+    compilations: Option<Rc<Rows>>,
+    types: Option<Rc<Rows>>,
+}
+
+impl<'b> Reader<'b> {
+    fn of(bundle: &Bundle, nth: usize, object: &'b Object<'b>) -> Reader<'b> {
+        let encoding = Encoding::of(bundle.big, object.word);
+        let rows = |code| Rows::of(object, code, bundle.big);
+        Reader { nth, object, encoding, compilations: rows(CU_INDEX), types: rows(TU_INDEX) }
+    }
+
+    /// The abbreviations of a compilation unit of version 4: the part that the row of its place names, else the whole section.
+    fn abbrev(&self, at: usize, size: usize) -> &'b [u8] {
+        let whole = self.object.bytes(ABBREV);
+        let Some(rows) = &self.compilations else { return whole };
+        let row = rows.places.get(&(at as u64, size as u64)).expect("a row that names the unit's place");
+        rows.part(*row, whole, ABBREV)
+    }
+
+    /// The unit at a place of a section.
+    fn unit(&self, section: u32, bytes: &'b [u8], at: usize) -> HandedIn<'b> {
+        let Reader { nth, object, encoding, .. } = *self;
+        let unit = read_unit(section, &bytes[at..], |size| Ok(self.abbrev(at, size)), encoding).expect("a unit");
+        let (table, rows) = match unit.table {
+            Table::Compilation => (1, self.compilations.clone()),
+            Table::Type => (2, self.types.clone()),
+        };
+        let bytes = &bytes[at..at + unit.size];
+        HandedIn { table, identity: unit.identity, section, bytes, nth, object, encoding, rows }
+    }
 }
 
 /// All units of a bundle that packing accepts, in the order in which they stand.
 pub fn all<'b>(bundle: &'b Bundle<'b>) -> Vec<HandedIn<'b>> {
     let mut units = Vec::new();
-    for object in &bundle.objects {
-        let encoding = Encoding::of(bundle.big, object.word);
+    for (nth, object) in bundle.objects.iter().enumerate() {
+        let reader = Reader::of(bundle, nth, object);
         for section in object.sections.iter().filter(|s| s.code <= 2) {
-            let mut rest = section.bytes;
-            while !rest.is_empty() {
-                let unit = read_unit(section.code, rest, object.bytes(ABBREV), encoding).expect("a unit");
-                let (bytes, behind) = rest.split_at(unit.size);
-                let table = if unit.table == Table::Compilation { 1 } else { 2 };
-                let identity = unit.identity;
-                units.push(HandedIn { table, identity, section: section.code, bytes, object, encoding });
-                rest = behind;
+            let mut at = 0;
+            while at < section.bytes.len() {
+                let unit = reader.unit(section.code, section.bytes, at);
+                at += unit.bytes.len();
+                units.push(unit);
             }
         }
     }
@@ -61,14 +126,29 @@ impl<'b> HandedIn<'b> {
     /// Its object's whole section, or what its row says where the object is a package.
     fn contribution(&self, code: u32) -> &'b [u8] {
         let whole = self.object.bytes(code);
-        let Some(index) = self.object.section(CU_INDEX - 1 + self.table) else { return whole };
-        if whole.is_empty() {
-            return whole;
+        match &self.rows {
+            Some(rows) => rows.part(self.row(rows), whole, code),
+            None => whole,
         }
-        let index = Index::read(index.bytes, self.encoding.big).expect("an index");
-        let Probe::Row(row, _) = index.probe(self.identity) else { panic!("no row") };
-        let (offset, size) = index.cell(row, code).expect("a column");
-        &whole[offset as usize..][..size as usize]
+    }
+
+    /// The row where the search for its identity ends.
+    fn row(&self, rows: &Rows) -> u64 {
+        let Probe::Row(row, _) = rows.index.probe(self.identity) else { panic!("no row") };
+        row
+    }
+
+    /// Offset and size of its part of a shared section in its object, where the object has an index for its table and the section isn't
+    /// empty.
+    pub fn cell(&self, code: u32) -> Option<(u64, u64)> {
+        let rows = self.rows.as_ref().filter(|_| !self.object.bytes(code).is_empty())?;
+        rows.index.cell(self.row(rows), code)
+    }
+
+    /// Whether reading its abbreviations at the header's offset in the whole section, as thorin does, gives the same identity.
+    pub fn is_the_same_by_the_whole_abbrev(&self) -> bool {
+        let whole = read_unit(self.section, self.bytes, |_| Ok(self.object.bytes(ABBREV)), self.encoding);
+        whole.is_ok_and(|unit| unit.identity == self.identity)
     }
 
     /// The strings that the entries of its part of str_offsets name.

@@ -8,7 +8,7 @@ use kit::generate::{call, question, Random};
 use kit::reference::{self, Found, Packed};
 
 /// Refusals whose cause is always found; the others have a place alone, or a cause now and then.
-const WITH_CAUSE: [u32; 11] = [4, 5, 6, 7, 8, 9, 10, 11, 12, 14, 15];
+const WITH_CAUSE: [u32; 12] = [4, 5, 6, 7, 8, 9, 10, 11, 12, 14, 15, 16];
 
 #[test]
 fn every_refusal_of_packing_has_words_and_a_place() {
@@ -45,7 +45,7 @@ fn bundles_are_read_as_the_reference_reads_them() {
 fn every_refusal_of_a_lookup_has_words_and_a_cause() {
     let mut random = Random::new(42);
     let mut counts = [0; 27];
-    for _ in 0..30_000 {
+    for _ in 0..40_000 {
         let c = call(&mut random);
         let Packed::Made(package) = reference::pack(&c.bundle, c.work, c.output) else { continue };
         let q = question(&mut random, &package);

@@ -3,7 +3,8 @@
 //! is found, and nothing else.
 
 use kit::claim::Claim;
-use kit::generate::{call, long_line, many_units, strings_of, suffixes, Call, Random};
+use kit::generate::{call, long_line, many_units, reversed_rows, rows_beside_one_place, rows_of_one_place};
+use kit::generate::{strings_of, suffixes, Call, Random};
 use kit::lender::{Lender, Written};
 use kit::reference::{self, Packed, LONGEST_BUNDLE};
 use kit::vectors::{parse_all, words, Vector};
@@ -109,7 +110,7 @@ fn replay(text: &str, lines: usize) {
 
 #[test]
 fn vectors() {
-    replay(include_str!("vectors/pack.txt"), 600);
+    replay(include_str!("vectors/pack-t01.txt"), 375);
 }
 
 #[test]
@@ -325,4 +326,16 @@ fn as_many_units_as_can_be() {
         checks.pack(&bundle, needed(&bundle), 1 << 24);
     }
     assert_eq!((checks.counts.0[0], checks.counts.0[19]), (1, 1));
+}
+
+/// Packages as input with many rows: all naming one place, all but one beside it, and in the reverse order of their units.
+#[test]
+fn many_rows() {
+    let mut checks = Checks::new(30);
+    for rows in [1, 2, 3, 10, 1_000, 2_000] {
+        for bundle in [rows_of_one_place(rows), rows_beside_one_place(rows), reversed_rows(rows)] {
+            checks.pack(&bundle, needed(&bundle), 1 << 20);
+        }
+    }
+    assert_eq!((checks.counts.0[0], checks.counts.0[15]), (13, 5));
 }

@@ -31,13 +31,23 @@ impl Asked<'_> {
     }
 }
 
-/// The part of an object's section that a kept unit contributes.
+/// The part of an object's section that a kept unit contributes: its row's, or all of it without an index.
 fn contribution<'a>(object: &Object<'a>, index: Option<&Index>, identity: u64, code: u32) -> &'a [u8] {
     let bytes = object.bytes(code);
     let Some(index) = index.filter(|_| !bytes.is_empty()) else { return bytes };
     let Probe::Row(row, _) = index.probe(identity) else { panic!("no row") };
     let (offset, size) = index.cell(row, code).expect("a column");
     &bytes[offset as usize..(offset + size) as usize]
+}
+
+/// The abbreviations of a compilation unit at a place of info.
+fn abbrev<'a>(object: &Object<'a>, encoding: Encoding, at: usize, size: usize) -> &'a [u8] {
+    let whole = object.bytes(3);
+    let index = object.section(12).and_then(|s| Index::read(s.bytes, encoding.big));
+    let Some(index) = index.filter(|_| !whole.is_empty()) else { return whole };
+    let row = index.row_at(1, at, size).expect("a row that names the place");
+    let (offset, size) = index.cell(row, 3).expect("a column");
+    &whole[offset as usize..(offset + size) as usize]
 }
 
 fn check_unit(asked: &Asked, object: &Object, encoding: Encoding, section: u32, bytes: &[u8], index: Option<&Index>) {
@@ -73,7 +83,8 @@ fn check_section(
     let version = if encoding.version == 5 { 5 } else { 2 };
     let mut at = 0;
     while at < bytes.len() {
-        let unit: Unit = read_unit(section, &bytes[at..], object.bytes(3), encoding).expect("a unit");
+        let unit: Unit =
+            read_unit(section, &bytes[at..], |size| Ok(abbrev(object, encoding, at, size)), encoding).expect("a unit");
         let table = if unit.table == Table::Compilation { 1 } else { 2 };
         let index = object.section(11 + table).and_then(|s| Index::read(s.bytes, encoding.big));
         let asked = Asked { package, version, table, identity: unit.identity };

@@ -24,13 +24,15 @@ fn agrees(vector: &Vector) -> Result<(), String> {
 fn check(text: &str, lines: usize) {
     let vectors = parse_all(text).expect("a line that is no vector");
     assert_eq!(vectors.len(), lines);
-    let wrong: Vec<String> = vectors.iter().filter_map(|v| agrees(v).err()).collect();
-    assert!(wrong.is_empty(), "{} of {lines} differ; the first: {}", wrong.len(), wrong[0]);
+    let fault = |(v, number): (&Vector, usize)| agrees(v).err().map(|fault| (number, fault));
+    let wrong: Vec<(usize, String)> = vectors.iter().zip(1..).filter_map(fault).collect();
+    let numbers: Vec<usize> = wrong.iter().map(|(number, _)| *number).collect();
+    assert!(wrong.is_empty(), "of {lines} these differ: {numbers:?}; the first: {}", wrong[0].1);
 }
 
 #[test]
 fn pack_vectors() {
-    check(include_str!("vectors/pack.txt"), 600);
+    check(include_str!("vectors/pack-t01.txt"), 375);
 }
 
 #[test]

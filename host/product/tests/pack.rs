@@ -201,8 +201,14 @@ fn refuses_packages_as_input_with_the_cause() {
         &changed("B1001101", "B1001201"),
         &format!("{twelve}: the root's tag is 0x12, neither a compilation unit nor a type unit"),
     );
-    let ends = "its table at byte 0 of abbrev: the declaration of code 1 is ill-formed or doesn't end";
+    let ends = "its table at byte 0 of its part of abbrev: the declaration of code 1 is ill-formed or doesn't end";
     refused(&home, &changed("742 0", "10742 1"), &format!("{twelve}: {ends}"));
+    let fifteen = "refused 15: the object's index has no row for the unit or several, or lacks a column";
+    let no_row = format!("{fifteen}: {unit}: no row of cu_index names its place, 20 bytes at 0 of info");
+    refused(&home, &changed("0 0 14 9", "0 0 13 9"), &no_row);
+    let sixteen = "refused 16: the row of the unit in the object's index doesn't fit";
+    let outside = format!("{sixteen}: {unit}: row 1 of cu_index names 10 bytes at 0 of abbrev, which has 9");
+    refused(&home, &changed("0 0 14 9", "0 0 14 A"), &outside);
 }
 
 #[test]

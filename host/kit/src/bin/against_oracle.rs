@@ -3,17 +3,20 @@
 //!     against_oracle ORACLE NUMBER [SEED]
 //!     against_oracle ORACLE --sample NUMBER FILE [SEED]
 //!
-//! ORACLE is a program that packs bundles with thorin (see `kit::oracle`). NUMBER accepted bundles are compared byte for
-//! byte, and none may differ: docs/DIFFERENCES.md names no difference but refusals. For each refusal it is counted what thorin
-//! did; the numbers are compared with the reference's, and where docs/DIFFERENCES.md saw thorin pack nothing, it may not pack.
+//! ORACLE is a program that packs bundles with thorin (see `kit::oracle`). NUMBER accepted bundles are compared. Where thorin is the measure
+//! (`kit::measured` has the test) its package is compared byte for byte; the others, packages as input whose rows are out of step or whose
+//! abbreviations the whole section gives otherwise, are compared with the reference alone. It says how many were of each kind, and none may
+//! differ: docs/DIFFERENCES.md names no other difference but refusals. For each refusal it is counted what thorin did; the numbers are
+//! compared with the reference's, and where docs/DIFFERENCES.md saw thorin pack nothing, it may not pack.
 //! What an accepted bundle hands in is looked up in its package.
 //!
-//! With --sample, NUMBER accepted bundles and a thirtieth as many of each refusal from 4 to 16 are written to FILE with
-//! thorin's answers. There the proved packer has no say: which are accepted, and the numbers, are the reference's.
+//! With --sample, NUMBER accepted bundles of which thorin is the measure and a thirtieth as many of each refusal from 4 to 16 are written to
+//! FILE with thorin's answers. There the proved packer has no say: which are accepted, and the numbers, are the reference's.
 
 use kit::claim::{Claim, Counts};
 use kit::generate::{call, Random};
 use kit::lender::{Lender, Written};
+use kit::measured::{measure, Measure};
 use kit::oracle::Oracle;
 use kit::reference::{pack, Bundle, Packed};
 use kit::sample::Told;
@@ -28,10 +31,12 @@ const ENOUGH: u64 = 1_000;
 /// Few identities that no unit has are asked for, since there are many packages.
 const TURNS: usize = 1;
 
-/// What was seen: how often thorin gave each kind of answer, by document 01's number, 0 for accepted.
+/// What was seen: how often thorin gave each kind of answer, by document 01's number, and for accepted bundles by their measure.
 #[derive(Default)]
 struct Tally {
     counts: BTreeMap<u32, [u64; 3]>,
+    /// The packer's own package, another one, an error, a panic.
+    measures: BTreeMap<&'static str, [u64; 4]>,
     differences: u64,
     smallest: Option<Vec<u8>>,
     /// Accepted bundles of several objects, with an index, and with a type skipped.
@@ -51,6 +56,17 @@ impl Tally {
         self.counts.entry(number).or_default()[usize::from(tag.min(2))] += 1;
     }
 
+    /// What thorin did with an accepted bundle.
+    fn note_accepted(&mut self, by: Measure, package: &[u8], tag: u8, bytes: &[u8]) {
+        let name = match by {
+            Measure::Thorin => "thorin is the measure",
+            Measure::OutOfStep => "rows out of step",
+            Measure::OtherIdentity => "another identity by the whole abbrev",
+        };
+        let other = usize::from(tag.min(2)) + usize::from(tag > 0 || package != bytes);
+        self.measures.entry(name).or_default()[other] += 1;
+    }
+
     /// What kind of accepted bundle it is.
     fn note_kind(&mut self, bundle: &[u8], package: &[u8]) {
         let (Some(bundle), Some(package)) = (Bundle::read(bundle), Bundle::read(package)) else { return };
@@ -68,7 +84,11 @@ impl Tally {
     }
 
     fn print(&self) {
-        println!("number  package    error    panic   (thorin's answers; 0 is accepted)");
+        println!("accepted                                  same    other    error    panic   (thorin's packages)");
+        for (name, [same, other, error, panic]) in &self.measures {
+            println!("{name:37} {same:8} {other:8} {error:8} {panic:8}");
+        }
+        println!("number  package    error    panic   (thorin's answers)");
         for (number, [package, error, panic]) in &self.counts {
             println!("{number:6} {package:8} {error:8} {panic:8}");
         }
@@ -96,13 +116,33 @@ fn never_packed() -> Vec<u32> {
     rows.filter(|cells| cells[1] == 0).map(|cells| cells[0]).collect()
 }
 
-/// Whether the packer's answer is thorin's, or a refusal as the reference has it.
-fn is_right(packing: &Written, bundle: &[u8], tag: u8, bytes: &[u8], never: &[u32]) -> bool {
-    if packing.code == 0 {
-        return tag == 0 && packing.bytes == bytes;
+/// What thorin answered to a bundle.
+struct Thorins<'t> {
+    tag: u8,
+    bytes: &'t [u8],
+}
+
+impl Tally {
+    /// Notes an answer; whether it is thorin's where thorin is the measure, else the reference's.
+    fn judge(&mut self, packing: &Written, bundle: &[u8], thorins: Thorins, never: &[u32]) -> bool {
+        let Thorins { tag, bytes } = thorins;
+        let as_the_reference = || packing.agrees(&pack(bundle, 4 * bundle.len(), usize::MAX));
+        let read = Bundle::read(bundle).filter(|_| packing.code == 0);
+        let Some(read) = read else {
+            self.note(packing.code, tag);
+            return as_the_reference() && !(tag == 0 && never.contains(&packing.code));
+        };
+        // A wrong package may be one of a bundle that has no measure.
+        if !matches!(pack(bundle, 4 * bundle.len(), usize::MAX), Packed::Made(_)) {
+            return false;
+        }
+        let by = measure(&read);
+        self.note_accepted(by, packing.bytes, tag, bytes);
+        match by {
+            Measure::Thorin => tag == 0 && packing.bytes == bytes,
+            _ => as_the_reference(),
+        }
     }
-    let refused = packing.agrees(&pack(bundle, 4 * bundle.len(), usize::MAX));
-    refused && !(tag == 0 && never.contains(&packing.code))
 }
 
 fn compare(oracle: &mut Oracle, wanted: u64, seed: u64) -> Result<(Tally, Counts)> {
@@ -116,8 +156,7 @@ fn compare(oracle: &mut Oracle, wanted: u64, seed: u64) -> Result<(Tally, Counts
         let wrong = |e: String| Error::other(format!("{e}: {}", words(&bundle)));
         let tag = oracle.ask(&bundle, &mut bytes)?;
         let packing = lent.pack_whole(&bundle).map_err(wrong)?;
-        tally.note(packing.code, tag);
-        if !is_right(&packing, &bundle, tag, &bytes, &never) {
+        if !tally.judge(&packing, &bundle, Thorins { tag, bytes: &bytes }, &never) {
             tally.differs(&bundle);
         } else if packing.code == 0 {
             claim.check(&bundle, packing.bytes).map_err(wrong)?;
@@ -130,7 +169,7 @@ fn compare(oracle: &mut Oracle, wanted: u64, seed: u64) -> Result<(Tally, Counts
     Ok((tally, claim.counts))
 }
 
-/// What thorin said of a bundle; none where only the oracle's own reader spoke.
+/// What thorin said of a bundle; none where only the oracle's own reader spoke, or thorin isn't the measure of an accepted bundle.
 fn told(bundle: &[u8], tag: u8, answer: &[u8]) -> Option<Told> {
     let text = String::from_utf8_lossy(answer).replace('\n', " ");
     let thorin = match tag {
@@ -140,8 +179,9 @@ fn told(bundle: &[u8], tag: u8, answer: &[u8]) -> Option<Told> {
         _ => format!("panic {text}"),
     };
     let bundle = bundle.to_vec();
+    let is_measured = || Bundle::read(&bundle).is_some_and(|read| measure(&read) == Measure::Thorin);
     match pack(&bundle, 4 * bundle.len(), usize::MAX) {
-        Packed::Made(_) if tag == 0 => Some(Told::Package { bundle, package: answer.to_vec() }),
+        Packed::Made(_) if tag == 0 && is_measured() => Some(Told::Package { bundle, package: answer.to_vec() }),
         Packed::Refused(number @ 4..=16) => Some(Told::Refused { bundle, number, thorin }),
         _ => None,
     }
@@ -194,7 +234,9 @@ fn main() -> Result<()> {
     println!("{claimed}");
     println!("{:.1} seconds, seed {seed}", start.elapsed().as_secs_f64());
     if tally.differences > 0 {
-        return Err(Error::other("the proved packer differs from thorin, or from the reference where it refuses"));
+        return Err(Error::other(
+            "the proved packer differs from thorin, or from the reference where thorin isn't the measure",
+        ));
     }
     Ok(())
 }

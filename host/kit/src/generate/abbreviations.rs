@@ -3,6 +3,7 @@
 use super::random::Random;
 use crate::reference::put;
 use crate::reference::Encoding;
+use std::ops::Range;
 
 const DATA8: u64 = 0x07;
 const INDIRECT: u64 = 0x16;
@@ -19,10 +20,10 @@ pub struct Root {
     attributes: Vec<(u64, u64)>,
 }
 
-/// An abbrev section, and the roots of its tables with the tables' offsets.
+/// Tables of abbreviations among other bytes, and their roots, each with the place of its table.
 pub struct Abbreviations {
     pub bytes: Vec<u8>,
-    roots: Vec<(usize, Root)>,
+    roots: Vec<(Range<usize>, Root)>,
 }
 
 /// An unsigned LEB128 number, now and then in more bytes than needed, at most `most`.
@@ -54,20 +55,20 @@ impl Abbreviations {
         made
     }
 
-    pub fn any_root(&self, random: &mut Random) -> (usize, &Root) {
-        let (offset, root) = &self.roots[random.below(self.roots.len() as u64) as usize];
-        (*offset, root)
+    pub fn any_root(&self, random: &mut Random) -> (Range<usize>, &Root) {
+        let (table, root) = &self.roots[random.below(self.roots.len() as u64) as usize];
+        (table.clone(), root)
     }
 
     fn add_table(&mut self, random: &mut Random) {
-        let offset = self.bytes.len();
+        let (start, first) = (self.bytes.len(), self.roots.len());
         let mut codes: Vec<u64> = vec![1, 2, 3, 127, 128, 300, u64::MAX];
         random.shuffle(&mut codes);
         for code in &codes[..random.between(1, 3) as usize] {
             let root = Root { code: *code, attributes: any_attributes(random) };
             let tag = random.pick(&[0x11, 0x11, 0x41]);
             self.put_declaration(random, &root, tag);
-            self.roots.push((offset, root));
+            self.roots.push((start..start, root));
         }
         if random.one_in(3) {
             // Not a root: any tag, and forms that nobody has to know.
@@ -77,6 +78,8 @@ impl Abbreviations {
             self.put_declaration(random, &other, tag);
         }
         put_leb128(random, &mut self.bytes, 0, 10);
+        let end = self.bytes.len();
+        self.roots[first..].iter_mut().for_each(|(table, _)| table.end = end);
     }
 
     fn put_declaration(&mut self, random: &mut Random, root: &Root, tag: u64) {

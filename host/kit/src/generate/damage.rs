@@ -65,9 +65,12 @@ fn clear_identity(random: &mut Random, object: &mut DraftObject) {
     }
 }
 
-/// A number in the latter half of an index, where column codes, offsets and sizes stand.
+/// A number in the latter half of an index, where column codes, offsets and sizes stand; or two rows that are no longer told apart.
 fn damage_rows(random: &mut Random, big: bool, object: &mut DraftObject) {
     let Some((_, bytes)) = object.sections.iter_mut().find(|(c, b)| *c >= 12 && b.len() >= 24) else { return };
+    if random.one_in(4) && mix_rows(random, big, bytes).is_some() {
+        return;
+    }
     let words = bytes.len() as u64 / 4;
     let at = random.between(words / 2, words - 1) as usize * 4;
     let old = number(bytes, at, 4, big).unwrap_or(0);
@@ -75,6 +78,32 @@ fn damage_rows(random: &mut Random, big: bool, object: &mut DraftObject) {
     let mut field = Vec::new();
     put(&mut field, new, 4, big);
     bytes[at..at + 4].copy_from_slice(&field);
+}
+
+/// One row says what another one says, or a slot names another one's row.
+fn mix_rows(random: &mut Random, big: bool, index: &mut [u8]) -> Option<()> {
+    let field = |at| number(index, at, 4, big).map(|n| n as usize);
+    let (columns, units, slots) = (field(4)?, field(8)?, field(12)?);
+    let few = columns <= 8 && units.max(slots) <= index.len();
+    if units < 2 || !few || index.len() != 16 + 12 * slots + 4 * columns + 8 * units * columns {
+        return None;
+    }
+    let (one, other) = (random.below(units as u64) as usize, random.below(units as u64) as usize);
+    let offsets_at = 16 + 12 * slots + 4 * columns;
+    if random.one_in(2) {
+        for start in [offsets_at, offsets_at + 4 * units * columns] {
+            let from = start + 4 * columns * one;
+            index.copy_within(from..from + 4 * columns, start + 4 * columns * other);
+        }
+        return Some(());
+    }
+    let used: Vec<usize> = (0..slots).map(|i| 16 + 8 * slots + 4 * i).filter(|at| field(*at) != Some(0)).collect();
+    if used.is_empty() {
+        return None;
+    }
+    let (from, to) = (random.pick(&used), random.pick(&used));
+    index.copy_within(from..from + 4, to);
+    Some(())
 }
 
 /// Entries and strings that no longer belong together.

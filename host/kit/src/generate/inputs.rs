@@ -1,19 +1,66 @@
-//! Indexes of version 2 whose rows are in step with an object's kept units.
+//! Indexes of version 2. Most are in step, as thorin adds parts up; in others parts are shared, lie over each other, repeat and leave gaps.
+//! There are rows that no unit needs, with and without slots.
 
 use super::objects::Placed;
 use super::random::Random;
 use crate::reference::{place, put, Encoding};
 
 const CU_INDEX: u32 = 12;
+const INFO: u32 = 1;
+const TYPES: u32 = 2;
+const ABBREV: u32 = 3;
 const STR_OFFSETS: u32 = 6;
+
+/// Offset and size.
+type Cell = (u64, u64);
+
+/// A row before it has a number; without an identity it has no slot.
+#[derive(Clone)]
+struct Row {
+    identity: Option<u64>,
+    cells: Vec<Cell>,
+}
 
 /// An index before it is written.
 struct Draft {
+    home: u32,
     columns: Vec<u32>,
-    /// For each row, offset and size by column.
-    rows: Vec<Vec<(u64, u64)>>,
+    rows: Vec<Row>,
     /// Identity and row number.
     slots: Vec<(u64, u64)>,
+}
+
+/// The sections that rows speak of, with the least step in each.
+struct Sections<'s> {
+    encoding: Encoding,
+    sections: &'s [(u32, Vec<u8>)],
+}
+
+impl Sections<'_> {
+    fn length(&self, code: u32) -> u64 {
+        self.sections.iter().find(|(c, _)| *c == code).map_or(0, |(_, b)| b.len() as u64)
+    }
+
+    fn step(&self, code: u32) -> u64 {
+        if code == STR_OFFSETS {
+            self.encoding.width as u64
+        } else {
+            1
+        }
+    }
+
+    /// A part from a place on.
+    fn part_from(&self, random: &mut Random, code: u32, from: u64) -> Cell {
+        let step = self.step(code);
+        (from, random.below((self.length(code) - from) / step + 1) * step)
+    }
+
+    /// A part anywhere.
+    fn any_part(&self, random: &mut Random, code: u32) -> Cell {
+        let step = self.step(code);
+        let from = random.below(self.length(code) / step + 1) * step;
+        self.part_from(random, code, from)
+    }
 }
 
 /// Adds the index of the units of one table, in the order of their section.
@@ -24,11 +71,19 @@ pub fn push_index(
     units: &[Placed],
     sections: &mut Vec<(u32, Vec<u8>)>,
 ) {
-    let home = if code == CU_INDEX { 1 } else { 2 };
+    let home = if code == CU_INDEX { INFO } else { TYPES };
     let columns = any_columns(random, home, sections);
-    let mut draft = Draft { rows: rows(random, encoding, &columns, units, sections), columns, slots: Vec::new() };
-    number_rows(random, &mut draft, units);
-    let section = write(&draft, encoding.big);
+    let lengths = Sections { encoding, sections };
+    let cells = if random.one_in(6) {
+        anywhere(random, &columns, units, &lengths)
+    } else {
+        in_step(random, &columns, units, &lengths)
+    };
+    let rows = needed_rows(random, units, cells);
+    let mut draft = Draft { home, columns, rows, slots: Vec::new() };
+    draft.add_rows(random);
+    draft.number_rows(random);
+    let section = draft.write(encoding.big);
     sections.push((code, section));
 }
 
@@ -42,69 +97,123 @@ fn any_columns(random: &mut Random, home: u32, sections: &[(u32, Vec<u8>)]) -> V
     columns
 }
 
-/// A row for each unit: its place, and parts that follow those of the kept units before it.
-fn rows(
-    random: &mut Random,
-    encoding: Encoding,
-    columns: &[u32],
-    units: &[Placed],
-    sections: &[(u32, Vec<u8>)],
-) -> Vec<Vec<(u64, u64)>> {
+/// What a unit's row must say of a section, whatever the other rows say: its place, and where its abbreviations are read.
+fn fixed(unit: &Placed, code: u32) -> Option<Cell> {
+    match code {
+        INFO | TYPES => Some((unit.at as u64, unit.size as u64)),
+        ABBREV => unit.abbrev.map(|(offset, size)| (offset as u64, size as u64)),
+        _ => None,
+    }
+}
+
+/// A row for each unit: parts that follow those of the kept units before it.
+fn in_step(random: &mut Random, columns: &[u32], units: &[Placed], lengths: &Sections) -> Vec<Vec<Cell>> {
     let mut sums = [0u64; 9];
-    let mut row = |unit: &Placed| -> Vec<(u64, u64)> {
+    let mut row = |unit: &Placed| -> Vec<Cell> {
         let mut cell = |code: &u32| {
-            if *code <= 2 {
-                return (unit.at as u64, unit.size as u64);
-            }
-            let whole = sections.iter().find(|(c, _)| c == code).map_or(0, |(_, b)| b.len() as u64);
-            let step = if *code == STR_OFFSETS { encoding.width as u64 } else { 1 };
-            let sum = sums[*code as usize];
-            let size = random.below((whole - sum) / step + 1) * step;
-            if unit.kept {
-                sums[*code as usize] += size;
-            }
-            (sum, size)
+            fixed(unit, *code).unwrap_or_else(|| {
+                let part = lengths.part_from(random, *code, sums[*code as usize]);
+                if unit.kept {
+                    sums[*code as usize] += part.1;
+                }
+                part
+            })
         };
         columns.iter().map(&mut cell).collect()
     };
     units.iter().map(&mut row).collect()
 }
 
-/// Puts the rows into any order, leaves those of skipped units out now and then, adds one that nobody needs.
-fn number_rows(random: &mut Random, draft: &mut Draft, units: &[Placed]) {
-    // A signature may stand twice among the units: one row is enough, and only the first unit may be a kept one.
-    let is_first = |i: &usize| units[..*i].iter().all(|u| u.identity != units[*i].identity);
-    let mut order: Vec<usize> = (0..units.len()).filter(is_first).collect();
-    order.retain(|i| units[*i].kept || random.one_in(2));
-    if random.one_in(2) {
-        random.shuffle(&mut order);
-    }
-    let mut identities: Vec<u64> = order.iter().map(|i| units[*i].identity).collect();
-    let mut rows: Vec<Vec<(u64, u64)>> = order.iter().map(|i| draft.rows[*i].clone()).collect();
-    if random.one_in(6) {
-        rows.push(draft.columns.iter().map(|_| (random.below(9), random.any() & 0xFFFF_FFFF)).collect());
-        if random.one_in(2) {
-            let extra = random.any() | 1 << 63;
-            identities.push(extra);
-        }
-    }
-    let least = (rows.len() + 1).next_power_of_two();
-    let count = least << random.pick(&[0, 0, 1, 2]);
-    let placed = place(&identities, count).unwrap_or_default();
-    let slot = |row: &u64| if *row == 0 { (0, 0) } else { (identities[*row as usize - 1], *row) };
-    draft.slots = placed.iter().map(slot).collect();
-    draft.rows = rows;
+/// A row for each unit: parts anywhere, some as in the row before, some of the whole section.
+fn anywhere(random: &mut Random, columns: &[u32], units: &[Placed], lengths: &Sections) -> Vec<Vec<Cell>> {
+    let mut before = [(0, 0); 9];
+    let mut row = |unit: &Placed| -> Vec<Cell> {
+        let mut cell = |code: &u32| {
+            fixed(unit, *code).unwrap_or_else(|| {
+                let part = match random.below(4) {
+                    0 => before[*code as usize],
+                    1 => (0, lengths.length(*code)),
+                    _ => lengths.any_part(random, *code),
+                };
+                before[*code as usize] = part;
+                part
+            })
+        };
+        columns.iter().map(&mut cell).collect()
+    };
+    units.iter().map(&mut row).collect()
 }
 
-fn write(draft: &Draft, big: bool) -> Vec<u8> {
-    let mut out = Vec::new();
-    for count in [2, draft.columns.len(), draft.rows.len(), draft.slots.len()] {
-        put(&mut out, count as u64, 4, big);
+/// The rows of kept units, and now and then those of skipped ones.
+fn needed_rows(random: &mut Random, units: &[Placed], cells: Vec<Vec<Cell>>) -> Vec<Row> {
+    // A signature may stand twice among the units: one row is enough, and only the first unit may be a kept one.
+    let is_first = |i: usize| units[..i].iter().all(|u| u.identity != units[i].identity);
+    let mut rows = Vec::new();
+    for (i, cells) in cells.into_iter().enumerate() {
+        if is_first(i) && (units[i].kept || random.one_in(2)) {
+            rows.push(Row { identity: Some(units[i].identity), cells });
+        }
     }
-    draft.slots.iter().for_each(|(identity, _)| put(&mut out, *identity, 8, big));
-    draft.slots.iter().for_each(|(_, row)| put(&mut out, *row, 4, big));
-    draft.columns.iter().for_each(|code| put(&mut out, (*code).into(), 4, big));
-    draft.rows.iter().flatten().for_each(|(offset, _)| put(&mut out, *offset, 4, big));
-    draft.rows.iter().flatten().for_each(|(_, size)| put(&mut out, *size, 4, big));
-    out
+    rows
+}
+
+impl Draft {
+    /// Now and then up to three rows that no unit needs, and the rows in any order.
+    fn add_rows(&mut self, random: &mut Random) {
+        if random.one_in(5) {
+            for _ in 0..random.between(1, 3) {
+                let row = self.spare_row(random);
+                self.rows.push(row);
+            }
+        }
+        match random.below(4) {
+            0 | 1 => {}
+            2 => self.rows.reverse(),
+            _ => random.shuffle(&mut self.rows),
+        }
+    }
+
+    /// A row that says anything, or what another one says; but only one row may name a compilation unit's place.
+    fn spare_row(&self, random: &mut Random) -> Row {
+        let identity = random.one_in(2).then(|| random.any() | 1 << 63);
+        if self.rows.is_empty() || random.one_in(2) {
+            let cells = self.columns.iter().map(|_| (random.below(9), random.any() & 0xFFFF_FFFF)).collect();
+            return Row { identity, cells };
+        }
+        let mut cells = random.pick(&self.rows).cells;
+        if self.home == INFO {
+            let (_, size) = &mut cells[self.columns.iter().position(|code| *code == INFO).unwrap_or(0)];
+            *size = (*size + 1) & 0xFFFF_FFFF;
+        }
+        Row { identity, cells }
+    }
+
+    /// Gives each identity a slot; now and then one has a second slot, which names another row and is never reached.
+    fn number_rows(&mut self, random: &mut Random) {
+        let count = (self.rows.len() + 1).next_power_of_two() << random.pick(&[0, 0, 1, 2]);
+        let numbered = self.rows.iter().zip(1..).filter_map(|(row, number)| row.identity.map(|x| (x, number)));
+        let mut filed: Vec<(u64, u64)> = numbered.collect();
+        if !filed.is_empty() && filed.len() + 1 < count && random.one_in(12) {
+            let (identity, _) = random.pick(&filed);
+            filed.push((identity, random.between(1, self.rows.len() as u64)));
+        }
+        let identities: Vec<u64> = filed.iter().map(|(identity, _)| *identity).collect();
+        let placed = place(&identities, count).expect("a slot for each");
+        let slot = |nth: &u64| if *nth == 0 { (0, 0) } else { filed[*nth as usize - 1] };
+        self.slots = placed.iter().map(slot).collect();
+    }
+
+    fn write(&self, big: bool) -> Vec<u8> {
+        let mut out = Vec::new();
+        for count in [2, self.columns.len(), self.rows.len(), self.slots.len()] {
+            put(&mut out, count as u64, 4, big);
+        }
+        self.slots.iter().for_each(|(identity, _)| put(&mut out, *identity, 8, big));
+        self.slots.iter().for_each(|(_, row)| put(&mut out, *row, 4, big));
+        self.columns.iter().for_each(|code| put(&mut out, (*code).into(), 4, big));
+        let cells = || self.rows.iter().flat_map(|row| &row.cells);
+        cells().for_each(|(offset, _)| put(&mut out, *offset, 4, big));
+        cells().for_each(|(_, size)| put(&mut out, *size, 4, big));
+        out
+    }
 }

@@ -1,7 +1,7 @@
 //! Good bundles: objects of one encoding, with units, strings and shared sections.
 
-use super::abbreviations::{Abbreviations, Root};
 use super::inputs;
+use super::parts::{Abbrev, Part};
 use super::random::Random;
 use crate::reference::put;
 use crate::reference::Encoding;
@@ -45,6 +45,8 @@ pub struct Placed {
     pub size: usize,
     /// Not a type that an earlier unit has.
     pub kept: bool,
+    /// The part of abbrev in which its table is read, where it has one.
+    pub abbrev: Option<Part>,
 }
 
 /// What all objects of a bundle have in common, and the identities used so far.
@@ -145,15 +147,16 @@ fn unit5(random: &mut Random, shared: &mut Shared, out: &mut Vec<u8>) {
 }
 
 fn version4(random: &mut Random, shared: &mut Shared) -> Vec<(u32, Vec<u8>)> {
-    let abbreviations = Abbreviations::any(random);
     let mut sections = Vec::new();
     let (mut in_info, mut in_types) = (Vec::new(), Vec::new());
     let input = if random.one_in(2) { random.between(1, 3) } else { 0 };
     let infos = if input & 1 == 1 { 1 } else { random.pick(&[1, 1, 2]) };
-    for _ in 0..infos {
+    let counts: Vec<usize> = (0..infos).map(|_| random.pick(&[0, 1, 1, 2, 3, 6])).collect();
+    let abbrev = if input & 1 == 1 { Abbrev::in_parts(random, counts[0]) } else { Abbrev::whole(random) };
+    for count in counts {
         let mut info = Vec::new();
-        for _ in 0..random.pick(&[0, 1, 1, 2, 3, 6]) {
-            in_info.push(compilation4(random, shared, &abbreviations, &mut info));
+        for unit in 0..count {
+            in_info.push(compilation4(random, shared, (&abbrev, unit), &mut info));
         }
         sections.push((1, info));
     }
@@ -165,7 +168,7 @@ fn version4(random: &mut Random, shared: &mut Shared) -> Vec<(u32, Vec<u8>)> {
         }
         sections.push((2, section));
     }
-    sections.push((3, abbreviations.bytes));
+    sections.push((3, abbrev.bytes));
     others(random, shared, &[4, 5, 7, 8], &mut sections);
     if input & 1 == 1 {
         inputs::push_index(random, shared.encoding, 12, &in_info, &mut sections);
@@ -177,16 +180,18 @@ fn version4(random: &mut Random, shared: &mut Shared) -> Vec<(u32, Vec<u8>)> {
     sections
 }
 
-fn compilation4(random: &mut Random, shared: &mut Shared, from: &Abbreviations, out: &mut Vec<u8>) -> Placed {
-    let (offset, root): (usize, &Root) = from.any_root(random);
+/// The unit of a number, whose table is in abbrev.
+fn compilation4(random: &mut Random, shared: &mut Shared, from: (&Abbrev, usize), out: &mut Vec<u8>) -> Placed {
+    let (abbrev, number) = from;
+    let reading = abbrev.reading(random, number);
     let identity = shared.new_compilation(random);
     let mut unit = Vec::new();
     shared.put(&mut unit, 4, 2);
-    shared.put(&mut unit, offset as u64, shared.encoding.width);
+    shared.put(&mut unit, reading.offset as u64, shared.encoding.width);
     unit.push(shared.encoding.address as u8);
-    root.put_entry(random, shared.encoding, identity, &mut unit);
+    reading.root.put_entry(random, shared.encoding, identity, &mut unit);
     unit.extend(random.bytes(5));
-    placed(shared, out, &unit, identity, true)
+    Placed { abbrev: reading.part, ..placed(shared, out, &unit, identity, true) }
 }
 
 fn type4(random: &mut Random, shared: &mut Shared, out: &mut Vec<u8>) -> Placed {
@@ -204,7 +209,7 @@ fn type4(random: &mut Random, shared: &mut Shared, out: &mut Vec<u8>) -> Placed 
 fn placed(shared: &Shared, out: &mut Vec<u8>, unit: &[u8], identity: u64, kept: bool) -> Placed {
     let at = out.len();
     shared.put_unit(out, unit);
-    Placed { identity, at, size: out.len() - at, kept }
+    Placed { identity, at, size: out.len() - at, kept, abbrev: None }
 }
 
 /// Sections that may be there or not, and strings.

@@ -7,6 +7,7 @@ use super::bytes::{number, put};
 pub struct Index {
     pub version: u32,
     pub columns: Vec<u64>,
+    pub units: u64,
     pub identities: Vec<u64>,
     pub rows: Vec<u64>,
     /// Offset and size, row by row, column by column.
@@ -72,6 +73,7 @@ impl Index {
         Some(Index {
             version,
             columns: list(codes_at, 4, columns)?,
+            units: units as u64,
             identities: list(16, 8, slots)?,
             rows: list(rows_at, 4, slots)?,
             cells: offsets.into_iter().zip(sizes).collect(),
@@ -97,6 +99,14 @@ impl Index {
         let (_, code) = column_codes(self.version).iter().find(|(s, _)| *s == section)?;
         let column = self.columns.iter().position(|c| c == code)?;
         Some(self.cells[(row as usize - 1) * self.columns.len() + column])
+    }
+
+    /// The row whose column of a section names a place, where exactly one does. Rows without a slot count too.
+    pub fn row_at(&self, section: u32, at: usize, size: usize) -> Option<u64> {
+        let place = Some((at as u64, size as u64));
+        let mut rows = (1..=self.units).filter(|row| self.cell(*row, section) == place);
+        let row = rows.next()?;
+        rows.next().is_none().then_some(row)
     }
 }
 

@@ -88,19 +88,28 @@ struct Input<'o, 'a> {
     encoding: Encoding,
     cu_index: Option<Index>,
     tu_index: Option<Index>,
-    /// Sizes of the parts of this object's kept units so far, by table and section code.
-    cu_sums: [u64; 11],
-    tu_sums: [u64; 11],
 }
 
-impl Input<'_, '_> {
+impl<'a> Input<'_, 'a> {
+    /// The abbreviations of a version 4 compilation unit: its object's, or with cu_index those of the row that names its place (15, 16).
+    fn abbrev(&self, at: usize, size: usize) -> Result<&'a [u8], u32> {
+        let whole = self.object.bytes(ABBREV);
+        let Some(index) = &self.cu_index else { return Ok(whole) };
+        let row = index.row_at(INFO, at, size).ok_or(15u32)?;
+        if whole.is_empty() {
+            return Ok(whole);
+        }
+        let (offset, size) = index.cell(row, ABBREV).ok_or(15u32)?;
+        whole.get(offset as usize..(offset + size) as usize).ok_or(16)
+    }
+
     /// The parts that a kept unit at `at` of a section has of the shared sections (15, 16).
-    fn contributions(&mut self, section: u32, at: usize, unit: &Unit) -> Result<Vec<(u32, u64, u64)>, u32> {
+    fn contributions(&self, section: u32, at: usize, unit: &Unit) -> Result<Vec<(u32, u64, u64)>, u32> {
         let object = self.object;
         let shared: Vec<u32> = SHARED.filter(|code| !object.bytes(*code).is_empty()).collect();
-        let (index, sums) = match unit.table {
-            Table::Compilation => (&self.cu_index, &mut self.cu_sums),
-            Table::Type => (&self.tu_index, &mut self.tu_sums),
+        let index = match unit.table {
+            Table::Compilation => &self.cu_index,
+            Table::Type => &self.tu_index,
         };
         let Some(index) = index else {
             return Ok(shared.iter().map(|code| (*code, 0, object.bytes(*code).len() as u64)).collect());
@@ -109,18 +118,18 @@ impl Input<'_, '_> {
         let own = index.cell(row, section).ok_or(15u32)?;
         let cell = |code: &u32| index.cell(row, *code).map(|(offset, size)| (*code, offset, size));
         let parts: Vec<(u32, u64, u64)> = shared.iter().map(cell).collect::<Option<_>>().ok_or(15u32)?;
-        if own != (at as u64, unit.size as u64) {
+        // Only one row names a compilation unit's place, so this also says that the search ended at that row.
+        if own != (at as u64, unit.size as u64) || !parts.iter().all(|part| self.is_good(*part)) {
             return Err(16);
         }
-        for (code, offset, size) in &parts {
-            let inside = offset + size <= object.bytes(*code).len() as u64;
-            let width = if *code == STR_OFFSETS { self.encoding.width as u64 } else { 1 };
-            if *offset != sums[*code as usize] || !inside || offset % width != 0 || size % width != 0 {
-                return Err(16);
-            }
-            sums[*code as usize] += size;
-        }
         Ok(parts)
+    }
+
+    /// Whether a part ends in its section and, in str_offsets, has whole entries.
+    fn is_good(&self, (code, offset, size): (u32, u64, u64)) -> bool {
+        let inside = offset + size <= self.object.bytes(code).len() as u64;
+        let width = if code == STR_OFFSETS { self.encoding.width as u64 } else { 1 };
+        inside && offset % width == 0 && size % width == 0
     }
 }
 
@@ -163,9 +172,9 @@ impl<'a> InProgress<'a> {
         }
         let cu_index = load_index(object, CU_INDEX, encoding)?;
         let tu_index = load_index(object, TU_INDEX, encoding)?;
-        let mut input = Input { object, encoding, cu_index, tu_index, cu_sums: [0; 11], tu_sums: [0; 11] };
+        let input = Input { object, encoding, cu_index, tu_index };
         for section in object.sections.iter().filter(|s| s.code == INFO || s.code == TYPES) {
-            self.add_units(&mut input, section)?;
+            self.add_units(&input, section)?;
         }
         for code in SHARED {
             let bytes = if code == STR_OFFSETS { &remapped } else { object.bytes(code) };
@@ -175,11 +184,11 @@ impl<'a> InProgress<'a> {
     }
 
     /// The units of one section, from its front.
-    fn add_units(&mut self, input: &mut Input, from: &Section) -> Result<(), u32> {
+    fn add_units(&mut self, input: &Input, from: &Section) -> Result<(), u32> {
         let (section, bytes) = (from.code, from.bytes);
         let mut at = 0;
         while at < bytes.len() {
-            let unit = unit::read(section, &bytes[at..], input.object.bytes(ABBREV), input.encoding)?;
+            let unit = unit::read(section, &bytes[at..], |size| input.abbrev(at, size), input.encoding)?;
             let new = self.seen.insert((unit.table, unit.identity));
             if !new && unit.table == Table::Compilation {
                 return Err(14);

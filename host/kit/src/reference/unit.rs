@@ -40,8 +40,15 @@ fn unit_bytes(bytes: &[u8], encoding: Encoding) -> Option<(&[u8], usize)> {
     Some((bytes.get(..size)?, field))
 }
 
-/// A unit of a section of the code given, info or types; the error is the refusal.
-pub fn read(code: u32, bytes: &[u8], abbrev: &[u8], encoding: Encoding) -> Result<Unit, u32> {
+/// A unit of a section of the code given, info or types; the error is the refusal. `abbrev` gives the abbreviations of a unit of the
+/// size that it is told, or the refusal that stands in for them; it is asked for a compilation unit of version 4 alone, once its header
+/// is good.
+pub fn read<'a>(
+    code: u32,
+    bytes: &[u8],
+    abbrev: impl FnOnce(usize) -> Result<&'a [u8], u32>,
+    encoding: Encoding,
+) -> Result<Unit, u32> {
     let (unit, field) = unit_bytes(bytes, encoding).ok_or(11u32)?;
     let (table, identity) = if encoding.version == 5 {
         version5(unit, field, encoding)?
@@ -79,7 +86,13 @@ fn version5(unit: &[u8], field: usize, encoding: Encoding) -> Result<(Table, u64
 }
 
 /// Header: length, version, abbreviation offset, address size, and in types the signature and the type's offset.
-fn version4(code: u32, unit: &[u8], field: usize, abbrev: &[u8], encoding: Encoding) -> Result<(Table, u64), u32> {
+fn version4<'a>(
+    code: u32,
+    unit: &[u8],
+    field: usize,
+    abbrev: impl FnOnce(usize) -> Result<&'a [u8], u32>,
+    encoding: Encoding,
+) -> Result<(Table, u64), u32> {
     let common = field + 3 + encoding.width;
     let size = if code == TYPES { common + 8 + encoding.width } else { common };
     if !common_is_good(unit, field, common - 1, size, encoding) {
@@ -89,6 +102,7 @@ fn version4(code: u32, unit: &[u8], field: usize, abbrev: &[u8], encoding: Encod
         return Ok((Table::Type, number(unit, common, 8, encoding.big).ok_or(11u32)?));
     }
     let offset = number(unit, field + 2, encoding.width, encoding.big).ok_or(11u32)?;
+    let abbrev = abbrev(unit.len())?;
     let identity = abbreviations::identity(abbrev, offset, &unit[common..], encoding).ok_or(12u32)?;
     Ok((Table::Compilation, identity))
 }

@@ -6,7 +6,7 @@ use crate::names::{section_name, ABBREV, CU_INDEX, INFO, MACRO, RNGLISTS, STR, S
 use crate::reader::bundle::{Bundle, Object};
 use crate::reader::index::Index;
 use crate::reader::number;
-use crate::reader::unit::{identity, spans, Span, Why};
+use crate::reader::unit::{spans, Identities, Span, Why};
 
 /// Sections that a version doesn't have.
 const NOT_IN_VERSION_5: [u32; 5] = [2, 5, 7, CU_INDEX, TU_INDEX];
@@ -23,11 +23,11 @@ pub fn of(bundle: &Bundle, place: &Place, refusal: u32, names: &Names) -> Option
         (8, _) => string_offsets(object),
         (9, _) => lost_string(object),
         (10, _) => bad_index(object),
-        (11, Some(unit)) => match identity(object, unit) {
+        (11, Some(unit)) => match Identities::of(object).identity(unit) {
             Err(Why::Header(why)) => Some(why),
             _ => None,
         },
-        (12, Some(unit)) => match identity(object, unit) {
+        (12, Some(unit)) => match Identities::of(object).identity(unit) {
             Err(Why::Identity(why)) => Some(why),
             _ => None,
         },
@@ -123,9 +123,10 @@ fn bad_index(object: &Object) -> Option<String> {
 
 /// The unit that has the identity already.
 fn first_of_identity(bundle: &Bundle, number: usize, unit: &Span, names: &Names) -> Option<String> {
-    let seen = identity(&bundle.objects[number - 1], unit).ok()?;
+    let seen = Identities::of(&bundle.objects[number - 1]).identity(unit).ok()?;
     for (object, other) in bundle.objects.iter().zip(1..=number) {
-        let first = spans(object).into_iter().find(|span| identity(object, span) == Ok(seen));
+        let identities = Identities::of(object);
+        let first = spans(object).into_iter().find(|span| identities.identity(span) == Ok(seen));
         if let Some(first) = first {
             let (object, unit) = (names.object(other), names.unit(&first));
             return Some(format!("identity {:#018x} is that of {object}, {unit}", seen.1));
@@ -135,26 +136,36 @@ fn first_of_identity(bundle: &Bundle, number: usize, unit: &Span, names: &Names)
 }
 
 fn row(object: &Object, unit: &Span, refusal: u32) -> Option<String> {
-    let (table, identity) = identity(object, unit).ok()?;
+    let (table, identity) = match Identities::of(object).identity(unit) {
+        Ok(read) => read,
+        Err(Why::Row(why)) => return Some(why),
+        Err(_) => return None,
+    };
     let code = CU_INDEX - 1 + table;
     let name = section_name(code);
     let index = Index::read(object.section(code)?.bytes, object.encoding.big).ok()?;
     let Some(row) = index.row(identity) else {
         return Some(format!("{name} has no row for identity {identity:#018x}"));
     };
-    let shared = (ABBREV..=RNGLISTS).filter(|code| !object.bytes(*code).is_empty());
-    let mut needed = [unit.section].into_iter().chain(shared);
+    let mut shared = (ABBREV..=RNGLISTS).filter(|code| !object.bytes(*code).is_empty());
     if refusal == 15 {
-        let code = needed.find(|code| index.part(row, *code).is_none())?;
+        let code = [unit.section].into_iter().chain(shared).find(|code| index.part(row, *code).is_none())?;
         return Some(format!("{name} has no column for {}", section_name(code)));
     }
     let (offset, size) = index.part(row, unit.section)?;
     if (offset, size) != (unit.offset as u64, (unit.end - unit.offset) as u64) {
         return Some(format!("row {row} of {name} names {size} bytes at {offset} of {}", section_name(unit.section)));
     }
-    let outside = |code: &u32| index.part(row, *code).is_some_and(|(o, s)| o + s > object.bytes(*code).len() as u64);
-    let code = needed.find(outside)?;
-    let (offset, size) = index.part(row, code)?;
-    let has = object.bytes(code).len();
-    Some(format!("row {row} of {name} names {size} bytes at {offset} of {}, which has {has}", section_name(code)))
+    shared.find_map(|code| bad_part(object, code, index.part(row, code)?, &format!("row {row} of {name}")))
+}
+
+/// What is wrong with the part of a section that a row names.
+fn bad_part(object: &Object, code: u32, (offset, size): (u64, u64), row: &str) -> Option<String> {
+    let (has, width) = (object.bytes(code).len() as u64, object.encoding.width() as u64);
+    let named = format!("{row} names {size} bytes at {offset} of {}", section_name(code));
+    if offset + size > has {
+        return Some(format!("{named}, which has {has}"));
+    }
+    let cut = code == STR_OFFSETS && (offset % width != 0 || size % width != 0);
+    cut.then(|| format!("{named}, whose entries have {width}"))
 }

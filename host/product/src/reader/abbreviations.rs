@@ -49,11 +49,12 @@ impl<'a> Front<'a> {
     }
 }
 
-/// The identity of a unit whose root starts at `root` and whose table lies at `offset` of abbrev; the error says why it can't be read.
-pub fn identity(abbrev: &[u8], offset: u64, root: &[u8], encoding: Encoding) -> Result<u64, String> {
+/// The identity of a unit whose root starts at `root` and whose table lies at `offset` of abbrev, or of its part of it, as `name` says; the
+/// error says why it can't be read.
+pub fn identity(abbrev: &[u8], name: &str, offset: u64, root: &[u8], encoding: Encoding) -> Result<u64, String> {
     let table = usize::try_from(offset).ok().and_then(|at| abbrev.get(at..));
-    let table = table.ok_or_else(|| format!("its table is at byte {offset} of abbrev, which has {}", abbrev.len()))?;
-    let declarations = read_table(table).map_err(|why| format!("its table at byte {offset} of abbrev: {why}"))?;
+    let table = table.ok_or_else(|| format!("its table is at byte {offset} of {name}, which has {}", abbrev.len()))?;
+    let declarations = read_table(table).map_err(|why| format!("its table at byte {offset} of {name}: {why}"))?;
     let mut front = Front(root);
     let code = front.leb128(10).ok_or("the root's code can't be read")?;
     let root = declarations.iter().find(|d| d.code == code).ok_or(format!("the root's code {code} is not declared"))?;

@@ -2,8 +2,10 @@
 
 use super::abbreviations;
 use super::bundle::{Encoding, Object};
+use super::index::Index;
 use super::number;
-use crate::names::{ABBREV, INFO, TYPES};
+use crate::names::{ABBREV, CU_INDEX, INFO, TYPES};
+use std::collections::HashMap;
 
 /// A unit: the number of its section in the object, and where it lies in that section and in the bundle.
 #[derive(Clone, Copy, Debug, PartialEq, Eq)]
@@ -47,30 +49,108 @@ fn initial_length(bytes: &[u8], big: bool) -> Result<(usize, u64), String> {
     }
 }
 
-/// A table and an identity, or why a header or an identity can't be read.
+/// Why a unit's table and identity can't be read: its header, the row of its place, or the identity itself.
 #[derive(Clone, Debug, PartialEq, Eq)]
 pub enum Why {
     Header(String),
+    Row(String),
     Identity(String),
 }
 
-/// The table, 1 or 2, and the identity of a unit.
-pub fn identity(object: &Object, span: &Span) -> Result<(u32, u64), Why> {
-    let Encoding { big, .. } = object.encoding;
-    let bytes = &object.sections[span.nth].bytes[span.offset..];
-    let (field, length) = initial_length(bytes, big).map_err(Why::Header)?;
-    let left = bytes.len() - field;
-    let unit = match usize::try_from(length) {
-        Ok(length) if length <= left => &bytes[..field + length],
-        _ => return Err(Why::Header(format!("its length is {length}, and {left} bytes follow"))),
-    };
-    if (field == 12) != (object.encoding.width() == 8) {
-        return Err(Why::Header(format!("its offset width is {}", if field == 12 { 8 } else { 4 })));
+/// The rows of a version 4 object's cu_index, by the places that their info cells name.
+struct Rows {
+    index: Index,
+    places: HashMap<(u64, u64), Vec<u32>>,
+}
+
+impl Rows {
+    /// None where there is no index, or an ill-formed one, which is refused before any unit.
+    fn of(object: &Object) -> Option<Rows> {
+        if object.encoding.version() != 4 {
+            return None;
+        }
+        let index = Index::read(object.section(CU_INDEX)?.bytes, object.encoding.big).ok()?;
+        let mut places: HashMap<(u64, u64), Vec<u32>> = HashMap::new();
+        for row in 1..=index.units as u32 {
+            if let Some(place) = index.part(row, INFO) {
+                places.entry(place).or_default().push(row);
+            }
+        }
+        Some(Rows { index, places })
     }
-    if object.encoding.version() == 5 {
-        version5(unit, field, object.encoding)
-    } else {
-        version4(object, span.section, unit, field)
+
+    /// The part of abbrev that the one row of a place names.
+    fn abbrev<'b>(&self, whole: &'b [u8], offset: usize, size: usize) -> Result<&'b [u8], String> {
+        let row = match self.places.get(&(offset as u64, size as u64)).map_or(&[][..], Vec::as_slice) {
+            [row] => *row,
+            [] => return Err(format!("no row of cu_index names its place, {size} bytes at {offset} of info")),
+            [one, other, ..] => return Err(format!("rows {one} and {other} of cu_index both name its place")),
+        };
+        if whole.is_empty() {
+            return Ok(whole);
+        }
+        let (from, size) = self.index.part(row, ABBREV).ok_or("cu_index has no column for abbrev")?;
+        let outside =
+            || format!("row {row} of cu_index names {size} bytes at {from} of abbrev, which has {}", whole.len());
+        whole.get(from as usize..(from + size) as usize).ok_or_else(outside)
+    }
+}
+
+/// Reads the identities of one object's units.
+pub struct Identities<'o, 'b> {
+    object: &'o Object<'b>,
+    rows: Option<Rows>,
+}
+
+impl<'o, 'b> Identities<'o, 'b> {
+    pub fn of(object: &'o Object<'b>) -> Identities<'o, 'b> {
+        Identities { object, rows: Rows::of(object) }
+    }
+
+    /// The bytes in which a compilation unit of version 4 has its abbreviations, and how they are called.
+    fn abbrev(&self, span: &Span, size: usize) -> Result<(&'b [u8], &'static str), Why> {
+        let whole = self.object.bytes(ABBREV);
+        match &self.rows {
+            Some(rows) => Ok((rows.abbrev(whole, span.offset, size).map_err(Why::Row)?, "its part of abbrev")),
+            None => Ok((whole, "abbrev")),
+        }
+    }
+
+    /// The table, 1 or 2, and the identity of a unit.
+    pub fn identity(&self, span: &Span) -> Result<(u32, u64), Why> {
+        let encoding = self.object.encoding;
+        let bytes = &self.object.sections[span.nth].bytes[span.offset..];
+        let (field, length) = initial_length(bytes, encoding.big).map_err(Why::Header)?;
+        let left = bytes.len() - field;
+        let unit = match usize::try_from(length) {
+            Ok(length) if length <= left => &bytes[..field + length],
+            _ => return Err(Why::Header(format!("its length is {length}, and {left} bytes follow"))),
+        };
+        if (field == 12) != (encoding.width() == 8) {
+            return Err(Why::Header(format!("its offset width is {}", if field == 12 { 8 } else { 4 })));
+        }
+        if encoding.version() == 5 {
+            version5(unit, field, encoding)
+        } else {
+            self.version4(span, unit, field)
+        }
+    }
+
+    /// Length, version, abbreviation offset, address size, and in types the signature and the type's offset.
+    fn version4(&self, span: &Span, unit: &[u8], field: usize) -> Result<(u32, u64), Why> {
+        let encoding = self.object.encoding;
+        let (big, width) = (encoding.big, encoding.width());
+        let common = field + 3 + width;
+        let address = header_field(unit, common - 1, 1, big)?;
+        judge_common(encoding, header_field(unit, field, 2, big)?, address)?;
+        if span.section == TYPES {
+            header_field(unit, common + 8, width, big)?;
+            return Ok((2, header_field(unit, common, 8, big)?));
+        }
+        let offset = header_field(unit, field + 2, width, big)?;
+        let (abbrev, name) = self.abbrev(span, unit.len())?;
+        let identity = abbreviations::identity(abbrev, name, offset, &unit[common..], encoding);
+        Ok((1, identity.map_err(Why::Identity)?))
     }
 }
 
@@ -106,20 +186,4 @@ fn version5(unit: &[u8], field: usize, encoding: Encoding) -> Result<(u32, u64),
         header_field(unit, common + 8, width, big)?;
     }
     Ok((table, header_field(unit, common, 8, big)?))
-}
-
-/// Length, version, abbreviation offset, address size, and in types the signature and the type's offset.
-fn version4(object: &Object, section: u32, unit: &[u8], field: usize) -> Result<(u32, u64), Why> {
-    let encoding = object.encoding;
-    let (big, width) = (encoding.big, encoding.width());
-    let common = field + 3 + width;
-    let address = header_field(unit, common - 1, 1, big)?;
-    judge_common(encoding, header_field(unit, field, 2, big)?, address)?;
-    if section == TYPES {
-        header_field(unit, common + 8, width, big)?;
-        return Ok((2, header_field(unit, common, 8, big)?));
-    }
-    let offset = header_field(unit, field + 2, width, big)?;
-    let identity = abbreviations::identity(object.bytes(ABBREV), offset, &unit[common..], encoding);
-    Ok((1, identity.map_err(Why::Identity)?))
 }

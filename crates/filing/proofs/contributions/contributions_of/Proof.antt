@@ -10,11 +10,11 @@ use Rattle.filing.proofs.contributions.contributions_of.Tie as tie
 width-requires : tie.Need-width-requires
 width-requires c κs = search needs
 
-element-copy-out-t20 : tie.Need-element-copy-out-t20
-element-copy-out-t20 c = search needs
+element-copy-out-t19 : tie.Need-element-copy-out-t19
+element-copy-out-t19 c = search needs
 
-element-copy-out-t23 : tie.Need-element-copy-out-t23
-element-copy-out-t23 c = search needs
+element-copy-out-t22 : tie.Need-element-copy-out-t22
+element-copy-out-t22 c = search needs
 
 indexed-contributions-requires : tie.Need-indexed-contributions-requires
 unfolding sectionOf bytesAt Inside
@@ -22,13 +22,13 @@ indexed-contributions-requires c κs = let p = c .before .before .before .before
 
 returns : tie.Need-returns
 unfolding sectionOf bytesAt
-returns c = λ i here is held. given-is _ _ i is here _ _ held _ _ _ _ _ (i .cuIndex) (index-first i _ (c .before .before .before .if1 .taken)) _ (c .before .before .before .before .before .before .width .ensures) (c .indexed-contributions .ensures (i .cuIndex) (is .cuIndex))
+returns c = λ i is. given-is _ _ i is _ _ _ _ _ _ (i .cuIndex) (index-first i _ (c .before .before .before .if1 .taken)) _ (c .before .before .before .before .before .before .width .ensures) (c .indexed-contributions .ensures (i .cuIndex) (is .cuIndex))
 
-element-copy-out-t26 : tie.Need-element-copy-out-t26
-element-copy-out-t26 c = search needs
+element-copy-out-t25 : tie.Need-element-copy-out-t25
+element-copy-out-t25 c = search needs
 
-element-copy-out-t29 : tie.Need-element-copy-out-t29
-element-copy-out-t29 c = search needs
+element-copy-out-t28 : tie.Need-element-copy-out-t28
+element-copy-out-t28 c = search needs
 
 indexed-contributions-requires-2 : tie.Need-indexed-contributions-requires-2
 unfolding sectionOf bytesAt Inside
@@ -36,18 +36,18 @@ indexed-contributions-requires-2 c κs = let p = c .before .before .before .befo
 
 returns-2 : tie.Need-returns-2
 unfolding sectionOf bytesAt
-returns-2 c = λ i here is held. given-is _ _ i is here _ _ held _ _ _ _ _ (i .tuIndex) (index-second i _ (c .before .before .before .if1 .left)) _ (c .before .before .before .before .before .before .width .ensures) (c .indexed-contributions2 .ensures (i .tuIndex) (is .tuIndex))
+returns-2 c = λ i is. given-is _ _ i is _ _ _ _ _ _ (i .tuIndex) (index-second i _ (c .before .before .before .if1 .left)) _ (c .before .before .before .before .before .before .width .ensures) (c .indexed-contributions2 .ensures (i .tuIndex) (is .tuIndex))
 
 pub contributions-of-spec : {M : Type 1} → statement M
 contributions-of-spec =
     tie.close
     (tie.spec
     width-requires
-    element-copy-out-t20
-    element-copy-out-t23
+    element-copy-out-t19
+    element-copy-out-t22
     indexed-contributions-requires
     returns
-    element-copy-out-t26
-    element-copy-out-t29
+    element-copy-out-t25
+    element-copy-out-t28
     indexed-contributions-requires-2
     returns-2)

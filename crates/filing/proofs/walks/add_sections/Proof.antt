@@ -4,23 +4,23 @@ use mathlib.Core.Path.{refl, sym, _∙_}
 use Prim.Native.Nat.{_-_}
 use native.Mathlib.Omega.{arith}
 use lib.ListN.{length}
-use borrow.Author.Needs.{needs}
 use Rattle.filing.specs.State.{Remembered}
 use Rattle.filing.proofs.OverSections.{Sectioned, sectioned-none, sections-reach, section-lies, at-later, sectioned-more, sectioned-refused, sectioned-end}
+use borrow.Author.Needs.{needs}
 use Rattle.filing.proofs.walks.add_sections.Statement.{statement}
 use Rattle.filing.proofs.walks.add_sections.Tie as tie
 
 abbrev Inv-loop : tie.InvT-loop
-Inv-loop b x from work₀ at₀ known₀ totals₀ judged₀ work at known totals judged = Sectioned b x from at work₀ work known₀ known totals₀ totals × Remembered b work judged
+Inv-loop b x from work₀ at₀ known₀ judged₀ work at known judged = Sectioned b x from at work₀ work known₀ known × Remembered b work judged
 
 abbrev μ-loop : tie.MeasureT-loop
-μ-loop b x from work₀ at₀ known₀ totals₀ judged₀ work at known totals judged = length b - at
+μ-loop b x from work₀ at₀ known₀ judged₀ work at known judged = length b - at
 
 nothing-requires : tie.Need-nothing-requires Inv-loop μ-loop
 nothing-requires c κs = search needs
 
 loop-holds : tie.Need-loop-holds Inv-loop μ-loop
-loop-holds c = let pre = c .before .before .before .pre in (sectioned-none _ _ _ _ _ _ (pre .reaches) (pre .within), c .nothing .ensures _ _)
+loop-holds c = let pre = c .before .before .before .pre in (sectioned-none _ _ _ _ _ (pre .reaches) (pre .within), c .nothing .ensures _ _)
 
 next-unit-section-requires : tie.Need-next-unit-section-requires Inv-loop μ-loop
 next-unit-section-requires c κs = sections-reach (c .loop .inv .0)
@@ -62,22 +62,22 @@ add-units-requires c κs =
     )
 
 same-length : tie.Need-same-length Inv-loop μ-loop
-same-length c = c .before .before .before .before .before .before .before .add-units .kept .1 .1 .1 .1 .1 .0 ∙ c .before .before .before .before .before .before .before .before .before .before .before .before .before .before .loop .inv .0 .same
+same-length c = c .before .before .before .before .before .before .add-units .kept .1 .1 .1 .1 .1 .0 ∙ c .before .before .before .before .before .before .before .before .before .before .before .before .before .loop .inv .0 .same
 
 returns : tie.Need-returns Inv-loop μ-loop
-returns c i bases earlier here a =
-    let u = c .before .before .before .before .before .before .before in
-    let s = c .before .before .before .before .before .before .before .before .before .before .before in
+returns c =
+    let u = c .before .before .before .before .before .before in
+    let s = c .before .before .before .before .before .before .before .before .before .before in
     let n = s .number .given in
     let f = s .before .before in
     let l = f .before in
     let e = sym (n .1) ∙ f .next-unit-section .ensures in
-    sectioned-refused (l .loop .inv .0) (n .0 .0) (n .0 .1 .0) (n .0 .1 .1 .0) (n .0 .1 .1 .1 .0) e _ _ (u .before .before .wide .ensures) refl _ (u .add-units .result .filed) (u .add-units .kept .1 .1 .1 .1 .1 .0) (u .add-units .ensures .0)
+    λ i bases earlier here a. sectioned-refused (l .loop .inv .0) (n .0 .0) (n .0 .1 .0) (n .0 .1 .1 .0) (n .0 .1 .1 .1 .0) e _ _ (u .before .before .wide .ensures) refl _ (u .add-units .result .filed) (u .add-units .kept .1 .1 .1 .1 .1 .0) (u .add-units .ensures .0)
     (c .if1 .taken) i bases earlier here a _ refl
 
 loop-less : tie.Need-loop-less Inv-loop μ-loop
 loop-less c =
-    let s = c .before .before .before .before .before .before .before .before .before .before .before in
+    let s = c .before .before .before .before .before .before .before .before .before .before in
     let n = s .number .given in
     let f = s .before .before in
     let l = f .before in
@@ -87,8 +87,8 @@ loop-less c =
 
 loop-again : tie.Need-loop-again Inv-loop μ-loop
 loop-again c =
-    let u = c .before .before .before .before .before .before .before in
-    let s = c .before .before .before .before .before .before .before .before .before .before .before in
+    let u = c .before .before .before .before .before .before in
+    let s = c .before .before .before .before .before .before .before .before .before .before in
     let n = s .number .given in
     let f = s .before .before in
     let l = f .before in
@@ -105,9 +105,9 @@ same-length-2 : tie.Need-same-length-2 Inv-loop μ-loop
 same-length-2 c = c .before .before .before .loop .inv .0 .same
 
 returns-2 : tie.Need-returns-2 Inv-loop μ-loop
-returns-2 c i bases earlier here a =
+returns-2 c =
     let f = c .before .before in
-    sectioned-end (f .before .loop .inv .0) (sym (c .enum-told .given .1) ∙ f .next-unit-section .ensures) i bases earlier here a
+    λ i bases earlier here a. sectioned-end (f .before .loop .inv .0) (sym (c .enum-told .given .1) ∙ f .next-unit-section .ensures) i bases earlier here a
 
 pub add-sections-spec : {M : Type 1} → statement M
 add-sections-spec =

@@ -3,8 +3,8 @@
 use mathlib.Core.Path.{sym, _∙_}
 use borrow.Author.Tests.{not-true, not-false}
 use Rattle.index.specs.Contributed.{judgedRow}
-use Rattle.index.proofs.RowAnswers.{answers-refuse, answers-pass, row-absent, row-no-place, row-no-column, row-apart, row-out-of-step, row-good}
-use Rattle.index.proofs.Columned.{there-held, steps-held}
+use Rattle.index.proofs.RowAnswers.{answers-refuse, answers-pass, row-absent, row-no-place, row-no-column, row-apart, row-outside, row-good}
+use Rattle.index.proofs.Columned.{there-held, parts-held}
 use Rattle.index.proofs.Ends.{found-row}
 use Rattle.index.proofs.Heads.{read-sized}
 use borrow.Author.Needs.{needs}
@@ -25,7 +25,7 @@ refused-requires c κs = search needs
 
 returns : tie.Need-returns
 unfolding judgedRow
-returns c = answers-refuse _ _ _ (row-absent _ _ _ _ _ _ _ _ _ (sym (c .before .enum-told .given .1) ∙ c .before .before .before .find .ensures)) (c .refused .ensures)
+returns c = answers-refuse _ _ _ (row-absent _ _ _ _ _ _ _ _ (sym (c .before .enum-told .given .1) ∙ c .before .before .before .find .ensures)) (c .refused .ensures)
 
 row-at-requires : tie.Need-row-at-requires
 row-at-requires c κs = let a = c .before .before .before .before .before in (read-sized _ _ _ (a .pre .0), found-row _ _ _ (a .pre .0) _ _ _ (sym (c .before .slot .given .1) ∙ c .before .before .before .find .ensures) .inside)
@@ -41,7 +41,7 @@ refused-requires-2 c κs = search needs
 
 returns-2 : tie.Need-returns-2
 unfolding judgedRow
-returns-2 c = answers-refuse _ _ _ (row-no-place _ _ _ _ _ _ _ _ _ _ _ (sym (c .before .before .before .before .before .before .slot .given .1) ∙ c .before .before .before .before .before .before .before .before .find .ensures) (c .before .before .before .before .row-at .ensures) _ (c .before .before .before .cell-of .ensures) (c .before .enum-told2 .given .1)) (c .refused2 .ensures)
+returns-2 c = answers-refuse _ _ _ (row-no-place _ _ _ _ _ _ _ _ _ _ (sym (c .before .before .before .before .before .before .slot .given .1) ∙ c .before .before .before .before .before .before .before .before .find .ensures) (c .before .before .before .before .row-at .ensures) _ (c .before .before .before .cell-of .ensures) (c .before .enum-told2 .given .1)) (c .refused2 .ensures)
 
 enum-told-3 : tie.Need-enum-told-3
 enum-told-3 c = search needs
@@ -57,7 +57,7 @@ refused-requires-3 c κs = search needs
 
 returns-3 : tie.Need-returns-3
 unfolding judgedRow
-returns-3 c = answers-refuse _ _ _ (row-no-column _ _ _ _ _ _ _ _ _ _ _ (sym (c .before .before .before .before .before .before .before .before .before .before .slot .given .1) ∙ c .before .before .before .before .before .before .before .before .before .before .before .before .find .ensures) (c .before .before .before .before .before .before .before .before .row-at .ensures) _ (c .before .before .before .before .before .before .before .cell-of .ensures) _ _ (c .before .before .before .before .before .enum-told3 .given .1) (sym (not-true (c .before .before .columns-there .result) (c .before .if1 .taken)) ∙ c .before .before .columns-there .ensures ∙ there-held _ _ _ _ (c .before .before .before .row-cells .ensures))) (c .refused3 .ensures)
+returns-3 c = answers-refuse _ _ _ (row-no-column _ _ _ _ _ _ _ _ _ _ (sym (c .before .before .before .before .before .before .before .before .before .before .slot .given .1) ∙ c .before .before .before .before .before .before .before .before .before .before .before .before .find .ensures) (c .before .before .before .before .before .before .before .before .row-at .ensures) _ (c .before .before .before .before .before .before .before .cell-of .ensures) _ _ (c .before .before .before .before .before .enum-told3 .given .1) (sym (not-true (c .before .before .columns-there .result) (c .before .if1 .taken)) ∙ c .before .before .columns-there .ensures ∙ there-held _ _ _ _ (c .before .before .before .row-cells .ensures))) (c .refused3 .ensures)
 
 own-place-requires : tie.Need-own-place-requires
 own-place-requires c κs = search needs
@@ -67,21 +67,21 @@ refused-requires-4 c κs = search needs
 
 returns-4 : tie.Need-returns-4
 unfolding judgedRow
-returns-4 c = answers-refuse _ _ _ (row-apart _ _ _ _ _ _ _ _ _ _ _ (sym (c .before .before .before .before .before .before .before .before .before .before .before .before .slot .given .1) ∙ c .before .before .before .before .before .before .before .before .before .before .before .before .before .before .find .ensures) (c .before .before .before .before .before .before .before .before .before .before .row-at .ensures) _ (c .before .before .before .before .before .before .before .before .before .cell-of .ensures) _ _ (c .before .before .before .before .before .before .before .enum-told3 .given .1) (sym (not-false (c .before .before .before .before .columns-there .result) (c .before .before .before .if1 .left)) ∙ c .before .before .before .before .columns-there .ensures ∙ there-held _ _ _ _ (c .before .before .before .before .before .row-cells .ensures)) (sym (not-true (c .before .before .own-place .result) (c .before .if2 .taken)) ∙ c .before .before .own-place .ensures)) (c .refused4 .ensures)
+returns-4 c = answers-refuse _ _ _ (row-apart _ _ _ _ _ _ _ _ _ _ (sym (c .before .before .before .before .before .before .before .before .before .before .before .before .slot .given .1) ∙ c .before .before .before .before .before .before .before .before .before .before .before .before .before .before .find .ensures) (c .before .before .before .before .before .before .before .before .before .before .row-at .ensures) _ (c .before .before .before .before .before .before .before .before .before .cell-of .ensures) _ _ (c .before .before .before .before .before .before .before .enum-told3 .given .1) (sym (not-false (c .before .before .before .before .columns-there .result) (c .before .before .before .if1 .left)) ∙ c .before .before .before .before .columns-there .ensures ∙ there-held _ _ _ _ (c .before .before .before .before .before .row-cells .ensures)) (sym (not-true (c .before .before .own-place .result) (c .before .if2 .taken)) ∙ c .before .before .own-place .ensures)) (c .refused4 .ensures)
 
-cells-in-step-requires : tie.Need-cells-in-step-requires
-cells-in-step-requires c κs = (c .before .before .before .before .row-cells .ensures .whole, c .before .before .before .before .before .before .before .before .before .before .before .before .before .before .before .pre .1)
+parts-good-requires : tie.Need-parts-good-requires
+parts-good-requires c κs = (c .before .before .before .before .row-cells .ensures .whole, c .before .before .before .before .before .before .before .before .before .before .before .before .before .before .before .pre .1)
 
 refused-requires-5 : tie.Need-refused-requires-5
 refused-requires-5 c κs = search needs
 
 returns-5 : tie.Need-returns-5
 unfolding judgedRow
-returns-5 c = answers-refuse _ _ _ (row-out-of-step _ _ _ _ _ _ _ _ _ _ _ (sym (c .before .before .before .before .before .before .before .before .before .before .before .before .before .before .slot .given .1) ∙ c .before .before .before .before .before .before .before .before .before .before .before .before .before .before .before .before .find .ensures) (c .before .before .before .before .before .before .before .before .before .before .before .before .row-at .ensures) _ (c .before .before .before .before .before .before .before .before .before .before .before .cell-of .ensures) _ _ (c .before .before .before .before .before .before .before .before .before .enum-told3 .given .1) (sym (not-false (c .before .before .before .before .before .before .columns-there .result) (c .before .before .before .before .before .if1 .left)) ∙ c .before .before .before .before .before .before .columns-there .ensures ∙ there-held _ _ _ _ (c .before .before .before .before .before .before .before .row-cells .ensures)) (sym (not-false (c .before .before .before .before .own-place .result) (c .before .before .before .if2 .left)) ∙ c .before .before .before .before .own-place .ensures) (sym (not-true (c .before .before .cells-in-step .result) (c .before .if3 .taken)) ∙ c .before .before .cells-in-step .ensures ∙ steps-held _ _ _ _ (c .before .before .before .before .before .before .before .row-cells .ensures) _ _)) (c .refused5 .ensures)
+returns-5 c = answers-refuse _ _ _ (row-outside _ _ _ _ _ _ _ _ _ _ (sym (c .before .before .before .before .before .before .before .before .before .before .before .before .before .before .slot .given .1) ∙ c .before .before .before .before .before .before .before .before .before .before .before .before .before .before .before .before .find .ensures) (c .before .before .before .before .before .before .before .before .before .before .before .before .row-at .ensures) _ (c .before .before .before .before .before .before .before .before .before .before .before .cell-of .ensures) _ _ (c .before .before .before .before .before .before .before .before .before .enum-told3 .given .1) (sym (not-false (c .before .before .before .before .before .before .columns-there .result) (c .before .before .before .before .before .if1 .left)) ∙ c .before .before .before .before .before .before .columns-there .ensures ∙ there-held _ _ _ _ (c .before .before .before .before .before .before .before .row-cells .ensures)) (sym (not-false (c .before .before .before .before .own-place .result) (c .before .before .before .if2 .left)) ∙ c .before .before .before .before .own-place .ensures) (sym (not-true (c .before .before .parts-good .result) (c .before .if3 .taken)) ∙ c .before .before .parts-good .ensures ∙ parts-held _ _ _ _ (c .before .before .before .before .before .before .before .row-cells .ensures) _)) (c .refused5 .ensures)
 
 returns-6 : tie.Need-returns-6
 unfolding judgedRow
-returns-6 c = answers-pass _ _ _ (row-good _ _ _ _ _ _ _ _ _ _ _ (sym (c .before .before .before .before .before .before .before .before .before .before .before .before .before .slot .given .1) ∙ c .before .before .before .before .before .before .before .before .before .before .before .before .before .before .before .find .ensures) (c .before .before .before .before .before .before .before .before .before .before .before .row-at .ensures) _ (c .before .before .before .before .before .before .before .before .before .before .cell-of .ensures) _ _ (c .before .before .before .before .before .before .before .before .enum-told3 .given .1) (sym (not-false (c .before .before .before .before .before .columns-there .result) (c .before .before .before .before .if1 .left)) ∙ c .before .before .before .before .before .columns-there .ensures ∙ there-held _ _ _ _ (c .before .before .before .before .before .before .row-cells .ensures)) (sym (not-false (c .before .before .before .own-place .result) (c .before .before .if2 .left)) ∙ c .before .before .before .own-place .ensures) (sym (not-false (c .before .cells-in-step .result) (c .if3 .left)) ∙ c .before .cells-in-step .ensures ∙ steps-held _ _ _ _ (c .before .before .before .before .before .before .row-cells .ensures) _ _)) (c .before .before .before .before .before .before .row-cells .ensures)
+returns-6 c = answers-pass _ _ _ (row-good _ _ _ _ _ _ _ _ _ _ (sym (c .before .before .before .before .before .before .before .before .before .before .before .before .before .slot .given .1) ∙ c .before .before .before .before .before .before .before .before .before .before .before .before .before .before .before .find .ensures) (c .before .before .before .before .before .before .before .before .before .before .before .row-at .ensures) _ (c .before .before .before .before .before .before .before .before .before .before .cell-of .ensures) _ _ (c .before .before .before .before .before .before .before .before .enum-told3 .given .1) (sym (not-false (c .before .before .before .before .before .columns-there .result) (c .before .before .before .before .if1 .left)) ∙ c .before .before .before .before .before .columns-there .ensures ∙ there-held _ _ _ _ (c .before .before .before .before .before .before .row-cells .ensures)) (sym (not-false (c .before .before .before .own-place .result) (c .before .before .if2 .left)) ∙ c .before .before .before .own-place .ensures) (sym (not-false (c .before .parts-good .result) (c .if3 .left)) ∙ c .before .parts-good .ensures ∙ parts-held _ _ _ _ (c .before .before .before .before .before .before .row-cells .ensures) _)) (c .before .before .before .before .before .before .row-cells .ensures)
 
 pub judge-row-spec : {M : Type 1} → statement M
 judge-row-spec =
@@ -105,7 +105,7 @@ judge-row-spec =
     own-place-requires
     refused-requires-4
     returns-4
-    cells-in-step-requires
+    parts-good-requires
     refused-requires-5
     returns-5
     returns-6)

@@ -10,10 +10,10 @@ use Rattle.kept.proofs.cells.grown.Statement.{statement}
 use Rattle.kept.proofs.cells.grown.Tie as tie
 
 abbrev Inv-loop : tie.InvT-loop
-Inv-loop sums size more₀ c₀ more c = (length sums ≡ 14) × (length size ≡ 14) × Growing sums size more c
+Inv-loop bases size more₀ c₀ more c = (length bases ≡ 14) × (length size ≡ 14) × Growing bases size more c
 
 abbrev μ-loop : tie.MeasureT-loop
-μ-loop sums size more₀ c₀ more c = 14 - c
+μ-loop bases size more₀ c₀ more c = 14 - c
 
 loop-holds : tie.Need-loop-holds Inv-loop μ-loop
 loop-holds c = (search needs, search needs, growing-none _ _)

@@ -1,11 +1,12 @@
 //! Times the proved packer, and thorin where it is at hand, on the same bundles: bench PAPER [ORACLE], or bench --sheet for the sheet alone
 //!
-//! PAPER is written anew, with the figures of this run. Every package is compared with thorin's, byte for byte.
+//! PAPER is written anew, with the figures of this run. Every package is compared with thorin's, byte for byte, where thorin is its measure.
 
 mod elves;
 mod lookups;
 mod measure;
 mod paper;
+mod rows;
 mod sheets;
 
 use kit::generate::{many_strings, sized, KINDS};
@@ -57,12 +58,14 @@ fn measure_all(oracle: Option<&str>) -> Result<Paper> {
     let name = "many different strings";
     let strings = growing(&mut bench, name, STRINGS.iter().map(|n| (many_strings(*n), *n)))?;
     let strings = Growth { name, items: "strings", measured: strings };
+    let rows = rows::all(&mut bench)?;
     Ok(Paper {
         thorin,
         elves: elves::all()?,
         // Packing.
         small,
         kinds,
+        rows,
         strings,
         // Looking up.
         batch: lookups::batch()?,

@@ -3,7 +3,9 @@
 use barthovin::ffi;
 use kit::clock;
 use kit::lender::Lender;
+use kit::measured::{measure, Measure};
 use kit::oracle::Oracle;
+use kit::reference::Bundle;
 use std::io::{Error, Result};
 use std::time::{Duration, Instant};
 
@@ -63,6 +65,13 @@ impl Bench {
         Ok(Measured { bundle: bundle.len(), items, package: package.len(), ours, clearing, thorin })
     }
 
+    /// The time of an answer by this number, with as much output as the package takes.
+    pub fn answered(&mut self, bundle: &[u8], code: u32) -> Result<Duration> {
+        let work = bundle.len() / 4 * 16;
+        let length = self.lent.pack(bundle, work, ENOUGH * bundle.len() + LEAST).map_err(Error::other)?.length;
+        self.ours(bundle, work, length, code)
+    }
+
     fn ours(&mut self, bundle: &[u8], work: usize, output: usize, code: u32) -> Result<Duration> {
         shortest(|| {
             let packing = self.lent.pack(bundle, work, output).map_err(Error::other)?;
@@ -73,10 +82,14 @@ impl Bench {
         })
     }
 
+    /// None where thorin isn't at hand or isn't the measure of the bundle.
     /// The oracle's time for an answer, less that for the same question with a wrong offset width: to that the oracle reads the bundle,
     /// writes an ELF file for each object and stops before it calls thorin.
     fn thorin(&mut self, bundle: &[u8], package: &[u8]) -> Result<Option<Duration>> {
         let Some(oracle) = &mut self.oracle else { return Ok(None) };
+        if !Bundle::read(bundle).is_some_and(|read| measure(&read) == Measure::Thorin) {
+            return Ok(None);
+        }
         let mut without = bundle.to_vec();
         without[5] = 0;
         let whole = asked(oracle, bundle, 0, package)?;

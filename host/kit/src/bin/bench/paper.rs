@@ -3,6 +3,7 @@
 use super::elves::Elf;
 use super::lookups::Lookup;
 use super::measure::Measured;
+use super::rows::Rows;
 use super::sheets::Sheet;
 use std::fmt::{Display, Formatter, Result};
 use std::time::Duration;
@@ -21,6 +22,7 @@ pub struct Paper {
     /// Document 01's example, and the time of the small packer for it.
     pub small: (Measured, Duration),
     pub kinds: Vec<Growth>,
+    pub rows: Vec<Rows>,
     pub strings: Growth,
     /// Of 1,024 questions in one call.
     pub batch: Duration,
@@ -138,6 +140,7 @@ impl Paper {
             ("elves", self.elves.iter().map(read).collect()),
             ("growth", self.kinds.iter().map(grown).collect()),
             ("verdict", self.verdict()),
+            ("rows", by_place(&self.rows)),
             ("batch", time(self.batch)),
             ("lookups", self.lookups.iter().map(looked_up).collect()),
             ("sheet_package", grouped(self.sheet.package as u64)),
@@ -211,6 +214,18 @@ fn grown(kind: &Growth) -> String {
     kind.measured.iter().zip(factors).map(line).collect()
 }
 
+/// Each kind's rows, with how often longer each took than the one before.
+fn by_place(rows: &[Rows]) -> String {
+    let line = |(i, one): (usize, &Rows)| {
+        let before = i.checked_sub(1).map(|i| &rows[i]).filter(|before| before.name == one.name);
+        let answer = if one.answer == 0 { "package".to_string() } else { one.answer.to_string() };
+        let (count, bundle) = (grouped(one.rows.into()), grouped(one.bundle as u64));
+        let (took, more) = (time(one.took), factor(before.and_then(|before| quotient(one.took, before.took))));
+        format!("| {} | {count} | {bundle} | {answer} | {took} | {more} |\n", one.name)
+    };
+    rows.iter().enumerate().map(line).collect()
+}
+
 fn read(one: &Elf) -> String {
     let (file, bundle) = (grouped(one.file as u64), grouped(one.bundle as u64));
     format!("| {} | {file} | {bundle} | {} |\n", one.name, time(one.took))
@@ -246,6 +261,7 @@ mod tests {
             // Packing.
             small: (one(), took),
             kinds: vec![growth("a")],
+            rows: vec![Rows { name: "c", answer: 15, rows: 10, bundle: 99, took }],
             strings: growth("b"),
             // Looking up.
             batch: took,

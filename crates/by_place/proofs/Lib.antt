@@ -1,0 +1,3 @@
+-- Laws of chains.
+-- Assumes nothing.
+pub mod Laws
