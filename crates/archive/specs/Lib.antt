@@ -5,5 +5,6 @@ pub mod Question
 pub mod Looks
 pub mod StrSection
 pub mod Many
+pub mod RoundTrip
 pub mod Refusing
 pub mod Paper
