@@ -50,6 +50,8 @@ module _ {r : Layout} {n : ℕ} {w v : List ℕ} (beside : Beside r) (o : Only r
         unitsLow = k .unitsLow;
         within = k .within;
         limit = k .limit;
+        repeated = k .repeated;
+        named = k .named;
       }
 
 -- ---- a region as it is lent

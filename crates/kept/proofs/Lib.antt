@@ -11,4 +11,5 @@ pub mod Indexing
 pub mod Placing
 pub mod Copying
 pub mod Holding
+pub mod Naming
 pub mod SeenSlots

@@ -5,13 +5,14 @@ use mathlib.Core.Logic.{_⊎_, inl, inr, ⊎-elim}
 use mathlib.Core.Bool.{Bool, true, false}
 use mathlib.Core.List.{List, [], _∷_, _++_}
 use mathlib.Core.Option.{Option, some, none}
-use Prim.Native.Nat.{ℕ, _+_}
+use Prim.Native.Nat.{ℕ, _+_, _-_, _≤_}
 use native.Mathlib.Omega.{arith}
 use lib.ListN.{length, length-append}
 use Rattle.octets.specs.Lists.{any, same}
 use Rattle.octets.proofs.Checks.{known}
 use Rattle.package.specs.Filing.{Filed, isUnder, keep, keepAll, kept, firstUnder, Kind, repeat, namesake, ofKind, countOne, countFrom, countOf}
-use Rattle.package.proofs.Kept.{First, first-stands, first-is, first-none, keep-new, keep-known}
+use Rattle.package.specs.Pack.{made, packed, handedIn, counted, repeats, namesakes}
+use Rattle.package.proofs.Kept.{First, first-stands, first-is, first-none, keep-new, keep-known, any-kept}
 
 -- ---- one of them
 pub one-new : (k : Kind) (ks : List Filed) (u : Filed) → any (isUnder (u .table) (u .identity)) ks ≡ false → countOne k ks u ≡ 0
@@ -31,6 +32,13 @@ from-append k ks (v ∷ us) u = omega (arith, from-append k (keep ks v) us u)
 pub count-snoc : (k : Kind) (us : List Filed) (u : Filed) → countOf k (us ++ (u ∷ [])) ≡ countOf k us + countOne k (kept us) u
 unfolding countOf kept
 count-snoc k us u = from-append k [] us u
+
+-- one that is kept counts as neither, and one that is skipped by the kept one's bytes
+pub count-new : (k : Kind) (us : List Filed) (u : Filed) → any (isUnder (u .table) (u .identity)) us ≡ false → countOf k (us ++ (u ∷ [])) ≡ countOf k us
+count-new k us u e = omega (arith, count-snoc k us u, one-new k (kept us) u (any-kept (u .table) (u .identity) us ∙ e))
+
+pub count-known : (k : Kind) (us : List Filed) (u v : Filed) → First (u .table) (u .identity) (kept us) v → countOf k (us ++ (u ∷ [])) ≡ countOf k us + ofKind k (same (u .bytes) (v .bytes))
+count-known k us u v f = count-snoc k us u ∙ ap (λ (z : ℕ). countOf k us + z) (one-known k (kept us) u v f)
 
 -- ---- all of them
 both-kinds : (agree : Bool) → ofKind repeat agree + ofKind namesake agree ≡ 1
@@ -53,4 +61,16 @@ from-all ks (u ∷ us) = omega (arith, from-all (keep ks u) us, one-and-kept ks 
 -- "repeats and namesakes together are the units handed in less the units kept"
 pub count-all : (us : List Filed) → countOf repeat us + countOf namesake us + length (kept us) ≡ length us
 unfolding countOf kept
-count-all us = from-all [] us
+count-all us = omega (arith, from-all [] us)
+
+pub count-le : (k : Kind) (us : List Filed) → countOf k us ≤ length us
+count-le repeat us = omega (arith, count-all us)
+count-le namesake us = omega (arith, count-all us)
+
+less : {x y z n : ℕ} → x + y + z ≡ n → x + y ≡ n - z
+less e = omega (arith, e)
+
+-- the same of an accepted packing
+pub skipped-units : (b : List ℕ) (w o : ℕ) (p : List ℕ) → packed b w o ≡ made p → repeats b w o + namesakes b w o ≡ length (handedIn b) - length (kept (handedIn b))
+unfolding repeats namesakes counted
+skipped-units b w o p e = rw e (less (count-all (handedIn b)))

@@ -4,8 +4,8 @@ use mathlib.Core.Path.{sym, _∙_}
 use borrow.Author.Tests.{not-true, not-false}
 use Rattle.packer.proofs.Clearing.{small-refused, small-packed}
 use borrow.Author.Needs.{needs}
-use Rattle.packer.proofs.pack_small.Statement.{statement}
-use Rattle.packer.proofs.pack_small.Tie as tie
+use Rattle.packer.proofs.pack_small_counted.Statement.{statement}
+use Rattle.packer.proofs.pack_small_counted.Tie as tie
 
 length-good-requires : tie.Need-length-good-requires
 length-good-requires c κs = search needs
@@ -19,11 +19,11 @@ same-length c = search needs
 returns : tie.Need-returns
 returns c = small-refused _ _ _ (sym (c .before .before .before .before .before .length-good .ensures) ∙ not-true _ (c .before .before .before .before .if1 .taken)) (c .before .before .clear-bytes .ensures)
 
-slice-aggregate-pack : tie.Need-slice-aggregate-pack
-slice-aggregate-pack c = search needs
+slice-aggregate-pack-counted : tie.Need-slice-aggregate-pack-counted
+slice-aggregate-pack-counted c = search needs
 
-pack-requires : tie.Need-pack-requires
-pack-requires c κs = search needs
+pack-counted-requires : tie.Need-pack-counted-requires
+pack-counted-requires c κs = search needs
 
 same-length-2 : tie.Need-same-length-2
 same-length-2 c = search needs
@@ -31,17 +31,17 @@ same-length-2 c = search needs
 returns-2 : tie.Need-returns-2
 returns-2 c =
     let p = c .before .before .before in
-    small-packed _ _ _ (sym (c .before .before .before .before .before .before .before .length-good .ensures) ∙ not-false _ (c .before .before .before .before .before .before .if1 .left)) _ (p .pack .ensures .0) (p .pack .ensures .1 .0)
+    small-packed _ _ _ (sym (c .before .before .before .before .before .before .before .length-good .ensures) ∙ not-false _ (c .before .before .before .before .before .before .if1 .left)) _ (p .pack-counted .ensures .0) (p .pack-counted .ensures .1 .0)
 
-pub pack-small-spec : {M : Type 1} → statement M
-pack-small-spec =
+pub pack-small-counted-spec : {M : Type 1} → statement M
+pack-small-counted-spec =
     tie.close
     (tie.spec
     length-good-requires
     clear-bytes-requires
     same-length
     returns
-    slice-aggregate-pack
-    pack-requires
+    slice-aggregate-pack-counted
+    pack-counted-requires
     same-length-2
     returns-2)

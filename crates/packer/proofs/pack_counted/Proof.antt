@@ -4,8 +4,8 @@ use mathlib.Core.Path.{ap, _∙_}
 use Rattle.octets.specs.Octets.{zeros}
 use Rattle.packer.proofs.Clearing.{cleared-again, over-cleared}
 use borrow.Author.Needs.{needs}
-use Rattle.packer.proofs.pack.Statement.{statement}
-use Rattle.packer.proofs.pack.Tie as tie
+use Rattle.packer.proofs.pack_counted.Statement.{statement}
+use Rattle.packer.proofs.pack_counted.Tie as tie
 
 clear-bytes-requires : tie.Need-clear-bytes-requires
 clear-bytes-requires c κs = search needs
@@ -28,5 +28,5 @@ returns c =
     let r = over-cleared _ _ _ _ _ _ (c .before .before .before .before .before .before .before .before .before .before .before .before .before .clear-bytes .ensures) (p .pack-cleared .ensures .0) (p .pack-cleared .ensures .1) in
     (r .0, (r .1, c .before .before .clear-words .ensures ∙ ap zeros (p .pack-cleared .kept .1 .0)))
 
-pub pack-spec : {M : Type 1} → statement M
-pack-spec = tie.close (tie.spec clear-bytes-requires pack-cleared-requires clear-words-requires same-length same-length-2 returns)
+pub pack-counted-spec : {M : Type 1} → statement M
+pack-counted-spec = tie.close (tie.spec clear-bytes-requires pack-cleared-requires clear-words-requires same-length same-length-2 returns)
