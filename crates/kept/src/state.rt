@@ -25,14 +25,16 @@ fn count_one(before: Skipped, agrees: bool) -> Skipped
     ensures { λ r. ⌜ r ≡ countedOne before agrees ⌝ }
 {
     if agrees {
+        let more = before.repeats + 1;
         return Skipped {
-            repeats: before.repeats + 1,
+            repeats: more,
             namesakes: before.namesakes,
         };
     }
+    let more = before.namesakes + 1;
     Skipped {
         repeats: before.repeats,
-        namesakes: before.namesakes + 1,
+        namesakes: more,
     }
 }
 
