@@ -1,6 +1,7 @@
 // Small bundles from standard input, each behind a word with its length: for each the refusal, or the length of its package.
-// The stored bundles are those of docs/DIFFERENCES.md that are refused, in its order, each refused by the number that it stands under there; behind them
-// lengths that 1 refuses and words that 3 refuses, then document 01's whole package, no object, and a bundle of 1,024 bytes.
+// The stored bundles are those of docs/DIFFERENCES.md that are refused, in its order, each refused by the number that it stands under there; following them
+// lengths that 1 refuses and words that 3 refuses, then document 01's whole package, no object, a bundle of 1,024 bytes, and three packages as input that are
+// accepted since rows may share parts.
 use finish::whole::Finished;
 use libc::STDIN_FILENO;
 use libc::STDOUT_FILENO;

@@ -10,7 +10,7 @@ use crate::names::{section_name, table_name, RNGLISTS, STR, STR_OFFSETS};
 use crate::reader::bundle::{Bundle, Object};
 use crate::reader::index::Index;
 use crate::reader::number;
-use crate::reader::unit::{identity, spans, Span, Why};
+use crate::reader::unit::{spans, Identities, Span, Why};
 use std::collections::{HashMap, HashSet};
 use std::ops::Range;
 
@@ -123,11 +123,12 @@ impl Pair<'_> {
         let objects = self.objects;
         for (object, number) in objects.iter().zip(1..) {
             let indexes = [12, 13].map(|code| Index::read(object.bytes(code), object.encoding.big).ok());
+            let identities = Identities::of(object);
             for span in spans(object) {
                 self.report.units += 1;
-                let unit = match identity(object, &span) {
+                let unit = match identities.identity(&span) {
                     Ok((table, identity)) => Unit { table, identity },
-                    Err(Why::Header(why) | Why::Identity(why)) => {
+                    Err(Why::Header(why) | Why::Row(why) | Why::Identity(why)) => {
                         self.fault(
                             number,
                             None,
