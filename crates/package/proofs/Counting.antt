@@ -67,10 +67,10 @@ pub count-le : (k : Kind) (us : List Filed) → countOf k us ≤ length us
 count-le repeat us = omega (arith, count-all us)
 count-le namesake us = omega (arith, count-all us)
 
-less : {x y z n : ℕ} → x + y + z ≡ n → x + y ≡ n - z
-less e = omega (arith, e)
+less : (x y z n : ℕ) → x + y + z ≡ n → x + y ≡ n - z
+less x y z n e = omega (arith, e)
 
 -- the same of an accepted packing
 pub skipped-units : (b : List ℕ) (w o : ℕ) (p : List ℕ) → packed b w o ≡ made p → repeats b w o + namesakes b w o ≡ length (handedIn b) - length (kept (handedIn b))
 unfolding repeats namesakes counted
-skipped-units b w o p e = rw e (less (count-all (handedIn b)))
+skipped-units b w o p e = rw e (less (countOf repeat (handedIn b)) (countOf namesake (handedIn b)) (length (kept (handedIn b))) (length (handedIn b)) (count-all (handedIn b)))
