@@ -18,3 +18,4 @@ pub mod Paper
 pub mod Telling
 pub mod Packaged
 pub mod Refusing
+pub mod Skipped
