@@ -39,7 +39,7 @@ fn with_counts(finished: Finished, skipped: Skipped) -> Packing
         },
         Finished::Short(needed) => Packing {
             finished: Finished::Short(needed),
-            repeats: 0,
+            repeats: 0, // 18 is a refusal
             namesakes: 0,
         },
         Finished::Made(size) => Packing {
