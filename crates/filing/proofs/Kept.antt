@@ -10,7 +10,7 @@ use native.Mathlib.Omega.{arith}
 use native.Mathlib.Decide.{ℕ-discrete}
 use lib.ListN.{length, getD, set, length-append}
 use Rattle.octets.specs.Octets.{part}
-use Rattle.octets.specs.Lists.{any, same}
+use Rattle.octets.specs.Lists.{any, same as agree}
 use Rattle.octets.proofs.Parts.{length-part}
 use Rattle.numbers.specs.Sections.{sectionCodes}
 use Rattle.index.specs.Index.{Contribution}
@@ -111,7 +111,7 @@ module _ {five : Bool} {b : List ℕ} {n place : ℕ} {w : List ℕ} {st : InPro
 
   -- ---- skipped, and compared with the kept one
   pub held-skip : (size : ℕ) (u v : Filed) → any (isUnder (u .table) (u .identity)) us ≡ true → First (u .table) (u .identity) (kept us) v → UnitGood u → 20 ≤ size → place + size ≤ length b
-      → Held five b n (place + size) w (skippedOne st (same (u .bytes) (v .bytes))) bases (us ++ (u ∷ []))
+      → Held five b n (place + size) w (skippedOne st (agree (u .bytes) (v .bytes))) bases (us ++ (u ∷ []))
   held-skip size u v e f g l q =
       let same = kept-known us u e in
       record {
@@ -126,8 +126,8 @@ module _ {five : Bool} {b : List ℕ} {n place : ℕ} {w : List ℕ} {st : InPro
         unitsLow = λ c. omega (arith, ap (λ (ks : List Filed). length (unitBytes ks c)) same, h .unitsLow c);
         within = q;
         limit = h .limit;
-        repeated = ap (λ (z : ℕ). z + ofKind repeat (same (u .bytes) (v .bytes))) (h .repeated) ∙ sym (count-known repeat us u v f);
-        named = ap (λ (z : ℕ). z + ofKind namesake (same (u .bytes) (v .bytes))) (h .named) ∙ sym (count-known namesake us u v f);
+        repeated = ap (λ (z : ℕ). z + ofKind repeat (agree (u .bytes) (v .bytes))) (h .repeated) ∙ sym (count-known repeat us u v f);
+        named = ap (λ (z : ℕ). z + ofKind namesake (agree (u .bytes) (v .bytes))) (h .named) ∙ sym (count-known namesake us u v f);
       }
 
 -- ---- kept

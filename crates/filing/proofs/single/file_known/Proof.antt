@@ -16,14 +16,14 @@ returns : tie.Need-returns
 returns c = record { second = λ e. c .refused .ensures; skipped = λ f. absurd (f (c .before .if1 .taken)) }
 
 same-as-kept-requires : tie.Need-same-as-kept-requires
-same-as-kept-requires c κs = c .before .before .pre .compared
+same-as-kept-requires c κs = c .before .before .before .before .pre .compared
 
 skip-one-requires : tie.Need-skip-one-requires
-skip-one-requires c κs = c .before .before .before .pre .few
+skip-one-requires c κs = c .before .before .before .before .before .pre .few
 
 returns-2 : tie.Need-returns-2
 returns-2 c =
-    let a = c .before .before .before .before .args in
+    let a = c .before .before .before .before .before .before .args in
     record {
       second = λ e. absurd (c .before .before .if1 .left e);
       skipped = λ f. ap (λ (s : InProgress). record { code = 0; size = a .read .size; st = s }) (c .skip-one .ensures ∙ ap (λ (z : Bool). skippedOne (a .st) z) (c .before .same-as-kept .ensures));
