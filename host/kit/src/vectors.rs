@@ -5,9 +5,29 @@ use crate::reference::{Found, Packed, Skipped};
 #[derive(Clone, Debug, PartialEq, Eq)]
 pub enum Vector {
     /// Since ticket 11 with what was skipped.
-    Pack { bundle: Vec<u8>, work: usize, output: usize, answer: Packed, skipped: Option<Skipped> },
-    Lookup { package: Vec<u8>, version: u32, table: u32, identity: u64, section: u32, answer: Found },
-    String { package: Vec<u8>, version: u32, table: u32, identity: u64, entry: u64, answer: Found },
+    Pack {
+        bundle: Vec<u8>,
+        work: usize,
+        output: usize,
+        answer: Packed,
+        skipped: Option<Skipped>,
+    },
+    Lookup {
+        package: Vec<u8>,
+        version: u32,
+        table: u32,
+        identity: u64,
+        section: u32,
+        answer: Found,
+    },
+    String {
+        package: Vec<u8>,
+        version: u32,
+        table: u32,
+        identity: u64,
+        entry: u64,
+        answer: Found,
+    },
 }
 
 /// Bytes in hexadecimal; `-` is none.

@@ -32,8 +32,8 @@ pub fn units(bundle: &[u8]) -> Option<Vec<Unit>> {
             let bytes = &object.sections[span.nth].bytes[span.offset..span.end];
             let first = *kept.entry(identity).or_insert((number, span.at, bytes));
             if (first.0, first.1) != (number, span.at) {
-                let is_namesake = first.2 != bytes;
-                skipped.push(Unit { identity, object: number, section: span.section, offset: span.offset, is_namesake });
+                let (section, offset, is_namesake) = (span.section, span.offset, first.2 != bytes);
+                skipped.push(Unit { identity, object: number, section, offset, is_namesake });
             }
         }
     }
