@@ -49,7 +49,8 @@ pub fn answer_pack(b: &[u8], work: &mut [u32], out: &mut [u8]) -> Packed
     ensures work { λ _. ⌜ now (work .exit) ≡ zeros (length (now (work .entry))) ⌝ }
 {
     let r = crate::pack_counted(b, work, out);
-    answer_of(r.finished, r.repeats, r.namesakes)
+    let finished = r.finished;
+    answer_of(finished, r.repeats, r.namesakes)
 }
 
 pub fn answer_pack_small(b: &[u8], out: &mut [u8]) -> Packed
@@ -57,5 +58,6 @@ pub fn answer_pack_small(b: &[u8], out: &mut [u8]) -> Packed
     ensures output { λ _. ⌜ now (out .exit) ≡ outputOf (packedSmall (now (b .entry)) (length (now (out .entry)))) (length (now (out .entry))) ⌝ }
 {
     let r = crate::pack_small_counted(b, out);
-    answer_of(r.finished, r.repeats, r.namesakes)
+    let finished = r.finished;
+    answer_of(finished, r.repeats, r.namesakes)
 }
