@@ -71,22 +71,22 @@ Examples =
     × Packing.Examples
     × Lookups.Examples
     -- the whole package, and the length needed where the output is a byte too short
-    × (packed example 176 112 ≡ made exampleMade)
-    × (packed example 176 111 ≡ short 112)
+    × (packed example 220 112 ≡ made exampleMade)
+    × (packed example 220 111 ≡ short 112)
     -- identity 1: the unit, its part of abbrev; 2 is absent; by version means 22
     × (lookedUp exampleMade 5 1 1 1 ≡ part 12 20 1)
     × (lookedUp exampleMade 5 1 1 3 ≡ part 36 1 1)
     × (lookedUp exampleMade 5 1 2 1 ≡ absent 1)
     × (lookedUp exampleMade 2 1 1 1 ≡ refusal 22)
     -- a type unit already kept is skipped
-    × (packed typeTwice 272 96 ≡ made typeOnce)
+    × (packed typeTwice 340 96 ≡ made typeOnce)
     -- it is a repeat; where the output is a byte too short, nothing is counted
     × (repeats typeTwice 400 96 ≡ 1)
     × (namesakes typeTwice 400 96 ≡ 0)
     × (repeats typeTwice 400 95 ≡ 0)
     -- others of its signature are namesakes, also where they agree with each other: both are compared with the one kept
-    × (repeats typeThrice 400 96 ≡ 0)
-    × (namesakes typeThrice 400 96 ≡ 2)
+    × (repeats typeThrice 500 96 ≡ 0)
+    × (namesakes typeThrice 500 96 ≡ 2)
     -- the small packer's limit: 1,024 bytes are judged by their words, and a word more is 1
     × (packedSmall (zeros 1_024) 65_536 ≡ refused 3)
     × (packedSmall (zeros 1_028) 65_536 ≡ refused 1)

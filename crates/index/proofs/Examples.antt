@@ -48,7 +48,7 @@ ByPlace =
 abbrev pub Examples : Type 0
 Examples =
     -- n to slots
-    (map slotsFor (1 ∷ 2 ∷ 3 ∷ 4 ∷ 5 ∷ 6 ∷ 11 ∷ 12 ∷ []) ≡ 2 ∷ 4 ∷ 4 ∷ 8 ∷ 8 ∷ 16 ∷ 16 ∷ 32 ∷ [])
+    (map slotsFor (0 ∷ 1 ∷ 2 ∷ 3 ∷ 4 ∷ 5 ∷ 6 ∷ 11 ∷ 12 ∷ []) ≡ 2 ∷ 2 ∷ 4 ∷ 8 ∷ 8 ∷ 8 ∷ 16 ∷ 32 ∷ 32 ∷ [])
     -- identities 1 and 5 lie in slots 1 and 2 of 4
     × (slotsOf (1 ∷ 5 ∷ []) ≡ four)
     -- looking for 9 ends as absent after 3 looks

@@ -81,7 +81,7 @@ reaches (suc k) p n h =
       | no g ↦ rw (power-on k p n (omega arith)) (reaches k (2 * p) n (rw (doubled k p) h))
     ]
 
-below : (k p n : ℕ) → (powerFrom k p n ≡ p) ⊎ (powerFrom k p n < 2 * n)
+below : (k p n : ℕ) → (powerFrom k p n ≡ p) ⊎ (powerFrom k p n + 2 ≤ 2 * n)
 unfolding powerFrom
 below zero p n = inl refl
 below (suc k) p n =
@@ -108,9 +108,10 @@ pub leastPower-ge : (n : ℕ) → n ≤ 2 ^ 32 → n ≤ leastPower n
 unfolding leastPower
 leastPower-ge n h = reaches 32 1 n h
 
-pub leastPower-lt : (n : ℕ) → 0 < n → leastPower n < 2 * n
+-- the half of it is below n
+pub leastPower-le : (n : ℕ) → 1 < n → leastPower n + 2 ≤ 2 * n
 unfolding leastPower
-leastPower-lt n h = ⊎-elim (λ e. omega arith) (λ e. e) (below 32 1 n)
+leastPower-le n h = ⊎-elim (λ e. omega arith) (λ e. e) (below 32 1 n)
 
 -- a power of two is its own
 pub leastPower-kept : (j : ℕ) → j ≤ 32 → leastPower (2 ^ j) ≡ 2 ^ j
@@ -124,11 +125,20 @@ leastPower-twice n =
     ap (powerFrom 32 1) (d .is) ∙ kept 32 (d .times) 1 (d .within) (omega arith) ∙ sym (d .is)
 
 -- ---- slots
+-- the double of the slots exceeds 3n
+pub slotsFor-exceeds : (n : ℕ) → n ≤ 2 ^ 31 → 3 * n < 2 * slotsFor n
+unfolding slotsFor
+slotsFor-exceeds n b =
+    elim (decLt n 2) [
+      | yes h ↦ rw (slotsFor, lt-ltb n 2 h) (omega arith)
+      | no h ↦ rw (slotsFor, le-ltb n 2 (omega arith)) (omega (arith, leastPower-ge (3 * n / 2 + 1) (omega arith)))
+    ]
+
 pub slotsFor-few : (n : ℕ) → n < 2 → slotsFor n ≡ 2
 unfolding slotsFor
 slotsFor-few n h = rw (slotsFor, lt-ltb n 2 h)
 
-pub slotsFor-many : (n : ℕ) → 2 ≤ n → slotsFor n ≡ leastPower (3 * n / 2)
+pub slotsFor-many : (n : ℕ) → 2 ≤ n → slotsFor n ≡ leastPower (3 * n / 2 + 1)
 unfolding slotsFor
 slotsFor-many n h = rw (slotsFor, le-ltb n 2 h)
 
@@ -136,22 +146,18 @@ pub slotsFor-power : (n : ℕ) → PowerOfTwo (slotsFor n)
 slotsFor-power n =
     elim (decLt n 2) [
       | yes h ↦ record { power = 1; is = slotsFor-few n h }
-      | no h ↦ rw (slotsFor-many n (omega arith)) (leastPower-power (3 * n / 2))
+      | no h ↦ rw (slotsFor-many n (omega arith)) (leastPower-power (3 * n / 2 + 1))
     ]
 
--- more slots than units
+-- so there are more slots than units
 pub slotsFor-gt : (n : ℕ) → n ≤ 2 ^ 31 → n < slotsFor n
-slotsFor-gt n b =
-    elim (decLt n 2) [
-      | yes h ↦ rw (slotsFor-few n h) h
-      | no h ↦ rw (slotsFor-many n (omega arith)) (omega (arith, leastPower-ge (3 * n / 2) (omega arith)))
-    ]
+slotsFor-gt n b = omega (arith, slotsFor-exceeds n b)
 
 pub slotsFor-le : (n : ℕ) → 0 < n → slotsFor n ≤ 3 * n
 slotsFor-le n b =
     elim (decLt n 2) [
       | yes h ↦ rw (slotsFor-few n h) (omega arith)
-      | no h ↦ rw (slotsFor-many n (omega arith)) (omega (arith, leastPower-lt (3 * n / 2) (omega arith)))
+      | no h ↦ rw (slotsFor-many n (omega arith)) (omega (arith, leastPower-le (3 * n / 2 + 1) (omega arith)))
     ]
 
 -- the number fits 4 bytes
@@ -167,5 +173,5 @@ pub leastPower-slotsFor : (n : ℕ) → leastPower (slotsFor n) ≡ slotsFor n
 leastPower-slotsFor n =
     elim (decLt n 2) [
       | yes h ↦ rw (slotsFor-few n h) (leastPower-kept 1 (omega arith))
-      | no h ↦ rw (slotsFor-many n (omega arith)) (leastPower-twice (3 * n / 2))
+      | no h ↦ rw (slotsFor-many n (omega arith)) (leastPower-twice (3 * n / 2 + 1))
     ]

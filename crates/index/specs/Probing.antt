@@ -40,9 +40,9 @@ search rows identities x =
 unfoldable pub probe : Index → ℕ → Probe
 probe i x = search (i .rows) (i .identities) x
 
--- "slots: 2 if n < 2, else the least power of two not below 3n/2 rounded down"
+-- Ticket 3: "the least power of two whose double exceeds 3n, never below 2". The double exceeds 3n where the power exceeds 3n/2 rounded down.
 unfoldable pub slotsFor : ℕ → ℕ
-slotsFor n = elim (ltb n 2) [ true ↦ 2 | false ↦ leastPower (3 * n / 2) ]
+slotsFor n = elim (ltb n 2) [ true ↦ 2 | false ↦ leastPower (3 * n / 2 + 1) ]
 
 pub record Slots : Type 0 where
   pub identities : List ℕ

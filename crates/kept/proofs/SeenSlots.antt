@@ -4,7 +4,7 @@ use Prim.Native.Nat.{ℕ, _+_, _*_, _/_, _^_, _<_, _≤_}
 use native.Mathlib.Omega.{arith}
 use native.Mathlib.Decide.{decLt}
 use Rattle.index.specs.Held.{PowerOfTwo}
-use Rattle.index.proofs.Slots.{leastPower-ge, leastPower-lt, slotsFor-few, slotsFor-many, slotsFor-power}
+use Rattle.index.proofs.Slots.{slotsFor-few, slotsFor-gt, slotsFor-le, slotsFor-power}
 use Rattle.kept.specs.Slots.{seenSlots}
 
 pub seen-power : (n : ℕ) → PowerOfTwo (seenSlots n)
@@ -13,22 +13,11 @@ seen-power n = let p = slotsFor-power (n / 5) in record { power = p .power; is =
 
 pub seen-le : (n : ℕ) → 2 ≤ n → seenSlots n ≤ n
 unfolding seenSlots
-seen-le n h =
-    elim (decLt (n / 5) 2) [
-      | yes g ↦ omega (arith, slotsFor-few (n / 5) g)
-      | no g ↦
-          let m = n / 5 in
-          let p : 0 < 3 * m / 2 = omega arith in
-          omega (arith, slotsFor-many m (omega arith), leastPower-lt (3 * m / 2) p)
-    ]
+seen-le n h = elim (decLt (n / 5) 1) [
+  | yes g ↦ omega (arith, slotsFor-few (n / 5) (omega arith))
+  | no g ↦ omega (arith, slotsFor-le (n / 5) (omega arith))
+]
 
 pub seen-gt : (n k : ℕ) → n ≤ 1_048_576 → 5 * k + 5 ≤ n → k < seenSlots n
 unfolding seenSlots
-seen-gt n k l h =
-    elim (decLt (n / 5) 2) [
-      | yes g ↦ omega (arith, slotsFor-few (n / 5) g)
-      | no g ↦
-          let m = n / 5 in
-          let p : 3 * m / 2 ≤ 2 ^ 32 = omega arith in
-          omega (arith, slotsFor-many m (omega arith), leastPower-ge (3 * m / 2) p)
-    ]
+seen-gt n k l h = omega (arith, slotsFor-gt (n / 5) (omega arith))

@@ -61,7 +61,7 @@ pub fn slots_for(n: usize) -> usize
     if n < 2 {
         return 2;
     }
-    index::reading::least_power(3 * n / 2)
+    index::reading::least_power(3 * n / 2 + 1)
 }
 
 // The slots of identities seen, for a bundle of so many words.

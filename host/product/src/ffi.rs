@@ -139,7 +139,7 @@ pub fn pack_counted(bundle: &[u8], work: &mut [u32], output: &mut [u8]) -> (u32,
     })
 }
 
-/// The same with 4,096 words of its own, for a bundle of at most 1,024 bytes.
+/// The same with 5,120 words of its own, for a bundle of at most 1,024 bytes.
 pub fn pack_small_counted(bundle: &[u8], output: &mut [u8]) -> (u32, usize, Skipped) {
     packed(unsafe { barthovin_pack_small(bundle.as_ptr(), bundle.len(), output.as_mut_ptr(), output.len()) })
 }

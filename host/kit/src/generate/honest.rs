@@ -212,9 +212,22 @@ pub fn many_strings(count: u64) -> Vec<u8> {
     with_strings((0..count as u32).map(|i| i * 17).collect(), count)
 }
 
+/// So many different strings of one hash, each named once. The hash of the kept strings' index is linear: wherever one of two blocks
+/// stands in a string, the other gives the same.
+pub fn strings_of_one_hash(count: u64) -> Vec<u8> {
+    let block = |i: u64, bit: u32| if i >> bit & 1 == 0 { "abaqaa" } else { "fawadt" };
+    let string = |i: u64| (0..16).map(|bit| block(i, bit)).chain(["\0"]).collect::<String>().into_bytes();
+    naming((0..count as u32).map(|i| i * 97).collect(), (0..count).flat_map(string).collect())
+}
+
 fn with_strings(entries: Vec<u32>, count: u64) -> Vec<u8> {
+    naming(entries, strings(count))
+}
+
+/// One unit, and entries for strings.
+fn naming(entries: Vec<u32>, strings: Vec<u8>) -> Vec<u8> {
     let mut info = Vec::new();
     put_five(&mut info, 5, identity(0), BODY);
     let offsets = str_offsets(FIVE, entries.into_iter());
-    one_object(FIVE, vec![(1, info), (3, table(3)), (6, offsets), (11, strings(count))])
+    one_object(FIVE, vec![(1, info), (3, table(3)), (6, offsets), (11, strings)])
 }

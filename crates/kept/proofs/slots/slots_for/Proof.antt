@@ -1,4 +1,4 @@
--- `rows::slots::slots_for` meets its contract: both cases of the definition.
+-- `kept::slots::slots_for` meets its contract: both cases of the definition.
 -- Assumes nothing.
 use Rattle.index.proofs.Slots.{slotsFor-few, slotsFor-many}
 use mathlib.Core.Path.{sym, _∙_}
@@ -12,6 +12,9 @@ returns c = sym (slotsFor-few _ (c .if1 .taken))
 mul-least-power : tie.Need-mul-least-power
 mul-least-power c = search needs
 
+add-least-power : tie.Need-add-least-power
+add-least-power c = search needs
+
 least-power-requires : tie.Need-least-power-requires
 least-power-requires c κs = search needs
 
@@ -19,4 +22,4 @@ returns-2 : tie.Need-returns-2
 returns-2 c = c .least-power .ensures ∙ sym (slotsFor-many _ (c .before .if1 .left))
 
 pub slots-for-spec : {M : Type 1} → statement M
-slots-for-spec = tie.close (tie.spec returns mul-least-power least-power-requires returns-2)
+slots-for-spec = tie.close (tie.spec returns mul-least-power add-least-power least-power-requires returns-2)
