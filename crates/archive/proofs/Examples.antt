@@ -85,8 +85,8 @@ Examples =
     × (namesakes typeTwice 400 96 ≡ 0)
     × (repeats typeTwice 400 95 ≡ 0)
     -- others of its signature are namesakes, also where they agree with each other: both are compared with the one kept
-    × (repeats typeThrice 400 96 ≡ 0)
-    × (namesakes typeThrice 400 96 ≡ 2)
+    × (repeats typeThrice 500 96 ≡ 0)
+    × (namesakes typeThrice 500 96 ≡ 2)
     -- the small packer's limit: 1,024 bytes are judged by their words, and a word more is 1
     × (packedSmall (zeros 1_024) 65_536 ≡ refused 3)
     × (packedSmall (zeros 1_028) 65_536 ≡ refused 1)
