@@ -6,7 +6,7 @@ use kit::claim::Claim;
 use kit::generate::{call, long_line, many_units, reversed_rows, rows_beside_one_place, rows_of_one_place};
 use kit::generate::{strings_of, suffixes, Call, Random};
 use kit::lender::{Lender, Written};
-use kit::reference::{self, Packed, Skipped, LONGEST_BUNDLE, WORK_FOR_A_WORD};
+use kit::reference::{self, Bundle, Object, Packed, Skipped, LONGEST_BUNDLE, WORK_FOR_A_WORD};
 use kit::vectors::{parse_all, words, Vector};
 
 /// The small packer's limit and work.
@@ -109,17 +109,28 @@ fn bytes(numbers: &[u32]) -> Vec<u8> {
 }
 
 fn replay(text: &str, lines: usize) {
+    assert_eq!(replay_some(text, lines, |_| true), lines);
+}
+
+/// Compares the lines whose bundles are wanted; how many they are.
+fn replay_some(text: &str, lines: usize, wanted: impl Fn(&[u8]) -> bool) -> usize {
     let mut checks = Checks::new(10);
     let vectors = parse_all(text).expect("a line that is no vector");
     assert_eq!(vectors.len(), lines);
+    let mut compared = 0;
     for vector in vectors {
         let Vector::Pack { bundle, work, output, answer, skipped } = vector else { panic!("{vector:?}") };
+        if !wanted(&bundle) {
+            continue;
+        }
+        compared += 1;
         checks.compare(&bundle, Some(work), output, (answer.clone(), skipped));
         // The small packer has work enough for what it takes, so that only 2 can differ.
         if bundle.len() <= SMALL_BUNDLE && answer != Packed::Refused(2) {
             checks.compare(&bundle, None, output, (answer, skipped));
         }
     }
+    compared
 }
 
 #[test]
@@ -130,6 +141,18 @@ fn vectors() {
 #[test]
 fn directed_vectors() {
     replay(include_str!("vectors/pack-directed.txt"), 265);
+}
+
+/// Indexes in version 5 objects are ticket 5's.
+fn is_without_index_of_version_5(bundle: &[u8]) -> bool {
+    let has = |object: &Object| object.word & 0xFF == 5 && object.count(12) + object.count(13) > 0;
+    !Bundle::read(bundle).is_some_and(|bundle| bundle.objects.iter().any(has))
+}
+
+#[test]
+fn vectors_with_repeats_and_namesakes() {
+    let text = include_str!("vectors/pack-t11.txt");
+    assert_eq!(replay_some(text, 437, is_without_index_of_version_5), 335);
 }
 
 /// Some length of work or output: none, one less than needed, as needed, more.
