@@ -18,7 +18,7 @@ same-length-2 : tie.Need-same-length-2
 same-length-2 c = search needs
 
 returns : tie.Need-returns
-returns c = let p = c .before .before .before .before .before .before in (told-packing _ _ (p .pack-counted .result) _ (p .pack-counted .ensures .0) (c .answer-of .ensures), p .pack-counted .ensures .1)
+returns c = let p = c .before .before .before .before .before in (told-packing _ _ (p .pack-counted .result) _ (p .pack-counted .ensures .0) (c .answer-of .ensures), p .pack-counted .ensures .1)
 
 pub answer-pack-spec : {M : Type 1} → statement M
 answer-pack-spec =

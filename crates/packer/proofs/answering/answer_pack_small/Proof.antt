@@ -15,7 +15,7 @@ same-length : tie.Need-same-length
 same-length c = search needs
 
 returns : tie.Need-returns
-returns c = let p = c .before .before .before .before in (told-packing _ _ (p .pack-small-counted .result) _ (p .pack-small-counted .ensures .0) (c .answer-of .ensures), p .pack-small-counted .ensures .1)
+returns c = let p = c .before .before .before in (told-packing _ _ (p .pack-small-counted .result) _ (p .pack-small-counted .ensures .0) (c .answer-of .ensures), p .pack-small-counted .ensures .1)
 
 pub answer-pack-small-spec : {M : Type 1} → statement M
 answer-pack-small-spec =
