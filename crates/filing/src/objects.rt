@@ -78,13 +78,8 @@ pub fn add_object_strings(
     let store = work::store(n);
     let from = store.start;
     let to = from + store.size;
-    let Added::Table(more) = strings::table::add_strings(
-        o,
-        b,
-        &mut work[from..to],
-        table.size,
-        t,
-    ) else {
+    let Added::Table(more) = strings::table::add_strings(o, b, &mut work[from..to], table.size, t)
+    else {
         return StringsFiled {
             code: NO_STRING,
             strings: t,

@@ -49,7 +49,7 @@ both-kinds false = refl
 one-and-kept : (ks : List Filed) (u : Filed) → countOne repeat ks u + countOne namesake ks u + length (keep ks u) ≡ length ks + 1
 one-and-kept ks u = ⊎-elim
     (λ h. let f = first-stands (u .table) (u .identity) ks h in
-        rw (one-known repeat ks u (f .0) (f .1), one-known namesake ks u (f .0) (f .1), keep-known ks u h) (omega (arith, both-kinds (same (u .bytes) (f .0 .bytes)))))
+    rw (one-known repeat ks u (f .0) (f .1), one-known namesake ks u (f .0) (f .1), keep-known ks u h) (omega (arith, both-kinds (same (u .bytes) (f .0 .bytes)))))
     (λ h. rw (one-new repeat ks u h, one-new namesake ks u h, keep-new ks u h, length-append ks (u ∷ [])) (omega arith))
     (known (any (isUnder (u .table) (u .identity)) ks))
 
