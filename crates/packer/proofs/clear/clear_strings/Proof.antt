@@ -13,13 +13,13 @@ strings-requires c κs = search needs
 
 add-to : tie.Need-add-to
 add-to c =
-    let a = c .before .before in
-    omega (arith, strings-end _ _ _ (now (a .args .work)) (a .pre) (c .strings .ensures .0) (c .strings .ensures .1), a .fits, a .good)
+    let a = c .before .before .before in
+    omega (arith, strings-end _ _ _ (now (a .args .work)) (a .pre) (c .before .strings .ensures .0) (c .before .strings .ensures .1), a .fits, a .good)
 
 mul-clear-words : tie.Need-mul-clear-words
 mul-clear-words c =
-    let a = c .before .before in
-    omega (arith, strings-end _ _ _ (now (a .args .work)) (a .pre) (c .strings .ensures .0) (c .strings .ensures .1))
+    let a = c .before .before .before in
+    omega (arith, strings-end _ _ _ (now (a .args .work)) (a .pre) (c .before .strings .ensures .0) (c .before .strings .ensures .1))
 
 sub-clear-words : tie.Need-sub-clear-words
 sub-clear-words c = search needs
@@ -29,8 +29,8 @@ part-clear-words-start c = search needs
 
 part-clear-words-end : tie.Need-part-clear-words-end
 part-clear-words-end c =
-    let a = c .before .before in
-    strings-end _ _ _ (now (a .args .work)) (a .pre) (c .strings .ensures .0) (c .strings .ensures .1)
+    let a = c .before .before .before in
+    strings-end _ _ _ (now (a .args .work)) (a .pre) (c .before .strings .ensures .0) (c .before .strings .ensures .1)
 
 clear-words-requires : tie.Need-clear-words-requires
 clear-words-requires c κs = search needs
@@ -40,8 +40,8 @@ same-length c = search needs
 
 returns : tie.Need-returns
 returns c =
-    let a = c .before .before .before .before .before .before in
-    strings-cleared _ _ _ (now (a .args .work)) (a .pre) (c .before .before .before .before .strings .ensures .0) (c .before .before .before .before .strings .ensures .1) _ _ (c .before .before .clear-words .ensures) refl
+    let a = c .before .before .before .before .before .before .before in
+    strings-cleared _ _ _ (now (a .args .work)) (a .pre) (c .before .before .before .before .before .strings .ensures .0) (c .before .before .before .before .before .strings .ensures .1) _ _ (c .before .before .clear-words .ensures) refl
 
 pub clear-strings-spec : {M : Type 1} → statement M
 clear-strings-spec =
