@@ -15,15 +15,11 @@ use Rattle.octets.proofs.Checks.{known, true-false, and-both, and-left, and-rig
 use Rattle.octets.proofs.Lists.{any-cons, any-stops, those-append, those-keeps, those-skips}
 use Rattle.octets.proofs.Elements.{distinct-snoc, has-cons, has-skips}
 use Rattle.octets.proofs.Joined.{map-append}
-use Rattle.package.specs.Filing.{Filed, isUnder, keep, keepAll, kept}
+use Rattle.package.specs.Filing.{Filed, isUnder, keep, keepAll, kept, firstUnder}
 use Rattle.bundle.proofs.Every.{Every, nothing}
 use Rattle.package.proofs.Each.{each-snoc, each-head, each-tail}
 
 -- ---- the first unit of a table and an identity
-unfoldable pub firstUnder : ℕ → ℕ → List Filed → Option Filed
-firstUnder t x [] = none
-firstUnder t x (u ∷ us) = elim (isUnder t x u) [ true ↦ some u | false ↦ firstUnder t x us ]
-
 pub first-here : (t x : ℕ) (u : Filed) (us : List Filed) → isUnder t x u ≡ true → firstUnder t x (u ∷ us) ≡ some u
 unfolding firstUnder
 first-here t x u us e = rw (firstUnder, e)
