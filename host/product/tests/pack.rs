@@ -83,7 +83,7 @@ fn says_what_was_skipped() {
     let home = directory("skipped");
     fs::write(home.join("bundle"), bytes(SKIPPED)).unwrap();
     let run = |arguments: &[&str]| {
-        let output = run_in(&home, &[&["pack", "bundle", "-o", "package"], arguments].concat(), &[]);
+        let output = run_in(&home, &[&["pack", "bundle", "-o", "package"][..], arguments].concat(), &[]);
         assert_eq!((status(&output), message(&output)), (0, String::new()));
         text(&output)
     };
