@@ -3,7 +3,7 @@
 mod common;
 
 use barthovin::ffi::{self, Skipped};
-use barthovin::names::LONGEST_BUNDLE;
+use barthovin::names::{LONGEST_BUNDLE, WORK_FOR_A_WORD};
 use barthovin::reader::bundle::{put_end, put_section};
 use common::*;
 use std::fs;
