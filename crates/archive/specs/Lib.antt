@@ -5,6 +5,7 @@ pub mod Question
 pub mod Looks
 pub mod StrSection
 pub mod Many
+pub mod RoundTrip
 pub mod Refusing
 pub mod Skipped
 pub mod Paper
