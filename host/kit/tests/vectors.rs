@@ -41,7 +41,7 @@ fn pack_vectors() {
 
 #[test]
 fn vectors_with_repeats_and_namesakes() {
-    check(include_str!("vectors/pack-t11.txt"), 339);
+    check(include_str!("vectors/pack-t11.txt"), 343);
 }
 
 #[test]
