@@ -289,14 +289,14 @@ fn every_short_bundle() {
     let mut checks = Checks::new(22);
     let example = words(EXAMPLE).expect("words");
     for length in 0..=example.len() {
-        checks.pack(&example[..length], 176, 112);
+        checks.pack(&example[..length], 220, 112);
     }
     for a in 0..=255 {
-        checks.pack(&[a as u8], 16, 8);
+        checks.pack(&[a as u8], 20, 8);
         for b in 0..=255 {
-            checks.pack(&bytes(&[0xF000_0000 | a, 0x3000_0002 ^ b << 24]), 32, 8);
-            checks.pack(&bytes(&[0xF000_0001, 0x1000_0000 | a << 8 | b, 0x3000_0003]), 48, 12);
-            checks.pack(&bytes(&[0xF000_0000, 0x1008_0405, 0x2000_0000 | a << 20 | b, 0, 0x3000_0005]), 80, 20);
+            checks.pack(&bytes(&[0xF000_0000 | a, 0x3000_0002 ^ b << 24]), 40, 8);
+            checks.pack(&bytes(&[0xF000_0001, 0x1000_0000 | a << 8 | b, 0x3000_0003]), 60, 12);
+            checks.pack(&bytes(&[0xF000_0000, 0x1008_0405, 0x2000_0000 | a << 20 | b, 0, 0x3000_0005]), 100, 20);
         }
     }
     checks.counts.assert_reached("every short bundle", [1, 3, 4].into_iter());

@@ -79,10 +79,10 @@ fn found(name: &str, found: Found) -> String {
 /// What entries.c prints, by Rust's declarations.
 fn by_rust() -> String {
     let bundle: Vec<u8> = BUNDLE.iter().flat_map(|w| w.to_le_bytes()).collect();
-    let (mut work, mut output) = (vec![0; 16 * 17], vec![0; 1000]);
+    let (mut work, mut output) = (vec![0; 20 * 17], vec![0; 1000]);
     let (code, length) = barthovin::elf::read(&bundle, &mut output);
     let mut told = format!("read_elf {code} {length}\n");
-    for work_words in [16 * 17, 16] {
+    for work_words in [20 * 17, 16] {
         let (code, length) = ffi::pack(&bundle, &mut work[..work_words], &mut output[..10]);
         told += &format!("pack {code} {length} 0 0\n");
     }

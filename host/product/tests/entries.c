@@ -38,19 +38,19 @@ static void read_sheet(struct barthovin_written w, const uint8_t *page) {
 int main(void) {
     static uint8_t page[121];
     static uint8_t elf[2000];
-    static uint32_t work[16 * 17];
+    static uint32_t work[20 * 17];
     static uint8_t output[1000];
     const uint8_t *bundle = (const uint8_t *)words;
     struct barthovin_written read = barthovin_read_elf(bundle, sizeof words, output, 1000);
-    struct barthovin_packed packed = barthovin_pack(bundle, sizeof words, work, 16 * 17, output, 10);
+    struct barthovin_packed packed = barthovin_pack(bundle, sizeof words, work, 20 * 17, output, 10);
     printf("read_elf %u %zu\n", (unsigned)read.code, read.length);
     show_packed("pack", packed);
     packed = barthovin_pack(bundle, sizeof words, work, 16, output, 10);
     show_packed("pack", packed);
     show_from_bundle("pack_and_look_up",
-                     barthovin_pack_and_look_up(bundle, sizeof words, work, 16 * 17, output, 1000, 5, 1, 1, 3));
+                     barthovin_pack_and_look_up(bundle, sizeof words, work, 20 * 17, output, 1000, 5, 1, 1, 3));
     show_from_bundle("pack_and_look_up_string",
-                     barthovin_pack_and_look_up_string(bundle, sizeof words, work, 16 * 17, output, 1000, 5, 1, 1, 0));
+                     barthovin_pack_and_look_up_string(bundle, sizeof words, work, 20 * 17, output, 1000, 5, 1, 1, 0));
     show_from_bundle("pack_and_look_up",
                      barthovin_pack_and_look_up(bundle, sizeof words, work, 16, output, 1000, 5, 1, 1, 3));
     show_packed("pack_small", barthovin_pack_small((const uint8_t *)skipped, sizeof skipped, output, 1000));

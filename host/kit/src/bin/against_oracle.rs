@@ -19,7 +19,7 @@ use kit::generate::{call, Random};
 use kit::lender::{Lender, Written};
 use kit::measured::{by_thorins, measure, other_slots, Measure};
 use kit::oracle::Oracle;
-use kit::reference::{pack, Bundle, Packed};
+use kit::reference::{pack, work_for, Bundle, Packed};
 use kit::sample::Told;
 use std::collections::BTreeMap;
 use std::io::{Error, Result};
@@ -135,11 +135,11 @@ impl Tally {
         let read = Bundle::read(bundle).filter(|_| packing.code == 0);
         let Some(read) = read else {
             self.note(packing.code, tag);
-            let refused = packing.agrees(&pack(bundle, 4 * bundle.len(), usize::MAX));
+            let refused = packing.agrees(&pack(bundle, work_for(bundle), usize::MAX));
             return refused && !(tag == 0 && never.contains(&packing.code));
         };
         // A wrong package may be one of a bundle that has no measure.
-        let Packed::Made(wanted) = pack(bundle, 4 * bundle.len(), usize::MAX) else { return false };
+        let Packed::Made(wanted) = pack(bundle, work_for(bundle), usize::MAX) else { return false };
         let by = measure(&read);
         let thorins = by_thorins(bytes, &wanted).filter(|_| tag == 0);
         let told = thorins.as_deref().filter(|_| by == Measure::Thorin);
@@ -189,7 +189,7 @@ fn told(bundle: &[u8], tag: u8, answer: &[u8]) -> Option<Told> {
     };
     let bundle = bundle.to_vec();
     let is_measured = || Bundle::read(&bundle).is_some_and(|read| measure(&read) == Measure::Thorin);
-    match pack(&bundle, 4 * bundle.len(), usize::MAX) {
+    match pack(&bundle, work_for(&bundle), usize::MAX) {
         Packed::Made(_) if tag == 0 && is_measured() => Some(Told::Package { bundle, package: answer.to_vec() }),
         Packed::Refused(number @ 4..=16) => Some(Told::Refused { bundle, number, thorin }),
         _ => None,

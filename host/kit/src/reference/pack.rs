@@ -18,6 +18,11 @@ pub const LONGEST_BUNDLE: usize = 4_194_304;
 const LONGEST_SECTION: usize = 8_388_607;
 pub const WORK_FOR_A_WORD: usize = 20;
 
+/// The words of work that a bundle asks for.
+pub fn work_for(bundle: &[u8]) -> usize {
+    bundle.len() / 4 * WORK_FOR_A_WORD
+}
+
 const INFO: u32 = 1;
 const TYPES: u32 = 2;
 const ABBREV: u32 = 3;
@@ -55,7 +60,7 @@ fn package_of(bytes: &[u8], work_words: usize) -> Result<(Vec<u8>, Skipped), u32
     if !length_is_good(bytes.len(), LONGEST_BUNDLE) {
         return Err(1);
     }
-    if work_words < bytes.len() / 4 * WORK_FOR_A_WORD {
+    if work_words < work_for(bytes) {
         return Err(2);
     }
     let bundle = Bundle::read(bytes).ok_or(3u32)?;
