@@ -34,7 +34,7 @@ pub fn run(arguments: &[OsString]) -> Result<u8, Stop> {
     if names.is_empty() {
         return Err(call.wrong("the list names no file"));
     }
-    let joined = join(&names)?;
+    let joined = join(&call, &names)?;
     let about = format!("packing {}, {} bytes", show::count(names.len(), "file"), joined.bundle.len());
     let package =
         progress::shown(about, || package_of(&joined.bundle)).map_err(|number| told(&names, &joined, number))?;
@@ -44,7 +44,7 @@ pub fn run(arguments: &[OsString]) -> Result<u8, Stop> {
     let machine = named.or(joined.machine).unwrap_or(elf::MACHINES[0].1);
     let file = elf::file_of(&package, machine).map_err(|number| {
         refused(
-            &input::shown(to),
+            &output::shown(to),
             number,
             Some(format!("the machine is {machine}")).filter(|_| number == OTHER_MACHINE),
         )
