@@ -58,8 +58,16 @@ fn packages_are_read() {
     let lookup = format!("lookup NAME cu {identity} section info");
     let string = format!("lookup NAME cu {identity} string 0 --raw");
     let verify = format!("verify NAME {FILE}");
-    let calls =
-        ["list NAME", "list NAME --json", "sheet NAME", "profile NAME", &lookup, &string, &verify, "lookup NAME -qquestions"];
+    let calls = [
+        "list NAME",
+        "list NAME --json",
+        "sheet NAME",
+        "profile NAME",
+        &lookup,
+        &string,
+        &verify,
+        "lookup NAME -qquestions",
+    ];
     for call in calls {
         for name in ["package", "package.dwp"] {
             alike(&home, name, &|name| call.replace("NAME", name).split(' ').map(str::to_string).collect());
@@ -80,7 +88,11 @@ fn standard_input_is_named_once() {
     let twice = |arguments: &[&str], input: &[u8]| {
         let output = run_in(&home, arguments, input);
         let told = "barthovin: standard input is named twice, and can be read once\n";
-        assert_eq!((message(&output).as_str(), text(&output).as_str(), status(&output)), (told, "", 2), "{arguments:?}");
+        assert_eq!(
+            (message(&output).as_str(), text(&output).as_str(), status(&output)),
+            (told, "", 2),
+            "{arguments:?}"
+        );
     };
     twice(&["pack", "-", "-", "-o-"], &fs::read(FILE).unwrap());
     twice(&["pack", "@-", "-o-"], b"-\n");
@@ -97,7 +109,9 @@ fn refusals_name_the_stream() {
     let big = concat!(env!("CARGO_MANIFEST_DIR"), "/../../examples/real/files/clang-5be-race.dwo");
     for (to, shown) in [("-", "standard output"), ("out.dwp", "out.dwp")] {
         let output = run_in(&home, &["pack", big, "--elf", "-o", to], &[]);
-        let told = format!("barthovin: {shown}: refused 36: machines are 62 (x86-64), 183 (AArch64) and 243 (RISC-V): the machine is ");
+        let told = format!(
+            "barthovin: {shown}: refused 36: machines are 62 (x86-64), 183 (AArch64) and 243 (RISC-V): the machine is "
+        );
         assert!(message(&output).starts_with(&told), "{}", message(&output));
         assert_eq!((status(&output), output.stdout.len(), names(&home).len()), (1, 0, 0));
     }

@@ -72,16 +72,10 @@ fn wrong_files(home: &Path) -> Vec<Wrong> {
         Wrong::other("empty", "it has 0 bytes", "it has 0 bytes"),
         Wrong { kind: "directory", packed: directory.clone(), opened: directory.clone(), read: directory, status: 2 },
         Wrong::elf("elf32", format!("{NOT_ELF}it is of 32 bits")),
-        Wrong::elf(
-            "truncated",
-            format!("{NOT_ELF}its {} section headers end at byte {end}, and it has 700", good[60]),
-        ),
+        Wrong::elf("truncated", format!("{NOT_ELF}its {} section headers end at byte {end}, and it has 700", good[60])),
         Wrong::elf("compressed", format!("{UNUSABLE}.debug_line.dwo is compressed; compile without -gz")),
         Wrong::elf("relocated", format!("{UNUSABLE}.debug_info.dwo has relocations")),
-        Wrong::elf(
-            "executable",
-            format!("{NOT_ELF}it is a program or a shared library; its .dwo files are wanted"),
-        ),
+        Wrong::elf("executable", format!("{NOT_ELF}it is a program or a shared library; its .dwo files are wanted")),
         Wrong::other("text", "it has 9 bytes; it is a text: a list of files has @ before its name", "it has 9 bytes"),
         Wrong::elf(
             "no-unit",
