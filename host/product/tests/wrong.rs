@@ -91,12 +91,13 @@ fn every_command_says_one_clear_line() {
     fs::write(home.join("package"), bytes(PACKAGE)).unwrap();
     fs::write(home.join("questions"), "cu 1 section info\n").unwrap();
     let before = names(&home);
-    let packing: [&[&str]; 5] = [
+    let packing: [&[&str]; 6] = [
         &["pack", "NAME", "-o", "new"],
         &["pack", "NAME", "-o", "new.dwp"],
         &["pack", FILE, "NAME", "-o", "new"],
         &["pack", "NAME", FILE, "-o-"],
         &["verify", "package", FILE, "NAME"],
+        &["verify", "package", "NAME"],
     ];
     let opening: [&[&str]; 7] = [
         &["verify", "NAME", FILE],

@@ -146,8 +146,8 @@ fn joined(call: &Call, names: &[OsString]) -> Result<Joined, Stop> {
     Ok(joined)
 }
 
-/// What can't be joined to others is refused as the packer refuses it alone.
-fn not_a_bundle(call: &Call, shown: &str, bytes: &[u8]) -> Stop {
+/// What can't be taken apart is refused as the packer refuses it alone.
+pub fn not_a_bundle(call: &Call, shown: &str, bytes: &[u8]) -> Stop {
     match package_of(bytes) {
         Err(number) => {
             let names = Names { files: &[] };

@@ -31,7 +31,9 @@ pub fn read_either(name: &OsStr, magic: &[u8], most_with: usize, most: usize) ->
 
 fn open(name: &OsStr) -> Result<Box<dyn Read>, Stop> {
     if name != "-" {
-        return File::open(name).map(|file| Box::new(file) as _).map_err(|error| Stop::file(&shown(name), &error));
+        return File::open(name)
+            .map(|file| Box::new(file) as Box<dyn Read>)
+            .map_err(|error| Stop::file(&shown(name), &error));
     }
     if READ.swap(true, Ordering::Relaxed) {
         return Err(Stop::Trouble("standard input is named twice, and can be read once".to_string()));

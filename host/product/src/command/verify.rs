@@ -1,7 +1,7 @@
 //! `barthovin verify`: whether a package holds all that files were packed into it, before they are deleted.
 
 use super::call::{Call, Known};
-use super::files::{good_package, join, listed};
+use super::files::{good_package, join, listed, not_a_bundle};
 use super::{input, output, progress, show, Stop, DONE, NOT_DONE};
 use crate::verify::{verify, Fault, Report};
 use std::ffi::OsString;
@@ -25,8 +25,8 @@ pub fn run(arguments: &[OsString]) -> Result<u8, Stop> {
     let joined = join(&call, &files)?;
     let about = format!("looking for {} in the package", show::count(files.len(), "file"));
     let report = progress::shown(about, || verify(&package, &joined.bundle));
-    let report =
-        report.map_err(|why| Stop::Refused(format!("{}: this is no bundle: {why}", input::shown(&files[0]))))?;
+    // Several files were taken apart when they were joined.
+    let report = report.map_err(|_| not_a_bundle(&call, &input::shown(&files[0]), &joined.bundle))?;
     let named = |fault: &Fault| {
         let file = joined.files.get(fault.object - 1).cloned();
         let file = file.unwrap_or_else(|| format!("{}, object {}", input::shown(&files[0]), fault.object));
