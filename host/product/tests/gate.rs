@@ -54,7 +54,7 @@ fn laid_out(name: &str) -> std::path::PathBuf {
 fn the_gates_end_counts_the_tests_of_the_host_too() {
     let home = laid_out("gate");
     let output = make(&home, "test");
-    assert_eq!((message(&output), status(&output)), (String::new(), 0));
+    assert_eq!(status(&output), 0, "{}", message(&output));
     let told = text(&output);
     let lines: Vec<&str> = told.lines().collect();
     let end = ["tests of the host: 12 passed, 0 failed", "crates, edits and programs of rt ci:", "41 passed, 0 failed"];

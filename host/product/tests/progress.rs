@@ -23,7 +23,9 @@ const FLAGS: c_int = 0o2 | 0o400;
 /// A terminal: the side that is read here, and the side that a command writes to.
 fn terminal() -> (File, File) {
     let mut name = [0; 64];
-    let master = unsafe { File::from_raw_fd(posix_openpt(FLAGS)) };
+    let number = unsafe { posix_openpt(FLAGS) };
+    assert!(number >= 0, "no terminal is to be had");
+    let master = unsafe { File::from_raw_fd(number) };
     let opened = unsafe {
         [
             grantpt(master.as_raw_fd()),

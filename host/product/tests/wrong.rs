@@ -110,9 +110,9 @@ fn every_command_says_one_clear_line() {
     ];
     let reading: [&[&str]; 1] = [&["bundle", "NAME", "-o", "new"]];
     for Wrong { kind, packed, opened, read, status: wanted } in &wrong {
-        for (calls, told) in [(&packing[..], packed), (&opening, opened), (&reading, read)] {
+        for (calls, told) in [(&packing[..], packed), (&opening[..], opened), (&reading[..], read)] {
             for call in calls {
-                let call: Vec<&str> = call.iter().map(|word| if *word == "NAME" { kind } else { *word }).collect();
+                let call: Vec<&str> = call.iter().map(|word| if *word == "NAME" { *kind } else { *word }).collect();
                 let output = run_in(&home, &call, &[]);
                 let line = format!("barthovin: {kind}: {told}\n");
                 assert_eq!((message(&output), status(&output)), (line, *wanted), "{call:?}");
