@@ -138,8 +138,10 @@ fn refuses_what_is_no_bundle() {
     refused(&home, &vec![0; 4_200_000], &format!("{length}: it is longer"));
     let no_bundle = |why: &str| format!("refused 3: this is no bundle: {why}");
     let head = "the word at byte 0: a bundle starts with the word F0000000 or F0000001";
-    refused(&home, b"some text", &format!("{length}: it has 9 bytes"));
-    refused(&home, b"some text...", &no_bundle(head));
+    let list = "it is a text: a list of files has @ before its name";
+    refused(&home, b"some text", &format!("{length}: it has 9 bytes; {list}"));
+    refused(&home, b"some text...", &no_bundle(&format!("{head}; {list}")));
+    refused(&home, b"some \x07 bells", &no_bundle(head));
     let end = "the word at byte 40: the end word states 12 words, and they are 11";
     refused(&home, &changed("3000000B", "3000000C"), &no_bundle(end));
     let code = "the word at byte 32: a section of code 15; codes are 1 to 13";

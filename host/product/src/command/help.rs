@@ -61,9 +61,10 @@ const VERIFY: &str = "\
 Usage: barthovin verify [OPTION]... PACKAGE FILE...
 Look for every unit of the files in a package, with its parts and strings, and say whether the files may be deleted.
 
-PACKAGE is a file, or - for standard input; FILE is what was packed into it, in the same order: ELF files (.dwo), bundles or @LIST. Parts are
-compared byte for byte and strings letter for letter where the proved lookups find them. Of type units with one signature the package
-has the first; the others are often in other bytes, since they count strings and abbreviations as their own file does. Of the files only the debug sections are compared, the rest is not in the package.
+PACKAGE is a file, as it is or as an ELF file (.dwp); FILE is what was packed into it, in the same order: ELF files (.dwo), bundles or
+@LIST. One of them may be - for standard input. Parts are compared byte for byte and strings letter for letter where the proved lookups
+find them. Of type units with one signature the package has the first; the others are often in other bytes, since they count strings and
+abbreviations as their own file does. Of the files only the debug sections are compared, the rest is not in the package.
 
       --json      write the answer as a JSON object
   -h, --help      show this help and exit

@@ -41,7 +41,7 @@ pub fn run(arguments: &[OsString]) -> Result<u8, Stop> {
     if names.is_empty() {
         return Err(call.wrong("the list names no file"));
     }
-    let joined = join(&names)?;
+    let joined = join(&call, &names)?;
     let about = format!("packing {}, {} bytes", show::count(names.len(), "file"), joined.bundle.len());
     let packed = progress::shown(about, || packed(&joined.bundle));
     let (package, skipped) = packed.map_err(|number| told(&call, &names, &joined, number))?;
@@ -54,7 +54,7 @@ pub fn run(arguments: &[OsString]) -> Result<u8, Stop> {
 fn elf_file(call: &Call, to: &OsStr, package: &[u8], machine: Option<u32>) -> Result<Vec<u8>, Stop> {
     let machine = machine.unwrap_or(elf::MACHINES[0].1);
     let why = |number| Some(format!("the machine is {machine}")).filter(|_| number == OTHER_MACHINE);
-    elf::file_of(package, machine).map_err(|number| refused_call(call, &input::shown(to), number, why(number)))
+    elf::file_of(package, machine).map_err(|number| refused_call(call, &output::shown(to), number, why(number)))
 }
 
 /// How many type units were skipped, where there are any, and with --namesakes which of them are namesakes. It is said on standard error

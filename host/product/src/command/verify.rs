@@ -1,19 +1,13 @@
 //! `barthovin verify`: whether a package holds all that files were packed into it, before they are deleted.
 
 use super::call::{Call, Known};
-use super::files::{from_elf, join, listed, refused_call, LONGEST_FILE};
+use super::files::{good_package, join, listed, not_a_bundle};
 use super::{input, output, progress, show, Stop, DONE, NOT_DONE};
-use crate::answer::Found;
-use crate::elf;
-use crate::explain;
-use crate::ffi::{self, Skipped};
-use crate::names::LONGEST_PACKAGE;
+use crate::ffi::Skipped;
 use crate::verify::{verify, Fault, Report};
-use std::ffi::{OsStr, OsString};
+use std::ffi::OsString;
 
 const OPTIONS: [Known; 1] = [Known { long: "json", short: None, value: false }];
-
-const NOT_A_PACKAGE: u32 = 21;
 
 /// So many faults are told one by one.
 const TOLD: usize = 20;
@@ -28,12 +22,12 @@ pub fn run(arguments: &[OsString]) -> Result<u8, Stop> {
     if files.is_empty() {
         return Err(call.wrong("operand FILE is missing"));
     }
-    let package = package(&call, name)?;
-    let joined = join(&files)?;
+    let package = good_package(&call, name)?;
+    let joined = join(&call, &files)?;
     let about = format!("looking for {} in the package", show::count(files.len(), "file"));
     let report = progress::shown(about, || verify(&package, &joined.bundle));
-    let report =
-        report.map_err(|why| Stop::Refused(format!("{}: this is no bundle: {why}", input::shown(&files[0]))))?;
+    // Several files were taken apart when they were joined.
+    let report = report.map_err(|_| not_a_bundle(&call, &input::shown(&files[0]), &joined.bundle))?;
     let named = |fault: &Fault| {
         let file = joined.files.get(fault.object - 1).cloned();
         let file = file.unwrap_or_else(|| format!("{}, object {}", input::shown(&files[0]), fault.object));
@@ -49,17 +43,6 @@ pub fn run(arguments: &[OsString]) -> Result<u8, Stop> {
         return output::print(&found(&report));
     }
     Err(Stop::Refused(not_found(&input::shown(name), &report, &faults)))
-}
-
-/// A package as bytes, or the one in an ELF file; that it is one the proved lookup says, to any question.
-fn package(call: &Call, name: &OsStr) -> Result<Vec<u8>, Stop> {
-    let bytes = input::read_either(name, elf::MAGIC, LONGEST_FILE, LONGEST_PACKAGE)?;
-    let shown = input::shown(name);
-    let bytes = if bytes.starts_with(elf::MAGIC) { from_elf(&bytes, &shown)? } else { bytes };
-    if ffi::lookup(&bytes, 5, 1, 1, 1) == Found::Refused(NOT_A_PACKAGE) {
-        return Err(refused_call(call, &shown, NOT_A_PACKAGE, explain::not_a_package(&bytes)));
-    }
-    Ok(bytes)
 }
 
 fn counts(report: &Report) -> String {
