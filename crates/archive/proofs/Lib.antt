@@ -17,4 +17,8 @@ pub mod Demand3
 pub mod Paper
 pub mod Telling
 pub mod Packaged
+pub mod InInfo
+pub mod RoundTrip
+pub mod Unread
 pub mod Refusing
+pub mod Skipped

@@ -36,7 +36,7 @@ unfolding fileSize
 size-is e = refl
 
 -- ---- headers
-length-headers : (big : Bool) (table name at : ℕ) (ss : List Section) → length (w.headersFrom big table name at ss) ≡ 64 * length ss + 64
+pub length-headers : (big : Bool) (table name at : ℕ) (ss : List Section) → length (w.headersFrom big table name at ss) ≡ 64 * length ss + 64
 unfolding w.headersFrom
 length-headers big table name at [] = length-section big name w.stringTable at table
 length-headers big table name at (s ∷ ss) =

@@ -50,7 +50,7 @@ object-enter b big first place w v st t bases is us x i from a r input same low 
 -- the bases behind the object
 pub held-grown : (five : Bool) (b : List ℕ) (n place : ℕ) (w : List ℕ) (st : InProgress) (bases : BySection ℕ) (us : List Filed) (i : Input) (size more : List ℕ)
     → Held five b n place w st bases us → Summed (st .bases) size more sectionCodes → ((c : ℕ) → c < sectionCodes → getD size c 0 ≡ length (i .bytes c)) → ((c : ℕ) → bases c + length (i .bytes c) ≤ place)
-    → Held five b n place w (record { units = st .units; bases = more; strings = st .strings }) (grown bases i) us
+    → Held five b n place w (record { units = st .units; bases = more; strings = st .strings; skipped = st .skipped }) (grown bases i) us
 unfolding grown
 held-grown five b n place w st bases us i size more k s sizes low =
     record {
@@ -65,4 +65,6 @@ held-grown five b n place w st bases us i size more k s sizes low =
       unitsLow = k .unitsLow;
       within = k .within;
       limit = k .limit;
+      repeated = k .repeated;
+      named = k .named;
     }

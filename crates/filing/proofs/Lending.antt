@@ -42,4 +42,6 @@ module _ {r : Layout} {n : ℕ} {w v : List ℕ} (beside : Beside r) (o : Only r
         unitsLow = k .unitsLow;
         within = k .within;
         limit = k .limit;
+        repeated = k .repeated;
+        named = k .named;
       }

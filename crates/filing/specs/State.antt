@@ -15,7 +15,7 @@ abbrev pub wordsIn : List ℕ → ℕ
 wordsIn b = length b / 4
 
 abbrev pub withStrings : InProgress → StringTable → InProgress
-withStrings st t = record { units = st .units; bases = st .bases; strings = t }
+withStrings st t = record { units = st .units; bases = st .bases; strings = t; skipped = st .skipped }
 
 -- the strings are as they were, in work for a bundle of n words and by value
 pub record StringsKept (n : ℕ) (w v : List ℕ) (st next : InProgress) : Type 0 where

@@ -124,10 +124,12 @@ fn with_strings(st: InProgress, strings: StringTable) -> InProgress
 {
     let units = st.units;
     let bases = st.bases;
+    let skipped = st.skipped;
     InProgress {
         units,
         bases,
         strings,
+        skipped,
     }
 }
 

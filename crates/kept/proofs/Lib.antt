@@ -12,4 +12,6 @@ pub mod Indexing
 pub mod Placing
 pub mod Copying
 pub mod Holding
+pub mod Naming
+pub mod Comparing
 pub mod SeenSlots

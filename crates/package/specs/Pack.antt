@@ -17,7 +17,7 @@ use Rattle.index.specs.Rows.{BySection}
 use Rattle.index.specs.Written.{Row, indexBytes}
 use Rattle.package.specs.Pieces.{usedIn, remappedAll}
 use Rattle.package.specs.Input.{Input}
-use Rattle.package.specs.Filing.{Filed, Filing, filingOf, firstWord, kept}
+use Rattle.package.specs.Filing.{Filed, Filing, filingOf, firstWord, kept, Kind, repeat, namesake, countOf}
 
 -- ---- rows of the indexes
 -- a unit's cells: its own bytes in info or types, and its contributions where they lie in the package's sections
@@ -122,3 +122,16 @@ packed b w o = answered (judged b w) o
 -- every unit of an accepted bundle, in order
 unfoldable pub handedIn : List ℕ → List Filed
 handedIn b = elim (bundleOf b >>= filingOf b) [ pass f ↦ f .units | refuse n ↦ [] ]
+
+-- ---- repeats and namesakes
+-- "An accepted packing also answers how many of each were skipped. ... A refusal has both counts zero."
+unfoldable pub counted : Kind → List ℕ → Answer → ℕ
+counted k b (made p) = countOf k (handedIn b)
+counted k b (short n) = 0
+counted k b (refused n) = 0
+
+unfoldable pub repeats : List ℕ → ℕ → ℕ → ℕ
+repeats b w o = counted repeat b (packed b w o)
+
+unfoldable pub namesakes : List ℕ → ℕ → ℕ → ℕ
+namesakes b w o = counted namesake b (packed b w o)

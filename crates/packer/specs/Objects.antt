@@ -113,6 +113,7 @@ noneFiled = record {
   };
   bases = noSizes;
   strings = record { count = 0; size = 0; over = false };
+  skipped = record { repeats = 0; namesakes = 0 };
 }
 
 -- a bundle of n words, and work that is long enough

@@ -28,9 +28,9 @@ fn clear_strings(n: usize, work: &mut [u32])
     ensures { λ _. ⌜ StringsCleared n (now (work .entry)) (now (work .exit)) ⌝ }
 {
     let strings = work::strings(n);
-    let from = strings.start;
-    let to = from + strings.size;
-    octets::clear_words(&mut work[from..to]);
+    let first = strings.start;
+    let last = first + strings.size;
+    octets::clear_words(&mut work[first..last]);
 }
 
 // The slots of both tables, and the strings.

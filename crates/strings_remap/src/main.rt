@@ -35,7 +35,7 @@ fn write_sections(
     t: StringTable,
     output: &mut [u8],
 ) -> Outcome
-    requires { ⌜ (t .over ≡ false) × (words + o .strings .size ≤ length (now store)) × ((ts : List (List ℕ)) × KeptIn (now b) words (now store) t ts) × ((used : List (List ℕ)) × JudgedOf o (now b) used) ⌝ }
+    requires { ⌜ (t .over ≡ false) × (words + o .strings .size ≤ length (now store)) × ((s : List (List ℕ)) × KeptIn (now b) words (now store) t s) × ((u : List (List ℕ)) × JudgedOf o (now b) u) ⌝ }
 {
     let offsets = o.offsets;
     let at = offsets.size;

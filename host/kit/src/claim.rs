@@ -14,7 +14,7 @@ const STR: u32 = 11;
 const OTHER_VERSION: u32 = 22;
 const NO_ENTRY: u32 = 25;
 
-/// The slots of one table by document 01's rule: the identity in each, none where it is unused.
+/// The slots of one table by ticket 3's rule and document 01's placing: the identity in each, none where it is unused.
 pub struct Slots(pub Vec<Option<u64>>);
 
 /// The place in which an identity is looked for first, and the next ones.
@@ -27,10 +27,8 @@ fn places(identity: u64, slots: usize) -> impl Iterator<Item = usize> {
 impl Slots {
     /// Unit by unit, each in the first free slot.
     pub fn of(identities: &[u64]) -> Slots {
-        let mut count = 2;
-        while identities.len() > 1 && count < 3 * identities.len() / 2 {
-            count *= 2;
-        }
+        // More than half as many again as units, a power of two, at least 2.
+        let count = (3 * identities.len() / 2 + 1).next_power_of_two().max(2);
         let mut slots = vec![None; count];
         for identity in identities {
             let free = places(*identity, count).take(count).find(|place| slots[*place].is_none());

@@ -3,9 +3,13 @@
 //! thorin never reads a row's offset: it adds up the sizes of the rows of the kept units before it, table by table and object by object. And
 //! it reads abbreviations at the header's offset in the whole section. So its package is the measure where both come to the same as the
 //! row's own offset and the row's own part. Elsewhere the rule of DWARF stands alone, as `reference` has it.
+//!
+//! Since ticket 3 a table of 3, 11, 43, 171 and so on units has twice the slots that thorin gives it. There the reference alone judges the
+//! index; all else in the package is compared with thorin's.
 
+use crate::generate::{Draft, DraftObject};
 use crate::handed_in::{all, firsts};
-use crate::reference::Bundle;
+use crate::reference::{slot_count, Bundle, Index};
 use std::collections::HashMap;
 
 const SHARED: std::ops::RangeInclusive<u32> = 3..=10;
@@ -43,4 +47,39 @@ fn is_in_step(bundle: &Bundle) -> bool {
             in_step
         })
     })
+}
+
+/// thorin's rule, which was document 01's: the least power of two not below 3n/2 rounded down, and 2 for fewer than two units.
+fn thorins_slots(units: usize) -> usize {
+    if units < 2 {
+        2
+    } else {
+        (3 * units / 2).next_power_of_two()
+    }
+}
+
+/// The indexes of a package whose slots thorin counts otherwise, by their section codes.
+pub fn other_slots(package: &Bundle) -> Vec<u32> {
+    let units = |code: u32| {
+        let section = package.objects.first()?.section(code)?;
+        Index::read(section.bytes, package.big).map(|index| index.units as usize)
+    };
+    let differs = |code: &u32| units(*code).is_some_and(|units| thorins_slots(units) != slot_count(units));
+    [12, 13].into_iter().filter(differs).collect()
+}
+
+/// What a package must be by thorin's: all of thorin's, but for the indexes whose slots it counts otherwise, which are taken from a package of
+/// the same bundle that was made by ticket 3's rule. None where thorin's isn't a package or lacks such an index.
+pub fn by_thorins(thorins: &[u8], by_the_rule: &[u8]) -> Option<Vec<u8>> {
+    let (thorins_own, ours) = (Bundle::read(thorins)?, Bundle::read(by_the_rule)?);
+    let others = other_slots(&ours);
+    if others.is_empty() {
+        return Some(thorins.to_vec());
+    }
+    let object = thorins_own.objects.first()?;
+    let taken = |code: u32| if others.contains(&code) { &ours.objects[0] } else { object };
+    let sections = object.sections.iter().map(|s| (s.code, taken(s.code).bytes(s.code).to_vec())).collect();
+    let all_there = others.iter().all(|code| object.count(*code) == 1);
+    let package = Draft { big: thorins_own.big, objects: vec![DraftObject { word: object.word, sections }] };
+    all_there.then(|| package.bytes())
 }

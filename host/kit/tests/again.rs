@@ -2,11 +2,11 @@
 
 use kit::generate::{good, Random};
 use kit::lender::Lender;
-use kit::reference::{pack, Bundle, Index, Object, Packed};
+use kit::reference::{pack, work_for, Bundle, Index, Object, Packed};
 use kit::vectors::words;
 
 fn packed(bundle: &[u8]) -> Packed {
-    pack(bundle, 4 * bundle.len(), usize::MAX)
+    pack(bundle, work_for(bundle), usize::MAX)
 }
 
 /// The same through C.

@@ -2,7 +2,7 @@
 //! where it says so.
 
 use kit::lender::Lender;
-use kit::reference::{pack, Packed};
+use kit::reference::{pack, work_for, Packed};
 
 fn bundle(words: &str) -> Vec<u8> {
     words.split_whitespace().flat_map(|w| u32::from_str_radix(w, 16).expect("a word").to_le_bytes()).collect()
@@ -20,7 +20,7 @@ fn every_input_has_its_number() {
         let cells: Vec<&str> = line.split(" | ").collect();
         let Some(words) = cells.get(1).and_then(|c| c.strip_prefix("`F000")) else { continue };
         let bytes = bundle(&format!("F000{}", words.trim_end_matches('`')));
-        let (work, output) = (4 * bytes.len(), 1 << 20);
+        let (work, output) = (work_for(&bytes), 1 << 20);
         let answer = pack(&bytes, work, output);
         let packing = lent.pack(&bytes, work, output).unwrap_or_else(|e| panic!("{}: {e}", cells[0]));
         assert!(packing.agrees(&answer), "{}: {packing:?}, not {answer:?}", cells[0]);

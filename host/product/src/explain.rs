@@ -72,8 +72,11 @@ pub fn packing(bytes: &[u8], number: u32, names: &Names) -> Option<Why> {
             Some(Why::cause(format!("this makes {}, {over} too many{most}", bytes.len())))
         }
         1 if bytes.len() > LONGEST_BUNDLE => Some(Why::cause("it is longer".to_string())),
-        1 => Some(Why::cause(format!("it has {} bytes", bytes.len()))),
-        3 => Bundle::read(bytes).err().map(|e| Why::cause(format!("the word at byte {}: {}", e.at, e.why))),
+        1 => Some(Why::cause(format!("it has {} bytes{}", bytes.len(), if_text(bytes)))),
+        3 => {
+            let told = |at: usize, why: &str| format!("the word at byte {at}: {why}{}", if_text(bytes));
+            Bundle::read(bytes).err().map(|e| Why::cause(told(e.at, &e.why)))
+        }
         19 => too_long(&Bundle::read(bytes).ok()?).map(Why::cause),
         // Those that come object by object.
         4..=16 => {
@@ -83,6 +86,15 @@ pub fn packing(bytes: &[u8], number: u32, names: &Names) -> Option<Why> {
             Some(Why { object: Some(place.object), unit: place.unit, cause })
         }
         _ => None,
+    }
+}
+
+/// A text in the place of a bundle is most often a list of files.
+fn if_text(bytes: &[u8]) -> &'static str {
+    let printed = |c: char| !c.is_control() || matches!(c, '\n' | '\r' | '\t');
+    match std::str::from_utf8(bytes).is_ok_and(|text| !text.is_empty() && text.chars().all(printed)) {
+        true => "; it is a text: a list of files has @ before its name",
+        false => "",
     }
 }
 

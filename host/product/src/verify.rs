@@ -5,12 +5,12 @@
 
 use crate::answer::Found;
 use crate::batch;
-use crate::ffi;
+use crate::ffi::{self, Skipped};
 use crate::names::{section_name, table_name, RNGLISTS, STR, STR_OFFSETS};
 use crate::reader::bundle::{Bundle, Object};
 use crate::reader::index::Index;
 use crate::reader::number;
-use crate::reader::unit::{identity, spans, Span, Why};
+use crate::reader::unit::{spans, Identities, Span, Why};
 use std::collections::{HashMap, HashSet};
 use std::ops::Range;
 
@@ -18,10 +18,8 @@ use std::ops::Range;
 #[derive(Debug, Default)]
 pub struct Report {
     pub units: usize,
-    /// Type units whose signature was there before, and those of them whose bytes are others than the first one's: of each signature the
-    /// package has the first.
-    pub repeats: usize,
-    pub namesakes: usize,
+    /// Type units whose signature was there before, in the same bytes and in others: of each signature the package has the first.
+    pub skipped: Skipped,
     /// Entries of str_offsets.
     pub strings: usize,
     pub faults: Vec<Fault>,
@@ -123,11 +121,12 @@ impl Pair<'_> {
         let objects = self.objects;
         for (object, number) in objects.iter().zip(1..) {
             let indexes = [12, 13].map(|code| Index::read(object.bytes(code), object.encoding.big).ok());
+            let identities = Identities::of(object);
             for span in spans(object) {
                 self.report.units += 1;
-                let unit = match identity(object, &span) {
+                let unit = match identities.identity(&span) {
                     Ok((table, identity)) => Unit { table, identity },
-                    Err(Why::Header(why) | Why::Identity(why)) => {
+                    Err(Why::Header(why) | Why::Row(why) | Why::Identity(why)) => {
                         self.fault(
                             number,
                             None,
@@ -139,8 +138,8 @@ impl Pair<'_> {
                 let bytes = &object.sections[span.nth].bytes[span.offset..span.end];
                 if unit.table == 2 {
                     if let Some(first) = signatures.get(&unit.identity) {
-                        self.report.repeats += 1;
-                        self.report.namesakes += usize::from(*first != bytes);
+                        self.report.skipped.repeats += usize::from(*first == bytes);
+                        self.report.skipped.namesakes += usize::from(*first != bytes);
                         continue;
                     }
                     signatures.insert(unit.identity, bytes);

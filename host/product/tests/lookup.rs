@@ -84,7 +84,6 @@ fn says_why_a_file_is_no_package() {
     };
     let changed = |from: &str, to: &str| bytes(&PACKAGE.replace(from, to));
     refused(b"", "it has 0 bytes");
-    refused(b"\x7FELF....", "it is an ELF file");
     refused(b"text", "it has 4 bytes");
     refused(b"some text...", "the word at byte 0: a bundle starts with the word F0000000 or F0000001");
     refused(&changed("10080405", "10080403"), "it states DWARF version 3, offset width 4, address size 8");

@@ -2,7 +2,7 @@
 
 mod common;
 
-use barthovin::names::{RNGLISTS, STR, STR_OFFSETS, WORK_FOR_A_WORD};
+use barthovin::names::{OUTPUT_TOO_SHORT, RNGLISTS, STR, STR_OFFSETS, WORK_FOR_A_WORD};
 use barthovin::reader::bundle::put_end;
 use barthovin::reader::number;
 use barthovin::reader::package::Package;
@@ -213,6 +213,58 @@ fn every_change_is_noticed() {
         places += good.len();
     }
     assert!(places > 10_000, "{places}");
+}
+
+/// The same of a package written as an ELF file. Its header, names and section headers belong to no unit: of them only what leads to the
+/// sections' bytes must be noticed, and a unit's bytes are compared whatever else is changed.
+#[test]
+fn every_change_of_a_dwp_is_noticed() {
+    let mut places = 0;
+    for version in [4, 5] {
+        let bundle = bundle(&files(version, false));
+        let package = package(&bundle);
+        let good = elf::file_of(&package, 62).unwrap();
+        let read = Package::read(&package).unwrap();
+        let mut sections: Vec<_> = read.object.as_ref().unwrap().sections.iter().collect();
+        sections.sort_by_key(|section| section.code);
+        // The bytes of the sections stand behind the header, one behind the other: where each stands in the package.
+        let held: Vec<usize> = sections.iter().flat_map(|s| s.start..s.start + s.bytes.len()).collect();
+        assert!(held.iter().zip(&good[64..]).all(|(place, byte)| package[*place] == *byte));
+        let (mut frame, mut offsets, mut refused) = (0, 0, 0);
+        for place in 0..good.len() {
+            let mut changed = good.clone();
+            changed[place] ^= 1 << (place % 7);
+            let mut output = vec![0; 2 * good.len()];
+            let (mut code, mut length) = elf::read(&changed, &mut output);
+            if code == OUTPUT_TOO_SHORT {
+                output = vec![0; length];
+                (code, length) = elf::read(&changed, &mut output);
+            }
+            if code != 0 {
+                refused += 1;
+                continue;
+            }
+            if !verify(&output[..length], &bundle).unwrap().faults.is_empty() {
+                continue;
+            }
+            match place.checked_sub(64).and_then(|at| held.get(at)) {
+                None => frame += 1,
+                Some(at) if owner(&package, *at) == Owner::OffsetOfNothing => offsets += 1,
+                Some(at) => {
+                    panic!("version {version}, byte {place} ({:?}) is changed and not noticed", owner(&package, *at))
+                }
+            }
+        }
+        let outside = good.len() - held.len();
+        println!(
+            "version {version}: of {} bytes unnoticed {offsets} of empty parts' offsets and {frame} of {outside} outside sections; \
+             {refused} make the file unreadable",
+            good.len()
+        );
+        assert!(offsets <= 32 && refused > 50 && frame < outside, "{offsets} {refused} {frame}");
+        places += good.len();
+    }
+    assert!(places > 5_000, "{places}");
 }
 
 /// A byte between the parts, which a package made by others may have, is nobody's: its change is not noticed, and nothing is lost.

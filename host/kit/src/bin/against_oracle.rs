@@ -5,7 +5,8 @@
 //!
 //! ORACLE is a program that packs bundles with thorin (see `kit::oracle`). NUMBER accepted bundles are compared. Where thorin is the measure
 //! (`kit::measured` has the test) its package is compared byte for byte; the others, packages as input whose rows are out of step or whose
-//! abbreviations the whole section gives otherwise, are compared with the reference alone. It says how many were of each kind, and none may
+//! abbreviations the whole section gives otherwise, are compared with the reference alone. An index of so many units that thorin counts
+//! its slots otherwise is compared with the reference's, all other sections with thorin's. It says how many were of each kind, and none may
 //! differ: docs/DIFFERENCES.md names no other difference but refusals. For each refusal it is counted what thorin did; the numbers are
 //! compared with the reference's, and where docs/DIFFERENCES.md saw thorin pack nothing, it may not pack.
 //! What an accepted bundle hands in is looked up in its package.
@@ -16,9 +17,9 @@
 use kit::claim::{Claim, Counts};
 use kit::generate::{call, Random};
 use kit::lender::{Lender, Written};
-use kit::measured::{measure, Measure};
+use kit::measured::{by_thorins, measure, other_slots, Measure};
 use kit::oracle::Oracle;
-use kit::reference::{pack, Bundle, Packed};
+use kit::reference::{pack, work_for, Bundle, Packed};
 use kit::sample::Told;
 use std::collections::BTreeMap;
 use std::io::{Error, Result};
@@ -37,6 +38,9 @@ struct Tally {
     counts: BTreeMap<u32, [u64; 3]>,
     /// The packer's own package, another one, an error, a panic.
     measures: BTreeMap<&'static str, [u64; 4]>,
+    /// Of those that thorin measures: all of the package, and all but an index whose slots it counts otherwise.
+    whole: u64,
+    but_an_index: u64,
     differences: u64,
     smallest: Option<Vec<u8>>,
     /// Accepted bundles of several objects, with an index, and with a type skipped.
@@ -88,6 +92,8 @@ impl Tally {
         for (name, [same, other, error, panic]) in &self.measures {
             println!("{name:37} {same:8} {other:8} {error:8} {panic:8}");
         }
+        let (whole, but) = (self.whole, self.but_an_index);
+        println!("where thorin is the measure: {whole} packages byte for byte, {but} but for an index of other slots");
         println!("number  package    error    panic   (thorin's answers)");
         for (number, [package, error, panic]) in &self.counts {
             println!("{number:6} {package:8} {error:8} {panic:8}");
@@ -126,22 +132,25 @@ impl Tally {
     /// Notes an answer; whether it is thorin's where thorin is the measure, else the reference's.
     fn judge(&mut self, packing: &Written, bundle: &[u8], thorins: Thorins, never: &[u32]) -> bool {
         let Thorins { tag, bytes } = thorins;
-        let as_the_reference = || packing.agrees(&pack(bundle, 4 * bundle.len(), usize::MAX));
         let read = Bundle::read(bundle).filter(|_| packing.code == 0);
         let Some(read) = read else {
             self.note(packing.code, tag);
-            return as_the_reference() && !(tag == 0 && never.contains(&packing.code));
+            let refused = packing.agrees(&pack(bundle, work_for(bundle), usize::MAX));
+            return refused && !(tag == 0 && never.contains(&packing.code));
         };
         // A wrong package may be one of a bundle that has no measure.
-        if !matches!(pack(bundle, 4 * bundle.len(), usize::MAX), Packed::Made(_)) {
-            return false;
-        }
+        let Packed::Made(wanted) = pack(bundle, work_for(bundle), usize::MAX) else { return false };
         let by = measure(&read);
-        self.note_accepted(by, packing.bytes, tag, bytes);
-        match by {
-            Measure::Thorin => tag == 0 && packing.bytes == bytes,
-            _ => as_the_reference(),
+        let thorins = by_thorins(bytes, &wanted).filter(|_| tag == 0);
+        let told = thorins.as_deref().filter(|_| by == Measure::Thorin);
+        self.note_accepted(by, packing.bytes, tag, told.unwrap_or(bytes));
+        if by != Measure::Thorin {
+            return packing.bytes == wanted;
         }
+        let whole = Bundle::read(&wanted).is_some_and(|package| other_slots(&package).is_empty());
+        self.whole += u64::from(whole);
+        self.but_an_index += u64::from(!whole);
+        thorins.is_some_and(|thorins| packing.bytes == thorins)
     }
 }
 
@@ -180,7 +189,7 @@ fn told(bundle: &[u8], tag: u8, answer: &[u8]) -> Option<Told> {
     };
     let bundle = bundle.to_vec();
     let is_measured = || Bundle::read(&bundle).is_some_and(|read| measure(&read) == Measure::Thorin);
-    match pack(&bundle, 4 * bundle.len(), usize::MAX) {
+    match pack(&bundle, work_for(&bundle), usize::MAX) {
         Packed::Made(_) if tag == 0 && is_measured() => Some(Told::Package { bundle, package: answer.to_vec() }),
         Packed::Refused(number @ 4..=16) => Some(Told::Refused { bundle, number, thorin }),
         _ => None,

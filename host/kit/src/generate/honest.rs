@@ -1,7 +1,7 @@
 //! Large bundles as compilers make them: identities that look random, bodies of usual length. Each kind has one thing many times.
 
 use super::objects::{Draft, DraftObject};
-use crate::reference::{pack, Packed};
+use crate::reference::{pack, work_for, Packed};
 
 const FOUR: u32 = 0x1008_0404;
 const FIVE: u32 = 0x1008_0405;
@@ -195,7 +195,7 @@ fn package_again(count: u64) -> Vec<u8> {
         DraftObject { word: FOUR, sections: vec![(1, info), (3, table(3)), (4, body(i, 40).collect())] }
     };
     let bundle = Draft { big: false, objects: (0..count).map(object).collect() }.bytes();
-    match pack(&bundle, 4 * bundle.len(), usize::MAX) {
+    match pack(&bundle, work_for(&bundle), usize::MAX) {
         Packed::Made(package) => package,
         // Only a bundle above the limit; it is long enough to be seen as too long.
         _ => bundle,

@@ -20,7 +20,7 @@ pub fn units_of(identities: impl Iterator<Item = u64>) -> Vec<u8> {
     one_object(vec![(1, identities.flat_map(unit).collect()), (3, vec![0])])
 }
 
-/// So many compilation units: above 174,763 the index is too long (19).
+/// So many compilation units: above 174,762 the index is too long (19).
 pub fn many_units(count: u64) -> Vec<u8> {
     units_of(1..=count)
 }

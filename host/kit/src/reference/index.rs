@@ -117,12 +117,13 @@ fn probing(identity: u64, slots: usize) -> impl Iterator<Item = usize> {
     (0..slots as u64).map(move |i| (identity.wrapping_add(i.wrapping_mul(step)) & mask) as usize)
 }
 
+/// The least power of two whose double exceeds three times the units, never below 2.
 pub fn slot_count(units: usize) -> usize {
-    if units < 2 {
-        2
-    } else {
-        (3 * units / 2).next_power_of_two()
+    let mut slots = 2;
+    while 2 * slots <= 3 * units {
+        slots *= 2;
     }
+    slots
 }
 
 /// The row number in each slot, 0 where it is unused; none where the slots are too few, which `slot_count` excludes.

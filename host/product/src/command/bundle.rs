@@ -2,7 +2,7 @@
 
 use super::call::{Call, Known};
 use super::files::{from_elf, LONGEST_FILE};
-use super::{input, output, Stop, DONE};
+use super::{input, output, progress, Stop, DONE};
 use std::ffi::OsString;
 
 const OPTIONS: [Known; 1] = [Known { long: "output", short: Some(b'o'), value: true }];
@@ -14,7 +14,7 @@ pub fn run(arguments: &[OsString]) -> Result<u8, Stop> {
     };
     let from = &call.exactly(&["FILE"])?[0];
     let to = call.value("output").ok_or_else(|| call.wrong("no output is named: -o BUNDLE"))?;
-    let file = input::read(from, LONGEST_FILE)?;
-    let bundle = from_elf(&file, &input::shown(from))?;
+    let file = progress::shown("reading 1 file".to_string(), || input::read(from, LONGEST_FILE))?;
+    let bundle = from_elf(&call, &file, &input::shown(from))?;
     output::write(to, &bundle).map(|()| DONE)
 }

@@ -2,9 +2,11 @@
 
 use super::call::Call;
 use super::pack::package_of;
-use super::{input, meaning, output, show, Stop};
+use super::{input, meaning, output, progress, show, Stop};
+use crate::answer::Found;
 use crate::elf;
 use crate::explain::{self, Names};
+use crate::ffi;
 use crate::names::{LONGEST_BUNDLE, LONGEST_PACKAGE, OUTPUT_TOO_SHORT};
 use crate::reader::bundle::{put_end, Bundle};
 use std::ffi::{OsStr, OsString};
@@ -12,6 +14,9 @@ use std::os::unix::ffi::OsStrExt;
 
 /// The longest ELF file that is read; most of one may be sections that aren't wanted.
 pub const LONGEST_FILE: usize = 1 << 30;
+
+/// The refusal of what is no package.
+const NOT_A_PACKAGE: u32 = 21;
 
 /// The longest list of files.
 const LONGEST_LIST: usize = 1 << 26;
@@ -42,25 +47,40 @@ pub fn refused_call(call: &Call, file: &str, number: u32, why: Option<String>) -
 }
 
 /// Reads a file; an ELF file as the bundle of its sections, with the machine that it names.
-fn bundle_of(name: &OsString) -> Result<(Vec<u8>, Option<u32>), Stop> {
+fn bundle_of(call: &Call, name: &OsString) -> Result<(Vec<u8>, Option<u32>), Stop> {
     let bytes = input::read_either(name, elf::MAGIC, LONGEST_FILE, LONGEST_BUNDLE)?;
     if !bytes.starts_with(elf::MAGIC) {
         return Ok((bytes, None));
     }
-    from_elf(&bytes, &input::shown(name)).map(|bundle| (bundle, elf::machine_of(&bytes)))
+    from_elf(call, &bytes, &input::shown(name)).map(|bundle| (bundle, elf::machine_of(&bytes)))
 }
 
-/// Reads a package; of an ELF file (.dwp) the package that it holds. One that can't be read stays as it is, and is then no package.
-pub fn read_package(name: &OsStr) -> Result<Vec<u8>, Stop> {
-    let bytes = input::read_either(name, elf::MAGIC, LONGEST_FILE, LONGEST_PACKAGE)?;
-    if !bytes.starts_with(elf::MAGIC) {
-        return Ok(bytes);
+/// Reads a package; of an ELF file (.dwp) the package that it holds, or the refusal of such a file.
+pub fn read_package(call: &Call, name: &OsStr) -> Result<Vec<u8>, Stop> {
+    let read = || input::read_either(name, elf::MAGIC, LONGEST_FILE, LONGEST_PACKAGE);
+    let bytes = progress::shown("reading the package".to_string(), read)?;
+    match bytes.starts_with(elf::MAGIC) {
+        true => from_elf(call, &bytes, &input::shown(name)),
+        false => Ok(bytes),
     }
-    Ok(from_elf(&bytes, &input::shown(name)).unwrap_or(bytes))
+}
+
+/// The same of one that is a package. That it is the proved lookup says, to any question.
+pub fn good_package(call: &Call, name: &OsStr) -> Result<Vec<u8>, Stop> {
+    let bytes = read_package(call, name)?;
+    match ffi::lookup(&bytes, 5, 1, 1, 1) {
+        Found::Refused(NOT_A_PACKAGE) => Err(no_package(call, name, &bytes)),
+        _ => Ok(bytes),
+    }
+}
+
+/// The refusal of bytes that are no package.
+pub fn no_package(call: &Call, name: &OsStr, bytes: &[u8]) -> Stop {
+    refused_call(call, &input::shown(name), NOT_A_PACKAGE, explain::not_a_package(bytes))
 }
 
 /// The bundle of an ELF file.
-pub fn from_elf(file: &[u8], shown: &str) -> Result<Vec<u8>, Stop> {
+pub fn from_elf(call: &Call, file: &[u8], shown: &str) -> Result<Vec<u8>, Stop> {
     // A file whose sections don't lie over each other is longer than its bundle.
     let mut output = vec![0; file.len()];
     let (mut code, mut length) = elf::read(file, &mut output);
@@ -69,7 +89,7 @@ pub fn from_elf(file: &[u8], shown: &str) -> Result<Vec<u8>, Stop> {
         (code, length) = elf::read(file, &mut output);
     }
     if code != 0 {
-        return Err(refused(shown, code, explain::reading_elf(file, code)));
+        return Err(refused_call(call, shown, code, explain::reading_elf(file, code)));
     }
     output.truncate(length);
     Ok(output)
@@ -92,20 +112,24 @@ pub fn listed(names: &[OsString]) -> Result<Vec<OsString>, Stop> {
 }
 
 /// All files as one bundle, in the order given. A single bundle is taken as it is, whatever it holds.
-pub fn join(names: &[OsString]) -> Result<Joined, Stop> {
+pub fn join(call: &Call, names: &[OsString]) -> Result<Joined, Stop> {
+    progress::shown(format!("reading {}", show::count(names.len(), "file")), || joined(call, names))
+}
+
+fn joined(call: &Call, names: &[OsString]) -> Result<Joined, Stop> {
     if let [name] = names {
-        let (bundle, machine) = bundle_of(name)?;
+        let (bundle, machine) = bundle_of(call, name)?;
         let files = machine.map(|_| input::shown(name)).into_iter().collect();
         return Ok(Joined { bundle, files, machine });
     }
     let mut joined = Joined { bundle: Vec::new(), files: Vec::new(), machine: None };
     for name in names {
-        let (bytes, machine) = bundle_of(name)?;
+        let (bytes, machine) = bundle_of(call, name)?;
         joined.machine = joined.machine.or(machine);
         let shown = input::shown(name);
         let read = match Bundle::read(&bytes) {
             Ok(read) => read,
-            Err(_) => return Err(not_a_bundle(&shown, &bytes)),
+            Err(_) => return Err(not_a_bundle(call, &shown, &bytes)),
         };
         if joined.bundle.is_empty() {
             joined.bundle.extend(&bytes[..4]);
@@ -122,12 +146,12 @@ pub fn join(names: &[OsString]) -> Result<Joined, Stop> {
     Ok(joined)
 }
 
-/// What can't be joined to others is refused as the packer refuses it alone.
-fn not_a_bundle(shown: &str, bytes: &[u8]) -> Stop {
+/// What can't be taken apart is refused as the packer refuses it alone.
+pub fn not_a_bundle(call: &Call, shown: &str, bytes: &[u8]) -> Stop {
     match package_of(bytes) {
         Err(number) => {
             let names = Names { files: &[] };
-            refused(shown, number, explain::packing(bytes, number, &names).map(|why| why.told(&names)))
+            refused_call(call, shown, number, explain::packing(bytes, number, &names).map(|why| why.told(&names)))
         }
         Ok(_) => Stop::Trouble(format!("{shown}: the host can't take it apart")),
     }

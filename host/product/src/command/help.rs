@@ -44,8 +44,13 @@ files that the lines of LIST name (./@NAME for a file that is called so).
   -o, --output=PACKAGE   the file to write, or - for standard output; where its name ends in .dwp, an ELF file
       --elf              write an ELF file whatever its name
       --machine=MACHINE  of the ELF file: x86-64, aarch64 or riscv64; else that of the first ELF file read, else x86-64
+      --namesakes        list the type units that were skipped though their bytes are not those of the one kept
+      --json             write what was written and skipped as a JSON object
   -h, --help             show this help and exit
   -V, --version          show the version and exit
+
+Of type units with one signature the first is kept. How many were skipped is said where there are any: repeats, whose bytes are those of the one
+kept, and namesakes. It is said on standard error where the package goes to standard output.
 
 All files together make a bundle of at most 4,194,304 bytes. A file that is there keeps its mode, owner and links. It is written whole
 or not at all wherever a second file can stand beside it meanwhile.
@@ -56,9 +61,10 @@ const VERIFY: &str = "\
 Usage: barthovin verify [OPTION]... PACKAGE FILE...
 Look for every unit of the files in a package, with its parts and strings, and say whether the files may be deleted.
 
-PACKAGE is a file, or - for standard input; FILE is what was packed into it, in the same order: ELF files (.dwo), bundles or @LIST. Parts are
-compared byte for byte and strings letter for letter where the proved lookups find them. Of type units with one signature the package
-has the first; the others are often in other bytes, since they count strings and abbreviations as their own file does. Of the files only the debug sections are compared, the rest is not in the package.
+PACKAGE is a file, as it is or as an ELF file (.dwp); FILE is what was packed into it, in the same order: ELF files (.dwo), bundles or
+@LIST. One of them may be - for standard input. Parts are compared byte for byte and strings letter for letter where the proved lookups
+find them. Of type units with one signature the package has the first; the others are often in other bytes, since they count strings and
+abbreviations as their own file does. Of the files only the debug sections are compared, the rest is not in the package.
 
       --json      write the answer as a JSON object
   -h, --help      show this help and exit

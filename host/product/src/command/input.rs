@@ -4,15 +4,16 @@ use super::{show, Stop};
 use std::ffi::OsStr;
 use std::fs::File;
 use std::io::{self, Read};
+use std::sync::atomic::{AtomicBool, Ordering};
+
+/// Whether standard input was read already: it can be read once.
+static READ: AtomicBool = AtomicBool::new(false);
 
 /// All of a file, or of standard input for `-`; of one longer than `most` only so much that its length is refused.
 pub fn read(name: &OsStr, most: usize) -> Result<Vec<u8>, Stop> {
     let enough = most as u64 + 4;
     let mut bytes = Vec::new();
-    let taken = match name == "-" {
-        true => io::stdin().lock().take(enough).read_to_end(&mut bytes),
-        false => File::open(name).and_then(|file| file.take(enough).read_to_end(&mut bytes)),
-    };
+    let taken = open(name)?.take(enough).read_to_end(&mut bytes);
     taken.map(|_| bytes).map_err(|error| Stop::file(&shown(name), &error))
 }
 
@@ -25,11 +26,19 @@ pub fn read_either(name: &OsStr, magic: &[u8], most_with: usize, most: usize) ->
         source.take((most + 4 - bytes.len()) as u64).read_to_end(&mut bytes)?;
         Ok(bytes)
     };
-    let bytes = match name == "-" {
-        true => read_from(Box::new(io::stdin().lock())),
-        false => File::open(name).and_then(|file| read_from(Box::new(file))),
-    };
-    bytes.map_err(|error| Stop::file(&shown(name), &error))
+    read_from(open(name)?).map_err(|error| Stop::file(&shown(name), &error))
+}
+
+fn open(name: &OsStr) -> Result<Box<dyn Read>, Stop> {
+    if name != "-" {
+        return File::open(name)
+            .map(|file| Box::new(file) as Box<dyn Read>)
+            .map_err(|error| Stop::file(&shown(name), &error));
+    }
+    if READ.swap(true, Ordering::Relaxed) {
+        return Err(Stop::Trouble("standard input is named twice, and can be read once".to_string()));
+    }
+    Ok(Box::new(io::stdin().lock()))
 }
 
 /// How a file is called in messages.

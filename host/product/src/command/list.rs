@@ -1,11 +1,8 @@
 //! `barthovin list`: what a package holds.
 
 use super::call::{Call, Known};
-use super::files::{read_package, refused_call};
+use super::files::good_package;
 use super::{input, output, show, Stop, DONE};
-use crate::answer::Found;
-use crate::explain;
-use crate::ffi;
 use crate::names::{file_name, section_name, table_name};
 use crate::reader::index::Index;
 use crate::reader::package::Package;
@@ -14,19 +11,13 @@ use std::fmt::Write;
 
 const OPTIONS: [Known; 1] = [Known { long: "json", short: None, value: false }];
 
-const NOT_A_PACKAGE: u32 = 21;
-
 pub fn run(arguments: &[OsString]) -> Result<u8, Stop> {
     let call = match Call::read("list", &OPTIONS, arguments)? {
         Ok(call) => call,
         Err(status) => return Ok(status),
     };
     let name = &call.exactly(&["PACKAGE"])?[0];
-    let bytes = read_package(name)?;
-    // Whether it is a package the proved lookup says, to any question.
-    if ffi::lookup(&bytes, 5, 1, 1, 1) == Found::Refused(NOT_A_PACKAGE) {
-        return Err(refused_call(&call, &input::shown(name), NOT_A_PACKAGE, explain::not_a_package(&bytes)));
-    }
+    let bytes = good_package(&call, name)?;
     let package = Package::read(&bytes).map_err(|why| Stop::Trouble(format!("{}: {why}", input::shown(name))))?;
     let told = if call.has("json") { json(&package, bytes.len()) } else { text(&package, bytes.len()) };
     output::write_standard(told.as_bytes()).map(|()| DONE)

@@ -3,13 +3,14 @@
 //! A file that is there keeps its mode, its owner and its links, and one that may not be written is left alone, as cp does it. A file is
 //! written whole or not at all wherever a second one can stand beside it meanwhile.
 
-use super::stop::reason;
 use super::{show, Stop, DONE};
 use std::ffi::OsStr;
 use std::fs::{self, File, Metadata, OpenOptions};
 use std::io::{self, ErrorKind, Write};
 use std::os::unix::fs::MetadataExt;
 use std::path::{Path, PathBuf};
+
+const STANDARD: &str = "standard output";
 
 /// Prints a text and a newline.
 pub fn print(text: &str) -> Result<u8, Stop> {
@@ -22,7 +23,7 @@ pub fn write_standard(bytes: &[u8]) -> Result<(), Stop> {
     let written = output.write_all(bytes).and_then(|()| output.flush());
     written.map_err(|error| match error.kind() {
         ErrorKind::BrokenPipe => Stop::Closed,
-        _ => Stop::Trouble(format!("standard output: {}", reason(&error))),
+        _ => Stop::file(STANDARD, &error),
     })
 }
 
@@ -31,7 +32,16 @@ pub fn write(name: &OsStr, bytes: &[u8]) -> Result<(), Stop> {
     if name == "-" {
         return write_standard(bytes);
     }
-    write_file(Path::new(name), bytes).map_err(|error| Stop::file(&show::name(name), &error))
+    write_file(Path::new(name), bytes).map_err(|error| Stop::file(&shown(name), &error))
+}
+
+/// How what is written is called in messages.
+pub fn shown(name: &OsStr) -> String {
+    if name == "-" {
+        STANDARD.to_string()
+    } else {
+        show::name(name)
+    }
 }
 
 fn write_file(path: &Path, bytes: &[u8]) -> io::Result<()> {

@@ -1,9 +1,8 @@
 //! `barthovin profile`: whether a package is in the archive profile; `barthovin tables`: the tables that a reader of packages needs.
 
 use super::call::{Call, Known};
-use super::files::{read_package, refused_call};
-use super::{input, output, Stop, DONE, NOT_DONE};
-use crate::explain;
+use super::files::{no_package, read_package};
+use super::{output, Stop, DONE, NOT_DONE};
 use crate::profile::{conditions, CONDITIONS};
 use std::ffi::OsString;
 
@@ -20,10 +19,10 @@ pub fn run(arguments: &[OsString]) -> Result<u8, Stop> {
         Err(status) => return Ok(status),
     };
     let name = &call.exactly(&["PACKAGE"])?[0];
-    let package = read_package(name)?;
+    let package = read_package(&call, name)?;
     let (code, failed) = conditions(&package);
     if code == NOT_A_PACKAGE {
-        return Err(refused_call(&call, &input::shown(name), NOT_A_PACKAGE, explain::not_a_package(&package)));
+        return Err(no_package(&call, name, &package));
     }
     let failing: Vec<&str> = (0..CONDITIONS.len()).filter(|i| failed >> i & 1 == 1).map(|i| CONDITIONS[i]).collect();
     let told = match (call.has("json"), failing.is_empty()) {

@@ -1,19 +1,13 @@
 //! `barthovin verify`: whether a package holds all that files were packed into it, before they are deleted.
 
 use super::call::{Call, Known};
-use super::files::{from_elf, join, listed, refused_call, LONGEST_FILE};
+use super::files::{good_package, join, listed, not_a_bundle};
 use super::{input, output, progress, show, Stop, DONE, NOT_DONE};
-use crate::answer::Found;
-use crate::elf;
-use crate::explain;
-use crate::ffi;
-use crate::names::LONGEST_PACKAGE;
+use crate::ffi::Skipped;
 use crate::verify::{verify, Fault, Report};
-use std::ffi::{OsStr, OsString};
+use std::ffi::OsString;
 
 const OPTIONS: [Known; 1] = [Known { long: "json", short: None, value: false }];
-
-const NOT_A_PACKAGE: u32 = 21;
 
 /// So many faults are told one by one.
 const TOLD: usize = 20;
@@ -28,12 +22,12 @@ pub fn run(arguments: &[OsString]) -> Result<u8, Stop> {
     if files.is_empty() {
         return Err(call.wrong("operand FILE is missing"));
     }
-    let package = package(&call, name)?;
-    let joined = join(&files)?;
+    let package = good_package(&call, name)?;
+    let joined = join(&call, &files)?;
     let about = format!("looking for {} in the package", show::count(files.len(), "file"));
     let report = progress::shown(about, || verify(&package, &joined.bundle));
-    let report =
-        report.map_err(|why| Stop::Refused(format!("{}: this is no bundle: {why}", input::shown(&files[0]))))?;
+    // Several files were taken apart when they were joined.
+    let report = report.map_err(|_| not_a_bundle(&call, &input::shown(&files[0]), &joined.bundle))?;
     let named = |fault: &Fault| {
         let file = joined.files.get(fault.object - 1).cloned();
         let file = file.unwrap_or_else(|| format!("{}, object {}", input::shown(&files[0]), fault.object));
@@ -51,30 +45,14 @@ pub fn run(arguments: &[OsString]) -> Result<u8, Stop> {
     Err(Stop::Refused(not_found(&input::shown(name), &report, &faults)))
 }
 
-/// A package as bytes, or the one in an ELF file; that it is one the proved lookup says, to any question.
-fn package(call: &Call, name: &OsStr) -> Result<Vec<u8>, Stop> {
-    let bytes = input::read_either(name, elf::MAGIC, LONGEST_FILE, LONGEST_PACKAGE)?;
-    let shown = input::shown(name);
-    let bytes = if bytes.starts_with(elf::MAGIC) { from_elf(&bytes, &shown)? } else { bytes };
-    if ffi::lookup(&bytes, 5, 1, 1, 1) == Found::Refused(NOT_A_PACKAGE) {
-        return Err(refused_call(call, &shown, NOT_A_PACKAGE, explain::not_a_package(&bytes)));
-    }
-    Ok(bytes)
-}
-
 fn counts(report: &Report) -> String {
     format!("{}, {}", show::count(report.units, "unit"), show::count(report.strings, "string"))
 }
 
 fn found(report: &Report) -> String {
-    let repeats = match (report.repeats, report.namesakes) {
-        (0, _) => String::new(),
-        (repeats, 0) => format!("; {} of them repeat a type", repeats),
-        (repeats, others) => {
-            format!("; {repeats} of them repeat a type, {others} in other bytes than the first, which is kept")
-        }
-    };
-    format!("{}: all found{repeats}; the files may be deleted", counts(report))
+    let skipped = Some(report.skipped).filter(|skipped| *skipped != Skipped::default());
+    let skipped = skipped.map(|skipped| format!("; {}", show::skipped(skipped))).unwrap_or_default();
+    format!("{}: all found{skipped}; the files may be deleted", counts(report))
 }
 
 fn not_found(package: &str, report: &Report, faults: &[(String, String)]) -> String {
@@ -90,7 +68,7 @@ fn json(report: &Report, faults: &[(String, String)]) -> String {
     let fault =
         |(file, what): &(String, String)| format!("{{\"file\":{},\"what\":{}}}", show::json(file), show::json(what));
     let faults: Vec<String> = faults.iter().map(fault).collect();
-    let Report { units, repeats, namesakes, strings, .. } = report;
+    let Report { units, skipped: Skipped { repeats, namesakes }, strings, .. } = report;
     let verified = faults.is_empty();
     let counts = format!("\"units\":{units},\"repeats\":{repeats},\"namesakes\":{namesakes},\"strings\":{strings}");
     format!("{{\"verified\":{verified},{counts},\"faults\":[{}]}}", faults.join(","))

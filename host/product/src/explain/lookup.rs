@@ -1,16 +1,12 @@
 //! Why a lookup is refused.
 
 use crate::answer::Asked;
-use crate::elf::MAGIC;
 use crate::names::{section_name, table_name, STR, STR_OFFSETS};
 use crate::reader::number;
 use crate::reader::package::Package;
 
 /// Why 21 refuses a file.
 pub fn not_a_package(bytes: &[u8]) -> Option<String> {
-    if bytes.starts_with(MAGIC) {
-        return Some("it is an ELF file".to_string());
-    }
     Package::read(bytes).err()
 }
 

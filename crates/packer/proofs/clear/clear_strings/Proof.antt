@@ -11,8 +11,8 @@ use Rattle.packer.proofs.clear.clear_strings.Tie as tie
 strings-requires : tie.Need-strings-requires
 strings-requires c κs = search needs
 
-add-to : tie.Need-add-to
-add-to c =
+add-last : tie.Need-add-last
+add-last c =
     let a = c .before .before .before in
     omega (arith, strings-end _ _ _ (now (a .args .work)) (a .pre) (c .before .strings .ensures .0) (c .before .strings .ensures .1), a .fits, a .good)
 
@@ -48,7 +48,7 @@ clear-strings-spec =
     tie.close
     (tie.spec
     strings-requires
-    add-to
+    add-last
     mul-clear-words
     sub-clear-words
     part-clear-words-start

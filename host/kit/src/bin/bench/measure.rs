@@ -3,7 +3,7 @@
 use barthovin::ffi;
 use kit::clock;
 use kit::lender::Lender;
-use kit::measured::{measure, Measure};
+use kit::measured::{by_thorins, measure, Measure};
 use kit::oracle::Oracle;
 use kit::reference::{Bundle, WORK_FOR_A_WORD};
 use std::io::{Error, Result};
@@ -92,20 +92,22 @@ impl Bench {
         }
         let mut without = bundle.to_vec();
         without[5] = 0;
-        let whole = asked(oracle, bundle, 0, package)?;
-        let before = asked(oracle, &without, 1, b"bundle: offset width")?;
+        // An index whose slots thorin counts otherwise is not compared here.
+        let right = |answer: &[u8]| by_thorins(answer, package).is_some_and(|wanted| wanted == package);
+        let whole = asked(oracle, bundle, 0, right)?;
+        let before = asked(oracle, &without, 1, |answer| answer == b"bundle: offset width")?;
         Ok(Some(whole.saturating_sub(before)))
     }
 }
 
 /// The oracle's time for a question whose answer is known.
-fn asked(oracle: &mut Oracle, question: &[u8], tag: u8, wanted: &[u8]) -> Result<Duration> {
+fn asked(oracle: &mut Oracle, question: &[u8], tag: u8, right: impl Fn(&[u8]) -> bool) -> Result<Duration> {
     let mut answer = Vec::new();
     shortest(|| {
         let start = oracle.time();
         let told = oracle.ask(question, &mut answer)?;
         let took = clock::between(start, oracle.time()).ok_or_else(|| Error::other("no clock for another process"))?;
-        if told != tag || answer != wanted {
+        if told != tag || !right(&answer) {
             return Err(Error::other(format!("thorin differs on a bundle of {} bytes", question.len())));
         }
         Ok(took)

@@ -267,6 +267,7 @@ mod tests {
             kinds: vec![growth("a")],
             rows: vec![Rows { name: "c", answer: 15, rows: 10, bundle: 99, took }],
             strings: growth("b"),
+            one_hash: growth("d"),
             // Looking up.
             batch: took,
             lookups: vec![Lookup { name: "some", bytes: 12, took }],
