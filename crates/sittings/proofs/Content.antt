@@ -53,8 +53,8 @@ module _ (big : Bool) (first word : ℕ) (κ : ℕ → ℕ) (bytes : BySection (
   made : List Piece → Option Index → Option Index → Opened
   made ps cu tu = record { pieces = ps; cuIndex = cu; tuIndex = tu }
 
-  open : Check Opened
-  open = elim (eqb (e .version) 5 && (has 12 || has 13)) as (λ b. Check Opened) [
+  opens : Check Opened
+  opens = elim (eqb (e .version) 5 && (has 12 || has 13)) as (λ b. Check Opened) [
     | true ↦ index 12 >>= λ cu. (index 13 >>= λ tu. (tiledPieces e bytes cu tu >>= λ ps. pass (made ps cu tu)))
     | false ↦ whole >>= λ ps. (index 12 >>= λ cu. (index 13 >>= λ tu. pass (made ps cu tu)))
   ]
@@ -65,11 +65,11 @@ module _ (big : Bool) (first word : ℕ) (κ : ℕ → ℕ) (bytes : BySection (
     _ ← require (eqb word first) 5
     _ ← require edition 6
     _ ← require (has 3 && has 1 && (not (has 6) || has 11)) 7
-    t ← open
+    t ← opens
     pass (record { encoding = e; bytes = bytes; units = units; pieces = t .pieces; cuIndex = t .cuIndex; tuIndex = t .tuIndex })
 
 by-content : (b : List ℕ) (big : Bool) (first : ℕ) (o : Object) → inputOf b big first o ≡ inputBy big first (o .word) (count (o .parts)) (body b (o .parts)) (unitSections b (o .parts))
-unfolding inputOf inputBy e has twice edition index whole made open opened openedWhole openedTiled editionGood besideInfo complete present repeated inputIndex wholePieces isPacked
+unfolding inputOf inputBy e has twice edition index whole made opens opened openedWhole openedTiled editionGood besideInfo complete present repeated inputIndex wholePieces isPacked
 by-content b big first o = refl
 
 -- ---- each by the sections' bytes

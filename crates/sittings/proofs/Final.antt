@@ -30,7 +30,7 @@ use Rattle.sittings.proofs.Content.{filing-same, grownAll, filing-appen
 use Rattle.sittings.proofs.Rebased.{Both, none, Sees, Agree, Moved, filing-rebased}
 use Rattle.sittings.proofs.Alike.{ofHome}
 use Rattle.sittings.proofs.PackageWalk.{AgainIn}
-use Rattle.sittings.proofs.PackageUnit.{goes-on}
+use Rattle.sittings.proofs.Given.{goes-on}
 use Rattle.sittings.proofs.PackageHere.{all-sections, Filed-again, package-files}
 use Rattle.sittings.proofs.KeptTogether.{SharedOnly}
 use Rattle.sittings.proofs.SameSections.{Homed, Likewise, likewise-again, bytes-same, index-same, here-sees, table-same, shared-same, sections-same}

@@ -29,7 +29,7 @@ use Rattle.index.specs.Written.{Row, offsetOf, sizeOf}
 use Rattle.index.proofs.LawGrid.{noRow}
 use Rattle.index.proofs.LawWhole.{Indexed, row-found}
 use Rattle.index.proofs.RoundTrip.{written}
-use Rattle.index.proofs.LawCells.{anyHas, cell-there, cell-own, cell-absent, cell-without}
+use Rattle.index.proofs.LawCells.{anyHas, cell-own}
 use Rattle.index.proofs.Contributions.{all-has, needed-shared}
 use Rattle.index.specs.Rows.{partGood, rowContributions, rowNumbers, naming, theOne, abbrevPart}
 use Rattle.index.proofs.OneRow.{one-is, numbered, those-has}
@@ -39,18 +39,9 @@ use Rattle.package.specs.Pack.{cells, longer, rowsOf}
 use Rattle.package.proofs.Rows.{rowAt, rowsFrom, behindAll, nothingBefore, row-stands}
 use Rattle.package.proofs.Units.{readingOf}
 use Rattle.package.proofs.Cells.{cell-home, cell-some, cell-none}
+use Rattle.sittings.proofs.Given.{some-inj, some-none, goes-on, needed-is, row-given, cell-written}
 use Rattle.sittings.proofs.Local.{read-behind, unread}
 use Rattle.sittings.proofs.Alike.{Alike}
-
-some-inj : {A : Type 0} {a b : A} → some a ≡ some b → a ≡ b
-some-inj e = cc
-
-some-none : {A : Type 0} {a : A} {P : Type 0} → some a ≡ none → P
-some-none e = let z : _≡_ {A = ℕ} 0 1 = cc in absurd (omega arith)
-
--- the rest of a chain, once its first check passes
-pub goes-on : {A B : Type 0} (m : Check A) (f : A → Check B) (a : A) (b : B) → m ≡ pass a → (m >>= f) ≡ pass b → f a ≡ pass b
-goes-on m f a b e q = sym (then-pass m f a e) ∙ q
 
 -- ---- a table of the package as an input
 pub data TableIs (big : Bool) (version : ℕ) (rs : List Row) : Option Index → Type 0 where
@@ -108,16 +99,7 @@ module _ (e : Encoding) (i : Input) (ks : List Filed) (section : BySection (List
 
     -- a cell of its row that is there is its own, or zeros
     own-cell : (c : ℕ) (d : Contribution) → cellOf index (k + 1) c ≡ some d → (d .offset ≡ offsetOf (cells u place c)) × (d .size ≡ sizeOf (cells u place c)) × (anyHas rs c ≡ true)
-    own-cell c d q = ⊎-elim
-        (λ (t : anyHas rs c ≡ true). from t (columnIn (columnsOf (e .version)) c) refl)
-        (λ (t : anyHas rs c ≡ false). some-none (sym q ∙ cell-absent (e .version) rs (x .slots) (k + 1) c t))
-        (known (anyHas rs c))
-      where
-        from : anyHas rs c ≡ true → (o : Option ℕ) → columnIn (columnsOf (e .version)) c ≡ o → (d .offset ≡ offsetOf (cells u place c)) × (d .size ≡ sizeOf (cells u place c)) × (anyHas rs c ≡ true)
-        from t (some m) z =
-            let w : record { offset = offsetOf (getD rs k noRow .cells c); size = sizeOf (getD rs k noRow .cells c) } ≡ d = some-inj (sym (cell-there (e .version) rs (x .slots) k c m row-within z t) ∙ q) in
-            (ap (λ (y : Contribution). y .offset) (sym w) ∙ ap offsetOf (row-cell c), ap (λ (y : Contribution). y .size) (sym w) ∙ ap sizeOf (row-cell c), t)
-        from t none z = some-none (sym q ∙ cell-without (e .version) rs (x .slots) (k + 1) c z)
+    own-cell c d q = let w = cell-written (e .version) rs (x .slots) k c d row-within q in (w .0 ∙ ap offsetOf (row-cell c), w .1 ∙ ap sizeOf (row-cell c), w .2)
 
     -- the one row that names its place is its own
     by-place : (r : ℕ) → u .home ≡ 1 → theOne (naming index place (length (u .bytes))) ≡ pass r → r ≡ k + 1
@@ -190,9 +172,8 @@ module _ (e : Encoding) (i : Input) (ks : List Filed) (section : BySection (List
     given-none c h = is c ∙ rw h
 
     needs : (c : ℕ) (d : Contribution) → u .contributions c ≡ some d → has (neededCodes (lengths i)) c ≡ true
-    unfolding neededCodes lengths
-    needs c d q = those-has (λ n. not (eqb (lengths i n) 0)) shared c (facts .isShared c d q)
-        (ap not (ne-eqb (length (i .bytes c)) 0 (λ z. omega (arith, facts .there c d q, ap length (bytes c)))))
+    unfolding lengths
+    needs c d q = needed-is (lengths i) c (facts .isShared c d q) (λ z. omega (arith, facts .there c d q, ap length (bytes c)))
 
     elsewhere : (at c : ℕ) → (c ≡ u .home → ⊥) → cells u at c ≡ cells u place c
     unfolding cells
@@ -242,18 +223,6 @@ module _ (e : Encoding) (i : Input) (ks : List Filed) (section : BySection (List
       → contributionsOf i home at r ≡ pass g → rowContributions x (i .encoding .width) (lengths i) (r .identity) home at (r .size) ≡ pass g
   unfolding contributionsOf
   with-index home at r x g o q = rw (contributionsOf, o) at q
-
-  row-contributions : (x : Index) (at : ℕ) (g : BySection (Option Contribution)) → rowContributions x (i .encoding .width) (lengths i) (u .identity) (u .home) at (length (u .bytes)) ≡ pass g
-      → rowOf x (probe x (u .identity)) ≡ pass (k + 1)
-      → (all (λ c. isSome (cellOf x (k + 1) c)) (u .home ∷ neededCodes (lengths i)) ≡ true)
-      × ((c : ℕ) → g c ≡ (elim (has (neededCodes (lengths i)) c) as (λ b. Option Contribution) [ true ↦ cellOf x (k + 1) c | false ↦ none ]))
-  unfolding rowContributions
-  row-contributions x at g q r =
-      let q1 = goes-on (rowOf x (probe x (u .identity))) _ (k + 1) g r q in
-      let c1 = require-pass (all (λ s. isSome (cellOf x (k + 1) s)) (u .home ∷ neededCodes (lengths i))) 15 _ g q1 in
-      let c2 = require-pass (cellIs (ownPlace at (length (u .bytes))) (cellOf x (k + 1) (u .home))) 16 _ g (c1 .1) in
-      let c3 = require-pass (all (λ s. cellIs (partGood (i .encoding .width) (lengths i) s) (cellOf x (k + 1) s)) (neededCodes (lengths i))) 16 _ g (c2 .1) in
-      (c1 .0, λ c. ap (λ (f : BySection (Option Contribution)). f c) (sym (pass-inj (c3 .1))))
 
   -- the abbreviations that it is read by
   placed-abbreviations : (s : List ℕ) (x : Indexed big (e .version) rs s) (at : ℕ) (a : List ℕ) → at ≡ place → indexFor i (u .table) ≡ some (written (e .version) rs (x .slots))
@@ -310,7 +279,7 @@ module _ (e : Encoding) (i : Input) (ks : List Filed) (section : BySection (List
           let q3 : filing here at (u .bytes ++ rest) (readingOf u) ≡ pass v = ap (filing here at (u .bytes ++ rest)) (sym who) ∙ q2 in
           let q4 = rw free at q3 in
           let g = bind-pass (contributionsOf i (u .home) at (readingOf u)) _ v q4 in
-          let own = row-contributions index at (g .0) (with-index (u .home) at (readingOf u) index (g .0) o (g .1)) (row-of s x) in
+          let own = row-given index (i .encoding .width) (lengths i) (u .identity) (u .home) at (length (u .bytes)) (k + 1) (g .0) (with-index (u .home) at (readingOf u) index (g .0) o (g .1)) (row-of s x) in
           let front : u .bytes ≡ take (length (u .bytes)) (u .bytes ++ rest) = sym (take-at (u .bytes) rest (length (u .bytes)) refl) in
           let whole : re s x (g .0) (own .0) (own .1) ≡ v =
           (λ j. record { table = u .table; identity = u .identity; home = u .home; bytes = front j; input = i; contributions = g .0; bases = λ c. 0 }) ∙ pass-inj (g .2) in

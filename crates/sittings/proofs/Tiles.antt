@@ -17,11 +17,11 @@ use Rattle.package.proofs.Each.{each-head, each-tail, each-append, each-snoc, e
 use Rattle.index.specs.Index.{Contribution}
 use Rattle.index.specs.Tiles.{startsAt, tilesFrom}
 
-starts-here : (c : Contribution) (cs : List Contribution) (at : ℕ) → c .offset ≡ at → startsAt (c ∷ cs) at ≡ some (c .size)
+pub starts-here : (c : Contribution) (cs : List Contribution) (at : ℕ) → c .offset ≡ at → startsAt (c ∷ cs) at ≡ some (c .size)
 unfolding startsAt
 starts-here c cs at e = rw (startsAt, eq-eqb (c .offset) at e)
 
-starts-later : (c : Contribution) (cs : List Contribution) (at : ℕ) → (c .offset ≡ at → ⊥) → startsAt (c ∷ cs) at ≡ startsAt cs at
+pub starts-later : (c : Contribution) (cs : List Contribution) (at : ℕ) → (c .offset ≡ at → ⊥) → startsAt (c ∷ cs) at ≡ startsAt cs at
 unfolding startsAt
 starts-later c cs at e = rw (startsAt, ne-eqb (c .offset) at e)
 
