@@ -229,7 +229,7 @@ pub record InputParts (b : List ℕ) (big : Bool) (first : ℕ) (o : Object) (i 
   pub good : encodingGood (encodingOf big (o .word)) ≡ true
   pub word : o .word ≡ first
   pub edition : editionGood (encodingOf big (o .word)) (o .parts) ≡ true
-  pub open : opened (encodingOf big (o .word)) (o .parts) (body b (o .parts)) ≡ pass (openedOf i)
+  pub opens : opened (encodingOf big (o .word)) (o .parts) (body b (o .parts)) ≡ pass (openedOf i)
   pub is : i ≡ inputFrom b (encodingOf big (o .word)) (o .parts) (openedOf i)
 
 pub input-parts : (b : List ℕ) (big : Bool) (first : ℕ) (o : Object) (i : Input) → inputOf b big first o ≡ pass i → InputParts b big first o i
@@ -243,16 +243,16 @@ input-parts b big first o i q =
     let seven = require-pass (complete ps) 7 _ i (six .1) in
     let t = bind-pass (opened e ps (body b ps)) _ i (seven .1) in
     subst (InputParts b big first o) (pass-inj (t .2))
-    (record { good = four .0; word = eqb-true (o .word) first (five .0); edition = six .0; open = t .1; is = refl })
+    (record { good = four .0; word = eqb-true (o .word) first (five .0); edition = six .0; opens = t .1; is = refl })
 
 -- its indexes
 pub input-cu : (b : List ℕ) (big : Bool) (first : ℕ) (o : Object) (i : Input) → InputParts b big first o i
     → inputIndex (encodingOf big (o .word)) (o .parts) (body b (o .parts)) 12 ≡ pass (i .cuIndex)
-input-cu b big first o i p = opened-parts (encodingOf big (o .word)) (o .parts) (body b (o .parts)) (openedOf i) (p .open) .cuIndex
+input-cu b big first o i p = opened-parts (encodingOf big (o .word)) (o .parts) (body b (o .parts)) (openedOf i) (p .opens) .cuIndex
 
 pub input-tu : (b : List ℕ) (big : Bool) (first : ℕ) (o : Object) (i : Input) → InputParts b big first o i
     → inputIndex (encodingOf big (o .word)) (o .parts) (body b (o .parts)) 13 ≡ pass (i .tuIndex)
-input-tu b big first o i p = opened-parts (encodingOf big (o .word)) (o .parts) (body b (o .parts)) (openedOf i) (p .open) .tuIndex
+input-tu b big first o i p = opened-parts (encodingOf big (o .word)) (o .parts) (body b (o .parts)) (openedOf i) (p .opens) .tuIndex
 
 pub input-bytes : (b : List ℕ) (big : Bool) (first : ℕ) (o : Object) (i : Input) → InputParts b big first o i → (c : ℕ) → i .bytes c ≡ body b (o .parts) c
 input-bytes b big first o i p c = ap (λ (j : Input). j .bytes c) (p .is)
@@ -263,4 +263,4 @@ input-facts b big first o i h q =
     let e = encodingOf big (o .word) in
     subst (InputFacts (encodingOf big first)) (sym (p .is))
     (subst (λ (w : ℕ). InputFacts (encodingOf big w) (inputFrom b e (o .parts) (openedOf i)))
-    (p .word) (made b e (o .parts) (openedOf i) h (p .good) (p .edition) (opened-parts e (o .parts) (body b (o .parts)) (openedOf i) (p .open))))
+    (p .word) (made b e (o .parts) (openedOf i) h (p .good) (p .edition) (opened-parts e (o .parts) (body b (o .parts)) (openedOf i) (p .opens))))
