@@ -73,10 +73,10 @@ unfolding inputOf inputBy e has twice edition index whole made opens opened open
 by-content b big first o = refl
 
 -- ---- each by the sections' bytes
-holdsUnits : Section → Bool
+pub holdsUnits : Section → Bool
 holdsUnits s = eqb (s .code) 1 || eqb (s .code) 2
 
-units-in : (b : List ℕ) (ps : List Part) → unitSections b ps ≡ those holdsUnits (map (sectionIn b) ps)
+pub units-in : (b : List ℕ) (ps : List Part) → unitSections b ps ≡ those holdsUnits (map (sectionIn b) ps)
 unfolding unitSections holdsUnits sectionIn those
 units-in b [] = refl
 units-in b (p ∷ ps) = go (eqb (p .code) 1 || eqb (p .code) 2) refl (units-in b ps)
