@@ -73,7 +73,7 @@ unfolding inputOf inputBy e has twice edition index whole made opens opened open
 by-content b big first o = refl
 
 -- ---- each by the sections' bytes
-pub holdsUnits : Section → Bool
+unfoldable pub holdsUnits : Section → Bool
 holdsUnits s = eqb (s .code) 1 || eqb (s .code) 2
 
 pub units-in : (b : List ℕ) (ps : List Part) → unitSections b ps ≡ those holdsUnits (map (sectionIn b) ps)

@@ -41,7 +41,7 @@ use Rattle.sittings.proofs.Pieces.{PieceFacts, tilesOf}
 use Rattle.sittings.proofs.Strung.{piecesIn, pieces-append, bytes-length, starts-tile}
 
 -- ---- rows that name
-module _ {P : Contribution → Type 0} where
+module _ (P : Contribution → Type 0) where
   in-each : (o : Option Contribution) → ((d : Contribution) → o ≡ some d → 1 ≤ d .size → P d) → Every P (namedIn o)
   unfolding namedIn notEmpty
   in-each none h = nothing
@@ -103,9 +103,9 @@ module _ (e : Encoding) (table : List (List ℕ)) (inputs : List Input) (facts :
       (λ j. startsAt (tilesOf 0 (split j)) (place j)) ∙ starts-tile 0 front (p .piece) back filled ∙ ap some (sym (p .long))
 
   pub rows-start : (ks : List Filed) (t : ℕ) → ((xs : List Filed) (u : Filed) (ys : List Filed) → ks ≡ xs ++ (u ∷ ys)
-      → (u .home ≡ 6 → ⊥) × Lies nothingBefore inputs u × ((k : Contribution) → u .contributions 6 ≡ some k → 1 ≤ k .size → IsPiece 0 (u .input .pieces) k)) → Every (Names {P = Starts}) (rowsOf ks t)
+      → (u .home ≡ 6 → ⊥) × Lies nothingBefore inputs u × ((k : Contribution) → u .contributions 6 ≡ some k → 1 ≤ k .size → IsPiece 0 (u .input .pieces) k)) → Every (Names Starts) (rowsOf ks t)
   unfolding rowAt
-  rows-start ks t h = each-row (Names {P = Starts}) t ks (λ xs u ys q. let w = h xs u ys q in one u (behindAll nothingBefore xs (u .home)) (λ z. w .0 (sym z)) (w .1) (w .2) (u .contributions 6) refl)
+  rows-start ks t h = each-row (Names Starts) t ks (λ xs u ys q. let w = h xs u ys q in one u (behindAll nothingBefore xs (u .home)) (λ z. w .0 (sym z)) (w .1) (w .2) (u .contributions 6) refl)
     where
       one : (u : Filed) (at : ℕ) → (6 ≡ u .home → ⊥) → Lies nothingBefore inputs u → ((k : Contribution) → u .contributions 6 ≡ some k → 1 ≤ k .size → IsPiece 0 (u .input .pieces) k)
           → (o : Option Contribution) → u .contributions 6 ≡ o → 1 ≤ sizeOf (cells u at 6) → Starts (record { offset = offsetOf (cells u at 6); size = sizeOf (cells u at 6) })

@@ -15,7 +15,7 @@ use borrow.Author.Tests.{eqb-true, eqb-false, leb-true}
 use Rattle.octets.specs.Octets.{part}
 use Rattle.octets.specs.Lists.{those, has, any, joined}
 use Rattle.octets.specs.Checked.{Check, pass, refuse, _>>=_, require}
-use Rattle.octets.proofs.Checks.{bind-pass, require-pass, pass-inj, pass-refuse, known, true-false, and-both, and-left, and-right, not-left, or-cases, or-fails-left, or-fails-right}
+use Rattle.octets.proofs.Checks.{bind-pass, require-pass, pass-inj, pass-refuse, fails, known, and-both, and-left, and-right, not-left, or-cases, or-fails-left, or-fails-right}
 use Rattle.octets.proofs.Lists.{those-keeps, those-skips}
 use Rattle.octets.proofs.Numbers.{Bytes}
 use Rattle.bundle.specs.Bundle.{Part, Object, partsOf, count, firstPart, body}
@@ -87,6 +87,10 @@ input-complete b big first o i q =
     let six = require-pass (editionGood e (o .parts)) 6 _ i (five .1) in
     require-pass (complete (o .parts)) 7 _ i (six .1) .0
 
+info-there : (ps : List Part) → complete ps ≡ true → 1 ≤ count ps 1
+unfolding complete present
+info-there ps h = leb-true 1 (count ps 1) (and-right (present ps 3) (present ps 1) (and-left (present ps 3 && present ps 1) (not (present ps 6) || present ps 11) h))
+
 -- units of both tables give rows
 none-kept : (ks : List Filed) → Every (λ u. (u .table ≡ 1) ⊎ (u .table ≡ 2)) ks → ((t : ℕ) → (t ≡ 1) ⊎ (t ≡ 2) → rowsOf ks t ≡ []) → ks ≡ []
 none-kept [] e h = refl
@@ -102,13 +106,10 @@ none-kept (u ∷ us) e h =
 those-both : {A : Type 0} (f g : A → Bool) (xs : List A) → those f (those g xs) ≡ those g (those f xs)
 unfolding those
 those-both f g [] = refl
-those-both {A} f g (x ∷ xs) = go (known (f x)) (known (g x))
+those-both {A} f g (x ∷ xs) = go (those-both f g xs) (known (f x)) (known (g x))
   where
-    on : those f (those g xs) ≡ those g (those f xs)
-    on = those-both f g xs
-
-    go : (f x ≡ true) ⊎ (f x ≡ false) → (g x ≡ true) ⊎ (g x ≡ false) → those f (those g (x ∷ xs)) ≡ those g (those f (x ∷ xs))
-    go a b = ⊎-elim
+    go : those f (those g xs) ≡ those g (those f xs) → (f x ≡ true) ⊎ (f x ≡ false) → (g x ≡ true) ⊎ (g x ≡ false) → those f (those g (x ∷ xs)) ≡ those g (those f (x ∷ xs))
+    go on a b = ⊎-elim
         (λ (t : f x ≡ true). ⊎-elim
         (λ (s : g x ≡ true). ap (those f) (those-keeps g x xs s) ∙ those-keeps f x (those g xs) t ∙ ap (λ (l : List A). x ∷ l) on ∙ sym (ap (those g) (those-keeps f x xs t) ∙ those-keeps g x (those f xs) s))
         (λ (s : g x ≡ false). ap (those f) (those-skips g x xs s) ∙ on ∙ sym (ap (those g) (those-keeps f x xs t) ∙ those-skips g x (those f xs) s)) b)
@@ -122,6 +123,10 @@ of c s = record { code = c; bytes = s }
 list-units : (f : Filing) (cu tu : List ℕ) → those holdsUnits (sectionList f cu tu) ≡ of 1 (unitBytes (kept (f .units)) 1) ∷ of 2 (unitBytes (kept (f .units)) 2) ∷ []
 unfolding sectionList holdsUnits those
 list-units f cu tu = refl
+
+abbrev firstOf : List Sections → List Section
+firstOf [] = []
+firstOf (s ∷ ss) = s .sections
 
 module _ (b p : List ℕ) (a : Accepted b p) (h : Bytes b) (o : Object) (os : List Object) (q : a .bundle .objects ≡ o ∷ os) where
   abbrev big : Bool
@@ -163,11 +168,7 @@ module _ (b p : List ℕ) (a : Accepted b p) (h : Bytes b) (o : Object) (os : Li
   sections-are =
       let whole : Sections = record { word = o .word; sections = sectionsOf b p a } in
       let w : map (back.objectIn (bundled.written big (whole ∷ []))) (objectsFrom 4 (whole ∷ [])) ≡ whole ∷ [] = written-back big (whole ∷ []) in
-      ap (λ (x : List ℕ). map (sectionIn x) parts) (package-is b p a o os q) ∙ ap (λ (l : List Sections). firstOf l) w
-    where
-      firstOf : List Sections → List Section
-      firstOf [] = []
-      firstOf (s ∷ ss) = s .sections
+      ap (λ (x : List ℕ). map (sectionIn x) parts) (package-is b p a o os q) ∙ ap firstOf w
 
   units-are : unitSections p parts ≡ those nonEmpty (of 1 (unitBytes ks 1) ∷ of 2 (unitBytes ks 2) ∷ [])
   units-are =
@@ -189,7 +190,7 @@ module _ (b p : List ℕ) (a : Accepted b p) (h : Bytes b) (o : Object) (os : Li
 
   nothing-read : (big : Bool) (x : Index) (s : List ℕ) → s ≡ [] → indexOf big s ≡ pass x → ⊥
   unfolding indexOf
-  nothing-read big x s z r = pass-refuse x 10 (sym (ap (indexOf big) (sym z) ∙ r))
+  nothing-read big x s z r = pass-refuse x 10 (sym (ap (indexOf big) (sym z) ∙ r) ∙ fails (leb 16 0) 10 _ refl)
 
   index-is : (t c : ℕ) (x : Option Index) → (t ≡ 1) ⊎ (t ≡ 2) → section c ≡ indexOfTable a t → inputIndex e parts (body p parts) c ≡ pass x → TableIs big (e .version) (rowsOf ks t) x
   unfolding inputIndex encodingOf
@@ -256,10 +257,7 @@ module _ (b p : List ℕ) (a : Accepted b p) (h : Bytes b) (o : Object) (os : Li
 
         no-info : section 1 ≡ [] → ⊥
         no-info z =
-            let there = input-complete p big word obj i r in
-            let one : present parts 1 ≡ true = unfold complete in (and-right (present parts 3) (present parts 1) (and-left (present parts 3 && present parts 1) (not (present parts 6) || present parts 11) there)) in
-            let some-there : 1 ≤ count parts 1 = unfold present in (leb-true 1 (count parts 1) one) in
-            omega (arith, some-there, none-count parts 1 (section-missing b p a o os q 1 (ap length z)))
+            omega (arith, info-there parts (input-complete p big word obj i r), none-count parts 1 (section-missing b p a o os q 1 (ap length z)))
 
     -- ---- strings
     abbrev table : List (List ℕ)
@@ -293,7 +291,7 @@ module _ (b p : List ℕ) (a : Accepted b p) (h : Bytes b) (o : Object) (os : Li
       pieces-facts : Every (PieceFacts e table) (piecesIn (a .filing .inputs))
       pieces-facts = all-facts e table ok (eqb-true (e .version) 5 v) (a .filing .inputs) (facts .inputs) kept-strings
 
-      kept-pieces : (t : ℕ) → Every (Names {P = Starts e table (a .filing .inputs) (facts .inputs) pieces-facts}) (rowsOf ks t)
+      kept-pieces : (t : ℕ) → Every (Names (Starts e table (a .filing .inputs) (facts .inputs) pieces-facts)) (rowsOf ks t)
       unfolding isFive
       kept-pieces t = rows-start e table (a .filing .inputs) (facts .inputs) pieces-facts ks t (λ xs u ys z.
           let g = each-middle xs u ys (subst (Every (Good e)) z (kept-good e (a .filing) (a .cu) (a .tu) facts)) in
@@ -304,8 +302,8 @@ module _ (b p : List ℕ) (a : Accepted b p) (h : Bytes b) (o : Object) (os : Li
       starts : Every (Starts e table (a .filing .inputs) (facts .inputs) pieces-facts) (named (i .cuIndex) ++ named (i .tuIndex))
       unfolding indexFor
       starts = each-append
-          (table-each {P = Starts e table (a .filing .inputs) (facts .inputs) pieces-facts} big (e .version) (rowsOf ks 1) (i .cuIndex) (tables 1 (inl refl)) (kept-pieces 1))
-          (table-each {P = Starts e table (a .filing .inputs) (facts .inputs) pieces-facts} big (e .version) (rowsOf ks 2) (i .tuIndex) (tables 2 (inr refl)) (kept-pieces 2))
+          (table-each (Starts e table (a .filing .inputs) (facts .inputs) pieces-facts) big (e .version) (rowsOf ks 1) (i .cuIndex) (tables 1 (inl refl)) (kept-pieces 1))
+          (table-each (Starts e table (a .filing .inputs) (facts .inputs) pieces-facts) big (e .version) (rowsOf ks 2) (i .tuIndex) (tables 2 (inr refl)) (kept-pieces 2))
 
     strung : Restrung e ok table small (piecesIn (a .filing .inputs)) (i .pieces)
     unfolding isPacked

@@ -3,7 +3,7 @@
 use mathlib.Core.Path.{_≡_, refl, sym, ap, ap₂, _∙_, subst}
 use mathlib.Core.Bool.{Bool, true, _&&_}
 use mathlib.Core.List.{List, [], _∷_, _++_, map}
-use Prim.Native.Nat.{ℕ, _+_, _*_, _/_, _%_, _≤_}
+use Prim.Native.Nat.{ℕ, _+_, _*_, _/_, _%_, _≤_, _<_}
 use native.Mathlib.Omega.{arith}
 use lib.Dec.{eqb, leb}
 use lib.ListN.{length}
@@ -16,7 +16,10 @@ use Rattle.bundle.specs.Encoding.{Encoding, encodingOf}
 use Rattle.bundle.specs.Written.{Section, Sections}
 use Rattle.bundle.proofs.Every.{Every}
 use Rattle.bundle.proofs.Lies.{span, here-span}
-use Rattle.bundle.proofs.RoundTrip.{partsFrom}
+use Rattle.bundle.specs.Written.{written}
+use Rattle.bundle.proofs.Back as back
+use Rattle.bundle.proofs.Back.{round-trip}
+use Rattle.bundle.proofs.RoundTrip.{Storables, partsFrom}
 use Rattle.bundle.proofs.Sizes.{bundle-totals}
 use Rattle.bundle.proofs.Whole.{readable}
 use Rattle.package.specs.Input.{Input, inputOf}
@@ -26,7 +29,7 @@ use Rattle.package.proofs.Accepted.{Accepted, made-judged, packed-accepted}
 use Rattle.package.proofs.Each.{each-so}
 use Rattle.package.proofs.Filing.{filing-facts}
 use Rattle.package.proofs.PackageRead.{sectionsOf, package-read}
-use Rattle.sittings.specs.Sittings.{sectionIn, objectIn, Holds, TwoSittings}
+use Rattle.sittings.specs.Sittings.{sectionIn, objectIn, Holds, Sitting, TwoSittings}
 use Rattle.sittings.proofs.Content.{input-same}
 use Rattle.sittings.proofs.Filed.{filed-each}
 use Rattle.sittings.proofs.Final.{together-judged}
@@ -40,11 +43,11 @@ map-split : {A B : Type 0} (f : A → B) (xs : List A) (ys zs : List B) → map 
     → (front : List A) × (back : List A) × (xs ≡ front ++ back) × (map f front ≡ ys) × (map f back ≡ zs)
 map-split f xs [] zs q = ([], xs, refl, refl, q)
 map-split f [] (y ∷ ys) zs q = absurd (let z : _≡_ {A = ℕ} 0 1 = cc in omega arith)
-map-split {A} f (x ∷ xs) (y ∷ ys) zs q =
+map-split {A} {B} f (x ∷ xs) (y ∷ ys) zs q =
     let head : f x ≡ y = cc in
     let tail : map f xs ≡ ys ++ zs = cc in
     let r = map-split f xs ys zs tail in
-    (x ∷ r .0, r .1, ap (λ (l : List A). x ∷ l) (r .2), ap₂ (λ a l. a ∷ l) head (r .3), r .4)
+    (x ∷ r .0, r .1, ap (λ (l : List A). x ∷ l) (r .2), ap₂ (λ (a : B) (l : List B). a ∷ l) head (r .3), r .4)
 
 -- a bundle that is read is long enough, and of whole words
 spans : (is : List Item) → span is % 4 ≡ 0
@@ -63,7 +66,7 @@ length-good b k q l =
     (eq-eqb (length b % 4) 0 (omega (arith, n, spans (r .all))))
 
 -- an object's word, and the package's object, of objects that hold the same
-first-same : (b c : List ℕ) (os ps qs : List Object) (o : Object) (more : List Object) → os ≡ o ∷ more → map (objectIn b) ps ≡ map (objectIn c) os
+first-same : (b c : List ℕ) (os ps qs : List Object) (o : Object) (rest : List Object) → os ≡ o ∷ rest → map (objectIn b) ps ≡ map (objectIn c) os
     → (firstWord (ps ++ qs) ≡ firstWord os) × ((ss : List Section) → packageObjects (ps ++ qs) ss ≡ record { word = firstWord os; sections = ss } ∷ [])
 first-same b c os ps qs o rest z h = go ps (h ∙ ap (map (objectIn c)) z)
   where
@@ -78,7 +81,7 @@ first-same b c os ps qs o rest z h = go ps (h ∙ ap (map (objectIn c)) z)
 -- ---- the law, of bundles that were read
 module _ (first second together p q : List ℕ) (a : Accepted first p) (a₂ : Accepted second q) (bytes : Bytes first) (bytes₂ : Bytes second) (o : Object) (os : List Object)
     (objects : a .bundle .objects ≡ o ∷ os) (big₂ : a₂ .bundle .big ≡ a .bundle .big) (x : Object) (qs : List Object) (objects₂ : a₂ .bundle .objects ≡ x ∷ qs)
-    (package : objectIn second x ≡ objectIn p (record { word = o .word; parts = partsFrom 8 (sectionsOf first p a) })) where
+    (packaged : objectIn second x ≡ objectIn p (record { word = o .word; parts = partsFrom 8 (sectionsOf first p a) })) where
   abbrev big : Bool
   big = a .bundle .big
 
@@ -90,7 +93,7 @@ module _ (first second together p q : List ℕ) (a : Accepted first p) (a₂ : A
 
   x-word : x .word ≡ word
   unfolding objectIn firstWord
-  x-word = ap (λ (s : Sections). s .word) package ∙ sym (ap firstWord objects)
+  x-word = ap (λ (s : Sections). s .word) packaged ∙ sym (ap firstWord objects)
 
   filed : filingFrom first big word (λ c. 0) [] (a .bundle .objects) ≡ pass (a .filing)
   unfolding filingOf
@@ -111,7 +114,7 @@ module _ (first second together p q : List ℕ) (a : Accepted first p) (a₂ : A
     judged-together w₂ w j l work =
         let f = first-same together first (a .bundle .objects) front back o os objects same in
         together-judged (homeBy e) (either-home e) first second together big word (a .bundle .objects) front qs back x same same-more (a .filing) filed (a₂ .filing) refiled
-        (λ i z. read-back first p a bytes o os objects i (sym (input-same second p big word x (record { word = o .word; parts = partsFrom 8 (sectionsOf first p a) }) package) ∙ z) own)
+        (λ i z. read-back first p a bytes o os objects i (sym (input-same second p big word x (record { word = o .word; parts = partsFrom 8 (sectionsOf first p a) }) packaged) ∙ z) own)
         (λ i here rest z.
         let g = filing-facts second big word bytes₂ (grown (λ c. 0) i) ([] ++ here) qs rest z .units in
         (each-so (λ u t. homed e u t) g, each-so (λ u t. shared-only e u t) g))
@@ -128,9 +131,11 @@ one-more f (x ∷ xs) y ys q = let head : f x ≡ y = cc in let tail : map f xs 
 
 pub two-sittings : TwoSittings
 unfolding packed answered
-two-sittings big os whole more first second together p q w₁ o₁ w₂ o₂ w o bytes bytes₂ held none-not m₁ held-p held₂ m₂ held₃ l work room =
-    let a = packed-accepted first w₁ o₁ p m₁ in
-    let a₂ = packed-accepted second w₂ o₂ q m₂ in
+two-sittings big os whole further first second together p q w o none-not one held-p two held₃ l work room =
+    let held = one .holds in
+    let held₂ = two .holds in
+    let a = packed-accepted first (one .work) (one .output) p (one .accepted) in
+    let a₂ = packed-accepted second (two .work) (two .output) q (two .accepted) in
     let k₁ : held .bundle ≡ a .bundle = pass-inj (sym (held .read) ∙ a .read) in
     let k₂ : held₂ .bundle ≡ a₂ .bundle = pass-inj (sym (held₂ .read) ∙ a₂ .read) in
     let are : map (objectIn first) (a .bundle .objects) ≡ os = ap (λ (k : Bundle). map (objectIn first) (k .objects)) (sym k₁) ∙ held .objects in
@@ -140,10 +145,15 @@ two-sittings big os whole more first second together p q w₁ o₁ w₂ o₂ w o
     let is-whole : objectIn p obj ∷ [] ≡ whole = ap (λ (k : Bundle). map (objectIn p) (k .objects)) (sym kp) ∙ held-p .objects in
     let order : a .bundle .big ≡ big = ap (λ (k : Bundle). k .big) (sym k₁) ∙ held .order in
     let order₂ : a₂ .bundle .big ≡ big = ap (λ (k : Bundle). k .big) (sym k₂) ∙ held₂ .order in
-    let seconds : map (objectIn second) (a₂ .bundle .objects) ≡ objectIn p obj ∷ more =
-    ap (λ (k : Bundle). map (objectIn second) (k .objects)) (sym k₂) ∙ held₂ .objects ∙ ap (λ (l : List Sections). l ++ more) (sym is-whole) in
-    let x = one-more (objectIn second) (a₂ .bundle .objects) (objectIn p obj) more seconds in
-    let t = map-split (objectIn together) (held₃ .bundle .objects) os more (held₃ .objects) in
-    let j = judged-together first second together p q a a₂ bytes bytes₂ (n .0) (n .1) (n .2) (order₂ ∙ sym order) (x .0) (x .1) (x .2) (x .3) (held₃ .bundle) (t .0) (t .1) (held₃ .read)
-    (held₃ .order ∙ sym order) (t .2) (t .3 ∙ sym are) (t .4 ∙ sym (x .4)) w₂ w (made-judged (judged second w₂) o₂ q m₂ .0) l work in
+    let seconds : map (objectIn second) (a₂ .bundle .objects) ≡ objectIn p obj ∷ further =
+    ap (λ (k : Bundle). map (objectIn second) (k .objects)) (sym k₂) ∙ held₂ .objects ∙ ap (λ (l : List Sections). l ++ further) (sym is-whole) in
+    let x = one-more (objectIn second) (a₂ .bundle .objects) (objectIn p obj) further seconds in
+    let t = map-split (objectIn together) (held₃ .bundle .objects) os further (held₃ .objects) in
+    let j = judged-together first second together p q a a₂ (one .areBytes) (two .areBytes) (n .0) (n .1) (n .2) (order₂ ∙ sym order) (x .0) (x .1) (x .2) (x .3) (held₃ .bundle) (t .0) (t .1) (held₃ .read)
+    (held₃ .order ∙ sym order) (t .2) (t .3 ∙ sym are) (t .4 ∙ sym (x .4)) (two .work) w (made-judged (judged second (two .work)) (two .output) q (two .accepted) .0) l work in
     ap (λ (c : Check (List ℕ)). answered c o) j ∙ rw (answered, le-leb (length q) o room)
+
+-- there are such bundles: what is written of objects holds them
+pub written-holds : (big : Bool) (os : List Sections) → Every Storables os → length (written big os) < 0x4000_0000 → Holds (written big os) big os
+unfolding objectIn sectionIn back.objectIn back.sectionIn
+written-holds big os e l = let r = round-trip big os e l in record { bundle = r .0; read = r .1; order = r .2; objects = r .3 }
