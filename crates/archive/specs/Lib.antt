@@ -7,3 +7,4 @@ pub mod StrSection
 pub mod Many
 pub mod Refusing
 pub mod Paper
+pub mod TwoSittings

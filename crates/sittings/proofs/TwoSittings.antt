@@ -66,17 +66,24 @@ length-good b k q l =
     (eq-eqb (length b % 4) 0 (omega (arith, n, spans (r .all))))
 
 -- an object's word, and the package's object, of objects that hold the same
+one-word : (b c : List ℕ) (x y : Object) → objectIn b x ≡ objectIn c y → x .word ≡ y .word
+unfolding objectIn
+one-word b c x y h = ap (λ (s : Sections). s .word) h
+
+first-of : (x : Object) (xs : List Object) (n : ℕ) → x .word ≡ n
+    → (firstWord (x ∷ xs) ≡ n) × ((ss : List Section) → packageObjects (x ∷ xs) ss ≡ record { word = n; sections = ss } ∷ [])
+unfolding firstWord packageObjects
+first-of x xs n h = (h, λ ss. ap (λ (m : ℕ). record { word = m; sections = ss } ∷ []) h)
+
 first-same : (b c : List ℕ) (os ps qs : List Object) (o : Object) (rest : List Object) → os ≡ o ∷ rest → map (objectIn b) ps ≡ map (objectIn c) os
     → (firstWord (ps ++ qs) ≡ firstWord os) × ((ss : List Section) → packageObjects (ps ++ qs) ss ≡ record { word = firstWord os; sections = ss } ∷ [])
+unfolding firstWord
 first-same b c os ps qs o rest z h = go ps (h ∙ ap (map (objectIn c)) z)
   where
     go : (ps : List Object) → map (objectIn b) ps ≡ objectIn c o ∷ map (objectIn c) rest
         → (firstWord (ps ++ qs) ≡ firstWord os) × ((ss : List Section) → packageObjects (ps ++ qs) ss ≡ record { word = firstWord os; sections = ss } ∷ [])
     go [] h = absurd (let z : _≡_ {A = ℕ} 0 1 = cc in omega arith)
-    go (p ∷ ps) h =
-        let same : objectIn b p ≡ objectIn c o = cc in
-        let word : p .word ≡ firstWord os = unfold objectIn firstWord in (ap (λ (s : Sections). s .word) same ∙ sym (ap firstWord z)) in
-        (unfold firstWord in word, λ ss. unfold packageObjects in (ap (λ (n : ℕ). record { word = n; sections = ss } ∷ []) word))
+    go (p ∷ ps) h = let same : objectIn b p ≡ objectIn c o = cc in first-of p (ps ++ qs) (firstWord os) (one-word b c p o same ∙ sym (ap firstWord z))
 
 -- ---- the law, of bundles that were read
 module _ (first second together p q : List ℕ) (a : Accepted first p) (a₂ : Accepted second q) (bytes : Bytes first) (bytes₂ : Bytes second) (o : Object) (os : List Object)
