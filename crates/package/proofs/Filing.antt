@@ -102,16 +102,14 @@ module _ (e : Encoding) (i : Input) (facts : InputFacts e i) where
       let d = row-contributed x (e .width) (lengths i) identity home at size g (ap (λ (d : Encoding). rowContributions x (d .width) (lengths i) identity home at size) (sym (facts .encoded)) ∙ q) c k h in
       let cells = row-cells x (i .encoding .width) (lengths i) identity home at size g q in
       let read = index-read table x t in
-      let listed = row-listed (read .0) (read .1) x (read .2) identity (cells .0) (cells .1) in (
-        d,
-        λ six. ⊎-elim
-            (λ (y : isPackage i ≡ true). elim (ℕ-discrete (k .size) 0) [
-              | yes z ↦ inl z
-              | no z ↦ inr (facts .strings .parts y k (index-one table x k t (named-one x (cells .0) k listed (cells .2 6 k (ap g (sym six) ∙ h)) (omega arith))))
-            ])
-            (λ (y : isPackage i ≡ false). in-whole c k y d six)
-            (known (isPackage i)),
-      )
+      let listed = row-listed (read .0) (read .1) x (read .2) identity (cells .0) (cells .1) in
+      (d, λ six. ⊎-elim
+      (λ (y : isPackage i ≡ true). elim (ℕ-discrete (k .size) 0) [
+        | yes z ↦ inl z
+        | no z ↦ inr (facts .strings .parts y k (index-one table x k t (named-one x (cells .0) k listed (cells .2 6 k (ap g (sym six) ∙ h)) (omega arith))))
+      ])
+      (λ (y : isPackage i ≡ false). in-whole c k y d six)
+      (known (isPackage i)))
 
   contributes-filed : (home at : ℕ) (u : UnitRead) (g : BySection (Option Contribution)) → contributionsOf i home at u ≡ pass g → Contributes e i g
   unfolding contributionsOf
