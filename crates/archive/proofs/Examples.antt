@@ -65,15 +65,15 @@ Examples =
     × Packing.Examples
     × Lookups.Examples
     -- the whole package, and the length needed where the output is a byte too short
-    × (packed example 176 112 ≡ made exampleMade)
-    × (packed example 176 111 ≡ short 112)
+    × (packed example 220 112 ≡ made exampleMade)
+    × (packed example 220 111 ≡ short 112)
     -- identity 1: the unit, its part of abbrev; 2 is absent; by version means 22
     × (lookedUp exampleMade 5 1 1 1 ≡ part 12 20 1)
     × (lookedUp exampleMade 5 1 1 3 ≡ part 36 1 1)
     × (lookedUp exampleMade 5 1 2 1 ≡ absent 1)
     × (lookedUp exampleMade 2 1 1 1 ≡ refusal 22)
     -- a type unit already kept is skipped
-    × (packed typeTwice 272 96 ≡ made typeOnce)
+    × (packed typeTwice 340 96 ≡ made typeOnce)
     -- the small packer's limit: 1,024 bytes are judged by their words, and a word more is 1
     × (packedSmall (zeros 1_024) 65_536 ≡ refused 3)
     × (packedSmall (zeros 1_028) 65_536 ≡ refused 1)

@@ -6,6 +6,7 @@ use mathlib.Core.Bool.{true, false}
 use mathlib.Core.List.{List}
 use Prim.Native.Nat.{ℕ, _≤_}
 use native.Mathlib.Omega.{arith}
+use Rattle.numbers.specs.Limits.{smallWork}
 use Rattle.octets.proofs.Checks.{known}
 use Rattle.bundle.specs.Bundle.{lengthGood}
 use Rattle.package.specs.Pack.{Answer, refused, short, made, packed}
@@ -36,7 +37,7 @@ packs b w o = packing-code (packed b w o) (packed-refuses b w o)
 packs-small : (b : List ℕ) (o : ℕ) → PackingCode (told (packedSmall b o) .code)
 unfolding packedSmall told toldOf finishedOf
 packs-small b o = ⊎-elim
-    (λ (t : lengthGood 1_024 b ≡ true). rw (packedSmall, t) (packs b 4_096 o))
+    (λ (t : lengthGood 1_024 b ≡ true). rw (packedSmall, t) (packs b smallWork o))
     (λ (t : lengthGood 1_024 b ≡ false). rw (packedSmall, t) (inr (inl (omega arith, omega arith))))
     (known (lengthGood 1_024 b))
 

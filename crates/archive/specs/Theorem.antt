@@ -98,7 +98,8 @@ IsPart answer n = (start : ℕ) × (size : ℕ) × (answer ≡ part start size n
 abbrev pub Holds : List ℕ → Found → ℕ → List ℕ → Type 0
 Holds p answer n bytes = (start : ℕ) × (answer ≡ part start (length bytes) n) × (bytesAt p start (length bytes) ≡ bytes)
 
--- object by object and section by section, the units handed in are all of info and types: none is left out, and each stands in its own object
+-- object by object and section by section, the units handed in are all of info and types: none is left out, and each stands in its own object.
+-- Each is read at its place there, by which its row is found where a row must name it
 abbrev pub EveryUnitIsHandedIn : List ℕ → Type 0
 EveryUnitIsHandedIn b = (k : Bundle) → bundleOf b ≡ pass k → FillObjects b (k .big) (firstWord (k .objects)) (k .objects) (handedIn b)
 

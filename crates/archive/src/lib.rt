@@ -32,7 +32,7 @@ pub extern "C" fn barthovin_pack(bundle: &[u8], work: &mut [u32], output: &mut [
     packer::answering::answer_pack(bundle, work, output)
 }
 
-// The same with 4,096 words of its own, for bundles of at most 1,024 bytes.
+// The same with 5,120 words of its own, for bundles of at most 1,024 bytes.
 #[no_mangle]
 pub extern "C" fn barthovin_pack_small(bundle: &[u8], output: &mut [u8]) -> Packed
     ensures answer { λ r. ⌜ r ≡ told (packedSmall (now (bundle .entry)) (length (now (output .entry)))) ⌝ }

@@ -248,14 +248,15 @@ tiling-covered at n (t ∷ ts) r p h g = elim (decLt p (at + t .size)) [
 ]
 
 module _ (cs : List Contribution) (few : Some cs) where
+  pub facts-tiled : (n : ℕ) (ts : List Contribution) → Tiles cs few n ts → Tiled cs n
+  facts-tiled n ts f = record {
+    inside = λ c e. tiling-within 0 n ts c (f .tiling) (f .each c e) .1;
+    apart = λ c d e g. tiling-apart 0 n ts (f .tiling) c d (f .each c e) (f .each d g);
+    covered = λ p h. let w = tiling-covered 0 n ts (f .tiling) p (omega arith) h in (w .0, f .ones (w .0) (w .1), w .2, w .3);
+  }
+
   pub tiles-tiled : (s : List ℕ) (ts : List Contribution) → tiles cs s ≡ pass ts → Tiled cs (length s)
-  tiles-tiled s ts q =
-      let f = tiles-facts cs few s ts q in
-      record {
-        inside = λ c e. tiling-within 0 (length s) ts c (f .tiling) (f .each c e) .1;
-        apart = λ c d e g. tiling-apart 0 (length s) ts (f .tiling) c d (f .each c e) (f .each d g);
-        covered = λ p h. let w = tiling-covered 0 (length s) ts (f .tiling) p (omega arith) h in (w .0, f .ones (w .0) (w .1), w .2, w .3);
-      }
+  tiles-tiled s ts q = facts-tiled (length s) ts (tiles-facts cs few s ts q)
 
   -- no part straddles a place
   abbrev Between : ℕ → Type 0

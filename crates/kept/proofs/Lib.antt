@@ -6,6 +6,7 @@ pub mod Moved
 pub mod Numbering
 pub mod Seeking
 pub mod Seen
+pub mod Storing
 pub mod Pieces
 pub mod Indexing
 pub mod Placing

@@ -6,6 +6,7 @@ use mathlib.Core.Option.{Option, some, none}
 use Prim.Native.Nat.{ℕ, _+_, _*_, _/_, _%_}
 use lib.Dec.{eqb, leb}
 use lib.ListN.{length}
+use Rattle.numbers.specs.Limits.{workForWord}
 use Rattle.octets.specs.Lists.{joined, those, all}
 use Rattle.octets.specs.Checked.{Check, pass, refuse, _>>=_, require}
 use Rattle.bundle.specs.Bundle.{Object, Bundle, bundleOf, lengthGood}
@@ -96,7 +97,7 @@ packageObjects (o ∷ os) ss = record { word = o .word; sections = ss } ∷ []
 unfoldable pub judged : List ℕ → ℕ → Check (List ℕ)
 judged b w = do
   _ ← require (lengthGood 4_194_304 b) 1
-  _ ← require (leb (20 * (length b / 4)) w) 2
+  _ ← require (leb (workForWord * (length b / 4)) w) 2
   k ← bundleOf b
   f ← filingOf b k
   let ss = packageSections (k .big) (firstWord (k .objects) % 256) f

@@ -5,6 +5,7 @@ use mathlib.Core.Bool.{true, false}
 use mathlib.Core.List.{List}
 use Prim.Native.Nat.{ℕ}
 use lib.ListN.{length}
+use Rattle.numbers.specs.Limits.{smallWork}
 use Rattle.octets.specs.Octets.{zeros}
 use Rattle.octets.proofs.Placed.{length-zeros}
 use Rattle.bundle.specs.Bundle.{lengthGood}
@@ -33,7 +34,7 @@ module _ (b : List ℕ) (o : ℕ) where
   unfolding packedSmall
   small-is-refused e = rw (packedSmall, e)
 
-  small-is-packed : lengthGood 1_024 b ≡ true → packedSmall b o ≡ packed b 4_096 o
+  small-is-packed : lengthGood 1_024 b ≡ true → packedSmall b o ≡ packed b smallWork o
   unfolding packedSmall
   small-is-packed e = rw (packedSmall, e)
 
@@ -42,6 +43,6 @@ module _ (b : List ℕ) (o : ℕ) where
     unfolding finishedOf outputOf
     small-refused e z = let p = sym (small-is-refused e) in (ap finishedOf p, z ∙ ap (λ (a : Answer). outputOf a o) p)
 
-    pub small-packed : lengthGood 1_024 b ≡ true → (r : Finished) → r ≡ finishedOf (packed b 4_096 o) → d ≡ outputOf (packed b 4_096 o) o
+    pub small-packed : lengthGood 1_024 b ≡ true → (r : Finished) → r ≡ finishedOf (packed b smallWork o) → d ≡ outputOf (packed b smallWork o) o
         → (r ≡ finishedOf (packedSmall b o)) × (d ≡ outputOf (packedSmall b o) o)
     small-packed e r f g = let p = sym (small-is-packed e) in (f ∙ ap finishedOf p, g ∙ ap (λ (a : Answer). outputOf a o) p)

@@ -8,6 +8,7 @@ use native.Mathlib.Omega.{arith}
 use lib.Dec.{eqb, leb}
 use lib.ListN.{length}
 use borrow.Author.Tests.{le-leb, lt-leb, leb-true, eqb-true}
+use Rattle.numbers.specs.Limits.{workForWord}
 use Rattle.octets.specs.Octets.{zeros}
 use Rattle.octets.specs.Checked.{Check, pass, refuse}
 use Rattle.octets.proofs.Checks.{fails, passes, then-pass, then-refuse, and-left, and-right}
@@ -87,11 +88,11 @@ module _ (b : List ℕ) (w o : ℕ) (d : List ℕ) where
     answers-length e = refused 1 (fails _ 1 _ e)
 
     module _ (good : lengthGood 4_194_304 b ≡ true) where
-      pub answers-work : w < 16 * (length b / 4) → Answers (Refused 2)
+      pub answers-work : w < workForWord * (length b / 4) → Answers (Refused 2)
       unfolding judged
       answers-work h = refused 2 (passes _ 1 _ good ∙ fails _ 2 _ (lt-leb _ _ h))
 
-      module _ (enough : 16 * (length b / 4) ≤ w) where
+      module _ (enough : workForWord * (length b / 4) ≤ w) where
         judges : judged b w ≡ packageIn b
         judges = judged-is b w good (le-leb _ _ enough)
 
@@ -103,7 +104,7 @@ module _ (b : List ℕ) (w o : ℕ) (d : List ℕ) where
         unfolding packageIn
         answers-filing k n e f = refused n (judges ∙ then-pass (bundleOf b) _ k e ∙ then-refuse (filingOf b k) _ n f)
 
-  pub answers-finish : (good : lengthGood 4_194_304 b ≡ true) (enough : 16 * (length b / 4) ≤ w) (r : Finished)
+  pub answers-finish : (good : lengthGood 4_194_304 b ≡ true) (enough : workForWord * (length b / 4) ≤ w) (r : Finished)
       → r ≡ finishedOf (answered (packageIn b) o) → d ≡ outputOf (answered (packageIn b) o) o → Answers r
   answers-finish good enough r e f =
       let p = sym (packed-is b w good (le-leb _ _ enough) o) in

@@ -9,8 +9,7 @@ use lib.Seq.{take-all}
 use Rattle.octets.specs.Checked.{pass, refuse}
 use Rattle.strings.specs.Strings.{stringAt, stringsAt, put, putAll}
 use Rattle.strings.specs.Kept.{bytesAt, AddedIs}
-use Rattle.strings.specs.Remembered.{Putting}
-use Rattle.strings.specs.Objects.{PutsString}
+use Rattle.strings.specs.Objects.{tableIn, PuttingIn, PutsString}
 use Rattle.strings.specs.declared.table.Added.the-variants.{Table, NoString}
 use Rattle.strings.specs.declared.table.Place.{Place}
 use Rattle.strings.specs.declared.table.StringTable.{StringTable}
@@ -18,27 +17,27 @@ use Rattle.strings.proofs.FirstUses.{putAll-snoc}
 use Rattle.strings.proofs.Ends.{stringsAt-none, stringsAt-turn, stringsAt-fails}
 
 -- the strings of the first k entries are put
-pub record Adding (b : List ℕ) (strings : Place) (region memo : List ℕ) (t : StringTable) (table : List (List ℕ)) (os : List ℕ) (k : ℕ) : Type 0 where
+pub record Adding (b : List ℕ) (strings : Place) (words : ℕ) (store : List ℕ) (t : StringTable) (table : List (List ℕ)) (os : List ℕ) (k : ℕ) : Type 0 where
   pub used : List (List ℕ)
   pub are : stringsAt (bytesAt b strings) (take k os) ≡ pass used
-  pub putting : Putting b strings region memo t (putAll table used)
+  pub putting : PuttingIn b strings words store t (putAll table used)
 
-pub adding-none : (b : List ℕ) (strings : Place) (region memo : List ℕ) (t : StringTable) (table : List (List ℕ)) (os : List ℕ) → Putting b strings region memo t table
-    → Adding b strings region memo t table os 0
+pub adding-none : (b : List ℕ) (strings : Place) (words : ℕ) (store : List ℕ) (t : StringTable) (table : List (List ℕ)) (os : List ℕ) → PuttingIn b strings words store t table
+    → Adding b strings words store t table os 0
 unfolding putAll
-adding-none b strings region memo t table os p = record { used = []; are = stringsAt-none (bytesAt b strings); putting = p }
+adding-none b strings words store t table os p = record { used = []; are = stringsAt-none (bytesAt b strings); putting = p }
 
-module _ (b : List ℕ) (strings : Place) (region memo : List ℕ) (t : StringTable) (table : List (List ℕ)) (os : List ℕ) (k : ℕ) (a : Adding b strings region memo t table os k) where
-  pub adding-more : (x n : List ℕ) (r : StringTable) (s : List ℕ) (o : ℕ) → k < length os → o ≡ getD os k 0 → stringAt 9 (bytesAt b strings) o ≡ pass s
-      → PutsString b strings o region memo t x n r → Adding b strings x n r table os (k + 1)
-  adding-more x n r s o h q e p =
+module _ (b : List ℕ) (strings : Place) (words : ℕ) (store : List ℕ) (t : StringTable) (table : List (List ℕ)) (os : List ℕ) (k : ℕ) (a : Adding b strings words store t table os k) where
+  pub adding-more : (x : List ℕ) (r : StringTable) (s : List ℕ) (o : ℕ) → k < length os → o ≡ getD os k 0 → stringAt 9 (bytesAt b strings) o ≡ pass s
+      → PutsString b strings o words store t x r → Adding b strings words x r table os (k + 1)
+  adding-more x r s o h q e p =
       record {
         used = a .used ++ (s ∷ []);
         are = stringsAt-turn (bytesAt b strings) os k (a .used) s h (a .are) (rw q at e);
         putting = rw (putAll-snoc table (a .used) s) (p (putAll table (a .used)) s (a .putting) e);
       }
 
-  pub adding-all : length os ≤ k → AddedIs b region table (stringsAt (bytesAt b strings) os) (Table t)
+  pub adding-all : length os ≤ k → AddedIs b (tableIn words store) table (stringsAt (bytesAt b strings) os) (Table t)
   adding-all h =
       record {
         kept = λ u e. (a .used, sym (ap (stringsAt (bytesAt b strings)) (take-all k os h)) ∙ a .are, (let same : t ≡ u = cc in rw same at (a .putting .kept)));

@@ -12,6 +12,7 @@ pub mod Indexing
 pub mod Holding
 pub mod Keeping
 pub mod Places
+pub mod Storing
 pub mod Remembering
 pub mod Adding
 pub mod Writing

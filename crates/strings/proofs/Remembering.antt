@@ -2,45 +2,53 @@
 -- Assumes nothing.
 use mathlib.Core.Path.{_≡_, refl, sym, ap, _∙_}
 use mathlib.Core.Logic.{⊎-elim}
-use mathlib.Core.List.{List, [], _∷_}
+use mathlib.Core.List.{List, [], _∷_, _++_}
 use Prim.Native.Nat.{ℕ, zero, suc, _+_, _-_, _<_, _≤_}
 use native.Mathlib.Decide.{decLe, ℕ-discrete}
 use native.Mathlib.Nat.{not-suc-le-zero, le-of-suc-le-suc}
 use native.Mathlib.Omega.{arith}
 use lib.Dec.{eqb}
 use lib.ListN.{length, take, drop, getD, length-drop}
-use lib.Seq.{getD-drop, length-take-le}
+use lib.Seq.{getD-drop}
 use borrow.Author.Tests.{eqb-true, eqb-false}
 use borrow.Rule.Slice.PartMut.{putMid}
 use Rattle.octets.specs.Octets.{placed, zeros}
 use Rattle.octets.specs.Checked.{Check, pass, refuse}
 use Rattle.octets.proofs.Checks.{known, then-pass, pass-inj}
+use Rattle.octets.proofs.Parts.{part-cut, length-part}
 use Rattle.octets.proofs.Placed.{length-zeros, getD-zeros}
 use Rattle.octets.proofs.Regions.{placed-whole, getD-placed, getD-before, getD-behind}
 use Rattle.strings.specs.Strings.{upToZero, stringAt, put, offsetIn}
 use Rattle.strings.specs.Kept.{Kept, bytesAt}
 use Rattle.strings.specs.Remembered.{Remembered, isPut, placeIs, Putting, LastZero}
+use Rattle.strings.specs.Objects.{tableIn, memoryIn, PuttingIn}
 use Rattle.strings.specs.declared.table.Place.{Place}
 use Rattle.strings.specs.declared.table.StringTable.{StringTable}
 use Rattle.strings.proofs.FirstUses.{put-has, put-keeps}
 use Rattle.strings.proofs.Ends.{upTo-zero, upTo-more, stringAt-is, stringAt-refused}
 use Rattle.strings.proofs.Keeping.{kept-known}
 use Rattle.strings.proofs.Places.{cut, cut-is}
+use Rattle.strings.proofs.Storing.{length-memory, table-stays, memory-stored, length-lent, table-lent, memory-lent, memory-forgotten}
 
 -- ---- memory
 -- the part that is cleared
-pub cleared : (memo x : List ℕ) (n : ℕ) → n ≤ length memo → x ≡ zeros (length (take (n - 0) (drop 0 memo))) → putMid 0 (n - 0) memo x ≡ placed memo 0 (zeros n)
-cleared memo x n h e =
-    let m : n - 0 ≡ n = omega arith in
-    let l : length (take n memo) ≡ n = length-take-le n memo h in
-    let q : x ≡ zeros n = e ∙ ap (λ (k : ℕ). zeros (length (take k memo))) m ∙ ap zeros l in
-    ap (putMid 0 (n - 0) memo) q ∙ placed-whole memo 0 (n - 0) (zeros n) (length-zeros n ∙ sym m)
+pub cleared : (store x : List ℕ) (words n : ℕ) → words + n ≤ length store → x ≡ zeros (length (take (words + n - words) (drop words store)))
+    → putMid words (words + n - words) store x ≡ placed store words (zeros n)
+cleared store x words n h e =
+    let m : words + n - words ≡ n = omega arith in
+    let l : length (take (words + n - words) (drop words store)) ≡ n = ap length (part-cut store words n) ∙ length-part store words n h in
+    let q : x ≡ zeros n = e ∙ ap zeros l in
+    ap (putMid words (words + n - words) store) q ∙ placed-whole store words (words + n - words) (zeros n) (length-zeros n ∙ sym m)
 
-pub forgotten : (str : List ℕ) (told : List ℕ → ℕ → Type 0) (memo x : List ℕ) (n : ℕ) → x ≡ placed memo 0 (zeros n) → length str ≤ n → Remembered str told x
-forgotten str told memo x n e h =
+nothing-known : (str : List ℕ) (told : List ℕ → ℕ → Type 0) (memo x : List ℕ) (n : ℕ) → x ≡ placed memo 0 (zeros n) → length str ≤ n → Remembered str told x
+nothing-known str told memo x n e h =
     record {
       known = λ o l u. absurd (u (ap (λ (z : List ℕ). getD z o 0) e ∙ ap (λ (i : ℕ). getD (placed memo 0 (zeros n)) i 0) (omega arith) ∙ getD-placed memo 0 (zeros n) o (omega (arith, length-zeros n)) (omega arith) ∙ getD-zeros n o));
     }
+
+pub forgotten : (str : List ℕ) (told : List ℕ → ℕ → Type 0) (words : ℕ) (w x : List ℕ) (n : ℕ) → x ≡ placed w words (zeros n) → words + n ≤ length w → length str ≤ n
+    → Remembered str told (memoryIn words x)
+forgotten str told words w x n e h g = nothing-known str told (memoryIn words w) (memoryIn words x) n (memory-forgotten words w x n h e) g
 
 -- what is told of a word
 told-of : (str : List ℕ) (told : List ℕ → ℕ → Type 0) (s : List ℕ) (o v w : ℕ) → stringAt 9 str o ≡ pass s → told s v → w ≡ v → (s : List ℕ) × (stringAt 9 str o ≡ pass s) × told s w
@@ -80,6 +88,20 @@ put-remembered b strings region t table memo x s at r k h e g =
       memory = remembered-more memo x at 1 h e (bytesAt b strings) (isPut (put table s)) s (remembered-put (bytesAt b strings) table s memo r) g (put-has table s);
     }
 
+-- the same where the table's words are lent, come back as y, and the memory stands behind them
+pub put-stored : (b : List ℕ) (strings : Place) (words : ℕ) (w y x : List ℕ) (t : StringTable) (table : List (List ℕ)) (s : List ℕ) (o : ℕ) → length y ≡ length (take words w)
+    → words + o < length w → x ≡ placed (y ++ drop words w) (words + o) (1 ∷ []) → Remembered (bytesAt b strings) (isPut table) (memoryIn words w) → Kept b y t (put table s)
+    → stringAt 9 (bytesAt b strings) o ≡ pass s → PuttingIn b strings words x t (put table s)
+put-stored b strings words w y x t table s o same h e r k g =
+    let v = y ++ drop words w in
+    let fits : words ≤ length w = omega arith in
+    let room : words + o + 1 ≤ length v = omega (arith, length-lent words w y same fits) in
+    put-remembered b strings (tableIn words x) t table (memoryIn words w) (memoryIn words x) s o r
+    (rw (table-stays words v x (1 ∷ []) o room e ∙ table-lent words w y same fits) k)
+    (omega (arith, length-memory words w))
+    (memory-stored words v x (1 ∷ []) o room e ∙ ap (λ (l : List ℕ). placed l o (1 ∷ [])) (memory-lent words w y same fits))
+    g
+
 -- a string that is remembered is kept already
 pub known-put : (b : List ℕ) (strings : Place) (region memo : List ℕ) (t : StringTable) (table : List (List ℕ)) (s : List ℕ) (o v : ℕ) → Putting b strings region memo t table
     → stringAt 9 (bytesAt b strings) o ≡ pass s → v ≡ getD memo o 0 → (v ≡ 0 → ⊥) → Putting b strings region memo t (put table s)
@@ -99,6 +121,12 @@ known-place str table s memo o v m e q u =
 pub place-remembered : (str : List ℕ) (table : List (List ℕ)) (s memo x : List ℕ) (o v : ℕ) → Remembered str (placeIs table) memo → stringAt 9 str o ≡ pass s → v ≡ offsetIn table s
     → o < length memo → x ≡ placed memo o ((v + 1) ∷ []) → (v ≡ offsetIn table s) × Remembered str (placeIs table) x
 place-remembered str table s memo x o v m e q h g = (q, remembered-more memo x o (v + 1) h g str (placeIs table) s m e (ap (λ (n : ℕ). n + 1) q))
+
+-- the same behind the table's words
+pub place-stored : (str : List ℕ) (table : List (List ℕ)) (s : List ℕ) (words : ℕ) (w x : List ℕ) (o v : ℕ) → Remembered str (placeIs table) (memoryIn words w) → stringAt 9 str o ≡ pass s
+    → v ≡ offsetIn table s → words + o < length w → x ≡ placed w (words + o) ((v + 1) ∷ []) → (v ≡ offsetIn table s) × Remembered str (placeIs table) (memoryIn words x)
+place-stored str table s words w x o v m e q h g =
+    place-remembered str table s (memoryIn words w) (memoryIn words x) o v m e q (omega (arith, length-memory words w)) (memory-stored words w x ((v + 1) ∷ []) o (omega arith) g)
 
 -- ---- strings start up to the last zero byte, and nowhere behind it
 upTo-has : (n : ℕ) (s : List ℕ) (i : ℕ) → i < length s → getD s i 0 ≡ 0 → (t : List ℕ) × (upToZero n s ≡ pass t)

@@ -8,13 +8,14 @@ ghost use Rattle.octets.specs.Octets.{part, placed};
 ghost use Rattle.strings.specs.Strings.{ended, strOf, offsetIn};
 ghost use Rattle.strings.specs.Kept.{Held, Kept};
 ghost use Rattle.strings.specs.Objects.{
+  tableIn,
+  KeptIn,
   JudgedOf,
-  entriesOut,
   Placeable,
   Placing,
   PlacesString,
   Entering,
-  Enters,
+  EntriesPut,
   Remaps,
   Writable,
 };
@@ -42,22 +43,23 @@ fn string_offset(
     b: &[u8],
     strings: Place,
     offset: usize,
-    table: &[u32],
+    store: &mut [u32],
+    words: usize,
     t: StringTable,
-    memo: &mut [u32],
 ) -> usize
-    requires { ⌜ (t .over ≡ false) × Placeable (now b) strings offset (now memo) × ((ts : List (List ℕ)) × Placing (now b) strings (now table) (now memo) t ts) ⌝ }
-    ensures { λ r. ⌜ PlacesString (now (b .entry)) strings offset (now (table .entry)) (now (memo .entry)) t (now (memo .exit)) r ⌝ }
+    requires { ⌜ (t .over ≡ false) × Placeable (now b) strings offset words (now store) × ((ts : List (List ℕ)) × Placing (now b) strings words (now store) t ts) ⌝ }
+    ensures { λ r. ⌜ PlacesString (now (b .entry)) strings offset words (now (store .entry)) t (now (store .exit)) r ⌝ }
 {
-    let known = octets::word(memo, offset);
+    let at = words + offset;
+    let known = octets::word(store, at);
     if known != 0 {
         return known - 1;
     }
     let StringRead::At(start, size) = crate::table::string_in(b, strings, offset) else {
         return 0;
     };
-    let place = offset_of(b, table, t, start, size);
-    octets::set_word(memo, offset, place + 1);
+    let place = offset_of(b, &store[..words], t, start, size);
+    octets::set_word(store, at, place + 1);
     place
 }
 
@@ -65,14 +67,15 @@ fn string_offset(
 fn put_entries(
     o: StrOffsets,
     b: &[u8],
-    table: &[u32],
+    store: &mut [u32],
+    words: usize,
     t: StringTable,
-    memo: &mut [u32],
     d: &mut [u8],
     at: usize,
 )
-    requires { ⌜ (t .over ≡ false) × Entering (now b) o (now table) (now memo) t (length (now d)) at ⌝ }
-    ensures { λ _. ⌜ ((ts used : List (List ℕ)) → Enters (now (b .entry)) o (now (table .entry)) (now (memo .entry)) t ts used → now (d .exit) ≡ placed (now (d .entry)) at (entriesOut o ts used)) ⌝ }
+    requires { ⌜ (t .over ≡ false) × Entering (now b) o words (now store) t (length (now d)) at ⌝ }
+    ensures { λ _. ⌜ EntriesPut (now (b .entry)) o words (now (store .entry)) t (now (d .entry)) at (now (d .exit)) ⌝ }
+    ensures { λ _. ⌜ tableIn words (now (store .exit)) ≡ tableIn words (now (store .entry)) ⌝ }
 {
     let e = o.encoding;
     let w = bundle::encoding::width(e);
@@ -81,26 +84,28 @@ fn put_entries(
     let mut place = at;
     while k < count {
         let offset = crate::table::entry_of(o, b, k);
-        let n = string_offset(b, o.strings, octets::size(offset), table, t, memo);
+        let n = string_offset(b, o.strings, octets::size(offset), store, words, t);
         octets::put_number(e.big, w, octets::long(n), d, place);
         k += 1;
         place += w;
     }
 }
 
-// Writes an object's str_offsets by the final table: the header as it was, and for each entry its string's place in str. The caller
-// lends a word of memory for each byte of the object's str; what it holds behind the call is not promised.
+// Writes an object's str_offsets by the final table: the header as it was, and for each entry its string's place in str. The store
+// holds the table in its first words, and behind them a word of memory for each byte of the object's str; what the memory holds
+// after the call is not promised.
 pub fn remap_str_offsets(
     o: StrOffsets,
     b: &[u8],
-    table: &[u32],
+    store: &mut [u32],
+    words: usize,
     t: StringTable,
-    memo: &mut [u32],
     d: &mut [u8],
     at: usize,
 )
-    requires { ⌜ (t .over ≡ false) × Writable o (now memo) (now d) at × ((ts : List (List ℕ)) × Kept (now b) (now table) t ts) × ((used : List (List ℕ)) × JudgedOf o (now b) used) ⌝ }
-    ensures { λ _. ⌜ Remaps (now (b .entry)) o (now (table .entry)) t (now (d .entry)) at (now (d .exit)) ⌝ }
+    requires { ⌜ (t .over ≡ false) × Writable o words (now store) (now d) at × ((ts : List (List ℕ)) × KeptIn (now b) words (now store) t ts) × ((used : List (List ℕ)) × JudgedOf o (now b) used) ⌝ }
+    ensures { λ _. ⌜ Remaps (now (b .entry)) o words (now (store .entry)) t (now (d .entry)) at (now (d .exit)) ⌝ }
+    ensures { λ _. ⌜ tableIn words (now (store .exit)) ≡ tableIn words (now (store .entry)) ⌝ }
 {
     let h = entries::header_size(o.encoding);
     let offsets = o.offsets;
@@ -108,8 +113,8 @@ pub fn remap_str_offsets(
     let first = offsets.start;
     let header_end = first + h;
     octets::put_bytes(d, at, &b[first..header_end]);
-    crate::table::forget(memo, strings.size);
-    put_entries(o, b, table, t, memo, d, at + h);
+    crate::table::forget(store, words, strings.size);
+    put_entries(o, b, store, words, t, d, at + h);
 }
 
 // A string as it is put, with a zero.

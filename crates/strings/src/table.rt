@@ -18,9 +18,12 @@ ghost use Rattle.strings.specs.Kept.{
   Kept,
   foundIn,
 };
-ghost use Rattle.strings.specs.Remembered.{Putting, LastZero};
+ghost use Rattle.strings.specs.Remembered.{LastZero};
 ghost use Rattle.strings.specs.Objects.{
   entriesAt,
+  tableIn,
+  KeptIn,
+  PuttingIn,
   AddedOf,
   Insertable,
   Addable,
@@ -158,12 +161,13 @@ pub fn string_in(b: &[u8], strings: Place, offset: usize) -> StringRead
     StringRead::At(base + start, size)
 }
 
-// Forgets what was remembered of the first n offsets.
-pub fn forget(memo: &mut [u32], n: usize)
-    requires { ⌜ n ≤ length (now memo) ⌝ }
-    ensures { λ _. ⌜ now (memo .exit) ≡ placed (now (memo .entry)) 0 (zeros n) ⌝ }
+// Forgets what was remembered of the first n offsets. The memory stands behind the words of the table.
+pub fn forget(store: &mut [u32], words: usize, n: usize)
+    requires { ⌜ words + n ≤ length (now store) ⌝ }
+    ensures { λ _. ⌜ now (store .exit) ≡ placed (now (store .entry)) words (zeros n) ⌝ }
 {
-    octets::clear_words(&mut memo[0..n]);
+    let end = words + n;
+    octets::clear_words(&mut store[words..end]);
 }
 
 // Puts the string at an offset of an object's str, unless it is known to be kept. Nothing is read for a table that is over. The
@@ -172,25 +176,26 @@ fn add_string(
     b: &[u8],
     strings: Place,
     offset: usize,
-    table: &mut [u32],
+    store: &mut [u32],
+    words: usize,
     t: StringTable,
-    memo: &mut [u32],
 ) -> StringTable
-    requires { ⌜ Addable (now b) strings offset (now table) (now memo) t × ((ts : List (List ℕ)) × Putting (now b) strings (now table) (now memo) t ts) ⌝ }
-    ensures { λ r. ⌜ PutsString (now (b .entry)) strings offset (now (table .entry)) (now (memo .entry)) t (now (table .exit)) (now (memo .exit)) r ⌝ }
+    requires { ⌜ Addable (now b) strings offset words (now store) t × ((ts : List (List ℕ)) × PuttingIn (now b) strings words (now store) t ts) ⌝ }
+    ensures { λ r. ⌜ PutsString (now (b .entry)) strings offset words (now (store .entry)) t (now (store .exit)) r ⌝ }
     ensures { λ r. ⌜ r .count ≤ t .count + 1 ⌝ }
 {
     if t.over {
         return t;
     }
-    if octets::word(memo, offset) != 0 {
+    let at = words + offset;
+    if octets::word(store, at) != 0 {
         return t;
     }
     let StringRead::At(start, size) = string_in(b, strings, offset) else {
         return t;
     };
-    let kept = get_or_insert(b, start, size, table, t);
-    octets::set_word(memo, offset, 1);
+    let kept = get_or_insert(b, start, size, &mut store[..words], t);
+    octets::set_word(store, at, 1);
     kept
 }
 
@@ -199,12 +204,12 @@ fn add_entries(
     o: StrOffsets,
     b: &[u8],
     ended: usize,
-    table: &mut [u32],
+    store: &mut [u32],
+    words: usize,
     t: StringTable,
-    memo: &mut [u32],
 ) -> Added
-    requires { ⌜ AllAddable (now b) o (now table) (now memo) t × LastZero (bytesAt (now b) (o .strings)) ended × ((ts : List (List ℕ)) × Putting (now b) (o .strings) (now table) (now memo) t ts) ⌝ }
-    ensures { λ r. ⌜ ((ts : List (List ℕ)) → Putting (now (b .entry)) (o .strings) (now (table .entry)) (now (memo .entry)) t ts → AddedOf (now (b .entry)) o (now (table .exit)) ts r) ⌝ }
+    requires { ⌜ AllAddable (now b) o words (now store) t × LastZero (bytesAt (now b) (o .strings)) ended × ((ts : List (List ℕ)) × PuttingIn (now b) (o .strings) words (now store) t ts) ⌝ }
+    ensures { λ r. ⌜ ((ts : List (List ℕ)) → PuttingIn (now (b .entry)) (o .strings) words (now (store .entry)) t ts → AddedOf (now (b .entry)) o (tableIn words (now (store .exit))) ts r) ⌝ }
 {
     let count = entries_of(o, b);
     let mut kept = t;
@@ -214,28 +219,29 @@ fn add_entries(
         if octets::long(ended) <= offset {
             return Added::NoString;
         }
-        kept = add_string(b, o.strings, octets::size(offset), table, kept, memo);
+        kept = add_string(b, o.strings, octets::size(offset), store, words, kept);
         k += 1;
     }
     Added::Table(kept)
 }
 
-// Puts the strings that an object's entries name, whose section check_entries let pass. The caller has a row for each entry, and
-// a word of memory for each byte of str; what the memory holds behind the call is not promised.
+// Puts the strings that an object's entries name, whose section check_entries let pass. The store holds the table in its first
+// words, with a row for each entry, and behind them a word of memory for each byte of str; what the memory holds after the call is
+// not promised.
 pub fn add_strings(
     o: StrOffsets,
     b: &[u8],
-    table: &mut [u32],
+    store: &mut [u32],
+    words: usize,
     t: StringTable,
-    memo: &mut [u32],
 ) -> Added
-    requires { ⌜ AllAddable (now b) o (now table) (now memo) t × ((ts : List (List ℕ)) × Kept (now b) (now table) t ts) ⌝ }
-    ensures { λ r. ⌜ ((ts : List (List ℕ)) → Kept (now (b .entry)) (now (table .entry)) t ts → AddedOf (now (b .entry)) o (now (table .exit)) ts r) ⌝ }
+    requires { ⌜ AllAddable (now b) o words (now store) t × ((ts : List (List ℕ)) × KeptIn (now b) words (now store) t ts) ⌝ }
+    ensures { λ r. ⌜ ((ts : List (List ℕ)) → KeptIn (now (b .entry)) words (now (store .entry)) t ts → AddedOf (now (b .entry)) o (tableIn words (now (store .exit))) ts r) ⌝ }
 {
     let strings = o.strings;
     let base = strings.start;
     let end = base + strings.size;
     let ended = entries::last_zero(&b[base..end]);
-    forget(memo, strings.size);
-    add_entries(o, b, ended, table, t, memo)
+    forget(store, words, strings.size);
+    add_entries(o, b, ended, store, words, t)
 }

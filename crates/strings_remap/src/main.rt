@@ -8,8 +8,8 @@ ghost use lib.ListN.{length};
 ghost use Rattle.octets.specs.Checked.{pass};
 ghost use Rattle.bundle.specs.Encoded.{encodingIs};
 ghost use Rattle.strings.specs.Strings.{entriesOf};
-ghost use Rattle.strings.specs.Kept.{none, Inside, Kept, bytesAt};
-ghost use Rattle.strings.specs.Objects.{entriesAt, JudgedOf, AllAddable};
+ghost use Rattle.strings.specs.Kept.{none, Inside, bytesAt};
+ghost use Rattle.strings.specs.Objects.{entriesAt, KeptIn, JudgedOf, AllAddable};
 use bundle::encoding::ObjectEncoding;
 use libc::STDOUT_FILENO;
 use strings::entries::Entries;
@@ -30,12 +30,12 @@ enum Outcome {
 fn write_sections(
     o: StrOffsets,
     b: &[u8],
-    table: &[u32],
+    store: &mut [u32],
+    words: usize,
     t: StringTable,
-    memo: &mut [u32],
     output: &mut [u8],
 ) -> Outcome
-    requires { ⌜ (t .over ≡ false) × (o .strings .size ≤ length (now memo)) × ((ts : List (List ℕ)) × Kept (now b) (now table) t ts) × ((used : List (List ℕ)) × JudgedOf o (now b) used) ⌝ }
+    requires { ⌜ (t .over ≡ false) × (words + o .strings .size ≤ length (now store)) × ((ts : List (List ℕ)) × KeptIn (now b) words (now store) t ts) × ((used : List (List ℕ)) × JudgedOf o (now b) used) ⌝ }
 {
     let offsets = o.offsets;
     let at = offsets.size;
@@ -47,8 +47,8 @@ fn write_sections(
         return Outcome::Short;
     }
     let count = t.count;
-    strings::sections::remap_str_offsets(o, b, table, t, memo, output, 0);
-    strings::sections::write_strings(b, table, count, output, at);
+    strings::sections::remap_str_offsets(o, b, store, words, t, output, 0);
+    strings::sections::write_strings(b, &store[..words], count, output, at);
     Outcome::Sections(at, at + size)
 }
 
@@ -56,29 +56,30 @@ fn write_sections(
 fn remap_entries(
     o: StrOffsets,
     b: &[u8],
-    table: &mut [u32],
-    memo: &mut [u32],
+    store: &mut [u32],
+    words: usize,
     output: &mut [u8],
 ) -> Outcome
-    requires { ⌜ AllAddable (now b) o (now table) (now memo) none × (entriesOf (encodingIs (o .encoding)) (bytesAt (now b) (o .offsets)) ≡ pass (entriesAt o (now b))) ⌝ }
+    requires { ⌜ AllAddable (now b) o words (now store) none × (entriesOf (encodingIs (o .encoding)) (bytesAt (now b) (o .offsets)) ≡ pass (entriesAt o (now b))) ⌝ }
 {
-    octets::clear_words(table);
+    octets::clear_words(store);
     let t = StringTable {
         count: 0,
         size: 0,
         over: false,
     };
-    let Added::Table(kept) = strings::table::add_strings(o, b, table, t, memo) else {
+    let Added::Table(kept) = strings::table::add_strings(o, b, store, words, t) else {
         return Outcome::Refused(9);
     };
     if kept.over {
         return Outcome::Refused(19);
     }
-    write_sections(o, b, table, kept, memo, output)
+    write_sections(o, b, store, words, kept, output)
 }
 
-fn remap(o: StrOffsets, b: &[u8], table: &mut [u32], memo: &mut [u32], output: &mut [u8]) -> Outcome
-    requires { ⌜ (length (now b) < 2 ^ 32) × Inside (now b) (o .offsets) × Inside (now b) (o .strings) ⌝ }
+// The table stands in the first words of the store, and the memory behind them.
+fn remap(o: StrOffsets, b: &[u8], store: &mut [u32], words: usize, output: &mut [u8]) -> Outcome
+    requires { ⌜ (length (now b) < 2 ^ 32) × Inside (now b) (o .offsets) × Inside (now b) (o .strings) × (words ≤ length (now store)) ⌝ }
 {
     let offsets = o.offsets;
     let text = o.strings;
@@ -87,13 +88,13 @@ fn remap(o: StrOffsets, b: &[u8], table: &mut [u32], memo: &mut [u32], output: &
     let Entries::Count(n) = strings::entries::check_entries(o.encoding, &b[first..last]) else {
         return Outcome::Refused(8);
     };
-    if table.len() / 7 < n {
+    if words / 7 < n {
         return Outcome::Short;
     }
-    if memo.len() < text.size {
+    if store.len() - words < text.size {
         return Outcome::Short;
     }
-    remap_entries(o, b, table, memo, output)
+    remap_entries(o, b, store, words, output)
 }
 
 // An upper-case hexadecimal digit.
@@ -137,10 +138,9 @@ fn write_both(output: &[u8], at: usize, end: usize) {
 fn tell(o: StrOffsets, b: &[u8])
     requires { ⌜ (length (now b) < 2 ^ 32) × Inside (now b) (o .offsets) × Inside (now b) (o .strings) ⌝ }
 {
-    let mut table = [0u32; 112];
-    let mut memo = [0u32; 64];
+    let mut store = [0u32; 176];
     let mut output = [0u8; 256];
-    match remap(o, b, &mut table, &mut memo, &mut output) {
+    match remap(o, b, &mut store, 112, &mut output) {
         Outcome::Sections(at, end) => {
             write_both(&output, at, end);
         }

@@ -24,6 +24,8 @@ pub use random::Random;
 pub use rows::{reversed_rows, rows_beside_one_place, rows_of_one_place};
 pub use spoil::damaged_call;
 
+use crate::reference::WORK_FOR_A_WORD;
+
 /// What packing is asked: the bundle, the words of work, the bytes of output.
 #[derive(Clone, Debug, PartialEq, Eq)]
 pub struct Call {
@@ -41,7 +43,7 @@ pub fn call(random: &mut Random) -> Call {
 
 /// Memory for a bundle: enough most often.
 fn lend(random: &mut Random, bundle: Vec<u8>) -> Call {
-    let needed = bundle.len() / 4 * 16;
+    let needed = bundle.len() / 4 * WORK_FOR_A_WORD;
     let work = match random.below(20) {
         0 => random.below(needed as u64 + 1) as usize,
         1 => needed + random.below(40) as usize,

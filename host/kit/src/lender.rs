@@ -3,7 +3,7 @@
 
 use crate::clock;
 use crate::generate::Random;
-use crate::reference::Packed;
+use crate::reference::{Packed, WORK_FOR_A_WORD};
 use barthovin::ffi;
 use std::time::{Duration, Instant};
 
@@ -136,7 +136,7 @@ impl Lender {
 
     /// Packs with work enough, and with output enough where the packer says truly how much that is.
     pub fn pack_whole(&mut self, bundle: &[u8]) -> Result<Written<'_>, String> {
-        let work = bundle.len() / 4 * 16;
+        let work = bundle.len() / 4 * WORK_FOR_A_WORD;
         let (code, length) = self.pack(bundle, work, FIRST_OUTPUT).map(|p| (p.code, p.length))?;
         if code != 18 {
             return Ok(self.written());

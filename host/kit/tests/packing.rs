@@ -6,12 +6,12 @@ use kit::claim::Claim;
 use kit::generate::{call, long_line, many_units, reversed_rows, rows_beside_one_place, rows_of_one_place};
 use kit::generate::{strings_of, suffixes, Call, Random};
 use kit::lender::{Lender, Written};
-use kit::reference::{self, Packed, LONGEST_BUNDLE};
+use kit::reference::{self, Packed, LONGEST_BUNDLE, WORK_FOR_A_WORD};
 use kit::vectors::{parse_all, words, Vector};
 
 /// The small packer's limit and work.
 const SMALL_BUNDLE: usize = 1024;
-const SMALL_WORK: usize = 4096;
+const SMALL_WORK: usize = 5_120;
 
 /// Few identities that no unit has are asked for here, since there are many packages; tests/claim.rs asks for more.
 const TURNS: usize = 1;
@@ -87,7 +87,7 @@ impl Checks {
 }
 
 fn needed(bundle: &[u8]) -> usize {
-    bundle.len() / 4 * 16
+    bundle.len() / 4 * WORK_FOR_A_WORD
 }
 
 fn bytes(numbers: &[u32]) -> Vec<u8> {

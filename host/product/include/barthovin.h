@@ -56,7 +56,7 @@ enum { BARTHOVIN_DONE = 0, BARTHOVIN_ABSENT = 1, BARTHOVIN_NOT_LOOKED_UP = 2, BA
 
 /* What packing takes at most, and the words of work it asks for, for each word of the bundle. */
 #define BARTHOVIN_LONGEST_BUNDLE 4194304
-#define BARTHOVIN_WORK_FOR_A_WORD 16
+#define BARTHOVIN_WORK_FOR_A_WORD 20
 
 /* The small packer's limit. */
 #define BARTHOVIN_LONGEST_SMALL_BUNDLE 1024

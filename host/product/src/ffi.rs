@@ -122,7 +122,7 @@ pub fn pack(bundle: &[u8], work: &mut [u32], output: &mut [u8]) -> (u32, usize) 
     (code, length)
 }
 
-/// The same with 4,096 words of its own, for a bundle of at most 1,024 bytes.
+/// The same with 5,120 words of its own, for a bundle of at most 1,024 bytes.
 pub fn pack_small(bundle: &[u8], output: &mut [u8]) -> (u32, usize) {
     let Packing { code, length } =
         unsafe { barthovin_pack_small(bundle.as_ptr(), bundle.len(), output.as_mut_ptr(), output.len()) };

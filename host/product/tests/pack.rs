@@ -68,7 +68,7 @@ fn packs_large_bundles() {
         fs::write(home.join("bundle"), &bundle).unwrap();
         assert_eq!(status(&run_in(&home, &["pack", "bundle", "-o", "package"], &[])), 0);
         let mut wanted = vec![0; 1 << 23];
-        let (code, length) = ffi::pack(&bundle, &mut vec![0; 4 * bundle.len()], &mut wanted);
+        let (code, length) = ffi::pack(&bundle, &mut vec![0; bundle.len() / 4 * WORK_FOR_A_WORD], &mut wanted);
         assert_eq!(code, 0);
         assert!(fs::read(home.join("package")).unwrap() == wanted[..length]);
     }

@@ -79,7 +79,7 @@ add-input-objects-requires c κs =
       order = k .2;
       whole = length-whole _ _ (good (c .before .before .before .before .before .before .before .before .before .before));
       can = rw (s .kept .1 .0) h;
-      seen = s .ensures;
+      none = s .ensures;
     }
 
 same-length : tie.Need-same-length

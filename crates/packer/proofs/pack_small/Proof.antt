@@ -1,4 +1,4 @@
--- The lower limit, and work of 4,096 words.
+-- The lower limit, and work of 5,120 words.
 -- Assumes nothing.
 use mathlib.Core.Path.{sym, _∙_}
 use borrow.Author.Tests.{not-true, not-false}

@@ -16,7 +16,7 @@ pub enum Packed {
 
 pub const LONGEST_BUNDLE: usize = 4_194_304;
 const LONGEST_SECTION: usize = 8_388_607;
-const WORK_FOR_A_WORD: usize = 16;
+pub const WORK_FOR_A_WORD: usize = 20;
 
 const INFO: u32 = 1;
 const TYPES: u32 = 2;

@@ -6,7 +6,7 @@ use denote.Ref.{now}
 use borrow.Author.Tests.{le-leb}
 use Rattle.filing.specs.State.{wordsIn}
 use Rattle.filing.proofs.Stringing.{inside-is, cut-ill, cut-counted, strings-none, strings-ill, strings-put, strings-missing, lent-kept}
-use Rattle.filing.proofs.Lending.{only-same, only-lent, lent-length}
+use Rattle.work.proofs.Lending.{only-same, only-lent, lent-length}
 use Rattle.work.specs.Regions.{stringsRegion}
 use Rattle.work.proofs.Stores.{strings-within}
 use borrow.Author.Needs.{needs}

@@ -1,6 +1,6 @@
 -- `read_input` meets its contract.
 -- Assumes nothing.
-use Rattle.filing.proofs.Lending.{only-same}
+use Rattle.work.proofs.Lending.{only-same}
 use Rattle.filing.proofs.InputLaws.{scan-within, strings-room-of}
 use Rattle.filing.proofs.InputEnds.{read-refused, read-strings-refused, read-indexes-refused, read-passed}
 use borrow.Author.Needs.{needs}

@@ -1,25 +1,31 @@
 -- `add_strings` meets its contract.
 -- Assumes nothing.
-use native.Mathlib.Omega.{arith}
-use denote.Ref.{now}
-use Rattle.strings.specs.Kept.{Inside, bytesAt}
-use Rattle.strings.specs.Remembered.{Remembered, isPut}
 use mathlib.Core.List.{List}
 use Prim.Native.Nat.{ℕ}
+use native.Mathlib.Omega.{arith}
+use denote.Ref.{now}
+use Rattle.strings.specs.Kept.{Inside}
+use Rattle.strings.specs.Objects.{KeptIn, PuttingIn}
 use Rattle.strings.proofs.Places.{length-bytesAt}
+use Rattle.strings.proofs.Storing.{table-forgotten, kept-stays}
 use Rattle.strings.proofs.Remembering.{forgotten, last-cut}
 use borrow.Author.Needs.{needs}
 use Rattle.strings.proofs.table.add_strings.Statement.{statement}
 use Rattle.strings.proofs.table.add_strings.Tie as tie
 
-cleared : (c : tie.After-forget) (ts : List (List ℕ)) → (let a = c .before .before .before .before .before .before .before .before .before .args in Remembered (bytesAt (now (a .b)) (a .o .strings)) (isPut ts) (c .forget .last .0))
-cleared c ts =
-    let a = c .before .before .before .before .before .before .before .before .before in
-    forgotten _ _ _ _ _ (c .forget .ensures) (omega (arith, length-bytesAt (now (a .args .b)) (a .args .o .strings) (a .pre .0 .strings-inside)))
+-- what is kept before the memory is cleared is kept behind that
+cleared : (c : tie.After-forget) (ts : List (List ℕ))
+    → (let a = c .before .before .before .before .before .before .before .before .args in KeptIn (now (a .b)) (a .words) (now (a .store)) (a .t) ts → PuttingIn (now (a .b)) (a .o .strings) (a .words) (c .forget .last .0) (a .t) ts)
+cleared c ts k =
+    let a = c .before .before .before .before .before .before .before .before in
+    record {
+      kept = kept-stays _ _ _ _ _ ts (table-forgotten _ _ _ _ (a .pre .0 .memory) (c .forget .ensures)) k;
+      memory = forgotten _ _ _ _ _ _ (c .forget .ensures) (a .pre .0 .memory) (omega (arith, length-bytesAt (now (a .args .b)) (a .args .o .strings) (a .pre .0 .strings-inside)));
+    }
 
 add-end : tie.Need-add-end
 unfolding Inside
-add-end c = omega (arith, c .before .before .before .before .before .pre .0 .strings-inside)
+add-end c = omega (arith, c .before .before .before .before .pre .0 .strings-inside)
 
 sub-last-zero : tie.Need-sub-last-zero
 sub-last-zero c = omega arith
@@ -29,37 +35,34 @@ part-last-zero-start c = omega arith
 
 part-last-zero-end : tie.Need-part-last-zero-end
 unfolding Inside
-part-last-zero-end c = omega (arith, c .before .before .before .before .before .pre .0 .strings-inside)
+part-last-zero-end c = omega (arith, c .before .before .before .before .pre .0 .strings-inside)
 
 last-zero-requires : tie.Need-last-zero-requires
 last-zero-requires c κs = tt
 
 forget-requires : tie.Need-forget-requires
-forget-requires c κs = c .before .before .before .before .before .before .before .before .pre .0 .memory
+forget-requires c κs = c .before .before .before .before .before .before .before .pre .0 .memory
 
 add-entries-requires : tie.Need-add-entries-requires
 add-entries-requires c κs =
-    let a = c .before .before .before .before .before .before .before .before .before .before .before .before .before in
+    let a = c .before .before .before .before .before .before .before .before .before .before .before in
     let p = a .pre .0 in (
       record {
         limit = p .limit;
         offsets-inside = p .offsets-inside;
         strings-inside = p .strings-inside;
-        memory = omega (arith, p .memory, c .before .before .before .before .forget .kept .0);
+        memory = omega (arith, p .memory, c .before .before .before .forget .kept .0);
         room = p .room;
       },
-      last-cut _ _ _ (c .before .before .before .before .before .before .last-zero .ensures),
-      (a .pre .1 .0, record { kept = a .pre .1 .1; memory = cleared (c .before .before .before .before) (a .pre .1 .0) }),
+      last-cut _ _ _ (c .before .before .before .before .before .last-zero .ensures),
+      (a .pre .1 .0, cleared (c .before .before .before) (a .pre .1 .0) (a .pre .1 .1)),
     )
 
 same-length : tie.Need-same-length
 same-length c = search needs
 
-same-length-2 : tie.Need-same-length-2
-same-length-2 c = search needs
-
 returns : tie.Need-returns
-returns c = λ ts k. c .before .before .before .before .add-entries .ensures ts (record { kept = k; memory = cleared (c .before .before .before .before .before .before .before .before .before) ts })
+returns c = λ ts k. c .before .before .add-entries .ensures ts (cleared (c .before .before .before .before .before .before) ts k)
 
 pub add-strings-spec : {M : Type 1} → statement M
 add-strings-spec =
@@ -73,5 +76,4 @@ add-strings-spec =
     forget-requires
     add-entries-requires
     same-length
-    same-length-2
     returns)

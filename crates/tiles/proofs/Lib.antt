@@ -1,0 +1,4 @@
+-- Laws of marks, and that the functions meet their contracts.
+-- Assumes nothing.
+pub mod Marking
+pub mod Walking
