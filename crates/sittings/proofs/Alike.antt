@@ -1,21 +1,19 @@
 -- Units that are written alike, home by home, give the same info, types and indexes.
 -- Assumes nothing.
 use mathlib.Core.Path.{_≡_, refl, sym, ap, ap₂, _∙_, subst}
-use mathlib.Core.Logic.{_⊎_, inl, inr, ⊎-elim}
+use mathlib.Core.Logic.{⊎-elim}
 use mathlib.Core.Bool.{Bool, true, false}
-use mathlib.Core.List.{List, [], _∷_, _++_, map}
-use mathlib.Core.Option.{Option, some, none}
+use mathlib.Core.List.{List, [], _∷_, map}
 use Prim.Native.Nat.{ℕ, _+_}
-use native.Mathlib.Omega.{arith}
 use lib.Dec.{eqb}
 use lib.ListN.{length}
-use borrow.Author.Tests.{eqb-true, eqb-false, eq-eqb, ne-eqb}
+use borrow.Author.Tests.{eqb-true, eqb-false, ne-eqb}
 use Rattle.octets.specs.Lists.{joined, those, any}
 use Rattle.octets.proofs.Checks.{known}
 use Rattle.octets.proofs.Lists.{those-keeps, those-skips}
 use Rattle.index.specs.Rows.{BySection, isSome}
 use Rattle.index.specs.Written.{Row, offsetOf, sizeOf, indexBytes}
-use Rattle.bundle.proofs.Every.{Every, nothing, also}
+use Rattle.bundle.proofs.Every.{Every}
 use Rattle.package.proofs.Each.{each-head, each-tail}
 use Rattle.package.specs.Filing.{Filed}
 use Rattle.package.specs.Pack.{cells, longer, entriesFrom, rowsOf, unitBytes}

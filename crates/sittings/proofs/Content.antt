@@ -4,15 +4,14 @@ use mathlib.Core.Path.{_≡_, refl, sym, ap, _∙_}
 use mathlib.Core.Bool.{Bool, true, false, not, _&&_, _||_}
 use mathlib.Core.List.{List, [], _∷_, _++_, map, append-nil, append-assoc}
 use mathlib.Core.Option.{Option, some, none}
-use Prim.Native.Nat.{ℕ, zero, suc, _+_}
+use Prim.Native.Nat.{ℕ}
 use native.Mathlib.Omega.{arith}
 use lib.Dec.{eqb, leb}
 use lib.ListN.{length}
 use Rattle.octets.specs.Lists.{all, those}
-use Rattle.octets.specs.Checked.{Check, pass, refuse, _>>=_, require}
-use Rattle.octets.proofs.Checks.{bind-pass, then-pass, then-refuse, pass-inj, known}
-use Rattle.octets.proofs.Lists.{those-keeps, those-skips}
-use Rattle.bundle.specs.Bundle.{Part, Object, count, partsOf, body}
+use Rattle.octets.specs.Checked.{Check, pass, _>>=_, require}
+use Rattle.octets.proofs.Checks.{bind-pass, then-pass, pass-inj}
+use Rattle.bundle.specs.Bundle.{Part, Object, count, body}
 use Rattle.bundle.specs.Encoding.{Encoding, encodingOf, encodingGood}
 use Rattle.bundle.specs.Written.{Section, Sections}
 use Rattle.bundle.proofs.Back as back

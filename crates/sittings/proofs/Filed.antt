@@ -5,11 +5,11 @@ use mathlib.Core.Bool.{Bool}
 use mathlib.Core.List.{List, [], _∷_, _++_}
 use Prim.Native.Nat.{ℕ, zero, suc, _+_}
 use lib.ListN.{length, drop}
-use Rattle.octets.specs.Checked.{pass, refuse}
+use Rattle.octets.specs.Checked.{pass}
 use Rattle.octets.proofs.Checks.{bind-pass, pass-inj, pass-refuse}
 use Rattle.bundle.specs.Bundle.{Object}
 use Rattle.bundle.specs.Written.{Section}
-use Rattle.bundle.proofs.Every.{Every, nothing, also}
+use Rattle.bundle.proofs.Every.{Every, nothing}
 use Rattle.index.specs.Rows.{BySection}
 use Rattle.package.specs.Input.{Input, inputOf}
 use Rattle.package.specs.Filing.{Filed, Filing, unitAt, unitsFrom, unitsIn, grown, filingFrom}

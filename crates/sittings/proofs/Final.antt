@@ -1,24 +1,24 @@
 -- Two sittings, from what is known of the package's object as an input.
 -- Assumes nothing.
-use mathlib.Core.Path.{_≡_, refl, sym, ap, ap₂, _∙_, subst}
-use mathlib.Core.Logic.{_⊎_, inl, inr, ⊎-elim}
+use mathlib.Core.Path.{_≡_, sym, ap, _∙_, subst}
+use mathlib.Core.Logic.{_⊎_}
 use mathlib.Core.Bool.{Bool, true, false}
-use mathlib.Core.List.{List, [], _∷_, _++_, map, append-nil, append-assoc}
-use mathlib.Core.Option.{Option, some}
-use Prim.Native.Nat.{ℕ, _+_, _*_, _/_, _%_, _≤_}
-use native.Mathlib.Omega.{arith}
+use mathlib.Core.List.{List, [], _∷_, _++_, map}
+use mathlib.Core.Option.{some}
+use Prim.Native.Nat.{ℕ, _*_, _/_, _%_, _≤_}
 use lib.Dec.{eqb, leb}
 use lib.ListN.{length}
-use borrow.Author.Tests.{leb-true, le-leb}
+use borrow.Author.Tests.{le-leb}
+use Rattle.numbers.specs.Limits.{bundleLimit, sectionLimit, workForWord}
 use Rattle.octets.specs.Lists.{any, has, those, all, joined}
-use Rattle.octets.specs.Checked.{Check, pass, refuse, _>>=_, require}
-use Rattle.octets.proofs.Checks.{bind-pass, require-pass, then-pass, passes, pass-inj, known}
+use Rattle.octets.specs.Checked.{Check, pass, _>>=_, require}
+use Rattle.octets.proofs.Checks.{bind-pass, require-pass, then-pass, passes, pass-inj}
 use Rattle.bundle.specs.Bundle.{Object, Bundle, bundleOf, lengthGood}
-use Rattle.bundle.specs.Written.{Section, Sections, written}
+use Rattle.bundle.specs.Written.{Section, written}
 use Rattle.bundle.proofs.Every.{Every, nothing}
 use Rattle.package.proofs.Each.{each-those}
 use Rattle.index.specs.Index.{Contribution}
-use Rattle.index.specs.Rows.{BySection, shared, neededCodes}
+use Rattle.index.specs.Rows.{shared, neededCodes}
 use Rattle.sittings.specs.Sittings.{objectIn}
 use Rattle.package.specs.Pieces.{usedIn, remappedAll}
 use Rattle.package.specs.Input.{Input, inputOf}
@@ -27,13 +27,13 @@ use Rattle.package.specs.Pack.{unitBytes, allUsed, stringTable, nonEmpty, packa
 use Rattle.package.proofs.Kept.{any-kept}
 use Rattle.package.proofs.Rows.{behindAll, nothingBefore}
 use Rattle.sittings.proofs.Content.{filing-same, grownAll, filing-append}
-use Rattle.sittings.proofs.Rebased.{Both, none, Sees, Agree, Moved, filing-rebased}
+use Rattle.sittings.proofs.Rebased.{none, Sees, Agree, filing-rebased}
 use Rattle.sittings.proofs.Alike.{ofHome}
 use Rattle.sittings.proofs.PackageWalk.{AgainIn}
 use Rattle.sittings.proofs.Given.{goes-on}
-use Rattle.sittings.proofs.PackageHere.{all-sections, Filed-again, package-files}
+use Rattle.sittings.proofs.PackageHere.{all-sections, package-files}
 use Rattle.sittings.proofs.KeptTogether.{SharedOnly}
-use Rattle.sittings.proofs.SameSections.{Homed, Likewise, likewise-again, bytes-same, index-same, here-sees, table-same, shared-same, sections-same}
+use Rattle.sittings.proofs.SameSections.{Homed, likewise-again, bytes-same, index-same, here-sees, table-same, shared-same, sections-same}
 
 -- the package's object for objects of which the first has this word
 abbrev packageSame : List Object → ℕ → Type 0
@@ -102,17 +102,17 @@ module _ (homeOf : ℕ → ℕ) (either : (t : ℕ) → (homeOf t ≡ 1) ⊎ (ho
 
   -- what follows the filing
   abbrev ending : Bundle → Filing → Check (List ℕ)
-  ending c h = require (all (λ s. leb (length (s .bytes)) 8_388_607) (packageSections (c .big) (firstWord (c .objects) % 256) h)) 19
+  ending c h = require (all (λ s. leb (length (s .bytes)) sectionLimit) (packageSections (c .big) (firstWord (c .objects) % 256) h)) 19
       >>= λ _. pass (written (c .big) (packageObjects (c .objects) (packageSections (c .big) (firstWord (c .objects) % 256) h)))
 
   -- the answer
   pub together-judged : (w₂ w : ℕ) (q : List ℕ) (k₂ k : Bundle) → bundleOf second ≡ pass k₂ → k₂ .big ≡ big → k₂ .objects ≡ p ∷ qs → p .word ≡ word → judged second w₂ ≡ pass q
       → bundleOf together ≡ pass k → k .big ≡ big → k .objects ≡ os′ ++ qs′ → firstWord (os′ ++ qs′) ≡ word → packageSame (os′ ++ qs′) word
-      → lengthGood 4_194_304 together ≡ true → 20 * (length together / 4) ≤ w → judged together w ≡ pass q
+      → lengthGood bundleLimit together ≡ true → workForWord * (length together / 4) ≤ w → judged together w ≡ pass q
   unfolding judged filingOf firstWord packageObjects
   together-judged w₂ w q k₂ k r₂ b₂ o₂ pw j r b o ow pk good work =
-      let one = require-pass (lengthGood 4_194_304 second) 1 _ q j in
-      let two = require-pass (leb (20 * (length second / 4)) w₂) 2 _ q (one .1) in
+      let one = require-pass (lengthGood bundleLimit second) 1 _ q j in
+      let two = require-pass (leb (workForWord * (length second / 4)) w₂) 2 _ q (one .1) in
       let a = goes-on (bundleOf second) _ k₂ q r₂ (two .1) in
       let z₂ : k₂ ≡ record { big = big; objects = p ∷ qs } = λ i. record { big = b₂ i; objects = o₂ i } in
       let a′ = subst (λ (c : Bundle). (filingOf second c >>= ending c) ≡ pass q) z₂ a in
@@ -126,8 +126,8 @@ module _ (homeOf : ℕ → ℕ) (either : (t : ℕ) → (homeOf t ≡ 1) ⊎ (ho
       let objects : packageObjects (os′ ++ qs′) (packageSections big (firstWord (os′ ++ qs′) % 256) (t .filing)) ≡ record { word = p .word; sections = packageSections big (p .word % 256) g } ∷ [] =
       pk (packageSections big (firstWord (os′ ++ qs′) % 256) (t .filing)) ∙ (λ i. record { word = sym pw i; sections = sections i } ∷ []) in
       let end : ending (record { big = big; objects = os′ ++ qs′ }) (t .filing) ≡ ending (record { big = big; objects = p ∷ qs }) g =
-      λ i. require (all (λ (x : Section). leb (length (x .bytes)) 8_388_607) (sections i)) 19 >>= λ _. pass (written big (objects i)) in
-      passes (lengthGood 4_194_304 together) 1 _ good ∙ passes (leb (20 * (length together / 4)) w) 2 _ (le-leb _ _ work) ∙ then-pass (bundleOf together) _ k r
+      λ i. require (all (λ (x : Section). leb (length (x .bytes)) sectionLimit) (sections i)) 19 >>= λ _. pass (written big (objects i)) in
+      passes (lengthGood bundleLimit together) 1 _ good ∙ passes (leb (workForWord * (length together / 4)) w) 2 _ (le-leb _ _ work) ∙ then-pass (bundleOf together) _ k r
       ∙ ap (λ (c : Bundle). filingOf together c >>= ending c) z
       ∙ then-pass (filingOf together (record { big = big; objects = os′ ++ qs′ })) (ending (record { big = big; objects = os′ ++ qs′ })) (t .filing) filed′
       ∙ end ∙ s

@@ -2,7 +2,7 @@
 -- Assumes nothing.
 use mathlib.Core.Path.{_≡_, refl, sym, ap, _∙_}
 use mathlib.Core.Logic.{⊎-elim}
-use mathlib.Core.Bool.{Bool, true, false, not}
+use mathlib.Core.Bool.{true, false, not}
 use mathlib.Core.List.{List, [], _∷_}
 use mathlib.Core.Option.{Option, some, none}
 use Prim.Native.Nat.{ℕ, _+_, _<_}
@@ -10,9 +10,9 @@ use native.Mathlib.Omega.{arith}
 use lib.Dec.{eqb}
 use lib.ListN.{length, getD}
 use borrow.Author.Tests.{ne-eqb}
-use Rattle.octets.specs.Lists.{all, has, those}
-use Rattle.octets.specs.Checked.{Check, pass, refuse, _>>=_, require}
-use Rattle.octets.proofs.Checks.{require-pass, then-pass, pass-inj, known, true-false}
+use Rattle.octets.specs.Lists.{all, has}
+use Rattle.octets.specs.Checked.{Check, pass, _>>=_}
+use Rattle.octets.proofs.Checks.{require-pass, then-pass, pass-inj, known}
 use Rattle.index.specs.Columns.{columnsOf, columnIn}
 use Rattle.index.specs.Index.{Index, Contribution, cellOf}
 use Rattle.index.specs.Probing.{Slots, probe}
@@ -29,6 +29,10 @@ some-inj e = cc
 
 pub some-none : {A : Type 0} {a : A} {P : Type 0} → some a ≡ none → P
 some-none e = let z : _≡_ {A = ℕ} 0 1 = cc in absurd (omega arith)
+
+pub no-bytes : (s : List ℕ) → length s ≡ 0 → s ≡ []
+no-bytes [] e = refl
+no-bytes (b ∷ s) e = absurd (omega arith)
 
 -- the rest of a chain, once its first check passes
 pub goes-on : {A B : Type 0} (m : Check A) (f : A → Check B) (a : A) (b : B) → m ≡ pass a → (m >>= f) ≡ pass b → f a ≡ pass b

@@ -2,31 +2,27 @@
 -- Assumes nothing.
 use mathlib.Core.Path.{_≡_, refl, sym, ap, ap₂, _∙_, subst}
 use mathlib.Core.Logic.{_⊎_, inl, inr, ⊎-elim}
-use mathlib.Core.Bool.{Bool, true, false, _||_}
-use mathlib.Core.List.{List, [], _∷_, _++_, map, append-nil, append-assoc}
+use mathlib.Core.Bool.{Bool, true, false}
+use mathlib.Core.List.{List, [], _∷_, _++_, append-nil, append-assoc}
 use mathlib.Core.Option.{Option, some, none}
 use Prim.Native.Nat.{ℕ, _+_}
-use native.Mathlib.Omega.{arith}
 use lib.Dec.{eqb}
 use lib.ListN.{length}
-use borrow.Author.Tests.{eqb-true, eqb-false, eq-eqb, ne-eqb}
-use Rattle.octets.specs.Lists.{any, those, has, distinct}
-use Rattle.octets.proofs.Checks.{known, true-false, or-neither, or-fails-left, or-fails-right}
-use Rattle.octets.proofs.Lists.{those-keeps, those-skips, those-append, any-append, any-cons, any-stops, any-cases, any-more, any-none-head, any-none-tail}
-use Rattle.octets.proofs.Elements.{has-append, distinct-head, distinct-tail}
-use Rattle.bundle.proofs.Every.{Every, nothing, also}
-use Rattle.package.proofs.Each.{each-head, each-tail}
+use borrow.Author.Tests.{eqb-true, eqb-false}
+use Rattle.octets.specs.Lists.{any, those, has}
+use Rattle.octets.proofs.Checks.{known, true-false}
+use Rattle.octets.proofs.Lists.{any-stops, any-cases, any-more}
 use Rattle.index.specs.Index.{Contribution}
 use Rattle.index.specs.Rows.{BySection, shared, neededCodes, isSome}
 use Rattle.index.specs.Written.{Row, offsetOf, sizeOf}
 use Rattle.index.proofs.LawCells.{anyHas}
 use Rattle.package.specs.Input.{Input}
-use Rattle.package.specs.Filing.{Filed, isUnder, lengths, keep, keepAll, kept}
-use Rattle.package.specs.Pack.{cells, longer, entriesFrom, rowsOf, unitBytes}
-use Rattle.package.proofs.Kept.{keep-new, keep-known, keepAll-append, identitiesIn, has-identity, under-own, under-table, under-identity}
-use Rattle.package.proofs.Rows.{rowAt, rowsFrom, rows-here, rows-later, rows-append, rows-are, behindAll, nothingBefore}
-use Rattle.sittings.proofs.Rebased.{Both, none as done, more, both-append, Sees, sees-append, rebased, Agree, Moved}
-use Rattle.sittings.proofs.Alike.{Alike, ofHome}
+use Rattle.package.specs.Filing.{Filed, isUnder, lengths, keepAll}
+use Rattle.package.specs.Pack.{cells, longer, entriesFrom, rowsOf}
+use Rattle.package.proofs.Kept.{keep-new, keep-known}
+use Rattle.package.proofs.Rows.{rowAt, rowsFrom, rows-here, rows-later, nothingBefore}
+use Rattle.sittings.proofs.Rebased.{Both, none as done, more, Sees, sees-append, rebased, Agree, Moved}
+use Rattle.sittings.proofs.Alike.{Alike}
 use Rattle.package.proofs.Cells.{cell-home, cell-some, cell-none}
 use Rattle.sittings.proofs.PackageWalk.{AgainIn}
 

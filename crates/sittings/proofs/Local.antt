@@ -2,8 +2,8 @@
 -- Assumes nothing.
 use mathlib.Core.Path.{_≡_, refl, sym, ap, _∙_, subst}
 use mathlib.Core.Logic.{_⊎_, ⊎-elim}
-use mathlib.Core.Bool.{Bool, true, false, not}
-use mathlib.Core.List.{List, [], _∷_, _++_}
+use mathlib.Core.Bool.{true, false, not}
+use mathlib.Core.List.{List, _++_}
 use Prim.Native.Nat.{ℕ, _+_, _≤_}
 use native.Mathlib.Omega.{arith}
 use lib.Dec.{eqb, leb, ltb}
@@ -11,7 +11,7 @@ use lib.ListN.{length, take, getD, length-append}
 use lib.Seq.{take-at, take-take, take-length}
 use borrow.Author.Tests.{le-leb}
 use Rattle.octets.specs.Octets.{numberAt}
-use Rattle.octets.specs.Checked.{Check, pass, refuse, _>>=_, require}
+use Rattle.octets.specs.Checked.{Check, pass, _>>=_, require}
 use Rattle.octets.proofs.Checks.{bind-pass, require-pass, pass-inj, passes, known}
 use Rattle.octets.proofs.Numbers.{numberAt-part}
 use Rattle.octets.proofs.Parts.{part-front}

@@ -3,22 +3,21 @@
 use mathlib.Core.Path.{_≡_, refl, sym, ap, ap₂, _∙_, subst}
 use mathlib.Core.Logic.{⊎-elim}
 use mathlib.Core.Bool.{Bool, true, false}
-use mathlib.Core.List.{List, [], _∷_, _++_, map, append-assoc}
+use mathlib.Core.List.{List, _∷_, _++_, append-assoc}
 use mathlib.Core.Option.{Option, some, none}
 use Prim.Native.Nat.{ℕ, zero, suc, _+_, _<_, _≤_}
 use native.Mathlib.Omega.{arith}
 use lib.Dec.{leb}
 use lib.ListN.{length, getD, length-append}
 use borrow.Author.Tests.{leb-true}
-use Rattle.octets.specs.Lists.{joined, has}
-use Rattle.octets.proofs.Checks.{known, true-false}
+use Rattle.octets.specs.Lists.{joined}
+use Rattle.octets.proofs.Checks.{known}
 use Rattle.octets.proofs.Joined.{map-append, joined-append}
 use Rattle.bundle.specs.Encoding.{Encoding}
 use Rattle.bundle.proofs.Every.{Every, nothing, also}
-use Rattle.strings.proofs.StrOffsets.{Sound}
 use Rattle.index.specs.Index.{Index, Contribution, cellOf}
 use Rattle.index.specs.Probing.{Slots}
-use Rattle.index.specs.Rows.{BySection, rowNumbers}
+use Rattle.index.specs.Rows.{rowNumbers}
 use Rattle.index.specs.Tiles.{notEmpty, namedIn, namedBy, named, startsAt}
 use Rattle.index.specs.Written.{Row, offsetOf, sizeOf}
 use Rattle.index.proofs.LawGrid.{noRow}
@@ -28,7 +27,7 @@ use Rattle.package.specs.Input.{Input}
 use Rattle.package.specs.Filing.{Filed}
 use Rattle.package.specs.Pack.{cells, rowsOf}
 use Rattle.package.proofs.Cells.{cell-some, cell-none}
-use Rattle.package.proofs.Each.{each-append, each-left, each-right, each-middle, each-so}
+use Rattle.package.proofs.Each.{each-append, each-left, each-so}
 use Rattle.package.proofs.Filing.{Lies, lengthsIn}
 use Rattle.package.proofs.Inputs.{InputFacts}
 use Rattle.package.proofs.Pieces.{bytesOf}

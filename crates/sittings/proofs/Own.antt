@@ -1,7 +1,6 @@
 -- A version 4 unit of info was read by its own part of abbrev: the whole section or, where its row is found by its place, that row's part.
 -- Assumes nothing.
-use mathlib.Core.Path.{_≡_, refl, sym, ap, ap₂, _∙_, subst}
-use mathlib.Core.Logic.{_⊎_, ⊎-elim}
+use mathlib.Core.Path.{_≡_, refl, sym, ap, ap₂, _∙_}
 use mathlib.Core.Bool.{Bool, true, false, not, _&&_}
 use mathlib.Core.List.{List, [], _∷_, _++_}
 use mathlib.Core.Option.{Option, some, none}
@@ -12,27 +11,20 @@ use lib.Dec.{eqb, leb}
 use lib.ListN.{length}
 use borrow.Author.Tests.{eq-eqb}
 use Rattle.octets.specs.Octets.{part}
-use Rattle.octets.specs.Lists.{any, all, has}
-use Rattle.octets.specs.Checked.{Check, pass, refuse, _>>=_, require}
-use Rattle.octets.proofs.Checks.{bind-pass, require-pass, pass-inj, pass-refuse, and-both}
+use Rattle.octets.specs.Lists.{any, has}
+use Rattle.octets.specs.Checked.{Check, pass}
+use Rattle.octets.proofs.Checks.{require-pass, pass-inj, pass-refuse, and-both}
 use Rattle.octets.proofs.Parts.{part-whole}
 use Rattle.unit.specs.UnitRead.{UnitRead, isFive}
 use Rattle.unit.proofs.Alone.{unit-alone, info-table}
 use Rattle.index.specs.Index.{Index, Contribution, cellOf}
-use Rattle.index.specs.Probing.{probe}
-use Rattle.index.specs.Rows.{BySection, shared, neededCodes, rowOf, rowContributions, wholeContributions, naming, theOne, abbrevPart}
+use Rattle.index.specs.Rows.{BySection, shared, neededCodes, rowContributions, wholeContributions, naming, theOne, abbrevPart}
 use Rattle.package.specs.Input.{Input}
 use Rattle.package.specs.Filing.{Filed, isUnder, indexFor, lengths, indexByPlace, abbreviationsFor, isPackage, contributionsOf, skipped, contributed}
-use Rattle.package.specs.Units.{ReadAt}
 use Rattle.package.proofs.Inputs.{IndexRead}
 use Rattle.package.proofs.Units.{readingOf, Taken, read-at}
 use Rattle.package.proofs.UnitStrings.{part-contributed, none-contributed}
-use Rattle.sittings.proofs.Given.{goes-on, needed-is, needed-not, row-given}
-
--- a part of a list that has no bytes, or all of it
-no-bytes : (s : List ℕ) → length s ≡ 0 → s ≡ []
-no-bytes [] e = refl
-no-bytes (b ∷ s) e = absurd (omega arith)
+use Rattle.sittings.proofs.Given.{no-bytes, goes-on, needed-is, needed-not, row-given}
 
 -- the whole of a section is what a unit without an index contributes
 whole-cell : (lengths : BySection ℕ) (c : ℕ) → has shared c ≡ true → (lengths c ≡ 0 → ⊥) → wholeContributions lengths c ≡ some (record { offset = 0; size = lengths c })

@@ -1,9 +1,9 @@
 -- Version 5: what a unit contributes of str_offsets, where it has bytes, is one piece of its object's.
 -- Assumes nothing.
 use mathlib.Core.Path.{_≡_, refl, sym, ap, _∙_, subst}
-use mathlib.Core.Logic.{_⊎_, ⊎-elim}
-use mathlib.Core.Bool.{Bool, true, false, not, _&&_, _||_}
-use mathlib.Core.List.{List, [], _∷_, _++_, map}
+use mathlib.Core.Logic.{⊎-elim}
+use mathlib.Core.Bool.{Bool, true, false, not, _||_}
+use mathlib.Core.List.{List, [], _∷_, _++_}
 use mathlib.Core.Option.{Option, some, none}
 use Prim.Native.Nat.{ℕ, _+_, _≤_}
 use native.Mathlib.Omega.{arith}
@@ -12,13 +12,13 @@ use lib.ListN.{length, length-append}
 use borrow.Author.Tests.{not-true}
 use Rattle.octets.specs.Octets.{part}
 use Rattle.octets.specs.Lists.{joined, any}
-use Rattle.octets.specs.Checked.{Check, pass, refuse, _>>=_, require}
+use Rattle.octets.specs.Checked.{Check, pass}
 use Rattle.octets.proofs.Checks.{bind-pass, require-pass, pass-inj, pass-refuse, known, and-both, or-left, or-right}
 use Rattle.octets.proofs.Parts.{length-part}
 use Rattle.bundle.specs.Bundle.{Part, Object, body}
 use Rattle.bundle.specs.Encoding.{Encoding, encodingOf}
 use Rattle.unit.specs.UnitRead.{UnitRead, isFive}
-use Rattle.index.specs.Index.{Index, Contribution, cellOf}
+use Rattle.index.specs.Index.{Index, Contribution}
 use Rattle.index.specs.Rows.{BySection, isSome, rowContributions, wholeContributions}
 use Rattle.index.specs.Tiles.{named, tiles}
 use Rattle.index.proofs.Contributions.{whole-contributed, row-cells}
@@ -28,7 +28,7 @@ use Rattle.package.specs.Pieces.{Piece, pieceOf, piecesOf}
 use Rattle.package.specs.Input.{Input, present, wholePieces, isPacked, tiledPieces, inputOf}
 use Rattle.package.specs.Filing.{Filed, isUnder, indexFor, lengths, isPackage, contributionsOf, skipped}
 use Rattle.package.proofs.Pieces.{bytesOf, piece-facts}
-use Rattle.package.proofs.Inputs.{IndexRead, absent-body, index-read, opened-parts, packed-is, openedOf, InputParts, input-parts, input-cu, input-tu}
+use Rattle.package.proofs.Inputs.{IndexRead, absent-body, index-read, opened-parts, packed-is, openedOf, input-parts, input-cu, input-tu}
 use Rattle.package.proofs.Units.{readingOf, unit-taken}
 use Rattle.sittings.proofs.Given.{some-none}
 use Rattle.sittings.proofs.Filed.{FiledIn}

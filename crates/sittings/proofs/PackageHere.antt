@@ -1,32 +1,30 @@
 -- The package's object in the second sitting: its units are the kept ones, none is skipped.
 -- Assumes nothing.
-use mathlib.Core.Path.{_≡_, refl, sym, ap, ap₂, _∙_, subst}
-use mathlib.Core.Logic.{_⊎_, inl, inr, ⊎-elim}
+use mathlib.Core.Path.{_≡_, refl, sym, ap, ap₂, _∙_}
+use mathlib.Core.Logic.{⊎-elim}
 use mathlib.Core.Bool.{Bool, true, false, _||_}
-use mathlib.Core.List.{List, [], _∷_, _++_, map, append-nil, append-assoc}
-use mathlib.Core.Option.{Option}
-use Prim.Native.Nat.{ℕ, zero, suc, _+_, _≤_, _<_}
+use mathlib.Core.List.{List, [], _∷_, _++_, append-nil}
+use Prim.Native.Nat.{ℕ, suc, _≤_}
 use native.Mathlib.Omega.{arith}
-use lib.Dec.{eqb, leb}
+use lib.Dec.{eqb}
 use lib.ListN.{length}
-use borrow.Author.Tests.{eqb-true, eqb-false, eq-eqb, ne-eqb, leb-false}
-use Rattle.octets.specs.Lists.{any, those, has, distinct, joined}
-use Rattle.octets.specs.Checked.{Check, pass, refuse, _>>=_}
-use Rattle.octets.proofs.Checks.{bind-pass, then-pass, pass-inj, known, true-false, or-neither, or-fails-left, or-fails-right}
-use Rattle.octets.proofs.Lists.{those-keeps, those-skips, those-append, those-none, those-all, any-append, any-cons, any-stops}
-use Rattle.octets.proofs.Elements.{has-append, has-cons, has-skips, distinct-head, distinct-tail, distinct-cons}
+use borrow.Author.Tests.{leb-false}
+use Rattle.octets.specs.Lists.{any, those, has, distinct}
+use Rattle.octets.specs.Checked.{pass, _>>=_}
+use Rattle.octets.proofs.Checks.{bind-pass, pass-inj, known, true-false, or-neither, or-fails-left, or-fails-right}
+use Rattle.octets.proofs.Lists.{those-keeps, those-skips, any-append}
+use Rattle.octets.proofs.Elements.{has-append, has-cons, has-skips, distinct-head, distinct-tail}
 use Rattle.bundle.specs.Written.{Section}
-use Rattle.bundle.proofs.Every.{Every, nothing, also}
-use Rattle.package.proofs.Each.{each-head, each-tail, each-middle}
 use Rattle.index.specs.Rows.{BySection}
 use Rattle.package.specs.Input.{Input}
-use Rattle.package.specs.Filing.{Filed, isUnder, unitAt, unitsFrom, unitsIn, keepAll, kept}
+use Rattle.package.specs.Filing.{Filed, isUnder, unitAt, unitsFrom, unitsIn, kept}
 use Rattle.package.specs.Pack.{unitBytes, nonEmpty}
-use Rattle.package.proofs.Kept.{keep-new, identitiesIn, identities-here, identities-later, identities-append, has-identity, distinct-kept}
-use Rattle.package.proofs.Rows.{behindAll, nothingBefore, behind-at}
-use Rattle.sittings.proofs.Rebased.{Both, none, more, Sees, sees-append}
-use Rattle.sittings.proofs.Alike.{Alike, ofHome, Tabled}
-use Rattle.sittings.proofs.PackageWalk.{AgainIn, Walked, walk, none-those, home-keeps, home-skips, home-append, under-alike}
+use Rattle.package.proofs.Kept.{identitiesIn, identities-here, identities-append, has-identity, distinct-kept}
+use Rattle.package.proofs.Rows.{behindAll, nothingBefore}
+use Rattle.sittings.proofs.Given.{no-bytes}
+use Rattle.sittings.proofs.Rebased.{Both, none, more, Sees}
+use Rattle.sittings.proofs.Alike.{Alike, ofHome}
+use Rattle.sittings.proofs.PackageWalk.{AgainIn, walk, none-those, home-skips, home-append, under-alike}
 
 -- ---- each kept unit is alone under its identity
 pub distinct-middle : (xs : List ℕ) (x : ℕ) (ys : List ℕ) → distinct (xs ++ (x ∷ ys)) ≡ true → has (xs ++ ys) x ≡ false
@@ -68,10 +66,6 @@ module _ (us : List Filed) (xs : List Filed) (u : Filed) (ys : List Filed) (e : 
       (none-those f (λ v. eqb (v .home) h) xs before)
 
 -- ---- a section without bytes changes nothing
-no-bytes : (s : List ℕ) → length s ≡ 0 → s ≡ []
-no-bytes [] e = refl
-no-bytes (b ∷ s) e = absurd (omega arith)
-
 pub all-sections : (i : Input) (bases : BySection ℕ) (earlier here : List Filed) (ss : List Section) → unitsIn i bases earlier here (those nonEmpty ss) ≡ unitsIn i bases earlier here ss
 unfolding those unitsIn
 all-sections i bases earlier here [] = refl

@@ -1,11 +1,11 @@
 -- A kept unit, read again in the package: the same unit, whose row is its own.
 -- Assumes nothing.
 use mathlib.Core.Path.{_≡_, refl, sym, ap, ap₂, _∙_, subst}
-use mathlib.Core.Logic.{_⊎_, inl, inr, ⊎-elim}
+use mathlib.Core.Logic.{inl, inr, ⊎-elim}
 use mathlib.Core.Bool.{Bool, true, false, not, _&&_}
-use mathlib.Core.List.{List, [], _∷_, _++_, map}
+use mathlib.Core.List.{List, [], _∷_, _++_}
 use mathlib.Core.Option.{Option, some, none}
-use Prim.Native.Nat.{ℕ, zero, suc, _+_, _≤_, _<_}
+use Prim.Native.Nat.{ℕ, _+_, _≤_, _<_}
 use native.Mathlib.Nat.{zero-add}
 use native.Mathlib.Omega.{arith}
 use lib.Dec.{eqb, leb}
@@ -13,9 +13,9 @@ use lib.ListN.{length, take, getD, length-append}
 use lib.Seq.{getD-append-seam, take-at}
 use borrow.Author.Tests.{eqb-true, eqb-false, eq-eqb, ne-eqb}
 use Rattle.octets.specs.Octets.{part}
-use Rattle.octets.specs.Lists.{any, all, has, those}
-use Rattle.octets.specs.Checked.{Check, pass, refuse, _>>=_, require}
-use Rattle.octets.proofs.Checks.{bind-pass, require-pass, then-pass, pass-inj, pass-refuse, known, true-false, and-both}
+use Rattle.octets.specs.Lists.{any, all, has}
+use Rattle.octets.specs.Checked.{Check, pass, _>>=_}
+use Rattle.octets.proofs.Checks.{bind-pass, require-pass, pass-inj, pass-refuse, known, true-false, and-both}
 use Rattle.octets.proofs.Lists.{all-tail}
 use Rattle.octets.proofs.Parts.{part-none}
 use Rattle.bundle.specs.Encoding.{Encoding}
@@ -23,15 +23,15 @@ use Rattle.unit.specs.UnitRead.{UnitRead, isFive, unitBy, unitOf}
 use Rattle.unit.proofs.Plain.{read-by}
 use Rattle.index.specs.Columns.{columnsOf, columnIn}
 use Rattle.index.specs.Index.{Index, Contribution, cellOf}
-use Rattle.index.specs.Probing.{Slots, probe}
+use Rattle.index.specs.Probing.{probe}
 use Rattle.index.specs.Rows.{BySection, shared, neededCodes, isSome, rowOf, cellIs, ownPlace}
 use Rattle.index.specs.Written.{Row, offsetOf, sizeOf}
 use Rattle.index.proofs.LawGrid.{noRow}
 use Rattle.index.proofs.LawWhole.{Indexed, row-found}
 use Rattle.index.proofs.RoundTrip.{written}
 use Rattle.index.proofs.LawCells.{anyHas, cell-own}
-use Rattle.index.proofs.Contributions.{all-has, needed-shared}
-use Rattle.index.specs.Rows.{partGood, rowContributions, rowNumbers, naming, theOne, abbrevPart}
+use Rattle.index.proofs.Contributions.{all-has}
+use Rattle.index.specs.Rows.{rowContributions, rowNumbers, naming, theOne, abbrevPart}
 use Rattle.index.proofs.OneRow.{one-is, numbered, those-has}
 use Rattle.package.specs.Input.{Input}
 use Rattle.package.specs.Filing.{Filed, isUnder, indexFor, lengths, indexByPlace, abbreviationsFor, contributionsOf, skipped, unitAt, contributed}
@@ -39,7 +39,7 @@ use Rattle.package.specs.Pack.{cells, longer, rowsOf}
 use Rattle.package.proofs.Rows.{rowAt, rowsFrom, behindAll, nothingBefore, row-stands}
 use Rattle.package.proofs.Units.{readingOf}
 use Rattle.package.proofs.Cells.{cell-home, cell-some, cell-none}
-use Rattle.sittings.proofs.Given.{some-inj, some-none, goes-on, needed-is, row-given, cell-written}
+use Rattle.sittings.proofs.Given.{needed-is, row-given, cell-written}
 use Rattle.sittings.proofs.Local.{read-behind, unread}
 use Rattle.sittings.proofs.Alike.{Alike}
 

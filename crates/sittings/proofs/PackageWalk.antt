@@ -1,25 +1,24 @@
 -- The walk over the units of a package: each kept unit again, home by home.
 -- Assumes nothing.
 use mathlib.Core.Path.{_≡_, refl, sym, ap, ap₂, _∙_, subst}
-use mathlib.Core.Logic.{_⊎_, inl, inr, ⊎-elim}
-use mathlib.Core.Bool.{Bool, true, false, _||_}
-use mathlib.Core.List.{List, [], _∷_, _++_, map, append-nil, append-assoc}
-use mathlib.Core.Option.{Option}
-use Prim.Native.Nat.{ℕ, zero, suc, _+_, _≤_, _<_}
+use mathlib.Core.Logic.{⊎-elim}
+use mathlib.Core.Bool.{Bool, true, false}
+use mathlib.Core.List.{List, [], _∷_, _++_, append-nil, append-assoc}
+use Prim.Native.Nat.{ℕ, zero, suc, _+_, _≤_}
 use native.Mathlib.Omega.{arith}
 use lib.Dec.{eqb}
 use lib.ListN.{length, drop, length-append}
 use lib.Seq.{drop-at}
 use borrow.Author.Tests.{eqb-true, eqb-false, eq-eqb, ne-eqb}
 use Rattle.octets.specs.Lists.{any, those, has, joined}
-use Rattle.octets.specs.Checked.{Check, pass, refuse, _>>=_}
-use Rattle.octets.proofs.Checks.{bind-pass, pass-inj, pass-refuse, known, or-neither, or-fails-left, or-fails-right}
-use Rattle.octets.proofs.Lists.{those-keeps, those-skips, those-append, any-append, any-cons, any-none-head, any-none-tail}
+use Rattle.octets.specs.Checked.{pass}
+use Rattle.octets.proofs.Checks.{bind-pass, pass-inj, pass-refuse, known}
+use Rattle.octets.proofs.Lists.{those-keeps, those-skips, those-append, any-cons, any-none-head, any-none-tail}
 use Rattle.index.specs.Rows.{BySection, neededCodes, isSome}
 use Rattle.index.proofs.LawCells.{anyHas}
 use Rattle.package.specs.Input.{Input}
 use Rattle.package.specs.Filing.{Filed, isUnder, lengths, unitAt, unitsFrom}
-use Rattle.package.specs.Pack.{longer, rowsOf, unitBytes}
+use Rattle.package.specs.Pack.{rowsOf, unitBytes}
 use Rattle.package.proofs.Rows.{behindAll, nothingBefore, behind-at, unit-here, unit-later, unit-append}
 use Rattle.sittings.proofs.Rebased.{Both, none, more, Sees, sees-append}
 use Rattle.sittings.proofs.Alike.{Alike, ofHome}

@@ -1,11 +1,11 @@
 -- The package's object as an input: what it files, and what it gives to the shared sections.
 -- Assumes nothing.
 use mathlib.Core.Path.{_≡_, refl, sym, ap, _∙_, subst}
-use mathlib.Core.Logic.{_⊎_, inl, inr, ⊎-elim}
-use mathlib.Core.Bool.{Bool, true, false}
-use mathlib.Core.List.{List, [], _∷_, _++_, map}
-use mathlib.Core.Option.{Option, some}
-use Prim.Native.Nat.{ℕ, _+_, _^_, _<_, _≤_}
+use mathlib.Core.Logic.{_⊎_}
+use mathlib.Core.Bool.{Bool, true}
+use mathlib.Core.List.{List, [], _∷_, map}
+use mathlib.Core.Option.{some}
+use Prim.Native.Nat.{ℕ, _+_, _^_, _<_}
 use native.Mathlib.Omega.{arith}
 use lib.ListN.{length}
 use borrow.Author.Tests.{ne-eqb}
@@ -28,7 +28,7 @@ use Rattle.package.proofs.Each.{each-both, each-middle, each-so}
 use Rattle.package.proofs.Filing.{Good, Lies, FilingFacts, lengthsIn}
 use Rattle.package.proofs.Kept.{each-kept}
 use Rattle.package.proofs.Rows.{behindAll, nothingBefore}
-use Rattle.package.proofs.Shared.{given, shared-given, length-given}
+use Rattle.package.proofs.Shared.{shared-given, length-given}
 use Rattle.sittings.proofs.Content.{grownAll}
 use Rattle.sittings.proofs.Final.{PackageInput}
 use Rattle.sittings.proofs.Given.{needed-is}

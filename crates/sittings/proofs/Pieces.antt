@@ -1,17 +1,17 @@
 -- Version 5: the pieces of a package's str_offsets are those of its objects, remapped.
 -- Assumes nothing.
 use mathlib.Core.Path.{_≡_, refl, sym, ap, ap₂, _∙_, subst}
-use mathlib.Core.List.{List, [], _∷_, _++_, map, append-assoc}
+use mathlib.Core.List.{List, [], _∷_, _++_, append-assoc}
 use Prim.Native.Nat.{ℕ, _+_, _^_, _<_, _≤_}
 use native.Mathlib.Omega.{arith}
 use lib.ListN.{length, length-append}
 use Rattle.octets.specs.Octets.{part}
 use Rattle.octets.specs.Lists.{joined}
-use Rattle.octets.specs.Checked.{Check, pass, _>>=_}
+use Rattle.octets.specs.Checked.{pass}
 use Rattle.octets.proofs.Checks.{bind-pass, pass-inj}
 use Rattle.octets.proofs.Parts.{part-middle}
 use Rattle.bundle.specs.Encoding.{Encoding}
-use Rattle.bundle.proofs.Every.{Every, nothing, also}
+use Rattle.bundle.proofs.Every.{Every}
 use Rattle.package.proofs.Each.{each-head, each-tail}
 use Rattle.strings.specs.Strings.{entriesIn, strOf, remapped}
 use Rattle.strings.proofs.StrOffsets.{Sound, Whole}

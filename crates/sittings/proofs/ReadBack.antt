@@ -1,21 +1,20 @@
 -- The package's object, read as an input: its sections, its indexes and its strings are those that were written.
 -- Assumes nothing.
-use mathlib.Core.Path.{_≡_, refl, sym, ap, ap₂, _∙_, subst}
+use mathlib.Core.Path.{_≡_, refl, sym, ap, _∙_, subst}
 use mathlib.Core.Logic.{_⊎_, inl, inr, ⊎-elim}
 use mathlib.Core.Bool.{Bool, true, false, not, _&&_, _||_}
 use mathlib.Core.List.{List, [], _∷_, _++_, map}
 use mathlib.Core.Option.{Option, some, none}
-use Prim.Native.Nat.{ℕ, _+_, _*_, _%_, _^_, _<_, _≤_}
+use Prim.Native.Nat.{ℕ, _^_, _<_, _≤_}
 use native.Mathlib.Nat.{pow-le-pow-right, lt-of-lt-of-le}
 use native.Mathlib.Omega.{arith}
 use native.Mathlib.Decide.{ℕ-discrete}
 use lib.Dec.{eqb, leb}
 use lib.ListN.{length, length-append}
 use borrow.Author.Tests.{eqb-true, eqb-false, leb-true}
-use Rattle.octets.specs.Octets.{part}
 use Rattle.octets.specs.Lists.{those, has, any, joined}
-use Rattle.octets.specs.Checked.{Check, pass, refuse, _>>=_, require}
-use Rattle.octets.proofs.Checks.{bind-pass, require-pass, pass-inj, pass-refuse, fails, known, and-both, and-left, and-right, not-left, or-cases, or-fails-left, or-fails-right}
+use Rattle.octets.specs.Checked.{pass}
+use Rattle.octets.proofs.Checks.{bind-pass, require-pass, pass-inj, pass-refuse, fails, known, and-both, and-left, and-right, not-left, or-fails-left, or-fails-right}
 use Rattle.octets.proofs.Lists.{those-keeps, those-skips}
 use Rattle.octets.proofs.Numbers.{Bytes}
 use Rattle.bundle.specs.Bundle.{Part, Object, partsOf, count, firstPart, body}
@@ -24,7 +23,7 @@ use Rattle.bundle.specs.Written.{Section, Sections}
 use Rattle.bundle.specs.Written as bundled
 use Rattle.bundle.proofs.Back as back
 use Rattle.bundle.proofs.Back.{written-back}
-use Rattle.bundle.proofs.Every.{Every, nothing, also}
+use Rattle.bundle.proofs.Every.{Every}
 use Rattle.bundle.proofs.RoundTrip.{partsFrom, objectsFrom}
 use Rattle.bundle.proofs.WrittenParts.{bytesIn, SectionIn}
 use Rattle.unit.specs.UnitRead.{isFive}
@@ -35,9 +34,8 @@ use Rattle.index.specs.Index.{Index, indexOf}
 use Rattle.index.specs.Rows.{BySection, shared}
 use Rattle.index.specs.Tiles.{named}
 use Rattle.index.specs.Written.{Row}
-use Rattle.index.proofs.LawWhole.{Indexed}
 use Rattle.index.proofs.RoundTrip.{written}
-use Rattle.package.specs.Input.{Input, present, complete, formOf, inputIndex, isPacked, unitSections, opened, editionGood, inputOf}
+use Rattle.package.specs.Input.{Input, present, complete, formOf, inputIndex, isPacked, unitSections, editionGood, inputOf}
 use Rattle.package.specs.Filing.{Filed, Filing, indexFor, firstWord, kept}
 use Rattle.package.specs.Pieces.{usedIn, remappedAll}
 use Rattle.package.specs.Pack.{longer, rowsOf, unitBytes, sharedBytes, stringTable, sectionList, nonEmpty, allUsed}
@@ -46,14 +44,14 @@ use Rattle.package.proofs.ByCode.{info-bytes, str-bytes, cu-bytes, tu-bytes, sh
 use Rattle.package.proofs.Cells.{kept-good, kept-lie}
 use Rattle.package.proofs.Each.{each-head, each-append, each-middle, each-so}
 use Rattle.package.proofs.Filing.{Good, Lies, FilingFacts}
-use Rattle.package.proofs.Inputs.{InputFacts, absent-body, OpenedParts, opened-parts, openedOf, InputParts, input-parts, input-cu, input-tu}
+use Rattle.package.proofs.Inputs.{absent-body, OpenedParts, opened-parts, openedOf, InputParts, input-parts, input-cu, input-tu}
 use Rattle.package.proofs.Kept.{each-kept}
 use Rattle.package.proofs.PackageRead.{sectionsOf, package-is, section-there, section-missing}
 use Rattle.package.proofs.Rows.{rowAt, rowsFrom, behindAll, nothingBefore, row-stands}
-use Rattle.package.proofs.Shared.{given, given-strings, shared-given}
 use Rattle.package.proofs.Tables.{indexOfTable, facts-of, section-small, table-indexed, table-empty}
 use Rattle.package.proofs.UnitStrings.{good-sound}
 use Rattle.sittings.specs.Sittings.{sectionIn}
+use Rattle.sittings.proofs.Given.{no-bytes}
 use Rattle.sittings.proofs.Content.{holdsUnits, units-in}
 use Rattle.sittings.proofs.Final.{PackageInput}
 use Rattle.sittings.proofs.KeptUnits.{homeBy, not-six, OwnRead}
@@ -63,10 +61,6 @@ use Rattle.sittings.proofs.PackageUnit.{TableIs, empty, full}
 use Rattle.sittings.proofs.Pieces.{PieceFacts, Restrung}
 use Rattle.sittings.proofs.Strings.{Kept}
 use Rattle.sittings.proofs.Strung.{piecesIn, used-all, remapped-all, used-kept, all-kept, all-facts, strung-four, strung-five}
-
-no-bytes : (s : List ℕ) → length s ≡ 0 → s ≡ []
-no-bytes [] e = refl
-no-bytes (b ∷ s) e = absurd (omega arith)
 
 -- a code without a first part has none
 none-count : (ps : List Part) (c : ℕ) → firstPart ps c ≡ none → count ps c ≡ 0

@@ -5,15 +5,14 @@ use mathlib.Core.Bool.{Bool, true, false, _||_}
 use mathlib.Core.List.{List, [], _∷_, _++_, map, append-nil, append-assoc}
 use mathlib.Core.Option.{Option}
 use Prim.Native.Nat.{ℕ, zero, suc, _+_}
-use native.Mathlib.Omega.{arith}
 use lib.ListN.{length, drop}
 use Rattle.octets.specs.Lists.{any, has}
-use Rattle.octets.specs.Checked.{Check, pass, refuse, _>>=_, require}
+use Rattle.octets.specs.Checked.{Check, pass}
 use Rattle.octets.proofs.Checks.{bind-pass, then-pass, pass-inj, pass-refuse}
 use Rattle.octets.proofs.Lists.{any-append}
 use Rattle.octets.proofs.Joined.{map-append}
 use Rattle.bundle.specs.Bundle.{Object}
-use Rattle.bundle.proofs.Every.{Every, nothing, also}
+use Rattle.bundle.proofs.Every.{Every, nothing}
 use Rattle.package.proofs.Each.{each-head, each-tail}
 use Rattle.bundle.specs.Written.{Section}
 use Rattle.index.specs.Index.{Contribution}

@@ -1,14 +1,12 @@
 -- Rows whose cells are written alike give the same index.
 -- Assumes nothing.
-use mathlib.Core.Path.{_≡_, refl, sym, ap, ap₂, _∙_}
-use mathlib.Core.Logic.{⊎-elim}
-use mathlib.Core.Bool.{Bool, true, false}
+use mathlib.Core.Path.{_≡_, refl, ap, ap₂, _∙_}
+use mathlib.Core.Bool.{Bool}
 use mathlib.Core.List.{List, [], _∷_, _++_, map}
 use mathlib.Core.Option.{Option}
 use Prim.Native.Nat.{ℕ, suc}
 use lib.ListN.{length}
 use Rattle.octets.specs.Lists.{joined, those, any}
-use Rattle.octets.specs.Checked.{Check, pass, _>>=_}
 use Rattle.index.specs.Columns.{Column, columnsOf}
 use Rattle.index.specs.Index.{Contribution}
 use Rattle.index.specs.Probing.{Slots, slotsOf}

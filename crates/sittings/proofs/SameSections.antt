@@ -2,39 +2,37 @@
 -- Assumes nothing.
 use mathlib.Core.Path.{_≡_, refl, sym, ap, ap₂, _∙_, subst}
 use mathlib.Core.Logic.{_⊎_, inl, inr, ⊎-elim}
-use mathlib.Core.Bool.{Bool, true, false, _||_}
+use mathlib.Core.Bool.{Bool, true, false}
 use mathlib.Core.List.{List, [], _∷_, _++_, map, append-nil, append-assoc}
-use mathlib.Core.Option.{Option, some}
-use Prim.Native.Nat.{ℕ, _+_, _≤_}
+use mathlib.Core.Option.{some}
+use Prim.Native.Nat.{ℕ}
 use native.Mathlib.Omega.{arith}
 use lib.Dec.{eqb}
-use lib.ListN.{length}
-use borrow.Author.Tests.{eqb-true, eqb-false, eq-eqb, ne-eqb}
+use borrow.Author.Tests.{eqb-true, eqb-false}
 use Rattle.octets.specs.Lists.{any, those, has, distinct, joined}
-use Rattle.octets.specs.Checked.{Check, pass, refuse, _>>=_}
 use Rattle.octets.proofs.Checks.{known, or-fails-left, or-left}
-use Rattle.octets.proofs.Lists.{those-keeps, those-skips, any-append}
+use Rattle.octets.proofs.Lists.{any-append}
 use Rattle.octets.proofs.Elements.{has-append}
 use Rattle.octets.proofs.Joined.{map-append, joined-append}
 use Rattle.bundle.specs.Written.{Section}
 use Rattle.bundle.proofs.Every.{Every, nothing, also}
-use Rattle.package.proofs.Each.{each-head, each-tail, each-append, each-left, each-right, each-so, each-those, each-passed}
+use Rattle.package.proofs.Each.{each-head, each-tail, each-append, each-so, each-those, each-passed}
 use Rattle.strings.specs.Strings.{strOf, firstUses}
 use Rattle.index.specs.Index.{Contribution}
-use Rattle.index.specs.Rows.{BySection, neededCodes, shared, isSome}
+use Rattle.index.specs.Rows.{neededCodes, shared, isSome}
 use Rattle.index.specs.Written.{Row, indexBytes}
 use Rattle.index.proofs.LawCells.{anyHas}
 use Rattle.package.specs.Pieces.{usedIn, remappedAll}
 use Rattle.package.specs.Input.{Input}
 use Rattle.package.specs.Filing.{Filed, Filing, isUnder, lengths, keepAll, kept}
 use Rattle.package.specs.Pack.{rowsOf, unitBytes, sharedBytes, allUsed, stringTable, sectionList, nonEmpty, packageSections}
-use Rattle.package.proofs.Kept.{keep-new, keepAll-append, identitiesIn, identities-here, identities-later, identities-append, has-identity, distinct-kept, any-kept, each-kept}
+use Rattle.package.proofs.Kept.{keep-new, keepAll-append, identitiesIn, identities-here, identities-later, identities-append, has-identity, distinct-kept, each-kept}
 use Rattle.package.proofs.Rows.{rowsFrom, rows-are, nothingBefore, rows-append, behindAll}
 use Rattle.sittings.proofs.Rebased.{Both, none, more, both-append, Sees, Moved, rebased}
 use Rattle.sittings.proofs.Alike.{Alike, ofHome, Tabled, bytes-alike, index-alike, rows-home}
 use Rattle.sittings.proofs.PackageWalk.{AgainIn, home-keeps, home-skips, home-append}
-use Rattle.sittings.proofs.PackageHere.{distinct-middle, sees-alike}
-use Rattle.sittings.proofs.KeptTogether.{added, keep-added, added-moved, SharedOnly, moved-alike, Columned, columns-same, again-columned, moved-columned}
+use Rattle.sittings.proofs.PackageHere.{distinct-middle}
+use Rattle.sittings.proofs.KeptTogether.{added, keep-added, added-moved, SharedOnly, Columned, columns-same, again-columned, moved-columned}
 
 -- ---- a list whose identities are distinct is kept whole
 kept-behind : (ks us : List Filed) → ((t : ℕ) → distinct (identitiesIn t (ks ++ us)) ≡ true) → keepAll ks us ≡ ks ++ us

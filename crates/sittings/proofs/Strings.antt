@@ -1,28 +1,28 @@
 -- Strings read back from what was written, and remapping twice.
 -- Assumes nothing.
-use mathlib.Core.Path.{_≡_, refl, sym, ap, ap₂, _∙_, subst}
+use mathlib.Core.Path.{_≡_, refl, sym, ap, ap₂, _∙_}
 use mathlib.Core.Bool.{true}
-use mathlib.Core.List.{List, [], _∷_, _++_, map, append-nil}
-use Prim.Native.Nat.{ℕ, _+_, _*_, _-_, _/_, _%_, _^_, _<_, _≤_}
+use mathlib.Core.List.{List, [], _∷_, _++_, map}
+use Prim.Native.Nat.{ℕ, _-_, _/_, _^_, _<_}
 use native.Mathlib.Nat.{lt-of-le-of-lt, sub-zero, mul-div-cancel-left}
 use native.Mathlib.Omega.{arith}
-use lib.ListN.{length, take, drop, getD, length-append}
-use Rattle.octets.specs.Octets.{numbersOf, numbersIn}
+use lib.ListN.{length}
+use Rattle.octets.specs.Octets.{numbersOf}
 use Rattle.octets.specs.Lists.{joined}
-use Rattle.octets.specs.Checked.{Check, pass, refuse, _>>=_}
-use Rattle.octets.proofs.Checks.{bind-pass, then-pass, pass-inj}
+use Rattle.octets.specs.Checked.{pass}
+use Rattle.octets.proofs.Checks.{bind-pass, pass-inj}
 use Rattle.octets.proofs.Joined.{map-append}
 use Rattle.octets.proofs.Tables.{numbersOf-append, numbersIn-numbersOf, length-numbersOf}
 use Rattle.bundle.specs.Encoding.{Encoding}
-use Rattle.bundle.proofs.Every.{Every, nothing, also}
-use Rattle.package.proofs.Each.{each-head, each-tail, each-append}
+use Rattle.bundle.proofs.Every.{Every}
+use Rattle.package.proofs.Each.{each-head, each-tail}
 use Rattle.strings.specs.Strings.{headerSize, entriesIn, entriesOf, stringsAt, strOf, offsetIn, remapped}
 use Rattle.strings.proofs.FirstUses.{isIn}
 use Rattle.strings.proofs.Ends.{NoZero, stringsAt-none, stringsAt-cons}
 use Rattle.strings.proofs.Offsets.{string-in-strOf}
 use Rattle.strings.proofs.StrOffsets.{Sound, Whole, entries-whole, header-four}
-use Rattle.strings.proofs.Remapped.{length-map, offsets-le, remapped-header, remapped-entries}
-use Rattle.package.specs.Pieces.{Piece, pieceOf, piecesOf, usedIn, remappedAll}
+use Rattle.strings.proofs.Remapped.{offsets-le, remapped-header, remapped-entries}
+use Rattle.package.specs.Pieces.{Piece, pieceOf, usedIn, remappedAll}
 
 -- a string of the table that can be written
 abbrev pub Kept : List (List ℕ) → List ℕ → Type 0

@@ -2,16 +2,16 @@
 -- Assumes nothing.
 use mathlib.Core.Path.{_≡_, refl, sym, ap, ap₂, _∙_, subst}
 use mathlib.Core.Logic.{⊎-elim}
-use mathlib.Core.Bool.{Bool, true, false}
+use mathlib.Core.Bool.{true, false}
 use mathlib.Core.List.{List, [], _∷_, _++_, map, append-nil, append-assoc}
 use mathlib.Core.Option.{Option, some}
-use Prim.Native.Nat.{ℕ, zero, suc, _+_, _*_, _^_, _<_, _≤_}
+use Prim.Native.Nat.{ℕ, suc, _+_, _^_, _<_, _≤_}
 use native.Mathlib.Nat.{mul-suc}
 use native.Mathlib.Omega.{arith}
 use lib.ListN.{length, getD, length-append}
 use Rattle.octets.specs.Octets.{numbersOf}
 use Rattle.octets.specs.Lists.{joined, sum, all, any}
-use Rattle.octets.specs.Checked.{Check, pass, refuse, _>>=_, require}
+use Rattle.octets.specs.Checked.{pass}
 use Rattle.octets.proofs.Checks.{bind-pass, require-pass, pass-inj, known}
 use Rattle.octets.proofs.Joined.{map-append, joined-append}
 use Rattle.octets.proofs.Tables.{length-numbersOf}
@@ -22,14 +22,13 @@ use Rattle.strings.specs.Strings.{entriesIn, stringsAt, firstUses, strOf, offse
 use Rattle.strings.proofs.Ends.{NoZero, stringAt-is, stringsAt-none, stringsAt-split, length-stringsAt}
 use Rattle.strings.proofs.FirstUses.{isIn, used-in}
 use Rattle.strings.proofs.StrOffsets.{Sound, header-five, header-within}
-use Rattle.strings.proofs.Remapped.{length-map}
-use Rattle.index.specs.Index.{Index, Contribution}
+use Rattle.index.specs.Index.{Index}
 use Rattle.index.specs.Rows.{BySection}
 use Rattle.index.specs.Tiles.{named, sameParts, startsAt, tilesFrom, tiles}
 use Rattle.package.specs.Pieces.{Piece, pieceOf, piecesOf, usedIn, remappedAll}
 use Rattle.package.specs.Input.{Input, present, wholePieces, tiledPieces}
 use Rattle.package.specs.Pack.{allUsed}
-use Rattle.package.proofs.Each.{each-head, each-tail, each-append, each-left, each-right, each-both, each-so}
+use Rattle.package.proofs.Each.{each-head, each-tail, each-append, each-left, each-right, each-both}
 use Rattle.package.proofs.Filing.{lengthsIn}
 use Rattle.package.proofs.Inputs.{InputFacts}
 use Rattle.package.proofs.Pieces as object

@@ -1,17 +1,18 @@
 -- Packing in two sittings.
 -- Assumes nothing.
-use mathlib.Core.Path.{_≡_, refl, sym, ap, ap₂, _∙_, subst}
+use mathlib.Core.Path.{_≡_, refl, sym, ap, ap₂, _∙_}
 use mathlib.Core.Bool.{Bool, true, _&&_}
 use mathlib.Core.List.{List, [], _∷_, _++_, map}
-use Prim.Native.Nat.{ℕ, _+_, _*_, _/_, _%_, _≤_, _<_}
+use Prim.Native.Nat.{ℕ, _*_, _/_, _%_, _≤_, _<_}
 use native.Mathlib.Omega.{arith}
 use lib.Dec.{eqb, leb}
 use lib.ListN.{length}
 use borrow.Author.Tests.{le-leb, eq-eqb}
+use Rattle.numbers.specs.Limits.{bundleLimit, workForWord}
 use Rattle.octets.specs.Checked.{Check, pass}
 use Rattle.octets.proofs.Checks.{pass-inj, and-both}
 use Rattle.octets.proofs.Numbers.{Bytes}
-use Rattle.bundle.specs.Bundle.{Part, Item, object, section, Object, Bundle, filledUp, bundleOf, lengthGood}
+use Rattle.bundle.specs.Bundle.{Item, object, section, Object, Bundle, filledUp, bundleOf, lengthGood}
 use Rattle.bundle.specs.Encoding.{Encoding, encodingOf}
 use Rattle.bundle.specs.Written.{Section, Sections}
 use Rattle.bundle.proofs.Every.{Every}
@@ -22,21 +23,18 @@ use Rattle.bundle.proofs.Back.{round-trip}
 use Rattle.bundle.proofs.RoundTrip.{Storables, partsFrom}
 use Rattle.bundle.proofs.Sizes.{bundle-totals}
 use Rattle.bundle.proofs.Whole.{readable}
-use Rattle.package.specs.Input.{Input, inputOf}
-use Rattle.package.specs.Filing.{Filed, Filing, grown, filingFrom, filingOf, firstWord}
-use Rattle.package.specs.Pack.{packageObjects, judged, answered, packed, made}
+use Rattle.package.specs.Filing.{grown, filingFrom, filingOf, firstWord}
+use Rattle.package.specs.Pack.{packageObjects, judged, answered, packed}
 use Rattle.package.proofs.Accepted.{Accepted, made-judged, packed-accepted}
 use Rattle.package.proofs.Each.{each-so}
 use Rattle.package.proofs.Filing.{filing-facts}
 use Rattle.package.proofs.PackageRead.{sectionsOf, package-read}
-use Rattle.sittings.specs.Sittings.{sectionIn, objectIn, Holds, Sitting, TwoSittings}
+use Rattle.sittings.specs.Sittings.{sectionIn, objectIn, Holds, TwoSittings}
 use Rattle.sittings.proofs.Content.{input-same}
 use Rattle.sittings.proofs.Filed.{filed-each}
 use Rattle.sittings.proofs.Final.{together-judged}
-use Rattle.sittings.proofs.KeptTogether.{SharedOnly}
 use Rattle.sittings.proofs.KeptUnits.{homeBy, either-home, homed, shared-only, OwnRead, own-read}
 use Rattle.sittings.proofs.ReadBack.{read-back}
-use Rattle.sittings.proofs.SameSections.{Homed}
 
 -- ---- lists that are read from lists
 map-split : {A B : Type 0} (f : A → B) (xs : List A) (ys zs : List B) → map f xs ≡ ys ++ zs
@@ -56,13 +54,13 @@ spans [] = refl
 spans (object w ∷ is) = omega (arith, spans is)
 spans (section p ∷ is) = omega (arith, spans is)
 
-length-good : (b : List ℕ) (k : Bundle) → bundleOf b ≡ pass k → length b ≤ 4_194_304 → lengthGood 4_194_304 b ≡ true
+length-good : (b : List ℕ) (k : Bundle) → bundleOf b ≡ pass k → length b ≤ bundleLimit → lengthGood bundleLimit b ≡ true
 unfolding lengthGood
 length-good b k q l =
     let r = readable b k q in
     let n = here-span b 4 (r .all) (r .left) in
-    and-both (leb 8 (length b) && leb (length b) 4_194_304) (eqb (length b % 4) 0)
-    (and-both (leb 8 (length b)) (leb (length b) 4_194_304) (le-leb 8 (length b) (omega (arith, bundle-totals b k q))) (le-leb (length b) 4_194_304 l))
+    and-both (leb 8 (length b) && leb (length b) bundleLimit) (eqb (length b % 4) 0)
+    (and-both (leb 8 (length b)) (leb (length b) bundleLimit) (le-leb 8 (length b) (omega (arith, bundle-totals b k q))) (le-leb (length b) bundleLimit l))
     (eq-eqb (length b % 4) 0 (omega (arith, n, spans (r .all))))
 
 -- an object's word, and the package's object, of objects that hold the same
@@ -117,7 +115,7 @@ module _ (first second together p q : List ℕ) (a : Accepted first p) (a₂ : A
 
   module _ (k : Bundle) (front back : List Object) (r : bundleOf together ≡ pass k) (big₃ : k .big ≡ a .bundle .big) (objects₃ : k .objects ≡ front ++ back)
       (same : map (objectIn together) front ≡ map (objectIn first) (a .bundle .objects)) (same-more : map (objectIn together) back ≡ map (objectIn second) qs) where
-    pub judged-together : (w₂ w : ℕ) → judged second w₂ ≡ pass q → length together ≤ 4_194_304 → 20 * (length together / 4) ≤ w → judged together w ≡ pass q
+    pub judged-together : (w₂ w : ℕ) → judged second w₂ ≡ pass q → length together ≤ bundleLimit → workForWord * (length together / 4) ≤ w → judged together w ≡ pass q
     judged-together w₂ w j l work =
         let f = first-same together first (a .bundle .objects) front back o os objects same in
         together-judged (homeBy e) (either-home e) first second together big word (a .bundle .objects) front qs back x same same-more (a .filing) filed (a₂ .filing) refiled

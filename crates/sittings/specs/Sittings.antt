@@ -5,6 +5,7 @@ use mathlib.Core.Bool.{Bool}
 use mathlib.Core.List.{List, [], _++_, map}
 use Prim.Native.Nat.{ℕ, _*_, _/_, _≤_, _<_}
 use lib.ListN.{length, getD}
+use Rattle.numbers.specs.Limits.{bundleLimit, workForWord}
 use Rattle.octets.specs.Octets.{part}
 use Rattle.octets.specs.Checked.{pass}
 use Rattle.bundle.specs.Bundle.{Part, Object, Bundle, bundleOf}
@@ -42,5 +43,5 @@ abbrev pub TwoSittings : Type 0
 TwoSittings =
     (big : Bool) (os whole further : List Sections) (first second together p q : List ℕ) (work output : ℕ)
     → (os ≡ [] → ⊥) → Sitting big os first p → Holds p big whole → Sitting big (whole ++ further) second q
-    → Holds together big (os ++ further) → length together ≤ 4_194_304 → 20 * (length together / 4) ≤ work → length q ≤ output
+    → Holds together big (os ++ further) → length together ≤ bundleLimit → workForWord * (length together / 4) ≤ work → length q ≤ output
     → packed together work output ≡ made q
