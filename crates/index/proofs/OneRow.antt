@@ -24,19 +24,19 @@ use Rattle.index.specs.declared.reading.IndexRead.the-variants.{Good}
 use Rattle.index.proofs.Heads.{head-of, well-stated}
 use Rattle.index.proofs.Ends.{found-row}
 
-one-is : (rs : List ℕ) (row r : ℕ) → theOne rs ≡ pass row → has rs r ≡ true → r ≡ row
+pub one-is : (rs : List ℕ) (row r : ℕ) → theOne rs ≡ pass row → has rs r ≡ true → r ≡ row
 unfolding theOne has any
 one-is [] row r e h = absurd (pass-refuse row 15 (sym e))
 one-is (x ∷ []) row r e h = ⊎-elim (λ (p : eqb r x ≡ true). eqb-true r x p ∙ pass-inj e) (λ p. absurd (true-false p refl)) (any-cases (eqb r) x [] h)
 one-is (x ∷ y ∷ rs) row r e h = absurd (pass-refuse row 15 (sym e))
 
-numbered : (n r : ℕ) → 0 < r → r ≤ n → has (rowNumbers n) r ≡ true
+pub numbered : (n r : ℕ) → 0 < r → r ≤ n → has (rowNumbers n) r ≡ true
 unfolding rowNumbers
 numbered zero r p h = absurd (omega arith)
 numbered (suc n) r p h =
     elim (ℕ-discrete r (suc n)) [ yes e ↦ has-cons r (suc n) (rowNumbers n) e | no e ↦ has-skips r (suc n) (rowNumbers n) e ∙ numbered n r p (omega arith) ]
 
-those-has : (f : ℕ → Bool) (xs : List ℕ) (c : ℕ) → has xs c ≡ true → f c ≡ true → has (those f xs) c ≡ true
+pub those-has : (f : ℕ → Bool) (xs : List ℕ) (c : ℕ) → has xs c ≡ true → f c ≡ true → has (those f xs) c ≡ true
 unfolding has any those
 those-has f [] c h e = absurd (true-false h refl)
 those-has f (x ∷ xs) c h e = ⊎-elim
