@@ -110,7 +110,7 @@ fn replay(text: &str, lines: usize) {
 
 #[test]
 fn vectors() {
-    replay(include_str!("vectors/pack-t03.txt"), 342);
+    replay(include_str!("vectors/pack-t05.txt"), 500);
 }
 
 #[test]

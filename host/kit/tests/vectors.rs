@@ -32,7 +32,7 @@ fn check(text: &str, lines: usize) {
 
 #[test]
 fn pack_vectors() {
-    check(include_str!("vectors/pack-t03.txt"), 342);
+    check(include_str!("vectors/pack-t05.txt"), 500);
 }
 
 #[test]
