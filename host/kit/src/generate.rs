@@ -9,6 +9,7 @@ mod inputs;
 mod large;
 mod objects;
 mod parts;
+mod pieces;
 mod questions;
 mod random;
 mod rows;
