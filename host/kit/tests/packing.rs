@@ -2,6 +2,7 @@
 //! word of work, whatever both held before, and nothing around them is touched. In every package that is made, what its bundle hands in
 //! is found, and nothing else.
 
+use barthovin::ffi;
 use kit::claim::Claim;
 use kit::generate::{call, long_line, many_units, reversed_rows, rows_beside_one_place, rows_of_one_place};
 use kit::generate::{strings_of, suffixes, Call, Random};
@@ -99,6 +100,10 @@ fn replay(text: &str, lines: usize) {
     let vectors = parse_all(text).expect("a line that is no vector");
     assert_eq!(vectors.len(), lines);
     for vector in vectors {
+        if let Vector::String { package, version, table, identity, entry, answer } = &vector {
+            assert_eq!(ffi::lookup_string(package, *version, *table, *identity, *entry), *answer, "{vector:?}");
+            continue;
+        }
         let Vector::Pack { bundle, work, output, answer } = vector else { panic!("{vector:?}") };
         checks.compare(&bundle, Some(work), output, answer.clone());
         // The small packer has work enough for what it takes, so that only 2 can differ.

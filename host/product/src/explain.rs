@@ -76,7 +76,7 @@ pub fn packing(bytes: &[u8], number: u32, names: &Names) -> Option<Why> {
         3 => Bundle::read(bytes).err().map(|e| Why::cause(format!("the word at byte {}: {}", e.at, e.why))),
         19 => too_long(&Bundle::read(bytes).ok()?).map(Why::cause),
         // Those that come object by object.
-        4..=16 => {
+        4..=16 | 34 => {
             let bundle = Bundle::read(bytes).ok()?;
             let place = place(bytes, &bundle, number)?;
             let cause = cause::of(&bundle, &place, number, names);
