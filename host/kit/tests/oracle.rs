@@ -50,13 +50,13 @@ fn fault(lent: &mut Lender, told: &Told) -> Option<String> {
 fn the_sample_is_whole() {
     let sample = sample();
     let packages = sample.iter().filter(|t| matches!(t, Told::Package { .. })).count();
-    assert_eq!((packages, sample.len()), (510, 731));
+    assert_eq!((packages, sample.len()), (510, 748));
     let but_an_index =
         |t: &&Told| matches!(t, Told::Package { bundle, package } if compared(bundle, package) < package.len());
     let others = sample.iter().filter(but_an_index).count();
     println!("of {packages} packages {others} have an index whose slots thorin counts otherwise");
     assert!(others > 20, "{others}");
-    for wanted in 4..=16 {
+    for wanted in (4..=16).chain([34]) {
         let is_wanted = |t: &&Told| matches!(t, Told::Refused { number, .. } if *number == wanted);
         assert_eq!(sample.iter().filter(is_wanted).count(), 17, "of {wanted}");
     }

@@ -5,6 +5,7 @@
 use barthovin::ffi;
 use kit::claim::Claim;
 use kit::generate::{call, long_line, many_units, reversed_rows, rows_beside_one_place, rows_of_one_place};
+use kit::generate::{pieces_of_one_place, reversed_pieces, rows_of_one_piece};
 use kit::generate::{strings_of, suffixes, Call, Random};
 use kit::lender::{Lender, Written};
 use kit::reference::{self, Packed, LONGEST_BUNDLE};
@@ -35,8 +36,7 @@ fn front(bundle: &[u8]) -> &[u8] {
 }
 
 /// How often each number was answered, 0 for a package.
-#[derive(Default)]
-struct Counts([usize; 20]);
+struct Counts([usize; 35]);
 
 impl Counts {
     fn assert_reached(&self, name: &str, numbers: impl Iterator<Item = usize>) {
@@ -56,7 +56,7 @@ struct Checks {
 
 impl Checks {
     fn new(seed: u64) -> Checks {
-        Checks { lent: Lender::new(seed), counts: Counts::default(), claim: Claim::new(seed, TURNS) }
+        Checks { lent: Lender::new(seed), counts: Counts([0; 35]), claim: Claim::new(seed, TURNS) }
     }
 
     fn compare(&mut self, bundle: &[u8], work: Option<usize>, output: usize, answer: Packed) {
@@ -137,7 +137,7 @@ fn generated_calls() {
         let Call { bundle, work, output } = call(&mut random);
         checks.pack(&bundle, work, output.min(1 << random.between(9, 16)));
     }
-    checks.counts.assert_reached("packing generated calls", (0..=16).chain([18]));
+    checks.counts.assert_reached("packing generated calls", (0..=16).chain([18, 34]));
 }
 
 #[test]
@@ -166,7 +166,7 @@ fn generated_calls_of_the_small_packer() {
         let Call { bundle, output, .. } = call(&mut random);
         checks.pack_small(&bundle, output.min(1 << random.between(9, 16)));
     }
-    checks.counts.assert_reached("packing generated calls, small", [0, 1, 18].into_iter().chain(3..=16));
+    checks.counts.assert_reached("packing generated calls, small", [0, 1, 18, 34].into_iter().chain(3..=16));
     assert_eq!(checks.counts.0[2], 0, "the small packer has work enough");
 }
 
@@ -343,4 +343,16 @@ fn many_rows() {
         }
     }
     assert_eq!((checks.counts.0[0], checks.counts.0[15]), (13, 5));
+}
+
+/// Packages of version 5 with many rows: all naming one part of str_offsets, in the reverse order of their parts, and parts over each other.
+#[test]
+fn many_pieces() {
+    let mut checks = Checks::new(31);
+    for rows in [1, 2, 3, 10, 1_000, 2_000] {
+        for bundle in [rows_of_one_piece(rows), reversed_pieces(rows), pieces_of_one_place(rows)] {
+            checks.pack(&bundle, needed(&bundle), 1 << 20);
+        }
+    }
+    assert_eq!((checks.counts.0[0], checks.counts.0[34]), (13, 5));
 }

@@ -12,7 +12,7 @@
 //! compared with the reference's, and where docs/DIFFERENCES.md saw thorin pack nothing, it may not pack.
 //! What an accepted bundle hands in is looked up in its package.
 //!
-//! With --sample, NUMBER accepted bundles of which thorin is the measure and a thirtieth as many of each refusal from 4 to 16 are written to
+//! With --sample, NUMBER accepted bundles of which thorin is the measure and a thirtieth as many of each refusal from 4 to 16 and of 34 are written to
 //! FILE with thorin's answers. There the proved packer has no say: which are accepted, and the numbers, are the reference's.
 //!
 //! With --reference, the reference stands in the place of the proved packer: so it is held to thorin itself.
@@ -238,7 +238,7 @@ fn told(bundle: &[u8], tag: u8, answer: &[u8]) -> Option<Told> {
     let is_measured = || Bundle::read(&bundle).is_some_and(|read| measure(&read) == Measure::Thorin);
     match pack(&bundle, 4 * bundle.len(), usize::MAX) {
         Packed::Made(_) if tag == 0 && is_measured() => Some(Told::Package { bundle, package: answer.to_vec() }),
-        Packed::Refused(number @ 4..=16) => Some(Told::Refused { bundle, number, thorin }),
+        Packed::Refused(number @ (4..=16 | 34)) => Some(Told::Refused { bundle, number, thorin }),
         _ => None,
     }
 }
@@ -246,7 +246,7 @@ fn told(bundle: &[u8], tag: u8, answer: &[u8]) -> Option<Told> {
 /// So many accepted bundles, and a thirtieth as many of each refusal, in the order in which they were met.
 fn sample(oracle: &mut Oracle, wanted: usize, seed: u64) -> Result<Vec<Told>> {
     let mut random = Random::new(seed);
-    let mut left: BTreeMap<u32, usize> = (4..=16).map(|number| (number, wanted / 30)).collect();
+    let mut left: BTreeMap<u32, usize> = (4..=16).chain([34]).map(|number| (number, wanted / 30)).collect();
     left.insert(0, wanted);
     let mut lines = Vec::new();
     let mut answer = Vec::new();
