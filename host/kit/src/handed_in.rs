@@ -172,7 +172,8 @@ fn strings_in<'b>(object: &'b Object<'b>, part: &'b [u8], encoding: Encoding) ->
 /// ones left out, in order of offset; else the section. Of a bundle that packing accepts.
 pub fn pieces<'b>(object: &'b Object<'b>, big: bool) -> Vec<&'b [u8]> {
     let whole = object.bytes(STR_OFFSETS);
-    let indexes: Vec<&[u8]> = [CU_INDEX, TU_INDEX].iter().filter_map(|code| object.section(*code)).map(|s| s.bytes).collect();
+    let indexes: Vec<&[u8]> =
+        [CU_INDEX, TU_INDEX].iter().filter_map(|code| object.section(*code)).map(|s| s.bytes).collect();
     if indexes.is_empty() || object.word & 0xFF != 5 {
         return vec![whole];
     }

@@ -1,16 +1,17 @@
 //! Packages of version 5 that llvm-dwp 14 made of the stored .dwo files: each is accepted as the only object and gives what the .dwo files
-//! give.
+//! give. Of gcc's files with type units there is none: llvm-dwp 14 doesn't come to an end with them.
 
 use kit::elf;
 use kit::handed_in::{firsts, HandedIn};
 use kit::lender::Lender;
-use kit::reference::{pack, Bundle, Packed};
+use kit::reference::{pack, Bundle, Index, Packed};
 use std::fs;
 
 const REAL: &str = concat!(env!("CARGO_MANIFEST_DIR"), "/../../examples/real");
 
 /// A package, and the files that it was made of.
-const PACKAGES: [(&str, &[&str]); 2] = [
+const PACKAGES: [(&str, &[&str]); 3] = [
+    ("llvm-5-clang-two", &["clang-5-main", "clang-5-race"]),
     ("llvm-5-clang", &["clang-5-main", "clang-5-race", "clang-5t-driver"]),
     ("llvm-5-gcc", &["gcc-5-main", "gcc-5-race"]),
 ];
@@ -60,21 +61,44 @@ fn they_hold_what_the_files_hold() {
     }
 }
 
+/// What an index says of each unit, row by row: its parts that aren't empty, by their section codes.
+fn rows(package: &Bundle, code: u32) -> Vec<Vec<(u32, (u64, u64))>> {
+    let Some(section) = package.objects[0].section(code) else { return Vec::new() };
+    let index = Index::read(section.bytes, package.big).expect("an index");
+    let part = |row: u64, code: u32| index.cell(row, code).filter(|(_, size)| *size > 0).map(|cell| (code, cell));
+    (1..=index.units).map(|row| (1..=10).filter_map(|code| part(row, code)).collect()).collect()
+}
+
+/// Both packages are the same, but that an index may have a column in which all parts are empty: in a package as input a unit has an empty part
+/// of a section that only other objects have.
+fn is_the_same(one: &[u8], other: &[u8]) -> bool {
+    let (one, other) = (Bundle::read(one).expect("a package"), Bundle::read(other).expect("a package"));
+    let sections = |b: &Bundle| b.objects[0].sections.iter().map(|s| s.code).collect::<Vec<_>>();
+    let bytes = (1..=11).all(|code| one.objects[0].bytes(code) == other.objects[0].bytes(code));
+    bytes && sections(&one) == sections(&other) && [12, 13].iter().all(|code| rows(&one, *code) == rows(&other, *code))
+}
+
 #[test]
 fn they_give_what_the_files_give() {
+    let mut whole = 0;
     for pair in PACKAGES {
         let (package, files) = both(pair);
-        let Packed::Made(wanted) = packed(&files) else { panic!("{}: {:?}", pair.0, packed(&files)) };
-        assert_eq!(packed(&package), Packed::Made(wanted), "{}", pair.0);
+        let (Packed::Made(given), Packed::Made(wanted)) = (packed(&package), packed(&files)) else {
+            panic!("{}: {:?}", pair.0, packed(&package));
+        };
+        assert!(is_the_same(&given, &wanted), "{}: {given:02X?}, not {wanted:02X?}", pair.0);
+        whole += usize::from(given == wanted);
     }
+    // The driver alone has a line section and no loclists: its tu_index has an empty column more.
+    assert_eq!(whole, 2);
 }
 
 #[test]
 fn they_give_it_through_c() {
     let mut lent = Lender::new(61);
     for pair in PACKAGES {
-        let (package, files) = both(pair);
-        let wanted = packed(&files);
+        let (package, _) = both(pair);
+        let wanted = packed(&package);
         let written = lent.pack_whole(&package).unwrap_or_else(|e| panic!("{}: {e}", pair.0));
         assert!(written.agrees(&wanted), "{}: {}", pair.0, written.code);
     }

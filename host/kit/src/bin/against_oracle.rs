@@ -54,6 +54,8 @@ struct Tally {
     /// Those with a package of version 5; by whether its str_offsets is not there, one part, several or none.
     fives: u64,
     parts: [u64; 4],
+    /// Of those of one part, how many thorin measures.
+    one_by_thorin: u64,
 }
 
 /// The bytes of all units of a bundle.
@@ -97,6 +99,7 @@ impl Tally {
                 (.., one) => usize::from(one),
             };
             self.parts[kind] += 1;
+            self.one_by_thorin += u64::from(kind == 1 && measure(&bundle) == Measure::Thorin);
         }
     }
 
@@ -121,7 +124,11 @@ impl Tally {
         let (several, indexed, skipped) = (self.several, self.indexed, self.skipped);
         println!("accepted: {several} of several objects, {indexed} with an index, {skipped} with a type skipped");
         let (fives, [without, one, more, none]) = (self.fives, self.parts);
-        println!("with a package of version 5: {fives}; str_offsets of one part {one}, of several {more}, empty {none}, not there {without}");
+        print!(
+            "with a package of version 5: {fives}; str_offsets of one part {one} (thorin measures {}), ",
+            self.one_by_thorin
+        );
+        println!("of several {more} (the standard alone), empty {none}, not there {without}");
         println!("{} bundles differ", self.differences);
         if let Some(bundle) = &self.smallest {
             println!("{}", words(bundle));

@@ -117,9 +117,7 @@ fn any_columns(
 ) -> Vec<u32> {
     let is_free = encoding.version == 5 && table.units.iter().all(|unit| !unit.kept) && random.one_in(2);
     let has = |code: u32| code > 2 && sections.iter().any(|(c, b)| *c == code && !b.is_empty());
-    let needed = |code: u32| {
-        !is_free && (code == home || has(code)) || code == STR_OFFSETS && !table.left.is_empty()
-    };
+    let needed = |code: u32| !is_free && (code == home || has(code)) || code == STR_OFFSETS && !table.left.is_empty();
     let known = column_codes(index_version(encoding)).iter().map(|(section, _)| *section);
     let mut columns: Vec<u32> = known.filter(|code| needed(*code) || random.one_in(8)).collect();
     if random.one_in(3) {

@@ -151,8 +151,7 @@ fn is_type(kind: u8) -> bool {
 }
 
 fn unit5(random: &mut Random, shared: &mut Shared, kind: u8, out: &mut Vec<u8>) -> Placed {
-    let (identity, kept) =
-        if is_type(kind) { shared.any_type(random) } else { (shared.new_compilation(random), true) };
+    let (identity, kept) = if is_type(kind) { shared.any_type(random) } else { (shared.new_compilation(random), true) };
     put_unit5(random, shared, (kind, identity), kept, out)
 }
 

@@ -124,7 +124,9 @@ fn string_offsets(object: &Object, piece: &Piece) -> Option<String> {
             return Some(format!("str_offsets states a length of {stated}{part}, and {following} bytes follow"));
         }
         if version != 5 || number(bytes, header - 2, 2, big)? != 0 {
-            return Some(format!("the header of str_offsets{part} states version {version}, or its padding is not zero"));
+            return Some(format!(
+                "the header of str_offsets{part} states version {version}, or its padding is not zero"
+            ));
         }
     }
     let entries = bytes.len() - header;
