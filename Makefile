@@ -12,7 +12,7 @@ SEED ?= 1
 PREFIX ?= /usr/local
 INSTALL ?= install
 
-.PHONY: help test library host pack-example real-files readers command install uninstall clean fmt oracle differential first-match bench
+.PHONY: help test library host pack-example real-files readers command install uninstall clean fmt oracle differential string-index bench
 
 help:
 	@echo 'make pack-example   packs two .dwo files and document 01'"'"'s example, verifies, lists and looks up in their packages'
@@ -25,7 +25,7 @@ help:
 	@echo 'make test           the gate: every proof from nothing, every edit that must fail, every program, the tests of the host'
 	@echo 'make host           the tests of the host alone'
 	@echo 'make differential   compares with thorin itself, where it is at hand, and feeds a million damaged bundles'
-	@echo 'make first-match    times the search for a string against a proved build that walks all kept strings; fails below five times'
+	@echo 'make string-index   times the index of strings against a proved build that walks the kept strings; fails below five times'
 	@echo 'make bench          times packing and looking up and writes docs/PERFORMANCE.md'
 	@echo 'make fmt            formats every file'
 	@echo 'make clean          removes all that was built, proofs too: the next command proves again'
@@ -134,24 +134,24 @@ differential: oracle library
 	host/target/release/damaged_elf $(DAMAGED) $(SEED)
 	host/target/release/written_elf 100000 $(SEED)
 
-# A proved build whose search for a string walks all kept strings: the same contract, another body. Its entries have other names, so that one
-# program can call both.
-VARIANT = target/variants/walk_all
+# A proved build whose hash of a string is always 0, so that a search walks the kept strings up to the first match, as it did before there was an
+# index. Its entries have other names, so that one program can call both.
+VARIANT = target/variants/walk
 
-$(VARIANT)/libwalkall.a: host/variants/walk_all.patch $(SOURCES)
+$(VARIANT)/libwalk.a: host/variants/walk.patch $(SOURCES)
 	rm -rf $(VARIANT) && mkdir -p $(VARIANT)/tree
 	cp -r crates crates.txt $(VARIANT)/tree
-	cd $(VARIANT)/tree && patch -s -p1 < $(CURDIR)/host/variants/walk_all.patch && rt staticlib archive > /dev/null
-	nm $(VARIANT)/tree/target/staticlib/libarchive.a | sed -n 's/.* T barthovin_\(.*\)/barthovin_\1 walk_all_\1/p' > $(VARIANT)/names
+	cd $(VARIANT)/tree && patch -s -p1 < $(CURDIR)/host/variants/walk.patch && rt staticlib archive > /dev/null
+	nm $(VARIANT)/tree/target/staticlib/libarchive.a | sed -n 's/.* T barthovin_\(.*\)/barthovin_\1 walk_\1/p' > $(VARIANT)/names
 	objcopy --redefine-syms=$(VARIANT)/names $(VARIANT)/tree/target/staticlib/libarchive.a $@
 
-first-match: library $(VARIANT)/libwalkall.a
-	cd host/walks && cargo run --release --offline --quiet -- ../../target/variants/first-match
+string-index: library $(VARIANT)/libwalk.a
+	cd host/walks && cargo run --release --offline --quiet -- ../../target/variants/string-index
 
 bench: library
 	cd host && cargo build --release --offline --bin bench
 	@oracle="$(ORACLE)"; $(MAKE) --no-print-directory oracle || oracle=; \
 	host/target/release/bench docs/PERFORMANCE.md "$$oracle"
-	@$(MAKE) --no-print-directory first-match
-	@awk '{ printf "\n## The search for a string ends at its first match\n\n10,000 different strings, then 100,000 entries for the second: %.0f ms; a proved build that walks all kept\nstrings (`make first-match`) takes %.2f s, %.1f times as long.\n", $$1 / 1e6, $$2 / 1e9, $$2 / $$1 }' \
-	target/variants/first-match >> docs/PERFORMANCE.md
+	@$(MAKE) --no-print-directory string-index
+	@awk '{ printf "\n## The index of strings\n\n20,000 different strings: %.1f ms; a proved build that walks the kept strings up to the first match (`make string-index`)\ntakes %.2f s, %.1f times as long.\n", $$1 / 1e6, $$2 / 1e9, $$2 / $$1 }' \
+	target/variants/string-index >> docs/PERFORMANCE.md

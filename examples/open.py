@@ -1,149 +1,149 @@
 #!/usr/bin/env python3
-"""Finds the bytes of a unit in a package, with Python 3 and nothing else. docs/FORMAT.md describes all that is read here.
+"""Open a package of split DWARF debug information. Written from FORMAT.md alone.
 
-open.py PACKAGE                                  list the sections and units
-open.py PACKAGE TABLE IDENTITY section CODE      write a unit's part of a section; TABLE is cu or tu, CODE a name such as info
-open.py PACKAGE TABLE IDENTITY string ENTRY      write one of its strings; entries count from 0
-open.py --answer < QUESTIONS                     answer lines of the form: lookup|string PACKAGE VERSION TABLE IDENTITY CODE|ENTRY
+    open.py PACKAGE                               list sections (code, name, length), then units (table, identity)
+    open.py PACKAGE TABLE IDENTITY section CODE   write a unit's part of a section to standard output
+    open.py PACKAGE TABLE IDENTITY string ENTRY   write one of its strings; entries count from 0
+    open.py --answer < QUESTIONS                  answer lines: lookup|string PACKAGE VERSION TABLE IDENTITY CODE|ENTRY
+
+PACKAGE is a bundle or an ELF64 file (.dwp), TABLE cu or tu (or 1, 2), IDENTITY hexadecimal, CODE a name such as info
+(or a number). In a question PACKAGE is a bundle in hexadecimal digits (- for none), and numbers are decimal, or
+hexadecimal after 0x. The answers: refused N (FORMAT.md's number), absent LOOKS, part START LENGTH LOOKS.
+Exit status: 0 done or found, 1 absent or refused, 2 wrong call or a file that can't be read.
 """
-import sys
+import struct, sys, types
 
-NAMES = "info types abbrev line loc str_offsets macinfo macro loclists rnglists str cu_index tu_index".split()
-STR_OFFSETS, STR, CU_INDEX, TU_INDEX = 6, 11, 12, 13
-# The section of each column, by the form of the index.
-SECTIONS = {2: {n: n for n in range(1, 9)}, 5: {1: 1, 3: 3, 4: 4, 5: 9, 8: 10, 6: 6, 7: 8}}
+TABLES = [None, "cu", "tu"]  # a table's code is its place in this list, and so is a section's in the next two
+NAMES = [None] + "info types abbrev line loc str_offsets macinfo macro loclists rnglists str cu_index tu_index".split()
+ELF_NAMES = [None] + [".debug_" + name + ("" if "index" in name else ".dwo") for name in NAMES[1:]]
+INFO, STR_OFFSETS, STR = 1, 6, 11  # the index of table 1 is section 12, that of table 2 is 13
+COLUMNS = {2: {n: n for n in range(1, 9)}, 5: {1: 1, 3: 3, 4: 4, 9: 5, 10: 8, 6: 6, 8: 7}}  # form: section: column
 
+class Stop(Exception):
+    """Its argument is the answer: refused N or absent LOOKS."""
+def need(condition, number, answer="refused"):
+    if not condition:
+        raise Stop("%s %d" % (answer, number))
 
-class Refused(Exception):
-    pass
+def read_bundle(data):
+    """A row of little-endian words: head, one object or none, its sections, end."""
+    need(8 <= len(data) <= 117440512 and len(data) % 4 == 0 and data[:4] in (b"\0\0\0\xf0", b"\1\0\0\xf0"), 21)
+    width, sections, at, end = None, {}, 4, len(data) - 4
+    need(data[end:] == struct.pack("<I", 0x30000000 | len(data) // 4), 21)
+    while at < end:
+        word, at = struct.unpack_from("<I", data, at)[0], at + 4
+        if word >> 28 == 1 and width is None:  # a package has one object only
+            version, width, address = word & 255, word >> 8 & 255, word >> 16 & 0xFFF
+            need(version in (4, 5) and width in (4, 8) and address in (4, 8), 21)
+        else:
+            code, size = word >> 23 & 31, word & 0x7FFFFF
+            after = at + (size + 3) // 4 * 4
+            need(word >> 28 == 2 and width and 1 <= code <= 13 and code not in sections, 21)
+            need(after <= end and not any(data[at + size:after]), 21)
+            sections[code], at = (at, size), after
+    return "<>"[data[0]], width, sections
 
+def read_elf(data):
+    """The sections of an ELF64 file. The first unit of info tells how wide offsets are."""
+    need(len(data) >= 64 and data[4] == 2 and data[5] in (1, 2), 31)
+    order, found = "<>"[data[5] - 1], []
+    kind, table, entry, count, names_at = struct.unpack_from(order + "H22xQ10xHHH", data, 16)
+    need(kind == 1 and entry == 64 and names_at < count and table + 64 * count <= len(data), 31)
+    # Of a section header: name, type, flags, where its bytes start, how many there are, a relocation's target
+    headers = [struct.unpack_from(order + "IIQ8xQQ4xI", data, table + 64 * i) for i in range(count)]
+    targets = {header[5] for header in headers if header[1] in (4, 9)}
+    names_at, names_end = headers[names_at][3], sum(headers[names_at][3:5])
+    for i, (name, kind, flags, start, size, _) in enumerate(headers):
+        zero = data.find(b"\0", names_at + name, names_end)
+        name = data[names_at + name:zero].decode("latin-1")
+        need(zero >= 0 and names_end <= len(data) and (name not in ELF_NAMES or start + size <= len(data)), 31)
+        if name in ELF_NAMES:
+            found.append((ELF_NAMES.index(name), (start, size), kind == 8 or flags & 0x800 or i in targets))
+    need(not any(unfinished for _, _, unfinished in found), 32)
+    unit, size = next((place for code, place, _ in found if code == INFO and place[1]), (0, 0))
+    width, at = (8, 12) if data[unit:unit + 4] == b"\xff\xff\xff\xff" else (4, 4)
+    need(size >= at + 2 and struct.unpack_from(order + "H", data, unit + at)[0] in (4, 5), 33)  # the unit's version
+    need(len({code for code, _, _ in found}) == len(found), 21)
+    return order, width, {code: place for code, place, _ in found}
 
-def need(test, number):
-    if not test:
-        raise Refused(number)
+def read_index(order, data):
+    need(len(data) >= 16, 21)
+    form = {struct.pack(order + "I", 2): 2, struct.pack(order + "HH", 5, 0): 5}.get(data[:4])
+    c, u, s = struct.unpack_from(order + "III", data, 4)  # columns, units, slots
+    need(form and c <= len(COLUMNS[form]) and s > u and not s & s - 1 and len(data) == 16 + 12 * s + 4 * c + 8 * u * c, 21)
+    numbers = struct.unpack_from("%s%dQ%dI" % (order, s, s + c + 2 * u * c), data, 16)
+    identities, rows, columns, cells = numbers[:s], numbers[s:2 * s], numbers[2 * s:2 * s + c], numbers[2 * s + c:]
+    need(len(set(columns)) == c and set(columns) <= set(COLUMNS[form].values()), 21)
+    need(all(row <= u and (row == 0) == (identity == 0) for row, identity in zip(rows, identities)), 21)
+    return types.SimpleNamespace(form=form, identities=identities, rows=rows, columns=columns, cells=cells)
 
+def read_package(data, elf=True):
+    order, width, sections = read_elf(data) if elf and data[:4] == b"\x7fELF" else read_bundle(data)
+    indexes = {code - 11: read_index(order, data[at:at + size]) for code, (at, size) in sections.items() if code > 11}
+    return types.SimpleNamespace(data=data, order=order, width=width, sections=sections, indexes=indexes)
 
-class Index:
-    def __init__(self, data, number):
-        need(len(data) >= 16, 21)
-        self.form = 5 if (number(data, 0, 2), number(data, 2, 2)) == (5, 0) else number(data, 0, 4)
-        columns, self.units, slots = (number(data, at, 4) for at in (4, 8, 12))
-        need(self.form in SECTIONS and columns <= len(SECTIONS[self.form]), 21)
-        need(slots > self.units and slots & (slots - 1) == 0, 21)
-        need(len(data) == 16 + 12 * slots + 4 * columns + 8 * self.units * columns, 21)
-        several = lambda at, width, count: [number(data, at + width * i, width) for i in range(count)]
-        self.identities, self.rows = several(16, 8, slots), several(16 + 8 * slots, 4, slots)
-        codes = several(16 + 12 * slots, 4, columns)
-        need(len(set(codes)) == columns and all(code in SECTIONS[self.form] for code in codes), 21)
-        for identity, row in zip(self.identities, self.rows):
-            need(row <= self.units and (row == 0) == (identity == 0), 21)
-        self.sections = [SECTIONS[self.form][code] for code in codes]
-        first, cells = 16 + 12 * slots + 4 * columns, self.units * columns
-        self.offsets, self.sizes = several(first, 4, cells), several(first + 4 * cells, 4, cells)
+def find(package, string, version, table, identity, last):
+    """Where a part, or a string, starts in the package, its length, and the looks. The last number is CODE or ENTRY."""
+    code = STR_OFFSETS if string else last
+    need(version in (2, 5) and all(index.form == version for index in package.indexes.values()), 22)
+    need(table in (1, 2) and 1 <= code <= 10, 23)
+    need(table in package.indexes, 0, "absent")
+    index, column, at, size = package.indexes[table], COLUMNS[version].get(code), 0, 0
+    slots, looks = len(index.rows), 1
+    slot, step = identity & (slots - 1), identity >> 32 & (slots - 1) | 1
+    while index.rows[slot] and index.identities[slot] != identity and looks < slots:
+        slot, looks = (slot + step) % slots, looks + 1
+    need(index.rows[slot] and index.identities[slot] == identity, looks, "absent")
+    if column in index.columns:
+        cell = (index.rows[slot] - 1) * len(index.columns) + index.columns.index(column)
+        at, size = index.cells[cell], index.cells[cell + len(index.cells) // 2]  # all offsets stand before all sizes
+        need(code in package.sections and at + size <= package.sections[code][1], 24)
+        at += package.sections[code][0]
+    if string:
+        skip = (last + (2 if version == 5 else 0)) * package.width  # a header is as long as two entries
+        need(skip + package.width <= size, 25)
+        start, length = package.sections.get(STR, (0, 0))
+        at = start + struct.unpack_from(package.order + " IQ"[package.width // 4], package.data, at + skip)[0]
+        size = package.data.find(b"\0", at, start + length) - at
+        need(size >= 0, 26)
+    return at, size, looks
 
-    def row(self, identity):
-        # the row or 0, and the number of slots looked at
-        slots = len(self.rows)
-        slot, step = identity % slots, identity // 2**32 % slots | 1
-        for looks in range(1, slots + 1):
-            if self.rows[slot] == 0 or self.identities[slot] == identity:
-                return self.rows[slot], looks
-            slot = (slot + step) % slots
-        return 0, slots
+def number(text, names=(), base=10):  # a ValueError if the text is neither a name nor a number without a sign
+    return names.index(text) if text in names or not text.isalnum() else int(text, 16 if text[:2] == "0x" else base)
 
-    def cell(self, row, section):
-        """Offset and size, or none without that column."""
-        columns = len(self.sections)
-        at = (row - 1) * columns + self.sections.index(section) if section in self.sections else None
-        return None if at is None else (self.offsets[at], self.sizes[at])
+def main(arguments):
+    path, *question = arguments
+    if arguments == ["--answer"]:
+        for line in sys.stdin:
+            what, digits, *numbers = line.rstrip().split(" ")
+            what, (version, table, identity, last) = ["lookup", "string"].index(what), map(number, numbers)
+            try:
+                package = read_package(bytes.fromhex(digits.strip("-")), elf=False)
+                print("part", *find(package, what, version, table, identity, last))
+            except Stop as stop:
+                print(stop)
+        return
+    if question:
+        table, identity, what, last = question
+        what, table, identity = ["section", "string"].index(what), number(table, TABLES), number(identity, base=16)
+        last = number(last, () if what else NAMES)
+    package = read_package(open(path, "rb").read())
+    if question:
+        forms = [index.form for index in package.indexes.values()] or [5]
+        start, length, _ = find(package, what, forms[0], table, identity, last)
+        sys.stdout.buffer.write(package.data[start:start + length])
+        return
+    for code, (_, size) in package.sections.items():
+        print(code, NAMES[code], size)
+    for table, index in sorted(package.indexes.items()):
+        for _, identity in sorted(slot for slot in zip(index.rows, index.identities) if slot != (0, 0)):
+            print(TABLES[table], "%016x" % identity)
 
-
-class Package:
-    def __init__(self, data):
-        need(8 <= len(data) <= 117_440_512 and len(data) % 4 == 0, 21)
-        word = lambda at: int.from_bytes(data[at : at + 4], "little")
-        need(word(0) in (0xF000_0000, 0xF000_0001), 21)
-        self.data, self.order = data, "big" if word(0) & 1 else "little"
-        self.places, self.encoding, at, kind = {}, None, 4, 15
-        while at < len(data):
-            kind, rest, at = word(at) >> 28, word(at) & 0xFFF_FFFF, at + 4
-            if kind == 1:
-                need(self.encoding is None and rest >> 24 == 0, 21)
-                self.encoding = (rest & 0xFF, rest >> 8 & 0xFF, rest >> 16 & 0xFF)
-                self.width = self.encoding[1]
-                need(self.encoding[0] in (4, 5) and self.width in (4, 8) and self.encoding[2] in (4, 8), 21)
-            elif kind == 2:
-                code, length, start = rest >> 23, rest & 0x7F_FFFF, at
-                at += (length + 3) // 4 * 4
-                need(self.encoding and 1 <= code <= 13 and code not in self.places and at <= len(data), 21)
-                need(not any(data[start + length : at]), 21)
-                self.places[code] = (start, length)
-            else:
-                need(kind == 3 and at == len(data) and rest * 4 == at, 21)
-        need(kind == 3, 21)
-        here = [(table, code) for table, code in ((1, CU_INDEX), (2, TU_INDEX)) if code in self.places]
-        self.indexes = {table: Index(self.section(code), self.number) for table, code in here}
-
-    def number(self, data, at, width):
-        return int.from_bytes(data[at : at + width], self.order)
-
-    def section(self, code):
-        start, length = self.places.get(code, (0, 0))
-        return self.data[start : start + length]
-
-    def part(self, version, table, identity, section):
-        """Place, length and looks; the place is none where the identity is absent."""
-        need(version in (2, 5) and all(index.form == version for index in self.indexes.values()), 22)
-        need(table in (1, 2) and 1 <= section <= 10, 23)
-        row, looks = self.indexes[table].row(identity) if table in self.indexes else (0, 0)
-        cell = self.indexes[table].cell(row, section) if row else None
-        if cell is None:
-            return 0 if row else None, 0, looks
-        need(section in self.places and sum(cell) <= self.places[section][1], 24)
-        return self.places[section][0] + cell[0], cell[1], looks
-
-    def string(self, version, table, identity, entry):
-        start, length, looks = self.part(version, table, identity, STR_OFFSETS)
-        if start is None:
-            return start, length, looks
-        head = 2 * self.width if version == 5 else 0
-        need(entry < max(length - head, 0) // self.width, 25)
-        offset = self.number(self.data, start + head + entry * self.width, self.width)
-        end = self.section(STR).find(0, offset) if offset <= len(self.section(STR)) else -1
-        need(end >= 0, 26)
-        return self.places[STR][0] + offset, end - offset, looks
-
-
-def answer(line):
-    kind, package, *numbers = line.split()
+if __name__ == "__main__":
     try:
-        package = Package(bytes.fromhex("" if package == "-" else package))
-        numbers = (int(number, 0) for number in numbers)
-        start, length, looks = package.part(*numbers) if kind == "lookup" else package.string(*numbers)
-        return f"absent {looks}" if start is None else f"part {start} {length} {looks}"
-    except Refused as refusal:
-        return f"refused {refusal}"
-
-
-def main(words):
-    if words == ["--answer"]:
-        return print("\n".join(answer(line.split("=")[0]) for line in sys.stdin if line.strip() and line[0] != "#"))
-    if len(words) not in (1, 5):
-        sys.exit(__doc__)
-    package = Package(open(words[0], "rb").read())
-    if len(words) == 1:
-        for code, (start, length) in sorted(package.places.items()):
-            print(f"section {code} {NAMES[code - 1]}: {length} bytes at {start}")
-        units = [(table, x) for table, index in package.indexes.items() for x in index.identities if x]
-        return [print(f"unit {'cu' if table == 1 else 'tu'} {x:#018x}") for table, x in units]
-    version = next((index.form for index in package.indexes.values()), 5)
-    number = NAMES.index(words[4]) + 1 if words[4] in NAMES else int(words[4])
-    ask = package.part if words[3] == "section" else package.string
-    start, length, _ = ask(version, {"cu": 1, "tu": 2}[words[1]], int(words[2], 0), number)
-    return sys.exit("absent") if start is None else sys.stdout.buffer.write(package.data[start : start + length])
-
-
-try:
-    main(sys.argv[1:])
-except Refused as refusal:
-    sys.exit(f"refused {refusal}")
+        main(sys.argv[1:])
+    except Stop as stop:
+        sys.exit("open.py: %s" % stop)
+    except (OSError, ValueError) as problem:
+        print("open.py: %s" % (problem if isinstance(problem, OSError) else "wrong call\n" + __doc__), file=sys.stderr)
+        sys.exit(2)

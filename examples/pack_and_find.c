@@ -20,7 +20,7 @@ static size_t read_file(const char *name, uint8_t *bytes, size_t most) {
 }
 
 /* Packs with memory enough; the caller frees the package, which is null where the bundle is refused. */
-static uint8_t *package_of(const uint8_t *bundle, size_t length, struct barthovin_written *answer) {
+static uint8_t *package_of(const uint8_t *bundle, size_t length, struct barthovin_packed *answer) {
     size_t words = length / 4 * BARTHOVIN_WORK_FOR_A_WORD;
     uint32_t *work = malloc(4 * words + 4);
     uint8_t nothing = 0;
@@ -38,7 +38,7 @@ static uint8_t *package_of(const uint8_t *bundle, size_t length, struct barthovi
 
 int main(int count, char **arguments) {
     static uint8_t bundle[BARTHOVIN_LONGEST_BUNDLE];
-    struct barthovin_written answer = {0, 0};
+    struct barthovin_packed answer = {0, 0, 0, 0};
     struct barthovin_found found;
     uint8_t *package;
     size_t length = count == 2 ? read_file(arguments[1], bundle, sizeof bundle) : 0;

@@ -1,12 +1,12 @@
-//! Links the variant beside the packer. `make first-match` writes it.
+//! Links the variant beside the packer. `make string-index` writes it.
 
 use std::path::PathBuf;
 
 fn main() {
-    let directory = PathBuf::from(std::env::var("CARGO_MANIFEST_DIR").unwrap()).join("../../target/variants/walk_all");
-    let library = directory.join("libwalkall.a");
+    let directory = PathBuf::from(std::env::var("CARGO_MANIFEST_DIR").unwrap()).join("../../target/variants/walk");
+    let library = directory.join("libwalk.a");
     println!("cargo:rerun-if-changed={}", library.display());
-    assert!(library.is_file(), "{} is missing: run `make first-match`", library.display());
+    assert!(library.is_file(), "{} is missing: run `make string-index`", library.display());
     println!("cargo:rustc-link-search=native={}", directory.display());
-    println!("cargo:rustc-link-lib=static=walkall");
+    println!("cargo:rustc-link-lib=static=walk");
 }

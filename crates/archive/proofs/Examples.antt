@@ -27,7 +27,7 @@ use Rattle.package.specs.Input
 use Rattle.package.specs.Pack
 use Rattle.lookup.specs.Lookup
 use Rattle.octets.specs.Octets.{numbersOf, zeros}
-use Rattle.package.specs.Pack.{packed, refused, short, made}
+use Rattle.package.specs.Pack.{packed, refused, short, made, repeats, namesakes}
 use Rattle.lookup.specs.Lookup.{lookedUp, part, absent, refused as refusal}
 use Rattle.packer.specs.Small.{packedSmall}
 use Rattle.bundle.proofs.Examples as Bundles
@@ -54,6 +54,12 @@ typeTwice = numbersOf false 4 (0xF0000000 ∷ 0x10080405 ∷ 0x20800030 ∷ 0x14
 abbrev pub typeOnce : List ℕ
 typeOnce = numbersOf false 4 (0xF0000000 ∷ 0x10080405 ∷ 0x20800018 ∷ 0x14 ∷ 0x8060005 ∷ 0 ∷ 7 ∷ 0 ∷ 0 ∷ 0x26800034 ∷ 5 ∷ 1 ∷ 1 ∷ 2 ∷ 0 ∷ 0 ∷ 7 ∷ 0 ∷ 0 ∷ 1 ∷ 1 ∷ 0 ∷ 0x18 ∷ 0x30000018 ∷ [])
 
+-- version 5, a type unit of signature 7, and another of that signature twice
+abbrev pub typeThrice : List ℕ
+typeThrice =
+    numbersOf false 4
+    (0xF0000000 ∷ 0x10080405 ∷ 0x20800048 ∷ 0x14 ∷ 0x8060005 ∷ 0 ∷ 7 ∷ 0 ∷ 0 ∷ 0x14 ∷ 0x8060005 ∷ 0 ∷ 7 ∷ 0 ∷ 1 ∷ 0x14 ∷ 0x8060005 ∷ 0 ∷ 7 ∷ 0 ∷ 1 ∷ 0x21800000 ∷ 0x30000017 ∷ [])
+
 abbrev pub Examples : Type 0
 Examples =
     -- topic by topic; the slots, the probing and the strings of document 01 among them
@@ -65,19 +71,26 @@ Examples =
     × Packing.Examples
     × Lookups.Examples
     -- the whole package, and the length needed where the output is a byte too short
-    × (packed example 176 112 ≡ made exampleMade)
-    × (packed example 176 111 ≡ short 112)
+    × (packed example 220 112 ≡ made exampleMade)
+    × (packed example 220 111 ≡ short 112)
     -- identity 1: the unit, its part of abbrev; 2 is absent; by version means 22
     × (lookedUp exampleMade 5 1 1 1 ≡ part 12 20 1)
     × (lookedUp exampleMade 5 1 1 3 ≡ part 36 1 1)
     × (lookedUp exampleMade 5 1 2 1 ≡ absent 1)
     × (lookedUp exampleMade 2 1 1 1 ≡ refusal 22)
     -- a type unit already kept is skipped
-    × (packed typeTwice 272 96 ≡ made typeOnce)
+    × (packed typeTwice 340 96 ≡ made typeOnce)
+    -- it is a repeat; where the output is a byte too short, nothing is counted
+    × (repeats typeTwice 400 96 ≡ 1)
+    × (namesakes typeTwice 400 96 ≡ 0)
+    × (repeats typeTwice 400 95 ≡ 0)
+    -- others of its signature are namesakes, also where they agree with each other: both are compared with the one kept
+    × (repeats typeThrice 500 96 ≡ 0)
+    × (namesakes typeThrice 500 96 ≡ 2)
     -- the small packer's limit: 1,024 bytes are judged by their words, and a word more is 1
     × (packedSmall (zeros 1_024) 65_536 ≡ refused 3)
     × (packedSmall (zeros 1_028) 65_536 ≡ refused 1)
 
 pub examples : Examples
-unfolding Checked._>>=_ Checked.require Checked.renumbered Lists.joined Lists.those Lists.all Lists.any Lists.sum Lists.same Lists.has Lists.distinct Lists.zeroTogether Octets.part Octets.little Octets.bigFrom Octets.number Octets.numberAt Octets.numbersIn Octets.littleOf Octets.bigOf Octets.bytesOf Octets.numbersOf Octets.zeros Bundle.filledUp Bundle.objectStep Bundle.sectionStep Bundle.endStep Bundle.stepOf Bundle.stepAt Bundle.followed Bundle.itemsFrom Bundle.items Bundle.leading Bundle.objectsOf Bundle.objectFirst Bundle.bundleOf Bundle.lengthGood Bundle.partsOf Bundle.count Bundle.firstPart Bundle.body Encoding.encodingOf Encoding.encodingGood BundleWritten.wordBytes BundleWritten.headBytes BundleWritten.sectionBytes BundleWritten.objectBytes BundleWritten.endBytes BundleWritten.written Leb128.groups Leb128.short Leb128.unsigned Leb128.signedSize Abbreviations.attributeAt Abbreviations.attributesThen Abbreviations.attributesFrom Abbreviations.attributesOf Abbreviations.declarationAt Abbreviations.declarationsThen Abbreviations.declarationsFrom Abbreviations.declarationsOf Abbreviations.declarationOf Forms.forms Forms.widthIn Forms.zeroEnded Forms.valueSize Root.needed Root.plainValue Root.valueOf Root.identityAt Root.identityIn Root.rootTag Root.rootIdentity UnitRead.lengthField UnitRead.unitSize UnitRead.isFive UnitRead.addressPlace UnitRead.commonSize UnitRead.behindCommon UnitRead.identityFive UnitRead.identityFour UnitRead.identityOf UnitRead.unitBy UnitRead.unitOf Strings.headerSize Strings.headerTrue Strings.entriesIn Strings.entriesOf Strings.upToZero Strings.stringAt Strings.stringsAt Strings.put Strings.putAll Strings.firstUses Strings.ended Strings.strOf Strings.offsetIn Strings.remapped Columns.columnsFour Columns.columnsFive Columns.columnsOf Columns.columnIn Index.versionOf Index.columnsMost Index.codeGood Index.powerFrom Index.leastPower Index.slotsGood Index.layout Index.indexOf Index.placeOf Index.cellAt Index.cellOf Probing.firstSlot Probing.stride Probing.look Probing.search Probing.probe Probing.slotsFor Probing.freeFrom Probing.place Probing.placeAll Probing.unused Probing.slotsOf Rows.shared Rows.neededCodes Rows.isSome Rows.rowOf Rows.cellIs Rows.ownPlace Rows.partGood Rows.rowNumbers Rows.naming Rows.theOne Rows.abbrevPart Rows.rowContributions Rows.wholeContributions IndexWritten.presentColumns IndexWritten.offsetOf IndexWritten.sizeOf IndexWritten.grid IndexWritten.startBytes IndexWritten.indexWith IndexWritten.indexBytes Filing.isUnder Filing.indexFor Filing.indexByPlace Filing.abbreviationsFor Filing.lengths Filing.contributionsOf Filing.skipped Filing.unitAt Filing.unitsFrom Filing.unitsIn Filing.grown Filing.filingFrom Filing.firstWord Filing.filingOf Filing.keep Filing.keepAll Filing.kept Filing.contributed Filing.entriesOfUnit Input.present Input.repeated Input.wrongEdition Input.onlyOnce Input.editionGood Input.complete Input.usedStrings Input.inputIndex Input.unitSections Input.inputOf Pack.cells Pack.longer Pack.entriesFrom Pack.rowsOf Pack.unitBytes Pack.sharedBytes Pack.allUsed Pack.stringTable Pack.sectionList Pack.nonEmpty Pack.packageSections Pack.packageObjects Pack.judged Pack.answered Pack.packed Pack.handedIn Lookup.codes Lookup.packageIndex Lookup.objectJudged Lookup.objectsJudged Lookup.packageOf Lookup.hasVersion Lookup.versionGood Lookup.tableGood Lookup.indexFor Lookup.placeIn Lookup.cellPlace Lookup.partPlace Lookup.atRow Lookup.inTable Lookup.answered Lookup.partJudged Lookup.lookedUp Lookup.entriesStart Lookup.startOf Lookup.stringPlace Lookup.stringJudged Lookup.stringFound packedSmall
-examples = (Bundles.examples, Numbers.examples, Units.examples, Texts.examples, Indexes.examples, Packing.examples, Lookups.examples, refl, refl, refl, refl, refl, refl, refl, refl, refl)
+unfolding Checked._>>=_ Checked.require Checked.renumbered Lists.joined Lists.those Lists.all Lists.any Lists.sum Lists.same Lists.has Lists.distinct Lists.zeroTogether Octets.part Octets.little Octets.bigFrom Octets.number Octets.numberAt Octets.numbersIn Octets.littleOf Octets.bigOf Octets.bytesOf Octets.numbersOf Octets.zeros Bundle.filledUp Bundle.objectStep Bundle.sectionStep Bundle.endStep Bundle.stepOf Bundle.stepAt Bundle.followed Bundle.itemsFrom Bundle.items Bundle.leading Bundle.objectsOf Bundle.objectFirst Bundle.bundleOf Bundle.lengthGood Bundle.partsOf Bundle.count Bundle.firstPart Bundle.body Encoding.encodingOf Encoding.encodingGood BundleWritten.wordBytes BundleWritten.headBytes BundleWritten.sectionBytes BundleWritten.objectBytes BundleWritten.endBytes BundleWritten.written Leb128.groups Leb128.short Leb128.unsigned Leb128.signedSize Abbreviations.attributeAt Abbreviations.attributesThen Abbreviations.attributesFrom Abbreviations.attributesOf Abbreviations.declarationAt Abbreviations.declarationsThen Abbreviations.declarationsFrom Abbreviations.declarationsOf Abbreviations.declarationOf Forms.forms Forms.widthIn Forms.zeroEnded Forms.valueSize Root.needed Root.plainValue Root.valueOf Root.identityAt Root.identityIn Root.rootTag Root.rootIdentity UnitRead.lengthField UnitRead.unitSize UnitRead.isFive UnitRead.addressPlace UnitRead.commonSize UnitRead.behindCommon UnitRead.identityFive UnitRead.identityFour UnitRead.identityOf UnitRead.unitBy UnitRead.unitOf Strings.headerSize Strings.headerTrue Strings.entriesIn Strings.entriesOf Strings.upToZero Strings.stringAt Strings.stringsAt Strings.put Strings.putAll Strings.firstUses Strings.ended Strings.strOf Strings.offsetIn Strings.remapped Columns.columnsFour Columns.columnsFive Columns.columnsOf Columns.columnIn Index.versionOf Index.columnsMost Index.codeGood Index.powerFrom Index.leastPower Index.slotsGood Index.layout Index.indexOf Index.placeOf Index.cellAt Index.cellOf Probing.firstSlot Probing.stride Probing.look Probing.search Probing.probe Probing.slotsFor Probing.freeFrom Probing.place Probing.placeAll Probing.unused Probing.slotsOf Rows.shared Rows.neededCodes Rows.isSome Rows.rowOf Rows.cellIs Rows.ownPlace Rows.partGood Rows.rowNumbers Rows.naming Rows.theOne Rows.abbrevPart Rows.rowContributions Rows.wholeContributions IndexWritten.presentColumns IndexWritten.offsetOf IndexWritten.sizeOf IndexWritten.grid IndexWritten.startBytes IndexWritten.indexWith IndexWritten.indexBytes Filing.isUnder Filing.indexFor Filing.indexByPlace Filing.abbreviationsFor Filing.lengths Filing.contributionsOf Filing.skipped Filing.unitAt Filing.unitsFrom Filing.unitsIn Filing.grown Filing.filingFrom Filing.firstWord Filing.filingOf Filing.keep Filing.keepAll Filing.kept Filing.firstUnder Filing.ofKind Filing.countOne Filing.countFrom Filing.countOf Filing.contributed Filing.entriesOfUnit Input.present Input.repeated Input.wrongEdition Input.onlyOnce Input.editionGood Input.complete Input.usedStrings Input.inputIndex Input.unitSections Input.inputOf Pack.cells Pack.longer Pack.entriesFrom Pack.rowsOf Pack.unitBytes Pack.sharedBytes Pack.allUsed Pack.stringTable Pack.sectionList Pack.nonEmpty Pack.packageSections Pack.packageObjects Pack.judged Pack.answered Pack.packed Pack.handedIn Pack.counted Pack.repeats Pack.namesakes Lookup.codes Lookup.packageIndex Lookup.objectJudged Lookup.objectsJudged Lookup.packageOf Lookup.hasVersion Lookup.versionGood Lookup.tableGood Lookup.indexFor Lookup.placeIn Lookup.cellPlace Lookup.partPlace Lookup.atRow Lookup.inTable Lookup.answered Lookup.partJudged Lookup.lookedUp Lookup.entriesStart Lookup.startOf Lookup.stringPlace Lookup.stringJudged Lookup.stringFound packedSmall
+examples = (Bundles.examples, Numbers.examples, Units.examples, Texts.examples, Indexes.examples, Packing.examples, Lookups.examples, refl, refl, refl, refl, refl, refl, refl, refl, refl, refl, refl, refl, refl, refl)

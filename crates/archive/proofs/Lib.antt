@@ -21,3 +21,4 @@ pub mod InInfo
 pub mod RoundTrip
 pub mod Unread
 pub mod Refusing
+pub mod Skipped

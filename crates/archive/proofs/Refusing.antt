@@ -6,6 +6,7 @@ use mathlib.Core.Bool.{true, false}
 use mathlib.Core.List.{List}
 use Prim.Native.Nat.{ℕ, _≤_}
 use native.Mathlib.Omega.{arith}
+use Rattle.numbers.specs.Limits.{smallWork}
 use Rattle.octets.proofs.Checks.{known}
 use Rattle.bundle.specs.Bundle.{lengthGood}
 use Rattle.package.specs.Pack.{Answer, refused, short, made, packed}
@@ -18,11 +19,11 @@ use Rattle.lookup.specs.Answers.{numbered}
 use Rattle.lookup.proofs.Refusing.{part-refuses, string-refuses}
 use Rattle.archive.specs.Refusing.{PackingCode, LookupCode, RefusesByNumber}
 
-packing-code : (a : Answer) → ((n : ℕ) → a ≡ refused n → Refusal n) → PackingCode (told a .code)
+packing-code : (b : List ℕ) (a : Answer) → ((n : ℕ) → a ≡ refused n → Refusal n) → PackingCode (told b a .code)
 unfolding told toldOf finishedOf
-packing-code (refused n) h = ⊎-elim (λ r. inr (inl r)) (λ r. inr (inr (inr r))) (h n refl)
-packing-code (short n) h = inr (inr (inl refl))
-packing-code (made p) h = inl refl
+packing-code b (refused n) h = ⊎-elim (λ r. inr (inl r)) (λ r. inr (inr (inr r))) (h n refl)
+packing-code b (short n) h = inr (inr (inl refl))
+packing-code b (made p) h = inl refl
 
 lookup-code : (f : Found) → ((n : ℕ) → f ≡ refusal n → (21 ≤ n) × (n ≤ 26)) → LookupCode (numbered f .code)
 unfolding numbered
@@ -30,13 +31,13 @@ lookup-code (refusal n) h = inr (inr (h n refl))
 lookup-code (absent looks) h = inr (inl refl)
 lookup-code (part start size looks) h = inl refl
 
-packs : (b : List ℕ) (w o : ℕ) → PackingCode (told (packed b w o) .code)
-packs b w o = packing-code (packed b w o) (packed-refuses b w o)
+packs : (b : List ℕ) (w o : ℕ) → PackingCode (told b (packed b w o) .code)
+packs b w o = packing-code b (packed b w o) (packed-refuses b w o)
 
-packs-small : (b : List ℕ) (o : ℕ) → PackingCode (told (packedSmall b o) .code)
+packs-small : (b : List ℕ) (o : ℕ) → PackingCode (told b (packedSmall b o) .code)
 unfolding packedSmall told toldOf finishedOf
 packs-small b o = ⊎-elim
-    (λ (t : lengthGood 1_024 b ≡ true). rw (packedSmall, t) (packs b 4_096 o))
+    (λ (t : lengthGood 1_024 b ≡ true). rw (packedSmall, t) (packs b smallWork o))
     (λ (t : lengthGood 1_024 b ≡ false). rw (packedSmall, t) (inr (inl (omega arith, omega arith))))
     (known (lengthGood 1_024 b))
 

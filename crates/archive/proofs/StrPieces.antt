@@ -20,7 +20,8 @@ use Rattle.bundle.proofs.Every.{Every, nothing, also}
 use Rattle.package.proofs.Each.{each-head, each-tail, each-append, each-snoc}
 use Rattle.strings.specs.Strings.{stringAt, stringsAt, put, putAll, firstUses, ended, strOf}
 use Rattle.strings.proofs.Ends.{NoZero, stringAt-is}
-use Rattle.strings.proofs.FirstUses.{isIn, put-known, put-new, Distinct}
+use Rattle.strings.specs.Indexed.{Distinct}
+use Rattle.strings.proofs.FirstUses.{isIn, put-known, put-new}
 use Rattle.strings.proofs.Offsets.{strOf-none, strOf-cons}
 use Rattle.archive.specs.StrSection.{onto, pieces}
 

@@ -1,4 +1,4 @@
--- Demand 3 of document 01: one claim, from bundle to answer; the same for one question, about the code; and by which numbers calls refuse.
+-- Demand 3 of document 01: one claim, from bundle to answer; the same for one question, about the code; by which numbers calls refuse; and what is told of units that were skipped.
 -- Assumes nothing.
 pub mod Theorem
 pub mod Question
@@ -7,4 +7,5 @@ pub mod StrSection
 pub mod Many
 pub mod RoundTrip
 pub mod Refusing
+pub mod Skipped
 pub mod Paper

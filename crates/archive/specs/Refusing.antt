@@ -20,7 +20,7 @@ abbrev pub LookupCode : ℕ → Type 0
 LookupCode n = (n ≡ 0) ⊎ (n ≡ 1) ⊎ ((badPackage ≤ n) × (n ≤ noStringThere))
 
 pub record RefusesByNumber : Type 0 where
-  pub packing : (b : List ℕ) (w o : ℕ) → PackingCode (told (packed b w o) .code)
-  pub packingSmall : (b : List ℕ) (o : ℕ) → PackingCode (told (packedSmall b o) .code)
+  pub packing : (b : List ℕ) (w o : ℕ) → PackingCode (told b (packed b w o) .code)
+  pub packingSmall : (b : List ℕ) (o : ℕ) → PackingCode (told b (packedSmall b o) .code)
   pub lookingUp : (p : List ℕ) (v table x code : ℕ) → LookupCode (numbered (lookedUp p v table x code) .code)
   pub lookingUpString : (p : List ℕ) (v table x k : ℕ) → LookupCode (numbered (stringFound p v table x k) .code)

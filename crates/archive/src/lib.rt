@@ -21,21 +21,22 @@ use asking::FromBundle;
 use lookup::answering::Answer;
 use packer::answering::Packed;
 
-// Code 0: the package, of that length, and zeros behind it. 18: the length that the output needs. Else the refusal, with 0.
+// Code 0: the package, of that length, and zeros behind it, and how many type units were skipped as repeats and as namesakes. 18: the length that the
+// output needs. Else the refusal, with 0. But for code 0 both counts are 0.
 // But for 0 the output is zeros; work is zeros behind every answer.
 #[no_mangle]
 pub extern "C" fn barthovin_pack(bundle: &[u8], work: &mut [u32], output: &mut [u8]) -> Packed
-    ensures answer { λ r. ⌜ r ≡ told (packed (now (bundle .entry)) (length (now (work .entry))) (length (now (output .entry)))) ⌝ }
+    ensures answer { λ r. ⌜ r ≡ told (now (bundle .entry)) (packed (now (bundle .entry)) (length (now (work .entry))) (length (now (output .entry)))) ⌝ }
     ensures output { λ _. ⌜ now (output .exit) ≡ outputOf (packed (now (bundle .entry)) (length (now (work .entry))) (length (now (output .entry)))) (length (now (output .entry))) ⌝ }
     ensures work { λ _. ⌜ now (work .exit) ≡ zeros (length (now (work .entry))) ⌝ }
 {
     packer::answering::answer_pack(bundle, work, output)
 }
 
-// The same with 4,096 words of its own, for bundles of at most 1,024 bytes.
+// The same with 5,120 words of its own, for bundles of at most 1,024 bytes.
 #[no_mangle]
 pub extern "C" fn barthovin_pack_small(bundle: &[u8], output: &mut [u8]) -> Packed
-    ensures answer { λ r. ⌜ r ≡ told (packedSmall (now (bundle .entry)) (length (now (output .entry)))) ⌝ }
+    ensures answer { λ r. ⌜ r ≡ told (now (bundle .entry)) (packedSmall (now (bundle .entry)) (length (now (output .entry)))) ⌝ }
     ensures output { λ _. ⌜ now (output .exit) ≡ outputOf (packedSmall (now (bundle .entry)) (length (now (output .entry)))) (length (now (output .entry))) ⌝ }
 {
     packer::answering::answer_pack_small(bundle, output)

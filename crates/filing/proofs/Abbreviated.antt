@@ -42,7 +42,7 @@ use Rattle.filing.specs.Judged.{sectionOf, IndexedIs, InputIs}
 use Rattle.filing.specs.State.{wordsIn, Remembered}
 use Rattle.filing.specs.ByPlace.{WorkFor, indexedByPlace, AbbreviationsAre, identified}
 use Rattle.filing.specs.Asked.{PlaceAsked}
-use Rattle.filing.proofs.Lending.{lent-is, lent-length, lent-left}
+use Rattle.work.proofs.Lending.{lent-is, lent-length, lent-left}
 use Rattle.filing.proofs.ByPlace.{by-place-is, cut, cut-section, index-there, row-none, row-one}
 
 -- ---- a row's abbrev part

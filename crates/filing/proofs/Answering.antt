@@ -1,6 +1,6 @@
 -- One unit that was read, as code files it.
 -- Assumes nothing.
-use mathlib.Core.Path.{_≡_, refl, sym, ap, _∙_, subst}
+use mathlib.Core.Path.{_≡_, refl, sym, ap, ap₂, _∙_, subst}
 use mathlib.Core.Bool.{Bool, true, false}
 use mathlib.Core.List.{List, [], _∷_, _++_, append-assoc}
 use mathlib.Core.Option.{Option, some, none}
@@ -9,7 +9,7 @@ use native.Mathlib.Omega.{arith}
 use native.Mathlib.Decide.{ℕ-discrete}
 use lib.ListN.{length, take}
 use Rattle.octets.specs.Octets.{part}
-use Rattle.octets.specs.Lists.{any}
+use Rattle.octets.specs.Lists.{any, same}
 use Rattle.octets.specs.Checked.{Check, pass, refuse}
 use Rattle.octets.proofs.Parts.{length-part}
 use Rattle.unit.specs.UnitRead.{UnitRead}
@@ -19,20 +19,24 @@ use Rattle.index.specs.Written.{offsetOf, sizeOf}
 use Rattle.index.specs.Contributed.{ContributionsAre}
 use Rattle.index.specs.declared.judging.RowJudged.{RowJudged}
 use Rattle.package.specs.Input.{Input}
-use Rattle.package.specs.Filing.{Filed, isUnder, contributionsOf, unitAt}
+use Rattle.work.specs.Regions.{recordsRegion, region}
+use Rattle.package.specs.Filing.{Filed, isUnder, kept, contributionsOf, unitAt, repeat, namesake}
+use Rattle.package.proofs.Kept.{First, first-any, any-kept, kept-once}
+use Rattle.package.proofs.Counting.{count-le}
 use Rattle.kept.specs.Slots.{seenSlots, slotsIn, freeFor}
 use Rattle.kept.specs.Held.{pick, OneOrTwo}
-use Rattle.kept.specs.State.{UnitGood, Held}
+use Rattle.kept.specs.State.{UnitGood, Held, skippedOne}
 use Rattle.kept.specs.declared.records.Unit.{Unit as UnitHead}
 use Rattle.kept.specs.declared.state.InProgress.{InProgress}
+use Rattle.kept.proofs.Naming.{KnownUnit}
 use Rattle.filing.specs.Contributing.{GivenIs}
 use Rattle.filing.specs.declared.input.InputObject.{InputObject}
 use Rattle.filing.specs.declared.units.UnitFiled.{UnitFiled}
 use Rattle.filing.specs.State.{wordsIn, StringsKept}
 use Rattle.filing.specs.Answers.{AtUnit, UnitIs}
-use Rattle.filing.specs.Choices.{KnownIs, NewUnit, ReadAt}
+use Rattle.filing.specs.Choices.{agreesWith, KnownAsked, KnownIs, NewUnit, ReadAt}
 use Rattle.filing.specs.Asked.{KeepAsked, UnitKept}
-use Rattle.filing.proofs.Kept.{held-skip}
+use Rattle.filing.proofs.Kept.{placeable, held-skip}
 use Rattle.filing.proofs.Filing.{filed, unit-second, unit-skipped, unit-bad, unit-new, contributed-low}
 
 module _ {b : List ℕ} {x : InputObject} {i : Input} {place : ℕ} {w : List ℕ} {st : InProgress} {bases : BySection ℕ} {earlier here : List Filed}
@@ -48,6 +52,22 @@ module _ {b : List ℕ} {x : InputObject} {i : Input} {place : ℕ} {w : List �
 
   abbrev read : UnitRead
   read = record { size = size; table = table; identity = identity }
+
+  -- ---- compared with the kept one
+  pub known-asks : (number : ℕ) → KnownUnit b (region w n recordsRegion) (kept us) (st .units .count) table identity number → KnownAsked b number place size st w
+  known-asks number k =
+      let h = a .held in
+      record {
+        compared = record {
+          enough = h .room;
+          limit = h .limit;
+          some = k .used;
+          stored = omega (arith, k .low, placeable h table .units);
+          inside = record { is = λ j l. h .held .inside .is j (omega (arith, k .low)) };
+          fits = fits;
+        };
+        few = (omega (arith, h .repeated, count-le repeat us, h .spent, h .within, h .limit), omega (arith, h .named, count-le namesake us, h .spent, h .within, h .limit));
+      }
 
   -- ---- answers
   module _ (homes : OneOrTwo home) (bytes : take size s ≡ part b place size) where
@@ -65,28 +85,43 @@ module _ {b : List ℕ} {x : InputObject} {i : Input} {place : ℕ} {w : List �
     unfolding UnitIs
     answer-second v z e t c = rw (unit-second i bases earlier here home at s size table identity r e t) c
 
-    answer-skipped : any (isUnder table identity) us ≡ true → (table ≡ 1 → ⊥)
-        → UnitIs b x i place w w st bases earlier here (unitAt i bases earlier here home at s) (record { code = 0; size = size; st = st })
-    unfolding UnitIs
-    answer-skipped e t =
-        rw (unit-skipped i bases earlier here home at s size table identity r e t) (
-          refl,
-          sym bytes-many,
-          record {
-            input = a .input;
-            held =
-                subst (Held five b n (place + size) w st bases) (append-assoc earlier here (unit (λ c. none) ∷ []))
-                (held-skip (a .held) size (unit (λ c. none)) e (unit-good (λ c. none)) (r .least) fits);
-          },
-          record { same = refl; strings = refl; table = refl },
-        )
+    -- ---- its table and identity are those of a kept unit, by the number of its record
+    module _ (number : ℕ) (k : KnownUnit b (region w n recordsRegion) (kept us) (st .units .count) table identity number) where
+      first : First table identity (kept us) (k .unit)
+      first = kept-once us (k .before) (k .behind) (k .unit) table identity (k .stands) (k .under)
 
-    -- 14, or skipped
-    pub answer-known : any (isUnder table identity) us ≡ true → (z : UnitFiled) → KnownIs table size st z → UnitIs b x i place w w st bases earlier here (unitAt i bases earlier here home at s) z
-    answer-known e z k = elim (ℕ-discrete table 1) [
-      | yes t ↦ answer-second w z e t (k .second t)
-      | no t ↦ subst (UnitIs b x i place w w st bases earlier here (unitAt i bases earlier here home at s)) (sym (k .skipped t)) (answer-skipped e t)
-    ]
+      seen : any (isUnder table identity) us ≡ true
+      seen = sym (any-kept table identity us) ∙ first-any table identity (kept us) (k .unit) first
+
+      abbrev skipped : Filed
+      skipped = unit (λ c. none)
+
+      agrees-is : same (take size s) (k .unit .bytes) ≡ agreesWith b number place size w
+      agrees-is = ap₂ same bytes (sym (k .bytes))
+
+      held-skipped : Held five b n (place + size) w (skippedOne st (agreesWith b number place size w)) bases (earlier ++ (here ++ (skipped ∷ [])))
+      held-skipped =
+          subst (Held five b n (place + size) w (skippedOne st (agreesWith b number place size w)) bases) (append-assoc earlier here (skipped ∷ []))
+          (subst (λ (z : Bool). Held five b n (place + size) w (skippedOne st z) bases (us ++ (skipped ∷ []))) agrees-is
+          (held-skip (a .held) size skipped (k .unit) seen first (unit-good (λ c. none)) (r .least) fits))
+
+      answer-skipped : (table ≡ 1 → ⊥)
+          → UnitIs b x i place w w st bases earlier here (unitAt i bases earlier here home at s) (record { code = 0; size = size; st = skippedOne st (agreesWith b number place size w) })
+      unfolding UnitIs
+      answer-skipped t =
+          rw (unit-skipped i bases earlier here home at s size table identity r seen t) (
+            refl,
+            sym bytes-many,
+            record { input = a .input; held = held-skipped },
+            record { same = refl; strings = refl; table = refl },
+          )
+
+      -- 14, or skipped
+      pub answer-known : (z : UnitFiled) → KnownIs b number place table size st w z → UnitIs b x i place w w st bases earlier here (unitAt i bases earlier here home at s) z
+      answer-known z is = elim (ℕ-discrete table 1) [
+        | yes t ↦ answer-second w z seen t (is .second t)
+        | no t ↦ subst (UnitIs b x i place w w st bases earlier here (unitAt i bases earlier here home at s)) (sym (is .skipped t)) (answer-skipped t)
+      ]
 
     module _ (j : RowJudged) (g : GivenIs (contributionsOf i home at read) j) (e : any (isUnder table identity) us ≡ false) where
       pub answer-bad : (v : List ℕ) (z : UnitFiled) → (j .code ≡ 0 → ⊥) → z .code ≡ j .code

@@ -38,7 +38,7 @@ use Rattle.filing.specs.ByPlace.{indexedByPlace, headsFor, ChainsHeld, R
 use Rattle.filing.specs.Asked.{ChainAsked, PlaceAsked}
 use Rattle.filing.proofs.Contributing.{index-well}
 use Rattle.filing.proofs.Entering.{five-is}
-use Rattle.filing.proofs.Lending.{lent-is, lent-length, lent-left}
+use Rattle.work.proofs.Lending.{lent-is, lent-length, lent-left}
 
 -- ---- the index that has them
 module _ (x : InputObject) (home : ℕ) where

@@ -40,6 +40,7 @@ input-room b big first place w st bases is us a from ahead left low high lie =
     record {
       room = a .held .room;
       limit = a .held .limit;
+      whole = a .held .words;
       inside = λ c. first-within b (leading ahead) c lie;
       fits = λ e.
           let ps = leading ahead in

@@ -107,13 +107,14 @@ module _ (b : List ℕ) (scan : Scan) (at : ℕ) (ps : List Part) (is : scan ≡
         omega (arith, scan-start scan at ps is c g, scan-size scan at ps is c g, room .inside c))
         (known (leb 14 c))
 
-    pub strings-room-of : (e : ObjectEncoding) → StringsRoom b (encodingIs e) (placeOf 6) (placeOf 11) words t
+    pub strings-room-of : (e : ObjectEncoding) → StringsRoom b (record { encoding = e; offsets = placeOf 6; strings = placeOf 11 }) words t
     unfolding Inside bytesAt
     strings-room-of e = record {
       room = room .room;
       limit = room .limit;
+      whole = room .whole;
       offsets-inside = scan-within 6;
-      text-inside = scan-within 11;
+      strings-inside = scan-within 11;
       fits = rw (scan-start scan at ps is 6 (omega arith), scan-size scan at ps is 6 (omega arith)) (room .fits e);
     }
 

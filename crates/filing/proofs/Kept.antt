@@ -10,7 +10,7 @@ use native.Mathlib.Omega.{arith}
 use native.Mathlib.Decide.{ℕ-discrete}
 use lib.ListN.{length, getD, set, length-append}
 use Rattle.octets.specs.Octets.{part}
-use Rattle.octets.specs.Lists.{any}
+use Rattle.octets.specs.Lists.{any, same as agree}
 use Rattle.octets.proofs.Parts.{length-part}
 use Rattle.numbers.specs.Sections.{sectionCodes}
 use Rattle.index.specs.Index.{Contribution}
@@ -20,14 +20,16 @@ use Rattle.index.specs.Held.{PowerOfTwo}
 use Rattle.index.specs.declared.judging.Contributions.{Contributions}
 use Rattle.work.specs.Regions.{recordsRegion, stringsRegion, slotsRegion, rowsRegion, codesRegion, region, Apart}
 use Rattle.work.proofs.Stores.{records-strings, slots-strings, records-rows, slots-rows, records-codes, slots-codes, tables-apart}
-use Rattle.package.specs.Filing.{Filed, isUnder, kept}
+use Rattle.package.specs.Filing.{Filed, isUnder, kept, repeat, namesake, ofKind}
 use Rattle.package.specs.Pack.{rowsOf, unitBytes}
+use Rattle.package.proofs.Kept.{First}
+use Rattle.package.proofs.Counting.{count-new, count-known}
 use Rattle.kept.specs.Columns.{columnsFor, Marked}
 use Rattle.kept.specs.Cells.{cellsBy, CellsRoom}
 use Rattle.kept.specs.Records.{cellWords, unitOf, UnitFits}
 use Rattle.kept.specs.Slots.{seenSlots, slotsIn, soughtIn, freeFor, SeenHeld, Placeable, Seekable, Keepable, keptIn}
 use Rattle.kept.specs.Held.{identitiesOf, pick, withUnit, OneOrTwo, UnitsHeld}
-use Rattle.kept.specs.State.{UnitGood, Held}
+use Rattle.kept.specs.State.{UnitGood, Held, skippedOne}
 use Rattle.kept.specs.declared.Units.{Units}
 use Rattle.kept.specs.declared.records.Unit.{Unit as UnitHead}
 use Rattle.kept.specs.declared.slots.Sought.{Sought}
@@ -35,10 +37,11 @@ use Rattle.kept.specs.declared.slots.Sought.the-variants.{Known, Free}
 use Rattle.kept.specs.declared.state.InProgress.{InProgress}
 use Rattle.kept.proofs.Recording.{cells-many}
 use Rattle.kept.proofs.Seeking.{sought-inside}
-use Rattle.kept.proofs.Seen.{sought-known, sought-free}
+use Rattle.kept.proofs.Seen.{sought-free}
 use Rattle.kept.proofs.SeenSlots.{seen-power, seen-le, seen-gt}
 use Rattle.kept.proofs.Placing.{slots-long, slots-power, records-long, kept-length, kept-records, kept-others, kept-slots, kept-other-slots}
 use Rattle.kept.proofs.Holding.{length-identities, KeptAs, units-more, bytes-own, bytes-other}
+use Rattle.kept.proofs.Naming.{KnownUnit, known-unit}
 use Rattle.filing.specs.State.{StringsKept, TransientStay}
 use Rattle.filing.specs.Choices.{NewUnit}
 use Rattle.filing.proofs.More.{kept-new, kept-known, kept-le, rows-few, rows-distinct, rows-known, good-more}
@@ -89,8 +92,8 @@ module _ {five : Bool} {b : List ℕ} {n place : ℕ} {w : List ℕ} {st : InPro
     few : length xs < length S
     few = omega (arith, few-rows, length-identities (rowsOf (kept us) table))
 
-    pub known-is : (number : ℕ) → Known number ≡ soughtIn R S identity → any (isUnder table identity) us ≡ true
-    known-is number e = sym (rows-known us table identity) ∙ sought-known seen power few (rows-distinct us table) identity number e
+    pub known-is : (number : ℕ) → Known number ≡ soughtIn R S identity → KnownUnit b R (kept us) (st .units .count) table identity number
+    known-is number e = known-unit (h .held) table o identity number e
 
     pub free-is : (at : ℕ) → Free at ≡ soughtIn R S identity → (any (isUnder table identity) us ≡ false) × (freeFor S identity ≡ at) × (at < seenSlots n)
     free-is at e =
@@ -106,10 +109,10 @@ module _ {five : Bool} {b : List ℕ} {n place : ℕ} {w : List ℕ} {st : InPro
       unfolding slotsIn
       sought-is z q = q ∙ ap (λ (k : ℕ). soughtIn R (part w (slotsRegion table .start * n) k) identity) e
 
-  -- ---- skipped
-  pub held-skip : (size : ℕ) (u : Filed) → any (isUnder (u .table) (u .identity)) us ≡ true → UnitGood u → 20 ≤ size → place + size ≤ length b
-      → Held five b n (place + size) w st bases (us ++ (u ∷ []))
-  held-skip size u e g l q =
+  -- ---- skipped, and compared with the kept one
+  pub held-skip : (size : ℕ) (u v : Filed) → any (isUnder (u .table) (u .identity)) us ≡ true → First (u .table) (u .identity) (kept us) v → UnitGood u → 20 ≤ size → place + size ≤ length b
+      → Held five b n (place + size) w (skippedOne st (agree (u .bytes) (v .bytes))) bases (us ++ (u ∷ []))
+  held-skip size u v e f g l q =
       let same = kept-known us u e in
       record {
         room = h .room;
@@ -123,6 +126,8 @@ module _ {five : Bool} {b : List ℕ} {n place : ℕ} {w : List ℕ} {st : InPro
         unitsLow = λ c. omega (arith, ap (λ (ks : List Filed). length (unitBytes ks c)) same, h .unitsLow c);
         within = q;
         limit = h .limit;
+        repeated = ap (λ (z : ℕ). z + ofKind repeat (agree (u .bytes) (v .bytes))) (h .repeated) ∙ sym (count-known repeat us u v f);
+        named = ap (λ (z : ℕ). z + ofKind namesake (agree (u .bytes) (v .bytes))) (h .named) ∙ sym (count-known namesake us u v f);
       }
 
 -- ---- kept
@@ -230,7 +235,7 @@ module _ {five : Bool} {b : List ℕ} {n slot : ℕ} {u : UnitHead} {k : Contrib
             (λ (e : y .table ≡ 2). ⊎-elim (λ (g : t ≡ 1). tables-apart t (u .table) g (λ q. omega (arith, x .table-is)) .1) (λ (g : t ≡ 2). absurd (f (g ∙ sym e))) o)
             (x .good .tables)
 
-        pub strings-kept : (more : Units) → StringsKept n w v st (record { units = more; bases = st .bases; strings = st .strings })
+        pub strings-kept : (more : Units) → StringsKept n w v st (record { units = more; bases = st .bases; strings = st .strings; skipped = st .skipped })
         unfolding unitOf
         strings-kept more = record {
           same = same;
@@ -263,7 +268,7 @@ module _ {five : Bool} {b : List ℕ} {n slot : ℕ} {u : UnitHead} {k : Contrib
         ]
 
         pub unit-held : (more : Units) → more ≡ withUnit (st .units) (u .table) (record { rows = u .row; has = has }) (u .home) (p + u .size)
-            → Held five b n (u .start + u .size) v (record { units = more; bases = st .bases; strings = st .strings }) bases (us ++ (y ∷ []))
+            → Held five b n (u .start + u .size) v (record { units = more; bases = st .bases; strings = st .strings; skipped = st .skipped }) bases (us ++ (y ∷ []))
         unit-held more q =
             let z : more ≡ withUnit (st .units) (y .table) (record { rows = pick (y .table) (st .units .cu) (st .units .tu) .rows + 1; has = has }) (y .home) (p + u .size) =
             q ∙ rw (x .row-is, x .table-is, x .home-is) in
@@ -279,4 +284,6 @@ module _ {five : Bool} {b : List ℕ} {n slot : ℕ} {u : UnitHead} {k : Contrib
               unitsLow = lower;
               within = x .within;
               limit = h .limit;
+              repeated = h .repeated ∙ sym (count-new repeat us y (x .fresh));
+              named = h .named ∙ sym (count-new namesake us y (x .fresh));
             }

@@ -47,6 +47,8 @@ held-later p q k h g =
       unitsLow = λ c. omega (arith, k .unitsLow c);
       within = g;
       limit = k .limit;
+      repeated = k .repeated;
+      named = k .named;
     }
 
 pub at-later : {b : List ℕ} {x : InputObject} {i : Input} (p q : ℕ) {w : List ℕ} {st : InProgress} {bases : BySection ℕ} {earlier here : List Filed}

@@ -1,6 +1,6 @@
--- The strings of an object put into their region of work: nothing else changes, and the answers by the definition.
+-- The strings of an object put into their store in work: nothing else changes, and the answers by the definition.
 -- Assumes nothing.
-use mathlib.Core.Path.{_≡_, refl, sym, ap, _∙_, subst}
+use mathlib.Core.Path.{_≡_, refl, sym, ap, _∙_}
 use mathlib.Core.Bool.{Bool, true}
 use mathlib.Core.List.{List, []}
 use Prim.Native.Nat.{ℕ, _+_, _*_, _-_, _<_, _≤_}
@@ -14,7 +14,8 @@ use Rattle.octets.proofs.Parts.{part-cut}
 use Rattle.bundle.specs.Encoding.{Encoding}
 use Rattle.strings.specs.Strings.{entriesIn, entriesOf, stringsAt, putAll}
 use Rattle.strings.specs.Answers.{entriesRead}
-use Rattle.strings.specs.Kept.{Kept, AddedIs, Inside, bytesAt}
+use Rattle.strings.specs.Kept.{AddedIs, Inside, bytesAt}
+use Rattle.strings.specs.Objects.{tableIn}
 use Rattle.strings.specs.declared.entries.Entries.the-variants.{Count, IllFormed}
 use Rattle.strings.specs.declared.table.Added.{Added}
 use Rattle.strings.specs.declared.table.Added.the-variants.{Table, NoString}
@@ -23,31 +24,30 @@ use Rattle.strings.specs.declared.table.StringTable.{StringTable}
 use Rattle.strings.specs.declared.entries.Entries.{Entries}
 use Rattle.strings.proofs.Callers.{entries-counted, entries-ill}
 use Rattle.numbers.specs.Limits.{workForWord}
-use Rattle.work.specs.Regions.{stringsRegion, region}
-use Rattle.work.proofs.Stores.{strings-within, strings-records, strings-slots}
+use Rattle.work.specs.Regions.{stringsRegion, storeRegion, region}
+use Rattle.work.proofs.Stores.{store-records, store-slots}
+use Rattle.kept.proofs.Storing.{store-left}
 use Rattle.package.specs.Filing.{kept}
 use Rattle.filing.specs.State.{wordsIn}
-use Rattle.filing.proofs.Lending.{Beside, lent-is, lent-left}
+use Rattle.filing.proofs.Lending.{Beside}
 use Rattle.filing.specs.ByObject.{stringsCheck, StringsIn, StringsAre}
 
 -- ---- what is filed stays
-pub strings-beside : Beside stringsRegion
-strings-beside = record { records = strings-records; slots = strings-slots }
+pub store-beside : Beside storeRegion
+store-beside = record { records = store-records; slots = store-slots }
 
--- ---- the region as it is lent
-module _ (n from many : ℕ) (w : List ℕ) (room : workForWord * n ≤ length w) (ef : from ≡ stringsRegion .start * n) (em : many ≡ stringsRegion .words * n) where
+-- ---- the store as it is lent: the strings in its first words
+module _ (n from many words : ℕ) (w : List ℕ) (room : workForWord * n ≤ length w) (ef : from ≡ storeRegion .start * n) (em : many ≡ storeRegion .words * n)
+    (et : words ≡ stringsRegion .words * n) where
   abbrev lent : List ℕ
   lent = take (from + many - from) (drop from w)
 
-  pub lent-kept : (b : List ℕ) (t : StringTable) (ts : List (List ℕ)) → Kept b (region w n stringsRegion) t ts → Kept b lent t ts
-  lent-kept b t ts k = subst (λ (l : List ℕ). Kept b l t ts) (sym (lent-is stringsRegion strings-within n from many w room ef em)) k
-
-  module _ (words v : List ℕ) (same : length words ≡ length lent) (is : v ≡ putMid from (from + many - from) w words) where
-    region-part : region v n stringsRegion ≡ words
-    region-part = lent-left stringsRegion strings-within n from many w room ef em words v same is
+  module _ (store v : List ℕ) (same : length store ≡ length lent) (is : v ≡ putMid from (from + many - from) w store) where
+    region-part : region v n stringsRegion ≡ tableIn words store
+    region-part = store-left n from many words w room ef em et store v same is
 
     module _ (b : List ℕ) (wide : n ≡ wordsIn b) (e : Encoding) (there : Bool) (o s : List ℕ) (t : StringTable) (yes-there : there ≡ true) (counted : entriesOf e o ≡ pass (entriesIn e o))
-        (ts : List (List ℕ)) (r : Added) (added : AddedIs b words ts (stringsAt s (entriesIn e o)) r) where
+        (ts : List (List ℕ)) (r : Added) (added : AddedIs b (tableIn words store) ts (stringsAt s (entriesIn e o)) r) where
       all-is : stringsCheck e there o s ≡ stringsAt s (entriesIn e o)
       unfolding stringsCheck
       all-is = rw (stringsCheck, yes-there) (then-pass _ _ _ counted)

@@ -1,7 +1,7 @@
 -- The regions that count for one section or one table: what is at hand stays while they are written, and they stay while units are filed.
 -- Assumes nothing.
 use mathlib.Core.Path.{_≡_, refl, sym, subst}
-use mathlib.Core.Logic.{inl}
+use mathlib.Core.Logic.{inr}
 use mathlib.Core.List.{List}
 use Prim.Native.Nat.{ℕ}
 use native.Mathlib.Omega.{arith}
@@ -10,8 +10,8 @@ use Rattle.numbers.specs.Sections.{cuIndexCode}
 use Rattle.unit.specs.TableTrees.{Remembers}
 use Rattle.unit.specs.declared.judged.Judged.{Judged}
 use Rattle.index.specs.Rows.{BySection}
-use Rattle.work.specs.Regions.{Layout, recordsRegion, stringsRegion, rowsRegion, codesRegion, region, Apart}
-use Rattle.work.proofs.Stores.{rows-behind, codes-behind, rows-slots, codes-slots}
+use Rattle.work.specs.Regions.{Layout, recordsRegion, stringsRegion, rowsRegion, codesRegion, region, Apart, Only}
+use Rattle.work.proofs.Stores.{rows-behind, codes-behind, codes-rows, rows-slots, codes-slots}
 use Rattle.package.specs.Input.{Input}
 use Rattle.package.specs.Filing.{Filed}
 use Rattle.kept.specs.declared.state.InProgress.{InProgress}
@@ -20,7 +20,7 @@ use Rattle.filing.specs.declared.units.UnitFiled.{UnitFiled}
 use Rattle.filing.specs.declared.units.UnitsFiled.{UnitsFiled}
 use Rattle.filing.specs.declared.units.HomeSection.{HomeSection}
 use Rattle.filing.specs.Judged.{sectionOf}
-use Rattle.filing.specs.State.{wordsIn, StringsKept, Only, TransientStay, Remembered}
+use Rattle.filing.specs.State.{wordsIn, StringsKept, TransientStay, Remembered}
 use Rattle.filing.specs.Answers.{AtUnit, UnitIs, UnitsAre}
 use Rattle.filing.specs.ByPlace.{indexedByPlace, headsFor, ChainsHeld, RowsChained}
 use Rattle.filing.specs.Asked.{Transient}
@@ -63,7 +63,7 @@ module _ {r : Layout} (passing : Passing r) (b : List ℕ) {w v : List ℕ} (o :
 -- ---- each stays where the other is written
 rows-codes : Apart rowsRegion codesRegion
 unfolding Apart
-rows-codes = inl (omega arith)
+rows-codes = inr (omega arith)
 
 pub remembered-stays : (b w v : List ℕ) (j : Judged) → region v (wordsIn b) codesRegion ≡ region w (wordsIn b) codesRegion → Remembered b w j → Remembered b v j
 remembered-stays b w v j e m = subst (λ (l : List ℕ). Remembers b l j) (sym e) m
@@ -78,7 +78,7 @@ module _ (b : List ℕ) (x : InputObject) (h : HomeSection) (j : Judged) (w v : 
 
   -- codes are written
   pub transient-coded : Only codesRegion (wordsIn b) w v → RowsChained b x h w → Remembered b v j → Transient b x h j v
-  transient-coded o c m = record { chained = chains-stay b x h w v (o .others rowsRegion (codes-behind rowsRegion (omega arith))) c; memory = m }
+  transient-coded o c m = record { chained = chains-stay b x h w v (o .others rowsRegion codes-rows) c; memory = m }
 
   -- a unit is filed
   pub transient-stays : TransientStay (wordsIn b) w v → Transient b x h j w → Transient b x h j v

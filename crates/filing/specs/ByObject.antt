@@ -17,7 +17,8 @@ use Rattle.bundle.specs.Encoded.{encodingIs}
 use Rattle.bundle.specs.declared.encoding.ObjectEncoding.{ObjectEncoding}
 use Rattle.strings.specs.Strings.{entriesIn, entriesOf, stringsAt, putAll}
 use Rattle.strings.specs.Kept.{Kept, Inside, bytesAt}
-use Rattle.strings.specs.declared.table.Place.{Place}
+use Rattle.strings.specs.Objects.{entriesAt}
+use Rattle.strings.specs.declared.table.StrOffsets.{StrOffsets}
 use Rattle.strings.specs.declared.table.StringTable.{StringTable}
 use Rattle.numbers.specs.Limits.{bundleLimit, workForWord}
 use Rattle.work.specs.Regions.{stringsRegion, region}
@@ -44,15 +45,16 @@ abbrev pub StringsIn : List ℕ → List ℕ → StringTable → List (List ℕ)
 StringsIn b w t ts = Kept b (region w (wordsIn b) stringsRegion) t ts
 
 -- what it takes to put them
-pub record StringsRoom (b : List ℕ) (e : Encoding) (offsets text : Place) (words : ℕ) (t : StringTable) : Type 0 where
+pub record StringsRoom (b : List ℕ) (o : StrOffsets) (words : ℕ) (t : StringTable) : Type 0 where
   pub room : workForWord * wordsIn b ≤ words
   pub limit : length b ≤ bundleLimit
-  pub offsets-inside : Inside b offsets
-  pub text-inside : Inside b text
-  pub fits : 3 * (t .count + length (entriesIn e (bytesAt b offsets))) ≤ stringsRegion .words * wordsIn b
+  pub whole : length b ≡ 4 * wordsIn b
+  pub offsets-inside : Inside b (o .offsets)
+  pub strings-inside : Inside b (o .strings)
+  pub fits : 7 * (t .count + length (entriesAt o b)) ≤ stringsRegion .words * wordsIn b
 
-pub record StringsAsked (b : List ℕ) (e : Encoding) (offsets text : Place) (t : StringTable) (w : List ℕ) : Type 0 where
-  pub room : StringsRoom b e offsets text (length w) t
+pub record StringsAsked (b : List ℕ) (o : StrOffsets) (t : StringTable) (w : List ℕ) : Type 0 where
+  pub room : StringsRoom b o (length w) t
   pub strings : List (List ℕ)
   pub kept : StringsIn b w t strings
 
@@ -61,9 +63,9 @@ unfoldable pub StringsAre : List ℕ → List ℕ → List (List ℕ) → Check 
 StringsAre b v ts (refuse m) r = r .code ≡ m
 StringsAre b v ts (pass used) r = (r .code ≡ 0) × StringsIn b v (r .strings) (putAll ts used)
 
-abbrev pub StringsAnswered : List ℕ → Encoding → ℕ → Place → Place → StringTable → List ℕ → List ℕ → StringsFiled → Type 0
-StringsAnswered b e count offsets text t w v r =
-    (ts : List (List ℕ)) → StringsIn b w t ts → StringsAre b v ts (stringsCheck e (leb 1 count) (bytesAt b offsets) (bytesAt b text)) r
+abbrev pub StringsAnswered : List ℕ → StrOffsets → ℕ → StringTable → List ℕ → List ℕ → StringsFiled → Type 0
+StringsAnswered b o count t w v r =
+    (ts : List (List ℕ)) → StringsIn b w t ts → StringsAre b v ts (stringsCheck (encodingIs (o .encoding)) (leb 1 count) (bytesAt b (o .offsets)) (bytesAt b (o .strings))) r
 
 -- ---- 10
 -- the first section of a code, where a scan has it
@@ -106,8 +108,9 @@ InputRead b v st ts (pass i) r =
 pub record InputRoom (b : List ℕ) (ps : List Part) (words : ℕ) (t : StringTable) : Type 0 where
   pub room : workForWord * wordsIn b ≤ words
   pub limit : length b ≤ bundleLimit
+  pub whole : length b ≡ 4 * wordsIn b
   pub inside : (c : ℕ) → startOf ps c + sizeOf ps c ≤ length b
-  pub fits : (e : ObjectEncoding) → 3 * (t .count + length (entriesIn (encodingIs e) (part b (startOf ps 6) (sizeOf ps 6)))) ≤ stringsRegion .words * wordsIn b
+  pub fits : (e : ObjectEncoding) → 7 * (t .count + length (entriesIn (encodingIs e) (part b (startOf ps 6) (sizeOf ps 6)))) ≤ stringsRegion .words * wordsIn b
 
 pub record InputAsked (b : List ℕ) (scan : Scan) (st : InProgress) (w : List ℕ) : Type 0 where
   pub at : ℕ

@@ -1,12 +1,12 @@
 -- A unit that was read, and one that is to be kept.
 -- Assumes nothing.
 use mathlib.Core.Path.{_≡_}
-use mathlib.Core.Bool.{false}
+use mathlib.Core.Bool.{Bool, false}
 use mathlib.Core.List.{List}
-use Prim.Native.Nat.{ℕ, _+_, _^_, _<_, _≤_}
+use Prim.Native.Nat.{ℕ, _+_, _-_, _^_, _<_, _≤_}
 use lib.ListN.{length}
 use Rattle.octets.specs.Octets.{part}
-use Rattle.octets.specs.Lists.{any}
+use Rattle.octets.specs.Lists.{any, same}
 use Rattle.octets.specs.Checked.{pass}
 use Rattle.numbers.specs.Limits.{bundleLimit}
 use Rattle.unit.specs.UnitRead.{unitBy}
@@ -16,12 +16,15 @@ use Rattle.index.specs.Contributed.{ContributionsAre}
 use Rattle.index.specs.declared.judging.Contributions.{Contributions}
 use Rattle.package.specs.Input.{Input}
 use Rattle.package.specs.Filing.{Filed, isUnder, abbreviationsFor}
-use Rattle.kept.specs.Slots.{seenSlots, slotsIn, freeFor}
+use Rattle.work.specs.Regions.{recordsRegion, region}
+use Rattle.kept.specs.Records.{recordAt, bytesOf}
+use Rattle.kept.specs.Slots.{seenSlots, slotsIn, freeFor, SameAsked}
 use Rattle.kept.specs.Held.{pick, OneOrTwo}
-use Rattle.kept.specs.State.{UnitGood}
+use Rattle.kept.specs.State.{UnitGood, skippedOne}
 use Rattle.kept.specs.declared.Units.{Units}
 use Rattle.kept.specs.declared.records.Unit.{Unit as UnitHead}
 use Rattle.kept.specs.declared.state.InProgress.{InProgress}
+use Rattle.filing.specs.State.{wordsIn}
 use Rattle.filing.specs.declared.units.ReadUnit.{ReadUnit}
 use Rattle.filing.specs.declared.units.UnitFiled.{UnitFiled}
 
@@ -34,10 +37,18 @@ pub record ReadAt (i : Input) (home at size table identity : ℕ) (s : List ℕ)
   pub least : 20 ≤ size
   pub within : size ≤ length s
 
--- the answer for a unit whose table and identity are kept: 14, or nothing changes
-pub record KnownIs (table size : ℕ) (st : InProgress) (r : UnitFiled) : Type 0 where
+-- whether the unit at a place of the bundle agrees with the kept one whose record has a number
+abbrev pub agreesWith : List ℕ → ℕ → ℕ → ℕ → List ℕ → Bool
+agreesWith b number at size w = same (part b at size) (bytesOf b (recordAt (region w (wordsIn b) recordsRegion) (number - 1)))
+
+pub record KnownAsked (b : List ℕ) (number at size : ℕ) (st : InProgress) (w : List ℕ) : Type 0 where
+  pub compared : SameAsked b w number at size
+  pub few : (st .skipped .repeats < 2 ^ 32) × (st .skipped .namesakes < 2 ^ 32)
+
+-- the answer for a unit whose table and identity are kept: 14, or it is counted
+pub record KnownIs (b : List ℕ) (number at table size : ℕ) (st : InProgress) (w : List ℕ) (r : UnitFiled) : Type 0 where
   pub second : table ≡ 1 → r .code ≡ 14
-  pub skipped : (table ≡ 1 → ⊥) → r ≡ record { code = 0; size = size; st = st }
+  pub skipped : (table ≡ 1 → ⊥) → r ≡ record { code = 0; size = size; st = skippedOne st (agreesWith b number at size w) }
 
 -- what is stored of a unit that was read at a place
 abbrev pub unitFor : Units → ℕ → ℕ → ReadUnit → UnitHead

@@ -5,7 +5,7 @@ use mathlib.Core.List.{List}
 use Prim.Native.Nat.{ℕ, _/_}
 use lib.ListN.{length}
 use Rattle.strings.specs.declared.table.StringTable.{StringTable}
-use Rattle.work.specs.Regions.{Layout, stringsRegion, rowsRegion, codesRegion, region, Apart}
+use Rattle.work.specs.Regions.{stringsRegion, rowsRegion, codesRegion, storeRegion, region, Only}
 use Rattle.unit.specs.TableTrees.{Remembers}
 use Rattle.unit.specs.declared.judged.Judged.{Judged}
 use Rattle.kept.specs.declared.state.InProgress.{InProgress}
@@ -15,7 +15,7 @@ abbrev pub wordsIn : List ℕ → ℕ
 wordsIn b = length b / 4
 
 abbrev pub withStrings : InProgress → StringTable → InProgress
-withStrings st t = record { units = st .units; bases = st .bases; strings = t }
+withStrings st t = record { units = st .units; bases = st .bases; strings = t; skipped = st .skipped }
 
 -- the strings are as they were, in work for a bundle of n words and by value
 pub record StringsKept (n : ℕ) (w v : List ℕ) (st next : InProgress) : Type 0 where
@@ -23,13 +23,9 @@ pub record StringsKept (n : ℕ) (w v : List ℕ) (st next : InProgress) : Type 
   pub strings : region v n stringsRegion ≡ region w n stringsRegion
   pub table : next .strings ≡ st .strings
 
--- nothing but one region has changed
-pub record Only (r : Layout) (n : ℕ) (w v : List ℕ) : Type 0 where
-  pub same : length v ≡ length w
-  pub others : (s : Layout) → Apart r s → region v n s ≡ region w n s
-
-abbrev pub OnlyStrings : ℕ → List ℕ → List ℕ → Type 0
-OnlyStrings n w v = Only stringsRegion n w v
+-- nothing but the strings and the memory behind them has changed
+abbrev pub OnlyStore : ℕ → List ℕ → List ℕ → Type 0
+OnlyStore n w v = Only storeRegion n w v
 
 -- what counts for one object or one table alone is as it was
 pub record TransientStay (n : ℕ) (w v : List ℕ) : Type 0 where

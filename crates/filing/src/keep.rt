@@ -25,6 +25,7 @@ pub fn keep_unit(
     let units = st.units;
     let bases = st.bases;
     let strings = st.strings;
+    let skipped = st.skipped;
     let home = unit.home;
     let table = unit.table;
     let size = unit.size;
@@ -43,5 +44,6 @@ pub fn keep_unit(
         units: more,
         bases,
         strings,
+        skipped,
     }
 }

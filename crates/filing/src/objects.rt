@@ -1,7 +1,6 @@
-// An object read up to its units: 4 to 10, its strings put into their region of work.
+// An object read up to its units: 4 to 10, its strings put into their store in work.
 ghost use mathlib.Core.Path.{_≡_};
-ghost use Rattle.bundle.specs.Encoded.{encodingIs};
-ghost use Rattle.filing.specs.State.{wordsIn, withStrings, OnlyStrings};
+ghost use Rattle.filing.specs.State.{wordsIn, withStrings, OnlyStore};
 ghost use Rattle.filing.specs.ByObject.{
   ScanInside,
   IndexesFound,
@@ -24,6 +23,7 @@ use numbers::sections::TU_INDEX;
 use strings::entries::Entries;
 use strings::table::Added;
 use strings::table::Place;
+use strings::table::StrOffsets;
 use strings::table::StringTable;
 
 // The strings of an object put: 0 or the refusal, and the table.
@@ -49,16 +49,14 @@ pub struct InputFiled {
 // 8 and 9, where the object has str_offsets: count says how often.
 pub fn add_object_strings(
     b: &[u8],
-    e: ObjectEncoding,
+    o: StrOffsets,
     count: usize,
-    offsets: Place,
-    text: Place,
     t: StringTable,
     work: &mut [u32],
 ) -> StringsFiled
-    requires { ⌜ StringsAsked (now b) (encodingIs e) offsets text t (now work) ⌝ }
-    ensures put { λ r. ⌜ StringsAnswered (now (b .entry)) (encodingIs e) count offsets text t (now (work .entry)) (now (work .exit)) r ⌝ }
-    ensures frame { λ _. ⌜ OnlyStrings (wordsIn (now (b .entry))) (now (work .entry)) (now (work .exit)) ⌝ }
+    requires { ⌜ StringsAsked (now b) o t (now work) ⌝ }
+    ensures put { λ r. ⌜ StringsAnswered (now (b .entry)) o count t (now (work .entry)) (now (work .exit)) r ⌝ }
+    ensures frame { λ _. ⌜ OnlyStore (wordsIn (now (b .entry))) (now (work .entry)) (now (work .exit)) ⌝ }
 {
     if count < 1 {
         return StringsFiled {
@@ -66,25 +64,22 @@ pub fn add_object_strings(
             strings: t,
         };
     }
+    let offsets = o.offsets;
     let first = offsets.start;
     let last = first + offsets.size;
-    let Entries::Count(_) = strings::entries::check_entries(e, &b[first..last]) else {
+    let Entries::Count(_) = strings::entries::check_entries(o.encoding, &b[first..last]) else {
         return StringsFiled {
             code: BAD_STR_OFFSETS,
             strings: t,
         };
     };
-    let region = work::strings(b.len() / 4);
-    let from = region.start;
-    let to = from + region.size;
-    let Added::Table(more) = strings::table::add_strings(
-        e,
-        b,
-        offsets,
-        text,
-        &mut work[from..to],
-        t,
-    ) else {
+    let n = b.len() / 4;
+    let table = work::strings(n);
+    let store = work::store(n);
+    let from = store.start;
+    let to = from + store.size;
+    let Added::Table(more) = strings::table::add_strings(o, b, &mut work[from..to], table.size, t)
+    else {
         return StringsFiled {
             code: NO_STRING,
             strings: t,
@@ -129,10 +124,12 @@ fn with_strings(st: InProgress, strings: StringTable) -> InProgress
 {
     let units = st.units;
     let bases = st.bases;
+    let skipped = st.skipped;
     InProgress {
         units,
         bases,
         strings,
+        skipped,
     }
 }
 
@@ -163,7 +160,7 @@ pub fn read_input(
 ) -> InputFiled
     requires { ⌜ InputAsked (now b) scan st (now work) ⌝ }
     ensures read { λ r. ⌜ InputAnswered (now (b .entry)) big first word scan st (now (work .entry)) (now (work .exit)) r ⌝ }
-    ensures frame { λ _. ⌜ OnlyStrings (wordsIn (now (b .entry))) (now (work .entry)) (now (work .exit)) ⌝ }
+    ensures frame { λ _. ⌜ OnlyStore (wordsIn (now (b .entry))) (now (work .entry)) (now (work .exit)) ⌝ }
 {
     let judged = crate::input::judge_object(big, first, word, scan);
     let e = judged.encoding;
@@ -176,12 +173,17 @@ pub fn read_input(
         start: start[STR_OFFSETS],
         size: size[STR_OFFSETS],
     };
-    let text = Place {
+    let strings = Place {
         start: start[STR],
         size: size[STR],
     };
+    let o = StrOffsets {
+        encoding: e,
+        offsets,
+        strings,
+    };
     let t = st.strings;
-    let put = add_object_strings(b, e, scan.count[STR_OFFSETS], offsets, text, t, work);
+    let put = add_object_strings(b, o, scan.count[STR_OFFSETS], t, work);
     if put.code != 0 {
         return input_refused(put.code, e, scan, st);
     }
@@ -198,8 +200,8 @@ pub fn read_input(
         cu,
         tu,
     };
-    let strings = put.strings;
-    let known = with_strings(st, strings);
+    let more = put.strings;
+    let known = with_strings(st, more);
     InputFiled {
         code: 0,
         input,

@@ -10,8 +10,8 @@ ghost use Rattle.unit.specs.UnitRead.{commonSize};
 ghost use Rattle.unit.specs.TableTrees.{Inside};
 ghost use Rattle.index.specs.Held.{Sized, indexIn};
 ghost use Rattle.index.specs.Rows.{abbrevPart};
-ghost use Rattle.work.specs.Regions.{rowsRegion, codesRegion};
-ghost use Rattle.filing.specs.State.{wordsIn, Only, Remembered};
+ghost use Rattle.work.specs.Regions.{rowsRegion, codesRegion, Only};
+ghost use Rattle.filing.specs.State.{wordsIn, Remembered};
 ghost use Rattle.filing.specs.ByPlace.{
   WorkFor,
   indexedByPlace,

@@ -3,7 +3,7 @@ ghost use mathlib.Core.Path.{_≡_};
 ghost use Prim.Native.Nat.{_<_, _^_};
 ghost use Rattle.kept.specs.Held.{pick};
 ghost use Rattle.filing.specs.State.{wordsIn, TransientStay};
-ghost use Rattle.filing.specs.Choices.{KnownIs, unitFor};
+ghost use Rattle.filing.specs.Choices.{KnownAsked, KnownIs, unitFor};
 ghost use Rattle.filing.specs.Asked.{
   ReadAsked,
   ReadFiled,
@@ -31,14 +31,29 @@ fn refused(code: u32, st: InProgress) -> UnitFiled
     UnitFiled { code, size: 0, st }
 }
 
-// A unit of a table and identity that are kept: 14, or skipped.
-fn file_known(table: usize, size: usize, st: InProgress) -> UnitFiled
-    ensures { λ r. ⌜ KnownIs table size st r ⌝ }
+// A unit whose table and identity are those of the record with a number: 14, or skipped and compared with the kept one.
+fn file_known(
+    b: &[u8],
+    number: usize,
+    at: usize,
+    read: ReadUnit,
+    st: InProgress,
+    work: &[u32],
+) -> UnitFiled
+    requires { ⌜ KnownAsked (now b) number at (read .size) st (now work) ⌝ }
+    ensures { λ r. ⌜ KnownIs (now (b .entry)) number at (read .table) (read .size) st (now (work .entry)) r ⌝ }
 {
-    if table == COMPILATION {
+    let size = read.size;
+    if read.table == COMPILATION {
         return refused(IDENTITY_SEEN, st);
     }
-    UnitFiled { code: 0, size, st }
+    let agrees = kept::unit_bytes::same_as_kept(b, work, number, at, size);
+    let next = kept::state::skip_one(st, agrees);
+    UnitFiled {
+        code: 0,
+        size,
+        st: next,
+    }
 }
 
 // What is stored of a unit that was read at a place of the bundle. Callers have few rows.
@@ -79,8 +94,8 @@ fn file_read(
     let e = x.encoding;
     let count = kept::slots::seen_slots(n);
     let slot = match kept::slots::seek_in(work, n, table, units.count, count, read.identity) {
-        Sought::Known(_) => {
-            return file_known(table, size, st);
+        Sought::Known(number) => {
+            return file_known(b, number, at, read, st, work);
         }
         Sought::Free(slot) => slot,
     };

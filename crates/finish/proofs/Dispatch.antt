@@ -18,12 +18,13 @@ use Rattle.bundle.specs.declared.encoding.ObjectEncoding.{ObjectEncoding}
 use Rattle.strings.specs.Strings.{strOf}
 use Rattle.strings.specs.Kept as kept
 use Rattle.strings.proofs.StrOffsets.{sound}
-use Rattle.work.specs.Regions.{Layout, recordsRegion, stringsRegion, recordWords, region}
+use Rattle.work.specs.Regions.{Layout, recordsRegion, stringsRegion, storeRegion, recordWords, region}
 use Rattle.work.proofs.Stores.{Within, region-fits, length-region, records-within}
 use Rattle.kept.specs.Records.{bytesFrom, UnitsInside}
 use Rattle.kept.specs.Held.{OneOrTwo}
 use Rattle.kept.specs.declared.state.InProgress.{InProgress}
 use Rattle.kept.specs.declared.writing.IndexForm.{IndexForm}
+use Rattle.kept.proofs.Storing.{store-kept, store-memory}
 use Rattle.finish.specs.Joining.{sectionsJoined, offsetsJoined, Joinable, OffsetsJoinable, OffsetsPut}
 use Rattle.finish.proofs.Remapping.{length-offsets}
 use Rattle.finish.specs.Ready.{formOf, IndexHeld, IndexWritable, Ready, SectionWritable}
@@ -61,14 +62,16 @@ module _ (code : ℕ) (p : Package) (b w : List ℕ) (n at : ℕ) (r : SectionWr
     omega (arith, r .room, ap length (r .ready .unitsAre code (first-codes code (r .least) z))),
   )
 
-  pub offsets-asks : (cut : List ℕ) → cut ≡ region w (length b / 4) stringsRegion → code ≡ 6 → OffsetsJoinable (encodingIs (p .encoding)) b cut (p .state .strings) n at
+  pub offsets-asks : (from many words : ℕ) → from ≡ storeRegion .start * (length b / 4) → many ≡ storeRegion .words * (length b / 4) → words ≡ stringsRegion .words * (length b / 4) → code ≡ 6
+      → OffsetsJoinable (encodingIs (p .encoding)) b words (take (from + many - from) (drop from w)) (p .state .strings) n at
   unfolding offsetsJoined
-  offsets-asks cut q z = record {
+  offsets-asks from many words ef em et z = record {
     bundle = r .ready .bundle;
     reads = r .ready .reads;
     table = r .ready .table;
-    kept = rw q (r .ready .kept);
+    kept = store-kept (length b / 4) from many words w (r .ready .room) ef em et b (p .state .strings) (r .ready .table) (r .ready .kept);
     small = r .ready .small;
+    memory = store-memory (length b / 4) from many words w (r .ready .room) ef em et (length b) (omega (arith, r .ready .whole));
     good = r .ready .good;
     room = omega (arith, fits 6 z, ap length (r .ready .offsetsIs), length-offsets (encodingIs (p .encoding)) (r .ready .table) b (sound (p .encoding)) (r .ready .bundle .objects) (r .ready .good));
   }
@@ -103,8 +106,11 @@ module _ (e : ObjectEncoding) (b : List ℕ) (st : InProgress) (w : List ℕ) (s
   units-leaves cut q l z f =
       f ∙ ap (placed d at) (ap (λ (y : List ℕ). bytesFrom b y code 0 (st .units .count)) q ∙ sym (r .unitsAre code (first-codes code l z)))
 
-  pub offsets-leaves : (cut : List ℕ) → cut ≡ region w (length b / 4) stringsRegion → code ≡ 6 → OffsetsPut (encodingIs e) b cut (st .strings) at d x → x ≡ placed d at (s code)
-  offsets-leaves cut q z f = f (r .bundle) (r .table) (r .reads) (rw q (r .kept)) ∙ ap (placed d at) (sym (r .offsetsIs) ∙ ap s (sym z))
+  pub offsets-leaves : (from many words : ℕ) → from ≡ storeRegion .start * (length b / 4) → many ≡ storeRegion .words * (length b / 4) → words ≡ stringsRegion .words * (length b / 4) → code ≡ 6
+      → OffsetsPut (encodingIs e) b words (take (from + many - from) (drop from w)) (st .strings) at d x → x ≡ placed d at (s code)
+  offsets-leaves from many words ef em et z f =
+      f (r .bundle) (r .table) (r .reads) (store-kept (length b / 4) from many words w (r .room) ef em et b (st .strings) (r .table) (r .kept))
+      ∙ ap (placed d at) (sym (r .offsetsIs) ∙ ap s (sym z))
 
   pub str-leaves : (cut : List ℕ) → cut ≡ region w (length b / 4) stringsRegion → code ≡ 11
       → ((ts : List (List ℕ)) → kept.Held b cut (st .strings .count) ts → x ≡ placed d at (strOf ts)) → x ≡ placed d at (s code)

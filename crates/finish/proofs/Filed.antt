@@ -241,6 +241,7 @@ module _ (big : Bool) (b : List ℕ) (st : InProgress) (w : List ℕ) (a : AllFi
           bundle = a .bundle;
           reads = a .reads;
           limit = a .held .limit;
+          whole = a .held .words;
           room = rw (p .same) (a .held .room);
           few = omega (arith, units-few);
           inside = rw records-same (held .inside);

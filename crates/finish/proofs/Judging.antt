@@ -6,16 +6,17 @@ use mathlib.Core.List.{List}
 use Prim.Native.Nat.{ℕ, _*_, _/_}
 use lib.Dec.{leb}
 use lib.ListN.{length}
+use Rattle.numbers.specs.Limits.{workForWord}
 use Rattle.octets.specs.Checked.{Check}
 use Rattle.octets.proofs.Checks.{passes}
 use Rattle.bundle.specs.Bundle.{lengthGood}
 use Rattle.package.specs.Pack.{judged, answered, packed}
 use Rattle.finish.specs.Finish.{packageOf, packageIn}
 
-module _ (b : List ℕ) (w : ℕ) (good : lengthGood 4_194_304 b ≡ true) (enough : leb (16 * (length b / 4)) w ≡ true) where
+module _ (b : List ℕ) (w : ℕ) (good : lengthGood 4_194_304 b ≡ true) (enough : leb (workForWord * (length b / 4)) w ≡ true) where
   pub judged-is : judged b w ≡ packageIn b
   unfolding judged packageIn packageOf
-  judged-is = passes (lengthGood 4_194_304 b) 1 _ good ∙ passes (leb (16 * (length b / 4)) w) 2 _ enough
+  judged-is = passes (lengthGood 4_194_304 b) 1 _ good ∙ passes (leb (workForWord * (length b / 4)) w) 2 _ enough
 
   pub packed-is : (o : ℕ) → packed b w o ≡ answered (packageIn b) o
   unfolding packed

@@ -15,16 +15,20 @@ use Rattle.octets.proofs.Parts.{length-part}
 use Rattle.octets.proofs.Placed.{placed-none}
 use Rattle.bundle.specs.Bundle.{Object, body, objectsOf}
 use Rattle.bundle.specs.Encoding.{Encoding}
+use Rattle.bundle.specs.Encoded.{encodingIs}
+use Rattle.bundle.specs.declared.encoding.ObjectEncoding.{ObjectEncoding}
 use Rattle.bundle.specs.declared.Scan.{Scan}
 use Rattle.bundle.proofs.Every.{Every, nothing, also}
 use Rattle.strings.specs.Strings.{headerSize, entriesIn, stringsAt, remapped}
-use Rattle.strings.specs.Kept.{Inside, bytesAt, Judged}
+use Rattle.strings.specs.Kept.{Inside, bytesAt}
+use Rattle.strings.specs.Objects.{tableIn, JudgedOf}
 use Rattle.strings.specs.declared.table.StringTable.{StringTable}
-use Rattle.strings.proofs.StrOffsets.{Sound, entries-whole}
+use Rattle.strings.specs.declared.table.StrOffsets.{StrOffsets}
+use Rattle.strings.proofs.StrOffsets.{Sound, sound, entries-whole}
+use Rattle.strings.proofs.Storing.{kept-stays}
 use Rattle.strings.proofs.Remapped.{length-remapped}
 use Rattle.strings.proofs.Ends.{length-stringsAt}
 use Rattle.finish.specs.Joining.{sectionsJoined, usedIn, remappedIn, EntriesGood, offsetsAt, stringsIn, Remappable, OffsetsJoinable}
-use Rattle.finish.specs.declared.joining.StringPlaces.{StringPlaces}
 use Rattle.finish.proofs.Entering.{AtObject, scanned-body}
 use Rattle.finish.proofs.JoinedObjects.{Joining, joining-room, joining-more}
 
@@ -60,11 +64,11 @@ module _ (e : Encoding) (ts : List (List ℕ)) (offsets str : List ℕ) where
   ]
 
 -- what the strings' function asks
-pub judged : (e : Encoding) (b region : List ℕ) (t : StringTable) (p : StringPlaces) (n at : ℕ) (r : Remappable e b region t p n at)
-    → (p .offsets .size ≡ 0 → ⊥) → Judged e b (p .offsets) (p .strings) (r .good .used)
+pub judged : (b : List ℕ) (words : ℕ) (store : List ℕ) (t : StringTable) (o : StrOffsets) (n at : ℕ) (r : Remappable b words store t o n at)
+    → (o .offsets .size ≡ 0 → ⊥) → JudgedOf o b (r .good .used)
 unfolding Inside bytesAt
-judged e b region t p n at r f =
-    let l = length-part b (p .offsets .start) (p .offsets .size) (r .offsetsInside) in
+judged b words store t o n at r f =
+    let l = length-part b (o .offsets .start) (o .offsets .size) (r .offsetsInside) in
     record {
       offsets-inside = r .offsetsInside;
       strings-inside = r .stringsInside;
@@ -73,11 +77,11 @@ judged e b region t p n at r f =
     }
 
 -- nothing is written for nothing
-pub remap-none : (e : Encoding) (b region : List ℕ) (t : StringTable) (p : StringPlaces) (n at : ℕ) (r : Remappable e b region t p n at) (d : List ℕ) (ts : List (List ℕ))
-    → p .offsets .size ≡ 0 → d ≡ placed d at (remappedIn e ts (offsetsAt b p) (stringsIn b p))
-remap-none e b region t p n at r d ts z =
-    let l = length-part b (p .offsets .start) (p .offsets .size) (r .offsetsInside) in
-    sym (placed-none d at) ∙ ap (placed d at) (sym (remapped-none e ts (offsetsAt b p) (stringsIn b p) (l ∙ z)))
+pub remap-none : (b : List ℕ) (words : ℕ) (store : List ℕ) (t : StringTable) (o : StrOffsets) (n at : ℕ) (r : Remappable b words store t o n at) (d : List ℕ) (ts : List (List ℕ))
+    → o .offsets .size ≡ 0 → d ≡ placed d at (remappedIn (encodingIs (o .encoding)) ts (offsetsAt b o) (stringsIn b o))
+remap-none b words store t o n at r d ts z =
+    let l = length-part b (o .offsets .start) (o .offsets .size) (r .offsetsInside) in
+    sym (placed-none d at) ∙ ap (placed d at) (sym (remapped-none (encodingIs (o .encoding)) ts (offsetsAt b o) (stringsIn b o) (l ∙ z)))
 
 -- ---- over the objects
 every-one : {P : Object → Type 0} (xs : List Object) (y : Object) (zs : List Object) → Every P (xs ++ (y ∷ []) ++ zs) → P y
@@ -94,7 +98,14 @@ length-offsets e ts b ok (o ∷ os) (also p g) =
     ∙ ap₂ (λ (x y : ℕ). x + y) (remapped-length e ts (body b (o .parts) 6) (body b (o .parts) 11) ok p) (length-offsets e ts b ok os g)
     ∙ sym (length-append (body b (o .parts) 6) (joined (map (λ o. body b (o .parts) 6) os)))
 
-module _ (e : Encoding) (ok : Sound e) (b region : List ℕ) (t : StringTable) (at : ℕ) (d₀ : List ℕ) (a : OffsetsJoinable e b region t (length d₀) at) (ts : List (List ℕ)) where
+module _ (c : ObjectEncoding) (b : List ℕ) (words : ℕ) (store₀ : List ℕ) (t : StringTable) (at : ℕ) (d₀ : List ℕ) (a : OffsetsJoinable (encodingIs c) b words store₀ t (length d₀) at)
+    (ts : List (List ℕ)) where
+  abbrev e : Encoding
+  e = encodingIs c
+
+  ok : Sound e
+  ok = sound c
+
   pub offsets-room : at + length (joined (map (λ o. remappedIn e ts (body b (o .parts) 6) (body b (o .parts) 11)) (a .bundle .objects))) ≤ length d₀
   offsets-room = omega (arith, length-offsets e ts b ok (a .bundle .objects) (a .good), a .room)
 
@@ -118,17 +129,20 @@ module _ (e : Encoding) (ok : Sound e) (b region : List ℕ) (t : StringTable) (
     pub offsets-fit : o + getD (scan .size) 6 0 ≤ length d
     offsets-fit = omega (arith, size-is, joining-room (λ x. remappedIn e ts (body b (x .parts) 6) (body b (x .parts) 11)) b (a .bundle .objects) d₀ d at o place j offsets-room (scan .next) (s .one) (s .more))
 
-    abbrev places : StringPlaces
+    abbrev places : StrOffsets
     places = record {
+      encoding = c;
       offsets = record { start = getD (scan .start) 6 0; size = getD (scan .size) 6 0 };
       strings = record { start = getD (scan .start) 11 0; size = getD (scan .size) 11 0 };
     }
 
-    pub offsets-remappable : Remappable e b region t places (length d) o
-    offsets-remappable = record {
+    -- in the store as the objects before it leave it
+    pub offsets-remappable : (store : List ℕ) → length store ≡ length store₀ → tableIn words store ≡ tableIn words store₀ → Remappable b words store t places (length d) o
+    offsets-remappable store same stays = record {
       table = a .table;
-      kept = a .kept;
+      kept = kept-stays b words store₀ store t (a .table) stays (a .kept);
       small = a .small;
+      memory = omega (arith, same, a .memory, inside 11 (omega arith));
       offsetsInside = inside 6 (omega arith);
       stringsInside = inside 11 (omega arith);
       good = rw (section-is 6 (omega arith), section-is 11 (omega arith)) good;

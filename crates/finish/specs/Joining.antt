@@ -10,11 +10,12 @@ use Rattle.octets.specs.Octets.{part, placed}
 use Rattle.octets.specs.Checked.{pass, refuse}
 use Rattle.bundle.specs.Bundle.{Object, Bundle, bundleOf, body}
 use Rattle.bundle.specs.Encoding.{Encoding}
+use Rattle.bundle.specs.Encoded.{encodingIs}
 use Rattle.bundle.proofs.Every.{Every}
 use Rattle.strings.specs.Strings.{entriesIn, entriesOf, stringsAt, remapped}
-use Rattle.strings.specs.Kept.{Kept}
+use Rattle.strings.specs.Objects.{KeptIn}
 use Rattle.strings.specs.declared.table.StringTable.{StringTable}
-use Rattle.finish.specs.declared.joining.StringPlaces.{StringPlaces}
+use Rattle.strings.specs.declared.table.StrOffsets.{StrOffsets}
 
 -- each object's first section of a code, one behind the other
 unfoldable pub sectionsJoined : List ℕ → List Object → ℕ → List ℕ
@@ -47,36 +48,38 @@ pub record EntriesGood (e : Encoding) (offsets str : List ℕ) : Type 0 where
   pub strings : stringsAt str (entriesIn e offsets) ≡ pass used
 
 -- an object's str_offsets and str, as they stand in the bundle
-abbrev pub offsetsAt : List ℕ → StringPlaces → List ℕ
-offsetsAt b p = part b (p .offsets .start) (p .offsets .size)
+abbrev pub offsetsAt : List ℕ → StrOffsets → List ℕ
+offsetsAt b o = part b (o .offsets .start) (o .offsets .size)
 
-abbrev pub stringsIn : List ℕ → StringPlaces → List ℕ
-stringsIn b p = part b (p .strings .start) (p .strings .size)
+abbrev pub stringsIn : List ℕ → StrOffsets → List ℕ
+stringsIn b o = part b (o .strings .start) (o .strings .size)
 
--- the strings are kept, and one str_offsets fits at a place of n bytes
-pub record Remappable (e : Encoding) (b region : List ℕ) (t : StringTable) (p : StringPlaces) (n at : ℕ) : Type 0 where
+-- the strings are kept in the first words of a store, with memory behind them, and one str_offsets fits at a place of n bytes
+pub record Remappable (b : List ℕ) (words : ℕ) (store : List ℕ) (t : StringTable) (o : StrOffsets) (n at : ℕ) : Type 0 where
   pub table : List (List ℕ)
-  pub kept : Kept b region t table
+  pub kept : KeptIn b words store t table
   pub small : t .over ≡ false
-  pub offsetsInside : p .offsets .start + p .offsets .size ≤ length b
-  pub stringsInside : p .strings .start + p .strings .size ≤ length b
-  pub good : EntriesGood e (offsetsAt b p) (stringsIn b p)
-  pub room : at + p .offsets .size ≤ n
+  pub memory : words + o .strings .size ≤ length store
+  pub offsetsInside : o .offsets .start + o .offsets .size ≤ length b
+  pub stringsInside : o .strings .start + o .strings .size ≤ length b
+  pub good : EntriesGood (encodingIs (o .encoding)) (offsetsAt b o) (stringsIn b o)
+  pub room : at + o .offsets .size ≤ n
 
 -- and is put there, for any table that is kept; d is the output before, x behind
-abbrev pub Remapped : (e : Encoding) (b region : List ℕ) (t : StringTable) (p : StringPlaces) (at : ℕ) (d x : List ℕ) → Type 0
-Remapped e b region t p at d x = (ts : List (List ℕ)) → Kept b region t ts → x ≡ placed d at (remappedIn e ts (offsetsAt b p) (stringsIn b p))
+abbrev pub Remapped : (b : List ℕ) (words : ℕ) (store : List ℕ) (t : StringTable) (o : StrOffsets) (at : ℕ) (d x : List ℕ) → Type 0
+Remapped b words store t o at d x = (ts : List (List ℕ)) → KeptIn b words store t ts → x ≡ placed d at (remappedIn (encodingIs (o .encoding)) ts (offsetsAt b o) (stringsIn b o))
 
 -- the same of all objects
-pub record OffsetsJoinable (e : Encoding) (b region : List ℕ) (t : StringTable) (n at : ℕ) : Type 0 where
+pub record OffsetsJoinable (e : Encoding) (b : List ℕ) (words : ℕ) (store : List ℕ) (t : StringTable) (n at : ℕ) : Type 0 where
   pub bundle : Bundle
   pub reads : bundleOf b ≡ pass bundle
   pub table : List (List ℕ)
-  pub kept : Kept b region t table
+  pub kept : KeptIn b words store t table
   pub small : t .over ≡ false
+  pub memory : words + length b ≤ length store
   pub good : Every (λ o. EntriesGood e (body b (o .parts) 6) (body b (o .parts) 11)) (bundle .objects)
   pub room : at + length (sectionsJoined b (bundle .objects) 6) ≤ n
 
-abbrev pub OffsetsPut : (e : Encoding) (b region : List ℕ) (t : StringTable) (at : ℕ) (d x : List ℕ) → Type 0
-OffsetsPut e b region t at d x =
-    (k : Bundle) (ts : List (List ℕ)) → bundleOf b ≡ pass k → Kept b region t ts → x ≡ placed d at (offsetsJoined e ts b (k .objects))
+abbrev pub OffsetsPut : (e : Encoding) (b : List ℕ) (words : ℕ) (store : List ℕ) (t : StringTable) (at : ℕ) (d x : List ℕ) → Type 0
+OffsetsPut e b words store t at d x =
+    (k : Bundle) (ts : List (List ℕ)) → bundleOf b ≡ pass k → KeptIn b words store t ts → x ≡ placed d at (offsetsJoined e ts b (k .objects))

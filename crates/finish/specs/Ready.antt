@@ -97,6 +97,7 @@ pub record Ready (e : ObjectEncoding) (b : List ℕ) (st : InProgress) (w : List
   pub bundle : Bundle
   pub reads : bundleOf b ≡ pass bundle
   pub limit : length b ≤ bundleLimit
+  pub whole : length b ≡ 4 * (length b / 4)
   pub room : workForWord * (length b / 4) ≤ length w
   -- info and types
   pub few : recordWords * st .units .count ≤ recordsRegion .words * (length b / 4)
@@ -129,6 +130,10 @@ pub record SectionWritable (code : ℕ) (p : Package) (b w : List ℕ) (n at : �
 -- and is put there, for any sections that are ready; d is the output before, x behind
 abbrev pub SectionPut : (code : ℕ) (p : Package) (b w : List ℕ) (at : ℕ) (d x : List ℕ) → Type 0
 SectionPut code p b w at d x = (s : ℕ → List ℕ) → Ready (p .encoding) b (p .state) w s → x ≡ placed d at (s code)
+
+-- writing it leaves work v for w: all sections are ready still
+abbrev pub StillReady : (p : Package) (b w v : List ℕ) → Type 0
+StillReady p b w v = (s : ℕ → List ℕ) → Ready (p .encoding) b (p .state) w s → Ready (p .encoding) b (p .state) v s
 
 -- the same with its word, where it is not empty
 unfoldable pub framedIn : List ℕ → ℕ → ℕ → List ℕ → List ℕ

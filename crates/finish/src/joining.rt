@@ -6,6 +6,7 @@ ghost use Rattle.octets.specs.Octets.{placed};
 ghost use Rattle.octets.specs.Checked.{pass};
 ghost use Rattle.bundle.specs.Bundle.{Bundle, bundleOf};
 ghost use Rattle.bundle.specs.Encoded.{encodingIs};
+ghost use Rattle.strings.specs.Objects.{tableIn};
 ghost use Rattle.finish.specs.Joining.{
   sectionsJoined,
   Joinable,
@@ -19,6 +20,7 @@ use bundle::encoding::ObjectEncoding;
 use numbers::sections::STR;
 use numbers::sections::STR_OFFSETS;
 use strings::table::Place;
+use strings::table::StrOffsets;
 use strings::table::StringTable;
 
 // Copies each object's first section of a code, where it has one. The caller has checked the words of the bundle, and has room for all.
@@ -42,44 +44,41 @@ pub fn copy_sections(b: &[u8], code: usize, out: &mut [u8], at: usize)
     }
 }
 
-// Where an object's str_offsets and its strings stand in the bundle.
-pub struct StringPlaces {
-    pub offsets: Place,
-    pub strings: Place,
-}
-
 // One object's str_offsets by the table of kept strings, where it has one.
 fn remap_section(
-    e: ObjectEncoding,
+    o: StrOffsets,
     b: &[u8],
-    p: StringPlaces,
-    table: &[u32],
+    store: &mut [u32],
+    words: usize,
     t: StringTable,
     out: &mut [u8],
     at: usize,
 )
-    requires { ⌜ Remappable (encodingIs e) (now b) (now table) t p (length (now out)) at ⌝ }
-    ensures { λ _. ⌜ Remapped (encodingIs e) (now (b .entry)) (now (table .entry)) t p at (now (out .entry)) (now (out .exit)) ⌝ }
+    requires { ⌜ Remappable (now b) words (now store) t o (length (now out)) at ⌝ }
+    ensures put { λ _. ⌜ Remapped (now (b .entry)) words (now (store .entry)) t o at (now (out .entry)) (now (out .exit)) ⌝ }
+    ensures table { λ _. ⌜ tableIn words (now (store .exit)) ≡ tableIn words (now (store .entry)) ⌝ }
 {
-    let offsets = p.offsets;
-    let strings = p.strings;
+    let offsets = o.offsets;
     if offsets.size == 0 {
         return;
     }
-    strings::sections::remap_str_offsets(e, b, offsets, strings, table, t, out, at);
+    strings::sections::remap_str_offsets(o, b, store, words, t, out, at);
 }
 
-// Writes each object's str_offsets by the table of kept strings. The caller has filed all objects, which have one encoding, and has room for all.
+// Writes each object's str_offsets by the table of kept strings. The caller has filed all objects, which have one encoding, and has
+// room for all. The table stands in the first words of the store, and its memory behind them.
 pub fn copy_str_offsets(
     e: ObjectEncoding,
     b: &[u8],
-    table: &[u32],
+    store: &mut [u32],
+    words: usize,
     t: StringTable,
     out: &mut [u8],
     at: usize,
 )
-    requires { ⌜ OffsetsJoinable (encodingIs e) (now b) (now table) t (length (now out)) at ⌝ }
-    ensures { λ _. ⌜ OffsetsPut (encodingIs e) (now (b .entry)) (now (table .entry)) t at (now (out .entry)) (now (out .exit)) ⌝ }
+    requires { ⌜ OffsetsJoinable (encodingIs e) (now b) words (now store) t (length (now out)) at ⌝ }
+    ensures put { λ _. ⌜ OffsetsPut (encodingIs e) (now (b .entry)) words (now (store .entry)) t at (now (out .entry)) (now (out .exit)) ⌝ }
+    ensures table { λ _. ⌜ tableIn words (now (store .exit)) ≡ tableIn words (now (store .entry)) ⌝ }
 {
     let mut o = at;
     let mut place = 4;
@@ -96,8 +95,12 @@ pub fn copy_str_offsets(
             start: scan.start[STR],
             size: scan.size[STR],
         };
-        let places = StringPlaces { offsets, strings };
-        remap_section(e, b, places, table, t, out, o);
+        let places = StrOffsets {
+            encoding: e,
+            offsets,
+            strings,
+        };
+        remap_section(places, b, store, words, t, out, o);
         o += offsets.size;
         place = scan.next;
     }

@@ -33,7 +33,7 @@ pub prefix : (k : ℕ) (l : List ℕ) → k ≤ length l → k ≡ length (take 
 prefix k l h = simp length-take (omega arith)
 
 -- ---- slots
-pub can-place : (room n k : ℕ) → n ≤ 16 → room ≡ 1280 → k ≡ slotsFor n → k ≤ 32 → Placeable 80 room 1 n k
+pub can-place : (room n k : ℕ) → n ≤ 16 → room ≡ 1600 → k ≡ slotsFor n → k ≤ 32 → Placeable 80 room 1 n k
 can-place room n k h e q l =
     let p = slotsFor-power n in
     record { power = rw q (record { power = p .power; is = p .is }); fits = omega arith; enough = omega arith; limit = omega arith; units = omega arith }

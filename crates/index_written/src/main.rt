@@ -18,7 +18,7 @@ use work::RECORD;
 // The records of a table and its slots lie in work for a bundle of so many words.
 const WORDS: usize = 80;
 
-const WORK: usize = 1280;
+const WORK: usize = numbers::limits::WORK_FOR_WORD * WORDS;
 
 // ---- numbers
 // The value of a hexadecimal digit, 16 for any other byte.
@@ -150,7 +150,7 @@ struct Table {
 
 // Stores one unit as record i; the columns that it or a unit before it has.
 fn read_row(five: bool, text: &[u8], at: usize, work: &mut [u32], i: usize, has: [bool; 8]) -> Table
-    requires { ⌜ (at ≤ length (now text)) × (i < 16) × (length (now work) ≡ 1280) ⌝ }
+    requires { ⌜ (at ≤ length (now text)) × (i < 16) × (length (now work) ≡ 1600) ⌝ }
     ensures next { λ r. ⌜ r .next ≤ length (now (text .entry)) ⌝ }
     ensures kept { λ _. ⌜ length (now (work .exit)) ≡ length (now (work .entry)) ⌝ }
 {
@@ -173,7 +173,7 @@ fn read_row(five: bool, text: &[u8], at: usize, work: &mut [u32], i: usize, has:
 }
 
 fn read_rows(five: bool, text: &[u8], at: usize, work: &mut [u32], n: usize) -> Table
-    requires { ⌜ (at ≤ length (now text)) × (n ≤ 16) × (length (now work) ≡ 1280) ⌝ }
+    requires { ⌜ (at ≤ length (now text)) × (n ≤ 16) × (length (now work) ≡ 1600) ⌝ }
     ensures next { λ r. ⌜ r .next ≤ length (now (text .entry)) ⌝ }
     ensures kept { λ _. ⌜ length (now (work .exit)) ≡ length (now (work .entry)) ⌝ }
 {
@@ -236,7 +236,7 @@ fn place(f: IndexForm, work: &mut [u32], count: usize)
 }
 
 fn show_rows(f: IndexForm, work: &mut [u32])
-    requires { ⌜ (f .rows ≤ 16) × (length (now work) ≡ 1280) ⌝ }
+    requires { ⌜ (f .rows ≤ 16) × (length (now work) ≡ 1600) ⌝ }
 {
     let count = kept::slots::slots_for(f.rows);
     if count <= 32 {

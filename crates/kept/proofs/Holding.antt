@@ -1,15 +1,16 @@
 -- Work that holds the kept units: none, and one more.
 -- Assumes nothing.
-use mathlib.Core.Path.{_≡_, refl, sym, ap, ap₂, _∙_}
+use mathlib.Core.Path.{_≡_, refl, sym, ap, ap₂, _∙_, subst}
 use mathlib.Core.Bool.{Bool}
 use mathlib.Core.Logic.{inl, inr, ⊎-elim}
 use mathlib.Core.List.{List, [], _∷_, _++_, map, append-nil}
 use mathlib.Core.Option.{Option, some}
-use Prim.Native.Nat.{ℕ, zero, suc, _+_, _*_, _<_, _≤_}
+use Prim.Native.Nat.{ℕ, zero, suc, _+_, _*_, _-_, _<_, _≤_}
 use native.Mathlib.Nat.{not-suc-le-zero}
 use native.Mathlib.Omega.{arith}
 use native.Mathlib.Decide.{ℕ-discrete, decLt}
 use lib.ListN.{length, getD, set, length-append}
+use lib.Seq.{getD-set-same, getD-set-other}
 use borrow.Author.Tests.{eq-eqb, ne-eqb}
 use Rattle.octets.specs.Octets.{part, placed}
 use Rattle.octets.specs.Lists.{has, those, joined}
@@ -28,12 +29,12 @@ use Rattle.kept.specs.Columns.{columnsFor, sectionAt, ColumnsHeld, Marke
 use Rattle.kept.specs.Cells.{cellsBy}
 use Rattle.kept.specs.Records.{KeptUnit, cellWords, wordsOf, cellsLeft, cellsOf, unitOf, recordAt, recordsFrom, ofTable, bytesOf, bytesFrom}
 use Rattle.kept.specs.Slots.{freeFor, SeenHeld}
-use Rattle.kept.specs.Held.{identitiesOf, RowIs, RowsAre, none, more, TableHeld, pick, withUnit, OneOrTwo, UnitsHeld}
+use Rattle.kept.specs.Held.{identitiesOf, RowIs, RowsAre, none, more, TableHeld, RecordIs, RecordsAre, no-record, one-record, pick, withUnit, OneOrTwo, UnitsHeld}
 use Rattle.kept.specs.declared.records.Unit.{Unit as UnitHead}
 use Rattle.kept.specs.declared.Table.{Table}
 use Rattle.kept.specs.declared.Units.{Units}
 use Rattle.kept.proofs.Columning.{columns-are, columns-more}
-use Rattle.kept.proofs.Recording.{cells-many, stored, stored-before, stored-own, stored-other, stored-table, stored-bytes, stored-elsewhere, stored-identity, stored-row, record-stored}
+use Rattle.kept.proofs.Recording.{cells-many, stored, stored-before, stored-all, stored-own, stored-other, stored-table, stored-bytes, stored-elsewhere, stored-identity, stored-row, record-stored}
 use Rattle.kept.proofs.Seen.{seen-kept, seen-more}
 
 -- ---- a choice by number
@@ -86,6 +87,10 @@ unfolding identitiesOf
 length-identities [] = refl
 length-identities (r ∷ rs) = ap suc (length-identities rs)
 
+pub each-snoc : (b : List ℕ) (ks : List KeptUnit) (us : List Filed) (k : KeptUnit) (u : Filed) → RecordsAre b ks us → RecordIs b k u → RecordsAre b (ks ++ (k ∷ [])) (us ++ (u ∷ []))
+each-snoc b [] [] k u no-record h = one-record h no-record
+each-snoc b (x ∷ ks) (y ∷ us) k u (one-record a m) h = one-record a (each-snoc b ks us k u m h)
+
 -- cells by value are those of the record
 cell-at : (five : Bool) (cells : Contributions) (k m c : ℕ) → c < m
     → (getD (cellsLeft five cells k m) (2 * c) 0 ≡ getD (cells .offset) (sectionAt five (k + c)) 0) × (getD (cellsLeft five cells k m) (2 * c + 1) 0 ≡ getD (cells .size) (sectionAt five (k + c)) 0)
@@ -122,6 +127,10 @@ module _ (five : Bool) (w : List ℕ) (n : ℕ) (k : KeptUnit) (many : length (k
   seen-still : SeenHeld v slots (n + 1) (identitiesOf rs)
   seen-still = seen-kept (stored w n k many room) (n + 1) (h .seen) (omega arith) (stored-row w n k many room) (stored-identity w n k many room)
 
+  -- a slot that is used names the record that it named
+  names-still : (j : ℕ) → (getD slots j 0 ≡ 0 → ⊥) → recordAt v (getD slots j 0 - 1) .table ≡ t
+  names-still j f = ap (λ (z : KeptUnit). z .table) (stored-before w n k many room (getD slots j 0 - 1) (omega (arith, h .seen .within .within j))) ∙ h .names j f
+
   -- of another table
   pub table-other : (k .table ≡ t → ⊥) → TableHeld five v (n + 1) slots t tab rs
   table-other f = record {
@@ -137,6 +146,7 @@ module _ (five : Bool) (w : List ℕ) (n : ℕ) (k : KeptUnit) (many : length (k
     };
     seen = seen-still;
     columns = h .columns;
+    names = names-still;
   }
 
   -- of this one, at a free slot
@@ -162,6 +172,15 @@ module _ (five : Bool) (w : List ℕ) (n : ℕ) (k : KeptUnit) (many : length (k
               (seen-more (seen-kept (stored w n k many room) n (h .seen) (omega arith) (stored-row w n k many room) (stored-identity w n k many room)) power (omega (arith, length-identities rs)) (r .identity) at free inside
               (ap (λ (z : KeptUnit). z .identity) new ∙ is .identity) rowis);
           columns = columns;
+          names = λ j f. elim (ℕ-discrete j at) [
+            | yes e ↦
+                let here : getD (set slots at (n + 1)) j 0 ≡ n + 1 = ap (λ (z : ℕ). getD (set slots at (n + 1)) z 0) e ∙ getD-set-same slots at (n + 1) 0 inside in
+                let q : getD (set slots at (n + 1)) j 0 - 1 ≡ n = omega (arith, here) in
+                ap (λ (z : ℕ). recordAt (stored w n k many room) z .table) q ∙ ap (λ (z : KeptUnit). z .table) new ∙ own
+            | no g ↦
+                let there = getD-set-other slots at j (n + 1) 0 g in
+                ap (λ (z : ℕ). recordAt (stored w n k many room) (z - 1) .table) there ∙ names-still j (λ z. f (there ∙ z))
+          ];
         }
 
 -- ---- all units
@@ -174,6 +193,7 @@ units-none five b w slots u c i y tables = record {
   tables = λ t o. rw c (tables t o);
   bytes = λ h. rw c;
   many = λ h o. ⊎-elim (λ (e : h ≡ 1). sym (pick-first h (u .info) (u .types) e) ∙ i) (λ (e : h ≡ 2). sym (pick-second h (u .info) (u .types) (λ q. omega arith)) ∙ y) o;
+  each = rw c no-record;
 }
 
 -- the rows of the definition with one unit more
@@ -245,6 +265,10 @@ module _ {five : Bool} {b w : List ℕ} {slots : ℕ → List ℕ} {u : Units} {
   unfolding unitOf bytesOf
   bytes-new = a .bytes-are
 
+  record-new : RecordIs b new y
+  unfolding unitOf
+  record-new = record { table = a .table-is; identity = a .identity-is; bytes = bytes-new }
+
   -- v are the records and more the slots after that
   pub units-more : (v : List ℕ) (slots′ : ℕ → List ℕ) (bytes : ℕ) → v ≡ placed w (recordWords * u .count) (wordsOf new) → slots′ (y .table) ≡ set (slots (y .table)) at (u .count + 1)
       → ((t : ℕ) → OneOrTwo t → (t ≡ y .table → ⊥) → slots′ t ≡ slots t) → bytes ≡ pick (y .home) (u .info) (u .types) + length (y .bytes)
@@ -271,4 +295,5 @@ module _ {five : Bool} {b w : List ℕ} {slots : ℕ → List ℕ} {u : Units} {
       | yes q ↦ pick-own (y .home) m bytes (u .info) (u .types) (a .homes) q ∙ n ∙ omega (arith, h .many (y .home) (a .homes), ap length (bytes-own ks y m (sym q)), length-append (unitBytes ks m) (y .bytes), ap (λ (z : ℕ). length (unitBytes ks z)) q)
       | no f ↦ pick-other (y .home) m bytes (u .info) (u .types) (a .homes) o f ∙ h .many m o ∙ ap length (sym (bytes-other ks y m (λ z. f (sym z))))
     ];
+    each = subst (λ (l : List KeptUnit). RecordsAre b l (ks ++ (y ∷ []))) (sym (stored-all w (u .count) new many-cells (a .room))) (each-snoc b (recordsFrom w 0 (u .count)) ks new y (h .each) record-new);
   })

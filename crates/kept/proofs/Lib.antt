@@ -6,9 +6,12 @@ pub mod Moved
 pub mod Numbering
 pub mod Seeking
 pub mod Seen
+pub mod Storing
 pub mod Pieces
 pub mod Indexing
 pub mod Placing
 pub mod Copying
 pub mod Holding
+pub mod Naming
+pub mod Comparing
 pub mod SeenSlots

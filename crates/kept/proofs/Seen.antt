@@ -46,7 +46,7 @@ unfolding zeros
 map-zeros f zero e = refl
 map-zeros f (suc n) e = let r = map-zeros f n e in rw (e, r)
 
-map-at : (f : ℕ → ℕ) (l : List ℕ) (k : ℕ) → f 0 ≡ 0 → getD (map f l) k 0 ≡ f (getD l k 0)
+pub map-at : (f : ℕ → ℕ) (l : List ℕ) (k : ℕ) → f 0 ≡ 0 → getD (map f l) k 0 ≡ f (getD l k 0)
 map-at f l k e = elim (decLt k (length l)) [
   | yes h ↦ getD-map f l k 0 h
   | no h ↦ getD-past (map f l) 0 k (omega (arith, length-map l f)) ∙ sym e ∙ ap f (sym (getD-past l 0 k (omega arith)))

@@ -4,14 +4,14 @@ use mathlib.Core.Path.{_≡_}
 use mathlib.Core.Bool.{Bool, true, false}
 use mathlib.Core.Logic.{_⊎_}
 use mathlib.Core.List.{List, [], _∷_, map}
-use Prim.Native.Nat.{ℕ, _+_, _*_, _<_}
+use Prim.Native.Nat.{ℕ, _+_, _*_, _-_, _<_}
 use lib.Dec.{eqb}
 use lib.ListN.{length, getD}
 use Rattle.index.specs.Written.{Row, offsetOf, sizeOf}
 use Rattle.package.specs.Filing.{Filed}
 use Rattle.package.specs.Pack.{rowsOf, unitBytes}
 use Rattle.kept.specs.Columns.{columnsFor, sectionAt, ColumnsHeld}
-use Rattle.kept.specs.Records.{KeptUnit, ofTable, bytesFrom, UnitsInside}
+use Rattle.kept.specs.Records.{KeptUnit, recordAt, recordsFrom, ofTable, bytesOf, bytesFrom, UnitsInside}
 use Rattle.kept.specs.Slots.{SeenHeld, Numbered}
 use Rattle.kept.specs.declared.Table.{Table}
 use Rattle.kept.specs.declared.Units.{Units}
@@ -36,6 +36,18 @@ pub record TableHeld (five : Bool) (w : List ℕ) (n : ℕ) (slots : List ℕ) (
   pub numbered : Numbered w n table
   pub seen : SeenHeld w slots n (identitiesOf rs)
   pub columns : ColumnsHeld five (t .has) rs
+  -- each slot that is used names a record of the table
+  pub names : (k : ℕ) → (getD slots k 0 ≡ 0 → ⊥) → recordAt w (getD slots k 0 - 1) .table ≡ table
+
+-- a record is a kept unit of the definition
+pub record RecordIs (b : List ℕ) (k : KeptUnit) (u : Filed) : Type 0 where
+  pub table : k .table ≡ u .table
+  pub identity : k .identity ≡ u .identity
+  pub bytes : bytesOf b k ≡ u .bytes
+
+pub data RecordsAre (b : List ℕ) : List KeptUnit → List Filed → Type 0 where
+  no-record : RecordsAre b [] []
+  one-record : {k : KeptUnit} {ks : List KeptUnit} {u : Filed} {us : List Filed} → RecordIs b k u → RecordsAre b ks us → RecordsAre b (k ∷ ks) (u ∷ us)
 
 -- what there is of each table and section: the first for number 1, else the second
 unfoldable pub pick : {A : Type 0} → ℕ → A → A → A
@@ -57,3 +69,4 @@ pub record UnitsHeld (five : Bool) (b w : List ℕ) (slots : ℕ → List ℕ) (
   pub tables : (t : ℕ) → OneOrTwo t → TableHeld five w (u .count) (slots t) t (pick t (u .cu) (u .tu)) (rowsOf ks t)
   pub bytes : (h : ℕ) → bytesFrom b w h 0 (u .count) ≡ unitBytes ks h
   pub many : (h : ℕ) → OneOrTwo h → pick h (u .info) (u .types) ≡ length (unitBytes ks h)
+  pub each : RecordsAre b (recordsFrom w 0 (u .count)) ks

@@ -11,7 +11,7 @@ use Rattle.numbers.specs.Limits.{bundleLimit, workForWord}
 use Rattle.index.specs.Probing.{Probe, found, absent, firstSlot, stride, freeFrom, search, slotsFor, Slots, unused, placeAll}
 use Rattle.index.specs.Held.{PowerOfTwo}
 use Rattle.work.specs.Regions.{Layout, recordsRegion, slotsRegion, recordWords, leastUnit, region, Apart}
-use Rattle.kept.specs.Records.{KeptUnit, wordsOf, recordAt, ofTable, identitiesIn, identityFor, rowFor}
+use Rattle.kept.specs.Records.{KeptUnit, wordsOf, recordAt, ofTable, identitiesIn, identityFor, rowFor, UnitsInside}
 use Rattle.kept.specs.declared.slots.Sought.{Sought}
 use Rattle.kept.specs.declared.slots.Sought.the-variants.{Known, Free}
 
@@ -97,3 +97,12 @@ pub record Keepable (words room count slot : ℕ) : Type 0 where
 unfoldable pub keptIn : List ℕ → ℕ → ℕ → ℕ → KeptUnit → List ℕ
 keptIn w words count slot k =
     placed (placed w (recordsRegion .start * words + recordWords * count) (wordsOf k)) (slotsRegion (k .table) .start * words + slot) ((count + 1) ∷ [])
+
+-- ---- a unit at a place of the bundle is compared with a kept one, by the number of its record
+pub record SameAsked (b w : List ℕ) (number at size : ℕ) : Type 0 where
+  pub enough : workForWord * (length b / 4) ≤ length w
+  pub limit : length b ≤ bundleLimit
+  pub some : number ≡ 0 → ⊥
+  pub stored : recordWords * number ≤ recordsRegion .words * (length b / 4)
+  pub inside : UnitsInside b (region w (length b / 4) recordsRegion) number
+  pub fits : at + size ≤ length b

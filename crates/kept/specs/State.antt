@@ -3,17 +3,25 @@
 use mathlib.Core.Path.{_≡_}
 use mathlib.Core.Bool.{Bool}
 use mathlib.Core.List.{List, [], _∷_}
-use Prim.Native.Nat.{ℕ, _*_, _^_, _<_, _≤_}
+use Prim.Native.Nat.{ℕ, _+_, _*_, _^_, _<_, _≤_}
 use lib.ListN.{length, getD}
 use Rattle.numbers.specs.Limits.{bundleLimit, workForWord}
 use Rattle.numbers.specs.Sections.{sectionCodes}
 use Rattle.index.specs.Rows.{BySection}
-use Rattle.package.specs.Filing.{Filed, kept}
+use Rattle.package.specs.Filing.{Filed, kept, repeat, namesake, ofKind, countOf}
 use Rattle.package.specs.Pack.{unitBytes}
 use Rattle.work.specs.Regions.{recordsRegion, region}
 use Rattle.kept.specs.Slots.{seenSlots, slotsIn}
 use Rattle.kept.specs.Held.{OneOrTwo, UnitsHeld}
 use Rattle.kept.specs.declared.state.InProgress.{InProgress}
+use Rattle.kept.specs.declared.state.Skipped.{Skipped}
+
+-- one unit more is skipped, whose bytes agree with the kept one's or don't
+abbrev pub countedOne : Skipped → Bool → Skipped
+countedOne s agrees = record { repeats = s .repeats + ofKind repeat agrees; namesakes = s .namesakes + ofKind namesake agrees }
+
+abbrev pub skippedOne : InProgress → Bool → InProgress
+skippedOne st agrees = record { units = st .units; bases = st .bases; strings = st .strings; skipped = countedOne (st .skipped) agrees }
 
 -- what holds of each unit that was read
 pub record UnitGood (u : Filed) : Type 0 where
@@ -42,3 +50,5 @@ pub record Held (five : Bool) (b : List ℕ) (n place : ℕ) (w : List ℕ) (st 
   pub unitsLow : (h : ℕ) → length (unitBytes (kept us) h) ≤ place
   pub within : place ≤ length b
   pub limit : length b ≤ bundleLimit
+  pub repeated : st .skipped .repeats ≡ countOf repeat us
+  pub named : st .skipped .namesakes ≡ countOf namesake us

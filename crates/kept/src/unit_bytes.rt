@@ -1,11 +1,13 @@
-// The bytes of the kept units of info, or of types, one behind the other.
+// The bytes of the kept units: those of info, or of types, one behind the other, and those of one unit compared.
 ghost use mathlib.Core.Path.{_≡_};
 ghost use mathlib.Core.List.{List};
-ghost use Prim.Native.Nat.{ℕ, _+_, _*_, _≤_};
+ghost use Prim.Native.Nat.{ℕ, _+_, _*_, _-_, _/_, _≤_};
 ghost use lib.ListN.{length};
-ghost use Rattle.octets.specs.Octets.{placed};
-ghost use Rattle.work.specs.Regions.{recordWords};
-ghost use Rattle.kept.specs.Records.{bytesFrom, UnitsInside};
+ghost use Rattle.octets.specs.Octets.{part, placed};
+ghost use Rattle.octets.specs.Lists.{same};
+ghost use Rattle.work.specs.Regions.{recordWords, recordsRegion, region};
+ghost use Rattle.kept.specs.Records.{recordAt, bytesOf, bytesFrom, UnitsInside};
+ghost use Rattle.kept.specs.Slots.{SameAsked};
 use crate::records::HOME;
 use crate::records::SIZE;
 use crate::records::START;
@@ -39,4 +41,28 @@ pub fn copy_units(b: &[u8], records: &[u32], n: usize, home: usize, out: &mut [u
         o = copy_unit(b, records, i, home, out, o);
         i += 1;
     }
+}
+
+// Whether so many bytes of the bundle at a place are those of record i. Lengths are compared first, so that it costs no more than the unit at the place.
+fn same_unit(b: &[u8], records: &[u32], i: usize, at: usize, size: usize) -> bool
+    requires { ⌜ (recordWords * i + recordWords ≤ length (now records)) × UnitsInside (now b) (now records) (i + 1) × (at + size ≤ length (now b)) ⌝ }
+    ensures { λ r. ⌜ r ≡ same (part (now (b .entry)) at size) (bytesOf (now (b .entry)) (recordAt (now (records .entry)) i)) ⌝ }
+{
+    let record = RECORD * i;
+    let start = octets::word(records, record + START);
+    let kept = octets::word(records, record + SIZE);
+    let end = start + kept;
+    let last = at + size;
+    octets::same_bytes(&b[at..last], &b[start..end])
+}
+
+// The same in work, by the number that a slot holds.
+pub fn same_as_kept(b: &[u8], work: &[u32], number: usize, at: usize, size: usize) -> bool
+    requires { ⌜ SameAsked (now b) (now work) number at size ⌝ }
+    ensures { λ r. ⌜ r ≡ same (part (now (b .entry)) at size) (bytesOf (now (b .entry)) (recordAt (region (now (work .entry)) (length (now (b .entry)) / 4) recordsRegion) (number - 1))) ⌝ }
+{
+    let records = work::records(b.len() / 4);
+    let first = records.start;
+    let last = first + records.size;
+    same_unit(b, &work[first..last], number - 1, at, size)
 }

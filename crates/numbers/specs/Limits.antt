@@ -14,14 +14,14 @@ sectionLimit = 8_388_607
 
 -- Words of work for each word of the bundle.
 abbrev pub workForWord : ℕ
-workForWord = 16
+workForWord = 20
 
 -- The small packer: the longest bundle, and its own words of work.
 abbrev pub smallBundle : ℕ
 smallBundle = 1_024
 
 abbrev pub smallWork : ℕ
-smallWork = 4_096
+smallWork = 5_120
 
 abbrev pub smallOutput : ℕ
 smallOutput = 65_536

@@ -7,12 +7,12 @@ pub const PACKAGE_LIMIT: usize = 117_440_512;
 pub const SECTION_LIMIT: usize = 8_388_607;
 
 // Words of work for each word of the bundle.
-pub const WORK_FOR_WORD: usize = 16;
+pub const WORK_FOR_WORD: usize = 20;
 
 // The small packer: the longest bundle, and its own words of work.
 pub const SMALL_BUNDLE: usize = 1_024;
 
-pub const SMALL_WORK: usize = 4_096;
+pub const SMALL_WORK: usize = 5_120;
 
 pub const SMALL_OUTPUT: usize = 65_536;
 

@@ -9,6 +9,7 @@ use native.Mathlib.Omega.{arith}
 use lib.Dec.{leb}
 use lib.ListN.{length}
 use borrow.Author.Tests.{leb-true, leb-false}
+use Rattle.numbers.specs.Limits.{workForWord}
 use Rattle.octets.specs.Lists.{those, all}
 use Rattle.octets.specs.Checked.{Check, pass, refuse}
 use Rattle.octets.proofs.Checks.{bind-pass, require-pass, pass-inj, known, then-pass}
@@ -53,7 +54,7 @@ pub judged-accepted : (b : List ℕ) (w : ℕ) (p : List ℕ) → judged b w ≡
 unfolding judged packageSections
 judged-accepted b w p q =
     let one = require-pass (lengthGood 4_194_304 b) 1 _ p q in
-    let two = require-pass (leb (16 * (length b / 4)) w) 2 _ p (one .1) in
+    let two = require-pass (leb (workForWord * (length b / 4)) w) 2 _ p (one .1) in
     let k = bind-pass (bundleOf b) _ p (two .1) in
     let f = bind-pass (filingOf b (k .0)) _ p (k .2) in
     let small = require-pass (all (λ (s : Section). leb (length (s .bytes)) 8_388_607) (packageSections (k .0 .big) (firstWord (k .0 .objects) % 256) (f .0))) 19 _ p (f .2) in

@@ -34,7 +34,7 @@ one word sections = numbersOf false 4 ((0xF000_0000 ∷ word ∷ sections) ++ ((
 
 -- with work and output enough
 abbrev pub pack : List ℕ → Answer
-pack b = packed b (4 * length b) 300
+pack b = packed b (5 * length b) 300
 
 abbrev pub four : ℕ
 four = 0x1008_0404
@@ -98,7 +98,7 @@ Refusals =
     (packed (zeros 4) 100 100 ≡ refused 1)
     × (packed (zeros 9) 100 100 ≡ refused 1)
     -- 2: a word of work too few
-    × (packed (one five (unit 5 1 ++ abbreviations)) 175 112 ≡ refused 2)
+    × (packed (one five (unit 5 1 ++ abbreviations)) 219 112 ≡ refused 2)
     -- 3: the head
     × (pack (numbersOf false 4 (0xF000_0002 ∷ 0x3000_0002 ∷ [])) ≡ refused 3)
     -- 4: version 3; 5: another word
@@ -137,7 +137,7 @@ Refusals =
     × (pack (one four (swapped ++ table ++ twoRows 2 2 20)) ≡ refused 16)
     × (pack (bothTables (1 ∷ 0 ∷ 23 ∷ 9 ∷ [])) ≡ refused 16)
     -- 18: a byte of output too few
-    × (packed (one five (unit 5 1 ++ abbreviations)) 176 111 ≡ short 112)
+    × (packed (one five (unit 5 1 ++ abbreviations)) 220 111 ≡ short 112)
 
 abbrev pub Tables : Type 0
 Tables =

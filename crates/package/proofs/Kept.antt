@@ -13,17 +13,13 @@ use borrow.Author.Tests.{eqb-true, eqb-false, eq-eqb, ne-eqb}
 use Rattle.octets.specs.Lists.{any, those, has, distinct}
 use Rattle.octets.proofs.Checks.{known, true-false, and-both, and-left, and-right, not-left, not-right}
 use Rattle.octets.proofs.Lists.{any-cons, any-stops, those-append, those-keeps, those-skips}
-use Rattle.octets.proofs.Elements.{distinct-snoc, has-cons, has-skips}
+use Rattle.octets.proofs.Elements.{distinct-snoc, distinct-repeats, has-cons, has-skips}
 use Rattle.octets.proofs.Joined.{map-append}
-use Rattle.package.specs.Filing.{Filed, isUnder, keep, keepAll, kept}
+use Rattle.package.specs.Filing.{Filed, isUnder, keep, keepAll, kept, firstUnder}
 use Rattle.bundle.proofs.Every.{Every, nothing}
 use Rattle.package.proofs.Each.{each-snoc, each-head, each-tail}
 
 -- ---- the first unit of a table and an identity
-unfoldable pub firstUnder : ℕ → ℕ → List Filed → Option Filed
-firstUnder t x [] = none
-firstUnder t x (u ∷ us) = elim (isUnder t x u) [ true ↦ some u | false ↦ firstUnder t x us ]
-
 pub first-here : (t x : ℕ) (u : Filed) (us : List Filed) → isUnder t x u ≡ true → firstUnder t x (u ∷ us) ≡ some u
 unfolding firstUnder
 first-here t x u us e = rw (firstUnder, e)
@@ -266,3 +262,18 @@ kept-first t x us u f =
     let same : some (r .0) ≡ some u = sym (first-is t x (kept us) (r .0) (r .1)) ∙ first-kept t x us ∙ first-is t x us u f in
     let z : r .0 ≡ u = cc in
     subst (First t x (kept us)) z (r .1)
+
+-- each kept unit is the first of its table and identity among the kept ones
+pub kept-once : (us before behind : List Filed) (u : Filed) (t x : ℕ) → kept us ≡ before ++ (u ∷ behind) → isUnder t x u ≡ true → First t x (kept us) u
+kept-once us before behind u t x e p = record {
+  before = before;
+  behind = behind;
+  stands = e;
+  under = p;
+  alone = ⊎-elim (λ h. absurd (true-false (distinct-kept t us) (ap (λ (l : List Filed). distinct (identitiesIn t l)) e ∙ ap distinct split ∙ distinct-repeats (identitiesIn t before) (identitiesIn t behind) x (has-identity t x before ∙ h)))) (λ h. h) (known (any (isUnder t x) before));
+}
+  where
+    split : identitiesIn t (before ++ (u ∷ behind)) ≡ identitiesIn t before ++ (x ∷ identitiesIn t behind)
+    split =
+        identities-append t before (u ∷ behind)
+        ∙ ap (λ (l : List ℕ). identitiesIn t before ++ l) (identities-here t u behind (under-table t x u p) ∙ ap (λ (z : ℕ). z ∷ identitiesIn t behind) (under-identity t x u p))

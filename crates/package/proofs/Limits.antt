@@ -6,6 +6,7 @@ use mathlib.Core.List.{List, [], _∷_}
 use Prim.Native.Nat.{ℕ, _*_, _/_, _%_}
 use lib.Dec.{leb}
 use lib.ListN.{length}
+use Rattle.numbers.specs.Limits.{workForWord}
 use Rattle.octets.specs.Lists.{all}
 use Rattle.octets.specs.Checked.{Check, pass, _>>=_, require}
 use Rattle.octets.proofs.Checks.{passes, fails, then-pass}
@@ -20,14 +21,14 @@ module _ (b : List ℕ) (o : ℕ) where
   unfolding packed judged answered lengthGood
   longest-bundle e =
       ap (λ (c : Check (List ℕ)). answered c o)
-      (passes (lengthGood 4_194_304 b) 1 _ (rw (lengthGood, e)) ∙ fails (leb (16 * (length b / 4)) 0) 2 _ (rw e))
+      (passes (lengthGood 4_194_304 b) 1 _ (rw (lengthGood, e)) ∙ fails (leb (workForWord * (length b / 4)) 0) 2 _ (rw e))
 
   pub longer-bundle : length b ≡ 4_194_308 → packed b 0 o ≡ refused 1
   unfolding packed judged answered lengthGood
   longer-bundle e = ap (λ (c : Check (List ℕ)). answered c o) (fails (lengthGood 4_194_304 b) 1 _ (rw (lengthGood, e)))
 
 -- a package of one section
-module _ (b : List ℕ) (w o : ℕ) (k : Bundle) (f : Filing) (s : Section) (long : lengthGood 4_194_304 b ≡ true) (work : leb (16 * (length b / 4)) w ≡ true)
+module _ (b : List ℕ) (w o : ℕ) (k : Bundle) (f : Filing) (s : Section) (long : lengthGood 4_194_304 b ≡ true) (work : leb (workForWord * (length b / 4)) w ≡ true)
     (read : bundleOf b ≡ pass k) (filed : filingOf b k ≡ pass f) (is : packageSections (k .big) (firstWord (k .objects) % 256) f ≡ s ∷ []) where
   -- what follows the sections
   abbrev rest : List Section → Check (List ℕ)

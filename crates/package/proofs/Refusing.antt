@@ -8,6 +8,7 @@ use Prim.Native.Nat.{ℕ, _*_, _/_, _%_, _≤_}
 use native.Mathlib.Omega.{arith}
 use lib.Dec.{leb}
 use lib.ListN.{length}
+use Rattle.numbers.specs.Limits.{workForWord}
 use Rattle.octets.specs.Lists.{all}
 use Rattle.octets.specs.Checked.{Check, pass, refuse}
 use Rattle.octets.proofs.Checks.{require-refuse, bind-refuse, pass-refuse, known}
@@ -38,7 +39,7 @@ judged-refuses b w n q = ⊎-elim
     (require-refuse (all (λ (s : Section). leb (length (s .bytes)) 8_388_607) (packageSections (k .0 .big) (firstWord (k .0 .objects) % 256) (f .0))) 19 _ n (f .2)))
     (bind-refuse (filingOf b (k .0)) _ n (k .2)))
     (bind-refuse (bundleOf b) _ n (two .1)))
-    (require-refuse (leb (16 * (length b / 4)) w) 2 _ n (one .1)))
+    (require-refuse (leb (workForWord * (length b / 4)) w) 2 _ n (one .1)))
     (require-refuse (lengthGood 4_194_304 b) 1 _ n q)
 
 refused-judged : (m : Check (List ℕ)) (o n : ℕ) → answered m o ≡ refused n → m ≡ refuse n

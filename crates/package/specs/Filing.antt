@@ -8,7 +8,7 @@ use lib.Dec.{eqb}
 use lib.ListN.{length, take, drop}
 use Rattle.numbers.specs.Sections.{infoCode, abbrevCode}
 use Rattle.octets.specs.Octets.{part}
-use Rattle.octets.specs.Lists.{any}
+use Rattle.octets.specs.Lists.{any, same}
 use Rattle.octets.specs.Checked.{Check, pass, refuse, _>>=_, require}
 use Rattle.bundle.specs.Bundle.{Object, Bundle}
 use Rattle.bundle.specs.Encoding.{Encoding}
@@ -134,6 +134,35 @@ keepAll ks (u ∷ us) = keepAll (keep ks u) us
 
 unfoldable pub kept : List Filed → List Filed
 kept us = keepAll [] us
+
+-- the first unit of a table and an identity
+unfoldable pub firstUnder : ℕ → ℕ → List Filed → Option Filed
+firstUnder t x [] = none
+firstUnder t x (u ∷ us) = elim (isUnder t x u) [ true ↦ some u | false ↦ firstUnder t x us ]
+
+-- ---- repeats and namesakes
+-- Ticket 11: "Call it a repeat if all unit bytes agree with the kept one's and a namesake otherwise."
+pub data Kind : Type 0 where
+  repeat : Kind
+  namesake : Kind
+
+-- one or none of a kind, for a skipped unit whose bytes agree with the kept one's or don't
+unfoldable pub ofKind : Kind → Bool → ℕ
+ofKind repeat true = 1
+ofKind repeat false = 0
+ofKind namesake true = 0
+ofKind namesake false = 1
+
+-- the same for a unit behind those of which ks are kept; a unit that is kept is neither
+unfoldable pub countOne : Kind → List Filed → Filed → ℕ
+countOne k ks u = elim (firstUnder (u .table) (u .identity) ks) [ some first ↦ ofKind k (same (u .bytes) (first .bytes)) | none ↦ 0 ]
+
+unfoldable pub countFrom : Kind → List Filed → List Filed → ℕ
+countFrom k ks [] = 0
+countFrom k ks (u ∷ us) = countOne k ks u + countFrom k (keep ks u) us
+
+unfoldable pub countOf : Kind → List Filed → ℕ
+countOf k us = countFrom k [] us
 
 -- a unit's contribution to a shared section, as it was handed in
 unfoldable pub contributed : Filed → ℕ → List ℕ

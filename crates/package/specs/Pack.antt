@@ -6,6 +6,7 @@ use mathlib.Core.Option.{Option, some, none}
 use Prim.Native.Nat.{ℕ, _+_, _*_, _/_, _%_}
 use lib.Dec.{eqb, leb}
 use lib.ListN.{length}
+use Rattle.numbers.specs.Limits.{workForWord}
 use Rattle.octets.specs.Lists.{joined, those, all}
 use Rattle.octets.specs.Checked.{Check, pass, refuse, _>>=_, require}
 use Rattle.bundle.specs.Bundle.{Object, Bundle, bundleOf, lengthGood}
@@ -15,7 +16,7 @@ use Rattle.index.specs.Index.{Contribution}
 use Rattle.index.specs.Rows.{BySection}
 use Rattle.index.specs.Written.{Row, indexBytes}
 use Rattle.package.specs.Input.{Input}
-use Rattle.package.specs.Filing.{Filed, Filing, filingOf, firstWord, kept}
+use Rattle.package.specs.Filing.{Filed, Filing, filingOf, firstWord, kept, Kind, repeat, namesake, countOf}
 
 -- ---- rows of the indexes
 -- a unit's cells: its own bytes in info or types, and its contributions where they lie in the package's sections
@@ -95,7 +96,7 @@ packageObjects (o ∷ os) ss = record { word = o .word; sections = ss } ∷ []
 unfoldable pub judged : List ℕ → ℕ → Check (List ℕ)
 judged b w = do
   _ ← require (lengthGood 4_194_304 b) 1
-  _ ← require (leb (16 * (length b / 4)) w) 2
+  _ ← require (leb (workForWord * (length b / 4)) w) 2
   k ← bundleOf b
   f ← filingOf b k
   let ss = packageSections (k .big) (firstWord (k .objects) % 256) f
@@ -120,3 +121,16 @@ packed b w o = answered (judged b w) o
 -- every unit of an accepted bundle, in order
 unfoldable pub handedIn : List ℕ → List Filed
 handedIn b = elim (bundleOf b >>= filingOf b) [ pass f ↦ f .units | refuse n ↦ [] ]
+
+-- ---- repeats and namesakes
+-- "An accepted packing also answers how many of each were skipped. ... A refusal has both counts zero."
+unfoldable pub counted : Kind → List ℕ → Answer → ℕ
+counted k b (made p) = countOf k (handedIn b)
+counted k b (short n) = 0
+counted k b (refused n) = 0
+
+unfoldable pub repeats : List ℕ → ℕ → ℕ → ℕ
+repeats b w o = counted repeat b (packed b w o)
+
+unfoldable pub namesakes : List ℕ → ℕ → ℕ → ℕ
+namesakes b w o = counted namesake b (packed b w o)

@@ -1,5 +1,6 @@
 -- The packer meets its contracts.
 -- Assumes nothing.
+pub mod Counted
 pub mod Outcomes
 pub mod ObjectUnits
 pub mod OneObject

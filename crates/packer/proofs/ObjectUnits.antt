@@ -75,7 +75,7 @@ module _ (b : List ℕ) (x : InputObject) (from : ℕ) (w v : List ℕ) (st : In
         omega (arith, d .based c h, d .low c, d .within, d .limit, a .input .within c)
 
     pub units-added : r .code ≡ 0 → (more : List ℕ) → Summed (r .st .bases) (x .size) more sectionCodes → (u : UnitsAdded) → u .code ≡ 0
-        → u .st ≡ record { units = r .st .units; bases = more; strings = r .st .strings } → UnitsAddedIs b x i (behindFrom b from) w v st bases us found u
+        → u .st ≡ record { units = r .st .units; bases = more; strings = r .st .strings; skipped = r .st .skipped } → UnitsAddedIs b x i (behindFrom b from) w v st bases us found u
     unfolding UnitsAddedIs
     units-added z more s u q e =
         let a = filed-all z in

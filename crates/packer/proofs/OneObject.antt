@@ -32,7 +32,7 @@ use Rattle.kept.specs.State.{Held}
 use Rattle.kept.specs.declared.state.InProgress.{InProgress}
 use Rattle.filing.specs.Judged.{InputIs}
 use Rattle.filing.specs.declared.objects.InputFiled.{InputFiled}
-use Rattle.filing.specs.State.{wordsIn, withStrings, StringsKept, OnlyStrings}
+use Rattle.filing.specs.State.{wordsIn, withStrings, StringsKept, OnlyStore}
 use Rattle.filing.specs.Answers.{AtUnit}
 use Rattle.filing.specs.ByObject.{stringsCheck, StringsIn, AtObject, InputRoom, InputRead, InputAsked, InputAnswered}
 use Rattle.filing.proofs.Growing.{input-room}
@@ -115,7 +115,7 @@ module _ (b : List ℕ) (from : ℕ) (h : Ahead b from) where
         kept = a .strings;
       }
 
-      module _ (word : ℕ) (v : List ℕ) (r : InputFiled) (read : InputAnswered b big first word scan st w v r) (frame : OnlyStrings (wordsIn b) w v)
+      module _ (word : ℕ) (v : List ℕ) (r : InputFiled) (read : InputAnswered b big first word scan st w v r) (frame : OnlyStore (wordsIn b) w v)
           (bases : BySection ℕ) (is : List Input) (us : List Filed) (a : AtObject b big first from w st bases is us) where
         abbrev checked : Check Input
         checked = inputOf b big first (record { word = word; parts = sectionsFrom b from })

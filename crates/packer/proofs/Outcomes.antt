@@ -8,6 +8,7 @@ use native.Mathlib.Omega.{arith}
 use lib.Dec.{eqb, leb}
 use lib.ListN.{length}
 use borrow.Author.Tests.{le-leb, lt-leb, leb-true, eqb-true}
+use Rattle.numbers.specs.Limits.{workForWord}
 use Rattle.octets.specs.Octets.{zeros}
 use Rattle.octets.specs.Checked.{Check, pass, refuse}
 use Rattle.octets.proofs.Checks.{fails, passes, then-pass, then-refuse, and-left, and-right}
@@ -24,7 +25,11 @@ use Rattle.finish.specs.declared.whole.Finished.{Finished}
 use Rattle.finish.specs.declared.whole.Finished.the-variants.{Refused}
 use Rattle.finish.proofs.Answers.{refused-answer, refused-output}
 use Rattle.finish.proofs.Judging.{judged-is, packed-is}
+use Rattle.kept.specs.declared.state.InProgress.{InProgress}
 use Rattle.packer.specs.Objects.{ObjectsAre}
+use Rattle.packer.specs.Counted.{packingFor, packingOf}
+use Rattle.packer.specs.declared.Packing.{Packing}
+use Rattle.packer.proofs.Counted.{packing-refused, packing-is, repeats-filed, namesakes-filed}
 use Rattle.packer.specs.declared.objects.ObjectsFiled.{ObjectsFiled}
 
 -- ---- the length
@@ -74,37 +79,41 @@ module _ (big : Bool) (b v : List ℕ) (k : Bundle) (r : ObjectsFiled) (e : Obje
 
 -- ---- the answers, with an output of o bytes that is d behind the packer
 module _ (b : List ℕ) (w o : ℕ) (d : List ℕ) where
-  abbrev Answers : Finished → Type 0
-  Answers r = (r ≡ finishedOf (packed b w o)) × (d ≡ outputOf (packed b w o) o)
+  abbrev Answers : Packing → Type 0
+  Answers r = (r ≡ packingOf b (packed b w o)) × (d ≡ outputOf (packed b w o) o)
+
+  abbrev none : ℕ → Packing
+  none n = record { finished = Refused n; repeats = 0; namesakes = 0 }
 
   module _ (cleared : d ≡ zeros o) where
-    refused : (n : ℕ) → judged b w ≡ refuse n → Answers (Refused n)
+    refused : (n : ℕ) → judged b w ≡ refuse n → Answers (none n)
     unfolding packed
-    refused n e = (refused-answer (judged b w) o n e, refused-output (judged b w) o n e d cleared)
+    refused n e = (packing-refused b (packed b w o) n (refused-answer (judged b w) o n e), refused-output (judged b w) o n e d cleared)
 
-    pub answers-length : lengthGood 4_194_304 b ≡ false → Answers (Refused 1)
+    pub answers-length : lengthGood 4_194_304 b ≡ false → Answers (none 1)
     unfolding judged
     answers-length e = refused 1 (fails _ 1 _ e)
 
     module _ (good : lengthGood 4_194_304 b ≡ true) where
-      pub answers-work : w < 16 * (length b / 4) → Answers (Refused 2)
+      pub answers-work : w < workForWord * (length b / 4) → Answers (none 2)
       unfolding judged
       answers-work h = refused 2 (passes _ 1 _ good ∙ fails _ 2 _ (lt-leb _ _ h))
 
-      module _ (enough : 16 * (length b / 4) ≤ w) where
+      module _ (enough : workForWord * (length b / 4) ≤ w) where
         judges : judged b w ≡ packageIn b
         judges = judged-is b w good (le-leb _ _ enough)
 
-        pub answers-words : Unreadable ≡ wordsOf (bundleOf b) → Answers (Refused 3)
+        pub answers-words : Unreadable ≡ wordsOf (bundleOf b) → Answers (none 3)
         unfolding packageIn
         answers-words e = refused 3 (judges ∙ then-refuse (bundleOf b) _ 3 (words-broken b e))
 
-        pub answers-filing : (k : Bundle) (n : ℕ) → bundleOf b ≡ pass k → filingOf b k ≡ refuse n → Answers (Refused n)
+        pub answers-filing : (k : Bundle) (n : ℕ) → bundleOf b ≡ pass k → filingOf b k ≡ refuse n → Answers (none n)
         unfolding packageIn
         answers-filing k n e f = refused n (judges ∙ then-pass (bundleOf b) _ k e ∙ then-refuse (filingOf b k) _ n f)
 
-  pub answers-finish : (good : lengthGood 4_194_304 b ≡ true) (enough : 16 * (length b / 4) ≤ w) (r : Finished)
-      → r ≡ finishedOf (answered (packageIn b) o) → d ≡ outputOf (answered (packageIn b) o) o → Answers r
-  answers-finish good enough r e f =
+  pub answers-finish : (good : lengthGood 4_194_304 b ≡ true) (enough : workForWord * (length b / 4) ≤ w) (r : Finished)
+      → r ≡ finishedOf (answered (packageIn b) o) → d ≡ outputOf (answered (packageIn b) o) o → (big : Bool) (st : InProgress) (v : List ℕ) → AllFiled big b st v
+      → (z : Packing) → z ≡ packingFor r (st .skipped .repeats) (st .skipped .namesakes) → Answers z
+  answers-finish good enough r e f big st v all z q =
       let p = sym (packed-is b w good (le-leb _ _ enough) o) in
-      (e ∙ ap finishedOf p, f ∙ ap (λ (a : Answer). outputOf a o) p)
+      (q ∙ packing-is b (packed b w o) r (st .skipped .repeats) (st .skipped .namesakes) (e ∙ ap finishedOf p) (repeats-filed all) (namesakes-filed all), f ∙ ap (λ (a : Answer). outputOf a o) p)

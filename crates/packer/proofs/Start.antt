@@ -1,6 +1,6 @@
 -- Before the first object: slots that are cleared hold nothing.
 -- Assumes nothing.
-use mathlib.Core.Path.{_≡_, refl, subst}
+use mathlib.Core.Path.{_≡_, refl, ap, _∙_, subst}
 use mathlib.Core.Bool.{Bool, false}
 use mathlib.Core.Logic.{⊎-elim}
 use mathlib.Core.List.{List, []}
@@ -11,13 +11,14 @@ use lib.ListN.{length, getD, replicate}
 use Rattle.octets.specs.Octets.{zeros}
 use Rattle.octets.specs.Lists.{those, joined}
 use Rattle.octets.specs.Checked.{pass}
+use Rattle.octets.proofs.Placed.{getD-zeros}
 use Rattle.bundle.specs.Bundle.{Bundle, bundleOf}
 use Rattle.bundle.proofs.Lies.{here-span}
 use Rattle.bundle.proofs.Objects.{objects-none}
 use Rattle.strings.specs.Strings.{putAll, firstUses}
-use Rattle.strings.proofs.Keeping.{kept-none}
+use Rattle.strings.proofs.Keeping.{kept-cleared}
 use Rattle.work.specs.Regions.{recordsRegion, region}
-use Rattle.package.specs.Filing.{kept, keepAll}
+use Rattle.package.specs.Filing.{kept, keepAll, countOf, countFrom}
 use Rattle.package.specs.Pack.{unitBytes, allUsed, stringTable}
 use Rattle.kept.specs.Records.{recordsFrom, ofTable}
 use Rattle.kept.specs.Slots.{seenSlots, slotsIn}
@@ -29,7 +30,8 @@ use Rattle.kept.proofs.Holding.{pick-first, pick-second, units-none}
 use Rattle.kept.proofs.Seen.{seen-none}
 use Rattle.filing.specs.State.{wordsIn}
 use Rattle.filing.specs.ByObject.{AtObject}
-use Rattle.packer.specs.Objects.{noColumns, noneFiled, NoneSeen, Cleared}
+use Rattle.packer.proofs.Clearing.{cleared-again}
+use Rattle.packer.specs.Objects.{noColumns, noneFiled, NoneHeld, Cleared}
 
 -- ---- equal elements, the default among them
 equal-at : {A : Type 0} (x : A) (n k : ℕ) → getD (replicate n x) k x ≡ x
@@ -65,16 +67,17 @@ table-none five w slots t m e = record {
   numbered = record { is = λ i l q. absurd (not-suc-le-zero l) };
   seen = rw e (seen-none w 0 m);
   columns = columns-none five noColumns (equal-at false 8);
+  names = λ k f. absurd (f (ap (λ (l : List ℕ). getD l k 0) e ∙ getD-zeros m k));
 }
 
 same-table : (t : ℕ) → OneOrTwo t → noTable ≡ pick t noTable noTable
 same-table t o = ⊎-elim (λ (e : t ≡ 1). pick-first t noTable noTable e) (λ (e : t ≡ 2). pick-second t noTable noTable (λ q. omega arith)) o
 
-held-none : (five : Bool) (b w : List ℕ) (n : ℕ) → NoneSeen n w → UnitsHeld five b (region w n recordsRegion) (λ t. slotsIn w n t (seenSlots n)) (noneFiled .units) []
+held-none : (five : Bool) (b w : List ℕ) (n : ℕ) → NoneHeld n w → UnitsHeld five b (region w n recordsRegion) (λ t. slotsIn w n t (seenSlots n)) (noneFiled .units) []
 unfolding noneFiled
 held-none five b w n z =
     units-none five b (region w n recordsRegion) (λ t. slotsIn w n t (seenSlots n)) (noneFiled .units) refl refl refl
-    (λ t o. subst (λ (x : Table). TableHeld five (region w n recordsRegion) 0 (slotsIn w n t (seenSlots n)) t x []) (same-table t o) (table-none five (region w n recordsRegion) (slotsIn w n t (seenSlots n)) t (seenSlots n) (z .zero t o)))
+    (λ t o. subst (λ (x : Table). TableHeld five (region w n recordsRegion) 0 (slotsIn w n t (seenSlots n)) t x []) (same-table t o) (table-none five (region w n recordsRegion) (slotsIn w n t (seenSlots n)) t (seenSlots n) (z .slots t o)))
 
 -- the end word lies behind the head
 pub bundle-long : (b : List ℕ) (k : Bundle) → bundleOf b ≡ pass k → 4 ≤ length b
@@ -82,7 +85,7 @@ bundle-long b k e = let o = objects-none b k e in omega (arith, here-span b 4 (o
 
 -- all that is held before the first object
 pub at-start : {big : Bool} {b w : List ℕ} (first : ℕ) → Cleared big b w → AtObject b big first 4 w noneFiled (λ c. 0) [] []
-unfolding noneFiled UnitsGood
+unfolding noneFiled UnitsGood countOf countFrom
 at-start {big} {b} {w} first c =
     let long = bundle-long b (c .bundle) (c .reads) in
     record {
@@ -92,13 +95,15 @@ at-start {big} {b} {w} first c =
         some = c .can .some;
         units = tt;
         spent = omega arith;
-        held = rw kept-nothing (held-none _ b w (wordsIn b) (c .seen));
+        held = rw kept-nothing (held-none _ b w (wordsIn b) (c .none));
         based = λ c h. equal-at 0 14 c;
         low = λ c. omega arith;
         unitsLow = λ h. rw (kept-nothing, bytes-none h) (omega arith);
         within = long;
         limit = omega (arith, c .can .limit, c .whole);
+        repeated = refl;
+        named = refl;
       };
-      strings = rw strings-none (kept-none b _);
+      strings = rw strings-none (kept-cleared b _ (cleared-again _ _ (c .none .strings)));
       used = rw used-none (omega arith);
     }

@@ -2,4 +2,5 @@
 -- Assumes nothing.
 pub mod Small
 pub mod Objects
+pub mod Counted
 pub mod Told

@@ -11,6 +11,7 @@ use Rattle.octets.specs.Checked.{Check, pass, refuse}
 use Rattle.bundle.specs.Bundle.{Part, Bundle, items, bundleOf}
 use Rattle.bundle.specs.Scan.{Reaches, sectionsOf, placeBehind}
 use Rattle.index.specs.Rows.{BySection}
+use Rattle.work.specs.Regions.{stringsRegion, region, Only}
 use Rattle.package.specs.Input.{Input, unitSections, inputOf}
 use Rattle.package.specs.Filing.{Filed, Filing, unitsIn, grown, filingOf}
 use Rattle.kept.specs.Held.{OneOrTwo}
@@ -112,6 +113,7 @@ noneFiled = record {
   };
   bases = noSizes;
   strings = record { count = 0; size = 0; over = false };
+  skipped = record { repeats = 0; namesakes = 0 };
 }
 
 -- a bundle of n words, and work that is long enough
@@ -124,18 +126,24 @@ pub record Clearable (n words : ℕ) : Type 0 where
 abbrev pub SlotsCleared : ℕ → ℕ → List ℕ → List ℕ → Type 0
 SlotsCleared n table w v = (slotsIn v n table (seenSlots n) ≡ zeros (seenSlots n)) × SlotsLeft n table 0 (seenSlots n) w v
 
--- those of both tables
-pub record NoneSeen (n : ℕ) (w : List ℕ) : Type 0 where
-  pub zero : (t : ℕ) → OneOrTwo t → slotsIn w n t (seenSlots n) ≡ zeros (seenSlots n)
+-- the strings and the slots of their index are zero, and nothing else has changed
+pub record StringsCleared (n : ℕ) (w v : List ℕ) : Type 0 where
+  pub zero : region v n stringsRegion ≡ zeros (stringsRegion .words * n)
+  pub only : Only stringsRegion n w v
 
--- a bundle that can be read, and work that is long enough, with slots that are cleared; the rest of work may hold anything
+-- no identity is seen in either table, and no string is kept
+pub record NoneHeld (n : ℕ) (w : List ℕ) : Type 0 where
+  pub slots : (t : ℕ) → OneOrTwo t → slotsIn w n t (seenSlots n) ≡ zeros (seenSlots n)
+  pub strings : region w n stringsRegion ≡ zeros (stringsRegion .words * n)
+
+-- a bundle that can be read, and work that is long enough, with slots and strings that are cleared; the rest of work may hold anything
 pub record Cleared (big : Bool) (b w : List ℕ) : Type 0 where
   pub bundle : Bundle
   pub reads : bundleOf b ≡ pass bundle
   pub order : bundle .big ≡ big
   pub whole : length b % 4 ≡ 0
   pub can : Clearable (wordsIn b) (length w)
-  pub seen : NoneSeen (wordsIn b) w
+  pub none : NoneHeld (wordsIn b) w
 
 -- the refusal, or that all is filed
 unfoldable pub ObjectsAre : Bool → List ℕ → List ℕ → Check Filing → ObjectsFiled → Type 0

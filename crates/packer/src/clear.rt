@@ -1,6 +1,12 @@
-// What packing needs cleared of work before it: the slots of identities seen. Records and strings are stored before they are read.
+// What packing needs cleared of work before it: the slots of identities seen, and the strings with the slots of their index. All else
+// is stored before it is read.
 ghost use lib.ListN.{length};
-ghost use Rattle.packer.specs.Objects.{Clearable, SlotsCleared, NoneSeen};
+ghost use Rattle.packer.specs.Objects.{
+  Clearable,
+  SlotsCleared,
+  StringsCleared,
+  NoneHeld,
+};
 use finish::tables::TYPE;
 use work::COMPILATION;
 
@@ -16,11 +22,23 @@ fn clear_table(n: usize, table: usize, work: &mut [u32])
     octets::clear_words(&mut work[from..to]);
 }
 
-// Those of both.
+// The strings, for a bundle of n words: a slot of their index that is not 0 names a string.
+fn clear_strings(n: usize, work: &mut [u32])
+    requires { ⌜ Clearable n (length (now work)) ⌝ }
+    ensures { λ _. ⌜ StringsCleared n (now (work .entry)) (now (work .exit)) ⌝ }
+{
+    let strings = work::strings(n);
+    let first = strings.start;
+    let last = first + strings.size;
+    octets::clear_words(&mut work[first..last]);
+}
+
+// The slots of both tables, and the strings.
 pub fn clear_slots(n: usize, work: &mut [u32])
     requires { ⌜ Clearable n (length (now work)) ⌝ }
-    ensures { λ _. ⌜ NoneSeen n (now (work .exit)) ⌝ }
+    ensures { λ _. ⌜ NoneHeld n (now (work .exit)) ⌝ }
 {
     clear_table(n, COMPILATION, work);
     clear_table(n, TYPE, work);
+    clear_strings(n, work);
 }

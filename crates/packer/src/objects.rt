@@ -19,6 +19,7 @@ use index::cells::COLUMNS;
 use kept::Table;
 use kept::Units;
 use kept::state::InProgress;
+use kept::state::Skipped;
 use numbers::sections::CODES;
 use strings::table::StringTable;
 
@@ -50,14 +51,16 @@ pub struct ObjectsFiled {
 }
 
 fn with_bases(st: InProgress, bases: [usize; CODES]) -> InProgress
-    ensures { λ r. ⌜ r ≡ record { units = st .units; bases = bases; strings = st .strings } ⌝ }
+    ensures { λ r. ⌜ r ≡ record { units = st .units; bases = bases; strings = st .strings; skipped = st .skipped } ⌝ }
 {
     let units = st.units;
     let strings = st.strings;
+    let skipped = st.skipped;
     InProgress {
         units,
         bases,
         strings,
+        skipped,
     }
 }
 
@@ -144,6 +147,10 @@ fn nothing_filed() -> InProgress
             count: 0,
             size: 0,
             over: false,
+        },
+        skipped: Skipped {
+            repeats: 0,
+            namesakes: 0,
         },
     }
 }

@@ -32,8 +32,8 @@ entries-counted e s n p =
 pub entries-ill : (e : Encoding) (s : List ℕ) → IllFormed ≡ entriesRead (entriesOf e s) → entriesOf e s ≡ refuse 8
 entries-ill e s p = let r = read-ill (entriesOf e s) p in r .1 ∙ ap refuse (entries-refused e s (r .0) (r .1))
 
--- Three words for each kept string: an entry takes a word of the bundle or two, so three words for each word of the bundle are
--- enough. count strings are kept of used entries, which took no more than bytes; one section more still fits.
+-- Seven words for each kept string, three of its row and four slots: an entry takes a word of the bundle or two, so seven words for each word
+-- of the bundle are enough. count strings are kept of used entries, which took no more than bytes; one section more still fits.
 pub strings-room : (e : Encoding) (s : List ℕ) (count used bytes words : ℕ) → Sound e → count ≤ used → 4 * used ≤ bytes → bytes + length s ≤ 4 * words
-    → (3 * (count + length (entriesIn e s)) ≤ 3 * words) × (4 * (used + length (entriesIn e s)) ≤ bytes + length s)
+    → (7 * (count + length (entriesIn e s)) ≤ 7 * words) × (4 * (used + length (entriesIn e s)) ≤ bytes + length s)
 strings-room e s count used bytes words ok h g l = (omega (arith, entries-few e s ok), omega (arith, entries-few e s ok))

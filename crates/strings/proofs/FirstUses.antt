@@ -13,6 +13,7 @@ use Rattle.octets.proofs.Checks.{true-false, known, or-left, or-right, or-neith
 use Rattle.octets.proofs.Lists.{same-refl, same-sym, any-cons, any-stops, any-append, any-none-head, any-none-tail}
 use Rattle.octets.proofs.Elements.{any-at}
 use Rattle.strings.specs.Strings.{put, putAll, firstUses}
+use Rattle.strings.specs.Indexed.{Distinct}
 
 -- s is one of the strings of a table
 abbrev pub isIn : List (List ℕ) → List ℕ → Bool
@@ -102,11 +103,7 @@ unfolding firstUses
 used-in used i h = putAll-has [] used i h
 
 -- ---- no string twice
-unfoldable pub Distinct : List (List ℕ) → Type 0
-Distinct [] = Unit {0}
-Distinct (s ∷ ss) = (isIn ss s ≡ false) × Distinct ss
-
-distinct-snoc : (table : List (List ℕ)) (s : List ℕ) → Distinct table → isIn table s ≡ false → Distinct (table ++ (s ∷ []))
+pub distinct-snoc : (table : List (List ℕ)) (s : List ℕ) → Distinct table → isIn table s ≡ false → Distinct (table ++ (s ∷ []))
 unfolding any Distinct
 distinct-snoc [] s d e = (refl, tt)
 distinct-snoc (t ∷ ts) s d e =

@@ -7,9 +7,13 @@ pub mod Offsets
 pub mod StrOffsets
 pub mod Remapped
 pub mod Headers
+pub mod Hashing
+pub mod Indexing
 pub mod Holding
 pub mod Keeping
 pub mod Places
+pub mod Storing
+pub mod Remembering
 pub mod Adding
 pub mod Writing
 pub mod PartEntries

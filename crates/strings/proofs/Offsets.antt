@@ -5,16 +5,19 @@ use mathlib.Core.Logic.{⊎-elim}
 use mathlib.Core.Bool.{true, false}
 use mathlib.Core.List.{List, [], _∷_, _++_, map, append-nil, append-assoc}
 use Prim.Native.Nat.{ℕ, zero, suc, _+_, _<_, _≤_}
+use native.Mathlib.Nat.{not-suc-le-zero, le-of-suc-le-suc}
 use native.Mathlib.Omega.{arith}
 use native.Mathlib.Numerals.{add-one}
-use lib.ListN.{length, take, drop, getD, length-append, drop-of-length-le}
-use lib.Seq.{drop-cons, take-suc, drop-append-add}
+use lib.ListN.{length, take, drop, getD, length-append}
+use lib.Seq.{take-suc, drop-append-add}
 use Rattle.octets.specs.Lists.{any, same, joined, sum}
 use Rattle.octets.specs.Checked.{pass}
 use Rattle.octets.proofs.Checks.{true-false, known}
-use Rattle.octets.proofs.Lists.{same-eq, same-refl, any-cons, any-stops}
+use Rattle.octets.proofs.Lists.{same-eq, same-refl, same-sym, any-cons, any-stops}
+use Rattle.octets.proofs.Elements.{none-at}
 use Rattle.octets.proofs.Joined.{map-append, joined-append}
 use Rattle.strings.specs.Strings.{put, putAll, firstUses, ended, strOf, offsetIn, upToZero, stringAt}
+use Rattle.strings.specs.Indexed.{Distinct}
 use Rattle.strings.proofs.FirstUses.{isIn, put-grows, putAll-grows, put-new, used-in}
 use Rattle.strings.proofs.Ends.{NoZero, upTo-ended}
 
@@ -150,23 +153,18 @@ pub used-read : (n : ℕ) (used : List (List ℕ)) (i : ℕ) → i < length used
     → stringAt n (strOf (firstUses used)) (offsetIn (firstUses used) (getD used i [])) ≡ pass (getD used i [])
 used-read n used i h z = string-in-strOf n (firstUses used) (getD used i []) (used-in used i h) z
 
--- ---- a walk of the table
-pub in-turn : (table : List (List ℕ)) (s : List ℕ) (i : ℕ) → i < length table → same s (getD table i []) ≡ false → isIn (drop i table) s ≡ isIn (drop (i + 1) table) s
-in-turn table s i h e = rw (add-one, drop-cons table i [] h) (any-cons (same s) (getD table i []) (drop (suc i) table) e)
+-- ---- the place of row i
+pub row-offset : (table : List (List ℕ)) (i : ℕ) → Distinct table → i < length table → offsetIn table (getD table i []) ≡ length (strOf (take i table))
+unfolding Distinct
+row-offset [] i d h = absurd (not-suc-le-zero h)
+row-offset (t ∷ ts) zero d h = offset-here t ts t (same-refl t) ∙ sym (ap length strOf-none)
+row-offset (t ∷ ts) (suc i) d h =
+    let l : i < length ts = le-of-suc-le-suc h in
+    let s = getD ts i [] in
+    let e : same s t ≡ false = same-sym s t ∙ none-at (same t) [] ts i (d .0) l in
+    offset-next t ts s e ∙ ap (λ (k : ℕ). length t + 1 + k) (row-offset ts i (d .1) l) ∙ sym (length-strOf-cons t (take i ts))
 
-pub offset-turn : (table : List (List ℕ)) (s : List ℕ) (i : ℕ) → i < length table → same s (getD table i []) ≡ false
-    → length (strOf (take i table)) + offsetIn (drop i table) s ≡ length (strOf (take (i + 1) table)) + offsetIn (drop (i + 1) table) s
-offset-turn table s i h e =
-    let p : offsetIn (drop i table) s ≡ length (getD table i []) + 1 + offsetIn (drop (i + 1) table) s =
-    rw (add-one i, drop-cons table i [] h) (offset-next (getD table i []) (drop (suc i) table) s e) in
-    omega (arith, length-strOf-take table i h)
-
-pub in-here : (table : List (List ℕ)) (s : List ℕ) (i : ℕ) → i < length table → same s (getD table i []) ≡ true → isIn (drop i table) s ≡ true
-in-here table s i h e = rw (drop-cons table i [] h) (any-stops (same s) (getD table i []) (drop (suc i) table) e)
-
-pub offset-found : (table : List (List ℕ)) (s : List ℕ) (i : ℕ) → i < length table → same s (getD table i []) ≡ true → offsetIn (drop i table) s ≡ 0
-offset-found table s i h e = rw (drop-cons table i [] h) (offset-here (getD table i []) (drop (suc i) table) s e)
-
-pub in-end : (table : List (List ℕ)) (s : List ℕ) (i : ℕ) → length table ≤ i → isIn (drop i table) s ≡ false
-unfolding any
-in-end table s i h = rw (drop-of-length-le table h)
+-- there are no more strings than bytes
+pub strOf-counts : (table : List (List ℕ)) → length table ≤ length (strOf table)
+strOf-counts [] = omega arith
+strOf-counts (s ∷ table) = rw (length-strOf-cons s table) (omega (arith, strOf-counts table))

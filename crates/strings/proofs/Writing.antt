@@ -8,8 +8,7 @@ use native.Mathlib.Omega.{arith}
 use lib.ListN.{length, take, drop, getD, drop-of-length-le}
 use lib.Seq.{ext-getD, take-all, take-take}
 use Rattle.octets.specs.Octets.{part, placed, bytesOf, numbersOf}
-use Rattle.octets.specs.Checked.{pass, refuse}
-use Rattle.octets.proofs.Checks.{pass-inj, pass-refuse}
+use Rattle.octets.specs.Checked.{pass}
 use Rattle.octets.proofs.Parts.{part-cut, length-part}
 use Rattle.octets.proofs.Placed.{placed-none, placed-placed}
 use Rattle.octets.proofs.Regions.{numbers-step, entry-fits}
@@ -23,9 +22,9 @@ use Rattle.strings.proofs.Offsets.{strOf-none, strOf-take, length-strOf
 use Rattle.strings.proofs.StrOffsets.{Sound, Whole, entries-whole, header-within, whole-length}
 use Rattle.strings.proofs.Remapped.{length-map, getD-map}
 use Rattle.strings.proofs.Holding.{known-found, none-found}
-use Rattle.strings.proofs.Places.{Named, entry, length-bytesAt}
+use Rattle.strings.proofs.Places.{length-bytesAt}
 
--- ---- what a region holds is one table, and what is judged is one list of strings
+-- ---- what a region holds is one table
 pub held-unique : (b region : List ℕ) (n : ℕ) (ts us : List (List ℕ)) → Held b region n ts → Held b region n us → ts ≡ us
 held-unique b region n ts us p q =
     ext-getD [] ts us (sym (p .count) ∙ q .count)
@@ -42,24 +41,13 @@ module _ (e : Encoding) (b : List ℕ) (offsets strings : Place) (used : List (L
   pub judged-count : length used ≡ length (entriesIn e (bytesAt b offsets))
   judged-count = length-stringsAt (bytesAt b strings) (entriesIn e (bytesAt b offsets)) used (j .strings-are)
 
-  pub judged-unique : (others : List (List ℕ)) → Judged e b offsets strings others → used ≡ others
-  judged-unique others k = pass-inj (sym (j .strings-are) ∙ k .strings-are)
-
   pub judged-whole : Whole e (bytesAt b offsets)
   judged-whole = entries-whole e (bytesAt b offsets) (entriesIn e (bytesAt b offsets)) (j .entries) .0
 
-  module _ (k : ℕ) (h : k < length used) where
-    string-is : stringAt 9 (bytesAt b strings) (entry e b offsets strings k) ≡ pass (getD used k [])
-    string-is =
-        stringsAt-at (bytesAt b strings) (entriesIn e (bytesAt b offsets)) used k (j .strings-are) (omega (arith, judged-count))
-
-    -- the entry has a string
-    pub judged-named : (n : ℕ) → stringAt 9 (bytesAt b strings) (entry e b offsets strings k) ≡ refuse n → ⊥
-    judged-named n q = pass-refuse (getD used k []) n (sym string-is ∙ q)
-
-    pub entry-value : (table : List (List ℕ)) (start size v : ℕ) → Named e b offsets strings k start size → v ≡ offsetIn table (part b start size) → v ≡ offsetIn table (getD used k [])
-    entry-value table start size v n q =
-        q ∙ ap (offsetIn table) (n .bytes ∙ pass-inj (sym (n .named) ∙ string-is))
+  -- entry k names string k
+  pub judged-string : (k o : ℕ) → k < length used → o ≡ getD (entriesIn e (bytesAt b offsets)) k 0 → stringAt 9 (bytesAt b strings) o ≡ pass (getD used k [])
+  judged-string k o h q =
+      rw q (stringsAt-at (bytesAt b strings) (entriesIn e (bytesAt b offsets)) used k (j .strings-are) (omega (arith, judged-count)))
 
 -- ---- the entries
 -- a turn of the loop that writes them

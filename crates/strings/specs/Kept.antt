@@ -11,6 +11,7 @@ use Rattle.octets.specs.Lists.{any, same}
 use Rattle.octets.specs.Checked.{Check, pass, refuse}
 use Rattle.bundle.specs.Encoding.{Encoding}
 use Rattle.strings.specs.Strings.{entriesIn, entriesOf, stringsAt, putAll, strOf, offsetIn}
+use Rattle.strings.specs.Indexed.{roomOf, Indexed, Distinct}
 use Rattle.strings.specs.declared.table.Found.{Found}
 use Rattle.strings.specs.declared.table.Found.the-variants.{At, Missing}
 use Rattle.strings.specs.declared.table.Added.{Added}
@@ -26,21 +27,19 @@ bytesAt b p = part b (p .start) (p .size)
 unfoldable pub Inside : List ℕ → Place → Type 0
 Inside b p = p .start + p .size ≤ length b
 
--- entry k of an object's str_offsets
-abbrev pub entryOf : Encoding → List ℕ → Place → ℕ → ℕ
-entryOf e b offsets k = getD (entriesIn e (bytesAt b offsets)) k 0
-
 -- three words for string i of the table: where it lies in the bundle, its length, its offset in str
 pub record RowHeld (b region : List ℕ) (table : List (List ℕ)) (i : ℕ) : Type 0 where
   pub fits : getD region (3 * i) 0 + getD region (3 * i + 1) 0 ≤ length b
   pub bytes : part b (getD region (3 * i) 0) (getD region (3 * i + 1) 0) ≡ getD table i []
   pub place : getD region (3 * i + 2) 0 ≡ length (strOf (take i table))
 
--- the first n rows of the region are a table
+-- the first n rows of the region are a table, no string of it stands there twice, and the slots are its index
 pub record Held (b region : List ℕ) (n : ℕ) (table : List (List ℕ)) : Type 0 where
   pub count : n ≡ length table
-  pub room : 3 * n ≤ length region
+  pub room : n ≤ roomOf region
   pub rows : (i : ℕ) → i < n → RowHeld b region table i
+  pub distinct : Distinct table
+  pub index : Indexed (roomOf region) region n table
 
 -- the state for a table: whether its str section is above 8,388,607 bytes (19), and where it is not, how long it is, and the table itself
 pub record Kept (b region : List ℕ) (t : StringTable) (table : List (List ℕ)) : Type 0 where
@@ -48,6 +47,10 @@ pub record Kept (b region : List ℕ) (t : StringTable) (table : List (List ℕ)
   pub over : t .over ≡ ltb 8388607 (length (strOf table))
   pub size : t .over ≡ false → t .size ≡ length (strOf table)
   pub held : t .over ≡ false → Held b region (t .count) table
+
+-- the state for no strings
+abbrev pub none : StringTable
+none = record { count = 0; size = 0; over = false }
 
 -- a search of the table
 unfoldable pub foundIn : List (List ℕ) → List ℕ → Found

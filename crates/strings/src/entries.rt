@@ -12,6 +12,7 @@ ghost use Rattle.strings.specs.Strings.{
   entriesIn,
 };
 ghost use Rattle.strings.specs.Answers.{entriesFor, stringFor};
+ghost use Rattle.strings.specs.Remembered.{LastZero};
 use bundle::encoding::ObjectEncoding;
 
 // How many entries a section has.
@@ -147,4 +148,18 @@ pub fn string_at(s: &[u8], offset: u64) -> StringRead
         end += 1;
     }
     StringRead::Missing
+}
+
+// How many bytes stand up to the last zero byte: no string starts behind it.
+pub fn last_zero(s: &[u8]) -> usize
+    ensures { λ r. ⌜ LastZero (now (s .entry)) r ⌝ }
+{
+    let mut n = s.len();
+    while 0 < n {
+        if s[n - 1] == 0 {
+            return n;
+        }
+        n -= 1;
+    }
+    0
 }

@@ -1,4 +1,5 @@
-// Strings reached by str_offsets: entries, the table of kept strings, the sections of the package.
+// Strings reached by str_offsets: entries, the table of kept strings with its index, the sections of the package.
 pub mod entries;
 pub mod sections;
+pub mod slots;
 pub mod table;

@@ -1,98 +1,120 @@
 // The str_offsets and str sections of the package, by the table of kept strings.
 ghost use mathlib.Core.Path.{_≡_};
 ghost use mathlib.Core.Bool.{false};
-ghost use mathlib.Core.List.{List, [], map};
-ghost use Prim.Native.Nat.{ℕ, _+_, _*_, _≤_, _<_};
-ghost use lib.ListN.{length, getD};
-ghost use Rattle.octets.specs.Octets.{part, placed, numbersOf};
-ghost use Rattle.bundle.specs.Encoded.{encodingIs};
-ghost use Rattle.strings.specs.Strings.{ended, strOf, offsetIn, remapped};
-ghost use Rattle.strings.specs.Kept.{Held, Kept, Judged};
+ghost use mathlib.Core.List.{List};
+ghost use Prim.Native.Nat.{ℕ, _+_, _≤_};
+ghost use lib.ListN.{length};
+ghost use Rattle.octets.specs.Octets.{part, placed};
+ghost use Rattle.strings.specs.Strings.{ended, strOf, offsetIn};
+ghost use Rattle.strings.specs.Kept.{Held, Kept};
+ghost use Rattle.strings.specs.Objects.{
+  tableIn,
+  KeptIn,
+  JudgedOf,
+  Placeable,
+  Placing,
+  PlacesString,
+  Entering,
+  EntriesPut,
+  Remaps,
+  Writable,
+};
 use crate::entries;
 use crate::entries::StringRead;
 use crate::table::Found;
 use crate::table::Place;
+use crate::table::StrOffsets;
 use crate::table::StringTable;
-use bundle::encoding::ObjectEncoding;
 
 // Where a string of the bundle stands in str: behind them all where it is none of the table's.
 fn offset_of(b: &[u8], table: &[u32], t: StringTable, start: usize, size: usize) -> usize
     requires { ⌜ (start + size ≤ length (now b)) × (t .over ≡ false) × ((ts : List (List ℕ)) × Kept (now b) (now table) t ts) ⌝ }
     ensures { λ r. ⌜ ((ts : List (List ℕ)) → Kept (now (b .entry)) (now (table .entry)) t ts → r ≡ offsetIn ts (part (now (b .entry)) start size)) ⌝ }
 {
-    let count = t.count;
-    let Found::At(offset) = crate::table::find_string(b, table, count, start, size) else {
+    let Found::At(offset) = crate::table::find_string(b, table, start, size) else {
         return t.size;
     };
     offset
 }
 
-// The new value of entry k.
-fn entry_offset(
-    e: ObjectEncoding,
+// Where the string at an offset of an object's str stands in the package's. It is sought once for each offset. The caller knows that
+// a string starts there.
+fn string_offset(
     b: &[u8],
-    offsets: Place,
     strings: Place,
-    k: usize,
-    table: &[u32],
+    offset: usize,
+    store: &mut [u32],
+    words: usize,
     t: StringTable,
-) -> u64
-    requires { ⌜ (t .over ≡ false) × ((ts : List (List ℕ)) × Kept (now b) (now table) t ts) × ((used : List (List ℕ)) × Judged (encodingIs e) (now b) offsets strings used × (k < length used)) ⌝ }
-    ensures { λ r. ⌜ ((ts used : List (List ℕ)) → Kept (now (b .entry)) (now (table .entry)) t ts → Judged (encodingIs e) (now (b .entry)) offsets strings used → r ≡ offsetIn ts (getD used k [])) ⌝ }
+) -> usize
+    requires { ⌜ (t .over ≡ false) × Placeable (now b) strings offset words (now store) × ((ts : List (List ℕ)) × Placing (now b) strings words (now store) t ts) ⌝ }
+    ensures { λ r. ⌜ PlacesString (now (b .entry)) strings offset words (now (store .entry)) t (now (store .exit)) r ⌝ }
 {
-    let StringRead::At(start, size) = crate::table::entry_string(e, b, offsets, strings, k) else {
+    let at = words + offset;
+    let known = octets::word(store, at);
+    if known != 0 {
+        return known - 1;
+    }
+    let StringRead::At(start, size) = crate::table::string_in(b, strings, offset) else {
         return 0;
     };
-    octets::long(offset_of(b, table, t, start, size))
+    let place = offset_of(b, &store[..words], t, start, size);
+    octets::set_word(store, at, place + 1);
+    place
 }
 
-// The entries behind the header, each a search in the final table.
+// The entries behind the header, each by the final table, in memory that is cleared.
 fn put_entries(
-    e: ObjectEncoding,
+    o: StrOffsets,
     b: &[u8],
-    offsets: Place,
-    strings: Place,
-    table: &[u32],
+    store: &mut [u32],
+    words: usize,
     t: StringTable,
-    count: usize,
     d: &mut [u8],
     at: usize,
 )
-    requires { ⌜ (t .over ≡ false) × ((ts : List (List ℕ)) × Kept (now b) (now table) t ts) × ((used : List (List ℕ)) × Judged (encodingIs e) (now b) offsets strings used × (count ≡ length used)) × (at + encodingIs e .width * count ≤ length (now d)) ⌝ }
-    ensures { λ _. ⌜ ((ts used : List (List ℕ)) → Kept (now (b .entry)) (now (table .entry)) t ts → Judged (encodingIs e) (now (b .entry)) offsets strings used → now (d .exit) ≡ placed (now (d .entry)) at (numbersOf (encodingIs e .big) (encodingIs e .width) (map (offsetIn ts) used))) ⌝ }
+    requires { ⌜ (t .over ≡ false) × Entering (now b) o words (now store) t (length (now d)) at ⌝ }
+    ensures { λ _. ⌜ EntriesPut (now (b .entry)) o words (now (store .entry)) t (now (d .entry)) at (now (d .exit)) ⌝ }
+    ensures { λ _. ⌜ tableIn words (now (store .exit)) ≡ tableIn words (now (store .entry)) ⌝ }
 {
+    let e = o.encoding;
     let w = bundle::encoding::width(e);
+    let count = crate::table::entries_of(o, b);
     let mut k = 0;
-    let mut o = at;
+    let mut place = at;
     while k < count {
-        let n = entry_offset(e, b, offsets, strings, k, table, t);
-        octets::put_number(e.big, w, n, d, o);
+        let offset = crate::table::entry_of(o, b, k);
+        let n = string_offset(b, o.strings, octets::size(offset), store, words, t);
+        octets::put_number(e.big, w, octets::long(n), d, place);
         k += 1;
-        o += w;
+        place += w;
     }
 }
 
-// Writes an object's str_offsets by the final table: the header as it was, and for each entry its string's place in str.
+// Writes an object's str_offsets by the final table: the header as it was, and for each entry its string's place in str. The store
+// holds the table in its first words, and behind them a word of memory for each byte of the object's str; what the memory holds
+// after the call is not promised.
 pub fn remap_str_offsets(
-    e: ObjectEncoding,
+    o: StrOffsets,
     b: &[u8],
-    offsets: Place,
-    strings: Place,
-    table: &[u32],
+    store: &mut [u32],
+    words: usize,
     t: StringTable,
     d: &mut [u8],
     at: usize,
 )
-    requires { ⌜ (t .over ≡ false) × ((ts : List (List ℕ)) × Kept (now b) (now table) t ts) × ((used : List (List ℕ)) × Judged (encodingIs e) (now b) offsets strings used) × (at + offsets .size ≤ length (now d)) ⌝ }
-    ensures { λ _. ⌜ ((ts used : List (List ℕ)) → Kept (now (b .entry)) (now (table .entry)) t ts → Judged (encodingIs e) (now (b .entry)) offsets strings used → now (d .exit) ≡ placed (now (d .entry)) at (remapped (encodingIs e) ts (part (now (b .entry)) (offsets .start) (offsets .size)) used)) ⌝ }
+    requires { ⌜ (t .over ≡ false) × Writable o words (now store) (now d) at × ((ts : List (List ℕ)) × KeptIn (now b) words (now store) t ts) × ((used : List (List ℕ)) × JudgedOf o (now b) used) ⌝ }
+    ensures { λ _. ⌜ Remaps (now (b .entry)) o words (now (store .entry)) t (now (d .entry)) at (now (d .exit)) ⌝ }
+    ensures { λ _. ⌜ tableIn words (now (store .exit)) ≡ tableIn words (now (store .entry)) ⌝ }
 {
-    let h = entries::header_size(e);
+    let h = entries::header_size(o.encoding);
+    let offsets = o.offsets;
+    let strings = o.strings;
     let first = offsets.start;
     let header_end = first + h;
-    let last = first + offsets.size;
-    let count = entries::entry_count(e, &b[first..last]);
     octets::put_bytes(d, at, &b[first..header_end]);
-    put_entries(e, b, offsets, strings, table, t, count, d, at + h);
+    crate::table::forget(store, words, strings.size);
+    put_entries(o, b, store, words, t, d, at + h);
 }
 
 // A string as it is put, with a zero.

@@ -1,33 +1,51 @@
 // The table of kept strings, in a region of the work area: three words for each string, which say where it lies in the
-// bundle, its length and its offset in the package's str. A string that is known is kept once; a new one goes to the end.
+// bundle, its length and its offset in the package's str, and behind these rows the slots of their index. A string that is known is
+// kept once; a new one goes to the end. While an object's strings are put, words lent for its str remember by a string's start
+// that it is kept, so that a string named often is read once.
 ghost use mathlib.Core.Path.{_≡_};
 ghost use mathlib.Core.Bool.{true, false};
 ghost use mathlib.Core.List.{List, [], _∷_};
 ghost use Prim.Native.Nat.{ℕ, _+_, _*_, _≤_, _<_, _^_};
 ghost use lib.ListN.{length, getD};
-ghost use Rattle.octets.specs.Octets.{part, placed};
-ghost use Rattle.octets.specs.Lists.{same};
-ghost use Rattle.bundle.specs.Encoded.{encodingIs};
+ghost use Rattle.octets.specs.Octets.{part, placed, zeros};
 ghost use Rattle.numbers.specs.Refusals.{noString};
-ghost use Rattle.strings.specs.Strings.{entriesIn, stringsAt, put};
+ghost use Rattle.strings.specs.Strings.{put};
 ghost use Rattle.strings.specs.Answers.{stringFor};
 ghost use Rattle.strings.specs.Kept.{
-  entryOf,
   bytesAt,
   Inside,
   Held,
   Kept,
   foundIn,
-  AddedIs,
+};
+ghost use Rattle.strings.specs.Remembered.{LastZero};
+ghost use Rattle.strings.specs.Objects.{
+  entriesAt,
+  tableIn,
+  KeptIn,
+  PuttingIn,
+  AddedOf,
+  Insertable,
+  Addable,
+  AllAddable,
+  PutsString,
 };
 use crate::entries;
 use crate::entries::StringRead;
+use crate::slots::Sought;
 use bundle::encoding::ObjectEncoding;
 
 // A part of the bundle.
 pub struct Place {
     pub start: usize,
     pub size: usize,
+}
+
+// An object's str_offsets and str.
+pub struct StrOffsets {
+    pub encoding: ObjectEncoding,
+    pub offsets: Place,
+    pub strings: Place,
 }
 
 // How many strings are kept, how long their str section is, and whether it would be above 8,388,607 bytes (19). From then on
@@ -50,31 +68,15 @@ pub enum Added {
     NoString,
 }
 
-// Whether row i is the string at a place of the bundle.
-fn row_same(b: &[u8], table: &[u32], i: usize, start: usize, size: usize) -> bool
-    requires { ⌜ (3 * i + 3 ≤ length (now table)) × (start + size ≤ length (now b)) × (getD (now table) (3 * i) 0 + getD (now table) (3 * i + 1) 0 ≤ length (now b)) ⌝ }
-    ensures { λ r. ⌜ r ≡ same (part (now (b .entry)) start size) (part (now (b .entry)) (getD (now (table .entry)) (3 * i) 0) (getD (now (table .entry)) (3 * i + 1) 0)) ⌝ }
+// Seeks a string of the bundle. Callers go by the contract alone, so that another search may stand here.
+pub fn find_string(b: &[u8], table: &[u32], start: usize, size: usize) -> Found
+    requires { ⌜ (start + size ≤ length (now b)) × ((n : ℕ) × (ts : List (List ℕ)) × Held (now b) (now table) n ts) ⌝ }
+    ensures { λ r. ⌜ ((n : ℕ) (ts : List (List ℕ)) → Held (now (b .entry)) (now (table .entry)) n ts → r ≡ foundIn ts (part (now (b .entry)) start size)) ⌝ }
 {
-    let at = octets::word(table, 3 * i);
-    let n = octets::word(table, 3 * i + 1);
-    let end = start + size;
-    let row_end = at + n;
-    octets::same_bytes(&b[start..end], &b[at..row_end])
-}
-
-// Walks the kept strings. Callers go by the contract alone, so that another search may stand here.
-pub fn find_string(b: &[u8], table: &[u32], count: usize, start: usize, size: usize) -> Found
-    requires { ⌜ (start + size ≤ length (now b)) × ((ts : List (List ℕ)) × Held (now b) (now table) count ts) ⌝ }
-    ensures { λ r. ⌜ ((ts : List (List ℕ)) → Held (now (b .entry)) (now (table .entry)) count ts → r ≡ foundIn ts (part (now (b .entry)) start size)) ⌝ }
-{
-    let mut i = 0;
-    while i < count {
-        if row_same(b, table, i, start, size) {
-            return Found::At(octets::word(table, 3 * i + 2));
-        }
-        i += 1;
-    }
-    Found::Missing
+    let Sought::Row(i) = crate::slots::seek_string(b, table, start, size) else {
+        return Found::Missing;
+    };
+    Found::At(octets::word(table, 3 * i + 2))
 }
 
 fn set_row(table: &mut [u32], i: usize, start: usize, size: usize, offset: usize)
@@ -87,7 +89,8 @@ fn set_row(table: &mut [u32], i: usize, start: usize, size: usize, offset: usize
     table[at + 2] = offset as u32;
 }
 
-// Puts a string of the bundle. The caller has room for one more row.
+// Puts a string of the bundle: its row behind the others, and its number in the slot where the search for it ended. The caller
+// has room for one more row.
 pub fn get_or_insert(
     b: &[u8],
     start: usize,
@@ -95,7 +98,7 @@ pub fn get_or_insert(
     table: &mut [u32],
     t: StringTable,
 ) -> StringTable
-    requires { ⌜ (length (now b) < 2 ^ 32) × (start + size ≤ length (now b)) × (3 * t .count + 3 ≤ length (now table)) × ((ts : List (List ℕ)) × Kept (now b) (now table) t ts) ⌝ }
+    requires { ⌜ Insertable (now b) start size (now table) t × ((ts : List (List ℕ)) × Kept (now b) (now table) t ts) ⌝ }
     ensures { λ r. ⌜ ((ts : List (List ℕ)) → Kept (now (b .entry)) (now (table .entry)) t ts → Kept (now (b .entry)) (now (table .exit)) r (put ts (part (now (b .entry)) start size))) ⌝ }
     ensures { λ r. ⌜ r .count ≤ t .count + 1 ⌝ }
 {
@@ -104,9 +107,9 @@ pub fn get_or_insert(
     }
     let count = t.count;
     let kept = t.size;
-    if let Found::At(_) = find_string(b, table, count, start, size) {
+    let Sought::Free(slot) = crate::slots::seek_string(b, table, start, size) else {
         return t;
-    }
+    };
     if 8_388_607 - kept <= size {
         return StringTable {
             count,
@@ -115,6 +118,7 @@ pub fn get_or_insert(
         };
     }
     set_row(table, count, start, size, kept);
+    octets::set_word(table, slot, count + 1);
     StringTable {
         count: count + 1,
         size: kept + size + 1,
@@ -122,51 +126,122 @@ pub fn get_or_insert(
     }
 }
 
-// The string that entry k names, by its place in the bundle.
-pub fn entry_string(
-    e: ObjectEncoding,
-    b: &[u8],
-    offsets: Place,
-    strings: Place,
-    k: usize,
-) -> StringRead
-    requires { ⌜ Inside (now b) offsets × Inside (now b) strings × (k < length (entriesIn (encodingIs e) (bytesAt (now b) offsets))) ⌝ }
-    ensures { λ r. ⌜ r ≡ stringFor noString (bytesAt (now (b .entry)) strings) (strings .start + entryOf (encodingIs e) (now (b .entry)) offsets k) (entryOf (encodingIs e) (now (b .entry)) offsets k) .answer ⌝ }
+// Entry k of an object's str_offsets.
+pub fn entry_of(o: StrOffsets, b: &[u8], k: usize) -> u64
+    requires { ⌜ Inside (now b) (o .offsets) × (k < length (entriesAt o (now b))) ⌝ }
+    ensures { λ r. ⌜ r ≡ getD (entriesAt o (now (b .entry))) k 0 ⌝ }
 {
+    let offsets = o.offsets;
     let first = offsets.start;
     let last = first + offsets.size;
-    let offset = entries::entry_at(e, &b[first..last], k);
+    entries::entry_at(o.encoding, &b[first..last], k)
+}
+
+// How many entries an object's str_offsets has.
+pub fn entries_of(o: StrOffsets, b: &[u8]) -> usize
+    requires { ⌜ Inside (now b) (o .offsets) ⌝ }
+    ensures { λ r. ⌜ r ≡ length (entriesAt o (now (b .entry))) ⌝ }
+{
+    let offsets = o.offsets;
+    let first = offsets.start;
+    let last = first + offsets.size;
+    entries::entry_count(o.encoding, &b[first..last])
+}
+
+// The string at an offset of an object's str, by its place in the bundle.
+pub fn string_in(b: &[u8], strings: Place, offset: usize) -> StringRead
+    requires { ⌜ Inside (now b) strings ⌝ }
+    ensures { λ r. ⌜ r ≡ stringFor noString (bytesAt (now (b .entry)) strings) (strings .start + offset) offset .answer ⌝ }
+{
     let base = strings.start;
     let end = base + strings.size;
-    let StringRead::At(start, size) = entries::string_at(&b[base..end], offset) else {
+    let StringRead::At(start, size) = entries::string_at(&b[base..end], octets::long(offset)) else {
         return StringRead::Missing;
     };
     StringRead::At(base + start, size)
 }
 
-// Puts the strings that an object's entries name, whose section check_entries let pass. The caller has a row for each entry.
-pub fn add_strings(
-    e: ObjectEncoding,
+// Forgets what was remembered of the first n offsets. The memory stands behind the words of the table.
+pub fn forget(store: &mut [u32], words: usize, n: usize)
+    requires { ⌜ words + n ≤ length (now store) ⌝ }
+    ensures { λ _. ⌜ now (store .exit) ≡ placed (now (store .entry)) words (zeros n) ⌝ }
+{
+    let end = words + n;
+    octets::clear_words(&mut store[words..end]);
+}
+
+// Puts the string at an offset of an object's str, unless it is known to be kept. Nothing is read for a table that is over. The
+// caller knows that a string starts there, and has room for one more row.
+fn add_string(
     b: &[u8],
-    offsets: Place,
     strings: Place,
-    table: &mut [u32],
+    offset: usize,
+    store: &mut [u32],
+    words: usize,
+    t: StringTable,
+) -> StringTable
+    requires { ⌜ Addable (now b) strings offset words (now store) t × ((ts : List (List ℕ)) × PuttingIn (now b) strings words (now store) t ts) ⌝ }
+    ensures { λ r. ⌜ PutsString (now (b .entry)) strings offset words (now (store .entry)) t (now (store .exit)) r ⌝ }
+    ensures { λ r. ⌜ r .count ≤ t .count + 1 ⌝ }
+{
+    if t.over {
+        return t;
+    }
+    let at = words + offset;
+    if octets::word(store, at) != 0 {
+        return t;
+    }
+    let StringRead::At(start, size) = string_in(b, strings, offset) else {
+        return t;
+    };
+    let kept = get_or_insert(b, start, size, &mut store[..words], t);
+    octets::set_word(store, at, 1);
+    kept
+}
+
+// Puts the strings of all entries, in memory that is cleared. ended says where the last string of str ends.
+fn add_entries(
+    o: StrOffsets,
+    b: &[u8],
+    ended: usize,
+    store: &mut [u32],
+    words: usize,
     t: StringTable,
 ) -> Added
-    requires { ⌜ (length (now b) < 2 ^ 32) × Inside (now b) offsets × Inside (now b) strings × (3 * (t .count + length (entriesIn (encodingIs e) (bytesAt (now b) offsets))) ≤ length (now table)) × ((ts : List (List ℕ)) × Kept (now b) (now table) t ts) ⌝ }
-    ensures { λ r. ⌜ ((ts : List (List ℕ)) → Kept (now (b .entry)) (now (table .entry)) t ts → AddedIs (now (b .entry)) (now (table .exit)) ts (stringsAt (bytesAt (now (b .entry)) strings) (entriesIn (encodingIs e) (bytesAt (now (b .entry)) offsets))) r) ⌝ }
+    requires { ⌜ AllAddable (now b) o words (now store) t × LastZero (bytesAt (now b) (o .strings)) ended × ((ts : List (List ℕ)) × PuttingIn (now b) (o .strings) words (now store) t ts) ⌝ }
+    ensures { λ r. ⌜ ((ts : List (List ℕ)) → PuttingIn (now (b .entry)) (o .strings) words (now (store .entry)) t ts → AddedOf (now (b .entry)) o (tableIn words (now (store .exit))) ts r) ⌝ }
 {
-    let first = offsets.start;
-    let last = first + offsets.size;
-    let count = entries::entry_count(e, &b[first..last]);
+    let count = entries_of(o, b);
     let mut kept = t;
     let mut k = 0;
     while k < count {
-        let StringRead::At(start, size) = entry_string(e, b, offsets, strings, k) else {
+        let offset = entry_of(o, b, k);
+        if octets::long(ended) <= offset {
             return Added::NoString;
-        };
-        kept = get_or_insert(b, start, size, table, kept);
+        }
+        kept = add_string(b, o.strings, octets::size(offset), store, words, kept);
         k += 1;
     }
     Added::Table(kept)
+}
+
+// Puts the strings that an object's entries name, whose section check_entries let pass. The store holds the table in its first
+// words, with a row for each entry, and behind them a word of memory for each byte of str; what the memory holds after the call is
+// not promised.
+pub fn add_strings(
+    o: StrOffsets,
+    b: &[u8],
+    store: &mut [u32],
+    words: usize,
+    t: StringTable,
+) -> Added
+    requires { ⌜ AllAddable (now b) o words (now store) t × ((ts : List (List ℕ)) × KeptIn (now b) words (now store) t ts) ⌝ }
+    ensures { λ r. ⌜ ((ts : List (List ℕ)) → KeptIn (now (b .entry)) words (now (store .entry)) t ts → AddedOf (now (b .entry)) o (tableIn words (now (store .exit))) ts r) ⌝ }
+{
+    let strings = o.strings;
+    let base = strings.start;
+    let end = base + strings.size;
+    let ended = entries::last_zero(&b[base..end]);
+    forget(store, words, strings.size);
+    add_entries(o, b, ended, store, words, t)
 }

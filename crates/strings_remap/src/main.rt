@@ -5,13 +5,17 @@ ghost use mathlib.Core.Bool.{false};
 ghost use mathlib.Core.List.{List};
 ghost use Prim.Native.Nat.{ℕ, _+_, _≤_, _<_, _^_};
 ghost use lib.ListN.{length};
+ghost use Rattle.octets.specs.Checked.{pass};
 ghost use Rattle.bundle.specs.Encoded.{encodingIs};
-ghost use Rattle.strings.specs.Kept.{Inside, Kept, Judged};
+ghost use Rattle.strings.specs.Strings.{entriesOf};
+ghost use Rattle.strings.specs.Kept.{none, Inside, bytesAt};
+ghost use Rattle.strings.specs.Objects.{entriesAt, KeptIn, JudgedOf, AllAddable};
 use bundle::encoding::ObjectEncoding;
 use libc::STDOUT_FILENO;
 use strings::entries::Entries;
 use strings::table::Added;
 use strings::table::Place;
+use strings::table::StrOffsets;
 use strings::table::StringTable;
 
 enum Outcome {
@@ -24,16 +28,16 @@ enum Outcome {
 
 // The new str_offsets from the front of the output, and the new str behind it.
 fn write_sections(
-    e: ObjectEncoding,
+    o: StrOffsets,
     b: &[u8],
-    offsets: Place,
-    text: Place,
-    table: &[u32],
+    store: &mut [u32],
+    words: usize,
     t: StringTable,
     output: &mut [u8],
 ) -> Outcome
-    requires { ⌜ (t .over ≡ false) × ((ts : List (List ℕ)) × Kept (now b) (now table) t ts) × ((used : List (List ℕ)) × Judged (encodingIs e) (now b) offsets text used) ⌝ }
+    requires { ⌜ (t .over ≡ false) × (words + o .strings .size ≤ length (now store)) × ((s : List (List ℕ)) × KeptIn (now b) words (now store) t s) × ((u : List (List ℕ)) × JudgedOf o (now b) u) ⌝ }
 {
+    let offsets = o.offsets;
     let at = offsets.size;
     if output.len() < at {
         return Outcome::Short;
@@ -43,41 +47,54 @@ fn write_sections(
         return Outcome::Short;
     }
     let count = t.count;
-    strings::sections::remap_str_offsets(e, b, offsets, text, table, t, output, 0);
-    strings::sections::write_strings(b, table, count, output, at);
+    strings::sections::remap_str_offsets(o, b, store, words, t, output, 0);
+    strings::sections::write_strings(b, &store[..words], count, output, at);
     Outcome::Sections(at, at + size)
 }
 
-fn remap(
-    e: ObjectEncoding,
+// Puts the strings of an object whose entries were counted, in a table that is cleared, and writes its sections.
+fn remap_entries(
+    o: StrOffsets,
     b: &[u8],
-    offsets: Place,
-    text: Place,
-    table: &mut [u32],
+    store: &mut [u32],
+    words: usize,
     output: &mut [u8],
 ) -> Outcome
-    requires { ⌜ (length (now b) < 2 ^ 32) × Inside (now b) offsets × Inside (now b) text ⌝ }
+    requires { ⌜ AllAddable (now b) o words (now store) none × (entriesOf (encodingIs (o .encoding)) (bytesAt (now b) (o .offsets)) ≡ pass (entriesAt o (now b))) ⌝ }
 {
-    let first = offsets.start;
-    let last = first + offsets.size;
-    let Entries::Count(n) = strings::entries::check_entries(e, &b[first..last]) else {
-        return Outcome::Refused(8);
-    };
-    if table.len() / 3 < n {
-        return Outcome::Short;
-    }
+    octets::clear_words(store);
     let t = StringTable {
         count: 0,
         size: 0,
         over: false,
     };
-    let Added::Table(kept) = strings::table::add_strings(e, b, offsets, text, table, t) else {
+    let Added::Table(kept) = strings::table::add_strings(o, b, store, words, t) else {
         return Outcome::Refused(9);
     };
     if kept.over {
         return Outcome::Refused(19);
     }
-    write_sections(e, b, offsets, text, table, kept, output)
+    write_sections(o, b, store, words, kept, output)
+}
+
+// The table stands in the first words of the store, and the memory behind them.
+fn remap(o: StrOffsets, b: &[u8], store: &mut [u32], words: usize, output: &mut [u8]) -> Outcome
+    requires { ⌜ (length (now b) < 2 ^ 32) × Inside (now b) (o .offsets) × Inside (now b) (o .strings) × (words ≤ length (now store)) ⌝ }
+{
+    let offsets = o.offsets;
+    let text = o.strings;
+    let first = offsets.start;
+    let last = first + offsets.size;
+    let Entries::Count(n) = strings::entries::check_entries(o.encoding, &b[first..last]) else {
+        return Outcome::Refused(8);
+    };
+    if words / 7 < n {
+        return Outcome::Short;
+    }
+    if store.len() - words < text.size {
+        return Outcome::Short;
+    }
+    remap_entries(o, b, store, words, output)
 }
 
 // An upper-case hexadecimal digit.
@@ -118,12 +135,12 @@ fn write_both(output: &[u8], at: usize, end: usize) {
     }
 }
 
-fn tell(e: ObjectEncoding, b: &[u8], offsets: Place, text: Place)
-    requires { ⌜ (length (now b) < 2 ^ 32) × Inside (now b) offsets × Inside (now b) text ⌝ }
+fn tell(o: StrOffsets, b: &[u8])
+    requires { ⌜ (length (now b) < 2 ^ 32) × Inside (now b) (o .offsets) × Inside (now b) (o .strings) ⌝ }
 {
-    let mut table = [0u32; 48];
+    let mut store = [0u32; 176];
     let mut output = [0u8; 256];
-    match remap(e, b, offsets, text, &mut table, &mut output) {
+    match remap(o, b, &mut store, 112, &mut output) {
         Outcome::Sections(at, end) => {
             write_both(&output, at, end);
         }
@@ -159,16 +176,18 @@ fn show(name: &[u8], e: ObjectEncoding, header: &[u8], entries: &[u32], text: &[
     octets::put_numbers(e.big, w, entries, &mut b, at);
     octets::put_bytes(&mut b, end, text);
     tell(
-        e,
+        StrOffsets {
+            encoding: e,
+            offsets: Place {
+                start: 0,
+                size: end,
+            },
+            strings: Place {
+                start: end,
+                size: text.len(),
+            },
+        },
         &b,
-        Place {
-            start: 0,
-            size: end,
-        },
-        Place {
-            start: end,
-            size: text.len(),
-        },
     );
 }
 

@@ -1,3 +1,4 @@
--- What a store in one region leaves of the others.
+-- What a store in one region leaves of the others, and a region that is lent.
 -- Assumes nothing.
 pub mod Stores
+pub mod Lending

@@ -9,8 +9,8 @@ use native.Mathlib.Nat.{add-mul, mul-le-mul-right}
 use native.Mathlib.Omega.{arith}
 use native.Mathlib.Decide.{decLt}
 use lib.Dec.{eqb}
-use lib.ListN.{length, getD}
-use lib.Seq.{ext-getD}
+use lib.ListN.{length, take, drop, getD}
+use lib.Seq.{ext-getD, take-take}
 use borrow.Author.Tests.{eq-eqb, ne-eqb}
 use Rattle.octets.specs.Octets.{part, placed}
 use Rattle.octets.proofs.Checks.{known}
@@ -18,7 +18,7 @@ use Rattle.octets.proofs.Parts.{length-part, getD-part}
 use Rattle.octets.proofs.Placed.{length-placed}
 use Rattle.octets.proofs.Regions.{part-before, part-behind, getD-placed, getD-before, getD-behind}
 use Rattle.numbers.specs.Limits.{workForWord}
-use Rattle.work.specs.Regions.{Layout, recordsRegion, stringsRegion, compilationSlots, typeSlots, slotsRegion, rowsRegion, codesRegion, region, Apart}
+use Rattle.work.specs.Regions.{Layout, recordsRegion, stringsRegion, compilationSlots, typeSlots, slotsRegion, rowsRegion, codesRegion, storeRegion, region, Apart}
 
 -- what is stored in a part of a list is stored in that part's own words
 module _ (w : List ℕ) (base size at : ℕ) (x : List ℕ) (fits : base + size ≤ length w) (inside : at + length x ≤ size) where
@@ -100,6 +100,14 @@ records-within = record { ends = omega arith }
 pub strings-within : Within stringsRegion
 strings-within = record { ends = omega arith }
 
+pub store-within : Within storeRegion
+store-within = record { ends = omega arith }
+
+-- the strings are the front of the store
+pub store-strings : (w : List ℕ) (n : ℕ) → take (stringsRegion .words * n) (region w n storeRegion) ≡ region w n stringsRegion
+unfolding region part
+store-strings w n = take-take (stringsRegion .words * n) (storeRegion .words * n) (drop (storeRegion .start * n) w) (omega arith)
+
 pub slots-within : (table : ℕ) → Within (slotsRegion table)
 slots-within table = ⊎-elim (λ e. rw e (record { ends = omega arith })) (λ e. rw e (record { ends = omega arith })) (slots-are table)
 
@@ -114,14 +122,25 @@ pub strings-records : Apart stringsRegion recordsRegion
 unfolding Apart
 strings-records = inr (omega arith)
 
+pub store-records : Apart storeRegion recordsRegion
+unfolding Apart
+store-records = inr (omega arith)
+
 module _ (table : ℕ) where
+  slots-before : slotsRegion table .start + slotsRegion table .words ≤ stringsRegion .start
+  slots-before = ⊎-elim (λ e. rw e (omega arith)) (λ e. rw e (omega arith)) (slots-are table)
+
   pub records-slots : Apart recordsRegion (slotsRegion table)
   unfolding Apart
   records-slots = inl (⊎-elim (λ e. rw e (omega arith)) (λ e. rw e (omega arith)) (slots-are table))
 
   pub strings-slots : Apart stringsRegion (slotsRegion table)
   unfolding Apart
-  strings-slots = inl (⊎-elim (λ e. rw e (omega arith)) (λ e. rw e (omega arith)) (slots-are table))
+  strings-slots = inr slots-before
+
+  pub store-slots : Apart storeRegion (slotsRegion table)
+  unfolding Apart
+  store-slots = inr slots-before
 
   pub slots-records : Apart (slotsRegion table) recordsRegion
   unfolding Apart
@@ -129,7 +148,7 @@ module _ (table : ℕ) where
 
   pub slots-strings : Apart (slotsRegion table) stringsRegion
   unfolding Apart
-  slots-strings = inr (⊎-elim (λ e. rw e (omega arith)) (λ e. rw e (omega arith)) (slots-are table))
+  slots-strings = inl slots-before
 
 -- the two tables' slots
 pub compilation-slots : (table : ℕ) → table ≡ 1 → slotsRegion table ≡ compilationSlots
@@ -152,24 +171,21 @@ pub codes-within : Within codesRegion
 codes-within = record { ends = omega arith }
 
 module _ (table : ℕ) where
-  slots-before : slotsRegion table .start + slotsRegion table .words ≤ rowsRegion .start
-  slots-before = ⊎-elim (λ e. rw e (omega arith)) (λ e. rw e (omega arith)) (slots-are table)
-
   pub slots-rows : Apart (slotsRegion table) rowsRegion
   unfolding Apart
-  slots-rows = inl slots-before
+  slots-rows = inl (omega (arith, slots-before table))
 
   pub slots-codes : Apart (slotsRegion table) codesRegion
   unfolding Apart
-  slots-codes = inl (omega (arith, slots-before))
+  slots-codes = inl (omega (arith, slots-before table))
 
   pub rows-slots : Apart rowsRegion (slotsRegion table)
   unfolding Apart
-  rows-slots = inr slots-before
+  rows-slots = inr (omega (arith, slots-before table))
 
   pub codes-slots : Apart codesRegion (slotsRegion table)
   unfolding Apart
-  codes-slots = inr (omega (arith, slots-before))
+  codes-slots = inr (omega (arith, slots-before table))
 
 pub records-rows : Apart recordsRegion rowsRegion
 unfolding Apart
@@ -186,3 +202,7 @@ rows-behind s h = inr h
 pub codes-behind : (s : Layout) → s .start + s .words ≤ codesRegion .start → Apart codesRegion s
 unfolding Apart
 codes-behind s h = inr h
+
+pub codes-rows : Apart codesRegion rowsRegion
+unfolding Apart
+codes-rows = inl (omega arith)

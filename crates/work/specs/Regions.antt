@@ -1,5 +1,7 @@
--- The regions of work, in words for each word of the bundle: records of kept units 5, strings 3, slots of each table 1, an object's rows by place 2,
--- the codes of an abbreviation table 4: 16 in all.
+-- The regions of work, in words for each word of the bundle: records of kept units 5, slots of each table 1, strings 7 (their rows 3, the slots of their
+-- index 4), the codes of an abbreviation table 4, an object's rows by place 2: 20 in all. What is remembered of an object's str by a string's start stands
+-- where the codes do, a word for each byte: codes count while units are filed, memory while strings are put or written. So that both can be lent as one
+-- store, the codes stand behind the strings.
 -- Assumes nothing.
 use mathlib.Core.Path.{_≡_}
 use mathlib.Core.Bool.{true, false}
@@ -18,23 +20,27 @@ pub record Layout : Type 0 where
 abbrev pub recordsRegion : Layout
 recordsRegion = record { start = 0; words = 5 }
 
-abbrev pub stringsRegion : Layout
-stringsRegion = record { start = 5; words = 3 }
-
 abbrev pub compilationSlots : Layout
-compilationSlots = record { start = 8; words = 1 }
+compilationSlots = record { start = 5; words = 1 }
 
 abbrev pub typeSlots : Layout
-typeSlots = record { start = 9; words = 1 }
+typeSlots = record { start = 6; words = 1 }
 
 unfoldable pub slotsRegion : ℕ → Layout
 slotsRegion table = elim (eqb table compilationTable) [ true ↦ compilationSlots | false ↦ typeSlots ]
 
-abbrev pub rowsRegion : Layout
-rowsRegion = record { start = 10; words = 2 }
+abbrev pub stringsRegion : Layout
+stringsRegion = record { start = 7; words = 7 }
 
 abbrev pub codesRegion : Layout
-codesRegion = record { start = 12; words = 4 }
+codesRegion = record { start = 14; words = 4 }
+
+-- the strings, and the memory behind them
+abbrev pub storeRegion : Layout
+storeRegion = record { start = 7; words = 11 }
+
+abbrev pub rowsRegion : Layout
+rowsRegion = record { start = 18; words = 2 }
 
 -- a record's words, and the least words of the bundle that a unit takes
 abbrev pub recordWords : ℕ
@@ -50,3 +56,8 @@ region w n r = part w (r .start * n) (r .words * n)
 -- a region lies before or behind another
 unfoldable pub Apart : Layout → Layout → Type 0
 Apart r s = (r .start + r .words ≤ s .start) ⊎ (s .start + s .words ≤ r .start)
+
+-- nothing but one region has changed
+pub record Only (r : Layout) (n : ℕ) (w v : List ℕ) : Type 0 where
+  pub same : length v ≡ length w
+  pub others : (s : Layout) → Apart r s → region v n s ≡ region w n s

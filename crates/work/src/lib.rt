@@ -7,6 +7,7 @@ ghost use Rattle.work.specs.Regions.{
   slotsRegion,
   rowsRegion,
   codesRegion,
+  storeRegion,
 };
 
 // One record of so many words for each kept unit. A unit takes at least five words of the bundle, so that 23 for each five fit.
@@ -20,23 +21,25 @@ pub const COMPILATION: usize = numbers::tables::COMPILATION as usize;
 // Sizes, and the places that follow from them.
 const RECORDS: usize = 5;
 
-const STRINGS: usize = 3;
-
 const SLOTS: usize = 1;
 
-const ROWS: usize = 2;
+const STRINGS: usize = 7;
 
 const CODES: usize = 4;
 
-const STRINGS_START: usize = RECORDS;
+const STORE: usize = STRINGS + CODES;
 
-const COMPILATION_START: usize = STRINGS_START + STRINGS;
+const ROWS: usize = 2;
+
+const COMPILATION_START: usize = RECORDS;
 
 const TYPE_START: usize = COMPILATION_START + SLOTS;
 
-const ROWS_START: usize = TYPE_START + SLOTS;
+const STRINGS_START: usize = TYPE_START + SLOTS;
 
-const CODES_START: usize = ROWS_START + ROWS;
+const CODES_START: usize = STRINGS_START + STRINGS;
+
+const ROWS_START: usize = CODES_START + CODES;
 
 // Where a region starts, and how many words it has.
 pub struct Region {
@@ -107,5 +110,18 @@ pub fn codes(n: usize) -> Region
     Region {
         start: CODES_START * n,
         size: CODES * n,
+    }
+}
+
+// The strings, and behind them what is remembered of an object's str by a string's start, a word for each byte. The memory stands
+// where the codes do: these count while units are filed, the memory while strings are put or written.
+pub fn store(n: usize) -> Region
+    requires { ⌜ n < 2 ^ 32 ⌝ }
+    ensures start { λ r. ⌜ r .start ≡ storeRegion .start * n ⌝ }
+    ensures size { λ r. ⌜ r .size ≡ storeRegion .words * n ⌝ }
+{
+    Region {
+        start: STRINGS_START * n,
+        size: STORE * n,
     }
 }

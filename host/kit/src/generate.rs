@@ -17,7 +17,7 @@ mod spoil;
 
 pub use damage::damage;
 pub use elf::{elf, hostile as hostile_elf, long as long_elf};
-pub use honest::{many_strings, sized, Kind, KINDS};
+pub use honest::{many_strings, sized, strings_of_one_hash, Kind, KINDS};
 pub use large::{long_line, many_units, strings_of, suffixes, units_of};
 pub use objects::{good, Draft, DraftObject};
 pub use questions::{question, Question};
@@ -25,6 +25,8 @@ pub use random::Random;
 pub use rows::{pieces_of_one_place, reversed_pieces, rows_of_one_piece};
 pub use rows::{reversed_rows, rows_beside_one_place, rows_of_one_place};
 pub use spoil::damaged_call;
+
+use crate::reference::WORK_FOR_A_WORD;
 
 /// What packing is asked: the bundle, the words of work, the bytes of output.
 #[derive(Clone, Debug, PartialEq, Eq)]
@@ -43,7 +45,7 @@ pub fn call(random: &mut Random) -> Call {
 
 /// Memory for a bundle: enough most often.
 fn lend(random: &mut Random, bundle: Vec<u8>) -> Call {
-    let needed = bundle.len() / 4 * 16;
+    let needed = bundle.len() / 4 * WORK_FOR_A_WORD;
     let work = match random.below(20) {
         0 => random.below(needed as u64 + 1) as usize,
         1 => needed + random.below(40) as usize,

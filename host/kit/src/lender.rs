@@ -3,8 +3,8 @@
 
 use crate::clock;
 use crate::generate::Random;
-use crate::reference::Packed;
-use barthovin::ffi;
+use crate::reference::{Packed, WORK_FOR_A_WORD};
+use barthovin::ffi::{self, Skipped};
 use std::time::{Duration, Instant};
 
 const MARGIN: usize = 16;
@@ -19,8 +19,9 @@ pub struct Lender {
     work: Vec<u32>,
     output: Vec<u8>,
     calls: usize,
-    /// Of the last call: where the output starts, the code and the length.
+    /// Of the last call: where the output starts, the code and the length, and what packing skipped.
     last: (usize, u32, usize),
+    skipped: Skipped,
     took: Duration,
 }
 
@@ -30,6 +31,8 @@ pub struct Written<'a> {
     pub code: u32,
     pub length: usize,
     pub bytes: &'a [u8],
+    /// Nothing but where it is a package.
+    pub skipped: Skipped,
 }
 
 impl Written<'_> {
@@ -83,7 +86,8 @@ impl Lender {
         // Small numbers too: they look like places and counts.
         let junk_words = (0..JUNK).map(|_| (random.any() >> random.pick(&[32, 44, 56])) as u32 | 1).collect();
         let (input, work, output) = (Vec::new(), Vec::new(), Vec::new());
-        Lender { junk, junk_words, input, work, output, calls: 0, last: (MARGIN, 0, 0), took: Duration::ZERO }
+        let (last, skipped) = ((MARGIN, 0, 0), Skipped::default());
+        Lender { junk, junk_words, input, work, output, calls: 0, last, skipped, took: Duration::ZERO }
     }
 
     /// Calls with so many words of work and so many bytes of output; the call answers with a code and a length. An error where memory is
@@ -114,6 +118,7 @@ impl Lender {
         }
         self.judge(turn, code, length)?;
         self.last = (front, code, length);
+        self.skipped = Skipped::default();
         Ok(self.written())
     }
 
@@ -121,22 +126,39 @@ impl Lender {
     fn written(&self) -> Written<'_> {
         let (front, code, length) = self.last;
         let made = if code == 0 { length } else { 0 };
-        Written { code, length, bytes: &self.output[front..front + made] }
+        Written { code, length, bytes: &self.output[front..front + made], skipped: self.skipped }
     }
 
     /// Packs a bundle.
     pub fn pack(&mut self, bundle: &[u8], work: usize, output: usize) -> Result<Written<'_>, String> {
-        self.lend(bundle, work, output, ffi::pack)
+        self.lend_packer(bundle, work, output, ffi::pack_counted)
     }
 
     /// The small packer, which has work of its own.
     pub fn pack_small(&mut self, bundle: &[u8], output: usize) -> Result<Written<'_>, String> {
-        self.lend(bundle, 0, output, |bundle, _, output| ffi::pack_small(bundle, output))
+        self.lend_packer(bundle, 0, output, |bundle, _, output| ffi::pack_small_counted(bundle, output))
+    }
+
+    fn lend_packer(
+        &mut self,
+        bundle: &[u8],
+        work: usize,
+        output: usize,
+        packer: impl FnOnce(&[u8], &mut [u32], &mut [u8]) -> (u32, usize, Skipped),
+    ) -> Result<Written<'_>, String> {
+        let mut skipped = Skipped::default();
+        self.lend(bundle, work, output, |bundle, work, output| {
+            let (code, length, told) = packer(bundle, work, output);
+            skipped = told;
+            (code, length)
+        })?;
+        self.skipped = skipped;
+        Ok(self.written())
     }
 
     /// Packs with work enough, and with output enough where the packer says truly how much that is.
     pub fn pack_whole(&mut self, bundle: &[u8]) -> Result<Written<'_>, String> {
-        let work = bundle.len() / 4 * 16;
+        let work = bundle.len() / 4 * WORK_FOR_A_WORD;
         let (code, length) = self.pack(bundle, work, FIRST_OUTPUT).map(|p| (p.code, p.length))?;
         if code != 18 {
             return Ok(self.written());

@@ -1,12 +1,33 @@
 //! Lines of tests/vectors: a question, and the answer that document 01 gives.
 
-use crate::reference::{Found, Packed};
+use crate::reference::{Found, Packed, Skipped};
 
 #[derive(Clone, Debug, PartialEq, Eq)]
 pub enum Vector {
-    Pack { bundle: Vec<u8>, work: usize, output: usize, answer: Packed },
-    Lookup { package: Vec<u8>, version: u32, table: u32, identity: u64, section: u32, answer: Found },
-    String { package: Vec<u8>, version: u32, table: u32, identity: u64, entry: u64, answer: Found },
+    /// Since ticket 11 with what was skipped.
+    Pack {
+        bundle: Vec<u8>,
+        work: usize,
+        output: usize,
+        answer: Packed,
+        skipped: Option<Skipped>,
+    },
+    Lookup {
+        package: Vec<u8>,
+        version: u32,
+        table: u32,
+        identity: u64,
+        section: u32,
+        answer: Found,
+    },
+    String {
+        package: Vec<u8>,
+        version: u32,
+        table: u32,
+        identity: u64,
+        entry: u64,
+        answer: Found,
+    },
 }
 
 /// Bytes in hexadecimal; `-` is none.
@@ -29,11 +50,20 @@ pub fn number(text: &str) -> Option<u64> {
     }
 }
 
-fn packed(words: &[&str]) -> Option<Packed> {
-    match words {
-        ["refused", n] => Some(Packed::Refused(number(n)? as u32)),
-        ["short", n] => Some(Packed::Short(number(n)? as usize)),
-        ["package", b] => Some(Packed::Made(bytes(b)?)),
+fn packed(words: &[&str]) -> Option<(Packed, Option<Skipped>)> {
+    let (answer, counts) = words.split_at_checked(2)?;
+    let answer = match answer {
+        ["refused", n] => Packed::Refused(number(n)? as u32),
+        ["short", n] => Packed::Short(number(n)? as usize),
+        ["package", b] => Packed::Made(bytes(b)?),
+        _ => return None,
+    };
+    match counts {
+        [] => Some((answer, None)),
+        [repeats, namesakes] => {
+            let (repeats, namesakes) = (number(repeats)? as usize, number(namesakes)? as usize);
+            Some((answer, Some(Skipped { repeats, namesakes })))
+        }
         _ => None,
     }
 }
@@ -60,7 +90,8 @@ pub fn parse(line: &str) -> Option<Vector> {
     match (words[0], &rest[..]) {
         ("pack", [work, output]) => {
             let (work, output) = (*work as usize, *output as usize);
-            Some(Vector::Pack { bundle: data, work, output, answer: packed(&answer)? })
+            let (answer, skipped) = packed(&answer)?;
+            Some(Vector::Pack { bundle: data, work, output, answer, skipped })
         }
         ("lookup", [version, table, identity, section]) => {
             let (version, table, section) = (*version as u32, *table as u32, *section as u32);

@@ -13,12 +13,12 @@
 use kit::generate::{good, Draft, Random};
 use kit::handed_in::{all, firsts, pieces};
 use kit::lender::Lender;
-use kit::reference::{pack, Bundle, Index, Object, Packed};
+use kit::reference::{pack, work_for, Bundle, Index, Object, Packed};
 use kit::vectors::words;
 use std::collections::{BTreeMap, HashSet};
 
 fn packed(bundle: &[u8]) -> Packed {
-    pack(bundle, 4 * bundle.len(), usize::MAX)
+    pack(bundle, work_for(bundle), usize::MAX)
 }
 
 /// The same through C.

@@ -5,11 +5,11 @@ use barthovin::ffi;
 use kit::claim::{Claim, Slots};
 use kit::generate::{call, units_of, Call, Random};
 use kit::handed_in::firsts;
-use kit::reference::{Bundle, Found};
+use kit::reference::{Bundle, Found, WORK_FOR_A_WORD};
 
 /// The package, or none where the bundle is refused.
 fn packed(bundle: &[u8]) -> Option<Vec<u8>> {
-    let mut work = vec![0; bundle.len() / 4 * 16];
+    let mut work = vec![0; bundle.len() / 4 * WORK_FOR_A_WORD];
     let (code, length) = ffi::pack(bundle, &mut work, &mut []);
     if code != 18 {
         assert!(code != 0 && length == 0, "code {code}, length {length}, without output");

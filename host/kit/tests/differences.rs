@@ -2,7 +2,7 @@
 //! where it says so.
 
 use kit::lender::Lender;
-use kit::reference::{pack, Packed};
+use kit::reference::{pack, work_for, Packed};
 
 struct Input {
     name: &'static str,
@@ -32,7 +32,7 @@ fn inputs() -> Vec<Input> {
 }
 
 fn answer(input: &Input) -> Packed {
-    pack(&input.bundle, 4 * input.bundle.len(), 1 << 20)
+    pack(&input.bundle, work_for(&input.bundle), 1 << 20)
 }
 
 #[test]
@@ -52,7 +52,7 @@ fn every_input_has_its_number() {
 fn every_input_is_answered_so_through_c() {
     let mut lent = Lender::new(28);
     for input in inputs() {
-        let (work, answer) = (4 * input.bundle.len(), answer(&input));
+        let (work, answer) = (work_for(&input.bundle), answer(&input));
         let packing = lent.pack(&input.bundle, work, 1 << 20).unwrap_or_else(|e| panic!("{}: {e}", input.name));
         assert!(packing.agrees(&answer), "{}: {packing:?}, not {answer:?}", input.name);
     }

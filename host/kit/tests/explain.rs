@@ -5,7 +5,7 @@ use barthovin::explain::{looking_up, packing, Names};
 use barthovin::ffi;
 use barthovin::reader::bundle::Bundle;
 use kit::generate::{call, question, Random};
-use kit::reference::{self, Found, Packed};
+use kit::reference::{self, Found, Packed, WORK_FOR_A_WORD};
 
 /// Refusals whose cause is always found; the others have a place alone, or a cause now and then.
 const WITH_CAUSE: [u32; 13] = [4, 5, 6, 7, 8, 9, 10, 11, 12, 14, 15, 16, 34];
@@ -16,7 +16,7 @@ fn every_refusal_of_packing_has_words_and_a_place() {
     let mut counts = [0; 35];
     for _ in 0..20_000 {
         let bundle = call(&mut random).bundle;
-        let (number, _) = ffi::pack(&bundle, &mut vec![0; bundle.len() / 4 * 16], &mut []);
+        let (number, _) = ffi::pack(&bundle, &mut vec![0; bundle.len() / 4 * WORK_FOR_A_WORD], &mut []);
         counts[number as usize] += 1;
         assert!(meaning(number) != "an unknown refusal");
         let names = Names { files: &[] };

@@ -2,7 +2,7 @@
 
 use barthovin::answer::Asked;
 use kit::generate::{call, good, long_line, many_units, question, suffixes, Random};
-use kit::reference::{lookup, lookup_string, pack, Found, Packed};
+use kit::reference::{lookup, lookup_string, pack, work_for, Found, Packed};
 use std::collections::BTreeMap;
 
 fn packed_number(answer: &Packed) -> u32 {
@@ -30,7 +30,7 @@ fn packing_reaches_every_number() {
 }
 
 fn whole(bundle: &[u8]) -> u32 {
-    packed_number(&pack(bundle, 4 * bundle.len(), 1 << 27))
+    packed_number(&pack(bundle, work_for(bundle), 1 << 27))
 }
 
 #[test]

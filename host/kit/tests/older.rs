@@ -3,7 +3,7 @@
 use barthovin::ffi;
 use kit::lender::Lender;
 use kit::measured::{by_thorins, other_slots};
-use kit::reference::{lookup, pack, slot_count, Bundle, Found, Index, Packed};
+use kit::reference::{lookup, pack, slot_count, work_for, Bundle, Found, Index, Packed};
 use kit::vectors::words;
 
 /// Three units of version 4, identities 1, 5 and 9, all with one abbrev part, in slots 1, 2 and 3 of 4. thorin wrote it.
@@ -29,7 +29,7 @@ fn an_older_table_is_looked_up() {
 #[test]
 fn an_older_table_is_an_input() {
     let older = words(OLDER).expect("words");
-    let Packed::Made(newer) = pack(&older, 4 * older.len(), usize::MAX) else { panic!("not accepted") };
+    let Packed::Made(newer) = pack(&older, work_for(&older), usize::MAX) else { panic!("not accepted") };
     let read = Bundle::read(&newer).expect("a package");
     let index = Index::read(read.objects[0].bytes(12), false).expect("an index");
     assert_eq!(index.identities, SLOTS);

@@ -3,7 +3,7 @@
 
 use kit::lender::Lender;
 use kit::measured::{by_thorins, other_slots};
-use kit::reference::{pack, Bundle, Packed};
+use kit::reference::{pack, work_for, Bundle, Packed};
 use kit::sample::{parse_all, Told};
 
 fn sample() -> Vec<Told> {
@@ -11,7 +11,7 @@ fn sample() -> Vec<Told> {
 }
 
 fn by_the_rule(bundle: &[u8]) -> Vec<u8> {
-    let Packed::Made(package) = pack(bundle, 4 * bundle.len(), usize::MAX) else {
+    let Packed::Made(package) = pack(bundle, work_for(bundle), usize::MAX) else {
         panic!("not accepted: {bundle:02X?}")
     };
     package
@@ -67,7 +67,7 @@ fn the_sample_is_whole() {
 fn the_reference_answers_as_thorin() {
     for told in sample() {
         let (Told::Package { bundle, .. } | Told::Refused { bundle, .. }) = &told;
-        let answer = pack(bundle, 4 * bundle.len(), usize::MAX);
+        let answer = pack(bundle, work_for(bundle), usize::MAX);
         let wanted = match &told {
             Told::Package { package, .. } => wanted(bundle, package).map(Packed::Made),
             Told::Refused { number, .. } => Some(Packed::Refused(*number)),

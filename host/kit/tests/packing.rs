@@ -8,12 +8,12 @@ use kit::generate::{call, long_line, many_units, reversed_rows, rows_beside_one_
 use kit::generate::{pieces_of_one_place, reversed_pieces, rows_of_one_piece};
 use kit::generate::{strings_of, suffixes, Call, Random};
 use kit::lender::{Lender, Written};
-use kit::reference::{self, Packed, LONGEST_BUNDLE};
+use kit::reference::{self, Packed, Skipped, LONGEST_BUNDLE, WORK_FOR_A_WORD};
 use kit::vectors::{parse_all, words, Vector};
 
 /// The small packer's limit and work.
 const SMALL_BUNDLE: usize = 1024;
-const SMALL_WORK: usize = 4096;
+const SMALL_WORK: usize = 5_120;
 
 /// Few identities that no unit has are asked for here, since there are many packages; tests/claim.rs asks for more.
 const TURNS: usize = 1;
@@ -51,18 +51,32 @@ impl Counts {
 struct Checks {
     lent: Lender,
     counts: Counts,
+    /// In all packages together.
+    skipped: Skipped,
     claim: Claim,
 }
 
 impl Checks {
     fn new(seed: u64) -> Checks {
-        Checks { lent: Lender::new(seed), counts: Counts([0; 35]), claim: Claim::new(seed, TURNS) }
+        let (lent, claim) = (Lender::new(seed), Claim::new(seed, TURNS));
+        Checks { lent, counts: Counts([0; 35]), skipped: Skipped::default(), claim }
     }
 
-    fn compare(&mut self, bundle: &[u8], work: Option<usize>, output: usize, answer: Packed) {
+    /// The answer, and what was skipped where that is wanted too.
+    fn compare(
+        &mut self,
+        bundle: &[u8],
+        work: Option<usize>,
+        output: usize,
+        (answer, skipped): (Packed, Option<Skipped>),
+    ) {
         let left = packed(&mut self.lent, bundle, work, output);
-        let told = (left.code, left.length);
-        assert!(left.agrees(&answer), "{told:?} for work {work:?}, output {output}, {:02X?}", front(bundle));
+        let told = (left.code, left.length, left.skipped);
+        let counted = Skipped { repeats: left.skipped.repeats, namesakes: left.skipped.namesakes };
+        let agrees = left.agrees(&answer) && skipped.is_none_or(|skipped| skipped == counted);
+        assert!(agrees, "{told:?} for work {work:?}, output {output}, {:02X?}", front(bundle));
+        self.skipped.repeats += counted.repeats;
+        self.skipped.namesakes += counted.namesakes;
         self.counts.0[left.code as usize] += 1;
         if left.code == 0 {
             let most = if bundle.len() <= LONG_BUNDLE { usize::MAX } else { UNITS_OF_LONG };
@@ -73,22 +87,22 @@ impl Checks {
 
     /// The packer, compared with the reference.
     fn pack(&mut self, bundle: &[u8], work: usize, output: usize) {
-        let answer = reference::pack(bundle, work, output);
-        self.compare(bundle, Some(work), output, answer);
+        let (answer, skipped) = reference::pack_counted(bundle, work, output);
+        self.compare(bundle, Some(work), output, (answer, Some(skipped)));
     }
 
     /// The small packer, compared with the reference below its limit.
     fn pack_small(&mut self, bundle: &[u8], output: usize) {
-        let answer = match bundle.len() {
-            0..=SMALL_BUNDLE => reference::pack(bundle, SMALL_WORK, output),
-            _ => Packed::Refused(1),
+        let (answer, skipped) = match bundle.len() {
+            0..=SMALL_BUNDLE => reference::pack_counted(bundle, SMALL_WORK, output),
+            _ => (Packed::Refused(1), Skipped::default()),
         };
-        self.compare(bundle, None, output, answer);
+        self.compare(bundle, None, output, (answer, Some(skipped)));
     }
 }
 
 fn needed(bundle: &[u8]) -> usize {
-    bundle.len() / 4 * 16
+    bundle.len() / 4 * WORK_FOR_A_WORD
 }
 
 fn bytes(numbers: &[u32]) -> Vec<u8> {
@@ -104,23 +118,28 @@ fn replay(text: &str, lines: usize) {
             assert_eq!(ffi::lookup_string(package, *version, *table, *identity, *entry), *answer, "{vector:?}");
             continue;
         }
-        let Vector::Pack { bundle, work, output, answer } = vector else { panic!("{vector:?}") };
-        checks.compare(&bundle, Some(work), output, answer.clone());
+        let Vector::Pack { bundle, work, output, answer, skipped } = vector else { panic!("{vector:?}") };
+        checks.compare(&bundle, Some(work), output, (answer.clone(), skipped));
         // The small packer has work enough for what it takes, so that only 2 can differ.
         if bundle.len() <= SMALL_BUNDLE && answer != Packed::Refused(2) {
-            checks.compare(&bundle, None, output, answer);
+            checks.compare(&bundle, None, output, (answer, skipped));
         }
     }
 }
 
 #[test]
 fn vectors() {
-    replay(include_str!("vectors/pack-t05.txt"), 500);
+    replay(include_str!("vectors/pack-t08.txt"), 449);
 }
 
 #[test]
 fn directed_vectors() {
     replay(include_str!("vectors/pack-directed.txt"), 265);
+}
+
+#[test]
+fn vectors_with_repeats_and_namesakes() {
+    replay(include_str!("vectors/pack-t11.txt"), 437);
 }
 
 /// Some length of work or output: none, one less than needed, as needed, more.
@@ -138,6 +157,8 @@ fn generated_calls() {
         checks.pack(&bundle, work, output.min(1 << random.between(9, 16)));
     }
     checks.counts.assert_reached("packing generated calls", (0..=16).chain([18, 34]));
+    println!("skipped: {:?}", checks.skipped);
+    assert!(checks.skipped.repeats >= 100 && checks.skipped.namesakes >= 100, "{:?}", checks.skipped);
 }
 
 #[test]
@@ -152,8 +173,8 @@ fn lengths_of_work_and_output() {
         let output = around(&mut random, package.len());
         checks.pack(&bundle, needed(&bundle), output);
         checks.pack_small(&bundle, output);
-        checks.compare(&bundle, Some(needed(&bundle)), package.len() - 1, Packed::Short(package.len()));
-        checks.compare(&bundle, Some(needed(&bundle)), package.len(), Packed::Made(package));
+        checks.compare(&bundle, Some(needed(&bundle)), package.len() - 1, (Packed::Short(package.len()), None));
+        checks.compare(&bundle, Some(needed(&bundle)), package.len(), (Packed::Made(package), None));
     }
     checks.counts.assert_reached("lengths of work and output", [0, 2, 18].into_iter());
 }
@@ -268,14 +289,14 @@ fn every_short_bundle() {
     let mut checks = Checks::new(22);
     let example = words(EXAMPLE).expect("words");
     for length in 0..=example.len() {
-        checks.pack(&example[..length], 176, 112);
+        checks.pack(&example[..length], 220, 112);
     }
     for a in 0..=255 {
-        checks.pack(&[a as u8], 16, 8);
+        checks.pack(&[a as u8], 20, 8);
         for b in 0..=255 {
-            checks.pack(&bytes(&[0xF000_0000 | a, 0x3000_0002 ^ b << 24]), 32, 8);
-            checks.pack(&bytes(&[0xF000_0001, 0x1000_0000 | a << 8 | b, 0x3000_0003]), 48, 12);
-            checks.pack(&bytes(&[0xF000_0000, 0x1008_0405, 0x2000_0000 | a << 20 | b, 0, 0x3000_0005]), 80, 20);
+            checks.pack(&bytes(&[0xF000_0000 | a, 0x3000_0002 ^ b << 24]), 40, 8);
+            checks.pack(&bytes(&[0xF000_0001, 0x1000_0000 | a << 8 | b, 0x3000_0003]), 60, 12);
+            checks.pack(&bytes(&[0xF000_0000, 0x1008_0405, 0x2000_0000 | a << 20 | b, 0, 0x3000_0005]), 100, 20);
         }
     }
     checks.counts.assert_reached("every short bundle", [1, 3, 4].into_iter());
@@ -289,12 +310,12 @@ fn lengths_that_are_refused() {
     for length in (0..8).chain((9..400).filter(|n| n % 4 != 0)) {
         let bundle: Vec<u8> = (0..length).map(|_| random.any() as u8).collect();
         let (work, output) = (random.below(4) as usize * needed(&bundle) / 2, random.below(99) as usize);
-        checks.compare(&bundle, Some(work), output, Packed::Refused(1));
+        checks.compare(&bundle, Some(work), output, (Packed::Refused(1), None));
     }
     for length in [LONGEST_BUNDLE + 4, LONGEST_BUNDLE + 400] {
         let bundle = long_line(length);
-        checks.compare(&bundle, Some(0), 100, Packed::Refused(1));
-        checks.compare(&bundle[..LONGEST_BUNDLE + 1], Some(100), 100, Packed::Refused(1));
+        checks.compare(&bundle, Some(0), 100, (Packed::Refused(1), None));
+        checks.compare(&bundle[..LONGEST_BUNDLE + 1], Some(100), 100, (Packed::Refused(1), None));
     }
     checks.counts.assert_reached("lengths", [1].into_iter());
 }
@@ -305,7 +326,7 @@ fn sections_that_are_too_long() {
     let mut checks = Checks::new(25);
     for more in 0..50 {
         let bundle = strings_of(8_388_608 + more * 777);
-        checks.compare(&bundle, Some(needed(&bundle)), 0, Packed::Refused(19));
+        checks.compare(&bundle, Some(needed(&bundle)), 0, (Packed::Refused(19), None));
         checks.pack(&bundle, needed(&bundle) + 3, 1000 * more as usize);
     }
     let bundle = suffixes(4_095);

@@ -4,7 +4,7 @@
 use kit::elf;
 use kit::handed_in::{firsts, HandedIn};
 use kit::lender::Lender;
-use kit::reference::{pack, Bundle, Index, Packed};
+use kit::reference::{pack, work_for, Bundle, Index, Packed};
 use std::fs;
 
 const REAL: &str = concat!(env!("CARGO_MANIFEST_DIR"), "/../../examples/real");
@@ -38,7 +38,7 @@ fn both((package, files): (&str, &[&str])) -> (Vec<u8>, Vec<u8>) {
 }
 
 fn packed(bundle: &[u8]) -> Packed {
-    pack(bundle, 4 * bundle.len(), usize::MAX)
+    pack(bundle, work_for(bundle), usize::MAX)
 }
 
 /// Table, identity, parts and strings of a unit; the entries of str_offsets are compared by their strings.

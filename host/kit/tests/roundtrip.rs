@@ -2,8 +2,8 @@
 
 use kit::generate::{good, Random};
 use kit::reference::{
-    header_size, lookup, lookup_string, number, pack, read_unit, string_at, Bundle, Encoding, Found, Index, Object,
-    Packed, Probe, Table, Unit,
+    header_size, lookup, lookup_string, number, pack, read_unit, string_at, work_for, Bundle, Encoding, Found, Index,
+    Object, Packed, Probe, Table, Unit,
 };
 use std::collections::HashSet;
 
@@ -100,7 +100,7 @@ fn what_is_handed_in_is_found() {
     let mut random = Random::new(4);
     for _ in 0..5_000 {
         let bytes = good(&mut random).bytes();
-        let Packed::Made(package) = pack(&bytes, 4 * bytes.len(), 1 << 20) else { panic!("not accepted") };
+        let Packed::Made(package) = pack(&bytes, work_for(&bytes), 1 << 20) else { panic!("not accepted") };
         let bundle = Bundle::read(&bytes).expect("a bundle");
         let mut seen = HashSet::new();
         for object in &bundle.objects {

@@ -56,7 +56,7 @@ enum { BARTHOVIN_DONE = 0, BARTHOVIN_ABSENT = 1, BARTHOVIN_NOT_LOOKED_UP = 2, BA
 
 /* What packing takes at most, and the words of work it asks for, for each word of the bundle. */
 #define BARTHOVIN_LONGEST_BUNDLE 4194304
-#define BARTHOVIN_WORK_FOR_A_WORD 16
+#define BARTHOVIN_WORK_FOR_A_WORD 20
 
 /* The small packer's limit. */
 #define BARTHOVIN_LONGEST_SMALL_BUNDLE 1024
@@ -67,6 +67,15 @@ enum { BARTHOVIN_DONE = 0, BARTHOVIN_ABSENT = 1, BARTHOVIN_NOT_LOOKED_UP = 2, BA
 struct barthovin_written {
     uint32_t code;
     size_t length;
+};
+
+/* Packing's answer: code and length as above, and how many type units were skipped since one of their signature is kept: repeats, whose
+ * bytes agree with the kept one's, and namesakes, whose bytes don't. But for code 0 both counts are 0. */
+struct barthovin_packed {
+    uint32_t code;
+    size_t length;
+    size_t repeats;
+    size_t namesakes;
 };
 
 /* A lookup's answer. Code 0: what was asked for is the `length` bytes from `start` of the package; `looks` slots of its index
@@ -96,12 +105,12 @@ struct barthovin_written barthovin_read_elf(const uint8_t *file, size_t file_len
 
 /* Packs a bundle. After every answer all of work is zeros. Work that is shorter than BARTHOVIN_WORK_FOR_A_WORD words for each
  * word of the bundle is refused. */
-struct barthovin_written barthovin_pack(const uint8_t *bundle, size_t bundle_length, uint32_t *work, size_t work_length,
-                                        uint8_t *output, size_t output_length);
+struct barthovin_packed barthovin_pack(const uint8_t *bundle, size_t bundle_length, uint32_t *work, size_t work_length,
+                                       uint8_t *output, size_t output_length);
 
 /* The same with work of its own, on the stack, for a bundle of at most BARTHOVIN_LONGEST_SMALL_BUNDLE bytes. */
-struct barthovin_written barthovin_pack_small(const uint8_t *bundle, size_t bundle_length, uint8_t *output,
-                                              size_t output_length);
+struct barthovin_packed barthovin_pack_small(const uint8_t *bundle, size_t bundle_length, uint8_t *output,
+                                             size_t output_length);
 
 /* The part of a section that a unit has in a package, by the index's version, the table, the unit's identity and the section code. */
 struct barthovin_found barthovin_lookup(const uint8_t *package, size_t package_length, uint32_t version, uint32_t table,

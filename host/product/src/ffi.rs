@@ -11,11 +11,21 @@ struct Answer {
     looks: usize,
 }
 
-/// Code 0: the package has that length. 18: that length is needed. Else the refusal, with 0.
+/// Code 0: the package has that length, and so many type units were skipped. 18: that length is needed. Else the refusal, with 0. But for
+/// code 0 both counts are 0.
 #[repr(C)]
 struct Packing {
     code: u32,
     length: usize,
+    repeats: usize,
+    namesakes: usize,
+}
+
+/// The type units that packing skipped: those whose bytes agree with the kept one's, and the others.
+#[derive(Clone, Copy, Debug, Default, PartialEq, Eq)]
+pub struct Skipped {
+    pub repeats: usize,
+    pub namesakes: usize,
 }
 
 /// What `FromBundle` has for the lookup's code where no package was made: neither found nor absent, and no refusal of a lookup.
@@ -112,20 +122,36 @@ pub fn lookup_string(package: &[u8], version: u32, table: u32, identity: u64, en
     found(answer, package)
 }
 
-/// Packs a bundle: code and length. After it the output holds the package and zeros, or zeros only, and work zeros.
-pub fn pack(bundle: &[u8], work: &mut [u32], output: &mut [u8]) -> (u32, usize) {
+/// Checks what every answer promises besides: no counts where no package is made.
+fn packed(answer: Packing) -> (u32, usize, Skipped) {
+    let Packing { code, length, repeats, namesakes } = answer;
+    assert!(code == 0 || (repeats, namesakes) == (0, 0), "counts where no package is made");
+    (code, length, Skipped { repeats, namesakes })
+}
+
+/// Packs a bundle: code and length, and how many type units were skipped. After it the output holds the package and zeros, or zeros only,
+/// and work zeros.
+pub fn pack_counted(bundle: &[u8], work: &mut [u32], output: &mut [u8]) -> (u32, usize, Skipped) {
     // The entry reads and writes the slices that it is lent, and nothing else.
-    let Packing { code, length } = unsafe {
+    packed(unsafe {
         let (work_start, output_start) = (work.as_mut_ptr(), output.as_mut_ptr());
         barthovin_pack(bundle.as_ptr(), bundle.len(), work_start, work.len(), output_start, output.len())
-    };
+    })
+}
+
+/// The same with 5,120 words of its own, for a bundle of at most 1,024 bytes.
+pub fn pack_small_counted(bundle: &[u8], output: &mut [u8]) -> (u32, usize, Skipped) {
+    packed(unsafe { barthovin_pack_small(bundle.as_ptr(), bundle.len(), output.as_mut_ptr(), output.len()) })
+}
+
+/// Both without the counts.
+pub fn pack(bundle: &[u8], work: &mut [u32], output: &mut [u8]) -> (u32, usize) {
+    let (code, length, _) = pack_counted(bundle, work, output);
     (code, length)
 }
 
-/// The same with 4,096 words of its own, for a bundle of at most 1,024 bytes.
 pub fn pack_small(bundle: &[u8], output: &mut [u8]) -> (u32, usize) {
-    let Packing { code, length } =
-        unsafe { barthovin_pack_small(bundle.as_ptr(), bundle.len(), output.as_mut_ptr(), output.len()) };
+    let (code, length, _) = pack_small_counted(bundle, output);
     (code, length)
 }
 

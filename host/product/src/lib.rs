@@ -15,4 +15,5 @@ pub mod names;
 pub mod profile;
 pub mod reader;
 pub mod sheet;
+pub mod skipped;
 pub mod verify;

@@ -7,7 +7,7 @@ pub const LONGEST_PACKAGE: usize = 117_440_512;
 /// The longest section of a package, in bytes.
 pub const LONGEST_SECTION: usize = 8_388_607;
 /// The words of work that packing asks for, for each word of the bundle.
-pub const WORK_FOR_A_WORD: usize = 16;
+pub const WORK_FOR_A_WORD: usize = 20;
 /// The refusal that returns the length needed.
 pub const OUTPUT_TOO_SHORT: u32 = 18;
 

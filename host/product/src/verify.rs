@@ -5,7 +5,7 @@
 
 use crate::answer::Found;
 use crate::batch;
-use crate::ffi;
+use crate::ffi::{self, Skipped};
 use crate::names::{section_name, table_name, RNGLISTS, STR, STR_OFFSETS};
 use crate::reader::bundle::{Bundle, Object};
 use crate::reader::index::Index;
@@ -18,10 +18,8 @@ use std::ops::Range;
 #[derive(Debug, Default)]
 pub struct Report {
     pub units: usize,
-    /// Type units whose signature was there before, and those of them whose bytes are others than the first one's: of each signature the
-    /// package has the first.
-    pub repeats: usize,
-    pub namesakes: usize,
+    /// Type units whose signature was there before, in the same bytes and in others: of each signature the package has the first.
+    pub skipped: Skipped,
     /// Entries of str_offsets.
     pub strings: usize,
     pub faults: Vec<Fault>,
@@ -140,8 +138,8 @@ impl Pair<'_> {
                 let bytes = &object.sections[span.nth].bytes[span.offset..span.end];
                 if unit.table == 2 {
                     if let Some(first) = signatures.get(&unit.identity) {
-                        self.report.repeats += 1;
-                        self.report.namesakes += usize::from(*first != bytes);
+                        self.report.skipped.repeats += usize::from(*first == bytes);
+                        self.report.skipped.namesakes += usize::from(*first != bytes);
                         continue;
                     }
                     signatures.insert(unit.identity, bytes);

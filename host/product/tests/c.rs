@@ -2,7 +2,7 @@
 
 use barthovin::answer::{Asked, Found};
 use barthovin::batch::answer_words;
-use barthovin::ffi;
+use barthovin::ffi::{self, Skipped};
 use barthovin::profile::{conditions, profile};
 use std::path::{Path, PathBuf};
 use std::process::{Command, Output};
@@ -60,6 +60,13 @@ const BUNDLE: [u32; 17] = [
     0x3000_0011,
 ];
 
+/// Its bundle with a repeat and a namesake.
+#[rustfmt::skip]
+const SKIPPED: [u32; 28] = [
+    0xF000_0000, 0x1008_0405, 0x2080_0018, 0x14, 0x0806_0005, 0, 7, 0, 0, 0x2180_0001, 0,
+    0x1008_0405, 0x2080_0030, 0x14, 0x0806_0005, 0, 7, 0, 0, 0x14, 0x0806_0005, 0, 7, 0, 1, 0x2180_0001, 0, 0x3000_001C,
+];
+
 fn found(name: &str, found: Found) -> String {
     let (code, start, length, looks) = match found {
         Found::Part { start, length, looks } => (0, start, length, looks),
@@ -72,12 +79,12 @@ fn found(name: &str, found: Found) -> String {
 /// What entries.c prints, by Rust's declarations.
 fn by_rust() -> String {
     let bundle: Vec<u8> = BUNDLE.iter().flat_map(|w| w.to_le_bytes()).collect();
-    let (mut work, mut output) = (vec![0; 16 * 17], vec![0; 1000]);
+    let (mut work, mut output) = (vec![0; 20 * 17], vec![0; 1000]);
     let (code, length) = barthovin::elf::read(&bundle, &mut output);
     let mut told = format!("read_elf {code} {length}\n");
-    for work_words in [16 * 17, 16] {
+    for work_words in [20 * 17, 16] {
         let (code, length) = ffi::pack(&bundle, &mut work[..work_words], &mut output[..10]);
-        told += &format!("pack {code} {length}\n");
+        told += &format!("pack {code} {length} 0 0\n");
     }
     let packed = ffi::pack_small(&bundle, &mut output).1;
     for (name, asked) in [("pack_and_look_up", Asked::Section(3)), ("pack_and_look_up_string", Asked::Entry(0))] {
@@ -86,7 +93,10 @@ fn by_rust() -> String {
     }
     // Too little work: nothing is looked up.
     told += "pack_and_look_up 2 0 2 0 0 0\n";
-    told += &format!("pack_small 0 {packed}\n");
+    let skipped: Vec<u8> = SKIPPED.iter().flat_map(|w| w.to_le_bytes()).collect();
+    let (code, length, Skipped { repeats, namesakes }) = ffi::pack_small_counted(&skipped, &mut vec![0; 1000]);
+    told += &format!("pack_small {code} {length} {repeats} {namesakes}\n");
+    told += &format!("pack_small 0 {packed} 0 0\n");
     let package = &output[..packed];
     told += &found("lookup", ffi::lookup(package, 5, 1, 1, 1));
     let mut a = [0; 9];
@@ -107,6 +117,7 @@ fn by_rust() -> String {
 fn c_and_rust_are_answered_alike() {
     let source = PathBuf::from(HOME).join("tests/entries.c");
     let wanted = by_rust();
+    assert!(wanted.contains(" 1 1\npack_small 0 "), "{wanted}");
     assert!(wanted.contains("lookup_string 0 ") && wanted.contains("lookup_string 25 "), "{wanted}");
     for language in [&["-std=c99"][..], &["-std=c++17", "-x", "c++"]] {
         assert_eq!(text(&compiled(&source, language, &[])), wanted);

@@ -2,8 +2,8 @@
 
 mod common;
 
-use barthovin::ffi;
-use barthovin::names::LONGEST_BUNDLE;
+use barthovin::ffi::{self, Skipped};
+use barthovin::names::{LONGEST_BUNDLE, WORK_FOR_A_WORD};
 use barthovin::reader::bundle::{put_end, put_section};
 use common::*;
 use std::fs;
@@ -68,10 +68,52 @@ fn packs_large_bundles() {
         fs::write(home.join("bundle"), &bundle).unwrap();
         assert_eq!(status(&run_in(&home, &["pack", "bundle", "-o", "package"], &[])), 0);
         let mut wanted = vec![0; 1 << 23];
-        let (code, length) = ffi::pack(&bundle, &mut vec![0; 4 * bundle.len()], &mut wanted);
+        let (code, length) = ffi::pack(&bundle, &mut vec![0; bundle.len() / 4 * WORK_FOR_A_WORD], &mut wanted);
         assert_eq!(code, 0);
         assert!(fs::read(home.join("package")).unwrap() == wanted[..length]);
     }
+}
+
+/// Two objects with three type units of one signature: the second has the first one's bytes, the third has not.
+const SKIPPED: &str = "F0000000 10080405 20800018 14 08060005 0 7 0 0 21800001 0
+    10080405 20800030 14 08060005 0 7 0 0 14 08060005 0 7 0 1 21800001 0 3000001C";
+
+#[test]
+fn says_what_was_skipped() {
+    let home = directory("skipped");
+    fs::write(home.join("bundle"), bytes(SKIPPED)).unwrap();
+    let run = |arguments: &[&str]| {
+        let output = run_in(&home, &[&["pack", "bundle", "-o", "package"][..], arguments].concat(), &[]);
+        assert_eq!((status(&output), message(&output)), (0, String::new()));
+        text(&output)
+    };
+    let counts = "1 type unit was a repeat, 1 namesake\n";
+    assert_eq!(run(&[]), counts);
+    let package = fs::read(home.join("package")).unwrap();
+    assert_eq!(run(&["--namesakes"]), format!("{counts}namesake 0x0000000000000007: object 2: byte 24 of info\n"));
+    let json = format!("{{\"length\":{},\"repeats\":1,\"namesakes\":1", package.len());
+    assert_eq!(run(&["--json"]), format!("{json}}}\n"));
+    let listed = "{\"identity\":\"0x0000000000000007\",\"file\":\"object 2\",\"section\":\"info\",\"offset\":24}";
+    assert_eq!(run(&["--json", "--namesakes"]), format!("{json},\"listed\":[{listed}]}}\n"));
+    let output = run_in(&home, &["pack", "bundle", "-o", "-"], &[]);
+    assert_eq!((status(&output), message(&output)), (0, counts.to_string()));
+    assert_eq!(output.stdout, package);
+    let output = run_in(&home, &["pack", "bundle", "-o", "-", "--json"], &[]);
+    assert_eq!((status(&output), output.stdout), (2, Vec::new()));
+}
+
+/// The counts are the proved packer's, and a refusal has none.
+#[test]
+fn refusals_count_nothing() {
+    let bundle = bytes(SKIPPED);
+    let (mut work, mut output) = (vec![0; 32 * bundle.len()], vec![0; 4096]);
+    let skipped = Skipped { repeats: 1, namesakes: 1 };
+    let (code, length, told) = ffi::pack_counted(&bundle, &mut work, &mut output);
+    assert_eq!((code, told), (0, skipped));
+    assert_eq!(ffi::pack_small_counted(&bundle, &mut output), (0, length, skipped));
+    let short = ffi::pack_counted(&bundle, &mut work, &mut output[..length - 1]);
+    assert_eq!(short, (18, length, Skipped::default()));
+    assert_eq!(ffi::pack_counted(&bundle, &mut [], &mut output), (2, 0, Skipped::default()));
 }
 
 /// Refused: the message, and an older package that stays as it was.

@@ -2,7 +2,7 @@
 
 mod common;
 
-use barthovin::names::{RNGLISTS, STR, STR_OFFSETS};
+use barthovin::names::{RNGLISTS, STR, STR_OFFSETS, WORK_FOR_A_WORD};
 use barthovin::reader::bundle::put_end;
 use barthovin::reader::number;
 use barthovin::reader::package::Package;
@@ -39,7 +39,7 @@ fn bundle(files: &[String]) -> Vec<u8> {
 }
 
 fn package(bundle: &[u8]) -> Vec<u8> {
-    let (mut work, mut output) = (vec![0; 4 * bundle.len()], vec![0; 2 * bundle.len() + 4_096]);
+    let (mut work, mut output) = (vec![0; bundle.len() / 4 * WORK_FOR_A_WORD], vec![0; 2 * bundle.len() + 4_096]);
     let (code, length) = ffi::pack(bundle, &mut work, &mut output);
     assert_eq!(code, 0);
     output.truncate(length);

@@ -79,7 +79,7 @@ add-input-objects-requires c κs =
       order = k .2;
       whole = length-whole _ _ (good (c .before .before .before .before .before .before .before .before .before .before));
       can = rw (s .kept .1 .0) h;
-      seen = s .ensures;
+      none = s .ensures;
     }
 
 same-length : tie.Need-same-length
@@ -94,9 +94,12 @@ returns-4 c =
 
 finish-requires : tie.Need-finish-requires
 finish-requires c κs =
-    let x = c .before .before .before .before .before .before .before .before .before .before .before .before .before .before .before .before .before .before .before .before .before .before in
-    let k = read (c .before .before .before .before .before .before .before .before .before .before .before .before .before) in
-    (filing-passed _ _ _ (k .0) _ (c .before .before .before .before .before .before .add-input-objects .ensures (k .0) (k .1)) (c .before .before .before .if3 .left), x .pre)
+    let x = c .before .before .before .before .before .before .before .before .before .before .before .before .before .before .before .before .before .before .before .before .before .before .before in
+    let k = read (c .before .before .before .before .before .before .before .before .before .before .before .before .before .before) in
+    (filing-passed _ _ _ (k .0) _ (c .before .before .before .before .before .before .before .add-input-objects .ensures (k .0) (k .1)) (c .before .before .before .before .if3 .left), x .pre)
+
+with-counts-requires : tie.Need-with-counts-requires
+with-counts-requires c κs = search needs
 
 same-length-2 : tie.Need-same-length-2
 same-length-2 c = search needs
@@ -106,8 +109,10 @@ same-length-3 c = search needs
 
 returns-5 : tie.Need-returns-5
 returns-5 c =
-    let f = c .before .before .before .before in
-    answers-finish _ _ _ _ (good (c .before .before .before .before .before .before .before .before .before .before .before .before .before .before .before .before .before .before .before .before .before .before)) (c .before .before .before .before .before .before .before .before .before .before .before .before .before .before .before .before .before .before .before .before .before .if2 .left) _ (f .finish .ensures .0) (f .finish .ensures .1)
+    let f = c .before .before .before .before .before in
+    let k = read (c .before .before .before .before .before .before .before .before .before .before .before .before .before .before .before .before .before .before .before .before) in
+    let all = filing-passed _ _ _ (k .0) _ (c .before .before .before .before .before .before .before .before .before .before .before .before .before .add-input-objects .ensures (k .0) (k .1)) (c .before .before .before .before .before .before .before .before .before .before .if3 .left) in
+    answers-finish _ _ _ _ (good (c .before .before .before .before .before .before .before .before .before .before .before .before .before .before .before .before .before .before .before .before .before .before .before .before)) (c .before .before .before .before .before .before .before .before .before .before .before .before .before .before .before .before .before .before .before .before .before .before .before .if2 .left) _ (f .finish .ensures .0) (f .finish .ensures .1) _ _ _ all _ (c .with-counts .ensures)
 
 pub pack-cleared-spec : {M : Type 1} → statement M
 pack-cleared-spec =
@@ -126,6 +131,7 @@ pack-cleared-spec =
     same-length
     returns-4
     finish-requires
+    with-counts-requires
     same-length-2
     same-length-3
     returns-5)

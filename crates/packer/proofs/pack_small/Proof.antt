@@ -1,47 +1,18 @@
--- The lower limit, and work of 4,096 words.
+-- The answer without the counts.
 -- Assumes nothing.
-use mathlib.Core.Path.{sym, _∙_}
-use borrow.Author.Tests.{not-true, not-false}
-use Rattle.packer.proofs.Clearing.{small-refused, small-packed}
+use Rattle.packer.proofs.Counted.{finished-packing}
 use borrow.Author.Needs.{needs}
 use Rattle.packer.proofs.pack_small.Statement.{statement}
 use Rattle.packer.proofs.pack_small.Tie as tie
 
-length-good-requires : tie.Need-length-good-requires
-length-good-requires c κs = search needs
-
-clear-bytes-requires : tie.Need-clear-bytes-requires
-clear-bytes-requires c κs = search needs
+pack-small-counted-requires : tie.Need-pack-small-counted-requires
+pack-small-counted-requires c κs = search needs
 
 same-length : tie.Need-same-length
 same-length c = search needs
 
 returns : tie.Need-returns
-returns c = small-refused _ _ _ (sym (c .before .before .before .before .before .length-good .ensures) ∙ not-true _ (c .before .before .before .before .if1 .taken)) (c .before .before .clear-bytes .ensures)
-
-slice-aggregate-pack : tie.Need-slice-aggregate-pack
-slice-aggregate-pack c = search needs
-
-pack-requires : tie.Need-pack-requires
-pack-requires c κs = search needs
-
-same-length-2 : tie.Need-same-length-2
-same-length-2 c = search needs
-
-returns-2 : tie.Need-returns-2
-returns-2 c =
-    let p = c .before .before .before in
-    small-packed _ _ _ (sym (c .before .before .before .before .before .before .before .length-good .ensures) ∙ not-false _ (c .before .before .before .before .before .before .if1 .left)) _ (p .pack .ensures .0) (p .pack .ensures .1 .0)
+returns c = let p = c .before .before .pack-small-counted in (finished-packing _ _ (p .result) (p .ensures .0), p .ensures .1)
 
 pub pack-small-spec : {M : Type 1} → statement M
-pack-small-spec =
-    tie.close
-    (tie.spec
-    length-good-requires
-    clear-bytes-requires
-    same-length
-    returns
-    slice-aggregate-pack
-    pack-requires
-    same-length-2
-    returns-2)
+pack-small-spec = tie.close (tie.spec pack-small-counted-requires same-length returns)

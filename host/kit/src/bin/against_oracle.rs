@@ -17,12 +17,13 @@
 //!
 //! With --reference, the reference stands in the place of the proved packer: so it is held to thorin itself.
 
+use barthovin::ffi::Skipped;
 use kit::claim::{Claim, Counts};
 use kit::generate::{call, Random};
 use kit::lender::{Lender, Written};
 use kit::measured::{by_thorins, measure, other_slots, parts_of_packages, Measure};
 use kit::oracle::Oracle;
-use kit::reference::{pack, Bundle, Object, Packed};
+use kit::reference::{pack, pack_counted, work_for, Bundle, Object, Packed};
 use kit::sample::Told;
 use std::collections::BTreeMap;
 use std::io::{Error, Result};
@@ -164,11 +165,11 @@ impl Tally {
         let read = Bundle::read(bundle).filter(|_| packing.code == 0);
         let Some(read) = read else {
             self.note(packing.code, tag);
-            let refused = packing.agrees(&pack(bundle, 4 * bundle.len(), usize::MAX));
+            let refused = packing.agrees(&pack(bundle, work_for(bundle), usize::MAX));
             return refused && !(tag == 0 && never.contains(&packing.code));
         };
         // A wrong package may be one of a bundle that has no measure.
-        let Packed::Made(wanted) = pack(bundle, 4 * bundle.len(), usize::MAX) else { return false };
+        let Packed::Made(wanted) = pack(bundle, work_for(bundle), usize::MAX) else { return false };
         let by = measure(&read);
         let thorins = by_thorins(bytes, &wanted).filter(|_| tag == 0);
         let told = thorins.as_deref().filter(|_| by == Measure::Thorin);
@@ -195,7 +196,9 @@ impl Packer {
             Packer::Proved(lent) => return lent.pack_whole(bundle),
             Packer::Reference(made) => made,
         };
-        let code = match pack(bundle, 4 * bundle.len(), usize::MAX) {
+        let (answer, counted) = pack_counted(bundle, work_for(bundle), usize::MAX);
+        let skipped = Skipped { repeats: counted.repeats, namesakes: counted.namesakes };
+        let code = match answer {
             Packed::Made(package) => {
                 *made = package;
                 0
@@ -204,7 +207,7 @@ impl Packer {
             Packed::Short(_) => return Err("no output is too short".to_string()),
         };
         let bytes = if code == 0 { &made[..] } else { &[] };
-        Ok(Written { code, length: bytes.len(), bytes })
+        Ok(Written { code, length: bytes.len(), bytes, skipped })
     }
 }
 
@@ -243,7 +246,7 @@ fn told(bundle: &[u8], tag: u8, answer: &[u8]) -> Option<Told> {
     };
     let bundle = bundle.to_vec();
     let is_measured = || Bundle::read(&bundle).is_some_and(|read| measure(&read) == Measure::Thorin);
-    match pack(&bundle, 4 * bundle.len(), usize::MAX) {
+    match pack(&bundle, work_for(&bundle), usize::MAX) {
         Packed::Made(_) if tag == 0 && is_measured() => Some(Told::Package { bundle, package: answer.to_vec() }),
         Packed::Refused(number @ (4..=16 | 34)) => Some(Told::Refused { bundle, number, thorin }),
         _ => None,

@@ -1,7 +1,7 @@
 //! Large bundles as compilers make them: identities that look random, bodies of usual length. Each kind has one thing many times.
 
 use super::objects::{Draft, DraftObject};
-use crate::reference::{pack, Packed};
+use crate::reference::{pack, work_for, Packed};
 
 const FOUR: u32 = 0x1008_0404;
 const FIVE: u32 = 0x1008_0405;
@@ -214,7 +214,7 @@ fn package_of_five_again(count: u64) -> Vec<u8> {
 /// The package of a bundle of objects.
 fn package_of(objects: Vec<DraftObject>) -> Vec<u8> {
     let bundle = Draft { big: false, objects }.bytes();
-    match pack(&bundle, 4 * bundle.len(), usize::MAX) {
+    match pack(&bundle, work_for(&bundle), usize::MAX) {
         Packed::Made(package) => package,
         // Only a bundle above the limit; it is long enough to be seen as too long.
         _ => bundle,
@@ -231,9 +231,22 @@ pub fn many_strings(count: u64) -> Vec<u8> {
     with_strings((0..count as u32).map(|i| i * 17).collect(), count)
 }
 
+/// So many different strings of one hash, each named once. The hash of the kept strings' index is linear: wherever one of two blocks
+/// stands in a string, the other gives the same.
+pub fn strings_of_one_hash(count: u64) -> Vec<u8> {
+    let block = |i: u64, bit: u32| if i >> bit & 1 == 0 { "abaqaa" } else { "fawadt" };
+    let string = |i: u64| (0..16).map(|bit| block(i, bit)).chain(["\0"]).collect::<String>().into_bytes();
+    naming((0..count as u32).map(|i| i * 97).collect(), (0..count).flat_map(string).collect())
+}
+
 fn with_strings(entries: Vec<u32>, count: u64) -> Vec<u8> {
+    naming(entries, strings(count))
+}
+
+/// One unit, and entries for strings.
+fn naming(entries: Vec<u32>, strings: Vec<u8>) -> Vec<u8> {
     let mut info = Vec::new();
     put_five(&mut info, 5, identity(0), BODY);
     let offsets = str_offsets(FIVE, entries.into_iter());
-    one_object(FIVE, vec![(1, info), (3, table(3)), (6, offsets), (11, strings(count))])
+    one_object(FIVE, vec![(1, info), (3, table(3)), (6, offsets), (11, strings)])
 }

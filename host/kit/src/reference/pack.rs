@@ -4,7 +4,7 @@ use super::bundle::{self, length_is_good, Bundle, Encoding, Object, Section};
 use super::index::{self, Index, Probe, Row};
 use super::strings::StringTable;
 use super::unit::{self, Table, Unit};
-use std::collections::{BTreeSet, HashSet};
+use std::collections::{BTreeSet, HashMap};
 
 #[derive(Clone, Debug, PartialEq, Eq)]
 pub enum Packed {
@@ -16,7 +16,12 @@ pub enum Packed {
 
 pub const LONGEST_BUNDLE: usize = 4_194_304;
 const LONGEST_SECTION: usize = 8_388_607;
-const WORK_FOR_A_WORD: usize = 16;
+pub const WORK_FOR_A_WORD: usize = 20;
+
+/// The words of work that a bundle asks for.
+pub fn work_for(bundle: &[u8]) -> usize {
+    bundle.len() / 4 * WORK_FOR_A_WORD
+}
 
 const INFO: u32 = 1;
 const TYPES: u32 = 2;
@@ -28,28 +33,41 @@ const TU_INDEX: u32 = 13;
 /// The sections that all units of an object share.
 const SHARED: std::ops::RangeInclusive<u32> = 3..=10;
 
-pub fn pack(bytes: &[u8], work_words: usize, output_bytes: usize) -> Packed {
-    let package = match package_of(bytes, work_words) {
-        Ok(package) => package,
-        Err(refusal) => return Packed::Refused(refusal),
-    };
-    if package.len() > output_bytes {
-        return Packed::Short(package.len());
-    }
-    Packed::Made(package)
+/// The type units that were skipped: repeats, whose bytes agree with the kept one's, and namesakes, whose bytes don't.
+#[derive(Clone, Copy, Debug, Default, PartialEq, Eq)]
+pub struct Skipped {
+    pub repeats: usize,
+    pub namesakes: usize,
 }
 
-fn package_of(bytes: &[u8], work_words: usize) -> Result<Vec<u8>, u32> {
+pub fn pack(bytes: &[u8], work_words: usize, output_bytes: usize) -> Packed {
+    pack_counted(bytes, work_words, output_bytes).0
+}
+
+/// The answer, and what was skipped: nothing where no package is made.
+pub fn pack_counted(bytes: &[u8], work_words: usize, output_bytes: usize) -> (Packed, Skipped) {
+    let (package, skipped) = match package_of(bytes, work_words) {
+        Ok(made) => made,
+        Err(refusal) => return (Packed::Refused(refusal), Skipped::default()),
+    };
+    if package.len() > output_bytes {
+        return (Packed::Short(package.len()), Skipped::default());
+    }
+    (Packed::Made(package), skipped)
+}
+
+fn package_of(bytes: &[u8], work_words: usize) -> Result<(Vec<u8>, Skipped), u32> {
     if !length_is_good(bytes.len(), LONGEST_BUNDLE) {
         return Err(1);
     }
-    if work_words < bytes.len() / 4 * WORK_FOR_A_WORD {
+    if work_words < work_for(bytes) {
         return Err(2);
     }
     let bundle = Bundle::read(bytes).ok_or(3u32)?;
     let mut package = InProgress::new();
     package.add_input_objects(&bundle)?;
-    package.finish(&bundle)
+    let skipped = package.skipped;
+    package.finish(&bundle).map(|package| (package, skipped))
 }
 
 /// 4 to 7.
@@ -167,7 +185,9 @@ struct InProgress<'a> {
     /// Joined sections by code; str and the indexes come at the end.
     joined: Vec<Vec<u8>>,
     strings: StringTable<'a>,
-    seen: HashSet<(Table, u64)>,
+    /// The bytes of the first unit of a table and an identity, which is kept.
+    seen: HashMap<(Table, u64), &'a [u8]>,
+    skipped: Skipped,
     cu_rows: Vec<Row>,
     tu_rows: Vec<Row>,
 }
@@ -177,7 +197,8 @@ impl<'a> InProgress<'a> {
         InProgress {
             joined: vec![Vec::new(); 14],
             strings: StringTable::new(LONGEST_SECTION),
-            seen: HashSet::new(),
+            seen: HashMap::new(),
+            skipped: Skipped::default(),
             cu_rows: Vec::new(),
             tu_rows: Vec::new(),
         }
@@ -228,18 +249,22 @@ impl<'a> InProgress<'a> {
     }
 
     /// The units of one section, from its front.
-    fn add_units(&mut self, input: &Input, from: &Section) -> Result<(), u32> {
+    fn add_units(&mut self, input: &Input, from: &Section<'a>) -> Result<(), u32> {
         let (section, bytes) = (from.code, from.bytes);
         let mut at = 0;
         while at < bytes.len() {
             let unit = unit::read(section, &bytes[at..], |size| input.abbrev(at, size), input.encoding)?;
-            let new = self.seen.insert((unit.table, unit.identity));
-            if !new && unit.table == Table::Compilation {
-                return Err(14);
-            }
-            if new {
-                let parts = input.contributions(section, at, &unit)?;
-                self.file(section, &bytes[at..at + unit.size], &unit, parts);
+            let own = &bytes[at..at + unit.size];
+            let kept = self.seen.get(&(unit.table, unit.identity)).copied();
+            match kept {
+                Some(_) if unit.table == Table::Compilation => return Err(14),
+                Some(kept) if kept == own => self.skipped.repeats += 1,
+                Some(_) => self.skipped.namesakes += 1,
+                None => {
+                    let parts = input.contributions(section, at, &unit)?;
+                    self.seen.insert((unit.table, unit.identity), own);
+                    self.file(section, own, &unit, parts);
+                }
             }
             at += unit.size;
         }

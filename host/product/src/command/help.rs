@@ -44,8 +44,13 @@ files that the lines of LIST name (./@NAME for a file that is called so).
   -o, --output=PACKAGE   the file to write, or - for standard output; where its name ends in .dwp, an ELF file
       --elf              write an ELF file whatever its name
       --machine=MACHINE  of the ELF file: x86-64, aarch64 or riscv64; else that of the first ELF file read, else x86-64
+      --namesakes        list the type units that were skipped though their bytes are not those of the one kept
+      --json             write what was written and skipped as a JSON object
   -h, --help             show this help and exit
   -V, --version          show the version and exit
+
+Of type units with one signature the first is kept. How many were skipped is said where there are any: repeats, whose bytes are those of the one
+kept, and namesakes. It is said on standard error where the package goes to standard output.
 
 All files together make a bundle of at most 4,194,304 bytes. A file that is there keeps its mode, owner and links. It is written whole
 or not at all wherever a second file can stand beside it meanwhile.

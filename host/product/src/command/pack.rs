@@ -1,22 +1,26 @@
 //! `barthovin pack`: files in, their package out, as it is or as an ELF file, or nothing and the reason.
 
 use super::call::{Call, Known};
-use super::files::{join, listed, refused, Joined};
+use super::files::{join, listed, refused_call, Joined};
 use super::{input, output, progress, show, Stop, DONE};
 use crate::elf;
 use crate::explain::{self, Names};
-use crate::ffi;
-use crate::names::{OUTPUT_TOO_SHORT, WORK_FOR_A_WORD};
-use std::ffi::OsString;
+use crate::ffi::{self, Skipped};
+use crate::names::{section_name, OUTPUT_TOO_SHORT, WORK_FOR_A_WORD};
+use crate::skipped::{self, Unit};
+use std::ffi::{OsStr, OsString};
+use std::io::Write;
 use std::os::unix::ffi::OsStrExt;
 
 /// The refusal of a machine that packages aren't written for.
 const OTHER_MACHINE: u32 = 36;
 
-const OPTIONS: [Known; 3] = [
+const OPTIONS: [Known; 5] = [
     Known { long: "output", short: Some(b'o'), value: true },
     Known { long: "elf", short: None, value: false },
     Known { long: "machine", short: None, value: true },
+    Known { long: "namesakes", short: None, value: false },
+    Known { long: "json", short: None, value: false },
 ];
 
 pub fn run(arguments: &[OsString]) -> Result<u8, Stop> {
@@ -28,6 +32,9 @@ pub fn run(arguments: &[OsString]) -> Result<u8, Stop> {
         return Err(call.wrong("operand FILE is missing"));
     }
     let to = call.value("output").ok_or_else(|| call.wrong("no output is named: -o PACKAGE"))?;
+    if call.has("json") && to == "-" {
+        return Err(call.wrong("option '--json' needs standard output for itself: -o PACKAGE"));
+    }
     let as_elf = call.has("elf") || to.as_bytes().ends_with(b".dwp");
     let named = machine_named(&call, as_elf)?;
     let names = listed(&call.operands)?;
@@ -36,20 +43,79 @@ pub fn run(arguments: &[OsString]) -> Result<u8, Stop> {
     }
     let joined = join(&names)?;
     let about = format!("packing {}, {} bytes", show::count(names.len(), "file"), joined.bundle.len());
-    let package =
-        progress::shown(about, || package_of(&joined.bundle)).map_err(|number| told(&names, &joined, number))?;
-    if !as_elf {
-        return output::write(to, &package).map(|()| DONE);
+    let packed = progress::shown(about, || packed(&joined.bundle));
+    let (package, skipped) = packed.map_err(|number| told(&call, &names, &joined, number))?;
+    let file = if as_elf { elf_file(&call, to, &package, named.or(joined.machine))? } else { package };
+    output::write(to, &file)?;
+    say_skipped(&call, to, &joined, file.len(), skipped)
+}
+
+/// The package as an ELF file.
+fn elf_file(call: &Call, to: &OsStr, package: &[u8], machine: Option<u32>) -> Result<Vec<u8>, Stop> {
+    let machine = machine.unwrap_or(elf::MACHINES[0].1);
+    let why = |number| Some(format!("the machine is {machine}")).filter(|_| number == OTHER_MACHINE);
+    elf::file_of(package, machine).map_err(|number| refused_call(call, &input::shown(to), number, why(number)))
+}
+
+/// How many type units were skipped, where there are any, and with --namesakes which of them are namesakes. It is said on standard error
+/// where the package goes to standard output.
+fn say_skipped(call: &Call, to: &OsStr, joined: &Joined, length: usize, told: Skipped) -> Result<u8, Stop> {
+    let namesakes = if call.has("namesakes") { namesakes(joined, told)? } else { Vec::new() };
+    if call.has("json") {
+        let listed: Vec<String> = namesakes.iter().map(Namesake::json).collect();
+        let listed = call.has("namesakes").then(|| format!(",\"listed\":[{}]", listed.join(",")));
+        let Skipped { repeats, namesakes } = told;
+        let counts = format!("\"repeats\":{repeats},\"namesakes\":{namesakes}");
+        return output::print(&format!("{{\"length\":{length},{counts}{}}}", listed.unwrap_or_default()));
     }
-    let machine = named.or(joined.machine).unwrap_or(elf::MACHINES[0].1);
-    let file = elf::file_of(&package, machine).map_err(|number| {
-        refused(
-            &input::shown(to),
-            number,
-            Some(format!("the machine is {machine}")).filter(|_| number == OTHER_MACHINE),
-        )
-    })?;
-    output::write(to, &file).map(|()| DONE)
+    if told == Skipped::default() {
+        return Ok(DONE);
+    }
+    let lines = std::iter::once(show::skipped(told)).chain(namesakes.iter().map(Namesake::line));
+    let text = lines.collect::<Vec<_>>().join("\n");
+    if to != "-" {
+        return output::print(&text);
+    }
+    // It is only a help; where it can't be written nothing is lost.
+    let _ = writeln!(std::io::stderr(), "{text}");
+    Ok(DONE)
+}
+
+/// A namesake as it is listed.
+struct Namesake {
+    identity: u64,
+    file: String,
+    section: &'static str,
+    offset: usize,
+}
+
+impl Namesake {
+    fn line(&self) -> String {
+        let Namesake { identity, file, section, offset } = self;
+        format!("namesake {identity:#018x}: {file}: byte {offset} of {section}")
+    }
+
+    fn json(&self) -> String {
+        let Namesake { identity, file, section, offset } = self;
+        let place = format!("\"file\":{},\"section\":\"{section}\",\"offset\":{offset}", show::json(file));
+        format!("{{\"identity\":\"{identity:#018x}\",{place}}}")
+    }
+}
+
+/// The namesakes, as the host reads the bundle; that they are as many as the packer skipped is asked.
+fn namesakes(joined: &Joined, told: Skipped) -> Result<Vec<Namesake>, Stop> {
+    let read = skipped::units(&joined.bundle).unwrap_or_default();
+    let (namesakes, repeats): (Vec<Unit>, Vec<Unit>) = read.into_iter().partition(|unit| unit.is_namesake);
+    if (repeats.len(), namesakes.len()) != (told.repeats, told.namesakes) {
+        return Err(Stop::Trouble("the host can't find the units that were skipped".to_string()));
+    }
+    let named = |unit: &Unit| Namesake {
+        identity: unit.identity,
+        file: joined.files.get(unit.object - 1).cloned().unwrap_or(format!("object {}", unit.object)),
+        section: section_name(unit.section),
+        offset: unit.offset,
+    };
+    Ok(namesakes.iter().map(named).collect())
 }
 
 /// The machine that the call names, if it names one.
@@ -65,7 +131,7 @@ fn machine_named(call: &Call, as_elf: bool) -> Result<Option<u32>, Stop> {
 }
 
 /// The refusal of what was joined, by the file that it comes from where that is known.
-fn told(operands: &[OsString], joined: &Joined, number: u32) -> Stop {
+fn told(call: &Call, operands: &[OsString], joined: &Joined, number: u32) -> Stop {
     let names = Names { files: &joined.files };
     let why = explain::packing(&joined.bundle, number, &names);
     let all = match operands {
@@ -73,22 +139,28 @@ fn told(operands: &[OsString], joined: &Joined, number: u32) -> Stop {
         operands => format!("{} together", show::count(operands.len(), "file")),
     };
     let file = why.as_ref().and_then(|why| why.file(&names)).unwrap_or(&all);
-    refused(file, number, why.as_ref().map(|why| why.told(&names)))
+    refused_call(call, file, number, why.as_ref().map(|why| why.told(&names)))
 }
 
-/// The package, or the refusal's number.
-pub fn package_of(bundle: &[u8]) -> Result<Vec<u8>, u32> {
+/// The package and what was skipped, or the refusal's number.
+fn packed(bundle: &[u8]) -> Result<(Vec<u8>, Skipped), u32> {
     let mut work = vec![0; bundle.len() / 4 * WORK_FOR_A_WORD];
     // Most packages fit; where one doesn't, the refusal names the length that it needs.
     let mut output = vec![0; 2 * bundle.len()];
-    let (mut code, mut length) = ffi::pack(bundle, &mut work, &mut output);
-    if code == OUTPUT_TOO_SHORT {
-        output = vec![0; length];
-        (code, length) = ffi::pack(bundle, &mut work, &mut output);
+    let mut answer = ffi::pack_counted(bundle, &mut work, &mut output);
+    if answer.0 == OUTPUT_TOO_SHORT {
+        output = vec![0; answer.1];
+        answer = ffi::pack_counted(bundle, &mut work, &mut output);
     }
+    let (code, length, skipped) = answer;
     if code != 0 {
         return Err(code);
     }
     output.truncate(length);
-    Ok(output)
+    Ok((output, skipped))
+}
+
+/// The package alone.
+pub fn package_of(bundle: &[u8]) -> Result<Vec<u8>, u32> {
+    packed(bundle).map(|(package, _)| package)
 }

@@ -2,6 +2,7 @@
 
 use super::meaning;
 use crate::answer::Asked;
+use crate::ffi::Skipped;
 use std::ffi::OsStr;
 use std::os::unix::ffi::OsStrExt;
 
@@ -44,6 +45,15 @@ pub fn hexadecimal(bytes: &[u8]) -> String {
 /// `1 look`, `2 looks`.
 pub fn count(number: usize, one: &str) -> String {
     format!("{number} {one}{}", if number == 1 { "" } else { "s" })
+}
+
+/// The type units that were skipped.
+pub fn skipped(Skipped { repeats, namesakes }: Skipped) -> String {
+    let repeats = match repeats {
+        1 => "1 type unit was a repeat".to_string(),
+        _ => format!("{repeats} type units were repeats"),
+    };
+    format!("{repeats}, {}", count(namesakes, "namesake"))
 }
 
 /// A text as JSON writes it, between quotes.

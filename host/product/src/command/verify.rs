@@ -6,7 +6,7 @@ use super::{input, output, progress, show, Stop, DONE, NOT_DONE};
 use crate::answer::Found;
 use crate::elf;
 use crate::explain;
-use crate::ffi;
+use crate::ffi::{self, Skipped};
 use crate::names::LONGEST_PACKAGE;
 use crate::verify::{verify, Fault, Report};
 use std::ffi::{OsStr, OsString};
@@ -67,14 +67,9 @@ fn counts(report: &Report) -> String {
 }
 
 fn found(report: &Report) -> String {
-    let repeats = match (report.repeats, report.namesakes) {
-        (0, _) => String::new(),
-        (repeats, 0) => format!("; {} of them repeat a type", repeats),
-        (repeats, others) => {
-            format!("; {repeats} of them repeat a type, {others} in other bytes than the first, which is kept")
-        }
-    };
-    format!("{}: all found{repeats}; the files may be deleted", counts(report))
+    let skipped = Some(report.skipped).filter(|skipped| *skipped != Skipped::default());
+    let skipped = skipped.map(|skipped| format!("; {}", show::skipped(skipped))).unwrap_or_default();
+    format!("{}: all found{skipped}; the files may be deleted", counts(report))
 }
 
 fn not_found(package: &str, report: &Report, faults: &[(String, String)]) -> String {
@@ -90,7 +85,7 @@ fn json(report: &Report, faults: &[(String, String)]) -> String {
     let fault =
         |(file, what): &(String, String)| format!("{{\"file\":{},\"what\":{}}}", show::json(file), show::json(what));
     let faults: Vec<String> = faults.iter().map(fault).collect();
-    let Report { units, repeats, namesakes, strings, .. } = report;
+    let Report { units, skipped: Skipped { repeats, namesakes }, strings, .. } = report;
     let verified = faults.is_empty();
     let counts = format!("\"units\":{units},\"repeats\":{repeats},\"namesakes\":{namesakes},\"strings\":{strings}");
     format!("{{\"verified\":{verified},{counts},\"faults\":[{}]}}", faults.join(","))

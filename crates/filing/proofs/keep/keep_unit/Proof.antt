@@ -14,10 +14,10 @@ bytes-of-requires : tie.Need-bytes-of-requires
 bytes-of-requires c κs = search needs
 
 cells-of-requires : tie.Need-cells-of-requires
-cells-of-requires c κs = let p = c .before .before .before .before .before .pre in cells-room (p .held) (p .new) _ (c .bytes-of .ensures)
+cells-of-requires c κs = let p = c .before .before .before .before .before .before .pre in cells-room (p .held) (p .new) _ (c .bytes-of .ensures)
 
 keep-requires : tie.Need-keep-requires
-keep-requires c κs = let p = c .before .before .before .before .before .before .before .pre in (keepable (p .held) (p .new), unit-fits (p .held) (p .new), c .before .cells-of .ensures .1)
+keep-requires c κs = let p = c .before .before .before .before .before .before .before .before .pre in (keepable (p .held) (p .new), unit-fits (p .held) (p .new), c .before .cells-of .ensures .1)
 
 table-of-requires : tie.Need-table-of-requires
 table-of-requires c κs = search needs
@@ -26,18 +26,18 @@ mark-columns-requires : tie.Need-mark-columns-requires
 mark-columns-requires c κs = search needs
 
 add-with-unit : tie.Need-add-with-unit
-add-with-unit c = let p = c .before .before .before .before .before .before .before .before .before .before .before .before .before .pre in omega (arith, bytes-fit (p .held) (p .new) _ (c .before .before .before .before .before .before .before .before .bytes-of .ensures))
+add-with-unit c = let p = c .before .before .before .before .before .before .before .before .before .before .before .before .before .before .pre in omega (arith, bytes-fit (p .held) (p .new) _ (c .before .before .before .before .before .before .before .before .bytes-of .ensures))
 
 with-unit-requires : tie.Need-with-unit-requires
-with-unit-requires c κs = let p = c .before .before .before .before .before .before .before .before .before .before .before .before .before .pre in few-units (p .held) (p .new)
+with-unit-requires c κs = let p = c .before .before .before .before .before .before .before .before .before .before .before .before .before .before .pre in few-units (p .held) (p .new)
 
 same-length : tie.Need-same-length
 same-length c = search needs
 
 returns : tie.Need-returns
 returns c =
-    let p = c .before .before .before .before .before .before .before .before .before .before .before .before .before .before .pre in
-    let a = c .before .before .before .before .before .before .before .before .before .before .before .before .before .before .args in
+    let p = c .before .before .before .before .before .before .before .before .before .before .before .before .before .before .before .pre in
+    let a = c .before .before .before .before .before .before .before .before .before .before .before .before .before .before .before .args in
     let marked = subst (λ (t : Table). Marked (a .five) (t .has) (c .before .mark-columns .result) (c .before .before .before .before .before .before .before .before .cells-of .result) (length (columnsFor (a .five)))) (c .before .before .before .table-of .ensures) (c .before .mark-columns .ensures) in (
       λ b bases us y h x. unit-held h x _ (c .before .before .before .before .before .before .before .before .before .bytes-of .ensures) _ (c .before .before .before .before .before .before .before .before .cells-of .ensures .0) _ marked _ (c .before .before .before .before .before .before .keep .ensures) _ (c .with-unit .ensures),
       (

@@ -1,6 +1,6 @@
 -- `read_input` meets its contract.
 -- Assumes nothing.
-use Rattle.filing.proofs.Lending.{only-same}
+use Rattle.work.proofs.Lending.{only-same}
 use Rattle.filing.proofs.InputLaws.{scan-within, strings-room-of}
 use Rattle.filing.proofs.InputEnds.{read-refused, read-strings-refused, read-indexes-refused, read-passed}
 use borrow.Author.Needs.{needs}
@@ -22,14 +22,14 @@ returns c = (
 array-read-add-object-strings : tie.Need-array-read-add-object-strings
 array-read-add-object-strings c = search needs
 
-array-read-t32 : tie.Need-array-read-t32
-array-read-t32 c = search needs
+array-read-t33 : tie.Need-array-read-t33
+array-read-t33 c = search needs
 
 array-read-add-object-strings-2 : tie.Need-array-read-add-object-strings-2
 array-read-add-object-strings-2 c = search needs
 
-array-read-t32-2 : tie.Need-array-read-t32-2
-array-read-t32-2 c = search needs
+array-read-t33-2 : tie.Need-array-read-t33-2
+array-read-t33-2 c = search needs
 
 element-copy-out-add-object-strings : tie.Need-element-copy-out-add-object-strings
 element-copy-out-add-object-strings c = search needs
@@ -86,9 +86,9 @@ read-input-spec =
     input-refused-requires
     returns
     array-read-add-object-strings
-    array-read-t32
+    array-read-t33
     array-read-add-object-strings-2
-    array-read-t32-2
+    array-read-t33-2
     element-copy-out-add-object-strings
     add-object-strings-requires
     input-refused-requires-2

@@ -6,7 +6,7 @@ use denote.Ref.{now}
 use Rattle.work.specs.Regions.{rowsRegion}
 use Rattle.work.proofs.Stores.{rows-within}
 use Rattle.filing.specs.State.{wordsIn}
-use Rattle.filing.proofs.Lending.{only-same, only-lent}
+use Rattle.work.proofs.Lending.{only-same, only-lent}
 use Rattle.filing.proofs.ByPlace.{chained-nowhere, chain-asks, chains-left}
 use borrow.Author.Needs.{needs}
 use Rattle.filing.proofs.reading.chain_section.Statement.{statement}

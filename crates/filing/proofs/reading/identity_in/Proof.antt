@@ -6,7 +6,7 @@ use Rattle.unit.specs.Headers.{withSize}
 use Rattle.work.specs.Regions.{codesRegion}
 use Rattle.work.proofs.Stores.{codes-within}
 use Rattle.filing.specs.State.{wordsIn}
-use Rattle.filing.proofs.Lending.{only-lent}
+use Rattle.work.proofs.Lending.{only-lent}
 use Rattle.filing.proofs.Abbreviated.{codes-lent, codes-left}
 use borrow.Author.Needs.{needs}
 use Rattle.filing.proofs.reading.identity_in.Statement.{statement}

@@ -3,7 +3,7 @@
 use mathlib.Core.Path.{sym, _∙_}
 use native.Mathlib.Omega.{arith}
 use Rattle.filing.proofs.Kept.{seek-asks, sought-is, known-is, free-is, rows-held}
-use Rattle.filing.proofs.Answering.{answer-known, answer-bad, keep-requires, answer-filed}
+use Rattle.filing.proofs.Answering.{known-asks, answer-known, answer-bad, keep-requires, answer-filed}
 use Rattle.filing.proofs.Transients.{transient-none}
 use borrow.Author.Needs.{needs}
 use Rattle.filing.proofs.single.file_read.Statement.{statement}
@@ -15,20 +15,24 @@ seen-slots-requires c κs = search needs
 seek-in-requires : tie.Need-seek-in-requires
 seek-in-requires c κs = let p = c .before .before .before .before .before .before .pre in seek-asks (p .ready .atUnit .held) _ (p .read .least) (p .fits) _ (c .before .before .before .before .before .before .args .read .identity) (p .read .tables) _ (c .before .seen-slots .ensures)
 
-enum-told : tie.Need-enum-told
-enum-told c = search needs
+enum-known-number : tie.Need-enum-known-number
+enum-known-number c = search needs
 
 file-known-requires : tie.Need-file-known-requires
-file-known-requires c κs = search needs
+file-known-requires c κs =
+    let p = c .before .before .before .before .before .before .before .before .before .before .before .pre in
+    let a = p .ready .atUnit in
+    let r = p .read in
+    known-asks a r (p .fits) _ (known-is (a .held) _ (r .least) (p .fits) _ _ (r .tables) _ (sym (c .before .before .number .given .1) ∙ sought-is (a .held) _ (r .least) (p .fits) _ _ (r .tables) _ (c .before .before .before .before .before .before .seen-slots .ensures) _ (c .before .before .before .before .seek-in .ensures)))
 
 same-length : tie.Need-same-length
 same-length c = search needs
 
 returns : tie.Need-returns
 returns c =
-    let p = c .before .before .before .before .before .before .before .before .before .before .pre in (
+    let p = c .before .before .before .before .before .before .before .before .before .before .before .before .pre in (
       λ i bases earlier here s a r y.
-          answer-known a r (p .fits) (p .homes) y (known-is (a .held) _ (r .least) (p .fits) _ _ (r .tables) _ (sym (c .before .enum-told .given .1) ∙ sought-is (a .held) _ (r .least) (p .fits) _ _ (r .tables) _ (c .before .before .before .before .before .seen-slots .ensures) _ (c .before .before .before .seek-in .ensures))) _ (c .file-known .ensures),
+          answer-known a r (p .fits) (p .homes) y _ (known-is (a .held) _ (r .least) (p .fits) _ _ (r .tables) _ (sym (c .before .before .before .number .given .1) ∙ sought-is (a .held) _ (r .least) (p .fits) _ _ (r .tables) _ (c .before .before .before .before .before .before .before .seen-slots .ensures) _ (c .before .before .before .before .before .seek-in .ensures))) _ (c .file-known .ensures),
       transient-none _ _,
     )
 
@@ -89,7 +93,7 @@ file-read-spec =
     (tie.spec
     seen-slots-requires
     seek-in-requires
-    enum-told
+    enum-known-number
     file-known-requires
     same-length
     returns

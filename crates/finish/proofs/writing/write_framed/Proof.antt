@@ -13,7 +13,7 @@ use Rattle.finish.proofs.writing.write_framed.Tie as tie
 returns : tie.Need-returns
 returns c =
     let s = c .before .before .before .before in
-    (omega (arith, framed-none (s .args .size) (c .if1 .taken)), λ x r q. frame-none _ _ _ _ (sym q ∙ c .if1 .taken))
+    (omega (arith, framed-none (s .args .size) (c .if1 .taken)), (λ x r q. frame-none _ _ _ _ (sym q ∙ c .if1 .taken), λ x r. r))
 
 add-start : tie.Need-add-start
 add-start c = search needs
@@ -23,39 +23,35 @@ filled-up-requires c κs = search needs
 
 add-next : tie.Need-add-next
 add-next c =
-    let i = c .before in
-    let s = i .before .before .before .before in
-    omega (arith, frame-room _ _ _ _ _ _ _ (s .pre) (i .if1 .left), c .filled-up .ensures, s .good)
+    let s = c .before .before .before .before .before in
+    omega (arith, frame-room _ _ _ _ _ _ _ (s .pre) (c .before .if1 .left), c .filled-up .ensures, s .good)
 
 cast-put-section-word : tie.Need-cast-put-section-word
 cast-put-section-word c = search needs
 
 put-section-word-requires : tie.Need-put-section-word-requires
 put-section-word-requires c κs =
-    let i = c .before .before in
-    let s = i .before .before .before .before in
-    let room = frame-room _ _ _ _ _ _ _ (s .pre) (i .if1 .left) in
+    let s = c .before .before .before .before .before .before in
+    let room = frame-room _ _ _ _ _ _ _ (s .pre) (c .before .before .if1 .left) in
     (omega (arith, s .pre .most), omega (arith, s .pre .short), omega (arith, room))
 
 write-section-requires : tie.Need-write-section-requires
-write-section-requires c κs =
-    let p = c .before .before .before in
-    let i = p .before .before .before in
-    let s = i .before .before .before .before in
-    frame-section _ _ _ _ _ _ _ (s .pre) (i .if1 .left) _ (p .put-section-word .kept .1 .1 .0)
+write-section-requires c κs = frame-section _ _ _ _ _ _ _ (c .before .before .before .before .before .before .before .before .before .before .before .pre) (c .before .before .before .before .before .before .before .if1 .left) _ (c .before .before .before .before .put-section-word .kept .1 .1 .0)
 
 same-length : tie.Need-same-length
 same-length c = search needs
 
+same-length-2 : tie.Need-same-length-2
+same-length-2 c = search needs
+
 returns-2 : tie.Need-returns-2
 returns-2 c =
-    let x = c .before .before in
-    let p = x .before .before .before .before in
-    let i = p .before .before .before in
-    let s = i .before .before .before .before in
+    let x = c .before .before .before .before in
+    let i = c .before .before .before .before .before .before .before .before .before .before .before .before in
+    let s = c .before .before .before .before .before .before .before .before .before .before .before .before .before .before .before .before in
     let room = frame-room _ _ _ _ _ _ _ (s .pre) (i .if1 .left) in (
-      ap (λ (k : ℕ). s .args .at + 4 + k) (p .before .before .filled-up .ensures) ∙ omega (arith, framed-some (s .args .size) (i .if1 .left)),
-      λ y r q. frame-put _ _ _ _ _ _ _ (p .put-section-word .ensures) (x .write-section .ensures y r) (omega (arith, room)) q (i .if1 .left),
+      ap (λ (k : ℕ). s .args .at + 4 + k) (c .before .before .before .before .before .before .before .before .before .before .before .filled-up .ensures) ∙ omega (arith, framed-some (s .args .size) (i .if1 .left)),
+      (λ y r q. frame-put _ _ _ _ _ _ _ (c .before .before .before .before .before .before .before .before .before .put-section-word .ensures) (x .write-section .ensures .0 y r) (omega (arith, room)) q (i .if1 .left), x .write-section .ensures .1),
     )
 
 pub write-framed-spec : {M : Type 1} → statement M
@@ -70,4 +66,5 @@ write-framed-spec =
     put-section-word-requires
     write-section-requires
     same-length
+    same-length-2
     returns-2)

@@ -13,22 +13,22 @@ put-object-requires c κs = let p = c .before .before .before .before .before .b
 
 write-sections-requires : tie.Need-write-sections-requires
 write-sections-requires c κs =
-    let p = c .before .before .before .before .before .before .before .before .before .before .before .before .before .pre in
+    let p = c .before .before .before .before .before .before .before .before .before .before .before .before .before .before .pre in
     record {
       front = _;
       sections = p .sections;
       ready = p .ready;
       sized = p .sized;
       good = p .good;
-      started = package-started _ _ _ _ (p .zero) (p .room) _ (c .before .before .before .before .before .before .before .put-head .ensures) _ (c .before .before .before .put-object .ensures) (p .sections) (p .sized);
+      started = package-started _ _ _ _ (p .zero) (p .room) _ (c .before .before .before .before .before .before .before .before .put-head .ensures) _ (c .before .before .before .before .put-object .ensures) (p .sections) (p .sized);
     }
 
 put-end-requires : tie.Need-put-end-requires
 put-end-requires c κs =
-    let p = c .before .before .before .before .before .before .before .before .before .before .before .before .before .before .before .before .before .pre in
-    let h = c .before .before .before .before .before .before .before .before .before .before .before .put-head .ensures in
-    let o = c .before .before .before .before .before .before .before .put-object .ensures in
-    let x = c .before .before .before in
+    let p = c .before .before .before .before .before .before .before .before .before .before .before .before .before .before .before .before .before .before .before .before .pre in
+    let h = c .before .before .before .before .before .before .before .before .before .before .before .before .before .before .put-head .ensures in
+    let o = c .before .before .before .before .before .before .before .before .before .before .put-object .ensures in
+    let x = c .before .before .before .before .before in
     let started = package-started _ _ _ _ (p .zero) (p .room) _ h _ o (p .sections) (p .sized) in
     let writing = x .write-sections .ensures _ (p .sections) (p .ready) (p .sized) started in
     package-end _ _ _ _ (p .zero) (p .room) _ h _ o (p .sections) (p .sized) _ _ writing (x .write-sections .kept .1 .1 .1 .0) (p .good)
@@ -36,12 +36,15 @@ put-end-requires c κs =
 same-length : tie.Need-same-length
 same-length c = search needs
 
+same-length-2 : tie.Need-same-length-2
+same-length-2 c = search needs
+
 returns : tie.Need-returns
 returns c s r z =
-    let p = c .before .before .before .before .before .before .before .before .before .before .before .before .before .before .before .before .before .before .before .before .pre in
-    let h = c .before .before .before .before .before .before .before .before .before .before .before .before .before .before .put-head .ensures in
-    let o = c .before .before .before .before .before .before .before .before .before .before .put-object .ensures in
-    let x = c .before .before .before .before .before .before in
+    let p = c .before .before .before .before .before .before .before .before .before .before .before .before .before .before .before .before .before .before .before .before .before .before .before .pre in
+    let h = c .before .before .before .before .before .before .before .before .before .before .before .before .before .before .before .before .before .put-head .ensures in
+    let o = c .before .before .before .before .before .before .before .before .before .before .before .before .before .put-object .ensures in
+    let x = c .before .before .before .before .before .before .before .before in
     let started = package-started _ _ _ _ (p .zero) (p .room) _ h _ o (s) (z) in
     let writing = x .write-sections .ensures _ (s) (r) (z) started in
     package-done _ _ _ _ (p .zero) (p .room) _ h _ o s z _ _ writing (x .write-sections .kept .1 .1 .1 .0) _ (c .before .before .put-end .ensures)
@@ -55,4 +58,5 @@ write-package-spec =
     write-sections-requires
     put-end-requires
     same-length
+    same-length-2
     returns)

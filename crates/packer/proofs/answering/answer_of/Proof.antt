@@ -1,7 +1,6 @@
 -- `packer::answering::answer_of` meets its contract.
 -- Assumes nothing.
-use mathlib.Core.Path.{sym, ap}
-use Rattle.packer.specs.Told.{toldOf}
+use Rattle.packer.proofs.Counted.{told-refused, told-short, told-made}
 use borrow.Author.Needs.{needs}
 use Rattle.packer.proofs.answering.answer_of.Statement.{statement}
 use Rattle.packer.proofs.answering.answer_of.Tie as tie
@@ -16,16 +15,13 @@ enum-known-finished-3 : tie.Need-enum-known-finished-3
 enum-known-finished-3 c = search needs
 
 returns : tie.Need-returns
-unfolding toldOf
-returns c = sym (ap toldOf (c .before .finished .given .1))
+returns c = told-refused _ _ _ _ (c .before .finished .given .1)
 
 returns-2 : tie.Need-returns-2
-unfolding toldOf
-returns-2 c = sym (ap toldOf (c .before .finished2 .given .1))
+returns-2 c = told-short _ _ _ _ (c .before .finished2 .given .1)
 
 returns-3 : tie.Need-returns-3
-unfolding toldOf
-returns-3 c = sym (ap toldOf (c .before .finished3 .given .1))
+returns-3 c = told-made _ _ _ _ (c .before .finished3 .given .1)
 
 pub answer-of-spec : {M : Type 1} → statement M
 answer-of-spec =

@@ -1,6 +1,6 @@
--- The slots of the first table stay while those of the second are cleared.
+-- The slots of each table stay while those of the other and the strings are cleared.
 -- Assumes nothing.
-use Rattle.packer.proofs.Slots.{both-cleared}
+use Rattle.packer.proofs.Slots.{all-cleared}
 use borrow.Author.Needs.{needs}
 use Rattle.packer.proofs.clear.clear_slots.Statement.{statement}
 use Rattle.packer.proofs.clear.clear_slots.Tie as tie
@@ -11,11 +11,14 @@ clear-table-requires c κs = search needs
 clear-table-requires-2 : tie.Need-clear-table-requires-2
 clear-table-requires-2 c κs = search needs
 
+clear-strings-requires : tie.Need-clear-strings-requires
+clear-strings-requires c κs = search needs
+
 same-length : tie.Need-same-length
 same-length c = search needs
 
 returns : tie.Need-returns
-returns c = both-cleared _ _ _ _ (c .before .before .before .before .before .before .before .before .before .pre) (c .before .before .before .before .before .before .clear-table .ensures) (c .before .before .clear-table2 .ensures)
+returns c = all-cleared _ _ _ _ _ (c .before .before .before .before .before .before .before .before .before .before .before .before .before .pre) (c .before .before .before .before .before .before .before .before .before .before .clear-table .ensures) (c .before .before .before .before .before .before .clear-table2 .ensures) (c .before .before .clear-strings .ensures)
 
 pub clear-slots-spec : {M : Type 1} → statement M
-clear-slots-spec = tie.close (tie.spec clear-table-requires clear-table-requires-2 same-length returns)
+clear-slots-spec = tie.close (tie.spec clear-table-requires clear-table-requires-2 clear-strings-requires same-length returns)

@@ -9,7 +9,7 @@ mod paper;
 mod rows;
 mod sheets;
 
-use kit::generate::{many_strings, sized, KINDS};
+use kit::generate::{many_strings, sized, strings_of_one_hash, KINDS};
 use kit::oracle::Oracle;
 use measure::{Bench, Measured};
 use paper::{Growth, Paper};
@@ -18,7 +18,10 @@ use std::time::Duration;
 
 /// Half a megabyte, and each the double of the one before; the last is the longest bundle.
 const LENGTHS: [usize; 4] = [1 << 19, 1 << 20, 1 << 21, 1 << 22];
-const STRINGS: [u64; 6] = [1_250, 2_500, 5_000, 10_000, 20_000, 40_000];
+/// The last are as many as the longest bundle holds.
+const STRINGS: [u64; 6] = [6_240, 12_480, 24_960, 49_930, 99_860, 199_720];
+/// Of one hash: each is met on the way to the next.
+const OF_ONE_HASH: [u64; 4] = [1_250, 2_500, 5_000, 10_000];
 /// What comes after a packing of this length is left out.
 const PATIENCE: Duration = Duration::from_secs(8);
 
@@ -58,6 +61,9 @@ fn measure_all(oracle: Option<&str>) -> Result<Paper> {
     let name = "many different strings";
     let strings = growing(&mut bench, name, STRINGS.iter().map(|n| (many_strings(*n), *n)))?;
     let strings = Growth { name, items: "strings", measured: strings };
+    let name = "different strings of one hash";
+    let measured = growing(&mut bench, name, OF_ONE_HASH.iter().map(|n| (strings_of_one_hash(*n), *n)))?;
+    let one_hash = Growth { name, items: "strings", measured };
     let rows = rows::all(&mut bench)?;
     Ok(Paper {
         thorin,
@@ -67,6 +73,7 @@ fn measure_all(oracle: Option<&str>) -> Result<Paper> {
         kinds,
         rows,
         strings,
+        one_hash,
         // Looking up.
         batch: lookups::batch()?,
         lookups: lookups::all()?,

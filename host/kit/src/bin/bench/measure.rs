@@ -5,7 +5,7 @@ use kit::clock;
 use kit::lender::Lender;
 use kit::measured::{by_thorins, measure, Measure};
 use kit::oracle::Oracle;
-use kit::reference::Bundle;
+use kit::reference::{Bundle, WORK_FOR_A_WORD};
 use std::io::{Error, Result};
 use std::time::{Duration, Instant};
 
@@ -51,7 +51,7 @@ impl Bench {
     }
 
     pub fn measure(&mut self, bundle: &[u8], items: u64) -> Result<Measured> {
-        let work = bundle.len() / 4 * 16;
+        let work = bundle.len() / 4 * WORK_FOR_A_WORD;
         let made = self.lent.pack(bundle, work, ENOUGH * bundle.len() + LEAST).map_err(Error::other)?;
         if made.code != 0 {
             return Err(Error::other(format!("refused {} where a package was expected", made.code)));
@@ -67,7 +67,7 @@ impl Bench {
 
     /// The time of an answer by this number, with as much output as the package takes.
     pub fn answered(&mut self, bundle: &[u8], code: u32) -> Result<Duration> {
-        let work = bundle.len() / 4 * 16;
+        let work = bundle.len() / 4 * WORK_FOR_A_WORD;
         let length = self.lent.pack(bundle, work, ENOUGH * bundle.len() + LEAST).map_err(Error::other)?.length;
         self.ours(bundle, work, length, code)
     }

@@ -1,11 +1,11 @@
 -- `row_same` meets its contract.
 -- Assumes nothing.
 use denote.Ref.{now}
-use Rattle.strings.proofs.Holding.{same-rows}
+use Rattle.strings.proofs.Holding.{same-rows, other-rows}
 use native.Mathlib.Omega.{arith}
 use borrow.Author.Needs.{needs}
-use Rattle.strings.proofs.table.row_same.Statement.{statement}
-use Rattle.strings.proofs.table.row_same.Tie as tie
+use Rattle.strings.proofs.slots.row_same.Statement.{statement}
+use Rattle.strings.proofs.slots.row_same.Tie as tie
 
 mul-word : tie.Need-mul-word
 mul-word c = omega arith
@@ -21,6 +21,12 @@ add-word c = omega arith
 
 word-requires-2 : tie.Need-word-requires-2
 word-requires-2 c κs = search needs
+
+returns : tie.Need-returns
+returns c =
+    let w = c .before in
+    let a = w .before .before .before .before in
+    other-rows (now (a .args .b)) (a .args .start) (a .args .size) _ _ _ _ (w .before .word .ensures) (w .word2 .ensures) (a .pre .1) (a .pre .2) (c .if1 .taken)
 
 add-end : tie.Need-add-end
 add-end c = omega arith
@@ -49,9 +55,9 @@ part-same-bytes-end-2 c = omega arith
 same-bytes-requires : tie.Need-same-bytes-requires
 same-bytes-requires c κs = search needs
 
-returns : tie.Need-returns
-returns c =
-    let w = c .before .before .before in
+returns-2 : tie.Need-returns-2
+returns-2 c =
+    let w = c .before .before .before .before in
     let a = w .before .before .before .before .args in
     same-rows (now (a .b)) (a .start) (a .size) _ _ _ _ (w .before .word .ensures) (w .word2 .ensures) _ (c .same-bytes .ensures)
 
@@ -64,6 +70,7 @@ row-same-spec =
     mul-word-2
     add-word
     word-requires-2
+    returns
     add-end
     add-row-end
     sub-same-bytes
@@ -73,4 +80,4 @@ row-same-spec =
     part-same-bytes-start-2
     part-same-bytes-end-2
     same-bytes-requires
-    returns)
+    returns-2)
