@@ -42,11 +42,8 @@ input-room b big first place w st bases is us a from ahead left low high lie =
       limit = a .held .limit;
       whole = a .held .words;
       inside = λ c. first-within b (leading ahead) c lie;
-      fits = λ e.
-          let ps = leading ahead in
-          let l = length-part b (startOf ps 6) (sizeOf ps 6) (first-within b ps 6 lie) in
+      fits =
           let z = size-behind b 6 from ahead left high in
           let o = onward b from ahead left high in
-          strings-room (encodingIs e) (part b (startOf ps 6) (sizeOf ps 6)) (st .strings .count) (length (allUsed is)) place (wordsIn b) (sound e)
-          (omega (arith, a .strings .few, table-few is)) (a .used) (omega (arith, l, z, o .within, a .held .words)) .0;
+          omega (arith, a .strings .few, table-few is, a .used, z, o .within, a .held .words);
     }

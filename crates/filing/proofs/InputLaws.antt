@@ -18,6 +18,8 @@ use Rattle.bundle.specs.Encoded.{encodingIs}
 use Rattle.bundle.specs.Scan.{scanOf, startOf, sizeOf}
 use Rattle.bundle.specs.declared.Scan.{Scan}
 use Rattle.bundle.specs.declared.encoding.ObjectEncoding.{ObjectEncoding}
+use Rattle.octets.proofs.Parts.{length-part}
+use Rattle.strings.proofs.StrOffsets.{sound, entries-few}
 use Rattle.bundle.proofs.Scanned.{length-byCode}
 use Rattle.bundle.proofs.ScanFacts.{scan-count, scan-start, scan-size, scan-body}
 use Rattle.strings.specs.Kept.{Inside, bytesAt}
@@ -25,7 +27,7 @@ use Rattle.strings.specs.declared.table.Place.{Place}
 use Rattle.strings.specs.declared.table.StringTable.{StringTable}
 use Rattle.index.specs.Index.{Index}
 use Rattle.kept.proofs.Moved.{getD-past}
-use Rattle.package.specs.Input.{Input, present}
+use Rattle.package.specs.Input.{Input, present, formOf}
 use Rattle.filing.specs.Judged.{indexCheck, JudgedIs, JudgedIndexIs, InputIs, IndexedIs, sectionOf}
 use Rattle.filing.specs.declared.input.Judged.{Judged}
 use Rattle.filing.specs.declared.input.JudgedIndex.{JudgedIndex}
@@ -90,9 +92,9 @@ module _ (b : List ℕ) (scan : Scan) (at : ℕ) (ps : List Part) (is : scan ≡
       ap (λ (t : Bool). stringsCheck e t (bytesAt b (placeOf 6)) (bytesAt b (placeOf 11))) (there-is 6 (omega arith))
       ∙ ap₂ (stringsCheck e (present ps 6)) (bytes-are 6 (omega arith)) (bytes-are 11 (omega arith))
 
-  pub index-same : (big : Bool) (c : ℕ) → c < 14 → scannedIndex big b scan c ≡ indexCheck big (present ps c) (body b ps c)
+  pub index-same : (e : ObjectEncoding) (c : ℕ) → c < 14 → scannedIndex e b scan c ≡ indexCheck (e .big) (formOf (encodingIs e)) (present ps c) (body b ps c)
   unfolding scanned scannedIndex
-  index-same big c h = ap₂ (indexCheck big) (there-is c h) (scan-body scan at ps is c h b)
+  index-same e c h = ap₂ (indexCheck (e .big) (formOf (encodingIs e))) (there-is c h) (scan-body scan at ps is c h b)
 
   module _ (words : ℕ) (t : StringTable) (room : InputRoom b ps words t) where
     pub scan-within : (c : ℕ) → ScanInside b scan c
@@ -115,14 +117,14 @@ module _ (b : List ℕ) (scan : Scan) (at : ℕ) (ps : List Part) (is : scan ≡
       whole = room .whole;
       offsets-inside = scan-within 6;
       strings-inside = scan-within 11;
-      fits = rw (scan-start scan at ps is 6 (omega arith), scan-size scan at ps is 6 (omega arith)) (room .fits e);
+      fits = omega (arith, room .fits, entries-few (encodingIs e) (bytesAt b (placeOf 6)) (sound e), length-part b (getD (scan .start) 6 0) (getD (scan .size) 6 0) (scan-within 6), scan-size scan at ps is 6 (omega arith));
     }
 
-    pub input-is : (e : ObjectEncoding) (used : List (List ℕ)) (cu tu : Indexed) (ci ti : Option Index) (i : Input) → i ≡ record { encoding = encodingIs e; bytes = body b ps; units = i .units; used = used; cuIndex = ci; tuIndex = ti }
+    pub input-is : (e : ObjectEncoding) (cu tu : Indexed) (ci ti : Option Index) (i : Input) → i ≡ record { encoding = encodingIs e; bytes = body b ps; units = i .units; pieces = i .pieces; cuIndex = ci; tuIndex = ti }
         → IndexedIs (e .big) (scanned b scan 12) cu ci → IndexedIs (e .big) (scanned b scan 13) tu ti
         → InputIs b (record { encoding = e; start = scan .start; size = scan .size; cu = cu; tu = tu }) i
     unfolding sectionOf scanned
-    input-is e used cu tu ci ti i q x y = rw q (record {
+    input-is e cu tu ci ti i q x y = rw q (record {
       encoding = refl;
       bytes = λ c h. sym (scan-body scan at ps is c h b);
       within = scan-within;

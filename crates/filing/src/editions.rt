@@ -96,6 +96,19 @@ fn second_beside(indexes: usize, units: usize) -> bool
     2 <= units
 }
 
+// Whether an object is a package of version 5, by how many indexes it has.
+pub fn is_packed(five: bool, cu: usize, tu: usize) -> bool
+    ensures { λ r. ⌜ r ≡ (five && (leb 1 cu || leb 1 tu)) ⌝ }
+{
+    if five {
+        if 1 <= cu {
+            return true;
+        }
+        return 1 <= tu;
+    }
+    false
+}
+
 // 6
 pub fn edition_good(five: bool, count: [usize; CODES]) -> bool
     ensures { λ r. ⌜ r ≡ editionBy five count ⌝ }
