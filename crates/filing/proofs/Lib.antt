@@ -19,6 +19,8 @@ pub mod Inputting
 pub mod InputLaws
 pub mod InputEnds
 pub mod GoodParts
+pub mod Tiling
+pub mod TiledEnds
 pub mod Growing
 pub mod Entering
 pub mod Snoc
