@@ -106,6 +106,28 @@ module _ (big : Bool) (s : List ℕ) (indexed : Indexed) (o : Option Index) (is 
       (subst (λ (l : List ℕ). GivenIs (rowContributions (indexIn big l head) width ls x home at size) r) p
       (subst (λ (n : ℕ). GivenIs (rowContributions (indexIn big t head) n ls x home at size) r) q (given-row (indexIn big t head) w ls x home at size r c k)))
 
+-- whether there is one, and whether the object is a package
+pub there-yes : (y : Indexed) (h : IndexHead) → y ≡ At h → true ≡ isThere y
+unfolding isThere
+there-yes y h e = rw e
+
+pub there-no : (y : Indexed) → y ≡ Nowhere → false ≡ isThere y
+unfolding isThere
+there-no y e = rw e
+
+module _ (x : InputObject) where
+  pub package-cu : x .encoding .five ≡ true → true ≡ isThere (x .cu) → true ≡ packedBy x
+  unfolding packedBy
+  package-cu f h = rw (packedBy, f, ← h)
+
+  pub package-tu : x .encoding .five ≡ true → false ≡ isThere (x .cu) → (r : Bool) → r ≡ isThere (x .tu) → r ≡ packedBy x
+  unfolding packedBy
+  package-tu f h r e = rw (packedBy, f, ← h, e)
+
+  pub package-four : x .encoding .five ≡ false → false ≡ packedBy x
+  unfolding packedBy
+  package-four f = rw (packedBy, f)
+
 -- without an index
 pub whole-fifteen : (packed : Bool) (ls : BySection ℕ) (r : RowJudged) → packed ≡ true → r .code ≡ 15 → GivenIs (wholeGiven packed ls) r
 unfolding GivenIs wholeGiven require _>>=_

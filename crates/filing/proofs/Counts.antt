@@ -34,6 +34,15 @@ module _ (five : Bool) (cu tu : ℕ) where
   pub beside-none : cu < 1 → five ≡ false → leb 1 0 ≡ (leb 1 cu || (five && leb 1 tu))
   beside-none h f = let z : cu ≡ 0 = omega arith in rw (z, f)
 
+  pub packed-cu : five ≡ true → 1 ≤ cu → true ≡ (five && (leb 1 cu || leb 1 tu))
+  packed-cu f h = rw (f, le-leb 1 cu h)
+
+  pub packed-tu : five ≡ true → cu < 1 → leb 1 tu ≡ (five && (leb 1 cu || leb 1 tu))
+  packed-tu f h = let z : cu ≡ 0 = omega arith in rw (f, z)
+
+  pub packed-four : five ≡ false → false ≡ (five && (leb 1 cu || leb 1 tu))
+  packed-four f = rw f
+
 -- ---- four tests in a row
 module _ (five : Bool) (counts : List ℕ) where
   abbrev right : Bool

@@ -19,6 +19,7 @@ use Rattle.bundle.specs.declared.Scan.{Scan}
 use Rattle.bundle.specs.declared.encoding.ObjectEncoding.{ObjectEncoding}
 use Rattle.strings.specs.Strings.{putAll}
 use Rattle.strings.specs.Kept.{bytesAt}
+use Rattle.strings.specs.declared.table.StrOffsets.{StrOffsets}
 use Rattle.strings.specs.declared.table.StringTable.{StringTable}
 use Rattle.index.specs.Index.{Index}
 use Rattle.kept.specs.declared.state.InProgress.{InProgress}
@@ -93,10 +94,12 @@ module _ (b v : List ℕ) (st : InProgress) (ts : List (List ℕ)) (x : ObjectEn
   here-same c h m q = sym (index-is e ps (body b ps) c) ∙ sym (index-same b scan at ps is x c h) ∙ q
 
   -- ---- 8, 9, 10
-  module _ (put : StringsFiled)
-      (are : StringsAre b v ts (stringsCheck e (leb 1 (getD (scan .count) 6 0)) (bytesAt b (strOffsetsIn x scan .offsets)) (bytesAt b (strOffsetsIn x scan .strings))) put) where
+  module _ (put : StringsFiled) (o : StrOffsets) (eo : o ≡ strOffsetsIn x scan)
+      (are : StringsAre b v ts (stringsCheck (encodingIs (o .encoding)) (leb 1 (getD (scan .count) 6 0)) (bytesAt b (o .offsets)) (bytesAt b (o .strings))) put) where
     put-here : StringsAre b v ts (wholePieces e ps (body b ps) >>= λ q. pass (usedIn q)) put
-    put-here = subst (λ (m : Check (List (List ℕ))). StringsAre b v ts m put) (strings-same b scan at ps is e ∙ sym (whole-used e ps (body b ps))) are
+    put-here =
+        subst (λ (m : Check (List (List ℕ))). StringsAre b v ts m put) (strings-same b scan at ps is e ∙ sym (whole-used e ps (body b ps)))
+        (subst (λ (y : StrOffsets). StringsAre b v ts (stringsCheck (encodingIs (y .encoding)) (leb 1 (getD (scan .count) 6 0)) (bytesAt b (y .offsets)) (bytesAt b (y .strings))) put) eo are)
 
     pub whole-put-refused : (put .code ≡ 0 → ⊥) → (r : InputFiled) → r .code ≡ put .code → InputRead b v st ts (inputGiven b e ps (openedWhole e ps (body b ps))) r
     whole-put-refused z r q = given-refused _ (put .code) r (whole-strings e ps (body b ps) (put .code) (put-refused b v ts _ put put-here z)) q

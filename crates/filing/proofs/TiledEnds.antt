@@ -20,6 +20,7 @@ use Rattle.bundle.specs.declared.encoding.ObjectEncoding.{ObjectEncoding}
 use Rattle.bundle.proofs.ScanFacts.{scan-body, scan-size}
 use Rattle.strings.specs.Strings.{putAll}
 use Rattle.strings.specs.Kept.{Kept, Inside, bytesAt}
+use Rattle.strings.specs.declared.table.StrOffsets.{StrOffsets}
 use Rattle.strings.specs.declared.table.StringTable.{StringTable}
 use Rattle.strings.proofs.Headers.{is-five}
 use Rattle.index.specs.Index.{Index, Contribution}
@@ -141,9 +142,9 @@ module _ (b : List ℕ) (x : ObjectEncoding) (scan : Scan) (at : ℕ) (ps : List
         }
 
         pub put-asks : x .five ≡ true → (w u : List ℕ) (tab : StringTable) → InputRoom b ps (length w) tab → Only codesRegion (wordsIn b) w u → (us : List (List ℕ)) → StringsIn b w tab us
-            → PartsPutAsked b (strOffsetsIn x scan) (p .good) tab u
+            → (o : StrOffsets) → o ≡ strOffsetsIn x scan → PartsPutAsked b o (p .good) tab u
         unfolding Inside
-        put-asks f w u tab room c us k = record {
+        put-asks f w u tab room c us k o eo = subst (λ (y : StrOffsets). PartsPutAsked b y (p .good) tab u) (sym eo) (record {
           room = rw (c .same) (room .room);
           limit = room .limit;
           whole = room .whole;
@@ -154,14 +155,14 @@ module _ (b : List ℕ) (x : ObjectEncoding) (scan : Scan) (at : ℕ) (ps : List
           kept = strings-after b w u tab us c k;
           parts = parts .0;
           upTo = up-to f;
-        }
+        })
 
         module _ (f : x .five ≡ true) (w u v : List ℕ) (st : InProgress) (ts : List (List ℕ)) (tab : StringTable) (c : Only codesRegion (wordsIn b) w u) (k : StringsIn b w tab ts) (put : StringsFiled)
-            (puts : PartsPut b (strOffsetsIn x scan) (p .good) tab u v put) where
+            (o : StrOffsets) (eo : o ≡ strOffsetsIn x scan) (puts : PartsPut b o (p .good) tab u v put) where
           strings-are : StringsAre b v ts (piecesOf e (body b ps 11) (body b ps 6) (parts .0) >>= λ y. pass (usedIn y)) put
           strings-are =
               subst (λ (m : Check (List Piece)). StringsAre b v ts (m >>= λ y. pass (usedIn y)) put) (ap₂ (λ (l s : List ℕ). piecesOf e l s (parts .0)) (sym text) (sym own))
-              (puts ts (parts .0) (strings-after b w u tab ts c k) (up-to f))
+              (subst (λ (y : StrOffsets). PartsPut b y (p .good) tab u v put) eo puts ts (parts .0) (strings-after b w u tab ts c k) (up-to f))
 
           pub tiled-put-refused : (put .code ≡ 0 → ⊥) → (r : InputFiled) → r .code ≡ put .code → InputRead b v st ts (inputGiven b e ps (openedTiled e ps (body b ps))) r
           unfolding tiledPieces
