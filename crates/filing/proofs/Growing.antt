@@ -6,20 +6,14 @@ use mathlib.Core.List.{List}
 use Prim.Native.Nat.{ℕ, _≤_}
 use native.Mathlib.Omega.{arith}
 use lib.ListN.{length}
-use Rattle.octets.specs.Octets.{part}
 use Rattle.octets.specs.Checked.{pass}
-use Rattle.octets.proofs.Parts.{length-part}
 use Rattle.bundle.specs.Bundle.{Item, leading}
-use Rattle.bundle.specs.Scan.{startOf, sizeOf}
 use Rattle.bundle.proofs.Passed.{here}
 use Rattle.bundle.proofs.Onward.{onward, size-behind}
 use Rattle.bundle.proofs.Every.{Every}
 use Rattle.bundle.proofs.Lies.{Lies}
 use Rattle.bundle.proofs.ScanFacts.{first-within}
-use Rattle.bundle.specs.Encoded.{encodingIs}
 use Rattle.strings.proofs.FirstUses.{length-firstUses}
-use Rattle.strings.proofs.StrOffsets.{sound}
-use Rattle.strings.proofs.Callers.{strings-room}
 use Rattle.index.specs.Rows.{BySection}
 use Rattle.package.specs.Input.{Input}
 use Rattle.package.specs.Filing.{Filed}

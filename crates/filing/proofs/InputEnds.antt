@@ -58,19 +58,19 @@ refused-is b v st ts m k r e q = rw e q
 passed-is : (b v : List ℕ) (st : InProgress) (ts : List (List ℕ)) (m : Check Input) (i : Input) (r : InputFiled) → m ≡ pass i → InputRead b v st ts (pass i) r → InputRead b v st ts m r
 passed-is b v st ts m i r e h = rw e h
 
-module _ (b v : List ℕ) (st : InProgress) (ts : List (List ℕ)) (big : Bool) (first word : ℕ) (scan : Scan) (at : ℕ) (ps : List Part)
+module _ (b v : List ℕ) (st : InProgress) (ts : List (List ℕ)) (big : Bool) (first word : ℕ) (ps : List Part)
     (j : Judged) (judged : JudgedIs (objectCheck big first word ps) j) where
-  abbrev o : Object
-  o = record { word = word; parts = ps }
+  abbrev object : Object
+  object = record { word = word; parts = ps }
 
-  pub read-refused : (j .code ≡ 0 → ⊥) → (r : InputFiled) → r .code ≡ j .code → InputRead b v st ts (inputOf b big first o) r
-  read-refused z r q = refused-is b v st ts _ (j .code) r (object-refused b big first o (j .code) (judged-refused _ j judged z)) q
+  pub read-refused : (j .code ≡ 0 → ⊥) → (r : InputFiled) → r .code ≡ j .code → InputRead b v st ts (inputOf b big first object) r
+  read-refused z r q = refused-is b v st ts _ (j .code) r (object-refused b big first object (j .code) (judged-refused _ j judged z)) q
 
   pub read-opened : j .code ≡ 0 → (r : InputFiled) (m : Check Opened) → opened (encodingIs (j .encoding)) ps (body b ps) ≡ m
-      → InputRead b v st ts (inputGiven b (encodingIs (j .encoding)) ps m) r → InputRead b v st ts (inputOf b big first o) r
+      → InputRead b v st ts (inputGiven b (encodingIs (j .encoding)) ps m) r → InputRead b v st ts (inputOf b big first object) r
   read-opened z r m q k =
       subst (λ (n : Check Input). InputRead b v st ts n r)
-      (ap (inputGiven b (encodingIs (j .encoding)) ps) (sym q) ∙ sym (object-given b big first o (encodingIs (j .encoding)) (judged-passed _ j judged z))) k
+      (ap (inputGiven b (encodingIs (j .encoding)) ps) (sym q) ∙ sym (object-given b big first object (encodingIs (j .encoding)) (judged-passed _ j judged z))) k
 
 module _ (b v : List ℕ) (st : InProgress) (ts : List (List ℕ)) (x : ObjectEncoding) (scan : Scan) (at : ℕ) (ps : List Part) (is : scan ≡ scanOf at ps) where
   abbrev e : Encoding

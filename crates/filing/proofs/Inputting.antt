@@ -94,18 +94,21 @@ module _ (e : Encoding) (ps : List Part) (bytes : BySection (List ℕ)) where
 
 -- ---- the strings of one piece
 module _ (e : Encoding) (str s : List ℕ) where
-  used-last : (k : Check (List (List ℕ))) → (((k >>= λ us. pass (record { bytes = s; used = us })) >>= λ p. pass (p ∷ [])) >>= λ ps. pass (usedIn ps)) ≡ k
+  abbrev made : List (List ℕ) → Piece
+  made us = record { bytes = s; used = us }
+
+  used-last : (k : Check (List (List ℕ))) → (((k >>= λ us. pass (made us)) >>= λ p. pass (p ∷ [])) >>= λ ps. pass (usedIn ps)) ≡ k
   unfolding _>>=_ usedIn
   used-last (pass us) = ap pass (append-nil us)
   used-last (refuse n) = refl
 
-  used-one : (k : Check (List ℕ)) → (((k >>= λ os. (stringsAt str os >>= λ us. pass (record { bytes = s; used = us }))) >>= λ p. pass (p ∷ [])) >>= λ ps. pass (usedIn ps)) ≡ (k >>= stringsAt str)
+  used-one : (k : Check (List ℕ)) → (((k >>= λ os. (stringsAt str os >>= λ us. pass (made us))) >>= λ p. pass (p ∷ [])) >>= λ ps. pass (usedIn ps)) ≡ (k >>= stringsAt str)
   unfolding _>>=_
   used-one (pass os) = used-last (stringsAt str os)
   used-one (refuse n) = refl
 
 pub whole-used : (e : Encoding) (ps : List Part) (bytes : BySection (List ℕ)) → (wholePieces e ps bytes >>= λ q. pass (usedIn q)) ≡ stringsCheck e (present ps 6) (bytes 6) (bytes 11)
-unfolding wholePieces stringsCheck pieceOf
+unfolding wholePieces stringsCheck pieceOf usedIn
 whole-used e ps bytes = go (present ps 6) refl
   where
     go : (t : Bool) → present ps 6 ≡ t → (wholePieces e ps bytes >>= λ q. pass (usedIn q)) ≡ stringsCheck e (present ps 6) (bytes 6) (bytes 11)

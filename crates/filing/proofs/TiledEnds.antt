@@ -150,7 +150,7 @@ module _ (b : List ℕ) (x : ObjectEncoding) (scan : Scan) (at : ℕ) (ps : List
           whole = room .whole;
           offsets-inside = scan-within b scan at ps is (length w) tab room 6;
           strings-inside = scan-within b scan at ps is (length w) tab room 11;
-          fits = rw (scan-size scan at ps is 6 (omega arith)) (room .fits);
+          fits = omega (arith, room .fits, scan-size scan at ps is 6 (omega arith));
           strings = us;
           kept = strings-after b w u tab us c k;
           parts = parts .0;

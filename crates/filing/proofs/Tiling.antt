@@ -7,12 +7,13 @@ use mathlib.Core.Option.{Option, some, none}
 use Prim.Native.Nat.{ℕ, _+_, _*_, _-_, _<_, _≤_}
 use native.Mathlib.Omega.{arith}
 use native.Mathlib.Decide.{decLt}
-use lib.ListN.{length, take, drop}
+use lib.ListN.{length, take, drop, getD}
 use borrow.Rule.Slice.PartMut.{putMid}
-use Rattle.octets.specs.Octets.{part, placed}
+use Rattle.octets.specs.Octets.{part, placed, zeros}
 use Rattle.octets.specs.Checked.{Check, pass, refuse, _>>=_}
 use Rattle.octets.proofs.Checks.{then-pass, then-refuse, true-false}
 use Rattle.octets.proofs.Parts.{part-part, length-part}
+use Rattle.octets.proofs.Placed.{length-zeros}
 use Rattle.octets.proofs.Regions.{placed-whole}
 use Rattle.bundle.specs.Encoding.{Encoding}
 use Rattle.bundle.specs.Encoded.{encodingIs}
@@ -29,8 +30,9 @@ use Rattle.index.specs.Index.{Index, Contribution}
 use Rattle.index.specs.Held.{indexIn}
 use Rattle.index.specs.Tiles.{named, tiles}
 use Rattle.index.specs.declared.reading.IndexHead.{IndexHead}
-use Rattle.index.proofs.Tiles.{isOne, one-right, partOf, Tiles, tiles-facts}
+use Rattle.index.proofs.Tiles.{isOne, one-right, partOf, Tiles, tiles-facts, both-some}
 use Rattle.tiles.specs.Marks.{Marks, Clash, Marked, marksGood, TiledBy, goodEnd}
+use Rattle.tiles.proofs.Marking.{marks-none}
 use Rattle.tiles.proofs.Walking.{good-tiles, good-pass, bad-refused, clash-refused}
 use Rattle.tiles.proofs.Parts.{tiles-marked}
 use Rattle.work.specs.Regions.{stringsRegion, storeRegion, codesRegion, region, Only}
@@ -40,10 +42,11 @@ use Rattle.package.specs.Pieces.{usedIn, piecesOf}
 use Rattle.filing.specs.declared.input.Indexed.{Indexed}
 use Rattle.filing.specs.declared.input.Indexed.the-variants.{At, Nowhere}
 use Rattle.filing.specs.declared.parts.Parts.{Parts}
-use Rattle.filing.specs.Judged.{IndexedIs}
+use Rattle.filing.specs.declared.input.InputObject.{InputObject}
+use Rattle.filing.specs.Judged.{sectionOf, IndexedIs}
 use Rattle.filing.specs.State.{wordsIn}
 use Rattle.filing.specs.ByObject.{StringsAre}
-use Rattle.filing.specs.Tiled.{PartsAre, GoodUpTo}
+use Rattle.filing.specs.Tiled.{PartsAsked, BothMarked, PartsAre, PartsAnswered, GoodUpTo}
 use Rattle.filing.proofs.Contributing.{index-well}
 use Rattle.filing.proofs.GoodParts.{goodParts, Judged, parts-judged, Ending, parts-ending}
 
@@ -108,6 +111,34 @@ module _ (e : Encoding) (s : List ℕ) (cs : List Contribution) (some : (c : Con
           let t = good-pass cs ns m s (ln ∙ lm) g in
           let f = subst (λ (n : ℕ). Tiles cs (m .some) n (t .0)) (sym (ln ∙ lm)) (tiles-facts cs (m .some) s (t .0) (t .1)) in
           rw (t .1) (refl, h (t .0) (tiles-marked cs ns m (t .0) f))
+
+-- the same of an object, whose marks were cleared
+module _ (b : List ℕ) (x : InputObject) (a : PartsAsked b x) (n : ℕ) (size : n ≡ getD (x .size) 6 0) (ns : List ℕ) (r : Bool) (both : BothMarked b x (zeros n) ns r) where
+  cleared-long : length (zeros n) ≡ length (sectionOf b x 6)
+  unfolding sectionOf
+  cleared-long = length-zeros n ∙ size ∙ sym (length-part b (getD (x .start) 6 0) (getD (x .size) 6 0) (a .within 6))
+
+  cleared : Marks [] (zeros n)
+  cleared = marks-none n (zeros n) refl
+
+  pub tile-clash : r ≡ false → (p : Parts) → p .code ≡ 34 → PartsAnswered b x p
+  tile-clash q p c = λ cu tu i j. (let m = both cu tu i j cleared in parts-clash (encodingIs (x .encoding)) (sectionOf b x 6) (named cu ++ named tu) (both-some cu tu) (zeros n) ns cleared-long (m .0) r (m .1) q p c)
+
+  module _ (q : r ≡ true) where
+    pub tile-untiled : marksGood 0 ns ≡ false → (p : Parts) → p .code ≡ 34 → PartsAnswered b x p
+    tile-untiled g p c = λ cu tu i j. (let m = both cu tu i j cleared in parts-untiled (encodingIs (x .encoding)) (sectionOf b x 6) (named cu ++ named tu) (both-some cu tu) (zeros n) ns cleared-long (m .0) r (m .1) q g p c)
+
+    pub tile-long : length ns ≡ length (sectionOf b x 6)
+    tile-long = both (a .cu) (a .tu) (a .cuIs) (a .tuIs) cleared .0 ∙ cleared-long
+
+    pub tile-some : marksGood 0 ns ≡ true → (ts : List Contribution) × TiledBy ns ts
+    tile-some g =
+        let m = both (a .cu) (a .tu) (a .cuIs) (a .tuIs) cleared in
+        parts-tiled (encodingIs (x .encoding)) (sectionOf b x 6) (named (a .cu) ++ named (a .tu)) (both-some (a .cu) (a .tu)) (zeros n) ns cleared-long (m .0) r (m .1) q g
+
+    pub tile-good : marksGood 0 ns ≡ true → (good : ℕ) → ((ts : List Contribution) → TiledBy ns ts → good ≡ goodEnd (encodingIs (x .encoding)) (sectionOf b x 6) ts) → PartsAnswered b x (record { code = 0; good = good })
+    tile-good g good h = λ cu tu i j. (let m = both cu tu i j cleared in
+        parts-good (encodingIs (x .encoding)) (sectionOf b x 6) (named cu ++ named tu) (both-some cu tu) (zeros n) ns cleared-long (m .0) r (m .1) q g good h)
 
 -- ---- the marks stand in the region of codes
 pub codes-only : (n from many : ℕ) (w : List ℕ) → workForWord * n ≤ length w → from ≡ codesRegion .start * n → many ≤ codesRegion .words * n

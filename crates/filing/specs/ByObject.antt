@@ -15,7 +15,7 @@ use Rattle.bundle.specs.declared.Scan.{Scan}
 use Rattle.bundle.specs.Encoding.{Encoding, encodingOf}
 use Rattle.bundle.specs.Encoded.{encodingIs}
 use Rattle.bundle.specs.declared.encoding.ObjectEncoding.{ObjectEncoding}
-use Rattle.strings.specs.Strings.{entriesIn, entriesOf, stringsAt, putAll}
+use Rattle.strings.specs.Strings.{entriesOf, stringsAt, putAll}
 use Rattle.strings.specs.Kept.{Kept, Inside, bytesAt}
 use Rattle.strings.specs.Objects.{entriesAt}
 use Rattle.strings.specs.declared.table.StrOffsets.{StrOffsets}
@@ -26,7 +26,7 @@ use Rattle.kept.specs.State.{Held}
 use Rattle.kept.specs.declared.state.InProgress.{InProgress}
 use Rattle.index.specs.Index.{Index}
 use Rattle.index.specs.Rows.{BySection}
-use Rattle.package.specs.Pieces.{usedIn, piecesOf}
+use Rattle.package.specs.Pieces.{usedIn}
 use Rattle.package.specs.Input.{Input, Opened, formOf, unitSections, inputOf}
 use Rattle.package.specs.Filing.{Filed}
 use Rattle.package.specs.Pack.{allUsed, stringTable}
