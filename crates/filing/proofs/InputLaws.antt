@@ -2,7 +2,7 @@
 -- Assumes nothing.
 use mathlib.Core.Path.{_≡_, refl, sym, ap, ap₂, _∙_}
 use mathlib.Core.Logic.{_⊎_, inl, inr, ⊎-elim}
-use mathlib.Core.Bool.{Bool, true, false}
+use mathlib.Core.Bool.{Bool, true, false, _&&_, _||_}
 use mathlib.Core.List.{List}
 use mathlib.Core.Option.{Option}
 use Prim.Native.Nat.{ℕ, _<_}
@@ -11,7 +11,7 @@ use lib.Dec.{leb}
 use lib.ListN.{length, getD}
 use borrow.Author.Tests.{leb-true, leb-false}
 use Rattle.octets.specs.Checked.{Check, pass, refuse}
-use Rattle.octets.proofs.Checks.{known}
+use Rattle.octets.proofs.Checks.{known, and-left}
 use Rattle.bundle.specs.Bundle.{Part, body}
 use Rattle.bundle.specs.Encoding.{Encoding}
 use Rattle.bundle.specs.Encoded.{encodingIs}
@@ -27,13 +27,17 @@ use Rattle.strings.specs.declared.table.Place.{Place}
 use Rattle.strings.specs.declared.table.StringTable.{StringTable}
 use Rattle.index.specs.Index.{Index}
 use Rattle.kept.proofs.Moved.{getD-past}
-use Rattle.package.specs.Input.{Input, present, formOf}
+use Rattle.package.specs.Input.{Input, present, formOf, isPacked}
+use Rattle.filing.proofs.Entering.{five-is}
 use Rattle.filing.specs.Judged.{indexCheck, JudgedIs, JudgedIndexIs, InputIs, IndexedIs, sectionOf}
 use Rattle.filing.specs.declared.input.Judged.{Judged}
 use Rattle.filing.specs.declared.input.JudgedIndex.{JudgedIndex}
 use Rattle.filing.specs.declared.input.Indexed.{Indexed}
 use Rattle.filing.specs.declared.objects.IndexesJudged.{IndexesJudged}
 use Rattle.filing.specs.ByObject.{stringsCheck, StringsRoom, scanned, scannedIndex, IndexesAre, ScanInside, InputRoom}
+
+pub packed-five : (five : Bool) (x y : Bool) → true ≡ (five && (x || y)) → five ≡ true
+packed-five five x y q = and-left five (x || y) (sym q)
 
 -- ---- one answer
 pub judged-passed : (m : Check Encoding) (r : Judged) → JudgedIs m r → r .code ≡ 0 → m ≡ pass (encodingIs (r .encoding))
@@ -95,6 +99,12 @@ module _ (b : List ℕ) (scan : Scan) (at : ℕ) (ps : List Part) (is : scan ≡
   pub index-same : (e : ObjectEncoding) (c : ℕ) → c < 14 → scannedIndex e b scan c ≡ indexCheck (e .big) (formOf (encodingIs e)) (present ps c) (body b ps c)
   unfolding scanned scannedIndex
   index-same e c h = ap₂ (indexCheck (e .big) (formOf (encodingIs e))) (there-is c h) (scan-body scan at ps is c h b)
+
+  -- a package of version 5, by how many indexes there are
+  pub packed-from : (e : ObjectEncoding) (t : Bool) → (e .five && (leb 1 (getD (scan .count) 12 0) || leb 1 (getD (scan .count) 13 0))) ≡ t → isPacked (encodingIs e) ps ≡ t
+  unfolding isPacked
+  packed-from e t q =
+      ap₂ (λ (v s : Bool). v && s) (sym (five-is e (encodingIs e) refl)) (ap₂ (λ (c d : Bool). c || d) (sym (there-is 12 (omega arith))) (sym (there-is 13 (omega arith)))) ∙ q
 
   module _ (words : ℕ) (t : StringTable) (room : InputRoom b ps words t) where
     pub scan-within : (c : ℕ) → ScanInside b scan c

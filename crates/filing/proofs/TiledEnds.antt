@@ -39,6 +39,7 @@ use Rattle.filing.specs.declared.objects.InputFiled.{InputFiled}
 use Rattle.filing.specs.declared.parts.Parts.{Parts}
 use Rattle.filing.specs.Judged.{sectionOf, IndexedIs}
 use Rattle.filing.specs.State.{wordsIn, withStrings}
+use Rattle.filing.specs.ByPlace.{WorkFor}
 use Rattle.filing.specs.ByObject.{StringsIn, StringsAre, strOffsetsIn, scanned, scannedIndex, IndexesFound, inputIn, inputGiven, InputRoom, InputRead}
 use Rattle.filing.specs.Tiled.{PartsAsked, PartsAre, PartsAnswered, GoodUpTo, PartsPutAsked, PartsPut}
 use Rattle.filing.proofs.Inputting.{tiled-cu, tiled-tu, tiled-pieces, tiled-passed}
@@ -62,6 +63,9 @@ codes-strings = inr (omega arith)
 
 pub strings-after : (b w u : List ℕ) (t : StringTable) (ts : List (List ℕ)) → Only codesRegion (wordsIn b) w u → StringsIn b w t ts → StringsIn b u t ts
 strings-after b w u t ts c k = subst (λ (l : List ℕ). Kept b l t ts) (sym (c .others stringsRegion codes-strings)) k
+
+pub work-asks : (b w : List ℕ) (ps : List Part) (t : StringTable) → InputRoom b ps (length w) t → WorkFor b w
+work-asks b w ps t room = record { room = room .room; words = room .whole; limit = room .limit }
 
 -- ---- 34
 parts-refused : (e : Encoding) (s : List ℕ) (m : Check (List Contribution)) (p : Parts) → PartsAre e s m p → (p .code ≡ 0 → ⊥) → m ≡ refuse (p .code)
