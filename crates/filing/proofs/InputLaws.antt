@@ -36,8 +36,17 @@ use Rattle.filing.specs.declared.input.Indexed.{Indexed}
 use Rattle.filing.specs.declared.objects.IndexesJudged.{IndexesJudged}
 use Rattle.filing.specs.ByObject.{stringsCheck, StringsRoom, scanned, scannedIndex, IndexesAre, ScanInside, InputRoom}
 
+-- ---- a package of version 5, by how many indexes there are
 pub packed-five : (five : Bool) (x y : Bool) → true ≡ (five && (x || y)) → five ≡ true
 packed-five five x y q = and-left five (x || y) (sym q)
+
+pub packed-from : (scan : Scan) (at : ℕ) (ps : List Part) → scan ≡ scanOf at ps → (e : ObjectEncoding) (t : Bool)
+    → (e .five && (leb 1 (getD (scan .count) 12 0) || leb 1 (getD (scan .count) 13 0))) ≡ t → isPacked (encodingIs e) ps ≡ t
+unfolding isPacked present
+packed-from scan at ps is e t q =
+    ap₂ (λ (v s : Bool). v && s) (sym (five-is e (encodingIs e) refl))
+    (ap₂ (λ (c d : Bool). c || d) (ap (leb 1) (sym (scan-count scan at ps is 12 (omega arith)))) (ap (leb 1) (sym (scan-count scan at ps is 13 (omega arith)))))
+    ∙ q
 
 -- ---- one answer
 pub judged-passed : (m : Check Encoding) (r : Judged) → JudgedIs m r → r .code ≡ 0 → m ≡ pass (encodingIs (r .encoding))
@@ -99,12 +108,6 @@ module _ (b : List ℕ) (scan : Scan) (at : ℕ) (ps : List Part) (is : scan ≡
   pub index-same : (e : ObjectEncoding) (c : ℕ) → c < 14 → scannedIndex e b scan c ≡ indexCheck (e .big) (formOf (encodingIs e)) (present ps c) (body b ps c)
   unfolding scanned scannedIndex
   index-same e c h = ap₂ (indexCheck (e .big) (formOf (encodingIs e))) (there-is c h) (scan-body scan at ps is c h b)
-
-  -- a package of version 5, by how many indexes there are
-  pub packed-from : (e : ObjectEncoding) (t : Bool) → (e .five && (leb 1 (getD (scan .count) 12 0) || leb 1 (getD (scan .count) 13 0))) ≡ t → isPacked (encodingIs e) ps ≡ t
-  unfolding isPacked
-  packed-from e t q =
-      ap₂ (λ (v s : Bool). v && s) (sym (five-is e (encodingIs e) refl)) (ap₂ (λ (c d : Bool). c || d) (sym (there-is 12 (omega arith))) (sym (there-is 13 (omega arith)))) ∙ q
 
   module _ (words : ℕ) (t : StringTable) (room : InputRoom b ps words t) where
     pub scan-within : (c : ℕ) → ScanInside b scan c
