@@ -113,20 +113,20 @@ module _ (e : Encoding) (s : List ℕ) (cs : List Contribution) (some : (c : Con
           rw (t .1) (refl, h (t .0) (tiles-marked cs ns m (t .0) f))
 
 -- the same of an object, whose marks were cleared
-module _ (b : List ℕ) (x : InputObject) (a : PartsAsked b x) (n : ℕ) (size : n ≡ getD (x .size) 6 0) (ns : List ℕ) (r : Bool) (both : BothMarked b x (zeros n) ns r) where
-  cleared-long : length (zeros n) ≡ length (sectionOf b x 6)
+module _ (b : List ℕ) (x : InputObject) (a : PartsAsked b x) (n : ℕ) (size : n ≡ getD (x .size) 6 0) (ms : List ℕ) (clear : ms ≡ zeros n) (ns : List ℕ) (r : Bool) (both : BothMarked b x ms ns r) where
+  cleared-long : length ms ≡ length (sectionOf b x 6)
   unfolding sectionOf
-  cleared-long = length-zeros n ∙ size ∙ sym (length-part b (getD (x .start) 6 0) (getD (x .size) 6 0) (a .within 6))
+  cleared-long = ap length clear ∙ length-zeros n ∙ size ∙ sym (length-part b (getD (x .start) 6 0) (getD (x .size) 6 0) (a .within 6))
 
-  cleared : Marks [] (zeros n)
-  cleared = marks-none n (zeros n) refl
+  cleared : Marks [] ms
+  cleared = marks-none n ms clear
 
   pub tile-clash : r ≡ false → (p : Parts) → p .code ≡ 34 → PartsAnswered b x p
-  tile-clash q p c = λ cu tu i j. (let m = both cu tu i j cleared in parts-clash (encodingIs (x .encoding)) (sectionOf b x 6) (named cu ++ named tu) (both-some cu tu) (zeros n) ns cleared-long (m .0) r (m .1) q p c)
+  tile-clash q p c = λ cu tu i j. (let m = both cu tu i j cleared in parts-clash (encodingIs (x .encoding)) (sectionOf b x 6) (named cu ++ named tu) (both-some cu tu) ms ns cleared-long (m .0) r (m .1) q p c)
 
   module _ (q : r ≡ true) where
     pub tile-untiled : marksGood 0 ns ≡ false → (p : Parts) → p .code ≡ 34 → PartsAnswered b x p
-    tile-untiled g p c = λ cu tu i j. (let m = both cu tu i j cleared in parts-untiled (encodingIs (x .encoding)) (sectionOf b x 6) (named cu ++ named tu) (both-some cu tu) (zeros n) ns cleared-long (m .0) r (m .1) q g p c)
+    tile-untiled g p c = λ cu tu i j. (let m = both cu tu i j cleared in parts-untiled (encodingIs (x .encoding)) (sectionOf b x 6) (named cu ++ named tu) (both-some cu tu) ms ns cleared-long (m .0) r (m .1) q g p c)
 
     pub tile-long : length ns ≡ length (sectionOf b x 6)
     tile-long = both (a .cu) (a .tu) (a .cuIs) (a .tuIs) cleared .0 ∙ cleared-long
@@ -134,11 +134,11 @@ module _ (b : List ℕ) (x : InputObject) (a : PartsAsked b x) (n : ℕ) (size :
     pub tile-some : marksGood 0 ns ≡ true → (ts : List Contribution) × TiledBy ns ts
     tile-some g =
         let m = both (a .cu) (a .tu) (a .cuIs) (a .tuIs) cleared in
-        parts-tiled (encodingIs (x .encoding)) (sectionOf b x 6) (named (a .cu) ++ named (a .tu)) (both-some (a .cu) (a .tu)) (zeros n) ns cleared-long (m .0) r (m .1) q g
+        parts-tiled (encodingIs (x .encoding)) (sectionOf b x 6) (named (a .cu) ++ named (a .tu)) (both-some (a .cu) (a .tu)) ms ns cleared-long (m .0) r (m .1) q g
 
     pub tile-good : marksGood 0 ns ≡ true → (good : ℕ) → ((ts : List Contribution) → TiledBy ns ts → good ≡ goodEnd (encodingIs (x .encoding)) (sectionOf b x 6) ts) → PartsAnswered b x (record { code = 0; good = good })
     tile-good g good h = λ cu tu i j. (let m = both cu tu i j cleared in
-        parts-good (encodingIs (x .encoding)) (sectionOf b x 6) (named cu ++ named tu) (both-some cu tu) (zeros n) ns cleared-long (m .0) r (m .1) q g good h)
+        parts-good (encodingIs (x .encoding)) (sectionOf b x 6) (named cu ++ named tu) (both-some cu tu) ms ns cleared-long (m .0) r (m .1) q g good h)
 
 -- ---- the marks stand in the region of codes
 pub codes-only : (n from many : ℕ) (w : List ℕ) → workForWord * n ≤ length w → from ≡ codesRegion .start * n → many ≤ codesRegion .words * n

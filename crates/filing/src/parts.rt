@@ -133,9 +133,13 @@ pub fn add_parts(
         offsets,
         strings: o.strings,
     };
-    let Added::Table(more) =
-        strings::pieces::add_pieces(before, b, &mut work[from..to], table.size, t)
-    else {
+    let Added::Table(more) = strings::pieces::add_pieces(
+        before,
+        b,
+        &mut work[from..to],
+        table.size,
+        t,
+    ) else {
         return StringsFiled {
             code: NO_STRING,
             strings: t,

@@ -20,7 +20,7 @@ input-with-requires : tie.Need-input-with-requires
 input-with-requires c κs = search needs
 
 judge-parts-requires : tie.Need-judge-parts-requires
-judge-parts-requires c κs = 
+judge-parts-requires c κs =
     let p = c .before .before .before .before .before .before .before .before .pre .0 in
     (parts-asks _ _ _ (p .at) (p .parts) (p .is) _ (c .before .before .before .before .before .judge-indexes .ensures) (c .before .before .before .if1 .left) _ _ (p .room) _ (c .before .before .input-with .ensures), work-asks _ _ _ _ (p .room))
 
@@ -40,7 +40,7 @@ str-offsets-in-requires : tie.Need-str-offsets-in-requires
 str-offsets-in-requires c κs = search needs
 
 add-parts-requires : tie.Need-add-parts-requires
-add-parts-requires c κs = 
+add-parts-requires c κs =
     let p = c .before .before .before .before .before .before .before .before .before .before .before .before .before .before .before .before .before .pre in
     put-asks _ _ _ (p .0 .at) (p .0 .parts) (p .0 .is) _ (c .before .before .before .before .before .before .before .before .before .before .before .before .before .before .judge-indexes .ensures) (c .before .before .before .before .before .before .before .before .before .before .before .before .if1 .left) _ (c .before .before .before .before .before .before .before .before .before .before .before .input-with .ensures) _ (c .before .before .before .before .before .before .before .before .judge-parts .ensures .0) (c .before .before .before .before .if2 .left) (p .1) _ _ _ (p .0 .room) (c .before .before .before .before .before .before .before .before .judge-parts .ensures .1) (p .0 .strings) (p .0 .kept) _ (c .before .before .before .str-offsets-in .ensures)
 
@@ -51,7 +51,7 @@ same-length-2 : tie.Need-same-length-2
 same-length-2 c = search needs
 
 returns-3 : tie.Need-returns-3
-returns-3 c = 
+returns-3 c =
     let f = c .before .before .before .before .before .before .before .before .before .before .before .before .before .before .before .before .before .before .before .before .before .before .before .pre .1 in
     let n = c .before .before .before .before .before .add-parts in
     let g = c .before .before .before .before .before .before .before .before .before .before .before .before .before .before .judge-parts in (
@@ -66,7 +66,7 @@ same-length-3 : tie.Need-same-length-3
 same-length-3 c = search needs
 
 returns-4 : tie.Need-returns-4
-returns-4 c = 
+returns-4 c =
     let f = c .before .before .before .before .before .before .before .before .before .before .before .before .before .before .before .before .before .before .before .before .before .before .before .before .pre .1 in
     let n = c .before .before .before .before .before .before .add-parts in
     let g = c .before .before .before .before .before .before .before .before .before .before .before .before .before .before .before .judge-parts in (

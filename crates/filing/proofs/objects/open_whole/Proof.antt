@@ -16,7 +16,7 @@ array-read-add-object-strings : tie.Need-array-read-add-object-strings
 array-read-add-object-strings c = search needs
 
 add-object-strings-requires : tie.Need-add-object-strings-requires
-add-object-strings-requires c κs = 
+add-object-strings-requires c κs =
     let p = c .before .before .before .before .before .before .before .pre in
     record {
       room = subst (λ (o : StrOffsets). StringsRoom _ o _ _) (sym (c .before .before .before .before .str-offsets-in .ensures)) (strings-room-of _ _ (p .at) (p .parts) (p .is) _ _ (p .room) _);

@@ -34,7 +34,7 @@ same-length : tie.Need-same-length
 same-length c = search needs
 
 returns-2 : tie.Need-returns-2
-returns-2 c = 
+returns-2 c =
     let t = c .before .before .open-tiled in
     let q = c .before .before .before .before .before .before .is-packed in (
       λ at ps ts e room k. read-opened _ _ _ ts _ _ _ ps _ (c .before .before .before .before .before .before .before .before .before .before .before .judge-object .ensures at ps e) (c .before .before .before .before .before .before .before .before .if1 .left) _ _ (packed-tiled _ ps _ (packed-from _ at ps e _ _ (sym (q .ensures) ∙ c .before .before .before .before .before .if2 .taken))) (t .ensures .0 at ps ts e room k),
@@ -48,7 +48,7 @@ same-length-2 : tie.Need-same-length-2
 same-length-2 c = search needs
 
 returns-3 : tie.Need-returns-3
-returns-3 c = 
+returns-3 c =
     let t = c .before .before .open-whole in
     let q = c .before .before .before .before .before .before .is-packed in (
       λ at ps ts e room k. read-opened _ _ _ ts _ _ _ ps _ (c .before .before .before .before .before .before .before .before .before .before .before .judge-object .ensures at ps e) (c .before .before .before .before .before .before .before .before .if1 .left) _ _ (packed-whole _ ps _ (packed-from _ at ps e _ _ (sym (q .ensures) ∙ c .before .before .before .before .before .if2 .left))) (t .ensures .0 at ps ts e room k),

@@ -38,7 +38,7 @@ part-add-pieces-end c = search needs
 
 add-pieces-requires : tie.Need-add-pieces-requires
 unfolding Inside
-add-pieces-requires c κs = 
+add-pieces-requires c κs =
     let s = c .before .before .before .before .before in
     let a = s .args in
     let p = s .pre in
@@ -66,7 +66,7 @@ same-length : tie.Need-same-length
 same-length c = search needs
 
 returns : tie.Need-returns
-returns c = 
+returns c =
     let s = c .before .before .before .before .before .before .before .before .before .before in
     let a = s .args in
     let p = s .pre in
@@ -82,7 +82,7 @@ same-length-2 : tie.Need-same-length-2
 same-length-2 c = search needs
 
 returns-2 : tie.Need-returns-2
-returns-2 c = 
+returns-2 c =
     let s = c .before .before .before .before .before .before .before .before .before .before .before .before in
     let a = s .args in
     let p = s .pre in
@@ -98,7 +98,7 @@ same-length-3 : tie.Need-same-length-3
 same-length-3 c = search needs
 
 returns-3 : tie.Need-returns-3
-returns-3 c = 
+returns-3 c =
     let s = c .before .before .before .before .before .before .before .before .before .before .before .before in
     let a = s .args in
     let p = s .pre in

@@ -34,7 +34,7 @@ same-length : tie.Need-same-length
 same-length c = search needs
 
 returns : tie.Need-returns
-returns c = 
+returns c =
     let s = c .before .before .before .before .before .before .before .before in
     let k = c .before .before .before .before .before .codes in
     let r = c .before .before .tile-parts in

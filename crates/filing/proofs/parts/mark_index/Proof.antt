@@ -39,7 +39,7 @@ part-mark-rows-end c = let a = c .before .before .before .before .before in omeg
 
 mark-rows-requires : tie.Need-mark-rows-requires
 unfolding bytesAt
-mark-rows-requires c κs = 
+mark-rows-requires c κs =
     let a = c .before .before .before .before .before .before .args in
     let p = c .before .before .before .before .before .before .pre in
     let w = index-well _ _ _ _ (p .2 .1) _ (c .before .before .before .indexed .given .1) in
@@ -50,7 +50,7 @@ same-length c = search needs
 
 returns-2 : tie.Need-returns-2
 unfolding bytesAt
-returns-2 c = 
+returns-2 c =
     let a = c .before .before .before .before .before .before .before .args in
     λ o cs h m. marked-at _ _ _ o h cs _ _ _ _ _ (c .before .before .before .before .indexed .given .1) (part-cut (now (a .b)) (a .place .start) (a .place .size)) (c .mark-rows .ensures cs m)
 

@@ -34,7 +34,7 @@ same-length c = search needs
 
 returns : tie.Need-returns
 unfolding sectionOf bytesAt
-returns c = 
+returns c =
     let m = c .before .before .before .before .before .before .before .before .before .mark-index in
     let n = c .before .before .mark-index2 in
     λ cu tu i j k. (n .kept .0 ∙ m .kept .0, both-first _ _ _ _ _ _ (m .kept .0) (n .ensures cu _ i (m .ensures tu _ j k .good (c .before .before .before .before .before .before .before .if1 .taken))))
@@ -44,7 +44,7 @@ same-length-2 c = search needs
 
 returns-2 : tie.Need-returns-2
 unfolding sectionOf bytesAt
-returns-2 c = 
+returns-2 c =
     let m = c .before .before .before .mark-index in
     λ cu tu i j k. (m .kept .0, both-second _ _ _ _ _ (m .ensures tu _ j k) (c .if1 .left))
 

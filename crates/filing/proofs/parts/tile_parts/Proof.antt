@@ -1,10 +1,14 @@
 -- `tile_parts` meets its contract.
 -- Assumes nothing.
 use mathlib.Core.Path.{refl, sym, ap, _∙_, subst}
+use mathlib.Core.List.{List}
+use Prim.Native.Nat.{ℕ}
 use native.Mathlib.Omega.{arith}
+use lib.ListN.{length}
 use denote.Ref.{now}
-use Rattle.octets.proofs.Placed.{length-zeros}
 use Rattle.octets.proofs.Parts.{part-cut}
+use Rattle.bundle.specs.Encoded.{encodingIs}
+use Rattle.tiles.specs.Marks.{goodEnd}
 use Rattle.filing.specs.Judged.{sectionOf}
 use Rattle.filing.proofs.Tiling.{tile-clash, tile-untiled, tile-long, tile-some, tile-good}
 use borrow.Author.Needs.{needs}
@@ -39,25 +43,34 @@ part-good-parts-end : tie.Need-part-good-parts-end
 part-good-parts-end c = let p = c .before .before .before .before .before .before .before .before .before .before .before .before .before .before .pre in omega (arith, p .0 .within 6)
 
 good-parts-requires : tie.Need-good-parts-requires
-good-parts-requires c κs = search needs
+unfolding sectionOf
+good-parts-requires c κs =
+    let a = c .before .before .before .before .before .before .before .before .before .before .before .before .before .before .before .before .before .before .args in
+    let g = sym (c .before .before .before .before .tiled .ensures) ∙ c .before .before .before .if2 .taken in (
+      tile-long _ _ (c .before .before .before .before .before .before .before .before .before .before .before .before .before .before .before .before .before .before .pre .0) _ (c .before .before .before .before .before .before .before .before .before .before .before .before .before .before .before .before .before .before .pre .1) _ (c .before .before .before .before .before .before .before .before .before .before .before .before .before .clear-words .ensures) _ _ (c .before .before .before .before .before .before .before .before .mark-indexes .ensures) (c .before .before .before .before .before .if1 .taken) ∙ sym (ap length (part-cut (now (a .b)) _ _)),
+      tile-some _ _ (c .before .before .before .before .before .before .before .before .before .before .before .before .before .before .before .before .before .before .pre .0) _ (c .before .before .before .before .before .before .before .before .before .before .before .before .before .before .before .before .before .before .pre .1) _ (c .before .before .before .before .before .before .before .before .before .before .before .before .before .clear-words .ensures) _ _ (c .before .before .before .before .before .before .before .before .mark-indexes .ensures) (c .before .before .before .before .before .if1 .taken) g,
+    )
 
 same-length : tie.Need-same-length
 same-length c = search needs
 
 returns : tie.Need-returns
-returns c = search needs
+unfolding sectionOf
+returns c =
+    let a = c .before .before .before .before .before .before .before .before .before .before .before .before .before .before .before .before .before .before .before .args in
+    tile-good _ _ (c .before .before .before .before .before .before .before .before .before .before .before .before .before .before .before .before .before .before .before .pre .0) _ (c .before .before .before .before .before .before .before .before .before .before .before .before .before .before .before .before .before .before .before .pre .1) _ (c .before .before .before .before .before .before .before .before .before .before .before .before .before .before .clear-words .ensures) _ _ (c .before .before .before .before .before .before .before .before .before .mark-indexes .ensures) (c .before .before .before .before .before .before .if1 .taken) (sym (c .before .before .before .before .before .tiled .ensures) ∙ c .before .before .before .before .if2 .taken) _ (λ ts t. c .good-parts .ensures ts t ∙ ap (λ (l : List ℕ). goodEnd (encodingIs (a .x .encoding)) l ts) (part-cut (now (a .b)) _ _))
 
 same-length-2 : tie.Need-same-length-2
 same-length-2 c = search needs
 
 returns-2 : tie.Need-returns-2
-returns-2 c = tile-untiled _ _ (c .before .before .before .before .before .before .before .before .before .before .before .before .pre .0) _ (c .before .before .before .before .before .before .before .before .before .before .before .before .pre .1) _ _ (c .before .before .before .before .before .mark-indexes .ensures) (c .before .before .before .if1 .taken) (sym (c .before .tiled .ensures) ∙ c .if2 .left) _ refl
+returns-2 c = tile-untiled _ _ (c .before .before .before .before .before .before .before .before .before .before .before .before .before .before .before .pre .0) _ (c .before .before .before .before .before .before .before .before .before .before .before .before .before .before .before .pre .1) _ (c .before .before .before .before .before .before .before .before .before .before .clear-words .ensures) _ _ (c .before .before .before .before .before .mark-indexes .ensures) (c .before .before .if1 .taken) (sym (c .before .tiled .ensures) ∙ c .if2 .left) _ refl
 
 same-length-3 : tie.Need-same-length-3
 same-length-3 c = search needs
 
 returns-3 : tie.Need-returns-3
-returns-3 c = tile-clash _ _ (c .before .before .before .before .before .before .before .before .before .pre .0) _ (c .before .before .before .before .before .before .before .before .before .pre .1) _ _ (c .before .before .before .mark-indexes .ensures) (c .if1 .left) _ refl
+returns-3 c = tile-clash _ _ (c .before .before .before .before .before .before .before .before .before .before .before .before .before .pre .0) _ (c .before .before .before .before .before .before .before .before .before .before .before .before .before .pre .1) _ (c .before .before .before .before .before .before .before .before .clear-words .ensures) _ _ (c .before .before .before .mark-indexes .ensures) (c .if1 .left) _ refl
 
 pub tile-parts-spec : {M : Type 1} → statement M
 tile-parts-spec =
