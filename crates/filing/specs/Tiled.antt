@@ -20,6 +20,7 @@ use Rattle.tiles.specs.Marks.{Marks, Marked, goodEnd}
 use Rattle.package.specs.Pieces.{usedIn, piecesOf}
 use Rattle.work.specs.Regions.{stringsRegion}
 use Rattle.filing.specs.declared.input.InputObject.{InputObject}
+use Rattle.filing.specs.declared.input.Indexed.{Indexed}
 use Rattle.filing.specs.declared.parts.Parts.{Parts}
 use Rattle.filing.specs.declared.objects.StringsFiled.{StringsFiled}
 use Rattle.filing.specs.Judged.{sectionOf, IndexedIs}
@@ -35,6 +36,10 @@ pub record PartsAsked (b : List ℕ) (x : InputObject) : Type 0 where
   pub tu : Option Index
   pub cuIs : IndexedIs (x .encoding .big) (sectionOf b x 12) (x .cu) cu
   pub tuIs : IndexedIs (x .encoding .big) (sectionOf b x 13) (x .tu) tu
+
+-- the parts that the rows of an index name are marked, beside those that are; ms are the marks before, ns those after it
+abbrev pub IndexMarked : Bool → List ℕ → Indexed → List ℕ → List ℕ → Bool → Type 0
+IndexMarked big s indexed ms ns r = (o : Option Index) (cs : List Contribution) → IndexedIs big s indexed o → Marks cs ms → Marked (named o ++ cs) ms ns r
 
 -- the parts that both indexes name are marked; ms are the marks before, ns those after it
 abbrev pub BothMarked : List ℕ → InputObject → List ℕ → List ℕ → Bool → Type 0

@@ -1,18 +1,22 @@
 // A package of version 5: 34, that the parts which rows name tile str_offsets, then 8 and 9 part by part.
 ghost use mathlib.Core.Path.{_≡_};
-ghost use mathlib.Core.List.{List, _++_};
 ghost use mathlib.Core.Option.{Option};
 ghost use Prim.Native.Nat.{_<_, _^_};
 ghost use lib.ListN.{length, getD};
 ghost use Rattle.strings.specs.Kept.{Inside, bytesAt};
-ghost use Rattle.index.specs.Index.{Index, Contribution};
-ghost use Rattle.index.specs.Tiles.{named};
-ghost use Rattle.tiles.specs.Marks.{Marks, Marked};
+ghost use Rattle.index.specs.Index.{Index};
 ghost use Rattle.work.specs.Regions.{codesRegion, Only};
 ghost use Rattle.filing.specs.State.{wordsIn, OnlyStore};
 ghost use Rattle.filing.specs.Judged.{IndexedIs};
 ghost use Rattle.filing.specs.ByPlace.{WorkFor};
-ghost use Rattle.filing.specs.Tiled.{PartsAsked, BothMarked, PartsAnswered, PartsPutAsked, PartsPut};
+ghost use Rattle.filing.specs.Tiled.{
+  PartsAsked,
+  IndexMarked,
+  BothMarked,
+  PartsAnswered,
+  PartsPutAsked,
+  PartsPut,
+};
 use crate::input::Indexed;
 use crate::input::InputObject;
 use crate::objects::StringsFiled;
@@ -36,7 +40,7 @@ pub struct Parts {
 // Marks the parts that the rows of an index name, which lies there where there is one. False where they clash.
 fn mark_index(b: &[u8], big: bool, place: Place, indexed: Indexed, marks: &mut [u32]) -> bool
     requires { ⌜ Inside (now b) place × (length (now marks) < 2 ^ 32) × ((o : Option Index) × IndexedIs big (bytesAt (now b) place) indexed o) ⌝ }
-    ensures { λ r. ⌜ ((o : Option Index) (cs : List Contribution) → IndexedIs big (bytesAt (now (b .entry)) place) indexed o → Marks cs (now (marks .entry)) → Marked (named o ++ cs) (now (marks .entry)) (now (marks .exit)) r) ⌝ }
+    ensures { λ r. ⌜ IndexMarked big (bytesAt (now (b .entry)) place) indexed (now (marks .entry)) (now (marks .exit)) r ⌝ }
 {
     let Indexed::At(head) = indexed else {
         return true;
