@@ -28,7 +28,7 @@ use Rattle.package.specs.Input.{Input}
 use Rattle.package.specs.Filing.{isPackage}
 use Rattle.package.proofs.Each.{each-head, each-tail}
 use Rattle.package.proofs.Pieces.{PieceFacts, PiecesFacts, bytesOf, all-length}
-use Rattle.package.proofs.Inputs.{InputFacts}
+use Rattle.package.proofs.Inputs.{Pieced, InputFacts}
 use Rattle.package.proofs.Headings.{pieces-headed, one-headed, none-headed, strings-all}
 use Rattle.package.proofs.UnitStrings.{good-sound}
 use Rattle.finish.specs.Joining.{cutFrom, cut, remappedIn, EntriesGood}
