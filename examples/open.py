@@ -1,5 +1,5 @@
 #!/usr/bin/env python3
-"""Open a package of split DWARF debug information. Written from FORMAT.md alone.
+"""Open a package of split DWARF debug information. Written from FORMAT.md, without our code.
 
     open.py PACKAGE                               list sections (code, name, length), then units (table, identity)
     open.py PACKAGE TABLE IDENTITY section CODE   write a unit's part of a section to standard output
