@@ -21,8 +21,8 @@ input-with-requires c κs = search needs
 
 judge-parts-requires : tie.Need-judge-parts-requires
 judge-parts-requires c κs =
-    let p = c .before .before .before .before .before .before .before .before .pre .0 in
-    (parts-asks _ _ _ (p .at) (p .parts) (p .is) _ (c .before .before .before .before .before .judge-indexes .ensures) (c .before .before .before .if1 .left) _ _ (p .room) _ (c .before .before .input-with .ensures), work-asks _ _ _ _ (p .room))
+    let p = c .before .before .before .before .before .before .before .pre .0 in
+    (parts-asks _ _ _ (p .at) (p .parts) (p .is) _ (c .before .before .before .before .judge-indexes .ensures) (c .before .before .if1 .left) _ _ (p .room) _ (c .before .input-with .ensures), work-asks _ _ _ _ (p .room))
 
 input-refused-requires-2 : tie.Need-input-refused-requires-2
 input-refused-requires-2 c κs = search needs
@@ -32,7 +32,7 @@ same-length c = search needs
 
 returns-2 : tie.Need-returns-2
 returns-2 c = (
-  λ at ps ts e room k. tiled-parts-refused _ _ _ at ps e _ (c .before .before .before .before .before .before .before .before .before .before .before .judge-indexes .ensures) (c .before .before .before .before .before .before .before .before .before .if1 .left) _ (c .before .before .before .before .before .before .before .before .input-with .ensures) _ (c .before .before .before .before .before .judge-parts .ensures .0) _ _ ts (c .before .if2 .taken) _ (c .input-refused2 .ensures),
+  λ at ps ts e room k. tiled-parts-refused _ _ _ at ps e _ (c .before .before .before .before .before .before .before .before .before .before .judge-indexes .ensures) (c .before .before .before .before .before .before .before .before .if1 .left) _ (c .before .before .before .before .before .before .before .input-with .ensures) _ (c .before .before .before .before .before .judge-parts .ensures .0) _ _ ts (c .before .if2 .taken) _ (c .input-refused2 .ensures),
   codes-store _ _ _ (c .before .before .before .before .before .judge-parts .ensures .1),
 )
 
@@ -41,8 +41,8 @@ str-offsets-in-requires c κs = search needs
 
 add-parts-requires : tie.Need-add-parts-requires
 add-parts-requires c κs =
-    let p = c .before .before .before .before .before .before .before .before .before .before .before .before .before .before .before .before .before .pre in
-    put-asks _ _ _ (p .0 .at) (p .0 .parts) (p .0 .is) _ (c .before .before .before .before .before .before .before .before .before .before .before .before .before .before .judge-indexes .ensures) (c .before .before .before .before .before .before .before .before .before .before .before .before .if1 .left) _ (c .before .before .before .before .before .before .before .before .before .before .before .input-with .ensures) _ (c .before .before .before .before .before .before .before .before .judge-parts .ensures .0) (c .before .before .before .before .if2 .left) (p .1) _ _ _ (p .0 .room) (c .before .before .before .before .before .before .before .before .judge-parts .ensures .1) (p .0 .strings) (p .0 .kept) _ (c .before .before .before .str-offsets-in .ensures)
+    let p = c .before .before .before .before .before .before .before .before .before .before .before .before .before .before .before .pre in
+    put-asks _ _ _ (p .0 .at) (p .0 .parts) (p .0 .is) _ (c .before .before .before .before .before .before .before .before .before .before .before .before .judge-indexes .ensures) (c .before .before .before .before .before .before .before .before .before .before .if1 .left) _ (c .before .before .before .before .before .before .before .before .before .input-with .ensures) _ (c .before .before .before .before .before .before .before .judge-parts .ensures .0) (c .before .before .before .if2 .left) (p .1) _ _ _ (p .0 .room) (c .before .before .before .before .before .before .before .judge-parts .ensures .1) (p .0 .strings) (p .0 .kept) _ (c .before .before .str-offsets-in .ensures)
 
 input-refused-requires-3 : tie.Need-input-refused-requires-3
 input-refused-requires-3 c κs = search needs
@@ -52,10 +52,10 @@ same-length-2 c = search needs
 
 returns-3 : tie.Need-returns-3
 returns-3 c =
-    let f = c .before .before .before .before .before .before .before .before .before .before .before .before .before .before .before .before .before .before .before .before .before .before .before .pre .1 in
+    let f = c .before .before .before .before .before .before .before .before .before .before .before .before .before .before .before .before .before .before .before .before .before .pre .1 in
     let n = c .before .before .before .before .before .add-parts in
-    let g = c .before .before .before .before .before .before .before .before .before .before .before .before .before .before .judge-parts in (
-      λ at ps ts e room k. tiled-put-refused _ _ _ at ps e _ (c .before .before .before .before .before .before .before .before .before .before .before .before .before .before .before .before .before .before .before .before .judge-indexes .ensures) (c .before .before .before .before .before .before .before .before .before .before .before .before .before .before .before .before .before .before .if1 .left) _ (c .before .before .before .before .before .before .before .before .before .before .before .before .before .before .before .before .before .input-with .ensures) _ (g .ensures .0) (c .before .before .before .before .before .before .before .before .before .before .if2 .left) f _ _ _ _ ts _ (g .ensures .1) k _ _ (c .before .before .before .before .before .before .before .before .before .str-offsets-in .ensures) (n .ensures .0) (c .before .if3 .taken) _ (c .input-refused3 .ensures),
+    let g = c .before .before .before .before .before .before .before .before .before .before .before .before .before .judge-parts in (
+      λ at ps ts e room k. tiled-put-refused _ _ _ at ps e _ (c .before .before .before .before .before .before .before .before .before .before .before .before .before .before .before .before .before .before .judge-indexes .ensures) (c .before .before .before .before .before .before .before .before .before .before .before .before .before .before .before .before .if1 .left) _ (c .before .before .before .before .before .before .before .before .before .before .before .before .before .before .before .input-with .ensures) _ (g .ensures .0) (c .before .before .before .before .before .before .before .before .before .if2 .left) f _ _ _ _ ts _ (g .ensures .1) k _ _ (c .before .before .before .before .before .before .before .before .str-offsets-in .ensures) (n .ensures .0) (c .before .if3 .taken) _ (c .input-refused3 .ensures),
       codes-first _ _ _ _ (g .ensures .1) (n .ensures .1),
     )
 
@@ -67,10 +67,10 @@ same-length-3 c = search needs
 
 returns-4 : tie.Need-returns-4
 returns-4 c =
-    let f = c .before .before .before .before .before .before .before .before .before .before .before .before .before .before .before .before .before .before .before .before .before .before .before .before .pre .1 in
+    let f = c .before .before .before .before .before .before .before .before .before .before .before .before .before .before .before .before .before .before .before .before .before .before .pre .1 in
     let n = c .before .before .before .before .before .before .add-parts in
-    let g = c .before .before .before .before .before .before .before .before .before .before .before .before .before .before .before .judge-parts in (
-      λ at ps ts e room k. tiled-read _ _ _ at ps e _ (c .before .before .before .before .before .before .before .before .before .before .before .before .before .before .before .before .before .before .before .before .before .judge-indexes .ensures) (c .before .before .before .before .before .before .before .before .before .before .before .before .before .before .before .before .before .before .before .if1 .left) _ (c .before .before .before .before .before .before .before .before .before .before .before .before .before .before .before .before .before .before .input-with .ensures) _ (g .ensures .0) (c .before .before .before .before .before .before .before .before .before .before .before .if2 .left) f _ _ _ _ ts _ (g .ensures .1) k _ _ (c .before .before .before .before .before .before .before .before .before .before .str-offsets-in .ensures) (n .ensures .0) (c .before .before .if3 .left) _ _ room _ (c .with-strings .ensures),
+    let g = c .before .before .before .before .before .before .before .before .before .before .before .before .before .before .judge-parts in (
+      λ at ps ts e room k. tiled-read _ _ _ at ps e _ (c .before .before .before .before .before .before .before .before .before .before .before .before .before .before .before .before .before .before .before .judge-indexes .ensures) (c .before .before .before .before .before .before .before .before .before .before .before .before .before .before .before .before .before .if1 .left) _ (c .before .before .before .before .before .before .before .before .before .before .before .before .before .before .before .before .input-with .ensures) _ (g .ensures .0) (c .before .before .before .before .before .before .before .before .before .before .if2 .left) f _ _ _ _ ts _ (g .ensures .1) k _ _ (c .before .before .before .before .before .before .before .before .before .str-offsets-in .ensures) (n .ensures .0) (c .before .before .if3 .left) _ _ room _ (c .with-strings .ensures),
       codes-first _ _ _ _ (g .ensures .1) (n .ensures .1),
     )
 

@@ -28,7 +28,7 @@ is-packed-requires : tie.Need-is-packed-requires
 is-packed-requires c κs = search needs
 
 open-tiled-requires : tie.Need-open-tiled-requires
-open-tiled-requires c κs = (c .before .before .before .before .before .before .before .before .before .before .pre, packed-five _ _ _ (sym (c .before .before .if2 .taken) ∙ c .before .before .before .is-packed .ensures))
+open-tiled-requires c κs = (c .before .before .before .before .before .before .before .before .before .before .pre, packed-five _ _ _ (sym (c .before .if2 .taken) ∙ c .before .before .is-packed .ensures))
 
 same-length : tie.Need-same-length
 same-length c = search needs
@@ -36,8 +36,8 @@ same-length c = search needs
 returns-2 : tie.Need-returns-2
 returns-2 c =
     let t = c .before .before .open-tiled in
-    let q = c .before .before .before .before .before .before .is-packed in (
-      λ at ps ts e room k. read-opened _ _ _ ts _ _ _ ps _ (c .before .before .before .before .before .before .before .before .before .before .before .judge-object .ensures at ps e) (c .before .before .before .before .before .before .before .before .if1 .left) _ _ (packed-tiled _ ps _ (packed-from _ at ps e _ _ (sym (q .ensures) ∙ c .before .before .before .before .before .if2 .taken))) (t .ensures .0 at ps ts e room k),
+    let q = c .before .before .before .before .before .is-packed in (
+      λ at ps ts e room k. read-opened _ _ _ ts _ _ _ ps _ (c .before .before .before .before .before .before .before .before .before .before .judge-object .ensures at ps e) (c .before .before .before .before .before .before .before .if1 .left) _ _ (packed-tiled _ ps _ (packed-from _ at ps e _ _ (sym (q .ensures) ∙ c .before .before .before .before .if2 .taken))) (t .ensures .0 at ps ts e room k),
       t .ensures .1,
     )
 
@@ -50,8 +50,8 @@ same-length-2 c = search needs
 returns-3 : tie.Need-returns-3
 returns-3 c =
     let t = c .before .before .open-whole in
-    let q = c .before .before .before .before .before .before .is-packed in (
-      λ at ps ts e room k. read-opened _ _ _ ts _ _ _ ps _ (c .before .before .before .before .before .before .before .before .before .before .before .judge-object .ensures at ps e) (c .before .before .before .before .before .before .before .before .if1 .left) _ _ (packed-whole _ ps _ (packed-from _ at ps e _ _ (sym (q .ensures) ∙ c .before .before .before .before .before .if2 .left))) (t .ensures .0 at ps ts e room k),
+    let q = c .before .before .before .before .before .is-packed in (
+      λ at ps ts e room k. read-opened _ _ _ ts _ _ _ ps _ (c .before .before .before .before .before .before .before .before .before .before .judge-object .ensures at ps e) (c .before .before .before .before .before .before .before .if1 .left) _ _ (packed-whole _ ps _ (packed-from _ at ps e _ _ (sym (q .ensures) ∙ c .before .before .before .before .if2 .left))) (t .ensures .0 at ps ts e room k),
       t .ensures .1,
     )
 
