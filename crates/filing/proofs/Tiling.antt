@@ -12,7 +12,7 @@ use borrow.Rule.Slice.PartMut.{putMid}
 use Rattle.octets.specs.Octets.{part, placed, zeros}
 use Rattle.octets.specs.Checked.{Check, pass, refuse, _>>=_}
 use Rattle.octets.proofs.Checks.{then-pass, then-refuse, true-false}
-use Rattle.octets.proofs.Parts.{part-part, length-part}
+use Rattle.octets.proofs.Parts.{part-cut, part-part, length-part}
 use Rattle.octets.proofs.Placed.{length-zeros}
 use Rattle.octets.proofs.Regions.{placed-whole}
 use Rattle.bundle.specs.Encoding.{Encoding}
@@ -36,7 +36,7 @@ use Rattle.tiles.proofs.Marking.{marks-none}
 use Rattle.tiles.proofs.Walking.{good-tiles, good-pass, bad-refused, clash-refused}
 use Rattle.tiles.proofs.Parts.{tiles-marked}
 use Rattle.work.specs.Regions.{stringsRegion, storeRegion, codesRegion, region, Only}
-use Rattle.work.proofs.Stores.{codes-within, store-length, others-stay}
+use Rattle.work.proofs.Stores.{codes-within, region-fits, store-length, others-stay}
 use Rattle.kept.proofs.Storing.{store-left}
 use Rattle.package.specs.Pieces.{usedIn, piecesOf}
 use Rattle.filing.specs.declared.input.Indexed.{Indexed}
@@ -142,8 +142,11 @@ module _ (b : List ℕ) (x : InputObject) (a : PartsAsked b x) (n : ℕ) (size :
 
 -- ---- the marks stand in the region of codes
 pub codes-only : (n from many : ℕ) (w : List ℕ) → workForWord * n ≤ length w → from ≡ codesRegion .start * n → many ≤ codesRegion .words * n
-    → (x v : List ℕ) → length x ≡ many → v ≡ putMid from (from + many - from) w x → Only codesRegion n w v
-codes-only n from many w room ef em x v l is =
+    → (x v : List ℕ) → length x ≡ length (take (from + many - from) (drop from w)) → v ≡ putMid from (from + many - from) w x → Only codesRegion n w v
+codes-only n from many w room ef em x v same is =
+    let fits = region-fits codesRegion codes-within n w room in
+    let cut : length (part w from many) ≡ many = length-part w from many (omega (arith, fits)) in
+    let l : length x ≡ many = same ∙ ap length (part-cut w from many) ∙ cut in
     let o : from ≡ codesRegion .start * n + 0 = omega arith in
     let z : length x ≡ from + many - from = omega arith in
     let p : v ≡ placed w (codesRegion .start * n + 0) x = is ∙ placed-whole w from (from + many - from) x z ∙ ap (λ (a : ℕ). placed w a x) o in
