@@ -4,7 +4,7 @@ use mathlib.Core.Path.{_≡_, refl, sym, ap, _∙_, subst}
 use mathlib.Core.Bool.{Bool, true, false}
 use mathlib.Core.List.{List, [], _∷_, _++_, map, append-nil}
 use mathlib.Core.Option.{Option, some, none}
-use Prim.Native.Nat.{ℕ, _+_, _*_, _-_, _<_, _≤_}
+use Prim.Native.Nat.{ℕ, _+_, _*_, _-_, _/_, _^_, _<_, _≤_}
 use native.Mathlib.Omega.{arith}
 use native.Mathlib.Decide.{decLt}
 use lib.ListN.{length, take, drop, getD}
@@ -12,7 +12,7 @@ use borrow.Rule.Slice.PartMut.{putMid}
 use Rattle.octets.specs.Octets.{part, placed, zeros}
 use Rattle.octets.specs.Checked.{Check, pass, refuse, _>>=_}
 use Rattle.octets.proofs.Checks.{then-pass, then-refuse, true-false}
-use Rattle.octets.proofs.Parts.{part-part, length-part}
+use Rattle.octets.proofs.Parts.{part-cut, part-part, length-part}
 use Rattle.octets.proofs.Placed.{length-zeros}
 use Rattle.octets.proofs.Regions.{placed-whole}
 use Rattle.bundle.specs.Encoding.{Encoding}
@@ -21,7 +21,7 @@ use Rattle.numbers.specs.Limits.{workForWord}
 use Rattle.strings.specs.Strings.{putAll}
 use Rattle.strings.specs.Kept.{Inside, bytesAt}
 use Rattle.strings.specs.Objects.{tableIn}
-use Rattle.strings.specs.Headed.{Headed, HeadedOf, PiecesAdded, stringsOfAll}
+use Rattle.strings.specs.Headed.{Headed, HeadedOf, PiecesAddable, PiecesAdded}
 use Rattle.strings.specs.declared.table.Added.{Added}
 use Rattle.strings.specs.declared.table.Added.the-variants.{Table, NoString}
 use Rattle.strings.specs.declared.table.StrOffsets.{StrOffsets}
@@ -36,7 +36,7 @@ use Rattle.tiles.proofs.Marking.{marks-none}
 use Rattle.tiles.proofs.Walking.{good-tiles, good-pass, bad-refused, clash-refused}
 use Rattle.tiles.proofs.Parts.{tiles-marked}
 use Rattle.work.specs.Regions.{stringsRegion, storeRegion, codesRegion, region, Only}
-use Rattle.work.proofs.Stores.{codes-within, store-length, others-stay}
+use Rattle.work.proofs.Stores.{codes-within, region-fits, store-length, others-stay}
 use Rattle.kept.proofs.Storing.{store-left}
 use Rattle.package.specs.Pieces.{usedIn, piecesOf}
 use Rattle.filing.specs.declared.input.Indexed.{Indexed}
@@ -46,7 +46,7 @@ use Rattle.filing.specs.declared.input.InputObject.{InputObject}
 use Rattle.filing.specs.Judged.{sectionOf, IndexedIs}
 use Rattle.filing.specs.State.{wordsIn}
 use Rattle.filing.specs.ByObject.{StringsAre}
-use Rattle.filing.specs.Tiled.{PartsAsked, BothMarked, PartsAre, PartsAnswered, GoodUpTo}
+use Rattle.filing.specs.Tiled.{PartsAsked, BothMarked, PartsAre, PartsAnswered, offsetsBefore, GoodUpTo}
 use Rattle.filing.proofs.Contributing.{index-well}
 use Rattle.filing.proofs.GoodParts.{goodParts, Judged, parts-judged, Ending, parts-ending}
 
@@ -142,8 +142,11 @@ module _ (b : List ℕ) (x : InputObject) (a : PartsAsked b x) (n : ℕ) (size :
 
 -- ---- the marks stand in the region of codes
 pub codes-only : (n from many : ℕ) (w : List ℕ) → workForWord * n ≤ length w → from ≡ codesRegion .start * n → many ≤ codesRegion .words * n
-    → (x v : List ℕ) → length x ≡ many → v ≡ putMid from (from + many - from) w x → Only codesRegion n w v
-codes-only n from many w room ef em x v l is =
+    → (x v : List ℕ) → length x ≡ length (take (from + many - from) (drop from w)) → v ≡ putMid from (from + many - from) w x → Only codesRegion n w v
+codes-only n from many w room ef em x v same is =
+    let fits = region-fits codesRegion codes-within n w room in
+    let cut : length (part w from many) ≡ many = length-part w from many (omega (arith, fits)) in
+    let l : length x ≡ many = same ∙ ap length (part-cut w from many) ∙ cut in
     let o : from ≡ codesRegion .start * n + 0 = omega arith in
     let z : length x ≡ from + many - from = omega arith in
     let p : v ≡ placed w (codesRegion .start * n + 0) x = is ∙ placed-whole w from (from + many - from) x z ∙ ap (λ (a : ℕ). placed w a x) o in
@@ -154,9 +157,6 @@ codes-only n from many w room ef em x v l is =
     }
 
 -- ---- 8 and 9: the parts before the first one that 8 refuses
-abbrev pub before : StrOffsets → ℕ → StrOffsets
-before o good = record { encoding = o .encoding; offsets = record { start = o .offsets .start; size = good }; strings = o .strings }
-
 module _ (b : List ℕ) (o : StrOffsets) (inside : Inside b (o .offsets)) (good : ℕ) (ps : List Contribution) (up : GoodUpTo b o good ps) where
   abbrev e : Encoding
   e = encodingIs (o .encoding)
@@ -180,18 +180,15 @@ module _ (b : List ℕ) (o : StrOffsets) (inside : Inside b (o .offsets)) (good 
   unfolding bytesAt Inside
   long = length-part b (o .offsets .start) (o .offsets .size) inside
 
-  pub good-within : good ≤ o .offsets .size
+  good-within : good ≤ o .offsets .size
   good-within = omega (arith, up .is, ending .high, long)
 
-  front : part s 0 (goodEnd e s ps - 0) ≡ bytesAt b (before o good .offsets)
+  front : part s 0 (goodEnd e s ps - 0) ≡ bytesAt b (offsetsBefore o good .offsets)
   unfolding bytesAt
   front =
       let n : goodEnd e s ps - 0 ≡ good = omega (arith, up .is) in
       let z : o .offsets .start + 0 ≡ o .offsets .start = omega arith in
       ap (part s 0) n ∙ part-part b (o .offsets .start) (o .offsets .size) 0 good (omega (arith, good-within)) ∙ ap (λ (a : ℕ). part b a good) z
-
-  pub good-headed : HeadedOf (before o good) b beforeParts
-  good-headed = subst (λ (l : List ℕ). Headed e l beforeParts) front (ending .headed)
 
   all-good : o .offsets .size ≤ good → length (goodParts e str s ps) ≡ length ps
   all-good h = elim (decLt (length (goodParts e str s ps)) (length ps)) [
@@ -205,25 +202,46 @@ module _ (b : List ℕ) (o : StrOffsets) (inside : Inside b (o .offsets)) (good 
     | no l ↦ absurd (let q : length (goodParts e str s ps) ≡ length ps = omega (arith, ending .few) in omega (arith, ending .whole q, up .is, long))
   ]
 
-  -- the store as it is lent
-  module _ (n from many words : ℕ) (w : List ℕ) (room : workForWord * n ≤ length w) (ef : from ≡ storeRegion .start * n) (em : many ≡ storeRegion .words * n) (et : words ≡ stringsRegion .words * n)
-      (store v : List ℕ) (same : length store ≡ length (take (from + many - from) (drop from w))) (is : v ≡ putMid from (from + many - from) w store) (wide : n ≡ wordsIn b)
-      (ts : List (List ℕ)) (r : Added) (added : PiecesAdded b (before o good) (tableIn words store) ts beforeParts r) where
-    pub parts-missing : r ≡ NoString → (t : StringTable) → StringsAre b v ts (piecesOf e str s ps >>= λ q. pass (usedIn q)) (record { code = 9; strings = t })
-    unfolding StringsAre
-    parts-missing q t = rw (then-refuse (piecesOf e str s ps) (λ y. pass (usedIn y)) 9 (judged .missing 9 (added .missing q))) refl
+  -- the section up to there, as code hands it on
+  module _ (y : StrOffsets) (ey : y ≡ offsetsBefore o good) where
+    pub good-headed : HeadedOf y b beforeParts
+    good-headed = subst (λ (z : StrOffsets). HeadedOf z b beforeParts) (sym ey) (subst (λ (l : List ℕ). Headed e l beforeParts) front (ending .headed))
 
-    module _ (k : StringTable) (q : r ≡ Table k) where
-      pub parts-ill : good < o .offsets .size → (t : StringTable) → StringsAre b v ts (piecesOf e str s ps >>= λ y. pass (usedIn y)) (record { code = 8; strings = t })
-      unfolding StringsAre
-      parts-ill h t =
-          let a = added .kept k q in
-          rw (then-refuse (piecesOf e str s ps) (λ y. pass (usedIn y)) 8 (judged .ill (a .0) (a .1) (some-bad h))) refl
+    pub good-addable : (words : ℕ) (store : List ℕ) (t : StringTable) → length b < 2 ^ 32 → Inside b (o .strings) → words + o .strings .size ≤ length store
+        → 7 * (t .count + o .offsets .size / 4) ≤ words → PiecesAddable b y words store t
+    unfolding Inside
+    good-addable words store t limit strings memory room =
+        subst (λ (z : StrOffsets). PiecesAddable b z words store t) (sym ey)
+        record {
+          limit = limit;
+          offsets-inside = omega (arith, good-within, inside);
+          strings-inside = strings;
+          memory = memory;
+          room = omega (arith, good-within);
+        }
 
-      pub parts-put : o .offsets .size ≤ good → StringsAre b v ts (piecesOf e str s ps >>= λ y. pass (usedIn y)) (record { code = 0; strings = k })
+    -- the store as it is lent
+    module _ (n from many words : ℕ) (w : List ℕ) (room : workForWord * n ≤ length w) (ef : from ≡ storeRegion .start * n) (em : many ≡ storeRegion .words * n) (et : words ≡ stringsRegion .words * n)
+        (store v : List ℕ) (same : length store ≡ length (take (from + many - from) (drop from w))) (is : v ≡ putMid from (from + many - from) w store) (wide : n ≡ wordsIn b)
+        (ts : List (List ℕ)) (r : Added) (added : PiecesAdded b y (tableIn words store) ts beforeParts r) where
+      own : PiecesAdded b (offsetsBefore o good) (tableIn words store) ts beforeParts r
+      own = subst (λ (z : StrOffsets). PiecesAdded b z (tableIn words store) ts beforeParts r) ey added
+
+      pub parts-missing : r ≡ NoString → (t : StringTable) → StringsAre b v ts (piecesOf e str s ps >>= λ q. pass (usedIn q)) (record { code = 9; strings = t })
       unfolding StringsAre
-      parts-put h =
-          let a = added .kept k q in
-          let j = judged .all (a .0) (a .1) (all-good h) in
-          rw (then-pass (piecesOf e str s ps) (λ y. pass (usedIn y)) (j .0) (j .1))
-          (refl, rw (← wide, store-left n from many words w room ef em et store v same is, j .2) (a .2))
+      parts-missing q t = rw (then-refuse (piecesOf e str s ps) (λ z. pass (usedIn z)) 9 (judged .missing 9 (own .missing q))) refl
+
+      module _ (k : StringTable) (q : r ≡ Table k) where
+        pub parts-ill : good < o .offsets .size → (t : StringTable) → StringsAre b v ts (piecesOf e str s ps >>= λ z. pass (usedIn z)) (record { code = 8; strings = t })
+        unfolding StringsAre
+        parts-ill h t =
+            let a = own .kept k q in
+            rw (then-refuse (piecesOf e str s ps) (λ z. pass (usedIn z)) 8 (judged .ill (a .0) (a .1) (some-bad h))) refl
+
+        pub parts-put : o .offsets .size ≤ good → StringsAre b v ts (piecesOf e str s ps >>= λ z. pass (usedIn z)) (record { code = 0; strings = k })
+        unfolding StringsAre
+        parts-put h =
+            let a = own .kept k q in
+            let j = judged .all (a .0) (a .1) (all-good h) in
+            rw (then-pass (piecesOf e str s ps) (λ z. pass (usedIn z)) (j .0) (j .1))
+            (refl, rw (← wide, store-left n from many words w room ef em et store v same is, j .2) (a .2))

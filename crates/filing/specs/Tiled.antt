@@ -58,6 +58,10 @@ PartsAnswered b x r =
     → PartsAre (encodingIs (x .encoding)) (sectionOf b x 6) (tiles (named cu ++ named tu) (sectionOf b x 6)) r
 
 -- ---- 8 and 9
+-- the section up to a place
+abbrev pub offsetsBefore : StrOffsets → ℕ → StrOffsets
+offsetsBefore o good = record { encoding = o .encoding; offsets = record { start = o .offsets .start; size = good }; strings = o .strings }
+
 -- parts tile the section, and good is where the first one starts that 8 refuses
 pub record GoodUpTo (b : List ℕ) (o : StrOffsets) (good : ℕ) (ps : List Contribution) : Type 0 where
   pub five : encodingIs (o .encoding) .version ≡ 5

@@ -14,6 +14,7 @@ ghost use Rattle.filing.specs.Tiled.{
   IndexMarked,
   BothMarked,
   PartsAnswered,
+  offsetsBefore,
   PartsPutAsked,
   PartsPut,
 };
@@ -110,6 +111,24 @@ pub fn judge_parts(b: &[u8], x: InputObject, work: &mut [u32]) -> Parts
     tile_parts(b, x, &mut work[from..to])
 }
 
+// The section up to a place.
+fn offsets_before(o: StrOffsets, good: usize) -> StrOffsets
+    ensures { λ r. ⌜ r ≡ offsetsBefore o good ⌝ }
+{
+    let encoding = o.encoding;
+    let whole = o.offsets;
+    let strings = o.strings;
+    let offsets = Place {
+        start: whole.start,
+        size: good,
+    };
+    StrOffsets {
+        encoding,
+        offsets,
+        strings,
+    }
+}
+
 // 9 of the parts before the first one that 8 refuses, then 8. The caller knows that parts tile the section.
 pub fn add_parts(
     b: &[u8],
@@ -127,16 +146,8 @@ pub fn add_parts(
     let store = work::store(n);
     let from = store.start;
     let to = from + store.size;
-    let size = o.offsets.size;
-    let offsets = Place {
-        start: o.offsets.start,
-        size: good,
-    };
-    let before = StrOffsets {
-        encoding: o.encoding,
-        offsets,
-        strings: o.strings,
-    };
+    let whole = o.offsets;
+    let before = offsets_before(o, good);
     let Added::Table(more) = strings::pieces::add_pieces(
         before,
         b,
@@ -149,7 +160,7 @@ pub fn add_parts(
             strings: t,
         };
     };
-    if good < size {
+    if good < whole.size {
         return StringsFiled {
             code: BAD_STR_OFFSETS,
             strings: t,

@@ -1,6 +1,6 @@
 -- `tile_parts` meets its contract.
 -- Assumes nothing.
-use mathlib.Core.Path.{refl, sym, ap, _∙_, subst}
+use mathlib.Core.Path.{refl, sym, ap, _∙_}
 use mathlib.Core.List.{List}
 use Prim.Native.Nat.{ℕ}
 use native.Mathlib.Omega.{arith}
@@ -19,19 +19,19 @@ clear-words-requires : tie.Need-clear-words-requires
 clear-words-requires c κs = search needs
 
 mark-indexes-requires : tie.Need-mark-indexes-requires
-mark-indexes-requires c κs = let p = c .before .before .before .before .before .before .pre in (p .0, omega (arith, c .before .before .before .clear-words .kept .0, p .1, p .0 .within 6, p .0 .limit))
+mark-indexes-requires c κs = let p = c .before .before .before .before .before .before .before .pre in (p .0, omega (arith, c .before .before .before .clear-words .kept .0, p .1, p .0 .within 6, p .0 .limit))
 
 tiled-requires : tie.Need-tiled-requires
 tiled-requires c κs = search needs
 
-array-read-first : tie.Need-array-read-first
-array-read-first c = search needs
+element-copy-out-first : tie.Need-element-copy-out-first
+element-copy-out-first c = search needs
 
-array-read-last : tie.Need-array-read-last
-array-read-last c = search needs
+element-copy-out-last : tie.Need-element-copy-out-last
+element-copy-out-last c = search needs
 
 add-last : tie.Need-add-last
-add-last c = let p = c .before .before .before .before .before .before .before .before .before .before .before .before .before .before .pre in omega (arith, p .0 .within 6, p .0 .limit)
+add-last c = let p = c .before .before .before .before .before .before .before .before .before .before .before .before .before .before .before .before .before .pre in omega (arith, p .0 .within 6, p .0 .limit)
 
 sub-good-parts : tie.Need-sub-good-parts
 sub-good-parts c = search needs
@@ -40,15 +40,16 @@ part-good-parts-start : tie.Need-part-good-parts-start
 part-good-parts-start c = search needs
 
 part-good-parts-end : tie.Need-part-good-parts-end
-part-good-parts-end c = let p = c .before .before .before .before .before .before .before .before .before .before .before .before .before .before .pre in omega (arith, p .0 .within 6)
+part-good-parts-end c = let p = c .before .before .before .before .before .before .before .before .before .before .before .before .before .before .before .before .before .pre in omega (arith, p .0 .within 6)
 
 good-parts-requires : tie.Need-good-parts-requires
 unfolding sectionOf
 good-parts-requires c κs =
-    let a = c .before .before .before .before .before .before .before .before .before .before .before .before .before .before .before .before .before .before .args in
-    let g = sym (c .before .before .before .before .tiled .ensures) ∙ c .before .before .before .if2 .taken in (
-      tile-long _ _ (c .before .before .before .before .before .before .before .before .before .before .before .before .before .before .before .before .before .before .pre .0) _ (c .before .before .before .before .before .before .before .before .before .before .before .before .before .before .before .before .before .before .pre .1) _ (c .before .before .before .before .before .before .before .before .before .before .before .before .before .clear-words .ensures) _ _ (c .before .before .before .before .before .before .before .before .mark-indexes .ensures) (c .before .before .before .before .before .if1 .taken) ∙ sym (ap length (part-cut (now (a .b)) _ _)),
-      tile-some _ _ (c .before .before .before .before .before .before .before .before .before .before .before .before .before .before .before .before .before .before .pre .0) _ (c .before .before .before .before .before .before .before .before .before .before .before .before .before .before .before .before .before .before .pre .1) _ (c .before .before .before .before .before .before .before .before .before .before .before .before .before .clear-words .ensures) _ _ (c .before .before .before .before .before .before .before .before .mark-indexes .ensures) (c .before .before .before .before .before .if1 .taken) g,
+    let m = c .before .before .before .before .before .before .before .before .before .before .before in
+    let s = m .before .before .before .before .before .before .before .before in
+    let g = sym (c .before .before .before .before .before .before .tiled .ensures) ∙ c .before .before .before .before .before .if2 .taken in (
+      tile-long _ _ (s .pre .0) _ (s .pre .1) _ (m .before .before .before .before .clear-words .ensures) _ _ (m .mark-indexes .ensures) (c .before .before .before .before .before .before .before .before .if1 .taken) ∙ sym (ap length (part-cut (now (s .args .b)) _ _)),
+      tile-some _ _ (s .pre .0) _ (s .pre .1) _ (m .before .before .before .before .clear-words .ensures) _ _ (m .mark-indexes .ensures) (c .before .before .before .before .before .before .before .before .if1 .taken) g,
     )
 
 same-length : tie.Need-same-length
@@ -57,20 +58,29 @@ same-length c = search needs
 returns : tie.Need-returns
 unfolding sectionOf
 returns c =
-    let a = c .before .before .before .before .before .before .before .before .before .before .before .before .before .before .before .before .before .before .before .args in
-    tile-good _ _ (c .before .before .before .before .before .before .before .before .before .before .before .before .before .before .before .before .before .before .before .pre .0) _ (c .before .before .before .before .before .before .before .before .before .before .before .before .before .before .before .before .before .before .before .pre .1) _ (c .before .before .before .before .before .before .before .before .before .before .before .before .before .before .clear-words .ensures) _ _ (c .before .before .before .before .before .before .before .before .before .mark-indexes .ensures) (c .before .before .before .before .before .before .if1 .taken) (sym (c .before .before .before .before .before .tiled .ensures) ∙ c .before .before .before .before .if2 .taken) _ (λ ts t. c .good-parts .ensures ts t ∙ ap (λ (l : List ℕ). goodEnd (encodingIs (a .x .encoding)) l ts) (part-cut (now (a .b)) _ _))
+    let m = c .before .before .before .before .before .before .before .before .before .before .before .before in
+    let s = m .before .before .before .before .before .before .before .before in
+    let g = sym (c .before .before .before .before .before .before .before .tiled .ensures) ∙ c .before .before .before .before .before .before .if2 .taken in
+    tile-good _ _ (s .pre .0) _ (s .pre .1) _ (m .before .before .before .before .clear-words .ensures) _ _ (m .mark-indexes .ensures) (c .before .before .before .before .before .before .before .before .before .if1 .taken) g _
+    (λ ts t. c .good-parts .ensures ts t ∙ ap (λ (l : List ℕ). goodEnd (encodingIs (s .args .t2 .encoding)) l ts) (part-cut (now (s .args .b)) _ _))
 
 same-length-2 : tie.Need-same-length-2
 same-length-2 c = search needs
 
 returns-2 : tie.Need-returns-2
-returns-2 c = tile-untiled _ _ (c .before .before .before .before .before .before .before .before .before .before .before .before .before .before .before .pre .0) _ (c .before .before .before .before .before .before .before .before .before .before .before .before .before .before .before .pre .1) _ (c .before .before .before .before .before .before .before .before .before .before .clear-words .ensures) _ _ (c .before .before .before .before .before .mark-indexes .ensures) (c .before .before .if1 .taken) (sym (c .before .tiled .ensures) ∙ c .if2 .left) _ refl
+returns-2 c =
+    let m = c .before .before .before .before .before .before in
+    let s = m .before .before .before .before .before .before .before .before in
+    tile-untiled _ _ (s .pre .0) _ (s .pre .1) _ (m .before .before .before .before .clear-words .ensures) _ _ (m .mark-indexes .ensures) (c .before .before .before .if1 .taken) (sym (c .before .tiled .ensures) ∙ c .if2 .left) _ refl
 
 same-length-3 : tie.Need-same-length-3
 same-length-3 c = search needs
 
 returns-3 : tie.Need-returns-3
-returns-3 c = tile-clash _ _ (c .before .before .before .before .before .before .before .before .before .before .before .before .before .pre .0) _ (c .before .before .before .before .before .before .before .before .before .before .before .before .before .pre .1) _ (c .before .before .before .before .before .before .before .before .clear-words .ensures) _ _ (c .before .before .before .mark-indexes .ensures) (c .if1 .left) _ refl
+returns-3 c =
+    let m = c .before .before .before in
+    let s = m .before .before .before .before .before .before .before .before in
+    tile-clash _ _ (s .pre .0) _ (s .pre .1) _ (m .before .before .before .before .clear-words .ensures) _ _ (m .mark-indexes .ensures) (c .if1 .left) _ refl
 
 pub tile-parts-spec : {M : Type 1} → statement M
 tile-parts-spec =
@@ -79,8 +89,8 @@ tile-parts-spec =
     clear-words-requires
     mark-indexes-requires
     tiled-requires
-    array-read-first
-    array-read-last
+    element-copy-out-first
+    element-copy-out-last
     add-last
     sub-good-parts
     part-good-parts-start
