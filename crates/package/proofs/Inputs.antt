@@ -199,7 +199,7 @@ unfolding isPackage isPacked isFive
 packed-is b e ps t o =
     ap₂ (λ (x y : Bool). eqb (e .version) 5 && (x || y)) (index-there e ps (body b ps) 12 (t .cuIndex) (o .cuIndex)) (index-there e ps (body b ps) 13 (t .tuIndex) (o .tuIndex))
 
-pieced : (b : List ℕ) (e : Encoding) (ps : List Part) (t : Opened) → OpenedParts e ps (body b ps) t → Pieced e (inputFrom b e ps t)
+pub pieced : (b : List ℕ) (e : Encoding) (ps : List Part) (t : Opened) → OpenedParts e ps (body b ps) t → Pieced e (inputFrom b e ps t)
 pieced b e ps t o = ⊎-elim
     (λ (z : isPacked e ps ≡ true).
     let f = tiled-facts e (body b ps) (t .cuIndex) (t .tuIndex) (t .pieces) (o .tiled z) in
