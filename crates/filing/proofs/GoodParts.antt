@@ -1,21 +1,19 @@
 -- 8 and 9 part by part, as code judges them: first where the first part starts that 8 refuses, then the strings of those before it.
 -- Assumes nothing.
-use mathlib.Core.Path.{_≡_, refl, sym, ap, ap₂, _∙_, subst}
-use mathlib.Core.Logic.{_⊎_, inl, inr, ⊎-elim}
-use mathlib.Core.Bool.{true, false}
+use mathlib.Core.Path.{_≡_, refl, sym, ap, _∙_, subst}
+use mathlib.Core.Logic.{⊎-elim}
 use mathlib.Core.List.{List, [], _∷_, _++_, map}
 use Prim.Native.Nat.{ℕ, _+_, _-_, _<_, _≤_}
 use native.Mathlib.Omega.{arith}
-use lib.ListN.{length, take, drop, length-append}
+use lib.ListN.{length}
 use Rattle.octets.specs.Octets.{part}
-use Rattle.octets.specs.Lists.{joined}
 use Rattle.octets.specs.Checked.{Check, pass, refuse, _>>=_}
-use Rattle.octets.proofs.Checks.{then-pass, then-refuse, bind-pass, bind-refuse, pass-inj, refuse-inj, pass-refuse}
+use Rattle.octets.proofs.Checks.{then-pass, then-refuse, bind-pass, bind-refuse, pass-inj, pass-refuse}
 use Rattle.octets.proofs.Parts.{part-add, part-none, length-part}
 use Rattle.bundle.specs.Encoding.{Encoding}
 use Rattle.strings.specs.Strings.{entriesIn, entriesOf, stringsAt}
 use Rattle.strings.specs.Headed.{Headed, stringsOfAll}
-use Rattle.strings.proofs.StrOffsets.{Sound, Whole, entries-whole, entries-refused, header-within, header-five}
+use Rattle.strings.proofs.StrOffsets.{entries-whole, entries-refused}
 use Rattle.strings.proofs.Ends.{stringsAt-refused}
 use Rattle.index.specs.Index.{Contribution}
 use Rattle.index.proofs.Tiles.{Tiling, tiling-end, partOf}

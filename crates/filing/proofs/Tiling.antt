@@ -2,23 +2,21 @@
 -- Assumes nothing.
 use mathlib.Core.Path.{_≡_, refl, sym, ap, _∙_, subst}
 use mathlib.Core.Bool.{Bool, true, false}
-use mathlib.Core.List.{List, [], _∷_, _++_, map, append-nil}
+use mathlib.Core.List.{List, [], _++_, map, append-nil}
 use mathlib.Core.Option.{Option, some, none}
 use Prim.Native.Nat.{ℕ, _+_, _*_, _-_, _/_, _^_, _<_, _≤_}
 use native.Mathlib.Omega.{arith}
 use native.Mathlib.Decide.{decLt}
 use lib.ListN.{length, take, drop, getD}
 use borrow.Rule.Slice.PartMut.{putMid}
-use Rattle.octets.specs.Octets.{part, placed, zeros}
-use Rattle.octets.specs.Checked.{Check, pass, refuse, _>>=_}
+use Rattle.octets.specs.Octets.{part, zeros}
+use Rattle.octets.specs.Checked.{pass, _>>=_}
 use Rattle.octets.proofs.Checks.{then-pass, then-refuse, true-false}
-use Rattle.octets.proofs.Parts.{part-cut, part-part, length-part}
+use Rattle.octets.proofs.Parts.{part-part, length-part}
 use Rattle.octets.proofs.Placed.{length-zeros}
-use Rattle.octets.proofs.Regions.{placed-whole}
 use Rattle.bundle.specs.Encoding.{Encoding}
 use Rattle.bundle.specs.Encoded.{encodingIs}
 use Rattle.numbers.specs.Limits.{workForWord}
-use Rattle.strings.specs.Strings.{putAll}
 use Rattle.strings.specs.Kept.{Inside, bytesAt}
 use Rattle.strings.specs.Objects.{tableIn}
 use Rattle.strings.specs.Headed.{Headed, HeadedOf, PiecesAddable, PiecesAdded}
@@ -35,8 +33,7 @@ use Rattle.tiles.specs.Marks.{Marks, Clash, Marked, marksGood, TiledBy, goodEnd
 use Rattle.tiles.proofs.Marking.{marks-none}
 use Rattle.tiles.proofs.Walking.{good-tiles, good-pass, bad-refused, clash-refused}
 use Rattle.tiles.proofs.Parts.{tiles-marked}
-use Rattle.work.specs.Regions.{stringsRegion, storeRegion, codesRegion, region, Only}
-use Rattle.work.proofs.Stores.{codes-within, region-fits, store-length, others-stay}
+use Rattle.work.specs.Regions.{stringsRegion, storeRegion}
 use Rattle.kept.proofs.Storing.{store-left}
 use Rattle.package.specs.Pieces.{usedIn, piecesOf}
 use Rattle.filing.specs.declared.input.Indexed.{Indexed}
@@ -139,22 +136,6 @@ module _ (b : List ℕ) (x : InputObject) (a : PartsAsked b x) (n : ℕ) (size :
     pub tile-good : marksGood 0 ns ≡ true → (good : ℕ) → ((ts : List Contribution) → TiledBy ns ts → good ≡ goodEnd (encodingIs (x .encoding)) (sectionOf b x 6) ts) → PartsAnswered b x (record { code = 0; good = good })
     tile-good g good h = λ cu tu i j. (let m = both cu tu i j cleared in
         parts-good (encodingIs (x .encoding)) (sectionOf b x 6) (named cu ++ named tu) (both-some cu tu) ms ns cleared-long (m .0) r (m .1) q g good h)
-
--- ---- the marks stand in the region of codes
-pub codes-only : (n from many : ℕ) (w : List ℕ) → workForWord * n ≤ length w → from ≡ codesRegion .start * n → many ≤ codesRegion .words * n
-    → (x v : List ℕ) → length x ≡ length (take (from + many - from) (drop from w)) → v ≡ putMid from (from + many - from) w x → Only codesRegion n w v
-codes-only n from many w room ef em x v same is =
-    let fits = region-fits codesRegion codes-within n w room in
-    let cut : length (part w from many) ≡ many = length-part w from many (omega (arith, fits)) in
-    let l : length x ≡ many = same ∙ ap length (part-cut w from many) ∙ cut in
-    let o : from ≡ codesRegion .start * n + 0 = omega arith in
-    let z : length x ≡ from + many - from = omega arith in
-    let p : v ≡ placed w (codesRegion .start * n + 0) x = is ∙ placed-whole w from (from + many - from) x z ∙ ap (λ (a : ℕ). placed w a x) o in
-    let inside : 0 + length x ≤ codesRegion .words * n = omega arith in
-    record {
-      same = ap length p ∙ store-length codesRegion codes-within n w room 0 x inside;
-      others = λ s a. ap (λ (y : List ℕ). region y n s) p ∙ others-stay codesRegion codes-within n w room 0 x inside s a;
-    }
 
 -- ---- 8 and 9: the parts before the first one that 8 refuses
 module _ (b : List ℕ) (o : StrOffsets) (inside : Inside b (o .offsets)) (good : ℕ) (ps : List Contribution) (up : GoodUpTo b o good ps) where

@@ -4,8 +4,10 @@ use mathlib.Core.Path.{refl}
 use native.Mathlib.Omega.{arith}
 use lib.ListN.{getD}
 use denote.Ref.{now}
+use Rattle.work.specs.Regions.{codesRegion}
+use Rattle.work.proofs.Stores.{codes-within}
+use Rattle.work.proofs.Lending.{only-front}
 use Rattle.filing.specs.State.{wordsIn}
-use Rattle.filing.proofs.Tiling.{codes-only}
 use borrow.Author.Needs.{needs}
 use Rattle.filing.proofs.parts.judge_parts.Statement.{statement}
 use Rattle.filing.proofs.parts.judge_parts.Tie as tie
@@ -42,8 +44,10 @@ returns c =
     let s = c .before .before .before .before .before .before .before .before in
     let a = s .args in
     let k = c .before .before .before .before .before .codes in
-    let r = c .before .before .tile-parts in
-    (r .ensures, codes-only (wordsIn (now (a .b))) (k .result .start) (getD (a .t2 .size) 6 0) (now (a .work)) (s .pre .1 .room) (k .ensures .0) (omega (arith, s .pre .0 .within 6, s .pre .1 .words)) (r .last .1 .1 .0) _ (r .kept .1 .1 .0) refl)
+    let r = c .before .before .tile-parts in (
+      r .ensures,
+      only-front codesRegion codes-within (wordsIn (now (a .b))) (k .result .start) (getD (a .t2 .size) 6 0) (now (a .work)) (s .pre .1 .room) (k .ensures .0) (omega (arith, s .pre .0 .within 6, s .pre .1 .words)) (r .last .1 .1 .0) _ (r .kept .1 .1 .0) refl,
+    )
 
 pub judge-parts-spec : {M : Type 1} → statement M
 judge-parts-spec =
