@@ -1,5 +1,6 @@
 -- `open_tiled` meets its contract.
 -- Assumes nothing.
+use mathlib.Core.Path.{_∙_}
 use Rattle.work.proofs.Lending.{only-same}
 use Rattle.filing.proofs.InputLaws.{scan-within}
 use Rattle.filing.proofs.TiledEnds.{codes-store, codes-first, tiled-index-refused, parts-asks, work-asks, tiled-parts-refused, put-asks, tiled-put-refused, tiled-read}
@@ -48,7 +49,7 @@ input-refused-requires-3 : tie.Need-input-refused-requires-3
 input-refused-requires-3 c κs = search needs
 
 same-length-2 : tie.Need-same-length-2
-same-length-2 c = search needs
+same-length-2 c = c .before .before .before .before .before .add-parts .kept .1 .1 .1 .1 .0 ∙ c .before .before .before .before .before .before .before .before .before .before .before .before .before .judge-parts .kept .1 .1 .0
 
 returns-3 : tie.Need-returns-3
 returns-3 c =
@@ -63,7 +64,7 @@ with-strings-requires : tie.Need-with-strings-requires
 with-strings-requires c κs = search needs
 
 same-length-3 : tie.Need-same-length-3
-same-length-3 c = search needs
+same-length-3 c = c .before .before .before .before .before .before .add-parts .kept .1 .1 .1 .1 .0 ∙ c .before .before .before .before .before .before .before .before .before .before .before .before .before .before .judge-parts .kept .1 .1 .0
 
 returns-4 : tie.Need-returns-4
 returns-4 c =

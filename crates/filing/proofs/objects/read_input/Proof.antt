@@ -1,6 +1,8 @@
 -- `read_input` meets its contract.
 -- Assumes nothing.
 use mathlib.Core.Path.{sym, _∙_}
+use lib.Dec.{leb}
+use lib.ListN.{getD}
 use Rattle.work.proofs.Lending.{only-same}
 use Rattle.filing.proofs.Inputting.{packed-tiled, packed-whole}
 use Rattle.filing.proofs.InputLaws.{packed-from, packed-five}
@@ -28,7 +30,9 @@ is-packed-requires : tie.Need-is-packed-requires
 is-packed-requires c κs = search needs
 
 open-tiled-requires : tie.Need-open-tiled-requires
-open-tiled-requires c κs = (c .before .before .before .before .before .before .before .before .before .before .pre, packed-five _ _ _ (sym (c .before .if2 .taken) ∙ c .before .before .is-packed .ensures))
+open-tiled-requires c κs =
+    let a = c .before .before .before .before .before .before .before .before .before .before .args in
+    (c .before .before .before .before .before .before .before .before .before .before .pre, packed-five _ (leb 1 (getD (a .scan .count) 12 0)) (leb 1 (getD (a .scan .count) 13 0)) (sym (c .before .if2 .taken) ∙ c .before .before .is-packed .ensures))
 
 same-length : tie.Need-same-length
 same-length c = search needs
