@@ -9,4 +9,3 @@ pub mod RoundTrip
 pub mod Refusing
 pub mod Skipped
 pub mod Paper
-pub mod TwoSittings

@@ -1,3 +1,0 @@
--- Packing in two sittings.
--- Assumes nothing.
-pub mod Sittings
