@@ -1,0 +1,26 @@
+//! Packing in two sittings, through C: two_sittings NUMBER [SEED]
+//!
+//! Generated bundles are split at every object (`kit::sittings`) until NUMBER splits had their premises: the first objects are accepted, their
+//! package's object followed by the others is accepted, and all objects are within the length limit. Then all objects together must be
+//! accepted and give the same package, byte for byte. Memory is lent full of junk and judged after each call. It fails at the first
+//! difference, and where too few splits have their premises, of either version.
+
+use kit::lender::Lender;
+use kit::sittings::run;
+use std::io::{Error, Result};
+use std::time::Instant;
+
+fn main() -> Result<()> {
+    let words: Vec<String> = std::env::args().collect();
+    let number = |i: usize| words.get(i).and_then(|w| w.parse::<u64>().ok());
+    let wanted = number(1).ok_or_else(|| Error::other("two_sittings NUMBER [SEED]"))?;
+    let seed = number(2).unwrap_or(1);
+    let mut lent = Lender::new(seed);
+    let start = Instant::now();
+    let tally = run(wanted, seed, &mut |bundle| lent.pack_whole(bundle).map(|written| written.packed()))
+        .map_err(Error::other)?;
+    println!("{tally}");
+    let seconds = start.elapsed().as_secs_f64();
+    println!("{} splits packed in two sittings, each as all at once; {seconds:.1} seconds, seed {seed}", tally.held);
+    Ok(())
+}
