@@ -226,8 +226,7 @@ fn a_package_that_is_closed() {
     let [main, driver, race] = ["gcc-4-main", "clang-4t-driver", "gcc-4-race"].map(file);
     done(&home, &["pack", &main, "-o", "first"]);
     let told = done(&home, &["pack", "--add", "first", &driver, "-o", "package"]);
-    let closed =
-        "nothing more can be added to it, that would be refused 15: keep all files until the last one is packed\n";
+    let closed = "nothing more can be added to it (refused 15): keep all files until the last one is packed\n";
     assert_eq!(told, format!("1 file added to first{SAME}{closed}"));
     let json = done(&home, &["pack", "--add", "first", &driver, "-o", "package", "--json"]);
     assert!(json.ends_with(",\"same_as_at_once\":true,\"can_be_added_to\":false}\n"), "{json}");

@@ -61,7 +61,7 @@ impl Added {
             false => ", which isn't as pack writes it: packing all files at once may give another package",
         };
         let closed = |number: u32| {
-            format!("nothing more can be added to it, that would be refused {number}: keep all files until the last one is packed")
+            format!("nothing more can be added to it (refused {number}): keep all files until the last one is packed")
         };
         [format!("{added}{same}")].into_iter().chain(self.closed.map(closed)).collect()
     }
