@@ -10,14 +10,25 @@
 use kit::lender::Lender;
 use kit::reference::{pack, work_for};
 use kit::sittings::run;
-use std::io::{Error, Result};
+use std::process::ExitCode;
 use std::time::Instant;
 
-fn main() -> Result<()> {
+fn main() -> ExitCode {
+    match told() {
+        Ok(told) => println!("{told}"),
+        Err(told) => {
+            eprintln!("{told}");
+            return ExitCode::FAILURE;
+        }
+    }
+    ExitCode::SUCCESS
+}
+
+fn told() -> Result<String, String> {
     let words: Vec<String> = std::env::args().skip(1).collect();
     let by_reference = words.first().is_some_and(|word| word == "--reference");
     let number = |i: usize| words.get(usize::from(by_reference) + i).and_then(|w| w.parse::<u64>().ok());
-    let wanted = number(0).ok_or_else(|| Error::other("two_sittings [--reference] NUMBER [SEED]"))?;
+    let wanted = number(0).ok_or("two_sittings [--reference] NUMBER [SEED]")?;
     let seed = number(1).unwrap_or(1);
     let mut lent = Lender::new(seed);
     let start = Instant::now();
@@ -25,9 +36,7 @@ fn main() -> Result<()> {
         true => run(wanted, seed, &mut |bundle| Ok(pack(bundle, work_for(bundle), usize::MAX))),
         false => run(wanted, seed, &mut |bundle| lent.pack_whole(bundle).map(|written| written.packed())),
     };
-    let tally = tally.map_err(Error::other)?;
-    println!("{tally}");
-    let seconds = start.elapsed().as_secs_f64();
-    println!("{} splits packed in two sittings, each as all at once; {seconds:.1} seconds, seed {seed}", tally.held);
-    Ok(())
+    let (tally, seconds) = (tally?, start.elapsed().as_secs_f64());
+    let held = tally.held;
+    Ok(format!("{tally}\n{held} splits packed in two sittings, each as all at once; {seconds:.1} seconds, seed {seed}"))
 }
