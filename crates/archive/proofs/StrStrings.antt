@@ -22,10 +22,12 @@ use Rattle.strings.specs.Strings.{firstUses, putAll, ended, strOf}
 use Rattle.strings.proofs.Ends.{NoZero}
 use Rattle.strings.proofs.FirstUses.{isIn, firstUses-distinct}
 use Rattle.strings.proofs.Offsets.{strOf-none}
+use Rattle.package.specs.Pieces.{Piece, usedIn}
 use Rattle.package.specs.Input.{Input}
 use Rattle.package.specs.Filing.{Filed, Filing, isUnder, filingOf, filingFrom, firstWord, entriesOfUnit}
 use Rattle.package.specs.Pack.{handedIn, sectionList, allUsed, stringTable}
 use Rattle.package.proofs.Each.{each-head, each-tail, each-append}
+use Rattle.package.proofs.Pieces.{PieceFacts}
 use Rattle.package.proofs.Inputs.{InputFacts}
 use Rattle.package.proofs.ByCode.{str-bytes}
 use Rattle.package.proofs.Accepted.{Accepted}
@@ -39,10 +41,15 @@ use Rattle.archive.proofs.Absences.{opens, absent-is}
 use Rattle.archive.proofs.Firsts.{the-string, no-string}
 use Rattle.archive.proofs.StrPieces.{pieces-table, named-clean, firstUses-clean, listed-at, once}
 
+pieces-clean : (e : Encoding) (str : List ℕ) (ps : List Piece) → Every (PieceFacts e str) ps → Every NoZero (usedIn ps)
+unfolding usedIn
+pieces-clean e str [] f = nothing
+pieces-clean e str (p ∷ ps) f = each-append (named-clean str _ (p .used) (each-head f .strings)) (pieces-clean e str ps (each-tail f))
+
 all-clean : (is : List Input) (e : Encoding) → Every (InputFacts e) is → Every NoZero (allUsed is)
 unfolding allUsed
 all-clean [] e f = nothing
-all-clean (i ∷ is) e f = each-append (named-clean (i .bytes 11) _ (i .used) (each-head f .strings .strings)) (all-clean is e (each-tail f))
+all-clean (i ∷ is) e f = each-append (pieces-clean e (i .bytes 11) (i .pieces) (each-head f .strings .facts .each)) (all-clean is e (each-tail f))
 
 module _ (b p : List ℕ) (a : Accepted b p) (h : Bytes b) where
   abbrev strings : List (List ℕ)

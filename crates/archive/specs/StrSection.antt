@@ -25,6 +25,7 @@ pieces (b ∷ s) = elim (eqb b 0) [ true ↦ (b ∷ []) ∷ pieces s | false ↦
 unfoldable pub strIn : List ℕ → List ℕ
 strIn p = elim (packageOf p) [ pass k ↦ body p (k .parts) strCode | refuse n ↦ [] ]
 
--- the strings that the entries of str_offsets name in their objects' str, entry by entry, in the order of an accepted bundle
+-- the strings that the entries of str_offsets name in their objects' str, entry by entry, in the order of an accepted bundle; of a version 5 package part by part,
+-- in order of offset, each part's entries behind its header
 unfoldable pub stringsNamed : List ℕ → List (List ℕ)
 stringsNamed b = elim (bundleOf b >>= filingOf b) [ pass f ↦ allUsed (f .inputs) | refuse n ↦ [] ]

@@ -135,7 +135,8 @@ TheFirstUnitInLength b p =
     (v table x : ℕ) (u : Filed) → Asked b v table → IsFirst b table x u
     → (start : ℕ) × (lookedUp p v table x 6 ≡ part start (length (handedPart u 6)) (looks b table x))
 
--- "String k is what entry k of its str_offsets part, as handed in, names in its object's str"
+-- "String k is what entry k of its str_offsets part, as handed in, names in its object's str"; ticket 5: "A unit's strings are those of its part". In version 5 a header
+-- is in that part, and entry 0 follows it
 abbrev pub ItsStrings : List ℕ → List ℕ → Type 0
 ItsStrings b p =
     (v table x k : ℕ) (u : Filed) → Asked b v table → IsFirst b table x u → k < length (entriesOfUnit u)

@@ -1,7 +1,7 @@
 -- 15 and 16: the numbers of refusals, and that only the codes of shared sections count.
 -- Assumes nothing.
 use mathlib.Core.Path.{_≡_, refl, sym, ap, ap₂, _∙_, subst}
-use mathlib.Core.Bool.{Bool, true, false, not}
+use mathlib.Core.Bool.{Bool, true, false, not, _&&_, _||_}
 use mathlib.Core.Logic.{⊎-elim}
 use mathlib.Core.List.{List, [], _∷_}
 use mathlib.Core.Option.{Option, some, none}
@@ -27,10 +27,12 @@ use Rattle.index.specs.declared.reading.IndexHead.{IndexHead}
 use Rattle.index.specs.declared.judging.RowJudged.{RowJudged}
 use Rattle.index.specs.declared.judging.Contributions.{Contributions}
 use Rattle.index.proofs.Contributions.{needed-shared}
+use Rattle.unit.specs.UnitRead.{isFive}
 use Rattle.package.specs.Input.{Input}
-use Rattle.package.specs.Filing.{indexFor, lengths, contributionsOf}
-use Rattle.filing.specs.Judged.{sectionOf, IndexedIs, InputIs}
-use Rattle.filing.specs.Contributing.{contributionsBy, GivenIs}
+use Rattle.package.specs.Filing.{indexFor, lengths, isPackage, contributionsOf}
+use Rattle.filing.specs.Judged.{sectionOf, IndexedIs, isThere, packedBy, InputIs}
+use Rattle.filing.proofs.Entering.{five-is}
+use Rattle.filing.specs.Contributing.{wholeGiven, contributionsBy, GivenIs}
 use Rattle.filing.specs.declared.input.InputObject.{InputObject}
 use Rattle.filing.specs.declared.input.Indexed.{Indexed}
 use Rattle.filing.specs.declared.input.Indexed.the-variants.{At, Nowhere}
@@ -77,13 +79,13 @@ given-row i width ls x home at size r e k = go (rowContributions i width ls x ho
     go (refuse n) q = rw q ((rw q at e), row-above i width ls x home at size .is n q)
 
 module _ (big : Bool) (s : List ℕ) (indexed : Indexed) (o : Option Index) (is : IndexedIs big s indexed o) where
-  pub given-none : (width : ℕ) (ls : BySection ℕ) (x home at size : ℕ) (r : RowJudged) → indexed ≡ Nowhere → r .code ≡ 0
-      → ContributionsAre (r .contributions) (wholeContributions ls) → GivenIs (contributionsBy o width ls x home at size) r
-  unfolding GivenIs contributionsBy IndexedIs
-  given-none width ls x home at size r e c k = go o (rw e at is)
+  pub given-none : (packed : Bool) (width : ℕ) (ls : BySection ℕ) (x home at size : ℕ) (r : RowJudged) → indexed ≡ Nowhere
+      → GivenIs (wholeGiven packed ls) r → GivenIs (contributionsBy packed o width ls x home at size) r
+  unfolding contributionsBy IndexedIs
+  given-none packed width ls x home at size r e k = go o (rw e at is)
     where
-      go : (p : Option Index) → IndexedIs big s Nowhere p → GivenIs (contributionsBy p width ls x home at size) r
-      go none h = (c, k)
+      go : (p : Option Index) → IndexedIs big s Nowhere p → GivenIs (contributionsBy packed p width ls x home at size) r
+      go none h = k
       go (some y) h = absurd h
 
   pub index-well : (head : IndexHead) → indexed ≡ At head → ReadWell big s head × (o ≡ some (indexIn big s head))
@@ -94,15 +96,46 @@ module _ (big : Bool) (s : List ℕ) (indexed : Indexed) (o : Option Index) (is 
       go none h = absurd h
       go (some y) h = (h .0, ap some (h .1))
 
-  pub given-at : (t : List ℕ) (head : IndexHead) (width w : ℕ) (ls : BySection ℕ) (x home at size : ℕ) (r : RowJudged) → indexed ≡ At head → t ≡ s → w ≡ width
+  pub given-at : (packed : Bool) (t : List ℕ) (head : IndexHead) (width w : ℕ) (ls : BySection ℕ) (x home at size : ℕ) (r : RowJudged) → indexed ≡ At head → t ≡ s → w ≡ width
       → r .code ≡ codeGiven (rowContributions (indexIn big t head) w ls x home at size)
       → ContributionsAre (r .contributions) (contributionsGiven (rowContributions (indexIn big t head) w ls x home at size))
-      → GivenIs (contributionsBy o width ls x home at size) r
+      → GivenIs (contributionsBy packed o width ls x home at size) r
   unfolding contributionsBy
-  given-at t head width w ls x home at size r e p q c k =
+  given-at packed t head width w ls x home at size r e p q c k =
       rw (index-well head e .1)
       (subst (λ (l : List ℕ). GivenIs (rowContributions (indexIn big l head) width ls x home at size) r) p
       (subst (λ (n : ℕ). GivenIs (rowContributions (indexIn big t head) n ls x home at size) r) q (given-row (indexIn big t head) w ls x home at size r c k)))
+
+-- whether there is one, and whether the object is a package
+pub there-yes : (y : Indexed) (h : IndexHead) → y ≡ At h → true ≡ isThere y
+unfolding isThere
+there-yes y h e = rw e
+
+pub there-no : (y : Indexed) → y ≡ Nowhere → false ≡ isThere y
+unfolding isThere
+there-no y e = rw e
+
+module _ (x : InputObject) where
+  pub package-cu : x .encoding .five ≡ true → true ≡ isThere (x .cu) → true ≡ packedBy x
+  unfolding packedBy
+  package-cu f h = rw (packedBy, f, ← h)
+
+  pub package-tu : x .encoding .five ≡ true → false ≡ isThere (x .cu) → (r : Bool) → r ≡ isThere (x .tu) → r ≡ packedBy x
+  unfolding packedBy
+  package-tu f h r e = rw (packedBy, f, ← h, e)
+
+  pub package-four : x .encoding .five ≡ false → false ≡ packedBy x
+  unfolding packedBy
+  package-four f = rw (packedBy, f)
+
+-- without an index
+pub whole-fifteen : (packed : Bool) (ls : BySection ℕ) (r : RowJudged) → packed ≡ true → r .code ≡ 15 → GivenIs (wholeGiven packed ls) r
+unfolding GivenIs wholeGiven require _>>=_
+whole-fifteen packed ls r e c = rw e (c, omega arith)
+
+pub whole-passes : (packed : Bool) (ls : BySection ℕ) (r : RowJudged) → packed ≡ false → r .code ≡ 0 → ContributionsAre (r .contributions) (wholeContributions ls) → GivenIs (wholeGiven packed ls) r
+unfolding GivenIs wholeGiven require _>>=_
+whole-passes packed ls r e c k = rw e (c, k)
 
 -- ---- only shared codes count
 among : (c : ℕ) (xs : List ℕ) → all (λ d. ltb d 14) xs ≡ true → has xs c ≡ true → c < 14
@@ -179,24 +212,44 @@ module _ (b : List ℕ) (x : InputObject) (i : Input) (is : InputIs b x i) where
   unfolding byCode lengths sectionOf
   lengths-are c h = sym (ap length (is .bytes c h) ∙ length-part b (getD (x .start) c 0) (getD (x .size) c 0) (is .within c))
 
+  there-is : (s : List ℕ) (indexed : Indexed) (o : Option Index) → IndexedIs (x .encoding .big) s indexed o → isThere indexed ≡ isSome o
+  unfolding IndexedIs isThere isSome
+  there-is s (At h) (some y) k = refl
+  there-is s (At h) none k = absurd k
+  there-is s Nowhere (some y) k = absurd k
+  there-is s Nowhere none k = refl
+
+  pub packed-is : packedBy x ≡ isPackage i
+  unfolding packedBy isPackage isFive encodingIs
+  packed-is =
+      ap (λ (t : Bool). t && (isThere (x .cu) || isThere (x .tu))) (five-is (x .encoding) (i .encoding) (is .encoding))
+      ∙ ap₂ (λ (c t : Bool). eqb (i .encoding .version) 5 && (c || t)) (there-is _ (x .cu) (i .cuIndex) (is .cuIndex)) (there-is _ (x .tu) (i .tuIndex) (is .tuIndex))
+
   module _ (table identity home at size : ℕ) (r : RowJudged) where
+    whole-width : (t : Bool) → GivenIs (wholeGiven t (byCode (x .size))) r → GivenIs (wholeGiven t (lengths i)) r
+    unfolding wholeGiven GivenIs require _>>=_
+    whole-width true a = a
+    whole-width false a = (a .0, contributions-same (r .contributions) (wholeContributions (byCode (x .size))) (wholeContributions (lengths i)) (whole-same (byCode (x .size)) (lengths i) lengths-are) (a .1))
+
     given-width : (o : Option Index) → indexFor i table ≡ o
-        → GivenIs (contributionsBy o (encodingIs (x .encoding) .width) (byCode (x .size)) identity home at size) r
+        → GivenIs (contributionsBy (packedBy x) o (encodingIs (x .encoding) .width) (byCode (x .size)) identity home at size) r
         → GivenIs (contributionsOf i home at (record { size = size; table = table; identity = identity })) r
-    unfolding contributionsOf contributionsBy GivenIs byCode
+    unfolding contributionsOf contributionsBy wholeGiven
     given-width (some y) e a =
         rw (contributionsOf, e)
         (subst (λ (m : Check (BySection (Option Contribution))). GivenIs m r)
         (row-same (byCode (x .size)) (lengths i) lengths-are y (encodingIs (x .encoding) .width) identity home at size
         ∙ ap (λ (z : _). rowContributions y (z .width) (lengths i) identity home at size) (is .encoding)) a)
     given-width none e a =
-        rw (contributionsOf, e)
-        (a .0, contributions-same (r .contributions) (wholeContributions (byCode (x .size))) (wholeContributions (lengths i)) (whole-same (byCode (x .size)) (lengths i) lengths-are) (a .1))
+        rw (contributionsOf, e) (subst (λ (t : Bool). GivenIs (wholeGiven t (lengths i)) r) packed-is (whole-width (packedBy x) a))
 
-    pub given-is : (o : Option Index) → indexFor i table ≡ o → (width : ℕ) → width ≡ encodingIs (x .encoding) .width
-        → GivenIs (contributionsBy o width (byCode (x .size)) identity home at size) r
+    pub given-is : (o : Option Index) → indexFor i table ≡ o → (width : ℕ) → width ≡ encodingIs (x .encoding) .width → (packed : Bool) → packed ≡ packedBy x
+        → GivenIs (contributionsBy packed o width (byCode (x .size)) identity home at size) r
         → GivenIs (contributionsOf i home at (record { size = size; table = table; identity = identity })) r
-    given-is o e width q a = given-width o e (subst (λ (z : ℕ). GivenIs (contributionsBy o z (byCode (x .size)) identity home at size) r) q a)
+    given-is o e width q packed p a =
+        given-width o e
+        (subst (λ (t : Bool). GivenIs (contributionsBy t o (encodingIs (x .encoding) .width) (byCode (x .size)) identity home at size) r) p
+        (subst (λ (z : ℕ). GivenIs (contributionsBy packed o z (byCode (x .size)) identity home at size) r) q a))
 
 -- the index of a table
 pub index-first : (i : Input) (table : ℕ) → table ≡ 1 → indexFor i table ≡ i .cuIndex

@@ -1,7 +1,7 @@
 -- The answers of filing one unit, case by case.
 -- Assumes nothing.
 use mathlib.Core.Path.{_≡_, refl, ap, _∙_}
-use mathlib.Core.Bool.{true, false}
+use mathlib.Core.Bool.{true, false, not}
 use mathlib.Core.List.{List, _++_}
 use mathlib.Core.Option.{Option, some, none}
 use Prim.Native.Nat.{ℕ, _+_, _<_, _≤_}
@@ -9,8 +9,8 @@ use native.Mathlib.Omega.{arith}
 use lib.ListN.{length, take, getD}
 use borrow.Author.Tests.{eq-eqb, ne-eqb}
 use Rattle.octets.specs.Lists.{any}
-use Rattle.octets.specs.Checked.{Check, pass, refuse, _>>=_}
-use Rattle.octets.proofs.Checks.{then-pass, then-refuse, pass-inj}
+use Rattle.octets.specs.Checked.{Check, pass, refuse, _>>=_, require}
+use Rattle.octets.proofs.Checks.{then-pass, then-refuse, pass-inj, require-pass}
 use Rattle.octets.proofs.Parts.{length-part}
 use Rattle.unit.specs.UnitRead.{UnitRead, unitBy}
 use Rattle.index.specs.Index.{Index, Contribution}
@@ -18,7 +18,8 @@ use Rattle.index.specs.Rows.{BySection, rowContributions, wholeContributions}
 use Rattle.index.specs.Written.{offsetOf, sizeOf}
 use Rattle.index.proofs.Contributions.{Contributed, whole-contributed, row-contributed}
 use Rattle.package.specs.Input.{Input}
-use Rattle.package.specs.Filing.{Filed, isUnder, indexFor, lengths, abbreviationsFor, contributionsOf, skipped, unitAt}
+use Rattle.package.specs.Filing.{Filed, isUnder, indexFor, lengths, abbreviationsFor, isPackage, contributionsOf, skipped, unitAt}
+use Rattle.numbers.specs.Refusals.{noRow}
 use Rattle.filing.specs.Judged.{sectionOf, InputIs}
 use Rattle.filing.specs.declared.input.InputObject.{InputObject}
 use Rattle.filing.proofs.Contributing.{shared-below}
@@ -87,7 +88,7 @@ module _ (b : List ℕ) (x : InputObject) (i : Input) (is : InputIs b x i) (limi
       from : (o : Option Index) → indexFor i (u .table) ≡ o
           → (elim o as (λ z. Check (BySection (Option Contribution))) [
             | some y ↦ rowContributions y (i .encoding .width) (lengths i) (u .identity) home at (u .size)
-            | none ↦ pass (wholeContributions (lengths i))
+            | none ↦ require (not (isPackage i)) noRow >>= λ _. pass (wholeContributions (lengths i))
           ]) ≡ pass f → (k : Contribution) → f c ≡ some k → Contributed (i .encoding .width) (lengths i) c k
       from (some y) t r k q = row-contributed y (i .encoding .width) (lengths i) (u .identity) home at (u .size) f r c k q
-      from none t r k q = whole-contributed (i .encoding .width) (lengths i) c k (ap (λ (g : BySection (Option Contribution)). g c) (pass-inj r) ∙ q) .0
+      from none t r k q = whole-contributed (i .encoding .width) (lengths i) c k (ap (λ (g : BySection (Option Contribution)). g c) (pass-inj (require-pass _ _ _ _ r .1)) ∙ q) .0

@@ -6,20 +6,14 @@ use mathlib.Core.List.{List}
 use Prim.Native.Nat.{ℕ, _≤_}
 use native.Mathlib.Omega.{arith}
 use lib.ListN.{length}
-use Rattle.octets.specs.Octets.{part}
 use Rattle.octets.specs.Checked.{pass}
-use Rattle.octets.proofs.Parts.{length-part}
 use Rattle.bundle.specs.Bundle.{Item, leading}
-use Rattle.bundle.specs.Scan.{startOf, sizeOf}
 use Rattle.bundle.proofs.Passed.{here}
 use Rattle.bundle.proofs.Onward.{onward, size-behind}
 use Rattle.bundle.proofs.Every.{Every}
 use Rattle.bundle.proofs.Lies.{Lies}
 use Rattle.bundle.proofs.ScanFacts.{first-within}
-use Rattle.bundle.specs.Encoded.{encodingIs}
 use Rattle.strings.proofs.FirstUses.{length-firstUses}
-use Rattle.strings.proofs.StrOffsets.{sound}
-use Rattle.strings.proofs.Callers.{strings-room}
 use Rattle.index.specs.Rows.{BySection}
 use Rattle.package.specs.Input.{Input}
 use Rattle.package.specs.Filing.{Filed}
@@ -42,11 +36,8 @@ input-room b big first place w st bases is us a from ahead left low high lie =
       limit = a .held .limit;
       whole = a .held .words;
       inside = λ c. first-within b (leading ahead) c lie;
-      fits = λ e.
-          let ps = leading ahead in
-          let l = length-part b (startOf ps 6) (sizeOf ps 6) (first-within b ps 6 lie) in
+      fits =
           let z = size-behind b 6 from ahead left high in
           let o = onward b from ahead left high in
-          strings-room (encodingIs e) (part b (startOf ps 6) (sizeOf ps 6)) (st .strings .count) (length (allUsed is)) place (wordsIn b) (sound e)
-          (omega (arith, a .strings .few, table-few is)) (a .used) (omega (arith, l, z, o .within, a .held .words)) .0;
+          omega (arith, a .strings .few, table-few is, a .used, z, o .within, a .held .words);
     }

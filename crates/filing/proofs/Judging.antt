@@ -1,4 +1,4 @@
--- 4 to 7 and 10 as code judges them: each case, and that they are the lines of `inputOf`.
+-- 4 to 7 and 10 as code judges them: each case.
 -- Assumes nothing.
 use mathlib.Core.Path.{_≡_, refl, sym, ap, _∙_}
 use mathlib.Core.Bool.{Bool, true, false, _||_, _&&_}
@@ -9,10 +9,10 @@ use Prim.Native.Nat.{ℕ}
 use native.Mathlib.Omega.{arith}
 use lib.Dec.{eqb}
 use borrow.Author.Tests.{eqb-true, eq-eqb, ne-eqb}
-use Rattle.octets.specs.Checked.{Check, pass, refuse, _>>=_, require}
+use Rattle.octets.specs.Checked.{Check, pass, refuse, _>>=_}
 use Rattle.octets.proofs.Checks.{fails, passes, and-left, and-right, or-cases, true-false}
 use Rattle.octets.proofs.Refusals.{Only, only-pass, only-require, only-bind}
-use Rattle.bundle.specs.Bundle.{Part, Object, body, count}
+use Rattle.bundle.specs.Bundle.{Part, count}
 use Rattle.bundle.specs.Scan.{byCode, scanOf}
 use Rattle.bundle.specs.declared.Scan.{Scan}
 use Rattle.bundle.specs.Encoding.{Encoding, encodingOf, encodingGood}
@@ -24,7 +24,9 @@ use Rattle.index.specs.Held.{indexRead, indexIn}
 use Rattle.index.specs.declared.reading.IndexHead.{IndexHead}
 use Rattle.index.specs.declared.reading.IndexRead.the-variants as read
 use Rattle.index.proofs.Heads.{read-is}
-use Rattle.package.specs.Input.{editionGood, complete, present, usedStrings, inputIndex, unitSections, inputOf}
+use Rattle.unit.specs.UnitRead.{isFive}
+use Rattle.unit.proofs.Fields.{is-five, is-four}
+use Rattle.package.specs.Input.{editionGood, complete, formOf}
 use Rattle.filing.specs.Counted.{editionBy, completeBy}
 use Rattle.filing.proofs.Counts.{edition-is, complete-is}
 use Rattle.filing.specs.Judged.{IndexedIs, objectCheck, JudgedIs, indexCheck, JudgedIndexIs}
@@ -113,57 +115,41 @@ unfolding indexOf
 index-only big s =
     only-bind 10 _ _ (only-require _ 10) (λ _. only-bind 10 _ _ (only-require _ 10) (λ _. only-bind 10 _ _ (only-require _ 10) (λ _. only-bind 10 _ _ (only-require _ 10) (λ _. only-bind 10 _ _ (only-require _ 10) (λ _. only-bind 10 _ _ (only-require _ 10) (λ _. only-bind 10 _ _ (only-require _ 10) (λ _. only-pass 10 _)))))))
 
-module _ (big : Bool) (s : List ℕ) (r : JudgedIndex) where
-  pub index-none : (there : Bool) → there ≡ false → r .code ≡ 0 → r .index ≡ Nowhere → JudgedIndexIs big s (indexCheck big there s) r
+-- the version of an object's indexes
+pub form-five : (x : ObjectEncoding) → x .five ≡ true → 5 ≡ formOf (encodingIs x)
+unfolding formOf isFive
+form-five x h = let f : eqb (encodingIs x .version) 5 ≡ true = is-five x h in rw (formOf, f)
+
+pub form-four : (x : ObjectEncoding) → x .five ≡ false → 2 ≡ formOf (encodingIs x)
+unfolding formOf isFive
+form-four x h = let f : eqb (encodingIs x .version) 5 ≡ false = is-four x h in rw (formOf, f)
+
+module _ (big : Bool) (form : ℕ) (s : List ℕ) (r : JudgedIndex) where
+  pub index-none : (there : Bool) → there ≡ false → r .code ≡ 0 → r .index ≡ Nowhere → JudgedIndexIs big s (indexCheck big form there s) r
   unfolding indexCheck JudgedIndexIs IndexedIs
   index-none there e c i = rw (indexCheck, e, i) (c, tt)
 
   module _ (there : Bool) (e : there ≡ true) where
-    pub index-bad : read.Bad ≡ indexRead (indexOf big s) → r .code ≡ 10 → JudgedIndexIs big s (indexCheck big there s) r
+    pub index-bad : read.Bad ≡ indexRead (indexOf big s) → r .code ≡ 10 → JudgedIndexIs big s (indexCheck big form there s) r
     unfolding indexCheck JudgedIndexIs indexRead _>>=_
     index-bad h c = go (indexOf big s) refl
       where
-        go : (m : Check Index) → indexOf big s ≡ m → JudgedIndexIs big s (indexCheck big there s) r
+        go : (m : Check Index) → indexOf big s ≡ m → JudgedIndexIs big s (indexCheck big form there s) r
         go (pass i) q = absurd (let g = rw q at h in let z : _≡_ {A = ℕ} 0 1 = cc in omega arith)
         go (refuse n) q = rw (indexCheck, e, q) (let k = index-only big s .is n q in (rw k c, rw k (omega arith)))
 
-    module _ (head : IndexHead) (h : read.Good head ≡ indexRead (indexOf big s)) where
+    module _ (head : IndexHead) (h : read.Good head ≡ indexRead (indexOf big s)) (version : ℕ) (is : version ≡ form) where
       index-there : indexOf big s ≡ pass (indexIn big s head)
       index-there = read-is big s head (record { is = h })
 
-      pub index-other : (head .version ≡ 2 → ⊥) → r .code ≡ 10 → JudgedIndexIs big s (indexCheck big there s) r
+      pub index-other : (head .version ≡ version → ⊥) → r .code ≡ 10 → JudgedIndexIs big s (indexCheck big form there s) r
       unfolding indexCheck JudgedIndexIs indexIn layout _>>=_
       index-other v c =
           rw (indexCheck, e, index-there)
-          (rw (fails (eqb (head .version) 2) 10 (λ _. pass (some (indexIn big s head))) (ne-eqb _ _ v)) (c, omega arith))
+          (rw (fails (eqb (head .version) form) 10 (λ _. pass (some (indexIn big s head))) (ne-eqb _ _ (λ z. v (z ∙ sym is)))) (c, omega arith))
 
-      pub index-good : head .version ≡ 2 → r .code ≡ 0 → r .index ≡ At head → JudgedIndexIs big s (indexCheck big there s) r
+      pub index-good : head .version ≡ version → r .code ≡ 0 → r .index ≡ At head → JudgedIndexIs big s (indexCheck big form there s) r
       unfolding indexCheck JudgedIndexIs IndexedIs indexIn layout _>>=_
       index-good v c i =
           rw (indexCheck, e, index-there)
-          (rw (passes (eqb (head .version) 2) 10 (λ _. pass (some (indexIn big s head))) (eq-eqb _ _ v), i) (c, (record { is = h }, refl, v)))
-
--- ---- the lines of `inputOf`
-chain : {A B : Type 0} (p q s t : Bool) (a : A) (rest : A → Check B)
-    → (require p 4 >>= λ _. (require q 5 >>= λ _. (require s 6 >>= λ _. (require t 7 >>= λ _. rest a))))
-    ≡ ((require p 4 >>= λ _. (require q 5 >>= λ _. (require s 6 >>= λ _. (require t 7 >>= λ _. pass a)))) >>= rest)
-unfolding require _>>=_
-chain false q s t a rest = refl
-chain true false s t a rest = refl
-chain true true false t a rest = refl
-chain true true true false a rest = refl
-chain true true true true a rest = refl
-
-pub input-is : (b : List ℕ) (big : Bool) (first : ℕ) (o : Object)
-    → inputOf b big first o ≡ (objectCheck big first (o .word) (o .parts) >>= λ e.
-    (usedStrings e (o .parts) (body b (o .parts)) >>= λ used.
-    (indexCheck (e .big) (present (o .parts) 12) (body b (o .parts) 12) >>= λ cu.
-    (indexCheck (e .big) (present (o .parts) 13) (body b (o .parts) 13) >>= λ tu.
-    pass (record { encoding = e; bytes = body b (o .parts); units = unitSections b (o .parts); used = used; cuIndex = cu; tuIndex = tu })))))
-unfolding inputOf objectCheck inputIndex indexCheck
-input-is b big first o =
-    chain (encodingGood (encodingOf big (o .word))) (eqb (o .word) first) (editionGood (encodingOf big (o .word)) (o .parts)) (complete (o .parts)) (encodingOf big (o .word))
-    (λ e. usedStrings e (o .parts) (body b (o .parts)) >>= λ used.
-    (indexCheck (e .big) (present (o .parts) 12) (body b (o .parts) 12) >>= λ cu.
-    (indexCheck (e .big) (present (o .parts) 13) (body b (o .parts) 13) >>= λ tu.
-    pass (record { encoding = e; bytes = body b (o .parts); units = unitSections b (o .parts); used = used; cuIndex = cu; tuIndex = tu }))))
+          (rw (passes (eqb (head .version) form) 10 (λ _. pass (some (indexIn big s head))) (eq-eqb _ _ (v ∙ is)), i) (c, (record { is = h }, refl)))

@@ -18,6 +18,9 @@ pub mod Stringing
 pub mod Inputting
 pub mod InputLaws
 pub mod InputEnds
+pub mod GoodParts
+pub mod Tiling
+pub mod TiledEnds
 pub mod Growing
 pub mod Entering
 pub mod Snoc

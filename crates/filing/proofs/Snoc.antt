@@ -13,22 +13,23 @@ use Rattle.filing.specs.ByObject.{stringsCheck, StringsIn}
 use Rattle.strings.specs.Strings.{putAll, firstUses, entriesIn, entriesOf}
 use Rattle.strings.proofs.Ends.{length-stringsAt}
 use Rattle.strings.proofs.FirstUses.{putAll-append}
+use Rattle.package.specs.Pieces.{usedIn}
 use Rattle.package.specs.Input.{Input}
 use Rattle.package.specs.Pack.{allUsed, stringTable}
 use Rattle.kept.specs.declared.state.InProgress.{InProgress}
 use Rattle.filing.specs.State.{wordsIn, StringsKept}
 
-pub used-snoc : (is : List Input) (i : Input) → allUsed (is ++ (i ∷ [])) ≡ allUsed is ++ i .used
+pub used-snoc : (is : List Input) (i : Input) → allUsed (is ++ (i ∷ [])) ≡ allUsed is ++ usedIn (i .pieces)
 unfolding allUsed
-used-snoc [] i = append-nil (i .used)
-used-snoc (k ∷ is) i = ap (λ (l : List (List ℕ)). k .used ++ l) (used-snoc is i) ∙ sym (append-assoc (k .used) (allUsed is) (i .used))
+used-snoc [] i = append-nil (usedIn (i .pieces))
+used-snoc (k ∷ is) i = ap (λ (l : List (List ℕ)). usedIn (k .pieces) ++ l) (used-snoc is i) ∙ sym (append-assoc (usedIn (k .pieces)) (allUsed is) (usedIn (i .pieces)))
 
-pub table-snoc : (is : List Input) (i : Input) → stringTable (is ++ (i ∷ [])) ≡ putAll (stringTable is) (i .used)
+pub table-snoc : (is : List Input) (i : Input) → stringTable (is ++ (i ∷ [])) ≡ putAll (stringTable is) (usedIn (i .pieces))
 unfolding stringTable firstUses
-table-snoc is i = ap (putAll []) (used-snoc is i) ∙ putAll-append [] (allUsed is) (i .used)
+table-snoc is i = ap (putAll []) (used-snoc is i) ∙ putAll-append [] (allUsed is) (usedIn (i .pieces))
 
 -- they stay while units are filed
-pub strings-stay : (b w v : List ℕ) (st next : InProgress) (is : List Input) (i : Input) → StringsIn b w (st .strings) (putAll (stringTable is) (i .used)) → StringsKept (wordsIn b) w v st next
+pub strings-stay : (b w v : List ℕ) (st next : InProgress) (is : List Input) (i : Input) → StringsIn b w (st .strings) (putAll (stringTable is) (usedIn (i .pieces))) → StringsKept (wordsIn b) w v st next
     → StringsIn b v (next .strings) (stringTable (is ++ (i ∷ [])))
 strings-stay b w v st next is i k s = rw (s .strings, s .table, table-snoc is i) k
 

@@ -4,18 +4,18 @@ use mathlib.Core.Path.{_≡_}
 use mathlib.Core.Bool.{Bool, true, false}
 use mathlib.Core.List.{List, []}
 use mathlib.Core.Option.{Option}
-use Prim.Native.Nat.{ℕ, _+_, _*_, _<_, _≤_}
+use Prim.Native.Nat.{ℕ, _+_, _*_, _/_, _<_, _≤_}
 use lib.Dec.{eqb, leb}
 use lib.ListN.{length, getD}
 use Rattle.octets.specs.Octets.{part}
 use Rattle.octets.specs.Checked.{Check, pass, refuse, _>>=_}
-use Rattle.bundle.specs.Bundle.{Part}
+use Rattle.bundle.specs.Bundle.{Part, body}
 use Rattle.bundle.specs.Scan.{scanOf, startOf, sizeOf}
 use Rattle.bundle.specs.declared.Scan.{Scan}
 use Rattle.bundle.specs.Encoding.{Encoding, encodingOf}
 use Rattle.bundle.specs.Encoded.{encodingIs}
 use Rattle.bundle.specs.declared.encoding.ObjectEncoding.{ObjectEncoding}
-use Rattle.strings.specs.Strings.{entriesIn, entriesOf, stringsAt, putAll}
+use Rattle.strings.specs.Strings.{entriesOf, stringsAt, putAll}
 use Rattle.strings.specs.Kept.{Kept, Inside, bytesAt}
 use Rattle.strings.specs.Objects.{entriesAt}
 use Rattle.strings.specs.declared.table.StrOffsets.{StrOffsets}
@@ -26,10 +26,12 @@ use Rattle.kept.specs.State.{Held}
 use Rattle.kept.specs.declared.state.InProgress.{InProgress}
 use Rattle.index.specs.Index.{Index}
 use Rattle.index.specs.Rows.{BySection}
-use Rattle.package.specs.Input.{Input, inputOf}
+use Rattle.package.specs.Pieces.{usedIn}
+use Rattle.package.specs.Input.{Input, Opened, formOf, unitSections, inputOf}
 use Rattle.package.specs.Filing.{Filed}
 use Rattle.package.specs.Pack.{allUsed, stringTable}
 use Rattle.filing.specs.Judged.{IndexedIs, InputIs, indexCheck}
+use Rattle.filing.specs.declared.input.InputObject.{InputObject}
 use Rattle.filing.specs.declared.objects.StringsFiled.{StringsFiled}
 use Rattle.filing.specs.declared.objects.IndexesJudged.{IndexesJudged}
 use Rattle.filing.specs.declared.objects.InputFiled.{InputFiled}
@@ -67,6 +69,15 @@ abbrev pub StringsAnswered : List ℕ → StrOffsets → ℕ → StringTable →
 StringsAnswered b o count t w v r =
     (ts : List (List ℕ)) → StringsIn b w t ts → StringsAre b v ts (stringsCheck (encodingIs (o .encoding)) (leb 1 count) (bytesAt b (o .offsets)) (bytesAt b (o .strings))) r
 
+-- those of the object that a scan has
+abbrev pub strOffsetsIn : ObjectEncoding → Scan → StrOffsets
+strOffsetsIn e scan =
+    record {
+      encoding = e;
+      offsets = record { start = getD (scan .start) 6 0; size = getD (scan .size) 6 0 };
+      strings = record { start = getD (scan .start) 11 0; size = getD (scan .size) 11 0 };
+    }
+
 -- ---- 10
 -- the first section of a code, where a scan has it
 unfoldable pub scanned : List ℕ → Scan → ℕ → List ℕ
@@ -77,8 +88,8 @@ abbrev pub ScanInside : List ℕ → Scan → ℕ → Type 0
 ScanInside b scan c = getD (scan .start) c 0 + getD (scan .size) c 0 ≤ length b
 
 -- the index in it, where it is there
-unfoldable pub scannedIndex : Bool → List ℕ → Scan → ℕ → Check (Option Index)
-scannedIndex big b scan c = indexCheck big (leb 1 (getD (scan .count) c 0)) (scanned b scan c)
+unfoldable pub scannedIndex : ObjectEncoding → List ℕ → Scan → ℕ → Check (Option Index)
+scannedIndex e b scan c = indexCheck (e .big) (formOf (encodingIs e)) (leb 1 (getD (scan .count) c 0)) (scanned b scan c)
 
 -- of two sections: the first refusal, or that both indexes are there by value
 unfoldable pub IndexesAre : Bool → List ℕ → List ℕ → Check (Option Index) → Check (Option Index) → IndexesJudged → Type 0
@@ -87,8 +98,12 @@ IndexesAre big cs ts (pass c) (refuse m) r = (r .code ≡ m) × (0 < m)
 IndexesAre big cs ts (pass c) (pass t) r = (r .code ≡ 0) × IndexedIs big cs (r .cu) c × IndexedIs big ts (r .tu) t
 
 -- of those that a scan has
-abbrev pub IndexesFound : List ℕ → Bool → Scan → IndexesJudged → Type 0
-IndexesFound b big scan r = IndexesAre big (scanned b scan 12) (scanned b scan 13) (scannedIndex big b scan 12) (scannedIndex big b scan 13) r
+abbrev pub IndexesFound : List ℕ → ObjectEncoding → Scan → IndexesJudged → Type 0
+IndexesFound b e scan r = IndexesAre (e .big) (scanned b scan 12) (scanned b scan 13) (scannedIndex e b scan 12) (scannedIndex e b scan 13) r
+
+-- the object with both by value
+abbrev pub inputIn : ObjectEncoding → Scan → IndexesJudged → InputObject
+inputIn e scan x = record { encoding = e; start = scan .start; size = scan .size; cu = x .cu; tu = x .tu }
 
 -- ---- everything at hand between two objects: inputs and units are filed up to a place
 pub record AtObject (b : List ℕ) (big : Bool) (first place : ℕ) (w : List ℕ) (st : InProgress) (bases : BySection ℕ) (is : List Input) (us : List Filed) : Type 0 where
@@ -102,15 +117,20 @@ pub record AtObject (b : List ℕ) (big : Bool) (first place : ℕ) (w : List �
 unfoldable pub InputRead : List ℕ → List ℕ → InProgress → List (List ℕ) → Check Input → InputFiled → Type 0
 InputRead b v st ts (refuse m) r = r .code ≡ m
 InputRead b v st ts (pass i) r =
-    (r .code ≡ 0) × InputIs b (r .input) i × (r .st ≡ withStrings st (r .st .strings)) × StringsIn b v (r .st .strings) (putAll ts (i .used))
+    (r .code ≡ 0) × InputIs b (r .input) i × (r .st ≡ withStrings st (r .st .strings)) × StringsIn b v (r .st .strings) (putAll ts (usedIn (i .pieces)))
 
--- what it takes, of an object with sections ps: they lie in the bundle, and there is room for its strings, whatever its encoding
+-- an object and what is opened of it
+unfoldable pub inputGiven : List ℕ → Encoding → List Part → Check Opened → Check Input
+inputGiven b e ps m =
+    m >>= λ t. pass (record { encoding = e; bytes = body b ps; units = unitSections b ps; pieces = t .pieces; cuIndex = t .cuIndex; tuIndex = t .tuIndex })
+
+-- what it takes, of an object with sections ps: they lie in the bundle, and there is room for its strings, an entry taking 4 bytes or more
 pub record InputRoom (b : List ℕ) (ps : List Part) (words : ℕ) (t : StringTable) : Type 0 where
   pub room : workForWord * wordsIn b ≤ words
   pub limit : length b ≤ bundleLimit
   pub whole : length b ≡ 4 * wordsIn b
   pub inside : (c : ℕ) → startOf ps c + sizeOf ps c ≤ length b
-  pub fits : (e : ObjectEncoding) → 7 * (t .count + length (entriesIn (encodingIs e) (part b (startOf ps 6) (sizeOf ps 6)))) ≤ stringsRegion .words * wordsIn b
+  pub fits : 7 * (t .count + sizeOf ps 6 / 4) ≤ stringsRegion .words * wordsIn b
 
 pub record InputAsked (b : List ℕ) (scan : Scan) (st : InProgress) (w : List ℕ) : Type 0 where
   pub at : ℕ
@@ -119,6 +139,12 @@ pub record InputAsked (b : List ℕ) (scan : Scan) (st : InProgress) (w : List �
   pub room : InputRoom b parts (length w) (st .strings)
   pub strings : List (List ℕ)
   pub kept : StringsIn b w (st .strings) strings
+
+-- 8 to 10 and 34, of an object with a good encoding e, by what opens it
+abbrev pub OpenAnswered : (Encoding → List Part → BySection (List ℕ) → Check Opened) → List ℕ → ObjectEncoding → Scan → InProgress → List ℕ → List ℕ → InputFiled → Type 0
+OpenAnswered opens b e scan st w v r =
+    (at : ℕ) (ps : List Part) (ts : List (List ℕ)) → scan ≡ scanOf at ps → InputRoom b ps (length w) (st .strings) → StringsIn b w (st .strings) ts
+    → InputRead b v st ts (inputGiven b (encodingIs e) ps (opens (encodingIs e) ps (body b ps))) r
 
 abbrev pub InputAnswered : List ℕ → Bool → ℕ → ℕ → Scan → InProgress → List ℕ → List ℕ → InputFiled → Type 0
 InputAnswered b big first word scan st w v r =

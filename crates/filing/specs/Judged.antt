@@ -1,7 +1,7 @@
 -- An object by value, and the definition's.
 -- Assumes nothing.
 use mathlib.Core.Path.{_≡_}
-use mathlib.Core.Bool.{Bool, true, false}
+use mathlib.Core.Bool.{Bool, true, false, _&&_, _||_}
 use mathlib.Core.List.{List}
 use mathlib.Core.Option.{Option, some, none}
 use Prim.Native.Nat.{ℕ, _+_, _<_, _≤_}
@@ -27,10 +27,18 @@ sectionOf b x c = part b (getD (x .start) c 0) (getD (x .size) c 0)
 
 -- an index by value, of a section's bytes
 unfoldable pub IndexedIs : Bool → List ℕ → Indexed → Option Index → Type 0
-IndexedIs big s (At h) (some i) = (ReadWell big s h) × (i ≡ indexIn big s h) × (h .version ≡ 2)
+IndexedIs big s (At h) (some i) = (ReadWell big s h) × (i ≡ indexIn big s h)
 IndexedIs big s (At h) none = ⊥
 IndexedIs big s Nowhere (some i) = ⊥
 IndexedIs big s Nowhere none = Unit {0}
+
+-- whether there is one, and whether the object is a package of version 5
+unfoldable pub isThere : Indexed → Bool
+isThere (At h) = true
+isThere Nowhere = false
+
+unfoldable pub packedBy : InputObject → Bool
+packedBy x = x .encoding .five && (isThere (x .cu) || isThere (x .tu))
 
 pub record InputIs (b : List ℕ) (x : InputObject) (i : Input) : Type 0 where
   pub encoding : encodingIs (x .encoding) ≡ i .encoding
@@ -54,11 +62,11 @@ unfoldable pub JudgedIs : Check Encoding → Judged → Type 0
 JudgedIs (pass e) r = (r .code ≡ 0) × (encodingIs (r .encoding) ≡ e)
 JudgedIs (refuse n) r = (r .code ≡ n) × (0 < n)
 
--- 10, where the section is there or not
-unfoldable pub indexCheck : Bool → Bool → List ℕ → Check (Option Index)
-indexCheck big there s =
+-- 10, where the section is there or not; form is the version that an index must have
+unfoldable pub indexCheck : Bool → ℕ → Bool → List ℕ → Check (Option Index)
+indexCheck big form there s =
     elim there [
-      | true ↦ indexOf big s >>= λ i. (require (eqb (i .version) 2) 10 >>= λ _. pass (some i))
+      | true ↦ indexOf big s >>= λ i. (require (eqb (i .version) form) 10 >>= λ _. pass (some i))
       | false ↦ pass none
     ]
 

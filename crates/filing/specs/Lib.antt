@@ -9,3 +9,4 @@ pub mod Choices
 pub mod ByPlace
 pub mod Asked
 pub mod ByObject
+pub mod Tiled

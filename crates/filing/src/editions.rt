@@ -1,6 +1,6 @@
 // 6 and 7, by how many sections of each code an object has.
 ghost use mathlib.Core.Path.{_≡_};
-ghost use mathlib.Core.Bool.{not, _&&_};
+ghost use mathlib.Core.Bool.{not, _&&_, _||_};
 ghost use Prim.Native.Nat.{ℕ, _<_};
 ghost use lib.Dec.{leb};
 ghost use lib.ListN.{getD};
@@ -24,7 +24,7 @@ use numbers::sections::TYPES;
 
 const WRONG_FOUR: [usize; 2] = [LOCLISTS, RNGLISTS];
 
-const WRONG_FIVE: [usize; 5] = [TYPES, LOC, MACINFO, CU_INDEX, TU_INDEX];
+const WRONG_FIVE: [usize; 3] = [TYPES, LOC, MACINFO];
 
 const ONLY_ONCE: [usize; 11] = [
     ABBREV,
@@ -73,6 +73,19 @@ fn all_once(count: [usize; CODES]) -> bool
     none_reaches(&ONLY_ONCE, count, 2)
 }
 
+// An index that allows one info only: that of the compilation units and, in version 5, that of the type units too.
+fn beside_info(five: bool, cu: usize, tu: usize) -> usize
+    ensures { λ r. ⌜ leb 1 r ≡ (leb 1 cu || (five && leb 1 tu)) ⌝ }
+{
+    if 1 <= cu {
+        return cu;
+    }
+    if five {
+        return tu;
+    }
+    0
+}
+
 // Whether an index stands beside a second section of units.
 fn second_beside(indexes: usize, units: usize) -> bool
     ensures { λ r. ⌜ r ≡ (leb 1 indexes && leb 2 units) ⌝ }
@@ -83,13 +96,27 @@ fn second_beside(indexes: usize, units: usize) -> bool
     2 <= units
 }
 
+// Whether an object is a package of version 5, by how many indexes it has.
+pub fn is_packed(five: bool, cu: usize, tu: usize) -> bool
+    ensures { λ r. ⌜ r ≡ (five && (leb 1 cu || leb 1 tu)) ⌝ }
+{
+    if five {
+        if 1 <= cu {
+            return true;
+        }
+        return 1 <= tu;
+    }
+    false
+}
+
 // 6
 pub fn edition_good(five: bool, count: [usize; CODES]) -> bool
     ensures { λ r. ⌜ r ≡ editionBy five count ⌝ }
 {
     if edition_right(five, count) {
         if all_once(count) {
-            if second_beside(count[CU_INDEX], count[INFO]) {
+            let indexes = beside_info(five, count[CU_INDEX], count[TU_INDEX]);
+            if second_beside(indexes, count[INFO]) {
                 return false;
             }
             if second_beside(count[TU_INDEX], count[TYPES]) {

@@ -7,6 +7,8 @@ ghost use lib.ListN.{length};
 ghost use Rattle.octets.specs.Octets.{part};
 ghost use Rattle.bundle.specs.Bundle.{Part};
 ghost use Rattle.bundle.specs.Scan.{scanOf};
+ghost use Rattle.bundle.specs.Encoded.{encodingIs};
+ghost use Rattle.package.specs.Input.{formOf};
 ghost use Rattle.filing.specs.Judged.{objectCheck, JudgedIs, indexCheck, JudgedIndexIs};
 use bundle::Scan;
 use bundle::encoding::ObjectEncoding;
@@ -20,6 +22,7 @@ use numbers::refusals::SECTION_MISSING;
 use numbers::refusals::WRONG_EDITION;
 use numbers::sections::CODES;
 use numbers::tables::INDEX_2;
+use numbers::tables::INDEX_5;
 
 // An index of the object, or that it has none.
 pub enum Indexed {
@@ -86,6 +89,16 @@ pub fn judge_object(big: bool, first: u32, word: u32, scan: Scan) -> Judged
     Judged { code: 0, encoding }
 }
 
+// The version of an object's indexes.
+fn form(e: ObjectEncoding) -> u32
+    ensures { λ r. ⌜ r ≡ formOf (encodingIs e) ⌝ }
+{
+    if e.five {
+        return INDEX_5;
+    }
+    INDEX_2
+}
+
 // 10, of a section that lies there where there is one. Callers have it from a scan of the bundle.
 pub fn judge_index(
     b: &[u8],
@@ -95,8 +108,9 @@ pub fn judge_index(
     count: usize,
 ) -> JudgedIndex
     requires { ⌜ start + size ≤ length (now b) ⌝ }
-    ensures { λ r. ⌜ JudgedIndexIs (e .big) (part (now (b .entry)) start size) (indexCheck (e .big) (leb 1 count) (part (now (b .entry)) start size)) r ⌝ }
+    ensures { λ r. ⌜ JudgedIndexIs (e .big) (part (now (b .entry)) start size) (indexCheck (e .big) (formOf (encodingIs e)) (leb 1 count) (part (now (b .entry)) start size)) r ⌝ }
 {
+    let version = form(e);
     if count < 1 {
         return JudgedIndex {
             code: 0,
@@ -110,7 +124,7 @@ pub fn judge_index(
             index: Indexed::Nowhere,
         };
     };
-    if head.version != INDEX_2 {
+    if head.version != version {
         return JudgedIndex {
             code: BAD_INDEX,
             index: Indexed::Nowhere,

@@ -4,6 +4,7 @@ pub mod editions;
 pub mod input;
 pub mod keep;
 pub mod objects;
+pub mod parts;
 pub mod reading;
 pub mod single;
 pub mod state;

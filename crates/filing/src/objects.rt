@@ -1,8 +1,13 @@
 // An object read up to its units: 4 to 10, its strings put into their store in work.
 ghost use mathlib.Core.Path.{_≡_};
 ghost use Rattle.filing.specs.State.{wordsIn, withStrings, OnlyStore};
+ghost use mathlib.Core.Bool.{true};
+ghost use Rattle.package.specs.Input.{openedWhole, openedTiled};
 ghost use Rattle.filing.specs.ByObject.{
   ScanInside,
+  strOffsetsIn,
+  inputIn,
+  OpenAnswered,
   IndexesFound,
   StringsAsked,
   StringsAnswered,
@@ -94,7 +99,7 @@ pub fn add_object_strings(
 // 10, of both indexes: that of the type units is judged where that of the compilation units passed.
 fn judge_indexes(b: &[u8], e: ObjectEncoding, scan: Scan) -> IndexesJudged
     requires { ⌜ ScanInside (now b) scan 12 × ScanInside (now b) scan 13 ⌝ }
-    ensures { λ r. ⌜ IndexesFound (now (b .entry)) (e .big) scan r ⌝ }
+    ensures { λ r. ⌜ IndexesFound (now (b .entry)) e scan r ⌝ }
 {
     let count = scan.count;
     let start = scan.start;
@@ -148,7 +153,113 @@ fn input_refused(code: u32, e: ObjectEncoding, scan: Scan, st: InProgress) -> In
     InputFiled { code, input, st }
 }
 
-// 4 to 10, of the object with a word and sections that were scanned; first is the first object's word. Callers have the sections from the bundle.
+// Where an object's str_offsets and str lie.
+fn str_offsets_in(e: ObjectEncoding, scan: Scan) -> StrOffsets
+    ensures { λ r. ⌜ r ≡ strOffsetsIn e scan ⌝ }
+{
+    let start = scan.start;
+    let size = scan.size;
+    let offsets = Place {
+        start: start[STR_OFFSETS],
+        size: size[STR_OFFSETS],
+    };
+    let strings = Place {
+        start: start[STR],
+        size: size[STR],
+    };
+    StrOffsets {
+        encoding: e,
+        offsets,
+        strings,
+    }
+}
+
+fn input_with(e: ObjectEncoding, scan: Scan, indexes: IndexesJudged) -> InputObject
+    ensures { λ r. ⌜ r ≡ inputIn e scan indexes ⌝ }
+{
+    let start = scan.start;
+    let size = scan.size;
+    let cu = indexes.cu;
+    let tu = indexes.tu;
+    InputObject {
+        encoding: e,
+        start,
+        size,
+        cu,
+        tu,
+    }
+}
+
+// 8, 9, 10: str_offsets is one piece.
+fn open_whole(
+    b: &[u8],
+    e: ObjectEncoding,
+    scan: Scan,
+    st: InProgress,
+    work: &mut [u32],
+) -> InputFiled
+    requires { ⌜ InputAsked (now b) scan st (now work) ⌝ }
+    ensures read { λ r. ⌜ OpenAnswered openedWhole (now (b .entry)) e scan st (now (work .entry)) (now (work .exit)) r ⌝ }
+    ensures frame { λ _. ⌜ OnlyStore (wordsIn (now (b .entry))) (now (work .entry)) (now (work .exit)) ⌝ }
+{
+    let o = str_offsets_in(e, scan);
+    let count = scan.count;
+    let t = st.strings;
+    let put = add_object_strings(b, o, count[STR_OFFSETS], t, work);
+    if put.code != 0 {
+        return input_refused(put.code, e, scan, st);
+    }
+    let indexes = judge_indexes(b, e, scan);
+    if indexes.code != 0 {
+        return input_refused(indexes.code, e, scan, st);
+    }
+    let input = input_with(e, scan, indexes);
+    let more = put.strings;
+    let known = with_strings(st, more);
+    InputFiled {
+        code: 0,
+        input,
+        st: known,
+    }
+}
+
+// 10, 34, 8, 9: a package of version 5, whose rows name the parts of str_offsets.
+fn open_tiled(
+    b: &[u8],
+    e: ObjectEncoding,
+    scan: Scan,
+    st: InProgress,
+    work: &mut [u32],
+) -> InputFiled
+    requires { ⌜ InputAsked (now b) scan st (now work) × (e .five ≡ true) ⌝ }
+    ensures read { λ r. ⌜ OpenAnswered openedTiled (now (b .entry)) e scan st (now (work .entry)) (now (work .exit)) r ⌝ }
+    ensures frame { λ _. ⌜ OnlyStore (wordsIn (now (b .entry))) (now (work .entry)) (now (work .exit)) ⌝ }
+{
+    let indexes = judge_indexes(b, e, scan);
+    if indexes.code != 0 {
+        return input_refused(indexes.code, e, scan, st);
+    }
+    let input = input_with(e, scan, indexes);
+    let parts = crate::parts::judge_parts(b, input, work);
+    if parts.code != 0 {
+        return input_refused(parts.code, e, scan, st);
+    }
+    let o = str_offsets_in(e, scan);
+    let t = st.strings;
+    let put = crate::parts::add_parts(b, o, parts.good, t, work);
+    if put.code != 0 {
+        return input_refused(put.code, e, scan, st);
+    }
+    let more = put.strings;
+    let known = with_strings(st, more);
+    InputFiled {
+        code: 0,
+        input,
+        st: known,
+    }
+}
+
+// 4 to 10 and 34, of the object with a word and sections that were scanned; first is the first object's word. Callers have the sections from the bundle.
 pub fn read_input(
     b: &[u8],
     big: bool,
@@ -167,44 +278,9 @@ pub fn read_input(
     if judged.code != 0 {
         return input_refused(judged.code, e, scan, st);
     }
-    let start = scan.start;
-    let size = scan.size;
-    let offsets = Place {
-        start: start[STR_OFFSETS],
-        size: size[STR_OFFSETS],
-    };
-    let strings = Place {
-        start: start[STR],
-        size: size[STR],
-    };
-    let o = StrOffsets {
-        encoding: e,
-        offsets,
-        strings,
-    };
-    let t = st.strings;
-    let put = add_object_strings(b, o, scan.count[STR_OFFSETS], t, work);
-    if put.code != 0 {
-        return input_refused(put.code, e, scan, st);
+    let count = scan.count;
+    if crate::editions::is_packed(e.five, count[CU_INDEX], count[TU_INDEX]) {
+        return open_tiled(b, e, scan, st, work);
     }
-    let indexes = judge_indexes(b, e, scan);
-    if indexes.code != 0 {
-        return input_refused(indexes.code, e, scan, st);
-    }
-    let cu = indexes.cu;
-    let tu = indexes.tu;
-    let input = InputObject {
-        encoding: e,
-        start,
-        size,
-        cu,
-        tu,
-    };
-    let more = put.strings;
-    let known = with_strings(st, more);
-    InputFiled {
-        code: 0,
-        input,
-        st: known,
-    }
+    open_whole(b, e, scan, st, work)
 }

@@ -19,19 +19,18 @@ use Rattle.bundle.specs.Encoded.{encodingIs}
 use Rattle.bundle.specs.Written.{Section, written}
 use Rattle.bundle.specs.declared.encoding.ObjectEncoding.{ObjectEncoding}
 use Rattle.bundle.proofs.Every.{Every, nothing, also}
-use Rattle.strings.specs.Strings.{strOf, remapped}
-use Rattle.strings.proofs.StrOffsets.{whole-entries}
+use Rattle.strings.specs.Strings.{strOf}
 use Rattle.index.specs.Written.{Row, indexBytes}
+use Rattle.package.specs.Pieces.{remappedAll}
 use Rattle.package.specs.Input.{Input}
 use Rattle.package.specs.Filing.{Filed, Filing, filingOf, firstWord, kept}
 use Rattle.package.specs.Pack.{rowsOf, unitBytes, sharedBytes, stringTable, sectionList, nonEmpty, packageSections, packageObjects}
-use Rattle.package.proofs.Inputs.{StringFacts}
 use Rattle.package.proofs.Filing.{FilingFacts, filing-facts}
 use Rattle.package.proofs.Kept.{distinct-kept}
 use Rattle.package.proofs.Tables.{rows-named}
 use Rattle.package.proofs.UnitStrings.{good-versions}
 use Rattle.finish.specs.Joining.{sectionsJoined, offsetsJoined, remappedIn, EntriesGood}
-use Rattle.finish.proofs.Remapping.{remapped-in}
+use Rattle.finish.proofs.Cutting.{input-good, input-remapped}
 use Rattle.finish.specs.Sections.{sectionsFrom, sectionsBy, notEmpty}
 use Rattle.numbers.specs.Tables.{compilationTable, typeTable}
 use Rattle.index.specs.Probing.{slotsFor}
@@ -81,18 +80,11 @@ unfolding sharedBytes
 shared-other table is c f = rw (sharedBytes, ne-eqb c 6 f)
 
 -- ---- objects and inputs
-entries-good : (e : Encoding) (offsets str : List ℕ) (used : List (List ℕ)) → StringFacts e offsets str used → EntriesGood e offsets str
-entries-good e offsets str used f = record {
-  entries = λ n. ⊎-elim (λ (z : offsets ≡ []). absurd (n (ap length z))) (λ w. whole-entries e offsets (record { header = w .0; even = w .1 })) (f .shape);
-  used = used;
-  strings = f .strings;
-}
-
 matched-good : (b : List ℕ) (e : Encoding) (os : List Object) (is : List Input) → Matched b e os is → Every (λ o. EntriesGood e (body b (o .parts) 6) (body b (o .parts) 11)) os
 matched-good b e [] [] none = nothing
 matched-good b e (o ∷ os) (i ∷ is) (more p m) =
     let good : EntriesGood e (body b (o .parts) 6) (body b (o .parts) 11) =
-    rw (sym (p .bytes 6), sym (p .bytes 11)) (entries-good e (i .bytes 6) (i .bytes 11) (i .used) (p .facts .strings)) in
+    rw (sym (p .bytes 6), sym (p .bytes 11)) (input-good e i (p .facts)) in
     also good (matched-good b e os is m)
 
 matched-offsets : (b : List ℕ) (e : Encoding) (table : List (List ℕ)) (os : List Object) (is : List Input) → Matched b e os is
@@ -100,9 +92,8 @@ matched-offsets : (b : List ℕ) (e : Encoding) (table : List (List ℕ)) (os : 
 unfolding sharedBytes offsetsJoined joined
 matched-offsets b e table [] [] none = refl
 matched-offsets b e table (o ∷ os) (i ∷ is) (more p m) =
-    let one : remapped (i .encoding) table (i .bytes 6) (i .used) ≡ remappedIn e table (body b (o .parts) 6) (body b (o .parts) 11) =
-    ap (λ (d : Encoding). remapped d table (i .bytes 6) (i .used)) (p .facts .encoded) ∙ remapped-in e table (i .bytes 6) (i .bytes 11) (i .used) (p .facts .strings .strings)
-    ∙ ap₂ (remappedIn e table) (p .bytes 6) (p .bytes 11) in
+    let one : remappedAll (i .encoding) table (i .pieces) ≡ remappedIn e table (body b (o .parts) 6) (body b (o .parts) 11) =
+    ap (λ (d : Encoding). remappedAll d table (i .pieces)) (p .facts .encoded) ∙ input-remapped e table i (p .facts) ∙ ap₂ (remappedIn e table) (p .bytes 6) (p .bytes 11) in
     ap₂ (λ (x y : List ℕ). x ++ y) one (matched-offsets b e table os is m)
 
 -- ---- rows

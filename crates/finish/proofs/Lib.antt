@@ -2,6 +2,7 @@
 -- Assumes nothing.
 pub mod Entering
 pub mod JoinedObjects
+pub mod Cutting
 pub mod Remapping
 pub mod SectionSizes
 pub mod BeingWritten

@@ -3,14 +3,10 @@
 use mathlib.Core.Path.{_≡_, refl, sym, ap, ap₂, _∙_}
 use mathlib.Core.List.{List, [], _∷_, _++_, map}
 use Prim.Native.Nat.{ℕ, _+_, _-_, _<_, _≤_}
-use native.Mathlib.Nat.{zero-div}
 use native.Mathlib.Omega.{arith}
-use native.Mathlib.Decide.{ℕ-discrete}
 use lib.ListN.{length, getD, length-append}
-use lib.Seq.{take-nil}
-use Rattle.octets.specs.Octets.{part, placed, numbersIn, numbersOf}
+use Rattle.octets.specs.Octets.{part, placed}
 use Rattle.octets.specs.Lists.{joined}
-use Rattle.octets.specs.Checked.{pass}
 use Rattle.octets.proofs.Parts.{length-part}
 use Rattle.octets.proofs.Placed.{placed-none}
 use Rattle.bundle.specs.Bundle.{Object, body, objectsOf}
@@ -19,62 +15,29 @@ use Rattle.bundle.specs.Encoded.{encodingIs}
 use Rattle.bundle.specs.declared.encoding.ObjectEncoding.{ObjectEncoding}
 use Rattle.bundle.specs.declared.Scan.{Scan}
 use Rattle.bundle.proofs.Every.{Every, nothing, also}
-use Rattle.strings.specs.Strings.{headerSize, entriesIn, stringsAt, remapped}
 use Rattle.strings.specs.Kept.{Inside, bytesAt}
-use Rattle.strings.specs.Objects.{tableIn, JudgedOf}
+use Rattle.strings.specs.Objects.{tableIn}
+use Rattle.strings.specs.Headed.{remappedPieces, PiecesJudged}
 use Rattle.strings.specs.declared.table.StringTable.{StringTable}
 use Rattle.strings.specs.declared.table.StrOffsets.{StrOffsets}
-use Rattle.strings.proofs.StrOffsets.{Sound, sound, entries-whole}
+use Rattle.strings.proofs.StrOffsets.{Sound, sound}
 use Rattle.strings.proofs.Storing.{kept-stays}
-use Rattle.strings.proofs.Remapped.{length-remapped}
-use Rattle.strings.proofs.Ends.{length-stringsAt}
-use Rattle.finish.specs.Joining.{sectionsJoined, usedIn, remappedIn, EntriesGood, offsetsAt, stringsIn, Remappable, OffsetsJoinable}
+use Rattle.finish.specs.Joining.{sectionsJoined, cut, remappedIn, EntriesGood, offsetsAt, stringsIn, Remappable, OffsetsJoinable}
+use Rattle.finish.proofs.Cutting.{remapped-none, remapped-length}
 use Rattle.finish.proofs.Entering.{AtObject, scanned-body}
 use Rattle.finish.proofs.JoinedObjects.{Joining, joining-room, joining-more}
 
-no-length : (s : List ℕ) → length s ≡ 0 → s ≡ []
-no-length [] e = refl
-no-length (b ∷ s) e = absurd (omega arith)
-
-module _ (e : Encoding) (ts : List (List ℕ)) (offsets str : List ℕ) where
-  pub used-is : (used : List (List ℕ)) → stringsAt str (entriesIn e offsets) ≡ pass used → usedIn e offsets str ≡ used
-  unfolding usedIn
-  used-is used q = rw (usedIn, q)
-
-  pub remapped-in : (used : List (List ℕ)) → stringsAt str (entriesIn e offsets) ≡ pass used → remapped e ts offsets used ≡ remappedIn e ts offsets str
-  unfolding remappedIn
-  remapped-in used q = ap (remapped e ts offsets) (sym (used-is used q))
-
-  -- nothing stands for nothing
-  pub remapped-none : length offsets ≡ 0 → remappedIn e ts offsets str ≡ []
-  unfolding remappedIn remapped entriesIn numbersIn stringsAt numbersOf
-  remapped-none z =
-      let n = no-length offsets z in
-      let h : 0 - headerSize e ≡ 0 = omega arith in
-      let none : entriesIn e [] ≡ [] = rw (h, zero-div (e .width)) in
-      ap (λ (s : List ℕ). remapped e ts s (usedIn e s str)) n
-      ∙ ap (remapped e ts []) (rw n at (used-is [] (rw (n, none))))
-      ∙ rw (take-nil (headerSize e))
-
-  pub remapped-length : Sound e → EntriesGood e offsets str → length (remappedIn e ts offsets str) ≡ length offsets
-  remapped-length ok g = elim (ℕ-discrete (length offsets) 0) [
-    | yes z ↦ ap length (remapped-none z) ∙ sym z
-    | no f ↦ ap length (sym (remapped-in (g .used) (g .strings)))
-        ∙ length-remapped e ts offsets (g .used) ok (entries-whole e offsets (entriesIn e offsets) (g .entries f) .0) (length-stringsAt str (entriesIn e offsets) (g .used) (g .strings))
-  ]
-
 -- what the strings' function asks
-pub judged : (b : List ℕ) (words : ℕ) (store : List ℕ) (t : StringTable) (o : StrOffsets) (n at : ℕ) (r : Remappable b words store t o n at)
-    → (o .offsets .size ≡ 0 → ⊥) → JudgedOf o b (r .good .used)
+pub judged : (b : List ℕ) (words : ℕ) (store : List ℕ) (t : StringTable) (o : StrOffsets) (n at : ℕ) → Remappable b words store t o n at
+    → PiecesJudged b o (cut (encodingIs (o .encoding)) (offsetsAt b o))
 unfolding Inside bytesAt
-judged b words store t o n at r f =
-    let l = length-part b (o .offsets .start) (o .offsets .size) (r .offsetsInside) in
-    record {
-      offsets-inside = r .offsetsInside;
-      strings-inside = r .stringsInside;
-      entries = r .good .entries (λ z. f (sym l ∙ z));
-      strings-are = r .good .strings;
-    }
+judged b words store t o n at r = record { offsets-inside = r .offsetsInside; strings-inside = r .stringsInside; headed = r .good .headed; used = r .good .used; strings = r .good .strings }
+
+-- and what it writes
+pub remapped-in : (b : List ℕ) (o : StrOffsets) (ts : List (List ℕ))
+    → remappedPieces (encodingIs (o .encoding)) ts (bytesAt b (o .strings)) (cut (encodingIs (o .encoding)) (offsetsAt b o)) ≡ remappedIn (encodingIs (o .encoding)) ts (offsetsAt b o) (stringsIn b o)
+unfolding remappedIn bytesAt
+remapped-in b o ts = refl
 
 -- nothing is written for nothing
 pub remap-none : (b : List ℕ) (words : ℕ) (store : List ℕ) (t : StringTable) (o : StrOffsets) (n at : ℕ) (r : Remappable b words store t o n at) (d : List ℕ) (ts : List (List ℕ))

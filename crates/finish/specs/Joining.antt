@@ -2,17 +2,17 @@
 -- Assumes nothing.
 use mathlib.Core.Path.{_≡_}
 use mathlib.Core.Bool.{false}
-use mathlib.Core.List.{List, [], map}
-use Prim.Native.Nat.{ℕ, _+_, _<_, _≤_}
-use lib.ListN.{length}
+use mathlib.Core.List.{List, [], _∷_, map}
+use Prim.Native.Nat.{ℕ, zero, suc, _+_, _<_, _≤_}
+use lib.ListN.{length, take, drop}
 use Rattle.octets.specs.Lists.{joined}
 use Rattle.octets.specs.Octets.{part, placed}
-use Rattle.octets.specs.Checked.{pass, refuse}
+use Rattle.octets.specs.Checked.{pass}
 use Rattle.bundle.specs.Bundle.{Object, Bundle, bundleOf, body}
 use Rattle.bundle.specs.Encoding.{Encoding}
 use Rattle.bundle.specs.Encoded.{encodingIs}
 use Rattle.bundle.proofs.Every.{Every}
-use Rattle.strings.specs.Strings.{entriesIn, entriesOf, stringsAt, remapped}
+use Rattle.strings.specs.Headed.{pieceSize, Headed, stringsOfAll, remappedPieces}
 use Rattle.strings.specs.Objects.{KeptIn}
 use Rattle.strings.specs.declared.table.StringTable.{StringTable}
 use Rattle.strings.specs.declared.table.StrOffsets.{StrOffsets}
@@ -29,23 +29,29 @@ pub record Joinable (b : List ℕ) (code n at : ℕ) : Type 0 where
   pub room : at + length (sectionsJoined b (bundle .objects) code) ≤ n
 
 -- ---- str_offsets
--- the strings that entries name
-unfoldable pub usedIn : Encoding → List ℕ → List ℕ → List (List ℕ)
-usedIn e offsets str = elim (stringsAt str (entriesIn e offsets)) [ pass used ↦ used | refuse n ↦ [] ]
+-- a section cut into pieces, each as long as its header states; at most k of them
+unfoldable pub cutFrom : ℕ → Encoding → List ℕ → List (List ℕ)
+cutFrom zero e s = []
+cutFrom (suc k) e [] = []
+cutFrom (suc k) e (x ∷ s) = take (pieceSize e (x ∷ s)) (x ∷ s) ∷ cutFrom k e (drop (pieceSize e (x ∷ s)) (x ∷ s))
 
--- a str_offsets section by the table
+-- no piece is empty, so that there are no more than bytes
+unfoldable pub cut : Encoding → List ℕ → List (List ℕ)
+cut e s = cutFrom (length s) e s
+
+-- a str_offsets section by the table, piece by piece
 unfoldable pub remappedIn : Encoding → List (List ℕ) → List ℕ → List ℕ → List ℕ
-remappedIn e table offsets str = remapped e table offsets (usedIn e offsets str)
+remappedIn e table offsets str = remappedPieces e table str (cut e offsets)
 
 -- each object's, one behind the other
 unfoldable pub offsetsJoined : Encoding → List (List ℕ) → List ℕ → List Object → List ℕ
 offsetsJoined e table b os = joined (map (λ o. remappedIn e table (body b (o .parts) 6) (body b (o .parts) 11)) os)
 
--- 8 and 9 let a str_offsets pass, or there is none
+-- 8 and 9 let each piece of a str_offsets pass; there is none of an empty one
 pub record EntriesGood (e : Encoding) (offsets str : List ℕ) : Type 0 where
-  pub entries : (length offsets ≡ 0 → ⊥) → entriesOf e offsets ≡ pass (entriesIn e offsets)
+  pub headed : Headed e offsets (cut e offsets)
   pub used : List (List ℕ)
-  pub strings : stringsAt str (entriesIn e offsets) ≡ pass used
+  pub strings : stringsOfAll e str (cut e offsets) ≡ pass used
 
 -- an object's str_offsets and str, as they stand in the bundle
 abbrev pub offsetsAt : List ℕ → StrOffsets → List ℕ

@@ -44,7 +44,7 @@ pub fn copy_sections(b: &[u8], code: usize, out: &mut [u8], at: usize)
     }
 }
 
-// One object's str_offsets by the table of kept strings, where it has one.
+// One object's str_offsets by the table of kept strings, piece by piece, where it has one.
 fn remap_section(
     o: StrOffsets,
     b: &[u8],
@@ -62,7 +62,7 @@ fn remap_section(
     if offsets.size == 0 {
         return;
     }
-    strings::sections::remap_str_offsets(o, b, store, words, t, out, at);
+    strings::pieces::remap_pieces(o, b, store, words, t, out, at);
 }
 
 // Writes each object's str_offsets by the table of kept strings. The caller has filed all objects, which have one encoding, and has

@@ -107,3 +107,21 @@ row-contributed i width lengths x home at size g q c k e =
         (λ (p : has (neededCodes lengths) c ≡ true). part-good width lengths c k p (cell-is (partGood width lengths c) (cellOf i row c) k (rw p at h) (all-has (λ s. cellIs (partGood width lengths s) (cellOf i row s)) (neededCodes lengths) c a p)))
         (λ (p : has (neededCodes lengths) c ≡ false). some-none (sym (rw p at h)))
         (known (has (neededCodes lengths) c))
+
+-- what a row contributes are its own cells
+pub row-cells : (i : Index) (width : ℕ) (lengths : BySection ℕ) (x home at size : ℕ) (g : BySection (Option Contribution))
+    → rowContributions i width lengths x home at size ≡ pass g
+    → (row : ℕ) × (rowOf i (probe i x) ≡ pass row) × ((c : ℕ) (k : Contribution) → g c ≡ some k → cellOf i row c ≡ some k)
+unfolding rowContributions
+row-cells i width lengths x home at size g q =
+    let row = bind-pass (rowOf i (probe i x)) _ g q in
+    let there = require-pass (all (λ s. isSome (cellOf i (row .0) s)) (home ∷ neededCodes lengths)) 15 _ g (row .2) in
+    let own = require-pass (cellIs (ownPlace at size) (cellOf i (row .0) home)) 16 _ g (there .1) in
+    let steps = require-pass (all (λ s. cellIs (partGood width lengths s) (cellOf i (row .0) s)) (neededCodes lengths)) 16 _ g (own .1) in
+    (row .0, row .1, λ c k e. from (row .0) c k (ap (λ (h : BySection (Option Contribution)). h c) (pass-inj (steps .1)) ∙ e))
+  where
+    from : (row c : ℕ) (k : Contribution) → (elim (has (neededCodes lengths) c) as (λ b. Option Contribution) [ true ↦ cellOf i row c | false ↦ none ]) ≡ some k → cellOf i row c ≡ some k
+    from row c k h = ⊎-elim
+        (λ (p : has (neededCodes lengths) c ≡ true). rw p at h)
+        (λ (p : has (neededCodes lengths) c ≡ false). some-none (sym (rw p at h)))
+        (known (has (neededCodes lengths) c))

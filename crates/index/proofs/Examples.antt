@@ -1,16 +1,18 @@
--- Document 01's worked examples of slots and probing, its order of columns in both versions, where 10 stands, and rows by the place that they name.
+-- Document 01's worked examples of slots and probing, its order of columns in both versions, where 10 stands, rows by the place that they name, and parts that tile.
 -- Assumes nothing.
 use mathlib.Core.Path.{_≡_, refl}
 use mathlib.Core.Bool.{true, false}
 use mathlib.Core.List.{[], _∷_, map}
 use mathlib.Core.Option.{some}
+use Prim.Native.Nat.{ℕ}
 use Rattle.octets.specs.Octets.{part, zeros, littleOf, bigOf, bytesOf, numbersOf}
-use Rattle.octets.specs.Lists.{joined, those, any}
+use Rattle.octets.specs.Lists.{joined, those, all, any}
 use Rattle.octets.specs.Checked.{pass, refuse, _>>=_, require}
 use Rattle.index.specs.Columns.{columnsFour, columnsFive, columnsOf, columnIn}
-use Rattle.index.specs.Index.{Index, powerFrom, leastPower, indexOf, placeOf, cellAt, cellOf}
+use Rattle.index.specs.Index.{Index, Contribution, powerFrom, leastPower, indexOf, placeOf, cellAt, cellOf}
 use Rattle.index.specs.Probing.{Slots, found, absent, firstSlot, stride, look, search, slotsFor, freeFrom, place, placeAll, unused, slotsOf}
 use Rattle.index.specs.Rows.{isSome, cellIs, ownPlace, rowNumbers, naming, theOne, abbrevPart}
+use Rattle.index.specs.Tiles.{sameParts, startsAt, tilesFrom, tiles}
 use Rattle.index.specs.Written.{Row, presentColumns, offsetOf, sizeOf, grid, startBytes, indexWith, indexBytes}
 
 -- identities 1 and 5 in 4 slots
@@ -45,6 +47,23 @@ ByPlace =
     × (abbrevPart three 3 (6 ∷ 7 ∷ 8 ∷ 9 ∷ []) ≡ refuse 16)
     × (abbrevPart three 3 [] ≡ pass [])
 
+-- a part
+abbrev pub at : ℕ → ℕ → Contribution
+at offset size = record { offset = offset; size = size }
+
+abbrev pub Tiling : Type 0
+Tiling =
+    -- parts in any order, one of them named twice
+    (tiles (at 8 4 ∷ at 0 8 ∷ at 8 4 ∷ []) (zeros 12) ≡ pass (at 0 8 ∷ at 8 4 ∷ []))
+    -- one ends outside; two overlap; two sizes at one place; a byte in none
+    × (tiles (at 0 8 ∷ at 8 5 ∷ []) (zeros 12) ≡ refuse 34)
+    × (tiles (at 0 8 ∷ at 4 8 ∷ at 8 4 ∷ []) (zeros 12) ≡ refuse 34)
+    × (tiles (at 0 12 ∷ at 0 4 ∷ []) (zeros 12) ≡ refuse 34)
+    × (tiles (at 0 4 ∷ at 8 4 ∷ []) (zeros 12) ≡ refuse 34)
+    -- an empty section, and a part that it can't have
+    × (tiles [] [] ≡ pass [])
+    × (tiles (at 0 1 ∷ []) [] ≡ refuse 34)
+
 abbrev pub Examples : Type 0
 Examples =
     -- n to slots
@@ -72,3 +91,7 @@ examples = (refl, refl, refl, refl, refl, refl, refl)
 pub by-place : ByPlace
 unfolding those columnsFour columnsOf columnIn placeOf cellAt cellOf cellIs ownPlace rowNumbers naming theOne abbrevPart part require _>>=_
 by-place = (refl, refl, refl, refl, refl, refl, refl)
+
+pub tiling : Tiling
+unfolding startsAt sameParts tilesFrom tiles all any zeros require _>>=_
+tiling = (refl, refl, refl, refl, refl, refl, refl)

@@ -29,6 +29,7 @@ pub mod WellFormed
 pub mod Places
 pub mod Ends
 pub mod OneRow
+pub mod Tiles
 pub mod Judgements
 pub mod Filled
 pub mod Columned

@@ -24,19 +24,19 @@ use Rattle.index.specs.declared.reading.IndexRead.the-variants.{Good}
 use Rattle.index.proofs.Heads.{head-of, well-stated}
 use Rattle.index.proofs.Ends.{found-row}
 
-one-is : (rs : List ℕ) (row r : ℕ) → theOne rs ≡ pass row → has rs r ≡ true → r ≡ row
+pub one-is : (rs : List ℕ) (row r : ℕ) → theOne rs ≡ pass row → has rs r ≡ true → r ≡ row
 unfolding theOne has any
 one-is [] row r e h = absurd (pass-refuse row 15 (sym e))
 one-is (x ∷ []) row r e h = ⊎-elim (λ (p : eqb r x ≡ true). eqb-true r x p ∙ pass-inj e) (λ p. absurd (true-false p refl)) (any-cases (eqb r) x [] h)
 one-is (x ∷ y ∷ rs) row r e h = absurd (pass-refuse row 15 (sym e))
 
-numbered : (n r : ℕ) → 0 < r → r ≤ n → has (rowNumbers n) r ≡ true
+pub numbered : (n r : ℕ) → 0 < r → r ≤ n → has (rowNumbers n) r ≡ true
 unfolding rowNumbers
 numbered zero r p h = absurd (omega arith)
 numbered (suc n) r p h =
     elim (ℕ-discrete r (suc n)) [ yes e ↦ has-cons r (suc n) (rowNumbers n) e | no e ↦ has-skips r (suc n) (rowNumbers n) e ∙ numbered n r p (omega arith) ]
 
-those-has : (f : ℕ → Bool) (xs : List ℕ) (c : ℕ) → has xs c ≡ true → f c ≡ true → has (those f xs) c ≡ true
+pub those-has : (f : ℕ → Bool) (xs : List ℕ) (c : ℕ) → has xs c ≡ true → f c ≡ true → has (those f xs) c ≡ true
 unfolding has any those
 those-has f [] c h e = absurd (true-false h refl)
 those-has f (x ∷ xs) c h e = ⊎-elim
@@ -65,6 +65,10 @@ module _ (big : Bool) (s : List ℕ) (i : Index) (e : indexOf big s ≡ pass i) 
           let k = found-row big s (stated big s) w x slot looks (ap probedOf (sym f)) in
           subst (λ (m : ℕ). (0 < m) × (m ≤ read .units)) (pass-inj z) (k .counted, k .within)
 
+  -- the row where a search ends is one of the rows
+  pub row-listed : (r : ℕ) → rowOf i (probe i x) ≡ pass r → has (rowNumbers (i .units)) r ≡ true
+  row-listed r q = let c = row-counted r q in numbered (i .units) r (c .0) (c .1)
+
   -- "the lookup of the identity read must end at that row"
   pub search-ends : (width : ℕ) (lengths : BySection ℕ) (at size row : ℕ) (g : BySection (Option Contribution)) → theOne (naming i at size) ≡ pass row
       → rowContributions i width lengths x infoCode at size ≡ pass g → rowOf i (probe i x) ≡ pass row
@@ -73,6 +77,5 @@ module _ (big : Bool) (s : List ℕ) (i : Index) (e : indexOf big s ≡ pass i) 
       let r = bind-pass (rowOf i (probe i x)) _ g q in
       let there = require-pass (all (λ s. isSome (cellOf i (r .0) s)) (infoCode ∷ neededCodes lengths)) 15 _ g (r .2) in
       let own = require-pass (cellIs (ownPlace at size) (cellOf i (r .0) infoCode)) 16 _ g (there .1) in
-      let c = row-counted (r .0) (r .1) in
-      let named = those-has (λ k. cellIs (ownPlace at size) (cellOf i k infoCode)) (rowNumbers (i .units)) (r .0) (numbered (i .units) (r .0) (c .0) (c .1)) (own .0) in
+      let named = those-has (λ k. cellIs (ownPlace at size) (cellOf i k infoCode)) (rowNumbers (i .units)) (r .0) (row-listed (r .0) (r .1)) (own .0) in
       r .1 ∙ ap pass (one-is (naming i at size) row (r .0) one named)

@@ -4,6 +4,7 @@ pub mod Columns
 pub mod Index
 pub mod Probing
 pub mod Rows
+pub mod Tiles
 pub mod Written
 pub mod Held
 pub mod Answered

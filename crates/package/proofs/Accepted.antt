@@ -39,7 +39,7 @@ pub record Accepted (b p : List ℕ) : Type 0 where
   pub small : all (λ s. leb (length (s .bytes)) 8_388_607) (those nonEmpty (sectionList filing cu tu)) ≡ true
   pub is : p ≡ written (bundle .big) (packageObjects (bundle .objects) (those nonEmpty (sectionList filing cu tu)))
 
-made-judged : (m : Check (List ℕ)) (o : ℕ) (p : List ℕ) → answered m o ≡ made p → (m ≡ pass p) × (length p ≤ o)
+pub made-judged : (m : Check (List ℕ)) (o : ℕ) (p : List ℕ) → answered m o ≡ made p → (m ≡ pass p) × (length p ≤ o)
 unfolding answered
 made-judged (pass q) o p e = ⊎-elim
     (λ (t : leb (length q) o ≡ true). same q t (rw (answered, t) at e))

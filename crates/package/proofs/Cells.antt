@@ -134,7 +134,7 @@ module _ (e : Encoding) (f : Filing) (cu tu : List ℕ) (facts : FilingFacts e n
       let l : length (section (u .home)) ≡ length (unitBytes (xs ++ (u ∷ ys)) (u .home)) = ap length (home-bytes u g) ∙ ap (λ (z : List Filed). length (unitBytes z (u .home))) q in
       record { within = omega (arith, w, l); there = omega (arith, w, l, g .some); column = home-column e (u .home) (g .homes) (g .four) }
 
-  cell-shared : (u : Filed) (c : ℕ) (k : Contribution) → Good e u → Lies nothingBefore (f .inputs) u → u .contributions c ≡ some k
+  pub cell-shared : (u : Filed) (c : ℕ) (k : Contribution) → Good e u → Lies nothingBefore (f .inputs) u → u .contributions c ≡ some k
       → CellFacts e section c (record { offset = u .bases c + k .offset; size = k .size })
   unfolding lengths
   cell-shared u c k g l q =

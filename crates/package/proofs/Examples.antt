@@ -21,9 +21,11 @@ use Rattle.index.specs.Columns
 use Rattle.index.specs.Index
 use Rattle.index.specs.Probing
 use Rattle.index.specs.Rows
+use Rattle.index.specs.Tiles
 use Rattle.index.specs.Written as IndexWritten
 use Rattle.package.specs.Filing
 use Rattle.package.specs.Input
+use Rattle.package.specs.Pieces
 use Rattle.package.specs.Pack
 use Rattle.octets.specs.Octets.{zeros, numbersOf}
 use Rattle.package.specs.Pack.{Answer, packed, refused, short, made}
@@ -34,7 +36,7 @@ one word sections = numbersOf false 4 ((0xF000_0000 ∷ word ∷ sections) ++ ((
 
 -- with work and output enough
 abbrev pub pack : List ℕ → Answer
-pack b = packed b (5 * length b) 300
+pack b = packed b (5 * length b) 400
 
 abbrev pub four : ℕ
 four = 0x1008_0404
@@ -150,9 +152,49 @@ Tables =
     × (pack (one four (twoRooted ++ table ++ twoRows 2 2 20)) ≡ made (one four (twoRooted ++ table ++ twoRows 2 2 20)))
     × (pack (one four (rooted ++ table ++ twoRows 0 0 20)) ≡ made (one four (rooted ++ table ++ cuIndex (0 ∷ 0 ∷ 20 ∷ 9 ∷ []))))
 
+-- ---- packages of version 5
+-- a str_offsets of one entry, whose header states a length, and its str
+abbrev pub strings : ℕ → List ℕ
+strings length = 0x2300_000C ∷ length ∷ 5 ∷ 0 ∷ 0x2580_0001 ∷ 0 ∷ []
+
+-- an index of version 5 for identity 1 with columns info, abbrev and str_offsets: its section's word, and its row
+abbrev pub indexFive : ℕ → List ℕ → List ℕ
+indexFive word row = (word ∷ 5 ∷ 3 ∷ 1 ∷ 2 ∷ 0 ∷ 0 ∷ 1 ∷ 0 ∷ 0 ∷ 1 ∷ 1 ∷ 3 ∷ 6 ∷ []) ++ row
+
+abbrev pub packaged : ℕ → List ℕ → List ℕ
+packaged length row = one five (unit 5 1 ++ abbreviations ++ strings length ++ indexFive 0x2600_004C row)
+
+-- two units of identities 1 and 2, a str_offsets of two parts with an entry each, and a str of four bytes; where both units' parts start, and the second one's size
+abbrev pub twoParts : ℕ → ℕ → ℕ → ℕ → ℕ → ℕ → List ℕ
+twoParts entry other text start next size =
+    one five
+    ((0x2080_0028 ∷ 0x10 ∷ 0x805_0005 ∷ 0 ∷ 1 ∷ 0 ∷ 0x10 ∷ 0x805_0005 ∷ 0 ∷ 2 ∷ 0 ∷ []) ++ abbreviations
+    ++ (0x2300_0018 ∷ 8 ∷ 5 ∷ entry ∷ 8 ∷ 5 ∷ other ∷ 0x2580_0004 ∷ text ∷ 0x2600_007C ∷ 5 ∷ 3 ∷ 2 ∷ 4 ∷ 0 ∷ 0 ∷ 1 ∷ 0 ∷ 2 ∷ 0 ∷ 0 ∷ 0 ∷ 0 ∷ 1 ∷ 2 ∷ 0 ∷ 1 ∷ 3 ∷ 6 ∷ [])
+    ++ (0 ∷ 0 ∷ start ∷ 20 ∷ 0 ∷ next ∷ 20 ∷ 1 ∷ 12 ∷ 20 ∷ 1 ∷ size ∷ []))
+
+abbrev pub Packages : Type 0
+Packages =
+    -- a package as input gives itself
+    (pack (packaged 8 (0 ∷ 0 ∷ 0 ∷ 20 ∷ 1 ∷ 12 ∷ [])) ≡ made (packaged 8 (0 ∷ 0 ∷ 0 ∷ 20 ∷ 1 ∷ 12 ∷ [])))
+    -- two parts, each with its own header: both entries are remapped, and the strings stand in order of the parts' offsets, whichever unit comes first
+    × (pack (twoParts 2 0 0x62_0061 0 12 12) ≡ made (twoParts 0 2 0x61_0062 0 12 12))
+    × (pack (twoParts 2 0 0x62_0061 12 0 12) ≡ made (twoParts 0 2 0x61_0062 12 0 12))
+    -- 34: two different parts overlap
+    × (pack (twoParts 2 0 0x62_0061 0 8 16) ≡ refused 34)
+    -- 34: a part that ends outside, bytes in none, all bytes in none; it comes before 8
+    × (pack (packaged 8 (0 ∷ 0 ∷ 0 ∷ 20 ∷ 1 ∷ 16 ∷ [])) ≡ refused 34)
+    × (pack (packaged 8 (0 ∷ 0 ∷ 4 ∷ 20 ∷ 1 ∷ 8 ∷ [])) ≡ refused 34)
+    × (pack (packaged 9 (0 ∷ 0 ∷ 0 ∷ 20 ∷ 1 ∷ 0 ∷ [])) ≡ refused 34)
+    -- 8: the header of a part states another length
+    × (pack (packaged 9 (0 ∷ 0 ∷ 0 ∷ 20 ∷ 1 ∷ 12 ∷ [])) ≡ refused 8)
+    -- 6: a second info beside tu_index; 10: an index of version 2; 15: no index for the unit's table
+    × (pack (one five (unit 5 1 ++ unit 5 2 ++ abbreviations ++ strings 8 ++ indexFive 0x2680_004C (0 ∷ 0 ∷ 0 ∷ 20 ∷ 1 ∷ 12 ∷ []))) ≡ refused 6)
+    × (pack (one five (unit 5 1 ++ abbreviations ++ cuIndex (0 ∷ 0 ∷ 20 ∷ 1 ∷ []))) ≡ refused 10)
+    × (pack (one five (unit 5 1 ++ abbreviations ++ strings 8 ++ indexFive 0x2680_004C (0 ∷ 0 ∷ 0 ∷ 20 ∷ 1 ∷ 12 ∷ []))) ≡ refused 15)
+
 abbrev pub Examples : Type 0
-Examples = Refusals × Tables
+Examples = Refusals × Tables × Packages
 
 pub examples : Examples
-unfolding Checked._>>=_ Checked.require Lists.joined Lists.those Lists.all Lists.any Lists.same Lists.has Lists.distinct Lists.zeroTogether Octets.part Octets.little Octets.bigFrom Octets.number Octets.numberAt Octets.numbersIn Octets.littleOf Octets.bigOf Octets.bytesOf Octets.numbersOf Octets.zeros Bundle.filledUp Bundle.objectStep Bundle.sectionStep Bundle.endStep Bundle.stepOf Bundle.stepAt Bundle.followed Bundle.itemsFrom Bundle.items Bundle.leading Bundle.objectsOf Bundle.objectFirst Bundle.bundleOf Bundle.lengthGood Bundle.partsOf Bundle.count Bundle.firstPart Bundle.body Encoding.encodingOf Encoding.encodingGood BundleWritten.wordBytes BundleWritten.headBytes BundleWritten.sectionBytes BundleWritten.objectBytes BundleWritten.endBytes BundleWritten.written Leb128.groups Leb128.short Leb128.unsigned Leb128.signedSize Abbreviations.attributeAt Abbreviations.attributesThen Abbreviations.attributesFrom Abbreviations.attributesOf Abbreviations.declarationAt Abbreviations.declarationsThen Abbreviations.declarationsFrom Abbreviations.declarationsOf Abbreviations.declarationOf Forms.forms Forms.widthIn Forms.zeroEnded Forms.valueSize Root.needed Root.plainValue Root.valueOf Root.identityAt Root.identityIn Root.rootTag Root.rootIdentity UnitRead.lengthField UnitRead.unitSize UnitRead.isFive UnitRead.addressPlace UnitRead.commonSize UnitRead.behindCommon UnitRead.identityFive UnitRead.identityFour UnitRead.identityOf UnitRead.unitBy Strings.headerSize Strings.headerTrue Strings.entriesIn Strings.entriesOf Strings.upToZero Strings.stringAt Strings.stringsAt Strings.put Strings.putAll Strings.firstUses Strings.ended Strings.strOf Strings.offsetIn Strings.remapped Columns.columnsFour Columns.columnsFive Columns.columnsOf Columns.columnIn Index.versionOf Index.columnsMost Index.codeGood Index.powerFrom Index.leastPower Index.slotsGood Index.layout Index.indexOf Index.placeOf Index.cellAt Index.cellOf Probing.firstSlot Probing.stride Probing.look Probing.search Probing.probe Probing.slotsFor Probing.freeFrom Probing.place Probing.placeAll Probing.unused Probing.slotsOf Rows.shared Rows.neededCodes Rows.isSome Rows.rowOf Rows.cellIs Rows.ownPlace Rows.partGood Rows.rowContributions Rows.rowNumbers Rows.naming Rows.theOne Rows.abbrevPart Rows.wholeContributions IndexWritten.presentColumns IndexWritten.offsetOf IndexWritten.sizeOf IndexWritten.grid IndexWritten.startBytes IndexWritten.indexWith IndexWritten.indexBytes Filing.isUnder Filing.indexFor Filing.lengths Filing.indexByPlace Filing.abbreviationsFor Filing.contributionsOf Filing.skipped Filing.unitAt Filing.unitsFrom Filing.unitsIn Filing.grown Filing.filingFrom Filing.firstWord Filing.filingOf Filing.keep Filing.keepAll Filing.kept Input.present Input.repeated Input.wrongEdition Input.onlyOnce Input.editionGood Input.complete Input.usedStrings Input.inputIndex Input.unitSections Input.inputOf Pack.cells Pack.longer Pack.entriesFrom Pack.rowsOf Pack.unitBytes Pack.sharedBytes Pack.allUsed Pack.stringTable Pack.sectionList Pack.nonEmpty Pack.packageSections Pack.packageObjects Pack.judged Pack.answered Pack.packed
-examples = ((refl, refl, refl, refl, refl, refl, refl, refl, refl, refl, refl, refl, refl, refl, refl, refl, refl, refl, refl, refl, refl, refl, refl, refl, refl, refl, refl, refl, refl), (refl, refl, refl, refl, refl))
+unfolding Checked._>>=_ Checked.require Lists.joined Lists.those Lists.all Lists.any Lists.same Lists.has Lists.distinct Lists.zeroTogether Octets.part Octets.little Octets.bigFrom Octets.number Octets.numberAt Octets.numbersIn Octets.littleOf Octets.bigOf Octets.bytesOf Octets.numbersOf Octets.zeros Bundle.filledUp Bundle.objectStep Bundle.sectionStep Bundle.endStep Bundle.stepOf Bundle.stepAt Bundle.followed Bundle.itemsFrom Bundle.items Bundle.leading Bundle.objectsOf Bundle.objectFirst Bundle.bundleOf Bundle.lengthGood Bundle.partsOf Bundle.count Bundle.firstPart Bundle.body Encoding.encodingOf Encoding.encodingGood BundleWritten.wordBytes BundleWritten.headBytes BundleWritten.sectionBytes BundleWritten.objectBytes BundleWritten.endBytes BundleWritten.written Leb128.groups Leb128.short Leb128.unsigned Leb128.signedSize Abbreviations.attributeAt Abbreviations.attributesThen Abbreviations.attributesFrom Abbreviations.attributesOf Abbreviations.declarationAt Abbreviations.declarationsThen Abbreviations.declarationsFrom Abbreviations.declarationsOf Abbreviations.declarationOf Forms.forms Forms.widthIn Forms.zeroEnded Forms.valueSize Root.needed Root.plainValue Root.valueOf Root.identityAt Root.identityIn Root.rootTag Root.rootIdentity UnitRead.lengthField UnitRead.unitSize UnitRead.isFive UnitRead.addressPlace UnitRead.commonSize UnitRead.behindCommon UnitRead.identityFive UnitRead.identityFour UnitRead.identityOf UnitRead.unitBy Strings.headerSize Strings.headerTrue Strings.entriesIn Strings.entriesOf Strings.upToZero Strings.stringAt Strings.stringsAt Strings.put Strings.putAll Strings.firstUses Strings.ended Strings.strOf Strings.offsetIn Strings.remapped Columns.columnsFour Columns.columnsFive Columns.columnsOf Columns.columnIn Index.versionOf Index.columnsMost Index.codeGood Index.powerFrom Index.leastPower Index.slotsGood Index.layout Index.indexOf Index.placeOf Index.cellAt Index.cellOf Probing.firstSlot Probing.stride Probing.look Probing.search Probing.probe Probing.slotsFor Probing.freeFrom Probing.place Probing.placeAll Probing.unused Probing.slotsOf Rows.shared Rows.neededCodes Rows.isSome Rows.rowOf Rows.cellIs Rows.ownPlace Rows.partGood Rows.rowContributions Rows.rowNumbers Rows.naming Rows.theOne Rows.abbrevPart Rows.wholeContributions IndexWritten.presentColumns IndexWritten.offsetOf IndexWritten.sizeOf IndexWritten.grid IndexWritten.startBytes IndexWritten.indexWith IndexWritten.indexBytes Filing.isUnder Filing.indexFor Filing.lengths Filing.indexByPlace Filing.abbreviationsFor Filing.contributionsOf Filing.skipped Filing.unitAt Filing.unitsFrom Filing.unitsIn Filing.grown Filing.filingFrom Filing.firstWord Filing.filingOf Filing.keep Filing.keepAll Filing.kept Input.present Input.repeated Input.wrongEdition Input.onlyOnce Input.editionGood Input.complete Input.besideInfo Input.formOf Input.inputIndex Input.wholePieces Input.isPacked Input.tiledPieces Input.unitSections Input.openedWhole Input.openedTiled Input.opened Input.inputOf Pieces.pieceOf Pieces.piecesOf Pieces.usedIn Pieces.remappedAll Tiles.notEmpty Tiles.namedIn Tiles.namedBy Tiles.named Tiles.sameParts Tiles.startsAt Tiles.tilesFrom Tiles.tiles Filing.isPackage Pack.cells Pack.longer Pack.entriesFrom Pack.rowsOf Pack.unitBytes Pack.sharedBytes Pack.allUsed Pack.stringTable Pack.sectionList Pack.nonEmpty Pack.packageSections Pack.packageObjects Pack.judged Pack.answered Pack.packed
+examples = ((refl, refl, refl, refl, refl, refl, refl, refl, refl, refl, refl, refl, refl, refl, refl, refl, refl, refl, refl, refl, refl, refl, refl, refl, refl, refl, refl, refl, refl), (refl, refl, refl, refl, refl), (refl, refl, refl, refl, refl, refl, refl, refl, refl, refl, refl))

@@ -1,18 +1,21 @@
 -- What is known of each unit that was filed, and where its object's sections lie.
 -- Assumes nothing.
 use mathlib.Core.Path.{_≡_, refl, sym, ap, _∙_, subst}
-use mathlib.Core.Logic.{_⊎_, _↔_, ⊎-elim}
-use mathlib.Core.Bool.{Bool, true, false}
+use mathlib.Core.Logic.{_⊎_, _↔_, inl, inr, ⊎-elim}
+use mathlib.Core.Bool.{Bool, true, false, not}
 use mathlib.Core.List.{List, [], _∷_, _++_, map}
 use mathlib.Core.Option.{Option, some, none}
-use Prim.Native.Nat.{ℕ, zero, suc, _+_, _^_, _<_, _≤_}
+use Prim.Native.Nat.{ℕ, zero, suc, _+_, _*_, _/_, _%_, _^_, _<_, _≤_}
+use native.Mathlib.Nat.{mul-zero, div-add-mod}
 use native.Mathlib.Omega.{arith}
+use native.Mathlib.Decide.{ℕ-discrete}
 use lib.Dec.{eqb}
 use lib.ListN.{length, drop}
 use lib.Seq.{take-length}
-use Rattle.octets.specs.Lists.{any, sum}
-use Rattle.octets.specs.Checked.{Check, pass}
-use Rattle.octets.proofs.Checks.{bind-pass, pass-inj, pass-refuse, known}
+use borrow.Author.Tests.{not-true}
+use Rattle.octets.specs.Lists.{any, sum, joined}
+use Rattle.octets.specs.Checked.{Check, pass, _>>=_, require}
+use Rattle.octets.proofs.Checks.{bind-pass, require-pass, pass-inj, pass-refuse, known}
 use Rattle.octets.proofs.Numbers.{Bytes, bytes-drop, bytes-left}
 use Rattle.bundle.specs.Bundle.{Object}
 use Rattle.bundle.specs.Encoding.{Encoding, encodingOf}
@@ -23,19 +26,24 @@ use Rattle.unit.proofs.Alone.{unit-alone, type-table}
 use Rattle.unit.proofs.UnitFacts.{unit-facts}
 use Rattle.index.specs.Index.{Index, Contribution}
 use Rattle.index.specs.Rows.{BySection, rowContributions, wholeContributions}
-use Rattle.index.proofs.Contributions.{Contributed, Whole, whole-contributed, row-contributed}
+use Rattle.index.specs.Tiles.{named}
+use Rattle.index.proofs.Contributions.{Contributed, whole-contributed, row-contributed, row-cells}
+use Rattle.index.proofs.OneRow.{row-listed}
+use Rattle.index.proofs.Tiles.{isOne, one-left, one-right, named-one}
+use Rattle.package.specs.Pieces.{Piece}
 use Rattle.package.specs.Input.{Input, inputOf}
-use Rattle.package.specs.Filing.{Filed, Filing, isUnder, indexFor, lengths, contributionsOf, skipped, unitAt, unitsFrom, unitsIn, grown, filingFrom}
+use Rattle.package.specs.Filing.{Filed, Filing, isUnder, indexFor, lengths, isPackage, contributionsOf, skipped, unitAt, unitsFrom, unitsIn, grown, filingFrom}
 use Rattle.package.specs.Units.{IsUnit}
 use Rattle.bundle.proofs.Every.{Every, nothing, also}
 use Rattle.package.proofs.Each.{each-head, each-tail, each-append, each-snoc, each-so}
-use Rattle.package.proofs.Inputs.{InputFacts, UnitSection, input-facts}
+use Rattle.package.proofs.Pieces.{InPiece}
+use Rattle.package.proofs.Inputs.{IndexRead, InputFacts, UnitSection, input-facts}
 use Rattle.package.proofs.Units.{readingOf, unit-taken, read-at}
 
 -- ---- contributions
--- each lies in its section; in version 5 it is the whole section
+-- each lies in its section, and one to str_offsets in a piece of it
 abbrev pub Contributes : Encoding → Input → BySection (Option Contribution) → Type 0
-Contributes e i g = (c : ℕ) (k : Contribution) → g c ≡ some k → Contributed (e .width) (lengths i) c k × (e .version ≡ 5 → Whole (lengths i) c k)
+Contributes e i g = (c : ℕ) (k : Contribution) → g c ≡ some k → Contributed (e .width) (lengths i) c k × (c ≡ 6 → (k .size ≡ 0) ⊎ InPiece e (i .pieces) k)
 
 some-none : {A : Type 0} {a : A} {P : Type 0} → some a ≡ none → P
 some-none e = let z : _≡_ {A = ℕ} 0 1 = cc in absurd (omega arith)
@@ -50,16 +58,60 @@ contributes-skipped e i table g q = ⊎-elim
     (λ (t : eqb table 1 ≡ false). subst (Contributes e i) (pass-inj (rw (skipped, t) at q)) (contributes-none e i))
     (known (eqb table 1))
 
-contributes-whole : (e : Encoding) (i : Input) → Contributes e i (wholeContributions (lengths i))
-contributes-whole e i c k q = let r = whole-contributed (e .width) (lengths i) c k q in (r .0, λ v. r .1)
+-- the entries that stand before a part
+begins : (width n : ℕ) (k : Contribution) → ((k .offset ≡ 0) × (k .size ≡ n)) ⊎ ((k .offset % width ≡ 0) × (k .size % width ≡ 0)) → (m : ℕ) × (k .offset ≡ width * m)
+begins width n k c = ⊎-elim
+    (λ (w : (k .offset ≡ 0) × (k .size ≡ n)). (0, w .0 ∙ sym (mul-zero width)))
+    (λ (w : (k .offset % width ≡ 0) × (k .size % width ≡ 0)). (k .offset / width, omega (arith, w .0, div-add-mod (k .offset) width)))
+    c
 
 module _ (e : Encoding) (i : Input) (facts : InputFacts e i) where
+  -- the section is one piece
+  in-whole : (c : ℕ) (k : Contribution) → isPackage i ≡ false → Contributed (e .width) (lengths i) c k → c ≡ 6 → (k .size ≡ 0) ⊎ InPiece e (i .pieces) k
+  unfolding lengths
+  in-whole c k n d six =
+      let lies : Contributed (e .width) (lengths i) 6 k = subst (λ (b : ℕ). Contributed (e .width) (lengths i) b k) six d in
+      let p = facts .strings .one n (lies .some) in
+      let m = begins (e .width) (length (i .bytes 6)) k (⊎-elim (λ w. inl w) (λ w. inr (w refl)) (lies .parts)) in
+      inr (in-first (p .0) m (p .1) (lies .within) (ap length (p .2)))
+    where
+      in-first : (p : Piece) (m : (m : ℕ) × (k .offset ≡ e .width * m)) → i .pieces ≡ p ∷ [] → k .offset + k .size ≤ length (i .bytes 6) → length (p .bytes) ≡ length (i .bytes 6) → InPiece e (i .pieces) k
+      in-first p m z w l = record { before = []; piece = p; behind = []; stands = z; entries = m .0; begins = unfold joined in (omega (arith, m .1)); within = omega (arith, m .1, w, l) }
+
+  -- a part that a row names is one
+  index-one : (table : ℕ) (x : Index) (c : Contribution) → indexFor i table ≡ some x → isOne (named (some x)) c ≡ true → isOne (named (i .cuIndex) ++ named (i .tuIndex)) c ≡ true
+  unfolding indexFor
+  index-one table x c t h = ⊎-elim
+      (λ (z : eqb table 1 ≡ true). one-left (named (i .cuIndex)) (named (i .tuIndex)) c (ap (λ (o : Option Index). isOne (named o) c) (rw (indexFor, z) at t) ∙ h))
+      (λ (z : eqb table 1 ≡ false). one-right (named (i .cuIndex)) (named (i .tuIndex)) c (ap (λ (o : Option Index). isOne (named o) c) (rw (indexFor, z) at t) ∙ h))
+      (known (eqb table 1))
+
+  index-read : (table : ℕ) (x : Index) → indexFor i table ≡ some x → IndexRead x
+  unfolding indexFor
+  index-read table x t = ⊎-elim
+      (λ (z : eqb table 1 ≡ true). facts .cuRead x (rw (indexFor, z) at t))
+      (λ (z : eqb table 1 ≡ false). facts .tuRead x (rw (indexFor, z) at t))
+      (known (eqb table 1))
+
+  contributes-whole : isPackage i ≡ false → Contributes e i (wholeContributions (lengths i))
+  contributes-whole n c k q = let r = whole-contributed (e .width) (lengths i) c k q in (r .0, in-whole c k n (r .0))
+
   contributes-row : (x : Index) (table identity home at size : ℕ) (g : BySection (Option Contribution)) → indexFor i table ≡ some x
       → rowContributions x (i .encoding .width) (lengths i) identity home at size ≡ pass g → Contributes e i g
-  contributes-row x table identity home at size g t q c k h = (
-    row-contributed x (e .width) (lengths i) identity home at size g (ap (λ (d : Encoding). rowContributions x (d .width) (lengths i) identity home at size) (sym (facts .encoded)) ∙ q) c k h,
-    λ v. absurd (facts .indexes table x t v),
-  )
+  contributes-row x table identity home at size g t q c k h =
+      let d = row-contributed x (e .width) (lengths i) identity home at size g (ap (λ (d : Encoding). rowContributions x (d .width) (lengths i) identity home at size) (sym (facts .encoded)) ∙ q) c k h in
+      let cells = row-cells x (i .encoding .width) (lengths i) identity home at size g q in
+      let read = index-read table x t in
+      let listed = row-listed (read .0) (read .1) x (read .2) identity (cells .0) (cells .1) in (
+        d,
+        λ six. ⊎-elim
+            (λ (y : isPackage i ≡ true). elim (ℕ-discrete (k .size) 0) [
+              | yes z ↦ inl z
+              | no z ↦ inr (facts .strings .parts y k (index-one table x k t (named-one x (cells .0) k listed (cells .2 6 k (ap g (sym six) ∙ h)) (omega arith))))
+            ])
+            (λ (y : isPackage i ≡ false). in-whole c k y d six)
+            (known (isPackage i)),
+      )
 
   contributes-filed : (home at : ℕ) (u : UnitRead) (g : BySection (Option Contribution)) → contributionsOf i home at u ≡ pass g → Contributes e i g
   unfolding contributionsOf
@@ -68,10 +120,12 @@ module _ (e : Encoding) (i : Input) (facts : InputFacts e i) where
       from : (o : Option Index) → indexFor i (u .table) ≡ o
           → (elim o as (λ z. Check (BySection (Option Contribution))) [
             | some x ↦ rowContributions x (i .encoding .width) (lengths i) (u .identity) home at (u .size)
-            | none ↦ pass (wholeContributions (lengths i))
+            | none ↦ require (not (isPackage i)) 15 >>= λ _. pass (wholeContributions (lengths i))
           ]) ≡ pass g → Contributes e i g
       from (some x) t r = contributes-row x (u .table) (u .identity) home at (u .size) g t r
-      from none t r = subst (Contributes e i) (pass-inj r) (contributes-whole e i)
+      from none t r =
+          let n = require-pass (not (isPackage i)) 15 _ g r in
+          subst (Contributes e i) (pass-inj (n .1)) (contributes-whole (not-true (isPackage i) (n .0)))
 
 -- ---- one unit
 pub record Good (e : Encoding) (u : Filed) : Type 0 where

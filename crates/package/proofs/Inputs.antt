@@ -1,32 +1,35 @@
--- What is known of an object that passed 4 to 10.
+-- What is known of an object that passed 4 to 10 and 34.
 -- Assumes nothing.
-use mathlib.Core.Path.{_≡_, refl, sym, ap, _∙_, subst}
+use mathlib.Core.Path.{_≡_, refl, sym, ap, ap₂, _∙_, subst}
 use mathlib.Core.Logic.{_⊎_, inl, inr, ⊎-elim}
 use mathlib.Core.Bool.{Bool, true, false, not, _&&_, _||_}
-use mathlib.Core.List.{List, [], _∷_}
+use mathlib.Core.List.{List, [], _∷_, _++_}
 use mathlib.Core.Option.{Option, some, none}
-use Prim.Native.Nat.{ℕ, _-_, _/_, _%_, _≤_}
-use native.Mathlib.Nat.{zero-div}
+use Prim.Native.Nat.{ℕ, _≤_}
 use native.Mathlib.Omega.{arith}
 use lib.Dec.{eqb}
 use lib.ListN.{length}
 use borrow.Author.Tests.{eqb-true, eqb-false, eq-eqb, ne-eqb, leb-false, not-true}
-use Rattle.octets.specs.Octets.{part, numbersIn}
+use Rattle.octets.specs.Octets.{part}
 use Rattle.octets.specs.Lists.{all, any, those, has}
 use Rattle.octets.specs.Checked.{pass}
-use Rattle.octets.proofs.Checks.{bind-pass, require-pass, pass-inj, known, and-left, or-cases}
+use Rattle.octets.proofs.Checks.{bind-pass, require-pass, pass-inj, known, true-false, and-left, or-cases}
 use Rattle.octets.proofs.Lists.{those-keeps, those-skips}
 use Rattle.octets.proofs.Numbers.{Bytes, bytes-none, bytes-part}
 use Rattle.bundle.specs.Bundle.{Part, Object, partsOf, count, firstPart, body}
 use Rattle.bundle.specs.Encoding.{Encoding, encodingOf, encodingGood}
 use Rattle.bundle.specs.Written.{Section}
-use Rattle.strings.specs.Strings.{headerSize, headerTrue, entriesIn, entriesOf, stringsAt}
-use Rattle.index.specs.Index.{Index, indexOf}
-use Rattle.index.specs.Rows.{BySection}
+use Rattle.unit.specs.UnitRead.{isFive}
+use Rattle.index.specs.Index.{Index, Contribution, indexOf}
+use Rattle.index.specs.Rows.{BySection, isSome}
+use Rattle.index.specs.Tiles.{named}
 use Rattle.index.proofs.Contributions.{all-has}
-use Rattle.package.specs.Input.{Input, present, repeated, wrongEdition, onlyOnce, editionGood, complete, usedStrings, inputIndex, unitSections, inputOf}
-use Rattle.package.specs.Filing.{indexFor}
+use Rattle.index.proofs.Tiles.{isOne}
+use Rattle.package.specs.Pieces.{Piece}
+use Rattle.package.specs.Input.{Input, present, repeated, wrongEdition, onlyOnce, besideInfo, editionGood, complete, formOf, inputIndex, wholePieces, isPacked, tiledPieces, unitSections, Opened, openedWhole, openedTiled, opened, inputOf}
+use Rattle.package.specs.Filing.{isPackage}
 use Rattle.bundle.proofs.Every.{Every, nothing, also}
+use Rattle.package.proofs.Pieces.{PiecesFacts, InPiece, whole-facts, tiled-facts}
 use Rattle.package.proofs.Each.{each-those, each-map, each-so, each-both, each-all, each-passed}
 
 -- ---- sections that are there and that aren't
@@ -75,11 +78,11 @@ unfolding editionGood
 no-wrong-edition e ps c h g =
     let a = all (λ d. not (present ps d)) (wrongEdition e) in
     let b = all (λ d. not (repeated ps d)) onlyOnce in
-    let m = not (present ps 12 && repeated ps 1) in
+    let m = not (besideInfo e ps && repeated ps 1) in
     let n = not (present ps 13 && repeated ps 2) in
     not-true (present ps c) (all-has (λ d. not (present ps d)) (wrongEdition e) c (and-left a b (and-left (a && b) m (and-left (a && b && m) n h))) g)
 
-pub wrong-five : (e : Encoding) (c : ℕ) → e .version ≡ 5 → has (2 ∷ 5 ∷ 7 ∷ 12 ∷ 13 ∷ []) c ≡ true → has (wrongEdition e) c ≡ true
+pub wrong-five : (e : Encoding) (c : ℕ) → e .version ≡ 5 → has (2 ∷ 5 ∷ 7 ∷ []) c ≡ true → has (wrongEdition e) c ≡ true
 unfolding wrongEdition
 wrong-five e c v h = rw (wrongEdition, eq-eqb (e .version) 5 v) h
 
@@ -114,63 +117,42 @@ unit-sections b e ps h g =
     })
     (each-both (each-passed f ps) (each-those f ps (unit-codes e ps g))))
 
--- ---- 8 and 9
-pub record StringFacts (e : Encoding) (offsets str : List ℕ) (used : List (List ℕ)) : Type 0 where
-  -- nothing, or a header and whole entries
-  pub shape : (offsets ≡ []) ⊎ ((headerTrue e offsets ≡ true) × ((length offsets - headerSize e) % e .width ≡ 0))
-  pub strings : stringsAt str (entriesIn e offsets) ≡ pass used
-
-pub no-entries : (e : Encoding) → entriesIn e [] ≡ []
-unfolding entriesIn numbersIn
-no-entries e = rw (none-of (headerSize e) (e .width))
-  where
-    none-of : (h w : ℕ) → (0 - h) / w ≡ 0
-    none-of h w = let z : 0 - h ≡ 0 = omega arith in rw z (zero-div w)
-
-pub used-facts : (e : Encoding) (b : List ℕ) (ps : List Part) (used : List (List ℕ)) → usedStrings e ps (body b ps) ≡ pass used
-    → StringFacts e (body b ps 6) (body b ps 11) used
-unfolding usedStrings entriesOf stringsAt
-used-facts e b ps used q = ⊎-elim
-    (λ (t : present ps 6 ≡ true).
-    let es = bind-pass (entriesOf e (body b ps 6)) (stringsAt (body b ps 11)) used (rw (usedStrings, t) at q) in
-    let head = require-pass (headerTrue e (body b ps 6)) 8 _ (es .0) (es .1) in
-    let whole = require-pass (eqb ((length (body b ps 6) - headerSize e) % e .width) 0) 8 _ (es .0) (head .1) in
-    record { shape = inr (head .0, eqb-true _ _ (whole .0)); strings = ap (stringsAt (body b ps 11)) (pass-inj (whole .1)) ∙ es .2 })
-    (λ (t : present ps 6 ≡ false).
-    let n = absent-body b ps 6 t in
-    record { shape = inl n; strings = ap (λ (s : List ℕ). stringsAt (body b ps 11) (entriesIn e s)) n ∙ ap (stringsAt (body b ps 11)) (no-entries e) ∙ rw (usedStrings, t) at q })
-    (known (present ps 6))
-
 -- ---- 10
-no-index : (e : Encoding) (ps : List Part) (bytes : BySection (List ℕ)) (c : ℕ) (o : Option Index) → present ps c ≡ false → inputIndex e ps bytes c ≡ pass o → o ≡ none
-unfolding inputIndex
-no-index e ps bytes c o t q = sym (pass-inj (rw (inputIndex, t) at q))
+-- it is there where the section is
+pub index-there : (e : Encoding) (ps : List Part) (bytes : BySection (List ℕ)) (c : ℕ) (o : Option Index) → inputIndex e ps bytes c ≡ pass o → isSome o ≡ present ps c
+unfolding inputIndex isSome
+index-there e ps bytes c o q = ⊎-elim
+    (λ (t : present ps c ≡ true).
+    let r = bind-pass (indexOf (e .big) (bytes c)) _ o (rw (inputIndex, t) at q) in
+    let v = require-pass (eqb (r .0 .version) (formOf e)) 10 _ o (r .2) in
+    ap isSome (sym (pass-inj (v .1))) ∙ sym t)
+    (λ (t : present ps c ≡ false). ap isSome (sym (pass-inj (rw (inputIndex, t) at q))) ∙ sym t)
+    (known (present ps c))
 
 -- ---- all of it
 -- an index that was read from some bytes
 abbrev pub IndexRead : Index → Type 0
 IndexRead x = (big : Bool) × (s : List ℕ) × (indexOf big s ≡ pass x)
 
+-- version 5 with an index: a part that a row names is a piece; otherwise a section that is not empty is one
+pub record Pieced (e : Encoding) (i : Input) : Type 0 where
+  pub facts : PiecesFacts e (i .bytes 6) (i .bytes 11) (i .pieces)
+  pub one : isPackage i ≡ false → (length (i .bytes 6) ≡ 0 → ⊥) → (p : Piece) × (i .pieces ≡ p ∷ []) × (p .bytes ≡ i .bytes 6)
+  pub parts : isPackage i ≡ true → (c : Contribution) → isOne (named (i .cuIndex) ++ named (i .tuIndex)) c ≡ true → InPiece e (i .pieces) c
+
 pub record InputFacts (e : Encoding) (i : Input) : Type 0 where
   pub encoded : i .encoding ≡ e
   pub good : encodingGood e ≡ true
   pub areBytes : (c : ℕ) → Bytes (i .bytes c)
-  -- sections of the wrong edition are empty, and version 5 has no indexes
+  -- sections of the wrong edition are empty
   pub edition : (c : ℕ) → has (wrongEdition e) c ≡ true → i .bytes c ≡ []
-  pub indexes : (table : ℕ) (x : Index) → indexFor i table ≡ some x → e .version ≡ 5 → ⊥
   pub cuRead : (x : Index) → i .cuIndex ≡ some x → IndexRead x
+  pub tuRead : (x : Index) → i .tuIndex ≡ some x → IndexRead x
   pub sections : Every (UnitSection e) (i .units)
-  pub strings : StringFacts e (i .bytes 6) (i .bytes 11) (i .used)
+  pub strings : Pieced e i
 
 some-none : {A : Type 0} {a : A} {P : Type 0} → some a ≡ none → P
 some-none e = let z : _≡_ {A = ℕ} 0 1 = cc in absurd (omega arith)
-
-no-indexes : (cu tu : Option Index) (table : ℕ) (x : Index) → cu ≡ none → tu ≡ none
-    → (elim (eqb table 1) as (λ b. Option Index) [ true ↦ cu | false ↦ tu ]) ≡ some x → ⊥
-no-indexes cu tu table x p q h = ⊎-elim
-    (λ (t : eqb table 1 ≡ true). some-none (sym (rw t at h) ∙ p))
-    (λ (t : eqb table 1 ≡ false). some-none (sym (rw t at h) ∙ q))
-    (known (eqb table 1))
 
 some-inj : {A : Type 0} {a b : A} → some a ≡ some b → a ≡ b
 some-inj e = cc
@@ -181,37 +163,74 @@ unfolding inputIndex
 index-read e ps bytes c o q x h = ⊎-elim
     (λ (t : present ps c ≡ true).
     let r = bind-pass (indexOf (e .big) (bytes c)) _ o (rw (inputIndex, t) at q) in
-    let v = require-pass (eqb (r .0 .version) 2) 10 _ o (r .2) in
+    let v = require-pass (eqb (r .0 .version) (formOf e)) 10 _ o (r .2) in
     (e .big, bytes c, r .1 ∙ ap pass (some-inj (pass-inj (v .1) ∙ h))))
     (λ (t : present ps c ≡ false). some-none (sym h ∙ sym (pass-inj (rw (inputIndex, t) at q))))
     (known (present ps c))
 
-made : (b : List ℕ) (e : Encoding) (ps : List Part) (used : List (List ℕ)) (cu tu : Option Index) → Bytes b → encodingGood e ≡ true → editionGood e ps ≡ true
-    → usedStrings e ps (body b ps) ≡ pass used → inputIndex e ps (body b ps) 12 ≡ pass cu → inputIndex e ps (body b ps) 13 ≡ pass tu
-    → InputFacts e (record { encoding = e; bytes = body b ps; units = unitSections b ps; used = used; cuIndex = cu; tuIndex = tu })
-unfolding indexFor has any
-made b e ps used cu tu h g d u c t = record {
+-- ---- what was opened
+pub record OpenedParts (e : Encoding) (ps : List Part) (bytes : BySection (List ℕ)) (t : Opened) : Type 0 where
+  pub cuIndex : inputIndex e ps bytes 12 ≡ pass (t .cuIndex)
+  pub tuIndex : inputIndex e ps bytes 13 ≡ pass (t .tuIndex)
+  pub whole : isPacked e ps ≡ false → wholePieces e ps bytes ≡ pass (t .pieces)
+  pub tiled : isPacked e ps ≡ true → tiledPieces e bytes (t .cuIndex) (t .tuIndex) ≡ pass (t .pieces)
+
+pub opened-parts : (e : Encoding) (ps : List Part) (bytes : BySection (List ℕ)) (t : Opened) → opened e ps bytes ≡ pass t → OpenedParts e ps bytes t
+unfolding opened openedWhole openedTiled
+opened-parts e ps bytes t q = ⊎-elim
+    (λ (z : isPacked e ps ≡ true).
+    let cu = bind-pass (inputIndex e ps bytes 12) _ t (rw (opened, z) at q) in
+    let tu = bind-pass (inputIndex e ps bytes 13) _ t (cu .2) in
+    let pieces = bind-pass (tiledPieces e bytes (cu .0) (tu .0)) _ t (tu .2) in
+    subst (OpenedParts e ps bytes) (pass-inj (pieces .2)) (record { cuIndex = cu .1; tuIndex = tu .1; whole = λ y. absurd (true-false z y); tiled = λ y. pieces .1 }))
+    (λ (z : isPacked e ps ≡ false).
+    let pieces = bind-pass (wholePieces e ps bytes) _ t (rw (opened, z) at q) in
+    let cu = bind-pass (inputIndex e ps bytes 12) _ t (pieces .2) in
+    let tu = bind-pass (inputIndex e ps bytes 13) _ t (cu .2) in
+    subst (OpenedParts e ps bytes) (pass-inj (tu .2)) (record { cuIndex = cu .1; tuIndex = tu .1; whole = λ y. pieces .1; tiled = λ y. absurd (true-false y z) }))
+    (known (isPacked e ps))
+
+-- an object and what was opened of it
+abbrev pub inputFrom : List ℕ → Encoding → List Part → Opened → Input
+inputFrom b e ps t = record { encoding = e; bytes = body b ps; units = unitSections b ps; pieces = t .pieces; cuIndex = t .cuIndex; tuIndex = t .tuIndex }
+
+pub packed-is : (b : List ℕ) (e : Encoding) (ps : List Part) (t : Opened) → OpenedParts e ps (body b ps) t → isPackage (inputFrom b e ps t) ≡ isPacked e ps
+unfolding isPackage isPacked isFive
+packed-is b e ps t o =
+    ap₂ (λ (x y : Bool). eqb (e .version) 5 && (x || y)) (index-there e ps (body b ps) 12 (t .cuIndex) (o .cuIndex)) (index-there e ps (body b ps) 13 (t .tuIndex) (o .tuIndex))
+
+pub pieced : (b : List ℕ) (e : Encoding) (ps : List Part) (t : Opened) → OpenedParts e ps (body b ps) t → Pieced e (inputFrom b e ps t)
+pieced b e ps t o = ⊎-elim
+    (λ (z : isPacked e ps ≡ true).
+    let f = tiled-facts e (body b ps) (t .cuIndex) (t .tuIndex) (t .pieces) (o .tiled z) in
+    record { facts = f .facts; one = λ y n. absurd (true-false z (sym (packed-is b e ps t o) ∙ y)); parts = λ y. f .parts })
+    (λ (z : isPacked e ps ≡ false).
+    let f = whole-facts e b ps (t .pieces) (absent-body b ps 6) (o .whole z) in
+    record { facts = f .facts; one = λ y. f .one; parts = λ y. absurd (true-false y (packed-is b e ps t o ∙ z)) })
+    (known (isPacked e ps))
+
+made : (b : List ℕ) (e : Encoding) (ps : List Part) (t : Opened) → Bytes b → encodingGood e ≡ true → editionGood e ps ≡ true → OpenedParts e ps (body b ps) t → InputFacts e (inputFrom b e ps t)
+made b e ps t h g d o = record {
   encoded = refl;
   good = g;
   areBytes = λ k. bytes-body b ps k h;
   edition = λ k w. absent-body b ps k (no-wrong-edition e ps k d w);
-  indexes = λ table x q v. no-indexes cu tu table x
-      (no-index e ps (body b ps) 12 cu (no-wrong-edition e ps 12 d (wrong-five e 12 v refl)) c)
-      (no-index e ps (body b ps) 13 tu (no-wrong-edition e ps 13 d (wrong-five e 13 v refl)) t) q;
-  cuRead = index-read e ps (body b ps) 12 cu c;
+  cuRead = index-read e ps (body b ps) 12 (t .cuIndex) (o .cuIndex);
+  tuRead = index-read e ps (body b ps) 13 (t .tuIndex) (o .tuIndex);
   sections = unit-sections b e ps h d;
-  strings = used-facts e b ps used u;
+  strings = pieced b e ps t o;
 }
 
 -- an object that passed, check by check
+abbrev pub openedOf : Input → Opened
+openedOf i = record { pieces = i .pieces; cuIndex = i .cuIndex; tuIndex = i .tuIndex }
+
 pub record InputParts (b : List ℕ) (big : Bool) (first : ℕ) (o : Object) (i : Input) : Type 0 where
   pub good : encodingGood (encodingOf big (o .word)) ≡ true
   pub word : o .word ≡ first
   pub edition : editionGood (encodingOf big (o .word)) (o .parts) ≡ true
-  pub used : usedStrings (encodingOf big (o .word)) (o .parts) (body b (o .parts)) ≡ pass (i .used)
-  pub cuIndex : inputIndex (encodingOf big (o .word)) (o .parts) (body b (o .parts)) 12 ≡ pass (i .cuIndex)
-  pub tuIndex : inputIndex (encodingOf big (o .word)) (o .parts) (body b (o .parts)) 13 ≡ pass (i .tuIndex)
-  pub is : i ≡ record { encoding = encodingOf big (o .word); bytes = body b (o .parts); units = unitSections b (o .parts); used = i .used; cuIndex = i .cuIndex; tuIndex = i .tuIndex }
+  pub opens : opened (encodingOf big (o .word)) (o .parts) (body b (o .parts)) ≡ pass (openedOf i)
+  pub is : i ≡ inputFrom b (encodingOf big (o .word)) (o .parts) (openedOf i)
 
 pub input-parts : (b : List ℕ) (big : Bool) (first : ℕ) (o : Object) (i : Input) → inputOf b big first o ≡ pass i → InputParts b big first o i
 unfolding inputOf
@@ -222,11 +241,18 @@ input-parts b big first o i q =
     let five = require-pass (eqb (o .word) first) 5 _ i (four .1) in
     let six = require-pass (editionGood e ps) 6 _ i (five .1) in
     let seven = require-pass (complete ps) 7 _ i (six .1) in
-    let used = bind-pass (usedStrings e ps (body b ps)) _ i (seven .1) in
-    let cu = bind-pass (inputIndex e ps (body b ps) 12) _ i (used .2) in
-    let tu = bind-pass (inputIndex e ps (body b ps) 13) _ i (cu .2) in
-    subst (InputParts b big first o) (pass-inj (tu .2))
-    (record { good = four .0; word = eqb-true (o .word) first (five .0); edition = six .0; used = used .1; cuIndex = cu .1; tuIndex = tu .1; is = refl })
+    let t = bind-pass (opened e ps (body b ps)) _ i (seven .1) in
+    subst (InputParts b big first o) (pass-inj (t .2))
+    (record { good = four .0; word = eqb-true (o .word) first (five .0); edition = six .0; opens = t .1; is = refl })
+
+-- its indexes
+pub input-cu : (b : List ℕ) (big : Bool) (first : ℕ) (o : Object) (i : Input) → InputParts b big first o i
+    → inputIndex (encodingOf big (o .word)) (o .parts) (body b (o .parts)) 12 ≡ pass (i .cuIndex)
+input-cu b big first o i p = opened-parts (encodingOf big (o .word)) (o .parts) (body b (o .parts)) (openedOf i) (p .opens) .cuIndex
+
+pub input-tu : (b : List ℕ) (big : Bool) (first : ℕ) (o : Object) (i : Input) → InputParts b big first o i
+    → inputIndex (encodingOf big (o .word)) (o .parts) (body b (o .parts)) 13 ≡ pass (i .tuIndex)
+input-tu b big first o i p = opened-parts (encodingOf big (o .word)) (o .parts) (body b (o .parts)) (openedOf i) (p .opens) .tuIndex
 
 pub input-bytes : (b : List ℕ) (big : Bool) (first : ℕ) (o : Object) (i : Input) → InputParts b big first o i → (c : ℕ) → i .bytes c ≡ body b (o .parts) c
 input-bytes b big first o i p c = ap (λ (j : Input). j .bytes c) (p .is)
@@ -236,5 +262,5 @@ input-facts b big first o i h q =
     let p = input-parts b big first o i q in
     let e = encodingOf big (o .word) in
     subst (InputFacts (encodingOf big first)) (sym (p .is))
-    (subst (λ (w : ℕ). InputFacts (encodingOf big w) (record { encoding = e; bytes = body b (o .parts); units = unitSections b (o .parts); used = i .used; cuIndex = i .cuIndex; tuIndex = i .tuIndex }))
-    (p .word) (made b e (o .parts) (i .used) (i .cuIndex) (i .tuIndex) h (p .good) (p .edition) (p .used) (p .cuIndex) (p .tuIndex)))
+    (subst (λ (w : ℕ). InputFacts (encodingOf big w) (inputFrom b e (o .parts) (openedOf i)))
+    (p .word) (made b e (o .parts) (openedOf i) h (p .good) (p .edition) (opened-parts e (o .parts) (body b (o .parts)) (openedOf i) (p .opens))))

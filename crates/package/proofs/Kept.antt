@@ -196,7 +196,7 @@ each-kept us e = each-keepAll [] us nothing e
 unfoldable pub identitiesIn : ℕ → List Filed → List ℕ
 identitiesIn t us = map (λ u. u .identity) (those (λ u. eqb (u .table) t) us)
 
-identities-append : (t : ℕ) (us vs : List Filed) → identitiesIn t (us ++ vs) ≡ identitiesIn t us ++ identitiesIn t vs
+pub identities-append : (t : ℕ) (us vs : List Filed) → identitiesIn t (us ++ vs) ≡ identitiesIn t us ++ identitiesIn t vs
 unfolding identitiesIn
 identities-append t us vs =
     ap (map (λ (u : Filed). u .identity)) (those-append (λ (u : Filed). eqb (u .table) t) us vs)

@@ -61,7 +61,7 @@ contributed i home at u = go (indexFor i (u .table)) refl
   where
     go : (o : Option Index) → indexFor i (u .table) ≡ o → Numbered (contributionsOf i home at u)
     go (some x) e = rw (contributionsOf, e) (binds _ _ (row x _) (λ r. binds _ _ (requires _ 15 refl) (λ _. binds _ _ (requires _ 16 refl) (λ _. binds _ _ (requires _ 16 refl) (λ _. passes _)))))
-    go none e = rw (contributionsOf, e) (passes _)
+    go none e = rw (contributionsOf, e) (binds _ _ (requires _ 15 refl) (λ _. passes _))
 
 -- ---- its abbreviations
 one : (rs : List ℕ) → Numbered (theOne rs)

@@ -1,4 +1,4 @@
--- Packing refuses by 1 to 16 and by 19, and by 18 where the output is too short.
+-- Packing refuses by 1 to 16, by 19 and by 34, and by 18 where the output is too short.
 -- Assumes nothing.
 use mathlib.Core.Path.{_≡_, sym, ap, _∙_}
 use mathlib.Core.Logic.{_⊎_, inl, inr, ⊎-elim}
@@ -8,6 +8,7 @@ use Prim.Native.Nat.{ℕ, _*_, _/_, _%_, _≤_}
 use native.Mathlib.Omega.{arith}
 use lib.Dec.{leb}
 use lib.ListN.{length}
+use Rattle.numbers.specs.Refusals.{badParts}
 use Rattle.numbers.specs.Limits.{workForWord}
 use Rattle.octets.specs.Lists.{all}
 use Rattle.octets.specs.Checked.{Check, pass, refuse}
@@ -19,9 +20,9 @@ use Rattle.package.specs.Filing.{filingOf, firstWord}
 use Rattle.package.specs.Pack.{packageSections, judged, refused, answered, packed}
 use Rattle.package.proofs.OverObjects.{filing-numbered}
 
--- a number from 1 to 16, or 19
+-- a number from 1 to 16, or 19 or 34
 abbrev pub Refusal : ℕ → Type 0
-Refusal n = ((1 ≤ n) × (n ≤ 16)) ⊎ (n ≡ 19)
+Refusal n = ((1 ≤ n) × (n ≤ 16)) ⊎ (n ≡ 19) ⊎ (n ≡ badParts)
 
 judged-refuses : (b : List ℕ) (w n : ℕ) → judged b w ≡ refuse n → Refusal n
 unfolding judged
@@ -32,9 +33,9 @@ judged-refuses b w n q = ⊎-elim
     (λ two. ⊎-elim
     (λ e. inl (omega (arith, bundle-only b .is n e), omega (arith, bundle-only b .is n e)))
     (λ k. ⊎-elim
-    (λ e. inl (filing-numbered b (k .0) .is n e, filing-numbered b (k .0) .most n e))
+    (λ e. ⊎-elim (λ l. inl (filing-numbered b (k .0) .is n e, l)) (λ z. inr (inr z)) (filing-numbered b (k .0) .most n e))
     (λ f. ⊎-elim
-    (λ e. inr (sym (e .1)))
+    (λ e. inr (inl (sym (e .1))))
     (λ e. absurd (pass-refuse _ n (e .1)))
     (require-refuse (all (λ (s : Section). leb (length (s .bytes)) 8_388_607) (packageSections (k .0 .big) (firstWord (k .0 .objects) % 256) (f .0))) 19 _ n (f .2)))
     (bind-refuse (filingOf b (k .0)) _ n (k .2)))

@@ -12,7 +12,7 @@ use Rattle.octets.specs.Octets.{part}
 use Rattle.octets.specs.Lists.{joined, sum}
 use Rattle.octets.proofs.Joined.{map-append, joined-append}
 use Rattle.octets.proofs.Parts.{part-append-behind, part-append-front}
-use Rattle.strings.specs.Strings.{remapped}
+use Rattle.package.specs.Pieces.{remappedAll}
 use Rattle.package.specs.Input.{Input}
 use Rattle.package.specs.Pack.{sharedBytes}
 use Rattle.bundle.proofs.Every.{Every, nothing}
@@ -21,9 +21,9 @@ use Rattle.package.proofs.Filing.{lengthsIn}
 
 -- what an object gives to shared section c
 unfoldable pub given : List (List ℕ) → ℕ → Input → List ℕ
-given table c i = elim (eqb c 6) [ true ↦ remapped (i .encoding) table (i .bytes 6) (i .used) | false ↦ i .bytes c ]
+given table c i = elim (eqb c 6) [ true ↦ remappedAll (i .encoding) table (i .pieces) | false ↦ i .bytes c ]
 
-pub given-strings : (table : List (List ℕ)) (i : Input) → given table 6 i ≡ remapped (i .encoding) table (i .bytes 6) (i .used)
+pub given-strings : (table : List (List ℕ)) (i : Input) → given table 6 i ≡ remappedAll (i .encoding) table (i .pieces)
 unfolding given
 given-strings table i = refl
 
@@ -41,7 +41,7 @@ unfolding sharedBytes given
 shared-given table is c = from (eqb c 6) refl
   where
     from : (t : Bool) → eqb c 6 ≡ t → sharedBytes table is c ≡ joined (map (given table c) is)
-    from true e = rw (sharedBytes, e) (ap joined (map-same (λ i. remapped (i .encoding) table (i .bytes 6) (i .used)) (given table c) (λ i. rw (given, e)) is))
+    from true e = rw (sharedBytes, e) (ap joined (map-same (λ i. remappedAll (i .encoding) table (i .pieces)) (given table c) (λ i. rw (given, e)) is))
     from false e = rw (sharedBytes, e) (ap joined (map-same (λ i. i .bytes c) (given table c) (λ i. rw (given, e)) is))
 
 -- each object gives as many bytes as its section has

@@ -31,7 +31,7 @@ use Rattle.index.proofs.OneRow.{search-ends}
 use Rattle.package.specs.Input.{Input, unitSections, inputOf}
 use Rattle.package.specs.Filing.{Filed, Filing, isUnder, indexFor, lengths, skipped, indexByPlace, abbreviationsFor, contributionsOf, unitAt, unitsFrom, unitsIn, grown, filingFrom, firstWord, filingOf}
 use Rattle.package.specs.Units.{ReadAt, FillSection, FillSections, FillObjects}
-use Rattle.package.proofs.Inputs.{IndexRead, input-parts, index-read}
+use Rattle.package.proofs.Inputs.{IndexRead, input-parts, input-cu, index-read}
 
 -- ---- one unit
 -- the reading that gives a unit
@@ -222,7 +222,7 @@ objects-fill b big first bases earlier (o ∷ os) f q =
     let rest = bind-pass (filingFrom b big first (grown bases (i .0)) (earlier ++ here .0) os) _ f (here .2) in
     let units : f .units ≡ here .0 ++ rest .0 .units = ap (λ (g : Filing). g .units) (sym (pass-inj (rest .2))) in
     let sections : i .0 .units ≡ unitSections b (o .parts) = ap (λ (z : Input). z .units) (p .is) in
-    let good : (x : Index) → i .0 .cuIndex ≡ some x → IndexRead x = index-read _ (o .parts) (body b (o .parts)) 12 (i .0 .cuIndex) (p .cuIndex) in
+    let good : (x : Index) → i .0 .cuIndex ≡ some x → IndexRead x = index-read _ (o .parts) (body b (o .parts)) 12 (i .0 .cuIndex) (input-cu b big first o (i .0) p) in
     let m = sections-fill (i .0) bases earlier good (i .0 .units) [] (here .0) (here .1) in
     let n = objects-fill b big first (grown bases (i .0)) (earlier ++ here .0) os (rest .0) (rest .1) in
     let filled : FillSections (i .0) (unitSections b (o .parts)) (here .0) =

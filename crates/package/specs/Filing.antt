@@ -1,11 +1,12 @@
 -- Unit by unit: each is read (11 to 13) and filed (14 to 16) before the next one, object by object.
 -- Assumes nothing.
-use mathlib.Core.Bool.{Bool, true, false, not, _&&_}
+use mathlib.Core.Bool.{Bool, true, false, not, _&&_, _||_}
 use mathlib.Core.List.{List, [], _∷_, _++_}
 use mathlib.Core.Option.{Option, some, none}
 use Prim.Native.Nat.{ℕ, zero, suc, _+_}
 use lib.Dec.{eqb}
 use lib.ListN.{length, take, drop}
+use Rattle.numbers.specs.Refusals.{noRow}
 use Rattle.numbers.specs.Sections.{infoCode, abbrevCode}
 use Rattle.octets.specs.Octets.{part}
 use Rattle.octets.specs.Lists.{any, same}
@@ -16,7 +17,7 @@ use Rattle.bundle.specs.Written.{Section}
 use Rattle.unit.specs.UnitRead.{UnitRead, isFive, unitBy}
 use Rattle.strings.specs.Strings.{entriesIn, stringsAt}
 use Rattle.index.specs.Index.{Index, Contribution}
-use Rattle.index.specs.Rows.{BySection, rowContributions, wholeContributions, naming, theOne, abbrevPart}
+use Rattle.index.specs.Rows.{BySection, isSome, rowContributions, wholeContributions, naming, theOne, abbrevPart}
 use Rattle.package.specs.Input.{Input, inputOf}
 
 -- a unit handed in
@@ -54,12 +55,16 @@ abbreviationsFor i home at size =
       | none ↦ pass (i .bytes abbrevCode)
     ]
 
--- 15 and 16, of a unit at a place of the section home
+-- Ticket 5: a version 5 object with an index
+unfoldable pub isPackage : Input → Bool
+isPackage i = isFive (i .encoding) && (isSome (i .cuIndex) || isSome (i .tuIndex))
+
+-- 15 and 16, of a unit at a place of the section home; 15 also where a package of version 5 has no index for the unit's table
 unfoldable pub contributionsOf : Input → ℕ → ℕ → UnitRead → Check (BySection (Option Contribution))
 contributionsOf i home at u =
     elim (indexFor i (u .table)) [
       | some x ↦ rowContributions x (i .encoding .width) (lengths i) (u .identity) home at (u .size)
-      | none ↦ pass (wholeContributions (lengths i))
+      | none ↦ require (not (isPackage i)) noRow >>= λ _. pass (wholeContributions (lengths i))
     ]
 
 -- 14: a compilation identity already seen; "A type signature already kept is skipped, and its unit adds nothing"

@@ -11,10 +11,11 @@ use Rattle.octets.specs.Lists.{joined, those, all}
 use Rattle.octets.specs.Checked.{Check, pass, refuse, _>>=_, require}
 use Rattle.bundle.specs.Bundle.{Object, Bundle, bundleOf, lengthGood}
 use Rattle.bundle.specs.Written.{Section, Sections, written}
-use Rattle.strings.specs.Strings.{firstUses, strOf, remapped}
+use Rattle.strings.specs.Strings.{firstUses, strOf}
 use Rattle.index.specs.Index.{Contribution}
 use Rattle.index.specs.Rows.{BySection}
 use Rattle.index.specs.Written.{Row, indexBytes}
+use Rattle.package.specs.Pieces.{usedIn, remappedAll}
 use Rattle.package.specs.Input.{Input}
 use Rattle.package.specs.Filing.{Filed, Filing, filingOf, firstWord, kept, Kind, repeat, namesake, countOf}
 
@@ -49,17 +50,17 @@ rowsOf ks table = map (λ e. e .row) (those (λ e. eqb (e .table) table) (entrie
 unfoldable pub unitBytes : List Filed → ℕ → List ℕ
 unitBytes ks home = joined (map (λ u. u .bytes) (those (λ u. eqb (u .home) home) ks))
 
--- "Each shared section (codes 3 to 10) is all objects' bytes joined in order, str_offsets remapped."
+-- "Each shared section (codes 3 to 10) is all objects' bytes joined in order, str_offsets remapped." A section of several pieces is remapped piece by piece.
 unfoldable pub sharedBytes : List (List ℕ) → List Input → ℕ → List ℕ
 sharedBytes table inputs c =
     elim (eqb c 6) [
-      | true ↦ joined (map (λ i. remapped (i .encoding) table (i .bytes 6) (i .used)) inputs)
+      | true ↦ joined (map (λ i. remappedAll (i .encoding) table (i .pieces)) inputs)
       | false ↦ joined (map (λ i. i .bytes c) inputs)
     ]
 
 unfoldable pub allUsed : List Input → List (List ℕ)
 allUsed [] = []
-allUsed (i ∷ is) = i .used ++ allUsed is
+allUsed (i ∷ is) = usedIn (i .pieces) ++ allUsed is
 
 unfoldable pub stringTable : List Input → List (List ℕ)
 stringTable inputs = firstUses (allUsed inputs)

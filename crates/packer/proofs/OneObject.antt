@@ -6,6 +6,7 @@ use mathlib.Core.List.{List, [], _∷_, _++_}
 use Prim.Native.Nat.{ℕ, _+_, _*_, _≤_}
 use native.Mathlib.Omega.{arith}
 use lib.ListN.{length, drop, length-append}
+use Rattle.octets.specs.Lists.{joined}
 use Rattle.octets.specs.Checked.{Check, pass, refuse}
 use Rattle.octets.proofs.Parts.{length-part}
 use Rattle.bundle.specs.Bundle.{Part, Item, Object, items, leading, body}
@@ -16,17 +17,20 @@ use Rattle.bundle.specs.declared.Scan.{Scan}
 use Rattle.bundle.proofs.Passed.{here}
 use Rattle.bundle.proofs.Every.{Every}
 use Rattle.bundle.proofs.Lies.{Lies, leading-lie}
-use Rattle.bundle.proofs.Onward.{Onward, onward, size-behind}
+use Rattle.bundle.proofs.Onward.{size-behind}
 use Rattle.bundle.proofs.Sections.{body-part}
 use Rattle.bundle.proofs.ScanFacts.{left-sections, scan-next, first-within}
-use Rattle.strings.specs.Strings.{putAll}
-use Rattle.strings.proofs.StrOffsets.{Sound, sound}
-use Rattle.strings.proofs.Callers.{strings-room}
+use Rattle.strings.specs.Strings.{entriesIn, putAll}
+use Rattle.strings.proofs.StrOffsets.{Sound, sound, entries-few}
+use Rattle.strings.proofs.Ends.{length-stringsAt}
 use Rattle.index.specs.Rows.{BySection}
-use Rattle.package.specs.Input.{Input, present, usedStrings, unitSections, inputOf}
+use Rattle.package.specs.Pieces.{Piece, usedIn}
+use Rattle.package.specs.Input.{Input, unitSections, inputOf}
 use Rattle.package.specs.Filing.{Filed, unitsIn, grown}
 use Rattle.package.specs.Pack.{allUsed, stringTable}
-use Rattle.package.proofs.Inputs.{input-parts}
+use Rattle.package.proofs.Each.{each-head, each-tail}
+use Rattle.package.proofs.Pieces.{PieceFacts, PiecesFacts, bytesOf}
+use Rattle.package.proofs.Inputs.{opened-parts, pieced, openedOf, input-parts}
 use Rattle.package.proofs.OverObjects.{input-numbered}
 use Rattle.kept.specs.State.{Held}
 use Rattle.kept.specs.declared.state.InProgress.{InProgress}
@@ -34,10 +38,10 @@ use Rattle.filing.specs.Judged.{InputIs}
 use Rattle.filing.specs.declared.objects.InputFiled.{InputFiled}
 use Rattle.filing.specs.State.{wordsIn, withStrings, StringsKept, OnlyStore}
 use Rattle.filing.specs.Answers.{AtUnit}
-use Rattle.filing.specs.ByObject.{stringsCheck, StringsIn, AtObject, InputRoom, InputRead, InputAsked, InputAnswered}
+use Rattle.filing.specs.ByObject.{StringsIn, AtObject, InputRoom, InputRead, InputAsked, InputAnswered}
 use Rattle.filing.proofs.Growing.{input-room}
 use Rattle.filing.proofs.Entering.{five-is, object-enter}
-use Rattle.filing.proofs.Snoc.{used-snoc, strings-stay, check-few}
+use Rattle.filing.proofs.Snoc.{used-snoc, strings-stay}
 use Rattle.packer.specs.declared.objects.UnitsAdded.{UnitsAdded}
 use Rattle.packer.specs.declared.objects.ObjectFiled.{ObjectFiled}
 use Rattle.packer.specs.Objects.{sectionsFrom, behindFrom, Ahead, InputReady, UnitsAddedIs, UnitsAnswered, UnitsThen, ObjectIs}
@@ -47,22 +51,40 @@ pub record ObjectParts (b : List ℕ) (e : Encoding) (ps : List Part) (i : Input
   pub encoding : i .encoding ≡ e
   pub bytes : (c : ℕ) → i .bytes c ≡ body b ps c
   pub units : i .units ≡ unitSections b ps
-  pub used : stringsCheck (i .encoding) (present ps 6) (i .bytes 6) (i .bytes 11) ≡ pass (i .used)
+  pub pieces : PiecesFacts e (i .bytes 6) (i .bytes 11) (i .pieces)
 
 object-parts : (b : List ℕ) (big : Bool) (first : ℕ) (o : Object) (i : Input) → inputOf b big first o ≡ pass i → ObjectParts b (encodingOf big first) (o .parts) i
-unfolding usedStrings stringsCheck
 object-parts b big first o i q =
     let p = input-parts b big first o i q in
-    subst (ObjectParts b (encodingOf big first) (o .parts)) (sym (p .is)) (record { encoding = ap (encodingOf big) (p .word); bytes = λ c. refl; units = refl; used = p .used })
+    let e = encodingOf big (o .word) in
+    let f = pieced b e (o .parts) (openedOf i) (opened-parts e (o .parts) (body b (o .parts)) (openedOf i) (p .opens)) .facts in
+    subst (ObjectParts b (encodingOf big first) (o .parts)) (sym (p .is)) (record {
+      encoding = ap (encodingOf big) (p .word);
+      bytes = λ c. refl;
+      units = refl;
+      pieces = subst (λ (w : ℕ). PiecesFacts (encodingOf big w) (body b (o .parts) 6) (body b (o .parts) 11) (i .pieces)) (p .word) f;
+    })
 
--- its strings take no more than its str_offsets does
-used-behind : (e : Encoding) → Sound e → (there : Bool) (o s : List ℕ) (is : List Input) (i : Input) (from place n : ℕ) → stringsCheck e there o s ≡ pass (i .used)
-    → 4 * length (allUsed is) ≤ from → from + length o ≤ place → place ≤ 4 * n → 4 * length (allUsed (is ++ (i ∷ []))) ≤ place
-used-behind e ok there o s is i from place n q h g l =
-    let a = ap length (used-snoc is i) ∙ length-append (allUsed is) (i .used) in
-    let f = check-few e there o s (i .used) q in
-    let r = strings-room e o 0 (length (allUsed is)) from n ok (omega arith) h (omega arith) in
-    omega (arith, a, f, r .1)
+-- its strings take no more than its str_offsets does: an entry takes 4 bytes or more
+used-few : (e : Encoding) (str : List ℕ) (ps : List Piece) → Sound e → Every (PieceFacts e str) ps → 4 * length (usedIn ps) ≤ length (joined (bytesOf ps))
+unfolding usedIn joined
+used-few e str [] ok f = omega arith
+used-few e str (p ∷ ps) ok f =
+    let g = each-head f in
+    omega (
+      arith,
+      length-append (p .used) (usedIn ps),
+      length-append (p .bytes) (joined (bytesOf ps)),
+      length-stringsAt str (entriesIn e (p .bytes)) (p .used) (g .strings),
+      entries-few e (p .bytes) ok,
+      used-few e str ps ok (each-tail f),
+    )
+
+used-behind : (e : Encoding) → Sound e → (o s : List ℕ) (is : List Input) (i : Input) (from place : ℕ) → PiecesFacts e o s (i .pieces)
+    → 4 * length (allUsed is) ≤ from → from + length o ≤ place → 4 * length (allUsed (is ++ (i ∷ []))) ≤ place
+used-behind e ok o s is i from place f h g =
+    let a = ap length (used-snoc is i) ∙ length-append (allUsed is) (usedIn (i .pieces)) in
+    omega (arith, a, used-few e s (i .pieces) ok (f .each), ap length (f .joins))
 
 -- ---- its sections
 module _ (b : List ℕ) (from : ℕ) (h : Ahead b from) where
@@ -85,9 +107,6 @@ module _ (b : List ℕ) (from : ℕ) (h : Ahead b from) where
       subst (λ (ps : List Part). from + length (body b ps c) ≤ placeBehind from ps) (sym parts-are)
       (let l = ap length (body-part c b (leading ahead)) ∙ length-part b (startOf (leading ahead) c) (sizeOf (leading ahead) c) (first-within b (leading ahead) c lie) in
       omega (arith, l, size-behind b c from ahead left (h .within)))
-
-  behind : Onward b from (behindFrom b from)
-  behind = subst (λ (ps : List Part). Onward b from (placeBehind from ps)) (sym parts-are) (onward b from ahead left (h .within))
 
   -- what `read_input` requires
   object-room : (big : Bool) (first : ℕ) (w : List ℕ) (st : InProgress) (bases : BySection ℕ) (is : List Input) (us : List Filed)
@@ -138,7 +157,7 @@ module _ (b : List ℕ) (from : ℕ) (h : Ahead b from) where
           pub is-checked : checked ≡ pass i
           pub parts : ObjectParts b (encodingOf big first) (sectionsFrom b from) i
           pub input : InputIs b (r .input) i
-          pub strings : StringsIn b v (r .st .strings) (putAll (stringTable is) (i .used))
+          pub strings : StringsIn b v (r .st .strings) (putAll (stringTable is) (usedIn (i .pieces)))
           pub ready : InputReady b (r .input) i from v (r .st) bases us
 
         pub object-read : r .code ≡ 0 → ObjectRead
@@ -174,9 +193,9 @@ module _ (b : List ℕ) (from : ℕ) (h : Ahead b from) where
               (record {
                 held = subst (λ (f : Bool). Held f b (wordsIn b) (behindFrom b from) v′ (q .st) (grown bases (d .i)) us′) (five-is x (encodingOf big first) (d .input .encoding ∙ d .parts .encoding)) k;
                 strings = strings-stay b v v′ (r .st) (q .st) is (d .i) (d .strings) s;
-                used = used-behind (encodingIs x) (sound x) _ (d .i .bytes 6) (d .i .bytes 11) is (d .i) from _ (wordsIn b)
-                    (subst (λ (e : Encoding). stringsCheck e (present (sectionsFrom b from) 6) (d .i .bytes 6) (d .i .bytes 11) ≡ pass (d .i .used)) (sym (d .input .encoding)) (d .parts .used))
-                    (a .used) (d .ready .sizes 6) (omega (arith, behind .within, a .held .words));
+                used = used-behind (encodingIs x) (sound x) (d .i .bytes 6) (d .i .bytes 11) is (d .i) from _
+                    (subst (λ (e : Encoding). PiecesFacts e (d .i .bytes 6) (d .i .bytes 11) (d .i .pieces)) (sym (d .input .encoding ∙ d .parts .encoding)) (d .parts .pieces))
+                    (a .used) (d .ready .sizes 6);
               })
 
           pub object-filed : ObjectIs b big first v′ bases is us checked (record { code = q .code; next = scan .next; st = q .st })

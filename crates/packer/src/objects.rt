@@ -1,4 +1,4 @@
-// The objects of a bundle, one behind the other: 4 to 16.
+// The objects of a bundle, one behind the other: 4 to 16, and 34.
 ghost use mathlib.Core.Path.{_≡_};
 ghost use Rattle.octets.specs.Checked.{pass};
 ghost use Rattle.bundle.specs.Bundle.{Bundle, bundleOf};

@@ -9,7 +9,8 @@ use lib.Seq.{take-all}
 use Rattle.octets.specs.Checked.{pass, refuse}
 use Rattle.strings.specs.Strings.{stringAt, stringsAt, put, putAll}
 use Rattle.strings.specs.Kept.{bytesAt, AddedIs}
-use Rattle.strings.specs.Objects.{tableIn, PuttingIn, PutsString}
+use Rattle.strings.specs.Objects.{tableIn, PuttingIn, PutsString, AllPut}
+use Rattle.strings.specs.declared.table.Added.{Added}
 use Rattle.strings.specs.declared.table.Added.the-variants.{Table, NoString}
 use Rattle.strings.specs.declared.table.Place.{Place}
 use Rattle.strings.specs.declared.table.StringTable.{StringTable}
@@ -37,14 +38,24 @@ module _ (b : List ℕ) (strings : Place) (words : ℕ) (store : List ℕ) (t : 
         putting = rw (putAll-snoc table (a .used) s) (p (putAll table (a .used)) s (a .putting) e);
       }
 
-  pub adding-all : length os ≤ k → AddedIs b (tableIn words store) table (stringsAt (bytesAt b strings) os) (Table t)
-  adding-all h =
+  pub adding-all : (t₀ : StringTable) → length os ≤ k → t .count ≤ t₀ .count + length os → AllPut b strings os words store t₀ table (Table t)
+  adding-all t₀ h l =
       record {
-        kept = λ u e. (a .used, sym (ap (stringsAt (bytesAt b strings)) (take-all k os h)) ∙ a .are, (let same : t ≡ u = cc in rw same at (a .putting .kept)));
+        put = λ u e. (a .used, sym (ap (stringsAt (bytesAt b strings)) (take-all k os h)) ∙ a .are, (let same : t ≡ u = cc in rw same at (a .putting)));
         missing = λ e. absurd (let z : _≡_ {A = ℕ} 0 1 = cc in omega arith);
+        few = λ u e. (let same : t ≡ u = cc in rw same at l);
       }
 
-pub adding-missing : (b region : List ℕ) (table : List (List ℕ)) (str os : List ℕ) (k o n : ℕ) → k < length os → o ≡ getD os k 0 → stringAt 9 str o ≡ refuse n
-    → AddedIs b region table (stringsAt str os) NoString
-adding-missing b region table str os k o n h q e =
-    record { kept = λ u g. absurd (let z : _≡_ {A = ℕ} 0 1 = cc in omega arith); missing = λ _. stringsAt-fails str os k n h (rw q at e) }
+pub adding-missing : (b : List ℕ) (strings : Place) (words : ℕ) (x : List ℕ) (t : StringTable) (table : List (List ℕ)) (os : List ℕ) (k o n : ℕ) → k < length os → o ≡ getD os k 0
+    → stringAt 9 (bytesAt b strings) o ≡ refuse n → AllPut b strings os words x t table NoString
+adding-missing b strings words x t table os k o n h q e =
+    record {
+      put = λ u g. absurd (let z : _≡_ {A = ℕ} 0 1 = cc in omega arith);
+      missing = λ _. stringsAt-fails (bytesAt b strings) os k n h (rw q at e);
+      few = λ u g. absurd (let z : _≡_ {A = ℕ} 0 1 = cc in omega arith);
+    }
+
+-- where no more follow
+pub put-added : (b : List ℕ) (strings : Place) (os : List ℕ) (words : ℕ) (x : List ℕ) (t : StringTable) (table : List (List ℕ)) (r : Added) → AllPut b strings os words x t table r
+    → AddedIs b (tableIn words x) table (stringsAt (bytesAt b strings) os) r
+put-added b strings os words x t table r a = record { kept = λ u e. (let p = a .put u e in (p .0, p .1, p .2 .kept)); missing = a .missing }

@@ -15,6 +15,8 @@ pub mod Places
 pub mod Storing
 pub mod Remembering
 pub mod Adding
+pub mod Headed
 pub mod Writing
+pub mod HeadedWriting
 pub mod PartEntries
 pub mod Callers

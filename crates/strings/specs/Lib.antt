@@ -6,3 +6,4 @@ pub mod Indexed
 pub mod Kept
 pub mod Remembered
 pub mod Objects
+pub mod Headed

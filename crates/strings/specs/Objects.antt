@@ -5,12 +5,14 @@ use mathlib.Core.List.{List, map}
 use Prim.Native.Nat.{ℕ, _+_, _*_, _<_, _≤_, _^_}
 use lib.ListN.{length, take, drop}
 use Rattle.octets.specs.Octets.{part, placed, numbersOf}
-use Rattle.octets.specs.Checked.{Check, pass}
+use Rattle.octets.specs.Checked.{Check, pass, refuse}
+use Rattle.numbers.specs.Refusals.{noString}
 use Rattle.bundle.specs.Encoded.{encodingIs}
-use Rattle.strings.specs.Strings.{entriesIn, stringAt, stringsAt, put, offsetIn, remapped}
+use Rattle.strings.specs.Strings.{entriesIn, stringAt, stringsAt, put, putAll, offsetIn, remapped}
 use Rattle.strings.specs.Kept.{Kept, Judged, AddedIs, Inside, bytesAt}
 use Rattle.strings.specs.Remembered.{Remembered, Putting, placeIs}
 use Rattle.strings.specs.declared.table.Added.{Added}
+use Rattle.strings.specs.declared.table.Added.the-variants.{Table, NoString}
 use Rattle.strings.specs.declared.table.Place.{Place}
 use Rattle.strings.specs.declared.table.StrOffsets.{StrOffsets}
 use Rattle.strings.specs.declared.table.StringTable.{StringTable}
@@ -74,6 +76,12 @@ pub record AllAddable (b : List ℕ) (o : StrOffsets) (words : ℕ) (store : Lis
   pub memory : words + o .strings .size ≤ length store
   pub room : 7 * (t .count + length (entriesAt o b)) ≤ words
 
+-- the strings that entries os name are put, and it is remembered which, so that those of more entries can follow; t and x are the state before and the store after
+pub record AllPut (b : List ℕ) (strings : Place) (os : List ℕ) (words : ℕ) (x : List ℕ) (t : StringTable) (table : List (List ℕ)) (r : Added) : Type 0 where
+  pub put : (u : StringTable) → r ≡ Table u → (used : List (List ℕ)) × (stringsAt (bytesAt b strings) os ≡ pass used) × PuttingIn b strings words x u (putAll table used)
+  pub missing : r ≡ NoString → stringsAt (bytesAt b strings) os ≡ refuse noString
+  pub few : (u : StringTable) → r ≡ Table u → u .count ≤ t .count + length os
+
 -- the string that starts at an offset of str is put; u and x are the state and the store after that
 abbrev pub PutsString : List ℕ → Place → ℕ → ℕ → List ℕ → StringTable → List ℕ → StringTable → Type 0
 PutsString b strings offset words store t x u =
@@ -118,6 +126,16 @@ pub record Entering (b : List ℕ) (o : StrOffsets) (words : ℕ) (store : List 
 abbrev pub EntriesPut : List ℕ → StrOffsets → ℕ → List ℕ → StringTable → List ℕ → ℕ → List ℕ → Type 0
 EntriesPut b o words store t d at x = (table used : List (List ℕ)) → Enters b o words store t table used → x ≡ placed d at (entriesOut o table used)
 
+-- and it is remembered where their strings stand, so that more entries can follow; x is the store after that
+abbrev pub PlacesStay : List ℕ → StrOffsets → ℕ → List ℕ → StringTable → List ℕ → Type 0
+PlacesStay b o words store t x = (table used : List (List ℕ)) → Enters b o words store t table used → PlacesIn b (o .strings) words x table
+
+-- a table and strings for which entries can be written
+pub record PieceHeld (b : List ℕ) (o : StrOffsets) (words : ℕ) (store : List ℕ) (t : StringTable) : Type 0 where
+  pub table : List (List ℕ)
+  pub used : List (List ℕ)
+  pub is : Enters b o words store t table used
+
 -- a word of memory for each byte of str, and room for the object's str_offsets at a place of the output
 pub record Writable (o : StrOffsets) (words : ℕ) (store d : List ℕ) (at : ℕ) : Type 0 where
   pub memory : words + o .strings .size ≤ length store
@@ -126,3 +144,7 @@ pub record Writable (o : StrOffsets) (words : ℕ) (store d : List ℕ) (at : �
 -- an object's str_offsets is written to a place of the output, by every table that is kept; x is the output after that
 abbrev pub Remaps : List ℕ → StrOffsets → ℕ → List ℕ → StringTable → List ℕ → ℕ → List ℕ → Type 0
 Remaps b o words store t d at x = (table used : List (List ℕ)) → KeptIn b words store t table → JudgedOf o b used → x ≡ placed d at (remappedOf o b table used)
+
+-- the same of one piece, whatever is remembered of str before it
+abbrev pub PieceRemaps : List ℕ → StrOffsets → ℕ → List ℕ → StringTable → List ℕ → ℕ → List ℕ → Type 0
+PieceRemaps b o words store t d at x = (table used : List (List ℕ)) → Enters b o words store t table used → x ≡ placed d at (remappedOf o b table used)

@@ -16,6 +16,9 @@ ghost use Rattle.strings.specs.Objects.{
   PlacesString,
   Entering,
   EntriesPut,
+  PlacesStay,
+  PieceHeld,
+  PieceRemaps,
   Remaps,
   Writable,
 };
@@ -63,7 +66,7 @@ fn string_offset(
     place
 }
 
-// The entries behind the header, each by the final table, in memory that is cleared.
+// The entries behind the header, each by the final table.
 fn put_entries(
     o: StrOffsets,
     b: &[u8],
@@ -76,6 +79,7 @@ fn put_entries(
     requires { ⌜ (t .over ≡ false) × Entering (now b) o words (now store) t (length (now d)) at ⌝ }
     ensures { λ _. ⌜ EntriesPut (now (b .entry)) o words (now (store .entry)) t (now (d .entry)) at (now (d .exit)) ⌝ }
     ensures { λ _. ⌜ tableIn words (now (store .exit)) ≡ tableIn words (now (store .entry)) ⌝ }
+    ensures { λ _. ⌜ PlacesStay (now (b .entry)) o words (now (store .entry)) t (now (store .exit)) ⌝ }
 {
     let e = o.encoding;
     let w = bundle::encoding::width(e);
@@ -89,6 +93,29 @@ fn put_entries(
         k += 1;
         place += w;
     }
+}
+
+// Writes one piece by the final table: the header as it was, and for each entry its string's place in str. What is remembered of str may come from other pieces.
+pub fn remap_piece(
+    o: StrOffsets,
+    b: &[u8],
+    store: &mut [u32],
+    words: usize,
+    t: StringTable,
+    d: &mut [u8],
+    at: usize,
+)
+    requires { ⌜ (t .over ≡ false) × Writable o words (now store) (now d) at × PieceHeld (now b) o words (now store) t ⌝ }
+    ensures { λ _. ⌜ PieceRemaps (now (b .entry)) o words (now (store .entry)) t (now (d .entry)) at (now (d .exit)) ⌝ }
+    ensures { λ _. ⌜ tableIn words (now (store .exit)) ≡ tableIn words (now (store .entry)) ⌝ }
+    ensures { λ _. ⌜ PlacesStay (now (b .entry)) o words (now (store .entry)) t (now (store .exit)) ⌝ }
+{
+    let h = entries::header_size(o.encoding);
+    let offsets = o.offsets;
+    let first = offsets.start;
+    let header_end = first + h;
+    octets::put_bytes(d, at, &b[first..header_end]);
+    put_entries(o, b, store, words, t, d, at + h);
 }
 
 // Writes an object's str_offsets by the final table: the header as it was, and for each entry its string's place in str. The store

@@ -28,6 +28,7 @@ ghost use Rattle.strings.specs.Objects.{
   Insertable,
   Addable,
   AllAddable,
+  AllPut,
   PutsString,
 };
 use crate::entries;
@@ -199,8 +200,8 @@ fn add_string(
     kept
 }
 
-// Puts the strings of all entries, in memory that is cleared. ended says where the last string of str ends.
-fn add_entries(
+// Puts the strings of all entries. ended says where the last string of str ends. What is remembered of str may come from other entries.
+pub fn add_entries(
     o: StrOffsets,
     b: &[u8],
     ended: usize,
@@ -209,7 +210,7 @@ fn add_entries(
     t: StringTable,
 ) -> Added
     requires { ⌜ AllAddable (now b) o words (now store) t × LastZero (bytesAt (now b) (o .strings)) ended × ((ts : List (List ℕ)) × PuttingIn (now b) (o .strings) words (now store) t ts) ⌝ }
-    ensures { λ r. ⌜ ((ts : List (List ℕ)) → PuttingIn (now (b .entry)) (o .strings) words (now (store .entry)) t ts → AddedOf (now (b .entry)) o (tableIn words (now (store .exit))) ts r) ⌝ }
+    ensures { λ r. ⌜ ((ts : List (List ℕ)) → PuttingIn (now (b .entry)) (o .strings) words (now (store .entry)) t ts → AllPut (now (b .entry)) (o .strings) (entriesAt o (now (b .entry))) words (now (store .exit)) t ts r) ⌝ }
 {
     let count = entries_of(o, b);
     let mut kept = t;

@@ -7,7 +7,7 @@ use native.Mathlib.Omega.{arith}
 use lib.ListN.{length, take, drop}
 use borrow.Rule.Slice.PartMut.{putMid}
 use Rattle.octets.specs.Octets.{part, placed}
-use Rattle.octets.proofs.Parts.{part-cut}
+use Rattle.octets.proofs.Parts.{part-cut, length-part}
 use Rattle.octets.proofs.Regions.{placed-whole, part-placed}
 use Rattle.numbers.specs.Limits.{workForWord}
 use Rattle.work.specs.Regions.{Layout, region, Only}
@@ -16,6 +16,26 @@ use Rattle.work.proofs.Stores.{Within, region-fits, length-region, stor
 pub only-same : (r : Layout) (n : ℕ) (w : List ℕ) → Only r n w w
 only-same r n w = record { same = refl; others = λ s a. refl }
 
+-- the front of a region is lent
+module _ (r : Layout) (i : Within r) (n from many : ℕ) (w : List ℕ) (room : workForWord * n ≤ length w) (ef : from ≡ r .start * n) (em : many ≤ r .words * n) where
+  front-length : length (take (from + many - from) (drop from w)) ≡ many
+  front-length = ap length (part-cut w from many) ∙ length-part w from many (omega (arith, region-fits r i n w room))
+
+  module _ (words v : List ℕ) (same : length words ≡ length (take (from + many - from) (drop from w))) (is : v ≡ putMid from (from + many - from) w words) where
+    stored : v ≡ placed w from words
+    stored = is ∙ placed-whole w from (from + many - from) words (same ∙ front-length ∙ omega arith)
+
+    pub only-front : Only r n w v
+    only-front =
+        let o : from ≡ r .start * n + 0 = omega arith in
+        let p : v ≡ placed w (r .start * n + 0) words = stored ∙ ap (λ (a : ℕ). placed w a words) o in
+        let inside : 0 + length words ≤ r .words * n = omega (arith, same ∙ front-length) in
+        record {
+          same = ap length p ∙ store-length r i n w room 0 words inside;
+          others = λ s a. ap (λ (l : List ℕ). region l n s) p ∙ others-stay r i n w room 0 words inside s a;
+        }
+
+-- all of it
 module _ (r : Layout) (i : Within r) (n from many : ℕ) (w : List ℕ) (room : workForWord * n ≤ length w) (ef : from ≡ r .start * n) (em : many ≡ r .words * n) where
   pub lent-fits : from + many ≤ length w
   lent-fits = omega (arith, region-fits r i n w room)
@@ -31,23 +51,12 @@ module _ (r : Layout) (i : Within r) (n from many : ℕ) (w : List ℕ) (room : 
   lent-length = ap length lent-is ∙ length-region r i n w room
 
   module _ (words v : List ℕ) (same : length words ≡ length lent) (is : v ≡ putMid from (from + many - from) w words) where
-    words-many : length words ≡ r .words * n
-    words-many = same ∙ lent-length
-
-    stored : v ≡ placed w from words
-    stored = is ∙ placed-whole w from (from + many - from) words (words-many ∙ omega (arith, em))
-
     pub only-lent : Only r n w v
-    only-lent =
-        let o : from ≡ r .start * n + 0 = omega arith in
-        let p : v ≡ placed w (r .start * n + 0) words = stored ∙ ap (λ (a : ℕ). placed w a words) o in
-        let inside : 0 + length words ≤ r .words * n = omega (arith, words-many) in
-        record {
-          same = ap length p ∙ store-length r i n w room 0 words inside;
-          others = λ s a. ap (λ (l : List ℕ). region l n s) p ∙ others-stay r i n w room 0 words inside s a;
-        }
+    only-lent = only-front r i n from many w room ef (omega (arith, em)) words v same is
 
     pub lent-left : region v n r ≡ words
     unfolding region
     lent-left =
-        sym (ap₂ (part v) ef words-many) ∙ ap (λ (l : List ℕ). part l from (length words)) stored ∙ part-placed w from words (omega (arith, lent-fits, words-many, em))
+        let many-words = same ∙ lent-length in
+        let p = stored r i n from many w room ef (omega (arith, em)) words v same is in
+        sym (ap₂ (part v) ef many-words) ∙ ap (λ (l : List ℕ). part l from (length words)) p ∙ part-placed w from words (omega (arith, lent-fits, many-words, em))

@@ -9,6 +9,7 @@ mod inputs;
 mod large;
 mod objects;
 mod parts;
+mod pieces;
 mod questions;
 mod random;
 mod rows;
@@ -21,6 +22,7 @@ pub use large::{long_line, many_units, strings_of, suffixes, units_of};
 pub use objects::{good, Draft, DraftObject};
 pub use questions::{question, Question};
 pub use random::Random;
+pub use rows::{pieces_of_one_place, reversed_pieces, rows_of_one_piece};
 pub use rows::{reversed_rows, rows_beside_one_place, rows_of_one_place};
 pub use spoil::damaged_call;
 

@@ -168,9 +168,31 @@ fn strings_in<'b>(object: &'b Object<'b>, part: &'b [u8], encoding: Encoding) ->
     entries.chunks(width).map(string).collect()
 }
 
+/// The parts of an object's str_offsets that have a header each: in a package of version 5 those that its rows name, each once and the empty
+/// ones left out, in order of offset; else the section. Of a bundle that packing accepts.
+pub fn pieces<'b>(object: &'b Object<'b>, big: bool) -> Vec<&'b [u8]> {
+    let whole = object.bytes(STR_OFFSETS);
+    let indexes: Vec<&[u8]> =
+        [CU_INDEX, TU_INDEX].iter().filter_map(|code| object.section(*code)).map(|s| s.bytes).collect();
+    if indexes.is_empty() || object.word & 0xFF != 5 {
+        return vec![whole];
+    }
+    let rows = |bytes: &&[u8]| {
+        let index = Index::read(bytes, big).expect("an index");
+        (1..=index.units).filter_map(|row| index.cell(row, STR_OFFSETS)).collect::<Vec<_>>()
+    };
+    let mut parts: Vec<(u64, u64)> = indexes.iter().flat_map(rows).filter(|(_, size)| *size > 0).collect();
+    parts.sort();
+    parts.dedup();
+    parts.into_iter().map(|(offset, size)| &whole[offset as usize..][..size as usize]).collect()
+}
+
 /// The strings that all entries name, object by object, each where it is named first.
 pub fn first_uses<'b>(bundle: &'b Bundle<'b>) -> Vec<&'b [u8]> {
-    let of = |object| strings_in(object, object.bytes(STR_OFFSETS), Encoding::of(bundle.big, object.word));
+    let of = |object: &'b Object<'b>| {
+        let encoding = Encoding::of(bundle.big, object.word);
+        pieces(object, bundle.big).into_iter().flat_map(move |piece| strings_in(object, piece, encoding))
+    };
     let mut seen = HashSet::new();
     bundle.objects.iter().flat_map(of).filter(|string| seen.insert(*string)).collect()
 }

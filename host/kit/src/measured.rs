@@ -4,21 +4,30 @@
 //! it reads abbreviations at the header's offset in the whole section. So its package is the measure where both come to the same as the
 //! row's own offset and the row's own part. Elsewhere the rule of DWARF stands alone, as `reference` has it.
 //!
+//! Of a version 5 package thorin takes str_offsets as one part: it writes a header of its own in front of all that follows the first 8 or 16
+//! bytes, headers of further parts among it, and it fails where the section is there and empty. So packages of version 5 with several
+//! parts, and those with an empty section, are measured by the standard alone.
+//!
 //! Since ticket 3 a table of 3, 11, 43, 171 and so on units has twice the slots that thorin gives it. There the reference alone judges the
 //! index; all else in the package is compared with thorin's.
 
 use crate::generate::{Draft, DraftObject};
-use crate::handed_in::{all, firsts};
-use crate::reference::{slot_count, Bundle, Index};
+use crate::handed_in::{all, firsts, pieces};
+use crate::reference::{slot_count, Bundle, Index, Object};
 use std::collections::HashMap;
 
+const STR_OFFSETS: u32 = 6;
 const SHARED: std::ops::RangeInclusive<u32> = 3..=10;
 
 /// Why thorin is or isn't the measure of an accepted bundle.
 #[derive(Clone, Copy, Debug, PartialEq, Eq)]
 pub enum Measure {
-    /// All rows of kept units are in step, and thorin reads the same identities.
+    /// All rows of kept units are in step, thorin reads the same identities, and no package of version 5 is of the kinds below.
     Thorin,
+    /// Some package of version 5 has several parts of str_offsets.
+    SeveralParts,
+    /// None has, but in one str_offsets is empty.
+    NoPart,
     /// Some kept unit's part doesn't start where those before it end.
     OutOfStep,
     /// All rows are in step, and the whole abbrev gives some unit another identity or none.
@@ -27,13 +36,23 @@ pub enum Measure {
 
 /// Of a bundle that packing accepts.
 pub fn measure(bundle: &Bundle) -> Measure {
-    if !is_in_step(bundle) {
+    if parts_of_packages(bundle).any(|parts| parts > 1) {
+        Measure::SeveralParts
+    } else if parts_of_packages(bundle).any(|parts| parts == 0) {
+        Measure::NoPart
+    } else if !is_in_step(bundle) {
         Measure::OutOfStep
     } else if !all(bundle).iter().all(|unit| unit.is_the_same_by_the_whole_abbrev()) {
         Measure::OtherIdentity
     } else {
         Measure::Thorin
     }
+}
+
+/// How many parts str_offsets has in each package of version 5 that has the section.
+pub fn parts_of_packages<'b>(bundle: &'b Bundle<'b>) -> impl Iterator<Item = usize> + 'b {
+    let is_package = |o: &&Object| o.word & 0xFF == 5 && o.count(12) + o.count(13) > 0 && o.count(STR_OFFSETS) > 0;
+    bundle.objects.iter().filter(is_package).map(|object| pieces(object, bundle.big).len())
 }
 
 /// Whether the part of each kept unit starts at the sum of the sizes of those before it, of its object, its table and that section.

@@ -17,7 +17,7 @@ mod unit;
 pub use barthovin::answer::Found;
 pub use bundle::{Bundle, Encoding, Object, Section};
 pub use bytes::{number, put};
-pub use index::{place, slot_count, Index, Probe};
+pub use index::{column_codes, place, slot_count, Index, Probe};
 pub use lookup::{lookup, lookup_string};
 pub use pack::{pack, pack_counted, work_for, Packed, Skipped, LONGEST_BUNDLE, WORK_FOR_A_WORD};
 pub use strings::{header_size, string_at};

@@ -128,20 +128,3 @@ pub fn lines(text: &str) -> impl Iterator<Item = &str> {
 pub fn parse_all(text: &str) -> Result<Vec<Vector>, String> {
     lines(text).map(|line| parse(line).ok_or(line.to_string())).collect()
 }
-
-/// Whether an object of version 5 has an index: a package of version 5 as input. Packing refuses it by 6 until ticket 5 is there, so that the lines of
-/// `pack-t08.txt` with such an object, which are answered with ticket 5 in force, are left out till then.
-pub fn has_index_of_version_5(bundle: &[u8]) -> bool {
-    let (mut at, mut version) = (4, 0);
-    while let Some(word) = bundle.get(at..at + 4) {
-        let word = u32::from_le_bytes(word.try_into().unwrap());
-        at += 4;
-        match word >> 28 {
-            1 => version = word & 0xFF,
-            2 if version == 5 && matches!(word >> 23 & 31, 12 | 13) => return true,
-            2 => at += (word & 0x7F_FFFF).next_multiple_of(4) as usize,
-            _ => return false,
-        }
-    }
-    false
-}

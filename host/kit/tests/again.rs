@@ -1,9 +1,21 @@
-//! A package of version 4 is an input like any other: packed again, it gives itself.
+//! A package is an input like any other: packed again as the only object, it gives itself.
+//!
+//! The premise is exactly this, for both versions:
+//!
+//! 1. it has info and abbrev, and str where it has str_offsets (else 7);
+//! 2. in version 5, each byte of its str_offsets is in the part that some row names, which is that of a kept unit (else 34);
+//! 3. each index has a column for each shared section that isn't empty (else 15).
+//!
+//! 2 holds where all units are kept and each object that has str_offsets has a unit, if no object is a package itself. It fails where an
+//! object's units are all skipped, and where an input package names a part only in rows that no unit needs: such a part is joined, as
+//! document 01 has it, and no row of the package names it. 3 fails where no unit of a table has a part of a section that others have.
 
-use kit::generate::{good, Random};
+use kit::generate::{good, Draft, Random};
+use kit::handed_in::{all, firsts, pieces};
 use kit::lender::Lender;
 use kit::reference::{pack, work_for, Bundle, Index, Object, Packed};
 use kit::vectors::words;
+use std::collections::{BTreeMap, HashSet};
 
 fn packed(bundle: &[u8]) -> Packed {
     pack(bundle, work_for(bundle), usize::MAX)
@@ -45,52 +57,118 @@ fn units_that_lack_columns() {
     assert_eq!(packed_by_the_packer(&mut lent, &package), Packed::Made(package));
 }
 
-/// Whether an index has no column for a shared section that isn't empty, since no unit of its table has a part of it: then 15.
-fn lacks_a_column(package: &[u8], big: bool) -> bool {
-    let object = object_of(package);
-    let shared: Vec<u32> = (3..=8).filter(|code| !object.bytes(*code).is_empty()).collect();
-    let indexes = [12, 13].into_iter().filter_map(|code| object.section(code));
-    indexes.filter_map(|section| Index::read(section.bytes, big)).any(|index| {
-        let has = |code: &u32| index.cell(1, *code).is_some();
-        !shared.iter().all(has)
-    })
+/// The indexes of a package.
+fn indexes(package: &Object, big: bool) -> Vec<Index> {
+    let sections = [12, 13].into_iter().filter_map(|code| package.section(code));
+    sections.map(|section| Index::read(section.bytes, big).expect("an index")).collect()
 }
 
-/// Packs packages again; how many gave themselves, and how many of them out of several objects, and how many were refused.
-fn again(bundles: usize, seed: u64, mut packed: impl FnMut(&[u8]) -> Packed) -> [usize; 3] {
+/// Whether an index has no column for a shared section that isn't empty, since no unit of its table has a part of it.
+fn lacks_a_column(package: &Object, big: bool) -> bool {
+    let shared: Vec<u32> = (3..=10).filter(|code| !package.bytes(*code).is_empty()).collect();
+    indexes(package, big).iter().any(|index| shared.iter().any(|code| index.cell(1, *code).is_none()))
+}
+
+/// Whether a byte of str_offsets is in no row's part. Parts of a written package that aren't the same don't overlap.
+fn has_a_gap(package: &Object, big: bool) -> bool {
+    let cells = |index: &Index| (1..=index.units).filter_map(|row| index.cell(row, 6)).collect::<Vec<_>>();
+    let parts: HashSet<(u64, u64)> = indexes(package, big).iter().flat_map(cells).collect();
+    parts.iter().map(|(_, size)| size).sum::<u64>() != package.bytes(6).len() as u64
+}
+
+/// What packing a package again gives: itself where the premise holds, else the number.
+fn wanted(package: &[u8], big: bool) -> Packed {
+    let object = object_of(package);
+    let has = |code| object.count(code) > 0;
+    if !has(1) || !has(3) || has(6) && !has(11) {
+        Packed::Refused(7)
+    } else if object.word & 0xFF == 5 && has_a_gap(&object, big) {
+        Packed::Refused(34)
+    } else if lacks_a_column(&object, big) {
+        Packed::Refused(15)
+    } else {
+        Packed::Made(package.to_vec())
+    }
+}
+
+/// Whether all units are kept, each object has one, and none is a package itself.
+fn is_plain(bundle: &[u8]) -> bool {
+    let bundle = Bundle::read(bundle).expect("a bundle");
+    let all = all(&bundle);
+    let has_unit = |nth: usize| all.iter().any(|unit| unit.nth == nth);
+    let plain = |(nth, object): (usize, &Object)| has_unit(nth) && object.count(12) + object.count(13) == 0;
+    all.len() == firsts(&bundle).len() && bundle.objects.iter().enumerate().all(plain)
+}
+
+/// What became of packages that were packed again, of one version.
+#[derive(Debug, Default)]
+struct Again {
+    same: usize,
+    /// Of these, those of several objects, and those whose str_offsets has several parts.
+    several: usize,
+    in_parts: usize,
+    refused: BTreeMap<u32, usize>,
+    /// Bundles of units that are all kept, and no packages.
+    plain: usize,
+}
+
+impl Again {
+    fn note(&mut self, draft: &Draft, package: &[u8], answer: &Packed) {
+        let object = object_of(package);
+        match answer {
+            Packed::Refused(number) => *self.refused.entry(*number).or_default() += 1,
+            _ => {
+                self.same += 1;
+                self.several += usize::from(draft.objects.len() > 1);
+                self.in_parts += usize::from(pieces(&object, draft.big).len() > 1);
+            }
+        }
+    }
+}
+
+/// Packs packages of a version again.
+fn again(version: u32, bundles: usize, seed: u64, mut packed: impl FnMut(&[u8]) -> Packed) -> Again {
     let mut random = Random::new(seed);
-    let mut counts = [0; 3];
+    let mut seen = Again::default();
     for _ in 0..bundles {
         let draft = good(&mut random);
-        if draft.objects.first().is_none_or(|object| object.word & 0xFF == 5) {
+        if draft.objects.first().is_none_or(|object| object.word & 0xFF != version) {
             continue;
         }
         let bundle = draft.bytes();
         let Packed::Made(package) = packed(&bundle) else { panic!("not accepted: {bundle:02X?}") };
-        let lacks = lacks_a_column(&package, draft.big);
-        let wanted = if lacks { Packed::Refused(15) } else { Packed::Made(package.clone()) };
-        // Without info, which 7 asks for, there is no input; and a package without units has no index.
-        let wanted =
-            if object_of(&package).count(1) + object_of(&package).count(3) < 2 { Packed::Refused(7) } else { wanted };
+        let wanted = wanted(&package, draft.big);
+        if is_plain(&bundle) {
+            seen.plain += 1;
+            assert_ne!(wanted, Packed::Refused(34), "{bundle:02X?}");
+        }
         assert_eq!(packed(&package), wanted, "{bundle:02X?}");
-        let made = matches!(wanted, Packed::Made(_));
-        counts[0] += usize::from(made);
-        counts[1] += usize::from(made && draft.objects.len() > 1);
-        counts[2] += usize::from(!made);
+        seen.note(&draft, &package, &wanted);
     }
-    counts
+    println!("version {version}: {seen:?}");
+    seen
+}
+
+fn enough(version: u32, seen: &Again) {
+    let refused = |number: u32| seen.refused.get(&number).copied().unwrap_or(0);
+    assert!(seen.same > 1_000 && seen.several > 300 && seen.plain > 500, "{seen:?}");
+    assert!(refused(7) > 100 && refused(15) > 100, "{seen:?}");
+    if version == 5 {
+        assert!(seen.in_parts > 150 && refused(34) > 100, "{seen:?}");
+    }
 }
 
 #[test]
 fn packages_give_themselves() {
-    let [same, several, refused] = again(10_000, 51, packed);
-    println!("{same} gave themselves, {several} of several objects; {refused} have no info or lack a column");
-    assert!(same > 2_000 && several > 1_000 && refused > 100);
+    for version in [4, 5] {
+        enough(version, &again(version, 10_000, 51, packed));
+    }
 }
 
 #[test]
 fn packages_give_themselves_through_c() {
     let mut lent = Lender::new(52);
-    let [same, several, refused] = again(10_000, 53, |bundle| packed_by_the_packer(&mut lent, bundle));
-    assert!(same > 2_000 && several > 1_000 && refused > 100);
+    for version in [4, 5] {
+        enough(version, &again(version, 10_000, 53, |bundle| packed_by_the_packer(&mut lent, bundle)));
+    }
 }

@@ -23,7 +23,7 @@ fn packing_reaches_every_number() {
         *counts.entry(packed_number(&answer)).or_insert(0) += 1;
     }
     println!("{counts:?}");
-    for number in (0..=16).chain([18]) {
+    for number in (0..=16).chain([18, 34]) {
         let reached = counts.get(&number).copied().unwrap_or(0);
         assert!(reached >= 50, "{number} was reached {reached} times: {counts:?}");
     }

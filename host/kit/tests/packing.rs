@@ -2,12 +2,14 @@
 //! word of work, whatever both held before, and nothing around them is touched. In every package that is made, what its bundle hands in
 //! is found, and nothing else.
 
+use barthovin::ffi;
 use kit::claim::Claim;
 use kit::generate::{call, long_line, many_units, reversed_rows, rows_beside_one_place, rows_of_one_place};
+use kit::generate::{pieces_of_one_place, reversed_pieces, rows_of_one_piece};
 use kit::generate::{strings_of, suffixes, Call, Random};
 use kit::lender::{Lender, Written};
 use kit::reference::{self, Packed, Skipped, LONGEST_BUNDLE, WORK_FOR_A_WORD};
-use kit::vectors::{has_index_of_version_5, parse_all, words, Vector};
+use kit::vectors::{parse_all, words, Vector};
 
 /// The small packer's limit and work.
 const SMALL_BUNDLE: usize = 1024;
@@ -34,8 +36,7 @@ fn front(bundle: &[u8]) -> &[u8] {
 }
 
 /// How often each number was answered, 0 for a package.
-#[derive(Default)]
-struct Counts([usize; 20]);
+struct Counts([usize; 35]);
 
 impl Counts {
     fn assert_reached(&self, name: &str, numbers: impl Iterator<Item = usize>) {
@@ -58,7 +59,7 @@ struct Checks {
 impl Checks {
     fn new(seed: u64) -> Checks {
         let (lent, claim) = (Lender::new(seed), Claim::new(seed, TURNS));
-        Checks { lent, counts: Counts::default(), skipped: Skipped::default(), claim }
+        Checks { lent, counts: Counts([0; 35]), skipped: Skipped::default(), claim }
     }
 
     /// The answer, and what was skipped where that is wanted too.
@@ -111,25 +112,24 @@ fn bytes(numbers: &[u32]) -> Vec<u8> {
 fn replay(text: &str, lines: usize) {
     let mut checks = Checks::new(10);
     let vectors = parse_all(text).expect("a line that is no vector");
-    let mut replayed = 0;
+    assert_eq!(vectors.len(), lines);
     for vector in vectors {
-        let Vector::Pack { bundle, work, output, answer, skipped } = vector else { continue };
-        if has_index_of_version_5(&bundle) && answer != Packed::Refused(6) {
+        if let Vector::String { package, version, table, identity, entry, answer } = &vector {
+            assert_eq!(ffi::lookup_string(package, *version, *table, *identity, *entry), *answer, "{vector:?}");
             continue;
         }
-        replayed += 1;
+        let Vector::Pack { bundle, work, output, answer, skipped } = vector else { panic!("{vector:?}") };
         checks.compare(&bundle, Some(work), output, (answer.clone(), skipped));
         // The small packer has work enough for what it takes, so that only 2 can differ.
         if bundle.len() <= SMALL_BUNDLE && answer != Packed::Refused(2) {
             checks.compare(&bundle, None, output, (answer, skipped));
         }
     }
-    assert_eq!(replayed, lines);
 }
 
 #[test]
 fn vectors() {
-    replay(include_str!("vectors/pack-t08.txt"), 366);
+    replay(include_str!("vectors/pack-t08.txt"), 449);
 }
 
 #[test]
@@ -139,7 +139,7 @@ fn directed_vectors() {
 
 #[test]
 fn vectors_with_repeats_and_namesakes() {
-    replay(include_str!("vectors/pack-t11.txt"), 339);
+    replay(include_str!("vectors/pack-t11.txt"), 437);
 }
 
 /// Some length of work or output: none, one less than needed, as needed, more.
@@ -156,7 +156,7 @@ fn generated_calls() {
         let Call { bundle, work, output } = call(&mut random);
         checks.pack(&bundle, work, output.min(1 << random.between(9, 16)));
     }
-    checks.counts.assert_reached("packing generated calls", (0..=16).chain([18]));
+    checks.counts.assert_reached("packing generated calls", (0..=16).chain([18, 34]));
     println!("skipped: {:?}", checks.skipped);
     assert!(checks.skipped.repeats >= 100 && checks.skipped.namesakes >= 100, "{:?}", checks.skipped);
 }
@@ -187,7 +187,7 @@ fn generated_calls_of_the_small_packer() {
         let Call { bundle, output, .. } = call(&mut random);
         checks.pack_small(&bundle, output.min(1 << random.between(9, 16)));
     }
-    checks.counts.assert_reached("packing generated calls, small", [0, 1, 18].into_iter().chain(3..=16));
+    checks.counts.assert_reached("packing generated calls, small", [0, 1, 18, 34].into_iter().chain(3..=16));
     assert_eq!(checks.counts.0[2], 0, "the small packer has work enough");
 }
 
@@ -364,4 +364,16 @@ fn many_rows() {
         }
     }
     assert_eq!((checks.counts.0[0], checks.counts.0[15]), (13, 5));
+}
+
+/// Packages of version 5 with many rows: all naming one part of str_offsets, in the reverse order of their parts, and parts over each other.
+#[test]
+fn many_pieces() {
+    let mut checks = Checks::new(31);
+    for rows in [1, 2, 3, 10, 1_000, 2_000] {
+        for bundle in [rows_of_one_piece(rows), reversed_pieces(rows), pieces_of_one_place(rows)] {
+            checks.pack(&bundle, needed(&bundle), 1 << 20);
+        }
+    }
+    assert_eq!((checks.counts.0[0], checks.counts.0[34]), (13, 5));
 }

@@ -79,7 +79,7 @@ pub fn packing(bytes: &[u8], number: u32, names: &Names) -> Option<Why> {
         }
         19 => too_long(&Bundle::read(bytes).ok()?).map(Why::cause),
         // Those that come object by object.
-        4..=16 => {
+        4..=16 | 34 => {
             let bundle = Bundle::read(bytes).ok()?;
             let place = place(bytes, &bundle, number)?;
             let cause = cause::of(&bundle, &place, number, names);

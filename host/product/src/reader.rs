@@ -5,6 +5,7 @@ pub mod abbreviations;
 pub mod bundle;
 pub mod index;
 pub mod package;
+pub mod pieces;
 pub mod unit;
 
 /// The number that `width` bytes from `at` on hold, or none where they are not all there.

@@ -247,12 +247,53 @@ fn refuses_packages_as_input_with_the_cause() {
     );
     let ends = "its table at byte 0 of its part of abbrev: the declaration of code 1 is ill-formed or doesn't end";
     refused(&home, &changed("742 0", "10742 1"), &format!("{twelve}: {ends}"));
-    let fifteen = "refused 15: the object's index has no row for the unit or several, or lacks a column";
+    let fifteen = "refused 15: the object has no row for the unit or several, or its index lacks a column";
     let no_row = format!("{fifteen}: {unit}: no row of cu_index names its place, 20 bytes at 0 of info");
     refused(&home, &changed("0 0 14 9", "0 0 13 9"), &no_row);
     let sixteen = "refused 16: the row of the unit in the object's index doesn't fit";
     let outside = format!("{sixteen}: {unit}: row 1 of cu_index names 10 bytes at 0 of abbrev, which has 9");
     refused(&home, &changed("0 0 14 9", "0 0 14 A"), &outside);
+}
+
+/// A package of version 5: two units, of which each has a part of str_offsets of one entry.
+const INPUT5: &str = "F0000000 10080405 20800028 10 8050005 0 1 0 10 8050005 0 2 0 21800001 61 23000018 8 5 3 8 5 0
+    2580000E 63006261 66650064 69006867 6A 2600007C 5 3 2 4 0 0 1 0 2 0 0 0 0 1 2 0 1 3 6 0 0 0 14 1 C 14 1 C 14 0 C 3000003C";
+
+/// Its type unit has no row, since there is no tu_index.
+const TYPE5: &str = "F0000000 10080405 2080002C 10 8050005 0 1 0 14 8060005 0 1 0 0 21800001 61
+    26000040 5 2 1 2 0 0 1 0 0 1 1 3 0 0 14 1 30000022";
+
+#[test]
+fn refuses_packages_of_version_5_with_the_cause() {
+    let home = directory("input5");
+    let output = run_in(&home, &["pack", "-", "-o", "-"], &bytes(INPUT5));
+    assert_eq!(status(&output), 0, "{}", message(&output));
+    let changed = |from: &str, to: &str| {
+        assert!(INPUT5.contains(from));
+        bytes(&INPUT5.replace(from, to))
+    };
+    let ten = "refused 10: an index is ill-formed: object 1: cu_index has version 2";
+    refused(&home, &changed("2600007C 5", "2600007C 2"), ten);
+    let parts = "refused 34: the parts of str_offsets overlap, have gaps or end outside the section: object 1";
+    let names = |size: u32| format!("{parts}: row 2 of cu_index names {size} bytes at 12 of str_offsets");
+    refused(&home, &changed("C 14 0 C", "C 14 0 10"), &format!("{}, which has 24", names(16)));
+    let over = format!("{}, over the part that row 1 of cu_index names", names(12));
+    refused(&home, &changed("14 1 C 14 0 C", "14 1 10 14 0 C"), &over);
+    let none = |from: u32, to: u32| format!("{parts}: bytes {from} to {to} of str_offsets are in no row's part");
+    refused(&home, &changed("14 1 C 14 0 C", "14 1 8 14 0 C"), &none(8, 11));
+    refused(&home, &changed("C 14 0 C", "C 14 0 0"), &none(12, 23));
+    let eight = "refused 8: str_offsets is ill-formed: object 1: str_offsets states a length of 9";
+    refused(
+        &home,
+        &changed("3 8 5 0", "3 9 5 0"),
+        &format!("{eight} in the part of 12 bytes at 12, and 8 bytes follow"),
+    );
+    let nine = "refused 9: an entry of str_offsets without a string: object 1: entry 0 of str_offsets";
+    let lost = "in the part of 12 bytes at 12 names byte 99 of str, which has 14, and no zero follows";
+    refused(&home, &changed("3 8 5 0", "3 8 5 63"), &format!("{nine} {lost}"));
+    let fifteen = "refused 15: the object has no row for the unit or several, or its index lacks a column";
+    let unit = "object 1, the unit at byte 20 of info, byte 32 of the bundle";
+    refused(&home, &bytes(TYPE5), &format!("{fifteen}: {unit}: its object has cu_index, and no tu_index for it"));
 }
 
 #[test]

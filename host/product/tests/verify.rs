@@ -61,7 +61,7 @@ fn what_was_packed_is_found() {
         let output = run_in(&home, &[&["verify", "out"], &files[..]].concat(), &[]);
         assert_eq!((text(&output), message(&output), status(&output)), (told.to_string(), String::new(), 0));
         // A package in the place of the file it was made of.
-        if version == 4 && files.len() == 1 {
+        if files.len() == 1 {
             assert_eq!(status(&run_in(&home, &["pack", "out", "-oagain"], &[])), 0);
             assert_eq!(text(&run_in(&home, &["verify", "again", "out"], &[])), told);
         }
@@ -69,6 +69,26 @@ fn what_was_packed_is_found() {
     let output = run_in(&home, &["verify", "-", EXAMPLE, "--json"], &bytes(PACKAGE));
     let told = "{\"verified\":true,\"units\":1,\"repeats\":0,\"namesakes\":0,\"strings\":0,\"faults\":[]}\n";
     assert_eq!((text(&output), status(&output)), (told.to_string(), 0));
+}
+
+/// A version 5 package in the place of the files that it was made of: each unit's strings are those of its part of str_offsets.
+#[test]
+fn a_package_of_version_5_is_verified_by_its_rows() {
+    for big in [false, true] {
+        let good = package(&bundle(&files(5, big)));
+        let told = verify(&good, &good).unwrap();
+        assert_eq!(told.faults, []);
+        assert_eq!((told.units, told.strings), if big { (1, 13) } else { (8, 76) });
+        // Another string in the last part: only the file's own rows tell whose it is.
+        let read = Package::read(&good).unwrap();
+        let offsets = read.object.as_ref().unwrap().section(STR_OFFSETS).unwrap();
+        let last = offsets.start + offsets.bytes.len() - if big { 1 } else { 4 };
+        let mut changed = good.clone();
+        changed[last] ^= 1;
+        let told = verify(&changed, &good).unwrap();
+        assert!(told.faults.iter().all(|fault| fault.what.ends_with(" is another")), "{:?}", told.faults);
+        assert_eq!(told.faults.len(), 1);
+    }
 }
 
 #[test]

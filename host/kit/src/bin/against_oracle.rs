@@ -2,29 +2,34 @@
 //!
 //!     against_oracle ORACLE NUMBER [SEED]
 //!     against_oracle ORACLE --sample NUMBER FILE [SEED]
+//!     against_oracle ORACLE --reference NUMBER [SEED]
 //!
 //! ORACLE is a program that packs bundles with thorin (see `kit::oracle`). NUMBER accepted bundles are compared. Where thorin is the measure
-//! (`kit::measured` has the test) its package is compared byte for byte; the others, packages as input whose rows are out of step or whose
-//! abbreviations the whole section gives otherwise, are compared with the reference alone. An index of so many units that thorin counts
+//! (`kit::measured` has the test) its package is compared byte for byte; the others, packages as input whose rows are out of step, whose
+//! abbreviations the whole section gives otherwise or whose str_offsets has several parts, are compared with the reference alone. An index of so many units that thorin counts
 //! its slots otherwise is compared with the reference's, all other sections with thorin's. It says how many were of each kind, and none may
 //! differ: docs/DIFFERENCES.md names no other difference but refusals. For each refusal it is counted what thorin did; the numbers are
 //! compared with the reference's, and where docs/DIFFERENCES.md saw thorin pack nothing, it may not pack.
 //! What an accepted bundle hands in is looked up in its package.
 //!
-//! With --sample, NUMBER accepted bundles of which thorin is the measure and a thirtieth as many of each refusal from 4 to 16 are written to
+//! With --sample, NUMBER accepted bundles of which thorin is the measure and a thirtieth as many of each refusal from 4 to 16 and of 34 are written to
 //! FILE with thorin's answers. There the proved packer has no say: which are accepted, and the numbers, are the reference's.
+//!
+//! With --reference, the reference stands in the place of the proved packer: so it is held to thorin itself.
 
+use barthovin::ffi::Skipped;
 use kit::claim::{Claim, Counts};
 use kit::generate::{call, Random};
 use kit::lender::{Lender, Written};
-use kit::measured::{by_thorins, measure, other_slots, Measure};
+use kit::measured::{by_thorins, measure, other_slots, parts_of_packages, Measure};
 use kit::oracle::Oracle;
-use kit::reference::{pack, work_for, Bundle, Packed};
+use kit::reference::{pack, pack_counted, work_for, Bundle, Object, Packed};
 use kit::sample::Told;
 use std::collections::BTreeMap;
 use std::io::{Error, Result};
 
-const USAGE: &str = "against_oracle ORACLE NUMBER [SEED], or against_oracle ORACLE --sample NUMBER FILE [SEED]";
+const USAGE: &str =
+    "against_oracle ORACLE [--reference] NUMBER [SEED], or against_oracle ORACLE --sample NUMBER FILE [SEED]";
 
 /// So many differences end the comparison: a packer that refuses everything would never be done.
 const ENOUGH: u64 = 1_000;
@@ -47,6 +52,11 @@ struct Tally {
     several: u64,
     indexed: u64,
     skipped: u64,
+    /// Those with a package of version 5; by whether its str_offsets is not there, one part, several or none.
+    fives: u64,
+    parts: [u64; 4],
+    /// Of those of one part, how many thorin measures.
+    one_by_thorin: u64,
 }
 
 /// The bytes of all units of a bundle.
@@ -64,6 +74,8 @@ impl Tally {
     fn note_accepted(&mut self, by: Measure, package: &[u8], tag: u8, bytes: &[u8]) {
         let name = match by {
             Measure::Thorin => "thorin is the measure",
+            Measure::SeveralParts => "several parts of str_offsets",
+            Measure::NoPart => "an empty str_offsets in a package",
             Measure::OutOfStep => "rows out of step",
             Measure::OtherIdentity => "another identity by the whole abbrev",
         };
@@ -78,6 +90,18 @@ impl Tally {
         self.several += u64::from(bundle.objects.len() > 1);
         self.indexed += u64::from(indexed);
         self.skipped += u64::from(unit_bytes(&package) < unit_bytes(&bundle));
+        let five = |o: &Object| o.word & 0xFF == 5 && o.count(12) + o.count(13) > 0;
+        if bundle.objects.iter().any(five) {
+            self.fives += 1;
+            let parts: Vec<usize> = parts_of_packages(&bundle).collect();
+            let kind = match (parts.iter().any(|n| *n > 1), parts.contains(&0), parts.contains(&1)) {
+                (true, ..) => 2,
+                (_, true, _) => 3,
+                (.., one) => usize::from(one),
+            };
+            self.parts[kind] += 1;
+            self.one_by_thorin += u64::from(kind == 1 && measure(&bundle) == Measure::Thorin);
+        }
     }
 
     fn differs(&mut self, bundle: &[u8]) {
@@ -100,6 +124,12 @@ impl Tally {
         }
         let (several, indexed, skipped) = (self.several, self.indexed, self.skipped);
         println!("accepted: {several} of several objects, {indexed} with an index, {skipped} with a type skipped");
+        let (fives, [without, one, more, none]) = (self.fives, self.parts);
+        print!(
+            "with a package of version 5: {fives}; str_offsets of one part {one} (thorin measures {}), ",
+            self.one_by_thorin
+        );
+        println!("of several {more} (the standard alone), empty {none}, not there {without}");
         println!("{} bundles differ", self.differences);
         if let Some(bundle) = &self.smallest {
             println!("{}", words(bundle));
@@ -154,8 +184,35 @@ impl Tally {
     }
 }
 
-fn compare(oracle: &mut Oracle, wanted: u64, seed: u64) -> Result<(Tally, Counts)> {
-    let (mut random, mut lent) = (Random::new(seed), Lender::new(seed));
+/// Who packs: the proved packer in lent memory, or the reference, with its last package.
+enum Packer {
+    Proved(Box<Lender>),
+    Reference(Vec<u8>),
+}
+
+impl Packer {
+    fn pack(&mut self, bundle: &[u8]) -> std::result::Result<Written<'_>, String> {
+        let made = match self {
+            Packer::Proved(lent) => return lent.pack_whole(bundle),
+            Packer::Reference(made) => made,
+        };
+        let (answer, counted) = pack_counted(bundle, work_for(bundle), usize::MAX);
+        let skipped = Skipped { repeats: counted.repeats, namesakes: counted.namesakes };
+        let code = match answer {
+            Packed::Made(package) => {
+                *made = package;
+                0
+            }
+            Packed::Refused(number) => number,
+            Packed::Short(_) => return Err("no output is too short".to_string()),
+        };
+        let bytes = if code == 0 { &made[..] } else { &[] };
+        Ok(Written { code, length: bytes.len(), bytes, skipped })
+    }
+}
+
+fn compare(oracle: &mut Oracle, packer: &mut Packer, wanted: u64, seed: u64) -> Result<(Tally, Counts)> {
+    let mut random = Random::new(seed);
     let (mut tally, mut claim) = (Tally::default(), Claim::new(seed, TURNS));
     let never = never_packed();
     let mut bytes = Vec::new();
@@ -164,7 +221,7 @@ fn compare(oracle: &mut Oracle, wanted: u64, seed: u64) -> Result<(Tally, Counts
         let bundle = call(&mut random).bundle;
         let wrong = |e: String| Error::other(format!("{e}: {}", words(&bundle)));
         let tag = oracle.ask(&bundle, &mut bytes)?;
-        let packing = lent.pack_whole(&bundle).map_err(wrong)?;
+        let packing = packer.pack(&bundle).map_err(wrong)?;
         if !tally.judge(&packing, &bundle, Thorins { tag, bytes: &bytes }, &never) {
             tally.differs(&bundle);
         } else if packing.code == 0 {
@@ -191,7 +248,7 @@ fn told(bundle: &[u8], tag: u8, answer: &[u8]) -> Option<Told> {
     let is_measured = || Bundle::read(&bundle).is_some_and(|read| measure(&read) == Measure::Thorin);
     match pack(&bundle, work_for(&bundle), usize::MAX) {
         Packed::Made(_) if tag == 0 && is_measured() => Some(Told::Package { bundle, package: answer.to_vec() }),
-        Packed::Refused(number @ 4..=16) => Some(Told::Refused { bundle, number, thorin }),
+        Packed::Refused(number @ (4..=16 | 34)) => Some(Told::Refused { bundle, number, thorin }),
         _ => None,
     }
 }
@@ -199,7 +256,7 @@ fn told(bundle: &[u8], tag: u8, answer: &[u8]) -> Option<Told> {
 /// So many accepted bundles, and a thirtieth as many of each refusal, in the order in which they were met.
 fn sample(oracle: &mut Oracle, wanted: usize, seed: u64) -> Result<Vec<Told>> {
     let mut random = Random::new(seed);
-    let mut left: BTreeMap<u32, usize> = (4..=16).map(|number| (number, wanted / 30)).collect();
+    let mut left: BTreeMap<u32, usize> = (4..=16).chain([34]).map(|number| (number, wanted / 30)).collect();
     left.insert(0, wanted);
     let mut lines = Vec::new();
     let mut answer = Vec::new();
@@ -235,16 +292,20 @@ fn main() -> Result<()> {
         let wanted = number(2).ok_or_else(|| Error::other(USAGE))?;
         return write_sample(path, wanted as usize, file, number(4).unwrap_or(1));
     }
-    let (Some(path), Some(wanted)) = (words.first(), number(1)) else { return Err(Error::other(USAGE)) };
-    let seed = number(2).unwrap_or(1);
+    let by_reference = words.get(1) == Some(&"--reference");
+    let first = if by_reference { 2 } else { 1 };
+    let (Some(path), Some(wanted)) = (words.first(), number(first)) else { return Err(Error::other(USAGE)) };
+    let seed = number(first + 1).unwrap_or(1);
     let start = std::time::Instant::now();
-    let (tally, claimed) = compare(&mut Oracle::start(path)?, wanted, seed)?;
+    let mut packer =
+        if by_reference { Packer::Reference(Vec::new()) } else { Packer::Proved(Box::new(Lender::new(seed))) };
+    let (tally, claimed) = compare(&mut Oracle::start(path)?, &mut packer, wanted, seed)?;
     tally.print();
     println!("{claimed}");
     println!("{:.1} seconds, seed {seed}", start.elapsed().as_secs_f64());
     if tally.differences > 0 {
         return Err(Error::other(
-            "the proved packer differs from thorin, or from the reference where thorin isn't the measure",
+            "the packer differs from thorin, or from the reference where thorin isn't the measure",
         ));
     }
     Ok(())

@@ -22,7 +22,7 @@ fn damage_draft(random: &mut Random, draft: &mut Draft) {
     }
     let at = random.below(draft.objects.len() as u64) as usize;
     let big = draft.big;
-    match random.below(16) {
+    match random.below(18) {
         0 => damage_word(random, &mut draft.objects[at]),
         1 => {
             let copy = draft.objects[at].clone();
@@ -36,6 +36,7 @@ fn damage_draft(random: &mut Random, draft: &mut Draft) {
         7 => clear_identity(random, &mut draft.objects[at]),
         8 => damage_strings(random, big, &mut draft.objects[at]),
         9..=11 => damage_rows(random, big, &mut draft.objects[at]),
+        12 | 13 => damage_package5(random, big, &mut draft.objects[at]),
         _ => damage_section(random, big, &mut draft.objects[at]),
     }
 }
@@ -104,6 +105,65 @@ fn mix_rows(random: &mut Random, big: bool, index: &mut [u8]) -> Option<()> {
     let (from, to) = (random.pick(&used), random.pick(&used));
     index.copy_within(from..from + 4, to);
     Some(())
+}
+
+/// Where the cells of str_offsets stand in an index, row by row: the places of offset and size. None where it has no such column.
+fn cells_of_strings(big: bool, index: &[u8]) -> Option<Vec<[usize; 2]>> {
+    let field = |at| number(index, at, 4, big).map(|n| n as usize);
+    let (columns, units, slots) = (field(4)?, field(8)?, field(12)?);
+    let few = columns <= 8 && units.max(slots) <= index.len();
+    if !few || index.len() != 16 + 12 * slots + 4 * columns + 8 * units * columns {
+        return None;
+    }
+    let codes_at = 16 + 12 * slots;
+    let column = (0..columns).find(|column| field(codes_at + 4 * column) == Some(6))?;
+    let offset = |row: usize| codes_at + 4 * columns + 4 * (row * columns + column);
+    Some((0..units).map(|row| [offset(row), offset(row) + 4 * units * columns]).collect())
+}
+
+/// A package of version 5 that no longer is one: a second info or one index fewer, an index of the other form, or parts of str_offsets that
+/// no longer lie one behind the other.
+fn damage_package5(random: &mut Random, big: bool, object: &mut DraftObject) {
+    let is_package = object.sections.iter().any(|(code, _)| *code >= 12);
+    if object.word & 0xFF != 5 || !is_package {
+        return damage_rows(random, big, object);
+    }
+    match random.below(8) {
+        0 => {
+            let code = random.pick(&[12, 13]);
+            object.sections.retain(|(c, _)| *c != code);
+        }
+        1 => {
+            let info = object.sections.iter().find(|(code, _)| *code == 1).cloned();
+            object.sections.extend(info);
+        }
+        2 => {
+            let form: [u8; 4] = if big { [0, 0, 0, 2] } else { [2, 0, 0, 0] };
+            let index = object.sections.iter_mut().find(|(code, bytes)| *code >= 12 && bytes.len() >= 4);
+            index.into_iter().for_each(|(_, bytes)| bytes[..4].copy_from_slice(&form));
+        }
+        _ => move_piece(random, big, object),
+    }
+}
+
+/// One row's part of str_offsets is longer or shorter, elsewhere, empty or that of another row.
+fn move_piece(random: &mut Random, big: bool, object: &mut DraftObject) {
+    let width = u64::from(object.word >> 8 & 0xFF);
+    let indexes = object.sections.iter_mut().filter(|(code, _)| *code >= 12);
+    let found: Vec<_> = indexes
+        .filter_map(|(_, bytes)| cells_of_strings(big, bytes).map(|cells| (bytes, cells)))
+        .filter(|(_, cells)| !cells.is_empty())
+        .collect();
+    for (bytes, cells) in found {
+        let (cell, other) = (random.pick(&cells), random.pick(&cells));
+        let which = random.below(2) as usize;
+        let old = number(bytes, cell[which], 4, big).unwrap_or(0);
+        let taken = number(bytes, other[which], 4, big).unwrap_or(0);
+        let new = random.pick(&[old + width, old.wrapping_sub(width), old + 2 * width, old + 1, 0, taken, 1 << 31]);
+        let mut field = Vec::new();
+        put(&mut field, new, 4, big);
+        bytes[cell[which]..cell[which] + 4].copy_from_slice(&field);
+    }
 }
 
 /// Entries and strings that no longer belong together.

@@ -15,7 +15,7 @@ pub struct Kind {
     pub make: fn(u64) -> Vec<u8>,
 }
 
-pub const KINDS: [Kind; 10] = [
+pub const KINDS: [Kind; 11] = [
     Kind { name: "few units, version 5", items: "bytes of line", make: few_units },
     Kind { name: "many units, version 5", items: "units", make: units_of_five },
     Kind { name: "many units, version 4, one abbreviation table", items: "units", make: units_with_one_table },
@@ -29,6 +29,7 @@ pub const KINDS: [Kind; 10] = [
     Kind { name: "many info sections of one unit", items: "sections", make: info_sections },
     Kind { name: "many objects, the same few strings in each", items: "objects", make: many_objects },
     Kind { name: "a package of version 4 as input", items: "units", make: package_again },
+    Kind { name: "a package of version 5 as input", items: "units", make: package_of_five_again },
     Kind { name: "many entries, 16 strings", items: "entries", make: entries_of_few_strings },
 ];
 
@@ -194,7 +195,25 @@ fn package_again(count: u64) -> Vec<u8> {
         put_four(&mut info, 0, identity(i));
         DraftObject { word: FOUR, sections: vec![(1, info), (3, table(3)), (4, body(i, 40).collect())] }
     };
-    let bundle = Draft { big: false, objects: (0..count).map(object).collect() }.bytes();
+    package_of((0..count).map(object).collect())
+}
+
+/// The same of version 5: its str_offsets has a part for each unit, of one entry.
+fn package_of_five_again(count: u64) -> Vec<u8> {
+    let object = |i: u64| {
+        let mut info = Vec::new();
+        put_five(&mut info, 5, identity(i), BODY);
+        // The objects together must not be longer than their package, so that the limit is the package's.
+        let (line, text) = (body(i, 28).collect(), format!("{:016x}\0", identity(i % 4)).into_bytes());
+        let entries = str_offsets(FIVE, [0].into_iter());
+        DraftObject { word: FIVE, sections: vec![(1, info), (3, table(3)), (4, line), (6, entries), (11, text)] }
+    };
+    package_of((0..count).map(object).collect())
+}
+
+/// The package of a bundle of objects.
+fn package_of(objects: Vec<DraftObject>) -> Vec<u8> {
+    let bundle = Draft { big: false, objects }.bytes();
     match pack(&bundle, work_for(&bundle), usize::MAX) {
         Packed::Made(package) => package,
         // Only a bundle above the limit; it is long enough to be seen as too long.

@@ -1,9 +1,11 @@
-//! Indexes of version 2. Most are in step, as thorin adds parts up; in others parts are shared, lie over each other, repeat and leave gaps.
-//! There are rows that no unit needs, with and without slots.
+//! Indexes of both versions. Most are in step, as thorin adds parts up; in others parts are shared, lie over each other, repeat and leave
+//! gaps, but for those of str_offsets in version 5, which `pieces` gives. There are rows that no unit needs, with and without slots.
 
 use super::objects::Placed;
+use super::parts::Part;
+use super::pieces::Pieces;
 use super::random::Random;
-use crate::reference::{place, put, Encoding};
+use crate::reference::{column_codes, place, put, Encoding};
 
 const CU_INDEX: u32 = 12;
 const INFO: u32 = 1;
@@ -21,10 +23,24 @@ struct Row {
     cells: Vec<Cell>,
 }
 
+/// What an index is about.
+pub struct Table<'u> {
+    /// The section code of the index.
+    pub code: u32,
+    /// The units of its table, in the order of their section.
+    pub units: &'u [Placed],
+    /// The parts of str_offsets, in version 5.
+    pub pieces: Option<&'u Pieces>,
+    /// Those of them that no kept unit has and this index must name.
+    pub left: &'u [Part],
+}
+
 /// An index before it is written.
-struct Draft {
+struct Draft<'u> {
     home: u32,
+    /// Section codes.
     columns: Vec<u32>,
+    pieces: Option<&'u Pieces>,
     rows: Vec<Row>,
     /// Identity and row number.
     slots: Vec<(u64, u64)>,
@@ -63,52 +79,70 @@ impl Sections<'_> {
     }
 }
 
-/// Adds the index of the units of one table, in the order of their section.
-pub fn push_index(
-    random: &mut Random,
-    encoding: Encoding,
-    code: u32,
-    units: &[Placed],
-    sections: &mut Vec<(u32, Vec<u8>)>,
-) {
-    let home = if code == CU_INDEX { INFO } else { TYPES };
-    let columns = any_columns(random, home, sections);
-    let lengths = Sections { encoding, sections };
-    let cells = if random.one_in(6) {
-        anywhere(random, &columns, units, &lengths)
+/// The version of the indexes in an object of a version.
+fn index_version(encoding: Encoding) -> u32 {
+    if encoding.version == 5 {
+        5
     } else {
-        in_step(random, &columns, units, &lengths)
-    };
-    let rows = needed_rows(random, units, cells);
-    let mut draft = Draft { home, columns, rows, slots: Vec::new() };
-    draft.add_rows(random);
-    draft.number_rows(random);
-    let section = draft.write(encoding.big);
-    sections.push((code, section));
+        2
+    }
 }
 
-/// The columns needed, and some that are not, in any order.
-fn any_columns(random: &mut Random, home: u32, sections: &[(u32, Vec<u8>)]) -> Vec<u32> {
-    let needed = |code: u32| code == home || (code > 2 && sections.iter().any(|(c, b)| *c == code && !b.is_empty()));
-    let mut columns: Vec<u32> = (1..=8).filter(|code| needed(*code) || random.one_in(8)).collect();
+/// Adds the index of the units of one table.
+pub fn push_index(random: &mut Random, encoding: Encoding, table: Table, sections: &mut Vec<(u32, Vec<u8>)>) {
+    let home = if table.code == CU_INDEX || encoding.version == 5 { INFO } else { TYPES };
+    let columns = any_columns(random, home, encoding, &table, sections);
+    let lengths = Sections { encoding, sections };
+    let cells = if random.one_in(6) {
+        anywhere(random, &columns, table.units, &lengths)
+    } else {
+        in_step(random, &columns, table.units, &lengths)
+    };
+    let rows = needed_rows(random, table.units, cells);
+    let mut draft = Draft { home, columns, pieces: table.pieces, rows, slots: Vec::new() };
+    table.left.iter().for_each(|part| draft.add_row_of(random, *part));
+    draft.add_rows(random);
+    draft.number_rows(random);
+    let section = draft.write(encoding);
+    sections.push((table.code, section));
+}
+
+/// The columns needed, and some that are not, in any order. In version 5 an index that no kept unit has a row in may lack them.
+fn any_columns(
+    random: &mut Random,
+    home: u32,
+    encoding: Encoding,
+    table: &Table,
+    sections: &[(u32, Vec<u8>)],
+) -> Vec<u32> {
+    let is_free = encoding.version == 5 && table.units.iter().all(|unit| !unit.kept) && random.one_in(2);
+    let has = |code: u32| code > 2 && sections.iter().any(|(c, b)| *c == code && !b.is_empty());
+    let needed = |code: u32| !is_free && (code == home || has(code)) || code == STR_OFFSETS && !table.left.is_empty();
+    let known = column_codes(index_version(encoding)).iter().map(|(section, _)| *section);
+    let mut columns: Vec<u32> = known.filter(|code| needed(*code) || random.one_in(8)).collect();
     if random.one_in(3) {
         random.shuffle(&mut columns);
     }
     columns
 }
 
-/// What a unit's row must say of a section, whatever the other rows say: its place, and where its abbreviations are read.
+fn cell((offset, size): Part) -> Cell {
+    (offset as u64, size as u64)
+}
+
+/// What a unit's row must say of a section, whatever the other rows say: its place, where its abbreviations are read, and its own entries.
 fn fixed(unit: &Placed, code: u32) -> Option<Cell> {
     match code {
         INFO | TYPES => Some((unit.at as u64, unit.size as u64)),
-        ABBREV => unit.abbrev.map(|(offset, size)| (offset as u64, size as u64)),
+        ABBREV => unit.abbrev.map(cell),
+        STR_OFFSETS => unit.strings.map(cell),
         _ => None,
     }
 }
 
 /// A row for each unit: parts that follow those of the kept units before it.
 fn in_step(random: &mut Random, columns: &[u32], units: &[Placed], lengths: &Sections) -> Vec<Vec<Cell>> {
-    let mut sums = [0u64; 9];
+    let mut sums = [0u64; 11];
     let mut row = |unit: &Placed| -> Vec<Cell> {
         let mut cell = |code: &u32| {
             fixed(unit, *code).unwrap_or_else(|| {
@@ -126,7 +160,7 @@ fn in_step(random: &mut Random, columns: &[u32], units: &[Placed], lengths: &Sec
 
 /// A row for each unit: parts anywhere, some as in the row before, some of the whole section.
 fn anywhere(random: &mut Random, columns: &[u32], units: &[Placed], lengths: &Sections) -> Vec<Vec<Cell>> {
-    let mut before = [(0, 0); 9];
+    let mut before = [(0, 0); 11];
     let mut row = |unit: &Placed| -> Vec<Cell> {
         let mut cell = |code: &u32| {
             fixed(unit, *code).unwrap_or_else(|| {
@@ -157,7 +191,26 @@ fn needed_rows(random: &mut Random, units: &[Placed], cells: Vec<Vec<Cell>>) -> 
     rows
 }
 
-impl Draft {
+impl Draft<'_> {
+    /// Anything that a row may say which no unit needs.
+    fn any_cells(&self, random: &mut Random) -> Vec<Cell> {
+        let any = |code: &u32| match self.pieces {
+            Some(pieces) if *code == STR_OFFSETS => cell(pieces.spare(random)),
+            _ => (random.below(9), random.any() & 0xFFFF_FFFF),
+        };
+        self.columns.iter().map(any).collect()
+    }
+
+    /// A row that only names a part of str_offsets.
+    fn add_row_of(&mut self, random: &mut Random, part: Part) {
+        let mut cells = self.any_cells(random);
+        if let Some(at) = self.columns.iter().position(|code| *code == STR_OFFSETS) {
+            cells[at] = cell(part);
+        }
+        let identity = random.one_in(2).then(|| random.any() | 1 << 63);
+        self.rows.push(Row { identity, cells });
+    }
+
     /// Now and then up to three rows that no unit needs, and the rows in any order.
     fn add_rows(&mut self, random: &mut Random) {
         if random.one_in(5) {
@@ -177,12 +230,11 @@ impl Draft {
     fn spare_row(&self, random: &mut Random) -> Row {
         let identity = random.one_in(2).then(|| random.any() | 1 << 63);
         if self.rows.is_empty() || random.one_in(2) {
-            let cells = self.columns.iter().map(|_| (random.below(9), random.any() & 0xFFFF_FFFF)).collect();
-            return Row { identity, cells };
+            return Row { identity, cells: self.any_cells(random) };
         }
         let mut cells = random.pick(&self.rows).cells;
-        if self.home == INFO {
-            let (_, size) = &mut cells[self.columns.iter().position(|code| *code == INFO).unwrap_or(0)];
+        let info = self.columns.iter().position(|code| *code == INFO);
+        if let Some((_, size)) = info.filter(|_| self.home == INFO).map(|at| &mut cells[at]) {
             *size = (*size + 1) & 0xFFFF_FFFF;
         }
         Row { identity, cells }
@@ -203,14 +255,20 @@ impl Draft {
         self.slots = placed.iter().map(slot).collect();
     }
 
-    fn write(&self, big: bool) -> Vec<u8> {
+    fn write(&self, encoding: Encoding) -> Vec<u8> {
+        let (big, version) = (encoding.big, index_version(encoding));
         let mut out = Vec::new();
-        for count in [2, self.columns.len(), self.rows.len(), self.slots.len()] {
+        match version {
+            2 => put(&mut out, 2, 4, big),
+            _ => [5, 0].into_iter().for_each(|half| put(&mut out, half, 2, big)),
+        }
+        for count in [self.columns.len(), self.rows.len(), self.slots.len()] {
             put(&mut out, count as u64, 4, big);
         }
         self.slots.iter().for_each(|(identity, _)| put(&mut out, *identity, 8, big));
         self.slots.iter().for_each(|(_, row)| put(&mut out, *row, 4, big));
-        self.columns.iter().for_each(|code| put(&mut out, (*code).into(), 4, big));
+        let codes = self.columns.iter().filter_map(|code| column_codes(version).iter().find(|(s, _)| s == code));
+        codes.for_each(|(_, column)| put(&mut out, *column, 4, big));
         let cells = || self.rows.iter().flat_map(|row| &row.cells);
         cells().for_each(|(offset, _)| put(&mut out, *offset, 4, big));
         cells().for_each(|(_, size)| put(&mut out, *size, 4, big));

@@ -1,11 +1,12 @@
 //! Good bundles: objects of one encoding, with units, strings and shared sections.
 
-use super::inputs;
+use super::inputs::{push_index, Table};
 use super::parts::{Abbrev, Part};
+use super::pieces::Pieces;
 use super::random::Random;
 use crate::reference::put;
 use crate::reference::Encoding;
-use std::collections::HashSet;
+use std::collections::{BTreeSet, HashSet};
 
 /// A bundle before it is written.
 #[derive(Clone, Debug)]
@@ -47,13 +48,16 @@ pub struct Placed {
     pub kept: bool,
     /// The part of abbrev in which its table is read, where it has one.
     pub abbrev: Option<Part>,
+    /// Its part of str_offsets, where that must be one of several.
+    pub strings: Option<Part>,
 }
 
 /// What all objects of a bundle have in common, and the identities used so far.
 pub struct Shared {
     pub encoding: Encoding,
     compilations: HashSet<u64>,
-    types: HashSet<u64>,
+    /// In order, since one is picked.
+    types: BTreeSet<u64>,
 }
 
 pub fn good(random: &mut Random) -> Draft {
@@ -62,9 +66,10 @@ pub fn good(random: &mut Random) -> Draft {
     let width = random.pick(&[4, 4, 8]);
     let address = random.pick(&[4, 8]);
     let word = 1 << 28 | version | width << 8 | address << 16;
-    let mut shared = Shared { encoding: Encoding::of(big, word), compilations: HashSet::new(), types: HashSet::new() };
+    let mut shared = Shared { encoding: Encoding::of(big, word), compilations: HashSet::new(), types: BTreeSet::new() };
     let count = random.pick(&[0, 1, 1, 1, 2, 2, 3, 5]);
     let sections = |random: &mut Random, shared: &mut Shared| match version {
+        5 if random.one_in(2) => package5(random, shared),
         5 => version5(random, shared),
         _ => version4(random, shared),
     };
@@ -100,6 +105,12 @@ impl Shared {
         (x, self.types.insert(x))
     }
 
+    /// A signature that was used already.
+    fn known_type(&self, random: &mut Random) -> Option<u64> {
+        let count = self.types.len() as u64;
+        (count > 0).then(|| self.types.iter().nth(random.below(count) as usize).copied()).flatten()
+    }
+
     fn put(&self, out: &mut Vec<u8>, value: u64, width: usize) {
         put(out, value, width, self.encoding.big);
     }
@@ -119,31 +130,93 @@ fn version5(random: &mut Random, shared: &mut Shared) -> Vec<(u32, Vec<u8>)> {
     for _ in 0..random.pick(&[1, 1, 1, 2]) {
         let mut info = Vec::new();
         for _ in 0..random.pick(&[0, 1, 1, 2, 3, 6]) {
-            unit5(random, shared, &mut info);
+            let kind = random.pick(&[4, 5, 5, 2, 6, 6]);
+            unit5(random, shared, kind, &mut info);
         }
         sections.push((1, info));
     }
     sections.push((3, random.bytes(9)));
-    others(random, shared, &[4, 8, 9, 10], &mut sections);
+    others(random, &[4, 8, 9, 10], &mut sections);
+    if let Some((strings, has_entries)) = some_strings(random) {
+        sections.extend(has_entries.then(|| (6, str_offsets(random, shared, &strings))));
+        sections.push((11, strings));
+    }
     random.shuffle(&mut sections);
     sections
 }
 
-fn unit5(random: &mut Random, shared: &mut Shared, out: &mut Vec<u8>) {
-    let kind = random.pick(&[4, 5, 5, 2, 6, 6]);
-    let is_type = kind == 2 || kind == 6;
-    let identity = if is_type { shared.any_type(random).0 } else { shared.new_compilation(random) };
+/// Unit types 2 and 6.
+fn is_type(kind: u8) -> bool {
+    kind == 2 || kind == 6
+}
+
+fn unit5(random: &mut Random, shared: &mut Shared, kind: u8, out: &mut Vec<u8>) -> Placed {
+    let (identity, kept) = if is_type(kind) { shared.any_type(random) } else { (shared.new_compilation(random), true) };
+    put_unit5(random, shared, (kind, identity), kept, out)
+}
+
+fn put_unit5(random: &mut Random, shared: &Shared, of: (u8, u64), kept: bool, out: &mut Vec<u8>) -> Placed {
+    let (kind, identity) = of;
     let mut unit = Vec::new();
     shared.put(&mut unit, 5, 2);
     unit.push(kind);
     unit.push(shared.encoding.address as u8);
     shared.put(&mut unit, random.below(9), shared.encoding.width);
     shared.put(&mut unit, identity, 8);
-    if is_type {
+    if is_type(kind) {
         shared.put(&mut unit, random.below(99), shared.encoding.width);
     }
     unit.extend(random.bytes(6));
-    shared.put_unit(out, &unit);
+    placed(shared, out, &unit, identity, kept)
+}
+
+/// The units of a package: those of a table without an index are types that were kept before. `indexes` has bit 0 for cu_index, bit 1 for
+/// tu_index.
+fn units_of_package5(random: &mut Random, shared: &mut Shared, indexes: u64, info: &mut Vec<u8>) -> [Vec<Placed>; 2] {
+    let mut units = [Vec::new(), Vec::new()];
+    for _ in 0..random.pick(&[0, 1, 1, 2, 3, 6]) {
+        let kind = match indexes {
+            1 if random.one_in(4) => random.pick(&[2, 6]),
+            1 => random.pick(&[4, 5]),
+            2 => random.pick(&[2, 6]),
+            _ => random.pick(&[4, 5, 5, 2, 6, 6]),
+        };
+        if indexes == 1 && is_type(kind) {
+            let Some(known) = shared.known_type(random) else { continue };
+            put_unit5(random, shared, (kind, known), false, info);
+            continue;
+        }
+        units[usize::from(is_type(kind))].push(unit5(random, shared, kind, info));
+    }
+    units
+}
+
+/// An object with one index or both: its units of both tables stand in info, and its str_offsets is in parts.
+fn package5(random: &mut Random, shared: &mut Shared) -> Vec<(u32, Vec<u8>)> {
+    let indexes = random.pick(&[1, 2, 3, 3]);
+    let (mut info, mut pieces) = (Vec::new(), Pieces::none());
+    let mut units = units_of_package5(random, shared, indexes, &mut info);
+    let mut sections = vec![(1, info), (3, random.bytes(9))];
+    others(random, &[4, 8, 9, 10], &mut sections);
+    if let Some((strings, has_entries)) = some_strings(random) {
+        if has_entries {
+            pieces = Pieces::any(random, shared, &strings);
+            sections.push((6, pieces.bytes.clone()));
+        }
+        sections.push((11, strings));
+    }
+    units.iter_mut().for_each(|units| pieces.give(random, units));
+    let left = pieces.left(units.iter().flatten().filter(|unit| unit.kept));
+    // One index says where the parts lie that no unit has.
+    let says = if indexes == 3 { random.between(1, 2) } else { indexes };
+    for (bit, code, units) in [(1, 12, &units[0]), (2, 13, &units[1])] {
+        let left = if says == bit { &left[..] } else { &[] };
+        if indexes & bit > 0 {
+            push_index(random, shared.encoding, Table { code, units, pieces: Some(&pieces), left }, &mut sections);
+        }
+    }
+    random.shuffle(&mut sections);
+    sections
 }
 
 fn version4(random: &mut Random, shared: &mut Shared) -> Vec<(u32, Vec<u8>)> {
@@ -169,12 +242,15 @@ fn version4(random: &mut Random, shared: &mut Shared) -> Vec<(u32, Vec<u8>)> {
         sections.push((2, section));
     }
     sections.push((3, abbrev.bytes));
-    others(random, shared, &[4, 5, 7, 8], &mut sections);
-    if input & 1 == 1 {
-        inputs::push_index(random, shared.encoding, 12, &in_info, &mut sections);
+    others(random, &[4, 5, 7, 8], &mut sections);
+    if let Some((strings, has_entries)) = some_strings(random) {
+        sections.extend(has_entries.then(|| (6, str_offsets(random, shared, &strings))));
+        sections.push((11, strings));
     }
-    if input & 2 == 2 {
-        inputs::push_index(random, shared.encoding, 13, &in_types, &mut sections);
+    for (bit, code, units) in [(1, 12, &in_info), (2, 13, &in_types)] {
+        if input & bit == bit {
+            push_index(random, shared.encoding, Table { code, units, pieces: None, left: &[] }, &mut sections);
+        }
     }
     random.shuffle(&mut sections);
     sections
@@ -209,26 +285,25 @@ fn type4(random: &mut Random, shared: &mut Shared, out: &mut Vec<u8>) -> Placed 
 fn placed(shared: &Shared, out: &mut Vec<u8>, unit: &[u8], identity: u64, kept: bool) -> Placed {
     let at = out.len();
     shared.put_unit(out, unit);
-    Placed { identity, at, size: out.len() - at, kept, abbrev: None }
+    Placed { identity, at, size: out.len() - at, kept, abbrev: None, strings: None }
 }
 
-/// Sections that may be there or not, and strings.
-fn others(random: &mut Random, shared: &Shared, codes: &[u32], sections: &mut Vec<(u32, Vec<u8>)>) {
+/// Sections that may be there or not.
+fn others(random: &mut Random, codes: &[u32], sections: &mut Vec<(u32, Vec<u8>)>) {
     for code in codes {
         if random.one_in(2) {
             sections.push((*code, random.bytes(20)));
         }
     }
+}
+
+/// Strings most often, and whether str_offsets is there too.
+fn some_strings(random: &mut Random) -> Option<(Vec<u8>, bool)> {
     if random.one_in(4) {
-        return;
+        return None;
     }
     let strings = any_strings(random);
-    if random.one_in(6) {
-        sections.push((11, strings));
-        return;
-    }
-    sections.push((6, str_offsets(random, shared, &strings)));
-    sections.push((11, strings));
+    Some((strings, !random.one_in(6)))
 }
 
 /// Strings that end with a zero byte, some equal, some empty; now and then bytes behind the last zero.
@@ -246,7 +321,7 @@ fn any_strings(random: &mut Random) -> Vec<u8> {
 }
 
 /// Entries into strings, also into their middle and twice.
-fn str_offsets(random: &mut Random, shared: &Shared, strings: &[u8]) -> Vec<u8> {
+pub fn str_offsets(random: &mut Random, shared: &Shared, strings: &[u8]) -> Vec<u8> {
     let width = shared.encoding.width;
     let reach = strings.iter().rposition(|b| *b == 0).map_or(0, |last| last as u64 + 1);
     let count = if reach == 0 { 0 } else { random.pick(&[0, 1, 3, 5, 9]) };

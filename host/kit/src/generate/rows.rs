@@ -1,10 +1,13 @@
-//! Packages of version 4 with very many rows, which a search of all rows for each unit would take too long to read.
+//! Packages with very many rows, which a search of all rows for each unit, or for each part of str_offsets, would take too long to read.
 
 use super::objects::{Draft, DraftObject};
 use crate::reference::place;
 
-/// Version 4, offset width 4, address size 8.
+/// Version 4, offset width 4, address size 8; and the same of version 5.
 const WORD: u32 = 0x1008_0404;
+const FIVE: u32 = 0x1008_0405;
+/// A part of str_offsets in version 5 that has no entry.
+const PIECE: [u8; 8] = [4, 0, 0, 0, 5, 0, 0, 0];
 /// A unit that is its header and a root of one attribute, the identity.
 const UNIT: u32 = 20;
 /// Code 1, tag 11, no children, attribute 2131 of form data8.
@@ -19,30 +22,35 @@ fn put_unit(info: &mut Vec<u8>, identity: u64) {
     info.extend(identity.to_le_bytes());
 }
 
-/// An index whose rows have these identities and info cells; all share one abbrev part.
-fn index(rows: &[(u64, (u32, u32))]) -> Vec<u8> {
+/// Offset and size.
+type Cell = (u32, u32);
+
+/// An index of two columns, by its form, their codes and its rows' identities and cells.
+fn index(form: u32, codes: [u32; 2], rows: &[(u64, [Cell; 2])]) -> Vec<u8> {
     let identities: Vec<u64> = rows.iter().map(|(identity, _)| *identity).collect();
     let slots = place(&identities, (rows.len() + 1).next_power_of_two()).expect("a slot for each");
     let mut out = Vec::new();
     let mut put = |word: u32| out.extend(word.to_le_bytes());
-    [2, 2, rows.len() as u32, slots.len() as u32].into_iter().for_each(&mut put);
+    // A 16-bit 5 and 0 are the word 5 in this byte order.
+    [form, 2, rows.len() as u32, slots.len() as u32].into_iter().for_each(&mut put);
     for row in &slots {
         let x = if *row == 0 { 0 } else { identities[*row as usize - 1] };
         put(x as u32);
         put((x >> 32) as u32);
     }
     slots.iter().for_each(|row| put(*row as u32));
-    [1, 3].into_iter().for_each(&mut put);
-    rows.iter().flat_map(|(_, (offset, _))| [*offset, 0]).for_each(&mut put);
-    rows.iter().flat_map(|(_, (_, size))| [*size, ABBREV.len() as u32]).for_each(&mut put);
+    codes.into_iter().for_each(&mut put);
+    rows.iter().flat_map(|(_, cells)| cells.map(|(offset, _)| offset)).for_each(&mut put);
+    rows.iter().flat_map(|(_, cells)| cells.map(|(_, size)| size)).for_each(&mut put);
     out
 }
 
-/// So many units, in order of their identities' numbers, and these rows.
-fn package(units: u32, rows: &[(u64, (u32, u32))]) -> Vec<u8> {
+/// So many units, in order of their identities' numbers, and rows of these info cells; all share one abbrev part.
+fn package(units: u32, rows: &[(u64, Cell)]) -> Vec<u8> {
     let mut info = Vec::new();
     (0..units).for_each(|i| put_unit(&mut info, identity(i)));
-    let sections = vec![(1, info), (3, ABBREV.to_vec()), (12, index(rows))];
+    let rows: Vec<_> = rows.iter().map(|(identity, cell)| (*identity, [*cell, (0, ABBREV.len() as u32)])).collect();
+    let sections = vec![(1, info), (3, ABBREV.to_vec()), (12, index(2, [1, 3], &rows))];
     Draft { big: false, objects: vec![DraftObject { word: WORD, sections }] }.bytes()
 }
 
@@ -63,4 +71,31 @@ pub fn rows_beside_one_place(rows: u32) -> Vec<u8> {
 pub fn reversed_rows(rows: u32) -> Vec<u8> {
     let all: Vec<_> = (0..rows).rev().map(|i| (identity(i), (i * UNIT, UNIT))).collect();
     package(rows / 5 * 4, &all)
+}
+
+/// A version 5 package of one unit, of so many parts of str_offsets without entries, and of rows that name these cells of it.
+fn package_of_pieces(pieces: u32, cells: impl Iterator<Item = Cell>) -> Vec<u8> {
+    let mut unit = vec![16, 0, 0, 0, 5, 0, 5, 8, 0, 0, 0, 0];
+    unit.extend(identity(0).to_le_bytes());
+    let rows: Vec<_> = (0..).zip(cells).map(|(i, cell)| (identity(i), [(0, UNIT), cell])).collect();
+    let (offsets, strings) = (PIECE.repeat(pieces as usize), vec![0]);
+    let sections = vec![(1, unit), (3, Vec::new()), (6, offsets), (11, strings), (12, index(5, [1, 6], &rows))];
+    Draft { big: false, objects: vec![DraftObject { word: FIVE, sections }] }.bytes()
+}
+
+const PIECE_SIZE: u32 = PIECE.len() as u32;
+
+/// So many rows that all name the one part.
+pub fn rows_of_one_piece(rows: u32) -> Vec<u8> {
+    package_of_pieces(1, (0..rows).map(|_| (0, PIECE_SIZE)))
+}
+
+/// So many rows in the reverse order of their parts.
+pub fn reversed_pieces(rows: u32) -> Vec<u8> {
+    package_of_pieces(rows, (0..rows).rev().map(|i| (i * PIECE_SIZE, PIECE_SIZE)))
+}
+
+/// So many rows whose parts all start at 0 and are all different (34).
+pub fn pieces_of_one_place(rows: u32) -> Vec<u8> {
+    package_of_pieces(rows, (1..=rows).map(|i| (0, i * PIECE_SIZE)))
 }

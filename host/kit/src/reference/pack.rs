@@ -4,7 +4,7 @@ use super::bundle::{self, length_is_good, Bundle, Encoding, Object, Section};
 use super::index::{self, Index, Probe, Row};
 use super::strings::StringTable;
 use super::unit::{self, Table, Unit};
-use std::collections::HashMap;
+use std::collections::{BTreeSet, HashMap};
 
 #[derive(Clone, Debug, PartialEq, Eq)]
 pub enum Packed {
@@ -78,7 +78,7 @@ fn judge_object(bundle: &Bundle, object: &Object, encoding: Encoding) -> Result<
     if object.word != bundle.objects[0].word {
         return Err(5);
     }
-    if has_wrong_edition(object, encoding.version) || has_second_section(object) {
+    if has_wrong_edition(object, encoding.version) || has_second_section(object, encoding.version) {
         return Err(6);
     }
     let lacks = |code| object.count(code) == 0;
@@ -89,15 +89,22 @@ fn judge_object(bundle: &Bundle, object: &Object, encoding: Encoding) -> Result<
 }
 
 fn has_wrong_edition(object: &Object, version: u32) -> bool {
-    let wrong: &[u32] = if version == 5 { &[2, 5, 7, 12, 13] } else { &[9, 10] };
+    let wrong: &[u32] = if version == 5 { &[2, 5, 7] } else { &[9, 10] };
     wrong.iter().any(|code| object.count(*code) > 0)
 }
 
-fn has_second_section(object: &Object) -> bool {
+/// In version 5 the units of both tables stand in info, so that either index speaks of it.
+fn has_second_section(object: &Object, version: u32) -> bool {
     let second = |code| object.count(code) > 1;
+    let has = |code| object.count(code) > 0;
     (ABBREV..=TU_INDEX).any(second)
-        || (second(INFO) && object.count(CU_INDEX) > 0)
-        || (second(TYPES) && object.count(TU_INDEX) > 0)
+        || (second(INFO) && (has(CU_INDEX) || version == 5 && has(TU_INDEX)))
+        || (second(TYPES) && has(TU_INDEX))
+}
+
+/// A version 5 object with an index: all its units have rows, and each part of its str_offsets has a header of its own.
+fn is_package_of_five(object: &Object, encoding: Encoding) -> bool {
+    encoding.version == 5 && object.count(CU_INDEX) + object.count(TU_INDEX) > 0
 }
 
 /// One input object while its units are filed.
@@ -109,6 +116,25 @@ struct Input<'o, 'a> {
 }
 
 impl<'a> Input<'_, 'a> {
+    /// The parts of str_offsets that have a header each, in order of offset: those that rows of either index name, with or without a slot,
+    /// each once and the empty ones left out (34).
+    fn pieces(&self) -> Result<Vec<&'a [u8]>, u32> {
+        let section = self.object.bytes(STR_OFFSETS);
+        let indexes = [&self.cu_index, &self.tu_index].into_iter().flatten();
+        let named = indexes.flat_map(|index| (1..=index.units).filter_map(|row| index.cell(row, STR_OFFSETS)));
+        let parts: BTreeSet<(u64, u64)> = named.filter(|(_, size)| *size > 0).collect();
+        let (mut at, mut pieces) = (0, Vec::new());
+        for (offset, size) in parts {
+            // Starts before: it lies over the one before. Starts behind: the bytes between them are in none.
+            if offset != at {
+                return Err(34);
+            }
+            at = offset + size;
+            pieces.push(section.get(offset as usize..at as usize).ok_or(34u32)?);
+        }
+        (at == section.len() as u64).then_some(pieces).ok_or(34)
+    }
+
     /// The abbreviations of a version 4 compilation unit: its object's, or with cu_index those of the row that names its place (15, 16).
     fn abbrev(&self, at: usize, size: usize) -> Result<&'a [u8], u32> {
         let whole = self.object.bytes(ABBREV);
@@ -130,6 +156,9 @@ impl<'a> Input<'_, 'a> {
             Table::Type => &self.tu_index,
         };
         let Some(index) = index else {
+            if is_package_of_five(object, self.encoding) {
+                return Err(15);
+            }
             return Ok(shared.iter().map(|code| (*code, 0, object.bytes(*code).len() as u64)).collect());
         };
         let Probe::Row(row, _) = index.probe(unit.identity) else { return Err(15) };
@@ -175,7 +204,7 @@ impl<'a> InProgress<'a> {
         }
     }
 
-    /// 4 to 16, object by object.
+    /// 4 to 16 and 34, object by object.
     fn add_input_objects(&mut self, bundle: &Bundle<'a>) -> Result<(), u32> {
         for object in &bundle.objects {
             let encoding = Encoding::of(bundle.big, object.word);
@@ -185,15 +214,9 @@ impl<'a> InProgress<'a> {
         Ok(())
     }
 
-    /// 8 to 16 of one object.
+    /// 8 to 16 and 34 of one object.
     fn add_input_object(&mut self, object: &Object<'a>, encoding: Encoding) -> Result<(), u32> {
-        let mut remapped = Vec::new();
-        if let Some(section) = object.section(STR_OFFSETS) {
-            remapped = self.strings.remap(section.bytes, object.bytes(STR), encoding)?;
-        }
-        let cu_index = load_index(object, CU_INDEX, encoding)?;
-        let tu_index = load_index(object, TU_INDEX, encoding)?;
-        let input = Input { object, encoding, cu_index, tu_index };
+        let (input, remapped) = self.load(object, encoding)?;
         for section in object.sections.iter().filter(|s| s.code == INFO || s.code == TYPES) {
             self.add_units(&input, section)?;
         }
@@ -202,6 +225,27 @@ impl<'a> InProgress<'a> {
             self.joined[code as usize].extend(bytes);
         }
         Ok(())
+    }
+
+    /// The indexes of one object and its str_offsets remapped: 8, 9, 10; in a package of version 5 10 and 34, then 8 and 9 part by part.
+    fn load<'o>(&mut self, object: &'o Object<'a>, encoding: Encoding) -> Result<(Input<'o, 'a>, Vec<u8>), u32> {
+        let indexes = || -> Result<Input<'o, 'a>, u32> {
+            let cu_index = load_index(object, CU_INDEX, encoding)?;
+            let tu_index = load_index(object, TU_INDEX, encoding)?;
+            Ok(Input { object, encoding, cu_index, tu_index })
+        };
+        let mut remapped = Vec::new();
+        if is_package_of_five(object, encoding) {
+            let input = indexes()?;
+            for piece in input.pieces()? {
+                remapped.extend(self.strings.remap(piece, object.bytes(STR), encoding)?);
+            }
+            return Ok((input, remapped));
+        }
+        if let Some(section) = object.section(STR_OFFSETS) {
+            remapped = self.strings.remap(section.bytes, object.bytes(STR), encoding)?;
+        }
+        Ok((indexes()?, remapped))
     }
 
     /// The units of one section, from its front.
@@ -256,9 +300,9 @@ impl<'a> InProgress<'a> {
     }
 }
 
-/// 10, for one of the indexes; only the form of version 2 is taken.
+/// 10, for one of the indexes; only the form of the object's version is taken.
 fn load_index(object: &Object, code: u32, encoding: Encoding) -> Result<Option<Index>, u32> {
     let Some(section) = object.section(code) else { return Ok(None) };
-    let index = Index::read(section.bytes, encoding.big).filter(|i| i.version == 2);
+    let index = Index::read(section.bytes, encoding.big).filter(|i| (i.version == 5) == (encoding.version == 5));
     index.map(Some).ok_or(10)
 }

@@ -17,7 +17,7 @@ pub fn meaning(number: u32) -> &'static str {
         12 => "the unit's identity can't be read",
         13 => "the unit's identity is 0",
         14 => "a compilation unit of this identity was there before",
-        15 => "the object's index has no row for the unit or several, or lacks a column",
+        15 => "the object has no row for the unit or several, or its index lacks a column",
         16 => "the row of the unit in the object's index doesn't fit",
         18 => "the output is too short",
         19 => "a section of the package would be above 8,388,607 bytes",

@@ -6,10 +6,11 @@ use crate::names::{section_name, ABBREV, CU_INDEX, INFO, MACRO, RNGLISTS, STR, S
 use crate::reader::bundle::{Bundle, Object};
 use crate::reader::index::Index;
 use crate::reader::number;
+use crate::reader::pieces::{is_package_of_five, pieces, Piece};
 use crate::reader::unit::{spans, Identities, Span, Why};
 
 /// Sections that a version doesn't have.
-const NOT_IN_VERSION_5: [u32; 5] = [2, 5, 7, CU_INDEX, TU_INDEX];
+const NOT_IN_VERSION_5: [u32; 3] = [2, 5, 7];
 const NOT_IN_VERSION_4: [u32; 2] = [9, 10];
 
 /// The cause in words, where it is found.
@@ -20,9 +21,10 @@ pub fn of(bundle: &Bundle, place: &Place, refusal: u32, names: &Names) -> Option
         (5, _) => Some(other_encoding(object, &bundle.objects[0], &names.object(1))),
         (6, _) => wrong_section(object),
         (7, _) => missing_section(object),
-        (8, _) => string_offsets(object),
-        (9, _) => lost_string(object),
+        (8, _) => pieces(object).iter().find_map(|piece| string_offsets(object, piece)),
+        (9, _) => pieces(object).iter().find_map(|piece| lost_string(object, piece)),
         (10, _) => bad_index(object),
+        (34, _) => bad_pieces(object),
         (11, Some(unit)) => match Identities::of(object).identity(unit) {
             Err(Why::Header(why)) => Some(why),
             _ => None,
@@ -54,7 +56,8 @@ fn wrong_section(object: &Object) -> Option<String> {
         return Some(format!("it has {} {} sections{hint}", object.count(code), section_name(code)));
     }
     let beside = |code: u32, index: u32| object.count(code) > 1 && object.count(index) > 0;
-    let (code, index) = [(INFO, CU_INDEX), (TYPES, TU_INDEX)].into_iter().find(|(c, i)| beside(*c, *i))?;
+    let types = if version == 5 { INFO } else { TYPES };
+    let (code, index) = [(INFO, CU_INDEX), (types, TU_INDEX)].into_iter().find(|(c, i)| beside(*c, *i))?;
     Some(format!("it has {} {} sections beside {}", object.count(code), section_name(code), section_name(index)))
 }
 
@@ -75,11 +78,42 @@ fn header_size(object: &Object) -> usize {
     }
 }
 
-fn string_offsets(object: &Object) -> Option<String> {
-    let (bytes, width, big) = (object.bytes(STR_OFFSETS), object.encoding.width(), object.encoding.big);
+/// A part's bytes, where it is inside, and how it is called.
+fn read_piece<'a>(object: &Object<'a>, piece: &Piece) -> Option<(&'a [u8], String)> {
+    let Piece { offset, size, named_by } = *piece;
+    let bytes = object.bytes(STR_OFFSETS).get(offset as usize..(offset + size) as usize)?;
+    let part = named_by.map_or(String::new(), |_| format!(" in the part of {size} bytes at {offset}"));
+    Some((bytes, part))
+}
+
+/// A part that ends outside the section or lies over another one, or bytes that are in none.
+fn bad_pieces(object: &Object) -> Option<String> {
+    let has = object.bytes(STR_OFFSETS).len() as u64;
+    let row = |piece: &Piece| piece.named_by.map(|(code, row)| format!("row {row} of {}", section_name(code)));
+    let (mut at, mut before) = (0, None);
+    for piece in pieces(object) {
+        let Piece { offset, size, .. } = piece;
+        let named = format!("{} names {size} bytes at {offset} of str_offsets", row(&piece)?);
+        if offset + size > has {
+            return Some(format!("{named}, which has {has}"));
+        }
+        if offset < at {
+            return Some(format!("{named}, over the part that {} names", row(&before?)?));
+        }
+        if offset > at {
+            return Some(format!("bytes {at} to {} of str_offsets are in no row's part", offset - 1));
+        }
+        (at, before) = (offset + size, Some(piece));
+    }
+    (at < has).then(|| format!("bytes {at} to {} of str_offsets are in no row's part", has - 1))
+}
+
+fn string_offsets(object: &Object, piece: &Piece) -> Option<String> {
+    let (bytes, part) = read_piece(object, piece)?;
+    let (width, big) = (object.encoding.width(), object.encoding.big);
     let header = header_size(object);
     if bytes.len() < header {
-        return Some(format!("str_offsets has {} bytes, its header {header}", bytes.len()));
+        return Some(format!("str_offsets has {} bytes{part}, its header {header}", bytes.len()));
     }
     if header > 0 {
         let stated = number(bytes, header - 4 - width, width, big)?;
@@ -87,25 +121,30 @@ fn string_offsets(object: &Object) -> Option<String> {
         let version = number(bytes, header - 4, 2, big)?;
         let mark = width == 4 || number(bytes, 0, 4, big)? == 0xFFFF_FFFF;
         if !mark || stated != following {
-            return Some(format!("str_offsets states a length of {stated}, and {following} bytes follow"));
+            return Some(format!("str_offsets states a length of {stated}{part}, and {following} bytes follow"));
         }
         if version != 5 || number(bytes, header - 2, 2, big)? != 0 {
-            return Some(format!("the header of str_offsets states version {version}, or its padding is not zero"));
+            return Some(format!(
+                "the header of str_offsets{part} states version {version}, or its padding is not zero"
+            ));
         }
     }
     let entries = bytes.len() - header;
-    (entries % width != 0).then(|| format!("the entries of str_offsets take {entries} bytes, no multiple of {width}"))
+    let cut = || format!("the entries of str_offsets{part} take {entries} bytes, no multiple of {width}");
+    (entries % width != 0).then(cut)
 }
 
-fn lost_string(object: &Object) -> Option<String> {
+fn lost_string(object: &Object, piece: &Piece) -> Option<String> {
+    let (bytes, part) = read_piece(object, piece)?;
     let (strings, width) = (object.bytes(STR), object.encoding.width());
     // An offset following the last zero leads to no zero.
     let strings_end = strings.iter().rposition(|b| *b == 0).map_or(0, |last| last + 1);
-    let entries = object.bytes(STR_OFFSETS).get(header_size(object)..)?;
+    let entries = bytes.get(header_size(object)..)?;
     let offsets = entries.chunks(width).map(|entry| number(entry, 0, width, object.encoding.big));
     let (entry, offset) = offsets.enumerate().find(|(_, offset)| offset.is_none_or(|o| o >= strings_end as u64))?;
     let has = strings.len();
-    Some(format!("entry {entry} of str_offsets names byte {} of str, which has {has}, and no zero follows", offset?))
+    let offset = offset?;
+    Some(format!("entry {entry} of str_offsets{part} names byte {offset} of str, which has {has}, and no zero follows"))
 }
 
 fn bad_index(object: &Object) -> Option<String> {
@@ -143,6 +182,10 @@ fn row(object: &Object, unit: &Span, refusal: u32) -> Option<String> {
     };
     let code = CU_INDEX - 1 + table;
     let name = section_name(code);
+    if is_package_of_five(object) && object.count(code) == 0 {
+        let other = section_name(if code == CU_INDEX { TU_INDEX } else { CU_INDEX });
+        return Some(format!("its object has {other}, and no {name} for it"));
+    }
     let index = Index::read(object.section(code)?.bytes, object.encoding.big).ok()?;
     let Some(row) = index.row(identity) else {
         return Some(format!("{name} has no row for identity {identity:#018x}"));

@@ -21,11 +21,11 @@ enum-known-indexed c = search needs
 enum-told : tie.Need-enum-told
 enum-told c = search needs
 
-whole-contributions-requires : tie.Need-whole-contributions-requires
-whole-contributions-requires c κs = search needs
+whole-given-requires : tie.Need-whole-given-requires
+whole-given-requires c κs = search needs
 
 returns : tie.Need-returns
-returns c = λ o h. given-none _ _ _ o h _ _ _ _ _ _ _ (c .before .before .enum-told .given .1) refl (c .whole-contributions .ensures)
+returns c = λ o h. given-none _ _ _ o h _ _ _ _ _ _ _ _ (c .before .before .enum-told .given .1) (c .whole-given .ensures)
 
 add-end : tie.Need-add-end
 add-end c = let a = c .before .before .before .before .before in omega (arith, inside-is _ (a .args .place) (a .pre .1))
@@ -50,7 +50,7 @@ returns-2 : tie.Need-returns-2
 unfolding judgedRow bytesAt
 returns-2 c =
     let a = c .before .before .before .before .before .before .before .args in
-    λ o h. given-at _ _ _ o h _ _ _ _ _ _ _ _ _ _ (c .before .before .before .before .indexed .given .1) (part-cut (now (a .b)) (a .place .start) (a .place .size)) refl (c .judge-row .ensures .code) (c .judge-row .ensures .contributions)
+    λ o h. given-at _ _ _ o h _ _ _ _ _ _ _ _ _ _ _ (c .before .before .before .before .indexed .given .1) (part-cut (now (a .b)) (a .place .start) (a .place .size)) refl (c .judge-row .ensures .code) (c .judge-row .ensures .contributions)
 
 pub indexed-contributions-spec : {M : Type 1} → statement M
 indexed-contributions-spec =
@@ -58,7 +58,7 @@ indexed-contributions-spec =
     (tie.spec
     enum-known-indexed
     enum-told
-    whole-contributions-requires
+    whole-given-requires
     returns
     add-end
     sub-judge-row

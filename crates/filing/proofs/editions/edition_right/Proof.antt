@@ -17,7 +17,7 @@ slice-aggregate-none-reaches c = search needs
 
 none-reaches-requires : tie.Need-none-reaches-requires
 unfolding all
-none-reaches-requires c κs = all-below (2 ∷ 5 ∷ 7 ∷ 12 ∷ 13 ∷ []) refl
+none-reaches-requires c κs = all-below (2 ∷ 5 ∷ 7 ∷ []) refl
 
 returns : tie.Need-returns
 unfolding wrongFor

@@ -13,8 +13,11 @@ use borrow.Author.Needs.{needs}
 use Rattle.filing.proofs.input.judge_index.Statement.{statement}
 use Rattle.filing.proofs.input.judge_index.Tie as tie
 
+form-requires : tie.Need-form-requires
+form-requires c κs = search needs
+
 returns : tie.Need-returns
-returns c = index-none _ _ _ _ (lt-leb _ _ (c .if1 .taken)) refl refl
+returns c = index-none _ _ _ _ _ (lt-leb _ _ (c .if1 .taken)) refl refl
 
 add-end : tie.Need-add-end
 add-end c = search needs
@@ -39,23 +42,24 @@ enum-told c = search needs
 
 returns-2 : tie.Need-returns-2
 returns-2 c =
-    let a = c .before .before .before .before .before .before .args in
-    index-bad _ _ _ _ (le-leb _ _ (c .before .before .before .before .if1 .left)) (sym (c .enum-told .given .1) ∙ c .before .before .read-index .ensures ∙ ap (λ (s : List ℕ). indexRead (indexOf (a .e .big) s)) (part-cut (now (a .b)) (a .start) (a .size))) refl
+    let a = c .before .before .before .before .before .before .before .args in
+    index-bad _ _ _ _ _ (le-leb _ _ (c .before .before .before .before .if1 .left)) (sym (c .enum-told .given .1) ∙ c .before .before .read-index .ensures ∙ ap (λ (s : List ℕ). indexRead (indexOf (a .e .big) s)) (part-cut (now (a .b)) (a .start) (a .size))) refl
 
 returns-3 : tie.Need-returns-3
 returns-3 c =
-    let a = c .before .before .before .before .before .before .before .before .before .args in
-    index-other _ _ _ _ (le-leb _ _ (c .before .before .before .before .before .before .before .if1 .left)) _ (sym (c .before .before .before .head .given .1) ∙ c .before .before .before .before .before .read-index .ensures ∙ ap (λ (s : List ℕ). indexRead (indexOf (a .e .big) s)) (part-cut (now (a .b)) (a .start) (a .size))) (c .if2 .taken) refl
+    let a = c .before .before .before .before .before .before .before .before .before .before .args in
+    index-other _ _ _ _ _ (le-leb _ _ (c .before .before .before .before .before .before .before .if1 .left)) _ (sym (c .before .before .before .head .given .1) ∙ c .before .before .before .before .before .read-index .ensures ∙ ap (λ (s : List ℕ). indexRead (indexOf (a .e .big) s)) (part-cut (now (a .b)) (a .start) (a .size))) _ (c .before .before .before .before .before .before .before .before .form .ensures) (c .if2 .taken) refl
 
 returns-4 : tie.Need-returns-4
 returns-4 c =
-    let a = c .before .before .before .before .before .before .before .before .before .args in
-    index-good _ _ _ _ (le-leb _ _ (c .before .before .before .before .before .before .before .if1 .left)) _ (sym (c .before .before .before .head .given .1) ∙ c .before .before .before .before .before .read-index .ensures ∙ ap (λ (s : List ℕ). indexRead (indexOf (a .e .big) s)) (part-cut (now (a .b)) (a .start) (a .size))) (c .if2 .left) refl refl
+    let a = c .before .before .before .before .before .before .before .before .before .before .args in
+    index-good _ _ _ _ _ (le-leb _ _ (c .before .before .before .before .before .before .before .if1 .left)) _ (sym (c .before .before .before .head .given .1) ∙ c .before .before .before .before .before .read-index .ensures ∙ ap (λ (s : List ℕ). indexRead (indexOf (a .e .big) s)) (part-cut (now (a .b)) (a .start) (a .size))) _ (c .before .before .before .before .before .before .before .before .form .ensures) (c .if2 .left) refl refl
 
 pub judge-index-spec : {M : Type 1} → statement M
 judge-index-spec =
     tie.close
     (tie.spec
+    form-requires
     returns
     add-end
     sub-read-index

@@ -1,4 +1,4 @@
--- Nothing is written for nothing; else the strings' own function writes it.
+-- Nothing is written for nothing; else the strings' own function writes it, piece by piece.
 -- Assumes nothing.
 use mathlib.Core.Path.{refl, ap, _∙_}
 use Rattle.octets.specs.Octets.{placed}
@@ -10,10 +10,10 @@ use Rattle.finish.proofs.joining.remap_section.Tie as tie
 returns : tie.Need-returns
 returns c = (λ ts k. remap-none _ _ _ _ _ _ _ (c .before .before .before .before .before .before .pre) _ ts (c .if1 .taken), refl)
 
-remap-str-offsets-requires : tie.Need-remap-str-offsets-requires
-remap-str-offsets-requires c κs =
+remap-pieces-requires : tie.Need-remap-pieces-requires
+remap-pieces-requires c κs =
     let p = c .before .before .before .before .before .before .before .before .pre in
-    (p .small, record { memory = p .memory; room = p .room }, (p .table, p .kept), (p .good .used, judged _ _ _ _ _ _ _ p (c .before .before .if1 .left)))
+    (p .small, record { memory = p .memory; room = p .room }, (p .table, p .kept), (_, judged _ _ _ _ _ _ _ p))
 
 same-length : tie.Need-same-length
 same-length c = search needs
@@ -25,9 +25,9 @@ returns-2 : tie.Need-returns-2
 returns-2 c =
     let r = c .before .before .before .before in
     let p = c .before .before .before .before .before .before .before .before .before .before .before .before .before .pre in (
-      λ ts k. r .remap-str-offsets .ensures .0 ts (p .good .used) k (judged _ _ _ _ _ _ _ p (c .before .before .before .before .before .before .before .if1 .left)) ∙ ap (placed _ _) (remapped-in _ ts _ _ (p .good .used) (p .good .strings)),
-      r .remap-str-offsets .ensures .1,
+      λ ts k. r .remap-pieces .ensures .0 ts _ k (judged _ _ _ _ _ _ _ p) ∙ ap (placed _ _) (remapped-in _ _ ts),
+      r .remap-pieces .ensures .1,
     )
 
 pub remap-section-spec : {M : Type 1} → statement M
-remap-section-spec = tie.close (tie.spec returns remap-str-offsets-requires same-length same-length-2 returns-2)
+remap-section-spec = tie.close (tie.spec returns remap-pieces-requires same-length same-length-2 returns-2)

@@ -108,7 +108,7 @@ returns c =
     let a = c .before .before .before .before .before .before .before .before in (
       λ ts used p. sym (entries-end _ _ ts used _ _ _ (rw (counted (c .before .before) used (p .judged)) at (c .loop-test .left))) ∙ l .loop .inv .5 ts used p .1
           ∙ ap (λ (w : ℕ). placed (now (a .args .d)) (a .args .at) (numbersOf (encodingIs (a .args .o .encoding) .big) w (map (offsetIn ts) used))) (c .before .before .before .width .ensures),
-      l .loop .inv .4,
+      (l .loop .inv .4, λ ts used p. l .loop .inv .5 ts used p .0),
     )
 
 pub put-entries-spec : {M : Type 1} → statement M

@@ -91,7 +91,7 @@ returns c =
     let a = c .before .before .before .before .before .before .before .before .before .before .before .before .before .before .before .before .before .before .before .before .before .before in
     let e = a .args .o .encoding in (
       λ ts used k j. remapped-is (encodingIs e) (sound e) _ _ _ used j _ (s .header-size .ensures) ts _ _ _ _ (a .pre .1 .room) (c .before .before .before .before .before .before .before .before .before .before .before .before .before .put-bytes .ensures) (c .before .before .before .before .put-entries .ensures .0 ts used (cleared (c .before .before .before .before .before .before .before .before .before) ts used k j)),
-      c .before .before .before .before .put-entries .ensures .1 ∙ table-same (c .before .before .before .before .before .before .before .before .before),
+      c .before .before .before .before .put-entries .ensures .1 .0 ∙ table-same (c .before .before .before .before .before .before .before .before .before),
     )
 
 pub remap-str-offsets-spec : {M : Type 1} → statement M

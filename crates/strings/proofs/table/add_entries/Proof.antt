@@ -45,7 +45,7 @@ same-length c = c .before .before .before .before .loop .inv .1
 returns : tie.Need-returns Inv-loop μ-loop
 returns c =
     let a = c .before .before .before .before .before .before .before .before in
-    λ ts p. adding-missing _ _ ts _ _ _ _ _ (rw (c .before .before .before .before .before .entries-of .ensures) at (c .before .before .before .loop-test .taken)) (c .before .before .entry-of .ensures) (last-behind 9 _ _ (a .pre .1) _ (omega (arith, c .before .long .ensures, c .if1 .taken)))
+    λ ts p. adding-missing _ _ _ _ _ ts _ _ _ _ (rw (c .before .before .before .before .before .entries-of .ensures) at (c .before .before .before .loop-test .taken)) (c .before .before .entry-of .ensures) (last-behind 9 _ _ (a .pre .1) _ (omega (arith, c .before .long .ensures, c .if1 .taken)))
 
 size-requires : tie.Need-size-requires Inv-loop μ-loop
 size-requires c κs = tt
@@ -88,7 +88,10 @@ same-length-2 : tie.Need-same-length-2 Inv-loop μ-loop
 same-length-2 c = c .before .loop .inv .1
 
 returns-2 : tie.Need-returns-2 Inv-loop μ-loop
-returns-2 c = λ ts p. adding-all _ _ _ _ _ ts _ _ (c .before .loop .inv .3 ts p) (rw (← c .before .before .entries-of .ensures) (c .loop-test .left))
+returns-2 c =
+    let l = c .before in
+    λ ts p. adding-all _ _ _ _ _ ts _ _ (l .loop .inv .3 ts p) _ (rw (← l .before .entries-of .ensures) (c .loop-test .left))
+    (omega (arith, l .loop .inv .0, l .loop .inv .2, l .before .entries-of .ensures))
 
 pub add-entries-spec : {M : Type 1} → statement M
 add-entries-spec =

@@ -9,6 +9,7 @@ use Rattle.strings.specs.Objects.{KeptIn, PuttingIn}
 use Rattle.strings.proofs.Places.{length-bytesAt}
 use Rattle.strings.proofs.Storing.{table-forgotten, kept-stays}
 use Rattle.strings.proofs.Remembering.{forgotten, last-cut}
+use Rattle.strings.proofs.Adding.{put-added}
 use borrow.Author.Needs.{needs}
 use Rattle.strings.proofs.table.add_strings.Statement.{statement}
 use Rattle.strings.proofs.table.add_strings.Tie as tie
@@ -62,7 +63,7 @@ same-length : tie.Need-same-length
 same-length c = search needs
 
 returns : tie.Need-returns
-returns c = λ ts k. c .before .before .add-entries .ensures ts (cleared (c .before .before .before .before .before .before) ts k)
+returns c = λ ts k. put-added _ _ _ _ _ _ _ _ (c .before .before .add-entries .ensures ts (cleared (c .before .before .before .before .before .before) ts k))
 
 pub add-strings-spec : {M : Type 1} → statement M
 add-strings-spec =
