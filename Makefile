@@ -6,6 +6,7 @@ ORACLE_SOURCE ?= ../shared/oracle
 ORACLE = $(CURDIR)/target/oracle/release/thorin-oracle
 ACCEPTED ?= 100000
 DAMAGED ?= 1000000
+SITTINGS ?= 100000
 SEED ?= 1
 
 # Where `make install` puts things; DESTDIR stands in front of it.
@@ -24,7 +25,7 @@ help:
 	@echo 'make uninstall      removes them'
 	@echo 'make test           the gate: every proof from nothing, every edit that must fail, every program, the tests of the host'
 	@echo 'make host           the tests of the host alone'
-	@echo 'make differential   compares with thorin itself, where it is at hand, and feeds a million damaged bundles'
+	@echo 'make differential   compares with thorin itself, where it is at hand, feeds a million damaged bundles, packs in two sittings'
 	@echo 'make string-index   times the index of strings against a proved build that walks the kept strings; fails below five times'
 	@echo 'make bench          times packing and looking up and writes docs/PERFORMANCE.md'
 	@echo 'make fmt            formats every file'
@@ -133,6 +134,7 @@ differential: oracle library
 	host/target/release/damaged $(DAMAGED) $(SEED)
 	host/target/release/damaged_elf $(DAMAGED) $(SEED)
 	host/target/release/written_elf 100000 $(SEED)
+	host/target/release/two_sittings $(SITTINGS) $(SEED)
 
 # A proved build whose hash of a string is always 0, so that a search walks the kept strings up to the first match, as it did before there was an
 # index. Its entries have other names, so that one program can call both.

@@ -15,6 +15,7 @@ pub mod StrPieces
 pub mod StrStrings
 pub mod Demand3
 pub mod Paper
+pub mod TwoSittings
 pub mod Telling
 pub mod Packaged
 pub mod InInfo

@@ -9,3 +9,4 @@ pub mod RoundTrip
 pub mod Refusing
 pub mod Skipped
 pub mod Paper
+pub mod TwoSittings

@@ -43,6 +43,15 @@ impl Written<'_> {
             Packed::Refused(number) => self.code == *number,
         }
     }
+
+    /// The same as the reference would say it.
+    pub fn packed(&self) -> Packed {
+        match self.code {
+            0 => Packed::Made(self.bytes.to_vec()),
+            18 => Packed::Short(self.length),
+            number => Packed::Refused(number),
+        }
+    }
 }
 
 fn is_zero<T: Copy + Into<u64>>(numbers: &[T]) -> bool {

@@ -4,7 +4,7 @@
 //! without end, `lender` lends memory to the proved functions again and again and judges it after each call, and `handed_in` reads
 //! from a bundle what must be found in its package, which `claim` asks for. `oracle` asks thorin where it is at hand, `measured` says of
 //! which bundles its package is the measure, and `sample` keeps some of its answers; `clock` is for timing. `elf` reads ELF files as
-//! document 02 says, and `elf_writer` writes them.
+//! document 02 says, and `elf_writer` writes them. `sittings` packs in two sittings.
 
 pub mod batch;
 pub mod claim;
@@ -20,4 +20,5 @@ pub mod profile;
 pub mod reference;
 pub mod sample;
 pub mod sheet;
+pub mod sittings;
 pub mod vectors;

@@ -1,5 +1,6 @@
 //! What the command does. Every subcommand ends with the same statuses: 0 done, 1 refused, absent or not verified, 2 a wrong call or file trouble.
 
+mod add;
 mod bundle;
 mod call;
 mod files;

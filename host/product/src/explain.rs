@@ -49,6 +49,11 @@ impl Why {
         Why { cause: Some(cause), ..Why::default() }
     }
 
+    /// The object at fault, counted from 1, where it is known.
+    pub fn object(&self) -> Option<usize> {
+        self.object
+    }
+
     /// The file at fault, where it has a name.
     pub fn file<'n>(&self, names: &Names<'n>) -> Option<&'n String> {
         names.files.get(self.object? - 1)

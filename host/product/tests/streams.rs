@@ -97,6 +97,7 @@ fn standard_input_is_named_once() {
     twice(&["pack", "-", "-", "-o-"], &fs::read(FILE).unwrap());
     twice(&["pack", "@-", "-o-"], b"-\n");
     twice(&["pack", "@-", "@-", "-o-"], FILE.as_bytes());
+    twice(&["pack", "--add", "-", "-", "-o-"], &bytes(PACKAGE));
     twice(&["verify", "-", "-"], &bytes(PACKAGE));
     twice(&["verify", "-", FILE, "@-"], &bytes(PACKAGE));
     assert_eq!(names(&home), [""; 0]);

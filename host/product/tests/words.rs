@@ -65,8 +65,9 @@ fn no_package_is_refused_alike() {
     let told = "barthovin: text: refused 21: this is no package: it has 10 bytes\n";
     let json = "{\"refused\":21,\"meaning\":\"this is no package\"}\n";
     let lookup = ["lookup", "text", "cu", "1", "section", "info"];
-    for call in [&["list", "text"][..], &["sheet", "text"], &["profile", "text"], &["verify", "text", EXAMPLE], &lookup]
-    {
+    let verify = ["verify", "text", EXAMPLE];
+    let add = ["pack", "--add", "text", EXAMPLE, "-o", "text"];
+    for call in [&["list", "text"][..], &["sheet", "text"], &["profile", "text"], &verify, &lookup, &add] {
         let output = run_in(&home, call, &[]);
         assert_eq!((message(&output).as_str(), text(&output).as_str(), status(&output)), (told, "", 1), "{call:?}");
         let output = run_in(&home, &[call, &["--json"]].concat(), &[]);

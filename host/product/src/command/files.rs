@@ -22,11 +22,21 @@ const NOT_A_PACKAGE: u32 = 21;
 const LONGEST_LIST: usize = 1 << 26;
 
 /// What is packed: the bundle, and how each of its objects is called.
+#[derive(Default)]
 pub struct Joined {
     pub bundle: Vec<u8>,
     /// One for each object; none where the bundle was handed in as it is, and its objects have numbers.
     pub files: Vec<String>,
     /// The machine of the first ELF file, if there is one.
+    pub machine: Option<u32>,
+    /// How the first file is called.
+    first: String,
+}
+
+/// A file that was read: how it is called in messages, its bundle or package, and its machine where it is an ELF file.
+pub struct Taken {
+    pub shown: String,
+    pub bytes: Vec<u8>,
     pub machine: Option<u32>,
 }
 
@@ -47,30 +57,41 @@ pub fn refused_call(call: &Call, file: &str, number: u32, why: Option<String>) -
 }
 
 /// Reads a file; an ELF file as the bundle of its sections, with the machine that it names.
-fn bundle_of(call: &Call, name: &OsString) -> Result<(Vec<u8>, Option<u32>), Stop> {
-    let bytes = input::read_either(name, elf::MAGIC, LONGEST_FILE, LONGEST_BUNDLE)?;
+fn take(call: &Call, name: &OsStr) -> Result<Taken, Stop> {
+    taken(call, name, input::read_either(name, elf::MAGIC, LONGEST_FILE, LONGEST_BUNDLE)?)
+}
+
+fn taken(call: &Call, name: &OsStr, bytes: Vec<u8>) -> Result<Taken, Stop> {
+    let shown = input::shown(name);
     if !bytes.starts_with(elf::MAGIC) {
-        return Ok((bytes, None));
+        return Ok(Taken { shown, bytes, machine: None });
     }
-    from_elf(call, &bytes, &input::shown(name)).map(|bundle| (bundle, elf::machine_of(&bytes)))
+    let bundle = from_elf(call, &bytes, &shown)?;
+    Ok(Taken { shown, bytes: bundle, machine: elf::machine_of(&bytes) })
 }
 
 /// Reads a package; of an ELF file (.dwp) the package that it holds, or the refusal of such a file.
 pub fn read_package(call: &Call, name: &OsStr) -> Result<Vec<u8>, Stop> {
+    read_package_file(call, name).map(|file| file.bytes)
+}
+
+fn read_package_file(call: &Call, name: &OsStr) -> Result<Taken, Stop> {
     let read = || input::read_either(name, elf::MAGIC, LONGEST_FILE, LONGEST_PACKAGE);
     let bytes = progress::shown("reading the package".to_string(), read)?;
-    match bytes.starts_with(elf::MAGIC) {
-        true => from_elf(call, &bytes, &input::shown(name)),
-        false => Ok(bytes),
-    }
+    taken(call, name, bytes)
 }
 
 /// The same of one that is a package. That it is the proved lookup says, to any question.
 pub fn good_package(call: &Call, name: &OsStr) -> Result<Vec<u8>, Stop> {
-    let bytes = read_package(call, name)?;
-    match ffi::lookup(&bytes, 5, 1, 1, 1) {
-        Found::Refused(NOT_A_PACKAGE) => Err(no_package(call, name, &bytes)),
-        _ => Ok(bytes),
+    good_package_file(call, name).map(|file| file.bytes)
+}
+
+/// The same with its name and machine.
+pub fn good_package_file(call: &Call, name: &OsStr) -> Result<Taken, Stop> {
+    let file = read_package_file(call, name)?;
+    match ffi::lookup(&file.bytes, 5, 1, 1, 1) {
+        Found::Refused(NOT_A_PACKAGE) => Err(no_package(call, name, &file.bytes)),
+        _ => Ok(file),
     }
 }
 
@@ -113,37 +134,53 @@ pub fn listed(names: &[OsString]) -> Result<Vec<OsString>, Stop> {
 
 /// All files as one bundle, in the order given. A single bundle is taken as it is, whatever it holds.
 pub fn join(call: &Call, names: &[OsString]) -> Result<Joined, Stop> {
-    progress::shown(format!("reading {}", show::count(names.len(), "file")), || joined(call, names))
+    reading(names, || match names {
+        [name] => take(call, name).map(|file| {
+            let files = file.machine.map(|_| file.shown.clone()).into_iter().collect();
+            Joined { bundle: file.bytes, files, machine: file.machine, first: file.shown }
+        }),
+        _ => Joined::default().with_all(call, names),
+    })
 }
 
-fn joined(call: &Call, names: &[OsString]) -> Result<Joined, Stop> {
-    if let [name] = names {
-        let (bundle, machine) = bundle_of(call, name)?;
-        let files = machine.map(|_| input::shown(name)).into_iter().collect();
-        return Ok(Joined { bundle, files, machine });
-    }
-    let mut joined = Joined { bundle: Vec::new(), files: Vec::new(), machine: None };
-    for name in names {
-        let (bytes, machine) = bundle_of(call, name)?;
-        joined.machine = joined.machine.or(machine);
-        let shown = input::shown(name);
-        let read = match Bundle::read(&bytes) {
-            Ok(read) => read,
-            Err(_) => return Err(not_a_bundle(call, &shown, &bytes)),
-        };
-        if joined.bundle.is_empty() {
-            joined.bundle.extend(&bytes[..4]);
-        } else if joined.bundle[..4] != bytes[..4] {
-            let first = input::shown(&names[0]);
-            return Err(Stop::Refused(format!("{shown}: its byte order is not that of {first}")));
+/// The same behind the one object of a package, which is called by the package's name.
+pub fn join_to(call: &Call, package: &Taken, names: &[OsString]) -> Result<Joined, Stop> {
+    let mut joined = Joined::default();
+    joined.push(call, package)?;
+    joined.files = vec![package.shown.clone()];
+    reading(names, || joined.with_all(call, names))
+}
+
+fn reading<T>(names: &[OsString], read: impl FnOnce() -> T) -> T {
+    progress::shown(format!("reading {}", show::count(names.len(), "file")), read)
+}
+
+impl Joined {
+    fn with_all(mut self, call: &Call, names: &[OsString]) -> Result<Joined, Stop> {
+        for name in names {
+            self.push(call, &take(call, name)?)?;
         }
-        joined.bundle.extend(&bytes[4..bytes.len() - 4]);
+        put_end(&mut self.bundle);
+        Ok(self)
+    }
+
+    /// Puts the objects of a file behind those that are there; the last word is still missing.
+    fn push(&mut self, call: &Call, file: &Taken) -> Result<(), Stop> {
+        let Taken { shown, bytes, machine } = file;
+        let Ok(read) = Bundle::read(bytes) else { return Err(not_a_bundle(call, shown, bytes)) };
+        if self.bundle.is_empty() {
+            self.bundle.extend(&bytes[..4]);
+            self.first = shown.clone();
+        } else if self.bundle[..4] != bytes[..4] {
+            return Err(Stop::Refused(format!("{shown}: its byte order is not that of {}", self.first)));
+        }
+        self.machine = self.machine.or(*machine);
+        self.bundle.extend(&bytes[4..bytes.len() - 4]);
         let object =
             |number: usize| if machine.is_some() { shown.clone() } else { format!("{shown}, object {number}") };
-        joined.files.extend((1..=read.objects.len()).map(object));
+        self.files.extend((1..=read.objects.len()).map(object));
+        Ok(())
     }
-    put_end(&mut joined.bundle);
-    Ok(joined)
 }
 
 /// What can't be taken apart is refused as the packer refuses it alone.

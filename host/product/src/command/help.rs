@@ -42,6 +42,7 @@ FILE is a relocatable ELF64 file (.dwo) or a bundle, told apart by their first b
 files that the lines of LIST name (./@NAME for a file that is called so).
 
   -o, --output=PACKAGE   the file to write, or - for standard output; where its name ends in .dwp, an ELF file
+      --add=PACKAGE      add the files to a package, as it is or as an ELF file; -o may name the same one
       --elf              write an ELF file whatever its name
       --machine=MACHINE  of the ELF file: x86-64, aarch64 or riscv64; else that of the first ELF file read, else x86-64
       --namesakes        list the type units that were skipped though their bytes are not those of the one kept
@@ -51,6 +52,11 @@ files that the lines of LIST name (./@NAME for a file that is called so).
 
 Of type units with one signature the first is kept. How many were skipped is said where there are any: repeats, whose bytes are those of the one
 kept, and namesakes. It is said on standard error where the package goes to standard output.
+
+With --add the package comes first and the files follow it. The result is, byte for byte, that of packing at once all files that the package was
+packed from and those added: it is proved wherever both are accepted, pack wrote the first, and all of them fit into one bundle. The command
+says so, or that the package isn't as pack writes it. Some packages can't be added to (refused 7, 15 or 34): keep all files until the last one is
+packed. Where the output is the package itself, a new file takes its place or nothing is written.
 
 All files together make a bundle of at most 4,194,304 bytes. A file that is there keeps its mode, owner and links. It is written whole
 or not at all wherever a second file can stand beside it meanwhile.

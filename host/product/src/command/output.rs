@@ -1,7 +1,8 @@
 //! What is written: to standard output, and to files.
 //!
 //! A file that is there keeps its mode, its owner and its links, and one that may not be written is left alone, as cp does it. A file is
-//! written whole or not at all wherever a second one can stand beside it meanwhile.
+//! written whole or not at all wherever a second one can stand beside it meanwhile. One that was read, and may be the only copy, is written
+//! so or not at all.
 
 use super::{show, Stop, DONE};
 use std::ffi::OsStr;
@@ -11,6 +12,8 @@ use std::os::unix::fs::MetadataExt;
 use std::path::{Path, PathBuf};
 
 const STANDARD: &str = "standard output";
+/// What standard input is read from has this name.
+const INPUT: &str = "/dev/stdin";
 
 /// Prints a text and a newline.
 pub fn print(text: &str) -> Result<u8, Stop> {
@@ -29,10 +32,26 @@ pub fn write_standard(bytes: &[u8]) -> Result<(), Stop> {
 
 /// Writes a file, or standard output for `-`.
 pub fn write(name: &OsStr, bytes: &[u8]) -> Result<(), Stop> {
+    write_where(name, bytes, true)
+}
+
+/// The same where what is written stands for what was read of another file, or of standard input: if both are one, it is never written in place.
+pub fn write_for(read: &OsStr, name: &OsStr, bytes: &[u8]) -> Result<(), Stop> {
+    write_where(name, bytes, !is_same(read, name))
+}
+
+fn write_where(name: &OsStr, bytes: &[u8], in_place: bool) -> Result<(), Stop> {
     if name == "-" {
         return write_standard(bytes);
     }
-    write_file(Path::new(name), bytes).map_err(|error| Stop::file(&shown(name), &error))
+    write_file(Path::new(name), bytes, in_place).map_err(|error| Stop::file(&shown(name), &error))
+}
+
+/// Whether what is read under one name is written under the other.
+fn is_same(read: &OsStr, written: &OsStr) -> bool {
+    let read = if read == "-" { OsStr::new(INPUT) } else { read };
+    let file = |name: &OsStr| fs::metadata(name).ok().map(|m| (m.dev(), m.ino()));
+    file(read).is_some() && file(read) == file(written)
 }
 
 /// How what is written is called in messages.
@@ -44,7 +63,7 @@ pub fn shown(name: &OsStr) -> String {
     }
 }
 
-fn write_file(path: &Path, bytes: &[u8]) -> io::Result<()> {
+fn write_file(path: &Path, bytes: &[u8], in_place: bool) -> io::Result<()> {
     let Ok(there) = fs::metadata(path) else {
         if fs::symlink_metadata(path).is_ok_and(|m| m.is_symlink()) {
             return Err(io::Error::other("not written through a symbolic link that leads nowhere"));
@@ -60,6 +79,9 @@ fn write_file(path: &Path, bytes: &[u8]) -> io::Result<()> {
     let target = fs::canonicalize(path)?;
     if there.nlink() == 1 && can_stand_in(&target, &there) {
         return replace(&target, bytes, Some(&there));
+    }
+    if !in_place {
+        return Err(io::Error::other("it was read, and no new file can take its place: name another output"));
     }
     file.set_len(0)?;
     fill(file, bytes)

@@ -1,7 +1,8 @@
 //! `barthovin pack`: files in, their package out, as it is or as an ELF file, or nothing and the reason.
 
+use super::add::{self, Added, Earlier};
 use super::call::{Call, Known};
-use super::files::{join, listed, refused_call, Joined};
+use super::files::{join, join_to, listed, refused_call, Joined};
 use super::{input, output, progress, show, Stop, DONE};
 use crate::elf;
 use crate::explain::{self, Names};
@@ -15,8 +16,9 @@ use std::os::unix::ffi::OsStrExt;
 /// The refusal of a machine that packages aren't written for.
 const OTHER_MACHINE: u32 = 36;
 
-const OPTIONS: [Known; 5] = [
+const OPTIONS: [Known; 6] = [
     Known { long: "output", short: Some(b'o'), value: true },
+    Known { long: "add", short: None, value: true },
     Known { long: "elf", short: None, value: false },
     Known { long: "machine", short: None, value: true },
     Known { long: "namesakes", short: None, value: false },
@@ -41,13 +43,21 @@ pub fn run(arguments: &[OsString]) -> Result<u8, Stop> {
     if names.is_empty() {
         return Err(call.wrong("the list names no file"));
     }
-    let joined = join(&call, &names)?;
+    let earlier = add::earlier(&call)?;
+    let joined = match &earlier {
+        Some(earlier) => join_to(&call, &earlier.file, &names)?,
+        None => join(&call, &names)?,
+    };
     let about = format!("packing {}, {} bytes", show::count(names.len(), "file"), joined.bundle.len());
     let packed = progress::shown(about, || packed(&joined.bundle));
-    let (package, skipped) = packed.map_err(|number| told(&call, &names, &joined, number))?;
+    let (package, skipped) = packed.map_err(|number| told(&call, &names, earlier.as_ref(), &joined, number))?;
+    let added = earlier.as_ref().map(|earlier| earlier.added(names.len(), &package));
     let file = if as_elf { elf_file(&call, to, &package, named.or(joined.machine))? } else { package };
-    output::write(to, &file)?;
-    say_skipped(&call, to, &joined, file.len(), skipped)
+    match &earlier {
+        Some(earlier) => output::write_for(earlier.name, to, &file)?,
+        None => output::write(to, &file)?,
+    }
+    say(&call, to, &joined, Done { length: file.len(), skipped, added })
 }
 
 /// The package as an ELF file.
@@ -57,22 +67,33 @@ fn elf_file(call: &Call, to: &OsStr, package: &[u8], machine: Option<u32>) -> Re
     elf::file_of(package, machine).map_err(|number| refused_call(call, &output::shown(to), number, why(number)))
 }
 
-/// How many type units were skipped, where there are any, and with --namesakes which of them are namesakes. It is said on standard error
-/// where the package goes to standard output.
-fn say_skipped(call: &Call, to: &OsStr, joined: &Joined, length: usize, told: Skipped) -> Result<u8, Stop> {
-    let namesakes = if call.has("namesakes") { namesakes(joined, told)? } else { Vec::new() };
+/// What was done: the length written, what was skipped, and what was added to a package.
+struct Done {
+    length: usize,
+    skipped: Skipped,
+    added: Option<Added>,
+}
+
+/// Says what was added, how many type units were skipped, where there are any, and with --namesakes which of them are namesakes. It is said
+/// on standard error where the package goes to standard output.
+fn say(call: &Call, to: &OsStr, joined: &Joined, done: Done) -> Result<u8, Stop> {
+    let Done { length, skipped, added } = done;
+    let namesakes = if call.has("namesakes") { namesakes(joined, skipped)? } else { Vec::new() };
     if call.has("json") {
         let listed: Vec<String> = namesakes.iter().map(Namesake::json).collect();
         let listed = call.has("namesakes").then(|| format!(",\"listed\":[{}]", listed.join(",")));
-        let Skipped { repeats, namesakes } = told;
+        let same = added.as_ref().map(Added::json);
+        let Skipped { repeats, namesakes } = skipped;
         let counts = format!("\"repeats\":{repeats},\"namesakes\":{namesakes}");
-        return output::print(&format!("{{\"length\":{length},{counts}{}}}", listed.unwrap_or_default()));
+        let more = format!("{}{}", same.unwrap_or_default(), listed.unwrap_or_default());
+        return output::print(&format!("{{\"length\":{length},{counts}{more}}}"));
     }
-    if told == Skipped::default() {
+    let counts = (skipped != Skipped::default()).then(|| show::skipped(skipped));
+    let lines = added.iter().flat_map(Added::lines).chain(counts).chain(namesakes.iter().map(Namesake::line));
+    let text = lines.collect::<Vec<_>>().join("\n");
+    if text.is_empty() {
         return Ok(DONE);
     }
-    let lines = std::iter::once(show::skipped(told)).chain(namesakes.iter().map(Namesake::line));
-    let text = lines.collect::<Vec<_>>().join("\n");
     if to != "-" {
         return output::print(&text);
     }
@@ -131,15 +152,20 @@ fn machine_named(call: &Call, as_elf: bool) -> Result<Option<u32>, Stop> {
 }
 
 /// The refusal of what was joined, by the file that it comes from where that is known.
-fn told(call: &Call, operands: &[OsString], joined: &Joined, number: u32) -> Stop {
+fn told(call: &Call, operands: &[OsString], earlier: Option<&Earlier>, joined: &Joined, number: u32) -> Stop {
     let names = Names { files: &joined.files };
     let why = explain::packing(&joined.bundle, number, &names);
-    let all = match operands {
-        [name] => input::shown(name),
-        operands => format!("{} together", show::count(operands.len(), "file")),
+    let files = show::count(operands.len(), "file");
+    let all = match (earlier, operands) {
+        (Some(earlier), _) => format!("{} and {files} together", earlier.file.shown),
+        (None, [name]) => input::shown(name),
+        (None, _) => format!("{files} together"),
     };
     let file = why.as_ref().and_then(|why| why.file(&names)).unwrap_or(&all);
-    refused_call(call, file, number, why.as_ref().map(|why| why.told(&names)))
+    let hint = earlier.filter(|_| why.as_ref().and_then(|why| why.object()) == Some(1)).map(|_| add::HINT.to_string());
+    let why = why.as_ref().map(|why| why.told(&names)).filter(|why| !why.is_empty());
+    let why: Vec<String> = why.into_iter().chain(hint).collect();
+    refused_call(call, file, number, Some(why.join("; ")))
 }
 
 /// The package and what was skipped, or the refusal's number.

@@ -1,0 +1,26 @@
+-- Packing in two sittings: laws.
+-- Assumes nothing.
+pub mod Filed
+pub mod Given
+pub mod Content
+pub mod Rebased
+pub mod Local
+pub mod SameIndex
+pub mod Alike
+pub mod PackageUnit
+pub mod PackageWalk
+pub mod PackageHere
+pub mod KeptTogether
+pub mod SameSections
+pub mod Own
+pub mod OwnPiece
+pub mod Strings
+pub mod Tiles
+pub mod Pieces
+pub mod Strung
+pub mod Named
+pub mod Final
+pub mod KeptUnits
+pub mod Packaged
+pub mod ReadBack
+pub mod TwoSittings

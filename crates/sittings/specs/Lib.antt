@@ -1,0 +1,3 @@
+-- Packing in two sittings.
+-- Assumes nothing.
+pub mod Sittings
