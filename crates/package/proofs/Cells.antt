@@ -21,6 +21,7 @@ use Rattle.index.specs.Index.{Contribution}
 use Rattle.index.specs.Rows.{BySection, shared}
 use Rattle.index.specs.Written.{Row}
 use Rattle.index.proofs.LawColumns.{formOf, forms}
+use Rattle.octets.proofs.Options.{some-inj, some-none}
 use Rattle.package.specs.Input.{Input, wrongEdition}
 use Rattle.package.specs.Filing.{Filed, Filing, lengths, kept}
 use Rattle.package.specs.Pack.{cells, rowsOf, unitBytes, sharedBytes, stringTable, sectionList}
@@ -98,12 +99,6 @@ cell-some u at c k h q = rw (cells, ne-eqb c (u .home) h, q)
 pub cell-none : (u : Filed) (at c : ℕ) → (c ≡ u .home → ⊥) → u .contributions c ≡ none → cells u at c ≡ none
 unfolding cells
 cell-none u at c h q = rw (cells, ne-eqb c (u .home) h, q)
-
-some-inj : {A : Type 0} {a b : A} → some a ≡ some b → a ≡ b
-some-inj e = cc
-
-some-none : {A : Type 0} {a : A} {P : Type 0} → some a ≡ none → P
-some-none e = let z : _≡_ {A = ℕ} 0 1 = cc in absurd (omega arith)
 
 -- a cell names a part of a section that is there, for which there is a column
 pub record CellFacts (e : Encoding) (section : BySection (List ℕ)) (c : ℕ) (k : Contribution) : Type 0 where

@@ -25,6 +25,7 @@ use Rattle.index.specs.Rows.{BySection, isSome}
 use Rattle.index.specs.Tiles.{named}
 use Rattle.index.proofs.Contributions.{all-has}
 use Rattle.index.proofs.Tiles.{isOne}
+use Rattle.octets.proofs.Options.{some-inj, some-none}
 use Rattle.package.specs.Pieces.{Piece}
 use Rattle.package.specs.Input.{Input, present, repeated, wrongEdition, onlyOnce, besideInfo, editionGood, complete, formOf, inputIndex, wholePieces, isPacked, tiledPieces, unitSections, Opened, openedWhole, openedTiled, opened, inputOf}
 use Rattle.package.specs.Filing.{isPackage}
@@ -150,12 +151,6 @@ pub record InputFacts (e : Encoding) (i : Input) : Type 0 where
   pub tuRead : (x : Index) → i .tuIndex ≡ some x → IndexRead x
   pub sections : Every (UnitSection e) (i .units)
   pub strings : Pieced e i
-
-some-none : {A : Type 0} {a : A} {P : Type 0} → some a ≡ none → P
-some-none e = let z : _≡_ {A = ℕ} 0 1 = cc in absurd (omega arith)
-
-some-inj : {A : Type 0} {a b : A} → some a ≡ some b → a ≡ b
-some-inj e = cc
 
 pub index-read : (e : Encoding) (ps : List Part) (bytes : BySection (List ℕ)) (c : ℕ) (o : Option Index) → inputIndex e ps bytes c ≡ pass o
     → (x : Index) → o ≡ some x → IndexRead x
