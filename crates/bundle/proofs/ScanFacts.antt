@@ -19,7 +19,6 @@ use Rattle.bundle.proofs.Lies.{Lies, first-is}
 
 -- what `scan_object` and `next_unit_section` require, and what they speak of
 module _ (b : List ℕ) (at : ℕ) (is : List Item) (e : here b at ≡ pass is) where
-
   pub left-sections : sectionsOf (items at (drop at b)) ≡ leading is
   unfolding here sectionsOf
   left-sections = ap sectionsOf e

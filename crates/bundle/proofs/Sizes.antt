@@ -56,5 +56,3 @@ pub bundle-totals : (b : List ℕ) (u : Bundle) → bundleOf b ≡ pass u → to
 bundle-totals b u e =
     let r = readable b u e in
     rw (sym (r .objects)) (omega (arith, items-size (r .all), here-span b 4 (r .all) (r .left)))
-
-]

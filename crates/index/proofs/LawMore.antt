@@ -26,7 +26,6 @@ below-set (x ∷ xs) (suc at) y b zero h g = h 0
 below-set (x ∷ xs) (suc at) y b (suc k) h g = below-set xs at y b k (λ j. h (suc j)) g
 
 module _ (n : ℕ) (p : PowerOfTwo n) where
-
   -- they lie where placing puts them
   pub placed-by : (xs : List ℕ) → Distinct xs → length xs < n → Placed n xs (length xs) (placeAll (unused n) 1 xs)
   placed-by xs different few = placed-all n p xs different few (length xs) 0 (unused n) (omega arith) (placed-none n xs)

@@ -102,7 +102,6 @@ module _ {w slots : List ℕ} {n : ℕ} {xs : List ℕ} (s : SeenHeld w slots n 
   search-same x = search-renamed renamed (map (identityFor w) slots) x ∙ ap (λ (l : List ℕ). search (s .placed .rows) l x) (s .identities)
 
   module _ (p : PowerOfTwo (length slots)) (few : length xs < length slots) where
-
     -- ---- one more
     module _ (x : ℕ) where
       next : place (s .placed) (length xs + 1) x ≡ put (s .placed) (freeFor slots x) (length xs + 1) x

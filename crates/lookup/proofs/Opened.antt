@@ -122,7 +122,6 @@ module _ (s : Scan) (ps : List Part) (from : ℕ) (e : s ≡ scanOf from ps) (c 
 
 -- ---- its one object
 module _ (p : List ℕ) (big : Bool) (word : ℕ) (sections : Scan) (a : Alone p big word sections) where
-
   shut : objectJudged big p (record { word = word; parts = a .parts }) ≡ refuse 21 → closed ≡ opened (packageOf p)
   unfolding opened
   shut e = sym (ap opened (a .is ∙ e))

@@ -9,7 +9,6 @@ use Rattle.octets.proofs.Checks.{known}
 use Rattle.octets.proofs.Lists.{those-keeps, those-skips}
 
 module _ {A B : Type 0} (g : A → B) (f : B → Bool) where
-
   pub those-map : (xs : List A) → those f (map g xs) ≡ map g (those (λ x. f (g x)) xs)
   unfolding those
   those-map [] = refl
