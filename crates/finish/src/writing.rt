@@ -3,6 +3,7 @@ ghost use mathlib.Core.Path.{_≡_};
 ghost use mathlib.Core.List.{List};
 ghost use Prim.Native.Nat.{ℕ, _+_, _<_};
 ghost use lib.ListN.{length};
+ghost use Rattle.numbers.specs.Sections.{lastShared};
 ghost use Rattle.octets.specs.Octets.{placed};
 ghost use Rattle.finish.specs.Sections.{framedSize};
 ghost use Rattle.finish.specs.Ready.{
@@ -30,6 +31,8 @@ use numbers::sections::LAST_SHARED;
 use numbers::sections::STR;
 use numbers::sections::STR_OFFSETS;
 use numbers::sections::TYPES;
+use numbers::tables::COMPILATION;
+use numbers::tables::TYPE;
 use work::COMPILATION;
 
 // What is to be written: the encoding of all objects, what is known of them, and the sizes of all sections by code.
@@ -72,7 +75,7 @@ fn write_index(f: IndexForm, words: usize, n: usize, work: &[u32], out: &mut [u8
 
 // The bytes of str or of an index, by its code.
 fn write_last_section(code: usize, p: Package, b: &[u8], work: &[u32], out: &mut [u8], at: usize)
-    requires { ⌜ SectionWritable code p (now b) (now work) (length (now out)) at × (10 < code) ⌝ }
+    requires { ⌜ SectionWritable code p (now b) (now work) (length (now out)) at × (lastShared < code) ⌝ }
     ensures { λ _. ⌜ SectionPut code p (now (b .entry)) (now (work .entry)) at (now (out .entry)) (now (out .exit)) ⌝ }
 {
     let words = b.len() / 4;
