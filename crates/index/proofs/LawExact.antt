@@ -1,4 +1,4 @@
--- An index written finds exactly the identities of its rows; its bytes are bytes, and its version is the form's.
+-- The version of an index written is its form's, and there is no index without rows.
 -- Assumes nothing.
 use mathlib.Core.Path.{_≡_, refl}
 use mathlib.Core.Bool.{Bool}
@@ -9,7 +9,6 @@ use Rattle.index.specs.Written.{Row, indexBytes}
 use Rattle.index.proofs.LawColumns.{formOf}
 use Rattle.index.proofs.RoundTrip.{written}
 
--- ---- the form, and bytes
 pub written-version : (version : ℕ) (rs : List Row) (t : Slots) → written version rs t .version ≡ formOf version
 unfolding written
 written-version version rs t = refl

@@ -1,4 +1,4 @@
--- The number of slots: a power of two, above the number of units, at most three times as large. Masks are remainders, and strides odd.
+-- The number of slots: a power of two, above the number of units, at most three times as large. Strides are odd.
 -- Assumes nothing.
 use mathlib.Core.Path.{_≡_, refl, sym, ap, _∙_}
 use mathlib.Core.Logic.{_⊎_, inl, inr, ⊎-elim}

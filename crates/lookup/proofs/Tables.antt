@@ -1,4 +1,4 @@
--- 22 and 23, and the index of a table.
+-- 23: which parts can be asked for.
 -- Assumes nothing.
 use mathlib.Core.Path.{_≡_}
 use mathlib.Core.Bool.{true, false, _&&_}
@@ -8,7 +8,6 @@ use borrow.Author.Tests.{le-leb, lt-leb}
 use Rattle.octets.proofs.Checks.{and-both, not-left, not-right}
 use Rattle.lookup.specs.Lookup.{tableGood}
 
--- ---- 23
 module _ (table code : ℕ) where
   pub asked-table : tableGood table ≡ false → (tableGood table && leb 1 code && leb code 10) ≡ false
   asked-table e = not-left _ _ (not-left _ _ e)

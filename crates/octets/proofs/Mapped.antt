@@ -1,4 +1,4 @@
--- Tests over a list of which a function was taken, or to which an element was put behind.
+-- Those of a list of which a function was taken.
 -- Assumes nothing.
 use mathlib.Core.Path.{_≡_, refl, sym, ap, _∙_}
 use mathlib.Core.Logic.{⊎-elim}

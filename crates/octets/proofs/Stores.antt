@@ -1,4 +1,4 @@
--- Words of a row stored one by one, and what stands in a list beside or within what was placed.
+-- Words of a row stored one by one.
 -- Assumes nothing.
 use mathlib.Core.Path.{_≡_}
 use mathlib.Core.List.{List, [], _∷_}

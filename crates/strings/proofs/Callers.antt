@@ -1,4 +1,4 @@
--- What callers read from the answers of the code, and the room that kept strings take in the work area.
+-- What callers read from the answers of the code.
 -- Assumes nothing.
 use mathlib.Core.Path.{_≡_, refl, ap, _∙_}
 use mathlib.Core.List.{List}

@@ -15,6 +15,7 @@ use Rattle.bundle.specs.Encoding.{Encoding}
 use Rattle.bundle.specs.Encoded.{encodingIs}
 use Rattle.strings.specs.Strings.{entriesIn, entriesOf, stringsAt, remapped}
 use Rattle.strings.specs.Kept.{Inside, bytesAt, AddedIs}
+use Rattle.strings.specs.Remembered.{LastZero}
 use Rattle.strings.specs.Objects.{tableIn, KeptIn, PuttingIn, PlacesIn}
 use Rattle.strings.specs.declared.table.Added.{Added}
 use Rattle.strings.specs.declared.table.StrOffsets.{StrOffsets}
@@ -64,9 +65,11 @@ abbrev pub PiecesKept : List ℕ → StrOffsets → ℕ → List ℕ → StringT
 PiecesKept b o words store t x r =
     (ts ps : List (List ℕ)) → KeptIn b words store t ts → HeadedOf o b ps → PiecesAdded b o (tableIn words x) ts ps r
 
--- what putting them takes: a table that is being put, and pieces
-abbrev pub PiecesPutAsked : List ℕ → StrOffsets → ℕ → List ℕ → StringTable → Type 0
-PiecesPutAsked b o words store t = ((ts : List (List ℕ)) × PuttingIn b (o .strings) words store t ts) × ((ps : List (List ℕ)) × HeadedOf o b ps)
+-- what putting them takes: room, where the last string of str ends, a table that is being put, and pieces
+abbrev pub PiecesPutAsked : List ℕ → StrOffsets → ℕ → ℕ → List ℕ → StringTable → Type 0
+PiecesPutAsked b o last words store t =
+    PiecesAddable b o words store t × LastZero (bytesAt b (o .strings)) last × ((ts : List (List ℕ)) × PuttingIn b (o .strings) words store t ts)
+    × ((ps : List (List ℕ)) × HeadedOf o b ps)
 
 -- ---- written
 -- the strings of a piece, none where 9 refuses them

@@ -5,8 +5,6 @@ ghost use Prim.Native.Nat.{ℕ, _≤_};
 ghost use lib.ListN.{length};
 ghost use Rattle.bundle.specs.Encoded.{encodingIs};
 ghost use Rattle.strings.specs.Strings.{headerSize};
-ghost use Rattle.strings.specs.Kept.{bytesAt};
-ghost use Rattle.strings.specs.Remembered.{LastZero};
 ghost use mathlib.Core.Bool.{false};
 ghost use Rattle.strings.specs.Objects.{tableIn, KeptIn, Writable};
 ghost use Rattle.strings.specs.Headed.{
@@ -53,7 +51,7 @@ fn put_pieces(
     words: usize,
     t: StringTable,
 ) -> Added
-    requires { ⌜ PiecesAddable (now b) o words (now store) t × LastZero (bytesAt (now b) (o .strings)) ended × PiecesPutAsked (now b) o words (now store) t ⌝ }
+    requires { ⌜ PiecesPutAsked (now b) o ended words (now store) t ⌝ }
     ensures { λ r. ⌜ PiecesPut (now (b .entry)) o words (now (store .entry)) t (now (store .exit)) r ⌝ }
 {
     let e = o.encoding;
