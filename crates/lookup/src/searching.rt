@@ -51,6 +51,7 @@ use numbers::sections::LAST_SHARED;
 use numbers::sections::STR;
 use numbers::sections::STR_OFFSETS;
 use numbers::sections::TU_INDEX;
+use numbers::tables::COMPILATION;
 use numbers::tables::INDEX_2;
 use numbers::tables::INDEX_5;
 use numbers::tables::TYPE;
@@ -102,7 +103,7 @@ fn has_version(head: PackageHead, version: u32) -> bool
 fn is_table(table: u32) -> bool
     ensures { λ r. ⌜ r ≡ tableGood table ⌝ }
 {
-    if table == 1 {
+    if table == COMPILATION {
         return true;
     }
     table == TYPE
@@ -111,7 +112,7 @@ fn is_table(table: u32) -> bool
 pub fn index_for(head: PackageHead, table: u32) -> PackageIndex
     ensures { λ r. ⌜ r ≡ tableIndex head table ⌝ }
 {
-    if table == 1 {
+    if table == COMPILATION {
         let cu = head.cu;
         return cu;
     }
@@ -122,7 +123,7 @@ pub fn index_for(head: PackageHead, table: u32) -> PackageIndex
 pub fn index_code(table: u32) -> usize
     ensures { λ r. ⌜ r ≡ indexCode table ⌝ }
 {
-    if table == 1 {
+    if table == COMPILATION {
         return CU_INDEX;
     }
     TU_INDEX
