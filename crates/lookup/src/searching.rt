@@ -47,15 +47,18 @@ use numbers::refusals::NO_STRING_THERE;
 use numbers::refusals::OTHER_VERSION;
 use numbers::refusals::PART_OUTSIDE;
 use numbers::sections::CU_INDEX;
-use numbers::sections::LAST_SHARED;
 use numbers::sections::STR;
-use numbers::sections::STR_OFFSETS;
 use numbers::sections::TU_INDEX;
 use numbers::tables::COMPILATION;
 use numbers::tables::INDEX_2;
 use numbers::tables::INDEX_5;
 use numbers::tables::TYPE;
 use strings::entries::StringRead;
+
+// Codes of sections as a question has them: the last that can be asked for, and str_offsets.
+const LAST_SHARED: u32 = numbers::sections::LAST_SHARED as u32;
+
+const STR_OFFSETS: u32 = numbers::sections::STR_OFFSETS as u32;
 
 // A part's start in the package, its length and the looks; absent after so many looks; or a refusal's number.
 pub enum Located {
