@@ -10,7 +10,7 @@ use native.Mathlib.Omega.{arith}
 use lib.Dec.{eqb}
 use lib.ListN.{length, getD}
 use Rattle.octets.specs.Octets.{numberAt}
-use Rattle.octets.specs.Checked.{Check, pass, refuse}
+use Rattle.octets.specs.Checked.{Check, pass, refuse, _>>=_}
 use Rattle.octets.proofs.Checks.{and-left, and-right, then-pass, then-refuse}
 use Rattle.octets.proofs.Parts.{length-part-le}
 use Rattle.bundle.specs.Bundle.{Part as BundlePart, firstPart, body}
