@@ -31,8 +31,6 @@ use numbers::sections::LAST_SHARED;
 use numbers::sections::STR;
 use numbers::sections::STR_OFFSETS;
 use numbers::sections::TYPES;
-use numbers::tables::COMPILATION;
-use numbers::tables::TYPE;
 use work::COMPILATION;
 
 // What is to be written: the encoding of all objects, what is known of them, and the sizes of all sections by code.
