@@ -4,7 +4,7 @@ use mathlib.Core.Path.{_≡_, refl, sym, ap, ap₂, _∙_, subst}
 use mathlib.Core.Logic.{_⊎_, inl, inr, ⊎-elim}
 use mathlib.Core.Bool.{Bool, true, false, _||_}
 use mathlib.Core.List.{List, [], _∷_, map}
-use mathlib.Core.Option.{some, none}
+use mathlib.Core.Option.{some}
 use Prim.Native.Nat.{ℕ, _/_, _^_, _≤_, _<_}
 use native.Mathlib.Omega.{arith}
 use lib.Dec.{eqb, leb}
@@ -46,6 +46,8 @@ use Rattle.elf_writer.proofs.Answering.{written-short, written-made}
 use Rattle.round_trip.proofs.Listed.{Named}
 use Rattle.round_trip.proofs.Stated.{unit-stated}
 use Rattle.round_trip.proofs.FileRead.{Writable, file-read}
+use Rattle.octets.proofs.Options.{some-none}
+use Rattle.octets.proofs.Elements.{no-length}
 use Rattle.archive.specs.RoundTrip.{standsInInfo, ThereAndBack, RoundTrip}
 use Rattle.archive.proofs.Read.{body-is}
 use Rattle.archive.proofs.Absences.{objects-or, no-units, opens}
@@ -65,13 +67,6 @@ machine-fits machine g = ⊎-elim
 word-back : (big : Bool) (w : ℕ) → w / 0x100_0000 ≡ 16 → objectWord (encodingOf big w) ≡ w
 unfolding objectWord encodingOf
 word-back big w k = omega arith
-
-nothing-in : (s : List ℕ) → length s ≡ 0 → s ≡ []
-nothing-in [] e = refl
-nothing-in (x ∷ s) e = absurd (omega arith)
-
-some-none : {A : Type 0} {x : A} {P : Type 0} → some x ≡ none → P
-some-none e = let z : _≡_ {A = ℕ} 0 1 = cc in absurd (omega arith)
 
 module _ (b p : List ℕ) (a : Accepted b p) (h : Bytes b) (o : Object) (os : List Object) (q : a .bundle .objects ≡ o ∷ os) where
   abbrev big : Bool
@@ -100,7 +95,7 @@ module _ (b p : List ℕ) (a : Accepted b p) (h : Bytes b) (o : Object) (os : Li
       (λ (t : leb 1 (length (bytesIn list c)) ≡ false).
       let z : length (bytesIn list c) ≡ 0 = omega (arith, leb-false 1 (length (bytesIn list c)) t) in
       let n = section-missing b p a o os q c z in
-      record { bytes = rw (body, n) (sym (nothing-in (bytesIn list c) z)); there = lt-leb 1 (count parts c) (omega (arith, counted-none c parts n)) ∙ sym t })
+      record { bytes = rw (body, n) (sym (no-length (bytesIn list c) z)); there = lt-leb 1 (count parts c) (omega (arith, counted-none c parts n)) ∙ sym t })
       (known (leb 1 (length (bytesIn list c))))
     where
       counted : {x : Part} → firstPart parts c ≡ some x → (leb 1 (count parts c) ≡ true) ⊎ (leb 1 (count parts c) ≡ false) → leb 1 (count parts c) ≡ true

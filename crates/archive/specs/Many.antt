@@ -4,6 +4,7 @@ use mathlib.Core.Path.{_≡_}
 use mathlib.Core.List.{List, [], _∷_}
 use Prim.Native.Nat.{ℕ, _+_, _*_, _/_, _≤_, max}
 use lib.ListN.{length}
+use Rattle.numbers.specs.Tables.{compilationTable, typeTable}
 use Rattle.answers.specs.Answers.{made as answeredBy}
 use Rattle.package.specs.Pack.{packed, made}
 use Rattle.batch.specs.Batch.{batchAnswered}
@@ -22,7 +23,7 @@ looksIn (code ∷ start ∷ size ∷ looks ∷ rest) = looks + looksIn rest
 abbrev pub SumOfLooks : List ℕ → Type 0
 SumOfLooks p =
     (v room : ℕ) (questions answers : List ℕ) → batchAnswered p v questions room ≡ answeredBy answers
-    → looksIn answers ≤ length questions / 3 * (max (unitsOf p 1) (unitsOf p 2) + 1)
+    → looksIn answers ≤ length questions / 3 * (max (unitsOf p compilationTable) (unitsOf p typeTable) + 1)
 
 -- b is a bundle that packing accepts, p its package
 abbrev pub LooksAreFew : Type 0

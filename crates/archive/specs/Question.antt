@@ -7,12 +7,14 @@ use mathlib.Core.Bool.{false}
 use mathlib.Core.List.{List, []}
 use Prim.Native.Nat.{ℕ, _+_, _≤_, _<_}
 use lib.ListN.{length, getD}
+use Rattle.numbers.specs.Sections.{strOffsetsCode, strCode}
+use Rattle.numbers.specs.Refusals.{noString, outputShort, otherVersion, noEntry}
 use Rattle.octets.specs.Octets.{part as bytesAt}
 use Rattle.octets.specs.Lists.{any}
 use Rattle.octets.specs.Checked.{pass}
 use Rattle.strings.specs.Strings.{stringAt, ended}
 use Rattle.package.specs.Filing.{Filed, isUnder, entriesOfUnit}
-use Rattle.package.specs.Pack.{Answer, refused, short, made, handedIn}
+use Rattle.package.specs.Pack.{Answer, refused, short, made, packed, handedIn}
 use Rattle.package.specs.Units.{IsUnit}
 use Rattle.lookup.specs.Lookup.{Found, lookedUp, stringFound}
 use Rattle.lookup.specs.Answers.{numbered}
@@ -48,14 +50,15 @@ pub record PartTold (b p : List ℕ) (v table x code : ℕ) (r : FromBundle) : T
   pub theTable : Asked b v table → TableIn b p table
   pub aUnit : (u : Filed) → IsFirst b table x u → IsUnit u
   pub foundExactlyWhenHandedIn : Asked b v table → IsCode code → (r .code ≡ 0) ↔ IsHandedIn b table x
-  pub theFirstUnit : (u : Filed) → Asked b v table → IsCode code → IsFirst b table x u → (code ≡ 6 → ⊥) → Told p r (looks b table x) (handedPart u code)
-  pub theFirstUnitInLength : (u : Filed) → Asked b v table → IsFirst b table x u → code ≡ 6 → (r .code ≡ 0) × (r .length ≡ length (handedPart u 6)) × (r .looks ≡ looks b table x)
+  pub theFirstUnit : (u : Filed) → Asked b v table → IsCode code → IsFirst b table x u → (code ≡ strOffsetsCode → ⊥) → Told p r (looks b table x) (handedPart u code)
+  pub theFirstUnitInLength : (u : Filed) → Asked b v table → IsFirst b table x u → code ≡ strOffsetsCode
+      → (r .code ≡ 0) × (r .length ≡ length (handedPart u strOffsetsCode)) × (r .looks ≡ looks b table x)
   pub absentIsAbsent : Asked b v table → IsCode code → any (isUnder table x) (handedIn b) ≡ false → ToldAbsent r (looks b table x)
   pub absentEnds : Asked b v table → any (isUnder table x) (handedIn b) ≡ false → EndsUnused b table x
   pub looksAtMostSlots : Asked b v table → IsCode code → r .looks ≤ length (slotsOfTable b table .rows)
   pub findingTakes : r .code ≡ 0 → r .looks ≤ unitsOf p table
   pub absenceTakes : r .looks ≤ unitsOf p table + 1
-  pub theOtherVersion : isIndexVersion b v ≡ false → (handedIn b ≡ [] → ⊥) → r .code ≡ 22
+  pub theOtherVersion : isIndexVersion b v ≡ false → (handedIn b ≡ [] → ⊥) → r .code ≡ otherVersion
   pub neverRefuses : Asked b v table → IsCode code → (r .code ≡ 0) ⊎ (r .code ≡ 1)
 
 -- a string
@@ -64,8 +67,8 @@ pub record StringTold (b p : List ℕ) (v table x k : ℕ) (r : FromBundle) : Ty
   pub theTable : Asked b v table → TableIn b p table
   pub aUnit : (u : Filed) → IsFirst b table x u → IsUnit u
   pub itsStrings : (u : Filed) → Asked b v table → IsFirst b table x u → k < length (entriesOfUnit u)
-      → (string : List ℕ) × (stringAt 9 (u .input .bytes 11) (getD (entriesOfUnit u) k 0) ≡ pass string) × Told p r (looks b table x) string
-  pub noOtherString : (u : Filed) → Asked b v table → IsFirst b table x u → length (entriesOfUnit u) ≤ k → r .code ≡ 25
+      → (string : List ℕ) × (stringAt noString (u .input .bytes strCode) (getD (entriesOfUnit u) k 0) ≡ pass string) × Told p r (looks b table x) string
+  pub noOtherString : (u : Filed) → Asked b v table → IsFirst b table x u → length (entriesOfUnit u) ≤ k → r .code ≡ noEntry
   pub absentIsAbsent : Asked b v table → any (isUnder table x) (handedIn b) ≡ false → ToldAbsent r (looks b table x)
   pub absentEnds : Asked b v table → any (isUnder table x) (handedIn b) ≡ false → EndsUnused b table x
   pub looksAtMostSlots : Asked b v table → r .looks ≤ length (slotsOfTable b table .rows)
@@ -73,8 +76,8 @@ pub record StringTold (b p : List ℕ) (v table x k : ℕ) (r : FromBundle) : Ty
   pub absenceTakes : r .looks ≤ unitsOf p table + 1
   pub stringReached : Asked b v table → r .code ≡ 0
       → (i : ℕ) × (i < length (pieces (strIn p))) × (getD (pieces (strIn p)) i [] ≡ ended (bytesAt p (r .start) (r .length)))
-  pub theOtherVersion : isIndexVersion b v ≡ false → (handedIn b ≡ [] → ⊥) → r .code ≡ 22
-  pub neverRefuses : Asked b v table → (r .code ≡ 0) ⊎ (r .code ≡ 1) ⊎ (r .code ≡ 25)
+  pub theOtherVersion : isIndexVersion b v ≡ false → (handedIn b ≡ [] → ⊥) → r .code ≡ otherVersion
+  pub neverRefuses : Asked b v table → (r .code ≡ 0) ⊎ (r .code ≡ 1) ⊎ (r .code ≡ noEntry)
 
 -- the code where no package was made and nothing is looked up: neither found nor absent, and no refusal of a lookup
 abbrev pub notLookedUp : ℕ
@@ -87,5 +90,12 @@ unpacked number needed = record { packing = number; packed = needed; code = notL
 -- the answer, where told is what holds of it when a package is made
 unfoldable pub AnsweredFrom : (List ℕ → FromBundle → Type 0) → Answer → FromBundle → Type 0
 AnsweredFrom told (refused n) r = r ≡ unpacked n 0
-AnsweredFrom told (short n) r = r ≡ unpacked 18 n
+AnsweredFrom told (short n) r = r ≡ unpacked outputShort n
 AnsweredFrom told (made p) r = (r .packing ≡ 0) × (r .packed ≡ length p) × told p r
+
+-- the answer of packing with w words of work and an output of o bytes, and asking for a part or a string
+abbrev pub PartAnswered : (b : List ℕ) (w o version table identity section : ℕ) → FromBundle → Type 0
+PartAnswered b w o version table identity section r = AnsweredFrom (λ p. PartTold b p version table identity section) (packed b w o) r
+
+abbrev pub StringAnswered : (b : List ℕ) (w o version table identity entry : ℕ) → FromBundle → Type 0
+StringAnswered b w o version table identity entry r = AnsweredFrom (λ p. StringTold b p version table identity entry) (packed b w o) r

@@ -4,7 +4,7 @@ use mathlib.Core.Path.{_≡_}
 use mathlib.Core.Logic.{_⊎_}
 use mathlib.Core.List.{List}
 use Prim.Native.Nat.{ℕ, _≤_}
-use Rattle.numbers.specs.Refusals.{badLength, rowOutOfStep, outputShort, sectionTooLong, badParts, badPackage, noStringThere}
+use Rattle.numbers.specs.Refusals.{badLength, badRow, outputShort, sectionTooLong, badParts, badPackage, noStringThere}
 use Rattle.package.specs.Pack.{packed}
 use Rattle.packer.specs.Small.{packedSmall}
 use Rattle.packer.specs.Told.{numbered as told}
@@ -13,7 +13,7 @@ use Rattle.lookup.specs.Answers.{numbered}
 
 -- 0, a package is made, or a refusal of packing
 abbrev pub PackingCode : ℕ → Type 0
-PackingCode n = (n ≡ 0) ⊎ ((badLength ≤ n) × (n ≤ rowOutOfStep)) ⊎ (n ≡ outputShort) ⊎ (n ≡ sectionTooLong) ⊎ (n ≡ badParts)
+PackingCode n = (n ≡ 0) ⊎ ((badLength ≤ n) × (n ≤ badRow)) ⊎ (n ≡ outputShort) ⊎ (n ≡ sectionTooLong) ⊎ (n ≡ badParts)
 
 -- 0, found, 1, absent, or a refusal of looking up
 abbrev pub LookupCode : ℕ → Type 0

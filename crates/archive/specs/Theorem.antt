@@ -9,6 +9,9 @@ use mathlib.Core.Option.{Option, some, none}
 use Prim.Native.Nat.{ℕ, _+_, _*_, _-_, _%_, _≤_, _<_}
 use lib.Dec.{eqb, leb}
 use lib.ListN.{length, getD}
+use Rattle.numbers.specs.Tables.{compilationTable, typeTable, dwarf5, index2, index5}
+use Rattle.numbers.specs.Sections.{strOffsetsCode, strCode, firstShared, lastShared}
+use Rattle.numbers.specs.Refusals.{noString, otherVersion, noEntry}
 use Rattle.octets.specs.Octets.{part as bytesAt}
 use Rattle.octets.specs.Lists.{any, those}
 use Rattle.octets.specs.Checked.{Check, pass, refuse}
@@ -26,8 +29,8 @@ use Rattle.archive.specs.StrSection.{pieces, strIn, stringsNamed}
 -- ---- what is asked
 -- "The index version is 2 for objects of version 4, 5 for those of 5, and either one without objects"
 unfoldable pub isVersionOf : List Object → ℕ → Bool
-isVersionOf [] v = eqb v 2 || eqb v 5
-isVersionOf (o ∷ os) v = elim (eqb (o .word % 256) 5) [ true ↦ eqb v 5 | false ↦ eqb v 2 ]
+isVersionOf [] v = eqb v index2 || eqb v index5
+isVersionOf (o ∷ os) v = elim (eqb (o .word % 256) dwarf5) [ true ↦ eqb v index5 | false ↦ eqb v index2 ]
 
 unfoldable pub isIndexVersion : List ℕ → ℕ → Bool
 isIndexVersion b v = elim (bundleOf b) [ pass k ↦ isVersionOf (k .objects) v | refuse n ↦ false ]
@@ -35,12 +38,12 @@ isIndexVersion b v = elim (bundleOf b) [ pass k ↦ isVersionOf (k .objects) v |
 -- the index version known, and a table: 1 compilation or 2 type
 pub record Asked (b : List ℕ) (v table : ℕ) : Type 0 where
   pub version : isIndexVersion b v ≡ true
-  pub tables : (table ≡ 1) ⊎ (table ≡ 2)
+  pub tables : (table ≡ compilationTable) ⊎ (table ≡ typeTable)
 
 -- "a section code from 1 to 10"
 pub record IsCode (code : ℕ) : Type 0 where
   pub from : 1 ≤ code
-  pub to : code ≤ 10
+  pub to : code ≤ lastShared
 
 -- ---- what was handed in
 -- "Units of types, and unit types 2 and 6 of version 5, are handed in for the type table, the others for the compilation table, each under its identity."
@@ -62,7 +65,7 @@ pub record IsFirst (b : List ℕ) (table x : ℕ) (u : Filed) : Type 0 where
 -- "Its unit bytes are the part at code 1, or 2 for a unit of types; at codes 3 to 10 the part is its contribution, at 6 in length only;
 -- where it has none, and at the other of 1 and 2, the part is empty." Here its contribution at 6 too; `TheFirstUnitInLength` takes its length.
 unfoldable pub handedPart : Filed → ℕ → List ℕ
-handedPart u code = elim (eqb code (u .home)) [ true ↦ u .bytes | false ↦ elim (leb 3 code) [ true ↦ contributed u code | false ↦ [] ] ]
+handedPart u code = elim (eqb code (u .home)) [ true ↦ u .bytes | false ↦ elim (leb firstShared code) [ true ↦ contributed u code | false ↦ [] ] ]
 
 -- ---- probing
 -- the identities placed in a table: those of its kept units, in order
@@ -117,7 +120,7 @@ abbrev pub TableIn : List ℕ → List ℕ → ℕ → Type 0
 TableIn b p table = (k : Package) × (packageOf p ≡ pass k) × TableRead b table (indexFor k table)
 
 abbrev pub ThePackagesTables : List ℕ → List ℕ → Type 0
-ThePackagesTables b p = (table : ℕ) → (table ≡ 1) ⊎ (table ≡ 2) → TableIn b p table
+ThePackagesTables b p = (table : ℕ) → (table ≡ compilationTable) ⊎ (table ≡ typeTable) → TableIn b p table
 
 -- an identity is found in a table exactly when a unit was handed in for that table under it
 abbrev pub FoundExactlyWhenHandedIn : List ℕ → List ℕ → Type 0
@@ -127,26 +130,26 @@ FoundExactlyWhenHandedIn b p =
 -- what is found is the first such unit: its bytes and its parts; "at 6 in length only"
 abbrev pub TheFirstUnit : List ℕ → List ℕ → Type 0
 TheFirstUnit b p =
-    (v table x code : ℕ) (u : Filed) → Asked b v table → IsCode code → IsFirst b table x u → (code ≡ 6 → ⊥)
+    (v table x code : ℕ) (u : Filed) → Asked b v table → IsCode code → IsFirst b table x u → (code ≡ strOffsetsCode → ⊥)
     → Holds p (lookedUp p v table x code) (looks b table x) (handedPart u code)
 
 abbrev pub TheFirstUnitInLength : List ℕ → List ℕ → Type 0
 TheFirstUnitInLength b p =
     (v table x : ℕ) (u : Filed) → Asked b v table → IsFirst b table x u
-    → (start : ℕ) × (lookedUp p v table x 6 ≡ part start (length (handedPart u 6)) (looks b table x))
+    → (start : ℕ) × (lookedUp p v table x strOffsetsCode ≡ part start (length (handedPart u strOffsetsCode)) (looks b table x))
 
 -- "String k is what entry k of its str_offsets part, as handed in, names in its object's str"; ticket 5: "A unit's strings are those of its part". In version 5 a header
 -- is in that part, and entry 0 follows it
 abbrev pub ItsStrings : List ℕ → List ℕ → Type 0
 ItsStrings b p =
     (v table x k : ℕ) (u : Filed) → Asked b v table → IsFirst b table x u → k < length (entriesOfUnit u)
-    → (string : List ℕ) × (stringAt 9 (u .input .bytes 11) (getD (entriesOfUnit u) k 0) ≡ pass string)
+    → (string : List ℕ) × (stringAt noString (u .input .bytes strCode) (getD (entriesOfUnit u) k 0) ≡ pass string)
     × Holds p (stringFound p v table x k) (looks b table x) string
 
 -- "any other index is 25"
 abbrev pub NoOtherString : List ℕ → List ℕ → Type 0
 NoOtherString b p =
-    (v table x k : ℕ) (u : Filed) → Asked b v table → IsFirst b table x u → length (entriesOfUnit u) ≤ k → stringFound p v table x k ≡ refused 25
+    (v table x k : ℕ) (u : Filed) → Asked b v table → IsFirst b table x u → length (entriesOfUnit u) ≤ k → stringFound p v table x k ≡ refused noEntry
 
 -- absent is absent, for a part and for a string
 abbrev pub AbsentIsAbsent : List ℕ → List ℕ → Type 0
@@ -161,7 +164,7 @@ EndsUnused b table x =
     ⊎ ((1 ≤ looks b table x) × (getD (slotsOfTable b table .rows) (slotAfter x (length (slotsOfTable b table .rows)) (looks b table x - 1)) 0 ≡ 0))
 
 abbrev pub AbsentEnds : List ℕ → Type 0
-AbsentEnds b = (table x : ℕ) → (table ≡ 1) ⊎ (table ≡ 2) → any (isUnder table x) (handedIn b) ≡ false → EndsUnused b table x
+AbsentEnds b = (table x : ℕ) → (table ≡ compilationTable) ⊎ (table ≡ typeTable) → any (isUnder table x) (handedIn b) ≡ false → EndsUnused b table x
 
 -- "looks are those of the probing definition, the slot where it ends included", which the clauses above say; and at most the slots
 abbrev pub LooksAtMostSlots : List ℕ → Type 0
@@ -169,7 +172,7 @@ LooksAtMostSlots b = (table x : ℕ) → looks b table x ≤ length (slotsOfTabl
 
 -- what a reader counts in the package's index of a table are the units kept for it; `Looks.antt` has the bounds that go by this count
 abbrev pub UnitsCounted : List ℕ → List ℕ → Type 0
-UnitsCounted b p = (table : ℕ) → (table ≡ 1) ⊎ (table ≡ 2) → unitsOf p table ≡ length (identitiesOf b table)
+UnitsCounted b p = (table : ℕ) → (table ≡ compilationTable) ⊎ (table ≡ typeTable) → unitsOf p table ≡ length (identitiesOf b table)
 
 -- the str section, cut after each zero byte, "holds every string that some str_offsets entry reaches": whatever the string lookup finds, of any unit and entry
 abbrev pub EveryStringReached : List ℕ → List ℕ → Type 0
@@ -190,13 +193,13 @@ FirstUsesAndNoOther b p = pieces (strIn p) ≡ map ended (firstUses (stringsName
 abbrev pub TheOtherVersion : List ℕ → List ℕ → Type 0
 TheOtherVersion b p =
     (v table x code k : ℕ) → isIndexVersion b v ≡ false → (handedIn b ≡ [] → ⊥)
-    → (lookedUp p v table x code ≡ refused 22) × (stringFound p v table x k ≡ refused 22)
+    → (lookedUp p v table x code ≡ refused otherVersion) × (stringFound p v table x k ≡ refused otherVersion)
 
 -- neither lookup refuses, but for an entry that isn't there
 abbrev pub NeitherRefuses : List ℕ → List ℕ → Type 0
 NeitherRefuses b p =
     (v table x code k n : ℕ) → Asked b v table → IsCode code
-    → (lookedUp p v table x code ≡ refused n → ⊥) × (stringFound p v table x k ≡ refused n → n ≡ 25)
+    → (lookedUp p v table x code ≡ refused n → ⊥) × (stringFound p v table x k ≡ refused n → n ≡ noEntry)
 
 pub record FromBundleToAnswer (b p : List ℕ) : Type 0 where
   pub everyUnitIsHandedIn : EveryUnitIsHandedIn b

@@ -4,9 +4,10 @@ ghost use lib.ListN.{length};
 ghost use Rattle.octets.specs.Octets.{zeros};
 ghost use Rattle.package.specs.Pack.{packed};
 ghost use Rattle.finish.specs.Finish.{outputOf};
-ghost use Rattle.archive.specs.Question.{PartTold, StringTold, unpacked, AnsweredFrom};
+ghost use Rattle.archive.specs.Question.{unpacked, PartAnswered, StringAnswered};
 use finish::whole::Finished;
 use lookup::answering::Answer;
+use numbers::refusals::OUTPUT_SHORT;
 
 // Where no package was made: neither found nor absent, and no refusal of a lookup.
 const NOT_LOOKED_UP: u32 = 2;
@@ -63,7 +64,7 @@ pub fn pack_and_look_up(
     identity: u64,
     section: u32,
 ) -> FromBundle
-    ensures answer { λ r. ⌜ AnsweredFrom (λ p. PartTold (now (b .entry)) p version table identity section) (packed (now (b .entry)) (length (now (work .entry))) (length (now (out .entry)))) r ⌝ }
+    ensures answer { λ r. ⌜ PartAnswered (now (b .entry)) (length (now (work .entry))) (length (now (out .entry))) version table identity section r ⌝ }
     ensures output { λ _. ⌜ now (out .exit) ≡ outputOf (packed (now (b .entry)) (length (now (work .entry))) (length (now (out .entry)))) (length (now (out .entry))) ⌝ }
     ensures work { λ _. ⌜ now (work .exit) ≡ zeros (length (now (work .entry))) ⌝ }
 {
@@ -72,7 +73,7 @@ pub fn pack_and_look_up(
             let a = lookup::answering::answer_part(&out[..n], version, table, identity, section);
             answered(n, a)
         }
-        Finished::Short(n) => not_packed(18, n),
+        Finished::Short(n) => not_packed(OUTPUT_SHORT, n),
         Finished::Refused(number) => not_packed(number, 0),
     }
 }
@@ -87,7 +88,7 @@ pub fn pack_and_look_up_string(
     identity: u64,
     entry: u64,
 ) -> FromBundle
-    ensures answer { λ r. ⌜ AnsweredFrom (λ p. StringTold (now (b .entry)) p version table identity entry) (packed (now (b .entry)) (length (now (work .entry))) (length (now (out .entry)))) r ⌝ }
+    ensures answer { λ r. ⌜ StringAnswered (now (b .entry)) (length (now (work .entry))) (length (now (out .entry))) version table identity entry r ⌝ }
     ensures output { λ _. ⌜ now (out .exit) ≡ outputOf (packed (now (b .entry)) (length (now (work .entry))) (length (now (out .entry)))) (length (now (out .entry))) ⌝ }
     ensures work { λ _. ⌜ now (work .exit) ≡ zeros (length (now (work .entry))) ⌝ }
 {
@@ -96,7 +97,7 @@ pub fn pack_and_look_up_string(
             let a = lookup::answering::answer_string(&out[..n], version, table, identity, entry);
             answered(n, a)
         }
-        Finished::Short(n) => not_packed(18, n),
+        Finished::Short(n) => not_packed(OUTPUT_SHORT, n),
         Finished::Refused(number) => not_packed(number, 0),
     }
 }

@@ -16,7 +16,7 @@ ghost use Rattle.packer.specs.Small.{packedSmall};
 ghost use Rattle.packer.specs.Told.{numbered as told};
 ghost use Rattle.lookup.specs.Lookup.{lookedUp, stringFound};
 ghost use Rattle.lookup.specs.Answers.{numbered};
-ghost use Rattle.archive.specs.Question.{PartTold, StringTold, AnsweredFrom};
+ghost use Rattle.archive.specs.Question.{PartAnswered, StringAnswered};
 use asking::FromBundle;
 use lookup::answering::Answer;
 use packer::answering::Packed;
@@ -81,7 +81,7 @@ pub extern "C" fn barthovin_pack_and_look_up(
     identity: u64,
     section: u32,
 ) -> FromBundle
-    ensures answer { λ r. ⌜ AnsweredFrom (λ p. PartTold (now (bundle .entry)) p version table identity section) (packed (now (bundle .entry)) (length (now (work .entry))) (length (now (output .entry)))) r ⌝ }
+    ensures answer { λ r. ⌜ PartAnswered (now (bundle .entry)) (length (now (work .entry))) (length (now (output .entry))) version table identity section r ⌝ }
     ensures output { λ _. ⌜ now (output .exit) ≡ outputOf (packed (now (bundle .entry)) (length (now (work .entry))) (length (now (output .entry)))) (length (now (output .entry))) ⌝ }
     ensures work { λ _. ⌜ now (work .exit) ≡ zeros (length (now (work .entry))) ⌝ }
 {
@@ -99,7 +99,7 @@ pub extern "C" fn barthovin_pack_and_look_up_string(
     identity: u64,
     entry: u64,
 ) -> FromBundle
-    ensures answer { λ r. ⌜ AnsweredFrom (λ p. StringTold (now (bundle .entry)) p version table identity entry) (packed (now (bundle .entry)) (length (now (work .entry))) (length (now (output .entry)))) r ⌝ }
+    ensures answer { λ r. ⌜ StringAnswered (now (bundle .entry)) (length (now (work .entry))) (length (now (output .entry))) version table identity entry r ⌝ }
     ensures output { λ _. ⌜ now (output .exit) ≡ outputOf (packed (now (bundle .entry)) (length (now (work .entry))) (length (now (output .entry)))) (length (now (output .entry))) ⌝ }
     ensures work { λ _. ⌜ now (work .exit) ≡ zeros (length (now (work .entry))) ⌝ }
 {

@@ -1,6 +1,7 @@
 // Section codes and names.
 ghost use mathlib.Core.Path.{_≡_};
 ghost use Prim.Native.Nat.{_<_};
+ghost use Rattle.numbers.specs.Sections.{sectionCodes};
 ghost use Rattle.numbers.specs.NameRows.{nameRow};
 ghost use Rattle.archive_tables.specs.NameRule.{wordOf, nameByRule};
 ghost use Rattle.archive_tables.specs.Rows.{wordRow};
@@ -73,7 +74,7 @@ const WORDS: [Word; 13] = [
 ];
 
 fn word_of(code: usize) -> Word
-    requires { ⌜ (0 < code) × (code < 14) ⌝ }
+    requires { ⌜ (0 < code) × (code < sectionCodes) ⌝ }
     ensures { λ r. ⌜ r ≡ wordRow (wordOf code) ⌝ }
 {
     WORDS[code - 1]
@@ -81,7 +82,7 @@ fn word_of(code: usize) -> Word
 
 // The name of the section of a code, from its word.
 fn name_by_rule(code: usize) -> Name
-    requires { ⌜ (0 < code) × (code < 14) ⌝ }
+    requires { ⌜ (0 < code) × (code < sectionCodes) ⌝ }
     ensures { λ r. ⌜ r ≡ nameRow (nameByRule code) ⌝ }
 {
     let word = word_of(code);
@@ -105,7 +106,7 @@ fn name_by_rule(code: usize) -> Name
 }
 
 fn print_name(code: usize)
-    requires { ⌜ (0 < code) × (code < 14) ⌝ }
+    requires { ⌜ (0 < code) × (code < sectionCodes) ⌝ }
 {
     let name = name_by_rule(code);
     let bytes = name.bytes;

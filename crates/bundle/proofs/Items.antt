@@ -3,7 +3,7 @@
 use mathlib.Core.Path.{_≡_, refl, ap}
 use mathlib.Core.Bool.{true}
 use mathlib.Core.List.{List, [], _∷_, _++_, map}
-use Prim.Native.Nat.{ℕ, _+_}
+use Prim.Native.Nat.{ℕ}
 use native.Mathlib.Omega.{arith}
 use Rattle.bundle.specs.Bundle.{Part, Item, object, section, leading, objectsOf, objectFirst}
 
@@ -24,27 +24,6 @@ unfolding behind objectFirst
 behind-first [] = refl
 behind-first (object w ∷ is) = refl
 behind-first (section p ∷ is) = behind-first is
-
-pub behind-split : (is : List Item) → map section (leading is) ++ behind is ≡ is
-unfolding behind leading
-behind-split [] = refl
-behind-split (object w ∷ is) = refl
-behind-split (section p ∷ is) = ap (λ (l : List Item). section p ∷ l) (behind-split is)
-
--- where the second list starts with an object or is empty, nothing reaches over the seam
-pub leading-append : (xs ys : List Item) → objectFirst ys ≡ true → leading (xs ++ ys) ≡ leading xs
-unfolding leading objectFirst
-leading-append [] [] e = refl
-leading-append [] (object w ∷ ys) e = refl
-leading-append [] (section p ∷ ys) e = absurd (let z : _≡_ {A = ℕ} 0 1 = cc in omega arith)
-leading-append (object w ∷ xs) ys e = refl
-leading-append (section p ∷ xs) ys e = ap (λ (l : List Part). p ∷ l) (leading-append xs ys e)
-
-pub objects-append : (xs ys : List Item) → objectFirst ys ≡ true → objectsOf (xs ++ ys) ≡ objectsOf xs ++ objectsOf ys
-unfolding objectsOf
-objects-append [] ys e = refl
-objects-append (object w ∷ xs) ys e = rw (leading-append xs ys e, objects-append xs ys e)
-objects-append (section p ∷ xs) ys e = objects-append xs ys e
 
 -- sections that another section follows
 pub leading-sections : (ps : List Part) (is : List Item) → leading (map section ps ++ is) ≡ ps ++ leading is

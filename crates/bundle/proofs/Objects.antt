@@ -94,7 +94,7 @@ unfolding placeBehind
 behind-far b at [] l h = h
 behind-far b at (p ∷ ps) (also q l) h = behind-far b (p .start + filledUp (p .size)) ps l (omega (arith, q .behind))
 
-behind-span : (is : List Item) → span (behind is) ≤ span is
+pub behind-span : (is : List Item) → span (behind is) ≤ span is
 unfolding span behind
 behind-span [] = omega arith
 behind-span (object w ∷ is) = omega arith

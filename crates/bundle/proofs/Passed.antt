@@ -1,7 +1,7 @@
 -- A pass over the items of a bundle: what any loop with a cursor keeps, whatever it computes.
 -- Assumes nothing.
 use mathlib.Core.Path.{_≡_, refl, ap, sym, _∙_}
-use mathlib.Core.List.{List, [], _∷_, _++_, append-nil, append-assoc}
+use mathlib.Core.List.{List, [], _∷_, _++_, append-assoc}
 use Prim.Native.Nat.{ℕ, _+_}
 use native.Mathlib.Omega.{arith}
 use lib.ListN.{drop}
@@ -21,19 +21,10 @@ unfoldable pub prepend : List Item → Check (List Item) → Check (List Item)
 prepend done (pass is) = pass (done ++ is)
 prepend done (refuse n) = refuse n
 
--- the items from one place up to another are these
-pub record Passed (b : List ℕ) (from at : ℕ) (done : List Item) : Type 0 where
-  pub is : prepend done (here b at) ≡ here b from
-
 pub prepend-nil : (c : Check (List Item)) → prepend [] c ≡ c
 unfolding prepend
 prepend-nil (pass is) = refl
 prepend-nil (refuse n) = refl
-
-prepend-before : (done : List Item) (i : Item) (c : Check (List Item)) → prepend (done ++ (i ∷ [])) c ≡ prepend done (before i c)
-unfolding prepend before
-prepend-before done i (pass is) = ap pass (append-assoc done (i ∷ []) is)
-prepend-before done i (refuse n) = refl
 
 pub prepend-prepend : (xs ys : List Item) (c : Check (List Item)) → prepend (xs ++ ys) c ≡ prepend xs (prepend ys c)
 unfolding prepend
@@ -44,11 +35,6 @@ pub prepend-cons : (i : Item) (xs : List Item) (c : Check (List Item)) → befor
 unfolding prepend before
 prepend-cons i xs (pass is) = refl
 prepend-cons i xs (refuse n) = refl
-
-front : (done is : List Item) (c : Check (List Item)) → prepend done c ≡ pass is → (rest : List Item) × (c ≡ pass rest) × (is ≡ done ++ rest)
-unfolding prepend
-front done is (pass rest) e = (rest, refl, cc)
-front done is (refuse n) e = absurd (let z : _≡_ {A = ℕ} 0 1 = cc in omega arith)
 
 pub pass-only : (c : Check (List Item)) (is : List Item) (n : ℕ) → c ≡ refuse n → c ≡ pass is → ⊥
 pass-only c is n e f = let z : _≡_ {A = ℕ} 0 1 = cc in omega arith
@@ -67,32 +53,6 @@ module _ (b : List ℕ) (at : ℕ) where
   here-more i n e =
       let place : at + (4 + n) ≡ at + 4 + n = omega arith in
       items-more at (drop at b) i n e ∙ ap (λ (s : List ℕ). before i (items (at + 4 + n) s)) (drop-drop (4 + n) at b ∙ ap (λ (k : ℕ). drop k b) place)
-
-  pub passed-none : Passed b at at []
-  passed-none = record { is = prepend-nil (here b at) }
-
-module _ (b : List ℕ) (from at : ℕ) (done : List Item) (p : Passed b from at done) where
-  pub passed-more : (i : Item) (n : ℕ) → stepHere b at ≡ more i n → Passed b from (at + 4 + n) (done ++ (i ∷ []))
-  passed-more i n e = record { is = prepend-before done i (here b (at + 4 + n)) ∙ ap (prepend done) (sym (here-more b at i n e)) ∙ p .is }
-
-  pub passed-end : stepHere b at ≡ end → pass done ≡ here b from
-  unfolding prepend
-  passed-end e = ap pass (sym (append-nil done)) ∙ ap (prepend done) (sym (here-end b at e)) ∙ p .is
-
-  pub passed-broken : stepHere b at ≡ broken → refuse 3 ≡ here b from
-  unfolding prepend
-  passed-broken e = ap (prepend done) (sym (here-broken b at e)) ∙ p .is
-
-  pub passed-join : (to : ℕ) (xs : List Item) → Passed b at to xs → Passed b from to (done ++ xs)
-  passed-join to xs q = record { is = prepend-prepend done xs (here b to) ∙ ap (prepend done) (q .is) ∙ p .is }
-
-  -- what was passed is the front of all items, and the rest is at the place
-  pub passed-front : (is : List Item) → here b from ≡ pass is → (rest : List Item) × (here b at ≡ pass rest) × (is ≡ done ++ rest)
-  passed-front is e = front done is (here b at) (p .is ∙ e)
-
-  -- where the items can be read, no later pass meets a broken word
-  pub passed-fits : (is : List Item) → here b from ≡ pass is → stepHere b at ≡ broken → ⊥
-  passed-fits is e s = pass-only (here b from) is 3 (sym (passed-broken s)) e
 
 -- ---- a pass over items that can be read: what is left at the place
 module _ (b : List ℕ) (at : ℕ) (left : List Item) (e : here b at ≡ pass left) where

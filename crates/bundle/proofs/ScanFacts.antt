@@ -9,7 +9,7 @@ use lib.ListN.{length, drop, getD}
 use Rattle.octets.specs.Octets.{part}
 use Rattle.octets.specs.Checked.{pass}
 use Rattle.bundle.specs.Bundle.{Part, Item, items, leading, count, firstPart, body}
-use Rattle.bundle.specs.Scan.{Reaches, sectionsOf, placeBehind, startIn, sizeIn, startOf, sizeOf, scanOf}
+use Rattle.bundle.specs.Scan.{sectionsOf, placeBehind, startIn, sizeIn, startOf, sizeOf, scanOf}
 use Rattle.bundle.specs.declared.Scan.{Scan}
 use Rattle.bundle.proofs.Every.{Every}
 use Rattle.bundle.proofs.Passed.{here}
@@ -19,10 +19,6 @@ use Rattle.bundle.proofs.Lies.{Lies, first-is}
 
 -- what `scan_object` and `next_unit_section` require, and what they speak of
 module _ (b : List ℕ) (at : ℕ) (is : List Item) (e : here b at ≡ pass is) where
-  pub left-reaches : Reaches b at
-  unfolding here
-  left-reaches = record { ahead = is; left = e }
-
   pub left-sections : sectionsOf (items at (drop at b)) ≡ leading is
   unfolding here sectionsOf
   left-sections = ap sectionsOf e
@@ -56,12 +52,4 @@ module _ (b : List ℕ) (ps : List Part) (c : ℕ) (lie : Every (Lies b) ps) whe
     where
       go : (o : Option Part) → firstPart ps c ≡ o → startIn o + sizeIn o ≤ length b
       go (some p) e = first-is ps c p lie e .0 .within
-      go none e = omega arith
-
-  pub first-short : sizeOf ps c < 0x80_0000
-  unfolding sizeOf sizeIn
-  first-short = go (firstPart ps c) refl
-    where
-      go : (o : Option Part) → firstPart ps c ≡ o → sizeIn o < 0x80_0000
-      go (some p) e = first-is ps c p lie e .0 .short
       go none e = omega arith

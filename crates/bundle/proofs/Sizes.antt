@@ -5,15 +5,12 @@ use mathlib.Core.Bool.{Bool}
 use mathlib.Core.List.{List, [], _∷_, map}
 use Prim.Native.Nat.{ℕ, _+_, _≤_}
 use native.Mathlib.Omega.{arith}
-use native.Mathlib.Decide.{ℕ-discrete}
 use lib.ListN.{length, length-append}
 use Rattle.octets.specs.Lists.{joined, sum}
 use Rattle.octets.specs.Checked.{pass}
-use Rattle.bundle.specs.Bundle.{Part, Item, object, section, Object, Bundle, filledUp, leading, objectsOf, firstPart, bundleOf}
-use Rattle.bundle.specs.Scan.{sizeIn, sizeOf}
+use Rattle.bundle.specs.Bundle.{Part, Item, object, section, Object, Bundle, filledUp, leading, objectsOf, bundleOf}
 use Rattle.bundle.specs.Written.{Section, Sections, sectionBytes, objectBytes, written}
 use Rattle.bundle.proofs.Next.{filledUp-le}
-use Rattle.bundle.proofs.Sections.{first-same, first-other}
 use Rattle.bundle.proofs.Whole.{readable}
 use Rattle.bundle.proofs.Lies.{span, here-span}
 use Rattle.bundle.proofs.RoundTrip.{length-sections, length-object, length-written}
@@ -59,18 +56,3 @@ pub bundle-totals : (b : List ℕ) (u : Bundle) → bundleOf b ≡ pass u → to
 bundle-totals b u e =
     let r = readable b u e in
     rw (sym (r .objects)) (omega (arith, items-size (r .all), here-span b 4 (r .all) (r .left)))
-
--- the first section of a code is no larger than all of them
-pub size-total : (ps : List Part) (c : ℕ) → sizeOf ps c ≤ total ps
-unfolding sizeOf sizeIn firstPart total sum
-size-total [] c = omega arith
-size-total (p ∷ ps) c = elim (ℕ-discrete (p .code) c) [
-  | yes h ↦ omega (arith, ap sizeIn (first-same c p ps h))
-  | no h ↦ omega (arith, ap sizeIn (first-other c p ps h), size-total ps c)
-]
-
--- so all objects' first sections of a code are no larger than the bundle
-pub sizes-totals : (os : List Object) (c : ℕ) → sum (map (λ o. sizeOf (o .parts) c) os) ≤ totals os
-unfolding totals sum
-sizes-totals [] c = omega arith
-sizes-totals (o ∷ os) c = omega (arith, size-total (o .parts) c, sizes-totals os c)

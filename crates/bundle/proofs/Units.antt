@@ -2,7 +2,7 @@
 -- Assumes nothing.
 use mathlib.Core.Path.{_≡_, refl, ap, sym, _∙_}
 use mathlib.Core.Bool.{Bool, true, false}
-use mathlib.Core.List.{List, [], _∷_, _++_, append-nil, append-assoc}
+use mathlib.Core.List.{List, [], _∷_, _++_, append-nil}
 use Prim.Native.Nat.{ℕ, _+_, _≤_, _<_}
 use native.Mathlib.Omega.{arith}
 use native.Mathlib.Decide.{ℕ-discrete}
@@ -158,9 +158,6 @@ pub record UnitsLeft (b : List ℕ) (at : ℕ) (done all : List Part) : Type 0 w
   pub left : here b at ≡ pass ahead
   pub is : done ++ unitParts (leading ahead) ≡ all
 
-pub units-none : (b : List ℕ) (at : ℕ) (is : List Item) → here b at ≡ pass is → UnitsLeft b at [] (unitParts (leading is))
-units-none b at is e = record { ahead = is; left = e; is = refl }
-
 module _ (b : List ℕ) (at : ℕ) (done all : List Part) (l : UnitsLeft b at done all) where
   -- what `next_unit_section` requires
   pub units-reach : Reaches b at
@@ -174,16 +171,6 @@ module _ (b : List ℕ) (at : ℕ) (done all : List Part) (l : UnitsLeft b at do
   module _ (code start size next : ℕ) (e : Found code start size next ≡ unitSectionOf (sectionsOf (items at (drop at b)))) where
     pub units-here : UnitsHere b at (l .ahead) code start size next
     units-here = found-here b at (l .ahead) code start size next (l .left) (e ∙ seen)
-
-    pub units-more : UnitsLeft b next (done ++ (record { code = code; start = start; size = size } ∷ [])) all
-    units-more =
-        let h = units-here in
-        record {
-          ahead = h .ahead;
-          left = h .left;
-          is = append-assoc done (record { code = code; start = start; size = size } ∷ []) (unitParts (leading (h .ahead)))
-              ∙ ap (λ (ps : List Part). done ++ ps) (sym (h .first)) ∙ l .is;
-        }
 
   pub units-done : Done ≡ unitSectionOf (sectionsOf (items at (drop at b))) → done ≡ all
   units-done e = sym (append-nil done) ∙ ap (λ (ps : List Part). done ++ ps) (sym (none-units (leading (l .ahead)) (e ∙ seen))) ∙ l .is

@@ -8,6 +8,8 @@ use Prim.Native.Nat.{ℕ, zero, suc, _+_}
 use lib.Dec.{eqb}
 use lib.ListN.{drop}
 use borrow.Author.Tests.{eqb-true}
+use Rattle.numbers.specs.Tables.{dwarf4, dwarf5}
+use Rattle.numbers.specs.Refusals.{badWords}
 use Rattle.octets.specs.Checked.{Check, pass, refuse, _>>=_, require, mapped, Stands}
 use Rattle.octets.proofs.Checks.{true-false, and-left, and-right}
 use Rattle.octets.proofs.Refusals.{Only, only-pass, only-refuse, only-require, only-bind, stands-right}
@@ -17,24 +19,24 @@ use Rattle.bundle.specs.Encoded.{four, encodingIs, encodingChecked, word
 use Rattle.bundle.specs.Next.{wordsCheck, wordsOf}
 
 -- ---- the words of a bundle: every refusal is 3
-followed-only : (s : Step) (rest : ℕ → Check (List Item)) → ((n : ℕ) → Only 3 (rest n)) → Only 3 (followed s rest)
+followed-only : (s : Step) (rest : ℕ → Check (List Item)) → ((n : ℕ) → Only badWords (rest n)) → Only badWords (followed s rest)
 unfolding followed
-followed-only (more i n) rest h = only-bind 3 _ _ (h n) (λ is. only-pass 3 _)
-followed-only end rest h = only-pass 3 _
-followed-only broken rest h = only-refuse 3
+followed-only (more i n) rest h = only-bind badWords _ _ (h n) (λ is. only-pass badWords _)
+followed-only end rest h = only-pass badWords _
+followed-only broken rest h = only-refuse badWords
 
-items-only : (k at : ℕ) (s : List ℕ) → Only 3 (itemsFrom k at s)
+items-only : (k at : ℕ) (s : List ℕ) → Only badWords (itemsFrom k at s)
 unfolding itemsFrom
-items-only zero at s = only-refuse 3
+items-only zero at s = only-refuse badWords
 items-only (suc k) at s = followed-only (stepAt at s) _ (λ n. items-only k (at + 4 + n) (drop (4 + n) s))
 
-pub bundle-only : (b : List ℕ) → Only 3 (bundleOf b)
+pub bundle-only : (b : List ℕ) → Only badWords (bundleOf b)
 unfolding bundleOf items
-bundle-only b = only-bind 3 _ _ (only-require _ 3) (λ _. only-bind 3 _ _ (items-only _ 4 (drop 4 b)) (λ is. only-bind 3 _ _ (only-require _ 3) (λ _. only-pass 3 _)))
+bundle-only b = only-bind badWords _ _ (only-require _ badWords) (λ _. only-bind badWords _ _ (items-only _ 4 (drop 4 b)) (λ is. only-bind badWords _ _ (only-require _ badWords) (λ _. only-pass badWords _)))
 
 pub words-right : (b : List ℕ) → wordsCheck (wordsOf (bundleOf b)) ≡ mapped (λ u. u .big) (bundleOf b)
 unfolding wordsOf
-words-right b = stands-right 3 (λ u. u .big) wordsCheck wordsOf (λ u. refl) (λ n. refl) (bundleOf b) (bundle-only b)
+words-right b = stands-right badWords (λ u. u .big) wordsCheck wordsOf (λ u. refl) (λ n. refl) (bundleOf b) (bundle-only b)
 
 abbrev pub wordsFor : (b : List ℕ) → Stands wordsCheck (mapped (λ u. u .big) (bundleOf b))
 wordsFor b = record { answer = wordsOf (bundleOf b); right = words-right b }
@@ -50,14 +52,14 @@ four-is x n e = go (eqb x n) refl (eqb x 4) refl e
     go false f false g h = absurd (true-false h refl)
 
 pub coded-is : (e : Encoding) → encodingGood e ≡ true
-    → encodingIs (record { big = e .big; five = eqb (e .version) 5; wide = eqb (e .width) 8; long = eqb (e .address) 8 }) ≡ e
+    → encodingIs (record { big = e .big; five = eqb (e .version) dwarf5; wide = eqb (e .width) 8; long = eqb (e .address) 8 }) ≡ e
 unfolding encodingGood encodingIs
 coded-is e g =
-    let vw = (eqb (e .version) 4 || eqb (e .version) 5) && (eqb (e .width) 4 || eqb (e .width) 8) in
+    let vw = (eqb (e .version) dwarf4 || eqb (e .version) dwarf5) && (eqb (e .width) 4 || eqb (e .width) 8) in
     let two = and-left vw (eqb (e .address) 4 || eqb (e .address) 8) g in
     let a = four-is (e .address) 8 (and-right vw (eqb (e .address) 4 || eqb (e .address) 8) g) in
-    let v = four-is (e .version) 5 (and-left (eqb (e .version) 4 || eqb (e .version) 5) (eqb (e .width) 4 || eqb (e .width) 8) two) in
-    let w = four-is (e .width) 8 (and-right (eqb (e .version) 4 || eqb (e .version) 5) (eqb (e .width) 4 || eqb (e .width) 8) two) in
+    let v = four-is (e .version) dwarf5 (and-left (eqb (e .version) dwarf4 || eqb (e .version) dwarf5) (eqb (e .width) 4 || eqb (e .width) 8) two) in
+    let w = four-is (e .width) 8 (and-right (eqb (e .version) dwarf4 || eqb (e .version) dwarf5) (eqb (e .width) 4 || eqb (e .width) 8) two) in
     λ i. record { big = e .big; version = v i; width = w i; address = a i }
 
 pub word-right : (e : Encoding) → wordCheck (wordRead e) ≡ encodingChecked e

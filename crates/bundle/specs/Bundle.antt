@@ -7,6 +7,8 @@ use mathlib.Core.Option.{Option, some, none}
 use Prim.Native.Nat.{ℕ, zero, suc, _+_, _*_, _-_, _/_, _%_}
 use lib.Dec.{eqb, leb, ltb}
 use lib.ListN.{length, drop}
+use Rattle.numbers.specs.Sections.{infoCode, tuIndexCode}
+use Rattle.numbers.specs.Refusals.{badWords}
 use Rattle.octets.specs.Octets.{part, numberAt}
 use Rattle.octets.specs.Lists.{all, those}
 use Rattle.octets.specs.Checked.{Check, pass, refuse, _>>=_, require}
@@ -39,7 +41,7 @@ objectStep rest = elim (ltb rest 0x100_0000) [ true ↦ more (object (0x1000_000
 -- kind 2: code and length; the bytes follow, filled up to a whole word with zeros
 unfoldable pub sectionStep : ℕ → List ℕ → ℕ → ℕ → Step
 sectionStep at s code size =
-    elim (leb 1 code && leb code 13 && leb (4 + filledUp size) (length s) && all (eqb 0) (part s (4 + size) (filledUp size - size))) [
+    elim (leb infoCode code && leb code tuIndexCode && leb (4 + filledUp size) (length s) && all (eqb 0) (part s (4 + size) (filledUp size - size))) [
       | true ↦ more (section (record { code = code; start = at + 4; size = size })) (filledUp size)
       | false ↦ broken
     ]
@@ -71,11 +73,11 @@ followed (more i n) rest = do
   is ← rest n
   pass (i ∷ is)
 followed end rest = pass []
-followed broken rest = refuse 3
+followed broken rest = refuse badWords
 
 -- the items from a place on, up to the bundle's end; the first argument bounds the number of steps
 unfoldable pub itemsFrom : ℕ → ℕ → List ℕ → Check (List Item)
-itemsFrom zero at s = refuse 3
+itemsFrom zero at s = refuse badWords
 itemsFrom (suc k) at s = followed (stepAt at s) (λ n. itemsFrom k (at + 4 + n) (drop (4 + n) s))
 
 unfoldable pub items : ℕ → List ℕ → Check (List Item)
@@ -111,9 +113,9 @@ pub record Bundle : Type 0 where
 unfoldable pub bundleOf : List ℕ → Check Bundle
 bundleOf b = do
   let head = numberAt false 4 b 0
-  _ ← require (eqb head 0xF000_0000 || eqb head 0xF000_0001) 3
+  _ ← require (eqb head 0xF000_0000 || eqb head 0xF000_0001) badWords
   is ← items 4 (drop 4 b)
-  _ ← require (objectFirst is) 3
+  _ ← require (objectFirst is) badWords
   pass (record { big = eqb head 0xF000_0001; objects = objectsOf is })
 
 -- 1 and 21: the length is 8 or more, within the limit and a multiple of 4

@@ -7,6 +7,7 @@ use mathlib.Core.Option.{Option, some, none}
 use Prim.Native.Nat.{ℕ, zero, suc, _+_, _<_}
 use lib.Dec.{eqb}
 use lib.ListN.{drop, getD, set}
+use Rattle.numbers.specs.Sections.{infoCode, typesCode, sectionCodes}
 use Rattle.octets.specs.Lists.{those}
 use Rattle.octets.specs.Checked.{Check, pass, refuse}
 use Rattle.bundle.specs.Bundle.{Part, Item, filledUp, items, leading, count, firstPart}
@@ -46,7 +47,7 @@ numbered f i zero = []
 numbered f i (suc n) = f i ∷ numbered f (suc i) n
 
 unfoldable pub byCode : (ℕ → ℕ) → List ℕ
-byCode f = numbered f 0 14
+byCode f = numbered f 0 sectionCodes
 
 -- of sections that stand at a place
 unfoldable pub scanOf : ℕ → List Part → Scan
@@ -67,12 +68,12 @@ pub record Reaches (b : List ℕ) (at : ℕ) : Type 0 where
 
 -- a section of the code can be counted
 pub record Notable (s : Scan) (code : ℕ) : Type 0 where
-  pub good : code < 14
+  pub good : code < sectionCodes
   pub small : getD (s .count) code 0 < 0xFFFF_FFFF_FFFF_FFFF
 
 -- info and types hold units
 unfoldable pub holdsUnits : Part → Bool
-holdsUnits p = eqb (p .code) 1 || eqb (p .code) 2
+holdsUnits p = eqb (p .code) infoCode || eqb (p .code) typesCode
 
 unfoldable pub unitParts : List Part → List Part
 unitParts ps = those holdsUnits ps

@@ -5,6 +5,8 @@ ghost use mathlib.Core.Path.{_≡_};
 ghost use Rattle.bundle.specs.Answered.{wordFor};
 ghost use Rattle.bundle.specs.Encoded.{encodingIs};
 ghost use Rattle.bundle.specs.Encoding.{encodingOf};
+use numbers::tables::DWARF_4;
+use numbers::tables::DWARF_5;
 
 // The byte order of the data, version 5 or else 4, offsets of 8 bytes or else 4, addresses of 8 bytes or else 4.
 pub struct ObjectEncoding {
@@ -23,7 +25,7 @@ pub enum WordRead {
 pub fn version(e: ObjectEncoding) -> u32
     ensures { λ r. ⌜ r ≡ encodingIs e .version ⌝ }
 {
-    if e.five { 5 } else { 4 }
+    if e.five { DWARF_5 } else { DWARF_4 }
 }
 
 pub fn width(e: ObjectEncoding) -> usize
@@ -56,7 +58,7 @@ pub fn read_word(big: bool, word: u32) -> WordRead
     let version = word % 256;
     let width = word / 256 % 256;
     let address = word / 0x1_0000 % 256;
-    if is_neither(version, 4, 5) {
+    if is_neither(version, DWARF_4, DWARF_5) {
         return WordRead::Bad;
     }
     if is_neither(width, 4, 8) {
@@ -67,7 +69,7 @@ pub fn read_word(big: bool, word: u32) -> WordRead
     }
     WordRead::Good(ObjectEncoding {
         big,
-        five: version == 5,
+        five: version == DWARF_5,
         wide: width == 8,
         long: address == 8,
     })

@@ -20,6 +20,12 @@ ghost use Rattle.bundle.specs.Bundle.{
 ghost use Rattle.bundle.specs.Scan.{Notable, Reaches, sectionsOf, scanOf, noted, unitSectionOf};
 ghost use Rattle.bundle.specs.Answered.{wordsFor};
 ghost use Rattle.bundle.specs.Next.{nextOf, ends, itemsGood};
+use numbers::sections::CODES;
+
+// The greatest code of a section, and the least that holds no units, as words have them.
+const LAST_CODE: u32 = numbers::sections::TU_INDEX as u32;
+
+const FIRST_SHARED: u32 = numbers::sections::FIRST_SHARED as u32;
 
 // What stands at a place of a bundle, with the place behind it; of a section also its code, and where its bytes lie.
 pub enum Item {
@@ -37,9 +43,9 @@ pub enum Words {
 
 // An object's sections by code: how many there are and where the first lies, 0 and 0 where there is none; and the place behind the last one.
 pub struct Scan {
-    pub count: [usize; 14],
-    pub start: [usize; 14],
-    pub size: [usize; 14],
+    pub count: [usize; CODES],
+    pub start: [usize; CODES],
+    pub size: [usize; CODES],
     pub next: usize,
 }
 
@@ -103,7 +109,7 @@ fn section_item(b: &[u8], at: usize, code: u32, size: usize) -> Item
     if code < 1 {
         return Item::Broken;
     }
-    if 13 < code {
+    if LAST_CODE < code {
         return Item::Broken;
     }
     let filled = filled_up(size);
@@ -212,9 +218,9 @@ pub fn no_sections(from: usize) -> Scan
     ensures { λ r. ⌜ r ≡ scanOf from [] ⌝ }
 {
     Scan {
-        count: [0; 14],
-        start: [0; 14],
-        size: [0; 14],
+        count: [0; CODES],
+        start: [0; CODES],
+        size: [0; CODES],
         next: from,
     }
 }
@@ -270,7 +276,7 @@ pub fn next_unit_section(b: &[u8], from: usize) -> UnitSection
     loop {
         match next_item(b, at) {
             Item::Section(code, start, size, next) => {
-                if code < 3 {
+                if code < FIRST_SHARED {
                     return UnitSection::Found(code, start, size, next);
                 }
                 at = next;

@@ -9,7 +9,7 @@ use lib.Dec.{eqb, ltb}
 use lib.ListN.{length, getD}
 use borrow.Author.Tests.{eq-eqb, ne-eqb, eqb-true, lt-ltb, le-ltb, ltb-true, not-true}
 use Rattle.octets.specs.Lists.{all, any}
-use Rattle.octets.proofs.Checks.{known, true-false, and-both, and-left, and-right}
+use Rattle.octets.proofs.Checks.{known, true-false, and-both, and-left, and-right, both-ways}
 use Rattle.octets.proofs.Elements.{all-at, at-all, at-any, none-at}
 use Rattle.elf.specs.File.{Header, File, unstored, noHeader, codeOf, isWanted, wantedOf}
 use Rattle.elf.specs.Reader.{compressed, relocates, readable}
@@ -70,12 +70,6 @@ module _ (e : File) where
           same false = refl
 
 -- ---- all of them
--- two answers that imply each other
-both-ways : (a b : Bool) → (a ≡ true → b ≡ true) → (b ≡ true → a ≡ true) → a ≡ b
-both-ways true b f g = sym (f refl)
-both-ways false true f g = g refl
-both-ways false false f g = refl
-
 -- what is wanted and passes if it is wanted passes
 unless : (t u : Bool) → t ≡ true → (not t || u) ≡ true → u ≡ true
 unless true u p q = q

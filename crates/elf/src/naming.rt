@@ -5,6 +5,7 @@ ghost use mathlib.Core.Path.{_≡_};
 ghost use Prim.Native.Nat.{ℕ, _<_};
 ghost use lib.Dec.{eqb, ltb};
 ghost use lib.ListN.{drop};
+ghost use Rattle.numbers.specs.Sections.{sectionCodes};
 ghost use Rattle.octets.specs.Lists.{any};
 ghost use Rattle.numbers.specs.Names.{sectionName, sectionNames};
 ghost use Rattle.elf.specs.File.{startsWith, codeAmong, codeOf};
@@ -14,7 +15,7 @@ use numbers::sections::CODES;
 
 // Whether s starts with the name of a code and the zero that ends it.
 fn starts_with(s: &[u8], code: usize) -> bool
-    requires { ⌜ code < 14 ⌝ }
+    requires { ⌜ code < sectionCodes ⌝ }
     ensures { λ r. ⌜ r ≡ startsWith (now (s .entry)) (sectionName code) ⌝ }
 {
     let name = section_name(code);

@@ -11,6 +11,7 @@ ghost use Rattle.octets.specs.Checked.{pass};
 ghost use Rattle.answers.specs.Answers.{outputOf, writtenOf, answered};
 ghost use Rattle.elf.specs.Reader.{elfRead};
 ghost use Rattle.elf.specs.Held.{fileIs, Laid, WantedInside, bundleFrom, bundleOfWord};
+use numbers::limits::PACKAGE_LIMIT;
 use numbers::refusals::NO_UNIT;
 use numbers::refusals::NOT_ELF;
 use numbers::refusals::OUTPUT_SHORT;
@@ -18,7 +19,7 @@ use numbers::refusals::SECTION_TOO_LONG;
 use numbers::refusals::UNREADABLE_SECTION;
 
 // What the sections may take: head, object word and end take 12 bytes of the 117,440,512.
-const ROOM_LIMIT: usize = 117_440_500;
+const ROOM_LIMIT: usize = PACKAGE_LIMIT - 12;
 
 // 19 and 18, and the bundle, of an object with this word. The caller has cleared the output.
 fn write_sections(f: &[u8], e: File, word: u32, out: &mut [u8]) -> Written

@@ -25,6 +25,11 @@ ghost use Rattle.elf.specs.Held.{
 };
 use numbers::sections::INFO;
 
+// The versions that a unit may state.
+const VERSION_4: u16 = numbers::tables::DWARF_4 as u16;
+
+const VERSION_5: u16 = numbers::tables::DWARF_5 as u16;
+
 pub enum Stated {
     // the object word
     Is(u32),
@@ -106,7 +111,7 @@ pub fn first_unit(big: bool, s: &[u8]) -> Stated
         return Stated::Refused;
     }
     let version = octets::u16_at(big, s, field);
-    if version == 4 {
+    if version == VERSION_4 {
         return word_stated(
             ObjectEncoding {
                 big,
@@ -117,7 +122,7 @@ pub fn first_unit(big: bool, s: &[u8]) -> Stated
             s,
         );
     }
-    if version == 5 {
+    if version == VERSION_5 {
         return word_stated(
             ObjectEncoding {
                 big,

@@ -15,6 +15,7 @@ use Rattle.octets.proofs.Elements.{all-at}
 use Rattle.numbers.specs.Names.{dwoWords, indexWords, namePrefix, nameSuffix, dwoName, indexName, sectionNames, sectionName}
 use Rattle.bundle.specs.declared.Scan.{Scan}
 use Rattle.elf.specs.Writer.{endedName, headerSize, programBits, sectionHeader}
+use Rattle.elf.proofs.Names.{names-fourteen}
 use Rattle.elf_writer.specs.Held.{here, sizeAt, counted, nameAt, headerAt, placeAfter}
 use Rattle.elf_writer.specs.declared.sections.HeaderPlace.{HeaderPlace}
 use Rattle.elf_writer.proofs.Headers.{length-section}
@@ -26,10 +27,6 @@ length-ended name = length-append name (0 ∷ [])
 names-all : all (λ (n : List ℕ). leb (length n) 22) sectionNames ≡ true
 unfolding all sectionNames dwoWords indexWords namePrefix nameSuffix dwoName indexName
 names-all = refl
-
-names-fourteen : length sectionNames ≡ 14
-unfolding sectionNames dwoWords indexWords
-names-fourteen = refl
 
 pub name-short : (c : ℕ) → c < 14 → length (sectionName c) ≤ 22
 unfolding sectionName

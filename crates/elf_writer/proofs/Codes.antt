@@ -4,21 +4,12 @@ use mathlib.Core.Path.{_≡_, refl, ap, _∙_}
 use mathlib.Core.List.{List, [], _∷_, _++_, map}
 use Prim.Native.Nat.{ℕ, suc, _+_, _-_, _≤_, _<_}
 use native.Mathlib.Omega.{arith}
-use lib.ListN.{length, drop, getD, drop-of-length-le}
+use lib.ListN.{length, drop, drop-of-length-le}
 use lib.Seq.{drop-cons}
 use Rattle.octets.specs.Lists.{joined, sum}
-use Rattle.bundle.specs.Scan.{numbered, byCode}
-use Rattle.bundle.proofs.Scanned.{byCode-at}
 use Rattle.lookup.specs.Lookup.{codes}
+use Rattle.lookup.proofs.Singles.{codes-at, codes-length}
 use Rattle.elf_writer.specs.Held.{codesFrom, joinedFrom, sumFrom}
-
-codes-at : (i : ℕ) → i < 13 → getD codes i 0 ≡ i + 1
-unfolding codes byCode numbered
-codes-at i h = let e : suc i ≡ i + 1 = omega arith in byCode-at (λ c. c) (suc i) (omega arith) ∙ e
-
-codes-length : length codes ≡ 13
-unfolding codes
-codes-length = refl
 
 pub codes-turn : (c : ℕ) → 1 ≤ c → c < 14 → codesFrom c ≡ c ∷ codesFrom (c + 1)
 unfolding codesFrom

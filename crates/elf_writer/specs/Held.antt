@@ -6,6 +6,7 @@ use mathlib.Core.List.{List, [], _∷_, _++_, map}
 use Prim.Native.Nat.{ℕ, _+_, _*_, _-_, _≤_, _<_}
 use lib.Dec.{leb}
 use lib.ListN.{length, drop, getD}
+use Rattle.numbers.specs.Sections.{sectionCodes}
 use Rattle.numbers.specs.Names.{sectionName}
 use Rattle.numbers.specs.Limits.{packageLimit}
 use Rattle.octets.specs.Octets.{zeros}
@@ -87,7 +88,7 @@ pub record Measured (s : Scan) (e : Extent) : Type 0 where
 
 -- no section is longer than a package
 pub record Bounded (s : Scan) : Type 0 where
-  pub is : (c : ℕ) → c < 14 → sizeAt s c ≤ packageLimit
+  pub is : (c : ℕ) → c < sectionCodes → sizeAt s c ≤ packageLimit
 
 unfoldable pub headersPlace : Extent → ℕ
 headersPlace e = aligned (headerSize + e .bodies + e .names)

@@ -2,6 +2,7 @@
 ghost use mathlib.Core.Path.{_≡_};
 ghost use Prim.Native.Nat.{_+_, _*_, _≤_, _<_, _^_};
 ghost use lib.ListN.{length};
+ghost use Rattle.numbers.specs.Sections.{sectionCodes};
 ghost use Rattle.octets.specs.Octets.{placed};
 ghost use Rattle.lookup.specs.Answers.{Opened};
 ghost use Rattle.elf_writer.specs.Held.{
@@ -46,7 +47,7 @@ pub struct HeaderPlace {
 }
 
 fn is_here(s: Scan, code: usize) -> bool
-    requires { ⌜ code < 14 ⌝ }
+    requires { ⌜ code < sectionCodes ⌝ }
     ensures { λ r. ⌜ r ≡ here s code ⌝ }
 {
     0 < s.count[code]
@@ -54,7 +55,7 @@ fn is_here(s: Scan, code: usize) -> bool
 
 // With one section more, if it is there.
 fn extended(e: Extent, s: Scan, code: usize) -> Extent
-    requires { ⌜ (code < 14) × Bounded s × (e .count < 2 ^ 32) × (e .bodies < 2 ^ 32) × (e .names < 2 ^ 32) ⌝ }
+    requires { ⌜ (code < sectionCodes) × Bounded s × (e .count < 2 ^ 32) × (e .bodies < 2 ^ 32) × (e .names < 2 ^ 32) ⌝ }
     ensures count { λ r. ⌜ r .count ≡ e .count + counted s code ⌝ }
     ensures bodies { λ r. ⌜ r .bodies ≡ e .bodies + sizeAt s code ⌝ }
     ensures names { λ r. ⌜ r .names ≡ e .names + length (nameAt s code) ⌝ }
@@ -113,7 +114,7 @@ pub fn put_bodies(package: &[u8], head: PackageHead, d: &mut [u8])
 // ---- names
 // The name of a section that is there, with the zero that ends it. Returns the place behind it.
 fn put_name(s: Scan, code: usize, d: &mut [u8], at: usize) -> usize
-    requires { ⌜ (code < 14) × (at + length (nameAt s code) ≤ length (now d)) ⌝ }
+    requires { ⌜ (code < sectionCodes) × (at + length (nameAt s code) ≤ length (now d)) ⌝ }
     ensures next { λ r. ⌜ r ≡ at + length (nameAt s code) ⌝ }
     ensures output { λ _. ⌜ now (d .exit) ≡ placed (now (d .entry)) at (nameAt s code) ⌝ }
 {
@@ -156,7 +157,7 @@ pub fn put_name_table(s: Scan, d: &mut [u8], at: usize)
 // ---- headers
 // The header of a section that is there. Returns where the next one stands.
 fn put_header(big: bool, s: Scan, code: usize, h: HeaderPlace, d: &mut [u8]) -> HeaderPlace
-    requires { ⌜ (code < 14) × Bounded s × (h .name < 2 ^ 31) × (h .offset < 2 ^ 31) × (h .at + 64 ≤ length (now d)) ⌝ }
+    requires { ⌜ (code < sectionCodes) × Bounded s × (h .name < 2 ^ 31) × (h .offset < 2 ^ 31) × (h .at + 64 ≤ length (now d)) ⌝ }
     ensures next { λ r. ⌜ r ≡ placeAfter s code h ⌝ }
     ensures output { λ _. ⌜ now (d .exit) ≡ placed (now (d .entry)) (h .at) (headerAt big s code h) ⌝ }
 {

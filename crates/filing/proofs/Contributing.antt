@@ -20,16 +20,15 @@ use Rattle.bundle.specs.declared.encoding.ObjectEncoding.{ObjectEncoding}
 use Rattle.index.specs.Index.{Index, Contribution, cellOf}
 use Rattle.index.specs.Probing.{Probe, found, absent, probe}
 use Rattle.index.specs.Rows.{BySection, shared, neededCodes, isSome, rowOf, cellIs, ownPlace, partGood, rowContributions, wholeContributions}
-use Rattle.index.specs.Written.{offsetOf, sizeOf}
 use Rattle.index.specs.Held.{ReadWell, indexIn}
 use Rattle.index.specs.Contributed.{byCode, ContributionsAre, codeGiven, contributionsGiven}
 use Rattle.index.specs.declared.reading.IndexHead.{IndexHead}
 use Rattle.index.specs.declared.judging.RowJudged.{RowJudged}
-use Rattle.index.specs.declared.judging.Contributions.{Contributions}
 use Rattle.index.proofs.Contributions.{needed-shared}
 use Rattle.unit.specs.UnitRead.{isFive}
 use Rattle.package.specs.Input.{Input}
 use Rattle.package.specs.Filing.{indexFor, lengths, isPackage, contributionsOf}
+use Rattle.index.proofs.Filled.{same-held}
 use Rattle.filing.specs.Judged.{sectionOf, IndexedIs, isThere, packedBy, InputIs}
 use Rattle.filing.proofs.Entering.{five-is}
 use Rattle.filing.specs.Contributing.{wholeGiven, contributionsBy, GivenIs}
@@ -204,9 +203,6 @@ module _ (f g : BySection ℕ) (same : (c : ℕ) → c < 14 → f c ≡ g c) (i 
         ∙ ap (body (neededCodes g)) (λ j row. steps-same row (neededCodes g) (λ c h. shared-below c (needed-shared g c h .0)) j)
 
 -- ---- the definition
-pub contributions-same : (k : Contributions) (f g : BySection (Option Contribution)) → ((c : ℕ) → f c ≡ g c) → ContributionsAre k f → ContributionsAre k g
-contributions-same k f g e a = record { has = λ c. a .has c ∙ ap isSome (e c); offset = λ c. a .offset c ∙ ap offsetOf (e c); size = λ c. a .size c ∙ ap sizeOf (e c); whole = a .whole }
-
 module _ (b : List ℕ) (x : InputObject) (i : Input) (is : InputIs b x i) where
   pub lengths-are : (c : ℕ) → c < 14 → byCode (x .size) c ≡ lengths i c
   unfolding byCode lengths sectionOf
@@ -229,7 +225,7 @@ module _ (b : List ℕ) (x : InputObject) (i : Input) (is : InputIs b x i) where
     whole-width : (t : Bool) → GivenIs (wholeGiven t (byCode (x .size))) r → GivenIs (wholeGiven t (lengths i)) r
     unfolding wholeGiven GivenIs require _>>=_
     whole-width true a = a
-    whole-width false a = (a .0, contributions-same (r .contributions) (wholeContributions (byCode (x .size))) (wholeContributions (lengths i)) (whole-same (byCode (x .size)) (lengths i) lengths-are) (a .1))
+    whole-width false a = (a .0, same-held (r .contributions) (wholeContributions (byCode (x .size))) (wholeContributions (lengths i)) (whole-same (byCode (x .size)) (lengths i) lengths-are) (a .1))
 
     given-width : (o : Option Index) → indexFor i table ≡ o
         → GivenIs (contributionsBy (packedBy x) o (encodingIs (x .encoding) .width) (byCode (x .size)) identity home at size) r

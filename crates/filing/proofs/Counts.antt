@@ -14,7 +14,7 @@ use Rattle.bundle.specs.Bundle.{Part, count}
 use Rattle.bundle.specs.Encoded.{four, encodingIs}
 use Rattle.bundle.specs.Scan.{byCode, numbered}
 use Rattle.bundle.specs.declared.encoding.ObjectEncoding.{ObjectEncoding}
-use Rattle.package.specs.Input.{present, repeated, wrongEdition, onlyOnce, besideInfo, editionGood, complete}
+use Rattle.package.specs.Input.{present, repeated, wrongCodes, onlyOnce, besideInfo, editionGood, complete}
 use Rattle.filing.specs.Counted.{wrongFor, editionBy, completeBy}
 
 -- a list of small numbers has no large one at any place
@@ -78,8 +78,8 @@ module _ (five : Bool) (counts : List ℕ) where
   good-edition e f g h = rw (editionBy, e, f, g, h)
 
 -- ---- the definitions
-wrong-is : (e : ObjectEncoding) (f : Bool) → e .five ≡ f → wrongFor f ≡ wrongEdition (encodingIs e)
-unfolding wrongFor wrongEdition encodingIs four
+wrong-is : (e : ObjectEncoding) (f : Bool) → e .five ≡ f → wrongFor f ≡ wrongCodes (encodingIs e)
+unfolding wrongFor wrongCodes encodingIs four
 wrong-is e true h = rw h
 wrong-is e false h = rw h
 

@@ -2,21 +2,20 @@
 -- Assumes nothing.
 use mathlib.Core.Path.{_≡_, refl, sym, ap, _∙_}
 use mathlib.Core.Bool.{Bool, true, false, _||_, _&&_}
-use mathlib.Core.Logic.{⊎-elim}
 use mathlib.Core.List.{List}
 use mathlib.Core.Option.{some}
 use Prim.Native.Nat.{ℕ}
 use native.Mathlib.Omega.{arith}
 use lib.Dec.{eqb}
-use borrow.Author.Tests.{eqb-true, eq-eqb, ne-eqb}
+use borrow.Author.Tests.{eq-eqb, ne-eqb}
 use Rattle.octets.specs.Checked.{Check, pass, refuse, _>>=_}
-use Rattle.octets.proofs.Checks.{fails, passes, and-left, and-right, or-cases, true-false}
+use Rattle.octets.proofs.Checks.{fails, passes, and-left, and-right}
 use Rattle.octets.proofs.Refusals.{Only, only-pass, only-require, only-bind}
 use Rattle.bundle.specs.Bundle.{Part, count}
 use Rattle.bundle.specs.Scan.{byCode, scanOf}
 use Rattle.bundle.specs.declared.Scan.{Scan}
 use Rattle.bundle.specs.Encoding.{Encoding, encodingOf, encodingGood}
-use Rattle.bundle.specs.Encoded.{four, encodingIs, wordRead}
+use Rattle.bundle.specs.Encoded.{encodingIs, wordRead}
 use Rattle.bundle.specs.declared.encoding.ObjectEncoding.{ObjectEncoding}
 use Rattle.bundle.specs.declared.encoding.WordRead.the-variants.{Good, Bad}
 use Rattle.index.specs.Index.{Index, indexOf, layout}
@@ -27,6 +26,7 @@ use Rattle.index.proofs.Heads.{read-is}
 use Rattle.unit.specs.UnitRead.{isFive}
 use Rattle.unit.proofs.Fields.{is-five, is-four}
 use Rattle.package.specs.Input.{editionGood, complete, formOf}
+use Rattle.bundle.specs.Answered.{four-is}
 use Rattle.filing.specs.Counted.{editionBy, completeBy}
 use Rattle.filing.proofs.Counts.{edition-is, complete-is}
 use Rattle.filing.specs.Judged.{IndexedIs, objectCheck, JudgedIs, indexCheck, JudgedIndexIs}
@@ -35,14 +35,6 @@ use Rattle.filing.specs.declared.input.JudgedIndex.{JudgedIndex}
 use Rattle.filing.specs.declared.input.Indexed.the-variants.{At, Nowhere}
 
 -- ---- 4
-four-five : (n k : ℕ) → (eqb n 4 || eqb n k) ≡ true → four (eqb n k) k ≡ n
-unfolding four
-four-five n k h = go (eqb n k) refl
-  where
-    go : (t : Bool) → eqb n k ≡ t → four t k ≡ n
-    go true e = sym (eqb-true n k e)
-    go false e = ⊎-elim (λ f. sym (eqb-true n 4 f)) (λ f. absurd (true-false f e)) (or-cases (eqb n 4) (eqb n k) h)
-
 pub word-good : (e : Encoding) (x : ObjectEncoding) → Good x ≡ wordRead e → (encodingGood e ≡ true) × (encodingIs x ≡ e)
 unfolding wordRead encodingGood encodingIs
 word-good e x h = go (encodingGood e) refl
@@ -56,7 +48,7 @@ word-good e x h = go (encodingGood e) refl
         let v = and-left _ _ (and-left _ _ t) in
         let w = and-right (eqb (e .version) 4 || eqb (e .version) 5) _ (and-left _ _ t) in
         let a = and-right ((eqb (e .version) 4 || eqb (e .version) 5) && (eqb (e .width) 4 || eqb (e .width) 8)) _ t in
-        (t, rw (made t, four-five (e .version) 5 v, four-five (e .width) 8 w, four-five (e .address) 8 a))
+        (t, rw (made t, four-is (e .version) 5 v, four-is (e .width) 8 w, four-is (e .address) 8 a))
 
 pub word-bad : (e : Encoding) → Bad ≡ wordRead e → encodingGood e ≡ false
 unfolding wordRead

@@ -22,7 +22,7 @@ use Rattle.work.specs.Regions.{recordsRegion, stringsRegion, slotsRegion, rowsR
 use Rattle.work.proofs.Stores.{records-strings, slots-strings, records-rows, slots-rows, records-codes, slots-codes, tables-apart}
 use Rattle.package.specs.Filing.{Filed, isUnder, kept, repeat, namesake, ofKind}
 use Rattle.package.specs.Pack.{rowsOf, unitBytes}
-use Rattle.package.proofs.Kept.{First}
+use Rattle.package.proofs.Kept.{First, kept-le}
 use Rattle.package.proofs.Counting.{count-new, count-known}
 use Rattle.kept.specs.Columns.{columnsFor, Marked}
 use Rattle.kept.specs.Cells.{cellsBy, CellsRoom}
@@ -44,7 +44,7 @@ use Rattle.kept.proofs.Holding.{length-identities, KeptAs, units-more, bytes-ow
 use Rattle.kept.proofs.Naming.{KnownUnit, known-unit}
 use Rattle.filing.specs.State.{StringsKept, TransientStay}
 use Rattle.filing.specs.Choices.{NewUnit}
-use Rattle.filing.proofs.More.{kept-new, kept-known, kept-le, rows-few, rows-distinct, rows-known, good-more}
+use Rattle.filing.proofs.More.{kept-new, kept-known, rows-few, rows-distinct, rows-known, good-more}
 
 module _ {five : Bool} {b : List ℕ} {n place : ℕ} {w : List ℕ} {st : InProgress} {bases : BySection ℕ} {us : List Filed} (h : Held five b n place w st bases us) where
   pub units-few : st .units .count ≤ length us

@@ -4,10 +4,10 @@ use mathlib.Core.Path.{_≡_, refl, ap, _∙_}
 use mathlib.Core.Bool.{Bool, true, false}
 use mathlib.Core.Logic.{⊎-elim}
 use mathlib.Core.List.{List, [], _∷_, _++_, map}
-use Prim.Native.Nat.{ℕ, suc, _+_, _≤_}
+use Prim.Native.Nat.{ℕ, suc, _≤_}
 use native.Mathlib.Omega.{arith}
 use lib.Dec.{eqb}
-use lib.ListN.{length, length-append}
+use lib.ListN.{length}
 use Rattle.octets.specs.Lists.{any, those, has, distinct}
 use Rattle.octets.proofs.Checks.{known}
 use Rattle.octets.proofs.Lists.{those-keeps, those-skips}
@@ -15,10 +15,11 @@ use Rattle.index.specs.Rows.{BySection}
 use Rattle.index.specs.Written.{Row}
 use Rattle.kept.specs.Held.{identitiesOf}
 use Rattle.kept.specs.State.{UnitGood, UnitsGood}
-use Rattle.package.specs.Filing.{Filed, isUnder, keep, keepAll, kept}
+use Rattle.package.specs.Filing.{Filed, isUnder, kept}
 use Rattle.package.specs.Pack.{Entry, longer, entriesFrom, rowsOf}
-use Rattle.package.proofs.Kept.{keep-new, keep-known, kept-snoc, any-kept, has-identity, distinct-kept}
+use Rattle.package.proofs.Kept.{keep-new, keep-known, kept-snoc, any-kept, has-identity, distinct-kept, kept-le}
 use Rattle.package.proofs.Rows.{rows-are, rows-identities, nothingBefore}
+use Rattle.strings.proofs.Remapped.{length-map}
 
 -- ---- kept units
 pub kept-new : (us : List Filed) (u : Filed) → any (isUnder (u .table) (u .identity)) us ≡ false → kept (us ++ (u ∷ [])) ≡ kept us ++ (u ∷ [])
@@ -26,21 +27,6 @@ kept-new us u e = kept-snoc us u ∙ keep-new (kept us) u (any-kept (u .table) (
 
 pub kept-known : (us : List Filed) (u : Filed) → any (isUnder (u .table) (u .identity)) us ≡ true → kept (us ++ (u ∷ [])) ≡ kept us
 kept-known us u e = kept-snoc us u ∙ keep-known (kept us) u (any-kept (u .table) (u .identity) us ∙ e)
-
-keep-le : (ks : List Filed) (u : Filed) → length (keep ks u) ≤ length ks + 1
-keep-le ks u = ⊎-elim
-    (λ h. omega (arith, ap length (keep-known ks u h)))
-    (λ h. omega (arith, ap length (keep-new ks u h), length-append ks (u ∷ [])))
-    (known (any (isUnder (u .table) (u .identity)) ks))
-
-keepAll-le : (ks us : List Filed) → length (keepAll ks us) ≤ length ks + length us
-unfolding keepAll
-keepAll-le ks [] = omega arith
-keepAll-le ks (u ∷ us) = omega (arith, keepAll-le (keep ks u) us, keep-le ks u)
-
-pub kept-le : (us : List Filed) → length (kept us) ≤ length us
-unfolding kept
-kept-le us = omega (arith, keepAll-le [] us)
 
 -- ---- how many
 those-le : {A : Type 0} (f : A → Bool) (xs : List A) → length (those f xs) ≤ length xs
@@ -50,10 +36,6 @@ those-le f (x ∷ xs) = ⊎-elim
     (λ h. omega (arith, ap length (those-keeps f x xs h), those-le f xs))
     (λ h. omega (arith, ap length (those-skips f x xs h), those-le f xs))
     (known (f x))
-
-map-many : {A B : Type 0} (f : A → B) (xs : List A) → length (map f xs) ≡ length xs
-map-many f [] = refl
-map-many f (x ∷ xs) = ap suc (map-many f xs)
 
 entries-many : (before : BySection ℕ) (us : List Filed) → length (entriesFrom before us) ≡ length us
 unfolding entriesFrom
@@ -65,7 +47,7 @@ unfolding rowsOf
 rows-few us t =
     let es = entriesFrom (λ c. 0) (kept us) in
     let f : Entry → Bool = λ e. eqb (e .table) t in
-    omega (arith, map-many (λ (e : Entry). e .row) (those f es), those-le f es, entries-many (λ c. 0) (kept us), kept-le us)
+    omega (arith, length-map (λ (e : Entry). e .row) (those f es), those-le f es, entries-many (λ c. 0) (kept us), kept-le us)
 
 -- ---- rows
 pub rows-distinct : (us : List Filed) (t : ℕ) → distinct (identitiesOf (rowsOf (kept us) t)) ≡ true

@@ -2,16 +2,9 @@
 -- Assumes nothing.
 use mathlib.Core.Path.{_≡_, sym, ap, _∙_}
 use mathlib.Core.List.{List, [], _∷_, _++_, append-nil, append-assoc}
-use mathlib.Core.Bool.{Bool, true, false}
-use Prim.Native.Nat.{ℕ, _≤_}
-use native.Mathlib.Omega.{arith}
-use lib.ListN.{length}
-use Rattle.octets.specs.Checked.{pass}
-use Rattle.octets.proofs.Checks.{bind-pass, require-pass, pass-inj}
-use Rattle.bundle.specs.Encoding.{Encoding}
-use Rattle.filing.specs.ByObject.{stringsCheck, StringsIn}
-use Rattle.strings.specs.Strings.{putAll, firstUses, entriesIn, entriesOf}
-use Rattle.strings.proofs.Ends.{length-stringsAt}
+use Prim.Native.Nat.{ℕ}
+use Rattle.filing.specs.ByObject.{StringsIn}
+use Rattle.strings.specs.Strings.{putAll, firstUses}
 use Rattle.strings.proofs.FirstUses.{putAll-append}
 use Rattle.package.specs.Pieces.{usedIn}
 use Rattle.package.specs.Input.{Input}
@@ -32,14 +25,3 @@ table-snoc is i = ap (putAll []) (used-snoc is i) ∙ putAll-append [] (allUsed 
 pub strings-stay : (b w v : List ℕ) (st next : InProgress) (is : List Input) (i : Input) → StringsIn b w (st .strings) (putAll (stringTable is) (usedIn (i .pieces))) → StringsKept (wordsIn b) w v st next
     → StringsIn b v (next .strings) (stringTable (is ++ (i ∷ [])))
 strings-stay b w v st next is i k s = rw (s .strings, s .table, table-snoc is i) k
-
--- an object names no more strings than its str_offsets has entries
-pub check-few : (e : Encoding) (there : Bool) (o s : List ℕ) (used : List (List ℕ)) → stringsCheck e there o s ≡ pass used → length used ≤ length (entriesIn e o)
-unfolding stringsCheck entriesOf
-check-few e false o s used q = let l = ap length (sym (pass-inj q)) in omega (arith, l)
-check-few e true o s used q =
-    let a = bind-pass (entriesOf e o) _ used q in
-    let c = require-pass _ 8 _ (a .0) (a .1) in
-    let d = require-pass _ 8 _ (a .0) (c .1) in
-    let n = ap length (pass-inj (d .1)) in
-    omega (arith, n, length-stringsAt s (a .0) used (a .2))

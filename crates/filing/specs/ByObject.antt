@@ -7,6 +7,8 @@ use mathlib.Core.Option.{Option}
 use Prim.Native.Nat.{ℕ, _+_, _*_, _/_, _<_, _≤_}
 use lib.Dec.{eqb, leb}
 use lib.ListN.{length, getD}
+use Rattle.numbers.specs.Tables.{dwarf5}
+use Rattle.numbers.specs.Sections.{strOffsetsCode, strCode, cuIndexCode, tuIndexCode}
 use Rattle.octets.specs.Octets.{part}
 use Rattle.octets.specs.Checked.{Check, pass, refuse, _>>=_}
 use Rattle.bundle.specs.Bundle.{Part, body}
@@ -20,7 +22,7 @@ use Rattle.strings.specs.Kept.{Kept, Inside, bytesAt}
 use Rattle.strings.specs.Objects.{entriesAt}
 use Rattle.strings.specs.declared.table.StrOffsets.{StrOffsets}
 use Rattle.strings.specs.declared.table.StringTable.{StringTable}
-use Rattle.numbers.specs.Limits.{bundleLimit, workForWord}
+use Rattle.numbers.specs.Limits.{bundleLimit, workForWord, stringWords}
 use Rattle.work.specs.Regions.{stringsRegion, region}
 use Rattle.kept.specs.State.{Held}
 use Rattle.kept.specs.declared.state.InProgress.{InProgress}
@@ -53,7 +55,7 @@ pub record StringsRoom (b : List ℕ) (o : StrOffsets) (words : ℕ) (t : String
   pub whole : length b ≡ 4 * wordsIn b
   pub offsets-inside : Inside b (o .offsets)
   pub strings-inside : Inside b (o .strings)
-  pub fits : 7 * (t .count + length (entriesAt o b)) ≤ stringsRegion .words * wordsIn b
+  pub fits : stringWords * (t .count + length (entriesAt o b)) ≤ stringsRegion .words * wordsIn b
 
 pub record StringsAsked (b : List ℕ) (o : StrOffsets) (t : StringTable) (w : List ℕ) : Type 0 where
   pub room : StringsRoom b o (length w) t
@@ -74,8 +76,8 @@ abbrev pub strOffsetsIn : ObjectEncoding → Scan → StrOffsets
 strOffsetsIn e scan =
     record {
       encoding = e;
-      offsets = record { start = getD (scan .start) 6 0; size = getD (scan .size) 6 0 };
-      strings = record { start = getD (scan .start) 11 0; size = getD (scan .size) 11 0 };
+      offsets = record { start = getD (scan .start) strOffsetsCode 0; size = getD (scan .size) strOffsetsCode 0 };
+      strings = record { start = getD (scan .start) strCode 0; size = getD (scan .size) strCode 0 };
     }
 
 -- ---- 10
@@ -99,7 +101,7 @@ IndexesAre big cs ts (pass c) (pass t) r = (r .code ≡ 0) × IndexedIs big cs (
 
 -- of those that a scan has
 abbrev pub IndexesFound : List ℕ → ObjectEncoding → Scan → IndexesJudged → Type 0
-IndexesFound b e scan r = IndexesAre (e .big) (scanned b scan 12) (scanned b scan 13) (scannedIndex e b scan 12) (scannedIndex e b scan 13) r
+IndexesFound b e scan r = IndexesAre (e .big) (scanned b scan cuIndexCode) (scanned b scan tuIndexCode) (scannedIndex e b scan cuIndexCode) (scannedIndex e b scan tuIndexCode) r
 
 -- the object with both by value
 abbrev pub inputIn : ObjectEncoding → Scan → IndexesJudged → InputObject
@@ -107,7 +109,7 @@ inputIn e scan x = record { encoding = e; start = scan .start; size = scan .size
 
 -- ---- everything at hand between two objects: inputs and units are filed up to a place
 pub record AtObject (b : List ℕ) (big : Bool) (first place : ℕ) (w : List ℕ) (st : InProgress) (bases : BySection ℕ) (is : List Input) (us : List Filed) : Type 0 where
-  pub held : Held (eqb (encodingOf big first .version) 5) b (wordsIn b) place w st bases us
+  pub held : Held (eqb (encodingOf big first .version) dwarf5) b (wordsIn b) place w st bases us
   pub strings : StringsIn b w (st .strings) (stringTable is)
   -- an entry takes at least 4 bytes of the bundle
   pub used : 4 * length (allUsed is) ≤ place
@@ -130,7 +132,7 @@ pub record InputRoom (b : List ℕ) (ps : List Part) (words : ℕ) (t : StringTa
   pub limit : length b ≤ bundleLimit
   pub whole : length b ≡ 4 * wordsIn b
   pub inside : (c : ℕ) → startOf ps c + sizeOf ps c ≤ length b
-  pub fits : 7 * (t .count + sizeOf ps 6 / 4) ≤ stringsRegion .words * wordsIn b
+  pub fits : stringWords * (t .count + sizeOf ps strOffsetsCode / 4) ≤ stringsRegion .words * wordsIn b
 
 pub record InputAsked (b : List ℕ) (scan : Scan) (st : InProgress) (w : List ℕ) : Type 0 where
   pub at : ℕ

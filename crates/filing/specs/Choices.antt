@@ -5,10 +5,12 @@ use mathlib.Core.Bool.{Bool, false}
 use mathlib.Core.List.{List}
 use Prim.Native.Nat.{ℕ, _+_, _-_, _^_, _<_, _≤_}
 use lib.ListN.{length}
+use Rattle.numbers.specs.Tables.{compilationTable}
+use Rattle.numbers.specs.Refusals.{identitySeen}
 use Rattle.octets.specs.Octets.{part}
 use Rattle.octets.specs.Lists.{any, same}
 use Rattle.octets.specs.Checked.{pass}
-use Rattle.numbers.specs.Limits.{bundleLimit}
+use Rattle.numbers.specs.Limits.{bundleLimit, leastUnitBytes}
 use Rattle.unit.specs.UnitRead.{unitBy}
 use Rattle.index.specs.Rows.{BySection}
 use Rattle.index.specs.Written.{offsetOf, sizeOf}
@@ -34,7 +36,7 @@ pub record ReadAt (i : Input) (home at size table identity : ℕ) (s : List ℕ)
   pub tables : OneOrTwo table
   pub not-zero : identity ≡ 0 → ⊥
   pub small : identity < 2 ^ 64
-  pub least : 20 ≤ size
+  pub least : leastUnitBytes ≤ size
   pub within : size ≤ length s
 
 -- whether the unit at a place of the bundle agrees with the kept one whose record has a number
@@ -47,8 +49,8 @@ pub record KnownAsked (b : List ℕ) (number at size : ℕ) (st : InProgress) (w
 
 -- the answer for a unit whose table and identity are kept: 14, or it is counted
 pub record KnownIs (b : List ℕ) (number at table size : ℕ) (st : InProgress) (w : List ℕ) (r : UnitFiled) : Type 0 where
-  pub second : table ≡ 1 → r .code ≡ 14
-  pub skipped : (table ≡ 1 → ⊥) → r ≡ record { code = 0; size = size; st = skippedOne st (agreesWith b number at size w) }
+  pub second : table ≡ compilationTable → r .code ≡ identitySeen
+  pub skipped : (table ≡ compilationTable → ⊥) → r ≡ record { code = 0; size = size; st = skippedOne st (agreesWith b number at size w) }
 
 -- what is stored of a unit that was read at a place
 abbrev pub unitFor : Units → ℕ → ℕ → ReadUnit → UnitHead
@@ -68,6 +70,6 @@ pub record NewUnit (b : List ℕ) (n slot : ℕ) (u : UnitHead) (k : Contributio
   pub free : freeFor (slotsIn w n (y .table) (seenSlots n)) (y .identity) ≡ slot
   pub inside : slot < seenSlots n
   pub good : UnitGood y
-  pub least : 20 ≤ u .size
+  pub least : leastUnitBytes ≤ u .size
   pub within : u .start + u .size ≤ length b
   pub bounded : (c : ℕ) → offsetOf (y .contributions c) + sizeOf (y .contributions c) ≤ bundleLimit

@@ -7,6 +7,8 @@ use mathlib.Core.Option.{Option, some, none}
 use Prim.Native.Nat.{ℕ, _+_, _<_, _≤_}
 use lib.ListN.{length, getD}
 use lib.Dec.{eqb}
+use Rattle.numbers.specs.Sections.{cuIndexCode, tuIndexCode, sectionCodes}
+use Rattle.numbers.specs.Refusals.{badEncoding, otherEncoding, wrongEdition, sectionMissing, badIndex}
 use Rattle.octets.specs.Octets.{part}
 use Rattle.octets.specs.Checked.{Check, pass, refuse, _>>=_, require}
 use Rattle.bundle.specs.Bundle.{Part}
@@ -42,20 +44,20 @@ packedBy x = x .encoding .five && (isThere (x .cu) || isThere (x .tu))
 
 pub record InputIs (b : List ℕ) (x : InputObject) (i : Input) : Type 0 where
   pub encoding : encodingIs (x .encoding) ≡ i .encoding
-  pub bytes : (c : ℕ) → c < 14 → i .bytes c ≡ sectionOf b x c
+  pub bytes : (c : ℕ) → c < sectionCodes → i .bytes c ≡ sectionOf b x c
   pub within : (c : ℕ) → getD (x .start) c 0 + getD (x .size) c 0 ≤ length b
-  pub cuIndex : IndexedIs (x .encoding .big) (sectionOf b x 12) (x .cu) (i .cuIndex)
-  pub tuIndex : IndexedIs (x .encoding .big) (sectionOf b x 13) (x .tu) (i .tuIndex)
+  pub cuIndex : IndexedIs (x .encoding .big) (sectionOf b x cuIndexCode) (x .cu) (i .cuIndex)
+  pub tuIndex : IndexedIs (x .encoding .big) (sectionOf b x tuIndexCode) (x .tu) (i .tuIndex)
 
 -- ---- the lines of `inputOf`
 -- 4 to 7
 unfoldable pub objectCheck : Bool → ℕ → ℕ → List Part → Check Encoding
 objectCheck big first word ps = do
   let e = encodingOf big word
-  _ ← require (encodingGood e) 4
-  _ ← require (eqb word first) 5
-  _ ← require (editionGood e ps) 6
-  _ ← require (complete ps) 7
+  _ ← require (encodingGood e) badEncoding
+  _ ← require (eqb word first) otherEncoding
+  _ ← require (editionGood e ps) wrongEdition
+  _ ← require (complete ps) sectionMissing
   pass e
 
 unfoldable pub JudgedIs : Check Encoding → Judged → Type 0
@@ -66,7 +68,7 @@ JudgedIs (refuse n) r = (r .code ≡ n) × (0 < n)
 unfoldable pub indexCheck : Bool → ℕ → Bool → List ℕ → Check (Option Index)
 indexCheck big form there s =
     elim there [
-      | true ↦ indexOf big s >>= λ i. (require (eqb (i .version) form) 10 >>= λ _. pass (some i))
+      | true ↦ indexOf big s >>= λ i. (require (eqb (i .version) form) badIndex >>= λ _. pass (some i))
       | false ↦ pass none
     ]
 

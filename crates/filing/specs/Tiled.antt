@@ -6,10 +6,12 @@ use mathlib.Core.List.{List, [], _++_}
 use mathlib.Core.Option.{Option}
 use Prim.Native.Nat.{ℕ, _+_, _*_, _/_, _<_, _≤_}
 use lib.ListN.{length, getD}
+use Rattle.numbers.specs.Tables.{dwarf5}
+use Rattle.numbers.specs.Sections.{strOffsetsCode, cuIndexCode, tuIndexCode}
 use Rattle.octets.specs.Checked.{Check, pass, refuse, _>>=_}
 use Rattle.bundle.specs.Encoding.{Encoding}
 use Rattle.bundle.specs.Encoded.{encodingIs}
-use Rattle.numbers.specs.Limits.{bundleLimit, workForWord}
+use Rattle.numbers.specs.Limits.{bundleLimit, workForWord, stringWords}
 use Rattle.strings.specs.Kept.{Inside, bytesAt}
 use Rattle.strings.specs.declared.table.StrOffsets.{StrOffsets}
 use Rattle.strings.specs.declared.table.StringTable.{StringTable}
@@ -34,8 +36,8 @@ pub record PartsAsked (b : List ℕ) (x : InputObject) : Type 0 where
   pub limit : length b ≤ bundleLimit
   pub cu : Option Index
   pub tu : Option Index
-  pub cuIs : IndexedIs (x .encoding .big) (sectionOf b x 12) (x .cu) cu
-  pub tuIs : IndexedIs (x .encoding .big) (sectionOf b x 13) (x .tu) tu
+  pub cuIs : IndexedIs (x .encoding .big) (sectionOf b x cuIndexCode) (x .cu) cu
+  pub tuIs : IndexedIs (x .encoding .big) (sectionOf b x tuIndexCode) (x .tu) tu
 
 -- the parts that the rows of an index name are marked, beside those that are; ms are the marks before, ns those after it
 abbrev pub IndexMarked : Bool → List ℕ → Indexed → List ℕ → List ℕ → Bool → Type 0
@@ -44,7 +46,7 @@ IndexMarked big s indexed ms ns r = (o : Option Index) (cs : List Contribution) 
 -- the parts that both indexes name are marked; ms are the marks before, ns those after it
 abbrev pub BothMarked : List ℕ → InputObject → List ℕ → List ℕ → Bool → Type 0
 BothMarked b x ms ns r =
-    (cu tu : Option Index) → IndexedIs (x .encoding .big) (sectionOf b x 12) (x .cu) cu → IndexedIs (x .encoding .big) (sectionOf b x 13) (x .tu) tu
+    (cu tu : Option Index) → IndexedIs (x .encoding .big) (sectionOf b x cuIndexCode) (x .cu) cu → IndexedIs (x .encoding .big) (sectionOf b x tuIndexCode) (x .tu) tu
     → Marks [] ms → (length ns ≡ length ms) × Marked (named cu ++ named tu) ms ns r
 
 -- the refusal, or where the first part starts that 8 refuses
@@ -54,8 +56,8 @@ PartsAre e s (pass ts) r = (r .code ≡ 0) × (r .good ≡ goodEnd e s ts)
 
 abbrev pub PartsAnswered : List ℕ → InputObject → Parts → Type 0
 PartsAnswered b x r =
-    (cu tu : Option Index) → IndexedIs (x .encoding .big) (sectionOf b x 12) (x .cu) cu → IndexedIs (x .encoding .big) (sectionOf b x 13) (x .tu) tu
-    → PartsAre (encodingIs (x .encoding)) (sectionOf b x 6) (tiles (named cu ++ named tu) (sectionOf b x 6)) r
+    (cu tu : Option Index) → IndexedIs (x .encoding .big) (sectionOf b x cuIndexCode) (x .cu) cu → IndexedIs (x .encoding .big) (sectionOf b x tuIndexCode) (x .tu) tu
+    → PartsAre (encodingIs (x .encoding)) (sectionOf b x strOffsetsCode) (tiles (named cu ++ named tu) (sectionOf b x strOffsetsCode)) r
 
 -- ---- 8 and 9
 -- the section up to a place
@@ -64,7 +66,7 @@ offsetsBefore o good = record { encoding = o .encoding; offsets = record { start
 
 -- parts tile the section, and good is where the first one starts that 8 refuses
 pub record GoodUpTo (b : List ℕ) (o : StrOffsets) (good : ℕ) (ps : List Contribution) : Type 0 where
-  pub five : encodingIs (o .encoding) .version ≡ 5
+  pub five : encodingIs (o .encoding) .version ≡ dwarf5
   pub tiling : Tiling 0 (length (bytesAt b (o .offsets))) ps
   pub is : good ≡ goodEnd (encodingIs (o .encoding)) (bytesAt b (o .offsets)) ps
 
@@ -74,7 +76,7 @@ pub record PartsPutAsked (b : List ℕ) (o : StrOffsets) (good : ℕ) (t : Strin
   pub whole : length b ≡ 4 * wordsIn b
   pub offsets-inside : Inside b (o .offsets)
   pub strings-inside : Inside b (o .strings)
-  pub fits : 7 * (t .count + o .offsets .size / 4) ≤ stringsRegion .words * wordsIn b
+  pub fits : stringWords * (t .count + o .offsets .size / 4) ≤ stringsRegion .words * wordsIn b
   pub strings : List (List ℕ)
   pub kept : StringsIn b w t strings
   pub parts : List Contribution

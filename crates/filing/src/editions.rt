@@ -4,6 +4,7 @@ ghost use mathlib.Core.Bool.{not, _&&_, _||_};
 ghost use Prim.Native.Nat.{ℕ, _<_};
 ghost use lib.Dec.{leb};
 ghost use lib.ListN.{getD};
+ghost use Rattle.numbers.specs.Sections.{sectionCodes};
 ghost use Rattle.octets.specs.Lists.{all};
 ghost use Rattle.filing.specs.Counted.{editionBy, completeBy, wrongFor};
 ghost use Rattle.package.specs.Input.{onlyOnce};
@@ -40,9 +41,9 @@ const ONLY_ONCE: [usize; 11] = [
     TU_INDEX,
 ];
 
-// Whether no code of a list has so many sections or more. The lists here hold codes below 14 alone.
+// Whether no code of a list has so many sections or more. The lists here hold codes of sections alone.
 fn none_reaches(codes: &[usize], count: [usize; CODES], least: usize) -> bool
-    requires { ⌜ ((i : ℕ) → getD (now codes) i 0 < 14) ⌝ }
+    requires { ⌜ ((i : ℕ) → getD (now codes) i 0 < sectionCodes) ⌝ }
     ensures { λ r. ⌜ r ≡ all (λ c. not (leb least (getD count c 0))) (now (codes .entry)) ⌝ }
 {
     let mut i = 0;

@@ -1,5 +1,6 @@
 // An object read up to its units: 4 to 10, its strings put into their store in work.
 ghost use mathlib.Core.Path.{_≡_};
+ghost use Rattle.numbers.specs.Sections.{cuIndexCode, tuIndexCode};
 ghost use Rattle.filing.specs.State.{wordsIn, withStrings, OnlyStore};
 ghost use mathlib.Core.Bool.{true};
 ghost use Rattle.package.specs.Input.{openedWhole, openedTiled};
@@ -98,7 +99,7 @@ pub fn add_object_strings(
 
 // 10, of both indexes: that of the type units is judged where that of the compilation units passed.
 fn judge_indexes(b: &[u8], e: ObjectEncoding, scan: Scan) -> IndexesJudged
-    requires { ⌜ ScanInside (now b) scan 12 × ScanInside (now b) scan 13 ⌝ }
+    requires { ⌜ ScanInside (now b) scan cuIndexCode × ScanInside (now b) scan tuIndexCode ⌝ }
     ensures { λ r. ⌜ IndexesFound (now (b .entry)) e scan r ⌝ }
 {
     let count = scan.count;

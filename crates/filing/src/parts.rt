@@ -3,6 +3,7 @@ ghost use mathlib.Core.Path.{_≡_};
 ghost use mathlib.Core.Option.{Option};
 ghost use Prim.Native.Nat.{_<_, _^_};
 ghost use lib.ListN.{length, getD};
+ghost use Rattle.numbers.specs.Sections.{strOffsetsCode};
 ghost use Rattle.strings.specs.Kept.{Inside, bytesAt};
 ghost use Rattle.index.specs.Index.{Index};
 ghost use Rattle.work.specs.Regions.{codesRegion, Only};
@@ -75,7 +76,7 @@ fn mark_indexes(b: &[u8], x: InputObject, marks: &mut [u32]) -> bool
 
 // By marks, a word for each byte of str_offsets.
 fn tile_parts(b: &[u8], x: InputObject, marks: &mut [u32]) -> Parts
-    requires { ⌜ PartsAsked (now b) x × (length (now marks) ≡ getD (x .size) 6 0) ⌝ }
+    requires { ⌜ PartsAsked (now b) x × (length (now marks) ≡ getD (x .size) strOffsetsCode 0) ⌝ }
     ensures { λ r. ⌜ PartsAnswered (now (b .entry)) x r ⌝ }
 {
     octets::clear_words(marks);

@@ -35,8 +35,8 @@ use index::cells::Cell;
 use index::reading::IndexHead;
 use leb128::Size;
 use numbers::refusals::BAD_HEADER;
+use numbers::refusals::BAD_ROW;
 use numbers::refusals::NO_ROW;
-use numbers::refusals::ROW_OUT_OF_STEP;
 use numbers::sections::ABBREV;
 use numbers::sections::CU_INDEX;
 use numbers::sections::INFO;
@@ -135,10 +135,10 @@ fn abbrev_part(
         return refused(NO_ROW);
     };
     if o > size {
-        return refused(ROW_OUT_OF_STEP);
+        return refused(BAD_ROW);
     }
     if z > size - o {
-        return refused(ROW_OUT_OF_STEP);
+        return refused(BAD_ROW);
     }
     let first = start + o;
     Abbreviations {

@@ -28,14 +28,12 @@ use Rattle.package.specs.Input.{Input}
 use Rattle.package.specs.Filing.{isPackage}
 use Rattle.package.proofs.Each.{each-head, each-tail}
 use Rattle.package.proofs.Pieces.{PieceFacts, PiecesFacts, bytesOf, all-length}
-use Rattle.package.proofs.Inputs.{Pieced, InputFacts}
+use Rattle.package.proofs.Inputs.{InputFacts}
 use Rattle.package.proofs.Headings.{pieces-headed, one-headed, none-headed, strings-all}
 use Rattle.package.proofs.UnitStrings.{good-sound}
+use Rattle.octets.proofs.Elements.{no-length}
+use Rattle.strings.proofs.HeadedWriting.{used-is}
 use Rattle.finish.specs.Joining.{cutFrom, cut, remappedIn, EntriesGood}
-
-pub no-length : (s : List ℕ) → length s ≡ 0 → s ≡ []
-no-length [] e = refl
-no-length (b ∷ s) e = absurd (omega arith)
 
 -- ---- the cut
 cut-none : (k : ℕ) (e : Encoding) → cutFrom k e [] ≡ []
@@ -66,10 +64,6 @@ unfolding cut
 cut-is e s ps h = cut-from (length s) e s ps (omega arith) h
 
 -- ---- written
-used-is : (e : Encoding) (str p : List ℕ) (us : List (List ℕ)) → stringsAt str (entriesIn e p) ≡ pass us → usedOf e str p ≡ us
-unfolding usedOf
-used-is e str p us q = rw (usedOf, q)
-
 -- as long as the section
 pieces-long : (e : Encoding) (ts : List (List ℕ)) (str : List ℕ) → Sound e → (s : List ℕ) (ps used : List (List ℕ)) → Headed e s ps → stringsOfAll e str ps ≡ pass used
     → length (remappedPieces e ts str ps) ≡ length s

@@ -12,7 +12,7 @@ use Rattle.bundle.proofs.Item.{the-type}
 use lib.ListN.{length, getD, drop}
 use Rattle.octets.specs.Octets.{part}
 use Rattle.octets.specs.Checked.{Check, pass}
-use Rattle.bundle.specs.Bundle.{Part, Item, object, section, Object, items, leading, firstPart, body, stepAt}
+use Rattle.bundle.specs.Bundle.{Part, Item, Object, items, leading, firstPart, body, stepAt}
 use Rattle.bundle.specs.Next.{nextOf}
 use Rattle.bundle.specs.Scan.{Reaches, placeBehind, sectionsOf, startIn, sizeIn, startOf, sizeOf, scanOf}
 use Rattle.bundle.specs.declared.Scan.{Scan}
@@ -21,18 +21,11 @@ use Rattle.bundle.specs.declared.Item.the-variants.{Object as AnObject, Section
 use Rattle.bundle.proofs.Passed.{here}
 use Rattle.bundle.proofs.Items.{behind}
 use Rattle.bundle.proofs.Next.{object-here}
-use Rattle.bundle.proofs.Lies.{span, here-span}
+use Rattle.bundle.proofs.Lies.{here-span}
 use Rattle.bundle.proofs.Scanned.{byCode-at}
 use Rattle.bundle.proofs.Sections.{body-part}
-use Rattle.bundle.proofs.Objects.{Objects, objects-object, objects-section, objects-end, objects-broken, here-behind}
+use Rattle.bundle.proofs.Objects.{Objects, objects-object, objects-section, objects-end, objects-broken, here-behind, behind-span}
 use Rattle.bundle.proofs.Within.{leading-within}
-
--- what stands behind an object's sections is no longer
-span-behind : (is : List Item) → span (behind is) ≤ span is
-unfolding span behind
-span-behind [] = omega arith
-span-behind (object w ∷ is) = omega arith
-span-behind (section p ∷ is) = omega (arith, span-behind is)
 
 -- at an object: what its word's answer and a scan of its sections say
 pub record AtObject (b : List ℕ) (place next : ℕ) (scan : Scan) (done all : List Object) : Type 0 where
@@ -69,7 +62,7 @@ object-scanned b place done all o word next e scan s =
     record {
       one = record { word = word; parts = ps };
       more = rw far (n .more);
-      onward = omega (arith, far, left, rest, span-behind (n .ahead), object-here b place word next e .place);
+      onward = omega (arith, far, left, rest, behind-span (n .ahead), object-here b place word next e .place);
       within = omega (arith, far, rest);
       start = λ c h. ap (λ (z : Scan). getD (z .start) c 0) read ∙ byCode-at (startOf ps) c h;
       size = λ c h. ap (λ (z : Scan). getD (z .size) c 0) read ∙ byCode-at (sizeOf ps) c h;

@@ -4,7 +4,7 @@ use mathlib.Core.Path.{_≡_, refl, sym, ap, ap₂, _∙_}
 use mathlib.Core.Logic.{_⊎_, inl, inr, ⊎-elim}
 use mathlib.Core.Bool.{Bool, true, false}
 use mathlib.Core.List.{List, [], _∷_, _++_, map}
-use Prim.Native.Nat.{ℕ, _*_, _/_, _%_, _^_, _<_, _≤_}
+use Prim.Native.Nat.{ℕ, _*_, _/_, _%_, _<_, _≤_}
 use native.Mathlib.Omega.{arith}
 use lib.Dec.{eqb, leb}
 use lib.ListN.{length}
@@ -26,7 +26,7 @@ use Rattle.package.specs.Input.{Input}
 use Rattle.package.specs.Filing.{Filed, Filing, filingOf, firstWord, kept}
 use Rattle.package.specs.Pack.{rowsOf, unitBytes, sharedBytes, stringTable, sectionList, nonEmpty, packageSections, packageObjects}
 use Rattle.package.proofs.Filing.{FilingFacts, filing-facts}
-use Rattle.package.proofs.Kept.{distinct-kept}
+use Rattle.package.proofs.Kept.{distinct-kept, kept-le}
 use Rattle.package.proofs.Tables.{rows-named}
 use Rattle.package.proofs.UnitStrings.{good-versions}
 use Rattle.finish.specs.Joining.{sectionsJoined, offsetsJoined, remappedIn, EntriesGood}
@@ -44,7 +44,7 @@ use Rattle.kept.specs.declared.Table.{Table}
 use Rattle.kept.specs.declared.state.InProgress.{InProgress}
 use Rattle.finish.specs.Ready.{TablesPlaceable, BothPlaced, formOf, IndexHeld, Ready}
 use Rattle.finish.specs.Finish.{packageOf, packageIn, oneObject, AllFiled}
-use Rattle.finish.proofs.Objects.{Matched, none, more, objects-matched, matched-joined, kept-few}
+use Rattle.finish.proofs.Objects.{Matched, none, more, objects-matched, matched-joined}
 use Rattle.finish.proofs.Indexes.{rows-few, table-fits, index-held}
 use Rattle.finish.proofs.TwoTables.{table-asks}
 
@@ -118,9 +118,6 @@ module _ (big : Bool) (b : List ℕ) (st : InProgress) (w : List ℕ) (a : AllFi
   E-is : encodingOf (a .bundle .big) (firstWord (a .bundle .objects)) ≡ E
   E-is = ap₂ encodingOf (a .order) word-is
 
-  filing-is : filingOf b (a .bundle) ≡ pass (a .filing)
-  filing-is = a .filed
-
   facts : FilingFacts E (λ c. 0) (a .filing)
   unfolding filingOf
   facts = rw (← E-is) (filing-facts b (a .bundle .big) (firstWord (a .bundle .objects)) ok (λ c. 0) [] (a .bundle .objects) (a .filing) (a .filed))
@@ -148,7 +145,7 @@ module _ (big : Bool) (b : List ℕ) (st : InProgress) (w : List ℕ) (a : AllFi
   R = region w n recordsRegion
 
   units-few : 5 * st .units .count ≤ n
-  units-few = omega (arith, a .held .held .count, kept-few (a .filing .units), a .held .spent, a .held .words)
+  units-few = omega (arith, a .held .held .count, kept-le (a .filing .units), a .held .spent, a .held .words)
 
   module _ (e : ObjectEncoding) (encoding : encodingIs e ≡ E) (same : e .big ≡ big) (five : e .five ≡ eqb (o .word % 256) 5) where
     held : UnitsHeld (e .five) b R (λ t. slotsIn w n t (seenSlots n)) (st .units) (kept (a .filing .units))

@@ -9,10 +9,9 @@ use native.Mathlib.Decide.{ℕ-discrete}
 use lib.ListN.{length}
 use Rattle.octets.specs.Lists.{distinct}
 use Rattle.octets.proofs.Lists.{length-those}
-use Rattle.index.specs.Held.{PowerOfTwo}
 use Rattle.index.specs.Probing.{unused, slotsFor, placeAll, slotsOf}
 use Rattle.index.specs.Written.{Row, indexBytes, indexWith, presentColumns}
-use Rattle.index.proofs.Slots.{slotsFor-le, slotsFor-gt, slotsFor-few, slotsFor-power}
+use Rattle.index.proofs.Slots.{slotsFor-le, slotsFor-gt, slotsFor-few}
 use Rattle.index.proofs.LawWhole.{indexBytes-is}
 use Rattle.index.proofs.LawExact.{indexBytes-none}
 use Rattle.work.specs.Regions.{recordsRegion, region}
@@ -36,9 +35,6 @@ slots-small n k h g = elim (ℕ-discrete k 0) [
   | yes z ↦ rw (slotsFor-few k (omega arith)) h
   | no f ↦ omega (arith, slotsFor-le k (omega arith))
 ]
-
-pub slots-power : (k : ℕ) → PowerOfTwo (slotsFor k)
-slots-power k = let p = slotsFor-power k in record { power = p .power; is = p .is }
 
 -- a table has no more rows than there are records
 pub table-few : (w : List ℕ) (n t : ℕ) → length (ofTable w n t) ≤ n

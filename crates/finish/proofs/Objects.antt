@@ -3,21 +3,17 @@
 use mathlib.Core.Path.{_≡_, refl, ap₂, subst}
 use mathlib.Core.Bool.{Bool}
 use mathlib.Core.List.{List, [], _∷_, _++_, map}
-use Prim.Native.Nat.{ℕ, suc, _+_, _≤_}
-use native.Mathlib.Omega.{arith}
-use mathlib.Core.Logic.{⊎-elim}
-use lib.ListN.{length, length-append}
-use Rattle.octets.specs.Lists.{joined, any}
+use Prim.Native.Nat.{ℕ}
+use Rattle.octets.specs.Lists.{joined}
 use Rattle.octets.specs.Checked.{pass}
-use Rattle.octets.proofs.Checks.{bind-pass, pass-inj, known}
+use Rattle.octets.proofs.Checks.{bind-pass, pass-inj}
 use Rattle.octets.proofs.Numbers.{Bytes}
 use Rattle.bundle.specs.Bundle.{Object, body}
 use Rattle.bundle.specs.Encoding.{Encoding, encodingOf}
 use Rattle.index.specs.Rows.{BySection}
 use Rattle.package.specs.Input.{Input, inputOf}
-use Rattle.package.specs.Filing.{Filed, Filing, isUnder, grown, unitsIn, filingFrom, keep, keepAll, kept}
+use Rattle.package.specs.Filing.{Filed, Filing, grown, unitsIn, filingFrom}
 use Rattle.package.proofs.Inputs.{InputFacts, input-facts, input-parts, input-bytes}
-use Rattle.package.proofs.Kept.{keep-new, keep-known}
 
 -- an object and the input that it is
 pub record FromObject (b : List ℕ) (e : Encoding) (o : Object) (i : Input) : Type 0 where
@@ -46,16 +42,3 @@ pub matched-joined : (b : List ℕ) (e : Encoding) (os : List Object) (is : List
 unfolding joined
 matched-joined b e [] [] none c = refl
 matched-joined b e (o ∷ os) (i ∷ is) (more p m) c = ap₂ (λ (x y : List ℕ). x ++ y) (p .bytes c) (matched-joined b e os is m c)
-
--- ---- no more units are kept than there are
-keep-few : (ks : List Filed) (u : Filed) → length (keep ks u) ≤ suc (length ks)
-keep-few ks u = ⊎-elim (λ t. rw (keep-known ks u t) (omega arith)) (λ t. rw (keep-new ks u t, length-append ks (u ∷ [])) (omega arith)) (known (any (isUnder (u .table) (u .identity)) ks))
-
-keepAll-few : (ks us : List Filed) → length (keepAll ks us) ≤ length ks + length us
-unfolding keepAll
-keepAll-few ks [] = omega arith
-keepAll-few ks (u ∷ us) = omega (arith, keepAll-few (keep ks u) us, keep-few ks u)
-
-pub kept-few : (us : List Filed) → length (kept us) ≤ length us
-unfolding kept
-kept-few us = omega (arith, keepAll-few [] us)

@@ -13,13 +13,14 @@ use Rattle.kept.specs.Records.{identitiesIn}
 use Rattle.kept.specs.Slots.{SeenHeld, slotsIn, Placeable, Fitting, PlacedAll}
 use Rattle.kept.specs.declared.Units.{Units}
 use Rattle.kept.proofs.Placing.{slots-stay}
+use Rattle.index.proofs.Slots.{slotsFor-power}
 use Rattle.finish.specs.Ready.{TablesPlaceable, SlotsHeld, TablesPlaced}
-use Rattle.finish.proofs.Indexes.{slots-small, slots-power}
+use Rattle.finish.proofs.Indexes.{slots-small}
 
 -- what the placing of a table of so many rows asks
 pub table-asks : (words : ℕ) (u : Units) (room : ℕ) → TablesPlaceable words u room → (table rows k : ℕ) → rows ≤ u .count → k ≡ slotsFor rows → Placeable words room table (u .count) k
 table-asks words u room p table rows k h e = record {
-  power = rw e (slots-power rows);
+  power = rw e (slotsFor-power rows);
   fits = rw e (slots-small words rows (p .some) (omega (arith, p .few)));
   enough = p .enough;
   limit = p .limit;

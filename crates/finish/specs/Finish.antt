@@ -6,6 +6,10 @@ use mathlib.Core.List.{List, [], _∷_, map}
 use Prim.Native.Nat.{ℕ, _+_, _*_, _-_, _/_, _%_, _<_, _≤_}
 use lib.Dec.{eqb, leb}
 use lib.ListN.{length}
+use Rattle.numbers.specs.Tables.{dwarf5}
+use Rattle.numbers.specs.Limits.{sectionLimit}
+use Rattle.numbers.specs.Sections.{firstShared, lastShared}
+use Rattle.numbers.specs.Refusals.{sectionTooLong}
 use Rattle.octets.specs.Octets.{padded, zeros}
 use Rattle.octets.specs.Lists.{joined, all}
 use Rattle.octets.specs.Checked.{Check, pass, refuse, _>>=_, require}
@@ -42,7 +46,7 @@ outputOf (made p) o = padded p (o - length p)
 unfoldable pub packageOf : Bundle → Filing → Check (List ℕ)
 packageOf k f = do
   let ss = packageSections (k .big) (firstWord (k .objects) % 256) f
-  _ ← require (all (λ s. leb (length (s .bytes)) 8_388_607) ss) 19
+  _ ← require (all (λ s. leb (length (s .bytes)) sectionLimit) ss) sectionTooLong
   pass (written (k .big) (packageObjects (k .objects) ss))
 
 -- of a bundle: `judged` behind 1 and 2
@@ -55,7 +59,7 @@ packageIn b = do
 -- of one object with these sections by code
 unfoldable pub oneObject : Bool → ℕ → (ℕ → List ℕ) → Check (List ℕ)
 oneObject big word s = do
-  _ ← require (all (λ x. leb (length (x .bytes)) 8_388_607) (sectionsBy s)) 19
+  _ ← require (all (λ x. leb (length (x .bytes)) sectionLimit) (sectionsBy s)) sectionTooLong
   pass (written big (record { word = word; sections = sectionsBy s } ∷ []))
 
 -- ---- what the packer has
@@ -67,8 +71,8 @@ pub record AllFiled (big : Bool) (b : List ℕ) (st : InProgress) (w : List ℕ)
   pub filing : Filing
   pub filed : filingOf b bundle ≡ pass filing
   pub bases : BySection ℕ
-  pub based : (c : ℕ) → 3 ≤ c → c ≤ 10 → bases c ≡ length (joined (map (λ i. i .bytes c) (filing .inputs)))
-  pub held : Held (eqb (firstWord (bundle .objects) % 256) 5) b (length b / 4) (length b) w st bases (filing .units)
+  pub based : (c : ℕ) → firstShared ≤ c → c ≤ lastShared → bases c ≡ length (joined (map (λ i. i .bytes c) (filing .inputs)))
+  pub held : Held (eqb (firstWord (bundle .objects) % 256) dwarf5) b (length b / 4) (length b) w st bases (filing .units)
   pub strings : Kept b (region w (length b / 4) stringsRegion) (st .strings) (stringTable (filing .inputs))
 
 -- the sections are ready to be written into an output that is zero

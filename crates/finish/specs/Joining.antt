@@ -5,6 +5,7 @@ use mathlib.Core.Bool.{false}
 use mathlib.Core.List.{List, [], _∷_, map}
 use Prim.Native.Nat.{ℕ, zero, suc, _+_, _<_, _≤_}
 use lib.ListN.{length, take, drop}
+use Rattle.numbers.specs.Sections.{strOffsetsCode, strCode, sectionCodes}
 use Rattle.octets.specs.Lists.{joined}
 use Rattle.octets.specs.Octets.{part, placed}
 use Rattle.octets.specs.Checked.{pass}
@@ -25,7 +26,7 @@ sectionsJoined b os c = joined (map (λ o. body b (o .parts) c) os)
 pub record Joinable (b : List ℕ) (code n at : ℕ) : Type 0 where
   pub bundle : Bundle
   pub reads : bundleOf b ≡ pass bundle
-  pub known : code < 14
+  pub known : code < sectionCodes
   pub room : at + length (sectionsJoined b (bundle .objects) code) ≤ n
 
 -- ---- str_offsets
@@ -45,7 +46,7 @@ remappedIn e table offsets str = remappedPieces e table str (cut e offsets)
 
 -- each object's, one behind the other
 unfoldable pub offsetsJoined : Encoding → List (List ℕ) → List ℕ → List Object → List ℕ
-offsetsJoined e table b os = joined (map (λ o. remappedIn e table (body b (o .parts) 6) (body b (o .parts) 11)) os)
+offsetsJoined e table b os = joined (map (λ o. remappedIn e table (body b (o .parts) strOffsetsCode) (body b (o .parts) strCode)) os)
 
 -- 8 and 9 let each piece of a str_offsets pass; there is none of an empty one
 pub record EntriesGood (e : Encoding) (offsets str : List ℕ) : Type 0 where
@@ -83,8 +84,8 @@ pub record OffsetsJoinable (e : Encoding) (b : List ℕ) (words : ℕ) (store : 
   pub kept : KeptIn b words store t table
   pub small : t .over ≡ false
   pub memory : words + length b ≤ length store
-  pub good : Every (λ o. EntriesGood e (body b (o .parts) 6) (body b (o .parts) 11)) (bundle .objects)
-  pub room : at + length (sectionsJoined b (bundle .objects) 6) ≤ n
+  pub good : Every (λ o. EntriesGood e (body b (o .parts) strOffsetsCode) (body b (o .parts) strCode)) (bundle .objects)
+  pub room : at + length (sectionsJoined b (bundle .objects) strOffsetsCode) ≤ n
 
 abbrev pub OffsetsPut : (e : Encoding) (b : List ℕ) (words : ℕ) (store : List ℕ) (t : StringTable) (at : ℕ) (d x : List ℕ) → Type 0
 OffsetsPut e b words store t at d x =

@@ -6,9 +6,10 @@ use mathlib.Core.List.{List, [], _∷_, _++_}
 use Prim.Native.Nat.{ℕ, _+_, _*_, _-_, _/_, _<_, _≤_}
 use lib.Dec.{eqb}
 use lib.ListN.{length, getD, set}
+use Rattle.numbers.specs.Sections.{infoCode, typesCode, strOffsetsCode, strCode, cuIndexCode, tuIndexCode, sectionCodes, firstShared, lastShared}
 use Rattle.octets.specs.Octets.{placed, padded, zeros}
 use Rattle.octets.specs.Checked.{pass}
-use Rattle.numbers.specs.Limits.{bundleLimit, workForWord}
+use Rattle.numbers.specs.Limits.{bundleLimit, workForWord, sectionLimit}
 use Rattle.numbers.specs.Tables.{compilationTable, typeTable}
 use Rattle.bundle.specs.Bundle.{Bundle, bundleOf, body}
 use Rattle.bundle.specs.Encoded.{encodingIs}
@@ -42,8 +43,9 @@ indexSizeOf five t = elim (eqb (t .rows) 0) [ true ↦ 0 | false ↦ indexSize (
 unfoldable pub sizesOf : Bool → InProgress → List ℕ
 sizesOf five st =
     set
-    (set (set (set (set (set (st .bases) 0 0) 1 (st .units .info)) 2 (st .units .types)) 11 (st .strings .size)) 12 (indexSizeOf five (st .units .cu)))
-    13
+    (set (set (set (set (set (st .bases) 0 0) infoCode (st .units .info)) typesCode (st .units .types)) strCode (st .strings .size)) cuIndexCode
+    (indexSizeOf five (st .units .cu)))
+    tuIndexCode
     (indexSizeOf five (st .units .tu))
 
 -- ---- slots
@@ -103,28 +105,28 @@ pub record Ready (e : ObjectEncoding) (b : List ℕ) (st : InProgress) (w : List
   pub few : recordWords * st .units .count ≤ recordsRegion .words * (length b / 4)
   pub inside : UnitsInside b (region w (length b / 4) recordsRegion) (st .units .count)
   pub unitsAre : (c : ℕ) → OneOrTwo c → s c ≡ bytesFrom b (region w (length b / 4) recordsRegion) c 0 (st .units .count)
-  pub infoMany : st .units .info ≡ length (s 1)
-  pub typesMany : st .units .types ≡ length (s 2)
+  pub infoMany : st .units .info ≡ length (s infoCode)
+  pub typesMany : st .units .types ≡ length (s typesCode)
   -- shared sections
-  pub based : (c : ℕ) → 3 ≤ c → c ≤ 10 → getD (st .bases) c 0 ≡ length (sectionsJoined b (bundle .objects) c)
-  pub shared : (c : ℕ) → 3 ≤ c → c ≤ 10 → (c ≡ 6 → ⊥) → s c ≡ sectionsJoined b (bundle .objects) c
+  pub based : (c : ℕ) → firstShared ≤ c → c ≤ lastShared → getD (st .bases) c 0 ≡ length (sectionsJoined b (bundle .objects) c)
+  pub shared : (c : ℕ) → firstShared ≤ c → c ≤ lastShared → (c ≡ strOffsetsCode → ⊥) → s c ≡ sectionsJoined b (bundle .objects) c
   -- strings
   pub table : List (List ℕ)
   pub kept : Kept b (region w (length b / 4) stringsRegion) (st .strings) table
   pub small : st .strings .over ≡ false
-  pub strIs : s 11 ≡ strOf table
-  pub good : Every (λ o. EntriesGood (encodingIs e) (body b (o .parts) 6) (body b (o .parts) 11)) (bundle .objects)
-  pub offsetsIs : s 6 ≡ offsetsJoined (encodingIs e) table b (bundle .objects)
+  pub strIs : s strCode ≡ strOf table
+  pub good : Every (λ o. EntriesGood (encodingIs e) (body b (o .parts) strOffsetsCode) (body b (o .parts) strCode)) (bundle .objects)
+  pub offsetsIs : s strOffsetsCode ≡ offsetsJoined (encodingIs e) table b (bundle .objects)
   -- indexes
-  pub cu : IndexHeld (formOf e compilationTable (st .units .cu)) (length b / 4) (st .units .count) w (s 12)
-  pub tu : IndexHeld (formOf e typeTable (st .units .tu)) (length b / 4) (st .units .count) w (s 13)
+  pub cu : IndexHeld (formOf e compilationTable (st .units .cu)) (length b / 4) (st .units .count) w (s cuIndexCode)
+  pub tu : IndexHeld (formOf e typeTable (st .units .tu)) (length b / 4) (st .units .count) w (s tuIndexCode)
 
 -- one section fits at a place of n bytes
 pub record SectionWritable (code : ℕ) (p : Package) (b w : List ℕ) (n at : ℕ) : Type 0 where
   pub sections : ℕ → List ℕ
   pub ready : Ready (p .encoding) b (p .state) w sections
   pub least : 1 ≤ code
-  pub most : code < 14
+  pub most : code < sectionCodes
   pub room : at + length (sections code) ≤ n
 
 -- and is put there, for any sections that are ready; d is the output before, x behind
@@ -143,9 +145,9 @@ pub record FrameWritable (code size : ℕ) (p : Package) (b w : List ℕ) (n at 
   pub sections : ℕ → List ℕ
   pub ready : Ready (p .encoding) b (p .state) w sections
   pub least : 1 ≤ code
-  pub most : code < 14
+  pub most : code < sectionCodes
   pub sized : size ≡ length (sections code)
-  pub short : size ≤ 8_388_607
+  pub short : size ≤ sectionLimit
   pub room : at + framedSize size ≤ n
 
 abbrev pub FramePut : (code size : ℕ) (p : Package) (b w : List ℕ) (at : ℕ) (d x : List ℕ) → Type 0
@@ -164,7 +166,7 @@ pub record SectionsWritable (p : Package) (b w d : List ℕ) : Type 0 where
 -- all of them are put there, up to a place
 abbrev pub SectionsPut : (p : Package) (b w d x : List ℕ) (at : ℕ) → Type 0
 SectionsPut p b w d x at =
-    (front : List ℕ) (s : ℕ → List ℕ) → Ready (p .encoding) b (p .state) w s → Sized (p .sizes) s → Writing front s d 8 1 → Writing front s x at 14
+    (front : List ℕ) (s : ℕ → List ℕ) → Ready (p .encoding) b (p .state) w s → Sized (p .sizes) s → Writing front s d 8 1 → Writing front s x at sectionCodes
 
 -- the output d is zero, and the package fits
 pub record PackageWritable (p : Package) (b w d : List ℕ) : Type 0 where

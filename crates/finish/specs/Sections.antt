@@ -6,6 +6,8 @@ use mathlib.Core.List.{List, [], _∷_}
 use Prim.Native.Nat.{ℕ, zero, suc, _+_, _<_, _≤_}
 use lib.Dec.{leb, eqb}
 use lib.ListN.{length, getD}
+use Rattle.numbers.specs.Limits.{sectionLimit}
+use Rattle.numbers.specs.Sections.{sectionCodes}
 use Rattle.octets.specs.Lists.{all, those}
 use Rattle.bundle.specs.Bundle.{filledUp}
 use Rattle.bundle.specs.Written.{Section}
@@ -24,7 +26,7 @@ sectionsBy bytes = those notEmpty (sectionsFrom bytes 1 13)
 
 -- 19, by the sizes
 unfoldable pub sizesGood : List ℕ → Bool
-sizesGood sizes = all (λ n. leb n 8_388_607) sizes
+sizesGood sizes = all (λ n. leb n sectionLimit) sizes
 
 -- a section with its word, filled up to whole words
 unfoldable pub framedSize : ℕ → ℕ
@@ -40,6 +42,6 @@ lengthOf sizes = 12 + framedFrom sizes 1 13
 
 -- sizes are those of the sections
 pub record Sized (sizes : List ℕ) (bytes : ℕ → List ℕ) : Type 0 where
-  pub fourteen : length sizes ≡ 14
+  pub fourteen : length sizes ≡ sectionCodes
   pub zeroth : getD sizes 0 0 ≡ 0
-  pub are : (c : ℕ) → 1 ≤ c → c < 14 → getD sizes c 0 ≡ length (bytes c)
+  pub are : (c : ℕ) → 1 ≤ c → c < sectionCodes → getD sizes c 0 ≡ length (bytes c)

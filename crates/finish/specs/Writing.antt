@@ -5,6 +5,7 @@ use mathlib.Core.Bool.{Bool}
 use mathlib.Core.List.{List, _++_, map}
 use Prim.Native.Nat.{ℕ, _+_, _-_, _≤_}
 use lib.ListN.{length}
+use Rattle.numbers.specs.Sections.{sectionCodes}
 use Rattle.octets.specs.Octets.{padded}
 use Rattle.octets.specs.Lists.{joined, those}
 use Rattle.bundle.specs.Written.{wordBytes, headBytes, sectionBytes}
@@ -12,7 +13,7 @@ use Rattle.finish.specs.Sections.{sectionsFrom, notEmpty}
 
 -- the bytes of sections from a code on
 unfoldable pub sectionsLeft : (ℕ → List ℕ) → ℕ → List ℕ
-sectionsLeft bytes c = joined (map sectionBytes (those notEmpty (sectionsFrom bytes c (14 - c))))
+sectionsLeft bytes c = joined (map sectionBytes (those notEmpty (sectionsFrom bytes c (sectionCodes - c))))
 
 -- what stands before the end word
 unfoldable pub frontOf : Bool → ℕ → (ℕ → List ℕ) → List ℕ

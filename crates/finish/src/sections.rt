@@ -4,6 +4,7 @@ ghost use mathlib.Core.Bool.{true};
 ghost use Prim.Native.Nat.{ℕ, _≤_};
 ghost use lib.Dec.{leb};
 ghost use lib.ListN.{length, getD};
+ghost use Rattle.numbers.specs.Limits.{sectionLimit};
 ghost use Rattle.octets.specs.Lists.{all};
 ghost use Rattle.finish.specs.Sections.{sizesGood, framedSize, lengthOf};
 use numbers::limits::SECTION_LIMIT;
@@ -25,7 +26,7 @@ pub fn sizes_good(sizes: [usize; CODES]) -> bool
 
 // What a section of this size takes with its word, filled up to whole words; nothing where it is empty.
 fn framed_size(size: usize) -> usize
-    requires { ⌜ size ≤ 8_388_607 ⌝ }
+    requires { ⌜ size ≤ sectionLimit ⌝ }
     ensures { λ r. ⌜ r ≡ framedSize size ⌝ }
 {
     if size == 0 {

@@ -1,6 +1,7 @@
 // The sizes of all sections of the package.
 ghost use mathlib.Core.Path.{_≡_};
 ghost use Prim.Native.Nat.{ℕ, _≤_};
+ghost use Rattle.numbers.specs.Limits.{wordsLimit};
 ghost use Rattle.finish.specs.Ready.{indexSizeOf, sizesOf};
 use kept::Table;
 use kept::state::InProgress;
@@ -13,7 +14,7 @@ use numbers::sections::TYPES;
 
 // The bytes of a table's index, 0 without rows.
 fn index_size(five: bool, t: Table) -> usize
-    requires { ⌜ t .rows ≤ 1_048_576 ⌝ }
+    requires { ⌜ t .rows ≤ wordsLimit ⌝ }
     ensures { λ r. ⌜ r ≡ indexSizeOf five t ⌝ }
 {
     let n = t.rows;
@@ -27,7 +28,7 @@ fn index_size(five: bool, t: Table) -> usize
 
 // By section code. The caller has filed all objects.
 pub fn section_sizes(five: bool, st: InProgress) -> [usize; CODES]
-    requires { ⌜ (st .units .cu .rows ≤ 1_048_576) × (st .units .tu .rows ≤ 1_048_576) ⌝ }
+    requires { ⌜ (st .units .cu .rows ≤ wordsLimit) × (st .units .tu .rows ≤ wordsLimit) ⌝ }
     ensures { λ r. ⌜ r ≡ sizesOf five st ⌝ }
 {
     let units = st.units;

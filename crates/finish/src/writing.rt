@@ -3,6 +3,7 @@ ghost use mathlib.Core.Path.{_≡_};
 ghost use mathlib.Core.List.{List};
 ghost use Prim.Native.Nat.{ℕ, _+_, _<_};
 ghost use lib.ListN.{length};
+ghost use Rattle.numbers.specs.Sections.{lastShared};
 ghost use Rattle.octets.specs.Octets.{placed};
 ghost use Rattle.finish.specs.Sections.{framedSize};
 ghost use Rattle.finish.specs.Ready.{
@@ -72,7 +73,7 @@ fn write_index(f: IndexForm, words: usize, n: usize, work: &[u32], out: &mut [u8
 
 // The bytes of str or of an index, by its code.
 fn write_last_section(code: usize, p: Package, b: &[u8], work: &[u32], out: &mut [u8], at: usize)
-    requires { ⌜ SectionWritable code p (now b) (now work) (length (now out)) at × (10 < code) ⌝ }
+    requires { ⌜ SectionWritable code p (now b) (now work) (length (now out)) at × (lastShared < code) ⌝ }
     ensures { λ _. ⌜ SectionPut code p (now (b .entry)) (now (work .entry)) at (now (out .entry)) (now (out .exit)) ⌝ }
 {
     let words = b.len() / 4;

@@ -13,6 +13,7 @@ use Rattle.octets.specs.Lists.{all, any, those, has}
 use Rattle.octets.specs.Checked.{pass}
 use Rattle.octets.proofs.Checks.{bind-pass, require-pass, pass-inj, known, true-false, and-left, and-right, or-cases}
 use Rattle.octets.proofs.Lists.{all-head, all-tail, any-cases, any-stops, any-more, those-keeps, those-skips}
+use Rattle.octets.proofs.Options.{some-inj, some-none}
 use Rattle.index.specs.Index.{Index, Contribution, cellOf}
 use Rattle.index.specs.Probing.{probe}
 use Rattle.index.specs.Rows.{BySection, shared, neededCodes, isSome, rowOf, cellIs, ownPlace, partGood, rowContributions, wholeContributions}
@@ -56,12 +57,6 @@ pub record Contributed (width : ℕ) (lengths : BySection ℕ) (c : ℕ) (k : Co
   pub some : lengths c ≡ 0 → ⊥
   pub within : k .offset + k .size ≤ lengths c
   pub parts : Whole lengths c k ⊎ Stepped width c k
-
-some-inj : {A : Type 0} {a b : A} → some a ≡ some b → a ≡ b
-some-inj e = cc
-
-some-none : {A : Type 0} {a : A} {P : Type 0} → some a ≡ none → P
-some-none e = let z : _≡_ {A = ℕ} 0 1 = cc in absurd (omega arith)
 
 pub whole-contributed : (width : ℕ) (lengths : BySection ℕ) (c : ℕ) (k : Contribution) → wholeContributions lengths c ≡ some k
     → Contributed width lengths c k × Whole lengths c k

@@ -1,6 +1,6 @@
 -- What is placed is found, and nothing else: after `slotsOf xs`, a search for each of xs ends at its slot, and for anything else at an unused slot.
 -- Assumes nothing.
-use mathlib.Core.Path.{_≡_, refl, sym, ap, _∙_, subst}
+use mathlib.Core.Path.{_≡_, sym, ap, _∙_, subst}
 use mathlib.Core.List.{List}
 use Prim.Native.Nat.{ℕ, zero, suc, _+_, _-_, _^_, _<_, _≤_}
 use native.Mathlib.Nat.{not-suc-le-zero}
@@ -8,13 +8,14 @@ use native.Mathlib.Omega.{arith}
 use native.Mathlib.Decide.{ℕ-discrete}
 use lib.ListN.{length, getD, drop, drop-of-length-le}
 use lib.Seq.{drop-cons}
-use Rattle.octets.specs.Octets.{zeros}
+use Rattle.octets.proofs.Placed.{getD-zeros}
 use Rattle.index.specs.Probing.{found, absent, search, slotsFor, Slots, placeAll, unused, slotsOf}
-use Rattle.index.proofs.Slots.{PowerOfTwo, slotsFor-power, slotsFor-gt}
+use Rattle.index.proofs.Slots.{slotsFor-power, slotsFor-gt}
 use Rattle.index.proofs.LawCounts.{used, used-ge, First}
 use Rattle.index.proofs.Placing.{probed, probed-once, put, free-slot, place-is, counted-unused}
 use Rattle.index.proofs.LawLooks.{search-found, search-absent}
 use Rattle.index.proofs.LawPlaced.{Distinct, Kept, Placed, placed-more}
+use Rattle.index.specs.Held.{PowerOfTwo}
 
 -- ---- all are placed
 module _ (n : ℕ) (p : PowerOfTwo n) (xs : List ℕ) (different : Distinct xs) (few : length xs < n) where
@@ -33,19 +34,13 @@ module _ (n : ℕ) (p : PowerOfTwo n) (xs : List ℕ) (different : Distinct xs) 
       ∙ ap (λ (z : ℕ). placeAll u z (drop (suc m) xs)) next))
       r
 
-zeros-at : (n i : ℕ) → getD (zeros n) i 0 ≡ 0
-unfolding zeros
-zeros-at zero i = refl
-zeros-at (suc n) zero = refl
-zeros-at (suc n) (suc i) = zeros-at n i
-
 pub placed-none : (n : ℕ) (xs : List ℕ) → Placed n xs 0 (unused n)
 unfolding unused
 placed-none n xs =
     record {
       counted = counted-unused n;
-      unused-zero = λ i e. zeros-at n i;
-      used-by = λ i g. absurd (g (zeros-at n i));
+      unused-zero = λ i e. getD-zeros n i;
+      used-by = λ i g. absurd (g (getD-zeros n i));
       kept = λ i h. absurd (not-suc-le-zero h);
     }
 

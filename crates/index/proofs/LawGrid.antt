@@ -34,10 +34,6 @@ Below b xs = (i : ℕ) → getD xs i 0 < b
 pub below-none : (b : ℕ) → 0 < b → Below b []
 below-none b h i = h
 
-pub below-cons : (b x : ℕ) (xs : List ℕ) → x < b → Below b xs → Below b (x ∷ xs)
-below-cons b x xs h r zero = h
-below-cons b x xs h r (suc i) = r i
-
 pub below-append : (b : ℕ) (xs ys : List ℕ) → Below b xs → Below b ys → Below b (xs ++ ys)
 below-append b [] ys p q i = q i
 below-append b (x ∷ xs) ys p q zero = p 0

@@ -9,9 +9,10 @@ use native.Mathlib.Decide.{ℕ-discrete}
 use lib.ListN.{length, getD}
 use borrow.Author.Tests.{eq-eqb, ne-eqb}
 use Rattle.index.specs.Probing.{Probe, found, absent, firstSlot, stride, look, search}
-use Rattle.index.proofs.Slots.{PowerOfTwo, firstSlot-lt}
 use Rattle.index.proofs.Orbit.{slotAt, slotAt-zero, slotAt-next}
 use Rattle.index.proofs.Placing.{probed}
+use Rattle.index.specs.Held.{PowerOfTwo}
+use Rattle.index.proofs.Masks.{firstSlot-lt}
 
 -- how many slots were looked at
 unfoldable pub looksOf : Probe → ℕ

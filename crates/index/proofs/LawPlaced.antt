@@ -11,9 +11,9 @@ use lib.Seq.{getD-set-same, getD-set-other}
 use Rattle.octets.specs.Lists.{distinct}
 use Rattle.octets.proofs.Elements.{distinct-at}
 use Rattle.index.specs.Probing.{Slots}
-use Rattle.index.proofs.Slots.{PowerOfTwo}
 use Rattle.index.proofs.Placing.{probed, probed-lt, put, Counted, Free, counted-put}
 use Rattle.index.proofs.LawLooks.{Passed}
+use Rattle.index.specs.Held.{PowerOfTwo}
 
 -- no number twice, and none zero, by places
 abbrev pub Distinct : List ℕ → Type 0

@@ -14,6 +14,7 @@ use Rattle.octets.specs.Lists.{those, has, distinct}
 use Rattle.octets.proofs.Checks.{true-false, known}
 use Rattle.octets.proofs.Lists.{those-keeps, those-skips}
 use Rattle.octets.proofs.Elements.{has-cons, has-skips, distinct-head, distinct-tail}
+use Rattle.octets.proofs.Options.{some-none}
 use Rattle.index.specs.Columns.{Column, columnIn}
 use Rattle.index.specs.Index.{placeOf}
 use Rattle.index.proofs.LawColumns.{codesOf, codes-without}
@@ -50,12 +51,9 @@ columnIn-on k ks s g = rw (columnIn, ne-eqb (k .section) s g)
 some-same : {a b : ℕ} → some a ≡ some b → a ≡ b
 some-same e = cc
 
-some-none : {A : Type 0} {a : A} → some a ≡ none → ⊥
-some-none e = let z : _≡_ {A = ℕ} 0 1 = cc in omega arith
-
 pub columnIn-has : (ks : List Column) (s c : ℕ) → columnIn ks s ≡ some c → has (codesOf ks) c ≡ true
 unfolding columnIn
-columnIn-has [] s c e = absurd (some-none (sym e))
+columnIn-has [] s c e = some-none (sym e)
 columnIn-has (k ∷ ks) s c e =
     elim (ℕ-discrete (k .section) s) [
       | yes q ↦ has-cons c (k .column) (codesOf ks) (sym (some-same (sym (columnIn-here k ks s q) ∙ e)))
@@ -90,7 +88,7 @@ module _ (g : ℕ → Bool) (s : ℕ) where
   -- s passes the test
   pub column-there : (ks : List Column) (c : ℕ) → g s ≡ true → distinct (codesOf ks) ≡ true → columnIn ks s ≡ some c → At (there ks) s c
   unfolding columnIn
-  column-there [] c t d e = absurd (some-none (sym e))
+  column-there [] c t d e = some-none (sym e)
   column-there (k ∷ ks) c t d e =
       elim (ℕ-discrete (k .section) s) [
         | yes q ↦
@@ -109,7 +107,7 @@ module _ (g : ℕ → Bool) (s : ℕ) where
 
   pub column-missing : (ks : List Column) (c : ℕ) → g s ≡ false → distinct (codesOf ks) ≡ true → columnIn ks s ≡ some c → placeOf (codesOf (there ks)) c ≡ none
   unfolding columnIn
-  column-missing [] c t d e = absurd (some-none (sym e))
+  column-missing [] c t d e = some-none (sym e)
   column-missing (k ∷ ks) c t d e =
       elim (ℕ-discrete (k .section) s) [
         | yes q ↦

@@ -1,21 +1,21 @@
 -- An index from rows to answers: written, read back, and probed: each row's identity is found with its row number, anything else is absent.
 -- Assumes nothing.
-use mathlib.Core.Path.{_≡_, refl, sym, ap, _∙_}
-use mathlib.Core.Bool.{Bool, true, false}
+use mathlib.Core.Path.{_≡_, refl, ap, _∙_}
+use mathlib.Core.Bool.{Bool, false}
 use mathlib.Core.List.{List, [], _∷_}
 use Prim.Native.Nat.{ℕ, _+_, _*_, _^_, _<_, _≤_}
 use native.Mathlib.Nat.{not-suc-le-zero}
 use native.Mathlib.Omega.{arith}
 use lib.ListN.{length, getD, length-map}
-use Rattle.octets.specs.Lists.{has, distinct}
-use Rattle.octets.specs.Checked.{pass, refuse}
+use Rattle.octets.specs.Lists.{has}
+use Rattle.octets.specs.Checked.{pass}
 use Rattle.octets.proofs.Elements.{has-not-at}
 use Rattle.index.specs.Index.{Index, indexOf}
 use Rattle.index.specs.Probing.{found, absent, probe, Slots, slotsOf, slotsFor}
 use Rattle.index.specs.Rows.{rowOf}
 use Rattle.index.specs.Written.{Row, presentColumns, indexWith, indexBytes}
 use Rattle.index.proofs.LawCounts.{used}
-use Rattle.index.proofs.LawPlaced.{Distinct, NonZero, distinct-is}
+use Rattle.index.proofs.LawPlaced.{Distinct, NonZero}
 use Rattle.index.proofs.Found.{FoundIn, AbsentIn, length-rows, length-identities, used-all, slots-found, slots-absent}
 use Rattle.index.proofs.LawGrid.{noRow, identitiesOf, getD-map}
 use Rattle.index.proofs.LawRead.{length-index}
@@ -36,10 +36,6 @@ module _ (i : Index) (x : ℕ) (a : AbsentIn (i .rows) (i .identities) x) where
   unfolding probe
   probe-absent = a .is
 
-  pub row-absent : rowOf i (probe i x) ≡ refuse 15
-  unfolding rowOf
-  row-absent = ap (rowOf i) probe-absent
-
 -- ---- bytes written
 pub indexBytes-is : (big : Bool) (version : ℕ) (rs : List Row) → 0 < length rs
     → indexBytes big version rs ≡ indexWith big version (presentColumns version rs) rs (slotsOf (identitiesOf rs))
@@ -53,13 +49,6 @@ pub record Writable (rs : List Row) : Type 0 where
   pub few : length rs ≤ 2 ^ 30
   pub different : Distinct (identitiesOf rs)
   pub nonzero : NonZero (identitiesOf rs)
-
-pub nonzero-is : (xs : List ℕ) → has xs 0 ≡ false → NonZero xs
-nonzero-is xs e i h q = has-not-at xs 0 i e h q
-
--- by the tests of lists
-pub writable : (rs : List Row) → RowsFit rs → length rs ≤ 2 ^ 30 → distinct (identitiesOf rs) ≡ true → has (identitiesOf rs) 0 ≡ false → Writable rs
-writable rs f l d z = record { fits = f; few = l; different = distinct-is (identitiesOf rs) d; nonzero = nonzero-is (identitiesOf rs) z }
 
 -- ---- all of it
 -- what is known of an index whose bytes were written from rows

@@ -32,9 +32,6 @@ stride-is x n p = rw (masked (x / 2 ^ 32) n p) (odd-or (x / 2 ^ 32 % n))
 pub firstSlot-lt : (x n : ℕ) → PowerOfTwo n → firstSlot x n < n
 firstSlot-lt x n p = rw (firstSlot-is x n p) (mod-lt x (positive p))
 
-pub stride-odd : (x n : ℕ) → PowerOfTwo n → stride x n % 2 ≡ 1
-stride-odd x n p = rw (stride-is x n p) (omega arith)
-
 pub stride-le : (x n : ℕ) → PowerOfTwo n → stride x n ≤ n
 stride-le x n p = rw (stride-is x n p) (omega (arith, mod-lt (x / 2 ^ 32) (positive p)))
 

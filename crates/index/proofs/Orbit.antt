@@ -5,7 +5,7 @@ use Prim.Native.Nat.{ℕ, zero, suc, _+_, _*_, _-_, _/_, _%_, _^_, _<_}
 use native.Mathlib.Nat.{one-mul, mul-one, mul-assoc, mul-comm, mul-add, add-mul, mul-sub, mul-suc, pow-succ', div-add-mod, mul-zero, zero-mul, suc-mul, mod-eq-of-lt, mod-add-mod, mod-lt}
 use native.Mathlib.Omega.{arith}
 use native.Mathlib.Decide.{decLe}
-use Rattle.index.proofs.Slots.{PowerOfTwo}
+use Rattle.index.specs.Held.{PowerOfTwo}
 
 double : (k e : ℕ) → 2 ^ suc k * e ≡ 2 * (2 ^ k * e)
 double k e = rw (pow-succ', mul-assoc)

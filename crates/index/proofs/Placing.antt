@@ -10,9 +10,11 @@ use lib.ListN.{length, getD, set, length-set, length-replicate}
 use borrow.Author.Tests.{eq-eqb, ne-eqb}
 use Rattle.octets.specs.Octets.{zeros}
 use Rattle.index.specs.Probing.{firstSlot, stride, Slots, freeFrom, place, unused}
-use Rattle.index.proofs.Slots.{PowerOfTwo, positive, firstSlot-lt, stride-odd}
+use Rattle.index.proofs.Slots.{stride-odd}
 use Rattle.index.proofs.Orbit.{slotAt, slotAt-zero, slotAt-next, slotAt-lt, slotAt-once}
 use Rattle.index.proofs.LawCounts.{used, used-zeros, used-takes, First, first-unused}
+use Rattle.index.specs.Held.{PowerOfTwo}
+use Rattle.index.proofs.Masks.{positive, firstSlot-lt}
 
 -- the slot that probing for an identity looks at after j steps
 unfoldable pub probed : ℕ → ℕ → ℕ → ℕ

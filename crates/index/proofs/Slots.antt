@@ -1,4 +1,4 @@
--- The number of slots: a power of two, above the number of units, at most three times as large. Masks are remainders, and strides odd.
+-- The number of slots: a power of two, above the number of units, at most three times as large. Strides are odd.
 -- Assumes nothing.
 use mathlib.Core.Path.{_≡_, refl, sym, ap, _∙_}
 use mathlib.Core.Logic.{_⊎_, inl, inr, ⊎-elim}
@@ -11,32 +11,10 @@ use lib.Pow.{pow-pos}
 use borrow.Author.Tests.{le-leb, lt-leb, lt-ltb, le-ltb}
 use Rattle.index.specs.Index.{powerFrom, leastPower}
 use Rattle.index.specs.Probing.{firstSlot, stride, slotsFor}
-
-pub record PowerOfTwo (n : ℕ) : Type 0 where
-  pub power : ℕ
-  pub is : n ≡ 2 ^ power
-
-pub positive : {n : ℕ} → PowerOfTwo n → 0 < n
-positive p = rw (p .is) (pow-pos (p .power))
+use Rattle.index.specs.Held.{PowerOfTwo}
+use Rattle.index.proofs.Masks.{odd-or, least-power}
 
 -- ---- masks
-pub masked : (x n : ℕ) → PowerOfTwo n → bitAnd x (n - 1) ≡ x % n
-masked x n p = rw (p .is) (and-mask x (p .power))
-
-pub odd-or : (y : ℕ) → bitOr y 1 ≡ y / 2 * 2 + 1
-odd-or y = or-step y 1 ∙ rw or-zero-r (omega arith)
-
-pub firstSlot-is : (x n : ℕ) → PowerOfTwo n → firstSlot x n ≡ x % n
-unfolding firstSlot
-firstSlot-is x n p = masked x n p
-
-pub firstSlot-lt : (x n : ℕ) → PowerOfTwo n → firstSlot x n < n
-firstSlot-lt x n p = rw (firstSlot-is x n p) (mod-lt x (positive p))
-
-pub stride-is : (x n : ℕ) → PowerOfTwo n → stride x n ≡ x / 2 ^ 32 % n / 2 * 2 + 1
-unfolding stride
-stride-is x n p = rw (masked (x / 2 ^ 32) n p) (odd-or (x / 2 ^ 32 % n))
-
 pub stride-odd : (x n : ℕ) → stride x n % 2 ≡ 1
 unfolding stride
 stride-odd x n = rw (odd-or (bitAnd (x / 2 ^ 32) (n - 1))) (omega arith)
@@ -100,10 +78,6 @@ kept (suc k) (suc j) p h g =
     power-on k p (2 ^ suc j * p) more ∙ ap (powerFrom k (2 * p)) (sym (doubled j p)) ∙ kept k j (2 * p) (le-of-suc-le-suc h) (omega arith) ∙ doubled j p
 
 -- ---- the least power of two
-pub leastPower-power : (n : ℕ) → PowerOfTwo (leastPower n)
-unfolding leastPower
-leastPower-power n = let d = doublings 32 1 n in record { power = d .times; is = d .is ∙ mul-one (2 ^ d .times) }
-
 pub leastPower-ge : (n : ℕ) → n ≤ 2 ^ 32 → n ≤ leastPower n
 unfolding leastPower
 leastPower-ge n h = reaches 32 1 n h
@@ -146,7 +120,7 @@ pub slotsFor-power : (n : ℕ) → PowerOfTwo (slotsFor n)
 slotsFor-power n =
     elim (decLt n 2) [
       | yes h ↦ record { power = 1; is = slotsFor-few n h }
-      | no h ↦ rw (slotsFor-many n (omega arith)) (leastPower-power (3 * n / 2 + 1))
+      | no h ↦ rw (slotsFor-many n (omega arith)) (least-power (3 * n / 2 + 1))
     ]
 
 -- so there are more slots than units

@@ -2,7 +2,7 @@
 -- Assumes nothing.
 use mathlib.Core.Path.{_≡_, refl, sym, ap, ap₂, _∙_, subst}
 use mathlib.Core.Logic.{_⊎_, inl, inr, ⊎-elim}
-use mathlib.Core.Bool.{Bool, true, false, _&&_}
+use mathlib.Core.Bool.{Bool, true, false}
 use mathlib.Core.List.{List, [], _∷_, _++_, map}
 use mathlib.Core.Option.{Option, some, none}
 use Prim.Native.Nat.{ℕ, zero, suc, _+_, _<_, _≤_}
@@ -13,11 +13,12 @@ use lib.ListN.{length, drop, length-drop, length-append, drop-of-length-le}
 use borrow.Author.Tests.{eqb-true, eqb-false, eq-eqb, ne-eqb, le-leb, leb-true}
 use Rattle.octets.specs.Octets.{part}
 use Rattle.octets.specs.Lists.{joined, all, any, has}
-use Rattle.octets.specs.Checked.{Check, pass, refuse, _>>=_, require}
+use Rattle.octets.specs.Checked.{pass}
 use Rattle.octets.proofs.Checks.{bind-pass, require-pass, passes, then-pass, pass-inj, pass-refuse, known, true-false, and-both, and-left, and-right}
-use Rattle.octets.proofs.Lists.{all-head, all-tail, all-cons, any-stops, any-cons, any-more, any-cases, any-append}
+use Rattle.octets.proofs.Lists.{all-head, all-tail, all-cons, any-stops, any-more, any-cases}
 use Rattle.octets.proofs.Parts.{length-part, drop-part}
 use Rattle.octets.proofs.Refusals.{Only, only-pass, only-refuse, only-require, only-bind}
+use Rattle.octets.proofs.Options.{some-inj}
 use Rattle.index.specs.Index.{Index, Contribution, cellOf}
 use Rattle.index.specs.Rows.{rowNumbers}
 use Rattle.index.specs.Tiles.{notEmpty, namedIn, namedBy, named, sameParts, startsAt, tilesFrom, tiles}
@@ -80,19 +81,16 @@ abbrev pub Some : List Contribution → Type 0
 Some cs = (c : Contribution) → isOne cs c ≡ true → 1 ≤ c .size
 
 -- ---- the part that starts at a place
-starts-here : (c : Contribution) (cs : List Contribution) (at : ℕ) → c .offset ≡ at → startsAt (c ∷ cs) at ≡ some (c .size)
+pub starts-here : (c : Contribution) (cs : List Contribution) (at : ℕ) → c .offset ≡ at → startsAt (c ∷ cs) at ≡ some (c .size)
 unfolding startsAt
 starts-here c cs at e = rw (startsAt, eq-eqb (c .offset) at e)
 
-starts-later : (c : Contribution) (cs : List Contribution) (at : ℕ) → (c .offset ≡ at → ⊥) → startsAt (c ∷ cs) at ≡ startsAt cs at
+pub starts-later : (c : Contribution) (cs : List Contribution) (at : ℕ) → (c .offset ≡ at → ⊥) → startsAt (c ∷ cs) at ≡ startsAt cs at
 unfolding startsAt
 starts-later c cs at e = rw (startsAt, ne-eqb (c .offset) at e)
 
 some-none : {A P : Type 0} {a : A} → none ≡ some a → P
 some-none e = let z : _≡_ {A = ℕ} 0 1 = cc in absurd (omega arith)
-
-some-inj : {A : Type 0} {a b : A} → some a ≡ some b → a ≡ b
-some-inj e = cc
 
 pub starts-one : (cs : List Contribution) (at n : ℕ) → startsAt cs at ≡ some n → isOne cs (record { offset = at; size = n }) ≡ true
 unfolding startsAt

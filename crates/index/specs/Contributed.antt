@@ -7,6 +7,7 @@ use mathlib.Core.Option.{Option, some, none}
 use Prim.Native.Nat.{ℕ, _+_, _%_}
 use lib.Dec.{eqb, leb, ltb}
 use lib.ListN.{length, getD, set}
+use Rattle.numbers.specs.Sections.{strOffsetsCode, sectionCodes}
 use Rattle.octets.specs.Checked.{Check, pass, refuse}
 use Rattle.octets.specs.Lists.{has}
 use Rattle.index.specs.Index.{Index, Contribution}
@@ -33,7 +34,7 @@ ownCell at size (Is o z) = eqb o at && eqb z size
 ownCell at size Missing = false
 
 unfoldable pub wholeEntries : ℕ → ℕ → ℕ → ℕ → Bool
-wholeEntries width section o z = not (eqb section 6) || (eqb (o % width) 0 && eqb (z % width) 0)
+wholeEntries width section o z = not (eqb section strOffsetsCode) || (eqb (o % width) 0 && eqb (z % width) 0)
 
 unfoldable pub goodCell : ℕ → ℕ → ℕ → Cell → Bool
 goodCell width n section (Is o z) = leb (o + z) n && wholeEntries width section o z
@@ -41,9 +42,9 @@ goodCell width n section Missing = false
 
 -- ---- contributions in arrays
 pub record Whole (k : Contributions) : Type 0 where
-  pub has : length (k .has) ≡ 14
-  pub offset : length (k .offset) ≡ 14
-  pub size : length (k .size) ≡ 14
+  pub has : length (k .has) ≡ sectionCodes
+  pub offset : length (k .offset) ≡ sectionCodes
+  pub size : length (k .size) ≡ sectionCodes
 
 pub record ContributionsAre (k : Contributions) (f : BySection (Option Contribution)) : Type 0 where
   pub has : (c : ℕ) → getD (k .has) c false ≡ isSome (f c)

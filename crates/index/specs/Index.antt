@@ -6,6 +6,8 @@ use mathlib.Core.Option.{Option, some, none}
 use Prim.Native.Nat.{ℕ, zero, suc, _+_, _*_, _-_}
 use lib.Dec.{eqb, leb, ltb}
 use lib.ListN.{length, drop, getD}
+use Rattle.numbers.specs.Tables.{index2, index5, columns2, columns5, lastColumn, typesColumn}
+use Rattle.numbers.specs.Refusals.{badIndex}
 use Rattle.octets.specs.Octets.{numberAt, numbersIn}
 use Rattle.octets.specs.Lists.{all, distinct, zeroTogether}
 use Rattle.octets.specs.Checked.{Check, pass, refuse, _>>=_, require}
@@ -26,17 +28,17 @@ pub record Index : Type 0 where
 -- "the word 2"; "Version 5 starts with 16-bit 5 and 0 for the word 2"; 0 where the start names neither form
 unfoldable pub versionOf : Bool → List ℕ → ℕ
 versionOf big s =
-    elim (eqb (numberAt big 4 s 0) 2) [
-      | true ↦ 2
-      | false ↦ elim (eqb (numberAt big 2 s 0) 5 && eqb (numberAt big 2 s 2) 0) [ true ↦ 5 | false ↦ 0 ]
+    elim (eqb (numberAt big 4 s 0) index2) [
+      | true ↦ index2
+      | false ↦ elim (eqb (numberAt big 2 s 0) index5 && eqb (numberAt big 2 s 2) 0) [ true ↦ index5 | false ↦ 0 ]
     ]
 
 -- "C is at most 8, codes are 1 to 8"; "version 5: at most 7 columns, codes 1 and 3 to 8"
 unfoldable pub columnsMost : ℕ → ℕ
-columnsMost version = elim (eqb version 5) [ true ↦ 7 | false ↦ 8 ]
+columnsMost version = elim (eqb version index5) [ true ↦ columns5 | false ↦ columns2 ]
 
 unfoldable pub codeGood : ℕ → ℕ → Bool
-codeGood version c = elim (eqb version 5 && eqb c 2) [ true ↦ false | false ↦ leb 1 c && leb c 8 ]
+codeGood version c = elim (eqb version index5 && eqb c typesColumn) [ true ↦ false | false ↦ leb 1 c && leb c lastColumn ]
 
 -- the least of p, 2 p, 4 p, .. that is n or more, within so many doublings
 unfoldable pub powerFrom : ℕ → ℕ → ℕ → ℕ
@@ -68,18 +70,18 @@ layout big version c u n s =
 
 unfoldable pub indexOf : Bool → List ℕ → Check Index
 indexOf big s = do
-  _ ← require (leb 16 (length s)) 10
+  _ ← require (leb 16 (length s)) badIndex
   let version = versionOf big s
   let c = numberAt big 4 s 4
   let u = numberAt big 4 s 8
   let n = numberAt big 4 s 12
-  _ ← require (eqb version 2 || eqb version 5) 10
-  _ ← require (leb c (columnsMost version)) 10
-  _ ← require (ltb u n && eqb (leastPower n) n) 10
-  _ ← require (eqb (length s) (16 + 12 * n + 4 * c + 8 * (u * c))) 10
+  _ ← require (eqb version index2 || eqb version index5) badIndex
+  _ ← require (leb c (columnsMost version)) badIndex
+  _ ← require (ltb u n && eqb (leastPower n) n) badIndex
+  _ ← require (eqb (length s) (16 + 12 * n + 4 * c + 8 * (u * c))) badIndex
   let i = layout big version c u n s
-  _ ← require (all (codeGood version) (i .codes) && distinct (i .codes)) 10
-  _ ← require (slotsGood u (i .identities) (i .rows)) 10
+  _ ← require (all (codeGood version) (i .codes) && distinct (i .codes)) badIndex
+  _ ← require (slotsGood u (i .identities) (i .rows)) badIndex
   pass i
 
 -- ---- cells

@@ -7,8 +7,8 @@ use mathlib.Core.Option.{Option, some, none}
 use Prim.Native.Nat.{ℕ, zero, suc, _+_, _%_}
 use lib.Dec.{eqb, leb}
 use lib.ListN.{length, getD}
-use Rattle.numbers.specs.Sections.{infoCode, abbrevCode, strOffsetsCode}
-use Rattle.numbers.specs.Refusals.{noRow, rowOutOfStep}
+use Rattle.numbers.specs.Sections.{infoCode, abbrevCode, strOffsetsCode, lineCode, locCode, macinfoCode, macroCode, loclistsCode, rnglistsCode}
+use Rattle.numbers.specs.Refusals.{noRow, badRow}
 use Rattle.octets.specs.Octets.{part}
 use Rattle.octets.specs.Lists.{all, those, has}
 use Rattle.octets.specs.Checked.{Check, pass, refuse, _>>=_, require}
@@ -21,7 +21,7 @@ BySection A = ℕ → A
 
 -- "Each shared section (codes 3 to 10)"
 unfoldable pub shared : List ℕ
-shared = 3 ∷ 4 ∷ 5 ∷ 6 ∷ 7 ∷ 8 ∷ 9 ∷ 10 ∷ []
+shared = abbrevCode ∷ lineCode ∷ locCode ∷ strOffsetsCode ∷ macinfoCode ∷ macroCode ∷ loclistsCode ∷ rnglistsCode ∷ []
 
 -- "every shared section not empty in the object"
 unfoldable pub neededCodes : BySection ℕ → List ℕ
@@ -55,8 +55,8 @@ unfoldable pub rowContributions : Index → ℕ → BySection ℕ → ℕ → �
 rowContributions i width lengths x home at size = do
   row ← rowOf i (probe i x)
   _ ← require (all (λ s. isSome (cellOf i row s)) (home ∷ neededCodes lengths)) noRow
-  _ ← require (cellIs (ownPlace at size) (cellOf i row home)) rowOutOfStep
-  _ ← require (all (λ s. cellIs (partGood width lengths s) (cellOf i row s)) (neededCodes lengths)) rowOutOfStep
+  _ ← require (cellIs (ownPlace at size) (cellOf i row home)) badRow
+  _ ← require (all (λ s. cellIs (partGood width lengths s) (cellOf i row s)) (neededCodes lengths)) badRow
   pass (λ s. elim (has (neededCodes lengths) s) [ true ↦ cellOf i row s | false ↦ none ])
 
 -- ---- a row by its place
@@ -80,7 +80,7 @@ unfoldable pub abbrevPart : Index → ℕ → List ℕ → Check (List ℕ)
 abbrevPart i row [] = pass []
 abbrevPart i row (b ∷ s) =
     elim (cellOf i row abbrevCode) [
-      | some c ↦ require (leb (c .offset + c .size) (length (b ∷ s))) rowOutOfStep >>= λ _. pass (part (b ∷ s) (c .offset) (c .size))
+      | some c ↦ require (leb (c .offset + c .size) (length (b ∷ s))) badRow >>= λ _. pass (part (b ∷ s) (c .offset) (c .size))
       | none ↦ refuse noRow
     ]
 

@@ -6,6 +6,7 @@ use mathlib.Core.Option.{Option, some, none}
 use Prim.Native.Nat.{ℕ}
 use lib.Dec.{eqb}
 use lib.ListN.{length}
+use Rattle.numbers.specs.Tables.{index2, index5}
 use Rattle.octets.specs.Octets.{bytesOf, numbersOf}
 use Rattle.octets.specs.Lists.{joined, those, any}
 use Rattle.index.specs.Columns.{Column, columnsOf}
@@ -37,7 +38,7 @@ grid f columns rows = joined (map (λ r. map (λ c. f (r .cells (c .section))) c
 
 unfoldable pub startBytes : Bool → ℕ → List ℕ
 startBytes big version =
-    elim (eqb version 5) [ true ↦ bytesOf big 2 5 ++ bytesOf big 2 0 | false ↦ bytesOf big 4 2 ]
+    elim (eqb version index5) [ true ↦ bytesOf big 2 index5 ++ bytesOf big 2 0 | false ↦ bytesOf big 4 index2 ]
 
 unfoldable pub indexWith : Bool → ℕ → List Column → List Row → Slots → List ℕ
 indexWith big version columns rows slots =

@@ -18,9 +18,9 @@ pub struct ColumnPlace {
 }
 
 // How many columns an index of each version may have.
-pub const COLUMNS: usize = 8;
+pub const COLUMNS: usize = numbers::tables::COLUMNS_2;
 
-const COLUMNS_FIVE: usize = 7;
+const COLUMNS_FIVE: usize = numbers::tables::COLUMNS_5;
 
 const FOUR: [ColumnPlace; COLUMNS] = [
     ColumnPlace {

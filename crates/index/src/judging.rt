@@ -31,8 +31,8 @@ ghost use Rattle.index.specs.Contributed.{
 use crate::cells::Cell;
 use crate::probing::Probed;
 use crate::reading::IndexHead;
+use numbers::refusals::BAD_ROW;
 use numbers::refusals::NO_ROW;
-use numbers::refusals::ROW_OUT_OF_STEP;
 use numbers::sections::CODES;
 use numbers::sections::FIRST_SHARED;
 use numbers::sections::LAST_SHARED;
@@ -261,10 +261,10 @@ pub fn judge_row(big: bool, s: &[u8], head: IndexHead, m: Measures, u: OwnUnit) 
         return refused(NO_ROW);
     }
     if !own_place(u.at, u.size, own) {
-        return refused(ROW_OUT_OF_STEP);
+        return refused(BAD_ROW);
     }
     if !parts_good(m, cells) {
-        return refused(ROW_OUT_OF_STEP);
+        return refused(BAD_ROW);
     }
     RowJudged {
         code: 0,

@@ -12,6 +12,15 @@ ghost use Rattle.index.specs.Index.{
 };
 ghost use Rattle.index.specs.Answered.{indexFor};
 ghost use Rattle.index.specs.Held.{Sized, stated, headGood, indexIn};
+use numbers::tables::COLUMNS_2;
+use numbers::tables::COLUMNS_5;
+use numbers::tables::INDEX_2;
+use numbers::tables::INDEX_5;
+use numbers::tables::LAST_COLUMN;
+use numbers::tables::TYPES_COLUMN;
+
+// What an index of version 5 starts with.
+const START_5: u16 = numbers::tables::INDEX_5 as u16;
 
 pub struct IndexHead {
     // 2 or 5
@@ -91,25 +100,25 @@ fn version_of(big: bool, s: &[u8]) -> u32
     requires { ⌜ 4 ≤ length (now s) ⌝ }
     ensures { λ r. ⌜ r ≡ versionOf big (now (s .entry)) ⌝ }
 {
-    if octets::u32_at(big, s, 0) == 2 {
-        return 2;
+    if octets::u32_at(big, s, 0) == INDEX_2 {
+        return INDEX_2;
     }
-    if octets::u16_at(big, s, 0) != 5 {
+    if octets::u16_at(big, s, 0) != START_5 {
         return 0;
     }
     if octets::u16_at(big, s, 2) != 0 {
         return 0;
     }
-    5
+    INDEX_5
 }
 
 fn columns_most(version: u32) -> usize
     ensures { λ r. ⌜ r ≡ columnsMost version ⌝ }
 {
-    if version == 5 {
-        return 7;
+    if version == INDEX_5 {
+        return COLUMNS_5;
     }
-    8
+    COLUMNS_2
 }
 
 fn code_good(version: u32, c: usize) -> bool
@@ -118,10 +127,10 @@ fn code_good(version: u32, c: usize) -> bool
     if c < 1 {
         return false;
     }
-    if c == 2 {
-        return version != 5;
+    if c == TYPES_COLUMN {
+        return version != INDEX_5;
     }
-    c <= 8
+    c <= LAST_COLUMN
 }
 
 fn codes_good(big: bool, s: &[u8], head: IndexHead) -> bool

@@ -35,8 +35,7 @@ prefix k l h = simp length-take (omega arith)
 -- ---- slots
 pub can-place : (room n k : ℕ) → n ≤ 16 → room ≡ 1600 → k ≡ slotsFor n → k ≤ 32 → Placeable 80 room 1 n k
 can-place room n k h e q l =
-    let p = slotsFor-power n in
-    record { power = rw q (record { power = p .power; is = p .is }); fits = omega arith; enough = omega arith; limit = omega arith; units = omega arith }
+    record { power = rw q (slotsFor-power n); fits = omega arith; enough = omega arith; limit = omega arith; units = omega arith }
 
 -- behind the placing
 pub placed-slots : (w v : List ℕ) (n k : ℕ) → Placeable 80 (length w) 1 n k → SlotsLeft 80 1 n k w v → Seekable 80 v 1 n k

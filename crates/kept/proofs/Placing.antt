@@ -1,7 +1,7 @@
 -- The records of a table placed one after the other, in slots of the same work.
 -- Assumes nothing.
 use mathlib.Core.Path.{_≡_, refl, sym, ap, ap₂, _∙_, subst}
-use mathlib.Core.Bool.{Bool, true, false, _||_}
+use mathlib.Core.Bool.{true, false}
 use mathlib.Core.List.{List, [], _∷_, _++_, append-nil, append-assoc}
 use Prim.Native.Nat.{ℕ, zero, suc, _+_, _*_, _-_, _<_, _≤_}
 use native.Mathlib.Omega.{arith}
@@ -10,7 +10,7 @@ use lib.ListN.{length, take, drop, set, length-append}
 use borrow.Rule.Slice.PartMut.{putMid}
 use Rattle.octets.specs.Octets.{part, placed, zeros}
 use Rattle.octets.specs.Lists.{any, has, those, distinct}
-use Rattle.octets.proofs.Checks.{true-false, or-right}
+use Rattle.octets.proofs.Checks.{true-false, or-right, or-fails-left}
 use Rattle.octets.proofs.Elements.{distinct-cons, distinct-head, distinct-tail, has-append, has-cons, has-skips}
 use Rattle.octets.proofs.Parts.{part-cut, length-part, part-part}
 use Rattle.octets.proofs.Placed.{length-zeros, getD-zeros, placed-byte}
@@ -77,16 +77,12 @@ module _ (words : ℕ) (w : List ℕ) (table n count : ℕ) (can : Placeable wor
     slot-set = part-stored w (slotsRegion table .start * words) count at (number ∷ []) slots-fit (omega arith) ∙ sym (placed-byte (part w (slotsRegion table .start * words) count) at number (omega (arith, slots-long)))
 
 -- ---- identities, one record more
-none-left : (a b : Bool) → (a || b) ≡ false → a ≡ false
-none-left true b q = absurd (true-false refl q)
-none-left false b q = refl
-
 distinct-front : (xs ys : List ℕ) → distinct (xs ++ ys) ≡ true → distinct xs ≡ true
 unfolding distinct
 distinct-front [] ys e = refl
 distinct-front (x ∷ xs) ys e =
     let h = distinct-head x (xs ++ ys) e in
-    distinct-cons x xs (none-left (has xs x) (has ys x) (sym (has-append xs ys x) ∙ h)) ∙ distinct-front xs ys (distinct-tail x (xs ++ ys) e)
+    distinct-cons x xs (or-fails-left (has xs x) (has ys x) (sym (has-append xs ys x) ∙ h)) ∙ distinct-front xs ys (distinct-tail x (xs ++ ys) e)
 
 has-last : (xs : List ℕ) (x y : ℕ) → x ≡ y → has (xs ++ (x ∷ [])) y ≡ true
 has-last xs x y q = has-append xs (x ∷ []) y ∙ or-right (has xs y) (has (x ∷ []) y) (has-cons y x [] (sym q))

@@ -13,23 +13,18 @@ use Rattle.octets.specs.Lists.{has, distinct}
 use Rattle.octets.proofs.Placed.{length-zeros, getD-zeros}
 use Rattle.octets.proofs.Elements.{at-has, has-not-at}
 use Rattle.index.specs.Probing.{Probe, found, absent, firstSlot, stride, freeFrom, search, Slots, place, placeAll, unused}
-use Rattle.index.specs.Held as held
-use Rattle.index.proofs.Slots as slots
+use Rattle.index.specs.Held.{PowerOfTwo}
 use Rattle.index.proofs.LawGrid.{getD-map}
-use Rattle.index.proofs.Placing.{put, Counted, place-put, counted-unused}
+use Rattle.index.proofs.Placing.{put, place-put}
 use Rattle.index.proofs.LawPlaced.{distinct-is, Placed}
 use Rattle.index.proofs.Found.{placed-found, placed-absent}
-use Rattle.index.proofs.LawMore.{placeAll-append, placeAll-counted, placed-by, below-set}
+use Rattle.index.proofs.LawMore.{placeAll-append, placed-by, below-set}
 use Rattle.index.proofs.Renamed.{Renamed, free-renamed, search-renamed}
 use Rattle.kept.specs.Records.{recordAt, identityFor, rowFor}
 use Rattle.kept.specs.Slots.{freeFor, soughtAs, soughtIn, SeenHeld}
 use Rattle.kept.specs.declared.slots.Sought.the-variants.{Known, Free}
 use Rattle.kept.proofs.Recording.{identity-none, identity-some, row-none, row-some}
 use Rattle.kept.proofs.Moved.{getD-past}
-
--- one record under two names
-pub power-is : {n : ℕ} → held.PowerOfTwo n → slots.PowerOfTwo n
-power-is p = record { power = p .power; is = p .is }
 
 -- ---- lists of numbers by a function
 map-set : (f : ℕ → ℕ) (l : List ℕ) (i v : ℕ) → map f (set l i v) ≡ set (map f l) i (f v)
@@ -106,12 +101,7 @@ module _ {w slots : List ℕ} {n : ℕ} {xs : List ℕ} (s : SeenHeld w slots n 
   search-same : (x : ℕ) → search slots (map (identityFor w) slots) x ≡ search (s .placed .rows) (s .placed .identities) x
   search-same x = search-renamed renamed (map (identityFor w) slots) x ∙ ap (λ (l : List ℕ). search (s .placed .rows) l x) (s .identities)
 
-  module _ (p : held.PowerOfTwo (length slots)) (few : length xs < length slots) where
-    counted : Counted (length slots) (length xs) (s .placed)
-    counted =
-        let z : 0 + length xs ≡ length xs = omega arith in
-        rw (z, s .made) at (placeAll-counted (length slots) (power-is p) xs (unused (length slots)) 1 0 (counted-unused (length slots)) (omega arith) (λ z. omega arith))
-
+  module _ (p : PowerOfTwo (length slots)) (few : length xs < length slots) where
     -- ---- one more
     module _ (x : ℕ) where
       next : place (s .placed) (length xs + 1) x ≡ put (s .placed) (freeFor slots x) (length xs + 1) x
@@ -153,7 +143,7 @@ module _ {w slots : List ℕ} {n : ℕ} {xs : List ℕ} (s : SeenHeld w slots n 
     -- ---- known or not
     module _ (d : distinct xs ≡ true) (x : ℕ) where
       seen-placed : Placed (length slots) xs (length xs) (s .placed)
-      seen-placed = rw (s .made) at (placed-by (length slots) (power-is p) xs (distinct-is xs d) few)
+      seen-placed = rw (s .made) at (placed-by (length slots) p xs (distinct-is xs d) few)
 
       -- a search ends at one of them, or at none
       pub record Told : Type 0 where
@@ -168,7 +158,7 @@ module _ {w slots : List ℕ} {n : ℕ} {xs : List ℕ} (s : SeenHeld w slots n 
           go : (b : Bool) → has xs x ≡ b → Told
           go true e =
               let i = at-has xs x e in
-              let f = placed-found (length slots) (power-is p) xs (s .placed) seen-placed (i .0) (i .1) in
+              let f = placed-found (length slots) p xs (s .placed) seen-placed (i .0) (i .1) in
               record {
                 probe = found (f .slot) (f .looks);
                 ends = search-same x ∙ ap (search (s .placed .rows) (s .placed .identities)) (sym (i .2)) ∙ f .is;
@@ -176,7 +166,7 @@ module _ {w slots : List ℕ} {n : ℕ} {xs : List ℕ} (s : SeenHeld w slots n 
                 absent-is = λ m z. absurd (let y : _≡_ {A = ℕ} 0 1 = cc in omega arith);
               }
           go false e =
-              let f = placed-absent (length slots) (power-is p) xs (s .placed) seen-placed few x (λ i. has-not-at xs x i e) in
+              let f = placed-absent (length slots) p xs (s .placed) seen-placed few x (λ i. has-not-at xs x i e) in
               record {
                 probe = absent (f .looks);
                 ends = search-same x ∙ f .is;

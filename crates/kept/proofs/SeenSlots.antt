@@ -9,7 +9,7 @@ use Rattle.kept.specs.Slots.{seenSlots}
 
 pub seen-power : (n : ℕ) → PowerOfTwo (seenSlots n)
 unfolding seenSlots
-seen-power n = let p = slotsFor-power (n / 5) in record { power = p .power; is = p .is }
+seen-power n = slotsFor-power (n / 5)
 
 pub seen-le : (n : ℕ) → 2 ≤ n → seenSlots n ≤ n
 unfolding seenSlots

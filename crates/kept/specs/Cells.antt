@@ -10,7 +10,7 @@ use lib.ListN.{getD}
 use Rattle.numbers.specs.Sections.{sectionCodes}
 use Rattle.index.specs.Index.{Contribution}
 use Rattle.index.specs.Rows.{BySection}
-use Rattle.index.specs.Contributed.{Whole}
+use Rattle.index.specs.Contributed.{Whole, ContributionsAre}
 use Rattle.index.specs.declared.judging.Contributions.{Contributions}
 
 -- as `cells` of `package`
@@ -37,3 +37,9 @@ pub record CellsRoom (k : Contributions) (bases : List ℕ) (home place size : �
 -- the first m bases have grown
 pub record Summed (bases size more : List ℕ) (m : ℕ) : Type 0 where
   pub is : (c : ℕ) → c < m → getD more c 0 ≡ getD bases c 0 + getD size c 0
+
+-- by any contributions that k holds and any bases that are given
+abbrev pub CellsMoved : Contributions → List ℕ → ℕ → ℕ → ℕ → Contributions → Type 0
+CellsMoved k bases home place size r =
+    (f : BySection (Option Contribution)) (base : BySection ℕ) → ContributionsAre k f → ((c : ℕ) → c < sectionCodes → getD bases c 0 ≡ base c)
+    → ContributionsAre r (cellsBy f base home place size)

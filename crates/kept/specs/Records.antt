@@ -5,6 +5,7 @@ use mathlib.Core.List.{List, [], _∷_, map}
 use Prim.Native.Nat.{ℕ, zero, suc, _+_, _*_, _-_, _/_, _%_, _^_, _<_, _≤_}
 use lib.Dec.{eqb}
 use lib.ListN.{length, getD}
+use Rattle.numbers.specs.Tables.{columns2}
 use Rattle.octets.specs.Octets.{part}
 use Rattle.octets.specs.Lists.{joined, those}
 use Rattle.index.specs.declared.judging.Contributions.{Contributions}
@@ -39,7 +40,7 @@ cellsLeft five cells k zero = []
 cellsLeft five cells k (suc m) = getD (cells .offset) (sectionAt five k) 0 ∷ getD (cells .size) (sectionAt five k) 0 ∷ cellsLeft five cells (k + 1) m
 
 unfoldable pub cellsOf : Bool → Contributions → List ℕ
-cellsOf five cells = cellsLeft five cells 0 8
+cellsOf five cells = cellsLeft five cells 0 columns2
 
 unfoldable pub unitOf : UnitHead → Bool → Contributions → KeptUnit
 unitOf u five cells =

@@ -5,7 +5,7 @@ use mathlib.Core.Bool.{Bool}
 use mathlib.Core.List.{List, [], _∷_}
 use Prim.Native.Nat.{ℕ, _+_, _*_, _^_, _<_, _≤_}
 use lib.ListN.{length, getD}
-use Rattle.numbers.specs.Limits.{bundleLimit, workForWord}
+use Rattle.numbers.specs.Limits.{bundleLimit, workForWord, leastUnitBytes}
 use Rattle.numbers.specs.Sections.{sectionCodes}
 use Rattle.index.specs.Rows.{BySection}
 use Rattle.package.specs.Filing.{Filed, kept, repeat, namesake, ofKind, countOf}
@@ -42,7 +42,7 @@ pub record Held (five : Bool) (b : List ℕ) (n place : ℕ) (w : List ℕ) (st 
   pub some : 2 ≤ n
   pub units : UnitsGood us
   -- a unit takes at least 20 bytes of the bundle
-  pub spent : 20 * length us ≤ place
+  pub spent : leastUnitBytes * length us ≤ place
   pub held : UnitsHeld five b (region w n recordsRegion) (λ t. slotsIn w n t (seenSlots n)) (st .units) (kept us)
   pub based : (c : ℕ) → c < sectionCodes → getD (st .bases) c 0 ≡ bases c
   -- so that all cells fit 32 bits: what was read lies before the place

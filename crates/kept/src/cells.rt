@@ -1,15 +1,11 @@
 // What a unit has of each section: where it lies in the package's sections. And the bases there, which grow with each object.
 ghost use mathlib.Core.Path.{_≡_};
 ghost use mathlib.Core.Bool.{false};
-ghost use mathlib.Core.Option.{Option};
 ghost use Prim.Native.Nat.{ℕ, _+_, _<_, _^_};
 ghost use lib.ListN.{length, getD};
-ghost use Rattle.index.specs.Index.{Contribution};
-ghost use Rattle.index.specs.Rows.{BySection};
-ghost use Rattle.index.specs.Contributed.{ContributionsAre};
 ghost use Rattle.numbers.specs.Sections.{sectionCodes};
 ghost use Rattle.kept.specs.Columns.{CellsFit};
-ghost use Rattle.kept.specs.Cells.{cellsBy, movedBy, CellsRoom, Summed};
+ghost use Rattle.kept.specs.Cells.{movedBy, CellsRoom, CellsMoved, Summed};
 use index::judging::Contributions;
 use numbers::sections::CODES;
 
@@ -46,7 +42,7 @@ pub fn cells_of(
     size: usize,
 ) -> Contributions
     requires { ⌜ CellsRoom k bases home place size ⌝ }
-    ensures cells { λ r. ⌜ ((f : BySection (Option Contribution)) (base : BySection ℕ) → ContributionsAre k f → ((c : ℕ) → c < sectionCodes → getD bases c 0 ≡ base c) → ContributionsAre r (cellsBy f base home place size)) ⌝ }
+    ensures cells { λ r. ⌜ CellsMoved k bases home place size r ⌝ }
     ensures fit { λ r. ⌜ CellsFit r ⌝ }
 {
     let mut has = k.has;

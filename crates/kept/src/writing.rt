@@ -11,7 +11,11 @@ ghost use Rattle.kept.specs.Slots.{Within};
 ghost use Rattle.kept.specs.Indexed.{gridFrom, slotNumber, slotWidth, frontIn, indexIn};
 use crate::records::CELLS;
 use index::cells::COLUMNS;
+use numbers::tables::INDEX_2;
 use work::RECORD;
+
+// What an index of version 5 starts with.
+const START_5: u16 = numbers::tables::INDEX_5 as u16;
 
 // Which index: its byte order and version, its table with how many rows, and the columns that are there.
 pub struct IndexForm {
@@ -28,11 +32,11 @@ fn put_start(big: bool, five: bool, out: &mut [u8], at: usize)
     ensures { λ _. ⌜ now (out .exit) ≡ placed (now (out .entry)) at (startBytes big (versionFor five)) ⌝ }
 {
     if five {
-        octets::put_u16(big, 5, out, at);
+        octets::put_u16(big, START_5, out, at);
         octets::put_u16(big, 0, out, at + 2);
         return;
     }
-    octets::put_u32(big, 2, out, at);
+    octets::put_u32(big, INDEX_2, out, at);
 }
 
 fn put_three(big: bool, first: usize, second: usize, third: usize, out: &mut [u8], at: usize)

@@ -7,7 +7,7 @@ use native.Mathlib.Nat.{pow-succ', one-le-pow, zero-lt-suc}
 use native.Mathlib.Omega.{arith}
 use native.Mathlib.Decide.{decLe}
 use lib.ListN.{length}
-use borrow.Author.Tests.{lt-ltb, le-ltb, ltb-true, leb-true}
+use borrow.Author.Tests.{lt-ltb, le-ltb}
 use Rattle.octets.specs.Checked.{Check, pass, _>>=_}
 use Rattle.octets.proofs.Checks.{pass-inj, pass-refuse, bind-pass, require-pass}
 use Rattle.octets.proofs.Refusals.{Only, only-pass, only-refuse, only-require, only-bind}
@@ -108,17 +108,3 @@ groups-lt (suc k) (b ∷ s) r h e =
           (larger b (p .0 .0) k (h 0) (groups-lt k s (p .0) (bytes-tail b s h) (p .1)))
       | no g ↦ rw (← ap (λ (x : ℕ × ℕ). x .0) (pass-inj (sym (groups-last k b s (omega arith)) ∙ e))) (omega (arith, pow-succ' 128 k, one-le-pow k 128 (zero-lt-suc 127)))
     ]
-
-pub short-lt : (s : List ℕ) (r : ℕ × ℕ) → short s ≡ pass r → r .0 ≤ 65535
-unfolding short
-short-lt s r e =
-    let p = bind-pass (groups 3 s) _ r e in
-    let q = require-pass _ _ _ _ (p .2) in
-    rw (← pass-inj (q .1)) (leb-true _ _ (q .0))
-
-pub unsigned-lt : (s : List ℕ) (r : ℕ × ℕ) → unsigned s ≡ pass r → r .0 < 2 ^ 64
-unfolding unsigned
-unsigned-lt s r e =
-    let p = bind-pass (groups 10 s) _ r e in
-    let q = require-pass _ _ _ _ (p .2) in
-    rw (← pass-inj (q .1)) (ltb-true _ _ (q .0))

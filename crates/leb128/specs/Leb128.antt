@@ -5,12 +5,13 @@ use mathlib.Core.Bool.{true, false, _||_}
 use mathlib.Core.List.{List, [], _∷_}
 use Prim.Native.Nat.{ℕ, zero, suc, _+_, _*_, _-_, _^_}
 use lib.Dec.{leb, ltb}
+use Rattle.numbers.specs.Refusals.{noIdentity}
 use Rattle.octets.specs.Checked.{Check, pass, refuse, _>>=_, require}
 
 -- groups of seven bits, least first, in at most so many bytes; a byte below 128 is the last
 unfoldable pub groups : ℕ → List ℕ → Check (ℕ × ℕ)
-groups zero s = refuse 12
-groups (suc k) [] = refuse 12
+groups zero s = refuse noIdentity
+groups (suc k) [] = refuse noIdentity
 groups (suc k) (b ∷ s) =
     elim (ltb b 128) [
       | true ↦ pass (b, 1)
@@ -21,19 +22,19 @@ groups (suc k) (b ∷ s) =
 unfoldable pub short : List ℕ → Check (ℕ × ℕ)
 short s = do
   r ← groups 3 s
-  _ ← require (leb (r .0) 65535) 12
+  _ ← require (leb (r .0) 65535) noIdentity
   pass r
 
 -- an unsigned number
 unfoldable pub unsigned : List ℕ → Check (ℕ × ℕ)
 unsigned s = do
   r ← groups 10 s
-  _ ← require (ltb (r .0) (2 ^ 64)) 12
+  _ ← require (ltb (r .0) (2 ^ 64)) noIdentity
   pass r
 
 -- how many bytes a signed number takes. Only ten bytes can leave 64 bits: their 70 bits then are neither below 2^63 nor among the last 2^63
 unfoldable pub signedSize : List ℕ → Check ℕ
 signedSize s = do
   r ← groups 10 s
-  _ ← require (ltb (r .0) (2 ^ 63) || leb (2 ^ 70 - 2 ^ 63) (r .0)) 12
+  _ ← require (ltb (r .0) (2 ^ 63) || leb (2 ^ 70 - 2 ^ 63) (r .0)) noIdentity
   pass (r .1)

@@ -30,12 +30,6 @@ module _ (x : ℕ) (answer : Index → ℕ → Check Place) where
       unfolding inTable atRow
       row-found = rw (e, inTable, f, atRow)
 
-      pub row-refused : (n : ℕ) → answer i (getD (i .rows) slot 0) ≡ refuse n → inTable o x answer ≡ refuse n
-      row-refused n g = row-found ∙ then-refuse _ _ _ g
-
-      pub row-placed : (s : Place) → answer i (getD (i .rows) slot 0) ≡ pass s → inTable o x answer ≡ pass (part (s .start) (s .size) looks)
-      row-placed s g = row-found ∙ then-pass _ _ _ g
-
 -- a string is looked for in the part of section 6, where that is found
 unfoldable pub followed : List ℕ → Package → ℕ → ℕ → Found → Found
 followed p k version entry (refused n) = refused n

@@ -40,7 +40,7 @@ module _ (h : PackageHead) (v : ℕ) where
     unfolding versionBy
     by-tu f = rw (versionBy, e, f)
 
-has-indexed : (v : ℕ) (o : Option Index) → indexHas v (indexed o) ≡ hasVersion v o
+pub has-indexed : (v : ℕ) (o : Option Index) → indexHas v (indexed o) ≡ hasVersion v o
 unfolding indexHas indexed hasVersion headOf
 has-indexed v (some i) = refl
 has-indexed v none = refl

@@ -28,9 +28,6 @@ use Rattle.lookup.proofs.Known.{within-package, index-known, answered-p
 
 -- ---- looks
 module _ (p : List ℕ) (k : Package) (e : packageOf p ≡ pass k) (table : ℕ) (i : Index) (f : indexFor k table ≡ some i) (x : ℕ) where
-  bytes : List ℕ
-  bytes = body p (k .parts) (indexCode table)
-
   well : ReadWell (k .encoding .big) (body p (k .parts) (indexCode table)) (headOf i)
   unfolding indexRead
   well = record { is = sym (ap indexRead (index-known p k e table i f)) }

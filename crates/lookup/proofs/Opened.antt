@@ -19,7 +19,6 @@ use Rattle.bundle.specs.Encoding.{Encoding, encodingOf, encodingGood}
 use Rattle.bundle.specs.Encoded.{wordRead}
 use Rattle.bundle.specs.Scan.{startOf, sizeOf, scanOf}
 use Rattle.bundle.specs.declared.Scan.{Scan}
-use Rattle.bundle.specs.declared.Item.the-variants.{Object}
 use Rattle.bundle.specs.declared.encoding.ObjectEncoding.{ObjectEncoding}
 use Rattle.bundle.specs.declared.encoding.WordRead.the-variants.{Good as GoodWord, Bad as BadWord}
 use Rattle.bundle.proofs.Sections.{body-part, none-counted, counted-none}
@@ -123,9 +122,6 @@ module _ (s : Scan) (ps : List Part) (from : ℕ) (e : s ≡ scanOf from ps) (c 
 
 -- ---- its one object
 module _ (p : List ℕ) (big : Bool) (word : ℕ) (sections : Scan) (a : Alone p big word sections) where
-  one : B.Object
-  one = record { word = word; parts = a .parts }
-
   shut : objectJudged big p (record { word = word; parts = a .parts }) ≡ refuse 21 → closed ≡ opened (packageOf p)
   unfolding opened
   shut e = sym (ap opened (a .is ∙ e))

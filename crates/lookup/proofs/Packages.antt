@@ -139,14 +139,6 @@ module _ (big : Bool) (p : List ℕ) where
   unfolding objectsJudged
   objects-none = refl
 
-  pub objects-one : (o : Object) → objectsJudged big p (o ∷ []) ≡ objectJudged big p o
-  unfolding objectsJudged
-  objects-one o = refl
-
-  pub objects-two : (o q : Object) (os : List Object) → objectsJudged big p (o ∷ q ∷ os) ≡ refuse 21
-  unfolding objectsJudged
-  objects-two o q os = refl
-
   pub objects-refused : (os : List Object) (n : ℕ) → objectsJudged big p os ≡ refuse n → n ≡ 21
   unfolding objectsJudged
   objects-refused [] n e = absurd (pass-refuse _ _ e)

@@ -2,33 +2,19 @@
 -- Assumes nothing.
 use mathlib.Core.Path.{_≡_, _∙_}
 use mathlib.Core.List.{List}
-use mathlib.Core.Option.{Option, some, none}
+use mathlib.Core.Option.{some, none}
 use Prim.Native.Nat.{ℕ, _+_, _*_, _-_, _/_, _≤_, _<_}
 use lib.ListN.{length}
-use borrow.Author.Tests.{eq-eqb, ne-eqb, le-leb, lt-leb, lt-ltb, le-ltb}
+use borrow.Author.Tests.{lt-ltb, le-ltb}
 use Rattle.octets.specs.Octets.{numberAt}
 use Rattle.octets.specs.Checked.{pass, refuse}
 use Rattle.octets.proofs.Checks.{fails, passes, then-pass, then-refuse}
-use Rattle.bundle.specs.Bundle.{Part, firstPart, body}
-use Rattle.bundle.specs.Encoding.{Encoding}
+use Rattle.bundle.specs.Bundle.{firstPart, body}
 use Rattle.strings.specs.Strings.{stringAt}
 use Rattle.index.specs.Index.{Index, Contribution, cellOf}
 use Rattle.lookup.specs.Lookup.{Package, Place, placeIn, cellPlace, partPlace, entriesStart, startOf, stringPlace}
 
 -- ---- 24
-pub place-missing : (o : Option Part) (c : Contribution) → o ≡ none → placeIn o c ≡ refuse 24
-unfolding placeIn
-place-missing o c e = rw (e, placeIn)
-
-module _ (o : Option Part) (s : Part) (e : o ≡ some s) (c : Contribution) where
-  pub place-outside : s .size < c .offset + c .size → placeIn o c ≡ refuse 24
-  unfolding placeIn
-  place-outside h = rw (e, placeIn) (fails _ _ _ (lt-leb (c .offset + c .size) (s .size) h))
-
-  pub place-inside : c .offset + c .size ≤ s .size → placeIn o c ≡ pass (record { start = s .start + c .offset; size = c .size })
-  unfolding placeIn
-  place-inside h = rw (e, placeIn) (passes _ _ _ (le-leb (c .offset + c .size) (s .size) h))
-
 module _ (k : Package) (i : Index) (row code : ℕ) where
   -- "a missing column an empty part", whose place is free: it is 0
   pub column-missing : cellOf i row code ≡ none → partPlace k i row code ≡ pass (record { start = 0; size = 0 })
@@ -40,15 +26,6 @@ module _ (k : Package) (i : Index) (row code : ℕ) where
   column-present c e = rw (partPlace, e)
 
 -- ---- 25 and 26
-module _ (version : ℕ) (e : Encoding) where
-  pub entries-five : version ≡ 5 → e .width + e .width ≡ entriesStart version e
-  unfolding entriesStart
-  entries-five h = rw (entriesStart, eq-eqb version 5 h)
-
-  pub entries-other : (version ≡ 5 → ⊥) → 0 ≡ entriesStart version e
-  unfolding entriesStart
-  entries-other f = rw (entriesStart, ne-eqb version 5 f)
-
 -- the offset that an entry of a str_offsets part holds
 unfoldable pub entryOffset : List ℕ → Package → ℕ → ℕ → Place → ℕ
 entryOffset p k version entry s =

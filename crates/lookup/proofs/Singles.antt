@@ -16,11 +16,11 @@ use Rattle.bundle.proofs.Scanned.{byCode-at}
 use Rattle.lookup.specs.Lookup.{codes}
 use Rattle.lookup.specs.Answers.{single}
 
-codes-at : (i : ℕ) → i < 13 → getD codes i 0 ≡ i + 1
+pub codes-at : (i : ℕ) → i < 13 → getD codes i 0 ≡ i + 1
 unfolding codes byCode numbered
 codes-at i h = let e : suc i ≡ i + 1 = omega arith in byCode-at (λ c. c) (suc i) (omega arith) ∙ e
 
-codes-length : length codes ≡ 13
+pub codes-length : length codes ≡ 13
 unfolding codes
 codes-length = refl
 

@@ -1,7 +1,7 @@
 -- 25 and 26, by what the code holds: the entry of a part of str_offsets, and the string that it names.
 -- Assumes nothing.
 use mathlib.Core.Path.{_≡_, refl, ap, sym, _∙_}
-use mathlib.Core.Bool.{Bool, true, false, _&&_, _||_}
+use mathlib.Core.Bool.{Bool, true, _&&_, _||_}
 use mathlib.Core.List.{List}
 use mathlib.Core.Logic.{_⊎_, inl, inr, ⊎-elim}
 use mathlib.Core.Option.{Option, some, none}
@@ -9,22 +9,22 @@ use Prim.Native.Nat.{ℕ, _+_, _*_, _-_, _/_, _≤_, _<_}
 use native.Mathlib.Omega.{arith}
 use lib.Dec.{eqb}
 use lib.ListN.{length, getD}
-use borrow.Author.Tests.{eqb-true}
 use Rattle.octets.specs.Octets.{numberAt}
 use Rattle.octets.specs.Checked.{Check, pass, refuse, _>>=_}
-use Rattle.octets.proofs.Checks.{and-left, and-right, then-pass, then-refuse, true-false}
+use Rattle.octets.proofs.Checks.{and-left, and-right, then-pass, then-refuse}
 use Rattle.octets.proofs.Parts.{length-part-le}
 use Rattle.bundle.specs.Bundle.{Part as BundlePart, firstPart, body}
 use Rattle.bundle.specs.Encoding.{Encoding, encodingGood}
-use Rattle.bundle.specs.Encoded.{four, encodingIs}
+use Rattle.bundle.specs.Encoded.{encodingIs}
 use Rattle.bundle.specs.Scan as Scans
-use Rattle.bundle.specs.declared.encoding.ObjectEncoding.{ObjectEncoding}
 use Rattle.bundle.proofs.Sections.{body-part}
 use Rattle.strings.specs.Strings.{stringAt}
 use Rattle.strings.specs.Answers.{stringRead}
 use Rattle.strings.specs.declared.entries.StringRead.the-variants.{At, Missing}
 use Rattle.strings.proofs.Ends.{stringAt-is, stringAt-refused}
-use Rattle.lookup.specs.Lookup.{part, Package, Place, answered, entriesStart, startOf, stringPlace}
+use Rattle.strings.proofs.StrOffsets.{width-cases}
+use Rattle.bundle.specs.Answered.{four-is}
+use Rattle.lookup.specs.Lookup.{Package, Place, answered, entriesStart, startOf, stringPlace}
 use Rattle.lookup.specs.Answers.{coded, headIn, packageIn, Opened, after, textPlace, entriesFrom, entryPlace, locatedOf}
 use Rattle.lookup.specs.declared.opening.PackageHead.{PackageHead}
 use Rattle.lookup.specs.declared.searching.Located.the-variants.{Part, Refused}
@@ -32,15 +32,6 @@ use Rattle.lookup.proofs.Places.{entryOffset, entry-missing, string-mis
 use Rattle.lookup.proofs.Searches.{start-is, size-is, section-fits, big-is}
 
 -- ---- the encoding of a good object word
-four-is : (x n : ℕ) → (eqb x 4 || eqb x n) ≡ true → four (eqb x n) n ≡ x
-unfolding four
-four-is x n e = go (eqb x n) refl (eqb x 4) refl e
-  where
-    go : (t : Bool) → eqb x n ≡ t → (u : Bool) → eqb x 4 ≡ u → (u || t) ≡ true → four t n ≡ x
-    go true f u g h = sym (eqb-true x n f)
-    go false f true g h = sym (eqb-true x 4 g)
-    go false f false g h = absurd (true-false h refl)
-
 pub coded-is : (e : Encoding) → encodingGood e ≡ true → encodingIs (coded e) ≡ e
 unfolding encodingGood encodingIs coded
 coded-is e g =
@@ -50,14 +41,6 @@ coded-is e g =
     let v = four-is (e .version) 5 (and-left (eqb (e .version) 4 || eqb (e .version) 5) (eqb (e .width) 4 || eqb (e .width) 8) two) in
     let w = four-is (e .width) 8 (and-right (eqb (e .version) 4 || eqb (e .version) 5) (eqb (e .width) 4 || eqb (e .width) 8) two) in
     λ i. record { big = e .big; version = v i; width = w i; address = a i }
-
-pub width-either : (e : ObjectEncoding) → (encodingIs e .width ≡ 4) ⊎ (encodingIs e .width ≡ 8)
-unfolding encodingIs four
-width-either e = go (e .wide)
-  where
-    go : (t : Bool) → (four t 8 ≡ 4) ⊎ (four t 8 ≡ 8)
-    go true = inr refl
-    go false = inl refl
 
 -- ---- an entry, of width 4 or 8, among n bytes
 pub entry-inside : (w n k : ℕ) → (w ≡ 4) ⊎ (w ≡ 8) → k < n / w → k * w + w ≤ n
@@ -147,7 +130,7 @@ module _ (p : List ℕ) (h : PackageHead) (o : Opened p h) where
         ew ∙ ap (λ (z : PackageHead). encodingIs (z .encoding) .width) (o .head) ∙ ap (λ (z : Encoding). z .width) (coded-is (packageIn p .encoding) g)
 
     either : (width ≡ 4) ⊎ (width ≡ 8)
-    either = ⊎-elim (λ f. inl (ew ∙ f)) (λ f. inr (ew ∙ f)) (width-either (h .encoding))
+    either = ⊎-elim (λ f. inl (ew ∙ f)) (λ f. inr (ew ∙ f)) (width-cases (h .encoding))
 
     first-is : first ≡ entriesStart version (packageIn p .encoding)
     unfolding entriesFrom entriesStart

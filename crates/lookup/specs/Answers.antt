@@ -7,6 +7,10 @@ use mathlib.Core.Option.{Option, some, none}
 use Prim.Native.Nat.{ℕ, _+_, _≤_, _<_}
 use lib.Dec.{eqb, leb}
 use lib.ListN.{length, drop, getD}
+use Rattle.numbers.specs.Tables.{compilationTable, dwarf5, index2, index5}
+use Rattle.numbers.specs.Limits.{packageLimit}
+use Rattle.numbers.specs.Sections.{strOffsetsCode, strCode, cuIndexCode, tuIndexCode}
+use Rattle.numbers.specs.Refusals.{partOutside, noStringThere}
 use Rattle.octets.specs.Octets.{part as cut}
 use Rattle.octets.specs.Lists.{all}
 use Rattle.octets.specs.Checked.{Check, pass, refuse, _>>=_}
@@ -31,7 +35,7 @@ use Rattle.lookup.specs.declared.searching.Located.the-variants.{Part, A
 
 -- ---- a package opened
 unfoldable pub coded : Encoding → ObjectEncoding
-coded e = record { big = e .big; five = eqb (e .version) 5; wide = eqb (e .width) 8; long = eqb (e .address) 8 }
+coded e = record { big = e .big; five = eqb (e .version) dwarf5; wide = eqb (e .width) 8; long = eqb (e .address) 8 }
 
 unfoldable pub indexed : Option Index → PackageIndex
 indexed (some i) = Present (headOf i)
@@ -74,7 +78,7 @@ pub record Alone (p : List ℕ) (big : Bool) (word : ℕ) (sections : Scan) : Ty
 
 -- its length and its words have passed, and an object of that word stands first
 pub record Entering (p : List ℕ) (big : Bool) (word : ℕ) : Type 0 where
-  pub long : lengthGood 117_440_512 p ≡ true
+  pub long : lengthGood packageLimit p ≡ true
   pub bundle : Bundle
   pub read : bundleOf p ≡ pass bundle
   pub order : bundle .big ≡ big
@@ -97,14 +101,14 @@ indexHas version Missing = true
 indexHas version IllFormed = true
 
 unfoldable pub versionBy : PackageHead → ℕ → Bool
-versionBy h version = (eqb version 2 || eqb version 5) && indexHas version (h .cu) && indexHas version (h .tu)
+versionBy h version = (eqb version index2 || eqb version index5) && indexHas version (h .cu) && indexHas version (h .tu)
 
 -- the index of a table, and the section that it lies in
 unfoldable pub tableIndex : PackageHead → ℕ → PackageIndex
 tableIndex h table = elim (eqb table 1) [ true ↦ h .cu | false ↦ h .tu ]
 
 unfoldable pub indexCode : ℕ → ℕ
-indexCode table = elim (eqb table 1) [ true ↦ 12 | false ↦ 13 ]
+indexCode table = elim (eqb table compilationTable) [ true ↦ cuIndexCode | false ↦ tuIndexCode ]
 
 -- the slot of an index holds a row
 pub record RowHere (big : Bool) (s : List ℕ) (h : IndexHead) (slot : ℕ) : Type 0 where
@@ -122,8 +126,8 @@ after looks m = m >>= λ q. pass (part (q .start) (q .size) looks)
 unfoldable pub placeBy : ℕ → ℕ → ℕ → ℕ → ℕ → Check Place
 placeBy count start length offset size =
     elim (eqb count 0) [
-      | true ↦ refuse 24
-      | false ↦ elim (leb (offset + size) length) [ true ↦ pass (record { start = start + offset; size = size }) | false ↦ refuse 24 ]
+      | true ↦ refuse partOutside
+      | false ↦ elim (leb (offset + size) length) [ true ↦ pass (record { start = start + offset; size = size }) | false ↦ refuse partOutside ]
     ]
 
 -- the part of the row in a slot of an index
@@ -131,7 +135,7 @@ unfoldable pub rowPlace : List ℕ → Bool → List ℕ → IndexHead → ℕ �
 rowPlace p big s h slot section = partPlace (packageIn p) (indexIn big s h) (getD (indexIn big s h .rows) slot 0) section
 
 unfoldable pub entriesFrom : ℕ → ℕ → ℕ
-entriesFrom version width = elim (eqb version 5) [ true ↦ width + width | false ↦ 0 ]
+entriesFrom version width = elim (eqb version index5) [ true ↦ width + width | false ↦ 0 ]
 
 -- the string of an entry in a part of str_offsets
 unfoldable pub entryPlace : List ℕ → ℕ → ℕ → ℕ → ℕ → Check Place
@@ -139,14 +143,14 @@ entryPlace p version entry start size = stringPlace p (packageIn p) version entr
 
 -- the string at an offset of str
 unfoldable pub textPlace : List ℕ → Package → ℕ → Check Place
-textPlace p k offset = stringAt 26 (body p (k .parts) 11) offset >>= λ t. pass (record { start = startOf (k .parts) 11 + offset; size = length t })
+textPlace p k offset = stringAt noStringThere (body p (k .parts) strCode) offset >>= λ t. pass (record { start = startOf (k .parts) strCode + offset; size = length t })
 
 -- the part of a section, and the string of an entry, in the index of a table
 unfoldable pub partIn : Package → ℕ → ℕ → ℕ → Check Found
 partIn k table x code = inTable (indexFor k table) x (λ i row. partPlace k i row code)
 
 unfoldable pub stringIn : List ℕ → Package → ℕ → ℕ → ℕ → ℕ → Check Found
-stringIn p k version table x entry = inTable (indexFor k table) x (λ i row. partPlace k i row 6 >>= stringPlace p k version entry)
+stringIn p k version table x entry = inTable (indexFor k table) x (λ i row. partPlace k i row strOffsetsCode >>= stringPlace p k version entry)
 
 -- ---- the answers
 -- the case of each answer, with its values

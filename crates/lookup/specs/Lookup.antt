@@ -6,6 +6,10 @@ use mathlib.Core.Option.{Option, some, none}
 use Prim.Native.Nat.{ℕ, _+_, _*_, _-_, _/_}
 use lib.Dec.{eqb, leb, ltb}
 use lib.ListN.{length, getD}
+use Rattle.numbers.specs.Tables.{compilationTable, typeTable, index2, index5}
+use Rattle.numbers.specs.Limits.{packageLimit}
+use Rattle.numbers.specs.Sections.{infoCode, typesCode, abbrevCode, lineCode, locCode, strOffsetsCode, macinfoCode, macroCode, loclistsCode, rnglistsCode, strCode, cuIndexCode, tuIndexCode, lastShared}
+use Rattle.numbers.specs.Refusals.{badPackage, otherVersion, badQuestion, partOutside, noEntry, noStringThere}
 use Rattle.octets.specs.Octets.{numberAt}
 use Rattle.octets.specs.Lists.{all}
 use Rattle.octets.specs.Checked.{Check, pass, refuse, _>>=_, require, renumbered}
@@ -30,34 +34,36 @@ pub record Package : Type 0 where
   pub tuIndex : Option Index
 
 unfoldable pub codes : List ℕ
-codes = 1 ∷ 2 ∷ 3 ∷ 4 ∷ 5 ∷ 6 ∷ 7 ∷ 8 ∷ 9 ∷ 10 ∷ 11 ∷ 12 ∷ 13 ∷ []
+codes =
+    infoCode ∷ typesCode ∷ abbrevCode ∷ lineCode ∷ locCode ∷ strOffsetsCode ∷ macinfoCode ∷ macroCode ∷ loclistsCode ∷ rnglistsCode ∷ strCode
+    ∷ cuIndexCode ∷ tuIndexCode ∷ []
 
 -- an index that is there, "ill-formed by the form that its start names"
 unfoldable pub packageIndex : Bool → List ℕ → List Part → ℕ → Check (Option Index)
 packageIndex big p ps c =
-    elim (firstPart ps c) [ some s ↦ renumbered 21 (indexOf big (body p ps c)) >>= λ i. pass (some i) | none ↦ pass none ]
+    elim (firstPart ps c) [ some s ↦ renumbered badPackage (indexOf big (body p ps c)) >>= λ i. pass (some i) | none ↦ pass none ]
 
 -- 21: an object word that 4 refuses, a repeated section, or an index ill-formed
 unfoldable pub objectJudged : Bool → List ℕ → Object → Check Package
 objectJudged big p o = do
   let e = encodingOf big (o .word)
-  _ ← require (encodingGood e) 21
-  _ ← require (all (λ c. leb (count (o .parts) c) 1) codes) 21
-  cu ← packageIndex big p (o .parts) 12
-  tu ← packageIndex big p (o .parts) 13
+  _ ← require (encodingGood e) badPackage
+  _ ← require (all (λ c. leb (count (o .parts) c) 1) codes) badPackage
+  cu ← packageIndex big p (o .parts) cuIndexCode
+  tu ← packageIndex big p (o .parts) tuIndexCode
   pass (record { encoding = e; parts = o .parts; cuIndex = cu; tuIndex = tu })
 
 -- 21: more than one object
 unfoldable pub objectsJudged : Bool → List ℕ → List Object → Check Package
 objectsJudged big p [] = pass (record { encoding = encodingOf big 0; parts = []; cuIndex = none; tuIndex = none })
 objectsJudged big p (o ∷ []) = objectJudged big p o
-objectsJudged big p (o ∷ q ∷ os) = refuse 21
+objectsJudged big p (o ∷ q ∷ os) = refuse badPackage
 
 -- 21: the length, the word format
 unfoldable pub packageOf : List ℕ → Check Package
 packageOf p = do
-  _ ← require (lengthGood 117_440_512 p) 21
-  b ← renumbered 21 (bundleOf p)
+  _ ← require (lengthGood packageLimit p) badPackage
+  b ← renumbered badPackage (bundleOf p)
   objectsJudged (b .big) p (b .objects)
 
 -- 22: the version given is 2 or 5, and that of each index present
@@ -66,14 +72,14 @@ hasVersion version (some i) = eqb (i .version) version
 hasVersion version none = true
 
 unfoldable pub versionGood : Package → ℕ → Bool
-versionGood k version = (eqb version 2 || eqb version 5) && hasVersion version (k .cuIndex) && hasVersion version (k .tuIndex)
+versionGood k version = (eqb version index2 || eqb version index5) && hasVersion version (k .cuIndex) && hasVersion version (k .tuIndex)
 
 -- 23: table 1, compilation, or 2, type
 unfoldable pub tableGood : ℕ → Bool
-tableGood table = eqb table 1 || eqb table 2
+tableGood table = eqb table compilationTable || eqb table typeTable
 
 unfoldable pub indexFor : Package → ℕ → Option Index
-indexFor k table = elim (eqb table 1) [ true ↦ k .cuIndex | false ↦ k .tuIndex ]
+indexFor k table = elim (eqb table compilationTable) [ true ↦ k .cuIndex | false ↦ k .tuIndex ]
 
 -- a place in the package
 pub record Place : Type 0 where
@@ -82,9 +88,9 @@ pub record Place : Type 0 where
 
 -- 24: a part ends outside its section, or the column's section is missing in the package
 unfoldable pub placeIn : Option Part → Contribution → Check Place
-placeIn none c = refuse 24
+placeIn none c = refuse partOutside
 placeIn (some s) c = do
-  _ ← require (leb (c .offset + c .size) (s .size)) 24
+  _ ← require (leb (c .offset + c .size) (s .size)) partOutside
   pass (record { start = s .start + c .offset; size = c .size })
 
 -- "a missing column an empty part"
@@ -113,8 +119,8 @@ answered (refuse n) = refused n
 unfoldable pub partJudged : List ℕ → ℕ → ℕ → ℕ → ℕ → Check Found
 partJudged p version table identity code = do
   k ← packageOf p
-  _ ← require (versionGood k version) 22
-  _ ← require (tableGood table && leb 1 code && leb code 10) 23
+  _ ← require (versionGood k version) otherVersion
+  _ ← require (tableGood table && leb infoCode code && leb code lastShared) badQuestion
   inTable (indexFor k table) identity (λ i row. partPlace k i row code)
 
 unfoldable pub lookedUp : List ℕ → ℕ → ℕ → ℕ → ℕ → Found
@@ -123,7 +129,7 @@ lookedUp p version table identity code = answered (partJudged p version table id
 -- ---- strings
 -- "in version 5 entries start behind the header's 8 or 16 bytes, which are not judged"
 unfoldable pub entriesStart : ℕ → Encoding → ℕ
-entriesStart version e = elim (eqb version 5) [ true ↦ e .width + e .width | false ↦ 0 ]
+entriesStart version e = elim (eqb version index5) [ true ↦ e .width + e .width | false ↦ 0 ]
 
 unfoldable pub startOf : Option Part → ℕ
 startOf (some s) = s .start
@@ -134,17 +140,17 @@ unfoldable pub stringPlace : List ℕ → Package → ℕ → ℕ → Place → 
 stringPlace p k version entry s = do
   let width = k .encoding .width
   let first = entriesStart version (k .encoding)
-  _ ← require (ltb entry ((s .size - first) / width)) 25
+  _ ← require (ltb entry ((s .size - first) / width)) noEntry
   let offset = numberAt (k .encoding .big) width p (s .start + first + entry * width)
-  string ← stringAt 26 (body p (k .parts) 11) offset
-  pass (record { start = startOf (firstPart (k .parts) 11) + offset; size = length string })
+  string ← stringAt noStringThere (body p (k .parts) strCode) offset
+  pass (record { start = startOf (firstPart (k .parts) strCode) + offset; size = length string })
 
 unfoldable pub stringJudged : List ℕ → ℕ → ℕ → ℕ → ℕ → Check Found
 stringJudged p version table identity entry = do
   k ← packageOf p
-  _ ← require (versionGood k version) 22
-  _ ← require (tableGood table) 23
-  inTable (indexFor k table) identity (λ i row. partPlace k i row 6 >>= stringPlace p k version entry)
+  _ ← require (versionGood k version) otherVersion
+  _ ← require (tableGood table) badQuestion
+  inTable (indexFor k table) identity (λ i row. partPlace k i row strOffsetsCode >>= stringPlace p k version entry)
 
 unfoldable pub stringFound : List ℕ → ℕ → ℕ → ℕ → ℕ → Found
 stringFound p version table identity entry = answered (stringJudged p version table identity entry)

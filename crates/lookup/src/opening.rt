@@ -22,6 +22,10 @@ use bundle::encoding::ObjectEncoding;
 use bundle::encoding::WordRead;
 use index::reading::IndexHead;
 use index::reading::IndexRead;
+use numbers::limits::PACKAGE_LIMIT;
+use numbers::sections::CODES;
+use numbers::sections::CU_INDEX;
+use numbers::sections::TU_INDEX;
 
 pub enum PackageIndex {
     Present(IndexHead),
@@ -67,7 +71,7 @@ fn are_single(sections: Scan) -> bool
     ensures { λ r. ⌜ r ≡ single (sections .count) ⌝ }
 {
     let mut code = 1;
-    while code < 14 {
+    while code < CODES {
         if 1 < sections.count[code] {
             return false;
         }
@@ -115,9 +119,9 @@ fn open_sections(package: &[u8], big: bool, word: u32, sections: Scan) -> Packag
     let cu = read_index(
         package,
         big,
-        sections.count[12],
-        sections.start[12],
-        sections.size[12],
+        sections.count[CU_INDEX],
+        sections.start[CU_INDEX],
+        sections.size[CU_INDEX],
     );
     if !is_good(cu) {
         return refused();
@@ -125,9 +129,9 @@ fn open_sections(package: &[u8], big: bool, word: u32, sections: Scan) -> Packag
     let tu = read_index(
         package,
         big,
-        sections.count[13],
-        sections.start[13],
-        sections.size[13],
+        sections.count[TU_INDEX],
+        sections.start[TU_INDEX],
+        sections.size[TU_INDEX],
     );
     if !is_good(tu) {
         return refused();
@@ -159,7 +163,7 @@ fn open_object(package: &[u8], big: bool, word: u32) -> PackageHead
 pub fn open_package(package: &[u8]) -> PackageHead
     ensures { λ r. ⌜ r ≡ opened (packageOf (now («package» .entry))) ⌝ }
 {
-    if !bundle::length_good(117_440_512, package) {
+    if !bundle::length_good(PACKAGE_LIMIT, package) {
         return refused();
     }
     let Words::Readable(big) = bundle::check_words(package) else {

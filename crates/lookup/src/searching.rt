@@ -4,6 +4,8 @@ ghost use mathlib.Core.Bool.{true, _||_};
 ghost use lib.Dec.{eqb};
 ghost use Prim.Native.Nat.{_+_, _≤_, _<_, _^_};
 ghost use lib.ListN.{length};
+ghost use Rattle.numbers.specs.Tables.{index2, index5};
+ghost use Rattle.numbers.specs.Sections.{sectionCodes};
 ghost use Rattle.bundle.specs.Bundle.{body};
 ghost use Rattle.bundle.specs.Encoding.{encodingGood};
 ghost use Rattle.lookup.specs.Lookup.{
@@ -38,7 +40,25 @@ use bundle::encoding::ObjectEncoding;
 use index::cells::Cell;
 use index::probing::Probed;
 use index::reading::IndexHead;
+use numbers::refusals::BAD_PACKAGE;
+use numbers::refusals::BAD_QUESTION;
+use numbers::refusals::NO_ENTRY;
+use numbers::refusals::NO_STRING_THERE;
+use numbers::refusals::OTHER_VERSION;
+use numbers::refusals::PART_OUTSIDE;
+use numbers::sections::CU_INDEX;
+use numbers::sections::STR;
+use numbers::sections::TU_INDEX;
+use numbers::tables::COMPILATION;
+use numbers::tables::INDEX_2;
+use numbers::tables::INDEX_5;
+use numbers::tables::TYPE;
 use strings::entries::StringRead;
+
+// Codes of sections as a question has them: the last that can be asked for, and str_offsets.
+const LAST_SHARED: u32 = numbers::sections::LAST_SHARED as u32;
+
+const STR_OFFSETS: u32 = numbers::sections::STR_OFFSETS as u32;
 
 // A part's start in the package, its length and the looks; absent after so many looks; or a refusal's number.
 pub enum Located {
@@ -59,12 +79,12 @@ fn index_has(i: PackageIndex, version: u32) -> bool
 }
 
 fn is_version(version: u32) -> bool
-    ensures { λ r. ⌜ r ≡ (eqb version 2 || eqb version 5) ⌝ }
+    ensures { λ r. ⌜ r ≡ (eqb version index2 || eqb version index5) ⌝ }
 {
-    if version == 2 {
+    if version == INDEX_2 {
         return true;
     }
-    version == 5
+    version == INDEX_5
 }
 
 // 22: the version is 2 or 5, and that of each index that is there.
@@ -86,16 +106,16 @@ fn has_version(head: PackageHead, version: u32) -> bool
 fn is_table(table: u32) -> bool
     ensures { λ r. ⌜ r ≡ tableGood table ⌝ }
 {
-    if table == 1 {
+    if table == COMPILATION {
         return true;
     }
-    table == 2
+    table == TYPE
 }
 
 pub fn index_for(head: PackageHead, table: u32) -> PackageIndex
     ensures { λ r. ⌜ r ≡ tableIndex head table ⌝ }
 {
-    if table == 1 {
+    if table == COMPILATION {
         let cu = head.cu;
         return cu;
     }
@@ -106,16 +126,16 @@ pub fn index_for(head: PackageHead, table: u32) -> PackageIndex
 pub fn index_code(table: u32) -> usize
     ensures { λ r. ⌜ r ≡ indexCode table ⌝ }
 {
-    if table == 1 {
-        return 12;
+    if table == COMPILATION {
+        return CU_INDEX;
     }
-    13
+    TU_INDEX
 }
 
 // ---- parts
 // The bytes of a section, none where it is missing. The caller has opened the package.
 pub fn section_bytes<'a>(package: &'a [u8], head: PackageHead, code: usize) -> &'a [u8]
-    requires { ⌜ (Opened (now «package») head) × (code < 14) ⌝ }
+    requires { ⌜ (Opened (now «package») head) × (code < sectionCodes) ⌝ }
     ensures { λ r. ⌜ now r ≡ body (now («package» .entry)) (packageIn (now («package» .entry)) .parts) code ⌝ }
 {
     let sections = head.sections;
@@ -137,10 +157,10 @@ fn place_in(
     ensures { λ r. ⌜ r ≡ locatedOf (answered (after looks (placeBy count start size offset length))) ⌝ }
 {
     if count == 0 {
-        return Located::Refused(24);
+        return Located::Refused(PART_OUTSIDE);
     }
     if size < offset + length {
-        return Located::Refused(24);
+        return Located::Refused(PART_OUTSIDE);
     }
     Located::Part(start + offset, length, looks)
 }
@@ -155,7 +175,7 @@ fn row_part(
     section: usize,
     looks: usize,
 ) -> Located
-    requires { ⌜ (Opened (now «package») head) × (section < 14) × (RowHere (head .encoding .big) (now s) «index_head» slot) ⌝ }
+    requires { ⌜ (Opened (now «package») head) × (section < sectionCodes) × (RowHere (head .encoding .big) (now s) «index_head» slot) ⌝ }
     ensures { λ r. ⌜ r ≡ locatedOf (answered (after looks (rowPlace (now («package» .entry)) (head .encoding .big) (now (s .entry)) «index_head» slot section))) ⌝ }
 {
     let encoding = head.encoding;
@@ -186,7 +206,7 @@ fn search_index(
     identity: u64,
     section: usize,
 ) -> Located
-    requires { ⌜ (Opened (now «package») head) × (Present «index_head» ≡ tableIndex head table) × (section < 14) ⌝ }
+    requires { ⌜ (Opened (now «package») head) × (Present «index_head» ≡ tableIndex head table) × (section < sectionCodes) ⌝ }
     ensures { λ r. ⌜ r ≡ locatedOf (answered (partIn (packageIn (now («package» .entry))) table identity section)) ⌝ }
 {
     let encoding = head.encoding;
@@ -206,7 +226,7 @@ fn locate_part(
     identity: u64,
     section: usize,
 ) -> Located
-    requires { ⌜ (Opened (now «package») head) × (section < 14) ⌝ }
+    requires { ⌜ (Opened (now «package») head) × (section < sectionCodes) ⌝ }
     ensures { λ r. ⌜ r ≡ locatedOf (answered (partIn (packageIn (now («package» .entry))) table identity section)) ⌝ }
 {
     match index_for(head, table) {
@@ -237,19 +257,19 @@ pub fn locate_in(
     ensures { λ r. ⌜ r ≡ locatedOf (lookedUp (now («package» .entry)) version table identity section) ⌝ }
 {
     if !head.good {
-        return Located::Refused(21);
+        return Located::Refused(BAD_PACKAGE);
     }
     if !has_version(head, version) {
-        return Located::Refused(22);
+        return Located::Refused(OTHER_VERSION);
     }
     if !is_table(table) {
-        return Located::Refused(23);
+        return Located::Refused(BAD_QUESTION);
     }
     if section < 1 {
-        return Located::Refused(23);
+        return Located::Refused(BAD_QUESTION);
     }
-    if 10 < section {
-        return Located::Refused(23);
+    if LAST_SHARED < section {
+        return Located::Refused(BAD_QUESTION);
     }
     locate_part(package, head, table, identity, octets::wide(section))
 }
@@ -267,7 +287,7 @@ fn entries_start(version: u32, width: usize) -> usize
     requires { ⌜ width < 16 ⌝ }
     ensures { λ r. ⌜ r ≡ entriesFrom version width ⌝ }
 {
-    if version == 5 {
+    if version == INDEX_5 {
         return width + width;
     }
     0
@@ -278,12 +298,12 @@ fn locate_text(package: &[u8], head: PackageHead, offset: u64, looks: usize) -> 
     requires { ⌜ Opened (now «package») head ⌝ }
     ensures { λ r. ⌜ r ≡ locatedOf (answered (after looks (textPlace (now («package» .entry)) (packageIn (now («package» .entry))) offset))) ⌝ }
 {
-    let s = section_bytes(package, head, 11);
+    let s = section_bytes(package, head, STR);
     let sections = head.sections;
-    let start = sections.start[11];
+    let start = sections.start[STR];
     match strings::entries::string_at(s, offset) {
         StringRead::At(at, length) => Located::Part(start + at, length, looks),
-        StringRead::Missing => Located::Refused(26),
+        StringRead::Missing => Located::Refused(NO_STRING_THERE),
     }
 }
 
@@ -304,11 +324,11 @@ fn locate_entry(
     let width = bundle::encoding::width(encoding);
     let first = entries_start(version, width);
     if size < first {
-        return Located::Refused(25);
+        return Located::Refused(NO_ENTRY);
     }
     let count = (size - first) / width;
     if octets::long(count) <= entry {
-        return Located::Refused(25);
+        return Located::Refused(NO_ENTRY);
     }
     let at = start + first + octets::size(entry) * width;
     let offset = octets::number_at(encoding.big, width, package, at);
@@ -320,7 +340,7 @@ pub fn locate_string(package: &[u8], version: u32, table: u32, identity: u64, en
     ensures { λ r. ⌜ r ≡ locatedOf (stringFound (now («package» .entry)) version table identity entry) ⌝ }
 {
     let head = crate::opening::open_package(package);
-    match locate_in(package, head, version, table, identity, 6) {
+    match locate_in(package, head, version, table, identity, STR_OFFSETS) {
         Located::Part(start, size, looks) => locate_entry(
             package,
             head,

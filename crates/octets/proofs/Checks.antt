@@ -50,16 +50,6 @@ unfolding _>>=_
 bind-refuse (pass a) f n e = inr (a, refl, e)
 bind-refuse (refuse k) f n e = inl (ap refuse (refuse-inj e))
 
-pub require-true : (t : Bool) (n : ℕ) (u : Unit {0}) → require t n ≡ pass u → t ≡ true
-unfolding require
-require-true true n u e = refl
-require-true false n u e = absurd (pass-refuse u n (sym e))
-
-pub require-false : (t : Bool) (n m : ℕ) → require t n ≡ refuse m → (t ≡ false) × (n ≡ m)
-unfolding require
-require-false true n m e = absurd (pass-refuse tt m e)
-require-false false n m e = (refl, refuse-inj e)
-
 -- both at once: a row that begins with a test and ends well passed the test
 pub require-pass : {B : Type 0} (t : Bool) (n : ℕ) (f : Unit {0} → Check B) (b : B) → (require t n >>= f) ≡ pass b → (t ≡ true) × (f tt ≡ pass b)
 unfolding _>>=_ require
@@ -77,11 +67,6 @@ pub bind-same : {A B : Type 0} (m : Check A) (f g : A → Check B) → ((a : A) 
 unfolding _>>=_
 bind-same (pass a) f g h = h a refl
 bind-same (refuse n) f g h = refl
-
-pub bind-assoc : {A B C : Type 0} (m : Check A) (f : A → Check B) (g : B → Check C) → (m >>= f >>= g) ≡ (m >>= (λ a. f a >>= g))
-unfolding _>>=_
-bind-assoc (pass a) f g = refl
-bind-assoc (refuse n) f g = refl
 
 -- ---- renumbered
 pub renumbered-pass : {A : Type 0} (n : ℕ) (m : Check A) (a : A) → m ≡ pass a → renumbered n m ≡ pass a
@@ -151,3 +136,8 @@ or-fails-right false b e = e
 pub known : (t : Bool) → (t ≡ true) ⊎ (t ≡ false)
 known true = inl refl
 known false = inr refl
+
+pub both-ways : (a b : Bool) → (a ≡ true → b ≡ true) → (b ≡ true → a ≡ true) → a ≡ b
+both-ways true b f g = sym (f refl)
+both-ways false true f g = g refl
+both-ways false false f g = refl

@@ -13,7 +13,7 @@ use lib.ListN.{length, drop, getD, drop-of-length-le}
 use lib.Seq.{drop-cons}
 use borrow.Author.Tests.{eqb-true, eqb-false, eq-eqb, ne-eqb}
 use Rattle.octets.specs.Octets.{zeros}
-use Rattle.octets.specs.Lists.{all, any, has, distinct, same}
+use Rattle.octets.specs.Lists.{all, any, has, distinct}
 use Rattle.octets.proofs.Checks.{true-false, known, or-right, or-neither}
 use Rattle.octets.proofs.Lists.{all-cons, all-stops, all-head, all-tail, any-cons, any-stops, any-more, any-none-head, any-none-tail, any-append}
 
@@ -66,19 +66,6 @@ all-end f xs i h = rw (drop-of-length-le xs h)
 pub any-end : {A : Type 0} (f : A → Bool) (xs : List A) (i : ℕ) → length xs ≤ i → any f (drop i xs) ≡ false
 unfolding any
 any-end f xs i h = rw (drop-of-length-le xs h)
-
--- a test that always agrees gives the same
-pub all-same : {A : Type 0} (f g : A → Bool) (xs : List A) → ((x : A) → f x ≡ g x) → all f xs ≡ all g xs
-unfolding all
-all-same f g [] h = refl
-all-same f g (x ∷ xs) h =
-    ⊎-elim (λ p. all-cons f x xs p ∙ all-same f g xs h ∙ sym (all-cons g x xs (sym (h x) ∙ p))) (λ p. all-stops f x xs p ∙ sym (all-stops g x xs (sym (h x) ∙ p))) (known (f x))
-
--- bytes that are all zero are zeros
-pub all-zero : (s : List ℕ) → all (eqb 0) s ≡ true → s ≡ zeros (length s)
-unfolding zeros
-all-zero [] e = refl
-all-zero (b ∷ s) e = rw (← eqb-true 0 b (all-head (eqb 0) b s e)) (ap (λ (z : List ℕ). 0 ∷ z) (all-zero s (all-tail (eqb 0) b s e)))
 
 pub zeros-all : (n : ℕ) → all (eqb 0) (zeros n) ≡ true
 unfolding zeros all
@@ -156,3 +143,8 @@ distinct-repeats (n ∷ ns) ms x e = ⊎-elim
   where
     differs : has (ns ++ (x ∷ ms)) n ≡ false → x ≡ n → ⊥
     differs p q = true-false (has-append ns (x ∷ ms) n ∙ or-right (has ns n) (has (x ∷ ms) n) (has-cons n x ms (sym q))) p
+
+-- ---- no element
+pub no-length : (s : List ℕ) → length s ≡ 0 → s ≡ []
+no-length [] e = refl
+no-length (b ∷ s) e = absurd (omega arith)

@@ -2,6 +2,7 @@
 -- Assumes nothing.
 pub mod Checks
 pub mod Refusals
+pub mod Options
 pub mod Parts
 pub mod Numbers
 pub mod Tables

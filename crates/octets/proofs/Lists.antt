@@ -4,12 +4,12 @@ use mathlib.Core.Path.{_≡_, refl, sym, ap, _∙_}
 use mathlib.Core.Logic.{_⊎_, inl, inr, ⊎-elim}
 use mathlib.Core.Bool.{Bool, true, false, _&&_, _||_}
 use mathlib.Core.List.{List, [], _∷_, _++_}
-use Prim.Native.Nat.{ℕ, _+_, _≤_}
+use Prim.Native.Nat.{ℕ, _≤_}
 use native.Mathlib.Omega.{arith}
 use lib.Dec.{eqb}
 use lib.ListN.{length}
 use borrow.Author.Tests.{eqb-true, eq-eqb}
-use Rattle.octets.specs.Lists.{joined, those, all, any, same}
+use Rattle.octets.specs.Lists.{those, all, any, same}
 use Rattle.octets.proofs.Checks.{true-false, known}
 
 -- ---- same
@@ -124,21 +124,3 @@ module _ {A : Type 0} (f : A → Bool) where
   length-those [] = omega arith
   length-those (x ∷ xs) =
       ⊎-elim (λ p. rw (those-keeps x xs p) (omega (arith, length-those xs))) (λ p. rw (those-skips x xs p) (omega (arith, length-those xs))) (known (f x))
-
-  -- each of those passes the test
-  pub all-those : (xs : List A) → all f (those f xs) ≡ true
-  unfolding those all
-  all-those [] = refl
-  all-those (x ∷ xs) =
-      ⊎-elim (λ p. ap (all f) (those-keeps x xs p) ∙ all-cons x (those f xs) p ∙ all-those xs) (λ p. ap (all f) (those-skips x xs p) ∙ all-those xs) (known (f x))
-
-  -- where all pass the test, those are all; where none does, there are none
-  pub those-all : (xs : List A) → all f xs ≡ true → those f xs ≡ xs
-  unfolding those
-  those-all [] e = refl
-  those-all (x ∷ xs) e = those-keeps x xs (all-head x xs e) ∙ ap (λ (z : List A). x ∷ z) (those-all xs (all-tail x xs e))
-
-  pub those-none : (xs : List A) → any f xs ≡ false → those f xs ≡ []
-  unfolding those
-  those-none [] e = refl
-  those-none (x ∷ xs) e = those-skips x xs (any-none-head x xs e) ∙ those-none xs (any-none-tail x xs e)

@@ -10,7 +10,7 @@ use native.Mathlib.Numerals.{add-one}
 use lib.Dec.{lit<}
 use lib.ListN.{length, getD, take, drop, length-append, drop-of-length-le}
 use lib.Seq.{take-suc, take-all, length-take-le, drop-cons, getD-drop}
-use Rattle.octets.specs.Octets.{part, little, bigFrom, number, numberAt, littleOf, bigOf, bytesOf, zeros}
+use Rattle.octets.specs.Octets.{part, little, bigFrom, number, numberAt, littleOf, bigOf, bytesOf}
 use Rattle.octets.proofs.Parts.{length-part, part-part, part-drop, part-append-front, part-append-behind, part-middle, length-part-le}
 
 -- ---- bytes are below 256
@@ -19,10 +19,6 @@ Bytes s = (i : ℕ) → getD s i 0 < 256
 
 pub bytes-none : Bytes []
 bytes-none i = omega arith
-
-pub bytes-cons : (b : ℕ) (s : List ℕ) → b < 256 → Bytes s → Bytes (b ∷ s)
-bytes-cons b s h g zero = h
-bytes-cons b s h g (suc i) = g i
 
 pub bytes-tail : (b : ℕ) (s : List ℕ) → Bytes (b ∷ s) → Bytes s
 bytes-tail b s h i = h (suc i)
@@ -40,40 +36,10 @@ pub bytes-part : (s : List ℕ) (a n : ℕ) → Bytes s → Bytes (part s a n)
 unfolding part
 bytes-part s a n h = bytes-take n (drop a s) (bytes-drop a s h)
 
-pub bytes-append : (s t : List ℕ) → Bytes s → Bytes t → Bytes (s ++ t)
-bytes-append [] t h g i = g i
-bytes-append (b ∷ s) t h g zero = h 0
-bytes-append (b ∷ s) t h g (suc i) = bytes-append s t (bytes-tail b s h) g i
-
 pub bytes-left : (s t : List ℕ) → Bytes (s ++ t) → Bytes s
 bytes-left [] t h i = omega arith
 bytes-left (b ∷ s) t h zero = h 0
 bytes-left (b ∷ s) t h (suc i) = bytes-left s t (bytes-tail b (s ++ t) h) i
-
-pub bytes-right : (s t : List ℕ) → Bytes (s ++ t) → Bytes t
-bytes-right [] t h i = h i
-bytes-right (b ∷ s) t h i = bytes-right s t (bytes-tail b (s ++ t) h) i
-
-pub bytes-zeros : (n : ℕ) → Bytes (zeros n)
-unfolding zeros
-bytes-zeros zero i = omega arith
-bytes-zeros (suc n) zero = omega arith
-bytes-zeros (suc n) (suc i) = bytes-zeros n i
-
-pub bytes-littleOf : (w n : ℕ) → Bytes (littleOf w n)
-unfolding littleOf
-bytes-littleOf zero n = bytes-none
-bytes-littleOf (suc w) n = bytes-cons (n % 256) (littleOf w (n / 256)) (omega arith) (bytes-littleOf w (n / 256))
-
-pub bytes-bigOf : (w n : ℕ) → Bytes (bigOf w n)
-unfolding bigOf
-bytes-bigOf zero n = bytes-none
-bytes-bigOf (suc w) n = bytes-append (bigOf w (n / 256)) (n % 256 ∷ []) (bytes-bigOf w (n / 256)) (bytes-cons (n % 256) [] (omega arith) bytes-none)
-
-pub bytes-bytesOf : (big : Bool) (w n : ℕ) → Bytes (bytesOf big w n)
-unfolding bytesOf
-bytes-bytesOf true w n = bytes-bigOf w n
-bytes-bytesOf false w n = bytes-littleOf w n
 
 -- ---- bounds
 pub bigFrom-ge : (n : ℕ) (bs : List ℕ) → n ≤ bigFrom n bs
@@ -125,16 +91,6 @@ big-end n s i h = rw (drop-of-length-le s h)
 pub little-turn : (s : List ℕ) (i : ℕ) → i < length s → little (drop i s) ≡ little (drop (i + 1) s) * 256 + getD s i 0
 unfolding little
 little-turn s i h = rw (add-one, drop-cons s i 0) (omega arith)
-
--- ---- one byte is itself
-pub number-byte : (big : Bool) (b : ℕ) → number big (b ∷ []) ≡ b
-unfolding number bigFrom little
-number-byte true b = omega arith
-number-byte false b = omega arith
-
-pub numberAt-byte : (big : Bool) (s : List ℕ) (at : ℕ) → at < length s → numberAt big 1 s at ≡ getD s at 0
-unfolding numberAt part
-numberAt-byte big s at h = rw (drop-cons s at 0 h) (number-byte big (getD s at 0))
 
 -- ---- the same number in a part of the list, and in a longer list
 pub numberAt-part : (big : Bool) (w : ℕ) (s : List ℕ) (a n at : ℕ) → at + w ≤ n → numberAt big w (part s a n) at ≡ numberAt big w s (a + at)

@@ -1,13 +1,12 @@
 -- Laws of parts of a list.
 -- Assumes nothing.
-use mathlib.Core.Path.{_≡_, refl, sym, ap, _∙_}
+use mathlib.Core.Path.{_≡_, refl, sym}
 use mathlib.Core.List.{List, [], _∷_, _++_}
 use Prim.Native.Nat.{ℕ, zero, suc, _+_, _-_, _<_, _≤_}
 use native.Mathlib.Nat.{sub-zero, zero-sub, suc-sub-suc}
 use native.Mathlib.Omega.{arith}
-use native.Mathlib.Numerals.{add-one}
-use lib.ListN.{length, take, drop, getD, length-take, length-drop, drop-of-length-le, take-append-drop}
-use lib.Seq.{take-all, take-nil, take-length, take-take, drop-drop, drop-nil, take-at, drop-at, take-append-le, drop-append-le, drop-append-add, getD-take, getD-drop, length-take-le, take-add, drop-cons}
+use lib.ListN.{length, take, drop, getD, length-take, length-drop, take-append-drop}
+use lib.Seq.{take-all, take-nil, take-length, take-take, drop-drop, take-at, drop-at, take-append-le, drop-append-le, drop-append-add, getD-take, getD-drop, length-take-le, take-add}
 use Rattle.octets.specs.Octets.{part}
 
 pub drop-take : (b n : ℕ) (s : List ℕ) → drop b (take n s) ≡ take (n - b) (drop b s)
@@ -41,22 +40,9 @@ pub part-front : (s : List ℕ) (n : ℕ) → part s 0 n ≡ take n s
 unfolding part
 part-front s n = refl
 
-pub part-rest : (s : List ℕ) (a n : ℕ) → length s ≤ a + n → part s a n ≡ drop a s
-unfolding part
-part-rest s a n h = take-all n (drop a s) (simp length-drop (omega arith))
-
 pub part-none : (s : List ℕ) (a : ℕ) → part s a 0 ≡ []
 unfolding part
 part-none s a = refl
-
-pub part-nil : (a n : ℕ) → part [] a n ≡ []
-unfolding part
-part-nil a n = rw (drop-nil a, take-nil n)
-
--- behind the end there is nothing
-pub part-past : (s : List ℕ) (a n : ℕ) → length s ≤ a → part s a n ≡ []
-unfolding part
-part-past s a n h = rw (drop-of-length-le s h, take-nil n)
 
 -- ---- parts of parts
 pub part-part : (s : List ℕ) (a n b m : ℕ) → b + m ≤ n → part (part s a n) b m ≡ part s (a + b) m
@@ -83,21 +69,6 @@ pub part-append-behind : (p q : List ℕ) (a n : ℕ) → part (p ++ q) (length 
 unfolding part
 part-append-behind p q a n = rw (drop-append-add p q a)
 
--- the same where the place is known to be behind, but not by how much
-pub part-append-past : (p q : List ℕ) (a n : ℕ) → length p ≤ a → part (p ++ q) a n ≡ part q (a - length p) n
-part-append-past p q a n h =
-    let e : a ≡ length p + (a - length p) = omega arith in
-    ap (λ (k : ℕ). part (p ++ q) k n) e ∙ part-append-behind p q (a - length p) n
-
--- the first list, the second one, and a list in the middle
-pub part-first : (p q : List ℕ) (n : ℕ) → length p ≡ n → part (p ++ q) 0 n ≡ p
-unfolding part
-part-first p q n e = take-at p q n e
-
-pub part-second : (p q : List ℕ) (a n : ℕ) → length p ≡ a → length q ≡ n → part (p ++ q) a n ≡ q
-unfolding part
-part-second p q a n e g = rw (drop-at p q a e) (take-all n q (omega arith))
-
 pub part-middle : (p x q : List ℕ) (a n : ℕ) → length p ≡ a → length x ≡ n → part (p ++ (x ++ q)) a n ≡ x
 unfolding part
 part-middle p x q a n e g = rw (drop-at p (x ++ q) a e) (take-at x q n g)
@@ -107,23 +78,10 @@ pub part-add : (s : List ℕ) (a n m : ℕ) → part s a (n + m) ≡ part s a n 
 unfolding part
 part-add s a n m = rw (take-add n m (drop a s), drop-drop n a s)
 
-pub part-cons : (s : List ℕ) (a n : ℕ) → a < length s → part s a (suc n) ≡ getD s a 0 ∷ part s (a + 1) n
-unfolding part
-part-cons s a n h = rw (drop-cons s a 0 h, add-one)
-
-pub part-snoc : (s : List ℕ) (a n : ℕ) → a + n < length s → part s a (n + 1) ≡ part s a n ++ (getD s (a + n) 0 ∷ [])
-part-snoc s a n h =
-    let e : part s (a + n) 1 ≡ getD s (a + n) 0 ∷ [] = part-cons s (a + n) 0 h ∙ ap (λ (z : List ℕ). getD s (a + n) 0 ∷ z) (part-none s (a + n + 1)) in
-    part-add s a n 1 ∙ ap (λ (z : List ℕ). part s a n ++ z) e
-
 -- what a part begins, goes on behind it
 pub drop-part : (s : List ℕ) (a n : ℕ) → drop a s ≡ part s a n ++ drop (a + n) s
 unfolding part
 drop-part s a n = rw (← drop-drop n a s) (sym (take-append-drop n (drop a s)))
-
--- before, part, behind
-pub split-part : (s : List ℕ) (a n : ℕ) → s ≡ take a s ++ (part s a n ++ drop (a + n) s)
-split-part s a n = sym (take-append-drop a s) ∙ ap (λ (z : List ℕ). take a s ++ z) (drop-part s a n)
 
 -- as the code cuts it: &s[a..e]
 pub part-cut : (s : List ℕ) (a n : ℕ) → take (a + n - a) (drop a s) ≡ part s a n

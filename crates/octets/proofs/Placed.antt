@@ -10,7 +10,7 @@ use lib.ListN.{length, take, drop, set, getD, length-append, length-take, length
 use lib.Seq.{drop-length, append-snoc, take-suc-set, drop-set-lt, take-set-le, set-split, sets-eq, take-take, take-append-le, drop-drop, take-at, drop-at, drop-append-add, length-take-le}
 use borrow.Author.Fill.{fill-none, fill-more}
 use Rattle.octets.specs.Octets.{placed, padded, zeros, littleOf, bigOf}
-use Rattle.octets.proofs.Numbers.{Bytes, bytes-take, bytes-drop, bytes-append, bytes-zeros, length-bigOf}
+use Rattle.octets.proofs.Numbers.{length-bigOf}
 
 -- ---- zeros
 pub length-zeros : (n : ℕ) → length (zeros n) ≡ n
@@ -59,10 +59,6 @@ clear-end i d e = rw (e, drop-length d) (append-nil (zeros (length d)))
 pub length-placed : (d : List ℕ) (at : ℕ) (x : List ℕ) → at + length x ≤ length d → length (placed d at x) ≡ length d
 unfolding placed
 length-placed d at x h = simp (length-append, length-take, length-drop) (omega arith)
-
-pub bytes-placed : (d : List ℕ) (at : ℕ) (x : List ℕ) → Bytes d → Bytes x → Bytes (placed d at x)
-unfolding placed
-bytes-placed d at x h g = bytes-append (take at d ++ x) (drop (at + length x) d) (bytes-append (take at d) x (bytes-take at d h) g) (bytes-drop (at + length x) d h)
 
 -- ---- one store
 pub placed-byte : (d : List ℕ) (at b : ℕ) → at < length d → set d at b ≡ placed d at (b ∷ [])
@@ -114,13 +110,6 @@ placed-placed d at x y h =
     let n : at + length (x ++ y) ≡ at + length x + length y = rw length-append (omega arith) in
     rw (take-at a (drop (at + length x) d) (at + length x) la, e, drop-append-add a (drop (at + length x) d) (length y), drop-drop (length y) (at + length x) d, n, append-assoc (take at d) x y)
 
-pub placed-over : (d : List ℕ) (at : ℕ) (x y : List ℕ) → at + length x ≤ length d → length y ≡ length x → placed (placed d at x) at y ≡ placed d at y
-unfolding placed
-placed-over d at x y h e =
-    let lt : length (take at d) ≡ at = length-take-le at d (omega arith) in
-    let la : length (take at d ++ x) ≡ at + length y = length-append (take at d) x ∙ omega arith in
-    rw (drop-at (take at d ++ x) (drop (at + length x) d) (at + length y) la, append-assoc (take at d) x (drop (at + length x) d), take-at (take at d) (x ++ drop (at + length x) d) at lt, e)
-
 -- ---- before and behind what was placed
 pub take-placed : (d : List ℕ) (at : ℕ) (x : List ℕ) (n : ℕ) → n ≤ at → at ≤ length d → take n (placed d at x) ≡ take n d
 unfolding placed
@@ -136,12 +125,6 @@ drop-placed d at x n h g =
     let e : at + length x + (n - (at + length x)) ≡ n = omega arith in
     ap (λ (m : ℕ). drop m (take at d ++ x ++ drop (at + length x) d)) k ∙ drop-append-add (take at d ++ x) (drop (at + length x) d) (n - (at + length x))
     ∙ drop-drop (n - (at + length x)) (at + length x) d ∙ ap (λ (m : ℕ). drop m d) e
-
--- what was written up to and with x, and x with what lies behind it
-pub take-placed-end : (d : List ℕ) (at : ℕ) (x : List ℕ) → at ≤ length d → take (at + length x) (placed d at x) ≡ take at d ++ x
-unfolding placed
-take-placed-end d at x g =
-    take-at (take at d ++ x) (drop (at + length x) d) (at + length x) (length-append (take at d) x ∙ ap (λ (k : ℕ). k + length x) (length-take-le at d g))
 
 pub drop-placed-at : (d : List ℕ) (at : ℕ) (x : List ℕ) → at ≤ length d → drop at (placed d at x) ≡ x ++ drop (at + length x) d
 unfolding placed
@@ -176,14 +159,6 @@ padded-step d p x at n e g = rw (e, g) (padded-more p x n)
 pub padded-zeros : (p : List ℕ) (k n : ℕ) → padded (p ++ zeros k) n ≡ padded p (k + n)
 unfolding padded
 padded-zeros p k n = append-assoc p (zeros k) (zeros n) ∙ ap (λ (z : List ℕ). p ++ z) (zeros-add k n)
-
-pub take-padded : (p : List ℕ) (n : ℕ) → take (length p) (padded p n) ≡ p
-unfolding padded
-take-padded p n = take-at p (zeros n) (length p) refl
-
-pub bytes-padded : (p : List ℕ) (n : ℕ) → Bytes p → Bytes (padded p n)
-unfolding padded
-bytes-padded p n h = bytes-append p (zeros n) h (bytes-zeros n)
 
 -- ---- a loop that stores a number byte by byte
 pub little-store : (d : List ℕ) (i w m : ℕ) → 0 < w → i < length d

@@ -7,10 +7,10 @@ use Prim.Native.Nat.{ℕ, suc, _+_, _*_, _-_, _<_, _≤_}
 use native.Mathlib.Nat.{add-assoc, mul-suc, mul-le-mul-left}
 use native.Mathlib.Omega.{arith}
 use native.Mathlib.Numerals.{add-one}
-use lib.ListN.{length, take, drop, getD, length-append, length-drop, drop-of-length-le, take-append-drop}
-use lib.Seq.{take-all, take-length, take-take, take-add, drop-append-le, drop-drop, drop-cons, take-at, drop-at, length-take-le, getD-take, getD-drop}
+use lib.ListN.{length, take, drop, getD, length-drop, drop-of-length-le, take-append-drop}
+use lib.Seq.{take-all, take-length, take-take, take-add, drop-append-le, drop-drop, drop-cons, take-at, length-take-le, getD-take, getD-drop}
 use borrow.Rule.Slice.PartMut.{putMid, midOf}
-use Rattle.octets.specs.Octets.{placed, bytesOf, numbersOf, numberAt, number, part}
+use Rattle.octets.specs.Octets.{placed, bytesOf, numbersOf, part}
 use Rattle.octets.proofs.Parts.{part-append-front, getD-part}
 use Rattle.octets.proofs.Numbers.{length-bytesOf}
 use Rattle.octets.proofs.Placed.{placed-placed, take-placed, drop-placed, drop-placed-at}
@@ -62,19 +62,6 @@ pub part-placed : (w : List ℕ) (at : ℕ) (x : List ℕ) → at ≤ length w �
 unfolding part
 part-placed w at x h = rw (drop-placed-at w at x h) (take-at x (drop (at + length x) w) (length x) refl)
 
--- placed at a part's end, x makes the part longer
-pub part-more : (w : List ℕ) (base n : ℕ) (x : List ℕ) → base + n + length x ≤ length w → part (placed w (base + n) x) base (n + length x) ≡ part w base n ++ x
-unfolding placed part
-part-more w base n x h =
-    let m = take n (drop base w) in
-    let lm : length m ≡ n = length-take-le n (drop base w) (simp length-drop (omega arith)) in
-    let lb : length (take base w) ≡ base = length-take-le base w (omega arith) in
-    let all : length (m ++ x) ≤ n + length x = simp length-append (omega arith) in
-    let fits : base + (n + length x) ≤ length (take base w ++ (m ++ x)) = simp length-append (omega arith) in
-    rw (take-add base n w, append-assoc (take base w) m x)
-    (part-append-front (take base w ++ (m ++ x)) (drop (base + n + length x) w) base (n + length x) fits
-    ∙ rw (drop-at (take base w) (m ++ x) base lb, take-all (n + length x) (m ++ x) all))
-
 -- ---- elements of what was placed
 pub getD-placed : (w : List ℕ) (at : ℕ) (x : List ℕ) (i : ℕ) → i < length x → at ≤ length w → getD (placed w at x) (at + i) 0 ≡ getD x i 0
 getD-placed w at x i h g =
@@ -91,11 +78,6 @@ getD-behind w at x i h g =
     ∙ getD-drop i w 0 0 ∙ ap (λ (k : ℕ). getD w k 0) e
 
 -- ---- numbers placed
-pub numberAt-placed : (big : Bool) (w n : ℕ) (d : List ℕ) (at : ℕ) → at ≤ length d → numberAt big w (placed d at (bytesOf big w n)) at ≡ number big (bytesOf big w n)
-unfolding numberAt
-numberAt-placed big w n d at h =
-    ap (λ (k : ℕ). number big (part (placed d at (bytesOf big w n)) at k)) (sym (length-bytesOf big w n)) ∙ ap (number big) (part-placed d at (bytesOf big w n) h)
-
 -- a turn of a loop that writes the entries of a table
 pub numbers-turn : (big : Bool) (w : ℕ) (ns d : List ℕ) (at i : ℕ) → i < length ns → at + w * i + w ≤ length d
     → placed (placed d (at + w * i) (bytesOf big w (getD ns i 0))) (at + w * (i + 1)) (numbersOf big w (drop (i + 1) ns))

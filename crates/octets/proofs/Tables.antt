@@ -3,13 +3,13 @@
 use mathlib.Core.Path.{_≡_, refl, sym, ap, _∙_}
 use mathlib.Core.Bool.{Bool}
 use mathlib.Core.List.{List, [], _∷_, _++_, append-assoc, append-nil}
-use Prim.Native.Nat.{ℕ, zero, suc, _+_, _*_, _^_, _<_, _≤_}
-use native.Mathlib.Nat.{not-suc-le-zero, le-of-suc-le-suc, mul-suc, mul-zero, add-zero, zero-add}
+use Prim.Native.Nat.{ℕ, zero, suc, _+_, _*_, _^_, _<_}
+use native.Mathlib.Nat.{not-suc-le-zero, le-of-suc-le-suc, mul-suc, mul-zero, add-zero}
 use native.Mathlib.Omega.{arith}
-use lib.ListN.{length, getD, take, drop, length-append, length-drop}
-use lib.Seq.{drop-drop, drop-at, drop-append-le}
+use lib.ListN.{length, getD, drop, length-append}
+use lib.Seq.{drop-at}
 use Rattle.octets.specs.Octets.{numberAt, numbersIn, bytesOf, numbersOf}
-use Rattle.octets.proofs.Numbers.{Bytes, bytes-none, bytes-append, bytes-bytesOf, numberAt-lt, numberAt-drop, numberAt-front, numberAt-first, numberAt-round, length-bytesOf}
+use Rattle.octets.proofs.Numbers.{Bytes, numberAt-lt, numberAt-drop, numberAt-first, numberAt-round, length-bytesOf}
 
 -- ---- numbers read
 pub length-numbersIn : (big : Bool) (w n : ℕ) (s : List ℕ) → length (numbersIn big w n s) ≡ n
@@ -28,41 +28,11 @@ numbersIn-at big w (suc n) s (suc i) h =
 pub numbersIn-lt : (big : Bool) (w n : ℕ) (s : List ℕ) (i : ℕ) → Bytes s → i < n → getD (numbersIn big w n s) i 0 < 256 ^ w
 numbersIn-lt big w n s i b h = rw (numbersIn-at big w n s i h) (numberAt-lt big w s (w * i) b)
 
--- m numbers and n more
-pub numbersIn-add : (big : Bool) (w m n : ℕ) (s : List ℕ) → numbersIn big w (m + n) s ≡ numbersIn big w m s ++ numbersIn big w n (drop (w * m) s)
-unfolding numbersIn
-numbersIn-add big w zero n s = rw (zero-add, mul-zero)
-numbersIn-add big w (suc m) n s =
-    let e : suc m + n ≡ suc (m + n) = omega arith in
-    let p : w + w * m ≡ w * suc m = omega (arith, mul-suc w m) in
-    let d : drop (w * suc m) s ≡ drop (w * m) (drop w s) = sym (drop-drop (w * m) w s ∙ ap (λ (k : ℕ). drop k s) p) in
-    rw (e, d) (ap (λ (z : List ℕ). numberAt big w s 0 ∷ z) (numbersIn-add big w m n (drop w s)))
-
--- one more number behind
-pub numbersIn-snoc : (big : Bool) (w n : ℕ) (s : List ℕ) → numbersIn big w (n + 1) s ≡ numbersIn big w n s ++ (numberAt big w s (w * n) ∷ [])
-unfolding numbersIn
-numbersIn-snoc big w n s =
-    numbersIn-add big w n 1 s ∙ ap (λ (k : ℕ). numbersIn big w n s ++ (k ∷ [])) (numberAt-drop big w s (w * n) 0 ∙ ap (numberAt big w s) (add-zero (w * n)))
-
--- only the bytes that they take count
-pub numbersIn-front : (big : Bool) (w n : ℕ) (p q : List ℕ) → w * n ≤ length p → numbersIn big w n (p ++ q) ≡ numbersIn big w n p
-unfolding numbersIn
-numbersIn-front big w zero p q h = refl
-numbersIn-front big w (suc n) p q h =
-    let l : w ≤ length p = omega (arith, mul-suc w n) in
-    let g : w * n ≤ length (drop w p) = simp length-drop (omega (arith, mul-suc w n)) in
-    rw (numberAt-front big w p q 0 (omega arith), drop-append-le w p q l) (ap (λ (z : List ℕ). numberAt big w p 0 ∷ z) (numbersIn-front big w n (drop w p) q g))
-
 -- ---- numbers written
 pub length-numbersOf : (big : Bool) (w : ℕ) (ns : List ℕ) → length (numbersOf big w ns) ≡ w * length ns
 unfolding numbersOf
 length-numbersOf big w [] = sym (mul-zero w)
 length-numbersOf big w (n ∷ ns) = length-append (bytesOf big w n) (numbersOf big w ns) ∙ omega (arith, length-bytesOf big w n, length-numbersOf big w ns, mul-suc w (length ns))
-
-pub bytes-numbersOf : (big : Bool) (w : ℕ) (ns : List ℕ) → Bytes (numbersOf big w ns)
-unfolding numbersOf
-bytes-numbersOf big w [] = bytes-none
-bytes-numbersOf big w (n ∷ ns) = bytes-append (bytesOf big w n) (numbersOf big w ns) (bytes-bytesOf big w n) (bytes-numbersOf big w ns)
 
 pub numbersOf-append : (big : Bool) (w : ℕ) (ms ns : List ℕ) → numbersOf big w (ms ++ ns) ≡ numbersOf big w ms ++ numbersOf big w ns
 unfolding numbersOf

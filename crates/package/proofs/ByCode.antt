@@ -10,10 +10,10 @@ use native.Mathlib.Omega.{arith}
 use lib.Dec.{eqb, leb}
 use lib.ListN.{length}
 use borrow.Author.Tests.{eqb-true, leb-false}
-use Rattle.octets.specs.Lists.{those, all, any, has, distinct}
+use Rattle.octets.specs.Lists.{those, any, has, distinct}
 use Rattle.octets.proofs.Checks.{known, true-false}
 use Rattle.octets.proofs.Lists.{those-keeps, those-skips, any-stops, any-cons, any-cases}
-use Rattle.octets.proofs.Elements.{has-cons, has-skips, distinct-cons, distinct-head, distinct-tail}
+use Rattle.octets.proofs.Elements.{has-cons, has-skips, distinct-cons, distinct-head, distinct-tail, no-length}
 use Rattle.bundle.specs.Written.{Section}
 use Rattle.bundle.proofs.Every.{Every, nothing, also}
 use Rattle.bundle.proofs.WrittenParts.{isOf, code-is, bytesIn, bytes-here, bytes-later, bytes-none, codesOf, any-code}
@@ -47,13 +47,9 @@ module _ (g : Section → Bool) where
       (λ (t : g s ≡ false). ap (λ (l : List Section). distinct (codesOf l)) (those-skips g s ss t) ∙ rest)
       (known (g s))
 
-no-bytes : (s : List ℕ) → length s ≡ 0 → s ≡ []
-no-bytes [] e = refl
-no-bytes (b ∷ s) e = absurd (omega arith)
-
 empty-bytes : (s : Section) → nonEmpty s ≡ false → s .bytes ≡ []
 unfolding nonEmpty
-empty-bytes s e = no-bytes (s .bytes) (omega (arith, leb-false 1 (length (s .bytes)) e))
+empty-bytes s e = no-length (s .bytes) (omega (arith, leb-false 1 (length (s .bytes)) e))
 
 -- what is left out is empty: the bytes by code stay, and a code is there where its bytes are some
 pub record Left (ss : List Section) (c : ℕ) : Type 0 where

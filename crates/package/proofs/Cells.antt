@@ -21,7 +21,8 @@ use Rattle.index.specs.Index.{Contribution}
 use Rattle.index.specs.Rows.{BySection, shared}
 use Rattle.index.specs.Written.{Row}
 use Rattle.index.proofs.LawColumns.{formOf, forms}
-use Rattle.package.specs.Input.{Input, wrongEdition}
+use Rattle.octets.proofs.Options.{some-inj, some-none}
+use Rattle.package.specs.Input.{Input, wrongCodes}
 use Rattle.package.specs.Filing.{Filed, Filing, lengths, kept}
 use Rattle.package.specs.Pack.{cells, rowsOf, unitBytes, sharedBytes, stringTable, sectionList}
 use Rattle.package.proofs.Each.{each-head, each-tail, each-middle, each-so}
@@ -37,7 +38,7 @@ use Rattle.package.proofs.ByCode.{info-bytes, types-bytes, shared-bytes
 abbrev HasColumn : Encoding → ℕ → Type 0
 HasColumn e c = (column : ℕ) × (columnIn (columnsOf (e .version)) c ≡ some column)
 
-edition-columns : (e : Encoding) → Every (λ c. (has (wrongEdition e) c ≡ true) ⊎ HasColumn e c) (3 ∷ 4 ∷ 5 ∷ 6 ∷ 7 ∷ 8 ∷ 9 ∷ 10 ∷ [])
+edition-columns : (e : Encoding) → Every (λ c. (has (wrongCodes e) c ≡ true) ⊎ HasColumn e c) (3 ∷ 4 ∷ 5 ∷ 6 ∷ 7 ∷ 8 ∷ 9 ∷ 10 ∷ [])
 unfolding columnIn columnsFour columnsFive has any
 edition-columns e = ⊎-elim
     (λ (r : (eqb (e .version) 5 ≡ true) × (formOf (e .version) ≡ 5) × (columnsOf (e .version) ≡ columnsFive)).
@@ -70,9 +71,9 @@ among {P} c (d ∷ cs) e h = ⊎-elim (λ (t : eqb c d ≡ true). subst P (sym (
 pub shared-column : (e : Encoding) (i : Input) (c : ℕ) → InputFacts e i → has shared c ≡ true → (length (i .bytes c) ≡ 0 → ⊥) → HasColumn e c
 unfolding shared
 shared-column e i c f h n = ⊎-elim
-    (λ (w : has (wrongEdition e) c ≡ true). absurd (n (ap length (f .edition c w))))
+    (λ (w : has (wrongCodes e) c ≡ true). absurd (n (ap length (f .edition c w))))
     (λ r. r)
-    (among {P = λ d. (has (wrongEdition e) d ≡ true) ⊎ HasColumn e d} c (3 ∷ 4 ∷ 5 ∷ 6 ∷ 7 ∷ 8 ∷ 9 ∷ 10 ∷ []) (edition-columns e) h)
+    (among {P = λ d. (has (wrongCodes e) d ≡ true) ⊎ HasColumn e d} c (3 ∷ 4 ∷ 5 ∷ 6 ∷ 7 ∷ 8 ∷ 9 ∷ 10 ∷ []) (edition-columns e) h)
 
 pub home-column : (e : Encoding) (home : ℕ) → (home ≡ 1) ⊎ (home ≡ 2) → (home ≡ 2 → e .version ≡ 5 → ⊥) → HasColumn e home
 unfolding columnIn columnsFour columnsFive
@@ -98,12 +99,6 @@ cell-some u at c k h q = rw (cells, ne-eqb c (u .home) h, q)
 pub cell-none : (u : Filed) (at c : ℕ) → (c ≡ u .home → ⊥) → u .contributions c ≡ none → cells u at c ≡ none
 unfolding cells
 cell-none u at c h q = rw (cells, ne-eqb c (u .home) h, q)
-
-some-inj : {A : Type 0} {a b : A} → some a ≡ some b → a ≡ b
-some-inj e = cc
-
-some-none : {A : Type 0} {a : A} {P : Type 0} → some a ≡ none → P
-some-none e = let z : _≡_ {A = ℕ} 0 1 = cc in absurd (omega arith)
 
 -- a cell names a part of a section that is there, for which there is a column
 pub record CellFacts (e : Encoding) (section : BySection (List ℕ)) (c : ℕ) (k : Contribution) : Type 0 where

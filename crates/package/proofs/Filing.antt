@@ -30,6 +30,7 @@ use Rattle.index.specs.Tiles.{named}
 use Rattle.index.proofs.Contributions.{Contributed, whole-contributed, row-contributed, row-cells}
 use Rattle.index.proofs.OneRow.{row-listed}
 use Rattle.index.proofs.Tiles.{isOne, one-left, one-right, named-one}
+use Rattle.octets.proofs.Options.{some-none}
 use Rattle.package.specs.Pieces.{Piece}
 use Rattle.package.specs.Input.{Input, inputOf}
 use Rattle.package.specs.Filing.{Filed, Filing, isUnder, indexFor, lengths, isPackage, contributionsOf, skipped, unitAt, unitsFrom, unitsIn, grown, filingFrom}
@@ -44,9 +45,6 @@ use Rattle.package.proofs.Units.{readingOf, unit-taken, read-at}
 -- each lies in its section, and one to str_offsets in a piece of it
 abbrev pub Contributes : Encoding → Input → BySection (Option Contribution) → Type 0
 Contributes e i g = (c : ℕ) (k : Contribution) → g c ≡ some k → Contributed (e .width) (lengths i) c k × (c ≡ 6 → (k .size ≡ 0) ⊎ InPiece e (i .pieces) k)
-
-some-none : {A : Type 0} {a : A} {P : Type 0} → some a ≡ none → P
-some-none e = let z : _≡_ {A = ℕ} 0 1 = cc in absurd (omega arith)
 
 contributes-none : (e : Encoding) (i : Input) → Contributes e i (λ c. none)
 contributes-none e i c k q = some-none (sym q)

@@ -25,8 +25,9 @@ use Rattle.index.specs.Rows.{BySection, isSome}
 use Rattle.index.specs.Tiles.{named}
 use Rattle.index.proofs.Contributions.{all-has}
 use Rattle.index.proofs.Tiles.{isOne}
+use Rattle.octets.proofs.Options.{some-inj, some-none}
 use Rattle.package.specs.Pieces.{Piece}
-use Rattle.package.specs.Input.{Input, present, repeated, wrongEdition, onlyOnce, besideInfo, editionGood, complete, formOf, inputIndex, wholePieces, isPacked, tiledPieces, unitSections, Opened, openedWhole, openedTiled, opened, inputOf}
+use Rattle.package.specs.Input.{Input, present, repeated, wrongCodes, onlyOnce, besideInfo, editionGood, complete, formOf, inputIndex, wholePieces, isPacked, tiledPieces, unitSections, Opened, openedWhole, openedTiled, opened, inputOf}
 use Rattle.package.specs.Filing.{isPackage}
 use Rattle.bundle.proofs.Every.{Every, nothing, also}
 use Rattle.package.proofs.Pieces.{PiecesFacts, InPiece, whole-facts, tiled-facts}
@@ -73,22 +74,22 @@ bytes-body b ps c h = from (firstPart ps c)
     from none = bytes-none
 
 -- ---- 6
-pub no-wrong-edition : (e : Encoding) (ps : List Part) (c : ℕ) → editionGood e ps ≡ true → has (wrongEdition e) c ≡ true → present ps c ≡ false
+pub no-wrong-edition : (e : Encoding) (ps : List Part) (c : ℕ) → editionGood e ps ≡ true → has (wrongCodes e) c ≡ true → present ps c ≡ false
 unfolding editionGood
 no-wrong-edition e ps c h g =
-    let a = all (λ d. not (present ps d)) (wrongEdition e) in
+    let a = all (λ d. not (present ps d)) (wrongCodes e) in
     let b = all (λ d. not (repeated ps d)) onlyOnce in
     let m = not (besideInfo e ps && repeated ps 1) in
     let n = not (present ps 13 && repeated ps 2) in
-    not-true (present ps c) (all-has (λ d. not (present ps d)) (wrongEdition e) c (and-left a b (and-left (a && b) m (and-left (a && b && m) n h))) g)
+    not-true (present ps c) (all-has (λ d. not (present ps d)) (wrongCodes e) c (and-left a b (and-left (a && b) m (and-left (a && b && m) n h))) g)
 
-pub wrong-five : (e : Encoding) (c : ℕ) → e .version ≡ 5 → has (2 ∷ 5 ∷ 7 ∷ []) c ≡ true → has (wrongEdition e) c ≡ true
-unfolding wrongEdition
-wrong-five e c v h = rw (wrongEdition, eq-eqb (e .version) 5 v) h
+pub wrong-five : (e : Encoding) (c : ℕ) → e .version ≡ 5 → has (2 ∷ 5 ∷ 7 ∷ []) c ≡ true → has (wrongCodes e) c ≡ true
+unfolding wrongCodes
+wrong-five e c v h = rw (wrongCodes, eq-eqb (e .version) 5 v) h
 
-pub wrong-four : (e : Encoding) (c : ℕ) → (e .version ≡ 5 → ⊥) → has (9 ∷ 10 ∷ []) c ≡ true → has (wrongEdition e) c ≡ true
-unfolding wrongEdition
-wrong-four e c v h = rw (wrongEdition, ne-eqb (e .version) 5 v) h
+pub wrong-four : (e : Encoding) (c : ℕ) → (e .version ≡ 5 → ⊥) → has (9 ∷ 10 ∷ []) c ≡ true → has (wrongCodes e) c ≡ true
+unfolding wrongCodes
+wrong-four e c v h = rw (wrongCodes, ne-eqb (e .version) 5 v) h
 
 -- ---- sections of units
 pub record UnitSection (e : Encoding) (s : Section) : Type 0 where
@@ -145,17 +146,11 @@ pub record InputFacts (e : Encoding) (i : Input) : Type 0 where
   pub good : encodingGood e ≡ true
   pub areBytes : (c : ℕ) → Bytes (i .bytes c)
   -- sections of the wrong edition are empty
-  pub edition : (c : ℕ) → has (wrongEdition e) c ≡ true → i .bytes c ≡ []
+  pub edition : (c : ℕ) → has (wrongCodes e) c ≡ true → i .bytes c ≡ []
   pub cuRead : (x : Index) → i .cuIndex ≡ some x → IndexRead x
   pub tuRead : (x : Index) → i .tuIndex ≡ some x → IndexRead x
   pub sections : Every (UnitSection e) (i .units)
   pub strings : Pieced e i
-
-some-none : {A : Type 0} {a : A} {P : Type 0} → some a ≡ none → P
-some-none e = let z : _≡_ {A = ℕ} 0 1 = cc in absurd (omega arith)
-
-some-inj : {A : Type 0} {a b : A} → some a ≡ some b → a ≡ b
-some-inj e = cc
 
 pub index-read : (e : Encoding) (ps : List Part) (bytes : BySection (List ℕ)) (c : ℕ) (o : Option Index) → inputIndex e ps bytes c ≡ pass o
     → (x : Index) → o ≡ some x → IndexRead x

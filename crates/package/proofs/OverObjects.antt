@@ -10,7 +10,7 @@ use native.Mathlib.Omega.{arith}
 use lib.Dec.{eqb, leb}
 use Rattle.numbers.specs.Refusals.{badParts}
 use Rattle.octets.specs.Checked.{Check, pass, refuse, _>>=_, require}
-use Rattle.octets.proofs.Checks.{then-pass, then-refuse, bind-assoc, bind-refuse, pass-refuse}
+use Rattle.octets.proofs.Checks.{then-pass, then-refuse, bind-refuse, pass-refuse}
 use Rattle.octets.proofs.Refusals.{Only, between-pass as passes, between-refuse as refuses, between-require as requires, between-bind as binds, between-choice as chooses}
 use Rattle.bundle.specs.Bundle.{Part, Object, Bundle, body}
 use Rattle.bundle.specs.Encoding.{Encoding, encodingOf}

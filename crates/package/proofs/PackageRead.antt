@@ -14,7 +14,7 @@ use Rattle.octets.specs.Checked.{pass}
 use Rattle.octets.proofs.Checks.{bind-pass, and-both, and-left, and-right}
 use Rattle.octets.proofs.Lists.{all-head, all-tail, length-those}
 use Rattle.octets.proofs.Numbers.{Bytes}
-use Rattle.bundle.specs.Bundle.{Part, Object, bundleOf, filledUp, firstPart, count, lengthGood}
+use Rattle.bundle.specs.Bundle.{Object, bundleOf, filledUp, firstPart, count, lengthGood}
 use Rattle.bundle.specs.Encoding.{encodingOf, encodingGood}
 use Rattle.bundle.specs.Written.{Section, Sections, wordBytes, headBytes, sectionBytes, objectBytes, endBytes, written}
 use Rattle.bundle.proofs.Every.{Every, nothing, also}
@@ -81,9 +81,6 @@ module _ (b p : List ℕ) (a : Accepted b p) where
   module _ (o : Object) (os : List Object) (q : a .bundle .objects ≡ o ∷ os) where
     abbrev whole : Sections
     whole = record { word = o .word; sections = sectionsOf }
-
-    abbrev pub partsOf : List Part
-    partsOf = partsFrom 8 sectionsOf
 
     pub package-is : p ≡ written (a .bundle .big) (record { word = o .word; sections = sectionsOf } ∷ [])
     unfolding packageObjects

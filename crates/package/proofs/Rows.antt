@@ -52,7 +52,7 @@ longer-own : (before : BySection ℕ) (home n : ℕ) → longer before home n ho
 unfolding longer
 longer-own before home n = rw (longer, eq-eqb home home refl)
 
-longer-other : (before : BySection ℕ) (home n c : ℕ) → (c ≡ home → ⊥) → longer before home n c ≡ before c
+pub longer-other : (before : BySection ℕ) (home n c : ℕ) → (c ≡ home → ⊥) → longer before home n c ≡ before c
 unfolding longer
 longer-other before home n c e = rw (longer, ne-eqb c home e)
 

@@ -64,13 +64,13 @@ input-sized e table i f c = ⊎-elim
     (known (eqb c 6))
 
 -- ---- every string used is in the table
-used-append : (is js : List Input) → allUsed (is ++ js) ≡ allUsed is ++ allUsed js
+pub used-append : (is js : List Input) → allUsed (is ++ js) ≡ allUsed is ++ allUsed js
 unfolding allUsed
 used-append [] js = refl
 used-append (i ∷ is) js =
     ap (λ (z : List (List ℕ)). usedIn (i .pieces) ++ z) (used-append is js) ∙ sym (append-assoc (usedIn (i .pieces)) (allUsed is) (allUsed js))
 
-piece-append : (ps qs : List Piece) → usedIn (ps ++ qs) ≡ usedIn ps ++ usedIn qs
+pub piece-append : (ps qs : List Piece) → usedIn (ps ++ qs) ≡ usedIn ps ++ usedIn qs
 unfolding usedIn
 piece-append [] qs = refl
 piece-append (p ∷ ps) qs = ap (λ (z : List (List ℕ)). p .used ++ z) (piece-append ps qs) ∙ sym (append-assoc (p .used) (usedIn ps) (usedIn qs))

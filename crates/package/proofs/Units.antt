@@ -12,21 +12,21 @@ use lib.ListN.{length, take, drop, length-append, take-append-drop}
 use lib.Seq.{length-take-le}
 use borrow.Author.Tests.{eqb-true, eq-eqb, not-true}
 use Rattle.octets.specs.Octets.{part}
-use Rattle.octets.specs.Lists.{any, those, joined, sum}
+use Rattle.octets.specs.Lists.{any, those, sum}
 use Rattle.octets.specs.Checked.{Check, pass}
 use Rattle.octets.proofs.Checks.{bind-pass, pass-inj, pass-refuse, known, and-left, and-right}
 use Rattle.octets.proofs.Lists.{those-keeps, those-skips}
 use Rattle.octets.proofs.Parts.{length-part-le}
-use Rattle.bundle.specs.Bundle.{Part, Object, Bundle, body, bundleOf}
+use Rattle.bundle.specs.Bundle.{Part, Object, Bundle, body}
 use Rattle.bundle.specs.Written.{Section}
-use Rattle.bundle.proofs.Sizes.{total, totals, bundle-totals}
+use Rattle.bundle.proofs.Sizes.{total, totals}
 use Rattle.unit.specs.UnitRead.{UnitRead, isFive, unitBy, unitOf}
 use Rattle.unit.proofs.Plain.{read-by}
 use Rattle.unit.proofs.Alone.{Alone, unit-alone, info-table}
 use Rattle.numbers.specs.Sections.{infoCode, abbrevCode}
 use Rattle.index.specs.Index.{Index, Contribution}
 use Rattle.index.specs.Probing.{probe}
-use Rattle.index.specs.Rows.{BySection, rowOf, rowContributions, wholeContributions, naming, theOne, abbrevPart}
+use Rattle.index.specs.Rows.{BySection, rowOf, rowContributions, naming, theOne, abbrevPart}
 use Rattle.index.proofs.OneRow.{search-ends}
 use Rattle.package.specs.Input.{Input, unitSections, inputOf}
 use Rattle.package.specs.Filing.{Filed, Filing, isUnder, indexFor, lengths, skipped, indexByPlace, abbreviationsFor, contributionsOf, unitAt, unitsFrom, unitsIn, grown, filingFrom, firstWord, filingOf}
@@ -248,7 +248,3 @@ module _ (b : List ℕ) (k : Bundle) (f : Filing) (q : filingOf b k ≡ pass f) 
   -- none is left out
   pub filing-fills : FillObjects b (k .big) (firstWord (k .objects)) (k .objects) (f .units)
   filing-fills = filled-objects .fill
-
-  -- a unit takes 4 bytes or more of the bundle
-  pub filing-few : bundleOf b ≡ pass k → 4 * length (f .units) ≤ length b
-  filing-few e = omega (arith, filled-objects .few, bundle-totals b k e)

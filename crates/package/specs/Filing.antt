@@ -6,8 +6,9 @@ use mathlib.Core.Option.{Option, some, none}
 use Prim.Native.Nat.{ℕ, zero, suc, _+_}
 use lib.Dec.{eqb}
 use lib.ListN.{length, take, drop}
-use Rattle.numbers.specs.Refusals.{noRow}
-use Rattle.numbers.specs.Sections.{infoCode, abbrevCode}
+use Rattle.numbers.specs.Tables.{compilationTable}
+use Rattle.numbers.specs.Refusals.{noRow, badHeader, identitySeen}
+use Rattle.numbers.specs.Sections.{infoCode, abbrevCode, strOffsetsCode}
 use Rattle.octets.specs.Octets.{part}
 use Rattle.octets.specs.Lists.{any, same}
 use Rattle.octets.specs.Checked.{Check, pass, refuse, _>>=_, require}
@@ -38,7 +39,7 @@ unfoldable pub isUnder : ℕ → ℕ → Filed → Bool
 isUnder table identity u = eqb (u .table) table && eqb (u .identity) identity
 
 unfoldable pub indexFor : Input → ℕ → Option Index
-indexFor i table = elim (eqb table 1) [ true ↦ i .cuIndex | false ↦ i .tuIndex ]
+indexFor i table = elim (eqb table compilationTable) [ true ↦ i .cuIndex | false ↦ i .tuIndex ]
 
 unfoldable pub lengths : Input → BySection ℕ
 lengths i c = length (i .bytes c)
@@ -69,7 +70,7 @@ contributionsOf i home at u =
 
 -- 14: a compilation identity already seen; "A type signature already kept is skipped, and its unit adds nothing"
 unfoldable pub skipped : ℕ → Check (BySection (Option Contribution))
-skipped table = elim (eqb table 1) [ true ↦ refuse 14 | false ↦ pass (λ c. none) ]
+skipped table = elim (eqb table compilationTable) [ true ↦ refuse identitySeen | false ↦ pass (λ c. none) ]
 
 -- the unit at the front of s, which starts at a place of the section home; earlier objects' units and here this object's are filed
 unfoldable pub unitAt : Input → BySection ℕ → List Filed → List Filed → ℕ → ℕ → List ℕ → Check Filed
@@ -92,7 +93,7 @@ unitAt i bases earlier here home at s = do
 
 -- the units of a section, behind those of this object that are filed; the first argument bounds the number of steps
 unfoldable pub unitsFrom : ℕ → Input → BySection ℕ → List Filed → List Filed → ℕ → ℕ → List ℕ → Check (List Filed)
-unitsFrom zero i bases earlier here home at s = refuse 11
+unitsFrom zero i bases earlier here home at s = refuse badHeader
 unitsFrom (suc k) i bases earlier here home at [] = pass here
 unitsFrom (suc k) i bases earlier here home at (b ∷ s) =
     unitAt i bases earlier here home at (b ∷ s)
@@ -175,4 +176,4 @@ contributed u c = elim (u .contributions c) [ some k ↦ part (u .input .bytes c
 
 -- the entries of its str_offsets part, as handed in
 unfoldable pub entriesOfUnit : Filed → List ℕ
-entriesOfUnit u = entriesIn (u .input .encoding) (contributed u 6)
+entriesOfUnit u = entriesIn (u .input .encoding) (contributed u strOffsetsCode)

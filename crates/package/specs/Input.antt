@@ -5,6 +5,9 @@ use mathlib.Core.List.{List, [], _∷_, _++_, map}
 use mathlib.Core.Option.{Option, some, none}
 use Prim.Native.Nat.{ℕ}
 use lib.Dec.{eqb, leb}
+use Rattle.numbers.specs.Tables.{dwarf5, index2, index5}
+use Rattle.numbers.specs.Sections.{infoCode, typesCode, abbrevCode, lineCode, locCode, strOffsetsCode, macinfoCode, macroCode, loclistsCode, rnglistsCode, strCode, cuIndexCode, tuIndexCode}
+use Rattle.numbers.specs.Refusals.{badEncoding, otherEncoding, wrongEdition, sectionMissing, badIndex}
 use Rattle.octets.specs.Octets.{part}
 use Rattle.octets.specs.Lists.{all, those}
 use Rattle.octets.specs.Checked.{Check, pass, refuse, _>>=_, require}
@@ -34,54 +37,56 @@ present ps c = leb 1 (count ps c)
 unfoldable pub repeated : List Part → ℕ → Bool
 repeated ps c = leb 2 (count ps c)
 
--- 6: a section of the wrong edition. Version 5: types, loc, macinfo; version 4: loclists, rnglists
-unfoldable pub wrongEdition : Encoding → List ℕ
-wrongEdition e = elim (eqb (e .version) 5) [ true ↦ 2 ∷ 5 ∷ 7 ∷ [] | false ↦ 9 ∷ 10 ∷ [] ]
+-- 6: the codes of the wrong edition
+unfoldable pub wrongCodes : Encoding → List ℕ
+wrongCodes e = elim (eqb (e .version) dwarf5) [ true ↦ typesCode ∷ locCode ∷ macinfoCode ∷ [] | false ↦ loclistsCode ∷ rnglistsCode ∷ [] ]
 
 -- codes other than info and types
 unfoldable pub onlyOnce : List ℕ
-onlyOnce = 3 ∷ 4 ∷ 5 ∷ 6 ∷ 7 ∷ 8 ∷ 9 ∷ 10 ∷ 11 ∷ 12 ∷ 13 ∷ []
+onlyOnce =
+    abbrevCode ∷ lineCode ∷ locCode ∷ strOffsetsCode ∷ macinfoCode ∷ macroCode ∷ loclistsCode ∷ rnglistsCode ∷ strCode ∷ cuIndexCode
+    ∷ tuIndexCode ∷ []
 
 -- an index that allows one info only: "6 covers a second version 5 info beside either index"
 unfoldable pub besideInfo : Encoding → List Part → Bool
-besideInfo e ps = present ps 12 || (eqb (e .version) 5 && present ps 13)
+besideInfo e ps = present ps cuIndexCode || (eqb (e .version) dwarf5 && present ps tuIndexCode)
 
 -- 6: also a second one of a code other than info and types, or a second info beside cu_index or types beside tu_index
 unfoldable pub editionGood : Encoding → List Part → Bool
 editionGood e ps =
-    all (λ c. not (present ps c)) (wrongEdition e) && all (λ c. not (repeated ps c)) onlyOnce
-    && not (besideInfo e ps && repeated ps 1) && not (present ps 13 && repeated ps 2)
+    all (λ c. not (present ps c)) (wrongCodes e) && all (λ c. not (repeated ps c)) onlyOnce
+    && not (besideInfo e ps && repeated ps infoCode) && not (present ps tuIndexCode && repeated ps typesCode)
 
 -- 7: no abbrev, no info, or str_offsets without str
 unfoldable pub complete : List Part → Bool
-complete ps = present ps 3 && present ps 1 && (not (present ps 6) || present ps 11)
+complete ps = present ps abbrevCode && present ps infoCode && (not (present ps strOffsetsCode) || present ps strCode)
 
 -- the version of an object's indexes
 unfoldable pub formOf : Encoding → ℕ
-formOf e = elim (eqb (e .version) 5) [ true ↦ 5 | false ↦ 2 ]
+formOf e = elim (eqb (e .version) dwarf5) [ true ↦ index5 | false ↦ index2 ]
 
 -- 10: an index that is there is well formed, and of the object's version
 unfoldable pub inputIndex : Encoding → List Part → BySection (List ℕ) → ℕ → Check (Option Index)
 inputIndex e ps bytes c =
     elim (present ps c) [
-      | true ↦ indexOf (e .big) (bytes c) >>= λ i. (require (eqb (i .version) (formOf e)) 10 >>= λ _. pass (some i))
+      | true ↦ indexOf (e .big) (bytes c) >>= λ i. (require (eqb (i .version) (formOf e)) badIndex >>= λ _. pass (some i))
       | false ↦ pass none
     ]
 
 -- 8 and 9: a str_offsets that is there is one piece
 unfoldable pub wholePieces : Encoding → List Part → BySection (List ℕ) → Check (List Piece)
-wholePieces e ps bytes = elim (present ps 6) [ true ↦ pieceOf e (bytes 11) (bytes 6) >>= λ p. pass (p ∷ []) | false ↦ pass [] ]
+wholePieces e ps bytes = elim (present ps strOffsetsCode) [ true ↦ pieceOf e (bytes strCode) (bytes strOffsetsCode) >>= λ p. pass (p ∷ []) | false ↦ pass [] ]
 
 -- version 5 with an index: the parts that rows of either index name, "8 and 9 then follow 34, part by part"; an absent section counts as empty
 unfoldable pub isPacked : Encoding → List Part → Bool
-isPacked e ps = eqb (e .version) 5 && (present ps 12 || present ps 13)
+isPacked e ps = eqb (e .version) dwarf5 && (present ps cuIndexCode || present ps tuIndexCode)
 
 unfoldable pub tiledPieces : Encoding → BySection (List ℕ) → Option Index → Option Index → Check (List Piece)
-tiledPieces e bytes cu tu = tiles (named cu ++ named tu) (bytes 6) >>= λ ts. piecesOf e (bytes 11) (bytes 6) ts
+tiledPieces e bytes cu tu = tiles (named cu ++ named tu) (bytes strOffsetsCode) >>= λ ts. piecesOf e (bytes strCode) (bytes strOffsetsCode) ts
 
 unfoldable pub unitSections : List ℕ → List Part → List Section
 unitSections b ps =
-    map (λ p. record { code = p .code; bytes = part b (p .start) (p .size) }) (those (λ p. eqb (p .code) 1 || eqb (p .code) 2) ps)
+    map (λ p. record { code = p .code; bytes = part b (p .start) (p .size) }) (those (λ p. eqb (p .code) infoCode || eqb (p .code) typesCode) ps)
 
 -- what stands between 7 and the units
 pub record Opened : Type 0 where
@@ -93,15 +98,15 @@ pub record Opened : Type 0 where
 unfoldable pub openedWhole : Encoding → List Part → BySection (List ℕ) → Check Opened
 openedWhole e ps bytes = do
   pieces ← wholePieces e ps bytes
-  cu ← inputIndex e ps bytes 12
-  tu ← inputIndex e ps bytes 13
+  cu ← inputIndex e ps bytes cuIndexCode
+  tu ← inputIndex e ps bytes tuIndexCode
   pass (record { pieces = pieces; cuIndex = cu; tuIndex = tu })
 
 -- 10, 34, 8, 9
 unfoldable pub openedTiled : Encoding → List Part → BySection (List ℕ) → Check Opened
 openedTiled e ps bytes = do
-  cu ← inputIndex e ps bytes 12
-  tu ← inputIndex e ps bytes 13
+  cu ← inputIndex e ps bytes cuIndexCode
+  tu ← inputIndex e ps bytes tuIndexCode
   pieces ← tiledPieces e bytes cu tu
   pass (record { pieces = pieces; cuIndex = cu; tuIndex = tu })
 
@@ -113,9 +118,9 @@ unfoldable pub inputOf : List ℕ → Bool → ℕ → Object → Check Input
 inputOf b big first o = do
   let e = encodingOf big (o .word)
   let bytes = body b (o .parts)
-  _ ← require (encodingGood e) 4
-  _ ← require (eqb (o .word) first) 5
-  _ ← require (editionGood e (o .parts)) 6
-  _ ← require (complete (o .parts)) 7
+  _ ← require (encodingGood e) badEncoding
+  _ ← require (eqb (o .word) first) otherEncoding
+  _ ← require (editionGood e (o .parts)) wrongEdition
+  _ ← require (complete (o .parts)) sectionMissing
   t ← opened e (o .parts) bytes
   pass (record { encoding = e; bytes = bytes; units = unitSections b (o .parts); pieces = t .pieces; cuIndex = t .cuIndex; tuIndex = t .tuIndex })

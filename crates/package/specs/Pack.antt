@@ -6,7 +6,10 @@ use mathlib.Core.Option.{Option, some, none}
 use Prim.Native.Nat.{ℕ, _+_, _*_, _/_, _%_}
 use lib.Dec.{eqb, leb}
 use lib.ListN.{length}
-use Rattle.numbers.specs.Limits.{workForWord}
+use Rattle.numbers.specs.Tables.{compilationTable, typeTable}
+use Rattle.numbers.specs.Sections.{infoCode, typesCode, abbrevCode, lineCode, locCode, strOffsetsCode, macinfoCode, macroCode, loclistsCode, rnglistsCode, strCode, cuIndexCode, tuIndexCode}
+use Rattle.numbers.specs.Refusals.{badLength, workShort, sectionTooLong}
+use Rattle.numbers.specs.Limits.{workForWord, bundleLimit, sectionLimit}
 use Rattle.octets.specs.Lists.{joined, those, all}
 use Rattle.octets.specs.Checked.{Check, pass, refuse, _>>=_, require}
 use Rattle.bundle.specs.Bundle.{Object, Bundle, bundleOf, lengthGood}
@@ -53,7 +56,7 @@ unitBytes ks home = joined (map (λ u. u .bytes) (those (λ u. eqb (u .home) hom
 -- "Each shared section (codes 3 to 10) is all objects' bytes joined in order, str_offsets remapped." A section of several pieces is remapped piece by piece.
 unfoldable pub sharedBytes : List (List ℕ) → List Input → ℕ → List ℕ
 sharedBytes table inputs c =
-    elim (eqb c 6) [
+    elim (eqb c strOffsetsCode) [
       | true ↦ joined (map (λ i. remappedAll (i .encoding) table (i .pieces)) inputs)
       | false ↦ joined (map (λ i. i .bytes c) inputs)
     ]
@@ -74,8 +77,9 @@ sectionList f cu tu =
     let ks = kept (f .units) in
     let table = stringTable (f .inputs) in
     let shared : ℕ → Section = λ c. of c (sharedBytes table (f .inputs) c) in
-    of 1 (unitBytes ks 1) ∷ of 2 (unitBytes ks 2) ∷ shared 3 ∷ shared 4 ∷ shared 5 ∷ shared 6 ∷ shared 7 ∷ shared 8 ∷ shared 9 ∷ shared 10
-    ∷ of 11 (strOf table) ∷ of 12 cu ∷ of 13 tu ∷ []
+    of infoCode (unitBytes ks infoCode) ∷ of typesCode (unitBytes ks typesCode) ∷ shared abbrevCode ∷ shared lineCode ∷ shared locCode
+    ∷ shared strOffsetsCode ∷ shared macinfoCode ∷ shared macroCode ∷ shared loclistsCode ∷ shared rnglistsCode ∷ of strCode (strOf table)
+    ∷ of cuIndexCode cu ∷ of tuIndexCode tu ∷ []
 
 -- "each non-empty section once in order of code"
 unfoldable pub nonEmpty : Section → Bool
@@ -85,7 +89,7 @@ nonEmpty s = leb 1 (length (s .bytes))
 unfoldable pub packageSections : Bool → ℕ → Filing → List Section
 packageSections big version f =
     let ks = kept (f .units) in
-    those nonEmpty (sectionList f (indexBytes big version (rowsOf ks 1)) (indexBytes big version (rowsOf ks 2)))
+    those nonEmpty (sectionList f (indexBytes big version (rowsOf ks compilationTable)) (indexBytes big version (rowsOf ks typeTable)))
 
 -- "The package is a bundle: the same head, the first object's word, each non-empty section once in order of code, end. Without objects it is head and end."
 unfoldable pub packageObjects : List Object → List Section → List Sections
@@ -96,12 +100,12 @@ packageObjects (o ∷ os) ss = record { word = o .word; sections = ss } ∷ []
 -- the package for w words of work, or a refusal but 18
 unfoldable pub judged : List ℕ → ℕ → Check (List ℕ)
 judged b w = do
-  _ ← require (lengthGood 4_194_304 b) 1
-  _ ← require (leb (workForWord * (length b / 4)) w) 2
+  _ ← require (lengthGood bundleLimit b) badLength
+  _ ← require (leb (workForWord * (length b / 4)) w) workShort
   k ← bundleOf b
   f ← filingOf b k
   let ss = packageSections (k .big) (firstWord (k .objects) % 256) f
-  _ ← require (all (λ s. leb (length (s .bytes)) 8_388_607) ss) 19
+  _ ← require (all (λ s. leb (length (s .bytes)) sectionLimit) ss) sectionTooLong
   pass (written (k .big) (packageObjects (k .objects) ss))
 
 pub data Answer : Type 0 where

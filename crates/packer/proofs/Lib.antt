@@ -9,3 +9,4 @@ pub mod Start
 pub mod OverObjects
 pub mod Clearing
 pub mod Made
+pub mod Zeros

@@ -4,3 +4,4 @@ pub mod Small
 pub mod Objects
 pub mod Counted
 pub mod Told
+pub mod Zeros

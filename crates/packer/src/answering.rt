@@ -7,6 +7,7 @@ ghost use Rattle.finish.specs.Finish.{outputOf};
 ghost use Rattle.packer.specs.Small.{packedSmall};
 ghost use Rattle.packer.specs.Told.{toldOf, numbered};
 use finish::whole::Finished;
+use numbers::refusals::OUTPUT_SHORT;
 
 // Code 0: the package, of that length, and how many type units were skipped. 18: the output is too short, with the length needed. Else the refusal and 0.
 // But for code 0 both counts are 0.
@@ -29,7 +30,7 @@ fn answer_of(finished: Finished, repeats: usize, namesakes: usize) -> Packed
             namesakes,
         },
         Finished::Short(needed) => Packed {
-            code: 18,
+            code: OUTPUT_SHORT,
             length: needed,
             repeats,
             namesakes,

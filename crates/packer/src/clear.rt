@@ -19,7 +19,7 @@ fn clear_table(n: usize, table: usize, work: &mut [u32])
     let slots = work::slots(n, table);
     let from = slots.start;
     let to = from + count;
-    octets::clear_words(&mut work[from..to]);
+    crate::zeroing::clear_lent(&mut work[from..to]);
 }
 
 // The strings, for a bundle of n words: a slot of their index that is not 0 names a string.
@@ -30,7 +30,7 @@ fn clear_strings(n: usize, work: &mut [u32])
     let strings = work::strings(n);
     let first = strings.start;
     let last = first + strings.size;
-    octets::clear_words(&mut work[first..last]);
+    crate::zeroing::clear_lent(&mut work[first..last]);
 }
 
 // The slots of both tables, and the strings.

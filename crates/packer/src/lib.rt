@@ -2,6 +2,7 @@
 pub mod answering;
 pub mod clear;
 pub mod objects;
+mod zeroing;
 
 ghost use mathlib.Core.Path.{_≡_};
 ghost use lib.ListN.{length};
@@ -102,7 +103,7 @@ pub fn pack_counted(b: &[u8], work: &mut [u32], out: &mut [u8]) -> Packing
 {
     octets::clear_bytes(out);
     let r = pack_cleared(b, work, out);
-    octets::clear_words(work); // of what was filed
+    crate::zeroing::clear_lent(work); // of what was filed
     r
 }
 

@@ -1,8 +1,8 @@
 -- The verdict from what the code holds: the conditions by the head are the definition's, and the bits decide.
 -- Assumes nothing.
-use mathlib.Core.Path.{_≡_, refl, ap, sym, _∙_}
+use mathlib.Core.Path.{_≡_, refl, ap, _∙_}
 use mathlib.Core.Bool.{Bool, true, false, not, _&&_, _||_}
-use mathlib.Core.List.{List, [], _∷_}
+use mathlib.Core.List.{List}
 use mathlib.Core.Logic.{⊎-elim}
 use mathlib.Core.Option.{Option, some, none}
 use Prim.Native.Nat.{ℕ}
@@ -10,21 +10,19 @@ use native.Mathlib.Omega.{arith}
 use lib.Dec.{eqb, ltb}
 use lib.ListN.{length}
 use borrow.Author.Tests.{lt-ltb, eqb-true}
-use Rattle.octets.specs.Checked.{Check, pass, refuse}
-use Rattle.octets.specs.Lists.{all}
+use Rattle.octets.specs.Checked.{pass}
 use Rattle.octets.proofs.Checks.{and-left, and-right}
-use Rattle.bundle.specs.Bundle.{count}
 use Rattle.bundle.specs.Encoding.{Encoding, encodingGood}
 use Rattle.bundle.specs.Scan.{scanOf, byCode, numbered}
 use Rattle.index.specs.Index.{Index}
 use Rattle.index.specs.Held.{headOf}
-use Rattle.lookup.specs.Lookup.{Package, packageOf, hasVersion}
-use Rattle.lookup.specs.Answers.{coded, indexed, headIn, opened, packageIn, Opened, indexHas}
+use Rattle.lookup.specs.Lookup.{Package, packageOf}
+use Rattle.lookup.specs.Answers.{coded, indexed, headIn, opened, packageIn}
 use Rattle.lookup.specs.declared.opening.PackageHead.{PackageHead}
 use Rattle.lookup.proofs.Searches.{opened-not, opened-good}
+use Rattle.lookup.proofs.Asked.{has-indexed}
 use Rattle.profile.specs.Profile.{isThere, hasRow, conditions, profiled, failedBits, failed}
 use Rattle.profile.specs.Judged.{presentIn, rowIn, conditionsIn, verdictBy, judged}
-use Rattle.profile.specs.declared.Verdict.{Verdict}
 use Rattle.profile.proofs.Bits.{failed-none}
 use Rattle.profile.proofs.Objects.{Without, With, package-object}
 
@@ -56,11 +54,6 @@ unfolding presentIn indexed isThere
 present-is (some i) = refl
 present-is none = refl
 
-version-is : (v : ℕ) (o : Option Index) → indexHas v (indexed o) ≡ hasVersion v o
-unfolding indexHas indexed hasVersion headOf
-version-is v (some i) = refl
-version-is v none = refl
-
 row-is : (o : Option Index) → rowIn (indexed o) ≡ hasRow o
 unfolding rowIn indexed hasRow headOf
 row-is (some i) = refl
@@ -68,7 +61,7 @@ row-is none = refl
 
 conditions-are : (p : List ℕ) (k : Package) → packageOf p ≡ pass k → conditionsIn (ltb 8 (length p)) (headIn k) ≡ conditions k
 unfolding conditionsIn conditions headIn coded scanOf byCode numbered
-conditions-are p k e = rw (narrow p k e, present-is (k .cuIndex), version-is 5 (k .cuIndex), row-is (k .cuIndex))
+conditions-are p k e = rw (narrow p k e, present-is (k .cuIndex), has-indexed 5 (k .cuIndex), row-is (k .cuIndex))
 
 -- ---- the verdict
 module _ (p : List ℕ) (h : PackageHead) (e : h ≡ opened (packageOf p)) where

@@ -2,7 +2,7 @@
 -- Assumes nothing.
 use mathlib.Core.Path.{_≡_, sym, ap, _∙_, subst}
 use mathlib.Core.Logic.{⊎-elim}
-use mathlib.Core.Bool.{Bool, true, _&&_, _||_}
+use mathlib.Core.Bool.{true, _&&_, _||_}
 use mathlib.Core.List.{List, _++_}
 use Prim.Native.Nat.{ℕ, _+_, _≤_}
 use native.Mathlib.Omega.{arith}
@@ -11,11 +11,10 @@ use lib.Dec.{eqb, leb, ltb}
 use lib.ListN.{length, take, getD, length-append}
 use lib.Seq.{take-append-le, length-take-le}
 use borrow.Author.Tests.{eqb-true, ne-eqb, le-leb, leb-true, ltb-true}
-use Rattle.octets.specs.Octets.{number, numberAt}
+use Rattle.octets.specs.Octets.{numberAt}
 use Rattle.octets.specs.Checked.{pass}
 use Rattle.octets.proofs.Checks.{bind-pass, require-pass, pass-refuse, passes, and-both, and-left, and-right, or-cases}
 use Rattle.octets.proofs.Numbers.{numberAt-front}
-use Rattle.octets.proofs.Parts.{part-take}
 use Rattle.bundle.specs.Encoding.{Encoding, encodingGood}
 use Rattle.unit.specs.UnitRead.{UnitRead, lengthField, isFive, addressPlace, commonSize, identityOf, unitOf}
 use Rattle.unit.specs.Headers.{fits, unitInside, narrowSize, wideSize, fieldsGood, kindOf, headerSize, withAddress, statedAddress}
@@ -26,12 +25,9 @@ use Rattle.elf.specs.Reader.{widthStated, versionStated, encodingStated, unitSt
 use Rattle.elf.specs.Held.{statedOf, wordWith}
 use Rattle.elf.specs.declared.stating.Stated.the-variants.{Is}
 use Rattle.elf.proofs.FirstUnit.{good-version}
+use Rattle.unit.proofs.Alone.{number-alone}
 
 -- ---- the size, in a section that goes on
-number-alone : (big : Bool) (w : ℕ) (s : List ℕ) (n at : ℕ) → at + w ≤ n → numberAt big w (take n s) at ≡ numberAt big w s at
-unfolding numberAt
-number-alone big w s n at h = ap (number big) (part-take s n at w h)
-
 longer : (u rest : List ℕ) (n : ℕ) → n ≤ length u → n ≤ length (u ++ rest)
 longer u rest n h = omega (arith, length-append u rest)
 

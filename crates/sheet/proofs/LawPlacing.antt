@@ -16,9 +16,11 @@ use Rattle.octets.proofs.Placed.{length-zeros}
 use Rattle.index.specs.Columns.{columnsOf}
 use Rattle.index.specs.Index.{Index}
 use Rattle.index.specs.Probing.{Slots, freeFrom, place, placeAll, unused, slotsFor, slotsOf, firstSlot, stride}
-use Rattle.index.proofs.Slots.{PowerOfTwo, firstSlot-lt, slotsFor-power, slotsFor-gt}
+use Rattle.index.proofs.Slots.{slotsFor-power, slotsFor-gt}
 use Rattle.index.proofs.LawCounts.{used, used-zeros, used-takes}
 use Rattle.index.proofs.Placing.{free-inside, always-free}
+use Rattle.index.specs.Held.{PowerOfTwo}
+use Rattle.index.proofs.Masks.{firstSlot-lt}
 use Rattle.sheet.specs.Sheet.{line, sectionIn, cellLines, rowLines, identitiesIn, only, rowsFrom}
 use Rattle.sheet.proofs.LawSlots.{in-here, in-other}
 

@@ -15,7 +15,7 @@ use Rattle.index.specs.Columns.{columnsOf}
 use Rattle.index.specs.Index.{Index}
 use Rattle.index.specs.Held.{ReadWell}
 use Rattle.index.specs.declared.reading.IndexHead.{IndexHead}
-use Rattle.sheet.specs.Sheet.{sectionIn, rowLines, identitiesIn, only}
+use Rattle.sheet.specs.Sheet.{sectionIn, rowLines, identitiesIn, only, lineBytes}
 use Rattle.sheet.specs.declared.lines.Line.{Line}
 
 -- ---- marks
@@ -68,7 +68,7 @@ pub record CellLine (letter : ℕ) (i : Index) (identity k n : ℕ) (l : Line) :
 
 -- the lines of a row whose slots hold these identities, by the first of them; zeros where there is none
 unfoldable pub block : ℕ → Index → ℕ → List ℕ → List ℕ
-block letter i row [] = zeros (40 * length (i .codes))
+block letter i row [] = zeros (lineBytes * length (i .codes))
 block letter i row (x ∷ xs) = rowLines letter i row x
 
 -- n rows from one on, by some of the slots

@@ -6,6 +6,7 @@ use mathlib.Core.List.{List, _++_}
 use Prim.Native.Nat.{ℕ, _+_, _-_, _≤_}
 use lib.Dec.{eqb}
 use lib.ListN.{length}
+use Rattle.numbers.specs.Tables.{compilationTable, typeTable}
 use Rattle.octets.specs.Octets.{zeros, padded}
 use Rattle.octets.specs.Checked.{Check, pass, refuse, _>>=_}
 use Rattle.lookup.specs.Lookup.{indexFor}
@@ -21,7 +22,7 @@ unfoldable pub tableOf : List ℕ → ℕ → Check (List ℕ)
 tableOf p table = tableLines (letterOf table) (indexFor (packageIn p) table)
 
 unfoldable pub bothOf : List ℕ → Check (List ℕ)
-bothOf p = tableOf p 1 >>= λ a. tableOf p 2 >>= λ b. pass (a ++ b)
+bothOf p = tableOf p compilationTable >>= λ a. tableOf p typeTable >>= λ b. pass (a ++ b)
 
 -- the bytes that the lines take
 unfoldable pub measured : Check (List ℕ) → Lines
@@ -44,8 +45,8 @@ pub record TableFits (p : List ℕ) (table : ℕ) (page : List ℕ) : Type 0 whe
 pub record BothFit (p : List ℕ) (n : ℕ) (page : List ℕ) : Type 0 where
   pub first : List ℕ
   pub second : List ℕ
-  pub first-are : tableOf p 1 ≡ pass first
-  pub second-are : tableOf p 2 ≡ pass second
+  pub first-are : tableOf p compilationTable ≡ pass first
+  pub second-are : tableOf p typeTable ≡ pass second
   pub long : length first ≡ n
   pub room : n + length second ≤ length page
   pub blank : page ≡ zeros (length page)

@@ -14,6 +14,10 @@ use Rattle.lookup.specs.Lookup.{packageOf}
 use Rattle.answers.specs.Answers.{Answer, refused, made}
 
 -- ---- a line
+-- the bytes of a line
+abbrev pub lineBytes : ℕ
+lineBytes = 40
+
 abbrev pub space : ℕ
 space = 32
 

@@ -4,7 +4,7 @@ ghost use mathlib.Core.List.{[], _∷_, _++_};
 ghost use Prim.Native.Nat.{_+_, _≤_, _<_};
 ghost use lib.ListN.{length};
 ghost use Rattle.octets.specs.Octets.{placed};
-ghost use Rattle.sheet.specs.Sheet.{digit, hex, decimal, space, line};
+ghost use Rattle.sheet.specs.Sheet.{lineBytes, digit, hex, decimal, space, line};
 
 pub struct Line {
     // C or T
@@ -75,7 +75,7 @@ fn put_section(n: usize, d: &mut [u8], at: usize)
 }
 
 pub fn put_line(l: Line, d: &mut [u8], at: usize)
-    requires { ⌜ (l .section < 100) × (at + 40 ≤ length (now d)) ⌝ }
+    requires { ⌜ (l .section < 100) × (at + lineBytes ≤ length (now d)) ⌝ }
     ensures { λ _. ⌜ now (d .exit) ≡ placed (now (d .entry)) at (line (l .letter) (l .identity) (l .section) (l .offset) (l .size)) ⌝ }
 {
     put_letter(l.letter, d, at);

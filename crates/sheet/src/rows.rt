@@ -6,7 +6,7 @@ ghost use lib.ListN.{length};
 ghost use Rattle.octets.specs.Octets.{placed, zeros};
 ghost use Rattle.index.specs.Columns.{columnsOf};
 ghost use Rattle.index.specs.Held.{indexIn};
-ghost use Rattle.sheet.specs.Sheet.{sectionIn, rowLines};
+ghost use Rattle.sheet.specs.Sheet.{lineBytes, sectionIn, rowLines};
 ghost use Rattle.sheet.specs.Held.{
   IndexHere,
   Marked,
@@ -17,6 +17,7 @@ ghost use Rattle.sheet.specs.Held.{
   single,
   laidOut,
 };
+use crate::lines::LINE;
 use crate::lines::Line;
 use index::cells::COLUMNS;
 use index::reading::IndexHead;
@@ -143,7 +144,7 @@ fn put_row(
 )
     requires index { ⌜ IndexHere (t .big) (now s) (t .head) ⌝ }
     requires sections { ⌜ Sections (indexIn (t .big) (now s) (t .head)) (now sections) (t .head .columns) ⌝ }
-    requires room { ⌜ (0 < row) × (row ≤ t .head .units) × (at + 40 * t .head .columns ≤ length (now d)) ⌝ }
+    requires room { ⌜ (0 < row) × (row ≤ t .head .units) × (at + lineBytes * t .head .columns ≤ length (now d)) ⌝ }
     ensures { λ _. ⌜ now (d .exit) ≡ placed (now (d .entry)) at (rowLines (t .letter) (indexIn (t .big) (now (s .entry)) (t .head)) row identity) ⌝ }
 {
     let head = t.head;
@@ -152,7 +153,7 @@ fn put_row(
     let mut k = 0;
     while k < columns {
         let l = line_of(t, s, sections, identity, k, first + k);
-        crate::lines::put_line(l, d, at + 40 * k);
+        crate::lines::put_line(l, d, at + LINE * k);
         k += 1;
     }
 }
@@ -161,12 +162,12 @@ fn put_row(
 fn put_slots(t: Table, s: &[u8], sections: &[usize], d: &mut [u8])
     requires index { ⌜ IndexHere (t .big) (now s) (t .head) ⌝ }
     requires sections { ⌜ Sections (indexIn (t .big) (now s) (t .head)) (now sections) (t .head .columns) ⌝ }
-    requires page { ⌜ (40 * t .head .columns * t .head .units ≤ length (now d)) × (now d ≡ zeros (length (now d))) ⌝ }
+    requires page { ⌜ (lineBytes * t .head .columns * t .head .units ≤ length (now d)) × (now d ≡ zeros (length (now d))) ⌝ }
     ensures { λ _. ⌜ now (d .exit) ≡ laidOut (t .letter) (indexIn (t .big) (now (s .entry)) (t .head)) (length (now (d .entry))) ⌝ }
 {
     let head = t.head;
     let big = t.big;
-    let block = 40 * head.columns;
+    let block = LINE * head.columns;
     let mut k = head.slots;
     while 0 < k {
         k -= 1;
@@ -179,7 +180,7 @@ fn put_slots(t: Table, s: &[u8], sections: &[usize], d: &mut [u8])
 }
 
 pub fn put_rows(t: Table, s: &[u8], d: &mut [u8])
-    requires { ⌜ (IndexHere (t .big) (now s) (t .head)) × (40 * t .head .columns * t .head .units ≤ length (now d)) × (now d ≡ zeros (length (now d))) ⌝ }
+    requires { ⌜ (IndexHere (t .big) (now s) (t .head)) × (lineBytes * t .head .columns * t .head .units ≤ length (now d)) × (now d ≡ zeros (length (now d))) ⌝ }
     ensures { λ _. ⌜ now (d .exit) ≡ laidOut (t .letter) (indexIn (t .big) (now (s .entry)) (t .head)) (length (now (d .entry))) ⌝ }
 {
     let sections = sections_of(t.big, s, t.head);

@@ -7,7 +7,7 @@ use mathlib.Core.List.{List, [], _∷_, map}
 use Prim.Native.Nat.{ℕ, _+_}
 use lib.Dec.{eqb}
 use lib.ListN.{length}
-use borrow.Author.Tests.{eqb-true, eqb-false, ne-eqb}
+use borrow.Author.Tests.{eqb-true, eqb-false}
 use Rattle.octets.specs.Lists.{joined, those, any}
 use Rattle.octets.proofs.Checks.{known}
 use Rattle.octets.proofs.Lists.{those-keeps, those-skips}
@@ -17,7 +17,7 @@ use Rattle.bundle.proofs.Every.{Every}
 use Rattle.package.proofs.Each.{each-head, each-tail}
 use Rattle.package.specs.Filing.{Filed}
 use Rattle.package.specs.Pack.{cells, longer, entriesFrom, rowsOf, unitBytes}
-use Rattle.package.proofs.Rows.{rowsFrom, rowAt, rows-here, rows-later, rows-are, nothingBefore}
+use Rattle.package.proofs.Rows.{rowsFrom, rowAt, rows-here, rows-later, rows-are, nothingBefore, longer-other}
 use Rattle.sittings.proofs.Rebased.{Both, none as done, more}
 use Rattle.sittings.proofs.SameIndex.{SameRow, index-same}
 
@@ -42,10 +42,6 @@ bytes-alike us vs h b = ap joined (go b)
     go (more p b) = ap₂ (λ (x : List ℕ) (l : List (List ℕ)). x ∷ l) (p .bytes) (go b)
 
 -- ---- rows
-longer-other : (before : BySection ℕ) (home n c : ℕ) → (c ≡ home → ⊥) → longer before home n c ≡ before c
-unfolding longer
-longer-other before home n c e = rw (longer, ne-eqb c home e)
-
 longer-agree : (before before′ : BySection ℕ) (home n h : ℕ) → before h ≡ before′ h → longer before home n h ≡ longer before′ home n h
 unfolding longer
 longer-agree before before′ home n h e = ⊎-elim

@@ -21,7 +21,7 @@ use Rattle.index.specs.Rows.{BySection}
 use Rattle.package.specs.Input.{present, repeated, onlyOnce, complete, unitSections}
 use Rattle.sittings.specs.Sittings.{sectionIn, objectIn}
 use Rattle.package.specs.Pieces.{Piece, pieceOf}
-use Rattle.package.specs.Input.{Input, wrongEdition, besideInfo, editionGood, formOf, inputIndex, isPacked, wholePieces, tiledPieces, Opened, openedWhole, openedTiled, opened, inputOf}
+use Rattle.package.specs.Input.{Input, wrongCodes, besideInfo, editionGood, formOf, inputIndex, isPacked, wholePieces, tiledPieces, Opened, openedWhole, openedTiled, opened, inputOf}
 use Rattle.package.specs.Filing.{Filed, Filing, unitsIn, grown, filingFrom}
 
 -- `inputOf` by the object's word, how many sections of each code it has, their bytes, and its sections of units
@@ -37,7 +37,7 @@ module _ (big : Bool) (first word : ℕ) (κ : ℕ → ℕ) (bytes : BySection (
 
   edition : Bool
   edition =
-      all (λ c. not (has c)) (wrongEdition e) && all (λ c. not (twice c)) onlyOnce
+      all (λ c. not (has c)) (wrongCodes e) && all (λ c. not (twice c)) onlyOnce
       && not ((has 12 || (eqb (e .version) 5 && has 13)) && twice 1) && not (has 13 && twice 2)
 
   index : ℕ → Check (Option Index)

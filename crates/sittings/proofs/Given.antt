@@ -3,10 +3,9 @@
 use mathlib.Core.Path.{_≡_, refl, sym, ap, _∙_}
 use mathlib.Core.Logic.{⊎-elim}
 use mathlib.Core.Bool.{true, false, not}
-use mathlib.Core.List.{List, [], _∷_}
+use mathlib.Core.List.{List, _∷_}
 use mathlib.Core.Option.{Option, some, none}
 use Prim.Native.Nat.{ℕ, _+_, _<_}
-use native.Mathlib.Omega.{arith}
 use lib.Dec.{eqb}
 use lib.ListN.{length, getD}
 use borrow.Author.Tests.{ne-eqb}
@@ -23,16 +22,7 @@ use Rattle.index.proofs.LawCells.{anyHas, cell-there, cell-absent, cell-without
 use Rattle.index.proofs.LawGrid.{noRow}
 use Rattle.index.proofs.OneRow.{those-has}
 use Rattle.index.proofs.RoundTrip.{written}
-
-pub some-inj : {A : Type 0} {a b : A} → some a ≡ some b → a ≡ b
-some-inj e = cc
-
-pub some-none : {A : Type 0} {a : A} {P : Type 0} → some a ≡ none → P
-some-none e = let z : _≡_ {A = ℕ} 0 1 = cc in absurd (omega arith)
-
-pub no-bytes : (s : List ℕ) → length s ≡ 0 → s ≡ []
-no-bytes [] e = refl
-no-bytes (b ∷ s) e = absurd (omega arith)
+use Rattle.octets.proofs.Options.{some-inj, some-none}
 
 -- the rest of a chain, once its first check passes
 pub goes-on : {A B : Type 0} (m : Check A) (f : A → Check B) (a : A) (b : B) → m ≡ pass a → (m >>= f) ≡ pass b → f a ≡ pass b

@@ -10,7 +10,7 @@ use lib.Dec.{eqb}
 use lib.ListN.{length}
 use borrow.Author.Tests.{eqb-true, eqb-false}
 use Rattle.octets.specs.Lists.{any, those, has}
-use Rattle.octets.proofs.Checks.{known, true-false}
+use Rattle.octets.proofs.Checks.{known, true-false, both-ways}
 use Rattle.octets.proofs.Lists.{any-stops, any-cases, any-more}
 use Rattle.index.specs.Index.{Contribution}
 use Rattle.index.specs.Rows.{BySection, shared, neededCodes, isSome}
@@ -106,11 +106,6 @@ pub record Columned (all : ℕ → ℕ → Bool) (u v : Filed) : Type 0 where
   pub there : (at c : ℕ) → isSome (cells u at c) ≡ true → isSome (cells v at c) ≡ true
   pub back : (at c : ℕ) → isSome (cells v at c) ≡ true → (isSome (cells u at c) ≡ true) ⊎ (all (u .table) c ≡ true)
 
-same-when : (a b : Bool) → (a ≡ true → b ≡ true) → (b ≡ true → a ≡ true) → a ≡ b
-same-when true b f g = sym (f refl)
-same-when false true f g = g refl
-same-when false false f g = refl
-
 -- rows of a table have a column together
 module _ (t c : ℕ) (all : ℕ → ℕ → Bool) where
   forth : (us vs : List Filed) (before : BySection ℕ) → Both (Columned all) us vs → anyHas (rowsFrom before us t) c ≡ true → anyHas (rowsFrom before vs t) c ≡ true
@@ -163,7 +158,7 @@ module _ (t c : ℕ) (all : ℕ → ℕ → Bool) where
 -- the units of a home, of all units, where `all` is what these have
 pub columns-same : (t c : ℕ) (all : ℕ → ℕ → Bool) (us vs : List Filed) → Both (Columned all) us vs → (all t c ≡ true → anyHas (rowsFrom nothingBefore us t) c ≡ true)
     → anyHas (rowsFrom nothingBefore us t) c ≡ anyHas (rowsFrom nothingBefore vs t) c
-columns-same t c all us vs b h = same-when _ _ (forth t c all us vs nothingBefore b) (λ y. ⊎-elim (λ z. z) h (back t c all us vs nothingBefore b y))
+columns-same t c all us vs b h = both-ways _ _ (forth t c all us vs nothingBefore b) (λ y. ⊎-elim (λ z. z) h (back t c all us vs nothingBefore b y))
 
 -- a unit read again in the package
 pub again-columned : (i : Input) (ks : List Filed) (u v : Filed) → SharedOnly u → ((c : ℕ) (k : Contribution) → u .contributions c ≡ some k → has (neededCodes (lengths i)) c ≡ true)

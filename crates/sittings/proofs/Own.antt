@@ -24,7 +24,8 @@ use Rattle.package.specs.Filing.{Filed, isUnder, indexFor, lengths, indexByPlac
 use Rattle.package.proofs.Inputs.{IndexRead}
 use Rattle.package.proofs.Units.{readingOf, Taken, read-at}
 use Rattle.package.proofs.UnitStrings.{part-contributed, none-contributed}
-use Rattle.sittings.proofs.Given.{no-bytes, goes-on, needed-is, needed-not, row-given}
+use Rattle.octets.proofs.Elements.{no-length}
+use Rattle.sittings.proofs.Given.{goes-on, needed-is, needed-not, row-given}
 
 -- the whole of a section is what a unit without an index contributes
 whole-cell : (lengths : BySection ℕ) (c : ℕ) → has shared c ≡ true → (lengths c ≡ 0 → ⊥) → wholeContributions lengths c ≡ some (record { offset = 0; size = lengths c })
@@ -72,7 +73,7 @@ module _ (i : Input) (four : isFive (i .encoding) ≡ false) where
 own-whole : (u : Filed) (s a : List ℕ) → u .input .bytes 3 ≡ s → s ≡ a → wholeContributions (lengths (u .input)) ≡ u .contributions → a ≡ contributed u 3
 unfolding lengths shared has any
 own-whole u s a i p w = elim (ℕ-discrete (length (u .input .bytes 3)) 0) [
-  | yes z ↦ sym p ∙ sym i ∙ no-bytes (u .input .bytes 3) z
+  | yes z ↦ sym p ∙ sym i ∙ no-length (u .input .bytes 3) z
       ∙ sym (none-contributed u 3 (ap (λ (f : BySection (Option Contribution)). f 3) (sym w) ∙ whole-none (lengths (u .input)) 3 z))
   | no z ↦ sym p ∙ sym i
       ∙ sym (part-contributed u 3 (record { offset = 0; size = length (u .input .bytes 3) }) (ap (λ (f : BySection (Option Contribution)). f 3) (sym w) ∙ whole-cell (lengths (u .input)) 3 refl z) ∙ part-whole (u .input .bytes 3))

@@ -30,7 +30,7 @@ use Rattle.package.specs.Filing.{Filed, isUnder, indexFor, lengths, isPackage, 
 use Rattle.package.proofs.Pieces.{bytesOf, piece-facts}
 use Rattle.package.proofs.Inputs.{IndexRead, absent-body, index-read, opened-parts, packed-is, openedOf, input-parts, input-cu, input-tu}
 use Rattle.package.proofs.Units.{readingOf, unit-taken}
-use Rattle.sittings.proofs.Given.{some-none}
+use Rattle.octets.proofs.Options.{some-none}
 use Rattle.sittings.proofs.Filed.{FiledIn}
 
 -- a part that is one of the pieces, which stand from a place on

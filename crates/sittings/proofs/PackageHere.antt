@@ -13,7 +13,7 @@ use Rattle.octets.specs.Lists.{any, those, has, distinct}
 use Rattle.octets.specs.Checked.{pass, _>>=_}
 use Rattle.octets.proofs.Checks.{bind-pass, pass-inj, known, true-false, or-neither, or-fails-left, or-fails-right}
 use Rattle.octets.proofs.Lists.{those-keeps, those-skips, any-append}
-use Rattle.octets.proofs.Elements.{has-append, has-cons, has-skips, distinct-head, distinct-tail}
+use Rattle.octets.proofs.Elements.{has-append, has-cons, has-skips, distinct-head, distinct-tail, no-length}
 use Rattle.bundle.specs.Written.{Section}
 use Rattle.index.specs.Rows.{BySection}
 use Rattle.package.specs.Input.{Input}
@@ -21,7 +21,6 @@ use Rattle.package.specs.Filing.{Filed, isUnder, unitAt, unitsFrom, unitsIn, ke
 use Rattle.package.specs.Pack.{unitBytes, nonEmpty}
 use Rattle.package.proofs.Kept.{identitiesIn, identities-here, identities-append, has-identity, distinct-kept}
 use Rattle.package.proofs.Rows.{behindAll, nothingBefore}
-use Rattle.sittings.proofs.Given.{no-bytes}
 use Rattle.sittings.proofs.Rebased.{Both, none, more, Sees}
 use Rattle.sittings.proofs.Alike.{Alike, ofHome}
 use Rattle.sittings.proofs.PackageWalk.{AgainIn, walk, none-those, home-skips, home-append, under-alike}
@@ -73,7 +72,7 @@ all-sections i bases earlier here (s ∷ ss) = ⊎-elim
     (λ (t : nonEmpty s ≡ true). ap (unitsIn i bases earlier here) (those-keeps nonEmpty s ss t)
     ∙ (λ k. unitsFrom (suc (length (s .bytes))) i bases earlier here (s .code) 0 (s .bytes) >>= λ us. all-sections i bases earlier us ss k))
     (λ (t : nonEmpty s ≡ false).
-    let z : s .bytes ≡ [] = no-bytes (s .bytes) (omega (arith, leb-false 1 (length (s .bytes)) (unfold nonEmpty in t))) in
+    let z : s .bytes ≡ [] = no-length (s .bytes) (omega (arith, leb-false 1 (length (s .bytes)) (unfold nonEmpty in t))) in
     ap (unitsIn i bases earlier here) (those-skips nonEmpty s ss t) ∙ all-sections i bases earlier here ss
     ∙ sym (ap (λ (b : List ℕ). unitsFrom (suc (length b)) i bases earlier here (s .code) 0 b >>= λ us. unitsIn i bases earlier us ss) z ∙ nothing-there (s .code) ss))
     (known (nonEmpty s))

@@ -50,8 +50,8 @@ use Rattle.package.proofs.PackageRead.{sectionsOf, package-is, section-there, s
 use Rattle.package.proofs.Rows.{rowAt, rowsFrom, behindAll, nothingBefore, row-stands}
 use Rattle.package.proofs.Tables.{indexOfTable, facts-of, section-small, table-indexed, table-empty}
 use Rattle.package.proofs.UnitStrings.{good-sound}
+use Rattle.octets.proofs.Elements.{no-length}
 use Rattle.sittings.specs.Sittings.{sectionIn}
-use Rattle.sittings.proofs.Given.{no-bytes}
 use Rattle.sittings.proofs.Content.{holdsUnits, units-in}
 use Rattle.sittings.proofs.Final.{PackageInput}
 use Rattle.sittings.proofs.KeptUnits.{homeBy, not-six, OwnRead}
@@ -147,7 +147,7 @@ module _ (b p : List ℕ) (a : Accepted b p) (h : Bytes b) (o : Object) (os : Li
   -- ---- sections
   body-is : (c : ℕ) → body p parts c ≡ section c
   body-is c = elim (ℕ-discrete (length (section c)) 0) [
-    | yes z ↦ missing (section-missing b p a o os q c z) ∙ sym (no-bytes (section c) z)
+    | yes z ↦ missing (section-missing b p a o os q c z) ∙ sym (no-length (section c) z)
     | no z ↦ there (section-there b p a o os q c (omega arith))
   ]
     where

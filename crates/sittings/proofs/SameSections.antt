@@ -28,6 +28,7 @@ use Rattle.package.specs.Filing.{Filed, Filing, isUnder, lengths, keepAll, kept
 use Rattle.package.specs.Pack.{rowsOf, unitBytes, sharedBytes, allUsed, stringTable, sectionList, nonEmpty, packageSections}
 use Rattle.package.proofs.Kept.{keep-new, keepAll-append, identitiesIn, identities-here, identities-later, identities-append, has-identity, distinct-kept, each-kept}
 use Rattle.package.proofs.Rows.{rowsFrom, rows-are, nothingBefore, rows-append, behindAll}
+use Rattle.package.proofs.UnitStrings.{used-append}
 use Rattle.sittings.proofs.Rebased.{Both, none, more, both-append, Sees, Moved, rebased}
 use Rattle.sittings.proofs.Alike.{Alike, ofHome, Tabled, bytes-alike, index-alike, rows-home}
 use Rattle.sittings.proofs.PackageWalk.{AgainIn, home-keeps, home-skips, home-append}
@@ -72,15 +73,6 @@ module _ (homeOf : ℕ → ℕ) where
       (λ (y : eqb (u .home) (homeOf t) ≡ false). sym (ap (identitiesIn t) (home-skips (homeOf t) u us (eqb-false _ _ y))))
       (known (eqb (u .home) (homeOf t))))
       (known (eqb (u .table) t))
-
-  identities-away : (t g : ℕ) (us : List Filed) → Every Homed us → (g ≡ homeOf t → ⊥) → identitiesIn t (ofHome g us) ≡ []
-  unfolding those identitiesIn
-  identities-away t g [] e n = refl
-  identities-away t g (u ∷ us) e n = ⊎-elim
-      (λ (y : eqb (u .home) g ≡ true). ap (identitiesIn t) (home-keeps g u us (eqb-true _ _ y))
-      ∙ identities-later t u (ofHome g us) (λ z. n (sym (eqb-true _ _ y) ∙ each-head e ∙ ap homeOf z)) ∙ identities-away t g us (each-tail e) n)
-      (λ (y : eqb (u .home) g ≡ false). ap (identitiesIn t) (home-skips g u us (eqb-false _ _ y)) ∙ identities-away t g us (each-tail e) n)
-      (known (eqb (u .home) g))
 
 identities-alike : (t : ℕ) (us vs : List Filed) → Both Alike us vs → identitiesIn t us ≡ identitiesIn t vs
 unfolding identitiesIn those
@@ -251,11 +243,6 @@ module _ (homeOf : ℕ → ℕ) (either : (t : ℕ) → (homeOf t ≡ 1) ⊎ (ho
           ∙ or-left (anyHas (rowsFrom nothingBefore ks t) c) (anyHas (rowsFrom (behindAll nothingBefore ks) (added ks vs) t) c) (ap (λ (l : List Row). anyHas l c) (sym (rows-are ks t)) ∙ y)
 
 -- ---- shared sections and strings
-used-append : (is js : List Input) → allUsed (is ++ js) ≡ allUsed is ++ allUsed js
-unfolding allUsed
-used-append [] js = refl
-used-append (i ∷ is) js = ap (λ (z : List (List ℕ)). usedIn (i .pieces) ++ z) (used-append is js) ∙ sym (append-assoc (usedIn (i .pieces)) (allUsed is) (allUsed js))
-
 pub table-same : (is : List Input) (i : Input) (js : List Input) → usedIn (i .pieces) ≡ allUsed is → stringTable (is ++ js) ≡ stringTable (i ∷ js)
 unfolding stringTable allUsed
 table-same is i js e = ap firstUses (used-append is js ∙ ap (λ (z : List (List ℕ)). z ++ allUsed js) (sym e))

@@ -33,8 +33,10 @@ use Rattle.package.proofs.Filing.{lengthsIn}
 use Rattle.package.proofs.Inputs.{InputFacts}
 use Rattle.package.proofs.Pieces as object
 use Rattle.package.proofs.Pieces.{bytesOf}
+use Rattle.index.proofs.Tiles.{starts-here, starts-later}
+use Rattle.package.proofs.UnitStrings.{piece-append}
 use Rattle.sittings.proofs.Strings.{Kept, pieces-four, whole-four}
-use Rattle.sittings.proofs.Tiles.{Row, starts-here, starts-later, starts-in, tiles-in, tiles-row}
+use Rattle.sittings.proofs.Tiles.{Row, starts-in, tiles-in, tiles-row}
 use Rattle.sittings.proofs.Pieces.{PieceFacts, tilesOf, tiles-of, Restrung, pieces-back}
 
 -- ---- the pieces of all objects
@@ -47,15 +49,10 @@ unfolding piecesIn
 pieces-append [] js = refl
 pieces-append (i ∷ is) js = ap (λ (l : List Piece). i .pieces ++ l) (pieces-append is js) ∙ sym (append-assoc (i .pieces) (piecesIn is) (piecesIn js))
 
-used-append : (ps qs : List Piece) → usedIn (ps ++ qs) ≡ usedIn ps ++ usedIn qs
-unfolding usedIn
-used-append [] qs = refl
-used-append (p ∷ ps) qs = ap (λ (l : List (List ℕ)). p .used ++ l) (used-append ps qs) ∙ sym (append-assoc (p .used) (usedIn ps) (usedIn qs))
-
 pub used-all : (is : List Input) → usedIn (piecesIn is) ≡ allUsed is
 unfolding piecesIn usedIn allUsed
 used-all [] = refl
-used-all (i ∷ is) = used-append (i .pieces) (piecesIn is) ∙ ap (λ (l : List (List ℕ)). usedIn (i .pieces) ++ l) (used-all is)
+used-all (i ∷ is) = piece-append (i .pieces) (piecesIn is) ∙ ap (λ (l : List (List ℕ)). usedIn (i .pieces) ++ l) (used-all is)
 
 remapped-append : (e : Encoding) (table : List (List ℕ)) (ps qs : List Piece) → remappedAll e table (ps ++ qs) ≡ remappedAll e table ps ++ remappedAll e table qs
 unfolding remappedAll
@@ -105,7 +102,7 @@ module _ (e : Encoding) (table : List (List ℕ)) where
   unfolding piecesIn usedIn
   all-kept [] f k = nothing
   all-kept (i ∷ is) f k =
-      let split = used-append (i .pieces) (piecesIn is) in
+      let split = piece-append (i .pieces) (piecesIn is) in
       let k′ = subst (Every (λ (s : List ℕ). isIn table s ≡ true)) split k in
       subst (Every (Kept table)) (sym split) (each-append
       (strings-kept (i .bytes 11) (i .pieces) (each-head f .strings .facts .each) (each-left (usedIn (i .pieces)) (usedIn (piecesIn is)) k′))
@@ -130,7 +127,7 @@ module _ (e : Encoding) (table : List (List ℕ)) where
     unfolding piecesIn
     all-facts [] f k = nothing
     all-facts (i ∷ is) f k =
-        let k′ = subst (Every (Kept table)) (used-append (i .pieces) (piecesIn is)) k in
+        let k′ = subst (Every (Kept table)) (piece-append (i .pieces) (piecesIn is)) k in
         each-append (pieces-facts (i .bytes 11) (i .pieces) (each-head f .strings .facts .each) (each-left (usedIn (i .pieces)) (usedIn (piecesIn is)) k′))
         (all-facts is (each-tail f) (each-right (usedIn (i .pieces)) (usedIn (piecesIn is)) k′))
 

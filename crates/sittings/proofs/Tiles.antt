@@ -9,21 +9,14 @@ use Prim.Native.Nat.{ℕ, zero, suc, _+_, _≤_, _<_}
 use native.Mathlib.Omega.{arith}
 use lib.Dec.{eqb, leb}
 use lib.ListN.{length, drop, length-drop}
-use borrow.Author.Tests.{eqb-true, eqb-false, eq-eqb, ne-eqb, le-leb}
+use borrow.Author.Tests.{eqb-true, eqb-false, le-leb}
 use Rattle.octets.specs.Checked.{pass}
 use Rattle.octets.proofs.Checks.{bind-pass, require-pass, passes, then-pass, pass-refuse, known}
 use Rattle.bundle.proofs.Every.{Every}
 use Rattle.package.proofs.Each.{each-head, each-tail, each-snoc, each-so}
 use Rattle.index.specs.Index.{Contribution}
 use Rattle.index.specs.Tiles.{startsAt, tilesFrom}
-
-pub starts-here : (c : Contribution) (cs : List Contribution) (at : ℕ) → c .offset ≡ at → startsAt (c ∷ cs) at ≡ some (c .size)
-unfolding startsAt
-starts-here c cs at e = rw (startsAt, eq-eqb (c .offset) at e)
-
-pub starts-later : (c : Contribution) (cs : List Contribution) (at : ℕ) → (c .offset ≡ at → ⊥) → startsAt (c ∷ cs) at ≡ startsAt cs at
-unfolding startsAt
-starts-later c cs at e = rw (startsAt, ne-eqb (c .offset) at e)
+use Rattle.index.proofs.Tiles.{starts-here, starts-later}
 
 -- parts each of which starts in ds as it does here
 pub starts-in : (cs ds : List Contribution) → Every (λ c. startsAt ds (c .offset) ≡ some (c .size)) cs → (at m : ℕ) → startsAt cs at ≡ some m → startsAt ds at ≡ some m

@@ -1,8 +1,8 @@
--- What callers read from the answers of the code, and the room that kept strings take in the work area.
+-- What callers read from the answers of the code.
 -- Assumes nothing.
 use mathlib.Core.Path.{_≡_, refl, ap, _∙_}
 use mathlib.Core.List.{List}
-use Prim.Native.Nat.{ℕ, _+_, _*_, _≤_}
+use Prim.Native.Nat.{ℕ}
 use native.Mathlib.Omega.{arith}
 use lib.ListN.{length}
 use Rattle.octets.specs.Checked.{Check, pass, refuse}
@@ -10,7 +10,7 @@ use Rattle.bundle.specs.Encoding.{Encoding}
 use Rattle.strings.specs.Strings.{entriesIn, entriesOf}
 use Rattle.strings.specs.Answers.{entriesRead}
 use Rattle.strings.specs.declared.entries.Entries.the-variants.{Count, IllFormed}
-use Rattle.strings.proofs.StrOffsets.{Sound, entries-whole, whole-entries, entries-refused, entries-few}
+use Rattle.strings.proofs.StrOffsets.{entries-whole, whole-entries, entries-refused}
 
 -- what check_entries answers
 read-count : (n : ℕ) (m : Check (List ℕ)) → Count n ≡ entriesRead m → (ns : List ℕ) × (m ≡ pass ns) × (n ≡ length ns)
@@ -18,7 +18,7 @@ unfolding entriesRead
 read-count n (pass ns) e = (ns, refl, cc)
 read-count n (refuse k) e = absurd (let z : _≡_ {A = ℕ} 0 1 = cc in omega arith)
 
-read-ill : (m : Check (List ℕ)) → IllFormed ≡ entriesRead m → (n : ℕ) × (m ≡ refuse n)
+pub read-ill : (m : Check (List ℕ)) → IllFormed ≡ entriesRead m → (n : ℕ) × (m ≡ refuse n)
 unfolding entriesRead
 read-ill (pass ns) e = absurd (let z : _≡_ {A = ℕ} 0 1 = cc in omega arith)
 read-ill (refuse n) e = (n, refl)
@@ -31,9 +31,3 @@ entries-counted e s n p =
 
 pub entries-ill : (e : Encoding) (s : List ℕ) → IllFormed ≡ entriesRead (entriesOf e s) → entriesOf e s ≡ refuse 8
 entries-ill e s p = let r = read-ill (entriesOf e s) p in r .1 ∙ ap refuse (entries-refused e s (r .0) (r .1))
-
--- Seven words for each kept string, three of its row and four slots: an entry takes a word of the bundle or two, so seven words for each word
--- of the bundle are enough. count strings are kept of used entries, which took no more than bytes; one section more still fits.
-pub strings-room : (e : Encoding) (s : List ℕ) (count used bytes words : ℕ) → Sound e → count ≤ used → 4 * used ≤ bytes → bytes + length s ≤ 4 * words
-    → (7 * (count + length (entriesIn e s)) ≤ 7 * words) × (4 * (used + length (entriesIn e s)) ≤ bytes + length s)
-strings-room e s count used bytes words ok h g l = (omega (arith, entries-few e s ok), omega (arith, entries-few e s ok))

@@ -83,16 +83,6 @@ upTo-refused n m (b ∷ s) e =
     ⊎-elim (λ r. upTo-refused n m s r) (λ r. absurd (pass-refuse (b ∷ r .0) m (r .2)))
     (bind-refuse (upToZero n s) (λ u. pass (b ∷ u)) m (sym (upTo-more n b s (eqb-false b 0 p)) ∙ e))) (known (eqb b 0))
 
--- the number changes nothing else
-pub upTo-other : (n m : ℕ) (s t : List ℕ) → upToZero n s ≡ pass t → upToZero m s ≡ pass t
-upTo-other n m [] t e = absurd (pass-refuse t n (sym e ∙ upTo-none n))
-upTo-other n m (b ∷ s) t e =
-    ⊎-elim (λ p. upTo-zero m b s (eqb-true b 0 p) ∙ sym (upTo-zero n b s (eqb-true b 0 p)) ∙ e)
-    (λ p.
-    let h = eqb-false b 0 p in
-    let r = bind-pass (upToZero n s) (λ u. pass (b ∷ u)) t (sym (upTo-more n b s h) ∙ e) in
-    upTo-more m b s h ∙ then-pass (upToZero m s) (λ u. pass (b ∷ u)) (r .0) (upTo-other n m s (r .0) (r .1)) ∙ r .2) (known (eqb b 0))
-
 -- ---- at an offset
 pub record StringIs (s : List ℕ) (offset : ℕ) (t : List ℕ) : Type 0 where
   pub clean : NoZero t
@@ -114,10 +104,6 @@ stringAt-is n s offset t e =
 pub stringAt-refused : (n m : ℕ) (s : List ℕ) (offset : ℕ) → stringAt n s offset ≡ refuse m → n ≡ m
 unfolding stringAt
 stringAt-refused n m s offset e = upTo-refused n m (drop offset s) e
-
-pub stringAt-other : (n m : ℕ) (s : List ℕ) (offset : ℕ) (t : List ℕ) → stringAt n s offset ≡ pass t → stringAt m s offset ≡ pass t
-unfolding stringAt
-stringAt-other n m s offset t e = upTo-other n m (drop offset s) t e
 
 pub stringAt-beyond : (n : ℕ) (s : List ℕ) (offset : ℕ) → length s ≤ offset → stringAt n s offset ≡ refuse n
 unfolding stringAt

@@ -9,9 +9,8 @@ use native.Mathlib.Nat.{not-suc-le-zero, le-of-suc-le-suc}
 use native.Mathlib.Omega.{arith}
 use lib.ListN.{length, getD, length-append}
 use Rattle.octets.specs.Lists.{any, same}
-use Rattle.octets.proofs.Checks.{true-false, known, or-left, or-right, or-neither}
+use Rattle.octets.proofs.Checks.{known, or-left, or-right, or-neither}
 use Rattle.octets.proofs.Lists.{same-refl, same-sym, any-cons, any-stops, any-append, any-none-head, any-none-tail}
-use Rattle.octets.proofs.Elements.{any-at}
 use Rattle.strings.specs.Strings.{put, putAll, firstUses}
 use Rattle.strings.specs.Indexed.{Distinct}
 
@@ -31,10 +30,6 @@ putAll-append table (x ∷ xs) ys = putAll-append (put table x) xs ys
 
 pub putAll-snoc : (table xs : List (List ℕ)) (s : List ℕ) → putAll table (xs ++ (s ∷ [])) ≡ put (putAll table xs) s
 putAll-snoc table xs s = putAll-append table xs (s ∷ []) ∙ putAll-one (putAll table xs) s
-
-pub firstUses-append : (xs ys : List (List ℕ)) → firstUses (xs ++ ys) ≡ putAll (firstUses xs) ys
-unfolding firstUses
-firstUses-append xs ys = putAll-append [] xs ys
 
 -- ---- one string put
 pub put-known : (table : List (List ℕ)) (s : List ℕ) → isIn table s ≡ true → put table s ≡ table
@@ -123,14 +118,3 @@ putAll-distinct table (s ∷ ss) d = putAll-distinct (put table s) ss (put-disti
 pub firstUses-distinct : (used : List (List ℕ)) → Distinct (firstUses used)
 unfolding firstUses Distinct
 firstUses-distinct used = putAll-distinct [] used tt
-
--- equal strings stand at equal places
-pub distinct-at : (table : List (List ℕ)) (i j : ℕ) → Distinct table → i < length table → j < length table → getD table i [] ≡ getD table j [] → i ≡ j
-unfolding Distinct
-distinct-at [] i j d h g e = absurd (not-suc-le-zero h)
-distinct-at (s ∷ ss) zero zero d h g e = refl
-distinct-at (s ∷ ss) zero (suc j) d h g e =
-    absurd (true-false (any-at (same s) [] ss j (le-of-suc-le-suc g) (rw (← e) (same-refl s))) (d .0))
-distinct-at (s ∷ ss) (suc i) zero d h g e =
-    absurd (true-false (any-at (same s) [] ss i (le-of-suc-le-suc h) (rw e (same-refl s))) (d .0))
-distinct-at (s ∷ ss) (suc i) (suc j) d h g e = ap suc (distinct-at ss i j (d .1) (le-of-suc-le-suc h) (le-of-suc-le-suc g) e)

@@ -24,7 +24,7 @@ use Rattle.strings.proofs.Remapped.{length-remapped}
 use Rattle.strings.proofs.Storing.{kept-stays}
 use Rattle.strings.proofs.Headed.{Front, headed-front, headed-end, front-within, front-header, front-size, front-piece, front-rest}
 
-used-is : (e : Encoding) (str p : List ℕ) (us : List (List ℕ)) → stringsAt str (entriesIn e p) ≡ pass us → usedOf e str p ≡ us
+pub used-is : (e : Encoding) (str p : List ℕ) (us : List (List ℕ)) → stringsAt str (entriesIn e p) ≡ pass us → usedOf e str p ≡ us
 unfolding usedOf
 used-is e str p us q = rw (usedOf, q)
 

@@ -10,15 +10,15 @@ use native.Mathlib.Omega.{arith}
 use native.Mathlib.Numerals.{add-one}
 use lib.ListN.{length, take, drop, getD, length-append}
 use lib.Seq.{take-suc, drop-append-add}
-use Rattle.octets.specs.Lists.{any, same, joined, sum}
+use Rattle.octets.specs.Lists.{any, same, joined}
 use Rattle.octets.specs.Checked.{pass}
 use Rattle.octets.proofs.Checks.{true-false, known}
 use Rattle.octets.proofs.Lists.{same-eq, same-refl, same-sym, any-cons, any-stops}
 use Rattle.octets.proofs.Elements.{none-at}
 use Rattle.octets.proofs.Joined.{map-append, joined-append}
-use Rattle.strings.specs.Strings.{put, putAll, firstUses, ended, strOf, offsetIn, upToZero, stringAt}
+use Rattle.strings.specs.Strings.{put, firstUses, ended, strOf, offsetIn, upToZero, stringAt}
 use Rattle.strings.specs.Indexed.{Distinct}
-use Rattle.strings.proofs.FirstUses.{isIn, put-grows, putAll-grows, put-new, used-in}
+use Rattle.strings.proofs.FirstUses.{isIn, put-grows, used-in}
 use Rattle.strings.proofs.Ends.{NoZero, upTo-ended}
 
 -- ---- the str section
@@ -50,12 +50,6 @@ length-strOf-append table more = ap length (strOf-append table more) ∙ length-
 pub length-strOf-snoc : (table : List (List ℕ)) (s : List ℕ) → length (strOf (table ++ (s ∷ []))) ≡ length (strOf table) + (length s + 1)
 length-strOf-snoc table s = ap length (strOf-snoc table s) ∙ length-append (strOf table) (ended s) ∙ ap (λ (k : ℕ). length (strOf table) + k) (length-ended s)
 
--- as a sum
-pub length-strOf : (table : List (List ℕ)) → length (strOf table) ≡ sum (map (λ s. length s + 1) table)
-unfolding sum
-length-strOf [] = ap length strOf-none
-length-strOf (s ∷ table) = length-strOf-cons s table ∙ ap (λ (k : ℕ). length s + 1 + k) (length-strOf table)
-
 -- of the first strings of a table
 pub strOf-take : (table : List (List ℕ)) (i : ℕ) → i < length table → strOf (take (i + 1) table) ≡ strOf (take i table) ++ ended (getD table i [])
 strOf-take table i h = rw (add-one, take-suc table i [] h) (strOf-snoc (take i table) (getD table i []))
@@ -74,9 +68,6 @@ length-strOf-take-le (s ∷ table) (suc i) =
 pub put-longer : (table : List (List ℕ)) (s : List ℕ) → length (strOf table) ≤ length (strOf (put table s))
 put-longer table s = let p = put-grows table s in rw (p .1, length-strOf-append table (p .0)) (omega arith)
 
-pub putAll-longer : (table used : List (List ℕ)) → length (strOf table) ≤ length (strOf (putAll table used))
-putAll-longer table used = let p = putAll-grows table used in rw (p .1, length-strOf-append table (p .0)) (omega arith)
-
 -- ---- offsets
 pub offset-here : (t : List ℕ) (ts : List (List ℕ)) (s : List ℕ) → same s t ≡ true → offsetIn (t ∷ ts) s ≡ 0
 unfolding offsetIn
@@ -85,22 +76,6 @@ offset-here t ts s e = rw (offsetIn, e)
 pub offset-next : (t : List ℕ) (ts : List (List ℕ)) (s : List ℕ) → same s t ≡ false → offsetIn (t ∷ ts) s ≡ length t + 1 + offsetIn ts s
 unfolding offsetIn
 offset-next t ts s e = rw (offsetIn, e)
-
--- a place found in a table is the place in every longer one
-pub offset-append : (table more : List (List ℕ)) (s : List ℕ) → isIn table s ≡ true → offsetIn (table ++ more) s ≡ offsetIn table s
-unfolding any
-offset-append [] more s e = absurd (true-false e refl)
-offset-append (t ∷ ts) more s e =
-    ⊎-elim (λ p. offset-here t (ts ++ more) s p ∙ sym (offset-here t ts s p))
-    (λ p.
-    offset-next t (ts ++ more) s p ∙ ap (λ (k : ℕ). length t + 1 + k) (offset-append ts more s (sym (any-cons (same s) t ts p) ∙ e)) ∙ sym (offset-next t ts s p))
-    (known (same s t))
-
-pub offset-put : (table : List (List ℕ)) (t s : List ℕ) → isIn table s ≡ true → offsetIn (put table t) s ≡ offsetIn table s
-offset-put table t s e = let p = put-grows table t in rw (p .1) (offset-append table (p .0) s e)
-
-pub offset-putAll : (table used : List (List ℕ)) (s : List ℕ) → isIn table s ≡ true → offsetIn (putAll table used) s ≡ offsetIn table s
-offset-putAll table used s e = let p = putAll-grows table used in rw (p .1) (offset-append table (p .0) s e)
 
 -- where a string is none of a table's, its place is behind them all
 pub offset-absent : (table : List (List ℕ)) (s : List ℕ) → isIn table s ≡ false → offsetIn table s ≡ length (strOf table)
@@ -111,17 +86,6 @@ offset-absent (t ∷ ts) s e =
     (λ p.
     offset-next t ts s p ∙ ap (λ (k : ℕ). length t + 1 + k) (offset-absent ts s (sym (any-cons (same s) t ts p) ∙ e)) ∙ sym (length-strOf-cons t ts))
     (known (same s t))
-
-pub offset-new : (table : List (List ℕ)) (s : List ℕ) → isIn table s ≡ false → offsetIn (put table s) s ≡ length (strOf table)
-unfolding any
-offset-new table s e = rw (put-new table s e) (go table e)
-  where
-    go : (ts : List (List ℕ)) → isIn ts s ≡ false → offsetIn (ts ++ (s ∷ [])) s ≡ length (strOf ts)
-    go [] e = offset-here s [] s (same-refl s) ∙ sym (ap length strOf-none)
-    go (t ∷ ts) e =
-        ⊎-elim (λ p. absurd (true-false (any-stops (same s) t ts p) e))
-        (λ p. offset-next t (ts ++ (s ∷ [])) s p ∙ ap (λ (k : ℕ). length t + 1 + k) (go ts (sym (any-cons (same s) t ts p) ∙ e)) ∙ sym (length-strOf-cons t ts))
-        (known (same s t))
 
 -- a string that is there ends, with its zero, in the section
 pub offset-fits : (table : List (List ℕ)) (s : List ℕ) → isIn table s ≡ true → offsetIn table s + length s + 1 ≤ length (strOf table)

@@ -39,7 +39,7 @@ pub entries-right : (e : Encoding) (s : List ℕ) → entriesCheck (entriesRead 
 unfolding entriesRead entriesOf
 entries-right e s =
     stands-right badStrOffsets length entriesCheck entriesRead (λ ns. refl) (λ n. refl) (entriesOf e s)
-    (only-bind 8 _ _ (only-require _ 8) (λ _. only-bind 8 _ _ (only-require _ 8) (λ _. only-pass 8 _)))
+    (only-bind badStrOffsets _ _ (only-require _ badStrOffsets) (λ _. only-bind badStrOffsets _ _ (only-require _ badStrOffsets) (λ _. only-pass badStrOffsets _)))
 
 abbrev pub entriesFor : (e : Encoding) (s : List ℕ) → Stands entriesCheck (mapped length (entriesOf e s))
 entriesFor e s = record { answer = entriesRead (entriesOf e s); right = entries-right e s }

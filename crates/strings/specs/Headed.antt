@@ -7,13 +7,16 @@ use mathlib.Core.List.{List, [], _∷_, _++_}
 use Prim.Native.Nat.{ℕ, _+_, _*_, _/_, _<_, _≤_, _^_}
 use lib.Dec.{eqb}
 use lib.ListN.{length}
+use Rattle.numbers.specs.Tables.{dwarf5}
+use Rattle.numbers.specs.Limits.{stringWords}
 use Rattle.octets.specs.Octets.{numberAt, placed}
 use Rattle.octets.specs.Checked.{Check, pass, refuse, _>>=_}
 use Rattle.bundle.specs.Encoding.{Encoding}
 use Rattle.bundle.specs.Encoded.{encodingIs}
 use Rattle.strings.specs.Strings.{entriesIn, entriesOf, stringsAt, remapped}
 use Rattle.strings.specs.Kept.{Inside, bytesAt, AddedIs}
-use Rattle.strings.specs.Objects.{KeptIn, PlacesIn}
+use Rattle.strings.specs.Remembered.{LastZero}
+use Rattle.strings.specs.Objects.{tableIn, KeptIn, PuttingIn, PlacesIn}
 use Rattle.strings.specs.declared.table.Added.{Added}
 use Rattle.strings.specs.declared.table.StrOffsets.{StrOffsets}
 use Rattle.strings.specs.declared.table.StringTable.{StringTable}
@@ -21,7 +24,7 @@ use Rattle.strings.specs.declared.table.StringTable.{StringTable}
 -- how long the piece at the front of a section is, by its header
 unfoldable pub pieceSize : Encoding → List ℕ → ℕ
 pieceSize e s =
-    elim (eqb (e .version) 5) [
+    elim (eqb (e .version) dwarf5) [
       | true ↦ elim (eqb (e .width) 4) [ true ↦ 4 + numberAt (e .big) 4 s 0 | false ↦ 12 + numberAt (e .big) 8 s 4 ]
       | false ↦ length s
     ]
@@ -47,11 +50,26 @@ pub record PiecesAddable (b : List ℕ) (o : StrOffsets) (words : ℕ) (store : 
   pub offsets-inside : Inside b (o .offsets)
   pub strings-inside : Inside b (o .strings)
   pub memory : words + o .strings .size ≤ length store
-  pub room : 7 * (t .count + o .offsets .size / 4) ≤ words
+  pub room : stringWords * (t .count + o .offsets .size / 4) ≤ words
 
 -- the strings of all pieces are put into a table, or 9
 abbrev pub PiecesAdded : List ℕ → StrOffsets → List ℕ → List (List ℕ) → List (List ℕ) → Added → Type 0
 PiecesAdded b o x table ps r = AddedIs b x table (stringsOfAll (encodingIs (o .encoding)) (bytesAt b (o .strings)) ps) r
+
+-- the same for every table that is being put, and for one that is kept; x is the store after that
+abbrev pub PiecesPut : List ℕ → StrOffsets → ℕ → List ℕ → StringTable → List ℕ → Added → Type 0
+PiecesPut b o words store t x r =
+    (ts ps : List (List ℕ)) → PuttingIn b (o .strings) words store t ts → HeadedOf o b ps → PiecesAdded b o (tableIn words x) ts ps r
+
+abbrev pub PiecesKept : List ℕ → StrOffsets → ℕ → List ℕ → StringTable → List ℕ → Added → Type 0
+PiecesKept b o words store t x r =
+    (ts ps : List (List ℕ)) → KeptIn b words store t ts → HeadedOf o b ps → PiecesAdded b o (tableIn words x) ts ps r
+
+-- what putting them takes: room, where the last string of str ends, a table that is being put, and pieces
+abbrev pub PiecesPutAsked : List ℕ → StrOffsets → ℕ → ℕ → List ℕ → StringTable → Type 0
+PiecesPutAsked b o last words store t =
+    PiecesAddable b o words store t × LastZero (bytesAt b (o .strings)) last × ((ts : List (List ℕ)) × PuttingIn b (o .strings) words store t ts)
+    × ((ps : List (List ℕ)) × HeadedOf o b ps)
 
 -- ---- written
 -- the strings of a piece, none where 9 refuses them

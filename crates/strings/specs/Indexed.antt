@@ -7,6 +7,7 @@ use mathlib.Core.Bool.{false}
 use mathlib.Core.List.{List, [], _∷_}
 use Prim.Native.Nat.{ℕ, _+_, _*_, _/_, _%_, _<_, _≤_}
 use lib.ListN.{length, getD}
+use Rattle.numbers.specs.Limits.{stringWords}
 use Rattle.octets.specs.Lists.{any, same}
 use Rattle.strings.specs.declared.slots.Sought.{Sought}
 use Rattle.strings.specs.declared.slots.Sought.the-variants.{Row, Free}
@@ -25,7 +26,7 @@ hashOf s = hashFrom 0 s
 
 -- how many rows a region has room for
 unfoldable pub roomOf : List ℕ → ℕ
-roomOf region = length region / 7
+roomOf region = length region / stringWords
 
 -- where the search for a string starts in the region, behind its rows
 unfoldable pub firstSlot : ℕ → List ℕ → ℕ

@@ -6,6 +6,8 @@ use mathlib.Core.List.{List, []}
 use Prim.Native.Nat.{ℕ, _+_, _*_, _<_, _≤_}
 use lib.Dec.{ltb}
 use lib.ListN.{length, take, getD}
+use Rattle.numbers.specs.Limits.{sectionLimit}
+use Rattle.numbers.specs.Refusals.{noString}
 use Rattle.octets.specs.Octets.{part}
 use Rattle.octets.specs.Lists.{any, same}
 use Rattle.octets.specs.Checked.{Check, pass, refuse}
@@ -44,7 +46,7 @@ pub record Held (b region : List ℕ) (n : ℕ) (table : List (List ℕ)) : Type
 -- the state for a table: whether its str section is above 8,388,607 bytes (19), and where it is not, how long it is, and the table itself
 pub record Kept (b region : List ℕ) (t : StringTable) (table : List (List ℕ)) : Type 0 where
   pub few : t .count ≤ length table
-  pub over : t .over ≡ ltb 8388607 (length (strOf table))
+  pub over : t .over ≡ ltb sectionLimit (length (strOf table))
   pub size : t .over ≡ false → t .size ≡ length (strOf table)
   pub held : t .over ≡ false → Held b region (t .count) table
 
@@ -59,7 +61,7 @@ foundIn table s = elim (any (same s) table) [ true ↦ At (offsetIn table s) | f
 -- the strings of an object put into a table, or 9
 pub record AddedIs (b region : List ℕ) (table : List (List ℕ)) (strings : Check (List (List ℕ))) (r : Added) : Type 0 where
   pub kept : (t : StringTable) → r ≡ Table t → (used : List (List ℕ)) × (strings ≡ pass used) × Kept b region t (putAll table used)
-  pub missing : r ≡ NoString → strings ≡ refuse 9
+  pub missing : r ≡ NoString → strings ≡ refuse noString
 
 -- an object's str_offsets and str at places of the bundle, which 8 and 9 let pass, and the strings used
 pub record Judged (e : Encoding) (b : List ℕ) (offsets strings : Place) (used : List (List ℕ)) : Type 0 where

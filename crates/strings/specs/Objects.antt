@@ -4,6 +4,7 @@ use mathlib.Core.Path.{_≡_}
 use mathlib.Core.List.{List, map}
 use Prim.Native.Nat.{ℕ, _+_, _*_, _<_, _≤_, _^_}
 use lib.ListN.{length, take, drop}
+use Rattle.numbers.specs.Limits.{stringWords}
 use Rattle.octets.specs.Octets.{part, placed, numbersOf}
 use Rattle.octets.specs.Checked.{Check, pass, refuse}
 use Rattle.numbers.specs.Refusals.{noString}
@@ -57,16 +58,16 @@ PlacesIn b strings words store table = Remembered (bytesAt b strings) (placeIs t
 pub record Insertable (b : List ℕ) (start size : ℕ) (region : List ℕ) (t : StringTable) : Type 0 where
   pub limit : length b < 2 ^ 32
   pub fits : start + size ≤ length b
-  pub room : 7 * t .count + 7 ≤ length region
+  pub room : stringWords * t .count + stringWords ≤ length region
 
 -- room for the string that starts at an offset of str
 pub record Addable (b : List ℕ) (strings : Place) (offset words : ℕ) (store : List ℕ) (t : StringTable) : Type 0 where
   pub limit : length b < 2 ^ 32
   pub inside : Inside b strings
   pub memory : words + strings .size ≤ length store
-  pub room : 7 * t .count + 7 ≤ words
+  pub room : stringWords * t .count + stringWords ≤ words
   pub string : List ℕ
-  pub starts : stringAt 9 (bytesAt b strings) offset ≡ pass string
+  pub starts : stringAt noString (bytesAt b strings) offset ≡ pass string
 
 -- room for a row for each entry, and a word of memory for each byte of str
 pub record AllAddable (b : List ℕ) (o : StrOffsets) (words : ℕ) (store : List ℕ) (t : StringTable) : Type 0 where
@@ -74,7 +75,7 @@ pub record AllAddable (b : List ℕ) (o : StrOffsets) (words : ℕ) (store : Lis
   pub offsets-inside : Inside b (o .offsets)
   pub strings-inside : Inside b (o .strings)
   pub memory : words + o .strings .size ≤ length store
-  pub room : 7 * (t .count + length (entriesAt o b)) ≤ words
+  pub room : stringWords * (t .count + length (entriesAt o b)) ≤ words
 
 -- the strings that entries os name are put, and it is remembered which, so that those of more entries can follow; t and x are the state before and the store after
 pub record AllPut (b : List ℕ) (strings : Place) (os : List ℕ) (words : ℕ) (x : List ℕ) (t : StringTable) (table : List (List ℕ)) (r : Added) : Type 0 where
@@ -82,10 +83,14 @@ pub record AllPut (b : List ℕ) (strings : Place) (os : List ℕ) (words : ℕ)
   pub missing : r ≡ NoString → stringsAt (bytesAt b strings) os ≡ refuse noString
   pub few : (u : StringTable) → r ≡ Table u → u .count ≤ t .count + length os
 
+-- the same for every table that is being put
+abbrev pub AllPutTo : List ℕ → StrOffsets → ℕ → List ℕ → StringTable → List ℕ → Added → Type 0
+AllPutTo b o words store t x r = (ts : List (List ℕ)) → PuttingIn b (o .strings) words store t ts → AllPut b (o .strings) (entriesAt o b) words x t ts r
+
 -- the string that starts at an offset of str is put; u and x are the state and the store after that
 abbrev pub PutsString : List ℕ → Place → ℕ → ℕ → List ℕ → StringTable → List ℕ → StringTable → Type 0
 PutsString b strings offset words store t x u =
-    (table : List (List ℕ)) (s : List ℕ) → PuttingIn b strings words store t table → stringAt 9 (bytesAt b strings) offset ≡ pass s → PuttingIn b strings words x u (put table s)
+    (table : List (List ℕ)) (s : List ℕ) → PuttingIn b strings words store t table → stringAt noString (bytesAt b strings) offset ≡ pass s → PuttingIn b strings words x u (put table s)
 
 -- the table of kept strings, and the places that are remembered of str
 abbrev pub Placing : List ℕ → Place → ℕ → List ℕ → StringTable → List (List ℕ) → Type 0
@@ -94,7 +99,7 @@ Placing b strings words store t table = KeptIn b words store t table × PlacesIn
 -- the new place of the string that starts at an offset of str, and what is remembered after that; the table stays
 pub record PlacesString (b : List ℕ) (strings : Place) (offset words : ℕ) (store : List ℕ) (t : StringTable) (x : List ℕ) (r : ℕ) : Type 0 where
   pub table : tableIn words x ≡ tableIn words store
-  pub place : (ts : List (List ℕ)) (s : List ℕ) → KeptIn b words store t ts → stringAt 9 (bytesAt b strings) offset ≡ pass s → PlacesIn b strings words store ts
+  pub place : (ts : List (List ℕ)) (s : List ℕ) → KeptIn b words store t ts → stringAt noString (bytesAt b strings) offset ≡ pass s → PlacesIn b strings words store ts
       → (r ≡ offsetIn ts s) × PlacesIn b strings words x ts
 
 -- a string starts at an offset of str, for which there is memory
@@ -102,7 +107,7 @@ pub record Placeable (b : List ℕ) (strings : Place) (offset words : ℕ) (stor
   pub inside : Inside b strings
   pub memory : words + strings .size ≤ length store
   pub string : List ℕ
-  pub starts : stringAt 9 (bytesAt b strings) offset ≡ pass string
+  pub starts : stringAt noString (bytesAt b strings) offset ≡ pass string
 
 -- the entries as they are written
 abbrev pub entriesOut : StrOffsets → List (List ℕ) → List (List ℕ) → List ℕ

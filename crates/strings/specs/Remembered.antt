@@ -5,6 +5,7 @@ use mathlib.Core.Bool.{true}
 use mathlib.Core.List.{List}
 use Prim.Native.Nat.{ℕ, _+_, _<_, _≤_}
 use lib.ListN.{length, getD}
+use Rattle.numbers.specs.Refusals.{noString}
 use Rattle.octets.specs.Lists.{any, same}
 use Rattle.octets.specs.Checked.{pass}
 use Rattle.strings.specs.Strings.{stringAt, offsetIn}
@@ -14,7 +15,7 @@ use Rattle.strings.specs.declared.table.StringTable.{StringTable}
 
 -- a word that is not 0 tells something of the string that starts there
 pub record Remembered (str : List ℕ) (told : List ℕ → ℕ → Type 0) (memo : List ℕ) : Type 0 where
-  pub known : (o : ℕ) → o < length str → (getD memo o 0 ≡ 0 → ⊥) → (s : List ℕ) × (stringAt 9 str o ≡ pass s) × told s (getD memo o 0)
+  pub known : (o : ℕ) → o < length str → (getD memo o 0 ≡ 0 → ⊥) → (s : List ℕ) × (stringAt noString str o ≡ pass s) × told s (getD memo o 0)
 
 -- while strings are put: it is one of the table's
 abbrev pub isPut : List (List ℕ) → List ℕ → ℕ → Type 0

@@ -5,6 +5,8 @@ use mathlib.Core.List.{List, [], _∷_, _++_, map}
 use Prim.Native.Nat.{ℕ, suc, _+_, _-_, _/_, _%_}
 use lib.Dec.{eqb, leb}
 use lib.ListN.{length, take, drop}
+use Rattle.numbers.specs.Tables.{dwarf5}
+use Rattle.numbers.specs.Refusals.{badStrOffsets, noString}
 use Rattle.octets.specs.Octets.{numberAt, numbersIn, numbersOf}
 use Rattle.octets.specs.Lists.{joined, any, same}
 use Rattle.octets.specs.Checked.{Check, pass, refuse, _>>=_, require}
@@ -12,16 +14,16 @@ use Rattle.bundle.specs.Encoding.{Encoding}
 
 -- "Version 5 str_offsets has a header of 8 bytes (width 4) or 16 (width 8)"; version 4 has none
 unfoldable pub headerSize : Encoding → ℕ
-headerSize e = elim (eqb (e .version) 5) [ true ↦ e .width + e .width | false ↦ 0 ]
+headerSize e = elim (eqb (e .version) dwarf5) [ true ↦ e .width + e .width | false ↦ 0 ]
 
 -- "the length of the rest, 5, 0"; a length of 8 bytes stands behind FFFFFFFF
 unfoldable pub headerTrue : Encoding → List ℕ → Bool
 headerTrue e s =
-    elim (eqb (e .version) 5) [
+    elim (eqb (e .version) dwarf5) [
       | true ↦ elim (eqb (e .width) 4) [
-        | true ↦ leb 8 (length s) && eqb (numberAt (e .big) 4 s 0) (length s - 4) && eqb (numberAt (e .big) 2 s 4) 5 && eqb (numberAt (e .big) 2 s 6) 0
+        | true ↦ leb 8 (length s) && eqb (numberAt (e .big) 4 s 0) (length s - 4) && eqb (numberAt (e .big) 2 s 4) dwarf5 && eqb (numberAt (e .big) 2 s 6) 0
         | false ↦ leb 16 (length s) && eqb (numberAt (e .big) 4 s 0) 0xFFFF_FFFF && eqb (numberAt (e .big) 8 s 4) (length s - 12)
-            && eqb (numberAt (e .big) 2 s 12) 5 && eqb (numberAt (e .big) 2 s 14) 0
+            && eqb (numberAt (e .big) 2 s 12) dwarf5 && eqb (numberAt (e .big) 2 s 14) 0
       ]
       | false ↦ true
     ]
@@ -33,8 +35,8 @@ entriesIn e s = numbersIn (e .big) (e .width) ((length s - headerSize e) / e .wi
 -- 8: the header is true and whole entries follow
 unfoldable pub entriesOf : Encoding → List ℕ → Check (List ℕ)
 entriesOf e s = do
-  _ ← require (headerTrue e s) 8
-  _ ← require (eqb ((length s - headerSize e) % e .width) 0) 8
+  _ ← require (headerTrue e s) badStrOffsets
+  _ ← require (eqb ((length s - headerSize e) % e .width) 0) badStrOffsets
   pass (entriesIn e s)
 
 -- the bytes up to a zero byte; the number where there is none
@@ -49,7 +51,7 @@ stringAt n str offset = upToZero n (drop offset str)
 -- the strings that entries name
 unfoldable pub stringsAt : List ℕ → List ℕ → Check (List (List ℕ))
 stringsAt str [] = pass []
-stringsAt str (o ∷ os) = stringAt 9 str o >>= λ s. (stringsAt str os >>= λ ss. pass (s ∷ ss))
+stringsAt str (o ∷ os) = stringAt noString str o >>= λ s. (stringsAt str os >>= λ ss. pass (s ∷ ss))
 
 -- "The table behaves as a map filled in order of first use": a new string goes to the end, a known one changes nothing
 unfoldable pub put : List (List ℕ) → List ℕ → List (List ℕ)

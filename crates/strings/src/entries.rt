@@ -4,6 +4,7 @@ ghost use mathlib.Core.Bool.{true, false, _&&_};
 ghost use Prim.Native.Nat.{ℕ, _+_, _≤_, _<_};
 ghost use lib.Dec.{eqb};
 ghost use lib.ListN.{length, getD};
+ghost use Rattle.numbers.specs.Tables.{dwarf5};
 ghost use Rattle.octets.specs.Octets.{numberAt};
 ghost use Rattle.bundle.specs.Encoded.{encodingIs};
 ghost use Rattle.strings.specs.Strings.{
@@ -14,6 +15,9 @@ ghost use Rattle.strings.specs.Strings.{
 ghost use Rattle.strings.specs.Answers.{entriesFor, stringFor};
 ghost use Rattle.strings.specs.Remembered.{LastZero};
 use bundle::encoding::ObjectEncoding;
+
+// The version that a header states.
+const VERSION: u16 = numbers::tables::DWARF_5 as u16;
 
 // How many entries a section has.
 pub enum Entries {
@@ -42,9 +46,9 @@ pub fn header_size(e: ObjectEncoding) -> usize
 // The version and the padding, 5 and 0, behind the length of a header.
 fn version_true(big: bool, s: &[u8], at: usize) -> bool
     requires { ⌜ at + 4 ≤ length (now s) ⌝ }
-    ensures { λ r. ⌜ r ≡ (eqb (numberAt big 2 (now (s .entry)) at) 5 && eqb (numberAt big 2 (now (s .entry)) (at + 2)) 0) ⌝ }
+    ensures { λ r. ⌜ r ≡ (eqb (numberAt big 2 (now (s .entry)) at) dwarf5 && eqb (numberAt big 2 (now (s .entry)) (at + 2)) 0) ⌝ }
 {
-    if octets::u16_at(big, s, at) != 5 {
+    if octets::u16_at(big, s, at) != VERSION {
         return false;
     }
     octets::u16_at(big, s, at + 2) == 0

@@ -5,11 +5,20 @@ ghost use Prim.Native.Nat.{ℕ, _≤_};
 ghost use lib.ListN.{length};
 ghost use Rattle.bundle.specs.Encoded.{encodingIs};
 ghost use Rattle.strings.specs.Strings.{headerSize};
-ghost use Rattle.strings.specs.Kept.{bytesAt};
-ghost use Rattle.strings.specs.Remembered.{LastZero};
 ghost use mathlib.Core.Bool.{false};
-ghost use Rattle.strings.specs.Objects.{tableIn, KeptIn, PuttingIn, Writable};
-ghost use Rattle.strings.specs.Headed.{pieceSize, HeadedOf, PiecesAddable, PiecesAdded, PiecesJudged, PiecesHeld, PiecesOut, PiecesRemap};
+ghost use Rattle.strings.specs.Objects.{tableIn, KeptIn, Writable};
+ghost use Rattle.strings.specs.Headed.{
+  pieceSize,
+  HeadedOf,
+  PiecesAddable,
+  PiecesPutAsked,
+  PiecesPut,
+  PiecesKept,
+  PiecesJudged,
+  PiecesHeld,
+  PiecesOut,
+  PiecesRemap,
+};
 use crate::entries;
 use crate::table::Added;
 use crate::table::Place;
@@ -42,8 +51,8 @@ fn put_pieces(
     words: usize,
     t: StringTable,
 ) -> Added
-    requires { ⌜ PiecesAddable (now b) o words (now store) t × LastZero (bytesAt (now b) (o .strings)) ended × ((ts : List (List ℕ)) × PuttingIn (now b) (o .strings) words (now store) t ts) × ((ps : List (List ℕ)) × HeadedOf o (now b) ps) ⌝ }
-    ensures { λ r. ⌜ ((ts ps : List (List ℕ)) → PuttingIn (now (b .entry)) (o .strings) words (now (store .entry)) t ts → HeadedOf o (now (b .entry)) ps → PiecesAdded (now (b .entry)) o (tableIn words (now (store .exit))) ts ps r) ⌝ }
+    requires { ⌜ PiecesPutAsked (now b) o ended words (now store) t ⌝ }
+    ensures { λ r. ⌜ PiecesPut (now (b .entry)) o words (now (store .entry)) t (now (store .exit)) r ⌝ }
 {
     let e = o.encoding;
     let strings = o.strings;
@@ -73,7 +82,7 @@ fn put_pieces(
 // table in its first words, with a row for each entry, and behind them a word of memory for each byte of str; what the memory holds after the call is not promised.
 pub fn add_pieces(o: StrOffsets, b: &[u8], store: &mut [u32], words: usize, t: StringTable) -> Added
     requires { ⌜ PiecesAddable (now b) o words (now store) t × ((ts : List (List ℕ)) × KeptIn (now b) words (now store) t ts) × ((ps : List (List ℕ)) × HeadedOf o (now b) ps) ⌝ }
-    ensures { λ r. ⌜ ((ts ps : List (List ℕ)) → KeptIn (now (b .entry)) words (now (store .entry)) t ts → HeadedOf o (now (b .entry)) ps → PiecesAdded (now (b .entry)) o (tableIn words (now (store .exit))) ts ps r) ⌝ }
+    ensures { λ r. ⌜ PiecesKept (now (b .entry)) o words (now (store .entry)) t (now (store .exit)) r ⌝ }
 {
     let strings = o.strings;
     let base = strings.start;

@@ -7,6 +7,7 @@ ghost use Rattle.octets.specs.Octets.{part};
 ghost use Rattle.octets.specs.Lists.{same};
 ghost use Rattle.strings.specs.Indexed.{mixed, hashOf, firstSlot, SoughtIs};
 ghost use Rattle.strings.specs.Kept.{Held};
+use numbers::limits::STRING_WORDS;
 
 // Where a search ends: at the row of a string, or at the free slot where its number would stand.
 pub enum Sought {
@@ -64,7 +65,7 @@ pub fn seek_string(b: &[u8], table: &[u32], start: usize, size: usize) -> Sought
     ensures { λ r. ⌜ ((n : ℕ) (ts : List (List ℕ)) → Held (now (b .entry)) (now (table .entry)) n ts → SoughtIs (now (table .entry)) n ts (part (now (b .entry)) start size) r) ⌝ }
 {
     let end = start + size;
-    let room = table.len() / 7;
+    let room = table.len() / STRING_WORDS;
     let mut at = first_slot(room, &b[start..end]);
     while at < table.len() {
         let number = octets::word(table, at);

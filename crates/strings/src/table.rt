@@ -28,13 +28,14 @@ ghost use Rattle.strings.specs.Objects.{
   Insertable,
   Addable,
   AllAddable,
-  AllPut,
+  AllPutTo,
   PutsString,
 };
 use crate::entries;
 use crate::entries::StringRead;
 use crate::slots::Sought;
 use bundle::encoding::ObjectEncoding;
+use numbers::limits::SECTION_LIMIT;
 
 // A part of the bundle.
 pub struct Place {
@@ -111,7 +112,7 @@ pub fn get_or_insert(
     let Sought::Free(slot) = crate::slots::seek_string(b, table, start, size) else {
         return t;
     };
-    if 8_388_607 - kept <= size {
+    if SECTION_LIMIT - kept <= size {
         return StringTable {
             count,
             size: kept,
@@ -210,7 +211,7 @@ pub fn add_entries(
     t: StringTable,
 ) -> Added
     requires { ⌜ AllAddable (now b) o words (now store) t × LastZero (bytesAt (now b) (o .strings)) ended × ((ts : List (List ℕ)) × PuttingIn (now b) (o .strings) words (now store) t ts) ⌝ }
-    ensures { λ r. ⌜ ((ts : List (List ℕ)) → PuttingIn (now (b .entry)) (o .strings) words (now (store .entry)) t ts → AllPut (now (b .entry)) (o .strings) (entriesAt o (now (b .entry))) words (now (store .exit)) t ts r) ⌝ }
+    ensures { λ r. ⌜ AllPutTo (now (b .entry)) o words (now (store .entry)) t (now (store .exit)) r ⌝ }
 {
     let count = entries_of(o, b);
     let mut kept = t;

@@ -1,19 +1,18 @@
 -- The walk over parts that tile a section: 8 of each.
 -- Assumes nothing.
 use mathlib.Core.Path.{_≡_, refl, sym, ap, ap₂, _∙_, subst}
-use mathlib.Core.Bool.{true, false}
+use mathlib.Core.Bool.{true}
 use mathlib.Core.List.{List, [], _∷_}
 use Prim.Native.Nat.{ℕ, _+_, _-_, _<_, _≤_}
 use native.Mathlib.Omega.{arith}
 use lib.ListN.{length, take, drop, getD}
 use Rattle.octets.specs.Octets.{part}
-use Rattle.octets.specs.Checked.{Check, pass, refuse, mapped}
+use Rattle.octets.specs.Checked.{Check, pass, refuse}
 use Rattle.octets.proofs.Parts.{part-cut}
 use Rattle.bundle.specs.Encoding.{Encoding}
 use Rattle.strings.specs.Strings.{entriesOf}
 use Rattle.strings.specs.Answers.{entriesRead}
-use Rattle.strings.specs.declared.entries.Entries.{Entries}
-use Rattle.strings.specs.declared.entries.Entries.the-variants.{Count, IllFormed}
+use Rattle.strings.specs.declared.entries.Entries.the-variants.{Count}
 use Rattle.index.specs.Index.{Contribution}
 use Rattle.index.proofs.Tiles.{isOne, one-here, one-later, Tiling, tiling-end, partOf, Tiles}
 use Rattle.tiles.specs.Marks.{Marks, TiledBy, goodEnd}
@@ -88,11 +87,6 @@ pub read-count : (m : Check (List ℕ)) (n : ℕ) → Count n ≡ entriesRead m 
 unfolding entriesRead
 read-count (pass ns) n q = (ns, refl)
 read-count (refuse k) n q = absurd (let z : _≡_ {A = ℕ} 0 1 = cc in omega arith)
-
-pub read-ill : (m : Check (List ℕ)) → IllFormed ≡ entriesRead m → (n : ℕ) × (m ≡ refuse n)
-unfolding entriesRead
-read-ill (refuse k) q = (k, refl)
-read-ill (pass ns) q = absurd (let z : _≡_ {A = ℕ} 0 1 = cc in omega arith)
 
 pub cut-part : (s : List ℕ) (at n end : ℕ) → end ≡ at + n → take (end - at) (drop at s) ≡ part s at n
 cut-part s at n end e = ap (λ (k : ℕ). take (k - at) (drop at s)) e ∙ part-cut s at n

@@ -21,7 +21,7 @@ use Rattle.unit.proofs.Plain.{plain, unit-plain}
 use Rattle.unit.specs.TypeUnits.{unitType, IsTypeUnit}
 
 -- ---- read alone
-number-alone : (big : Bool) (w : ℕ) (s : List ℕ) (n at : ℕ) → at + w ≤ n → numberAt big w (take n s) at ≡ numberAt big w s at
+pub number-alone : (big : Bool) (w : ℕ) (s : List ℕ) (n at : ℕ) → at + w ≤ n → numberAt big w (take n s) at ≡ numberAt big w s at
 unfolding numberAt
 number-alone big w s n at h = ap (number big) (part-take s n at w h)
 

@@ -10,8 +10,8 @@ use lib.ListN.{length, drop, length-drop}
 use lib.Seq.{drop-drop}
 use borrow.Author.Tests.{eq-eqb, ne-eqb}
 use Rattle.octets.specs.Checked.{Check, pass, refuse, _>>=_}
-use Rattle.octets.proofs.Checks.{pass-refuse, pass-inj, bind-pass, bind-same, then-pass, passes, require-pass}
-use Rattle.octets.proofs.Refusals.{Only, only-pass, only-refuse, only-require, only-bind, only-refuses}
+use Rattle.octets.proofs.Checks.{pass-inj, bind-pass, bind-same, then-pass, passes, require-pass}
+use Rattle.octets.proofs.Refusals.{Only, only-pass, only-refuse, only-require, only-bind}
 use Rattle.leb128.specs.Leb128.{groups, short, unsigned}
 use Rattle.leb128.proofs.Taken.{short-taken, unsigned-taken, only-short, only-unsigned}
 use Rattle.unit.specs.Abbreviations.{Attribute, Declaration, attributesOf, declarationAt, declarationsThen, declarationsFrom, declarationsOf}
@@ -72,10 +72,6 @@ pub only-declarationAt : (code : ℕ) (s : List ℕ) → Only 12 (declarationAt 
 unfolding declarationAt attributesOf
 only-declarationAt code s =
     only-bind 12 _ _ (only-short s) (λ tag. only-bind 12 _ _ (only-require _ 12) (λ _. only-bind 12 _ _ (only-require _ 12) (λ _. only-bind 12 _ _ (only-attributesFrom _ _) (λ _. only-pass 12 _))))
-
-pub declaration-not : (code : ℕ) (s : List ℕ) (k : ℕ) → placeAt s ≡ refuse k → declarationAt code s ≡ refuse 12
-declaration-not code s k e =
-    only-refuses 12 (declarationAt code s) (only-declarationAt code s) (λ d h. let p = declaration-place code s d h in pass-refuse (p .0) k (sym (p .1) ∙ e))
 
 -- ---- equations without a bound
 pub then-end : (code : ℕ) (s : List ℕ) (f : List ℕ → Check (List Declaration)) → code ≡ 0 → declarationsThen code s f ≡ pass []

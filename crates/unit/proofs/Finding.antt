@@ -13,6 +13,7 @@ use Rattle.octets.specs.Lists.{has, any, distinct}
 use Rattle.octets.specs.Checked.{pass, refuse}
 use Rattle.octets.proofs.Checks.{pass-refuse, pass-inj, bind-pass, require-pass, true-false}
 use Rattle.octets.proofs.Elements.{has-at, has-cons, has-skips, distinct-head, distinct-tail}
+use Rattle.octets.proofs.Options.{some-inj}
 use Rattle.unit.specs.Abbreviations.{Declaration, declarationsOf, declarationOf}
 use Rattle.unit.specs.Tables.{Coded, declaredAt, declarations, Located}
 use Rattle.unit.specs.Trees.{codeAt, carriedAt, Rising, Ends}
@@ -21,9 +22,6 @@ use Rattle.unit.specs.declared.tree.Walked.{Walked}
 use Rattle.unit.specs.declared.tree.Walked.the-variants as walked
 use Rattle.unit.specs.declared.abbreviations.Found.the-variants.{At, Nothing}
 use Rattle.unit.proofs.Trees.{free-not}
-
-some-inj : {A : Type 0} {a b : A} → some a ≡ some b → a ≡ b
-some-inj e = cc
 
 -- ---- the first declaration of a code, where codes differ
 matched : (d : Declaration) (es : List Declaration) (code : ℕ) → d .code ≡ code → declarationOf (d ∷ es) code ≡ some d

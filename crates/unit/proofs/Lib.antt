@@ -20,6 +20,5 @@ pub mod Units
 pub mod Heads
 pub mod Remembering
 pub mod HeaderAlone
-pub mod Promised
 pub mod Examples
 pub mod Plain

@@ -3,7 +3,7 @@
 use mathlib.Core.Path.{_≡_, refl, sym, ap, _∙_}
 use mathlib.Core.Bool.{Bool}
 use mathlib.Core.List.{List, [], _∷_}
-use Prim.Native.Nat.{ℕ, zero, suc, _+_, _-_, _≤_, _<_}
+use Prim.Native.Nat.{ℕ, suc, _+_, _-_, _≤_, _<_}
 use native.Mathlib.Omega.{arith}
 use native.Mathlib.Numerals.{add-one}
 use native.Mathlib.Decide.{ℕ-discrete, decLe}
@@ -32,10 +32,6 @@ ends-in s n h = passes _ _ _ (le-leb n (length s) h)
 pub ends-out : (s : List ℕ) (n : ℕ) → length s < n → ends s n ≡ refuse 12
 unfolding ends
 ends-out s n h = fails _ _ _ (lt-leb n (length s) h)
-
-pub only-ends : (s : List ℕ) (n : ℕ) → Only 12 (ends s n)
-unfolding ends
-only-ends s n = only-bind 12 _ _ (only-require _ 12) (λ _. only-pass 12 n)
 
 -- what ends in s anyway
 pub ends-all : (s : List ℕ) (m : Check ℕ) → ((n : ℕ) → m ≡ pass n → n ≤ length s) → (m >>= ends s) ≡ m

@@ -15,6 +15,7 @@ use Rattle.octets.specs.Checked.{Check, pass, refuse, _>>=_, require}
 use Rattle.octets.proofs.Checks.{pass-refuse, pass-inj, bind-pass, then-pass, then-refuse, passes, fails}
 use Rattle.octets.proofs.Refusals.{Only, only-pass, only-require, only-bind, only-refuses}
 use Rattle.bundle.specs.Encoding.{Encoding}
+use Rattle.octets.proofs.Options.{some-inj, some-none}
 use Rattle.unit.specs.Abbreviations.{Attribute, attributeAt, attributesOf}
 use Rattle.unit.specs.Root.{needed, Value, valueOf, identityAt, identityIn}
 use Rattle.unit.specs.Roots.{Move, attributeStep, identityFrom}
@@ -85,12 +86,6 @@ module _ (e : Encoding) (t s : List ℕ) (seen : Option ℕ) where
         step-on x f = valued ∙ then-pass _ _ _ q ∙ then-pass _ _ _ f
 
 -- ---- the walk
-some-inj : {A : Type 0} {a b : A} → some a ≡ some b → a ≡ b
-some-inj e = cc
-
-some-none : {A : Type 0} (a : A) → some a ≡ none → ⊥
-some-none a e = let z : _≡_ {A = ℕ} 0 1 = cc in omega arith
-
 -- what a step that goes on has read
 pub record Steps (e : Encoding) (t s : List ℕ) (seen : Option ℕ) (m : Move) : Type 0 where
   pub attribute : Attribute
@@ -107,7 +102,7 @@ module _ (e : Encoding) (t s : List ℕ) (seen : Option ℕ) where
   stepped m g =
       let a = bind-pass (attributeAt t) _ (some m) g in
       elim (ℕ-discrete (a .0 .0 .name) 0) [
-        | yes z ↦ absurd (some-none m (pass-inj (sym g ∙ step-end e t s seen (a .0 .0) (a .0 .1) (a .1) z)))
+        | yes z ↦ some-none (pass-inj (sym g ∙ step-end e t s seen (a .0 .0) (a .0 .1) (a .1) z))
         | no z ↦
             let v = bind-pass (valueOf e (a .0 .0 .form) s) _ (some m) (sym (valued e t s seen (a .0 .0) (a .0 .1) (a .1) z) ∙ g) in
             let x = bind-pass (identityAt e (a .0 .0 .name) (v .0) s seen) _ (some m) (v .2) in
@@ -131,7 +126,7 @@ module _ (e : Encoding) (t s : List ℕ) (seen : Option ℕ) where
         | no z ↦
             let v = bind-pass (valueOf e (a .0 .0 .form) s) _ none (sym (valued e t s seen (a .0 .0) (a .0 .1) (a .1) z) ∙ g) in
             let x = bind-pass (identityAt e (a .0 .0 .name) (v .0) s seen) _ none (v .2) in
-            absurd (some-none _ (pass-inj (x .2)))
+            some-none (pass-inj (x .2))
       ]
 
   pub from-end : attributeStep e t s seen ≡ pass none → identityFrom e t s seen ≡ needed seen

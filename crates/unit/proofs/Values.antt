@@ -16,6 +16,7 @@ use Rattle.octets.proofs.Refusals.{Only, only-pass, only-refuse, only-require, 
 use Rattle.leb128.specs.Leb128.{short}
 use Rattle.leb128.proofs.Taken.{short-taken, only-short}
 use Rattle.bundle.specs.Encoding.{Encoding}
+use Rattle.octets.proofs.Options.{some-inj}
 use Rattle.unit.specs.Forms.{Width, fixed, forms, widthIn, valueSize}
 use Rattle.unit.specs.Widths.{ends, sizeWithin}
 use Rattle.unit.specs.Root.{needed, Value, plainValue, valueOf}
@@ -75,9 +76,6 @@ module _ (e : Encoding) (form : ℕ) (s : List ℕ) where
 eight : widthIn forms 7 ≡ some (fixed 8)
 unfolding widthIn forms
 eight = refl
-
-some-inj : {A : Type 0} {a b : A} → some a ≡ some b → a ≡ b
-some-inj e = cc
 
 pub needed-some : {A : Type 0} (o : Option A) (a : A) → needed o ≡ pass a → o ≡ some a
 unfolding needed

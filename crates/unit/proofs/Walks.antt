@@ -3,27 +3,21 @@
 use mathlib.Core.Path.{_≡_, sym, ap, _∙_}
 use mathlib.Core.List.{List, [], _∷_}
 use mathlib.Core.Option.{Option, some, none}
-use Prim.Native.Nat.{ℕ, zero, _+_, _≤_}
+use Prim.Native.Nat.{ℕ, _+_, _≤_}
 use native.Mathlib.Omega.{arith}
 use native.Mathlib.Decide.{ℕ-discrete}
 use lib.ListN.{length, drop, length-drop}
 use lib.Seq.{drop-drop}
-use Rattle.octets.specs.Lists.{has}
 use Rattle.octets.specs.Checked.{Check, pass, refuse, _>>=_}
 use Rattle.octets.proofs.Checks.{pass-refuse, pass-inj, bind-pass, then-pass}
 use Rattle.octets.proofs.Refusals.{only-refuses}
 use Rattle.leb128.specs.Leb128.{unsigned}
 use Rattle.leb128.proofs.Taken.{unsigned-taken}
+use Rattle.octets.proofs.Options.{some-inj, some-none}
 use Rattle.unit.specs.Abbreviations.{Attribute, Declaration, attributesOf, declarationAt}
 use Rattle.unit.specs.Tables.{Place, placeAt, Coded, declaredAt, declarations}
 use Rattle.unit.proofs.Places.{end-is, coded}
 use Rattle.unit.proofs.Declarations.{place-stands, declaration-place, then-end, then-more, declarations-is, only-declarationsFrom}
-
-some-inj : {A : Type 0} {a b : A} → some a ≡ some b → a ≡ b
-some-inj e = cc
-
-some-none : {A : Type 0} (a : A) → some a ≡ none → ⊥
-some-none a e = let z : _≡_ {A = ℕ} 0 1 = cc in omega arith
 
 abbrev pub declared : Coded → List Attribute → Declaration
 declared d «as» = record { code = d .code; tag = d .place .tag; attributes = «as» }
@@ -51,7 +45,7 @@ table-end s e =
       | yes z ↦ declarations-is s ∙ then-pass _ _ _ (c .1) ∙ then-end _ _ _ z
       | no z ↦
           let q = bind-pass (placeAt (drop (c .0 .1) s)) _ none (sym (coded s (c .0 .0) (c .0 .1) (c .1) z) ∙ e) in
-          absurd (some-none _ (pass-inj (q .2)))
+          some-none (pass-inj (q .2))
     ]
 
 fronted : (s : List ℕ) (d : Coded) (c : ℕ × ℕ) (p : Place) → unsigned s ≡ pass c → (c .0 ≡ 0 → ⊥) → placeAt (drop (c .1) s) ≡ pass p
@@ -76,7 +70,7 @@ unfolding declaredAt
 table-more s d e =
     let c = bind-pass (unsigned s) _ (some d) e in
     elim (ℕ-discrete (c .0 .0) 0) [
-      | yes z ↦ absurd (some-none d (pass-inj (sym e ∙ end-is s (c .0 .0) (c .0 .1) (c .1) z)))
+      | yes z ↦ some-none (pass-inj (sym e ∙ end-is s (c .0 .0) (c .0 .1) (c .1) z))
       | no z ↦
           let q = bind-pass (placeAt (drop (c .0 .1) s)) _ (some d) (sym (coded s (c .0 .0) (c .0 .1) (c .1) z) ∙ e) in
           fronted s d (c .0) (q .0) (c .1) z (q .1) (some-inj (pass-inj (q .2)))

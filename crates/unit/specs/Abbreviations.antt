@@ -6,6 +6,7 @@ use mathlib.Core.Option.{Option, some, none}
 use Prim.Native.Nat.{ℕ, zero, suc, _+_}
 use lib.Dec.{eqb, leb}
 use lib.ListN.{length, drop, getD}
+use Rattle.numbers.specs.Refusals.{noIdentity}
 use Rattle.octets.specs.Lists.{distinct, zeroTogether}
 use Rattle.octets.specs.Checked.{Check, pass, refuse, _>>=_, require}
 use Rattle.leb128.specs.Leb128.{short, unsigned}
@@ -24,8 +25,8 @@ unfoldable pub attributeAt : List ℕ → Check (Attribute × ℕ)
 attributeAt s = do
   name ← short s
   form ← short (drop (name .1) s)
-  _ ← require (zeroTogether (name .0) (form .0)) 12
-  _ ← require (not (eqb (form .0) 0x21)) 12
+  _ ← require (zeroTogether (name .0) (form .0)) noIdentity
+  _ ← require (not (eqb (form .0) 0x21)) noIdentity
   pass (record { name = name .0; form = form .0 }, name .1 + form .1)
 
 -- the pair of zeros is the last one
@@ -38,7 +39,7 @@ attributesThen a n rest =
 
 -- a declaration's attributes, and how many bytes they take; the first argument bounds the number of steps
 unfoldable pub attributesFrom : ℕ → List ℕ → Check (List Attribute × ℕ)
-attributesFrom zero s = refuse 12
+attributesFrom zero s = refuse noIdentity
 attributesFrom (suc k) s = attributeAt s >>= λ r. attributesThen (r .0) (r .1) (λ n. attributesFrom k (drop n s))
 
 unfoldable pub attributesOf : List ℕ → Check (List Attribute × ℕ)
@@ -48,9 +49,9 @@ attributesOf s = attributesFrom (length s) s
 unfoldable pub declarationAt : ℕ → List ℕ → Check (Declaration × ℕ)
 declarationAt code s = do
   tag ← short s
-  _ ← require (not (eqb (tag .0) 0)) 12
+  _ ← require (not (eqb (tag .0) 0)) noIdentity
   let t = drop (tag .1) s
-  _ ← require (leb 1 (length t) && leb (getD t 0 0) 1) 12
+  _ ← require (leb 1 (length t) && leb (getD t 0 0) 1) noIdentity
   attributes ← attributesOf (drop 1 t)
   pass (record { code = code; tag = tag .0; attributes = attributes .0 }, tag .1 + 1 + attributes .1)
 
@@ -63,14 +64,14 @@ declarationsThen code s rest =
     ]
 
 unfoldable pub declarationsFrom : ℕ → List ℕ → Check (List Declaration)
-declarationsFrom zero s = refuse 12
+declarationsFrom zero s = refuse noIdentity
 declarationsFrom (suc k) s = unsigned s >>= λ c. declarationsThen (c .0) (drop (c .1) s) (declarationsFrom k)
 
 -- the table at the front of s; no code repeats
 unfoldable pub declarationsOf : List ℕ → Check (List Declaration)
 declarationsOf s = do
   ds ← declarationsFrom (length s) s
-  _ ← require (distinct (map (λ d. d .code) ds)) 12
+  _ ← require (distinct (map (λ d. d .code) ds)) noIdentity
   pass ds
 
 unfoldable pub declarationOf : List Declaration → ℕ → Option Declaration

@@ -6,6 +6,7 @@ use mathlib.Core.Option.{Option, some, none}
 use Prim.Native.Nat.{ℕ, suc, _+_}
 use lib.Dec.{eqb, leb}
 use lib.ListN.{length}
+use Rattle.numbers.specs.Refusals.{noIdentity}
 use Rattle.octets.specs.Octets.{numberAt}
 use Rattle.octets.specs.Checked.{Check, pass, refuse, _>>=_, require}
 use Rattle.leb128.specs.Leb128.{unsigned, signedSize}
@@ -47,7 +48,7 @@ widthIn (w ∷ ws) f = elim (eqb (w .form) f) [ true ↦ some (w .width) | false
 
 -- the bytes up to and with the first zero byte; 12 where there is none
 unfoldable pub zeroEnded : List ℕ → Check ℕ
-zeroEnded [] = refuse 12
+zeroEnded [] = refuse noIdentity
 zeroEnded (b ∷ s) = elim (eqb b 0) [ true ↦ pass 1 | false ↦ zeroEnded s >>= λ n. pass (suc n) ]
 
 -- how many bytes the value of a width takes at the front of s
@@ -58,8 +59,8 @@ valueSize e offset s = pass (e .width)
 valueSize e uleb s = unsigned s >>= λ r. pass (r .1)
 valueSize e sleb s = signedSize s
 valueSize e string s = zeroEnded s
-valueSize e indirect s = refuse 12
+valueSize e indirect s = refuse noIdentity
 valueSize e (block n) s = do
-  _ ← require (leb n (length s)) 12
+  _ ← require (leb n (length s)) noIdentity
   pass (n + numberAt (e .big) n s 0)
 valueSize e ulebBlock s = unsigned s >>= λ r. pass (r .1 + r .0)

@@ -5,9 +5,11 @@ use mathlib.Core.List.{List}
 use Prim.Native.Nat.{ℕ, _+_}
 use lib.Dec.{eqb, leb, ltb}
 use lib.ListN.{length, take, drop, getD}
+use Rattle.numbers.specs.Tables.{typeTable, typeUnit, skeletonUnit, splitUnit, splitTypeUnit, compilationTable}
+use Rattle.numbers.specs.Sections.{infoCode}
 use Rattle.octets.specs.Octets.{numberAt}
 use Rattle.octets.specs.Checked.{Check, pass, refuse, _>>=_, require}
-use Rattle.numbers.specs.Refusals.{noIdentity}
+use Rattle.numbers.specs.Refusals.{noIdentity, badHeader, identityZero}
 use Rattle.bundle.specs.Encoding.{Encoding}
 use Rattle.unit.specs.Root.{rootIdentity}
 use Rattle.unit.specs.UnitRead.{Identity, UnitRead, lengthField, unitSize, isFive, addressPlace, commonSize, identityOf, headerPasses}
@@ -24,7 +26,7 @@ use Rattle.unit.specs.declared.header.AddressSize.the-variants.{Is as St
 
 -- ---- the size: a unit that ends in s
 unfoldable pub fits : List ℕ → ℕ → Check ℕ
-fits s n = require (leb n (length s)) 11 >>= λ _. pass n
+fits s n = require (leb n (length s)) badHeader >>= λ _. pass n
 
 unfoldable pub unitInside : Encoding → List ℕ → Check ℕ
 unitInside e s = unitSize e s >>= fits s
@@ -32,14 +34,14 @@ unitInside e s = unitSize e s >>= fits s
 -- the same for each width
 unfoldable pub narrowSize : Bool → List ℕ → Check ℕ
 narrowSize big s = do
-  _ ← require (leb 4 (length s)) 11
-  _ ← require (ltb (numberAt big 4 s 0) 0xFFFF_FFF0) 11
+  _ ← require (leb 4 (length s)) badHeader
+  _ ← require (ltb (numberAt big 4 s 0) 0xFFFF_FFF0) badHeader
   fits s (4 + numberAt big 4 s 0)
 
 unfoldable pub wideSize : Bool → List ℕ → Check ℕ
 wideSize big s = do
-  _ ← require (leb 12 (length s)) 11
-  _ ← require (eqb (numberAt big 4 s 0) 0xFFFF_FFFF) 11
+  _ ← require (leb 12 (length s)) badHeader
+  _ ← require (eqb (numberAt big 4 s 0) 0xFFFF_FFFF) badHeader
   fits s (12 + numberAt big 8 s 4)
 
 -- ---- the common fields
@@ -54,11 +56,11 @@ fieldsGood e u = leb (commonSize e) (length u) && eqb (numberAt (e .big) 2 u (le
 -- ---- where the identity stands
 unfoldable pub fiveKind : ℕ → Kind
 fiveKind type =
-    elim (eqb type 4 || eqb type 5) [ true ↦ Compilation | false ↦ elim (eqb type 2 || eqb type 6) [ true ↦ Signature | false ↦ Other ] ]
+    elim (eqb type skeletonUnit || eqb type splitUnit) [ true ↦ Compilation | false ↦ elim (eqb type typeUnit || eqb type splitTypeUnit) [ true ↦ Signature | false ↦ Other ] ]
 
 unfoldable pub kindOf : Encoding → ℕ → List ℕ → Kind
 kindOf e home u =
-    elim (isFive e) [ true ↦ fiveKind (getD u (lengthField e + 2) 0) | false ↦ elim (eqb home 1) [ true ↦ Root | false ↦ Signature ] ]
+    elim (isFive e) [ true ↦ fiveKind (getD u (lengthField e + 2) 0) | false ↦ elim (eqb home infoCode) [ true ↦ Root | false ↦ Signature ] ]
 
 -- the header that a unit of the kind must hold
 unfoldable pub headerSize : Encoding → Kind → ℕ
@@ -79,13 +81,13 @@ abbrev pub rootStated : Encoding → List ℕ → List ℕ → Check ℕ
 rootStated e abbreviations u = rootIdentity e (tableAt e abbreviations u) (drop (commonSize e) u)
 
 abbrev pub forCompilation : Check ℕ → Check Identity
-forCompilation m = m >>= λ x. pass (record { table = 1; identity = x })
+forCompilation m = m >>= λ x. pass (record { table = compilationTable; identity = x })
 
 unfoldable pub identityBy : Encoding → Kind → List ℕ → List ℕ → Check Identity
-identityBy e Compilation abbreviations u = pass (record { table = 1; identity = signatureAt e u })
-identityBy e Signature abbreviations u = pass (record { table = 2; identity = signatureAt e u })
-identityBy e Root abbreviations u = rootIdentity e (tableAt e abbreviations u) (drop (commonSize e) u) >>= λ x. pass (record { table = 1; identity = x })
-identityBy e Other abbreviations u = refuse 12
+identityBy e Compilation abbreviations u = pass (record { table = compilationTable; identity = signatureAt e u })
+identityBy e Signature abbreviations u = pass (record { table = typeTable; identity = signatureAt e u })
+identityBy e Root abbreviations u = rootIdentity e (tableAt e abbreviations u) (drop (commonSize e) u) >>= λ x. pass (record { table = compilationTable; identity = x })
+identityBy e Other abbreviations u = refuse noIdentity
 
 -- the number and the values of each answer
 abbrev pub identityCheck : code.Identity → Check Identity
@@ -97,16 +99,16 @@ identityCheck Unreadable = refuse noIdentity
 unfoldable pub headOf : Encoding → List ℕ → Check ℕ
 headOf e s = do
   size ← unitSize e s
-  _ ← require (leb size (length s)) 11
+  _ ← require (leb size (length s)) badHeader
   let u = take size s
-  _ ← require (leb (commonSize e) (length u)) 11
-  _ ← require (eqb (numberAt (e .big) 2 u (lengthField e)) (e .version)) 11
-  _ ← require (eqb (getD u (addressPlace e) 0) (e .address)) 11
+  _ ← require (leb (commonSize e) (length u)) badHeader
+  _ ← require (eqb (numberAt (e .big) 2 u (lengthField e)) (e .version)) badHeader
+  _ ← require (eqb (getD u (addressPlace e) 0) (e .address)) badHeader
   pass size
 
 -- 13
 unfoldable pub nonZero : Check Identity → Check Identity
-nonZero m = m >>= λ i. (require (not (eqb (i .identity) 0)) 13 >>= λ _. pass i)
+nonZero m = m >>= λ i. (require (not (eqb (i .identity) 0)) identityZero >>= λ _. pass i)
 
 -- 11 by the kind, 12 and 13: the identity of the unit u
 unfoldable pub identityGood : Encoding → ℕ → List ℕ → List ℕ → Check Identity

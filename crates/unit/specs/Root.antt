@@ -6,6 +6,7 @@ use mathlib.Core.Option.{Option, some, none}
 use Prim.Native.Nat.{ℕ, _+_}
 use lib.Dec.{eqb, leb}
 use lib.ListN.{length, drop}
+use Rattle.numbers.specs.Refusals.{noIdentity}
 use Rattle.octets.specs.Octets.{numberAt}
 use Rattle.octets.specs.Checked.{Check, pass, refuse, _>>=_, require}
 use Rattle.leb128.specs.Leb128.{short, unsigned}
@@ -16,7 +17,7 @@ use Rattle.unit.specs.Abbreviations.{Attribute, Declaration, declaration
 -- 12 where there is none
 unfoldable pub needed : {A : Type 0} → Option A → Check A
 needed (some a) = pass a
-needed none = refuse 12
+needed none = refuse noIdentity
 
 -- an attribute's value: its form, where it starts behind an indirect form, and how many bytes it takes
 pub record Value : Type 0 where
@@ -29,7 +30,7 @@ unfoldable pub plainValue : Encoding → ℕ → List ℕ → Check Value
 plainValue e form s = do
   width ← needed (widthIn forms form)
   size ← valueSize e width s
-  _ ← require (leb size (length s)) 12
+  _ ← require (leb size (length s)) noIdentity
   pass (record { form = form; start = 0; size = size })
 
 -- indirect, 16 hexadecimal, only once
@@ -45,7 +46,7 @@ unfoldable pub identityAt : Encoding → ℕ → Value → List ℕ → Option �
 identityAt e name v s (some x) = pass (some x)
 identityAt e name v s none =
     elim (eqb name 0x2131) [
-      | true ↦ require (eqb (v .form) 7) 12 >>= λ _. pass (some (numberAt (e .big) 8 s (v .start)))
+      | true ↦ require (eqb (v .form) 7) noIdentity >>= λ _. pass (some (numberAt (e .big) 8 s (v .start)))
       | false ↦ pass none
     ]
 
@@ -67,6 +68,6 @@ rootIdentity e table s = do
   ds ← declarationsOf table
   code ← unsigned s
   root ← needed (declarationOf ds (code .0))
-  _ ← require (rootTag (root .tag)) 12
+  _ ← require (rootTag (root .tag)) noIdentity
   found ← identityIn e (root .attributes) (drop (code .1) s) none
   needed found

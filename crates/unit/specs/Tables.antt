@@ -40,8 +40,8 @@ pub record Place : Type 0 where
 unfoldable pub placeAt : List ℕ → Check Place
 placeAt s = do
   tag ← short s
-  _ ← require (not (eqb (tag .0) 0)) 12
-  _ ← require (leb 1 (length (drop (tag .1) s)) && leb (getD (drop (tag .1) s) 0 0) 1) 12
+  _ ← require (not (eqb (tag .0) 0)) noIdentity
+  _ ← require (leb 1 (length (drop (tag .1) s)) && leb (getD (drop (tag .1) s) 0 0) 1) noIdentity
   size ← attributesSize (drop 1 (drop (tag .1) s))
   pass (record { tag = tag .0; start = tag .1 + 1; end = tag .1 + 1 + size })
 

@@ -16,13 +16,13 @@ nodeWords = 5
 
 -- ---- a node
 unfoldable pub codeAt : List ℕ → ℕ → ℕ
-codeAt w k = getD w (5 * k + 3) 0 + 2 ^ 32 * getD w (5 * k + 4) 0
+codeAt w k = getD w (nodeWords * k + 3) 0 + 2 ^ 32 * getD w (nodeWords * k + 4) 0
 
 unfoldable pub carriedAt : List ℕ → ℕ → ℕ
-carriedAt w k = getD w (5 * k + 2) 0
+carriedAt w k = getD w (nodeWords * k + 2) 0
 
 unfoldable pub nextAt : List ℕ → ℕ → ℕ → ℕ
-nextAt w k rest = getD w (5 * k + rest % 2) 0
+nextAt w k rest = getD w (nodeWords * k + rest % 2) 0
 
 -- the words of a node without links
 unfoldable pub nodeOf : ℕ → ℕ → List ℕ
@@ -41,13 +41,13 @@ pub record Reached (w : List ℕ) (code k : ℕ) : Type 0 where
 
 -- the links of the first n nodes lead to later ones among them: so every walk ends
 pub record Rising (w : List ℕ) (n : ℕ) : Type 0 where
-  pub room : 5 * n ≤ length w
-  pub later : (k b : ℕ) → k < n → b < 2 → (getD w (5 * k + b) 0 ≡ 0 → ⊥) → k < getD w (5 * k + b) 0
-  pub among : (k b : ℕ) → k < n → b < 2 → getD w (5 * k + b) 0 < n
+  pub room : nodeWords * n ≤ length w
+  pub later : (k b : ℕ) → k < n → b < 2 → (getD w (nodeWords * k + b) 0 ≡ 0 → ⊥) → k < getD w (nodeWords * k + b) 0
+  pub among : (k b : ℕ) → k < n → b < 2 → getD w (nodeWords * k + b) 0 < n
 
 -- v has the links of the first n nodes of w that lead somewhere
 pub record Linked (n : ℕ) (w v : List ℕ) : Type 0 where
-  pub same : (q : ℕ) → q < 5 * n → (getD w q 0 ≡ 0 → ⊥) → getD v q 0 ≡ getD w q 0
+  pub same : (q : ℕ) → q < nodeWords * n → (getD w q 0 ≡ 0 → ⊥) → getD v q 0 ≡ getD w q 0
 
 -- ---- the tree of codes: each is found by its own walk
 pub record Tree (w cs : List ℕ) : Type 0 where
@@ -59,7 +59,7 @@ pub record Tree (w cs : List ℕ) : Type 0 where
 pub record EndsFree (w : List ℕ) (n code link : ℕ) : Type 0 where
   pub node : ℕ
   pub side : ℕ
-  pub is : link ≡ 5 * node + side
+  pub is : link ≡ nodeWords * node + side
   pub inside : node < n
   pub left-right : side < 2
   pub free : getD w link 0 ≡ 0

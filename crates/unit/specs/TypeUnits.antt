@@ -6,7 +6,7 @@ use mathlib.Core.List.{List}
 use Prim.Native.Nat.{ℕ, _+_}
 use lib.ListN.{getD}
 use Rattle.numbers.specs.Sections.{typesCode}
-use Rattle.numbers.specs.Tables.{dwarf5}
+use Rattle.numbers.specs.Tables.{dwarf5, typeUnit, splitTypeUnit}
 use Rattle.bundle.specs.Encoding.{Encoding}
 use Rattle.unit.specs.UnitRead.{lengthField}
 
@@ -16,4 +16,4 @@ unitType e u = getD u (lengthField e + 2) 0
 
 -- home is the section's code; u is the unit's own bytes
 abbrev pub IsTypeUnit : Encoding → ℕ → List ℕ → Type 0
-IsTypeUnit e home u = (home ≡ typesCode) ⊎ ((e .version ≡ dwarf5) × ((unitType e u ≡ 2) ⊎ (unitType e u ≡ 6)))
+IsTypeUnit e home u = (home ≡ typesCode) ⊎ ((e .version ≡ dwarf5) × ((unitType e u ≡ typeUnit) ⊎ (unitType e u ≡ splitTypeUnit)))

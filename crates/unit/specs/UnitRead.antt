@@ -5,6 +5,9 @@ use mathlib.Core.List.{List, []}
 use Prim.Native.Nat.{ℕ, _+_}
 use lib.Dec.{eqb, leb, ltb}
 use lib.ListN.{length, take, drop, getD}
+use Rattle.numbers.specs.Sections.{infoCode}
+use Rattle.numbers.specs.Tables.{compilationTable, typeTable, dwarf5, typeUnit, skeletonUnit, splitUnit, splitTypeUnit}
+use Rattle.numbers.specs.Refusals.{badHeader, noIdentity, identityZero}
 use Rattle.octets.specs.Octets.{numberAt}
 use Rattle.octets.specs.Checked.{Check, pass, refuse, _>>=_, require}
 use Rattle.bundle.specs.Encoding.{Encoding}
@@ -27,16 +30,16 @@ lengthField e = elim (eqb (e .width) 4) [ true ↦ 4 | false ↦ 12 ]
 -- the size of the whole unit; FFFFFFFF starts width 8, FFFFFFF0 to FFFFFFFE are refused
 unfoldable pub unitSize : Encoding → List ℕ → Check ℕ
 unitSize e s = do
-  _ ← require (leb (lengthField e) (length s)) 11
+  _ ← require (leb (lengthField e) (length s)) badHeader
   let word = numberAt (e .big) 4 s 0
   elim (eqb (e .width) 4) [
-    | true ↦ require (ltb word 0xFFFF_FFF0) 11 >>= λ _. pass (4 + word)
-    | false ↦ require (eqb word 0xFFFF_FFFF) 11 >>= λ _. pass (12 + numberAt (e .big) 8 s 4)
+    | true ↦ require (ltb word 0xFFFF_FFF0) badHeader >>= λ _. pass (4 + word)
+    | false ↦ require (eqb word 0xFFFF_FFFF) badHeader >>= λ _. pass (12 + numberAt (e .big) 8 s 4)
   ]
 
 -- the header fields common to all types. Version 4: version, abbrev offset, address size. Version 5: version, type, address size, abbrev offset
 unfoldable pub isFive : Encoding → Bool
-isFive e = eqb (e .version) 5
+isFive e = eqb (e .version) dwarf5
 
 unfoldable pub addressPlace : Encoding → ℕ
 addressPlace e = elim (isFive e) [ true ↦ lengthField e + 3 | false ↦ lengthField e + 2 + e .width ]
@@ -47,24 +50,24 @@ commonSize e = elim (isFive e) [ true ↦ lengthField e + 4 + e .width | false �
 -- a number of 8 bytes behind the common fields; so many bytes of header follow them
 unfoldable pub behindCommon : Encoding → ℕ → ℕ → List ℕ → Check Identity
 behindCommon e table n u = do
-  _ ← require (leb (commonSize e + n) (length u)) 11
+  _ ← require (leb (commonSize e + n) (length u)) badHeader
   pass (record { table = table; identity = numberAt (e .big) 8 u (commonSize e) })
 
 -- version 5: types 4 and 5 carry a compilation identity, 2 and 6 a type signature and a type offset; other types give 12
 unfoldable pub identityFive : Encoding → ℕ → List ℕ → Check Identity
 identityFive e type u =
-    elim (eqb type 4 || eqb type 5) [
-      | true ↦ behindCommon e 1 8 u
-      | false ↦ elim (eqb type 2 || eqb type 6) [ true ↦ behindCommon e 2 (8 + e .width) u | false ↦ refuse 12 ]
+    elim (eqb type skeletonUnit || eqb type splitUnit) [
+      | true ↦ behindCommon e compilationTable 8 u
+      | false ↦ elim (eqb type typeUnit || eqb type splitTypeUnit) [ true ↦ behindCommon e typeTable (8 + e .width) u | false ↦ refuse noIdentity ]
     ]
 
 -- version 4: in info the root's, in types the signature, with a type offset behind it
 unfoldable pub identityFour : Encoding → ℕ → List ℕ → List ℕ → Check Identity
 identityFour e home abbreviations u =
-    elim (eqb home 1) [
+    elim (eqb home infoCode) [
       | true ↦ rootIdentity e (drop (numberAt (e .big) (e .width) u (lengthField e + 2)) abbreviations) (drop (commonSize e) u)
-          >>= λ x. pass (record { table = 1; identity = x })
-      | false ↦ behindCommon e 2 (8 + e .width) u
+          >>= λ x. pass (record { table = compilationTable; identity = x })
+      | false ↦ behindCommon e typeTable (8 + e .width) u
     ]
 
 -- home is the section's code, 1 info or 2 types; u is the unit's own bytes
@@ -76,14 +79,14 @@ identityOf e home abbreviations u =
 unfoldable pub unitBy : Encoding → ℕ → (ℕ → Check (List ℕ)) → List ℕ → Check UnitRead
 unitBy e home abbreviations s = do
   size ← unitSize e s
-  _ ← require (leb size (length s)) 11
+  _ ← require (leb size (length s)) badHeader
   let u = take size s
-  _ ← require (leb (commonSize e) (length u)) 11
-  _ ← require (eqb (numberAt (e .big) 2 u (lengthField e)) (e .version)) 11
-  _ ← require (eqb (getD u (addressPlace e) 0) (e .address)) 11
+  _ ← require (leb (commonSize e) (length u)) badHeader
+  _ ← require (eqb (numberAt (e .big) 2 u (lengthField e)) (e .version)) badHeader
+  _ ← require (eqb (getD u (addressPlace e) 0) (e .address)) badHeader
   table ← abbreviations size
   i ← identityOf e home table u
-  _ ← require (not (eqb (i .identity) 0)) 13
+  _ ← require (not (eqb (i .identity) 0)) identityZero
   pass (record { size = size; table = i .table; identity = i .identity })
 
 -- where those bytes are known
@@ -93,7 +96,7 @@ unitOf e home abbreviations s = unitBy e home (λ size. pass abbreviations) s
 -- the header passes 11, whatever else of the unit is refused
 unfoldable pub notEleven : Check UnitRead → Bool
 notEleven (pass u) = true
-notEleven (refuse n) = not (eqb n 11)
+notEleven (refuse n) = not (eqb n badHeader)
 
 unfoldable pub headerPasses : Encoding → ℕ → List ℕ → Bool
 headerPasses e home s = notEleven (unitOf e home [] s)

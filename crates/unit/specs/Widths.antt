@@ -6,6 +6,7 @@ use mathlib.Core.Option.{Option, some, none}
 use Prim.Native.Nat.{ℕ, _+_}
 use lib.Dec.{leb}
 use lib.ListN.{length}
+use Rattle.numbers.specs.Refusals.{noIdentity}
 use Rattle.octets.specs.Octets.{numberAt}
 use Rattle.octets.specs.Checked.{Check, pass, _>>=_, require}
 use Rattle.leb128.specs.Leb128.{unsigned}
@@ -43,7 +44,7 @@ widthFound Unknown = none
 
 -- so many bytes, which are there
 unfoldable pub ends : List ℕ → ℕ → Check ℕ
-ends s n = require (leb n (length s)) 12 >>= λ _. pass n
+ends s n = require (leb n (length s)) noIdentity >>= λ _. pass n
 
 -- how many bytes the value of a width takes, where it ends in s
 unfoldable pub sizeWithin : Encoding → Width → List ℕ → Check ℕ
@@ -53,7 +54,7 @@ unfoldable pub ulebWithin : List ℕ → Check ℕ
 ulebWithin s = unsigned s >>= (λ r. pass (r .1)) >>= ends s
 
 unfoldable pub blockWithin : Bool → ℕ → List ℕ → Check ℕ
-blockWithin big n s = require (leb n (length s)) 12 >>= (λ _. pass (n + numberAt big n s 0)) >>= ends s
+blockWithin big n s = require (leb n (length s)) noIdentity >>= (λ _. pass (n + numberAt big n s 0)) >>= ends s
 
 unfoldable pub ulebBlockWithin : List ℕ → Check ℕ
 ulebBlockWithin s = unsigned s >>= (λ r. pass (r .1 + r .0)) >>= ends s

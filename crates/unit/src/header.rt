@@ -7,6 +7,12 @@ use leb128::Size;
 use numbers::refusals::BAD_HEADER;
 use numbers::refusals::IDENTITY_ZERO;
 use numbers::refusals::NO_IDENTITY;
+use numbers::tables::COMPILATION;
+use numbers::tables::SKELETON_UNIT;
+use numbers::tables::SPLIT_TYPE_UNIT;
+use numbers::tables::SPLIT_UNIT;
+use numbers::tables::TYPE;
+use numbers::tables::TYPE_UNIT;
 ghost use mathlib.Core.Path.{_≡_};
 ghost use Prim.Native.Nat.{_+_, _≤_};
 ghost use lib.ListN.{length};
@@ -44,6 +50,9 @@ ghost use Rattle.unit.specs.TableTrees.{
   abbreviationsBytes,
   Inside,
 };
+
+// The code of info, as a unit's home has it.
+const INFO: u32 = numbers::sections::INFO as u32;
 
 // Where a unit's identity stands.
 pub enum Kind {
@@ -195,16 +204,16 @@ fn common_good(e: ObjectEncoding, u: &[u8]) -> bool
 fn five_kind(unit_type: u8) -> Kind
     ensures { λ r. ⌜ r ≡ fiveKind «unit_type» ⌝ }
 {
-    if unit_type == 4 {
+    if unit_type == SKELETON_UNIT {
         return Kind::Compilation;
     }
-    if unit_type == 5 {
+    if unit_type == SPLIT_UNIT {
         return Kind::Compilation;
     }
-    if unit_type == 2 {
+    if unit_type == TYPE_UNIT {
         return Kind::Signature;
     }
-    if unit_type == 6 {
+    if unit_type == SPLIT_TYPE_UNIT {
         return Kind::Signature;
     }
     Kind::Other
@@ -219,7 +228,7 @@ fn kind_of(e: ObjectEncoding, home: u32, u: &[u8]) -> Kind
         let at = length_field(e) + 2;
         return five_kind(u[at]);
     }
-    if home == 1 {
+    if home == INFO {
         return Kind::Root;
     }
     Kind::Signature
@@ -289,13 +298,13 @@ fn identity_of(
     match kind {
         Kind::Compilation => {
             return IdentityRead {
-                identity: Identity::Is(1, signature(e, u)),
+                identity: Identity::Is(COMPILATION, signature(e, u)),
                 judged,
             };
         }
         Kind::Signature => {
             return IdentityRead {
-                identity: Identity::Is(2, signature(e, u)),
+                identity: Identity::Is(TYPE, signature(e, u)),
                 judged,
             };
         }
@@ -322,7 +331,7 @@ fn of_root(root: RootIdentity) -> Identity
     ensures { λ r. ⌜ identityCheck r ≡ forCompilation (rootCheck root) ⌝ }
 {
     match root {
-        RootIdentity::Is(x) => Identity::Is(1, x),
+        RootIdentity::Is(x) => Identity::Is(COMPILATION, x),
         RootIdentity::Unreadable => Identity::Unreadable,
     }
 }

@@ -7,6 +7,7 @@ ghost use Prim.Native.Nat.{ℕ, _+_, _*_, _<_, _≤_, _^_};
 ghost use lib.ListN.{length};
 ghost use Rattle.octets.specs.Octets.{placed};
 ghost use Rattle.unit.specs.Trees.{
+  nodeWords,
   codeAt,
   carriedAt,
   nodeOf,
@@ -36,14 +37,14 @@ pub enum Walked {
 }
 
 fn code_at(codes: &[u32], node: usize) -> u64
-    requires { ⌜ 5 * node + 5 ≤ length (now codes) ⌝ }
+    requires { ⌜ nodeWords * node + nodeWords ≤ length (now codes) ⌝ }
     ensures { λ r. ⌜ r ≡ codeAt (now (codes .entry)) node ⌝ }
 {
     octets::wide64(codes[NODE * node + LOW]) + WORD * octets::wide64(codes[NODE * node + HIGH])
 }
 
 pub fn carried_at(codes: &[u32], node: usize) -> usize
-    requires { ⌜ 5 * node + 5 ≤ length (now codes) ⌝ }
+    requires { ⌜ nodeWords * node + nodeWords ≤ length (now codes) ⌝ }
     ensures { λ r. ⌜ r ≡ carriedAt (now (codes .entry)) node ⌝ }
 {
     octets::word(codes, NODE * node + CARRIED)
@@ -71,8 +72,8 @@ pub fn walk(codes: &[u32], count: usize, code: u64) -> Walked
 
 // A node without links.
 fn store_node(codes: &mut [u32], node: usize, carried: usize, code: u64)
-    requires { ⌜ (5 * node + 5 ≤ length (now codes)) × (carried < 2 ^ 32) ⌝ }
-    ensures { λ _. ⌜ now (codes .exit) ≡ placed (now (codes .entry)) (5 * node) (nodeOf carried code) ⌝ }
+    requires { ⌜ (nodeWords * node + nodeWords ≤ length (now codes)) × (carried < 2 ^ 32) ⌝ }
+    ensures { λ _. ⌜ now (codes .exit) ≡ placed (now (codes .entry)) (nodeWords * node) (nodeOf carried code) ⌝ }
 {
     let at = NODE * node;
     codes[at] = 0;
@@ -84,7 +85,7 @@ fn store_node(codes: &mut [u32], node: usize, carried: usize, code: u64)
 
 // One code more behind count others, or false where it is one of them. Callers keep room for a node.
 pub fn add_code(codes: &mut [u32], count: usize, carried: usize, code: u64) -> bool
-    requires { ⌜ Rising (now codes) count × (5 * count + 5 ≤ length (now codes)) × (count < 2 ^ 32) × (carried < 2 ^ 32) ⌝ }
+    requires { ⌜ Rising (now codes) count × (nodeWords * count + nodeWords ≤ length (now codes)) × (count < 2 ^ 32) × (carried < 2 ^ 32) ⌝ }
     ensures { λ r. ⌜ ((cs : List ℕ) → length cs ≡ count → Tree (now (codes .entry)) cs → Added (now (codes .entry)) (now (codes .exit)) cs carried code r) ⌝ }
 {
     if count == 0 {

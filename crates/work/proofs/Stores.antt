@@ -118,10 +118,6 @@ pub records-strings : Apart recordsRegion stringsRegion
 unfolding Apart
 records-strings = inl (omega arith)
 
-pub strings-records : Apart stringsRegion recordsRegion
-unfolding Apart
-strings-records = inr (omega arith)
-
 pub store-records : Apart storeRegion recordsRegion
 unfolding Apart
 store-records = inr (omega arith)

@@ -10,6 +10,7 @@ use mathlib.Core.List.{List}
 use Prim.Native.Nat.{ℕ, _+_, _*_, _≤_}
 use lib.Dec.{eqb}
 use lib.ListN.{length}
+use Rattle.numbers.specs.Limits.{stringWords}
 use Rattle.octets.specs.Octets.{part, placed}
 use Rattle.numbers.specs.Tables.{compilationTable}
 
@@ -30,7 +31,7 @@ unfoldable pub slotsRegion : ℕ → Layout
 slotsRegion table = elim (eqb table compilationTable) [ true ↦ compilationSlots | false ↦ typeSlots ]
 
 abbrev pub stringsRegion : Layout
-stringsRegion = record { start = 7; words = 7 }
+stringsRegion = record { start = 7; words = stringWords }
 
 abbrev pub codesRegion : Layout
 codesRegion = record { start = 14; words = 4 }

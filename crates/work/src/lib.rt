@@ -23,7 +23,7 @@ const RECORDS: usize = 5;
 
 const SLOTS: usize = 1;
 
-const STRINGS: usize = 7;
+const STRINGS: usize = numbers::limits::STRING_WORDS;
 
 const CODES: usize = 4;
 

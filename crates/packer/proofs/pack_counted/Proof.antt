@@ -13,8 +13,8 @@ clear-bytes-requires c κs = search needs
 pack-cleared-requires : tie.Need-pack-cleared-requires
 pack-cleared-requires c κs = cleared-again _ _ (c .before .before .before .before .clear-bytes .ensures)
 
-clear-words-requires : tie.Need-clear-words-requires
-clear-words-requires c κs = search needs
+clear-lent-requires : tie.Need-clear-lent-requires
+clear-lent-requires c κs = search needs
 
 same-length : tie.Need-same-length
 same-length c = search needs
@@ -26,7 +26,7 @@ returns : tie.Need-returns
 returns c =
     let p = c .before .before .before .before .before .before .before .before in
     let r = over-cleared _ _ _ _ _ _ (c .before .before .before .before .before .before .before .before .before .before .before .before .before .clear-bytes .ensures) (p .pack-cleared .ensures .0) (p .pack-cleared .ensures .1) in
-    (r .0, (r .1, c .before .before .clear-words .ensures ∙ ap zeros (p .pack-cleared .kept .1 .0)))
+    (r .0, (r .1, c .before .before .clear-lent .ensures ∙ ap zeros (p .pack-cleared .kept .1 .0)))
 
 pub pack-counted-spec : {M : Type 1} → statement M
-pack-counted-spec = tie.close (tie.spec clear-bytes-requires pack-cleared-requires clear-words-requires same-length same-length-2 returns)
+pack-counted-spec = tie.close (tie.spec clear-bytes-requires pack-cleared-requires clear-lent-requires same-length same-length-2 returns)

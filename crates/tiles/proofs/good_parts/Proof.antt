@@ -1,6 +1,6 @@
 -- `tiles::good_parts` meets its contract: the parts ahead, of which the same comes out.
 -- Assumes nothing.
-use mathlib.Core.Path.{_≡_, sym, ap, _∙_, subst}
+use mathlib.Core.Path.{sym, ap, _∙_, subst}
 use mathlib.Core.List.{List}
 use Prim.Native.Nat.{ℕ, _+_, _-_, _≤_}
 use native.Mathlib.Omega.{arith}
@@ -10,8 +10,9 @@ use borrow.Author.Needs.{needs}
 use Rattle.bundle.specs.Encoded.{encodingIs}
 use Rattle.strings.specs.Strings.{entriesOf}
 use Rattle.index.specs.Index.{Contribution}
+use Rattle.strings.proofs.Callers.{read-ill}
 use Rattle.tiles.specs.Marks.{TiledBy}
-use Rattle.tiles.proofs.Parts.{PartsAhead, PartHere, parts-all, part-here, parts-end, read-count, read-ill, cut-part}
+use Rattle.tiles.proofs.Parts.{PartsAhead, PartHere, parts-all, part-here, parts-end, read-count, cut-part}
 use Rattle.tiles.proofs.good_parts.Statement.{statement}
 use Rattle.tiles.proofs.good_parts.Tie as tie
 

@@ -3,6 +3,7 @@
 use lib.ListN.{length}
 use Prim.Native.Nat.{_+_, _*_, _≤_}
 use mathlib.Core.Logic.{⊎-elim}
+use Rattle.strings.proofs.StrOffsets.{width-cases}
 use Rattle.lookup.proofs.Texts as texts
 use denote.Ref.{now}
 use native.Mathlib.Omega.{arith}
@@ -24,7 +25,7 @@ width-requires c κs = search needs
 entries-start-requires : tie.Need-entries-start-requires
 entries-start-requires c κs =
     let e = c .width .ensures in
-    ⊎-elim (λ f. omega arith) (λ f. omega arith) (texts.width-either (c .before .before .before .args .head .encoding))
+    ⊎-elim (λ f. omega arith) (λ f. omega arith) (width-cases (c .before .before .before .args .head .encoding))
 
 returns : tie.Need-returns
 returns c = texts.entry-short _ _ (c .before .before .before .before .before .pre .0) (c .before .before .before .before .before .pre .2) _ _ _ _ _ _ _ (c .before .before .width .ensures) (c .before .entries-start .ensures) (c .if1 .taken)
@@ -32,7 +33,7 @@ returns c = texts.entry-short _ _ (c .before .before .before .before .before .pr
 div-count : tie.Need-div-count
 div-count c =
     let e = c .before .before .width .ensures in
-    ⊎-elim (λ f. omega arith) (λ f. omega arith) (texts.width-either (c .before .before .before .before .before .args .head .encoding))
+    ⊎-elim (λ f. omega arith) (λ f. omega arith) (width-cases (c .before .before .before .before .before .args .head .encoding))
 
 long-requires : tie.Need-long-requires
 long-requires c κs = search needs
@@ -55,7 +56,7 @@ add-at-2 c = omega (arith, fits c)
 number-at-requires : tie.Need-number-at-requires
 number-at-requires c κs =
     let e = c .before .before .before .before .before .width .ensures in
-    (⊎-elim (λ f. omega arith) (λ f. omega arith) (texts.width-either (c .before .before .before .before .before .before .before .before .args .head .encoding)), fits c)
+    (⊎-elim (λ f. omega arith) (λ f. omega arith) (width-cases (c .before .before .before .before .before .before .before .before .args .head .encoding)), fits c)
 
 locate-text-requires : tie.Need-locate-text-requires
 locate-text-requires c κs = search needs

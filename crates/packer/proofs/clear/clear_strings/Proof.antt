@@ -16,24 +16,24 @@ add-last c =
     let a = c .before .before .before in
     omega (arith, strings-end _ _ _ (now (a .args .work)) (a .pre) (c .before .strings .ensures .0) (c .before .strings .ensures .1), a .fits, a .good)
 
-mul-clear-words : tie.Need-mul-clear-words
-mul-clear-words c =
+mul-clear-lent : tie.Need-mul-clear-lent
+mul-clear-lent c =
     let a = c .before .before .before in
     omega (arith, strings-end _ _ _ (now (a .args .work)) (a .pre) (c .before .strings .ensures .0) (c .before .strings .ensures .1))
 
-sub-clear-words : tie.Need-sub-clear-words
-sub-clear-words c = search needs
+sub-clear-lent : tie.Need-sub-clear-lent
+sub-clear-lent c = search needs
 
-part-clear-words-start : tie.Need-part-clear-words-start
-part-clear-words-start c = search needs
+part-clear-lent-start : tie.Need-part-clear-lent-start
+part-clear-lent-start c = search needs
 
-part-clear-words-end : tie.Need-part-clear-words-end
-part-clear-words-end c =
+part-clear-lent-end : tie.Need-part-clear-lent-end
+part-clear-lent-end c =
     let a = c .before .before .before in
     strings-end _ _ _ (now (a .args .work)) (a .pre) (c .before .strings .ensures .0) (c .before .strings .ensures .1)
 
-clear-words-requires : tie.Need-clear-words-requires
-clear-words-requires c κs = search needs
+clear-lent-requires : tie.Need-clear-lent-requires
+clear-lent-requires c κs = search needs
 
 same-length : tie.Need-same-length
 same-length c = search needs
@@ -41,7 +41,7 @@ same-length c = search needs
 returns : tie.Need-returns
 returns c =
     let a = c .before .before .before .before .before .before .before in
-    strings-cleared _ _ _ (now (a .args .work)) (a .pre) (c .before .before .before .before .before .strings .ensures .0) (c .before .before .before .before .before .strings .ensures .1) _ _ (c .before .before .clear-words .ensures) refl
+    strings-cleared _ _ _ (now (a .args .work)) (a .pre) (c .before .before .before .before .before .strings .ensures .0) (c .before .before .before .before .before .strings .ensures .1) _ _ (c .before .before .clear-lent .ensures) refl
 
 pub clear-strings-spec : {M : Type 1} → statement M
 clear-strings-spec =
@@ -49,10 +49,10 @@ clear-strings-spec =
     (tie.spec
     strings-requires
     add-last
-    mul-clear-words
-    sub-clear-words
-    part-clear-words-start
-    part-clear-words-end
-    clear-words-requires
+    mul-clear-lent
+    sub-clear-lent
+    part-clear-lent-start
+    part-clear-lent-end
+    clear-lent-requires
     same-length
     returns)

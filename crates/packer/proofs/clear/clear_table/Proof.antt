@@ -20,24 +20,24 @@ add-to c =
     let a = c .before .before .before in
     omega (arith, slots-end _ (now (a .args .work)) _ _ _ (clearing _ _ _ _ (c .before .seen-slots .ensures) (a .pre)) _ (c .slots .ensures .0), a .fits, a .good)
 
-mul-clear-words : tie.Need-mul-clear-words
-mul-clear-words c =
+mul-clear-lent : tie.Need-mul-clear-lent
+mul-clear-lent c =
     let a = c .before .before .before in
     omega (arith, slots-end _ (now (a .args .work)) _ _ _ (clearing _ _ _ _ (c .before .seen-slots .ensures) (a .pre)) _ (c .slots .ensures .0))
 
-sub-clear-words : tie.Need-sub-clear-words
-sub-clear-words c = search needs
+sub-clear-lent : tie.Need-sub-clear-lent
+sub-clear-lent c = search needs
 
-part-clear-words-start : tie.Need-part-clear-words-start
-part-clear-words-start c = search needs
+part-clear-lent-start : tie.Need-part-clear-lent-start
+part-clear-lent-start c = search needs
 
-part-clear-words-end : tie.Need-part-clear-words-end
-part-clear-words-end c =
+part-clear-lent-end : tie.Need-part-clear-lent-end
+part-clear-lent-end c =
     let a = c .before .before .before in
     slots-end _ (now (a .args .work)) _ _ _ (clearing _ _ _ _ (c .before .seen-slots .ensures) (a .pre)) _ (c .slots .ensures .0)
 
-clear-words-requires : tie.Need-clear-words-requires
-clear-words-requires c κs = search needs
+clear-lent-requires : tie.Need-clear-lent-requires
+clear-lent-requires c κs = search needs
 
 same-length : tie.Need-same-length
 same-length c = search needs
@@ -45,7 +45,7 @@ same-length c = search needs
 returns : tie.Need-returns
 returns c =
     let a = c .before .before .before .before .before .before .before in
-    table-cleared _ _ _ (now (a .args .work)) (c .before .before .before .before .before .seen-slots .ensures) (a .pre) _ _ _ (c .before .before .before .before .slots .ensures .0) (c .before .before .clear-words .ensures) refl
+    table-cleared _ _ _ (now (a .args .work)) (c .before .before .before .before .before .seen-slots .ensures) (a .pre) _ _ _ (c .before .before .before .before .slots .ensures .0) (c .before .before .clear-lent .ensures) refl
 
 pub clear-table-spec : {M : Type 1} → statement M
 clear-table-spec =
@@ -54,10 +54,10 @@ clear-table-spec =
     seen-slots-requires
     slots-requires
     add-to
-    mul-clear-words
-    sub-clear-words
-    part-clear-words-start
-    part-clear-words-end
-    clear-words-requires
+    mul-clear-lent
+    sub-clear-lent
+    part-clear-lent-start
+    part-clear-lent-end
+    clear-lent-requires
     same-length
     returns)
