@@ -16,6 +16,8 @@ const LEAST: f64 = 5.0;
 struct Packing {
     code: u32,
     length: usize,
+    repeats: usize,
+    namesakes: usize,
 }
 
 type Pack = unsafe extern "C" fn(*const u8, usize, *mut u32, usize, *mut u8, usize) -> Packing;
@@ -65,8 +67,8 @@ fn time(pack: Pack, bundle: &[u8]) -> Result<(Duration, Vec<u8>)> {
         let answer =
             unsafe { pack(bundle.as_ptr(), bundle.len(), work.as_mut_ptr(), words, output.as_mut_ptr(), room) };
         let passed = clock::between(start, clock::thread()).ok_or_else(|| Error::other("no clock"))?;
-        if answer.code != 0 {
-            return Err(Error::other(format!("refused {}", answer.code)));
+        if answer.code != 0 || answer.repeats + answer.namesakes != 0 {
+            return Err(Error::other(format!("refused {}, or a type unit was skipped where there is none", answer.code)));
         }
         best = best.min(passed);
         length = answer.length;
