@@ -68,7 +68,7 @@ fn time(pack: Pack, bundle: &[u8]) -> Result<(Duration, Vec<u8>)> {
             unsafe { pack(bundle.as_ptr(), bundle.len(), work.as_mut_ptr(), words, output.as_mut_ptr(), room) };
         let passed = clock::between(start, clock::thread()).ok_or_else(|| Error::other("no clock"))?;
         if answer.code != 0 || answer.repeats + answer.namesakes != 0 {
-            return Err(Error::other(format!("refused {}, or a type unit was skipped where there is none", answer.code)));
+            return Err(Error::other(format!("refused {}, or a type unit skipped", answer.code)));
         }
         best = best.min(passed);
         length = answer.length;
