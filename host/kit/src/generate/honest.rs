@@ -15,7 +15,7 @@ pub struct Kind {
     pub make: fn(u64) -> Vec<u8>,
 }
 
-pub const KINDS: [Kind; 10] = [
+pub const KINDS: [Kind; 11] = [
     Kind { name: "few units, version 5", items: "bytes of line", make: few_units },
     Kind { name: "many units, version 5", items: "units", make: units_of_five },
     Kind { name: "many units, version 4, one abbreviation table", items: "units", make: units_with_one_table },
@@ -30,6 +30,7 @@ pub const KINDS: [Kind; 10] = [
     Kind { name: "many objects, the same few strings in each", items: "objects", make: many_objects },
     Kind { name: "a package of version 4 as input", items: "units", make: package_again },
     Kind { name: "many entries, 16 strings", items: "entries", make: entries_of_few_strings },
+    Kind { name: "many names with common prefixes", items: "strings", make: names_with_prefixes },
 ];
 
 /// A bundle of a kind that is at most so long, and less by a hundredth at most where that can be had; and its items.
@@ -205,6 +206,31 @@ fn package_again(count: u64) -> Vec<u8> {
 fn entries_of_few_strings(count: u64) -> Vec<u8> {
     let entries = (0..count).map(|i| (identity(i) >> 60) as u32 * 17).collect::<Vec<_>>();
     with_strings(entries, 16)
+}
+
+/// Names as C++ compilers mangle them: namespaces, class and template arguments are common to many, and what differs stands late.
+fn mangled(number: u64) -> String {
+    let (class, method) = (number / 40, number % 40);
+    let class = format!("Archive{}", class % 2_500);
+    let arguments = "NSt7__cxx1112basic_stringIcSt11char_traitsIcESaIcEEE";
+    let method = format!("lookup_entry_{method}_{:x}", identity(number) >> 52);
+    format!("_ZN4race6splits6detail{}{class}I{arguments}E{}{method}ERK{arguments}m\0", class.len(), method.len())
+}
+
+/// So many names, each new and named once.
+fn names_with_prefixes(count: u64) -> Vec<u8> {
+    let (mut entries, mut strings) = (Vec::new(), Vec::new());
+    for i in 0..count {
+        entries.push(strings.len() as u32);
+        strings.extend(mangled(i).into_bytes());
+    }
+    naming(entries, strings)
+}
+
+/// So many different strings, and entries for the last of them after one for each.
+pub fn last_of_many_strings(strings: u64, entries: u64) -> Vec<u8> {
+    let last = strings as u32 - 1;
+    with_strings((0..last).chain((0..entries).map(|_| last)).map(|i| i * 17).collect(), strings)
 }
 
 /// So many different strings, each named once.

@@ -1,5 +1,6 @@
 //! Packages of version 4 with very many rows, which a search of all rows for each unit would take too long to read.
 
+use super::hostile::colliding;
 use super::objects::{Draft, DraftObject};
 use crate::reference::place;
 
@@ -23,11 +24,16 @@ fn put_unit(info: &mut Vec<u8>, identity: u64) {
 fn index(rows: &[(u64, (u32, u32))]) -> Vec<u8> {
     let identities: Vec<u64> = rows.iter().map(|(identity, _)| *identity).collect();
     let slots = place(&identities, (rows.len() + 1).next_power_of_two()).expect("a slot for each");
+    placed_index(rows, &slots)
+}
+
+/// The same with rows that have their slots.
+fn placed_index(rows: &[(u64, (u32, u32))], slots: &[u64]) -> Vec<u8> {
     let mut out = Vec::new();
     let mut put = |word: u32| out.extend(word.to_le_bytes());
     [2, 2, rows.len() as u32, slots.len() as u32].into_iter().for_each(&mut put);
-    for row in &slots {
-        let x = if *row == 0 { 0 } else { identities[*row as usize - 1] };
+    for row in slots {
+        let x = row.checked_sub(1).map_or(0, |row| rows[row as usize].0);
         put(x as u32);
         put((x >> 32) as u32);
     }
@@ -63,4 +69,16 @@ pub fn rows_beside_one_place(rows: u32) -> Vec<u8> {
 pub fn reversed_rows(rows: u32) -> Vec<u8> {
     let all: Vec<_> = (0..rows).rev().map(|i| (identity(i), (i * UNIT, UNIT))).collect();
     package(rows / 5 * 4, &all)
+}
+
+/// So many units, and a row for each, whose identities all start at one slot and take the same steps.
+pub fn one_probe_sequence(units: u32) -> Vec<u8> {
+    let rows: Vec<_> = (0..units).map(|i| (colliding(i.into()), (i * UNIT, UNIT))).collect();
+    let mut slots = vec![0; (rows.len() + 1).next_power_of_two()];
+    let (mask, step) = (slots.len() - 1, colliding(0) >> 32 | 1);
+    (0..rows.len()).for_each(|i| slots[(colliding(0) as usize + i * step as usize) & mask] = i as u64 + 1);
+    let mut info = Vec::new();
+    rows.iter().for_each(|(identity, _)| put_unit(&mut info, *identity));
+    let sections = vec![(1, info), (3, ABBREV.to_vec()), (12, placed_index(&rows, &slots))];
+    Draft { big: false, objects: vec![DraftObject { word: WORD, sections }] }.bytes()
 }

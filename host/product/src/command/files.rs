@@ -1,6 +1,7 @@
 //! Files that are packed: ELF files and bundles, told apart by their first bytes, each made a bundle and all joined under one head.
 
 use super::call::Call;
+use super::input::Most;
 use super::pack::package_of;
 use super::{input, meaning, output, progress, show, Stop};
 use crate::answer::Found;
@@ -14,6 +15,12 @@ use std::os::unix::ffi::OsStrExt;
 
 /// The longest ELF file that is read; most of one may be sections that aren't wanted.
 pub const LONGEST_FILE: usize = 1 << 30;
+
+/// What is packed: bundles, and ELF files.
+const BUNDLE_OR_ELF: Most = Most { magic: elf::MAGIC, with: LONGEST_FILE, without: LONGEST_BUNDLE };
+
+/// The bytes of a word.
+const WORD: usize = 4;
 
 /// The refusal of what is no package.
 const NOT_A_PACKAGE: u32 = 21;
@@ -46,19 +53,11 @@ pub fn refused_call(call: &Call, file: &str, number: u32, why: Option<String>) -
     refused(file, number, why)
 }
 
-/// Reads a file; an ELF file as the bundle of its sections, with the machine that it names.
-fn bundle_of(call: &Call, name: &OsString) -> Result<(Vec<u8>, Option<u32>), Stop> {
-    let bytes = input::read_either(name, elf::MAGIC, LONGEST_FILE, LONGEST_BUNDLE)?;
-    if !bytes.starts_with(elf::MAGIC) {
-        return Ok((bytes, None));
-    }
-    from_elf(call, &bytes, &input::shown(name)).map(|bundle| (bundle, elf::machine_of(&bytes)))
-}
-
 /// Reads a package; of an ELF file (.dwp) the package that it holds, or the refusal of such a file.
 pub fn read_package(call: &Call, name: &OsStr) -> Result<Vec<u8>, Stop> {
-    let read = || input::read_either(name, elf::MAGIC, LONGEST_FILE, LONGEST_PACKAGE);
-    let bytes = progress::shown("reading the package".to_string(), read)?;
+    let mut bytes = Vec::new();
+    let most = Most { without: LONGEST_PACKAGE, ..BUNDLE_OR_ELF };
+    progress::shown("reading the package".to_string(), || input::read_into(name, &most, &mut bytes))?;
     match bytes.starts_with(elf::MAGIC) {
         true => from_elf(call, &bytes, &input::shown(name)),
         false => Ok(bytes),
@@ -81,18 +80,22 @@ pub fn no_package(call: &Call, name: &OsStr, bytes: &[u8]) -> Stop {
 
 /// The bundle of an ELF file.
 pub fn from_elf(call: &Call, file: &[u8], shown: &str) -> Result<Vec<u8>, Stop> {
-    // A file whose sections don't lie over each other is longer than its bundle.
-    let mut output = vec![0; file.len()];
-    let (mut code, mut length) = elf::read(file, &mut output);
+    let mut bundle = Vec::new();
+    put_elf(call, file, shown, &mut bundle, 0).map(|()| bundle)
+}
+
+/// The same from a place of a bundle on, up to its end. Without output the reader judges the file and says how long its bundle is, so that
+/// the sections are copied once, to where they stay.
+fn put_elf(call: &Call, file: &[u8], shown: &str, bundle: &mut Vec<u8>, from: usize) -> Result<(), Stop> {
+    let (mut code, length) = elf::read(file, &mut []);
     if code == OUTPUT_TOO_SHORT {
-        output = vec![0; length];
-        (code, length) = elf::read(file, &mut output);
+        bundle.resize(from + length, 0);
+        (code, _) = elf::read(file, &mut bundle[from..]);
     }
-    if code != 0 {
-        return Err(refused_call(call, shown, code, explain::reading_elf(file, code)));
+    match code {
+        0 => Ok(()),
+        _ => Err(refused_call(call, shown, code, explain::reading_elf(file, code))),
     }
-    output.truncate(length);
-    Ok(output)
 }
 
 /// The names, each `@LIST` replaced by those in the file LIST, a line for each; empty lines and those that start with # are left out.
@@ -117,33 +120,52 @@ pub fn join(call: &Call, names: &[OsString]) -> Result<Joined, Stop> {
 }
 
 fn joined(call: &Call, names: &[OsString]) -> Result<Joined, Stop> {
-    if let [name] = names {
-        let (bundle, machine) = bundle_of(call, name)?;
-        let files = machine.map(|_| input::shown(name)).into_iter().collect();
-        return Ok(Joined { bundle, files, machine });
-    }
     let mut joined = Joined { bundle: Vec::new(), files: Vec::new(), machine: None };
+    let mut bytes = Vec::new();
     for name in names {
-        let (bytes, machine) = bundle_of(call, name)?;
-        joined.machine = joined.machine.or(machine);
+        input::read_into(name, &BUNDLE_OR_ELF, &mut bytes)?;
         let shown = input::shown(name);
-        let read = match Bundle::read(&bytes) {
-            Ok(read) => read,
-            Err(_) => return Err(not_a_bundle(call, &shown, &bytes)),
+        let head = match bytes.starts_with(elf::MAGIC) {
+            true => joined.put_file(call, &bytes, shown.clone())?,
+            false if names.len() == 1 => return Ok(Joined { bundle: bytes, ..joined }),
+            false => joined.put_bundle(call, &bytes, &shown)?,
         };
-        if joined.bundle.is_empty() {
-            joined.bundle.extend(&bytes[..4]);
-        } else if joined.bundle[..4] != bytes[..4] {
+        if head != joined.bundle[..WORD] {
             let first = input::shown(&names[0]);
             return Err(Stop::Refused(format!("{shown}: its byte order is not that of {first}")));
         }
-        joined.bundle.extend(&bytes[4..bytes.len() - 4]);
-        let object =
-            |number: usize| if machine.is_some() { shown.clone() } else { format!("{shown}, object {number}") };
-        joined.files.extend((1..=read.objects.len()).map(object));
     }
     put_end(&mut joined.bundle);
     Ok(joined)
+}
+
+impl Joined {
+    /// Puts the object of an ELF file behind those that are there, without an end; the head that it would have alone. The head stands over
+    /// the last word that was there, which comes back.
+    fn put_file(&mut self, call: &Call, file: &[u8], shown: String) -> Result<[u8; WORD], Stop> {
+        let last = self.bundle.last_chunk::<WORD>().copied();
+        let from = self.bundle.len().saturating_sub(WORD);
+        put_elf(call, file, &shown, &mut self.bundle, from)?;
+        let place = &mut self.bundle[from..from + WORD];
+        let head = [place[0], place[1], place[2], place[3]];
+        place.copy_from_slice(&last.unwrap_or(head));
+        self.bundle.truncate(self.bundle.len() - WORD);
+        self.files.push(shown);
+        self.machine = self.machine.or(elf::machine_of(file));
+        Ok(head)
+    }
+
+    /// Puts the objects of a bundle behind those that are there, without an end; its head.
+    fn put_bundle(&mut self, call: &Call, bytes: &[u8], shown: &str) -> Result<[u8; WORD], Stop> {
+        let Ok(read) = Bundle::read(bytes) else { return Err(not_a_bundle(call, shown, bytes)) };
+        let head = [bytes[0], bytes[1], bytes[2], bytes[3]];
+        if self.bundle.is_empty() {
+            self.bundle.extend(head);
+        }
+        self.bundle.extend(&bytes[WORD..bytes.len() - WORD]);
+        self.files.extend((1..=read.objects.len()).map(|number| format!("{shown}, object {number}")));
+        Ok(head)
+    }
 }
 
 /// What can't be taken apart is refused as the packer refuses it alone.

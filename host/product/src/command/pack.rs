@@ -6,6 +6,7 @@ use super::{input, output, progress, show, Stop, DONE};
 use crate::elf;
 use crate::explain::{self, Names};
 use crate::ffi::{self, Skipped};
+use crate::lent::Lent;
 use crate::names::{section_name, OUTPUT_TOO_SHORT, WORK_FOR_A_WORD};
 use crate::skipped::{self, Unit};
 use std::ffi::{OsStr, OsString};
@@ -51,7 +52,7 @@ pub fn run(arguments: &[OsString]) -> Result<u8, Stop> {
 }
 
 /// The package as an ELF file.
-fn elf_file(call: &Call, to: &OsStr, package: &[u8], machine: Option<u32>) -> Result<Vec<u8>, Stop> {
+fn elf_file(call: &Call, to: &OsStr, package: &[u8], machine: Option<u32>) -> Result<Lent<u8>, Stop> {
     let machine = machine.unwrap_or(elf::MACHINES[0].1);
     let why = |number| Some(format!("the machine is {machine}")).filter(|_| number == OTHER_MACHINE);
     elf::file_of(package, machine).map_err(|number| refused_call(call, &output::shown(to), number, why(number)))
@@ -143,13 +144,13 @@ fn told(call: &Call, operands: &[OsString], joined: &Joined, number: u32) -> Sto
 }
 
 /// The package and what was skipped, or the refusal's number.
-fn packed(bundle: &[u8]) -> Result<(Vec<u8>, Skipped), u32> {
-    let mut work = vec![0; bundle.len() / 4 * WORK_FOR_A_WORD];
+fn packed(bundle: &[u8]) -> Result<(Lent<u8>, Skipped), u32> {
+    let mut work = Lent::zeros(bundle.len() / 4 * WORK_FOR_A_WORD);
     // Most packages fit; where one doesn't, the refusal names the length that it needs.
-    let mut output = vec![0; 2 * bundle.len()];
+    let mut output = Lent::zeros(2 * bundle.len());
     let mut answer = ffi::pack_counted(bundle, &mut work, &mut output);
     if answer.0 == OUTPUT_TOO_SHORT {
-        output = vec![0; answer.1];
+        output = Lent::zeros(answer.1);
         answer = ffi::pack_counted(bundle, &mut work, &mut output);
     }
     let (code, length, skipped) = answer;
@@ -161,6 +162,6 @@ fn packed(bundle: &[u8]) -> Result<(Vec<u8>, Skipped), u32> {
 }
 
 /// The package alone.
-pub fn package_of(bundle: &[u8]) -> Result<Vec<u8>, u32> {
+pub fn package_of(bundle: &[u8]) -> Result<Lent<u8>, u32> {
     packed(bundle).map(|(package, _)| package)
 }

@@ -29,6 +29,9 @@ pub struct Bench {
     oracle: Option<Oracle>,
 }
 
+/// A packing as long as this is measured once.
+const LONG: Duration = Duration::from_secs(2);
+
 /// The shortest of some rounds, since all that disturbs makes them longer: at least seven, but fewer where they are long, and
 /// more where they are short.
 pub fn shortest(mut round: impl FnMut() -> Result<Duration>) -> Result<Duration> {
@@ -65,11 +68,19 @@ impl Bench {
         Ok(Measured { bundle: bundle.len(), items, package: package.len(), ours, clearing, thorin })
     }
 
-    /// The time of an answer by this number, with as much output as the package takes.
-    pub fn answered(&mut self, bundle: &[u8], code: u32) -> Result<Duration> {
+    /// The time of an answer by this number, with as much output as the package takes, and the package.
+    pub fn answered(&mut self, bundle: &[u8], code: u32) -> Result<(Duration, Vec<u8>)> {
         let work = bundle.len() / 4 * WORK_FOR_A_WORD;
-        let length = self.lent.pack(bundle, work, ENOUGH * bundle.len() + LEAST).map_err(Error::other)?.length;
-        self.ours(bundle, work, length, code)
+        let package = self.lent.pack_whole(bundle).map_err(Error::other)?.bytes.to_vec();
+        match self.lent.took() {
+            took if took > LONG => Ok((took, package)),
+            _ => self.ours(bundle, work, package.len(), code).map(|took| (took, package)),
+        }
+    }
+
+    /// thorin's time for a bundle that it takes as we do, in which nothing is looked for that says so: that would take long too.
+    pub fn taken_alike(&mut self, bundle: &[u8], package: &[u8]) -> Result<Option<Duration>> {
+        self.oracle.as_mut().map(|oracle| difference(oracle, bundle, package)).transpose()
     }
 
     fn ours(&mut self, bundle: &[u8], work: usize, output: usize, code: u32) -> Result<Duration> {
@@ -83,21 +94,24 @@ impl Bench {
     }
 
     /// None where thorin isn't at hand or isn't the measure of the bundle.
-    /// The oracle's time for an answer, less that for the same question with a wrong offset width: to that the oracle reads the bundle,
-    /// writes an ELF file for each object and stops before it calls thorin.
     fn thorin(&mut self, bundle: &[u8], package: &[u8]) -> Result<Option<Duration>> {
-        let Some(oracle) = &mut self.oracle else { return Ok(None) };
-        if !Bundle::read(bundle).is_some_and(|read| measure(&read) == Measure::Thorin) {
-            return Ok(None);
+        match Bundle::read(bundle).is_some_and(|read| measure(&read) == Measure::Thorin) {
+            true => self.taken_alike(bundle, package),
+            false => Ok(None),
         }
-        let mut without = bundle.to_vec();
-        without[5] = 0;
-        // An index whose slots thorin counts otherwise is not compared here.
-        let right = |answer: &[u8]| by_thorins(answer, package).is_some_and(|wanted| wanted == package);
-        let whole = asked(oracle, bundle, 0, right)?;
-        let before = asked(oracle, &without, 1, |answer| answer == b"bundle: offset width")?;
-        Ok(Some(whole.saturating_sub(before)))
     }
+}
+
+/// The oracle's time for an answer, less that for the same question with a wrong offset width: to that the oracle reads the bundle,
+/// writes an ELF file for each object and stops before it calls thorin.
+fn difference(oracle: &mut Oracle, bundle: &[u8], package: &[u8]) -> Result<Duration> {
+    let mut without = bundle.to_vec();
+    without[5] = 0;
+    // An index whose slots thorin counts otherwise is not compared here.
+    let right = |answer: &[u8]| by_thorins(answer, package).is_some_and(|wanted| wanted == package);
+    let whole = asked(oracle, bundle, 0, right)?;
+    let before = asked(oracle, &without, 1, |answer| answer == b"bundle: offset width")?;
+    Ok(whole.saturating_sub(before))
 }
 
 /// The oracle's time for a question whose answer is known.
