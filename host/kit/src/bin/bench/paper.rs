@@ -194,7 +194,7 @@ impl Paper {
             return String::new();
         }
         let told = |name: &&str| format!("- {name}: {}.\n", why::behind(name));
-        format!("Behind thorin:\n\n{}", names.iter().map(told).collect::<String>())
+        format!("Behind thorin:\n\n{}\n", names.iter().map(told).collect::<String>())
     }
 
     /// Whole processes over the files of a real release.
