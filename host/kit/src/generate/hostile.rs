@@ -39,7 +39,7 @@ pub const HOSTILE: [Hostile; 14] = [
     kind("units whose root has very many attributes of no width", "units", many_attributes),
     kind("one table, its codes descending", "declarations", descending_codes),
     kind("identities of one probe sequence", "units", colliding_units),
-    kind("a package as input, identities of one probe sequence", "units", colliding_rows),
+    alone(kind("a package as input, identities of one probe sequence", "units", colliding_rows)),
     kind("different strings of one hash", "strings", strings_of_one_hash),
     kind("entries that name one long string", "entries", one_long_string),
     kind("suffixes of one string, the same in each object", "objects", suffixes_in_objects),

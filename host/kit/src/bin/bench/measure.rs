@@ -32,19 +32,28 @@ pub struct Bench {
 /// A packing as long as this is measured once.
 const LONG: Duration = Duration::from_secs(2);
 
-/// The shortest of some rounds, since all that disturbs makes them longer: at least seven, but fewer where they are long, and
-/// more where they are short.
-pub fn shortest(mut round: impl FnMut() -> Result<Duration>) -> Result<Duration> {
+/// Some rounds: at least seven, but fewer where they are long, and more where they are short.
+fn rounds(mut round: impl FnMut() -> Result<()>) -> Result<()> {
     let start = Instant::now();
-    let mut least = round()?;
+    round()?;
     for rounds in 1..2_001 {
         let passed = start.elapsed();
         let enough = passed > Duration::from_millis(400) && rounds >= 7;
         if enough || passed > Duration::from_secs(4) {
             break;
         }
-        least = least.min(round()?);
+        round()?;
     }
+    Ok(())
+}
+
+/// The shortest of them, since all that disturbs makes them longer.
+pub fn shortest(mut round: impl FnMut() -> Result<Duration>) -> Result<Duration> {
+    let mut least = Duration::MAX;
+    rounds(|| {
+        least = least.min(round()?);
+        Ok(())
+    })?;
     Ok(least)
 }
 
@@ -103,29 +112,31 @@ impl Bench {
 }
 
 /// The oracle's time for an answer, less that for the same question with a wrong offset width: to that the oracle reads the bundle,
-/// writes an ELF file for each object and stops before it calls thorin.
+/// writes an ELF file for each object and stops before it calls thorin. The two take turns, so that what disturbs one disturbs the other.
 fn difference(oracle: &mut Oracle, bundle: &[u8], package: &[u8]) -> Result<Duration> {
     let mut without = bundle.to_vec();
     without[5] = 0;
     // An index whose slots thorin counts otherwise is not compared here.
     let right = |answer: &[u8]| by_thorins(answer, package).is_some_and(|wanted| wanted == package);
-    let whole = asked(oracle, bundle, 0, right)?;
-    let before = asked(oracle, &without, 1, |answer| answer == b"bundle: offset width")?;
+    let (mut whole, mut before) = (Duration::MAX, Duration::MAX);
+    rounds(|| {
+        whole = whole.min(asked(oracle, bundle, 0, right)?);
+        before = before.min(asked(oracle, &without, 1, |answer| answer == b"bundle: offset width")?);
+        Ok(())
+    })?;
     Ok(whole.saturating_sub(before))
 }
 
 /// The oracle's time for a question whose answer is known.
 fn asked(oracle: &mut Oracle, question: &[u8], tag: u8, right: impl Fn(&[u8]) -> bool) -> Result<Duration> {
     let mut answer = Vec::new();
-    shortest(|| {
-        let start = oracle.time();
-        let told = oracle.ask(question, &mut answer)?;
-        let took = clock::between(start, oracle.time()).ok_or_else(|| Error::other("no clock for another process"))?;
-        if told != tag || !right(&answer) {
-            return Err(Error::other(format!("thorin differs on a bundle of {} bytes", question.len())));
-        }
-        Ok(took)
-    })
+    let start = oracle.time();
+    let told = oracle.ask(question, &mut answer)?;
+    let took = clock::between(start, oracle.time()).ok_or_else(|| Error::other("no clock for another process"))?;
+    match told == tag && right(&answer) {
+        true => Ok(took),
+        false => Err(Error::other(format!("thorin differs on a bundle of {} bytes", question.len()))),
+    }
 }
 
 /// The small packer, with 65,536 bytes of junk to write to.

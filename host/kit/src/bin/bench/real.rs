@@ -96,6 +96,11 @@ fn shortest(mut command: impl FnMut() -> Result<Command>) -> Result<Ended> {
     least.map(Ended::Well).ok_or_else(|| Error::other("no run"))
 }
 
+fn told(program: &str, version: u32, ended: &Ended) {
+    let Ended::Well(process) = ended else { return println!("{program}, version {version}: no good end") };
+    println!("{program}, version {version}: {:?}, {} kB", process.time(), process.kilobytes);
+}
+
 /// A program that takes the files and writes a package as an ELF file.
 fn over_files(sources: &Sources, ran: (&'static str, u32), files: &[PathBuf], out: &Path) -> Result<Option<Ran>> {
     let (program, version) = ran;
@@ -118,6 +123,7 @@ fn over_files(sources: &Sources, ran: (&'static str, u32), files: &[PathBuf], ou
         Ended::Well(_) => Some(verify()?.status.success()),
         _ => None,
     };
+    told(program, version, &ended);
     Ok(Some(Ran { version, program, ended, verified }))
 }
 
@@ -132,7 +138,9 @@ fn over_bundle(sources: &Sources, version: u32, home: &Path) -> Result<Option<Ra
         command.arg("--batch").stdin(fs::File::open(&question)?);
         Ok(command)
     })?;
-    Ok(Some(Ran { version, program: "thorin, by the oracle", ended, verified: None }))
+    let program = "thorin, by the oracle";
+    told(program, version, &ended);
+    Ok(Some(Ran { version, program, ended, verified: None }))
 }
 
 /// All programs over both versions. A child's memory is counted from its parent's when it starts, so that this comes before all that takes
