@@ -238,12 +238,32 @@ pub fn many_strings(count: u64) -> Vec<u8> {
     with_strings((0..count as u32).map(|i| i * 17).collect(), count)
 }
 
-/// So many different strings of one hash, each named once. The hash of the kept strings' index is linear: wherever one of two blocks
-/// stands in a string, the other gives the same.
+/// The hash of the kept strings' index is linear in a string's bytes, modulo 2^32. What is added to the eight bytes of a string by a row here
+/// leaves it as it is; the rows are a short basis of all that does.
+const LEAVES_THE_HASH: [[i32; 8]; 8] = [
+    [-3, 5, 8, 1, -1, -3, 1, 8],
+    [4, -7, 4, -5, -11, 0, 2, -3],
+    [-8, -2, -5, 2, -7, 1, -5, 8],
+    [-5, 10, 3, -6, 7, 13, -2, -4],
+    [1, -11, 2, -4, 1, 10, -6, 7],
+    [-3, 0, 1, -12, 0, -9, 5, 2],
+    [10, 7, -7, -2, -9, -4, -2, 7],
+    [3, 4, 10, -10, 3, -7, -15, -4],
+];
+
+/// So many different strings of one hash, at most 390,625, each of eight bytes and named once.
 pub fn strings_of_one_hash(count: u64) -> Vec<u8> {
-    let block = |i: u64, bit: u32| if i >> bit & 1 == 0 { "abaqaa" } else { "fawadt" };
-    let string = |i: u64| (0..16).map(|bit| block(i, bit)).chain(["\0"]).collect::<String>().into_bytes();
-    naming((0..count as u32).map(|i| i * 97).collect(), (0..count).flat_map(string).collect())
+    let string = |i: u64| {
+        let mut bytes = [128; 8];
+        let mut rest = i;
+        for row in &LEAVES_THE_HASH {
+            let times = (rest % 5) as i32 - 2;
+            bytes.iter_mut().zip(row).for_each(|(byte, more)| *byte += times * more);
+            rest /= 5;
+        }
+        bytes.into_iter().map(|byte| byte as u8).chain([0])
+    };
+    naming((0..count as u32).map(|i| i * 9).collect(), (0..count).flat_map(string).collect())
 }
 
 fn with_strings(entries: Vec<u32>, count: u64) -> Vec<u8> {

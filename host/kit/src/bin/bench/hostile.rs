@@ -8,8 +8,9 @@ use std::time::Duration;
 
 /// A sixteenth, an eighth, a quarter, and all of the greatest length.
 const PARTS: [usize; 4] = [16, 8, 4, 1];
-/// What would take longer by the square of the length is left out.
+/// What would take longer, by the growth that was seen or by the square of the length, is left out.
 const PATIENCE: Duration = Duration::from_secs(40);
+const SQUARE: f64 = 4.0;
 
 /// One bundle; thorin's time is none where it was left out, or thorin isn't the measure.
 pub struct One {
@@ -27,26 +28,31 @@ pub struct Grown {
     pub measured: Vec<One>,
 }
 
-/// Whether what took so long at a part of the length is to be tried at another.
-fn is_short_enough(before: Option<(usize, Duration)>, part: usize) -> bool {
-    before.is_none_or(|(old, took)| took * ((old / part) * (old / part)) as u32 <= PATIENCE)
+/// Whether what took so long at some parts of the length is to be tried at another.
+fn is_short_enough(before: &[(usize, Duration)], part: usize) -> bool {
+    let growth = match before {
+        [.., (_, a), (_, b)] => b.as_secs_f64() / a.as_secs_f64(),
+        _ => SQUARE,
+    };
+    let wanted = |(old, took): &(usize, Duration)| took.as_secs_f64() * growth.powi((old / part).ilog2() as i32);
+    before.last().is_none_or(|last| wanted(last) <= PATIENCE.as_secs_f64())
 }
 
 fn grown(bench: &mut Bench, hostile: &Hostile) -> Result<Grown> {
     let Hostile { kind, answer, thorin } = hostile;
-    let (mut our_last, mut its_last) = (None, None);
+    let (mut our_times, mut its_times) = (Vec::new(), Vec::new());
     let mut measured = Vec::new();
     for part in PARTS {
         // Without a package of ours there is nothing to hold thorin's to.
-        if !is_short_enough(our_last, part) {
+        if !is_short_enough(&our_times, part) {
             break;
         }
         let (bundle, items) = sized(kind, LONGEST_BUNDLE / part);
         let (ours, package) = bench.answered(&bundle, *answer)?;
-        our_last = Some((part, ours));
-        let ask = *thorin && is_short_enough(its_last, part);
+        our_times.push((part, ours));
+        let ask = *thorin && is_short_enough(&its_times, part);
         let its = if ask { bench.taken_alike(&bundle, &package)? } else { None };
-        its_last = its.map(|took| (part, took)).or(its_last);
+        its_times.extend(its.map(|took| (part, took)));
         println!("{}: {} bytes, {items}, {ours:?}, thorin {its:?}", kind.name, bundle.len());
         measured.push(One { bundle: bundle.len(), items, ours, thorin: its });
     }

@@ -56,7 +56,14 @@ fn growing(bench: &mut Bench, name: &str, bundles: impl Iterator<Item = (Vec<u8>
     Ok(measured)
 }
 
+/// The machine's load in the last minute, where the system says it.
+fn load() -> String {
+    let told = std::fs::read_to_string("/proc/loadavg").unwrap_or_default();
+    told.split(' ').next().filter(|number| !number.is_empty()).unwrap_or("unknown").to_string()
+}
+
 fn measure_all(sources: &Sources) -> Result<Paper> {
+    let before = load();
     let thorin = sources.oracle.map(Oracle::version).transpose()?;
     let is_real = real::is_at_hand(sources);
     let processes = if is_real { real::processes(sources)? } else { Vec::new() };
@@ -76,9 +83,11 @@ fn measure_all(sources: &Sources) -> Result<Paper> {
     let (name, (many, often)) = ("100,000 entries for the last of 5,000 strings", LAST_OF);
     let measured = growing(&mut bench, name, std::iter::once((last_of_many_strings(many, often), often)))?;
     let last_of = Growth { name, items: "entries", measured };
+    let elves = elves::all()?;
+    let hostile = hostile::all(&mut bench)?;
     Ok(Paper {
         thorin,
-        elves: elves::all()?,
+        elves,
         // Packing.
         small,
         kinds,
@@ -86,11 +95,12 @@ fn measure_all(sources: &Sources) -> Result<Paper> {
         last_of,
         releases,
         processes,
-        hostile: hostile::all(&mut bench)?,
+        hostile,
         // Looking up.
         batch: lookups::batch()?,
         lookups: lookups::all()?,
         sheet: sheets::measured()?,
+        load: (before, load()),
     })
 }
 

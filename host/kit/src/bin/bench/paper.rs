@@ -21,6 +21,8 @@ pub struct Growth {
 pub struct Paper {
     /// What thorin is built with; none where it was not at hand.
     pub thorin: Option<String>,
+    /// The machine's load before and after.
+    pub load: (String, String),
     pub elves: Vec<Elf>,
     /// Document 01's example, and the time of the small packer for it.
     pub small: (Measured, Duration),
@@ -84,7 +86,7 @@ fn or_dash<T>(value: Option<T>, shown: impl Fn(T) -> String) -> String {
 }
 
 fn factor(value: Option<f64>) -> String {
-    or_dash(value, |f| format!("{f:.2}"))
+    or_dash(value, |f| if f < 0.005 { "below 0.01".to_string() } else { format!("{f:.2}") })
 }
 
 /// Whether a quotient of times, as it is shown, is above 1.
@@ -152,6 +154,7 @@ impl Paper {
         let mut figures = vec![
             ("processor", processor()),
             ("cores", cores.to_string()),
+            ("load", format!("{} when this run began and {} when it ended", self.load.0, self.load.1)),
             ("thorin", thorin.unwrap_or("not at hand in this run, so that only ours was measured".to_string())),
             ("library", other.unwrap_or_default()),
             ("sizes", self.sizes()),
@@ -206,10 +209,9 @@ impl Paper {
             let ran = self.processes.iter().find(|ran| ran.version == version && ran.program == "barthovin pack");
             ran.and_then(|ran| well(&ran.ended))
         };
-        let head =
-            "| version | program | processor | of it the system's | most memory | what it wrote | ours, times that |\n";
+        let head = "| version | program | processor | most memory | what it wrote | ours, times that |\n";
         let rows = self.processes.iter().map(|ran| ran_row(ran, ours(ran.version)));
-        format!("{head}|---|---|---|---|---|---|---|\n{}", rows.collect::<String>())
+        format!("{head}|---|---|---|---|---|---|\n{}", rows.collect::<String>())
     }
 
     /// Which hostile kinds are long at the greatest length, and what is known of those that were left out there.
@@ -253,7 +255,7 @@ fn well(ended: &Ended) -> Option<Process> {
 
 fn ran_row(ran: &Ran, ours: Option<Process>) -> String {
     let process = well(&ran.ended);
-    let (took, system) = (or_dash(process, |p| time(p.time())), or_dash(process, |p| time(p.system)));
+    let took = or_dash(process, |p| time(p.time));
     let memory = or_dash(process, |p| format!("{:.1} MB", p.kilobytes as f64 / 1024.0));
     let wrote = match (&ran.ended, ran.verified) {
         (Ended::Never(patience), _) => format!("nothing: no end in {}", time(*patience)),
@@ -262,8 +264,8 @@ fn ran_row(ran: &Ran, ours: Option<Process>) -> String {
         (_, Some(false)) => "not verified".to_string(),
         _ => "-".to_string(),
     };
-    let ratio = ours.zip(process).and_then(|(ours, other)| quotient(ours.time(), other.time()));
-    format!("| {} | {} | {took} | {system} | {memory} | {wrote} | {} |\n", ran.version, ran.program, factor(ratio))
+    let ratio = ours.zip(process).and_then(|(ours, other)| quotient(ours.time, other.time));
+    format!("| {} | {} | {took} | {memory} | {wrote} | {} |\n", ran.version, ran.program, factor(ratio))
 }
 
 /// Whether a bundle is of about the greatest length.
@@ -365,11 +367,12 @@ mod tests {
         let took = Duration::from_millis(3);
         let one = || Measured { bundle: 44, items: 1, package: 112, ours: took, clearing: took, thorin: Some(took) };
         let growth = |name| Growth { name, items: "units", measured: vec![one(), one(), one()] };
-        let process = |ms| Process { user: took * ms, system: took, kilobytes: 2048 };
+        let process = |ms| Process { time: took * ms, kilobytes: 2048 };
         let ran = |program, ms| Ran { version: 4, program, ended: Ended::Well(process(ms)), verified: Some(true) };
         let hostile = |n: usize, ms| One { bundle: n << 20, items: 3, ours: took * ms, thorin: Some(took) };
         let paper = Paper {
             thorin: None,
+            load: ("1.00".to_string(), "2.00".to_string()),
             elves: vec![Elf { name: "one", file: 9, bundle: 8, took }],
             // Packing.
             small: (one(), took),
@@ -392,7 +395,7 @@ mod tests {
         let text = paper.to_string();
         assert!(text.contains("| document 01's example | 44 | 1 unit | 112 | 3.00 ms |"), "{text}");
         assert!(text.contains("| some | 12 | 3.00 ms |\n") && !text.contains("\n\n\n"), "{text}");
-        assert!(text.contains("| 4 | other | 9.00 ms | 3.00 ms | 2.0 MB | verified | 1.33 |\n"), "{text}");
+        assert!(text.contains("| 4 | other | 6.00 ms | 2.0 MB | verified | 1.50 |\n"), "{text}");
         assert!(text.contains("| h | 4.00 MB | 3 units | 15 | 27.0 ms | 3.00 | 3.00 ms | 1.00 | 9.00 |\n"), "{text}");
     }
 }

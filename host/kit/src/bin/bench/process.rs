@@ -31,15 +31,9 @@ const AT_ONCE: i32 = 1;
 /// One process that ended well.
 #[derive(Clone, Copy)]
 pub struct Process {
-    pub user: Duration,
-    pub system: Duration,
+    /// Its own and the system's for it.
+    pub time: Duration,
     pub kilobytes: u64,
-}
-
-impl Process {
-    pub fn time(&self) -> Duration {
-        self.user + self.system
-    }
 }
 
 /// How a process came to its end.
@@ -73,8 +67,8 @@ pub fn run(command: &mut Command, patience: Duration) -> Result<Ended> {
             -1 => return Err(Error::last_os_error()),
             _ if status != 0 => return Ok(Ended::Badly),
             _ => {
-                let (user, system) = (duration(usage.user), duration(usage.system));
-                return Ok(Ended::Well(Process { user, system, kilobytes: usage.kilobytes as u64 }));
+                let time = duration(usage.user) + duration(usage.system);
+                return Ok(Ended::Well(Process { time, kilobytes: usage.kilobytes as u64 }));
             }
         }
     }

@@ -89,7 +89,7 @@ fn shortest(mut command: impl FnMut() -> Result<Command>) -> Result<Ended> {
     let mut least: Option<Process> = None;
     for _ in 0..RUNS {
         match run(&mut command()?, PATIENCE)? {
-            Ended::Well(process) => least = Some(least.filter(|l| l.time() <= process.time()).unwrap_or(process)),
+            Ended::Well(process) => least = Some(least.filter(|l| l.time <= process.time).unwrap_or(process)),
             otherwise => return Ok(otherwise),
         }
     }
@@ -98,7 +98,7 @@ fn shortest(mut command: impl FnMut() -> Result<Command>) -> Result<Ended> {
 
 fn told(program: &str, version: u32, ended: &Ended) {
     let Ended::Well(process) = ended else { return println!("{program}, version {version}: no good end") };
-    println!("{program}, version {version}: {:?}, {} kB", process.time(), process.kilobytes);
+    println!("{program}, version {version}: {:?}, {} kB", process.time, process.kilobytes);
 }
 
 /// A program that takes the files and writes a package as an ELF file.
