@@ -26,7 +26,7 @@ help:
 	@echo 'make uninstall      removes them'
 	@echo 'make test           the gate: every proof from nothing, every edit that must fail, every program, the tests of the host'
 	@echo 'make host           the tests of the host alone'
-	@echo 'make differential   compares with thorin itself, where it is at hand, and feeds a million damaged bundles'
+	@echo 'make differential   compares with thorin itself, where it is at hand, feeds a million damaged bundles, and fails where packing takes too long'
 	@echo 'make string-index   times the index of strings against a proved build that walks the kept strings; fails below five times'
 	@echo 'make bench          times packing and looking up and writes docs/PERFORMANCE.md'
 	@echo 'make fmt            formats every file'

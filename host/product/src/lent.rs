@@ -67,21 +67,54 @@ enum Held<T> {
     Mapped(Mapping),
 }
 
+/// So many numbers, and room for more.
 pub struct Lent<T: Number> {
     held: Held<T>,
     length: usize,
+    room: usize,
 }
 
 impl<T: Number> Lent<T> {
     pub fn zeros(length: usize) -> Lent<T> {
         let bytes = length.saturating_mul(size_of::<T>());
         let mapped = if bytes < HUGE { None } else { Mapping::new(bytes) };
-        Lent { held: mapped.map_or_else(|| Held::Owned(vec![T::ZERO; length]), Held::Mapped), length }
+        Lent { held: mapped.map_or_else(|| Held::Owned(vec![T::ZERO; length]), Held::Mapped), length, room: length }
+    }
+
+    /// None yet. Room that stays unused takes no memory where it is long.
+    pub fn with_room(room: usize) -> Lent<T> {
+        Lent { length: 0, ..Lent::zeros(room) }
     }
 
     /// Keeps so many from the front.
     pub fn truncate(&mut self, length: usize) {
         self.length = self.length.min(length);
+    }
+
+    /// Makes it longer, by zeros.
+    pub fn extend_to(&mut self, length: usize) {
+        if length > self.room {
+            let mut more = Lent::zeros(length.max(2 * self.room));
+            more[..self.length].copy_from_slice(self);
+            *self = Lent { length: self.length, ..more };
+        }
+        let old = self.length;
+        self.length = old.max(length);
+        self[old..].fill(T::ZERO);
+    }
+
+    /// Appends some.
+    pub fn extend(&mut self, numbers: &[T]) {
+        let old = self.length;
+        self.extend_to(old + numbers.len());
+        self[old..].copy_from_slice(numbers);
+    }
+}
+
+impl<T: Number> From<Vec<T>> for Lent<T> {
+    fn from(numbers: Vec<T>) -> Lent<T> {
+        let length = numbers.len();
+        Lent { held: Held::Owned(numbers), length, room: length }
     }
 }
 
@@ -123,6 +156,23 @@ mod tests {
             lent.truncate(length);
             assert_eq!(lent.len(), length / 2);
         }
+    }
+
+    /// Within its room and beyond it, short and long; what was cut off comes back as zeros.
+    #[test]
+    fn grows_by_zeros() {
+        for room in [0, 10, 2 * HUGE] {
+            let mut lent: Lent<u8> = Lent::with_room(room);
+            assert_eq!(lent.len(), 0);
+            lent.extend(&[1, 2, 3, 4, 5, 6, 7]);
+            lent.truncate(5);
+            lent.extend_to(9);
+            lent.extend(&[8; 3]);
+            assert_eq!(lent[..], [1, 2, 3, 4, 5, 0, 0, 0, 0, 8, 8, 8]);
+            lent.extend_to(3 * HUGE);
+            assert!(lent.len() == 3 * HUGE && lent[..5] == [1, 2, 3, 4, 5] && lent[12..].iter().all(|n| *n == 0));
+        }
+        assert_eq!(Lent::from(vec![7u32; 3])[..], [7; 3]);
     }
 
     #[test]

@@ -8,9 +8,11 @@ use crate::answer::Found;
 use crate::elf;
 use crate::explain::{self, Names};
 use crate::ffi;
+use crate::lent::Lent;
 use crate::names::{LONGEST_BUNDLE, LONGEST_PACKAGE, OUTPUT_TOO_SHORT};
-use crate::reader::bundle::{put_end, Bundle};
+use crate::reader::bundle::{end_word, Bundle};
 use std::ffi::{OsStr, OsString};
+use std::fs;
 use std::os::unix::ffi::OsStrExt;
 
 /// The longest ELF file that is read; most of one may be sections that aren't wanted.
@@ -30,7 +32,7 @@ const LONGEST_LIST: usize = 1 << 26;
 
 /// What is packed: the bundle, and how each of its objects is called.
 pub struct Joined {
-    pub bundle: Vec<u8>,
+    pub bundle: Lent<u8>,
     /// One for each object; none where the bundle was handed in as it is, and its objects have numbers.
     pub files: Vec<String>,
     /// The machine of the first ELF file, if there is one.
@@ -54,18 +56,18 @@ pub fn refused_call(call: &Call, file: &str, number: u32, why: Option<String>) -
 }
 
 /// Reads a package; of an ELF file (.dwp) the package that it holds, or the refusal of such a file.
-pub fn read_package(call: &Call, name: &OsStr) -> Result<Vec<u8>, Stop> {
+pub fn read_package(call: &Call, name: &OsStr) -> Result<Lent<u8>, Stop> {
     let mut bytes = Vec::new();
     let most = Most { without: LONGEST_PACKAGE, ..BUNDLE_OR_ELF };
     progress::shown("reading the package".to_string(), || input::read_into(name, &most, &mut bytes))?;
     match bytes.starts_with(elf::MAGIC) {
         true => from_elf(call, &bytes, &input::shown(name)),
-        false => Ok(bytes),
+        false => Ok(bytes.into()),
     }
 }
 
 /// The same of one that is a package. That it is the proved lookup says, to any question.
-pub fn good_package(call: &Call, name: &OsStr) -> Result<Vec<u8>, Stop> {
+pub fn good_package(call: &Call, name: &OsStr) -> Result<Lent<u8>, Stop> {
     let bytes = read_package(call, name)?;
     match ffi::lookup(&bytes, 5, 1, 1, 1) {
         Found::Refused(NOT_A_PACKAGE) => Err(no_package(call, name, &bytes)),
@@ -79,17 +81,17 @@ pub fn no_package(call: &Call, name: &OsStr, bytes: &[u8]) -> Stop {
 }
 
 /// The bundle of an ELF file.
-pub fn from_elf(call: &Call, file: &[u8], shown: &str) -> Result<Vec<u8>, Stop> {
-    let mut bundle = Vec::new();
+pub fn from_elf(call: &Call, file: &[u8], shown: &str) -> Result<Lent<u8>, Stop> {
+    let mut bundle = Lent::zeros(0);
     put_elf(call, file, shown, &mut bundle, 0).map(|()| bundle)
 }
 
 /// The same from a place of a bundle on, up to its end. Without output the reader judges the file and says how long its bundle is, so that
 /// the sections are copied once, to where they stay.
-fn put_elf(call: &Call, file: &[u8], shown: &str, bundle: &mut Vec<u8>, from: usize) -> Result<(), Stop> {
+fn put_elf(call: &Call, file: &[u8], shown: &str, bundle: &mut Lent<u8>, from: usize) -> Result<(), Stop> {
     let (mut code, length) = elf::read(file, &mut []);
     if code == OUTPUT_TOO_SHORT {
-        bundle.resize(from + length, 0);
+        bundle.extend_to(from + length);
         (code, _) = elf::read(file, &mut bundle[from..]);
     }
     match code {
@@ -120,14 +122,17 @@ pub fn join(call: &Call, names: &[OsString]) -> Result<Joined, Stop> {
 }
 
 fn joined(call: &Call, names: &[OsString]) -> Result<Joined, Stop> {
-    let mut joined = Joined { bundle: Vec::new(), files: Vec::new(), machine: None };
+    // A file is longer than what it adds; what is longer than the longest bundle is refused.
+    let together: u64 = names.iter().filter_map(|name| fs::metadata(name).ok()).map(|told| told.len()).sum();
+    let room = together.min(LONGEST_BUNDLE as u64) as usize;
+    let mut joined = Joined { bundle: Lent::with_room(room), files: Vec::new(), machine: None };
     let mut bytes = Vec::new();
     for name in names {
         input::read_into(name, &BUNDLE_OR_ELF, &mut bytes)?;
         let shown = input::shown(name);
         let head = match bytes.starts_with(elf::MAGIC) {
             true => joined.put_file(call, &bytes, shown.clone())?,
-            false if names.len() == 1 => return Ok(Joined { bundle: bytes, ..joined }),
+            false if names.len() == 1 => return Ok(Joined { bundle: bytes.into(), ..joined }),
             false => joined.put_bundle(call, &bytes, &shown)?,
         };
         if head != joined.bundle[..WORD] {
@@ -135,7 +140,7 @@ fn joined(call: &Call, names: &[OsString]) -> Result<Joined, Stop> {
             return Err(Stop::Refused(format!("{shown}: its byte order is not that of {first}")));
         }
     }
-    put_end(&mut joined.bundle);
+    joined.bundle.extend(&end_word(joined.bundle.len()));
     Ok(joined)
 }
 
@@ -160,7 +165,7 @@ impl Joined {
         let Ok(read) = Bundle::read(bytes) else { return Err(not_a_bundle(call, shown, bytes)) };
         let head = [bytes[0], bytes[1], bytes[2], bytes[3]];
         if self.bundle.is_empty() {
-            self.bundle.extend(head);
+            self.bundle.extend(&head);
         }
         self.bundle.extend(&bytes[WORD..bytes.len() - WORD]);
         self.files.extend((1..=read.objects.len()).map(|number| format!("{shown}, object {number}")));
