@@ -4,6 +4,8 @@
 # A program that packs bundles with thorin; it is built where it is and what it needs is at hand.
 ORACLE_SOURCE ?= ../shared/oracle
 ORACLE = $(CURDIR)/target/oracle/release/thorin-oracle
+# The files of a real release, for the benchmark.
+REAL ?= ../shared/real
 ACCEPTED ?= 100000
 DAMAGED ?= 1000000
 SITTINGS ?= 100000
@@ -25,7 +27,7 @@ help:
 	@echo 'make uninstall      removes them'
 	@echo 'make test           the gate: every proof from nothing, every edit that must fail, every program, the tests of the host'
 	@echo 'make host           the tests of the host alone'
-	@echo 'make differential   compares with thorin itself, where it is at hand, feeds a million damaged bundles, packs in two sittings'
+	@echo 'make differential   compares with thorin itself, where it is at hand, feeds a million damaged bundles, packs in two sittings; fails where packing takes too long'
 	@echo 'make string-index   times the index of strings against a proved build that walks the kept strings; fails below five times'
 	@echo 'make bench          times packing and looking up and writes docs/PERFORMANCE.md'
 	@echo 'make fmt            formats every file'
@@ -131,6 +133,7 @@ oracle:
 differential: oracle library
 	cd host && cargo build --release --offline --bins
 	host/target/release/against_oracle "$(ORACLE)" $(ACCEPTED) $(SEED)
+	host/target/release/hostile
 	host/target/release/damaged $(DAMAGED) $(SEED)
 	host/target/release/damaged_elf $(DAMAGED) $(SEED)
 	host/target/release/written_elf 100000 $(SEED)
@@ -150,10 +153,10 @@ $(VARIANT)/libwalk.a: host/variants/walk.patch $(SOURCES)
 string-index: library $(VARIANT)/libwalk.a
 	cd host/walks && cargo run --release --offline --quiet -- ../../target/variants/string-index
 
-bench: library
+bench: command
 	cd host && cargo build --release --offline --bin bench
 	@oracle="$(ORACLE)"; $(MAKE) --no-print-directory oracle || oracle=; \
-	host/target/release/bench docs/PERFORMANCE.md "$$oracle"
+	host/target/release/bench docs/PERFORMANCE.md $(barthovin) "$(REAL)" "$$oracle"
 	@$(MAKE) --no-print-directory string-index
 	@awk '{ printf "\n## The index of strings\n\n20,000 different strings: %.1f ms; a proved build that walks the kept strings up to the first match (`make string-index`)\ntakes %.2f s, %.1f times as long.\n", $$1 / 1e6, $$2 / 1e9, $$2 / $$1 }' \
 	target/variants/string-index >> docs/PERFORMANCE.md

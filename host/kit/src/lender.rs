@@ -5,6 +5,7 @@ use crate::clock;
 use crate::generate::Random;
 use crate::reference::{Packed, WORK_FOR_A_WORD};
 use barthovin::ffi::{self, Skipped};
+use barthovin::lent::{Lent, Number};
 use std::time::{Duration, Instant};
 
 const MARGIN: usize = 16;
@@ -12,12 +13,19 @@ const JUNK: usize = 1 << 16;
 /// What is lent first where the package's length is not known.
 const FIRST_OUTPUT: usize = 4_096;
 
+/// What a packing may take, whatever the bundle: so much for each word of work, which is a hundred times what honest bundles take, and so
+/// much besides.
+const FOR_A_WORD: Duration = Duration::from_nanos(350);
+const BESIDES: Duration = Duration::from_micros(500);
+/// Something else may disturb one packing.
+const TRIES: usize = 3;
+
 pub struct Lender {
     junk: Vec<u8>,
     junk_words: Vec<u32>,
-    input: Vec<u8>,
-    work: Vec<u32>,
-    output: Vec<u8>,
+    input: Lent<u8>,
+    work: Lent<u32>,
+    output: Lent<u8>,
     calls: usize,
     /// Of the last call: where the output starts, the code and the length, and what packing skipped.
     last: (usize, u32, usize),
@@ -58,10 +66,10 @@ fn is_zero<T: Copy + Into<u64>>(numbers: &[T]) -> bool {
     numbers.chunks(64).all(|chunk| chunk.iter().fold(0, |all, n| all | (*n).into()) == 0)
 }
 
-/// Fills a place of such a length with junk that starts anywhere.
-fn fill<T: Copy>(place: &mut Vec<T>, length: usize, junk: &[T], start: usize) {
+/// Fills a place of such a length with junk that starts anywhere. The place grows by half at least, so that it seldom does.
+fn fill<T: Number>(place: &mut Lent<T>, length: usize, junk: &[T], start: usize) {
     if place.len() < length {
-        place.resize(length, junk[0]);
+        *place = Lent::zeros(length + length / 2);
     }
     let (first, rest) = (&junk[start..], &junk[..start]);
     for chunk in place[..length].chunks_mut(JUNK) {
@@ -94,7 +102,7 @@ impl Lender {
         let junk = (0..JUNK).map(|_| random.between(1, 255) as u8).collect();
         // Small numbers too: they look like places and counts.
         let junk_words = (0..JUNK).map(|_| (random.any() >> random.pick(&[32, 44, 56])) as u32 | 1).collect();
-        let (input, work, output) = (Vec::new(), Vec::new(), Vec::new());
+        let (input, work, output) = (Lent::zeros(0), Lent::zeros(0), Lent::zeros(0));
         let (last, skipped) = ((MARGIN, 0, 0), Skipped::default());
         Lender { junk, junk_words, input, work, output, calls: 0, last, skipped, took: Duration::ZERO }
     }
@@ -175,6 +183,18 @@ impl Lender {
         let second = self.pack(bundle, work, length)?;
         let true_length = (second.code, second.length) == (0, length);
         true_length.then_some(second).ok_or_else(|| format!("{length} bytes were asked for and are not what is needed"))
+    }
+
+    /// An error where the last packing, which was of this bundle, took longer than work of such a length allows, and does so again.
+    pub fn in_time(&mut self, bundle: &[u8], work: usize, output: usize) -> Result<(), String> {
+        let allowed = BESIDES + FOR_A_WORD.saturating_mul(work as u32);
+        for _ in 1..TRIES {
+            if self.took > allowed {
+                self.pack(bundle, work, output)?;
+            }
+        }
+        let told = || format!("{:?} for a bundle of {} bytes, and {allowed:?} are allowed", self.took, bundle.len());
+        (self.took <= allowed).then_some(()).ok_or_else(told)
     }
 
     /// The processor's time of the last call, without the filling before it and the judging after it.

@@ -1,7 +1,7 @@
 //! The generator reaches every refusal and every answer of the lookups; 17 is not used.
 
 use barthovin::answer::Asked;
-use kit::generate::{call, good, long_line, many_units, question, suffixes, Random};
+use kit::generate::{call, good, long_line, many_units, question, sized, suffixes, Random, HOSTILE, SHORT};
 use kit::reference::{lookup, lookup_string, pack, work_for, Found, Packed};
 use std::collections::BTreeMap;
 
@@ -42,6 +42,15 @@ fn large_bundles_reach_1_and_19() {
     // Columns info and abbrev: with 262,144 slots the index has 5,941,944 bytes, with 524,288 it would have 9,087,688.
     assert_eq!(whole(&many_units(174_762)), 0);
     assert_eq!(whole(&many_units(174_763)), 19);
+}
+
+#[test]
+fn hostile_bundles_are_answered_as_their_kinds_say() {
+    for hostile in &HOSTILE {
+        let (bundle, _) = sized(&hostile.kind, SHORT);
+        assert!(bundle.len() * 4 > SHORT * 3, "{}: {} bytes", hostile.kind.name, bundle.len());
+        assert_eq!(whole(&bundle), hostile.answer, "{}", hostile.kind.name);
+    }
 }
 
 #[test]

@@ -1,5 +1,7 @@
 //! ELF files read and written, through the C entries.
 
+use crate::lent::Lent;
+
 /// Code 0: what is written has that length. 18, of reading: that length is needed. Else the refusal, with 0.
 #[repr(C)]
 struct Written {
@@ -45,8 +47,8 @@ pub fn write(package: &[u8], machine: u32, output: &mut [u8]) -> (u32, usize) {
 }
 
 /// The ELF file of a package, or the refusal's number.
-pub fn file_of(package: &[u8], machine: u32) -> Result<Vec<u8>, u32> {
-    let mut output = vec![0; package.len() + ROOM];
+pub fn file_of(package: &[u8], machine: u32) -> Result<Lent<u8>, u32> {
+    let mut output = Lent::zeros(package.len() + ROOM);
     match write(package, machine, &mut output) {
         (0, length) => {
             output.truncate(length);

@@ -252,7 +252,7 @@ fn every_change_of_a_dwp_is_noticed() {
         assert!(held.iter().zip(&good[64..]).all(|(place, byte)| package[*place] == *byte));
         let (mut frame, mut offsets, mut refused) = (0, 0, 0);
         for place in 0..good.len() {
-            let mut changed = good.clone();
+            let mut changed = good.to_vec();
             changed[place] ^= 1 << (place % 7);
             let mut output = vec![0; 2 * good.len()];
             let (mut code, mut length) = elf::read(&changed, &mut output);

@@ -10,7 +10,8 @@
 //! its slots otherwise is compared with the reference's, all other sections with thorin's. It says how many were of each kind, and none may
 //! differ: docs/DIFFERENCES.md names no other difference but refusals. For each refusal it is counted what thorin did; the numbers are
 //! compared with the reference's, and where docs/DIFFERENCES.md saw thorin pack nothing, it may not pack.
-//! What an accepted bundle hands in is looked up in its package.
+//! What an accepted bundle hands in is looked up in its package. It fails where a packing takes longer than its work allows
+//! (`Lender::in_time`).
 //!
 //! With --sample, NUMBER accepted bundles of which thorin is the measure and a thirtieth as many of each refusal from 4 to 16 and of 34 are written to
 //! FILE with thorin's answers. There the proved packer has no say: which are accepted, and the numbers, are the reference's.
@@ -209,6 +210,14 @@ impl Packer {
         let bytes = if code == 0 { &made[..] } else { &[] };
         Ok(Written { code, length: bytes.len(), bytes, skipped })
     }
+
+    /// An error where the proved packer took too long for the last bundle, which is this one.
+    fn in_time(&mut self, bundle: &[u8], output: usize) -> std::result::Result<(), String> {
+        match self {
+            Packer::Proved(lent) => lent.in_time(bundle, work_for(bundle), output),
+            Packer::Reference(_) => Ok(()),
+        }
+    }
 }
 
 fn compare(oracle: &mut Oracle, packer: &mut Packer, wanted: u64, seed: u64) -> Result<(Tally, Counts)> {
@@ -227,10 +236,12 @@ fn compare(oracle: &mut Oracle, packer: &mut Packer, wanted: u64, seed: u64) -> 
         } else if packing.code == 0 {
             claim.check(&bundle, packing.bytes).map_err(wrong)?;
         }
+        let length = packing.length;
         if packing.code == 0 {
             accepted += 1;
             tally.note_kind(&bundle, packing.bytes);
         }
+        packer.in_time(&bundle, length).map_err(wrong)?;
     }
     Ok((tally, claim.counts))
 }

@@ -1,7 +1,8 @@
 //! Damaged bundles through the proved packer: damaged NUMBER [SEED]
 //!
 //! Each answer and every byte of output and work is compared with the reference, in memory full of junk; and what an accepted bundle
-//! hands in is looked up in its package. It fails at the first difference, and where an answer takes longer than a minute.
+//! hands in is looked up in its package. It fails at the first difference, where an answer takes longer than its work allows
+//! (`Lender::in_time`), and where none comes for a minute.
 
 use kit::claim::{Claim, Counts};
 use kit::generate::{damaged_call, Call, Random};
@@ -43,7 +44,8 @@ fn ask(lent: &mut Lender, claim: &mut Claim, call: &Call) -> std::result::Result
     if packing.code == 0 {
         claim.check(&call.bundle, packing.bytes)?;
     }
-    Ok(packing.code)
+    let code = packing.code;
+    lent.in_time(&call.bundle, call.work, output).map(|()| code)
 }
 
 fn run(wanted: u64, seed: u64) -> Result<(BTreeMap<u32, u64>, Counts)> {

@@ -15,7 +15,7 @@ pub struct Kind {
     pub make: fn(u64) -> Vec<u8>,
 }
 
-pub const KINDS: [Kind; 11] = [
+pub const KINDS: [Kind; 12] = [
     Kind { name: "few units, version 5", items: "bytes of line", make: few_units },
     Kind { name: "many units, version 5", items: "units", make: units_of_five },
     Kind { name: "many units, version 4, one abbreviation table", items: "units", make: units_with_one_table },
@@ -31,6 +31,7 @@ pub const KINDS: [Kind; 11] = [
     Kind { name: "a package of version 4 as input", items: "units", make: package_again },
     Kind { name: "a package of version 5 as input", items: "units", make: package_of_five_again },
     Kind { name: "many entries, 16 strings", items: "entries", make: entries_of_few_strings },
+    Kind { name: "many names with common prefixes", items: "strings", make: names_with_prefixes },
 ];
 
 /// A bundle of a kind that is at most so long, and less by a hundredth at most where that can be had; and its items.
@@ -226,17 +227,62 @@ fn entries_of_few_strings(count: u64) -> Vec<u8> {
     with_strings(entries, 16)
 }
 
+/// Names as C++ compilers mangle them: namespaces, class and template arguments are common to many, and what differs stands late.
+fn mangled(number: u64) -> String {
+    let (class, method) = (number / 40, number % 40);
+    let class = format!("Archive{}", class % 2_500);
+    let arguments = "NSt7__cxx1112basic_stringIcSt11char_traitsIcESaIcEEE";
+    let method = format!("lookup_entry_{method}_{:x}", identity(number) >> 52);
+    format!("_ZN4race6splits6detail{}{class}I{arguments}E{}{method}ERK{arguments}m\0", class.len(), method.len())
+}
+
+/// So many names, each new and named once.
+fn names_with_prefixes(count: u64) -> Vec<u8> {
+    let (mut entries, mut strings) = (Vec::new(), Vec::new());
+    for i in 0..count {
+        entries.push(strings.len() as u32);
+        strings.extend(mangled(i).into_bytes());
+    }
+    naming(entries, strings)
+}
+
+/// So many different strings, and entries for the last of them after one for each.
+pub fn last_of_many_strings(strings: u64, entries: u64) -> Vec<u8> {
+    let last = strings as u32 - 1;
+    with_strings((0..last).chain((0..entries).map(|_| last)).map(|i| i * 17).collect(), strings)
+}
+
 /// So many different strings, each named once.
 pub fn many_strings(count: u64) -> Vec<u8> {
     with_strings((0..count as u32).map(|i| i * 17).collect(), count)
 }
 
-/// So many different strings of one hash, each named once. The hash of the kept strings' index is linear: wherever one of two blocks
-/// stands in a string, the other gives the same.
+/// The hash of the kept strings' index is linear in a string's bytes, modulo 2^32. What is added to the eight bytes of a string by a row here
+/// leaves it as it is; the rows are a short basis of all that does.
+const LEAVES_THE_HASH: [[i32; 8]; 8] = [
+    [-3, 5, 8, 1, -1, -3, 1, 8],
+    [4, -7, 4, -5, -11, 0, 2, -3],
+    [-8, -2, -5, 2, -7, 1, -5, 8],
+    [-5, 10, 3, -6, 7, 13, -2, -4],
+    [1, -11, 2, -4, 1, 10, -6, 7],
+    [-3, 0, 1, -12, 0, -9, 5, 2],
+    [10, 7, -7, -2, -9, -4, -2, 7],
+    [3, 4, 10, -10, 3, -7, -15, -4],
+];
+
+/// So many different strings of one hash, at most 390,625, each of eight bytes and named once.
 pub fn strings_of_one_hash(count: u64) -> Vec<u8> {
-    let block = |i: u64, bit: u32| if i >> bit & 1 == 0 { "abaqaa" } else { "fawadt" };
-    let string = |i: u64| (0..16).map(|bit| block(i, bit)).chain(["\0"]).collect::<String>().into_bytes();
-    naming((0..count as u32).map(|i| i * 97).collect(), (0..count).flat_map(string).collect())
+    let string = |i: u64| {
+        let mut bytes = [128; 8];
+        let mut rest = i;
+        for row in &LEAVES_THE_HASH {
+            let times = (rest % 5) as i32 - 2;
+            bytes.iter_mut().zip(row).for_each(|(byte, more)| *byte += times * more);
+            rest /= 5;
+        }
+        bytes.into_iter().map(|byte| byte as u8).chain([0])
+    };
+    naming((0..count as u32).map(|i| i * 9).collect(), (0..count).flat_map(string).collect())
 }
 
 fn with_strings(entries: Vec<u32>, count: u64) -> Vec<u8> {

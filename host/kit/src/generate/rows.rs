@@ -1,5 +1,6 @@
 //! Packages with very many rows, which a search of all rows for each unit, or for each part of str_offsets, would take too long to read.
 
+use super::hostile::colliding;
 use super::objects::{Draft, DraftObject};
 use crate::reference::place;
 
@@ -25,16 +26,24 @@ fn put_unit(info: &mut Vec<u8>, identity: u64) {
 /// Offset and size.
 type Cell = (u32, u32);
 
-/// An index of two columns, by its form, their codes and its rows' identities and cells.
-fn index(form: u32, codes: [u32; 2], rows: &[(u64, [Cell; 2])]) -> Vec<u8> {
+/// The slots of rows, as their identities choose them.
+fn slots_of<C>(rows: &[(u64, C)]) -> Vec<u64> {
     let identities: Vec<u64> = rows.iter().map(|(identity, _)| *identity).collect();
-    let slots = place(&identities, (rows.len() + 1).next_power_of_two()).expect("a slot for each");
+    place(&identities, slot_count(rows)).expect("a slot for each")
+}
+
+fn slot_count<T>(rows: &[T]) -> usize {
+    (rows.len() + 1).next_power_of_two()
+}
+
+/// An index of two columns, by its form, their codes, its rows' identities and cells, and its slots.
+fn index(form: u32, codes: [u32; 2], rows: &[(u64, [Cell; 2])], slots: &[u64]) -> Vec<u8> {
     let mut out = Vec::new();
     let mut put = |word: u32| out.extend(word.to_le_bytes());
     // A 16-bit 5 and 0 are the word 5 in this byte order.
     [form, 2, rows.len() as u32, slots.len() as u32].into_iter().for_each(&mut put);
-    for row in &slots {
-        let x = if *row == 0 { 0 } else { identities[*row as usize - 1] };
+    for row in slots {
+        let x = row.checked_sub(1).map_or(0, |row| rows[row as usize].0);
         put(x as u32);
         put((x >> 32) as u32);
     }
@@ -45,12 +54,17 @@ fn index(form: u32, codes: [u32; 2], rows: &[(u64, [Cell; 2])]) -> Vec<u8> {
     out
 }
 
-/// So many units, in order of their identities' numbers, and rows of these info cells; all share one abbrev part.
+/// So many units, in order of their identities' numbers, and rows of these info cells.
 fn package(units: u32, rows: &[(u64, Cell)]) -> Vec<u8> {
+    placed_package((0..units).map(identity), rows, &slots_of(rows))
+}
+
+/// The same by the units' identities and with the rows' slots; all rows share one abbrev part.
+fn placed_package(units: impl Iterator<Item = u64>, rows: &[(u64, Cell)], slots: &[u64]) -> Vec<u8> {
     let mut info = Vec::new();
-    (0..units).for_each(|i| put_unit(&mut info, identity(i)));
+    units.for_each(|identity| put_unit(&mut info, identity));
     let rows: Vec<_> = rows.iter().map(|(identity, cell)| (*identity, [*cell, (0, ABBREV.len() as u32)])).collect();
-    let sections = vec![(1, info), (3, ABBREV.to_vec()), (12, index(2, [1, 3], &rows))];
+    let sections = vec![(1, info), (3, ABBREV.to_vec()), (12, index(2, [1, 3], &rows, slots))];
     Draft { big: false, objects: vec![DraftObject { word: WORD, sections }] }.bytes()
 }
 
@@ -73,13 +87,23 @@ pub fn reversed_rows(rows: u32) -> Vec<u8> {
     package(rows / 5 * 4, &all)
 }
 
+/// So many units, and a row for each, whose identities all start at one slot and take the same steps.
+pub fn one_probe_sequence(units: u32) -> Vec<u8> {
+    let rows: Vec<_> = (0..units).map(|i| (colliding(i.into()), (i * UNIT, UNIT))).collect();
+    // A search for each slot would meet all those before it.
+    let mut slots = vec![0; slot_count(&rows)];
+    let (mask, step) = (slots.len() - 1, colliding(0) >> 32 | 1);
+    (0..rows.len()).for_each(|i| slots[(colliding(0) as usize + i * step as usize) & mask] = i as u64 + 1);
+    placed_package(rows.iter().map(|(identity, _)| *identity), &rows, &slots)
+}
+
 /// A version 5 package of one unit, of so many parts of str_offsets without entries, and of rows that name these cells of it.
 fn package_of_pieces(pieces: u32, cells: impl Iterator<Item = Cell>) -> Vec<u8> {
     let mut unit = vec![16, 0, 0, 0, 5, 0, 5, 8, 0, 0, 0, 0];
     unit.extend(identity(0).to_le_bytes());
     let rows: Vec<_> = (0..).zip(cells).map(|(i, cell)| (identity(i), [(0, UNIT), cell])).collect();
-    let (offsets, strings) = (PIECE.repeat(pieces as usize), vec![0]);
-    let sections = vec![(1, unit), (3, Vec::new()), (6, offsets), (11, strings), (12, index(5, [1, 6], &rows))];
+    let (offsets, index) = (PIECE.repeat(pieces as usize), index(5, [1, 6], &rows, &slots_of(&rows)));
+    let sections = vec![(1, unit), (3, Vec::new()), (6, offsets), (11, vec![0]), (12, index)];
     Draft { big: false, objects: vec![DraftObject { word: FIVE, sections }] }.bytes()
 }
 

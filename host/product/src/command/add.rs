@@ -2,7 +2,7 @@
 //! once, wherever both are accepted.
 
 use super::call::Call;
-use super::files::{good_package_file, Taken};
+use super::files::{good_package, Taken};
 use super::pack::package_of;
 use super::{show, Stop};
 use crate::reader::package::Package;
@@ -23,7 +23,7 @@ pub struct Earlier<'c> {
 
 impl<'c> Earlier<'c> {
     fn read(call: &Call, name: &'c OsStr) -> Result<Earlier<'c>, Stop> {
-        let file = good_package_file(call, name)?;
+        let file = good_package(call, name)?;
         let shown = &file.shown;
         // The lookups take a package without units; here it is most often a file that is no package.
         match Package::read(&file.bytes).map(|package| package.index(1).or(package.index(2)).is_some()) {
@@ -37,7 +37,7 @@ impl<'c> Earlier<'c> {
 
     /// What is told once so many files are added, and this is the package.
     pub fn added(&self, files: usize, package: &[u8]) -> Added {
-        let as_written = package_of(&self.file.bytes).is_ok_and(|again| again == self.file.bytes);
+        let as_written = package_of(&self.file.bytes).is_ok_and(|again| again[..] == self.file.bytes[..]);
         Added { files, package: self.file.shown.clone(), as_written, closed: package_of(package).err() }
     }
 }

@@ -9,36 +9,52 @@ use std::sync::atomic::{AtomicBool, Ordering};
 /// Whether standard input was read already: it can be read once.
 static READ: AtomicBool = AtomicBool::new(false);
 
-/// All of a file, or of standard input for `-`; of one longer than `most` only so much that its length is refused.
-pub fn read(name: &OsStr, most: usize) -> Result<Vec<u8>, Stop> {
-    let enough = most as u64 + 4;
+/// What is too long is read up to here behind the longest, so that its length is refused.
+const TOO_MUCH: usize = 4;
+
+/// How long a file may be: one that starts with the bytes given, and any other.
+pub struct Most {
+    pub magic: &'static [u8],
+    pub with: usize,
+    pub without: usize,
+}
+
+/// All of a file, or of standard input for `-`; of one that is longer only so much that its length is refused.
+pub fn read(name: &OsStr, longest: usize) -> Result<Vec<u8>, Stop> {
     let mut bytes = Vec::new();
-    let taken = open(name)?.take(enough).read_to_end(&mut bytes);
-    taken.map(|_| bytes).map_err(|error| Stop::file(&shown(name), &error))
+    read_into(name, &Most { magic: &[], with: longest, without: longest }, &mut bytes).map(|()| bytes)
 }
 
-/// The same of a file that may be longer where it starts with the bytes given.
-pub fn read_either(name: &OsStr, magic: &[u8], most_with: usize, most: usize) -> Result<Vec<u8>, Stop> {
-    let read_from = |mut source: Box<dyn Read>| -> io::Result<Vec<u8>> {
-        let mut bytes = Vec::new();
-        source.by_ref().take(magic.len() as u64).read_to_end(&mut bytes)?;
-        let most = if bytes == magic { most_with } else { most };
-        source.take((most + 4 - bytes.len()) as u64).read_to_end(&mut bytes)?;
-        Ok(bytes)
+/// The same in the place of what was read before it.
+pub fn read_into(name: &OsStr, most: &Most, bytes: &mut Vec<u8>) -> Result<(), Stop> {
+    bytes.clear();
+    let taken = match name == "-" {
+        true => take(standard()?, most, bytes),
+        false => File::open(name).and_then(|file| take_file(file, most, bytes)),
     };
-    read_from(open(name)?).map_err(|error| Stop::file(&shown(name), &error))
+    taken.map_err(|error| Stop::file(&shown(name), &error))
 }
 
-fn open(name: &OsStr) -> Result<Box<dyn Read>, Stop> {
-    if name != "-" {
-        return File::open(name)
-            .map(|file| Box::new(file) as Box<dyn Read>)
-            .map_err(|error| Stop::file(&shown(name), &error));
+/// A file that says it is short enough is read at once, into memory of its length.
+fn take_file(mut file: File, most: &Most, bytes: &mut Vec<u8>) -> io::Result<()> {
+    let told = file.metadata()?;
+    if told.is_file() && told.len() <= most.without as u64 {
+        return file.read_to_end(bytes).map(|_| bytes.truncate(most.without + TOO_MUCH));
     }
+    take(file, most, bytes)
+}
+
+fn take(mut from: impl Read, most: &Most, bytes: &mut Vec<u8>) -> io::Result<()> {
+    from.by_ref().take(most.magic.len() as u64).read_to_end(bytes)?;
+    let longest = if bytes == most.magic { most.with } else { most.without };
+    from.take((longest + TOO_MUCH - bytes.len()) as u64).read_to_end(bytes).map(|_| ())
+}
+
+fn standard() -> Result<impl Read, Stop> {
     if READ.swap(true, Ordering::Relaxed) {
         return Err(Stop::Trouble("standard input is named twice, and can be read once".to_string()));
     }
-    Ok(Box::new(io::stdin().lock()))
+    Ok(io::stdin().lock())
 }
 
 /// How a file is called in messages.

@@ -17,7 +17,7 @@ pub fn run(arguments: &[OsString]) -> Result<u8, Stop> {
         Err(status) => return Ok(status),
     };
     let name = &call.exactly(&["PACKAGE"])?[0];
-    let bytes = good_package(&call, name)?;
+    let bytes = good_package(&call, name)?.bytes;
     let package = Package::read(&bytes).map_err(|why| Stop::Trouble(format!("{}: {why}", input::shown(name))))?;
     let told = if call.has("json") { json(&package, bytes.len()) } else { text(&package, bytes.len()) };
     output::write_standard(told.as_bytes()).map(|()| DONE)

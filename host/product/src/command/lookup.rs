@@ -40,7 +40,7 @@ pub fn run(arguments: &[OsString]) -> Result<u8, Stop> {
     }
     let words: Vec<String> = operands(&call)?.iter().map(|word| show::name(word)).collect();
     let question = question(&words).map_err(|message| call.wrong(message))?;
-    let package = read_package(&call, &call.operands[0])?;
+    let package = read_package(&call, &call.operands[0])?.bytes;
     let Question { table, identity, asked, .. } = question;
     // Without a version the index's own is taken; a bad package is refused whatever it is.
     let version = question.version.unwrap_or_else(|| Package::read(&package).map_or(5, |p| p.version()));

@@ -2,11 +2,12 @@
 
 use super::add::{self, Added, Earlier};
 use super::call::{Call, Known};
-use super::files::{join, join_to, listed, refused_call, Joined};
+use super::files::{join, listed, refused_call, Joined};
 use super::{input, output, progress, show, Stop, DONE};
 use crate::elf;
 use crate::explain::{self, Names};
 use crate::ffi::{self, Skipped};
+use crate::lent::Lent;
 use crate::names::{section_name, OUTPUT_TOO_SHORT, WORK_FOR_A_WORD};
 use crate::skipped::{self, Unit};
 use std::ffi::{OsStr, OsString};
@@ -44,10 +45,7 @@ pub fn run(arguments: &[OsString]) -> Result<u8, Stop> {
         return Err(call.wrong("the list names no file"));
     }
     let earlier = add::earlier(&call)?;
-    let joined = match &earlier {
-        Some(earlier) => join_to(&call, &earlier.file, &names)?,
-        None => join(&call, &names)?,
-    };
+    let joined = join(&call, earlier.as_ref().map(|earlier| &earlier.file), &names)?;
     let about = format!("packing {}, {} bytes", show::count(names.len(), "file"), joined.bundle.len());
     let packed = progress::shown(about, || packed(&joined.bundle));
     let (package, skipped) = packed.map_err(|number| told(&call, &names, earlier.as_ref(), &joined, number))?;
@@ -61,7 +59,7 @@ pub fn run(arguments: &[OsString]) -> Result<u8, Stop> {
 }
 
 /// The package as an ELF file.
-fn elf_file(call: &Call, to: &OsStr, package: &[u8], machine: Option<u32>) -> Result<Vec<u8>, Stop> {
+fn elf_file(call: &Call, to: &OsStr, package: &[u8], machine: Option<u32>) -> Result<Lent<u8>, Stop> {
     let machine = machine.unwrap_or(elf::MACHINES[0].1);
     let why = |number| Some(format!("the machine is {machine}")).filter(|_| number == OTHER_MACHINE);
     elf::file_of(package, machine).map_err(|number| refused_call(call, &output::shown(to), number, why(number)))
@@ -169,13 +167,13 @@ fn told(call: &Call, operands: &[OsString], earlier: Option<&Earlier>, joined: &
 }
 
 /// The package and what was skipped, or the refusal's number.
-fn packed(bundle: &[u8]) -> Result<(Vec<u8>, Skipped), u32> {
-    let mut work = vec![0; bundle.len() / 4 * WORK_FOR_A_WORD];
+fn packed(bundle: &[u8]) -> Result<(Lent<u8>, Skipped), u32> {
+    let mut work = Lent::zeros(bundle.len() / 4 * WORK_FOR_A_WORD);
     // Most packages fit; where one doesn't, the refusal names the length that it needs.
-    let mut output = vec![0; 2 * bundle.len()];
+    let mut output = Lent::zeros(2 * bundle.len());
     let mut answer = ffi::pack_counted(bundle, &mut work, &mut output);
     if answer.0 == OUTPUT_TOO_SHORT {
-        output = vec![0; answer.1];
+        output = Lent::zeros(answer.1);
         answer = ffi::pack_counted(bundle, &mut work, &mut output);
     }
     let (code, length, skipped) = answer;
@@ -187,6 +185,6 @@ fn packed(bundle: &[u8]) -> Result<(Vec<u8>, Skipped), u32> {
 }
 
 /// The package alone.
-pub fn package_of(bundle: &[u8]) -> Result<Vec<u8>, u32> {
+pub fn package_of(bundle: &[u8]) -> Result<Lent<u8>, u32> {
     packed(bundle).map(|(package, _)| package)
 }

@@ -19,7 +19,7 @@ pub fn run(arguments: &[OsString]) -> Result<u8, Stop> {
         Err(status) => return Ok(status),
     };
     let name = &call.exactly(&["PACKAGE"])?[0];
-    let package = read_package(&call, name)?;
+    let package = read_package(&call, name)?.bytes;
     let (code, failed) = conditions(&package);
     if code == NOT_A_PACKAGE {
         return Err(no_package(&call, name, &package));

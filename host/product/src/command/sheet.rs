@@ -24,7 +24,7 @@ pub fn run(arguments: &[OsString]) -> Result<u8, Stop> {
         return Err(call.wrong("options '--pages' and '--json' don't go together"));
     }
     let name = &call.exactly(&["PACKAGE"])?[0];
-    let package = read_package(&call, name)?;
+    let package = read_package(&call, name)?.bytes;
     let lines = sheet(&package)
         .map_err(|number| refused_call(&call, &input::shown(name), number, explain::not_a_sheet(&package)))?;
     if call.has("json") {

@@ -22,8 +22,8 @@ pub fn run(arguments: &[OsString]) -> Result<u8, Stop> {
     if files.is_empty() {
         return Err(call.wrong("operand FILE is missing"));
     }
-    let package = good_package(&call, name)?;
-    let joined = join(&call, &files)?;
+    let package = good_package(&call, name)?.bytes;
+    let joined = join(&call, None, &files)?;
     let about = format!("looking for {} in the package", show::count(files.len(), "file"));
     let report = progress::shown(about, || verify(&package, &joined.bundle));
     // Several files were taken apart when they were joined.

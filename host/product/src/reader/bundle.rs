@@ -155,8 +155,12 @@ pub fn put_section(out: &mut Vec<u8>, code: u32, bytes: &[u8]) {
     out.resize(out.len().next_multiple_of(4), 0);
 }
 
+/// The last word, behind so many bytes.
+pub fn end_word(bytes: usize) -> [u8; 4] {
+    (END << 28 | (bytes as u32 / 4 + 1)).to_le_bytes()
+}
+
 /// Appends the last word.
 pub fn put_end(out: &mut Vec<u8>) {
-    let words = out.len() as u32 / 4 + 1;
-    out.extend((END << 28 | words).to_le_bytes());
+    out.extend(end_word(out.len()));
 }

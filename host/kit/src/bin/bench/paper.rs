@@ -1,10 +1,13 @@
 //! The paper: text with the figures of one run.
 
 use super::elves::Elf;
+use super::hostile::{Grown, One};
 use super::lookups::Lookup;
 use super::measure::Measured;
-use super::rows::Rows;
+use super::process::{Ended, Process};
+use super::real::{Packed, Ran};
 use super::sheets::Sheet;
+use super::why;
 use std::fmt::{Display, Formatter, Result};
 use std::time::Duration;
 
@@ -18,14 +21,19 @@ pub struct Growth {
 pub struct Paper {
     /// What thorin is built with; none where it was not at hand.
     pub thorin: Option<String>,
+    /// The machine's load before and after.
+    pub load: (String, String),
     pub elves: Vec<Elf>,
     /// Document 01's example, and the time of the small packer for it.
     pub small: (Measured, Duration),
     pub kinds: Vec<Growth>,
-    pub rows: Vec<Rows>,
     pub strings: Growth,
-    /// Chosen so that the index of strings does not tell them apart.
-    pub one_hash: Growth,
+    /// One string named very often, the last of many.
+    pub last_of: Growth,
+    /// Of a real release: its bundles, and whole processes over its files. None where it was not at hand.
+    pub releases: Vec<Packed>,
+    pub processes: Vec<Ran>,
+    pub hostile: Vec<Grown>,
     /// Of 1,024 questions in one call.
     pub batch: Duration,
     pub lookups: Vec<Lookup>,
@@ -34,8 +42,10 @@ pub struct Paper {
 
 /// Growth above this at a doubling is no longer called linear.
 const STEEP: f64 = 3.0;
-/// Different strings of one hash in a bundle of the greatest length, of the kind measured.
-const MOST_OF_ONE_HASH: f64 = 41_500.0;
+/// A hostile bundle of the greatest length that takes longer is listed.
+const LONG: Duration = Duration::from_secs(2);
+/// What stands beside a figure that is behind thorin's.
+const BEHIND: &str = " (behind)";
 
 /// The text, with names in braces where figures go.
 const TEXT: &str = include_str!("paper.md");
@@ -76,7 +86,16 @@ fn or_dash<T>(value: Option<T>, shown: impl Fn(T) -> String) -> String {
 }
 
 fn factor(value: Option<f64>) -> String {
-    or_dash(value, |f| format!("{f:.2}"))
+    or_dash(value, |f| if f < 0.005 { "below 0.01".to_string() } else { format!("{f:.2}") })
+}
+
+/// Whether a quotient of times, as it is shown, is above 1.
+fn is_behind(ratio: Option<f64>) -> bool {
+    ratio.is_some_and(|r| (r * 100.0).round() > 100.0)
+}
+
+fn marked(ratio: Option<f64>) -> String {
+    format!("{}{}", factor(ratio), if is_behind(ratio) { BEHIND } else { "" })
 }
 
 fn megabytes(bytes: usize) -> String {
@@ -135,6 +154,7 @@ impl Paper {
         let mut figures = vec![
             ("processor", processor()),
             ("cores", cores.to_string()),
+            ("load", format!("{} when this run began and {} when it ended", self.load.0, self.load.1)),
             ("thorin", thorin.unwrap_or("not at hand in this run, so that only ours was measured".to_string())),
             ("library", other.unwrap_or_default()),
             ("sizes", self.sizes()),
@@ -142,7 +162,10 @@ impl Paper {
             ("elves", self.elves.iter().map(read).collect()),
             ("growth", self.kinds.iter().map(grown).collect()),
             ("verdict", self.verdict()),
-            ("rows", by_place(&self.rows)),
+            ("behind", self.behind()),
+            ("releases", self.releases()),
+            ("hostile", self.hostile.iter().map(hostile_rows).collect()),
+            ("hostile_verdict", self.hostile_verdict()),
             ("batch", time(self.batch)),
             ("lookups", self.lookups.iter().map(looked_up).collect()),
             ("sheet_package", grouped(self.sheet.package as u64)),
@@ -158,26 +181,123 @@ impl Paper {
         for kind in &self.kinds {
             rows.extend(kind.measured.iter().skip(1).step_by(2).map(|one| row(kind.name, kind.items, one)));
         }
+        rows.extend(self.strings.measured.last().map(|one| row(self.strings.name, self.strings.items, one)));
+        rows.extend(self.last_of.measured.iter().map(|one| row(self.last_of.name, self.last_of.items, one)));
+        rows.extend(self.releases.iter().map(|release| row(release.name, "entries", &release.measured)));
         rows
+    }
+
+    /// The kinds that are behind thorin somewhere, and why.
+    fn behind(&self) -> String {
+        let is_one_behind = |kind: &&Growth| kind.measured.iter().any(|one| is_behind(one.ratio()));
+        let all = self.kinds.iter().chain([&self.strings, &self.last_of]);
+        let mut names: Vec<&str> = all.filter(is_one_behind).map(|kind| kind.name).collect();
+        names.extend(self.releases.iter().filter(|r| is_behind(r.measured.ratio())).map(|r| r.name));
+        if self.thorin.is_none() || names.is_empty() {
+            return String::new();
+        }
+        let told = |name: &&str| format!("- {name}: {}.\n", why::behind(name));
+        format!("Behind thorin:\n\n{}\n", names.iter().map(told).collect::<String>())
+    }
+
+    /// Whole processes over the files of a real release.
+    fn releases(&self) -> String {
+        if self.processes.is_empty() {
+            return "The release was not at hand in this run.\n".to_string();
+        }
+        let ours = |version| {
+            let ran = self.processes.iter().find(|ran| ran.version == version && ran.program == "barthovin pack");
+            ran.and_then(|ran| well(&ran.ended))
+        };
+        let head = "| version | program | processor | most memory | what it wrote | ours, times that |\n";
+        let rows = self.processes.iter().map(|ran| ran_row(ran, ours(ran.version)));
+        format!("{head}|---|---|---|---|---|---|\n{}", rows.collect::<String>())
+    }
+
+    /// Which hostile kinds are long at the greatest length, and what is known of those that were left out there.
+    fn hostile_verdict(&self) -> String {
+        let whole = |kind: &&Grown| kind.measured.last().is_none_or(|one| !is_whole(one) || one.ours > LONG);
+        let told = |kind: &Grown| {
+            let last = kind.measured.last().map(|one| format!("{} at {}", time(one.ours), megabytes(one.bundle)));
+            let (ours, thorin) = doublings(&kind.measured).last().copied().unwrap_or_default();
+            let thorin = thorin.map(|f| format!(", thorin's by {f:.2}")).unwrap_or_default();
+            format!("{} ({}, growing by {} at a doubling{thorin})", kind.name, last.unwrap_or_default(), factor(ours))
+        };
+        let long: Vec<String> = self.hostile.iter().filter(whole).map(told).collect();
+        match long.is_empty() {
+            true => format!("None takes longer than {} at the greatest length.", time(LONG)),
+            false => {
+                format!("Longer than {} at the greatest length, or left out there: {}.", time(LONG), long.join("; "))
+            }
+        }
     }
 
     fn string_figures(&self) -> Vec<(&'static str, String)> {
         let last = self.strings.measured.last();
         let most = |shown: &dyn Fn(&Measured) -> String| or_dash(last, shown);
         let ratio = last.and_then(Measured::ratio).map(|r| format!(" That is {r:.1} times thorin's time."));
-        let by_the_square = |m: &Measured| time(m.ours.mul_f64((MOST_OF_ONE_HASH / m.items as f64).powi(2)));
-        let chosen = self.one_hash.measured.last();
         vec![
             ("strings", grown(&self.strings)),
             ("strings_factor", format!("{:.2}", self.strings.last_factor())),
             ("most_strings", most(&|m| grouped(m.items))),
             ("most_strings_time", most(&|m| time(m.ours))),
             ("most_strings_ratio", ratio.unwrap_or_default()),
-            ("one_hash", grown(&self.one_hash)),
-            ("one_hash_of_4_mb", grouped(MOST_OF_ONE_HASH as u64)),
-            ("one_hash_of_4_mb_time", or_dash(chosen, by_the_square)),
         ]
     }
+}
+
+fn well(ended: &Ended) -> Option<Process> {
+    match ended {
+        Ended::Well(process) => Some(*process),
+        _ => None,
+    }
+}
+
+fn ran_row(ran: &Ran, ours: Option<Process>) -> String {
+    let process = well(&ran.ended);
+    let took = or_dash(process, |p| time(p.time));
+    let memory = or_dash(process, |p| format!("{:.1} MB", p.kilobytes as f64 / 1024.0));
+    let wrote = match (&ran.ended, ran.verified) {
+        (Ended::Never(patience), _) => format!("nothing: no end in {}", time(*patience)),
+        (Ended::Badly, _) => "nothing: it failed".to_string(),
+        (_, Some(true)) => "verified".to_string(),
+        (_, Some(false)) => "not verified".to_string(),
+        _ => "-".to_string(),
+    };
+    let ratio = ours.zip(process).and_then(|(ours, other)| quotient(ours.time, other.time));
+    format!("| {} | {} | {took} | {memory} | {wrote} | {} |\n", ran.version, ran.program, factor(ratio))
+}
+
+/// Whether a bundle is of about the greatest length.
+fn is_whole(one: &One) -> bool {
+    one.bundle > 3 << 20
+}
+
+/// By how much each took longer for each doubling since the one before: ours, and thorin.
+fn doublings(measured: &[One]) -> Vec<(Option<f64>, Option<f64>)> {
+    let at_a_doubling = |a: &One, b: &One, factor: f64| factor.powf(1.0 / (b.bundle as f64 / a.bundle as f64).log2());
+    let pair = |two: &[One]| {
+        let [a, b] = [&two[0], &two[1]];
+        let ours = quotient(b.ours, a.ours);
+        let thorin = a.thorin.zip(b.thorin).and_then(|(a, b)| quotient(b, a));
+        (ours.map(|f| at_a_doubling(a, b, f)), thorin.map(|f| at_a_doubling(a, b, f)))
+    };
+    measured.windows(2).map(pair).collect()
+}
+
+fn hostile_rows(kind: &Grown) -> String {
+    let mut factors = vec![(None, None)];
+    factors.extend(doublings(&kind.measured));
+    let answer = if kind.answer == 0 { "package".to_string() } else { kind.answer.to_string() };
+    let line = |(one, (ours, thorin)): (&One, (Option<f64>, Option<f64>))| {
+        let (name, bundle, items) = (kind.name, megabytes(one.bundle), kind.items);
+        let (our_time, its_time) = (time(one.ours), or_dash(one.thorin, time));
+        let (our_factor, its_factor) = (factor(ours), factor(thorin));
+        let ratio = factor(one.thorin.and_then(|t| quotient(one.ours, t)));
+        let count = grouped(one.items);
+        format!("| {name} | {bundle} | {count} {items} | {answer} | {our_time} | {our_factor} | {its_time} | {its_factor} | {ratio} |\n")
+    };
+    kind.measured.iter().zip(factors).map(line).collect()
 }
 
 /// The text with its figures; a name without a figure, or a figure without a place, is a fault of the text.
@@ -201,7 +321,7 @@ fn row(name: &str, items: &str, one: &Measured) -> String {
     let (ours, clearing, thorin) =
         (time(one.ours), time(one.clearing), or_dash(one.thorin.filter(|t| !t.is_zero()), time));
     let (bundle, package) = (grouped(one.bundle as u64), grouped(one.package as u64));
-    let (count, ratio) = (grouped(one.items), factor(one.ratio()));
+    let (count, ratio) = (grouped(one.items), marked(one.ratio()));
     format!("| {name} | {bundle} | {count} {items} | {package} | {ours} | {clearing} | {thorin} | {ratio} |\n")
 }
 
@@ -216,18 +336,6 @@ fn grown(kind: &Growth) -> String {
         format!("| {name} | {bundle} | {count} {items} | {our_time} | {our_factor} | {its_time} | {its_factor} |\n")
     };
     kind.measured.iter().zip(factors).map(line).collect()
-}
-
-/// Each kind's rows, with how often longer each took than the one before.
-fn by_place(rows: &[Rows]) -> String {
-    let line = |(i, one): (usize, &Rows)| {
-        let before = i.checked_sub(1).map(|i| &rows[i]).filter(|before| before.name == one.name);
-        let answer = if one.answer == 0 { "package".to_string() } else { one.answer.to_string() };
-        let (count, bundle) = (grouped(one.rows.into()), grouped(one.bundle as u64));
-        let (took, more) = (time(one.took), factor(before.and_then(|before| quotient(one.took, before.took))));
-        format!("| {} | {count} | {bundle} | {answer} | {took} | {more} |\n", one.name)
-    };
-    rows.iter().enumerate().map(line).collect()
 }
 
 fn read(one: &Elf) -> String {
@@ -259,15 +367,26 @@ mod tests {
         let took = Duration::from_millis(3);
         let one = || Measured { bundle: 44, items: 1, package: 112, ours: took, clearing: took, thorin: Some(took) };
         let growth = |name| Growth { name, items: "units", measured: vec![one(), one(), one()] };
+        let process = |ms| Process { time: took * ms, kilobytes: 2048 };
+        let ran = |program, ms| Ran { version: 4, program, ended: Ended::Well(process(ms)), verified: Some(true) };
+        let hostile = |n: usize, ms| One { bundle: n << 20, items: 3, ours: took * ms, thorin: Some(took) };
         let paper = Paper {
             thorin: None,
+            load: ("1.00".to_string(), "2.00".to_string()),
             elves: vec![Elf { name: "one", file: 9, bundle: 8, took }],
             // Packing.
             small: (one(), took),
             kinds: vec![growth("a")],
-            rows: vec![Rows { name: "c", answer: 15, rows: 10, bundle: 99, took }],
             strings: growth("b"),
-            one_hash: growth("d"),
+            last_of: growth("c"),
+            releases: vec![Packed { name: "r", measured: one() }],
+            processes: vec![ran("barthovin pack", 3), ran("other", 2)],
+            hostile: vec![Grown {
+                name: "h",
+                items: "units",
+                answer: 15,
+                measured: vec![hostile(1, 1), hostile(4, 9)],
+            }],
             // Looking up.
             batch: took,
             lookups: vec![Lookup { name: "some", bytes: 12, took }],
@@ -276,5 +395,7 @@ mod tests {
         let text = paper.to_string();
         assert!(text.contains("| document 01's example | 44 | 1 unit | 112 | 3.00 ms |"), "{text}");
         assert!(text.contains("| some | 12 | 3.00 ms |\n") && !text.contains("\n\n\n"), "{text}");
+        assert!(text.contains("| 4 | other | 6.00 ms | 2.0 MB | verified | 1.50 |\n"), "{text}");
+        assert!(text.contains("| h | 4.00 MB | 3 units | 15 | 27.0 ms | 3.00 | 3.00 ms | 1.00 | 9.00 |\n"), "{text}");
     }
 }

@@ -22,7 +22,7 @@ pub fn run(call: &Call, list: &OsStr) -> Result<u8, Stop> {
         return Err(call.wrong("package and questions can't both come from standard input"));
     }
     let questions = read(call, list)?;
-    let package = read_package(call, name)?;
+    let package = read_package(call, name)?.bytes;
     let version = Package::read(&package).map_or(5, |p| p.version());
     let answers = answers(&package, version, &questions);
     let all_found = answers.iter().all(|found| matches!(found, Found::Part { .. }));
