@@ -12,10 +12,13 @@ const STRINGS: usize = 20_000;
 const ROUNDS: usize = 5;
 const LEAST: f64 = 5.0;
 
+/// As `include/barthovin.h` has it; the two counts are not looked at.
 #[repr(C)]
 struct Packing {
     code: u32,
     length: usize,
+    _repeats: usize,
+    _namesakes: usize,
 }
 
 type Pack = unsafe extern "C" fn(*const u8, usize, *mut u32, usize, *mut u8, usize) -> Packing;
