@@ -293,7 +293,7 @@ fn hostile_rows(kind: &Grown) -> String {
         let (name, bundle, items) = (kind.name, megabytes(one.bundle), kind.items);
         let (our_time, its_time) = (time(one.ours), or_dash(one.thorin, time));
         let (our_factor, its_factor) = (factor(ours), factor(thorin));
-        let ratio = factor(one.thorin.and_then(|t| quotient(one.ours, t)));
+        let ratio = marked(one.thorin.and_then(|t| quotient(one.ours, t)));
         let count = grouped(one.items);
         format!("| {name} | {bundle} | {count} {items} | {answer} | {our_time} | {our_factor} | {its_time} | {its_factor} | {ratio} |\n")
     };
@@ -396,6 +396,9 @@ mod tests {
         assert!(text.contains("| document 01's example | 44 | 1 unit | 112 | 3.00 ms |"), "{text}");
         assert!(text.contains("| some | 12 | 3.00 ms |\n") && !text.contains("\n\n\n"), "{text}");
         assert!(text.contains("| 4 | other | 6.00 ms | 2.0 MB | verified | 1.50 |\n"), "{text}");
-        assert!(text.contains("| h | 4.00 MB | 3 units | 15 | 27.0 ms | 3.00 | 3.00 ms | 1.00 | 9.00 |\n"), "{text}");
+        assert!(
+            text.contains("| h | 4.00 MB | 3 units | 15 | 27.0 ms | 3.00 | 3.00 ms | 1.00 | 9.00 (behind) |\n"),
+            "{text}"
+        );
     }
 }
