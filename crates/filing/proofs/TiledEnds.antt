@@ -18,7 +18,6 @@ use Rattle.bundle.specs.Scan.{scanOf}
 use Rattle.bundle.specs.declared.Scan.{Scan}
 use Rattle.bundle.specs.declared.encoding.ObjectEncoding.{ObjectEncoding}
 use Rattle.bundle.proofs.ScanFacts.{scan-body, scan-size}
-use Rattle.strings.specs.Strings.{putAll}
 use Rattle.strings.specs.Kept.{Kept, Inside, bytesAt}
 use Rattle.strings.specs.declared.table.StrOffsets.{StrOffsets}
 use Rattle.strings.specs.declared.table.StringTable.{StringTable}

@@ -76,7 +76,7 @@ pub record PartsPutAsked (b : List ℕ) (o : StrOffsets) (good : ℕ) (t : Strin
   pub whole : length b ≡ 4 * wordsIn b
   pub offsets-inside : Inside b (o .offsets)
   pub strings-inside : Inside b (o .strings)
-  pub fits : stringWords * (t .count + o .offsets .size / 4) ≤ stringsRegion .words * wordsIn b
+  pub fits : stringWords * (t .entries + o .offsets .size / 4) ≤ stringsRegion .words * wordsIn b
   pub strings : List (List ℕ)
   pub kept : StringsIn b w t strings
   pub parts : List Contribution

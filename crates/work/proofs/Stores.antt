@@ -18,7 +18,7 @@ use Rattle.octets.proofs.Parts.{length-part, getD-part}
 use Rattle.octets.proofs.Placed.{length-placed}
 use Rattle.octets.proofs.Regions.{part-before, part-behind, getD-placed, getD-before, getD-behind}
 use Rattle.numbers.specs.Limits.{workForWord}
-use Rattle.work.specs.Regions.{Layout, recordsRegion, stringsRegion, compilationSlots, typeSlots, slotsRegion, rowsRegion, codesRegion, storeRegion, region, Apart}
+use Rattle.work.specs.Regions.{Layout, recordsRegion, stringsRegion, rootsRegion, compilationSlots, typeSlots, slotsRegion, rowsRegion, codesRegion, storeRegion, region, Apart}
 
 -- what is stored in a part of a list is stored in that part's own words
 module _ (w : List ℕ) (base size at : ℕ) (x : List ℕ) (fits : base + size ≤ length w) (inside : at + length x ≤ size) where
@@ -103,6 +103,17 @@ strings-within = record { ends = omega arith }
 pub store-within : Within storeRegion
 store-within = record { ends = omega arith }
 
+pub roots-within : Within rootsRegion
+roots-within = record { ends = omega arith }
+
+-- the roots are the last words of the strings
+pub strings-roots : (w : List ℕ) (n j : ℕ) → 6 * n ≤ j → j < 7 * n → getD (region w n stringsRegion) j 0 ≡ getD (region w n rootsRegion) (j - 6 * n) 0
+unfolding region
+strings-roots w n j h l =
+    let e : stringsRegion .start * n + j ≡ rootsRegion .start * n + (j - 6 * n) = omega arith in
+    getD-part w (stringsRegion .start * n) (stringsRegion .words * n) j l ∙ ap (λ (i : ℕ). getD w i 0) e
+    ∙ sym (getD-part w (rootsRegion .start * n) (rootsRegion .words * n) (j - 6 * n) (omega arith))
+
 -- the strings are the front of the store
 pub store-strings : (w : List ℕ) (n : ℕ) → take (stringsRegion .words * n) (region w n storeRegion) ≡ region w n stringsRegion
 unfolding region part
@@ -130,9 +141,9 @@ module _ (table : ℕ) where
   unfolding Apart
   records-slots = inl (⊎-elim (λ e. rw e (omega arith)) (λ e. rw e (omega arith)) (slots-are table))
 
-  pub strings-slots : Apart stringsRegion (slotsRegion table)
+  pub roots-slots : Apart rootsRegion (slotsRegion table)
   unfolding Apart
-  strings-slots = inr slots-before
+  roots-slots = inr (omega (arith, slots-before))
 
   pub store-slots : Apart storeRegion (slotsRegion table)
   unfolding Apart

@@ -4,6 +4,7 @@ ghost use Prim.Native.Nat.{_+_, _*_, _<_, _^_};
 ghost use Rattle.work.specs.Regions.{
   recordsRegion,
   stringsRegion,
+  rootsRegion,
   slotsRegion,
   rowsRegion,
   codesRegion,
@@ -25,6 +26,8 @@ const SLOTS: usize = 1;
 
 const STRINGS: usize = numbers::limits::STRING_WORDS;
 
+const ROOTS: usize = 1;
+
 const CODES: usize = 4;
 
 const STORE: usize = STRINGS + CODES;
@@ -36,6 +39,8 @@ const COMPILATION_START: usize = RECORDS;
 const TYPE_START: usize = COMPILATION_START + SLOTS;
 
 const STRINGS_START: usize = TYPE_START + SLOTS;
+
+const ROOTS_START: usize = STRINGS_START + STRINGS - ROOTS;
 
 const CODES_START: usize = STRINGS_START + STRINGS;
 
@@ -67,6 +72,18 @@ pub fn strings(n: usize) -> Region
     Region {
         start: STRINGS_START * n,
         size: STRINGS * n,
+    }
+}
+
+// The roots of the strings' index, the last words of the strings.
+pub fn roots(n: usize) -> Region
+    requires { ⌜ n < 2 ^ 32 ⌝ }
+    ensures start { λ r. ⌜ r .start ≡ rootsRegion .start * n ⌝ }
+    ensures size { λ r. ⌜ r .size ≡ rootsRegion .words * n ⌝ }
+{
+    Region {
+        start: ROOTS_START * n,
+        size: ROOTS * n,
     }
 }
 

@@ -75,6 +75,7 @@ add-strings-requires c κs =
         strings-inside = p .room .strings-inside;
         memory = store-memory (wordsIn (now (a .b))) (c .before .before .store .result .start) (c .before .before .store .result .size) (c .before .before .before .strings .result .size) (now (a .work)) (p .room .room) (c .before .before .store .ensures .0) (c .before .before .store .ensures .1) (c .before .before .before .strings .ensures .1) (a .o .strings .size) (omega (arith, inside-is (now (a .b)) (a .o .strings) (p .room .strings-inside), p .room .whole));
         room = omega (arith, p .room .fits, c .before .before .before .strings .ensures .1);
+        small = omega (arith, p .room .limit, p .room .whole, c .before .before .before .strings .ensures .1);
       },
       (p .strings, store-kept (wordsIn (now (a .b))) (c .before .before .store .result .start) (c .before .before .store .result .size) (c .before .before .before .strings .result .size) (now (a .work)) (p .room .room) (c .before .before .store .ensures .0) (c .before .before .store .ensures .1) (c .before .before .before .strings .ensures .1) _ _ _ (p .kept)),
     )

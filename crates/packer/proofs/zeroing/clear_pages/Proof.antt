@@ -1,4 +1,4 @@
--- `clear_lent` meets its contract.
+-- `clear_pages` meets its contract.
 -- Assumes nothing.
 use mathlib.Core.Path.{_≡_, refl, ap, _∙_}
 use Prim.Native.Nat.{_-_, _≤_}
@@ -8,8 +8,8 @@ use Rattle.octets.specs.Octets.{zeros}
 use Rattle.packer.specs.Zeros.{ZeroFrom}
 use Rattle.packer.proofs.Zeros.{zero-none, zero-all, zero-same, zero-more}
 use borrow.Author.Needs.{needs}
-use Rattle.packer.proofs.zeroing.clear_lent.Statement.{statement}
-use Rattle.packer.proofs.zeroing.clear_lent.Tie as tie
+use Rattle.packer.proofs.zeroing.clear_pages.Statement.{statement}
+use Rattle.packer.proofs.zeroing.clear_pages.Tie as tie
 
 abbrev Inv-loop : tie.InvT-loop
 Inv-loop s₀ i₀ s i = (i ≤ length s) × (length s ≡ length s₀) × ZeroFrom s 0 i
@@ -59,8 +59,8 @@ returns c =
     let end : l .i ≡ length (l .s) = omega (arith, c .loop-test .left, l .inv .0) in
     zero-all (l .s) (l .i) end (l .inv .2) ∙ ap zeros (l .inv .1)
 
-pub clear-lent-spec : {M : Type 1} → statement M
-clear-lent-spec =
+pub clear-pages-spec : {M : Type 1} → statement M
+clear-pages-spec =
     tie.close
     (tie.spec
     Inv-loop
