@@ -1,31 +1,64 @@
 -- Laws of the hash: turns of the loop that computes it, and where a search starts.
 -- Assumes nothing.
-use mathlib.Core.Path.{_≡_}
+use mathlib.Core.Path.{_≡_, refl, sym, ap, _∙_}
+use mathlib.Core.Logic.{⊎-elim}
+use mathlib.Core.Bool.{false}
 use mathlib.Core.List.{List}
-use Prim.Native.Nat.{ℕ, _+_, _*_, _%_, _<_, _≤_, _^_}
-use native.Mathlib.Nat.{mod-lt}
+use Prim.Native.Nat.{ℕ, suc, _+_, _*_, _-_, _/_, _%_, _<_, _≤_, _^_}
+use native.Mathlib.Nat.{add-zero, mul-comm, mod-lt, mul-lt-mul-of-pos-right, div-lt-iff-lt-mul}
+use native.Mathlib.Decide.{decLe}
 use native.Mathlib.Omega.{arith}
-use native.Mathlib.Numerals.{add-one}
-use lib.ListN.{length, drop, getD, drop-of-length-le}
-use lib.Seq.{drop-cons}
-use Rattle.strings.specs.Indexed.{mixed, hashFrom, hashOf, firstSlot}
+use lib.Dec.{ltb}
+use lib.ListN.{length, drop}
+use lib.Seq.{drop-drop}
+use borrow.Author.Tests.{lt-ltb, le-ltb}
+use Rattle.octets.specs.Octets.{numberAt}
+use Rattle.octets.proofs.Checks.{known}
+use Rattle.octets.proofs.Numbers.{numberAt-drop}
+use Rattle.strings.specs.Indexed.{product, mixed, groupsFrom, hashOf, rootOf}
 
-pub mixed-lt : (h b : ℕ) → mixed h b < 2 ^ 32
+pub mixed-lt : (h w : ℕ) → mixed h w < 2 ^ 32
 unfolding mixed
-mixed-lt h b = mod-lt ((h + b) * 2654435761) (omega arith)
+mixed-lt h w = mod-lt (product h w / 2 ^ 32 + product h w) (omega arith)
 
-pub hash-turn : (h : ℕ) (s : List ℕ) (i : ℕ) → i < length s → hashFrom h (drop i s) ≡ hashFrom (mixed h (getD s i 0)) (drop (i + 1) s)
-unfolding hashFrom
-hash-turn h s i l = rw (add-one, drop-cons s i 0 l)
+-- ---- the two cases of the hash
+pub hash-short : (s : List ℕ) → length s < 8 → hashOf s ≡ mixed 0 (numberAt false (length s) s 0)
+unfolding hashOf
+hash-short s h = rw (hashOf, lt-ltb (length s) 8 h)
 
-pub hash-end : (h : ℕ) (s : List ℕ) (i : ℕ) → length s ≤ i → hashFrom h (drop i s) ≡ h
-unfolding hashFrom
-hash-end h s i l = rw (drop-of-length-le s l)
+pub hash-long : (s : List ℕ) → 8 ≤ length s → hashOf s ≡ mixed (groupsFrom ((length s - 1) / 8) 0 s) (numberAt false 8 s (length s - 8))
+unfolding hashOf
+hash-long s h = rw (hashOf, le-ltb (length s) 8 h)
 
-pub first-low : (room : ℕ) (s : List ℕ) → 3 * room ≤ firstSlot room s
-unfolding firstSlot
-first-low room s = omega arith
+pub hash-lt : (s : List ℕ) → hashOf s < 2 ^ 32
+hash-lt s =
+    elim (decLe 8 (length s)) [
+      | yes h ↦ rw (hash-long s h) (mixed-lt (groupsFrom ((length s - 1) / 8) 0 s) (numberAt false 8 s (length s - 8)))
+      | no h ↦ rw (hash-short s (omega arith)) (mixed-lt 0 (numberAt false (length s) s 0))
+    ]
 
-pub first-high : (room : ℕ) (s : List ℕ) → firstSlot room s ≤ 6 * room
-unfolding firstSlot
-first-high room s = let h : hashOf s % (3 * room + 1) < 3 * room + 1 = mod-lt (hashOf s) (omega arith) in omega arith
+-- ---- the groups of a long string: those that are left from a place on
+unfoldable pub left : ℕ → ℕ → ℕ
+left n at = (n - 1 - at) / 8
+
+pub groups-turn : (h : ℕ) (s : List ℕ) (at : ℕ) → at < length s - 8
+    → groupsFrom (left (length s) at) h (drop at s) ≡ groupsFrom (left (length s) (at + 8)) (mixed h (numberAt false 8 s at)) (drop (at + 8) s)
+unfolding groupsFrom left
+groups-turn h s at l =
+    let e : (length s - 1 - at) / 8 ≡ suc ((length s - 1 - (at + 8)) / 8) = omega arith in
+    rw (e, groupsFrom, drop-drop 8 at s, numberAt-drop false 8 s at 0, add-zero)
+
+pub groups-end : (h : ℕ) (s : List ℕ) (at : ℕ) → length s - 8 ≤ at → groupsFrom (left (length s) at) h (drop at s) ≡ h
+unfolding groupsFrom left
+groups-end h s at l = let e : (length s - 1 - at) / 8 ≡ 0 = omega arith in rw e
+
+-- ---- where a search starts
+pub root-low : (room : ℕ) (s : List ℕ) → 6 * room ≤ rootOf room s
+unfolding rootOf
+root-low room s = omega arith
+
+pub root-high : (room : ℕ) (s : List ℕ) → 1 ≤ room → rootOf room s < 7 * room
+unfolding rootOf
+root-high room s h =
+    let less : hashOf s * room / 2 ^ 32 < room = div-lt-iff-lt-mul {k = 2 ^ 32} {x = hashOf s * room} {y = room} (omega arith) .1 (omega (arith, mul-lt-mul-of-pos-right (hash-lt s) h)) in
+    omega arith
