@@ -17,14 +17,14 @@ use Rattle.octets.proofs.Elements.{any-at}
 use Rattle.octets.proofs.Placed.{length-placed}
 use Rattle.octets.proofs.Regions.{getD-placed, getD-before, getD-behind, part-before, part-behind}
 use Rattle.strings.specs.Strings.{strOf, offsetIn}
-use Rattle.strings.specs.Indexed.{roomOf, side, linkOf, Walk, Distinct, EndsFree, SoughtIs}
+use Rattle.strings.specs.Indexed.{roomOf, side, linkOf, Distinct, EndsFree, SoughtIs}
 use Rattle.strings.specs.Kept.{RowHeld, Held, rowAdded, placesFrom, placesIn}
 use Rattle.strings.specs.declared.seek.Sought.{Sought}
 use Rattle.strings.specs.declared.seek.Sought.the-variants.{Row, Free}
 use Rattle.strings.specs.declared.table.StringTable.{StringTable}
 use Rattle.strings.proofs.FirstUses.{isIn, distinct-snoc}
 use Rattle.strings.proofs.Offsets.{row-offset}
-use Rattle.strings.proofs.Indexing.{LinkAt, Stands, Passing, indexed-none, indexed-same, number-among, comes-inside, passing-more, passing-stands, passing-rises, passing-free, walk-stands, indexed-more}
+use Rattle.strings.proofs.Indexing.{Stands, Passing, indexed-none, indexed-same, number-among, comes-inside, passing-more, passing-stands, passing-rises, passing-free, walk-stands, indexed-more}
 
 -- ---- a search
 -- what the row where it ended says of the string
@@ -45,39 +45,41 @@ module _ (b region : List ℕ) (n : ℕ) (table : List (List ℕ)) (k : Held b r
   at-inside some =
       omega (arith, comes-inside (roomOf region) region n table (k .index) s some (k .room) steps (p .walk .used), p .walk .is)
 
-  pub word-number : getD region at 0 ≤ n
-  word-number = number-among (roomOf region) region n table (k .index) at (passing-stands (roomOf region) region table s steps at p n (k .index))
-
-  pub few-steps : (getD region at 0 ≡ 0 → ⊥) → steps < getD region at 0
-  few-steps u = passing-rises (roomOf region) region table s steps at p n (k .index) u
-
-  pub ends-free : getD region at 0 ≡ 0 → SoughtIs region n table s (Free at)
-  ends-free z =
-      record {
-        row = λ i e. absurd (let q : _≡_ {A = ℕ} 0 1 = cc in omega arith);
-        free = λ o e.
-            let q : at ≡ o = cc in
-            rw (← q) record { new = passing-free (roomOf region) region table s steps at p n (k .index) (k .count) z; steps = steps; walk = p .walk; zero = z };
-      }
-
-  module _ (i : ℕ) (used : getD region at 0 ≡ 0 → ⊥) (e : i ≡ getD region at 0 - 1) where
-    inside : i < n
-    inside = omega (arith, word-number)
-
-    row-is : (r : Bool) → r ≡ same s (part b (getD region (3 * i) 0) (getD region (3 * i + 1) 0)) → r ≡ same s (getD table i [])
-    row-is r q = q ∙ ap (same s) (k .rows i inside .bytes)
-
-    pub ends-row : (r : Bool) → r ≡ same s (part b (getD region (3 * i) 0) (getD region (3 * i + 1) 0)) → r ≡ true → SoughtIs region n table s (Row i)
-    ends-row r q t =
-        let f : getD table i [] ≡ s = sym (same-eq s (getD table i []) (sym (row-is r q) ∙ t)) in
+  module _ (number : ℕ) (e : number ≡ getD region at 0) where
+    pub ends-free : number ≡ 0 → SoughtIs region n table s (Free at)
+    ends-free z =
+        let free = sym e ∙ z in
         record {
-          row = λ o g. (let m : i ≡ o = cc in rw (← m) (inside, f));
-          free = λ o g. absurd (let z : _≡_ {A = ℕ} 0 1 = cc in omega arith);
+          row = λ i e. absurd (let q : _≡_ {A = ℕ} 0 1 = cc in omega arith);
+          free = λ o e.
+              let q : at ≡ o = cc in
+              rw (← q) record { new = passing-free (roomOf region) region table s steps at p n (k .index) (k .count) free; steps = steps; walk = p .walk; zero = free };
         }
 
-    pub goes-on : (r : Bool) → r ≡ same s (part b (getD region (3 * i) 0) (getD region (3 * i + 1) 0)) → r ≡ false
-        → (next : ℕ) → next ≡ linkOf (roomOf region) (getD region at 0) (side s steps) → Passing (roomOf region) region table s (steps + 1) next
-    goes-on r q t next l = passing-more (roomOf region) region table s steps at p used (rw (← e) (sym (row-is r q) ∙ t)) next l
+    module _ (used : number ≡ 0 → ⊥) where
+      -- there are no more steps than rows
+      pub few-steps : (steps < number) × (number ≤ n)
+      few-steps =
+          (rw e (passing-rises (roomOf region) region table s steps at p n (k .index) (λ z. used (e ∙ z))), rw e (number-among (roomOf region) region n table (k .index) at (passing-stands (roomOf region) region table s steps at p n (k .index))))
+
+      pub row-inside : number - 1 < n
+      row-inside = omega (arith, few-steps .1)
+
+      module _ (r : Bool) (q : r ≡ same s (part b (getD region (3 * (number - 1)) 0) (getD region (3 * (number - 1) + 1) 0))) where
+        row-is : r ≡ same s (getD table (number - 1) [])
+        row-is = q ∙ ap (same s) (k .rows (number - 1) row-inside .bytes)
+
+        pub ends-row : r ≡ true → SoughtIs region n table s (Row (number - 1))
+        ends-row t =
+            let f : getD table (number - 1) [] ≡ s = sym (same-eq s (getD table (number - 1) []) (sym row-is ∙ t)) in
+            record {
+              row = λ o g. (let m : number - 1 ≡ o = cc in rw (← m) (row-inside, f));
+              free = λ o g. absurd (let z : _≡_ {A = ℕ} 0 1 = cc in omega arith);
+            }
+
+        pub goes-on : r ≡ false → (next : ℕ) → next ≡ linkOf (roomOf region) number (side s steps) → Passing (roomOf region) region table s (steps + 1) next
+        goes-on t next l =
+            passing-more (roomOf region) region table s steps at p (λ z. used (e ∙ z)) (rw (← e) (sym row-is ∙ t)) next (rw (← e) l)
 
 -- where a row stands, and that its string lies in the bundle
 module _ (b region : List ℕ) (n : ℕ) (table : List (List ℕ)) (k : Held b region n table) (i : ℕ) (h : i < n) where

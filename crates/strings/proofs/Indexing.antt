@@ -4,8 +4,7 @@ use mathlib.Core.Path.{_≡_, refl, sym, ap, _∙_}
 use mathlib.Core.Logic.{_⊎_, inl, inr, ⊎-elim}
 use mathlib.Core.Bool.{true, false}
 use mathlib.Core.List.{List, [], _∷_, _++_}
-use Prim.Native.Nat.{ℕ, zero, suc, _+_, _*_, _-_, _/_, _%_, _^_, _<_, _≤_}
-use native.Mathlib.Nat.{mod-lt}
+use Prim.Native.Nat.{ℕ, zero, suc, _+_, _*_, _-_, _<_, _≤_}
 use native.Mathlib.Decide.{decLe, ℕ-discrete}
 use native.Mathlib.Numerals.{add-one}
 use native.Mathlib.Omega.{arith}
@@ -17,13 +16,9 @@ use Rattle.octets.proofs.Lists.{same-eq}
 use Rattle.octets.proofs.Elements.{at-any}
 use Rattle.strings.specs.Indexed.{rootOf, side, linkOf, comesTo, Walk, Reached, Indexed}
 use Rattle.strings.proofs.FirstUses.{isIn}
-use Rattle.strings.proofs.Hashing.{root-low, root-high}
+use Rattle.strings.proofs.Hashing.{root-low, root-high, side-lt}
 
 -- ---- the words of searches
-pub side-lt : (s : List ℕ) (k : ℕ) → side s k < 2
-unfolding side
-side-lt s k = mod-lt (getD s (k / 8) 0 / 2 ^ (k % 8)) (omega arith)
-
 -- a word where a search can be, with n rows: a root, or a link of a row
 pub record LinkAt (room n j : ℕ) : Type 0 where
   pub row : ℕ
