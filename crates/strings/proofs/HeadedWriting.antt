@@ -4,19 +4,21 @@ use mathlib.Core.Path.{_≡_, refl, sym, ap, ap₂, _∙_}
 use mathlib.Core.List.{List, [], _∷_, _++_, map, append-assoc}
 use Prim.Native.Nat.{ℕ, _+_, _*_, _-_, _<_, _≤_}
 use native.Mathlib.Omega.{arith}
-use lib.ListN.{length, take, drop, length-append}
+use lib.ListN.{length, take, drop, length-append, length-take, length-drop}
 use lib.Seq.{drop-drop, take-at, drop-at, length-take-le}
 use Rattle.octets.specs.Octets.{part, placed, numbersOf}
+use Rattle.octets.specs.Lists.{joined}
 use Rattle.octets.specs.Checked.{pass}
 use Rattle.octets.proofs.Checks.{bind-pass, pass-inj}
 use Rattle.octets.proofs.Joined.{map-append}
-use Rattle.octets.proofs.Parts.{part-whole, length-part}
+use Rattle.octets.proofs.Parts.{part-whole, length-part, drop-part}
 use Rattle.octets.proofs.Placed.{placed-none, placed-placed}
 use Rattle.octets.proofs.Tables.{length-numbersOf}
 use Rattle.bundle.specs.Encoding.{Encoding}
-use Rattle.strings.specs.Strings.{headerSize, entriesIn, stringsAt, offsetIn, remapped}
+use Rattle.strings.specs.Strings.{headerSize, entriesIn, stringsAt, firstUses, offsetIn, remapped}
+use Rattle.strings.specs.Kept.{placesFrom, placesIn, placesOf}
 use Rattle.strings.specs.Headed.{pieceSize, Headed, stringsOfAll, usedOf, remappedPieces, pieceWith, entriesAll, piecesWith}
-use Rattle.strings.proofs.StrOffsets.{Sound, Whole, entries-whole, header-within, whole-length}
+use Rattle.strings.proofs.StrOffsets.{Sound, Whole, entries-whole, entries-few, header-within, whole-length}
 use Rattle.strings.proofs.Ends.{length-stringsAt}
 use Rattle.strings.proofs.Remapped.{length-map}
 use Rattle.strings.proofs.Headed.{Front, walk-front, walk-within, walk-own, walk-on, walk-end}
@@ -181,3 +183,31 @@ pub piecesWith-more : (e : Encoding) (table : List (List ℕ)) (str : List ℕ) 
 piecesWith-more e table str ps used later rest q =
     ap (piecesWith e ps) (ap (λ (l : List ℕ). l ++ rest) (map-append (offsetIn table) used later) ∙ append-assoc (map (offsetIn table) used) (map (offsetIn table) later) rest)
     ∙ piecesWith-used e table str ps used (map (offsetIn table) later ++ rest) q
+
+-- four bytes or more for each entry
+pub entriesAll-few : (e : Encoding) (ps : List (List ℕ)) → Sound e → 4 * entriesAll e ps ≤ length (joined ps)
+unfolding entriesAll joined
+entriesAll-few e [] ok = omega arith
+entriesAll-few e (p ∷ ps) ok = omega (arith, entries-few e p ok, entriesAll-few e ps ok, length-append p (joined ps))
+
+-- ---- the places that a region holds
+module _ (region : List ℕ) (used : List (List ℕ)) (p : placesIn region (length used) ≡ placesOf used) where
+  pub places-within : placesFrom (length region) + length used ≤ length region
+  unfolding placesIn placesOf placesFrom part
+  places-within =
+      let l = ap length p ∙ length-map (offsetIn (firstUses used)) used in
+      omega (arith, simp (length-take, length-drop) at l)
+
+  -- behind those of the strings in front
+  pub places-behind : (before more : List (List ℕ)) (first : ℕ) → used ≡ before ++ more → first ≡ placesFrom (length region) + length before
+      → drop first region ≡ map (offsetIn (firstUses used)) more ++ drop (placesFrom (length region) + length used) region
+  unfolding placesIn placesOf
+  places-behind before more first q g =
+      let f = map (offsetIn (firstUses used)) in
+      let from = placesFrom (length region) in
+      let rest = drop (from + length used) region in
+      let all : drop from region ≡ f used ++ rest = drop-part region from (length used) ∙ ap (λ (l : List ℕ). l ++ rest) p in
+      let parts : f used ++ rest ≡ f before ++ (f more ++ rest) =
+      ap (λ (l : List (List ℕ)). f l ++ rest) q ∙ ap (λ (l : List ℕ). l ++ rest) (map-append (offsetIn (firstUses used)) before more) ∙ append-assoc (f before) (f more) rest in
+      ap (λ (k : ℕ). drop k region) g ∙ sym (drop-drop (length before) from region) ∙ ap (drop (length before)) (all ∙ parts)
+      ∙ drop-at (f before) (f more ++ rest) (length before) (length-map (offsetIn (firstUses used)) before)
