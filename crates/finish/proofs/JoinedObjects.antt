@@ -25,7 +25,7 @@ pub record Joining (f : Object → List ℕ) (b : List ℕ) (all : List Object) 
   pub count : o ≡ at + length (joined (map f done))
   pub holds : d ≡ placed d₀ at (joined (map f done))
 
-pub joining-none : (f : Object → List ℕ) (b : List ℕ) (k : Bundle) (d : List ℕ) (at : ℕ) → bundleOf b ≡ pass k → Joining f b (k .objects) d d at at 4
+unfoldable pub joining-none : (f : Object → List ℕ) (b : List ℕ) (k : Bundle) (d : List ℕ) (at : ℕ) → bundleOf b ≡ pass k → Joining f b (k .objects) d d at at 4
 unfolding joined
 joining-none f b k d at e = record { done = []; passed = objects-none b k e; same = refl; count = omega arith; holds = sym (placed-none d at) }
 
@@ -45,7 +45,7 @@ module _ (f : Object → List ℕ) (b : List ℕ) (all : List Object) (d₀ d : 
     pub joining-room : o + length (f one) ≤ length d
     joining-room = omega (arith, room-for f b all next (j .done) one more, j .same, j .count)
 
-    pub joining-more : (x : List ℕ) (size : ℕ) → x ≡ placed d o (f one) → size ≡ length (f one) → Joining f b all d₀ x at (o + size) next
+    unfoldable pub joining-more : (x : List ℕ) (size : ℕ) → x ≡ placed d o (f one) → size ≡ length (f one) → Joining f b all d₀ x at (o + size) next
     joining-more x size e s =
         let fits = room-for f b all next (j .done) one more in
         let long : length (joined (map f (j .done ++ (one ∷ [])))) ≡ length (joined (map f (j .done))) + length (f one) =
