@@ -96,7 +96,7 @@ fn side(s: &[u8], step: usize) -> usize
 
 // The link of the row with a number, on a side.
 fn link_of(room: usize, number: usize, on: usize) -> usize
-    requires { ⌜ (room < 2 ^ 31) × (number < 2 ^ 32) × (on < 2) ⌝ }
+    requires { ⌜ (room < 2 ^ 31) × (1 ≤ number) × (number < 2 ^ 32) × (on < 2) ⌝ }
     ensures { λ r. ⌜ r ≡ linkOf room number on ⌝ }
 {
     3 * room + 2 * (number - 1) + on

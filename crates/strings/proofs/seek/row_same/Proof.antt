@@ -4,8 +4,8 @@ use denote.Ref.{now}
 use Rattle.strings.proofs.Holding.{same-rows, other-rows}
 use native.Mathlib.Omega.{arith}
 use borrow.Author.Needs.{needs}
-use Rattle.strings.proofs.slots.row_same.Statement.{statement}
-use Rattle.strings.proofs.slots.row_same.Tie as tie
+use Rattle.strings.proofs.seek.row_same.Statement.{statement}
+use Rattle.strings.proofs.seek.row_same.Tie as tie
 
 mul-word : tie.Need-mul-word
 mul-word c = omega arith
