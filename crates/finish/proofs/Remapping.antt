@@ -2,10 +2,10 @@
 -- Assumes nothing.
 use mathlib.Core.Path.{_≡_, refl, sym, ap, ap₂, _∙_, subst}
 use mathlib.Core.List.{List, [], _∷_, _++_, map, append-assoc}
-use Prim.Native.Nat.{ℕ, _+_, _-_, _<_, _≤_}
+use Prim.Native.Nat.{ℕ, _+_, _-_, _≤_}
 use native.Mathlib.Omega.{arith}
 use lib.ListN.{length, take, drop, getD, length-append, length-drop}
-use Rattle.octets.specs.Octets.{part, placed}
+use Rattle.octets.specs.Octets.{placed}
 use Rattle.octets.specs.Lists.{joined}
 use Rattle.octets.proofs.Parts.{length-part, part-cut, cut-rest}
 use Rattle.octets.specs.Checked.{pass}
@@ -15,15 +15,14 @@ use Rattle.bundle.specs.Encoded.{encodingIs}
 use Rattle.bundle.specs.declared.encoding.ObjectEncoding.{ObjectEncoding}
 use Rattle.bundle.specs.declared.Scan.{Scan}
 use Rattle.strings.specs.Strings.{firstUses, offsetIn}
-use Rattle.strings.specs.Kept.{placesFrom, placesIn, placesOf}
-use Rattle.strings.specs.Headed.{Headed, remappedPieces, entriesAll, piecesWith, PiecesWritable, PiecesWritten}
+use Rattle.strings.specs.Kept.{placesFrom}
+use Rattle.strings.specs.Headed.{Headed, entriesAll, piecesWith, PiecesWritable, PiecesWritten}
 use Rattle.strings.proofs.StrOffsets.{Sound, sound}
-use Rattle.strings.proofs.Remapped.{length-map}
 use Rattle.strings.proofs.HeadedWriting.{entriesAll-used, piecesWith-more, places-within, places-behind}
 use Rattle.finish.specs.Joining.{sectionsJoined, cut, remappedIn, offsetsJoined, EntriesGood, UsedBy, OffsetsJoinable}
 use Rattle.finish.proofs.Cutting.{remapped-length}
 use Rattle.finish.proofs.Entering.{AtObject, scanned-body}
-use Rattle.finish.proofs.JoinedObjects.{Joining, joining-none, joining-room, joining-more, joining-end, read-once}
+use Rattle.finish.proofs.JoinedObjects.{Joining, joining-none, joining-none-done, joining-room, joining-more, joining-more-done, joining-end, read-once}
 
 -- ---- the strings of one object among those of all
 -- how many entries the objects have
@@ -74,12 +73,9 @@ length-offsets e ts b ok (o ∷ os) used g =
 abbrev pub remappedOf : Encoding → List (List ℕ) → List ℕ → Object → List ℕ
 remappedOf e used b x = remappedIn e (firstUses used) (body b (x .parts) 6) (body b (x .parts) 11)
 
--- the same for other strings of the same bundle
-pub joinable-again : (e : Encoding) (b table : List ℕ) (n at : ℕ) → OffsetsJoinable e b table n at → (k : Bundle) (used : List (List ℕ)) → bundleOf b ≡ pass k → UsedBy e b (k .objects) used
-    → placesIn table (length used) ≡ placesOf used → OffsetsJoinable e b table n at
-joinable-again e b table n at a k used q g p =
-    let room : at + length (sectionsJoined b (k .objects) 6) ≤ n = rw (read-once b (a .bundle) k (a .reads) q) (a .room) in
-    record { bundle = k; reads = q; used = used; good = g; places = p; room = room }
+-- there is room for the one bundle that is read
+pub room-again : (e : Encoding) (b table : List ℕ) (n at : ℕ) → OffsetsJoinable e b table n at → (k : Bundle) → bundleOf b ≡ pass k → at + length (sectionsJoined b (k .objects) 6) ≤ n
+room-again e b table n at a k q = rw (read-once b (a .bundle) k (a .reads) q) (a .room)
 
 -- what the objects before a place give is put, and their entries are counted
 pub record OffsetsJoining (c : ObjectEncoding) (b table : List ℕ) (at : ℕ) (d₀ : List ℕ) (a : OffsetsJoinable (encodingIs c) b table (length d₀) at) (d : List ℕ) (o place first : ℕ) : Type 0 where
@@ -97,8 +93,8 @@ module _ (c : ObjectEncoding) (b table : List ℕ) (at : ℕ) (d₀ : List ℕ) 
   room = omega (arith, length-offsets e (firstUses (a .used)) b (sound c) (a .bundle .objects) (a .used) (a .good), a .room)
 
   pub offsets-none : (first : ℕ) → first ≡ placesFrom (length table) → OffsetsJoining c b table at d₀ a d₀ at 4 first
-  unfolding counted joining-none
-  offsets-none first q = record { joining = joining-none f b (a .bundle) d₀ at (a .reads); count = omega (arith, q) }
+  unfolding counted
+  offsets-none first q = record { joining = joining-none f b (a .bundle) d₀ at (a .reads); count = omega (arith, ap (counted e b) (joining-none-done f b (a .bundle) d₀ at (a .reads))) }
 
   module _ (d : List ℕ) (o place first : ℕ) (j : OffsetsJoining c b table at d₀ a d o place first) where
     pub offsets-end : j .joining .done ≡ a .bundle .objects → d ≡ placed d₀ at (offsetsJoined e (firstUses (a .used)) b (a .bundle .objects))
@@ -174,8 +170,9 @@ module _ (c : ObjectEncoding) (b table : List ℕ) (at : ℕ) (d₀ : List ℕ) 
             ∙ piecesWith-more e (firstUses (a .used)) (body b (s .one .parts) 11) pieces (strings .own) (strings .later) (drop (placesFrom (length table) + length (a .used)) table) (strings .good .strings))
 
         pub offsets-more : OffsetsJoining c b table at d₀ a x (o + getD (scan .size) 6 0) (scan .next) (first + r)
-        unfolding joining-more
-        offsets-more = record {
-          joining = joining-more f b (a .bundle .objects) d₀ d at o place (j .joining) room (scan .next) (s .one) (s .more) x (getD (scan .size) 6 0) put (sym long);
-          count = omega (arith, j .count, w .count pieces headed, counted-snoc e b (j .joining .done) (s .one));
-        }
+        offsets-more =
+            let done = joining-more-done f b (a .bundle .objects) d₀ d at o place (j .joining) room (scan .next) (s .one) (s .more) x (getD (scan .size) 6 0) put (sym long) in
+            record {
+              joining = joining-more f b (a .bundle .objects) d₀ d at o place (j .joining) room (scan .next) (s .one) (s .more) x (getD (scan .size) 6 0) put (sym long);
+              count = omega (arith, j .count, w .count pieces headed, ap (counted e b) done, counted-snoc e b (j .joining .done) (s .one));
+            }
