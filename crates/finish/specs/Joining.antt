@@ -53,7 +53,7 @@ pub record EntriesGood (e : Encoding) (offsets str : List ℕ) (used : List (Lis
 unfoldable pub UsedBy : Encoding → List ℕ → List Object → List (List ℕ) → Type 0
 UsedBy e b [] used = used ≡ []
 UsedBy e b (o ∷ os) used =
-    (us : List (List ℕ)) × ((vs : List (List ℕ)) × (used ≡ us ++ vs) × EntriesGood e (body b (o .parts) strOffsetsCode) (body b (o .parts) strCode) us × UsedBy e b os vs)
+    (us : List (List ℕ)) × (vs : List (List ℕ)) × (used ≡ us ++ vs) × EntriesGood e (body b (o .parts) strOffsetsCode) (body b (o .parts) strCode) us × UsedBy e b os vs
 
 -- a bundle that can be read, the places of all strings used in a table, and room for the section at a place of n bytes
 pub record OffsetsJoinable (e : Encoding) (b table : List ℕ) (n at : ℕ) : Type 0 where
@@ -64,6 +64,8 @@ pub record OffsetsJoinable (e : Encoding) (b table : List ℕ) (n at : ℕ) : Ty
   pub places : placesIn table (length used) ≡ placesOf used
   pub room : at + length (sectionsJoined b (bundle .objects) strOffsetsCode) ≤ n
 
--- and it is put there, whatever bundle and strings these are; d is the output before, x behind
+-- and it is put there, whatever these strings are; d is the output before, x behind
 abbrev pub OffsetsPut : (e : Encoding) (b table : List ℕ) (at : ℕ) (d x : List ℕ) → Type 0
-OffsetsPut e b table at d x = (a : OffsetsJoinable e b table (length d) at) → x ≡ placed d at (offsetsJoined e (firstUses (a .used)) b (a .bundle .objects))
+OffsetsPut e b table at d x =
+    (k : Bundle) (used : List (List ℕ)) → bundleOf b ≡ pass k → UsedBy e b (k .objects) used → placesIn table (length used) ≡ placesOf used
+    → x ≡ placed d at (offsetsJoined e (firstUses used) b (k .objects))

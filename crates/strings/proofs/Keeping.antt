@@ -14,7 +14,7 @@ use Rattle.octets.proofs.Parts.{length-part, part-none, part-add}
 use Rattle.octets.proofs.Placed.{getD-zeros, length-placed, placed-placed}
 use Rattle.octets.proofs.Regions.{part-before, part-placed}
 use Rattle.strings.specs.Strings.{put, putAll, firstUses, strOf, offsetIn}
-use Rattle.strings.specs.Indexed.{roomOf, EndsFree}
+use Rattle.strings.specs.Indexed.{roomOf}
 use Rattle.strings.specs.Kept.{none, Held, Kept, placesFrom, placesIn, placesOf, withEntry, rowAdded, NewAt, PutIs}
 use Rattle.strings.specs.Objects.{Roomy}
 use Rattle.strings.specs.declared.table.Put.{Put}
@@ -25,7 +25,7 @@ use Rattle.strings.proofs.Holding.{held-none, held-more, held-noted, ro
 
 -- ---- places of entries
 -- one place more in the region
-pub places-more : (region : List ℕ) (m v : ℕ) → m < roomOf region → placesIn (placed region (placesFrom (length region) + m) (v ∷ [])) (m + 1) ≡ placesIn region m ++ (v ∷ [])
+places-more : (region : List ℕ) (m v : ℕ) → m < roomOf region → placesIn (placed region (placesFrom (length region) + m) (v ∷ [])) (m + 1) ≡ placesIn region m ++ (v ∷ [])
 unfolding placesIn placesFrom roomOf
 places-more region m v h =
     let from = placesFrom (length region) in
@@ -37,7 +37,7 @@ places-more region m v h =
     ∙ ap₂ (λ (p q : List ℕ). p ++ q) (part-before region at (v ∷ []) from m (omega arith) within) (part-placed region at (v ∷ []) (omega arith))
 
 -- and for the strings used: those before keep theirs
-pub places-snoc : (used : List (List ℕ)) (s : List ℕ) → placesOf (used ++ (s ∷ [])) ≡ placesOf used ++ (offsetIn (firstUses used) s ∷ [])
+places-snoc : (used : List (List ℕ)) (s : List ℕ) → placesOf (used ++ (s ∷ [])) ≡ placesOf used ++ (offsetIn (firstUses used) s ∷ [])
 unfolding placesOf
 places-snoc used s =
     let table = firstUses used in
@@ -77,7 +77,7 @@ row-stored region r l m x slot links t start size h e er el em ex =
     ex ∙ ap (λ (z : List ℕ). placed z slot ((t .count + 1) ∷ [])) (two ∙ ap₂ (λ (z : List ℕ) (n : ℕ). placed z n (0 ∷ 0 ∷ [])) er e)
 
 -- a string whose place is noted, in a region that holds the table with it
-pub put-noted : (b y x : List ℕ) (u r : StringTable) (used : List (List ℕ)) (s : List ℕ) (v : ℕ) → u .over ≡ false → u .entries ≡ length used → u .entries < roomOf y
+put-noted : (b y x : List ℕ) (u r : StringTable) (used : List (List ℕ)) (s : List ℕ) (v : ℕ) → u .over ≡ false → u .entries ≡ length used → u .entries < roomOf y
     → Held b y (u .count) (put (firstUses used) s) → u .size ≡ length (strOf (put (firstUses used) s)) → u .size ≤ 8388607 → placesIn y (length used) ≡ placesOf used
     → v ≡ offsetIn (firstUses used) s → r ≡ withEntry u → x ≡ placed y (placesFrom (length y) + u .entries) (v ∷ []) → PutIs b x used s (record { table = r; place = v })
 put-noted b y x u r used s v f n room k size low places o q e =
@@ -88,15 +88,15 @@ put-noted b y x u r used s v f n room k size low places o q e =
     ∙ ap₂ (λ (p : List ℕ) (o : ℕ). p ++ (o ∷ [])) (ap (placesIn y) n ∙ places) o ∙ sym (places-snoc used s) in
     record {
       kept =
-        rw (q, e)
-        record {
-          few = omega (arith, count);
-          over = f ∙ sym (le-ltb 8388607 (length (strOf (firstUses (used ++ (s ∷ []))))) (rw new (omega arith)));
-          size = λ _. rw new size;
-          held = λ _. rw new (held-noted b y (u .count) (put (firstUses used) s) k (u .entries) v room);
-          entries = λ _. omega (arith, count);
-          places = λ _. grown;
-        };
+          rw (q, e)
+          record {
+            few = omega (arith, count);
+            over = f ∙ sym (le-ltb 8388607 (length (strOf (firstUses (used ++ (s ∷ []))))) (rw new (omega arith)));
+            size = λ _. rw new size;
+            held = λ _. rw new (held-noted b y (u .count) (put (firstUses used) s) k (u .entries) v room);
+            entries = λ _. omega (arith, count);
+            places = λ _. grown;
+          };
       place = λ _. o ∙ sym (offset-put (firstUses used) s) ∙ ap (λ (z : List (List ℕ)). offsetIn z s) (sym new);
     }
 
@@ -152,14 +152,14 @@ module _ (b region : List ℕ) (t : StringTable) (used : List (List ℕ)) (k : K
           let s = part b start size in
           record {
             kept =
-              record {
-                few = simp length-append (omega (arith, k .few));
-                over = sym (lt-ltb 8388607 (length (strOf (firstUses (used ++ (s ∷ []))))) (rw (firstUses-snoc used s) (omega (arith, longer, kept-within f))));
-                size = λ g. absurd (true-false refl g);
-                held = λ g. absurd (true-false refl g);
-                entries = λ g. absurd (true-false refl g);
-                places = λ g. absurd (true-false refl g);
-              };
+                record {
+                  few = simp length-append (omega (arith, k .few));
+                  over = sym (lt-ltb 8388607 (length (strOf (firstUses (used ++ (s ∷ []))))) (rw (firstUses-snoc used s) (omega (arith, longer, kept-within f))));
+                  size = λ g. absurd (true-false refl g);
+                  held = λ g. absurd (true-false refl g);
+                  entries = λ g. absurd (true-false refl g);
+                  places = λ g. absurd (true-false refl g);
+                };
             place = λ g. absurd (true-false refl g);
           }
 

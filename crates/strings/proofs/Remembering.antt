@@ -68,7 +68,7 @@ module _ (memo x : List ℕ) (at v : ℕ) (h : at < length memo) (e : x ≡ plac
       ∙ elim (decLe (suc o) at) [ yes q ↦ getD-before memo at (v ∷ []) o q (omega arith) | no q ↦ getD-behind memo at (v ∷ []) o (omega arith) (omega arith) ]
 
   -- one word more
-  pub remembered-more : (str : List ℕ) (told : List ℕ → ℕ → Type 0) (s : List ℕ) → Remembered str told memo → stringAt 9 str at ≡ pass s → told s v → Remembered str told x
+  remembered-more : (str : List ℕ) (told : List ℕ → ℕ → Type 0) (s : List ℕ) → Remembered str told memo → stringAt 9 str at ≡ pass s → told s v → Remembered str told x
   remembered-more str told s r g t =
       record {
         known = λ o l u. elim (ℕ-discrete o at) [
@@ -78,7 +78,7 @@ module _ (memo x : List ℕ) (at v : ℕ) (h : at < length memo) (e : x ≡ plac
       }
 
 -- a table that grows keeps what it has
-pub remembered-put : (str : List ℕ) (table : List (List ℕ)) (s memo : List ℕ) → Remembered str (placeIs table) memo → Remembered str (placeIs (put table s)) memo
+remembered-put : (str : List ℕ) (table : List (List ℕ)) (s memo : List ℕ) → Remembered str (placeIs table) memo → Remembered str (placeIs (put table s)) memo
 unfolding placeIs
 remembered-put str table s memo r =
     record {

@@ -61,10 +61,10 @@ add-string-requires c κs =
         inside = a .pre .0 .strings-inside;
         memory = omega (arith, a .pre .0 .memory, l .loop .inv .1);
         room =
-          record {
-            more = omega (arith, l .loop .inv .2, a .pre .0 .room, c .before .before .before .before .before .before .before .entries-of .ensures, c .before .before .before .before .before .loop-test .taken);
-            small = a .pre .0 .small;
-          };
+            record {
+              more = omega (arith, l .loop .inv .2, a .pre .0 .room, c .before .before .before .before .before .before .before .entries-of .ensures, c .before .before .before .before .before .loop-test .taken);
+              small = a .pre .0 .small;
+            };
         string = s .0;
         starts = s .1;
       },

@@ -1,7 +1,7 @@
 -- `note_place` meets its contract.
 -- Assumes nothing.
-use mathlib.Core.Path.{_≡_, refl, ap, _∙_}
-use mathlib.Core.List.{List, [], _∷_}
+use mathlib.Core.Path.{refl, ap, _∙_}
+use mathlib.Core.List.{[], _∷_}
 use Prim.Native.Nat.{ℕ, _+_, _<_}
 use native.Mathlib.Omega.{arith}
 use denote.Ref.{now}
