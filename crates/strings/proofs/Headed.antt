@@ -1,19 +1,18 @@
 -- Pieces by their headers: the one at the front, and those behind it.
 -- Assumes nothing.
 use mathlib.Core.Path.{_≡_, refl, sym, ap, _∙_, subst}
-use mathlib.Core.Bool.{true, false}
 use mathlib.Core.List.{List, [], _∷_, _++_, append-assoc, append-nil}
 use Prim.Native.Nat.{ℕ, _+_, _*_, _-_, _<_, _≤_}
 use native.Mathlib.Omega.{arith}
 use lib.ListN.{length, take, drop, length-append}
 use lib.Seq.{take-at, drop-at}
-use Rattle.octets.specs.Octets.{part, numberAt}
+use borrow.Author.Tests.{eq-eqb, ne-eqb}
+use Rattle.octets.specs.Octets.{part}
 use Rattle.octets.specs.Checked.{Check, pass, refuse, _>>=_}
 use Rattle.octets.proofs.Checks.{then-pass, then-refuse, bind-pass, pass-inj}
 use Rattle.octets.proofs.Parts.{part-add, part-is, part-none, length-part}
 use Rattle.bundle.specs.Encoding.{Encoding}
-use Rattle.bundle.specs.Encoded.{four, encodingIs}
-use Rattle.bundle.specs.declared.encoding.ObjectEncoding.{ObjectEncoding}
+use Rattle.bundle.specs.InitialLength.{lengthField, lengthStated}
 use Rattle.strings.specs.Strings.{headerSize, entriesIn, entriesOf, stringsAt}
 use Rattle.strings.specs.Kept.{bytesAt, AddedIs}
 use Rattle.strings.specs.Objects.{tableIn, PuttingIn, AllPut}
@@ -24,27 +23,15 @@ use Rattle.strings.specs.declared.table.Place.{Place}
 use Rattle.strings.specs.declared.table.StringTable.{StringTable}
 use Rattle.strings.proofs.StrOffsets.{Sound, entries-whole, header-within, entries-few}
 
--- ---- the size that a header states, as code reads it
-module _ (e : ObjectEncoding) (s : List ℕ) where
-  pub size-wide : e .five ≡ true → e .wide ≡ true → pieceSize (encodingIs e) s ≡ 12 + numberAt (e .big) 8 s 4
-  unfolding pieceSize encodingIs four
-  size-wide f w = rw (pieceSize, encodingIs, f, w)
+-- ---- the size that a header states
+module _ (e : Encoding) (s : List ℕ) where
+  pub size-five : e .version ≡ 5 → pieceSize e s ≡ lengthField e + lengthStated e s
+  unfolding pieceSize
+  size-five v = rw (pieceSize, eq-eqb (e .version) 5 v)
 
-  pub size-narrow : e .five ≡ true → e .wide ≡ false → pieceSize (encodingIs e) s ≡ 4 + numberAt (e .big) 4 s 0
-  unfolding pieceSize encodingIs four
-  size-narrow f w = rw (pieceSize, encodingIs, f, w)
-
-  pub size-four : e .five ≡ false → pieceSize (encodingIs e) s ≡ length s
-  unfolding pieceSize encodingIs four
-  size-four f = rw (pieceSize, encodingIs, f)
-
-  pub header-wide : e .five ≡ true → e .wide ≡ true → headerSize (encodingIs e) ≡ 16
-  unfolding headerSize encodingIs four
-  header-wide f w = rw (headerSize, encodingIs, f, w)
-
-  pub header-narrow : e .five ≡ true → e .wide ≡ false → headerSize (encodingIs e) ≡ 8
-  unfolding headerSize encodingIs four
-  header-narrow f w = rw (headerSize, encodingIs, f, w)
+  pub size-four : (e .version ≡ 5 → ⊥) → pieceSize e s ≡ length s
+  unfolding pieceSize
+  size-four v = rw (pieceSize, ne-eqb (e .version) 5 v)
 
 -- ---- the piece at the front
 pub record Front (e : Encoding) (s : List ℕ) (ps : List (List ℕ)) : Type 0 where

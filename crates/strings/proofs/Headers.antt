@@ -1,7 +1,7 @@
 -- The cases of a header and of entries as the code tests them, and of a string read byte by byte.
 -- Assumes nothing.
 use mathlib.Core.Path.{_≡_, refl, sym, ap, _∙_}
-use mathlib.Core.Bool.{Bool, true, false, _&&_}
+use mathlib.Core.Bool.{Bool, true, false, _&&_, _||_}
 use mathlib.Core.List.{List, _∷_}
 use Prim.Native.Nat.{ℕ, suc, _+_, _*_, _-_, _/_, _%_, _<_, _≤_}
 use native.Mathlib.Nat.{zero-div}
@@ -16,6 +16,7 @@ use Rattle.octets.specs.Checked.{Check, pass, refuse, _>>=_}
 use Rattle.octets.proofs.Checks.{not-left, not-right}
 use Rattle.bundle.specs.Encoding.{Encoding}
 use Rattle.bundle.specs.Encoded.{four, encodingIs}
+use Rattle.bundle.specs.InitialLength.{marked, lengthField, lengthStated}
 use Rattle.bundle.specs.declared.encoding.ObjectEncoding.{ObjectEncoding}
 use Rattle.strings.specs.Strings.{headerSize, headerTrue, entriesIn, entriesOf, upToZero, stringAt}
 use Rattle.strings.specs.Answers.{entriesRead, stringRead}
@@ -23,7 +24,7 @@ use Rattle.strings.specs.declared.entries.Entries.the-variants.{Count, I
 use Rattle.strings.specs.declared.entries.StringRead.{StringRead}
 use Rattle.strings.specs.declared.entries.StringRead.the-variants.{At, Missing}
 use Rattle.strings.proofs.Ends.{upTo-none, upTo-zero, upTo-more, stringAt-beyond}
-use Rattle.strings.proofs.StrOffsets.{true-narrow, true-wide, header-five, header-four, whole-entries, entries-false, entries-odd, length-entriesIn, Sound, entry-within, entriesIn-at}
+use Rattle.strings.proofs.StrOffsets.{true-five, header-five, header-four, whole-entries, entries-false, entries-odd, length-entriesIn, Sound, entry-within, entriesIn-at}
 
 -- ---- what the code holds of an encoding
 module _ (e : ObjectEncoding) where
@@ -35,14 +36,6 @@ module _ (e : ObjectEncoding) where
   unfolding encodingIs four
   not-five h p = let q : _≡_ {A = ℕ} 4 5 = sym (ap (λ (t : Bool). four t 5) h) ∙ p in omega arith
 
-  pub is-wide : e .wide ≡ true → encodingIs e .width ≡ 4 → ⊥
-  unfolding encodingIs four
-  is-wide h p = let q : _≡_ {A = ℕ} 8 4 = sym (ap (λ (t : Bool). four t 8) h) ∙ p in omega arith
-
-  pub is-narrow : e .wide ≡ false → encodingIs e .width ≡ 4
-  unfolding encodingIs four
-  is-narrow h = ap (λ (t : Bool). four t 8) h
-
   pub size-five : e .five ≡ true → encodingIs e .width + encodingIs e .width ≡ headerSize (encodingIs e)
   size-five h = sym (header-five (encodingIs e) (is-five h))
 
@@ -50,55 +43,26 @@ module _ (e : ObjectEncoding) where
   size-four h = sym (header-four (encodingIs e) (not-five h))
 
   -- ---- the header as the code tests it
-  module _ (s : List ℕ) (five : e .five ≡ true) where
-    module _ (narrow : e .wide ≡ false) where
-      pub narrow-short : length s < 8 → false ≡ headerTrue (encodingIs e) s
-      narrow-short h = sym (true-narrow (encodingIs e) s (is-five five) (is-narrow narrow) ∙ not-left _ _ (not-left _ _ (not-left _ _ (lt-leb 8 (length s) h))))
+  module _ (s : List ℕ) (five : e .five ≡ true) (field : ℕ) (p : field ≡ lengthField (encodingIs e)) where
+    pub header-short : length s < field + 4 → false ≡ headerTrue (encodingIs e) s
+    header-short h = sym (true-five (encodingIs e) s (is-five five) ∙ not-left _ _ (not-left _ _ (not-left _ _ (not-left _ _ (lt-leb (lengthField (encodingIs e) + 4) (length s) (omega arith))))))
 
-      pub narrow-rest : (n : ℕ) → n ≡ numberAt (e .big) 4 s 0 → (n ≡ length s - 4 → ⊥) → false ≡ headerTrue (encodingIs e) s
+    pub header-unmarked : (eqb (encodingIs e .width) 4 || marked (e .big) s) ≡ false → false ≡ headerTrue (encodingIs e) s
+    unfolding encodingIs
+    header-unmarked h = sym (true-five (encodingIs e) s (is-five five) ∙ not-left _ _ (not-left _ _ (not-left _ _ (not-right (leb (lengthField (encodingIs e) + 4) (length s)) _ h))))
+
+    module _ (n : ℕ) (q : n ≡ lengthStated (encodingIs e) s) where
+      pub header-rest : (n ≡ length s - field → ⊥) → false ≡ headerTrue (encodingIs e) s
+      header-rest h =
+          sym (true-five (encodingIs e) s (is-five five) ∙ not-left _ _ (not-left _ _ (not-right (leb (lengthField (encodingIs e) + 4) (length s) && (eqb (encodingIs e .width) 4 || marked (encodingIs e .big) s)) _ (ne-eqb (lengthStated (encodingIs e) s) (length s - lengthField (encodingIs e)) (λ z. h (omega arith))))))
+
+      pub header-all : (r : Bool) → field + 4 ≤ length s → (eqb (encodingIs e .width) 4 || marked (e .big) s) ≡ true → n ≡ length s - field
+          → r ≡ (eqb (numberAt (e .big) 2 s field) 5 && eqb (numberAt (e .big) 2 s (field + 2)) 0) → r ≡ headerTrue (encodingIs e) s
       unfolding encodingIs
-      narrow-rest n q h =
-          sym
-          (true-narrow (encodingIs e) s (is-five five) (is-narrow narrow)
-          ∙ not-left _ _ (not-left _ _ (not-right (leb 8 (length s)) _ (ne-eqb (numberAt (e .big) 4 s 0) (length s - 4) (λ z. h (q ∙ z))))))
-
-      pub narrow-all : (r : Bool) (n : ℕ) → 8 ≤ length s → n ≡ numberAt (e .big) 4 s 0 → n ≡ length s - 4
-          → r ≡ (eqb (numberAt (e .big) 2 s 4) 5 && eqb (numberAt (e .big) 2 s 6) 0) → r ≡ headerTrue (encodingIs e) s
-      unfolding encodingIs
-      narrow-all r n l q h g =
-          g
-          ∙ sym
-          (true-narrow (encodingIs e) s (is-five five) (is-narrow narrow)
-          ∙ rw (le-leb 8 (length s) l, eq-eqb (numberAt (e .big) 4 s 0) (length s - 4) (sym q ∙ h)))
-
-    module _ (wide : e .wide ≡ true) where
-      pub wide-short : length s < 16 → false ≡ headerTrue (encodingIs e) s
-      wide-short h =
-          sym
-          (true-wide (encodingIs e) s (is-five five) (is-wide wide) ∙ not-left _ _ (not-left _ _ (not-left _ _ (not-left _ _ (lt-leb 16 (length s) h)))))
-
-      pub wide-mark : (m : ℕ) → m ≡ numberAt (e .big) 4 s 0 → (m ≡ 0xFFFF_FFFF → ⊥) → false ≡ headerTrue (encodingIs e) s
-      unfolding encodingIs
-      wide-mark m q h =
-          sym
-          (true-wide (encodingIs e) s (is-five five) (is-wide wide)
-          ∙ not-left _ _ (not-left _ _ (not-left _ _ (not-right (leb 16 (length s)) _ (ne-eqb (numberAt (e .big) 4 s 0) 0xFFFF_FFFF (λ z. h (q ∙ z)))))))
-
-      pub wide-rest : (n : ℕ) → n ≡ numberAt (e .big) 8 s 4 → (n ≡ length s - 12 → ⊥) → false ≡ headerTrue (encodingIs e) s
-      unfolding encodingIs
-      wide-rest n q h =
-          sym
-          (true-wide (encodingIs e) s (is-five five) (is-wide wide)
-          ∙ not-left _ _ (not-left _ _ (not-right (leb 16 (length s) && eqb (numberAt (e .big) 4 s 0) 0xFFFF_FFFF) _ (ne-eqb (numberAt (e .big) 8 s 4) (length s - 12) (λ z. h (q ∙ z))))))
-
-      pub wide-all : (r : Bool) (m n : ℕ) → 16 ≤ length s → m ≡ numberAt (e .big) 4 s 0 → m ≡ 0xFFFF_FFFF → n ≡ numberAt (e .big) 8 s 4 → n ≡ length s - 12
-          → r ≡ (eqb (numberAt (e .big) 2 s 12) 5 && eqb (numberAt (e .big) 2 s 14) 0) → r ≡ headerTrue (encodingIs e) s
-      unfolding encodingIs
-      wide-all r m n l p k q h g =
-          g
-          ∙ sym
-          (true-wide (encodingIs e) s (is-five five) (is-wide wide)
-          ∙ rw (le-leb 16 (length s) l, eq-eqb (numberAt (e .big) 4 s 0) 0xFFFF_FFFF (sym p ∙ k), eq-eqb (numberAt (e .big) 8 s 4) (length s - 12) (sym q ∙ h)))
+      header-all r l m h g =
+          let there = le-leb (lengthField (encodingIs e) + 4) (length s) (omega arith) in
+          let states = eq-eqb (lengthStated (encodingIs e) s) (length s - lengthField (encodingIs e)) (omega arith) in
+          rw p at g ∙ sym (true-five (encodingIs e) s (is-five five) ∙ rw (there, m, states))
 
 -- ---- 8 as the code tests it
 module _ (e : Encoding) (s : List ℕ) where

@@ -9,9 +9,10 @@ use lib.Dec.{eqb}
 use lib.ListN.{length, take, drop}
 use Rattle.numbers.specs.Tables.{dwarf5}
 use Rattle.numbers.specs.Limits.{stringWords}
-use Rattle.octets.specs.Octets.{numberAt, numbersOf, placed}
+use Rattle.octets.specs.Octets.{numbersOf, placed}
 use Rattle.octets.specs.Checked.{Check, pass, refuse, _>>=_}
 use Rattle.bundle.specs.Encoding.{Encoding}
+use Rattle.bundle.specs.InitialLength.{lengthField, lengthStated}
 use Rattle.bundle.specs.Encoded.{encodingIs}
 use Rattle.strings.specs.Strings.{headerSize, entriesIn, entriesOf, stringsAt, remapped}
 use Rattle.strings.specs.Kept.{Inside, bytesAt, AddedIs}
@@ -23,11 +24,7 @@ use Rattle.strings.specs.declared.table.StringTable.{StringTable}
 
 -- how long the piece at the front of a section is, by its header
 unfoldable pub pieceSize : Encoding → List ℕ → ℕ
-pieceSize e s =
-    elim (eqb (e .version) dwarf5) [
-      | true ↦ elim (eqb (e .width) 4) [ true ↦ 4 + numberAt (e .big) 4 s 0 | false ↦ 12 + numberAt (e .big) 8 s 4 ]
-      | false ↦ length s
-    ]
+pieceSize e s = elim (eqb (e .version) dwarf5) [ true ↦ lengthField e + lengthStated e s | false ↦ length s ]
 
 -- the section is these pieces, one behind the other, none of them empty, each of the size that its header states; 8 lets each pass
 unfoldable pub Headed : Encoding → List ℕ → List (List ℕ) → Type 0

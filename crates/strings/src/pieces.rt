@@ -22,6 +22,7 @@ use crate::table::Place;
 use crate::table::StrOffsets;
 use crate::table::StringTable;
 use bundle::encoding::ObjectEncoding;
+use bundle::initial_length;
 
 // How long the piece at the front of a section is. The caller knows that its header is true.
 pub fn piece_size(e: ObjectEncoding, s: &[u8]) -> usize
@@ -29,12 +30,8 @@ pub fn piece_size(e: ObjectEncoding, s: &[u8]) -> usize
     ensures { λ r. ⌜ r ≡ pieceSize (encodingIs e) (now (s .entry)) ⌝ }
 {
     if e.five {
-        if e.wide {
-            let rest = octets::number_at(e.big, 8, s, 4);
-            return 12 + octets::size(rest);
-        }
-        let rest = octets::number_at(e.big, 4, s, 0);
-        return 4 + octets::size(rest);
+        let rest = octets::size(initial_length::stated(e, s));
+        return initial_length::field_size(e) + rest;
     }
     s.len()
 }
