@@ -13,3 +13,4 @@ pub mod Elements
 pub mod Joined
 pub mod Mapped
 pub mod Stores
+pub mod Fours
