@@ -14,3 +14,5 @@ pub mod Joined
 pub mod Mapped
 pub mod Stores
 pub mod Fours
+pub mod ZeroBytes
+pub mod Compared

@@ -15,11 +15,28 @@ ghost use Rattle.octets.specs.Octets.{
   numbersOf,
   placed,
   zeros,
+  zeroMarks,
 };
-ghost use Rattle.octets.specs.Lists.{all, same};
+ghost use Rattle.octets.specs.Lists.{all, same, FirstZero};
 
-// One more than the greatest number of four bytes.
+// What the second, third and fourth lowest byte of a number count, and one more than the greatest number of four bytes.
+const SECOND: u64 = 0x100;
+
+const THIRD: u64 = 0x1_0000;
+
+const FOURTH: u64 = 0x100_0000;
+
 const WORD: u64 = 0x1_0000_0000;
+
+// Bytes that are read at once.
+const FOUR: usize = 4;
+
+const EIGHT: usize = 8;
+
+// The bits of a byte, and the low seven of each of eight bytes.
+const BITS: u32 = 8;
+
+const LOW_BITS: u64 = 0x7F7F_7F7F_7F7F_7F7F;
 
 // ---- casts. That of an element asks a proof that the element fits; that of a parameter asks none.
 pub fn wide(x: u32) -> usize
@@ -70,14 +87,14 @@ fn shifted(n: u64, b: u8) -> u64
     n * 256 + b as u64
 }
 
-// What four bytes state, greatest first.
+// What four bytes state, greatest first. As a sum of four terms the compiler knows it for one load.
 fn four(a: u8, b: u8, c: u8, d: u8) -> u64
     ensures { λ r. ⌜ r ≡ bigFrom 0 (a ∷ b ∷ c ∷ d ∷ []) ⌝ }
 {
-    shifted(shifted(shifted(wide_byte(a), b), c), d)
+    FOURTH * a as u64 + THIRD * b as u64 + SECOND * c as u64 + d as u64
 }
 
-// The number in the four bytes at a place. No loop: the compiler makes one load of it.
+// The number in the four bytes at a place.
 fn four_at(big_endian: bool, s: &[u8], at: usize) -> u64
     requires { ⌜ at + 4 ≤ length (now s) ⌝ }
     ensures { λ r. ⌜ r ≡ numberAt «big_endian» 4 (now (s .entry)) at ⌝ }
@@ -354,11 +371,40 @@ pub fn clear_words(s: &mut [u32])
 }
 
 // ---- bytes compared
-// Whether two parts hold the same bytes.
+// Whether two parts hold the same bytes, eight at a time. The last eight may overlap those before them.
 pub fn same_bytes(a: &[u8], b: &[u8]) -> bool
     ensures { λ r. ⌜ r ≡ same (now (a .entry)) (now (b .entry)) ⌝ }
 {
-    check::same(a, b)
+    if a.len() != b.len() {
+        return false;
+    }
+    if a.len() < EIGHT {
+        return same_short(a, b);
+    }
+    let last = a.len() - EIGHT;
+    let mut i = 0;
+    while i < last {
+        if eight_at(false, a, i) != eight_at(false, b, i) {
+            return false;
+        }
+        i += EIGHT;
+    }
+    eight_at(false, a, last) == eight_at(false, b, last)
+}
+
+// The same of at most eight bytes: the first four and the last four, or one by one.
+fn same_short(a: &[u8], b: &[u8]) -> bool
+    requires { ⌜ (length (now a) ≤ 8) × (length (now a) ≡ length (now b)) ⌝ }
+    ensures { λ r. ⌜ r ≡ same (now (a .entry)) (now (b .entry)) ⌝ }
+{
+    if a.len() < FOUR {
+        return check::same(a, b);
+    }
+    let last = a.len() - FOUR;
+    if four_at(false, a, 0) != four_at(false, b, 0) {
+        return false;
+    }
+    four_at(false, a, last) == four_at(false, b, last)
 }
 
 // Whether a part holds zeros only.
@@ -373,6 +419,45 @@ pub fn all_zero(s: &[u8]) -> bool
         i += 1;
     }
     true
+}
+
+// Marks the bytes of x that are zero. The low seven bits of a byte and 127 make 128 or more, and no carry, where one of the seven is set: so a byte that is
+// not zero is filled with ones, and a zero byte is left at 127.
+fn zero_marks(x: u64) -> u64
+    ensures { λ r. ⌜ r ≡ little (zeroMarks (littleOf 8 x)) ⌝ }
+{
+    let filled = ((x & LOW_BITS) + LOW_BITS) | x | LOW_BITS;
+    u64::MAX - filled
+}
+
+// The place of the first zero byte from a place on, or the length where there is none: eight bytes at a time, and the last ones singly.
+pub fn first_zero(s: &[u8], from: usize) -> usize
+    requires { ⌜ from ≤ length (now s) ⌝ }
+    ensures { λ r. ⌜ FirstZero (now (s .entry)) from r ⌝ }
+{
+    let mut at = from;
+    while EIGHT <= s.len() - at {
+        let marks = zero_marks(eight_at(false, s, at));
+        if marks != 0 {
+            return at + (u64::trailing_zeros(marks) / BITS) as usize;
+        }
+        at += EIGHT;
+    }
+    first_zero_singly(s, at)
+}
+
+fn first_zero_singly(s: &[u8], from: usize) -> usize
+    requires { ⌜ from ≤ length (now s) ⌝ }
+    ensures { λ r. ⌜ FirstZero (now (s .entry)) from r ⌝ }
+{
+    let mut at = from;
+    while at < s.len() {
+        if s[at] == 0 {
+            return at;
+        }
+        at += 1;
+    }
+    at
 }
 
 // ---- words of a work area

@@ -6,17 +6,23 @@ use Rattle.octets.specs.Octets.{bigFrom}
 use Rattle.octets.proofs.four.Statement.{statement}
 use Rattle.octets.proofs.four.Tie as tie
 
-wide-byte-requires : tie.Need-wide-byte-requires
-wide-byte-requires c κs = search needs
+mul-result : tie.Need-mul-result
+mul-result c = search needs
 
-shifted-requires : tie.Need-shifted-requires
-shifted-requires c κs = search needs
+mul-result-2 : tie.Need-mul-result-2
+mul-result-2 c = search needs
 
-shifted-requires-2 : tie.Need-shifted-requires-2
-shifted-requires-2 c κs = search needs
+add-result : tie.Need-add-result
+add-result c = search needs
 
-shifted-requires-3 : tie.Need-shifted-requires-3
-shifted-requires-3 c κs = search needs
+mul-result-3 : tie.Need-mul-result-3
+mul-result-3 c = search needs
+
+add-result-2 : tie.Need-add-result-2
+add-result-2 c = search needs
+
+add-result-3 : tie.Need-add-result-3
+add-result-3 c = search needs
 
 returns : tie.Need-returns
 unfolding bigFrom
@@ -25,4 +31,4 @@ returns c = omega arith
 pub four-spec : {M : Type 1} → statement M
 four-spec =
     tie.close
-    (tie.spec wide-byte-requires shifted-requires shifted-requires-2 shifted-requires-3 returns)
+    (tie.spec mul-result mul-result-2 add-result mul-result-3 add-result-2 add-result-3 returns)
