@@ -133,12 +133,9 @@ pub fn string_at(s: &[u8], offset: u64) -> StringRead
         return StringRead::Missing;
     }
     let start = octets::size(offset);
-    let mut end = start;
-    while end < s.len() {
-        if s[end] == 0 {
-            return StringRead::At(start, end - start);
-        }
-        end += 1;
+    let end = octets::first_zero(s, start);
+    if end < s.len() {
+        return StringRead::At(start, end - start);
     }
     StringRead::Missing
 }
