@@ -108,6 +108,10 @@ pub record PutIs (b region : List ℕ) (used : List (List ℕ)) (s : List ℕ) (
   pub kept : Kept b region (r .table) (used ++ (s ∷ []))
   pub place : r .table .over ≡ false → r .place ≡ offsetIn (firstUses (used ++ (s ∷ []))) s
 
+-- a string that is not kept yet is put; region and x are the words before and after that
+abbrev pub PutsNew : List ℕ → ℕ → ℕ → ℕ → List ℕ → StringTable → List ℕ → Put → Type 0
+PutsNew b start size slot region t x r = (used : List (List ℕ)) → Kept b region t used → NewAt b start size region used slot → PutIs b x used (part b start size) r
+
 -- the strings of an object put behind those used before, or 9
 pub record AddedIs (b region : List ℕ) (used : List (List ℕ)) (strings : Check (List (List ℕ))) (r : Added) : Type 0 where
   pub kept : (t : StringTable) → r ≡ Table t → (more : List (List ℕ)) × (strings ≡ pass more) × Kept b region t (used ++ more)

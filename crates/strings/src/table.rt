@@ -17,6 +17,7 @@ ghost use Rattle.strings.specs.Kept.{
   Kept,
   PutIs,
   PutSmall,
+  PutsNew,
   NewAt,
   placesFrom,
   RowAddable,
@@ -137,7 +138,7 @@ fn insert_string(
     t: StringTable,
 ) -> Put
     requires { ⌜ (t .over ≡ false) × Insertable (now b) start size (now table) t × ((used : List (List ℕ)) × Kept (now b) (now table) t used × NewAt (now b) start size (now table) used slot) ⌝ }
-    ensures { λ r. ⌜ ((used : List (List ℕ)) → Kept (now (b .entry)) (now (table .entry)) t used → NewAt (now (b .entry)) start size (now (table .entry)) used slot → PutIs (now (b .entry)) (now (table .exit)) used (part (now (b .entry)) start size) r) ⌝ }
+    ensures { λ r. ⌜ PutsNew (now (b .entry)) start size slot (now (table .entry)) t (now (table .exit)) r ⌝ }
     ensures { λ r. ⌜ PutSmall t r ⌝ }
 {
     let count = t.count;
