@@ -24,8 +24,8 @@ use Rattle.strings.specs.declared.table.StringTable.{StringTable}
 use Rattle.strings.specs.declared.entries.Entries.{Entries}
 use Rattle.strings.proofs.Callers.{entries-counted, entries-ill}
 use Rattle.numbers.specs.Limits.{workForWord}
-use Rattle.work.specs.Regions.{stringsRegion, storeRegion, region}
-use Rattle.work.proofs.Stores.{store-records, store-slots}
+use Rattle.kept.specs.Regions.{stringsRegion, storeRegion, region}
+use Rattle.kept.proofs.RegionStores.{store-records, store-slots}
 use Rattle.kept.proofs.Storing.{store-left}
 use Rattle.package.specs.Filing.{kept}
 use Rattle.filing.specs.State.{wordsIn}

@@ -25,8 +25,8 @@ use Rattle.strings.proofs.Headers.{is-five}
 use Rattle.index.specs.Index.{Index, Contribution}
 use Rattle.index.specs.Tiles.{named, tiles}
 use Rattle.index.proofs.Tiles.{Tiling, tiles-facts, both-some}
-use Rattle.tiles.specs.Marks.{goodEnd}
-use Rattle.work.specs.Regions.{Layout, stringsRegion, storeRegion, codesRegion, region, Apart, Only}
+use Rattle.places.specs.Marks.{goodEnd}
+use Rattle.kept.specs.Regions.{Layout, stringsRegion, storeRegion, codesRegion, region, Apart, Only}
 use Rattle.kept.specs.declared.state.InProgress.{InProgress}
 use Rattle.package.specs.Pieces.{Piece, piecesOf, usedIn}
 use Rattle.package.specs.Input.{Input, inputIndex, tiledPieces, openedTiled}

@@ -29,11 +29,11 @@ use Rattle.index.specs.Held.{indexIn}
 use Rattle.index.specs.Tiles.{named, tiles}
 use Rattle.index.specs.declared.reading.IndexHead.{IndexHead}
 use Rattle.index.proofs.Tiles.{isOne, one-right, partOf, Tiles, tiles-facts, both-some}
-use Rattle.tiles.specs.Marks.{Marks, Clash, Marked, marksGood, TiledBy, goodEnd}
-use Rattle.tiles.proofs.Marking.{marks-none}
-use Rattle.tiles.proofs.Walking.{good-tiles, good-pass, bad-refused, clash-refused}
-use Rattle.tiles.proofs.Parts.{tiles-marked}
-use Rattle.work.specs.Regions.{stringsRegion, storeRegion}
+use Rattle.places.specs.Marks.{Marks, Clash, Marked, marksGood, TiledBy, goodEnd}
+use Rattle.places.proofs.Marking.{marks-none}
+use Rattle.places.proofs.Walking.{good-tiles, good-pass, bad-refused, clash-refused}
+use Rattle.places.proofs.Parts.{tiles-marked}
+use Rattle.kept.specs.Regions.{stringsRegion, storeRegion}
 use Rattle.kept.proofs.Storing.{store-left}
 use Rattle.package.specs.Pieces.{usedIn, piecesOf}
 use Rattle.filing.specs.declared.input.Indexed.{Indexed}

@@ -23,7 +23,7 @@ use Rattle.strings.specs.Objects.{entriesAt}
 use Rattle.strings.specs.declared.table.StrOffsets.{StrOffsets}
 use Rattle.strings.specs.declared.table.StringTable.{StringTable}
 use Rattle.numbers.specs.Limits.{bundleLimit, workForWord, stringWords}
-use Rattle.work.specs.Regions.{stringsRegion, region}
+use Rattle.kept.specs.Regions.{stringsRegion, region}
 use Rattle.kept.specs.State.{Held}
 use Rattle.kept.specs.declared.state.InProgress.{InProgress}
 use Rattle.index.specs.Index.{Index}

@@ -18,9 +18,9 @@ use Rattle.strings.specs.declared.table.StringTable.{StringTable}
 use Rattle.index.specs.Index.{Index, Contribution}
 use Rattle.index.specs.Tiles.{named, tiles}
 use Rattle.index.proofs.Tiles.{Tiling}
-use Rattle.tiles.specs.Marks.{Marks, Marked, goodEnd}
+use Rattle.places.specs.Marks.{Marks, Marked, goodEnd}
 use Rattle.package.specs.Pieces.{usedIn, piecesOf}
-use Rattle.work.specs.Regions.{stringsRegion}
+use Rattle.kept.specs.Regions.{stringsRegion}
 use Rattle.filing.specs.declared.input.InputObject.{InputObject}
 use Rattle.filing.specs.declared.input.Indexed.{Indexed}
 use Rattle.filing.specs.declared.parts.Parts.{Parts}

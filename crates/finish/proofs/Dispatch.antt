@@ -18,8 +18,8 @@ use Rattle.bundle.specs.declared.encoding.ObjectEncoding.{ObjectEncoding}
 use Rattle.strings.specs.Strings.{firstUses, strOf}
 use Rattle.strings.specs.Kept as kept
 use Rattle.strings.proofs.StrOffsets.{sound}
-use Rattle.work.specs.Regions.{Layout, recordsRegion, stringsRegion, recordWords, region}
-use Rattle.work.proofs.Stores.{Within, region-fits, length-region, records-within}
+use Rattle.kept.specs.Regions.{Layout, recordsRegion, stringsRegion, recordWords, region}
+use Rattle.kept.proofs.RegionStores.{Within, region-fits, length-region, records-within}
 use Rattle.kept.specs.Records.{bytesFrom, UnitsInside}
 use Rattle.kept.specs.Held.{OneOrTwo}
 use Rattle.kept.specs.declared.state.InProgress.{InProgress}

@@ -33,8 +33,8 @@ use Rattle.finish.proofs.Cutting.{input-good, input-remapped}
 use Rattle.finish.specs.Sections.{sectionsFrom, sectionsBy, notEmpty}
 use Rattle.numbers.specs.Tables.{compilationTable, typeTable}
 use Rattle.index.specs.Probing.{slotsFor}
-use Rattle.work.specs.Regions.{recordsRegion, stringsRegion, region}
-use Rattle.work.proofs.Stores.{slots-records, slots-strings}
+use Rattle.kept.specs.Regions.{recordsRegion, stringsRegion, region}
+use Rattle.kept.proofs.RegionStores.{slots-records, slots-strings}
 use Rattle.kept.specs.Columns.{versionFor}
 use Rattle.kept.specs.Slots.{Placeable, Fitting, seenSlots, slotsIn}
 use Rattle.kept.specs.Records.{bytesFrom}

@@ -14,7 +14,7 @@ use Rattle.bundle.specs.declared.encoding.ObjectEncoding.{ObjectEncoding}
 use Rattle.strings.specs.Strings.{firstUses}
 use Rattle.strings.proofs.StrOffsets.{sound}
 use Rattle.index.specs.Probing.{slotsFor}
-use Rattle.work.specs.Regions.{recordsRegion, region}
+use Rattle.kept.specs.Regions.{recordsRegion, region}
 use Rattle.kept.specs.Columns.{codesIn}
 use Rattle.kept.specs.Slots.{slotsIn}
 use Rattle.kept.specs.Indexed.{indexSize}

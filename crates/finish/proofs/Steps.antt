@@ -15,7 +15,7 @@ use Rattle.bundle.proofs.Next.{filledUp-le}
 use Rattle.bundle.proofs.Putting.{length-head, placed-behind, head-put, end-put}
 use Rattle.bundle.proofs.Sizes.{written-size}
 use Rattle.index.specs.Probing.{slotsFor}
-use Rattle.work.specs.Regions.{recordsRegion, recordWords, region}
+use Rattle.kept.specs.Regions.{recordsRegion, recordWords, region}
 use Rattle.kept.specs.Slots.{Within, slotsIn}
 use Rattle.kept.specs.Indexed.{indexIn}
 use Rattle.kept.specs.declared.writing.IndexForm.{IndexForm}

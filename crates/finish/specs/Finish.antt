@@ -22,7 +22,7 @@ use Rattle.package.specs.Input.{Input}
 use Rattle.package.specs.Filing.{Filing, filingOf, firstWord}
 use Rattle.package.specs.Pack.{Answer, refused, short, made, packageSections, packageObjects, allUsed, answered}
 use Rattle.finish.specs.Sections.{sectionsBy}
-use Rattle.work.specs.Regions.{stringsRegion, region}
+use Rattle.kept.specs.Regions.{stringsRegion, region}
 use Rattle.kept.specs.State.{Held}
 use Rattle.kept.specs.declared.state.InProgress.{InProgress}
 use Rattle.finish.specs.Ready.{Ready}

@@ -18,7 +18,7 @@ use Rattle.bundle.specs.declared.encoding.ObjectEncoding.{ObjectEncoding}
 use Rattle.strings.specs.Strings.{firstUses, strOf}
 use Rattle.strings.specs.Kept.{Kept}
 use Rattle.index.specs.Probing.{slotsFor}
-use Rattle.work.specs.Regions.{Layout, recordsRegion, stringsRegion, slotsRegion, leastUnit, recordWords, region, Apart}
+use Rattle.kept.specs.Regions.{Layout, recordsRegion, stringsRegion, slotsRegion, leastUnit, recordWords, region, Apart}
 use Rattle.kept.specs.Columns.{codesIn}
 use Rattle.kept.specs.Records.{ofTable, identitiesIn, bytesFrom, UnitsInside}
 use Rattle.kept.specs.Slots.{Within, SeenHeld, slotsIn, Placeable, Fitting}

@@ -22,6 +22,7 @@ ghost use Rattle.finish.specs.Ready.{
 use crate::tables::TYPE;
 use bundle::encoding::ObjectEncoding;
 use kept::Table;
+use kept::regions::COMPILATION;
 use kept::state::InProgress;
 use kept::writing::IndexForm;
 use numbers::sections::CODES;
@@ -30,7 +31,6 @@ use numbers::sections::LAST_SHARED;
 use numbers::sections::STR;
 use numbers::sections::STR_OFFSETS;
 use numbers::sections::TYPES;
-use work::COMPILATION;
 
 // What is to be written: the encoding of all objects, what is known of them, and the sizes of all sections by code.
 pub struct Package {
@@ -61,8 +61,8 @@ fn write_index(f: IndexForm, words: usize, n: usize, work: &[u32], out: &mut [u8
         return;
     }
     let count = kept::slots::slots_for(f.rows);
-    let records = work::records(words);
-    let slots = work::slots(words, f.table);
+    let records = kept::regions::records(words);
+    let slots = kept::regions::slots(words, f.table);
     let first = records.start;
     let last = first + records.size;
     let from = slots.start;
@@ -80,7 +80,7 @@ fn write_last_section(code: usize, p: Package, b: &[u8], work: &[u32], out: &mut
     let units = st.units;
     if code == STR {
         let strings = st.strings;
-        let region = work::strings(words);
+        let region = kept::regions::strings(words);
         let first = region.start;
         let last = first + region.size;
         strings::sections::write_strings(b, &work[first..last], strings.count, out, at);
@@ -104,14 +104,14 @@ fn write_section(code: usize, p: Package, b: &[u8], work: &[u32], out: &mut [u8]
     let st = p.state;
     if code <= TYPES {
         let units = st.units;
-        let region = work::records(words);
+        let region = kept::regions::records(words);
         let first = region.start;
         let last = first + region.size;
         kept::unit_bytes::copy_units(b, &work[first..last], units.count, code, out, at);
         return;
     }
     if code == STR_OFFSETS {
-        let table = work::strings(words);
+        let table = kept::regions::strings(words);
         let first = table.start;
         let last = first + table.size;
         crate::joining::copy_str_offsets(p.encoding, b, &work[first..last], out, at);

@@ -7,9 +7,9 @@ use Prim.Native.Nat.{ℕ, _+_, _*_, _-_, _≤_}
 use native.Mathlib.Omega.{arith}
 use lib.ListN.{length, take, drop}
 use borrow.Rule.Slice.PartMut.{putMid}
-use Rattle.work.specs.Regions.{rootsRegion, slotsRegion}
-use Rattle.work.proofs.Stores.{roots-within, roots-slots, tables-apart}
-use Rattle.work.proofs.Lending.{lent-fits, lent-length, lent-left, only-lent}
+use Rattle.kept.specs.Regions.{rootsRegion, slotsRegion}
+use Rattle.kept.proofs.RegionStores.{roots-within, roots-slots, tables-apart}
+use Rattle.kept.proofs.RegionLending.{lent-fits, lent-length, lent-left, only-lent}
 use Rattle.octets.specs.Octets.{zeros}
 use Rattle.octets.proofs.Placed.{length-zeros}
 use Rattle.kept.specs.Held.{OneOrTwo}

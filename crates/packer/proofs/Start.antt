@@ -18,8 +18,8 @@ use Rattle.bundle.specs.Bundle.{Bundle, bundleOf}
 use Rattle.bundle.proofs.Lies.{here-span}
 use Rattle.bundle.proofs.Objects.{objects-none}
 use Rattle.strings.proofs.Keeping.{kept-none}
-use Rattle.work.specs.Regions.{recordsRegion, stringsRegion, rootsRegion, region}
-use Rattle.work.proofs.Stores.{strings-within, length-region, strings-roots}
+use Rattle.kept.specs.Regions.{recordsRegion, stringsRegion, rootsRegion, region}
+use Rattle.kept.proofs.RegionStores.{strings-within, length-region, strings-roots}
 use Rattle.strings.specs.Indexed.{roomOf}
 use Rattle.package.specs.Filing.{kept, keepAll, countOf, countFrom}
 use Rattle.package.specs.Pack.{unitBytes, allUsed}

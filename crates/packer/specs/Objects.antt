@@ -11,7 +11,7 @@ use Rattle.octets.specs.Checked.{Check, pass, refuse}
 use Rattle.bundle.specs.Bundle.{Part, Bundle, items, bundleOf}
 use Rattle.bundle.specs.Scan.{Reaches, sectionsOf, placeBehind}
 use Rattle.index.specs.Rows.{BySection}
-use Rattle.work.specs.Regions.{rootsRegion, region, Only}
+use Rattle.kept.specs.Regions.{rootsRegion, region, Only}
 use Rattle.package.specs.Input.{Input, unitSections, inputOf}
 use Rattle.package.specs.Filing.{Filed, Filing, unitsIn, grown, filingOf}
 use Rattle.kept.specs.Held.{OneOrTwo}

@@ -8,7 +8,7 @@ ghost use Rattle.packer.specs.Objects.{
   NoneHeld,
 };
 use finish::tables::TYPE;
-use work::COMPILATION;
+use kept::regions::COMPILATION;
 
 // Those of a table, for a bundle of n words.
 fn clear_table(n: usize, table: usize, work: &mut [u32])
@@ -16,7 +16,7 @@ fn clear_table(n: usize, table: usize, work: &mut [u32])
     ensures { λ _. ⌜ SlotsCleared n table (now (work .entry)) (now (work .exit)) ⌝ }
 {
     let count = kept::slots::seen_slots(n);
-    let slots = work::slots(n, table);
+    let slots = kept::regions::slots(n, table);
     let from = slots.start;
     let to = from + count;
     crate::zeroing::clear_lent(&mut work[from..to]);
@@ -27,7 +27,7 @@ fn clear_roots(n: usize, work: &mut [u32])
     requires { ⌜ Clearable n (length (now work)) ⌝ }
     ensures { λ _. ⌜ RootsCleared n (now (work .entry)) (now (work .exit)) ⌝ }
 {
-    let roots = work::roots(n);
+    let roots = kept::regions::roots(n);
     let first = roots.start;
     let last = first + roots.size;
     crate::zeroing::clear_lent(&mut work[first..last]);

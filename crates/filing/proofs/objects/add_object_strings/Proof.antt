@@ -4,9 +4,9 @@ use native.Mathlib.Omega.{arith}
 use mathlib.Core.Path.{refl}
 use denote.Ref.{now}
 use borrow.Author.Tests.{le-leb}
-use Rattle.work.specs.Regions.{storeRegion}
-use Rattle.work.proofs.Stores.{store-within}
-use Rattle.work.proofs.Lending.{only-same, only-lent, lent-fits}
+use Rattle.kept.specs.Regions.{storeRegion}
+use Rattle.kept.proofs.RegionStores.{store-within}
+use Rattle.kept.proofs.RegionLending.{only-same, only-lent, lent-fits}
 use Rattle.kept.proofs.Storing.{store-kept, store-memory}
 use Rattle.filing.specs.State.{wordsIn}
 use Rattle.filing.proofs.Stringing.{inside-is, cut-ill, cut-counted, strings-none, strings-ill, strings-put, strings-missing}

@@ -3,9 +3,9 @@
 use mathlib.Core.Path.{refl}
 use native.Mathlib.Omega.{arith}
 use denote.Ref.{now}
-use Rattle.work.specs.Regions.{storeRegion}
-use Rattle.work.proofs.Stores.{store-within}
-use Rattle.work.proofs.Lending.{only-lent}
+use Rattle.kept.specs.Regions.{storeRegion}
+use Rattle.kept.proofs.RegionStores.{store-within}
+use Rattle.kept.proofs.RegionLending.{only-lent}
 use Rattle.kept.proofs.Storing.{store-kept, store-memory}
 use Rattle.filing.specs.State.{wordsIn}
 use Rattle.filing.proofs.Stringing.{inside-is}

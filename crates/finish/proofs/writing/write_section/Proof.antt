@@ -5,8 +5,8 @@ use Prim.Native.Nat.{_+_, _-_, _/_, _≤_}
 use native.Mathlib.Omega.{arith}
 use denote.Ref.{now}
 use lib.ListN.{length, take, drop}
-use Rattle.work.specs.Regions.{recordsRegion, stringsRegion, region}
-use Rattle.work.proofs.Stores.{records-within, strings-within}
+use Rattle.kept.specs.Regions.{recordsRegion, stringsRegion, region}
+use Rattle.kept.proofs.RegionStores.{records-within, strings-within}
 use Rattle.finish.proofs.Dispatch.{lent-end, lent-region, words-fit, units-asks, offsets-asks, shared-asks, units-leaves, offsets-leaves, shared-leaves}
 use borrow.Author.Needs.{needs}
 use Rattle.finish.proofs.writing.write_section.Statement.{statement}
