@@ -10,6 +10,7 @@ use Rattle.octets.specs.Lists
 use Rattle.octets.specs.Octets
 use Rattle.bundle.specs.Bundle
 use Rattle.bundle.specs.Encoding
+use Rattle.bundle.specs.InitialLength
 use Rattle.bundle.specs.Written as BundleWritten
 use Rattle.leb128.specs.Leb128
 use Rattle.unit.specs.Abbreviations
@@ -98,5 +99,5 @@ Examples =
     × (packedSmall (zeros 1_028) 65_536 ≡ refused 1)
 
 pub examples : Examples
-unfolding Checked._>>=_ Checked.require Checked.renumbered Lists.joined Lists.those Lists.all Lists.any Lists.sum Lists.same Lists.has Lists.distinct Lists.zeroTogether Octets.part Octets.little Octets.bigFrom Octets.number Octets.numberAt Octets.numbersIn Octets.littleOf Octets.bigOf Octets.bytesOf Octets.numbersOf Octets.zeros Bundle.filledUp Bundle.objectStep Bundle.sectionStep Bundle.endStep Bundle.stepOf Bundle.stepAt Bundle.followed Bundle.itemsFrom Bundle.items Bundle.leading Bundle.objectsOf Bundle.objectFirst Bundle.bundleOf Bundle.lengthGood Bundle.partsOf Bundle.count Bundle.firstPart Bundle.body Encoding.encodingOf Encoding.encodingGood BundleWritten.wordBytes BundleWritten.headBytes BundleWritten.sectionBytes BundleWritten.objectBytes BundleWritten.endBytes BundleWritten.written Leb128.groups Leb128.short Leb128.unsigned Leb128.signedSize Abbreviations.attributeAt Abbreviations.attributesThen Abbreviations.attributesFrom Abbreviations.attributesOf Abbreviations.declarationAt Abbreviations.declarationsThen Abbreviations.declarationsFrom Abbreviations.declarationsOf Abbreviations.declarationOf Forms.forms Forms.widthIn Forms.zeroEnded Forms.valueSize Root.needed Root.plainValue Root.valueOf Root.identityAt Root.identityIn Root.rootTag Root.rootIdentity UnitRead.lengthField UnitRead.unitSize UnitRead.isFive UnitRead.addressPlace UnitRead.commonSize UnitRead.behindCommon UnitRead.identityFive UnitRead.identityFour UnitRead.identityOf UnitRead.unitBy UnitRead.unitOf Strings.headerSize Strings.headerTrue Strings.entriesIn Strings.entriesOf Strings.upToZero Strings.stringAt Strings.stringsAt Strings.put Strings.putAll Strings.firstUses Strings.ended Strings.strOf Strings.offsetIn Strings.remapped Columns.columnsFour Columns.columnsFive Columns.columnsOf Columns.columnIn Index.versionOf Index.columnsMost Index.codeGood Index.powerFrom Index.leastPower Index.slotsGood Index.layout Index.indexOf Index.placeOf Index.cellAt Index.cellOf Probing.firstSlot Probing.stride Probing.look Probing.search Probing.probe Probing.slotsFor Probing.freeFrom Probing.place Probing.placeAll Probing.unused Probing.slotsOf Rows.shared Rows.neededCodes Rows.isSome Rows.rowOf Rows.cellIs Rows.ownPlace Rows.partGood Rows.rowNumbers Rows.naming Rows.theOne Rows.abbrevPart Rows.rowContributions Rows.wholeContributions IndexWritten.presentColumns IndexWritten.offsetOf IndexWritten.sizeOf IndexWritten.grid IndexWritten.startBytes IndexWritten.indexWith IndexWritten.indexBytes Filing.isUnder Filing.indexFor Filing.indexByPlace Filing.abbreviationsFor Filing.lengths Filing.contributionsOf Filing.skipped Filing.unitAt Filing.unitsFrom Filing.unitsIn Filing.grown Filing.filingFrom Filing.firstWord Filing.filingOf Filing.keep Filing.keepAll Filing.kept Filing.firstUnder Filing.ofKind Filing.countOne Filing.countFrom Filing.countOf Filing.contributed Filing.entriesOfUnit Input.present Input.repeated Input.wrongCodes Input.onlyOnce Input.editionGood Input.complete Input.inputIndex Input.unitSections Input.inputOf Pack.cells Pack.longer Pack.entriesFrom Pack.rowsOf Pack.unitBytes Pack.sharedBytes Pack.allUsed Pack.stringTable Pack.sectionList Pack.nonEmpty Pack.packageSections Pack.packageObjects Pack.judged Pack.answered Pack.packed Pack.handedIn Pack.counted Pack.repeats Pack.namesakes Lookup.codes Lookup.packageIndex Lookup.objectJudged Lookup.objectsJudged Lookup.packageOf Lookup.hasVersion Lookup.versionGood Lookup.tableGood Lookup.indexFor Lookup.placeIn Lookup.cellPlace Lookup.partPlace Lookup.atRow Lookup.inTable Lookup.answered Lookup.partJudged Lookup.lookedUp Lookup.entriesStart Lookup.startOf Lookup.stringPlace Lookup.stringJudged Lookup.stringFound packedSmall Input.besideInfo Input.formOf Input.wholePieces Input.isPacked Input.tiledPieces Input.openedWhole Input.openedTiled Input.opened Pieces.pieceOf Pieces.piecesOf Pieces.usedIn Pieces.remappedAll Tiles.notEmpty Tiles.namedIn Tiles.namedBy Tiles.named Tiles.sameParts Tiles.startsAt Tiles.tilesFrom Tiles.tiles Filing.isPackage
+unfolding Checked._>>=_ Checked.require Checked.renumbered Lists.joined Lists.those Lists.all Lists.any Lists.sum Lists.same Lists.has Lists.distinct Lists.zeroTogether Octets.part Octets.little Octets.bigFrom Octets.number Octets.numberAt Octets.numbersIn Octets.littleOf Octets.bigOf Octets.bytesOf Octets.numbersOf Octets.zeros Bundle.filledUp Bundle.objectStep Bundle.sectionStep Bundle.endStep Bundle.stepOf Bundle.stepAt Bundle.followed Bundle.itemsFrom Bundle.items Bundle.leading Bundle.objectsOf Bundle.objectFirst Bundle.bundleOf Bundle.lengthGood Bundle.partsOf Bundle.count Bundle.firstPart Bundle.body Encoding.encodingOf Encoding.encodingGood BundleWritten.wordBytes BundleWritten.headBytes BundleWritten.sectionBytes BundleWritten.objectBytes BundleWritten.endBytes BundleWritten.written Leb128.groups Leb128.short Leb128.unsigned Leb128.signedSize Abbreviations.attributeAt Abbreviations.attributesThen Abbreviations.attributesFrom Abbreviations.attributesOf Abbreviations.declarationAt Abbreviations.declarationsThen Abbreviations.declarationsFrom Abbreviations.declarationsOf Abbreviations.declarationOf Forms.forms Forms.widthIn Forms.zeroEnded Forms.valueSize Root.needed Root.plainValue Root.valueOf Root.identityAt Root.identityIn Root.rootTag Root.rootIdentity InitialLength.marked InitialLength.lengthField InitialLength.lengthStated UnitRead.lengthGood UnitRead.unitSize UnitRead.isFive UnitRead.addressPlace UnitRead.commonSize UnitRead.behindCommon UnitRead.identityFive UnitRead.identityFour UnitRead.identityOf UnitRead.unitBy UnitRead.unitOf Strings.headerSize Strings.headerTrue Strings.entriesIn Strings.entriesOf Strings.upToZero Strings.stringAt Strings.stringsAt Strings.put Strings.putAll Strings.firstUses Strings.ended Strings.strOf Strings.offsetIn Strings.remapped Columns.columnsFour Columns.columnsFive Columns.columnsOf Columns.columnIn Index.versionOf Index.columnsMost Index.codeGood Index.powerFrom Index.leastPower Index.slotsGood Index.layout Index.indexOf Index.placeOf Index.cellAt Index.cellOf Probing.firstSlot Probing.stride Probing.look Probing.search Probing.probe Probing.slotsFor Probing.freeFrom Probing.place Probing.placeAll Probing.unused Probing.slotsOf Rows.shared Rows.neededCodes Rows.isSome Rows.rowOf Rows.cellIs Rows.ownPlace Rows.partGood Rows.rowNumbers Rows.naming Rows.theOne Rows.abbrevPart Rows.rowContributions Rows.wholeContributions IndexWritten.presentColumns IndexWritten.offsetOf IndexWritten.sizeOf IndexWritten.grid IndexWritten.startBytes IndexWritten.indexWith IndexWritten.indexBytes Filing.isUnder Filing.indexFor Filing.indexByPlace Filing.abbreviationsFor Filing.lengths Filing.contributionsOf Filing.skipped Filing.unitAt Filing.unitsFrom Filing.unitsIn Filing.grown Filing.filingFrom Filing.firstWord Filing.filingOf Filing.keep Filing.keepAll Filing.kept Filing.firstUnder Filing.ofKind Filing.countOne Filing.countFrom Filing.countOf Filing.contributed Filing.entriesOfUnit Input.present Input.repeated Input.wrongCodes Input.onlyOnce Input.editionGood Input.complete Input.inputIndex Input.unitSections Input.inputOf Pack.cells Pack.longer Pack.entriesFrom Pack.rowsOf Pack.unitBytes Pack.sharedBytes Pack.allUsed Pack.stringTable Pack.sectionList Pack.nonEmpty Pack.packageSections Pack.packageObjects Pack.judged Pack.answered Pack.packed Pack.handedIn Pack.counted Pack.repeats Pack.namesakes Lookup.codes Lookup.packageIndex Lookup.objectJudged Lookup.objectsJudged Lookup.packageOf Lookup.hasVersion Lookup.versionGood Lookup.tableGood Lookup.indexFor Lookup.placeIn Lookup.cellPlace Lookup.partPlace Lookup.atRow Lookup.inTable Lookup.answered Lookup.partJudged Lookup.lookedUp Lookup.entriesStart Lookup.startOf Lookup.stringPlace Lookup.stringJudged Lookup.stringFound packedSmall Input.besideInfo Input.formOf Input.wholePieces Input.isPacked Input.tiledPieces Input.openedWhole Input.openedTiled Input.opened Pieces.pieceOf Pieces.piecesOf Pieces.usedIn Pieces.remappedAll Tiles.notEmpty Tiles.namedIn Tiles.namedBy Tiles.named Tiles.sameParts Tiles.startsAt Tiles.tilesFrom Tiles.tiles Filing.isPackage
 examples = (Bundles.examples, Numbers.examples, Units.examples, Texts.examples, Indexes.examples, Packing.examples, Lookups.examples, refl, refl, refl, refl, refl, refl, refl, refl, refl, refl, refl, refl, refl, refl, refl, refl, refl)

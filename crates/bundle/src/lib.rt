@@ -1,5 +1,6 @@
 // Reading and writing the words of a bundle.
 pub mod encoding;
+pub mod initial_length;
 
 ghost use mathlib.Core.Path.{_≡_};
 ghost use mathlib.Core.Bool.{Bool};

@@ -7,22 +7,21 @@ use mathlib.Core.List.{List, [], _∷_}
 use Prim.Native.Nat.{ℕ, _+_, _≤_, _<_}
 use native.Mathlib.Numerals.{add-one}
 use native.Mathlib.Omega.{arith}
-use lib.Dec.{eqb, ltb}
+use lib.Dec.{eqb}
 use lib.ListN.{length, take, drop, getD, length-take, drop-of-length-le}
 use lib.Seq.{drop-cons}
 use borrow.Author.Tests.{eq-eqb, eqb-true, ne-eqb}
-use Rattle.octets.specs.Octets.{part, numberAt}
+use Rattle.octets.specs.Octets.{numberAt}
 use Rattle.octets.specs.Lists.{those}
-use Rattle.octets.specs.Checked.{Check, pass, refuse, _>>=_, require}
+use Rattle.octets.specs.Checked.{Check, pass, refuse}
 use Rattle.octets.proofs.Checks.{known, true-false, passes, fails, or-left, or-right, or-neither}
 use Rattle.octets.proofs.Lists.{those-keeps, those-skips}
-use Rattle.octets.proofs.Numbers.{Bytes, bytes-part, number-lt-width}
-use Rattle.octets.proofs.Parts.{part-front}
 use Rattle.octets.proofs.Refusals.{Only, only-pass, only-require, only-bind}
 use Rattle.bundle.specs.Encoding.{Encoding}
 use Rattle.bundle.specs.Encoded.{encodingIs, four}
 use Rattle.bundle.specs.declared.encoding.ObjectEncoding.{ObjectEncoding}
-use Rattle.unit.specs.UnitRead.{lengthField, unitSize, isFive, addressPlace, headerPasses}
+use Rattle.bundle.specs.InitialLength.{marked, lengthField}
+use Rattle.unit.specs.UnitRead.{unitSize, isFive, addressPlace, headerPasses}
 use Rattle.unit.specs.Headers.{fits, unitInside, withAddress, statedAddress, addressOf}
 use Rattle.unit.specs.declared.header.AddressSize.the-variants as address
 use Rattle.unit.proofs.Fields.{common-ge}
@@ -31,7 +30,7 @@ use Rattle.numbers.specs.Sections.{infoCode}
 use Rattle.numbers.specs.Refusals.{noUnit}
 use Rattle.elf.specs.File.{Header, bodyOf, noHeader, codeOf, isWanted}
 use Rattle.elf.specs.Reader.{firstInfo, widthStated, versionStated, encodingStated, unitStated, objectWord}
-use Rattle.elf.specs.Held.{infoOf, fieldSize, statedOf, wordWith}
+use Rattle.elf.specs.Held.{infoOf, statedOf, wordWith}
 use Rattle.elf.specs.declared.stating.Stated.the-variants as stated
 use Rattle.elf.proofs.Judged.{wanted, unwanted}
 
@@ -39,14 +38,7 @@ use Rattle.elf.proofs.Judged.{wanted, unwanted}
 only-unitInside : (e : Encoding) (s : List ℕ) → Only 11 (unitInside e s)
 unfolding unitInside unitSize fits
 only-unitInside e s =
-    only-bind 11 _ _ (only-bind 11 _ _ (only-require _ 11) (λ _. go (eqb (e .width) 4))) (λ n. only-bind 11 _ _ (only-require _ 11) (λ _. only-pass 11 n))
-  where
-    go : (b : Bool) → Only {A = ℕ} 11 (elim b [
-      | true ↦ require (ltb (numberAt (e .big) 4 s 0) 0xFFFF_FFF0) 11 >>= λ _. pass (4 + numberAt (e .big) 4 s 0)
-      | false ↦ require (eqb (numberAt (e .big) 4 s 0) 0xFFFF_FFFF) 11 >>= λ _. pass (12 + numberAt (e .big) 8 s 4)
-    ])
-    go true = only-bind 11 _ _ (only-require _ 11) (λ _. only-pass 11 _)
-    go false = only-bind 11 _ _ (only-require _ 11) (λ _. only-pass 11 _)
+    only-bind 11 _ _ (only-bind 11 _ _ (only-require _ 11) (λ _. only-bind 11 _ _ (only-require _ 11) (λ _. only-pass 11 _))) (λ n. only-bind 11 _ _ (only-require _ 11) (λ _. only-pass 11 n))
 
 -- ---- the first info
 module _ (f names : List ℕ) (hs : List Header) (i : ℕ) where
@@ -95,13 +87,6 @@ module _ (f names : List ℕ) (hs : List Header) (i : ℕ) where
         none e = go (eqb (codeOf names h) infoCode) refl ∙ sym (ap (firstInfo f names) (kept (λ z. true-false (eq-eqb (codeOf names h) 0 z) e)))
 
 -- ---- what the unit states
-pub narrow-short : (big : Bool) (s : List ℕ) → Bytes s → length s < 4 → false ≡ eqb (numberAt big 4 s 0) 0xFFFF_FFFF
-unfolding numberAt
-narrow-short big s b h =
-    let l : length (part s 0 4) ≤ 3 = rw (part-front s 4) (omega (arith, length-take 4 s)) in
-    let m = number-lt-width big (part s 0 4) 3 l (bytes-part s 0 4 b) in
-    sym (ne-eqb (numberAt big 4 s 0) 0xFFFF_FFFF (λ e. omega arith))
-
 module _ (big : Bool) (s : List ℕ) where
   abbrev versions : Bool
   versions = eqb (encodingStated big s .version) 4 || eqb (encodingStated big s .version) 5
@@ -145,49 +130,48 @@ module _ (big : Bool) (s : List ℕ) where
       good v = ap (wordWith e) (unread (unitInside e s) refl) ∙ good-version e own-stated v
 
 -- in the code's form
-module _ (big : Bool) (s : List ℕ) (wide : Bool) (w : wide ≡ eqb (numberAt big 4 s 0) 0xFFFF_FFFF) where
+abbrev pub codeForm : Bool → Bool → Bool → Encoding
+codeForm big five wide = encodingIs (record { big = big; five = five; wide = wide; long = false })
+
+module _ (big : Bool) (s : List ℕ) (wide : Bool) (w : wide ≡ marked big s) where
   width-is : four wide 8 ≡ widthStated big s
   unfolding widthStated four
   width-is = go wide w
     where
-      go : (t : Bool) → t ≡ eqb (numberAt big 4 s 0) 0xFFFF_FFFF → four t 8 ≡ widthStated big s
+      go : (t : Bool) → t ≡ marked big s → four t 8 ≡ widthStated big s
       go true e = rw (widthStated, sym e)
       go false e = rw (widthStated, sym e)
 
-  pub field-is : fieldSize wide ≡ lengthField (versionStated big s)
-  unfolding fieldSize lengthField versionStated widthStated
-  field-is = go wide w
-    where
-      go : (t : Bool) → t ≡ eqb (numberAt big 4 s 0) 0xFFFF_FFFF → fieldSize t ≡ lengthField (versionStated big s)
-      go true e = rw (versionStated, widthStated, lengthField, sym e)
-      go false e = rw (versionStated, widthStated, lengthField, sym e)
+  pub field-is : lengthField (codeForm big false wide) ≡ lengthField (versionStated big s)
+  unfolding lengthField versionStated encodingIs
+  field-is = ap (λ (k : ℕ). elim (eqb k 4) [ true ↦ 4 | false ↦ 12 ]) width-is
 
-  pub version-is : numberAt big 2 s (fieldSize wide) ≡ encodingStated big s .version
+  pub version-is : numberAt big 2 s (lengthField (codeForm big false wide)) ≡ encodingStated big s .version
   unfolding encodingStated versionStated lengthField
   version-is = ap (numberAt big 2 s) field-is
 
-  module _ (five : Bool) (v : numberAt big 2 s (fieldSize wide) ≡ four five 5) where
-    pub own-is : withAddress (encodingIs (record { big = big; five = five; wide = wide; long = false })) (statedAddress (encodingIs (record { big = big; five = five; wide = wide; long = false })) s) ≡ encodingStated big s
+  module _ (five : Bool) (v : numberAt big 2 s (lengthField (codeForm big false wide)) ≡ four five 5) where
+    pub own-is : withAddress (codeForm big five wide) (statedAddress (codeForm big five wide) s) ≡ encodingStated big s
     unfolding encodingIs encodingStated versionStated withAddress statedAddress addressPlace lengthField isFive
     own-is =
         let n = sym v ∙ version-is in
         λ i. record { big = big; version = n i; width = width-is i; address = getD s (addressPlace (record { big = big; version = n i; width = width-is i; address = 0 })) 0 }
 
   -- by the version that stands there
-  module _ (field n : ℕ) (d : field ≡ fieldSize wide) (e : n ≡ numberAt big 2 s field) where
+  module _ (field n : ℕ) (d : field ≡ lengthField (codeForm big false wide)) (e : n ≡ numberAt big 2 s field) where
     stands : n ≡ encodingStated big s .version
     stands = e ∙ ap (numberAt big 2 s) d ∙ version-is
 
-    pub stated-four : n ≡ 4 → wordWith (encodingIs (record { big = big; five = false; wide = wide; long = false })) (addressOf (encodingIs (record { big = big; five = false; wide = wide; long = false })) s) ≡ statedOf (unitStated big s)
+    pub stated-four : n ≡ 4 → wordWith (codeForm big false wide) (addressOf (codeForm big false wide) s) ≡ statedOf (unitStated big s)
     unfolding four
     stated-four v =
-        good-version big s (encodingIs (record { big = big; five = false; wide = wide; long = false })) (own-is false (ap (numberAt big 2 s) (sym d) ∙ sym e ∙ v))
+        good-version big s (codeForm big false wide) (own-is false (ap (numberAt big 2 s) (sym d) ∙ sym e ∙ v))
         (or-left (eqb (encodingStated big s .version) 4) (eqb (encodingStated big s .version) 5) (eq-eqb (encodingStated big s .version) 4 (sym stands ∙ v)))
 
-    pub stated-five : n ≡ 5 → wordWith (encodingIs (record { big = big; five = true; wide = wide; long = false })) (addressOf (encodingIs (record { big = big; five = true; wide = wide; long = false })) s) ≡ statedOf (unitStated big s)
+    pub stated-five : n ≡ 5 → wordWith (codeForm big true wide) (addressOf (codeForm big true wide) s) ≡ statedOf (unitStated big s)
     unfolding four
     stated-five v =
-        good-version big s (encodingIs (record { big = big; five = true; wide = wide; long = false })) (own-is true (ap (numberAt big 2 s) (sym d) ∙ sym e ∙ v))
+        good-version big s (codeForm big true wide) (own-is true (ap (numberAt big 2 s) (sym d) ∙ sym e ∙ v))
         (or-right (eqb (encodingStated big s .version) 4) (eqb (encodingStated big s .version) 5) (eq-eqb (encodingStated big s .version) 5 (sym stands ∙ v)))
 
     pub stated-neither : (n ≡ 4 → ⊥) → (n ≡ 5 → ⊥) → stated.Refused ≡ statedOf (unitStated big s)
@@ -195,11 +179,6 @@ module _ (big : Bool) (s : List ℕ) (wide : Bool) (w : wide ≡ eqb (numberAt b
         bad-version big s (or-neither (eqb (encodingStated big s .version) 4) (eqb (encodingStated big s .version) 5) (ne-eqb (encodingStated big s .version) 4 (λ z. v (stands ∙ z))) (ne-eqb (encodingStated big s .version) 5 (λ z. w (stands ∙ z))))
 
 -- ---- bounds
-pub field-most : (wide : Bool) → fieldSize wide ≤ 12
-unfolding fieldSize
-field-most true = omega arith
-field-most false = omega arith
-
 pub version-most : (e : ObjectEncoding) → encodingIs e .version ≤ 5
 unfolding encodingIs four
 version-most e = go (e .five)

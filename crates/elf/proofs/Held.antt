@@ -9,13 +9,14 @@ use native.Mathlib.Omega.{arith}
 use lib.Dec.{eqb, leb}
 use lib.ListN.{length}
 use borrow.Author.Tests.{eqb-true, eqb-false, leb-true, not-true}
-use Rattle.octets.specs.Octets.{part, numberAt}
+use Rattle.octets.specs.Octets.{part}
 use Rattle.octets.specs.Lists.{all, those}
 use Rattle.octets.specs.Checked.{pass}
 use Rattle.octets.proofs.Checks.{bind-pass, require-pass, pass-inj, or-cases}
 use Rattle.octets.proofs.Lists.{all-head, all-tail, those-keeps, those-skips}
 use Rattle.octets.proofs.Numbers.{Bytes, bytes-part, bytes-none}
 use Rattle.bundle.specs.Encoding.{Encoding}
+use Rattle.bundle.specs.InitialLength.{marked}
 use Rattle.bundle.specs.Written.{Section, Sections, written}
 use Rattle.bundle.proofs.Every.{Every, nothing, also}
 use Rattle.bundle.proofs.RoundTrip.{Storable, Storables, partsFrom, objectsFrom, written-bundle}
@@ -77,7 +78,7 @@ info-bytes f names (h ∷ hs) b = go (eqb (codeOf names h) infoCode && not (eqb 
 
 width-most : (big : Bool) (s : List ℕ) → widthStated big s ≤ 8
 unfolding widthStated
-width-most big s = go (eqb (numberAt big 4 s 0) 0xFFFF_FFFF)
+width-most big s = go (marked big s)
   where
     go : (t : Bool) → elim t [ true ↦ 8 | false ↦ 4 ] ≤ 8
     go true = omega arith

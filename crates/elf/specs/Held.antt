@@ -111,11 +111,6 @@ headerReadable e h = not (relocatesWanted e h) && (not (isWanted (e .names) h) |
 unfoldable pub infoOf : List ℕ → List ℕ → Header → List ℕ
 infoOf f names h = elim (eqb (codeOf names h) infoCode) [ true ↦ bodyOf f h | false ↦ [] ]
 
--- the bytes of the length, where it is known whether it is wide
-unfoldable pub fieldSize : Bool → ℕ
-fieldSize true = 12
-fieldSize false = 4
-
 unfoldable pub statedOf : Check Encoding → Stated
 statedOf (pass e) = stated.Is (objectWord e)
 statedOf (refuse n) = stated.Refused

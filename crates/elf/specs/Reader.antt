@@ -11,7 +11,8 @@ use Rattle.octets.specs.Checked.{Check, pass, _>>=_, require}
 use Rattle.answers.specs.Answers.{Answer, answered}
 use Rattle.bundle.specs.Encoding.{Encoding}
 use Rattle.bundle.specs.Written.{Section, written}
-use Rattle.unit.specs.UnitRead.{lengthField, addressPlace, headerPasses}
+use Rattle.bundle.specs.InitialLength.{marked, lengthField}
+use Rattle.unit.specs.UnitRead.{addressPlace, headerPasses}
 use Rattle.numbers.specs.Sections.{infoCode}
 use Rattle.numbers.specs.Tables.{dwarf4, dwarf5}
 use Rattle.numbers.specs.Limits.{sectionLimit, packageLimit}
@@ -38,7 +39,7 @@ firstInfo f names (h ∷ hs) =
 
 -- the encoding that the header at the front of s states: FFFFFFFF starts width 8
 unfoldable pub widthStated : Bool → List ℕ → ℕ
-widthStated big s = elim (eqb (numberAt big 4 s 0) 0xFFFF_FFFF) [ true ↦ 8 | false ↦ 4 ]
+widthStated big s = elim (marked big s) [ true ↦ 8 | false ↦ 4 ]
 
 -- version and width; the address size, whose place depends on both, is 0 here
 unfoldable pub versionStated : Bool → List ℕ → Encoding

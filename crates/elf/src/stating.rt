@@ -2,12 +2,11 @@
 use crate::file::File;
 use crate::file::Place;
 use bundle::encoding::ObjectEncoding;
+use bundle::initial_length;
 use unit::header::AddressSize;
 ghost use mathlib.Core.Path.{_≡_};
 ghost use Prim.Native.Nat.{_<_};
-ghost use lib.Dec.{eqb};
 ghost use lib.ListN.{getD};
-ghost use Rattle.octets.specs.Octets.{numberAt};
 ghost use Rattle.bundle.specs.Encoded.{encodingIs};
 ghost use Rattle.unit.specs.Headers.{withAddress, addressOf};
 ghost use Rattle.elf.specs.File.{noHeader, wantedOf};
@@ -21,7 +20,6 @@ ghost use Rattle.elf.specs.Held.{
   infoOf,
   statedOf,
   wordWith,
-  fieldSize,
 };
 use numbers::sections::INFO;
 
@@ -66,23 +64,6 @@ pub fn first_info(f: &[u8], e: File) -> Place
     Place { start: 0, size: 0 }
 }
 
-// Whether the length of a unit has 8 bytes: FFFFFFFF starts it.
-fn is_wide(big: bool, s: &[u8]) -> bool
-    ensures { λ r. ⌜ r ≡ eqb (numberAt big 4 (now (s .entry)) 0) 0xFFFF_FFFF ⌝ }
-{
-    if s.len() < 4 {
-        return false;
-    }
-    octets::u32_at(big, s, 0) == 0xFFFF_FFFF
-}
-
-// The bytes of the length.
-fn field_size(wide: bool) -> usize
-    ensures { λ r. ⌜ r ≡ fieldSize wide ⌝ }
-{
-    if wide { 12 } else { 4 }
-}
-
 // The object word of an encoding with this address size.
 fn word_of(e: ObjectEncoding, address: u8) -> u32
     ensures { λ r. ⌜ r ≡ objectWord (withAddress (encodingIs e) address) ⌝ }
@@ -105,22 +86,20 @@ fn word_stated(e: ObjectEncoding, s: &[u8]) -> Stated
 pub fn first_unit(big: bool, s: &[u8]) -> Stated
     ensures { λ r. ⌜ r ≡ statedOf (unitStated big (now (s .entry))) ⌝ }
 {
-    let wide = is_wide(big, s);
-    let field = field_size(wide);
+    let wide = initial_length::is_marked(big, s);
+    let four = ObjectEncoding {
+        big,
+        five: false,
+        wide,
+        long: false,
+    };
+    let field = initial_length::field_size(four);
     if s.len() < field + 2 {
         return Stated::Refused;
     }
     let version = octets::u16_at(big, s, field);
     if version == VERSION_4 {
-        return word_stated(
-            ObjectEncoding {
-                big,
-                five: false,
-                wide,
-                long: false,
-            },
-            s,
-        );
+        return word_stated(four, s);
     }
     if version == VERSION_5 {
         return word_stated(

@@ -28,9 +28,9 @@ use Rattle.index.specs.Held.{indexIn}
 use Rattle.index.specs.Cells.{cellFound}
 use Rattle.index.specs.declared.cells.Cell.the-variants.{Is, Missing}
 use Rattle.index.specs.declared.reading.IndexHead.{IndexHead}
-use Rattle.by_place.specs.Chains.{rowTold}
-use Rattle.work.specs.Regions.{codesRegion}
-use Rattle.work.proofs.Stores.{codes-within}
+use Rattle.places.specs.Chains.{rowTold}
+use Rattle.kept.specs.Regions.{codesRegion}
+use Rattle.kept.proofs.RegionStores.{codes-within}
 use Rattle.package.specs.Input.{Input}
 use Rattle.package.specs.Filing.{indexByPlace, abbreviationsFor}
 use Rattle.filing.specs.declared.input.InputObject.{InputObject}
@@ -42,7 +42,7 @@ use Rattle.filing.specs.Judged.{sectionOf, IndexedIs, InputIs}
 use Rattle.filing.specs.State.{wordsIn, Remembered}
 use Rattle.filing.specs.ByPlace.{WorkFor, indexedByPlace, AbbreviationsAre, identified}
 use Rattle.filing.specs.Asked.{PlaceAsked}
-use Rattle.work.proofs.Lending.{lent-is, lent-length, lent-left}
+use Rattle.kept.proofs.RegionLending.{lent-is, lent-length, lent-left}
 use Rattle.filing.proofs.ByPlace.{by-place-is, cut, cut-section, index-there, row-none, row-one}
 
 -- ---- a row's abbrev part

@@ -19,7 +19,7 @@ use Rattle.index.specs.Written.{offsetOf, sizeOf}
 use Rattle.index.specs.Contributed.{ContributionsAre}
 use Rattle.index.specs.declared.judging.RowJudged.{RowJudged}
 use Rattle.package.specs.Input.{Input}
-use Rattle.work.specs.Regions.{recordsRegion, region}
+use Rattle.kept.specs.Regions.{recordsRegion, region}
 use Rattle.package.specs.Filing.{Filed, isUnder, kept, contributionsOf, unitAt, repeat, namesake}
 use Rattle.package.proofs.Kept.{First, first-any, any-kept, kept-once}
 use Rattle.package.proofs.Counting.{count-le}

@@ -23,10 +23,10 @@ use Rattle.index.specs.Rows.{rowNumbers, naming, theOne}
 use Rattle.index.specs.Held.{Sized, ReadWell, indexIn}
 use Rattle.index.specs.declared.reading.IndexHead.{IndexHead}
 use Rattle.index.proofs.Heads.{well}
-use Rattle.by_place.specs.Chains.{Chained, rowTold}
-use Rattle.by_place.proofs.Laws.{units-are}
-use Rattle.work.specs.Regions.{rowsRegion, region}
-use Rattle.work.proofs.Stores.{rows-within}
+use Rattle.places.specs.Chains.{Chained, rowTold}
+use Rattle.places.proofs.Chaining.{units-are}
+use Rattle.kept.specs.Regions.{rowsRegion, region}
+use Rattle.kept.proofs.RegionStores.{rows-within}
 use Rattle.package.specs.Input.{Input}
 use Rattle.package.specs.Filing.{indexByPlace}
 use Rattle.filing.specs.declared.input.InputObject.{InputObject}
@@ -38,7 +38,7 @@ use Rattle.filing.specs.ByPlace.{indexedByPlace, headsFor, ChainsHeld, R
 use Rattle.filing.specs.Asked.{ChainAsked, PlaceAsked}
 use Rattle.filing.proofs.Contributing.{index-well}
 use Rattle.filing.proofs.Entering.{five-is}
-use Rattle.work.proofs.Lending.{lent-is, lent-length, lent-left}
+use Rattle.kept.proofs.RegionLending.{lent-is, lent-length, lent-left}
 
 -- ---- the index that has them
 module _ (x : InputObject) (home : ℕ) where

@@ -17,7 +17,7 @@ use Rattle.strings.proofs.StrOffsets.{entries-whole, entries-refused}
 use Rattle.strings.proofs.Ends.{stringsAt-refused}
 use Rattle.index.specs.Index.{Contribution}
 use Rattle.index.proofs.Tiles.{Tiling, tiling-end, partOf}
-use Rattle.tiles.specs.Marks.{goodEnd}
+use Rattle.places.specs.Marks.{goodEnd}
 use Rattle.package.specs.Pieces.{Piece, pieceOf, piecesOf, usedIn}
 use Rattle.package.proofs.Headings.{whole-size}
 

@@ -13,18 +13,13 @@ use Rattle.bundle.proofs.Onward.{onward, size-behind}
 use Rattle.bundle.proofs.Every.{Every}
 use Rattle.bundle.proofs.Lies.{Lies}
 use Rattle.bundle.proofs.ScanFacts.{first-within}
-use Rattle.strings.proofs.FirstUses.{length-firstUses}
 use Rattle.index.specs.Rows.{BySection}
 use Rattle.package.specs.Input.{Input}
 use Rattle.package.specs.Filing.{Filed}
-use Rattle.package.specs.Pack.{allUsed, stringTable}
+use Rattle.package.specs.Pack.{allUsed}
 use Rattle.kept.specs.declared.state.InProgress.{InProgress}
 use Rattle.filing.specs.State.{wordsIn}
 use Rattle.filing.specs.ByObject.{AtObject, InputRoom}
-
-table-few : (is : List Input) → length (stringTable is) ≤ length (allUsed is)
-unfolding stringTable
-table-few is = length-firstUses (allUsed is)
 
 -- what `read_input` requires, of the object whose sections start at from
 pub input-room : (b : List ℕ) (big : Bool) (first place : ℕ) (w : List ℕ) (st : InProgress) (bases : BySection ℕ) (is : List Input) (us : List Filed)
@@ -39,5 +34,5 @@ input-room b big first place w st bases is us a from ahead left low high lie =
       fits =
           let z = size-behind b 6 from ahead left high in
           let o = onward b from ahead left high in
-          omega (arith, a .strings .few, table-few is, a .used, z, o .within, a .held .words);
+          omega (arith, a .strings .few, a .used, z, o .within, a .held .words);
     }

@@ -17,7 +17,6 @@ use Rattle.bundle.specs.Encoded.{encodingIs}
 use Rattle.bundle.specs.Scan.{scanOf}
 use Rattle.bundle.specs.declared.Scan.{Scan}
 use Rattle.bundle.specs.declared.encoding.ObjectEncoding.{ObjectEncoding}
-use Rattle.strings.specs.Strings.{putAll}
 use Rattle.strings.specs.Kept.{bytesAt}
 use Rattle.strings.specs.declared.table.StrOffsets.{StrOffsets}
 use Rattle.strings.specs.declared.table.StringTable.{StringTable}
@@ -45,7 +44,7 @@ put-refused b v ts (pass q) s a z = absurd (z (a .0))
 put-refused b v ts (refuse k) s a z = ap refuse (sym a)
 
 pub put-passed : (b v : List ℕ) (ts : List (List ℕ)) (m : Check (List Piece)) (s : StringsFiled) → Numbered m → StringsAre b v ts (m >>= λ q. pass (usedIn q)) s → s .code ≡ 0
-    → (q : List Piece) × (m ≡ pass q) × StringsIn b v (s .strings) (putAll ts (usedIn q))
+    → (q : List Piece) × (m ≡ pass q) × StringsIn b v (s .strings) (ts ++ usedIn q)
 unfolding StringsAre _>>=_
 put-passed b v ts (pass q) s o a z = (q, refl, a .1)
 put-passed b v ts (refuse k) s o a z = absurd (let h = o .is k refl in let q : k ≡ 0 = sym a ∙ z in omega arith)
@@ -82,7 +81,7 @@ module _ (b v : List ℕ) (st : InProgress) (ts : List (List ℕ)) (x : ObjectEn
 
   pub given-passed : (m : Check Opened) (t : Opened) (j : IndexesJudged) (s : StringTable) (words : ℕ) (tab : StringTable) → InputRoom b ps words tab → (input : InputObject) → input ≡ inputIn x scan j
       → (next : InProgress) → next ≡ withStrings st s → m ≡ pass t → IndexedIs (x .big) (scanned b scan 12) (j .cu) (t .cuIndex) → IndexedIs (x .big) (scanned b scan 13) (j .tu) (t .tuIndex)
-      → StringsIn b v s (putAll ts (usedIn (t .pieces)))
+      → StringsIn b v s (ts ++ usedIn (t .pieces))
       → InputRead b v st ts (inputGiven b e ps m) (record { code = 0; input = input; st = next })
   unfolding InputRead inputGiven
   given-passed m t j s words tab room input is-input next is-next q cu tu k =
@@ -105,7 +104,7 @@ module _ (b v : List ℕ) (st : InProgress) (ts : List (List ℕ)) (x : ObjectEn
     whole-put-refused z r q = given-refused _ (put .code) r (whole-strings e ps (body b ps) (put .code) (put-refused b v ts _ put put-here z)) q
 
     module _ (zp : put .code ≡ 0) (j : IndexesJudged) (found : IndexesFound b x scan j) where
-      pieces : (q : List Piece) × (wholePieces e ps (body b ps) ≡ pass q) × StringsIn b v (put .strings) (putAll ts (usedIn q))
+      pieces : (q : List Piece) × (wholePieces e ps (body b ps) ≡ pass q) × StringsIn b v (put .strings) (ts ++ usedIn q)
       pieces = put-passed b v ts _ put (whole-numbered e ps (body b ps)) put-here zp
 
       pub whole-index-refused : (j .code ≡ 0 → ⊥) → (r : InputFiled) → r .code ≡ j .code → InputRead b v st ts (inputGiven b e ps (openedWhole e ps (body b ps))) r

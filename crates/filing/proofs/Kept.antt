@@ -18,8 +18,8 @@ use Rattle.index.specs.Rows.{BySection}
 use Rattle.index.specs.Contributed.{ContributionsAre}
 use Rattle.index.specs.Held.{PowerOfTwo}
 use Rattle.index.specs.declared.judging.Contributions.{Contributions}
-use Rattle.work.specs.Regions.{recordsRegion, stringsRegion, slotsRegion, rowsRegion, codesRegion, region, Apart}
-use Rattle.work.proofs.Stores.{records-strings, slots-strings, records-rows, slots-rows, records-codes, slots-codes, tables-apart}
+use Rattle.kept.specs.Regions.{recordsRegion, stringsRegion, slotsRegion, rowsRegion, codesRegion, region, Apart}
+use Rattle.kept.proofs.RegionStores.{records-strings, slots-strings, records-rows, slots-rows, records-codes, slots-codes, tables-apart}
 use Rattle.package.specs.Filing.{Filed, isUnder, kept, repeat, namesake, ofKind}
 use Rattle.package.specs.Pack.{rowsOf, unitBytes}
 use Rattle.package.proofs.Kept.{First, kept-le}

@@ -6,7 +6,7 @@ use mathlib.Core.List.{List}
 use Prim.Native.Nat.{ℕ, _≤_}
 use Rattle.strings.specs.declared.table.StringTable.{StringTable}
 use Rattle.index.specs.Rows.{BySection}
-use Rattle.work.specs.Regions.{Layout, recordsRegion, slotsRegion, region, Apart, Only}
+use Rattle.kept.specs.Regions.{Layout, recordsRegion, slotsRegion, region, Apart, Only}
 use Rattle.package.specs.Filing.{Filed, kept}
 use Rattle.kept.specs.Slots.{seenSlots, slotsIn}
 use Rattle.kept.specs.Held.{UnitsHeld}

@@ -4,11 +4,9 @@ use mathlib.Core.Path.{_≡_, sym, ap, _∙_}
 use mathlib.Core.List.{List, [], _∷_, _++_, append-nil, append-assoc}
 use Prim.Native.Nat.{ℕ}
 use Rattle.filing.specs.ByObject.{StringsIn}
-use Rattle.strings.specs.Strings.{putAll, firstUses}
-use Rattle.strings.proofs.FirstUses.{putAll-append}
 use Rattle.package.specs.Pieces.{usedIn}
 use Rattle.package.specs.Input.{Input}
-use Rattle.package.specs.Pack.{allUsed, stringTable}
+use Rattle.package.specs.Pack.{allUsed}
 use Rattle.kept.specs.declared.state.InProgress.{InProgress}
 use Rattle.filing.specs.State.{wordsIn, StringsKept}
 
@@ -17,11 +15,7 @@ unfolding allUsed
 used-snoc [] i = append-nil (usedIn (i .pieces))
 used-snoc (k ∷ is) i = ap (λ (l : List (List ℕ)). usedIn (k .pieces) ++ l) (used-snoc is i) ∙ sym (append-assoc (usedIn (k .pieces)) (allUsed is) (usedIn (i .pieces)))
 
-pub table-snoc : (is : List Input) (i : Input) → stringTable (is ++ (i ∷ [])) ≡ putAll (stringTable is) (usedIn (i .pieces))
-unfolding stringTable firstUses
-table-snoc is i = ap (putAll []) (used-snoc is i) ∙ putAll-append [] (allUsed is) (usedIn (i .pieces))
-
 -- they stay while units are filed
-pub strings-stay : (b w v : List ℕ) (st next : InProgress) (is : List Input) (i : Input) → StringsIn b w (st .strings) (putAll (stringTable is) (usedIn (i .pieces))) → StringsKept (wordsIn b) w v st next
-    → StringsIn b v (next .strings) (stringTable (is ++ (i ∷ [])))
-strings-stay b w v st next is i k s = rw (s .strings, s .table, table-snoc is i) k
+pub strings-stay : (b w v : List ℕ) (st next : InProgress) (is : List Input) (i : Input) → StringsIn b w (st .strings) (allUsed is ++ usedIn (i .pieces)) → StringsKept (wordsIn b) w v st next
+    → StringsIn b v (next .strings) (allUsed (is ++ (i ∷ [])))
+strings-stay b w v st next is i k s = rw (s .strings, s .table, used-snoc is i) k

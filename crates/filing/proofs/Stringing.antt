@@ -2,7 +2,7 @@
 -- Assumes nothing.
 use mathlib.Core.Path.{_≡_, refl, sym, ap, _∙_}
 use mathlib.Core.Bool.{Bool, true}
-use mathlib.Core.List.{List, []}
+use mathlib.Core.List.{List, [], append-nil}
 use Prim.Native.Nat.{ℕ, _+_, _*_, _-_, _<_, _≤_}
 use lib.Dec.{leb}
 use lib.ListN.{length, take, drop}
@@ -12,7 +12,7 @@ use Rattle.octets.specs.Checked.{pass, refuse}
 use Rattle.octets.proofs.Checks.{then-pass, then-refuse}
 use Rattle.octets.proofs.Parts.{part-cut}
 use Rattle.bundle.specs.Encoding.{Encoding}
-use Rattle.strings.specs.Strings.{entriesIn, entriesOf, stringsAt, putAll}
+use Rattle.strings.specs.Strings.{entriesIn, entriesOf, stringsAt}
 use Rattle.strings.specs.Answers.{entriesRead}
 use Rattle.strings.specs.Kept.{AddedIs, Inside, bytesAt}
 use Rattle.strings.specs.Objects.{tableIn}
@@ -24,8 +24,8 @@ use Rattle.strings.specs.declared.table.StringTable.{StringTable}
 use Rattle.strings.specs.declared.entries.Entries.{Entries}
 use Rattle.strings.proofs.Callers.{entries-counted, entries-ill}
 use Rattle.numbers.specs.Limits.{workForWord}
-use Rattle.work.specs.Regions.{stringsRegion, storeRegion, region}
-use Rattle.work.proofs.Stores.{store-records, store-slots}
+use Rattle.kept.specs.Regions.{stringsRegion, storeRegion, region}
+use Rattle.kept.proofs.RegionStores.{store-records, store-slots}
 use Rattle.kept.proofs.Storing.{store-left}
 use Rattle.package.specs.Filing.{kept}
 use Rattle.filing.specs.State.{wordsIn}
@@ -64,10 +64,10 @@ module _ (n from many words : ℕ) (w : List ℕ) (room : workForWord * n ≤ le
 
 module _ (b w : List ℕ) (ts : List (List ℕ)) (e : Encoding) (o s : List ℕ) (t : StringTable) where
   pub strings-none : (count : ℕ) → count < 1 → StringsIn b w t ts → StringsAre b w ts (stringsCheck e (leb 1 count) o s) (record { code = 0; strings = t })
-  unfolding StringsAre stringsCheck putAll
+  unfolding StringsAre stringsCheck
   strings-none count h k =
       let z : stringsCheck e (leb 1 count) o s ≡ pass [] = rw (stringsCheck, lt-leb 1 count h) in
-      rw z (refl, k)
+      rw z (refl, rw (append-nil ts) k)
 
   pub strings-ill : (count : ℕ) → 1 ≤ count → IllFormed ≡ entriesRead (entriesOf e o) → StringsAre b w ts (stringsCheck e (leb 1 count) o s) (record { code = 8; strings = t })
   unfolding StringsAre stringsCheck

@@ -18,7 +18,6 @@ use Rattle.bundle.specs.Scan.{scanOf}
 use Rattle.bundle.specs.declared.Scan.{Scan}
 use Rattle.bundle.specs.declared.encoding.ObjectEncoding.{ObjectEncoding}
 use Rattle.bundle.proofs.ScanFacts.{scan-body, scan-size}
-use Rattle.strings.specs.Strings.{putAll}
 use Rattle.strings.specs.Kept.{Kept, Inside, bytesAt}
 use Rattle.strings.specs.declared.table.StrOffsets.{StrOffsets}
 use Rattle.strings.specs.declared.table.StringTable.{StringTable}
@@ -26,8 +25,8 @@ use Rattle.strings.proofs.Headers.{is-five}
 use Rattle.index.specs.Index.{Index, Contribution}
 use Rattle.index.specs.Tiles.{named, tiles}
 use Rattle.index.proofs.Tiles.{Tiling, tiles-facts, both-some}
-use Rattle.tiles.specs.Marks.{goodEnd}
-use Rattle.work.specs.Regions.{Layout, stringsRegion, storeRegion, codesRegion, region, Apart, Only}
+use Rattle.places.specs.Marks.{goodEnd}
+use Rattle.kept.specs.Regions.{Layout, stringsRegion, storeRegion, codesRegion, region, Apart, Only}
 use Rattle.kept.specs.declared.state.InProgress.{InProgress}
 use Rattle.package.specs.Pieces.{Piece, piecesOf, usedIn}
 use Rattle.package.specs.Input.{Input, inputIndex, tiledPieces, openedTiled}

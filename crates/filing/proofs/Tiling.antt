@@ -29,11 +29,11 @@ use Rattle.index.specs.Held.{indexIn}
 use Rattle.index.specs.Tiles.{named, tiles}
 use Rattle.index.specs.declared.reading.IndexHead.{IndexHead}
 use Rattle.index.proofs.Tiles.{isOne, one-right, partOf, Tiles, tiles-facts, both-some}
-use Rattle.tiles.specs.Marks.{Marks, Clash, Marked, marksGood, TiledBy, goodEnd}
-use Rattle.tiles.proofs.Marking.{marks-none}
-use Rattle.tiles.proofs.Walking.{good-tiles, good-pass, bad-refused, clash-refused}
-use Rattle.tiles.proofs.Parts.{tiles-marked}
-use Rattle.work.specs.Regions.{stringsRegion, storeRegion}
+use Rattle.places.specs.Marks.{Marks, Clash, Marked, marksGood, TiledBy, goodEnd}
+use Rattle.places.proofs.Marking.{marks-none}
+use Rattle.places.proofs.Walking.{good-tiles, good-pass, bad-refused, clash-refused}
+use Rattle.places.proofs.Parts.{tiles-marked}
+use Rattle.kept.specs.Regions.{stringsRegion, storeRegion}
 use Rattle.kept.proofs.Storing.{store-left}
 use Rattle.package.specs.Pieces.{usedIn, piecesOf}
 use Rattle.filing.specs.declared.input.Indexed.{Indexed}
@@ -189,9 +189,9 @@ module _ (b : List ℕ) (o : StrOffsets) (inside : Inside b (o .offsets)) (good 
     good-headed = subst (λ (z : StrOffsets). HeadedOf z b beforeParts) (sym ey) (subst (λ (l : List ℕ). Headed e l beforeParts) front (ending .headed))
 
     pub good-addable : (words : ℕ) (store : List ℕ) (t : StringTable) → length b < 2 ^ 32 → Inside b (o .strings) → words + o .strings .size ≤ length store
-        → 7 * (t .count + o .offsets .size / 4) ≤ words → PiecesAddable b y words store t
+        → 7 * (t .entries + o .offsets .size / 4) ≤ words → words < 2 ^ 32 → PiecesAddable b y words store t
     unfolding Inside
-    good-addable words store t limit strings memory room =
+    good-addable words store t limit strings memory room small =
         subst (λ (z : StrOffsets). PiecesAddable b z words store t) (sym ey)
         record {
           limit = limit;
@@ -199,6 +199,7 @@ module _ (b : List ℕ) (o : StrOffsets) (inside : Inside b (o .offsets)) (good 
           strings-inside = strings;
           memory = memory;
           room = omega (arith, good-within);
+          small = small;
         }
 
     -- the store as it is lent

@@ -10,8 +10,8 @@ use Rattle.numbers.specs.Sections.{cuIndexCode}
 use Rattle.unit.specs.TableTrees.{Remembers}
 use Rattle.unit.specs.declared.judged.Judged.{Judged}
 use Rattle.index.specs.Rows.{BySection}
-use Rattle.work.specs.Regions.{Layout, recordsRegion, stringsRegion, rowsRegion, codesRegion, region, Apart, Only}
-use Rattle.work.proofs.Stores.{rows-behind, codes-behind, codes-rows, rows-slots, codes-slots}
+use Rattle.kept.specs.Regions.{Layout, recordsRegion, stringsRegion, rowsRegion, codesRegion, region, Apart, Only}
+use Rattle.kept.proofs.RegionStores.{rows-behind, codes-behind, codes-rows, rows-slots, codes-slots}
 use Rattle.package.specs.Input.{Input}
 use Rattle.package.specs.Filing.{Filed}
 use Rattle.kept.specs.declared.state.InProgress.{InProgress}

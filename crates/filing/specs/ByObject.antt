@@ -2,7 +2,7 @@
 -- Assumes nothing.
 use mathlib.Core.Path.{_≡_}
 use mathlib.Core.Bool.{Bool, true, false}
-use mathlib.Core.List.{List, []}
+use mathlib.Core.List.{List, [], _++_}
 use mathlib.Core.Option.{Option}
 use Prim.Native.Nat.{ℕ, _+_, _*_, _/_, _<_, _≤_}
 use lib.Dec.{eqb, leb}
@@ -17,13 +17,13 @@ use Rattle.bundle.specs.declared.Scan.{Scan}
 use Rattle.bundle.specs.Encoding.{Encoding, encodingOf}
 use Rattle.bundle.specs.Encoded.{encodingIs}
 use Rattle.bundle.specs.declared.encoding.ObjectEncoding.{ObjectEncoding}
-use Rattle.strings.specs.Strings.{entriesOf, stringsAt, putAll}
+use Rattle.strings.specs.Strings.{entriesOf, stringsAt}
 use Rattle.strings.specs.Kept.{Kept, Inside, bytesAt}
 use Rattle.strings.specs.Objects.{entriesAt}
 use Rattle.strings.specs.declared.table.StrOffsets.{StrOffsets}
 use Rattle.strings.specs.declared.table.StringTable.{StringTable}
 use Rattle.numbers.specs.Limits.{bundleLimit, workForWord, stringWords}
-use Rattle.work.specs.Regions.{stringsRegion, region}
+use Rattle.kept.specs.Regions.{stringsRegion, region}
 use Rattle.kept.specs.State.{Held}
 use Rattle.kept.specs.declared.state.InProgress.{InProgress}
 use Rattle.index.specs.Index.{Index}
@@ -31,7 +31,7 @@ use Rattle.index.specs.Rows.{BySection}
 use Rattle.package.specs.Pieces.{usedIn}
 use Rattle.package.specs.Input.{Input, Opened, formOf, unitSections, inputOf}
 use Rattle.package.specs.Filing.{Filed}
-use Rattle.package.specs.Pack.{allUsed, stringTable}
+use Rattle.package.specs.Pack.{allUsed}
 use Rattle.filing.specs.Judged.{IndexedIs, InputIs, indexCheck}
 use Rattle.filing.specs.declared.input.InputObject.{InputObject}
 use Rattle.filing.specs.declared.objects.StringsFiled.{StringsFiled}
@@ -44,7 +44,7 @@ use Rattle.filing.specs.State.{wordsIn, withStrings}
 unfoldable pub stringsCheck : Encoding → Bool → List ℕ → List ℕ → Check (List (List ℕ))
 stringsCheck e there offsets text = elim there [ true ↦ entriesOf e offsets >>= stringsAt text | false ↦ pass [] ]
 
--- the region of strings holds those of a table, in work w for the bundle b
+-- the region of strings holds the strings used so far, in work w for the bundle b
 abbrev pub StringsIn : List ℕ → List ℕ → StringTable → List (List ℕ) → Type 0
 StringsIn b w t ts = Kept b (region w (wordsIn b) stringsRegion) t ts
 
@@ -55,17 +55,17 @@ pub record StringsRoom (b : List ℕ) (o : StrOffsets) (words : ℕ) (t : String
   pub whole : length b ≡ 4 * wordsIn b
   pub offsets-inside : Inside b (o .offsets)
   pub strings-inside : Inside b (o .strings)
-  pub fits : stringWords * (t .count + length (entriesAt o b)) ≤ stringsRegion .words * wordsIn b
+  pub fits : stringWords * (t .entries + length (entriesAt o b)) ≤ stringsRegion .words * wordsIn b
 
 pub record StringsAsked (b : List ℕ) (o : StrOffsets) (t : StringTable) (w : List ℕ) : Type 0 where
   pub room : StringsRoom b o (length w) t
   pub strings : List (List ℕ)
   pub kept : StringsIn b w t strings
 
--- the refusal, or that they are put into the region of strings
+-- the refusal, or that they are put behind those used before
 unfoldable pub StringsAre : List ℕ → List ℕ → List (List ℕ) → Check (List (List ℕ)) → StringsFiled → Type 0
 StringsAre b v ts (refuse m) r = r .code ≡ m
-StringsAre b v ts (pass used) r = (r .code ≡ 0) × StringsIn b v (r .strings) (putAll ts used)
+StringsAre b v ts (pass used) r = (r .code ≡ 0) × StringsIn b v (r .strings) (ts ++ used)
 
 abbrev pub StringsAnswered : List ℕ → StrOffsets → ℕ → StringTable → List ℕ → List ℕ → StringsFiled → Type 0
 StringsAnswered b o count t w v r =
@@ -110,7 +110,7 @@ inputIn e scan x = record { encoding = e; start = scan .start; size = scan .size
 -- ---- everything at hand between two objects: inputs and units are filed up to a place
 pub record AtObject (b : List ℕ) (big : Bool) (first place : ℕ) (w : List ℕ) (st : InProgress) (bases : BySection ℕ) (is : List Input) (us : List Filed) : Type 0 where
   pub held : Held (eqb (encodingOf big first .version) dwarf5) b (wordsIn b) place w st bases us
-  pub strings : StringsIn b w (st .strings) (stringTable is)
+  pub strings : StringsIn b w (st .strings) (allUsed is)
   -- an entry takes at least 4 bytes of the bundle
   pub used : 4 * length (allUsed is) ≤ place
 
@@ -119,7 +119,7 @@ pub record AtObject (b : List ℕ) (big : Bool) (first place : ℕ) (w : List �
 unfoldable pub InputRead : List ℕ → List ℕ → InProgress → List (List ℕ) → Check Input → InputFiled → Type 0
 InputRead b v st ts (refuse m) r = r .code ≡ m
 InputRead b v st ts (pass i) r =
-    (r .code ≡ 0) × InputIs b (r .input) i × (r .st ≡ withStrings st (r .st .strings)) × StringsIn b v (r .st .strings) (putAll ts (usedIn (i .pieces)))
+    (r .code ≡ 0) × InputIs b (r .input) i × (r .st ≡ withStrings st (r .st .strings)) × StringsIn b v (r .st .strings) (ts ++ usedIn (i .pieces))
 
 -- an object and what is opened of it
 unfoldable pub inputGiven : List ℕ → Encoding → List Part → Check Opened → Check Input
@@ -132,7 +132,7 @@ pub record InputRoom (b : List ℕ) (ps : List Part) (words : ℕ) (t : StringTa
   pub limit : length b ≤ bundleLimit
   pub whole : length b ≡ 4 * wordsIn b
   pub inside : (c : ℕ) → startOf ps c + sizeOf ps c ≤ length b
-  pub fits : stringWords * (t .count + sizeOf ps strOffsetsCode / 4) ≤ stringsRegion .words * wordsIn b
+  pub fits : stringWords * (t .entries + sizeOf ps strOffsetsCode / 4) ≤ stringsRegion .words * wordsIn b
 
 pub record InputAsked (b : List ℕ) (scan : Scan) (st : InProgress) (w : List ℕ) : Type 0 where
   pub at : ℕ

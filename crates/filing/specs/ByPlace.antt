@@ -15,8 +15,8 @@ use Rattle.unit.specs.TableTrees.{between, unitBytes, abbreviationsBytes}
 use Rattle.unit.specs.declared.header.UnitAnswer.{UnitAnswer}
 use Rattle.unit.specs.declared.header.UnitPlace.{UnitPlace}
 use Rattle.index.specs.Held.{indexIn}
-use Rattle.by_place.specs.Chains.{Chained}
-use Rattle.work.specs.Regions.{rowsRegion, region}
+use Rattle.places.specs.Chains.{Chained}
+use Rattle.kept.specs.Regions.{rowsRegion, region}
 use Rattle.filing.specs.declared.input.InputObject.{InputObject}
 use Rattle.filing.specs.declared.input.Indexed.{Indexed}
 use Rattle.filing.specs.declared.input.Indexed.the-variants.{At, Nowhere}

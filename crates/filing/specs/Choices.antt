@@ -18,7 +18,7 @@ use Rattle.index.specs.Contributed.{ContributionsAre}
 use Rattle.index.specs.declared.judging.Contributions.{Contributions}
 use Rattle.package.specs.Input.{Input}
 use Rattle.package.specs.Filing.{Filed, isUnder, abbreviationsFor}
-use Rattle.work.specs.Regions.{recordsRegion, region}
+use Rattle.kept.specs.Regions.{recordsRegion, region}
 use Rattle.kept.specs.Records.{recordAt, bytesOf}
 use Rattle.kept.specs.Slots.{seenSlots, slotsIn, freeFor, SameAsked}
 use Rattle.kept.specs.Held.{pick, OneOrTwo}

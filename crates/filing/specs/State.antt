@@ -5,7 +5,7 @@ use mathlib.Core.List.{List}
 use Prim.Native.Nat.{ℕ, _/_}
 use lib.ListN.{length}
 use Rattle.strings.specs.declared.table.StringTable.{StringTable}
-use Rattle.work.specs.Regions.{stringsRegion, rowsRegion, codesRegion, storeRegion, region, Only}
+use Rattle.kept.specs.Regions.{stringsRegion, rowsRegion, codesRegion, storeRegion, region, Only}
 use Rattle.unit.specs.TableTrees.{Remembers}
 use Rattle.unit.specs.declared.judged.Judged.{Judged}
 use Rattle.kept.specs.declared.state.InProgress.{InProgress}

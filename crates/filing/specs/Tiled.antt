@@ -18,9 +18,9 @@ use Rattle.strings.specs.declared.table.StringTable.{StringTable}
 use Rattle.index.specs.Index.{Index, Contribution}
 use Rattle.index.specs.Tiles.{named, tiles}
 use Rattle.index.proofs.Tiles.{Tiling}
-use Rattle.tiles.specs.Marks.{Marks, Marked, goodEnd}
+use Rattle.places.specs.Marks.{Marks, Marked, goodEnd}
 use Rattle.package.specs.Pieces.{usedIn, piecesOf}
-use Rattle.work.specs.Regions.{stringsRegion}
+use Rattle.kept.specs.Regions.{stringsRegion}
 use Rattle.filing.specs.declared.input.InputObject.{InputObject}
 use Rattle.filing.specs.declared.input.Indexed.{Indexed}
 use Rattle.filing.specs.declared.parts.Parts.{Parts}
@@ -76,7 +76,7 @@ pub record PartsPutAsked (b : List ℕ) (o : StrOffsets) (good : ℕ) (t : Strin
   pub whole : length b ≡ 4 * wordsIn b
   pub offsets-inside : Inside b (o .offsets)
   pub strings-inside : Inside b (o .strings)
-  pub fits : stringWords * (t .count + o .offsets .size / 4) ≤ stringsRegion .words * wordsIn b
+  pub fits : stringWords * (t .entries + o .offsets .size / 4) ≤ stringsRegion .words * wordsIn b
   pub strings : List (List ℕ)
   pub kept : StringsIn b w t strings
   pub parts : List Contribution

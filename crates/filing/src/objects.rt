@@ -80,8 +80,8 @@ pub fn add_object_strings(
         };
     };
     let n = b.len() / 4;
-    let table = work::strings(n);
-    let store = work::store(n);
+    let table = kept::regions::strings(n);
+    let store = kept::regions::store(n);
     let from = store.start;
     let to = from + store.size;
     let Added::Table(more) = strings::table::add_strings(o, b, &mut work[from..to], table.size, t)

@@ -6,7 +6,7 @@ ghost use lib.ListN.{length, getD};
 ghost use Rattle.numbers.specs.Sections.{strOffsetsCode};
 ghost use Rattle.strings.specs.Kept.{Inside, bytesAt};
 ghost use Rattle.index.specs.Index.{Index};
-ghost use Rattle.work.specs.Regions.{codesRegion, Only};
+ghost use Rattle.kept.specs.Regions.{codesRegion, Only};
 ghost use Rattle.filing.specs.State.{wordsIn, OnlyStore};
 ghost use Rattle.filing.specs.Judged.{IndexedIs};
 ghost use Rattle.filing.specs.ByPlace.{WorkFor};
@@ -49,7 +49,7 @@ fn mark_index(b: &[u8], big: bool, place: Place, indexed: Indexed, marks: &mut [
     };
     let start = place.start;
     let end = start + place.size;
-    tiles::mark_rows(big, &b[start..end], head, marks)
+    places::tiles::mark_rows(big, &b[start..end], head, marks)
 }
 
 // Marks the parts that both indexes name.
@@ -81,11 +81,11 @@ fn tile_parts(b: &[u8], x: InputObject, marks: &mut [u32]) -> Parts
 {
     octets::clear_words(marks);
     if mark_indexes(b, x, marks) {
-        if tiles::tiled(marks) {
+        if places::tiles::tiled(marks) {
             let e = x.encoding;
             let first = x.start[STR_OFFSETS];
             let last = first + x.size[STR_OFFSETS];
-            let good = tiles::good_parts(e, &b[first..last], marks);
+            let good = places::tiles::good_parts(e, &b[first..last], marks);
             return Parts { code: 0, good };
         }
         return Parts {
@@ -106,7 +106,7 @@ pub fn judge_parts(b: &[u8], x: InputObject, work: &mut [u32]) -> Parts
     ensures frame { λ _. ⌜ Only codesRegion (wordsIn (now (b .entry))) (now (work .entry)) (now (work .exit)) ⌝ }
 {
     let n = b.len() / 4;
-    let codes = work::codes(n);
+    let codes = kept::regions::codes(n);
     let from = codes.start;
     let to = from + x.size[STR_OFFSETS];
     tile_parts(b, x, &mut work[from..to])
@@ -143,8 +143,8 @@ pub fn add_parts(
     ensures frame { λ _. ⌜ OnlyStore (wordsIn (now (b .entry))) (now (work .entry)) (now (work .exit)) ⌝ }
 {
     let n = b.len() / 4;
-    let table = work::strings(n);
-    let store = work::store(n);
+    let table = kept::regions::strings(n);
+    let store = kept::regions::store(n);
     let from = store.start;
     let to = from + store.size;
     let whole = o.offsets;

@@ -10,7 +10,7 @@ ghost use Rattle.unit.specs.UnitRead.{commonSize};
 ghost use Rattle.unit.specs.TableTrees.{Inside};
 ghost use Rattle.index.specs.Held.{Sized, indexIn};
 ghost use Rattle.index.specs.Rows.{abbrevPart};
-ghost use Rattle.work.specs.Regions.{rowsRegion, codesRegion, Only};
+ghost use Rattle.kept.specs.Regions.{rowsRegion, codesRegion, Only};
 ghost use Rattle.filing.specs.State.{wordsIn, Remembered};
 ghost use Rattle.filing.specs.ByPlace.{
   WorkFor,
@@ -89,10 +89,10 @@ pub fn chain_section(b: &[u8], x: InputObject, section: HomeSection, work: &mut 
     let start = x.start[CU_INDEX];
     let end = start + x.size[CU_INDEX];
     let heads = heads_for(section);
-    let region = work::rows_by_place(b.len() / 4);
+    let region = kept::regions::rows_by_place(b.len() / 4);
     let from = region.start;
     let to = from + region.size;
-    by_place::chain_rows(
+    places::by_place::chain_rows(
         e.big,
         &b[start..end],
         head,
@@ -175,11 +175,11 @@ fn abbreviations_for(
     let last = first + x.size[CU_INDEX];
     let s = &b[first..last];
     let heads = heads_for(section);
-    let region = work::rows_by_place(b.len() / 4);
+    let region = kept::regions::rows_by_place(b.len() / 4);
     let from = region.start;
     let to = from + region.size;
     let place = at - section.start;
-    let row = by_place::row_at(e.big, s, head, heads, &work[from..to], place, size);
+    let row = places::by_place::row_at(e.big, s, head, heads, &work[from..to], place, size);
     if row == 0 {
         return refused(NO_ROW);
     }
@@ -200,7 +200,7 @@ fn identity_in(
     ensures memory { λ r. ⌜ Remembered (now (b .entry)) (now (work .exit)) (r .judged) ⌝ }
     ensures frame { λ _. ⌜ Only codesRegion (wordsIn (now (b .entry))) (now (work .entry)) (now (work .exit)) ⌝ }
 {
-    let region = work::codes(b.len() / 4);
+    let region = kept::regions::codes(b.len() / 4);
     let from = region.start;
     let to = from + region.size;
     let read = unit::header::unit_identity(e, home, b, place, &mut work[from..to], judged);

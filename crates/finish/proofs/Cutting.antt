@@ -32,7 +32,7 @@ use Rattle.package.proofs.Inputs.{InputFacts}
 use Rattle.package.proofs.Headings.{pieces-headed, one-headed, none-headed, strings-all}
 use Rattle.package.proofs.UnitStrings.{good-sound}
 use Rattle.octets.proofs.Elements.{no-length}
-use Rattle.strings.proofs.HeadedWriting.{used-is}
+use Rattle.strings.proofs.HeadedWriting.{used-is, entriesAll-used, entriesAll-few}
 use Rattle.finish.specs.Joining.{cutFrom, cut, remappedIn, EntriesGood}
 
 -- ---- the cut
@@ -78,23 +78,21 @@ pieces-long e ts str ok s (p ∷ ps) used h q =
     let others = pieces-long e ts str ok (h .0) ps (vs .0) (h .5) (vs .1) in
     length-append one (remappedPieces e ts str ps) ∙ omega (arith, own, others, ap length (h .1) ∙ length-append p (h .0))
 
-module _ (e : Encoding) (ts : List (List ℕ)) (offsets str : List ℕ) where
-  -- nothing stands for nothing
-  pub remapped-none : length offsets ≡ 0 → remappedIn e ts offsets str ≡ []
-  unfolding remappedIn cut cutFrom remappedPieces
-  remapped-none z = ap (λ (s : List ℕ). remappedIn e ts s str) (no-length offsets z)
-
-  pub remapped-length : Sound e → EntriesGood e offsets str → length (remappedIn e ts offsets str) ≡ length offsets
-  unfolding remappedIn
-  remapped-length ok g = pieces-long e ts str ok offsets (cut e offsets) (g .used) (g .headed) (g .strings)
+pub remapped-length : (e : Encoding) (ts : List (List ℕ)) (offsets str : List ℕ) (used : List (List ℕ)) → Sound e → EntriesGood e offsets str used
+    → length (remappedIn e ts offsets str) ≡ length offsets
+unfolding remappedIn
+remapped-length e ts offsets str used ok g = pieces-long e ts str ok offsets (cut e offsets) used (g .headed) (g .strings)
 
 -- ---- the pieces of an input
+nothing-long : (xs : List (List ℕ)) → length xs ≡ 0 → xs ≡ []
+nothing-long [] e = refl
+nothing-long (x ∷ xs) e = absurd (omega arith)
+
 -- as headers cut them
 record Cuts (e : Encoding) (s str : List ℕ) (ps : List Piece) : Type 0 where
   pub pieces : List (List ℕ)
   pub headed : Headed e s pieces
-  pub used : List (List ℕ)
-  pub strings : stringsOfAll e str pieces ≡ pass used
+  pub strings : stringsOfAll e str pieces ≡ pass (usedIn ps)
   pub out : (table : List (List ℕ)) → remappedAll e table ps ≡ remappedPieces e table str pieces
 
 out-all : (e : Encoding) (table : List (List ℕ)) (str : List ℕ) (ps : List Piece) → Every (PieceFacts e str) ps → remappedAll e table ps ≡ remappedPieces e table str (bytesOf ps)
@@ -103,19 +101,22 @@ out-all e table str [] f = refl
 out-all e table str (p ∷ ps) f =
     ap₂ (λ (x y : List ℕ). x ++ y) (ap (remapped e table (p .bytes)) (sym (used-is e str (p .bytes) (p .used) (each-head f .strings)))) (out-all e table str ps (each-tail f))
 
--- an empty section, whether it is there or not
+-- an empty section, whether it is there or not: it names no string
+none-used : (e : Encoding) (s str : List ℕ) (ps : List Piece) → Sound e → PiecesFacts e s str ps → length s ≡ 0 → usedIn ps ≡ []
+none-used e s str ps ok f z =
+    nothing-long (usedIn ps) (omega (arith, entriesAll-used e str (bytesOf ps) (usedIn ps) (strings-all e str ps (f .each)), entriesAll-few e (bytesOf ps) ok, ap length (f .joins)))
+
 cuts-none : (e : Encoding) (s str : List ℕ) (ps : List Piece) → Sound e → PiecesFacts e s str ps → length s ≡ 0 → Cuts e s str ps
 unfolding stringsOfAll remappedPieces
 cuts-none e s str ps ok f z = record {
   pieces = [];
   headed = subst (λ (l : List ℕ). Headed e l []) (sym (no-length s z)) (none-headed e);
-  used = [];
-  strings = refl;
+  strings = ap pass (sym (none-used e s str ps ok f z));
   out = λ table. no-length (remappedAll e table ps) (all-length e table str ps ok (f .each) ∙ ap length (f .joins) ∙ z);
 }
 
 cuts-all : (e : Encoding) (s str : List ℕ) (ps : List Piece) → PiecesFacts e s str ps → Headed e s (bytesOf ps) → Cuts e s str ps
-cuts-all e s str ps f h = record { pieces = bytesOf ps; headed = h; used = usedIn ps; strings = strings-all e str ps (f .each); out = λ table. out-all e table str ps (f .each) }
+cuts-all e s str ps f h = record { pieces = bytesOf ps; headed = h; strings = strings-all e str ps (f .each); out = λ table. out-all e table str ps (f .each) }
 
 one-piece : (e : Encoding) (s str : List ℕ) (ps : List Piece) (p : Piece) → (e .version ≡ 5 → ⊥) → 1 ≤ length s → PiecesFacts e s str ps → ps ≡ p ∷ [] → p .bytes ≡ s → Headed e s (bytesOf ps)
 one-piece e s str ps p v l f q own =
@@ -147,15 +148,11 @@ input-cuts e i f =
     ]
 
 -- 8 and 9 let them pass
-pub input-good : (e : Encoding) (i : Input) → InputFacts e i → EntriesGood e (i .bytes 6) (i .bytes 11)
+pub input-good : (e : Encoding) (i : Input) → InputFacts e i → EntriesGood e (i .bytes 6) (i .bytes 11) (usedIn (i .pieces))
 input-good e i f =
     let c = input-cuts e i f in
     let is = cut-is e (i .bytes 6) (c .pieces) (c .headed) in
-    record {
-      headed = subst (Headed e (i .bytes 6)) (sym is) (c .headed);
-      used = c .used;
-      strings = ap (stringsOfAll e (i .bytes 11)) is ∙ c .strings;
-    }
+    record { headed = subst (Headed e (i .bytes 6)) (sym is) (c .headed); strings = ap (stringsOfAll e (i .bytes 11)) is ∙ c .strings }
 
 -- and they are written as the definition says
 pub input-remapped : (e : Encoding) (table : List (List ℕ)) (i : Input) → InputFacts e i → remappedAll e table (i .pieces) ≡ remappedIn e table (i .bytes 6) (i .bytes 11)

@@ -15,16 +15,15 @@ use Rattle.numbers.specs.Tables.{compilationTable, typeTable}
 use Rattle.bundle.specs.Bundle.{Bundle, bundleOf}
 use Rattle.bundle.specs.Encoded.{encodingIs}
 use Rattle.bundle.specs.declared.encoding.ObjectEncoding.{ObjectEncoding}
-use Rattle.strings.specs.Strings.{strOf}
+use Rattle.strings.specs.Strings.{firstUses, strOf}
 use Rattle.strings.specs.Kept as kept
 use Rattle.strings.proofs.StrOffsets.{sound}
-use Rattle.work.specs.Regions.{Layout, recordsRegion, stringsRegion, storeRegion, recordWords, region}
-use Rattle.work.proofs.Stores.{Within, region-fits, length-region, records-within}
+use Rattle.kept.specs.Regions.{Layout, recordsRegion, stringsRegion, recordWords, region}
+use Rattle.kept.proofs.RegionStores.{Within, region-fits, length-region, records-within}
 use Rattle.kept.specs.Records.{bytesFrom, UnitsInside}
 use Rattle.kept.specs.Held.{OneOrTwo}
 use Rattle.kept.specs.declared.state.InProgress.{InProgress}
 use Rattle.kept.specs.declared.writing.IndexForm.{IndexForm}
-use Rattle.kept.proofs.Storing.{store-kept, store-memory}
 use Rattle.finish.specs.Joining.{sectionsJoined, offsetsJoined, Joinable, OffsetsJoinable, OffsetsPut}
 use Rattle.finish.proofs.Remapping.{length-offsets}
 use Rattle.finish.specs.Ready.{formOf, IndexHeld, IndexWritable, Ready, SectionWritable}
@@ -62,23 +61,20 @@ module _ (code : ℕ) (p : Package) (b w : List ℕ) (n at : ℕ) (r : SectionWr
     omega (arith, r .room, ap length (r .ready .unitsAre code (first-codes code (r .least) z))),
   )
 
-  pub offsets-asks : (from many words : ℕ) → from ≡ storeRegion .start * (length b / 4) → many ≡ storeRegion .words * (length b / 4) → words ≡ stringsRegion .words * (length b / 4) → code ≡ 6
-      → OffsetsJoinable (encodingIs (p .encoding)) b words (take (from + many - from) (drop from w)) (p .state .strings) n at
+  pub offsets-asks : (cut : List ℕ) → cut ≡ region w (length b / 4) stringsRegion → code ≡ 6 → OffsetsJoinable (encodingIs (p .encoding)) b cut n at
   unfolding offsetsJoined
-  offsets-asks from many words ef em et z = record {
+  offsets-asks cut q z = record {
     bundle = r .ready .bundle;
     reads = r .ready .reads;
-    table = r .ready .table;
-    kept = store-kept (length b / 4) from many words w (r .ready .room) ef em et b (p .state .strings) (r .ready .table) (r .ready .kept);
-    small = r .ready .small;
-    memory = store-memory (length b / 4) from many words w (r .ready .room) ef em et (length b) (omega (arith, r .ready .whole));
+    used = r .ready .used;
     good = r .ready .good;
-    room = omega (arith, fits 6 z, ap length (r .ready .offsetsIs), length-offsets (encodingIs (p .encoding)) (r .ready .table) b (sound (p .encoding)) (r .ready .bundle .objects) (r .ready .good));
+    places = rw q (r .ready .kept .places (r .ready .small));
+    room = omega (arith, fits 6 z, ap length (r .ready .offsetsIs), length-offsets (encodingIs (p .encoding)) (firstUses (r .ready .used)) b (sound (p .encoding)) (r .ready .bundle .objects) (r .ready .used) (r .ready .good));
   }
 
   pub str-asks : (cut : List ℕ) → cut ≡ region w (length b / 4) stringsRegion → code ≡ 11
       → (ts : List (List ℕ)) × kept.Held b cut (p .state .strings .count) ts × (at + length (strOf ts) ≤ n)
-  str-asks cut q z = (r .ready .table, rw q (r .ready .kept .held (r .ready .small)), omega (arith, fits 11 z, ap length (r .ready .strIs)))
+  str-asks cut q z = (firstUses (r .ready .used), rw q (r .ready .kept .held (r .ready .small)), omega (arith, fits 11 z, ap length (r .ready .strIs)))
 
   pub cu-asks : (f : IndexForm) → f ≡ formOf (p .encoding) compilationTable (p .state .units .cu) → code ≡ 12 → IndexWritable f (length b / 4) (p .state .units .count) w n at
   cu-asks f q z = rw q (record { bytes = r .sections 12; held = r .ready .cu; room = fits 12 z })
@@ -106,15 +102,12 @@ module _ (e : ObjectEncoding) (b : List ℕ) (st : InProgress) (w : List ℕ) (s
   units-leaves cut q l z f =
       f ∙ ap (placed d at) (ap (λ (y : List ℕ). bytesFrom b y code 0 (st .units .count)) q ∙ sym (r .unitsAre code (first-codes code l z)))
 
-  pub offsets-leaves : (from many words : ℕ) → from ≡ storeRegion .start * (length b / 4) → many ≡ storeRegion .words * (length b / 4) → words ≡ stringsRegion .words * (length b / 4) → code ≡ 6
-      → OffsetsPut (encodingIs e) b words (take (from + many - from) (drop from w)) (st .strings) at d x → x ≡ placed d at (s code)
-  offsets-leaves from many words ef em et z f =
-      f (r .bundle) (r .table) (r .reads) (store-kept (length b / 4) from many words w (r .room) ef em et b (st .strings) (r .table) (r .kept))
-      ∙ ap (placed d at) (sym (r .offsetsIs) ∙ ap s (sym z))
+  pub offsets-leaves : (cut : List ℕ) → cut ≡ region w (length b / 4) stringsRegion → code ≡ 6 → OffsetsPut (encodingIs e) b cut at d x → x ≡ placed d at (s code)
+  offsets-leaves cut q z f = f (r .bundle) (r .used) (r .reads) (r .good) (rw q (r .kept .places (r .small))) ∙ ap (placed d at) (sym (r .offsetsIs) ∙ ap s (sym z))
 
   pub str-leaves : (cut : List ℕ) → cut ≡ region w (length b / 4) stringsRegion → code ≡ 11
       → ((ts : List (List ℕ)) → kept.Held b cut (st .strings .count) ts → x ≡ placed d at (strOf ts)) → x ≡ placed d at (s code)
-  str-leaves cut q z f = f (r .table) (rw q (r .kept .held (r .small))) ∙ ap (placed d at) (sym (r .strIs) ∙ ap s (sym z))
+  str-leaves cut q z f = f (firstUses (r .used)) (rw q (r .kept .held (r .small))) ∙ ap (placed d at) (sym (r .strIs) ∙ ap s (sym z))
 
   pub cu-leaves : (f : IndexForm) → f ≡ formOf e compilationTable (st .units .cu) → code ≡ 12
       → ((y : List ℕ) → IndexHeld f (length b / 4) (st .units .count) w y → x ≡ placed d at y) → x ≡ placed d at (s code)

@@ -18,24 +18,23 @@ use Rattle.bundle.specs.Encoding.{Encoding, encodingOf, encodingGood}
 use Rattle.bundle.specs.Encoded.{encodingIs}
 use Rattle.bundle.specs.Written.{Section, written}
 use Rattle.bundle.specs.declared.encoding.ObjectEncoding.{ObjectEncoding}
-use Rattle.bundle.proofs.Every.{Every, nothing, also}
 use Rattle.strings.specs.Strings.{strOf}
 use Rattle.index.specs.Written.{Row, indexBytes}
-use Rattle.package.specs.Pieces.{remappedAll}
+use Rattle.package.specs.Pieces.{usedIn, remappedAll}
 use Rattle.package.specs.Input.{Input}
 use Rattle.package.specs.Filing.{Filed, Filing, filingOf, firstWord, kept}
-use Rattle.package.specs.Pack.{rowsOf, unitBytes, sharedBytes, stringTable, sectionList, nonEmpty, packageSections, packageObjects}
+use Rattle.package.specs.Pack.{rowsOf, unitBytes, sharedBytes, allUsed, stringTable, sectionList, nonEmpty, packageSections, packageObjects}
 use Rattle.package.proofs.Filing.{FilingFacts, filing-facts}
 use Rattle.package.proofs.Kept.{distinct-kept, kept-le}
 use Rattle.package.proofs.Tables.{rows-named}
 use Rattle.package.proofs.UnitStrings.{good-versions}
-use Rattle.finish.specs.Joining.{sectionsJoined, offsetsJoined, remappedIn, EntriesGood}
+use Rattle.finish.specs.Joining.{sectionsJoined, offsetsJoined, remappedIn, EntriesGood, UsedBy}
 use Rattle.finish.proofs.Cutting.{input-good, input-remapped}
 use Rattle.finish.specs.Sections.{sectionsFrom, sectionsBy, notEmpty}
 use Rattle.numbers.specs.Tables.{compilationTable, typeTable}
 use Rattle.index.specs.Probing.{slotsFor}
-use Rattle.work.specs.Regions.{recordsRegion, stringsRegion, region}
-use Rattle.work.proofs.Stores.{slots-records, slots-strings}
+use Rattle.kept.specs.Regions.{recordsRegion, stringsRegion, region}
+use Rattle.kept.proofs.RegionStores.{slots-records, slots-strings}
 use Rattle.kept.specs.Columns.{versionFor}
 use Rattle.kept.specs.Slots.{Placeable, Fitting, seenSlots, slotsIn}
 use Rattle.kept.specs.Records.{bytesFrom}
@@ -80,12 +79,12 @@ unfolding sharedBytes
 shared-other table is c f = rw (sharedBytes, ne-eqb c 6 f)
 
 -- ---- objects and inputs
-matched-good : (b : List ℕ) (e : Encoding) (os : List Object) (is : List Input) → Matched b e os is → Every (λ o. EntriesGood e (body b (o .parts) 6) (body b (o .parts) 11)) os
-matched-good b e [] [] none = nothing
-matched-good b e (o ∷ os) (i ∷ is) (more p m) =
-    let good : EntriesGood e (body b (o .parts) 6) (body b (o .parts) 11) =
-    rw (sym (p .bytes 6), sym (p .bytes 11)) (input-good e i (p .facts)) in
-    also good (matched-good b e os is m)
+matched-used : (b : List ℕ) (e : Encoding) (os : List Object) (is : List Input) → Matched b e os is → UsedBy e b os (allUsed is)
+unfolding UsedBy allUsed
+matched-used b e [] [] none = refl
+matched-used b e (o ∷ os) (i ∷ is) (more p m) =
+    let good : EntriesGood e (body b (o .parts) 6) (body b (o .parts) 11) (usedIn (i .pieces)) = rw (sym (p .bytes 6), sym (p .bytes 11)) (input-good e i (p .facts)) in
+    (usedIn (i .pieces), allUsed is, refl, good, matched-used b e os is m)
 
 matched-offsets : (b : List ℕ) (e : Encoding) (table : List (List ℕ)) (os : List Object) (is : List Input) → Matched b e os is
     → sharedBytes table is 6 ≡ offsetsJoined e table b os
@@ -206,7 +205,7 @@ module _ (big : Bool) (b : List ℕ) (st : InProgress) (w : List ℕ) (a : AllFi
 
       -- str is above the limit
       pub str-over : st .strings .over ≡ true → 8_388_607 < length (sectionOf (a .filing) cu tu 11)
-      unfolding sectionOf
+      unfolding sectionOf stringTable
       str-over v = ltb-true 8_388_607 _ (sym (a .strings .over) ∙ v)
 
       -- both tables are placed, which leaves work v
@@ -224,7 +223,7 @@ module _ (big : Bool) (b : List ℕ) (st : InProgress) (w : List ℕ) (a : AllFi
         tu-held = index-held (formOf e typeTable (st .units .tu)) n (st .units .count) R v (rows 2) tu (tu-table .count) (tu-table .rows) (tu-table .columns) (asks typeTable (st .units .tu) (tables-asks .tuFew)) records-same (p .tu) tu-is
 
         pub all-ready : Ready e b st v (sectionOf (a .filing) cu tu)
-        unfolding sectionOf sectionsJoined pick
+        unfolding sectionOf sectionsJoined pick stringTable
         all-ready = record {
           bundle = a .bundle;
           reads = a .reads;
@@ -238,11 +237,11 @@ module _ (big : Bool) (b : List ℕ) (st : InProgress) (w : List ℕ) (a : AllFi
           typesMany = held .many 2 (inr refl);
           based = λ c h g. a .held .based c (omega arith) ∙ a .based c h g ∙ ap length (matched-joined b E (a .bundle .objects) (a .filing .inputs) matched c);
           shared = λ c h g f. shared-section (a .filing) cu tu c h g ∙ shared-other (stringTable (a .filing .inputs)) (a .filing .inputs) c f ∙ matched-joined b E (a .bundle .objects) (a .filing .inputs) matched c;
-          table = stringTable (a .filing .inputs);
+          used = allUsed (a .filing .inputs);
           kept = rw (p .others stringsRegion (slots-strings compilationTable) (slots-strings typeTable)) (a .strings);
           small = small;
           strIs = refl;
-          good = rw encoding (matched-good b E (a .bundle .objects) (a .filing .inputs) matched);
+          good = rw encoding (matched-used b E (a .bundle .objects) (a .filing .inputs) matched);
           offsetsIs = rw encoding (matched-offsets b E (stringTable (a .filing .inputs)) (a .bundle .objects) (a .filing .inputs) matched);
           cu = cu-held;
           tu = tu-held;

@@ -14,7 +14,7 @@ use Rattle.index.specs.Written.{Row, indexBytes, indexWith, presentColumns}
 use Rattle.index.proofs.Slots.{slotsFor-le, slotsFor-gt, slotsFor-few}
 use Rattle.index.proofs.LawWhole.{indexBytes-is}
 use Rattle.index.proofs.LawExact.{indexBytes-none}
-use Rattle.work.specs.Regions.{recordsRegion, region}
+use Rattle.kept.specs.Regions.{recordsRegion, region}
 use Rattle.kept.specs.Columns.{versionFor, ColumnsHeld}
 use Rattle.kept.specs.Records.{inTable, recordsFrom, ofTable, identitiesIn}
 use Rattle.kept.specs.Slots.{SeenHeld, slotsIn, Placeable, Fitting}

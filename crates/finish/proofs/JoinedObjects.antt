@@ -29,6 +29,10 @@ pub joining-none : (f : Object → List ℕ) (b : List ℕ) (k : Bundle) (d : Li
 unfolding joined
 joining-none f b k d at e = record { done = []; passed = objects-none b k e; same = refl; count = omega arith; holds = sym (placed-none d at) }
 
+pub joining-none-done : (f : Object → List ℕ) (b : List ℕ) (k : Bundle) (d : List ℕ) (at : ℕ) (e : bundleOf b ≡ pass k) → joining-none f b k d at e .done ≡ []
+unfolding joining-none joined
+joining-none-done f b k d at e = refl
+
 joined-more : (f : Object → List ℕ) (done : List Object) (one : Object) → joined (map f (done ++ (one ∷ []))) ≡ joined (map f done) ++ f one
 joined-more f done one = ap joined (map-append f done (one ∷ [])) ∙ joined-snoc (map f done) (f one)
 
@@ -58,6 +62,10 @@ module _ (f : Object → List ℕ) (b : List ℕ) (all : List Object) (d₀ d : 
           holds = e ∙ ap (λ (z : List ℕ). placed z o (f one)) (j .holds) ∙ ap (λ (n : ℕ). placed (placed d₀ at (joined (map f (j .done)))) n (f one)) (j .count)
               ∙ placed-placed d₀ at (joined (map f (j .done))) (f one) (omega arith) ∙ ap (placed d₀ at) (sym (joined-more f (j .done) one));
         }
+
+    pub joining-more-done : (x : List ℕ) (size : ℕ) (e : x ≡ placed d o (f one)) (s : size ≡ length (f one)) → joining-more x size e s .done ≡ j .done ++ (one ∷ [])
+    unfolding joining-more
+    joining-more-done x size e s = refl
 
   pub joining-end : j .done ≡ all → d ≡ placed d₀ at (joined (map f all))
   joining-end e = j .holds ∙ ap (λ (os : List Object). placed d₀ at (joined (map f os))) e

@@ -9,7 +9,6 @@ pub mod BeingWritten
 pub mod Sized
 pub mod Frames
 pub mod Dispatch
-pub mod Staying
 pub mod Answers
 pub mod Words
 pub mod Objects

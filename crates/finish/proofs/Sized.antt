@@ -11,9 +11,10 @@ use lib.Seq.{getD-set-same, getD-set-other}
 use borrow.Author.Tests.{eq-eqb, ne-eqb}
 use Rattle.bundle.specs.Encoded.{encodingIs}
 use Rattle.bundle.specs.declared.encoding.ObjectEncoding.{ObjectEncoding}
+use Rattle.strings.specs.Strings.{firstUses}
 use Rattle.strings.proofs.StrOffsets.{sound}
 use Rattle.index.specs.Probing.{slotsFor}
-use Rattle.work.specs.Regions.{recordsRegion, region}
+use Rattle.kept.specs.Regions.{recordsRegion, region}
 use Rattle.kept.specs.Columns.{codesIn}
 use Rattle.kept.specs.Slots.{slotsIn}
 use Rattle.kept.specs.Indexed.{indexSize}
@@ -132,7 +133,7 @@ module _ (e : ObjectEncoding) (b : List ℕ) (st : InProgress) (w : List ℕ) (s
   shared-size : (c : ℕ) → 3 ≤ c → c ≤ 10 → length (sectionsJoined b (r .bundle .objects) c) ≡ length (s c)
   unfolding offsetsJoined
   shared-size c h g = elim (ℕ-discrete c 6) [
-    | yes z ↦ rw z (sym (length-offsets (encodingIs e) (r .table) b (sound e) (r .bundle .objects) (r .good)) ∙ sym (ap length (r .offsetsIs)))
+    | yes z ↦ rw z (sym (length-offsets (encodingIs e) (firstUses (r .used)) b (sound e) (r .bundle .objects) (r .used) (r .good)) ∙ sym (ap length (r .offsetsIs)))
     | no f ↦ sym (ap length (r .shared c h g f))
   ]
 

@@ -15,7 +15,7 @@ use Rattle.bundle.proofs.Next.{filledUp-le}
 use Rattle.bundle.proofs.Putting.{length-head, placed-behind, head-put, end-put}
 use Rattle.bundle.proofs.Sizes.{written-size}
 use Rattle.index.specs.Probing.{slotsFor}
-use Rattle.work.specs.Regions.{recordsRegion, recordWords, region}
+use Rattle.kept.specs.Regions.{recordsRegion, recordWords, region}
 use Rattle.kept.specs.Slots.{Within, slotsIn}
 use Rattle.kept.specs.Indexed.{indexIn}
 use Rattle.kept.specs.declared.writing.IndexForm.{IndexForm}
@@ -24,7 +24,7 @@ use Rattle.finish.specs.Writing.{Writing}
 use Rattle.finish.proofs.SectionSizes.{framed-some, size-good}
 use Rattle.finish.proofs.BeingWritten.{writing-frame-room}
 use Rattle.finish.specs.declared.writing.Package.{Package}
-use Rattle.finish.specs.Ready.{IndexHeld, IndexWritable, SectionWritable, StillReady, framedIn, FrameWritable, SectionsWritable}
+use Rattle.finish.specs.Ready.{IndexHeld, IndexWritable, SectionWritable, framedIn, FrameWritable, SectionsWritable}
 use Rattle.finish.proofs.Frames.{frame-some}
 use Rattle.finish.proofs.Indexes.{table-few}
 
@@ -66,14 +66,14 @@ frame-put d x y at c size s p q h e f =
     ∙ frame-some d at c s (λ z. f (e ∙ z))
 
 -- what one turn of the loop over the codes asks
-pub frame-writable : (p : Package) (b w v d₀ d : List ℕ) (at c size : ℕ) (r : SectionsWritable p b w d₀) → StillReady p b w v
-    → Writing (r .front) (r .sections) d at c → 1 ≤ c → c < 14 → size ≡ getD (p .sizes) c 0 → FrameWritable c size p b v (length d) at
-frame-writable p b w v d₀ d at c size r still wr l m q =
+pub frame-writable : (p : Package) (b w d₀ d : List ℕ) (at c size : ℕ) (r : SectionsWritable p b w d₀) → Writing (r .front) (r .sections) d at c
+    → 1 ≤ c → c < 14 → size ≡ getD (p .sizes) c 0 → FrameWritable c size p b w (length d) at
+frame-writable p b w d₀ d at c size r wr l m q =
     let is : size ≡ length (r .sections c) = q ∙ r .sized .are c l m in
     let room = writing-frame-room (r .front) (r .sections) d at c wr m size is in
     record {
       sections = r .sections;
-      ready = still (r .sections) (r .ready);
+      ready = r .ready;
       least = l;
       most = m;
       sized = is;

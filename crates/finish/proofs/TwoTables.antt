@@ -7,8 +7,8 @@ use native.Mathlib.Omega.{arith}
 use lib.ListN.{length}
 use Rattle.numbers.specs.Tables.{compilationTable, typeTable}
 use Rattle.index.specs.Probing.{slotsFor}
-use Rattle.work.specs.Regions.{recordsRegion, slotsRegion, region}
-use Rattle.work.proofs.Stores.{slots-records, tables-apart}
+use Rattle.kept.specs.Regions.{recordsRegion, slotsRegion, region}
+use Rattle.kept.proofs.RegionStores.{slots-records, tables-apart}
 use Rattle.kept.specs.Records.{identitiesIn}
 use Rattle.kept.specs.Slots.{SeenHeld, slotsIn, Placeable, Fitting, PlacedAll}
 use Rattle.kept.specs.declared.Units.{Units}

@@ -20,9 +20,9 @@ use Rattle.strings.specs.Kept.{Kept}
 use Rattle.index.specs.Rows.{BySection}
 use Rattle.package.specs.Input.{Input}
 use Rattle.package.specs.Filing.{Filing, filingOf, firstWord}
-use Rattle.package.specs.Pack.{Answer, refused, short, made, packageSections, packageObjects, stringTable, answered}
+use Rattle.package.specs.Pack.{Answer, refused, short, made, packageSections, packageObjects, allUsed, answered}
 use Rattle.finish.specs.Sections.{sectionsBy}
-use Rattle.work.specs.Regions.{stringsRegion, region}
+use Rattle.kept.specs.Regions.{stringsRegion, region}
 use Rattle.kept.specs.State.{Held}
 use Rattle.kept.specs.declared.state.InProgress.{InProgress}
 use Rattle.finish.specs.Ready.{Ready}
@@ -73,7 +73,7 @@ pub record AllFiled (big : Bool) (b : List ℕ) (st : InProgress) (w : List ℕ)
   pub bases : BySection ℕ
   pub based : (c : ℕ) → firstShared ≤ c → c ≤ lastShared → bases c ≡ length (joined (map (λ i. i .bytes c) (filing .inputs)))
   pub held : Held (eqb (firstWord (bundle .objects) % 256) dwarf5) b (length b / 4) (length b) w st bases (filing .units)
-  pub strings : Kept b (region w (length b / 4) stringsRegion) (st .strings) (stringTable (filing .inputs))
+  pub strings : Kept b (region w (length b / 4) stringsRegion) (st .strings) (allUsed (filing .inputs))
 
 -- the sections are ready to be written into an output that is zero
 pub record Writable (e : ObjectEncoding) (b : List ℕ) (st : InProgress) (w d : List ℕ) : Type 0 where

@@ -11,15 +11,14 @@ use Rattle.octets.specs.Octets.{placed, padded, zeros}
 use Rattle.octets.specs.Checked.{pass}
 use Rattle.numbers.specs.Limits.{bundleLimit, workForWord, sectionLimit}
 use Rattle.numbers.specs.Tables.{compilationTable, typeTable}
-use Rattle.bundle.specs.Bundle.{Bundle, bundleOf, body}
+use Rattle.bundle.specs.Bundle.{Bundle, bundleOf}
 use Rattle.bundle.specs.Encoded.{encodingIs}
 use Rattle.bundle.specs.Written.{wordBytes, written}
 use Rattle.bundle.specs.declared.encoding.ObjectEncoding.{ObjectEncoding}
-use Rattle.bundle.proofs.Every.{Every}
-use Rattle.strings.specs.Strings.{strOf}
+use Rattle.strings.specs.Strings.{firstUses, strOf}
 use Rattle.strings.specs.Kept.{Kept}
 use Rattle.index.specs.Probing.{slotsFor}
-use Rattle.work.specs.Regions.{Layout, recordsRegion, stringsRegion, slotsRegion, leastUnit, recordWords, region, Apart}
+use Rattle.kept.specs.Regions.{Layout, recordsRegion, stringsRegion, slotsRegion, leastUnit, recordWords, region, Apart}
 use Rattle.kept.specs.Columns.{codesIn}
 use Rattle.kept.specs.Records.{ofTable, identitiesIn, bytesFrom, UnitsInside}
 use Rattle.kept.specs.Slots.{Within, SeenHeld, slotsIn, Placeable, Fitting}
@@ -29,7 +28,7 @@ use Rattle.kept.specs.declared.Table.{Table}
 use Rattle.kept.specs.declared.Units.{Units}
 use Rattle.kept.specs.declared.state.InProgress.{InProgress}
 use Rattle.kept.specs.declared.writing.IndexForm.{IndexForm}
-use Rattle.finish.specs.Joining.{sectionsJoined, offsetsJoined, EntriesGood}
+use Rattle.finish.specs.Joining.{sectionsJoined, offsetsJoined, UsedBy}
 use Rattle.finish.specs.Sections.{Sized, sectionsBy, sizesGood, framedSize, lengthOf}
 use Rattle.finish.specs.Writing.{Writing}
 use Rattle.finish.specs.declared.writing.Package.{Package}
@@ -111,12 +110,12 @@ pub record Ready (e : ObjectEncoding) (b : List ℕ) (st : InProgress) (w : List
   pub based : (c : ℕ) → firstShared ≤ c → c ≤ lastShared → getD (st .bases) c 0 ≡ length (sectionsJoined b (bundle .objects) c)
   pub shared : (c : ℕ) → firstShared ≤ c → c ≤ lastShared → (c ≡ strOffsetsCode → ⊥) → s c ≡ sectionsJoined b (bundle .objects) c
   -- strings
-  pub table : List (List ℕ)
-  pub kept : Kept b (region w (length b / 4) stringsRegion) (st .strings) table
+  pub used : List (List ℕ)
+  pub kept : Kept b (region w (length b / 4) stringsRegion) (st .strings) used
   pub small : st .strings .over ≡ false
-  pub strIs : s strCode ≡ strOf table
-  pub good : Every (λ o. EntriesGood (encodingIs e) (body b (o .parts) strOffsetsCode) (body b (o .parts) strCode)) (bundle .objects)
-  pub offsetsIs : s strOffsetsCode ≡ offsetsJoined (encodingIs e) table b (bundle .objects)
+  pub strIs : s strCode ≡ strOf (firstUses used)
+  pub good : UsedBy (encodingIs e) b (bundle .objects) used
+  pub offsetsIs : s strOffsetsCode ≡ offsetsJoined (encodingIs e) (firstUses used) b (bundle .objects)
   -- indexes
   pub cu : IndexHeld (formOf e compilationTable (st .units .cu)) (length b / 4) (st .units .count) w (s cuIndexCode)
   pub tu : IndexHeld (formOf e typeTable (st .units .tu)) (length b / 4) (st .units .count) w (s tuIndexCode)
@@ -132,10 +131,6 @@ pub record SectionWritable (code : ℕ) (p : Package) (b w : List ℕ) (n at : �
 -- and is put there, for any sections that are ready; d is the output before, x behind
 abbrev pub SectionPut : (code : ℕ) (p : Package) (b w : List ℕ) (at : ℕ) (d x : List ℕ) → Type 0
 SectionPut code p b w at d x = (s : ℕ → List ℕ) → Ready (p .encoding) b (p .state) w s → x ≡ placed d at (s code)
-
--- writing it leaves work v for w: all sections are ready still
-abbrev pub StillReady : (p : Package) (b w v : List ℕ) → Type 0
-StillReady p b w v = (s : ℕ → List ℕ) → Ready (p .encoding) b (p .state) w s → Ready (p .encoding) b (p .state) v s
 
 -- the same with its word, where it is not empty
 unfoldable pub framedIn : List ℕ → ℕ → ℕ → List ℕ → List ℕ

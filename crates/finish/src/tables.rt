@@ -2,7 +2,7 @@
 ghost use lib.ListN.{length};
 ghost use Rattle.finish.specs.Ready.{TablesPlaceable, TablesPlaced};
 use kept::Units;
-use work::COMPILATION;
+use kept::regions::COMPILATION;
 
 // The second table, by its number.
 pub const TYPE: usize = numbers::tables::TYPE as usize;

@@ -50,7 +50,7 @@ fn finish_sections(
     word: u32,
     b: &[u8],
     st: InProgress,
-    work: &mut [u32],
+    work: &[u32],
     out: &mut [u8],
 ) -> Finished
     requires { ⌜ Writable e (now b) st (now work) (now out) ⌝ }

@@ -12,7 +12,6 @@ ghost use Rattle.finish.specs.Ready.{
   IndexWritable,
   SectionWritable,
   SectionPut,
-  StillReady,
   FrameWritable,
   FramePut,
   SectionsWritable,
@@ -23,6 +22,7 @@ ghost use Rattle.finish.specs.Ready.{
 use crate::tables::TYPE;
 use bundle::encoding::ObjectEncoding;
 use kept::Table;
+use kept::regions::COMPILATION;
 use kept::state::InProgress;
 use kept::writing::IndexForm;
 use numbers::sections::CODES;
@@ -31,7 +31,6 @@ use numbers::sections::LAST_SHARED;
 use numbers::sections::STR;
 use numbers::sections::STR_OFFSETS;
 use numbers::sections::TYPES;
-use work::COMPILATION;
 
 // What is to be written: the encoding of all objects, what is known of them, and the sizes of all sections by code.
 pub struct Package {
@@ -62,8 +61,8 @@ fn write_index(f: IndexForm, words: usize, n: usize, work: &[u32], out: &mut [u8
         return;
     }
     let count = kept::slots::slots_for(f.rows);
-    let records = work::records(words);
-    let slots = work::slots(words, f.table);
+    let records = kept::regions::records(words);
+    let slots = kept::regions::slots(words, f.table);
     let first = records.start;
     let last = first + records.size;
     let from = slots.start;
@@ -81,7 +80,7 @@ fn write_last_section(code: usize, p: Package, b: &[u8], work: &[u32], out: &mut
     let units = st.units;
     if code == STR {
         let strings = st.strings;
-        let region = work::strings(words);
+        let region = kept::regions::strings(words);
         let first = region.start;
         let last = first + region.size;
         strings::sections::write_strings(b, &work[first..last], strings.count, out, at);
@@ -97,35 +96,25 @@ fn write_last_section(code: usize, p: Package, b: &[u8], work: &[u32], out: &mut
 }
 
 // The bytes of one section of the package, by its code.
-fn write_section(code: usize, p: Package, b: &[u8], work: &mut [u32], out: &mut [u8], at: usize)
+fn write_section(code: usize, p: Package, b: &[u8], work: &[u32], out: &mut [u8], at: usize)
     requires { ⌜ SectionWritable code p (now b) (now work) (length (now out)) at ⌝ }
-    ensures output { λ _. ⌜ SectionPut code p (now (b .entry)) (now (work .entry)) at (now (out .entry)) (now (out .exit)) ⌝ }
-    ensures work { λ _. ⌜ StillReady p (now (b .entry)) (now (work .entry)) (now (work .exit)) ⌝ }
+    ensures { λ _. ⌜ SectionPut code p (now (b .entry)) (now (work .entry)) at (now (out .entry)) (now (out .exit)) ⌝ }
 {
     let words = b.len() / 4;
     let st = p.state;
     if code <= TYPES {
         let units = st.units;
-        let region = work::records(words);
+        let region = kept::regions::records(words);
         let first = region.start;
         let last = first + region.size;
         kept::unit_bytes::copy_units(b, &work[first..last], units.count, code, out, at);
         return;
     }
     if code == STR_OFFSETS {
-        let table = work::strings(words);
-        let store = work::store(words);
-        let first = store.start;
-        let last = first + store.size;
-        crate::joining::copy_str_offsets(
-            p.encoding,
-            b,
-            &mut work[first..last],
-            table.size,
-            st.strings,
-            out,
-            at,
-        );
+        let table = kept::regions::strings(words);
+        let first = table.start;
+        let last = first + table.size;
+        crate::joining::copy_str_offsets(p.encoding, b, &work[first..last], out, at);
         return;
     }
     if LAST_SHARED < code {
@@ -141,14 +130,13 @@ fn write_framed(
     size: usize,
     p: Package,
     b: &[u8],
-    work: &mut [u32],
+    work: &[u32],
     out: &mut [u8],
     at: usize,
 ) -> usize
     requires { ⌜ FrameWritable code size p (now b) (now work) (length (now out)) at ⌝ }
     ensures next { λ r. ⌜ r ≡ at + framedSize size ⌝ }
     ensures output { λ _. ⌜ FramePut code size p (now (b .entry)) (now (work .entry)) at (now (out .entry)) (now (out .exit)) ⌝ }
-    ensures work { λ _. ⌜ StillReady p (now (b .entry)) (now (work .entry)) (now (work .exit)) ⌝ }
 {
     if size == 0 {
         return at;
@@ -161,7 +149,7 @@ fn write_framed(
 }
 
 // All sections behind head and object word, in order of code; the place behind them.
-fn write_sections(p: Package, b: &[u8], work: &mut [u32], out: &mut [u8]) -> usize
+fn write_sections(p: Package, b: &[u8], work: &[u32], out: &mut [u8]) -> usize
     requires { ⌜ SectionsWritable p (now b) (now work) (now out) ⌝ }
     ensures { λ r. ⌜ SectionsPut p (now (b .entry)) (now (work .entry)) (now (out .entry)) (now (out .exit)) r ⌝ }
 {
@@ -177,7 +165,7 @@ fn write_sections(p: Package, b: &[u8], work: &mut [u32], out: &mut [u8]) -> usi
 }
 
 // The package, into an output that is zero and long enough.
-pub fn write_package(p: Package, word: u32, b: &[u8], work: &mut [u32], out: &mut [u8])
+pub fn write_package(p: Package, word: u32, b: &[u8], work: &[u32], out: &mut [u8])
     requires { ⌜ PackageWritable p (now b) (now work) (now out) ⌝ }
     ensures { λ _. ⌜ PackagePut p word (now (b .entry)) (now (work .entry)) (now (out .entry)) (now (out .exit)) ⌝ }
 {

@@ -12,7 +12,7 @@ use Rattle.octets.proofs.Lists.{length-those}
 use Rattle.index.specs.Probing.{slotsFor}
 use Rattle.index.proofs.Slots.{slotsFor-power}
 use Rattle.index.proofs.LawMore.{below-set}
-use Rattle.work.specs.Regions.{recordsRegion, recordWords, region}
+use Rattle.kept.specs.Regions.{recordsRegion, recordWords, region}
 use Rattle.kept.specs.Columns.{codesIn}
 use Rattle.kept.specs.Records.{inTable, recordsFrom, ofTable}
 use Rattle.kept.specs.Slots.{Within, slotsIn, Placeable, Seekable, SlotsLeft}

@@ -9,11 +9,11 @@ ghost use lib.ListN.{length, getD};
 ghost use Rattle.kept.specs.Columns.{CellsFit};
 ghost use Rattle.kept.specs.Slots.{Seekable, Placeable};
 use index::judging::Contributions;
+use kept::regions::COMPILATION;
+use kept::regions::RECORD;
 use kept::writing::IndexForm;
 use libc::STDOUT_FILENO;
 use numbers::sections::INFO;
-use work::COMPILATION;
-use work::RECORD;
 
 // The records of a table and its slots lie in work for a bundle of so many words.
 const WORDS: usize = 80;
@@ -164,7 +164,7 @@ fn read_row(five: bool, text: &[u8], at: usize, work: &mut [u32], i: usize, has:
         start: 0,
         size: 0,
     };
-    let records = work::records(WORDS);
+    let records = kept::regions::records(WORDS);
     kept::records::store_unit(work, records.start + RECORD * i, unit, five, read.cells);
     Table {
         has: kept::columns::mark_columns(five, has, read.cells),
@@ -218,8 +218,8 @@ fn show_index(f: IndexForm, work: &[u32], count: usize)
     if 2048 < length {
         return;
     }
-    let records = work::records(WORDS);
-    let slots = work::slots(WORDS, COMPILATION);
+    let records = kept::regions::records(WORDS);
+    let slots = kept::regions::slots(WORDS, COMPILATION);
     let first = records.start;
     let last = first + records.size;
     let from = slots.start;

@@ -7,8 +7,8 @@ use Prim.Native.Nat.{ℕ, _+_, _*_, _-_, _/_, _≤_}
 use native.Mathlib.Omega.{arith}
 use lib.ListN.{length, take, drop}
 use Rattle.octets.proofs.Parts.{part-cut}
-use Rattle.work.specs.Regions.{recordsRegion, recordWords, region}
-use Rattle.work.proofs.Stores.{length-region, records-within}
+use Rattle.kept.specs.Regions.{recordsRegion, recordWords, region}
+use Rattle.kept.proofs.RegionStores.{length-region, records-within}
 use Rattle.package.specs.Filing.{ofKind}
 use Rattle.kept.specs.Records.{UnitsInside}
 use Rattle.kept.specs.Slots.{SameAsked}

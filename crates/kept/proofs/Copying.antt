@@ -15,7 +15,7 @@ use Rattle.octets.proofs.Lists.{those-append, those-keeps, those-skips}
 use Rattle.octets.proofs.Joined.{map-append, joined-append}
 use Rattle.octets.proofs.Parts.{length-part, part-cut}
 use Rattle.octets.proofs.Placed.{placed-placed, placed-none, length-placed}
-use Rattle.work.specs.Regions.{recordWords}
+use Rattle.kept.specs.Regions.{recordWords}
 use Rattle.index.specs.declared.judging.Contributions.{Contributions}
 use Rattle.kept.specs.Columns.{sectionAt}
 use Rattle.kept.specs.declared.records.Unit.{Unit as UnitHead}

@@ -21,7 +21,7 @@ use Rattle.index.specs.Written.{Row}
 use Rattle.index.specs.Contributed.{ContributionsAre}
 use Rattle.index.specs.Held.{PowerOfTwo}
 use Rattle.index.specs.declared.judging.Contributions.{Contributions}
-use Rattle.work.specs.Regions.{recordWords}
+use Rattle.kept.specs.Regions.{recordWords}
 use Rattle.package.specs.Filing.{Filed}
 use Rattle.package.specs.Pack.{cells, rowsOf, unitBytes, entriesFrom}
 use Rattle.package.proofs.Rows.{behindAll, behind-at, rowsFrom, rowAt, rows-are, rows-append, rows-later, row-stands, nothingBefore, unit-append, unit-here, unit-later}

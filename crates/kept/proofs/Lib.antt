@@ -1,5 +1,8 @@
 -- Laws of the kept units in lent words.
+-- RegionStores, RegionLending: what a store in one region leaves of the others, and a region that is lent.
 -- Assumes nothing.
+pub mod RegionStores
+pub mod RegionLending
 pub mod Columning
 pub mod Recording
 pub mod Moved

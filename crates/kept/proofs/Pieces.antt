@@ -23,7 +23,7 @@ use Rattle.kept.specs.Columns.{versionFor, columnsFor, codeAt, numbersIf
 use Rattle.kept.specs.Records.{KeptUnit, recordAt, recordsFrom, inTable, cellsPlace, cellWords, ofTable}
 use Rattle.kept.specs.Indexed.{indexSize, numbersIn, gridFrom, slotNumber, slotWidth, frontIn, indexIn}
 use Rattle.kept.specs.declared.writing.IndexForm.{IndexForm}
-use Rattle.work.specs.Regions.{recordWords}
+use Rattle.kept.specs.Regions.{recordWords}
 use Rattle.kept.proofs.Columning.{columns-are}
 use Rattle.kept.proofs.Recording.{records-turn, records-end}
 use Rattle.kept.proofs.Numbering.{Writing, writing-room, writing-more, codes-suc, codes-turn, cells-suc, if-le}

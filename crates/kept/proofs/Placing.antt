@@ -17,8 +17,8 @@ use Rattle.octets.proofs.Placed.{length-zeros, getD-zeros, placed-byte}
 use Rattle.octets.proofs.Regions.{placed-whole, part-placed}
 use Rattle.index.specs.Held.{PowerOfTwo}
 use Rattle.index.proofs.LawMore.{below-set}
-use Rattle.work.specs.Regions.{Layout, recordsRegion, slotsRegion, recordWords, region, Apart}
-use Rattle.work.proofs.Stores.{part-stored, region-room, region-fits, length-region, store-length, others-stay, own-stored, records-within, slots-within, records-slots, slots-records, one-word}
+use Rattle.kept.specs.Regions.{Layout, recordsRegion, slotsRegion, recordWords, region, Apart}
+use Rattle.kept.proofs.RegionStores.{part-stored, region-room, region-fits, length-region, store-length, others-stay, own-stored, records-within, slots-within, records-slots, slots-records, one-word}
 use Rattle.numbers.specs.Limits.{workForWord}
 use Rattle.kept.specs.Records.{KeptUnit, cellWords, wordsOf, recordAt, ofTable, identitiesIn, recordsFrom}
 use Rattle.kept.specs.Slots.{Within, soughtIn, SeenHeld, slotsIn, Placeable, Seekable, SlotsLeft, Fitting, Placed, PlacedAll, Keepable, keptIn}

@@ -16,7 +16,7 @@ use Rattle.octets.proofs.Joined.{map-append, joined-append}
 use Rattle.octets.proofs.Parts.{part-part}
 use Rattle.octets.proofs.Regions.{part-before, part-placed, getD-placed, getD-before}
 use Rattle.index.specs.declared.judging.Contributions.{Contributions}
-use Rattle.work.specs.Regions.{recordWords}
+use Rattle.kept.specs.Regions.{recordWords}
 use Rattle.kept.specs.Records.{KeptUnit, cellsPlace, cellWords, wordsOf, cellsLeft, cellsOf, recordAt, recordsFrom, inTable, inHome, ofTable, identitiesIn, bytesOf, bytesFrom, identityFor, rowFor}
 
 -- ---- one behind the other

@@ -12,7 +12,7 @@ use Rattle.index.proofs.Masks.{firstSlot-lt}
 use Rattle.index.proofs.LawGrid.{getD-map}
 use Rattle.index.proofs.LawLooks.{look-unused, look-found, look-on}
 use Rattle.index.proofs.Placing.{free-here, free-on, free-inside}
-use Rattle.work.specs.Regions.{recordWords}
+use Rattle.kept.specs.Regions.{recordWords}
 use Rattle.kept.specs.Records.{identityFor}
 use Rattle.kept.specs.Slots.{Within, freeFor, soughtAs, soughtIn}
 use Rattle.kept.specs.declared.slots.Sought.the-variants.{Known, Free}

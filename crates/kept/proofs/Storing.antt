@@ -10,9 +10,9 @@ use Rattle.numbers.specs.Limits.{workForWord}
 use Rattle.strings.specs.Kept.{Kept}
 use Rattle.strings.specs.Objects.{tableIn, KeptIn}
 use Rattle.strings.specs.declared.table.StringTable.{StringTable}
-use Rattle.work.specs.Regions.{stringsRegion, storeRegion, region}
-use Rattle.work.proofs.Stores.{store-within, store-strings}
-use Rattle.work.proofs.Lending.{lent-is, lent-length, lent-left}
+use Rattle.kept.specs.Regions.{stringsRegion, storeRegion, region}
+use Rattle.kept.proofs.RegionStores.{store-within, store-strings}
+use Rattle.kept.proofs.RegionLending.{lent-is, lent-length, lent-left}
 
 module _ (n from many words : ℕ) (w : List ℕ) (room : workForWord * n ≤ length w) (ef : from ≡ storeRegion .start * n) (em : many ≡ storeRegion .words * n)
     (et : words ≡ stringsRegion .words * n) where

@@ -9,7 +9,7 @@ use Rattle.numbers.specs.Tables.{columns2}
 use Rattle.octets.specs.Octets.{part}
 use Rattle.octets.specs.Lists.{joined, those}
 use Rattle.index.specs.declared.judging.Contributions.{Contributions}
-use Rattle.work.specs.Regions.{recordWords}
+use Rattle.kept.specs.Regions.{recordWords}
 use Rattle.kept.specs.Columns.{sectionAt}
 use Rattle.kept.specs.declared.records.Unit.{Unit as UnitHead}
 

@@ -10,7 +10,7 @@ use Rattle.octets.specs.Lists.{distinct}
 use Rattle.numbers.specs.Limits.{bundleLimit, workForWord}
 use Rattle.index.specs.Probing.{Probe, found, absent, firstSlot, stride, freeFrom, search, slotsFor, Slots, unused, placeAll}
 use Rattle.index.specs.Held.{PowerOfTwo}
-use Rattle.work.specs.Regions.{Layout, recordsRegion, slotsRegion, recordWords, leastUnit, region, Apart}
+use Rattle.kept.specs.Regions.{Layout, recordsRegion, slotsRegion, recordWords, leastUnit, region, Apart}
 use Rattle.kept.specs.Records.{KeptUnit, wordsOf, recordAt, ofTable, identitiesIn, identityFor, rowFor, UnitsInside}
 use Rattle.kept.specs.declared.slots.Sought.{Sought}
 use Rattle.kept.specs.declared.slots.Sought.the-variants.{Known, Free}

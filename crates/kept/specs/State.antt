@@ -10,7 +10,7 @@ use Rattle.numbers.specs.Sections.{sectionCodes}
 use Rattle.index.specs.Rows.{BySection}
 use Rattle.package.specs.Filing.{Filed, kept, repeat, namesake, ofKind, countOf}
 use Rattle.package.specs.Pack.{unitBytes}
-use Rattle.work.specs.Regions.{recordsRegion, region}
+use Rattle.kept.specs.Regions.{recordsRegion, region}
 use Rattle.kept.specs.Slots.{seenSlots, slotsIn}
 use Rattle.kept.specs.Held.{OneOrTwo, UnitsHeld}
 use Rattle.kept.specs.declared.state.InProgress.{InProgress}

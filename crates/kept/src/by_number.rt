@@ -4,8 +4,8 @@ ghost use Prim.Native.Nat.{_<_, _^_};
 ghost use Rattle.kept.specs.Held.{pick, withUnit};
 use crate::Table;
 use crate::Units;
+use crate::regions::COMPILATION;
 use numbers::sections::INFO;
-use work::COMPILATION;
 
 fn pick_table(table: usize, first: Table, second: Table) -> Table
     ensures { λ r. ⌜ r ≡ pick table first second ⌝ }

@@ -1,8 +1,10 @@
 // The units that are kept: one record for each in lent work, the slots of both tables, and what is written from them.
+// The regions of lent work, those of crates above too, lie where `regions` says.
 pub mod by_number;
 pub mod cells;
 pub mod columns;
 pub mod records;
+pub mod regions;
 pub mod slots;
 pub mod state;
 pub mod unit_bytes;

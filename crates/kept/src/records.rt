@@ -5,7 +5,7 @@ ghost use mathlib.Core.List.{[], _∷_};
 ghost use Prim.Native.Nat.{ℕ, _+_, _*_, _<_, _≤_, _^_};
 ghost use lib.ListN.{length, getD};
 ghost use Rattle.octets.specs.Octets.{placed};
-ghost use Rattle.work.specs.Regions.{recordWords};
+ghost use Rattle.kept.specs.Regions.{recordWords};
 ghost use Rattle.kept.specs.Columns.{CellsFit};
 ghost use Rattle.kept.specs.Records.{
   cellWords,
@@ -17,9 +17,9 @@ ghost use Rattle.kept.specs.Records.{
   rowFor,
   UnitFits,
 };
+use crate::regions::RECORD;
 use index::cells::COLUMNS;
 use index::judging::Contributions;
-use work::RECORD;
 
 // The places of a record's words.
 pub const TABLE: usize = 0;

@@ -5,7 +5,7 @@ ghost use lib.ListN.{length};
 ghost use Rattle.octets.specs.Octets.{part, zeros};
 ghost use Rattle.index.specs.Held.{PowerOfTwo};
 ghost use Rattle.index.specs.Probing.{slotsFor};
-ghost use Rattle.work.specs.Regions.{recordWords, recordsRegion, slotsRegion, region};
+ghost use Rattle.kept.specs.Regions.{recordWords, recordsRegion, slotsRegion, region};
 ghost use Rattle.kept.specs.Columns.{CellsFit};
 ghost use Rattle.kept.specs.Records.{unitOf, UnitFits};
 ghost use Rattle.kept.specs.Slots.{
@@ -21,8 +21,8 @@ ghost use Rattle.kept.specs.Slots.{
   PlacedAll,
 };
 use crate::records::Unit;
+use crate::regions::RECORD;
 use index::judging::Contributions;
-use work::RECORD;
 
 // Where a walk ends: at a record of the identity, or at a free slot.
 pub enum Sought {
@@ -69,7 +69,7 @@ pub fn seen_slots(words: usize) -> usize
     requires { ⌜ words < 2 ^ 31 ⌝ }
     ensures { λ r. ⌜ r ≡ seenSlots words ⌝ }
 {
-    slots_for(words / work::LEAST_UNIT)
+    slots_for(words / crate::regions::LEAST_UNIT)
 }
 
 // The same walk in work, for a bundle of so many words; count slots of the table are at hand, and n records.
@@ -77,8 +77,8 @@ pub fn seek_in(work: &[u32], words: usize, table: usize, n: usize, count: usize,
     requires { ⌜ Seekable words (now work) table n count ⌝ }
     ensures { λ r. ⌜ r ≡ soughtIn (region (now (work .entry)) words recordsRegion) (part (now (work .entry)) (slotsRegion table .start * words) count) x ⌝ }
 {
-    let records = work::records(words);
-    let slots = work::slots(words, table);
+    let records = crate::regions::records(words);
+    let slots = crate::regions::slots(words, table);
     let first = records.start;
     let last = first + records.size;
     let from = slots.start;
@@ -91,7 +91,7 @@ fn place_unit(work: &mut [u32], words: usize, table: usize, i: usize, count: usi
     requires { ⌜ Seekable words (now work) table i count × (recordWords * i + recordWords ≤ recordsRegion .words * words) ⌝ }
     ensures { λ _. ⌜ Placed words table i count (now (work .entry)) (now (work .exit)) ⌝ }
 {
-    let records = work::records(words);
+    let records = crate::regions::records(words);
     let first = records.start;
     let last = first + records.size;
     if crate::records::table_at(&work[first..last], i) != table {
@@ -101,7 +101,7 @@ fn place_unit(work: &mut [u32], words: usize, table: usize, i: usize, count: usi
     match seek_in(work, words, table, i, count, x) {
         Sought::Known(_) => {}
         Sought::Free(at) => {
-            let slots = work::slots(words, table);
+            let slots = crate::regions::slots(words, table);
             octets::set_word(work, slots.start + at, i + 1);
         }
     }
@@ -124,7 +124,7 @@ pub fn place_units(work: &mut [u32], words: usize, table: usize, n: usize, count
     requires { ⌜ Placeable words (length (now work)) table n count ⌝ }
     ensures { λ _. ⌜ PlacedAll words table n count (now (work .entry)) (now (work .exit)) ⌝ }
 {
-    let slots = work::slots(words, table);
+    let slots = crate::regions::slots(words, table);
     let from = slots.start;
     let to = from + count;
     octets::clear_words(&mut work[from..to]);
@@ -144,8 +144,8 @@ pub fn keep(
     requires { ⌜ Keepable words (length (now work)) count slot × UnitFits unit × CellsFit cells ⌝ }
     ensures { λ _. ⌜ now (work .exit) ≡ keptIn (now (work .entry)) words count slot (unitOf unit five cells) ⌝ }
 {
-    let records = work::records(words);
+    let records = crate::regions::records(words);
     crate::records::store_unit(work, records.start + RECORD * count, unit, five, cells);
-    let slots = work::slots(words, unit.table);
+    let slots = crate::regions::slots(words, unit.table);
     octets::set_word(work, slots.start + slot, count + 1);
 }

@@ -5,13 +5,13 @@ ghost use Prim.Native.Nat.{ℕ, _+_, _*_, _-_, _/_, _≤_};
 ghost use lib.ListN.{length};
 ghost use Rattle.octets.specs.Octets.{part, placed};
 ghost use Rattle.octets.specs.Lists.{same};
-ghost use Rattle.work.specs.Regions.{recordWords, recordsRegion, region};
+ghost use Rattle.kept.specs.Regions.{recordWords, recordsRegion, region};
 ghost use Rattle.kept.specs.Records.{recordAt, bytesOf, bytesFrom, UnitsInside};
 ghost use Rattle.kept.specs.Slots.{SameAsked};
 use crate::records::HOME;
 use crate::records::SIZE;
 use crate::records::START;
-use work::RECORD;
+use crate::regions::RECORD;
 
 // The bytes of record i, where it is a unit of the section home; the place behind them.
 fn copy_unit(b: &[u8], records: &[u32], i: usize, home: usize, out: &mut [u8], at: usize) -> usize
@@ -61,7 +61,7 @@ pub fn same_as_kept(b: &[u8], work: &[u32], number: usize, at: usize, size: usiz
     requires { ⌜ SameAsked (now b) (now work) number at size ⌝ }
     ensures { λ r. ⌜ r ≡ same (part (now (b .entry)) at size) (bytesOf (now (b .entry)) (recordAt (region (now (work .entry)) (length (now (b .entry)) / 4) recordsRegion) (number - 1))) ⌝ }
 {
-    let records = work::records(b.len() / 4);
+    let records = crate::regions::records(b.len() / 4);
     let first = records.start;
     let last = first + records.size;
     same_unit(b, &work[first..last], number - 1, at, size)

@@ -5,14 +5,14 @@ ghost use Prim.Native.Nat.{ℕ, _+_, _*_, _<_, _≤_, _^_};
 ghost use lib.ListN.{length};
 ghost use Rattle.octets.specs.Octets.{numbersOf, placed};
 ghost use Rattle.index.specs.Written.{startBytes};
-ghost use Rattle.work.specs.Regions.{recordWords};
+ghost use Rattle.kept.specs.Regions.{recordWords};
 ghost use Rattle.kept.specs.Columns.{versionFor, columnsFor, numbersIf, cellsFrom, codesIn};
 ghost use Rattle.kept.specs.Slots.{Within};
 ghost use Rattle.kept.specs.Indexed.{gridFrom, slotNumber, slotWidth, frontIn, indexIn};
 use crate::records::CELLS;
+use crate::regions::RECORD;
 use index::cells::COLUMNS;
 use numbers::tables::INDEX_2;
-use work::RECORD;
 
 // What an index of version 5 starts with.
 const START_5: u16 = numbers::tables::INDEX_5 as u16;

@@ -35,8 +35,26 @@ module _ (k : ℕ) (s : List ℕ) where
   unfolding followed groups _>>=_
   groups-open v e = groups-by k k 0 s (omega arith) ∙ rw e
 
+-- ---- no byte, and a first byte that is the last
+groups-none : (k : ℕ) (s : List ℕ) → length s ≡ 0 → groups (suc k) s ≡ refuse 12
+unfolding groups
+groups-none k [] h = refl
+groups-none k (b ∷ s) h = absurd (omega arith)
+
+groups-one : (k : ℕ) (s : List ℕ) (b : ℕ) → (length s ≡ 0 → ⊥) → b ≡ getD s 0 0 → b < 128 → groups (suc k) s ≡ pass (b, 1)
+groups-one k [] b h e g = absurd (h refl)
+groups-one k (c ∷ s) b h e g = rw e (groups-last k c s (rw e at g))
+
 -- ---- a tag, a name or a form
 module _ (s : List ℕ) where
+  pub short-none : length s ≡ 0 → refuse 12 ≡ short s
+  unfolding short
+  short-none h = sym (then-refuse _ _ _ (groups-none 2 s h))
+
+  pub short-one : (b : ℕ) → (length s ≡ 0 → ⊥) → b ≡ getD s 0 0 → b < 128 → pass (b, 1) ≡ short s
+  unfolding short
+  short-one b h e g = sym (then-pass _ _ _ (groups-one 2 s b h e g) ∙ passes _ _ _ (le-leb b 65535 (omega arith)))
+
   pub short-value : (v n : ℕ) → groupsRead 3 s ≡ Ended v n → v ≤ 65535 → pass (v, n) ≡ short s
   unfolding short
   short-value v n e h = sym (then-pass _ _ _ (groups-ended 3 s v n e) ∙ passes _ _ _ (le-leb v 65535 h))
@@ -117,6 +135,12 @@ module _ (s : List ℕ) where
 
   pub unsigned-cut : groupsRead 9 s ≡ Cut → refuse 12 ≡ unsigned s
   unsigned-cut e = unsigned-not (ten-cut s e)
+
+  pub unsigned-none : length s ≡ 0 → refuse 12 ≡ unsigned s
+  unsigned-none h = unsigned-not (groups-none 9 s h)
+
+  pub unsigned-one : (b : ℕ) → (length s ≡ 0 → ⊥) → b ≡ getD s 0 0 → b < 128 → pass (b, 1) ≡ unsigned s
+  unsigned-one b h e g = unsigned-in (b, 1) (groups-one 9 s b h e g) (omega arith)
 
   pub unsigned-nine : (v n : ℕ) → Bytes s → groupsRead 9 s ≡ Ended v n → pass (v, n) ≡ unsigned s
   unsigned-nine v n b e = unsigned-in (v, n) (ten-ended s v n e) (omega (arith, groups-lt 9 s (v, n) b (groups-ended 9 s v n e)))

@@ -47,10 +47,17 @@ fn read_groups(k: usize, s: &[u8]) -> Groups
     Groups::Open(value)
 }
 
-// A tag, a name or a form: at most 3 bytes, and at most 65,535.
+// A tag, a name or a form: at most 3 bytes, and at most 65,535. Most are one byte, which needs no loop.
 pub fn read_short(s: &[u8]) -> Number
     ensures { λ r. ⌜ numberCheck r ≡ short (now (s .entry)) ⌝ }
 {
+    if s.len() == 0 {
+        return Number::Refused;
+    }
+    let first = octets::wide_byte(s[0]);
+    if first < 128 {
+        return Number::Is(first, 1);
+    }
     match read_groups(3, s) {
         Groups::Ended(value, size) => {
             if 65535 < value {
@@ -71,6 +78,13 @@ pub fn read_short(s: &[u8]) -> Number
 pub fn read_unsigned(s: &[u8]) -> Number
     ensures { λ r. ⌜ numberCheck r ≡ unsigned (now (s .entry)) ⌝ }
 {
+    if s.len() == 0 {
+        return Number::Refused;
+    }
+    let first = octets::wide_byte(s[0]);
+    if first < 128 {
+        return Number::Is(first, 1);
+    }
     match read_groups(9, s) {
         Groups::Ended(value, size) => {
             return Number::Is(value, size);

@@ -25,7 +25,7 @@ leastUnitBytes = 20
 abbrev pub workForWord : ℕ
 workForWord = 20
 
--- Words of work for each kept string: three of its row and four slots.
+-- Words of work for each kept string: three of its row, two links, the place of an entry and a root.
 abbrev pub stringWords : ℕ
 stringWords = 7
 

@@ -11,7 +11,7 @@ pub const SECTION_LIMIT: usize = 8_388_607;
 // Words of work for each word of the bundle.
 pub const WORK_FOR_WORD: usize = 20;
 
-// Words of work for each kept string: three of its row and four slots.
+// Words of work for each kept string: three of its row, two links, the place of an entry and a root.
 pub const STRING_WORDS: usize = 7;
 
 // The small packer: the longest bundle, and its own words of work.

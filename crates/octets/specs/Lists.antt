@@ -2,8 +2,10 @@
 -- Assumes nothing.
 use mathlib.Core.Bool.{Bool, true, false, not}
 use mathlib.Core.List.{List, [], _∷_, _++_}
-use Prim.Native.Nat.{ℕ, suc, _+_}
+use mathlib.Core.Path.{_≡_}
+use Prim.Native.Nat.{ℕ, suc, _+_, _<_, _≤_}
 use lib.Dec.{eqb}
+use lib.ListN.{length, getD}
 
 unfoldable pub joined : List (List ℕ) → List ℕ
 joined [] = []
@@ -44,3 +46,10 @@ distinct (n ∷ ns) = elim (has ns n) [ true ↦ false | false ↦ distinct ns ]
 -- both numbers are zero or both are not
 unfoldable pub zeroTogether : ℕ → ℕ → Bool
 zeroTogether a b = elim (eqb a 0) [ true ↦ eqb b 0 | false ↦ not (eqb b 0) ]
+
+-- n is the place of the first zero from a place on, and the length where there is none
+pub record FirstZero (s : List ℕ) (from n : ℕ) : Type 0 where
+  pub reached : from ≤ n
+  pub within : n ≤ length s
+  pub found : n < length s → getD s n 0 ≡ 0
+  pub before : (i : ℕ) → from ≤ i → i < n → getD s i 0 ≡ 0 → ⊥

@@ -3,6 +3,7 @@
 use mathlib.Core.Bool.{Bool, true, false}
 use mathlib.Core.List.{List, [], _∷_, _++_}
 use Prim.Native.Nat.{ℕ, zero, suc, _+_, _*_, _/_, _%_}
+use lib.Dec.{eqb}
 use lib.ListN.{length, take, drop, replicate}
 
 -- the n bytes of s from a place on
@@ -50,6 +51,11 @@ bytesOf false w n = littleOf w n
 unfoldable pub numbersOf : Bool → ℕ → List ℕ → List ℕ
 numbersOf big w [] = []
 numbersOf big w (n ∷ ns) = bytesOf big w n ++ numbersOf big w ns
+
+-- 128 in place of each byte that is zero, and zero in place of each other
+unfoldable pub zeroMarks : List ℕ → List ℕ
+zeroMarks [] = []
+zeroMarks (b ∷ s) = elim (eqb b 0) [ true ↦ 128 | false ↦ 0 ] ∷ zeroMarks s
 
 -- n zeros
 unfoldable pub zeros : ℕ → List ℕ

@@ -10,6 +10,7 @@ use Rattle.octets.specs.Lists
 use Rattle.octets.specs.Octets
 use Rattle.bundle.specs.Bundle
 use Rattle.bundle.specs.Encoding
+use Rattle.bundle.specs.InitialLength
 use Rattle.bundle.specs.Written as BundleWritten
 use Rattle.leb128.specs.Leb128
 use Rattle.unit.specs.Abbreviations
@@ -196,5 +197,5 @@ abbrev pub Examples : Type 0
 Examples = Refusals × Tables × Packages
 
 pub examples : Examples
-unfolding Checked._>>=_ Checked.require Lists.joined Lists.those Lists.all Lists.any Lists.same Lists.has Lists.distinct Lists.zeroTogether Octets.part Octets.little Octets.bigFrom Octets.number Octets.numberAt Octets.numbersIn Octets.littleOf Octets.bigOf Octets.bytesOf Octets.numbersOf Octets.zeros Bundle.filledUp Bundle.objectStep Bundle.sectionStep Bundle.endStep Bundle.stepOf Bundle.stepAt Bundle.followed Bundle.itemsFrom Bundle.items Bundle.leading Bundle.objectsOf Bundle.objectFirst Bundle.bundleOf Bundle.lengthGood Bundle.partsOf Bundle.count Bundle.firstPart Bundle.body Encoding.encodingOf Encoding.encodingGood BundleWritten.wordBytes BundleWritten.headBytes BundleWritten.sectionBytes BundleWritten.objectBytes BundleWritten.endBytes BundleWritten.written Leb128.groups Leb128.short Leb128.unsigned Leb128.signedSize Abbreviations.attributeAt Abbreviations.attributesThen Abbreviations.attributesFrom Abbreviations.attributesOf Abbreviations.declarationAt Abbreviations.declarationsThen Abbreviations.declarationsFrom Abbreviations.declarationsOf Abbreviations.declarationOf Forms.forms Forms.widthIn Forms.zeroEnded Forms.valueSize Root.needed Root.plainValue Root.valueOf Root.identityAt Root.identityIn Root.rootTag Root.rootIdentity UnitRead.lengthField UnitRead.unitSize UnitRead.isFive UnitRead.addressPlace UnitRead.commonSize UnitRead.behindCommon UnitRead.identityFive UnitRead.identityFour UnitRead.identityOf UnitRead.unitBy Strings.headerSize Strings.headerTrue Strings.entriesIn Strings.entriesOf Strings.upToZero Strings.stringAt Strings.stringsAt Strings.put Strings.putAll Strings.firstUses Strings.ended Strings.strOf Strings.offsetIn Strings.remapped Columns.columnsFour Columns.columnsFive Columns.columnsOf Columns.columnIn Index.versionOf Index.columnsMost Index.codeGood Index.powerFrom Index.leastPower Index.slotsGood Index.layout Index.indexOf Index.placeOf Index.cellAt Index.cellOf Probing.firstSlot Probing.stride Probing.look Probing.search Probing.probe Probing.slotsFor Probing.freeFrom Probing.place Probing.placeAll Probing.unused Probing.slotsOf Rows.shared Rows.neededCodes Rows.isSome Rows.rowOf Rows.cellIs Rows.ownPlace Rows.partGood Rows.rowContributions Rows.rowNumbers Rows.naming Rows.theOne Rows.abbrevPart Rows.wholeContributions IndexWritten.presentColumns IndexWritten.offsetOf IndexWritten.sizeOf IndexWritten.grid IndexWritten.startBytes IndexWritten.indexWith IndexWritten.indexBytes Filing.isUnder Filing.indexFor Filing.lengths Filing.indexByPlace Filing.abbreviationsFor Filing.contributionsOf Filing.skipped Filing.unitAt Filing.unitsFrom Filing.unitsIn Filing.grown Filing.filingFrom Filing.firstWord Filing.filingOf Filing.keep Filing.keepAll Filing.kept Input.present Input.repeated Input.wrongCodes Input.onlyOnce Input.editionGood Input.complete Input.besideInfo Input.formOf Input.inputIndex Input.wholePieces Input.isPacked Input.tiledPieces Input.unitSections Input.openedWhole Input.openedTiled Input.opened Input.inputOf Pieces.pieceOf Pieces.piecesOf Pieces.usedIn Pieces.remappedAll Tiles.notEmpty Tiles.namedIn Tiles.namedBy Tiles.named Tiles.sameParts Tiles.startsAt Tiles.tilesFrom Tiles.tiles Filing.isPackage Pack.cells Pack.longer Pack.entriesFrom Pack.rowsOf Pack.unitBytes Pack.sharedBytes Pack.allUsed Pack.stringTable Pack.sectionList Pack.nonEmpty Pack.packageSections Pack.packageObjects Pack.judged Pack.answered Pack.packed
+unfolding Checked._>>=_ Checked.require Lists.joined Lists.those Lists.all Lists.any Lists.same Lists.has Lists.distinct Lists.zeroTogether Octets.part Octets.little Octets.bigFrom Octets.number Octets.numberAt Octets.numbersIn Octets.littleOf Octets.bigOf Octets.bytesOf Octets.numbersOf Octets.zeros Bundle.filledUp Bundle.objectStep Bundle.sectionStep Bundle.endStep Bundle.stepOf Bundle.stepAt Bundle.followed Bundle.itemsFrom Bundle.items Bundle.leading Bundle.objectsOf Bundle.objectFirst Bundle.bundleOf Bundle.lengthGood Bundle.partsOf Bundle.count Bundle.firstPart Bundle.body Encoding.encodingOf Encoding.encodingGood BundleWritten.wordBytes BundleWritten.headBytes BundleWritten.sectionBytes BundleWritten.objectBytes BundleWritten.endBytes BundleWritten.written Leb128.groups Leb128.short Leb128.unsigned Leb128.signedSize Abbreviations.attributeAt Abbreviations.attributesThen Abbreviations.attributesFrom Abbreviations.attributesOf Abbreviations.declarationAt Abbreviations.declarationsThen Abbreviations.declarationsFrom Abbreviations.declarationsOf Abbreviations.declarationOf Forms.forms Forms.widthIn Forms.zeroEnded Forms.valueSize Root.needed Root.plainValue Root.valueOf Root.identityAt Root.identityIn Root.rootTag Root.rootIdentity InitialLength.marked InitialLength.lengthField InitialLength.lengthStated UnitRead.lengthGood UnitRead.unitSize UnitRead.isFive UnitRead.addressPlace UnitRead.commonSize UnitRead.behindCommon UnitRead.identityFive UnitRead.identityFour UnitRead.identityOf UnitRead.unitBy Strings.headerSize Strings.headerTrue Strings.entriesIn Strings.entriesOf Strings.upToZero Strings.stringAt Strings.stringsAt Strings.put Strings.putAll Strings.firstUses Strings.ended Strings.strOf Strings.offsetIn Strings.remapped Columns.columnsFour Columns.columnsFive Columns.columnsOf Columns.columnIn Index.versionOf Index.columnsMost Index.codeGood Index.powerFrom Index.leastPower Index.slotsGood Index.layout Index.indexOf Index.placeOf Index.cellAt Index.cellOf Probing.firstSlot Probing.stride Probing.look Probing.search Probing.probe Probing.slotsFor Probing.freeFrom Probing.place Probing.placeAll Probing.unused Probing.slotsOf Rows.shared Rows.neededCodes Rows.isSome Rows.rowOf Rows.cellIs Rows.ownPlace Rows.partGood Rows.rowContributions Rows.rowNumbers Rows.naming Rows.theOne Rows.abbrevPart Rows.wholeContributions IndexWritten.presentColumns IndexWritten.offsetOf IndexWritten.sizeOf IndexWritten.grid IndexWritten.startBytes IndexWritten.indexWith IndexWritten.indexBytes Filing.isUnder Filing.indexFor Filing.lengths Filing.indexByPlace Filing.abbreviationsFor Filing.contributionsOf Filing.skipped Filing.unitAt Filing.unitsFrom Filing.unitsIn Filing.grown Filing.filingFrom Filing.firstWord Filing.filingOf Filing.keep Filing.keepAll Filing.kept Input.present Input.repeated Input.wrongCodes Input.onlyOnce Input.editionGood Input.complete Input.besideInfo Input.formOf Input.inputIndex Input.wholePieces Input.isPacked Input.tiledPieces Input.unitSections Input.openedWhole Input.openedTiled Input.opened Input.inputOf Pieces.pieceOf Pieces.piecesOf Pieces.usedIn Pieces.remappedAll Tiles.notEmpty Tiles.namedIn Tiles.namedBy Tiles.named Tiles.sameParts Tiles.startsAt Tiles.tilesFrom Tiles.tiles Filing.isPackage Pack.cells Pack.longer Pack.entriesFrom Pack.rowsOf Pack.unitBytes Pack.sharedBytes Pack.allUsed Pack.stringTable Pack.sectionList Pack.nonEmpty Pack.packageSections Pack.packageObjects Pack.judged Pack.answered Pack.packed
 examples = ((refl, refl, refl, refl, refl, refl, refl, refl, refl, refl, refl, refl, refl, refl, refl, refl, refl, refl, refl, refl, refl, refl, refl, refl, refl, refl, refl, refl, refl), (refl, refl, refl, refl, refl), (refl, refl, refl, refl, refl, refl, refl, refl, refl, refl, refl))

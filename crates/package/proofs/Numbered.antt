@@ -11,7 +11,8 @@ use Rattle.octets.specs.Lists.{any}
 use Rattle.octets.specs.Checked.{Check}
 use Rattle.octets.proofs.Refusals.{Between, between-pass as passes, between-refuse as refuses, between-require as requires, between-bind as binds, between-choice as chooses, between-only as only}
 use Rattle.bundle.specs.Encoding.{Encoding}
-use Rattle.unit.specs.UnitRead.{UnitRead, lengthField, unitSize, isFive, behindCommon, identityFive, identityFour, identityOf, unitBy}
+use Rattle.bundle.specs.InitialLength.{lengthField}
+use Rattle.unit.specs.UnitRead.{UnitRead, unitSize, isFive, behindCommon, identityFive, identityFour, identityOf, unitBy}
 use Rattle.unit.proofs.Rooted.{only-rootIdentity}
 use Rattle.index.specs.Index.{Index, Contribution, cellOf}
 use Rattle.index.specs.Probing.{Probe, found, absent, probe}
@@ -41,7 +42,7 @@ identity e home abbreviations u = chooses (isFive e) _ _ (five e (getD u (length
 
 sized : (e : Encoding) (s : List ℕ) → Numbered (unitSize e s)
 unfolding unitSize
-sized e s = binds _ _ (requires _ 11 refl) (λ _. chooses (eqb (e .width) 4) _ _ (binds _ _ (requires _ 11 refl) (λ _. passes _)) (binds _ _ (requires _ 11 refl) (λ _. passes _)))
+sized e s = binds _ _ (requires _ 11 refl) (λ _. binds _ _ (requires _ 11 refl) (λ _. passes _))
 
 read-numbered : (e : Encoding) (home : ℕ) (abbreviations : ℕ → Check (List ℕ)) → ((size : ℕ) → Numbered (abbreviations size)) → (s : List ℕ) → Numbered (unitBy e home abbreviations s)
 unfolding unitBy

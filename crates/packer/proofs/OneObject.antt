@@ -20,14 +20,14 @@ use Rattle.bundle.proofs.Lies.{Lies, leading-lie}
 use Rattle.bundle.proofs.Onward.{size-behind}
 use Rattle.bundle.proofs.Sections.{body-part}
 use Rattle.bundle.proofs.ScanFacts.{left-sections, scan-next, first-within}
-use Rattle.strings.specs.Strings.{entriesIn, putAll}
+use Rattle.strings.specs.Strings.{entriesIn}
 use Rattle.strings.proofs.StrOffsets.{Sound, sound, entries-few}
 use Rattle.strings.proofs.Ends.{length-stringsAt}
 use Rattle.index.specs.Rows.{BySection}
 use Rattle.package.specs.Pieces.{Piece, usedIn}
 use Rattle.package.specs.Input.{Input, unitSections, inputOf}
 use Rattle.package.specs.Filing.{Filed, unitsIn, grown}
-use Rattle.package.specs.Pack.{allUsed, stringTable}
+use Rattle.package.specs.Pack.{allUsed}
 use Rattle.package.proofs.Each.{each-head, each-tail}
 use Rattle.package.proofs.Pieces.{PieceFacts, PiecesFacts, bytesOf}
 use Rattle.package.proofs.Inputs.{opened-parts, pieced, openedOf, input-parts}
@@ -130,7 +130,7 @@ module _ (b : List ℕ) (from : ℕ) (h : Ahead b from) where
         parts = sectionsFrom b from;
         is = scan-is;
         room = object-room big first w st bases is us a;
-        strings = stringTable is;
+        strings = allUsed is;
         kept = a .strings;
       }
 
@@ -139,15 +139,15 @@ module _ (b : List ℕ) (from : ℕ) (h : Ahead b from) where
         abbrev checked : Check Input
         checked = inputOf b big first (record { word = word; parts = sectionsFrom b from })
 
-        answered : InputRead b v st (stringTable is) checked r
-        answered = read from (sectionsFrom b from) (stringTable is) scan-is (object-room big first w st bases is us a) (a .strings)
+        answered : InputRead b v st (allUsed is) checked r
+        answered = read from (sectionsFrom b from) (allUsed is) scan-is (object-room big first w st bases is us a) (a .strings)
 
         -- the object is refused
         pub object-refused : (r .code ≡ 0 → ⊥) → (u : ObjectFiled) → u .code ≡ r .code → (v′ : List ℕ) → ObjectIs b big first v′ bases is us checked u
         unfolding InputRead ObjectIs
         object-refused z u q v′ = go checked answered
           where
-            go : (m : Check Input) → InputRead b v st (stringTable is) m r → ObjectIs b big first v′ bases is us m u
+            go : (m : Check Input) → InputRead b v st (allUsed is) m r → ObjectIs b big first v′ bases is us m u
             go (pass i) f = absurd (z (f .0))
             go (refuse m) f = q ∙ f
 
@@ -157,14 +157,14 @@ module _ (b : List ℕ) (from : ℕ) (h : Ahead b from) where
           pub is-checked : checked ≡ pass i
           pub parts : ObjectParts b (encodingOf big first) (sectionsFrom b from) i
           pub input : InputIs b (r .input) i
-          pub strings : StringsIn b v (r .st .strings) (putAll (stringTable is) (usedIn (i .pieces)))
+          pub strings : StringsIn b v (r .st .strings) (allUsed is ++ usedIn (i .pieces))
           pub ready : InputReady b (r .input) i from v (r .st) bases us
 
         pub object-read : r .code ≡ 0 → ObjectRead
         unfolding InputRead
         object-read z = go checked refl answered
           where
-            go : (m : Check Input) → checked ≡ m → InputRead b v st (stringTable is) m r → ObjectRead
+            go : (m : Check Input) → checked ≡ m → InputRead b v st (allUsed is) m r → ObjectRead
             go (pass i) e f =
                 let p = object-parts b big first (record { word = word; parts = sectionsFrom b from }) i e in
                 let at : AtUnit b (r .input) i from v (withStrings st (r .st .strings)) bases us [] =

@@ -1,4 +1,4 @@
--- The slots of identities seen, cleared table by table, and the strings.
+-- The slots of identities seen, cleared table by table, and the roots of the strings' index.
 -- Assumes nothing.
 use mathlib.Core.Path.{_≡_, ap, _∙_, subst}
 use mathlib.Core.Logic.{⊎-elim}
@@ -7,16 +7,16 @@ use Prim.Native.Nat.{ℕ, _+_, _*_, _-_, _≤_}
 use native.Mathlib.Omega.{arith}
 use lib.ListN.{length, take, drop}
 use borrow.Rule.Slice.PartMut.{putMid}
-use Rattle.work.specs.Regions.{stringsRegion, slotsRegion}
-use Rattle.work.proofs.Stores.{strings-within, strings-slots, tables-apart}
-use Rattle.work.proofs.Lending.{lent-fits, lent-length, lent-left, only-lent}
+use Rattle.kept.specs.Regions.{rootsRegion, slotsRegion}
+use Rattle.kept.proofs.RegionStores.{roots-within, roots-slots, tables-apart}
+use Rattle.kept.proofs.RegionLending.{lent-fits, lent-length, lent-left, only-lent}
 use Rattle.octets.specs.Octets.{zeros}
 use Rattle.octets.proofs.Placed.{length-zeros}
 use Rattle.kept.specs.Held.{OneOrTwo}
 use Rattle.kept.specs.Slots.{seenSlots, slotsIn, Placeable, SlotsLeft}
 use Rattle.kept.proofs.SeenSlots.{seen-power, seen-le}
 use Rattle.kept.proofs.Placing.{slots-stay, cleared-slots}
-use Rattle.packer.specs.Objects.{Clearable, SlotsCleared, StringsCleared, NoneHeld}
+use Rattle.packer.specs.Objects.{Clearable, SlotsCleared, RootsCleared, NoneHeld}
 
 -- they lie in work
 pub clearing : (n words table count : ℕ) → count ≡ seenSlots n → Clearable n words → Placeable n words table 0 count
@@ -35,22 +35,22 @@ both-cleared n w u v k first second t o = ⊎-elim
     (λ (e : t ≡ 2). rw e (second .0))
     o
 
--- and the strings
-pub all-cleared : (n : ℕ) (w u v x : List ℕ) → Clearable n (length w) → SlotsCleared n 1 w u → SlotsCleared n 2 u v → StringsCleared n v x → NoneHeld n x
+-- and the roots
+pub all-cleared : (n : ℕ) (w u v x : List ℕ) → Clearable n (length w) → SlotsCleared n 1 w u → SlotsCleared n 2 u v → RootsCleared n v x → NoneHeld n x
 all-cleared n w u v x k first second third = record {
-  slots = λ t o. slots-stay n v x t (seenSlots n) (seen-le n (k .some)) (third .only .others (slotsRegion t) (strings-slots t)) ∙ both-cleared n w u v k first second t o;
-  strings = third .zero;
+  slots = λ t o. slots-stay n v x t (seenSlots n) (seen-le n (k .some)) (third .only .others (slotsRegion t) (roots-slots t)) ∙ both-cleared n w u v k first second t o;
+  roots = third .zero;
 }
 
--- x stands in the place of the strings
-module _ (n from many : ℕ) (w : List ℕ) (k : Clearable n (length w)) (ef : from ≡ stringsRegion .start * n) (em : many ≡ stringsRegion .words * n) where
-  pub strings-end : from + many ≤ length w
-  strings-end = lent-fits stringsRegion strings-within n from many w (k .room) ef em
+-- x stands in the place of the roots
+module _ (n from many : ℕ) (w : List ℕ) (k : Clearable n (length w)) (ef : from ≡ rootsRegion .start * n) (em : many ≡ rootsRegion .words * n) where
+  pub roots-end : from + many ≤ length w
+  roots-end = lent-fits rootsRegion roots-within n from many w (k .room) ef em
 
-  pub strings-cleared : (x v : List ℕ) → x ≡ zeros (length (take (from + many - from) (drop from w))) → v ≡ putMid from (from + many - from) w x → StringsCleared n w v
-  strings-cleared x v z p =
+  pub roots-cleared : (x v : List ℕ) → x ≡ zeros (length (take (from + many - from) (drop from w))) → v ≡ putMid from (from + many - from) w x → RootsCleared n w v
+  roots-cleared x v z p =
       let same : length x ≡ length (take (from + many - from) (drop from w)) = ap length z ∙ length-zeros (length (take (from + many - from) (drop from w))) in
       record {
-        zero = lent-left stringsRegion strings-within n from many w (k .room) ef em x v same p ∙ z ∙ ap zeros (lent-length stringsRegion strings-within n from many w (k .room) ef em);
-        only = only-lent stringsRegion strings-within n from many w (k .room) ef em x v same p;
+        zero = lent-left rootsRegion roots-within n from many w (k .room) ef em x v same p ∙ z ∙ ap zeros (lent-length rootsRegion roots-within n from many w (k .room) ef em);
+        only = only-lent rootsRegion roots-within n from many w (k .room) ef em x v same p;
       }

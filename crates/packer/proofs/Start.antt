@@ -4,10 +4,12 @@ use mathlib.Core.Path.{_≡_, refl, ap, _∙_, subst}
 use mathlib.Core.Bool.{Bool, false}
 use mathlib.Core.Logic.{⊎-elim}
 use mathlib.Core.List.{List, []}
-use Prim.Native.Nat.{ℕ, zero, suc, _≤_}
+use Prim.Native.Nat.{ℕ, zero, suc, _*_, _-_, _≤_}
+use native.Mathlib.Decide.{decLe}
 use native.Mathlib.Nat.{not-suc-le-zero}
 use native.Mathlib.Omega.{arith}
 use lib.ListN.{length, getD, replicate}
+use Rattle.numbers.specs.Limits.{workForWord}
 use Rattle.octets.specs.Octets.{zeros}
 use Rattle.octets.specs.Lists.{those, joined}
 use Rattle.octets.specs.Checked.{pass}
@@ -15,22 +17,23 @@ use Rattle.octets.proofs.Placed.{getD-zeros}
 use Rattle.bundle.specs.Bundle.{Bundle, bundleOf}
 use Rattle.bundle.proofs.Lies.{here-span}
 use Rattle.bundle.proofs.Objects.{objects-none}
-use Rattle.strings.specs.Strings.{putAll, firstUses}
-use Rattle.strings.proofs.Keeping.{kept-cleared}
-use Rattle.work.specs.Regions.{recordsRegion, region}
+use Rattle.strings.proofs.Keeping.{kept-none}
+use Rattle.kept.specs.Regions.{recordsRegion, stringsRegion, rootsRegion, region}
+use Rattle.kept.proofs.RegionStores.{strings-within, length-region, strings-roots}
+use Rattle.strings.specs.Indexed.{roomOf}
 use Rattle.package.specs.Filing.{kept, keepAll, countOf, countFrom}
-use Rattle.package.specs.Pack.{unitBytes, allUsed, stringTable}
+use Rattle.package.specs.Pack.{unitBytes, allUsed}
 use Rattle.kept.specs.Records.{recordsFrom, ofTable}
 use Rattle.kept.specs.Slots.{seenSlots, slotsIn}
 use Rattle.kept.specs.Held.{identitiesOf, none, TableHeld, pick, OneOrTwo, UnitsHeld}
 use Rattle.kept.specs.State.{UnitsGood}
 use Rattle.kept.specs.declared.Table.{Table}
 use Rattle.kept.proofs.Columning.{columns-none}
+use Rattle.kept.proofs.Moved.{getD-past}
 use Rattle.kept.proofs.Holding.{pick-first, pick-second, units-none}
 use Rattle.kept.proofs.Seen.{seen-none}
 use Rattle.filing.specs.State.{wordsIn}
 use Rattle.filing.specs.ByObject.{AtObject}
-use Rattle.packer.proofs.Clearing.{cleared-again}
 use Rattle.packer.specs.Objects.{noColumns, noneFiled, NoneHeld, Cleared}
 
 -- ---- equal elements, the default among them
@@ -47,10 +50,6 @@ kept-nothing = refl
 bytes-none : (home : ℕ) → unitBytes [] home ≡ []
 unfolding unitBytes those joined
 bytes-none home = refl
-
-strings-none : stringTable [] ≡ []
-unfolding stringTable allUsed firstUses putAll
-strings-none = refl
 
 used-none : allUsed [] ≡ []
 unfolding allUsed
@@ -83,6 +82,17 @@ held-none five b w n z =
 pub bundle-long : (b : List ℕ) (k : Bundle) → bundleOf b ≡ pass k → 4 ≤ length b
 bundle-long b k e = let o = objects-none b k e in omega (arith, here-span b 4 (o .rest) (o .left))
 
+-- roots that are zero, as words of the strings
+roots-zero : (w : List ℕ) (n : ℕ) → workForWord * n ≤ length w → region w n rootsRegion ≡ zeros (rootsRegion .words * n) → (j : ℕ) → 6 * roomOf (region w n stringsRegion) ≤ j
+    → getD (region w n stringsRegion) j 0 ≡ 0
+unfolding roomOf
+roots-zero w n room z j h =
+    let long = length-region stringsRegion strings-within n w room in
+    elim (decLe (suc j) (7 * n)) [
+      | yes l ↦ strings-roots w n j (omega (arith, long)) l ∙ ap (λ (r : List ℕ). getD r (j - 6 * n) 0) z ∙ getD-zeros (rootsRegion .words * n) (j - 6 * n)
+      | no l ↦ getD-past (region w n stringsRegion) 0 j (omega (arith, long))
+    ]
+
 -- all that is held before the first object
 pub at-start : {big : Bool} {b w : List ℕ} (first : ℕ) → Cleared big b w → AtObject b big first 4 w noneFiled (λ c. 0) [] []
 unfolding noneFiled UnitsGood countOf countFrom
@@ -104,6 +114,6 @@ at-start {big} {b} {w} first c =
         repeated = refl;
         named = refl;
       };
-      strings = rw strings-none (kept-cleared b _ (cleared-again _ _ (c .none .strings)));
+      strings = rw used-none (kept-none b (region w (wordsIn b) stringsRegion) (λ j h. roots-zero w (wordsIn b) (c .can .room) (c .none .roots) j h));
       used = rw used-none (omega arith);
     }

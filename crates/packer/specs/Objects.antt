@@ -11,7 +11,7 @@ use Rattle.octets.specs.Checked.{Check, pass, refuse}
 use Rattle.bundle.specs.Bundle.{Part, Bundle, items, bundleOf}
 use Rattle.bundle.specs.Scan.{Reaches, sectionsOf, placeBehind}
 use Rattle.index.specs.Rows.{BySection}
-use Rattle.work.specs.Regions.{stringsRegion, region, Only}
+use Rattle.kept.specs.Regions.{rootsRegion, region, Only}
 use Rattle.package.specs.Input.{Input, unitSections, inputOf}
 use Rattle.package.specs.Filing.{Filed, Filing, unitsIn, grown, filingOf}
 use Rattle.kept.specs.Held.{OneOrTwo}
@@ -112,7 +112,7 @@ noneFiled = record {
     types = 0;
   };
   bases = noSizes;
-  strings = record { count = 0; size = 0; over = false };
+  strings = record { count = 0; size = 0; entries = 0; over = false };
   skipped = record { repeats = 0; namesakes = 0 };
 }
 
@@ -126,17 +126,17 @@ pub record Clearable (n words : ℕ) : Type 0 where
 abbrev pub SlotsCleared : ℕ → ℕ → List ℕ → List ℕ → Type 0
 SlotsCleared n table w v = (slotsIn v n table (seenSlots n) ≡ zeros (seenSlots n)) × SlotsLeft n table 0 (seenSlots n) w v
 
--- the strings and the slots of their index are zero, and nothing else has changed
-pub record StringsCleared (n : ℕ) (w v : List ℕ) : Type 0 where
-  pub zero : region v n stringsRegion ≡ zeros (stringsRegion .words * n)
-  pub only : Only stringsRegion n w v
+-- the roots of the strings' index are zero, and nothing else has changed
+pub record RootsCleared (n : ℕ) (w v : List ℕ) : Type 0 where
+  pub zero : region v n rootsRegion ≡ zeros (rootsRegion .words * n)
+  pub only : Only rootsRegion n w v
 
--- no identity is seen in either table, and no string is kept
+-- no identity is seen in either table, and no root leads to a string
 pub record NoneHeld (n : ℕ) (w : List ℕ) : Type 0 where
   pub slots : (t : ℕ) → OneOrTwo t → slotsIn w n t (seenSlots n) ≡ zeros (seenSlots n)
-  pub strings : region w n stringsRegion ≡ zeros (stringsRegion .words * n)
+  pub roots : region w n rootsRegion ≡ zeros (rootsRegion .words * n)
 
--- a bundle that can be read, and work that is long enough, with slots and strings that are cleared; the rest of work may hold anything
+-- a bundle that can be read, and work that is long enough, with slots and roots that are cleared; the rest of work may hold anything
 pub record Cleared (big : Bool) (b w : List ℕ) : Type 0 where
   pub bundle : Bundle
   pub reads : bundleOf b ≡ pass bundle

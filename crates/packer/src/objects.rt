@@ -146,6 +146,7 @@ fn nothing_filed() -> InProgress
         strings: StringTable {
             count: 0,
             size: 0,
+            entries: 0,
             over: false,
         },
         skipped: Skipped {

@@ -73,7 +73,27 @@ fn page_end(i: usize, n: usize) -> usize
     i + PAGE
 }
 
+// Whether the last word is another than zero: then the words were used before, and have their pages.
+fn is_used(s: &[u32]) -> bool {
+    let n = s.len();
+    if n == 0 {
+        return false;
+    }
+    s[n - 1] != 0
+}
+
 pub fn clear_lent(s: &mut [u32])
+    ensures { λ _. ⌜ now (s .exit) ≡ zeros (length (now (s .entry))) ⌝ }
+{
+    if is_used(s) {
+        octets::clear_words(s);
+        return;
+    }
+    clear_pages(s);
+}
+
+// Page by page, with no store to pages that are zero.
+fn clear_pages(s: &mut [u32])
     ensures { λ _. ⌜ now (s .exit) ≡ zeros (length (now (s .entry))) ⌝ }
 {
     let mut i = 0;

@@ -20,7 +20,7 @@ use Rattle.numbers.specs.Names.{sectionName}
 use Rattle.numbers.specs.Refusals.{noUnit}
 use Rattle.numbers.specs.Limits.{sectionLimit, packageLimit}
 use Rattle.bundle.specs.Written.{Section, written}
-use Rattle.unit.specs.UnitRead.{lengthField}
+use Rattle.bundle.specs.InitialLength.{marked, lengthField}
 use Rattle.bundle.proofs.Every.{Every, nothing, also}
 use Rattle.bundle.proofs.WrittenParts.{bytesIn}
 use Rattle.elf.specs.File.{Header, File, headerAt, headersAt, noHeader, unstored, bodyOf, inside, codeOf, isWanted, ended, wantedOf, fileOf, elfOf}
@@ -268,5 +268,5 @@ module _ (big : Bool) (machine : ℕ) (fm : machine < 256 ^ 2) (ss : List Sectio
       ∙ from-unstated f file are-readable [] (sym e ∙ info-is) (bad-version big [] (no-version big))
     where
       no-version : (big : Bool) → (eqb (encodingStated big [] .version) 4 || eqb (encodingStated big [] .version) 5) ≡ false
-      no-version true = unfold encodingStated versionStated widthStated lengthField numberAt number part bigFrom in refl
-      no-version false = unfold encodingStated versionStated widthStated lengthField numberAt number part little in refl
+      no-version true = unfold encodingStated versionStated widthStated marked lengthField numberAt number part bigFrom in refl
+      no-version false = unfold encodingStated versionStated widthStated marked lengthField numberAt number part little in refl

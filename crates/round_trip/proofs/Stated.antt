@@ -1,97 +1,73 @@
 -- The encoding that the first unit of info states is the one that it was read in.
 -- Assumes nothing.
-use mathlib.Core.Path.{_≡_, sym, ap, _∙_, subst}
+use mathlib.Core.Path.{_≡_, refl, sym, ap, _∙_, subst}
 use mathlib.Core.Logic.{⊎-elim}
-use mathlib.Core.Bool.{true, _&&_, _||_}
+use mathlib.Core.Bool.{Bool, true, false, _&&_, _||_}
 use mathlib.Core.List.{List, _++_}
-use Prim.Native.Nat.{ℕ, _+_, _≤_}
+use Prim.Native.Nat.{ℕ, _+_, _≤_, _<_}
 use native.Mathlib.Omega.{arith}
 use native.Mathlib.Decide.{decLe}
 use lib.Dec.{eqb, leb, ltb}
 use lib.ListN.{length, take, getD, length-append}
-use lib.Seq.{take-append-le, length-take-le}
+use lib.Seq.{take-append-le, take-at, take-length, length-take-le}
 use borrow.Author.Tests.{eqb-true, ne-eqb, le-leb, leb-true, ltb-true}
 use Rattle.octets.specs.Octets.{numberAt}
 use Rattle.octets.specs.Checked.{pass}
-use Rattle.octets.proofs.Checks.{bind-pass, require-pass, pass-refuse, passes, and-both, and-left, and-right, or-cases}
+use Rattle.octets.proofs.Checks.{bind-pass, then-pass, require-pass, pass-refuse, passes, and-both, and-left, and-right, or-cases}
 use Rattle.octets.proofs.Numbers.{numberAt-front}
 use Rattle.bundle.specs.Encoding.{Encoding, encodingGood}
-use Rattle.unit.specs.UnitRead.{UnitRead, lengthField, isFive, addressPlace, commonSize, identityOf, unitOf}
-use Rattle.unit.specs.Headers.{fits, unitInside, narrowSize, wideSize, fieldsGood, kindOf, headerSize, withAddress, statedAddress}
-use Rattle.unit.proofs.Fields.{inside-narrow, inside-wide, fits-in, common-ge}
+use Rattle.bundle.specs.InitialLength.{marked, lengthField, lengthStated}
+use Rattle.bundle.proofs.InitialLengths.{number-alone, stated-narrow}
+use Rattle.unit.specs.UnitRead.{UnitRead, lengthGood, unitSize, isFive, addressPlace, commonSize, identityOf, unitOf}
+use Rattle.unit.specs.Headers.{fits, unitInside, fieldsGood, kindOf, headerSize, withAddress, statedAddress}
+use Rattle.unit.proofs.Fields.{good-narrow, good-wide, size-field, size-good, size-same, fits-in, common-ge}
 use Rattle.unit.proofs.Units.{unit-is, behindSize, inside-le, kinds, kind-short}
 use Rattle.unit.proofs.HeaderAlone.{address-there, alone-whole}
 use Rattle.elf.specs.Reader.{widthStated, versionStated, encodingStated, unitStated, objectWord}
 use Rattle.elf.specs.Held.{statedOf, wordWith}
 use Rattle.elf.specs.declared.stating.Stated.the-variants.{Is}
 use Rattle.elf.proofs.FirstUnit.{good-version}
-use Rattle.unit.proofs.Alone.{number-alone}
 
 -- ---- the size, in a section that goes on
-longer : (u rest : List ℕ) (n : ℕ) → n ≤ length u → n ≤ length (u ++ rest)
-longer u rest n h = omega (arith, length-append u rest)
-
 -- with the width that it states
 pub record Sized (e : Encoding) (s : List ℕ) (n : ℕ) : Type 0 where
   pub inside : unitInside e s ≡ pass n
   pub width : widthStated (e .big) s ≡ e .width
 
-module _ (e : Encoding) (u rest : List ℕ) (n : ℕ) where
-  narrow : e .width ≡ 4 → unitInside e u ≡ pass n → Sized e (u ++ rest) n
-  unfolding narrowSize fits widthStated
-  narrow w q =
-      let word = numberAt (e .big) 4 u 0 in
-      let a = require-pass (leb 4 (length u)) 11 _ n (sym (inside-narrow e u w) ∙ q) in
-      let b = require-pass (ltb word 0xFFFF_FFF0) 11 _ n (a .1) in
-      let c = require-pass (leb (4 + word) (length u)) 11 _ n (b .1) in
-      let four = leb-true 4 (length u) (a .0) in
-      let small = ltb-true word 0xFFFF_FFF0 (b .0) in
-      let fit = leb-true (4 + word) (length u) (c .0) in
-      let same : numberAt (e .big) 4 (u ++ rest) 0 ≡ word = numberAt-front (e .big) 4 u rest 0 (omega arith) in
-      record {
-        inside =
-            inside-narrow e (u ++ rest) w
-            ∙ passes (leb 4 (length (u ++ rest))) 11 _ (le-leb 4 (length (u ++ rest)) (longer u rest 4 four))
-            ∙ passes (ltb (numberAt (e .big) 4 (u ++ rest) 0) 0xFFFF_FFF0) 11 _ (ap (λ (k : ℕ). ltb k 0xFFFF_FFF0) same ∙ b .0)
-            ∙ ap (λ (k : ℕ). fits (u ++ rest) (4 + k)) same
-            ∙ fits-in (u ++ rest) (4 + word) (longer u rest (4 + word) fit)
-            ∙ c .1;
-        width = rw (widthStated, same, ne-eqb word 0xFFFF_FFFF (λ z. omega (arith, small, z))) (sym w);
-      }
+-- a length that starts as the width wants it states the width
+width-stated : (e : Encoding) (s : List ℕ) → encodingGood e ≡ true → lengthGood e s ≡ true → widthStated (e .big) s ≡ e .width
+unfolding widthStated encodingGood
+width-stated e s g h =
+    let versions = eqb (e .version) 4 || eqb (e .version) 5 in
+    let widths = eqb (e .width) 4 || eqb (e .width) 8 in
+    let one = and-left (versions && widths) (eqb (e .address) 4 || eqb (e .address) 8) g in
+    ⊎-elim
+    (λ z.
+    let small = ltb-true (lengthStated e s) 0xFFFF_FFF0 (sym (good-narrow e s z) ∙ h) in
+    rw (widthStated, unmarked (e .big) s (omega (arith, small, stated-narrow e s z))) (sym (eqb-true (e .width) 4 z)))
+    (λ z.
+    let w = eqb-true (e .width) 8 z in
+    rw (widthStated, sym (good-wide e s (ne-eqb (e .width) 4 (λ k. omega arith))) ∙ h) (sym w))
+    (or-cases (eqb (e .width) 4) (eqb (e .width) 8) (and-right versions widths one))
+  where
+    unmarked : (big : Bool) (s : List ℕ) → numberAt big 4 s 0 < 0xFFFF_FFF0 → marked big s ≡ false
+    unmarked big s l = unfold marked in ne-eqb (numberAt big 4 s 0) 0xFFFF_FFFF (λ z. omega arith)
 
-  wide : e .width ≡ 8 → unitInside e u ≡ pass n → Sized e (u ++ rest) n
-  unfolding wideSize fits widthStated
-  wide w q =
-      let word = numberAt (e .big) 4 u 0 in
-      let long = numberAt (e .big) 8 u 4 in
-      let a = require-pass (leb 12 (length u)) 11 _ n (sym (inside-wide e u w) ∙ q) in
-      let b = require-pass (eqb word 0xFFFF_FFFF) 11 _ n (a .1) in
-      let c = require-pass (leb (12 + long) (length u)) 11 _ n (b .1) in
-      let twelve = leb-true 12 (length u) (a .0) in
-      let fit = leb-true (12 + long) (length u) (c .0) in
-      let same : numberAt (e .big) 4 (u ++ rest) 0 ≡ word = numberAt-front (e .big) 4 u rest 0 (omega arith) in
-      let same8 : numberAt (e .big) 8 (u ++ rest) 4 ≡ long = numberAt-front (e .big) 8 u rest 4 (omega arith) in
-      record {
-        inside =
-            inside-wide e (u ++ rest) w
-            ∙ passes (leb 12 (length (u ++ rest))) 11 _ (le-leb 12 (length (u ++ rest)) (longer u rest 12 twelve))
-            ∙ passes (eqb (numberAt (e .big) 4 (u ++ rest) 0) 0xFFFF_FFFF) 11 _ (ap (λ (k : ℕ). eqb k 0xFFFF_FFFF) same ∙ b .0)
-            ∙ ap (λ (k : ℕ). fits (u ++ rest) (12 + k)) same8
-            ∙ fits-in (u ++ rest) (12 + long) (longer u rest (12 + long) fit)
-            ∙ c .1;
-        width = rw (widthStated, same, b .0) (sym w);
-      }
-
-  pub sized : encodingGood e ≡ true → unitInside e u ≡ pass n → Sized e (u ++ rest) n
-  unfolding encodingGood
-  sized g q =
-      let versions = eqb (e .version) 4 || eqb (e .version) 5 in
-      let widths = eqb (e .width) 4 || eqb (e .width) 8 in
-      let one = and-left (versions && widths) (eqb (e .address) 4 || eqb (e .address) 8) g in
-      ⊎-elim
-      (λ z. narrow (eqb-true (e .width) 4 z) q)
-      (λ z. wide (eqb-true (e .width) 8 z) q)
-      (or-cases (eqb (e .width) 4) (eqb (e .width) 8) (and-right versions widths one))
+pub sized : (e : Encoding) (u rest : List ℕ) (n : ℕ) → encodingGood e ≡ true → unitInside e u ≡ pass n → Sized e (u ++ rest) n
+unfolding unitInside fits
+sized e u rest n g q =
+    let a = bind-pass (unitSize e u) (fits u) n q in
+    let m = a .0 in
+    let b = require-pass (leb m (length u)) 11 (λ _. pass m) n (a .2) in
+    let fit = leb-true m (length u) (b .0) in
+    let field = size-field e u m (a .1) in
+    let front : take (length u) u ≡ take (length u) (u ++ rest) = take-length u ∙ sym (take-at u rest (length u) refl) in
+    let long = length-append u rest in
+    let size = size-same e (length u) u (u ++ rest) front (omega arith) m (omega arith) (a .1) in
+    record {
+      inside = then-pass (unitSize e (u ++ rest)) (fits (u ++ rest)) m size ∙ fits-in (u ++ rest) m (omega arith) ∙ b .1;
+      width = width-stated e (u ++ rest) g (size-good e (u ++ rest) m size);
+    }
 
 -- ---- the header of a unit that was read
 pub record Header (e : Encoding) (u : List ℕ) : Type 0 where

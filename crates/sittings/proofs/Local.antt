@@ -16,45 +16,11 @@ use Rattle.octets.proofs.Checks.{bind-pass, require-pass, pass-inj, passes, kno
 use Rattle.octets.proofs.Numbers.{numberAt-part}
 use Rattle.octets.proofs.Parts.{part-front}
 use Rattle.bundle.specs.Encoding.{Encoding}
-use Rattle.unit.specs.UnitRead.{Identity, UnitRead, isFive, lengthField, unitSize, addressPlace, commonSize, identityFour, identityOf, unitOf}
+use Rattle.bundle.specs.InitialLength.{lengthField}
+use Rattle.unit.specs.UnitRead.{Identity, UnitRead, isFive, unitSize, addressPlace, commonSize, identityFour, identityOf, unitOf}
+use Rattle.unit.proofs.Fields.{size-field, size-same}
 use Rattle.unit.proofs.Plain.{plain, unit-plain}
 use Rattle.unit.proofs.Alone.{unit-alone}
-
--- the length field lies in the unit that it counts
-field-within : (e : Encoding) (s : List ℕ) (n : ℕ) → unitSize e s ≡ pass n → lengthField e ≤ n
-unfolding unitSize lengthField
-field-within e s n q =
-    let r = require-pass (leb (lengthField e) (length s)) 11 _ n q in
-    ⊎-elim
-    (λ (t : eqb (e .width) 4 ≡ true).
-    let z = pass-inj (require-pass (ltb (numberAt (e .big) 4 s 0) 0xFFFF_FFF0) 11 (λ _. pass (4 + numberAt (e .big) 4 s 0)) n (rw t at (r .1)) .1) in
-    rw (lengthField, t) (subst (λ (k : ℕ). 4 ≤ k) z (omega arith)))
-    (λ (t : eqb (e .width) 4 ≡ false).
-    let z = pass-inj (require-pass (eqb (numberAt (e .big) 4 s 0) 0xFFFF_FFFF) 11 (λ _. pass (12 + numberAt (e .big) 8 s 4)) n (rw t at (r .1)) .1) in
-    rw (lengthField, t) (subst (λ (k : ℕ). 12 ≤ k) z (omega arith)))
-    (known (eqb (e .width) 4))
-
--- sections that agree in the length field state the same size
-size-same : (e : Encoding) (s s′ : List ℕ) (n : ℕ) → lengthField e ≤ length s′ → take (lengthField e) s ≡ take (lengthField e) s′ → unitSize e s ≡ pass n → unitSize e s′ ≡ pass n
-unfolding unitSize lengthField
-size-same e s s′ n l h q =
-    let r = require-pass (leb (lengthField e) (length s)) 11 _ n q in
-    passes (leb (lengthField e) (length s′)) 11 _ (le-leb _ _ l) ∙ ⊎-elim
-    (λ (t : eqb (e .width) 4 ≡ true).
-    let h4 : take 4 s ≡ take 4 s′ = rw (lengthField, t) at h in
-    let w : numberAt (e .big) 4 s′ 0 ≡ numberAt (e .big) 4 s 0 = number s′ s 4 4 0 (omega arith) (sym h4) in
-    rw (t, w) (rw t at (r .1)))
-    (λ (t : eqb (e .width) 4 ≡ false).
-    let h12 : take 12 s ≡ take 12 s′ = rw (lengthField, t) at h in
-    let w : numberAt (e .big) 4 s′ 0 ≡ numberAt (e .big) 4 s 0 = number s′ s 12 4 0 (omega arith) (sym h12) in
-    let v : numberAt (e .big) 8 s′ 4 ≡ numberAt (e .big) 8 s 4 = number s′ s 12 8 4 (omega arith) (sym h12) in
-    rw (t, w, v) (rw t at (r .1)))
-    (known (eqb (e .width) 4))
-  where
-    number : (x y : List ℕ) (k w at : ℕ) → at + w ≤ k → take k x ≡ take k y → numberAt (e .big) w x at ≡ numberAt (e .big) w y at
-    number x y k w at l p =
-        let z : 0 + at ≡ at = omega arith in
-        rw z at (sym (numberAt-part (e .big) w x 0 k at l) ∙ ap (λ (z : List ℕ). numberAt (e .big) w z at) (part-front x k ∙ p ∙ sym (part-front y k)) ∙ numberAt-part (e .big) w y 0 k at l)
 
 -- ---- what stands behind
 read-size : (e : Encoding) (home : ℕ) (abbreviations s : List ℕ) (r : UnitRead) → unitOf e home abbreviations s ≡ pass r → unitSize e s ≡ pass (r .size)
@@ -75,15 +41,11 @@ pub read-behind : (e : Encoding) (home : ℕ) (own other u rest : List ℕ) (r r
     → unitOf e home other (u ++ rest) ≡ pass r′ → (r′ .size ≡ length u) × (unitOf e home other u ≡ pass r′)
 read-behind e home own other u rest r r′ q long q′ =
     let n = read-size e home own u r q in
-    let within = field-within e u (r .size) n in
-    let field : take (lengthField e) u ≡ take (lengthField e) (u ++ rest) =
-    same-front (lengthField e) (length u) (omega (arith, within, long)) u (u ++ rest) (take-length u ∙ sym (take-at u rest (length u) refl)) in
-    let behind = size-same e u (u ++ rest) (r .size) (omega (arith, within, long, length-append u rest)) field n in
+    let within = size-field e u (r .size) n in
+    let front : take (length u) u ≡ take (length u) (u ++ rest) = take-length u ∙ sym (take-at u rest (length u) refl) in
+    let behind = size-same e (length u) u (u ++ rest) front (omega (arith, within, long)) (r .size) (omega (arith, within, long, length-append u rest)) n in
     let same : r′ .size ≡ length u = pass-inj (sym (read-size e home other (u ++ rest) r′ q′) ∙ behind) ∙ long in
     (same, ap (unitOf e home other) (sym (take-at u rest (r′ .size) (sym same))) ∙ unit-alone e home other (u ++ rest) r′ q′ .alone)
-  where
-    same-front : (k n : ℕ) → k ≤ n → (x y : List ℕ) → take n x ≡ take n y → take k x ≡ take k y
-    same-front k n l x y p = sym (take-take k n x l) ∙ ap (take k) p ∙ take-take k n y l
 
 -- ---- abbreviations
 unfoldable readBy : Encoding → (List ℕ → Check Identity) → List ℕ → Check UnitRead

@@ -15,7 +15,7 @@ use borrow.Author.Tests.{eqb-true, eqb-false, eq-eqb, ne-eqb}
 use Rattle.octets.specs.Octets.{part}
 use Rattle.octets.specs.Lists.{any, has}
 use Rattle.octets.specs.Checked.{Check, pass, refuse, _>>=_}
-use Rattle.octets.proofs.Checks.{pass-refuse, pass-inj, refuse-inj, known, then-pass, bind-pass, bind-refuse}
+use Rattle.octets.proofs.Checks.{pass-refuse, pass-inj, refuse-inj, known, then-pass, then-refuse, bind-pass, bind-refuse}
 use Rattle.octets.proofs.Lists.{any-cons, any-none-head, any-none-tail}
 use Rattle.strings.specs.Strings.{upToZero, stringAt, stringsAt}
 
@@ -43,6 +43,14 @@ upTo-ended n [] q e = upTo-zero n 0 q refl
 upTo-ended n (b ∷ s) q e =
     upTo-more n b (s ++ (0 ∷ q)) (λ z. eqb-false 0 b (any-none-head (eqb 0) b s e) (sym z))
     ∙ then-pass (upToZero n (s ++ (0 ∷ q))) (λ t. pass (b ∷ t)) s (upTo-ended n s q (any-none-tail (eqb 0) b s e))
+
+-- and with none behind them
+pub upTo-never : (n : ℕ) (s : List ℕ) → NoZero s → upToZero n s ≡ refuse n
+unfolding has
+upTo-never n [] e = upTo-none n
+upTo-never n (b ∷ s) e =
+    upTo-more n b s (λ z. eqb-false 0 b (any-none-head (eqb 0) b s e) (sym z))
+    ∙ then-refuse (upToZero n s) (λ t. pass (b ∷ t)) n (upTo-never n s (any-none-tail (eqb 0) b s e))
 
 -- what is found
 pub record Ended (s t : List ℕ) : Type 0 where

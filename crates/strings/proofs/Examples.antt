@@ -8,6 +8,7 @@ use Rattle.octets.specs.Octets.{part, little, bigFrom, number, numberAt, number
 use Rattle.octets.specs.Lists.{joined, any, same}
 use Rattle.octets.specs.Checked.{pass, refuse, _>>=_, require}
 use Rattle.bundle.specs.Encoding.{Encoding}
+use Rattle.bundle.specs.InitialLength.{marked, lengthField, lengthStated}
 use Rattle.strings.specs.Strings.{headerSize, headerTrue, entriesIn, entriesOf, upToZero, stringAt, stringsAt, put, putAll, firstUses, ended, strOf, offsetIn, remapped}
 
 abbrev pub four : Encoding
@@ -41,5 +42,5 @@ Examples =
     × (remapped five (firstUses used) (headed 12) ((97 ∷ []) ∷ []) ≡ numbersOf true 4 (0xFFFF_FFFF ∷ 0 ∷ 12 ∷ 0x5_0000 ∷ 0 ∷ 3 ∷ []))
 
 pub examples : Examples
-unfolding part little bigFrom number numberAt numbersIn littleOf bigOf bytesOf numbersOf joined any same _>>=_ require headerSize headerTrue entriesIn entriesOf upToZero stringAt stringsAt put putAll firstUses ended strOf offsetIn remapped
+unfolding part little bigFrom number numberAt numbersIn littleOf bigOf bytesOf numbersOf joined any same _>>=_ require marked lengthField lengthStated headerSize headerTrue entriesIn entriesOf upToZero stringAt stringsAt put putAll firstUses ended strOf offsetIn remapped
 examples = (refl, refl, refl, refl, refl, refl)

@@ -118,3 +118,8 @@ putAll-distinct table (s ∷ ss) d = putAll-distinct (put table s) ss (put-disti
 pub firstUses-distinct : (used : List (List ℕ)) → Distinct (firstUses used)
 unfolding firstUses Distinct
 firstUses-distinct used = putAll-distinct [] used tt
+
+-- ---- one string used more
+pub firstUses-snoc : (used : List (List ℕ)) (s : List ℕ) → firstUses (used ++ (s ∷ [])) ≡ put (firstUses used) s
+unfolding firstUses
+firstUses-snoc used s = putAll-snoc [] used s

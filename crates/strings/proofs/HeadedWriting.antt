@@ -1,159 +1,213 @@
--- Pieces written one behind the other, each by the table of kept strings.
+-- Pieces written one behind the other, each with the next of the numbers; and what comes out where the numbers are the places of the strings that their entries name.
 -- Assumes nothing.
-use mathlib.Core.Path.{_≡_, refl, sym, ap, ap₂, _∙_, subst}
-use mathlib.Core.Bool.{true, false}
-use mathlib.Core.List.{List, [], _∷_, _++_, append-assoc, append-nil}
+use mathlib.Core.Path.{_≡_, refl, sym, ap, ap₂, _∙_}
+use mathlib.Core.List.{List, [], _∷_, _++_, map, append-assoc}
 use Prim.Native.Nat.{ℕ, _+_, _*_, _-_, _<_, _≤_}
 use native.Mathlib.Omega.{arith}
-use lib.ListN.{length, take, drop, length-append}
-use Rattle.octets.specs.Octets.{part, placed}
-use Rattle.octets.specs.Checked.{Check, pass, refuse, _>>=_}
+use lib.ListN.{length, take, drop, length-append, length-take, length-drop}
+use lib.Seq.{drop-drop, take-at, drop-at, length-take-le}
+use Rattle.octets.specs.Octets.{part, placed, numbersOf}
+use Rattle.octets.specs.Lists.{joined}
+use Rattle.octets.specs.Checked.{pass}
 use Rattle.octets.proofs.Checks.{bind-pass, pass-inj}
-use Rattle.octets.proofs.Parts.{part-is, part-none, length-part}
+use Rattle.octets.proofs.Joined.{map-append}
+use Rattle.octets.proofs.Parts.{part-whole, length-part, drop-part}
 use Rattle.octets.proofs.Placed.{placed-none, placed-placed}
+use Rattle.octets.proofs.Tables.{length-numbersOf}
 use Rattle.bundle.specs.Encoding.{Encoding}
-use Rattle.strings.specs.Strings.{headerSize, entriesIn, entriesOf, stringsAt, remapped}
-use Rattle.strings.specs.Kept.{Inside, bytesAt, Judged}
-use Rattle.strings.specs.Objects.{tableIn, KeptIn, PlacesIn}
-use Rattle.strings.specs.Headed.{pieceSize, Headed, stringsOfAll, usedOf, remappedPieces}
-use Rattle.strings.specs.declared.table.Place.{Place}
-use Rattle.strings.specs.declared.table.StringTable.{StringTable}
-use Rattle.strings.proofs.StrOffsets.{Sound, entries-whole}
+use Rattle.strings.specs.Strings.{headerSize, entriesIn, stringsAt, firstUses, offsetIn, remapped}
+use Rattle.strings.specs.Kept.{placesFrom, placesIn, placesOf}
+use Rattle.strings.specs.Headed.{pieceSize, Headed, stringsOfAll, usedOf, remappedPieces, pieceWith, entriesAll, piecesWith}
+use Rattle.strings.proofs.StrOffsets.{Sound, Whole, entries-whole, entries-few, header-within, whole-length}
 use Rattle.strings.proofs.Ends.{length-stringsAt}
-use Rattle.strings.proofs.Remapped.{length-remapped}
-use Rattle.strings.proofs.Storing.{kept-stays}
-use Rattle.strings.proofs.Headed.{Front, headed-front, headed-end, front-within, front-header, front-size, front-piece, front-rest}
+use Rattle.strings.proofs.Remapped.{length-map}
+use Rattle.strings.proofs.Headed.{Front, walk-front, walk-within, walk-own, walk-on, walk-end}
 
+-- ---- one piece
+-- the header, and the numbers behind it
+pub piece-put : (e : Encoding) (s ns d x y : List ℕ) (at h w : ℕ) → h ≡ headerSize e → w ≡ e .width → headerSize e ≤ length s → at + headerSize e ≤ length d → x ≡ placed d at (take h s)
+    → y ≡ placed x (at + h) (numbersOf (e .big) w ns) → y ≡ placed d at (pieceWith e s ns)
+unfolding pieceWith
+piece-put e s ns d x y at h w g v within room p q =
+    let front = take (headerSize e) s in
+    let l : length front ≡ headerSize e = length-take-le (headerSize e) s within in
+    q ∙ ap (λ (n : ℕ). placed x (at + h) (numbersOf (e .big) n ns)) v
+    ∙ ap₂ (λ (z : List ℕ) (n : ℕ). placed z (at + n) (numbersOf (e .big) (e .width) ns)) (p ∙ ap (λ (n : ℕ). placed d at (take n s)) g) (g ∙ sym l)
+    ∙ placed-placed d at front (numbersOf (e .big) (e .width) ns) (omega arith)
+
+-- room for it, by the values that the code has
+pub numbers-room : (w v h k at n room len : ℕ) → w ≡ v → h ≡ k → at + k + v * n ≤ room → len ≡ room → at + h + w * n ≤ len
+numbers-room w v h k at n room len e g r l = rw (e, g, l) r
+
+pub piece-room : (w at from h n count size all room len : ℕ) → n ≡ count → h + w * count ≡ size → from + size ≤ all → at + all ≤ room → len ≡ room → at + from + h + w * n ≤ len
+piece-room w at from h n count size all room len e g f r l = rw e (omega arith)
+
+-- as long as the piece that it stands for
+length-pieceWith : (e : Encoding) (s ns : List ℕ) → Sound e → Whole e s → length ns ≡ length (entriesIn e s) → length (pieceWith e s ns) ≡ length s
+unfolding pieceWith
+length-pieceWith e s ns ok whole count =
+    length-append (take (headerSize e) s) (numbersOf (e .big) (e .width) ns)
+    ∙ rw (length-take-le (headerSize e) s (header-within e s ok (whole .header)), length-numbersOf (e .big) (e .width) ns, count) (whole-length e s ok whole)
+
+-- ---- all pieces: those ahead of a place are to be written still, with the numbers that are left
+pub record PiecesAhead (e : Encoding) (s ns : List ℕ) (ps : List (List ℕ)) (from first : ℕ) (d₀ d : List ℕ) (at : ℕ) : Type 0 where
+  pub ahead : List (List ℕ)
+  pub headed : Headed e (part s from (length s - from)) ahead
+  pub count : first + entriesAll e ahead ≡ entriesAll e ps
+  pub left : placed d (at + from) (piecesWith e ahead (drop first ns)) ≡ placed d₀ at (piecesWith e ps ns)
+
+pub ahead-all : (e : Encoding) (s ns : List ℕ) (ps : List (List ℕ)) (d : List ℕ) (at : ℕ) → Headed e s ps → PiecesAhead e s ns ps 0 0 d d at
+ahead-all e s ns ps d at h =
+    let z : length s - 0 ≡ length s = omega arith in
+    let y : at + 0 ≡ at = omega arith in
+    record { ahead = ps; headed = rw (z, part-whole s) h; count = omega arith; left = ap (λ (n : ℕ). placed d n (piecesWith e ps ns)) y }
+
+module _ (e : Encoding) (ok : Sound e) (s ns : List ℕ) (ps : List (List ℕ)) (from first : ℕ) (d₀ d : List ℕ) (at : ℕ) (p : PiecesAhead e s ns ps from first d₀ d at) where
+  to-end : length s ≤ length s
+  to-end = omega arith
+
+  module _ (more : from < length s) (size : ℕ) (q : size ≡ pieceSize e (take (length s - from) (drop from s))) where
+    abbrev front : Front e (part s from (length s - from)) (p .ahead)
+    front = walk-front e ok s from (length s) to-end (p .ahead) (p .headed) more
+
+    within : from + size ≤ length s
+    within = walk-within e ok s from (length s) to-end (p .ahead) (p .headed) more size q
+
+    own : part s from size ≡ front .piece
+    own = walk-own e ok s from (length s) to-end (p .ahead) (p .headed) more size q
+
+    long : length (part s from size) ≡ size
+    long = length-part s from size within
+
+    whole : Whole e (part s from size)
+    whole = rw own (entries-whole e (front .piece) (entriesIn e (front .piece)) (front .entries) .0)
+
+    -- header and entries are the piece
+    pub ahead-header : headerSize e ≤ length (part s from size)
+    ahead-header = header-within e (part s from size) ok (whole .header)
+
+    pub ahead-size : headerSize e + e .width * length (entriesIn e (part s from size)) ≡ size
+    ahead-size = whole-length e (part s from size) ok whole ∙ long
+
+    all-are : entriesAll e (p .ahead) ≡ length (entriesIn e (part s from size)) + entriesAll e (front .others)
+    unfolding entriesAll
+    all-are = ap (entriesAll e) (front .parts) ∙ ap (λ (l : List ℕ). length (entriesIn e l) + entriesAll e (front .others)) (sym own)
+
+    -- there are numbers for its entries
+    pub ahead-count : first + length (entriesIn e (part s from size)) ≤ entriesAll e ps
+    ahead-count = omega (arith, p .count, all-are)
+
+    -- it is written
+    pub ahead-more : (count : ℕ) (x : List ℕ) → count ≡ length (entriesIn e (part s from size)) → first + count ≤ length ns → at + length s ≤ length d
+        → x ≡ placed d (at + from) (pieceWith e (part s from size) (part ns first count)) → PiecesAhead e s ns ps (from + size) (first + count) d₀ x at
+    unfolding piecesWith part
+    ahead-more count x g enough room w =
+        let n = length (entriesIn e (front .piece)) in
+        let same : count ≡ n = g ∙ ap (λ (l : List ℕ). length (entriesIn e l)) own in
+        let out = pieceWith e (part s from size) (part ns first count) in
+        let others = piecesWith e (front .others) (drop (first + count) ns) in
+        let l : length out ≡ size = length-pieceWith e (part s from size) (part ns first count) ok whole (length-part ns first count enough ∙ g) ∙ long in
+        let far : at + (from + size) ≡ at + from + length out = omega (arith, l) in
+        let all : out ++ others ≡ piecesWith e (p .ahead) (drop first ns) =
+        ap₂ (λ (u v : List ℕ). pieceWith e u v ++ others) own (ap (λ (k : ℕ). take k (drop first ns)) same)
+        ∙ ap (λ (v : List ℕ). pieceWith e (front .piece) (take n (drop first ns)) ++ piecesWith e (front .others) v)
+        (ap (λ (k : ℕ). drop (first + k) ns) same ∙ sym (drop-drop n first ns)) ∙ ap (λ (l : List (List ℕ)). piecesWith e l (drop first ns)) (sym (front .parts)) in
+        record {
+          ahead = front .others;
+          headed = walk-on e ok s from (length s) to-end (p .ahead) (p .headed) more size q;
+          count = omega (arith, p .count, all-are, g);
+          left = ap₂ (λ (z : List ℕ) (k : ℕ). placed z k others) w far ∙ placed-placed d (at + from) out others (omega (arith, l, within)) ∙ ap (placed d (at + from)) all ∙ p .left;
+        }
+
+  -- none is left
+  module _ (done : length s ≤ from) where
+    none : p .ahead ≡ []
+    none = walk-end e ok s from (length s) to-end (p .ahead) (p .headed) done
+
+    pub ahead-counted : first ≡ entriesAll e ps
+    unfolding entriesAll
+    ahead-counted = omega (arith, p .count, ap (entriesAll e) none)
+
+    pub ahead-none : d ≡ placed d₀ at (piecesWith e ps ns)
+    unfolding piecesWith
+    ahead-none = sym (placed-none d (at + from)) ∙ ap (λ (l : List (List ℕ)). placed d (at + from) (piecesWith e l (drop first ns))) (sym none) ∙ p .left
+
+-- ---- the numbers are the places of the strings that the entries name
 pub used-is : (e : Encoding) (str p : List ℕ) (us : List (List ℕ)) → stringsAt str (entriesIn e p) ≡ pass us → usedOf e str p ≡ us
 unfolding usedOf
 used-is e str p us q = rw (usedOf, q)
 
-out-snoc : (e : Encoding) (table : List (List ℕ)) (str : List ℕ) (done : List (List ℕ)) (p : List ℕ)
-    → remappedPieces e table str (done ++ (p ∷ [])) ≡ remappedPieces e table str done ++ remapped e table p (usedOf e str p)
-unfolding remappedPieces
-out-snoc e table str [] p = append-nil (remapped e table p (usedOf e str p))
-out-snoc e table str (q ∷ done) p =
-    ap (λ (l : List ℕ). remapped e table q (usedOf e str q) ++ l) (out-snoc e table str done p)
-    ∙ sym (append-assoc (remapped e table q (usedOf e str q)) (remappedPieces e table str done) (remapped e table p (usedOf e str p)))
+-- the strings of the piece in front, and those of the others
+record Named (e : Encoding) (str p : List ℕ) (ps used : List (List ℕ)) : Type 0 where
+  us : List (List ℕ)
+  vs : List (List ℕ)
+  own : stringsAt str (entriesIn e p) ≡ pass us
+  others : stringsOfAll e str ps ≡ pass vs
+  are : us ++ vs ≡ used
+  count : length (entriesIn e p) ≡ length us
 
--- ---- those before a place are written, those ahead are headed
-pub record Written (b : List ℕ) (e : Encoding) (strings : Place) (words : ℕ) (store : List ℕ) (t : StringTable) (table ps : List (List ℕ)) (place end : ℕ) (d₀ d : List ℕ) (at out : ℕ) : Type 0 where
-  pub done : List (List ℕ)
-  pub ahead : List (List ℕ)
-  pub all : ps ≡ done ++ ahead
-  pub headed : Headed e (part b place (end - place)) ahead
-  pub used : List (List ℕ)
-  pub are : stringsOfAll e (bytesAt b strings) ahead ≡ pass used
-  pub kept : KeptIn b words store t table
-  pub memory : PlacesIn b strings words store table
-  pub written : d ≡ placed d₀ at (remappedPieces e table (bytesAt b strings) done)
-  pub long : at + length (remappedPieces e table (bytesAt b strings) done) ≡ out
+named : (e : Encoding) (str p : List ℕ) (ps used : List (List ℕ)) → stringsOfAll e str (p ∷ ps) ≡ pass used → Named e str p ps used
+unfolding stringsOfAll
+named e str p ps used q =
+    let x = bind-pass (stringsAt str (entriesIn e p)) _ used q in
+    let y = bind-pass (stringsOfAll e str ps) _ used (x .2) in
+    record { us = x .0; vs = y .0; own = x .1; others = y .1; are = pass-inj (y .2); count = sym (length-stringsAt str (entriesIn e p) (x .0) (x .1)) }
 
-pub written-none : (b : List ℕ) (e : Encoding) (strings : Place) (words : ℕ) (store : List ℕ) (t : StringTable) (table ps : List (List ℕ)) (place end : ℕ) (d : List ℕ) (at : ℕ) (used : List (List ℕ))
-    → KeptIn b words store t table → PlacesIn b strings words store table → Headed e (part b place (end - place)) ps → stringsOfAll e (bytesAt b strings) ps ≡ pass used
-    → Written b e strings words store t table ps place end d d at at
-unfolding remappedPieces
-written-none b e strings words store t table ps place end d at used k m h s = record {
-  done = [];
-  ahead = ps;
-  all = refl;
-  headed = h;
-  used = used;
-  are = s;
-  kept = k;
-  memory = m;
-  written = sym (placed-none d at);
-  long = omega arith;
-}
+-- each entry names a string
+pub entriesAll-used : (e : Encoding) (str : List ℕ) (ps used : List (List ℕ)) → stringsOfAll e str ps ≡ pass used → entriesAll e ps ≡ length used
+unfolding entriesAll stringsOfAll
+entriesAll-used e str [] used q = ap length (pass-inj q)
+entriesAll-used e str (p ∷ ps) used q =
+    let k = named e str p ps used q in
+    ap₂ (λ (m n : ℕ). m + n) (k .count) (entriesAll-used e str ps (k .vs) (k .others)) ∙ sym (length-append (k .us) (k .vs)) ∙ ap length (k .are)
 
-module _ (b : List ℕ) (e : Encoding) (ok : Sound e) (strings : Place) (inside-strings : Inside b strings) (words : ℕ) (store : List ℕ) (t : StringTable) (table ps : List (List ℕ)) (place end : ℕ)
-    (d₀ d : List ℕ) (at out : ℕ) (inside : end ≤ length b) (p : Written b e strings words store t table ps place end d₀ d at out) where
-  module _ (more : place < end) where
-    fits : place + (end - place) ≤ length b
-    fits = omega arith
+pub piecesWith-used : (e : Encoding) (table : List (List ℕ)) (str : List ℕ) (ps used : List (List ℕ)) (rest : List ℕ) → stringsOfAll e str ps ≡ pass used
+    → piecesWith e ps (map (offsetIn table) used ++ rest) ≡ remappedPieces e table str ps
+unfolding piecesWith remappedPieces pieceWith remapped
+piecesWith-used e table str [] used rest q = refl
+piecesWith-used e table str (p ∷ ps) used rest q =
+    let k = named e str p ps used q in
+    let n = length (entriesIn e p) in
+    let f = map (offsetIn table) in
+    let front : length (f (k .us)) ≡ n = length-map (offsetIn table) (k .us) ∙ sym (k .count) in
+    let ns : f used ++ rest ≡ f (k .us) ++ (f (k .vs) ++ rest) =
+    ap (λ (l : List (List ℕ)). f l ++ rest) (sym (k .are)) ∙ ap (λ (l : List ℕ). l ++ rest) (map-append (offsetIn table) (k .us) (k .vs)) ∙ append-assoc (f (k .us)) (f (k .vs)) rest in
+    let own : take n (f used ++ rest) ≡ f (usedOf e str p) = ap (take n) ns ∙ take-at (f (k .us)) (f (k .vs) ++ rest) n front ∙ ap f (sym (used-is e str p (k .us) (k .own))) in
+    let on : drop n (f used ++ rest) ≡ f (k .vs) ++ rest = ap (drop n) ns ∙ drop-at (f (k .us)) (f (k .vs) ++ rest) n front in
+    ap₂ (λ (u v : List ℕ). pieceWith e p u ++ piecesWith e ps v) own on
+    ∙ ap (λ (l : List ℕ). pieceWith e p (f (usedOf e str p)) ++ l) (piecesWith-used e table str ps (k .vs) rest (k .others))
 
-    pub front : Front e (part b place (end - place)) (p .ahead)
-    front = headed-front e (part b place (end - place)) (p .ahead) (p .headed) (omega (arith, length-part b place (end - place) fits))
+-- where strings of later sections follow, and whatever else
+pub piecesWith-more : (e : Encoding) (table : List (List ℕ)) (str : List ℕ) (ps used later : List (List ℕ)) (rest : List ℕ) → stringsOfAll e str ps ≡ pass used
+    → piecesWith e ps (map (offsetIn table) (used ++ later) ++ rest) ≡ remappedPieces e table str ps
+piecesWith-more e table str ps used later rest q =
+    ap (piecesWith e ps) (ap (λ (l : List ℕ). l ++ rest) (map-append (offsetIn table) used later) ∙ append-assoc (map (offsetIn table) used) (map (offsetIn table) later) rest)
+    ∙ piecesWith-used e table str ps used (map (offsetIn table) later ++ rest) q
 
-    pub out-asks : (headerSize e ≤ length (take (end - place) (drop place b))) × (pieceSize e (take (end - place) (drop place b)) ≤ length (take (end - place) (drop place b)))
-    out-asks = rw (part-is b place (end - place)) (front-header e ok b place (end - place) fits (p .ahead) front, front-size e ok b place (end - place) fits (p .ahead) front)
+-- four bytes or more for each entry
+pub entriesAll-few : (e : Encoding) (ps : List (List ℕ)) → Sound e → 4 * entriesAll e ps ≤ length (joined ps)
+unfolding entriesAll joined
+entriesAll-few e [] ok = omega arith
+entriesAll-few e (p ∷ ps) ok = omega (arith, entries-few e p ok, entriesAll-few e ps ok, length-append p (joined ps))
 
-    -- its strings, and those of the others
-    pub record Ahead : Type 0 where
-      pub us : List (List ℕ)
-      pub vs : List (List ℕ)
-      pub own : stringsAt (bytesAt b strings) (entriesIn e (front .piece)) ≡ pass us
-      pub others : stringsOfAll e (bytesAt b strings) (front .others) ≡ pass vs
+-- ---- the places that a region holds
+module _ (region : List ℕ) (used : List (List ℕ)) (p : placesIn region (length used) ≡ placesOf used) where
+  pub places-within : placesFrom (length region) + length used ≤ length region
+  unfolding placesIn placesOf placesFrom part
+  places-within =
+      let l = ap length p ∙ length-map (offsetIn (firstUses used)) used in
+      omega (arith, simp (length-take, length-drop) at l)
 
-    pub ahead-are : Ahead
-    unfolding stringsOfAll
-    ahead-are =
-        let q : stringsOfAll e (bytesAt b strings) (front .piece ∷ front .others) ≡ pass (p .used) = ap (stringsOfAll e (bytesAt b strings)) (sym (front .parts)) ∙ p .are in
-        let x = bind-pass (stringsAt (bytesAt b strings) (entriesIn e (front .piece))) _ (p .used) q in
-        let y = bind-pass (stringsOfAll e (bytesAt b strings) (front .others)) _ (p .used) (x .2) in
-        record { us = x .0; vs = y .0; own = x .1; others = y .1 }
-
-    module _ (size : ℕ) (q : size ≡ pieceSize e (take (end - place) (drop place b))) where
-      size-is : size ≡ length (front .piece)
-      size-is = q ∙ ap (pieceSize e) (part-is b place (end - place)) ∙ front .size
-
-      pub out-some : 1 ≤ size
-      out-some = omega (arith, size-is, front .some)
-
-      pub out-within : place + size ≤ end
-      out-within = omega (arith, size-is, front-within e ok b place (end - place) fits (p .ahead) front)
-
-      own-is : bytesAt b (record { start = place; size = size }) ≡ front .piece
-      unfolding bytesAt
-      own-is = front-piece e ok b place (end - place) fits (p .ahead) front size size-is
-
-      -- what writing it asks
-      pub out-judged : Judged e b (record { start = place; size = size }) strings (ahead-are .us)
-      unfolding Inside
-      out-judged = record {
-        offsets-inside = omega (arith, out-within);
-        strings-inside = inside-strings;
-        entries = ap (entriesOf e) own-is ∙ front .entries ∙ ap (λ (l : List ℕ). pass (entriesIn e l)) (sym own-is);
-        strings-are = ap (λ (l : List ℕ). stringsAt (bytesAt b strings) (entriesIn e l)) own-is ∙ ahead-are .own;
-      }
-
-      piece-long : length (remapped e table (front .piece) (usedOf e (bytesAt b strings) (front .piece))) ≡ size
-      piece-long =
-          ap (λ (us : List (List ℕ)). length (remapped e table (front .piece) us)) (used-is e (bytesAt b strings) (front .piece) (ahead-are .us) (ahead-are .own))
-          ∙ length-remapped e table (front .piece) (ahead-are .us) ok (entries-whole e (front .piece) (entriesIn e (front .piece)) (front .entries) .0)
-          (length-stringsAt (bytesAt b strings) (entriesIn e (front .piece)) (ahead-are .us) (ahead-are .own))
-          ∙ sym size-is
-
-      -- it is written
-      pub written-more : (x y : List ℕ) → at + length (remappedPieces e table (bytesAt b strings) (p .done)) ≤ length d₀
-          → y ≡ placed d out (remapped e table (part b place size) (ahead-are .us)) → tableIn words x ≡ tableIn words store → PlacesIn b strings words x table
-          → Written b e strings words x t table ps (place + size) end d₀ y at (out + size)
-      unfolding bytesAt
-      written-more x y room w same m =
-          let n : end - place - size ≡ end - (place + size) = omega arith in
-          let str = bytesAt b strings in
-          let before = remappedPieces e table str (p .done) in
-          let piece = remapped e table (front .piece) (usedOf e str (front .piece)) in
-          let own : remapped e table (part b place size) (ahead-are .us) ≡ piece =
-          ap₂ (remapped e table) (front-piece e ok b place (end - place) fits (p .ahead) front size size-is) (sym (used-is e str (front .piece) (ahead-are .us) (ahead-are .own))) in
-          let grown = out-snoc e table str (p .done) (front .piece) in
-          record {
-            done = p .done ++ (front .piece ∷ []);
-            ahead = front .others;
-            all = p .all ∙ ap (λ (l : List (List ℕ)). p .done ++ l) (front .parts) ∙ sym (append-assoc (p .done) (front .piece ∷ []) (front .others));
-            headed = subst (λ (l : List ℕ). Headed e l (front .others)) (sym (ap (part b (place + size)) (sym n) ∙ front-rest e ok b place (end - place) fits (p .ahead) front size size-is)) (front .on);
-            used = ahead-are .vs;
-            are = ahead-are .others;
-            kept = kept-stays b words store x t table same (p .kept);
-            memory = m;
-            written = w ∙ ap₂ (λ (l : List ℕ) (k : ℕ). placed l k (remapped e table (part b place size) (ahead-are .us))) (p .written) (sym (p .long))
-                ∙ ap (placed (placed d₀ at before) (at + length before)) own ∙ placed-placed d₀ at before piece room ∙ ap (placed d₀ at) (sym grown);
-            long = omega (arith, ap length grown ∙ length-append before piece, piece-long, p .long);
-          }
-
-  -- all are
-  pub written-all : end ≤ place → d ≡ placed d₀ at (remappedPieces e table (bytesAt b strings) ps)
-  written-all h =
-      let z : end - place ≡ 0 = omega arith in
-      let none : p .ahead ≡ [] = headed-end e (part b place (end - place)) (p .ahead) (p .headed) (ap (λ (n : ℕ). length (part b place n)) z ∙ ap length (part-none b place)) in
-      p .written ∙ ap (λ (l : List (List ℕ)). placed d₀ at (remappedPieces e table (bytesAt b strings) l)) (sym (p .all ∙ ap (λ (l : List (List ℕ)). p .done ++ l) none ∙ append-nil (p .done)))
+  -- behind those of the strings in front
+  pub places-behind : (before more : List (List ℕ)) (first : ℕ) → used ≡ before ++ more → first ≡ placesFrom (length region) + length before
+      → drop first region ≡ map (offsetIn (firstUses used)) more ++ drop (placesFrom (length region) + length used) region
+  unfolding placesIn placesOf
+  places-behind before more first q g =
+      let f = map (offsetIn (firstUses used)) in
+      let from = placesFrom (length region) in
+      let rest = drop (from + length used) region in
+      let all : drop from region ≡ f used ++ rest = drop-part region from (length used) ∙ ap (λ (l : List ℕ). l ++ rest) p in
+      let parts : f used ++ rest ≡ f before ++ (f more ++ rest) =
+      ap (λ (l : List (List ℕ)). f l ++ rest) q ∙ ap (λ (l : List ℕ). l ++ rest) (map-append (offsetIn (firstUses used)) before more) ∙ append-assoc (f before) (f more) rest in
+      ap (λ (k : ℕ). drop k region) g ∙ sym (drop-drop (length before) from region) ∙ ap (drop (length before)) (all ∙ parts)
+      ∙ drop-at (f before) (f more ++ rest) (length before) (length-map (offsetIn (firstUses used)) before)

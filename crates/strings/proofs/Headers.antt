@@ -1,29 +1,32 @@
--- The cases of a header and of entries as the code tests them, and of a string read byte by byte.
+-- The cases of a header and of entries as the code tests them, and of a string that ends at the first zero byte.
 -- Assumes nothing.
 use mathlib.Core.Path.{_≡_, refl, sym, ap, _∙_}
-use mathlib.Core.Bool.{Bool, true, false, _&&_}
-use mathlib.Core.List.{List, _∷_}
+use mathlib.Core.Bool.{Bool, true, false, _&&_, _||_}
+use mathlib.Core.List.{List, _∷_, _++_}
 use Prim.Native.Nat.{ℕ, suc, _+_, _*_, _-_, _/_, _%_, _<_, _≤_}
 use native.Mathlib.Nat.{zero-div}
 use native.Mathlib.Omega.{arith}
-use native.Mathlib.Numerals.{add-one}
 use lib.Dec.{eqb, leb}
-use lib.ListN.{length, drop, getD, drop-of-length-le}
-use lib.Seq.{drop-cons}
+use lib.ListN.{length, drop, getD, length-drop}
+use lib.Seq.{drop-cons, getD-drop}
 use borrow.Author.Tests.{lt-leb, le-leb, eq-eqb, ne-eqb}
-use Rattle.octets.specs.Octets.{numberAt}
-use Rattle.octets.specs.Checked.{Check, pass, refuse, _>>=_}
+use Rattle.octets.specs.Octets.{part, numberAt}
+use Rattle.octets.specs.Lists.{FirstZero}
+use Rattle.octets.specs.Checked.{Check, pass, refuse}
 use Rattle.octets.proofs.Checks.{not-left, not-right}
+use Rattle.octets.proofs.Parts.{length-part, getD-part, drop-part}
+use Rattle.octets.proofs.Elements.{not-has}
 use Rattle.bundle.specs.Encoding.{Encoding}
 use Rattle.bundle.specs.Encoded.{four, encodingIs}
+use Rattle.bundle.specs.InitialLength.{marked, lengthField, lengthStated}
 use Rattle.bundle.specs.declared.encoding.ObjectEncoding.{ObjectEncoding}
 use Rattle.strings.specs.Strings.{headerSize, headerTrue, entriesIn, entriesOf, upToZero, stringAt}
 use Rattle.strings.specs.Answers.{entriesRead, stringRead}
 use Rattle.strings.specs.declared.entries.Entries.the-variants.{Count, IllFormed}
 use Rattle.strings.specs.declared.entries.StringRead.{StringRead}
 use Rattle.strings.specs.declared.entries.StringRead.the-variants.{At, Missing}
-use Rattle.strings.proofs.Ends.{upTo-none, upTo-zero, upTo-more, stringAt-beyond}
-use Rattle.strings.proofs.StrOffsets.{true-narrow, true-wide, header-five, header-four, whole-entries, entries-false, entries-odd, length-entriesIn, Sound, entry-within, entriesIn-at}
+use Rattle.strings.proofs.Ends.{NoZero, upTo-ended, upTo-never, stringAt-beyond}
+use Rattle.strings.proofs.StrOffsets.{true-five, header-five, header-four, whole-entries, entries-false, entries-odd, length-entriesIn, Sound, entry-within, entriesIn-at}
 
 -- ---- what the code holds of an encoding
 module _ (e : ObjectEncoding) where
@@ -35,14 +38,6 @@ module _ (e : ObjectEncoding) where
   unfolding encodingIs four
   not-five h p = let q : _≡_ {A = ℕ} 4 5 = sym (ap (λ (t : Bool). four t 5) h) ∙ p in omega arith
 
-  pub is-wide : e .wide ≡ true → encodingIs e .width ≡ 4 → ⊥
-  unfolding encodingIs four
-  is-wide h p = let q : _≡_ {A = ℕ} 8 4 = sym (ap (λ (t : Bool). four t 8) h) ∙ p in omega arith
-
-  pub is-narrow : e .wide ≡ false → encodingIs e .width ≡ 4
-  unfolding encodingIs four
-  is-narrow h = ap (λ (t : Bool). four t 8) h
-
   pub size-five : e .five ≡ true → encodingIs e .width + encodingIs e .width ≡ headerSize (encodingIs e)
   size-five h = sym (header-five (encodingIs e) (is-five h))
 
@@ -50,55 +45,26 @@ module _ (e : ObjectEncoding) where
   size-four h = sym (header-four (encodingIs e) (not-five h))
 
   -- ---- the header as the code tests it
-  module _ (s : List ℕ) (five : e .five ≡ true) where
-    module _ (narrow : e .wide ≡ false) where
-      pub narrow-short : length s < 8 → false ≡ headerTrue (encodingIs e) s
-      narrow-short h = sym (true-narrow (encodingIs e) s (is-five five) (is-narrow narrow) ∙ not-left _ _ (not-left _ _ (not-left _ _ (lt-leb 8 (length s) h))))
+  module _ (s : List ℕ) (five : e .five ≡ true) (field : ℕ) (p : field ≡ lengthField (encodingIs e)) where
+    pub header-short : length s < field + 4 → false ≡ headerTrue (encodingIs e) s
+    header-short h = sym (true-five (encodingIs e) s (is-five five) ∙ not-left _ _ (not-left _ _ (not-left _ _ (not-left _ _ (lt-leb (lengthField (encodingIs e) + 4) (length s) (omega arith))))))
 
-      pub narrow-rest : (n : ℕ) → n ≡ numberAt (e .big) 4 s 0 → (n ≡ length s - 4 → ⊥) → false ≡ headerTrue (encodingIs e) s
+    pub header-unmarked : (eqb (encodingIs e .width) 4 || marked (e .big) s) ≡ false → false ≡ headerTrue (encodingIs e) s
+    unfolding encodingIs
+    header-unmarked h = sym (true-five (encodingIs e) s (is-five five) ∙ not-left _ _ (not-left _ _ (not-left _ _ (not-right (leb (lengthField (encodingIs e) + 4) (length s)) _ h))))
+
+    module _ (n : ℕ) (q : n ≡ lengthStated (encodingIs e) s) where
+      pub header-rest : (n ≡ length s - field → ⊥) → false ≡ headerTrue (encodingIs e) s
+      header-rest h =
+          sym (true-five (encodingIs e) s (is-five five) ∙ not-left _ _ (not-left _ _ (not-right (leb (lengthField (encodingIs e) + 4) (length s) && (eqb (encodingIs e .width) 4 || marked (encodingIs e .big) s)) _ (ne-eqb (lengthStated (encodingIs e) s) (length s - lengthField (encodingIs e)) (λ z. h (omega arith))))))
+
+      pub header-all : (r : Bool) → field + 4 ≤ length s → (eqb (encodingIs e .width) 4 || marked (e .big) s) ≡ true → n ≡ length s - field
+          → r ≡ (eqb (numberAt (e .big) 2 s field) 5 && eqb (numberAt (e .big) 2 s (field + 2)) 0) → r ≡ headerTrue (encodingIs e) s
       unfolding encodingIs
-      narrow-rest n q h =
-          sym
-          (true-narrow (encodingIs e) s (is-five five) (is-narrow narrow)
-          ∙ not-left _ _ (not-left _ _ (not-right (leb 8 (length s)) _ (ne-eqb (numberAt (e .big) 4 s 0) (length s - 4) (λ z. h (q ∙ z))))))
-
-      pub narrow-all : (r : Bool) (n : ℕ) → 8 ≤ length s → n ≡ numberAt (e .big) 4 s 0 → n ≡ length s - 4
-          → r ≡ (eqb (numberAt (e .big) 2 s 4) 5 && eqb (numberAt (e .big) 2 s 6) 0) → r ≡ headerTrue (encodingIs e) s
-      unfolding encodingIs
-      narrow-all r n l q h g =
-          g
-          ∙ sym
-          (true-narrow (encodingIs e) s (is-five five) (is-narrow narrow)
-          ∙ rw (le-leb 8 (length s) l, eq-eqb (numberAt (e .big) 4 s 0) (length s - 4) (sym q ∙ h)))
-
-    module _ (wide : e .wide ≡ true) where
-      pub wide-short : length s < 16 → false ≡ headerTrue (encodingIs e) s
-      wide-short h =
-          sym
-          (true-wide (encodingIs e) s (is-five five) (is-wide wide) ∙ not-left _ _ (not-left _ _ (not-left _ _ (not-left _ _ (lt-leb 16 (length s) h)))))
-
-      pub wide-mark : (m : ℕ) → m ≡ numberAt (e .big) 4 s 0 → (m ≡ 0xFFFF_FFFF → ⊥) → false ≡ headerTrue (encodingIs e) s
-      unfolding encodingIs
-      wide-mark m q h =
-          sym
-          (true-wide (encodingIs e) s (is-five five) (is-wide wide)
-          ∙ not-left _ _ (not-left _ _ (not-left _ _ (not-right (leb 16 (length s)) _ (ne-eqb (numberAt (e .big) 4 s 0) 0xFFFF_FFFF (λ z. h (q ∙ z)))))))
-
-      pub wide-rest : (n : ℕ) → n ≡ numberAt (e .big) 8 s 4 → (n ≡ length s - 12 → ⊥) → false ≡ headerTrue (encodingIs e) s
-      unfolding encodingIs
-      wide-rest n q h =
-          sym
-          (true-wide (encodingIs e) s (is-five five) (is-wide wide)
-          ∙ not-left _ _ (not-left _ _ (not-right (leb 16 (length s) && eqb (numberAt (e .big) 4 s 0) 0xFFFF_FFFF) _ (ne-eqb (numberAt (e .big) 8 s 4) (length s - 12) (λ z. h (q ∙ z))))))
-
-      pub wide-all : (r : Bool) (m n : ℕ) → 16 ≤ length s → m ≡ numberAt (e .big) 4 s 0 → m ≡ 0xFFFF_FFFF → n ≡ numberAt (e .big) 8 s 4 → n ≡ length s - 12
-          → r ≡ (eqb (numberAt (e .big) 2 s 12) 5 && eqb (numberAt (e .big) 2 s 14) 0) → r ≡ headerTrue (encodingIs e) s
-      unfolding encodingIs
-      wide-all r m n l p k q h g =
-          g
-          ∙ sym
-          (true-wide (encodingIs e) s (is-five five) (is-wide wide)
-          ∙ rw (le-leb 16 (length s) l, eq-eqb (numberAt (e .big) 4 s 0) 0xFFFF_FFFF (sym p ∙ k), eq-eqb (numberAt (e .big) 8 s 4) (length s - 12) (sym q ∙ h)))
+      header-all r l m h g =
+          let there = le-leb (lengthField (encodingIs e) + 4) (length s) (omega arith) in
+          let states = eq-eqb (lengthStated (encodingIs e) s) (length s - lengthField (encodingIs e)) (omega arith) in
+          rw p at g ∙ sym (true-five (encodingIs e) s (is-five five) ∙ rw (there, m, states))
 
 -- ---- 8 as the code tests it
 module _ (e : Encoding) (s : List ℕ) where
@@ -132,52 +98,32 @@ module _ (e : Encoding) (s : List ℕ) where
     pub entry-is : (k n : ℕ) → k < length (entriesIn e s) → n ≡ numberAt (e .big) w s (h + w * k) → n ≡ getD (entriesIn e s) k 0
     entry-is k n l g = g ∙ rw (p, q) (sym (entriesIn-at e s k l))
 
--- ---- a string read byte by byte
--- k bytes lie before what is left
-unfoldable pub readOn : ℕ → ℕ → Check (List ℕ) → StringRead
-readOn start k (pass t) = At start (k + length t)
-readOn start k (refuse n) = Missing
-
-pub read-start : (start : ℕ) (m : Check (List ℕ)) → readOn start 0 m ≡ stringRead start m
-unfolding readOn stringRead
-read-start start (pass t) = ap (At start) (omega arith)
-read-start start (refuse n) = refl
-
-read-cons : (start k b : ℕ) (m : Check (List ℕ)) → readOn start k (m >>= λ t. pass (b ∷ t)) ≡ readOn start (k + 1) m
-unfolding readOn _>>=_
-read-cons start k b (pass t) = ap (At start) (omega arith)
-read-cons start k b (refuse n) = refl
-
-module _ (start k n : ℕ) (s : List ℕ) (i : ℕ) where
-  pub read-zero : i < length s → getD s i 0 ≡ 0 → readOn start k (upToZero n (drop i s)) ≡ At start k
-  unfolding readOn
-  read-zero h e =
-      ap (readOn start k) (ap (upToZero n) (drop-cons s i 0 h) ∙ upTo-zero n (getD s i 0) (drop (suc i) s) e) ∙ ap (At start) (omega arith)
-
-  pub read-turn : i < length s → (getD s i 0 ≡ 0 → ⊥) → readOn start k (upToZero n (drop i s)) ≡ readOn start (k + 1) (upToZero n (drop (i + 1) s))
-  read-turn h e =
-      rw (add-one i) (ap (readOn start k) (ap (upToZero n) (drop-cons s i 0 h) ∙ upTo-more n (getD s i 0) (drop (suc i) s) e) ∙ read-cons start k (getD s i 0) (upToZero n (drop (suc i) s)))
-
-  pub read-end : length s ≤ i → readOn start k (upToZero n (drop i s)) ≡ Missing
-  unfolding readOn
-  read-end h = ap (readOn start k) (ap (upToZero n) (drop-of-length-le s h) ∙ upTo-none n)
-
+-- ---- a string up to the first zero byte
 pub read-beyond : (n : ℕ) (s : List ℕ) (offset : ℕ) → length s ≤ offset → Missing ≡ stringRead offset (stringAt n s offset)
 unfolding stringRead
 read-beyond n s offset h = sym (ap (stringRead offset) (stringAt-beyond n s offset h))
 
--- the loop's first and further turns, over the values that it has
-pub reading-first : (n : ℕ) (s : List ℕ) (offset start : ℕ) → start ≡ offset → readOn start (start - start) (upToZero n (drop start s)) ≡ stringRead offset (stringAt n s offset)
-unfolding stringAt
-reading-first n s offset start e =
-    let z : start - start ≡ 0 = omega arith in
-    rw z (read-start start (upToZero n (drop start s)) ∙ rw e)
+module _ (n : ℕ) (s : List ℕ) (start offset end : ℕ) (e : start ≡ offset) (f : FirstZero s start end) where
+  pub read-found : end < length s → At start (end - start) ≡ stringRead offset (stringAt n s offset)
+  unfolding stringAt stringRead
+  read-found h =
+      let k = f .reached in
+      let t = part s start (end - start) in
+      let l : length t ≡ end - start = length-part s start (end - start) (omega arith) in
+      let clean : NoZero t =
+      not-has t 0 (λ i g z. f .before (start + i) (omega arith) (omega arith) (sym (getD-part s start (end - start) i (omega arith)) ∙ z)) in
+      let behind : start + (end - start) ≡ end = omega arith in
+      let parts : drop start s ≡ t ++ (0 ∷ drop (suc end) s) =
+      drop-part s start (end - start) ∙ ap (λ (z : ℕ). t ++ drop z s) behind ∙ ap (λ (z : List ℕ). t ++ z) (drop-cons s end 0 h)
+      ∙ ap (λ (z : ℕ). t ++ (z ∷ drop (suc end) s)) (f .found h) in
+      rw (← e) (sym (ap (stringRead start) (ap (upToZero n) parts ∙ upTo-ended n t (drop (suc end) s) clean) ∙ ap (At start) l))
 
-pub reading-more : (start n : ℕ) (s : List ℕ) (i : ℕ) → start ≤ i → i < length s → (getD s i 0 ≡ 0 → ⊥)
-    → readOn start (i - start) (upToZero n (drop i s)) ≡ readOn start (i + 1 - start) (upToZero n (drop (i + 1) s))
-reading-more start n s i h g e =
-    let z : i - start + 1 ≡ i + 1 - start = omega arith in
-    read-turn start (i - start) n s i g e ∙ ap (λ (k : ℕ). readOn start k (upToZero n (drop (i + 1) s))) z
+  pub read-none : length s ≤ end → Missing ≡ stringRead offset (stringAt n s offset)
+  unfolding stringAt stringRead
+  read-none h =
+      let clean : NoZero (drop start s) =
+      not-has (drop start s) 0 (λ i g z. f .before (start + i) (omega arith) (omega (arith, length-drop start s)) (sym (getD-drop start s i 0) ∙ z)) in
+      rw (← e) (sym (ap (stringRead start) (upTo-never n (drop start s) clean)))
 
 -- ---- the string of an entry, by its place in the bundle
 -- what was read in a part that starts at base

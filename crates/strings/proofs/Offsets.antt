@@ -1,6 +1,6 @@
 -- Laws of offsets in a table of strings: what was found early stays, and the str section has the string there.
 -- Assumes nothing.
-use mathlib.Core.Path.{_≡_, refl, sym, ap, _∙_}
+use mathlib.Core.Path.{_≡_, refl, sym, ap, ap₂, _∙_}
 use mathlib.Core.Logic.{⊎-elim}
 use mathlib.Core.Bool.{true, false}
 use mathlib.Core.List.{List, [], _∷_, _++_, map, append-nil, append-assoc}
@@ -18,7 +18,7 @@ use Rattle.octets.proofs.Elements.{none-at}
 use Rattle.octets.proofs.Joined.{map-append, joined-append}
 use Rattle.strings.specs.Strings.{put, firstUses, ended, strOf, offsetIn, upToZero, stringAt}
 use Rattle.strings.specs.Indexed.{Distinct}
-use Rattle.strings.proofs.FirstUses.{isIn, put-grows, used-in}
+use Rattle.strings.proofs.FirstUses.{isIn, put-known, put-new, put-grows, used-in}
 use Rattle.strings.proofs.Ends.{NoZero, upTo-ended}
 
 -- ---- the str section
@@ -132,3 +132,39 @@ row-offset (t ∷ ts) (suc i) d h =
 pub strOf-counts : (table : List (List ℕ)) → length table ≤ length (strOf table)
 strOf-counts [] = omega arith
 strOf-counts (s ∷ table) = rw (length-strOf-cons s table) (omega (arith, strOf-counts table))
+
+-- ---- a table that grows at its end: what was found early stays
+offset-append : (table more : List (List ℕ)) (s : List ℕ) → isIn table s ≡ true → offsetIn (table ++ more) s ≡ offsetIn table s
+unfolding any
+offset-append [] more s e = absurd (true-false e refl)
+offset-append (t ∷ ts) more s e =
+    ⊎-elim (λ p. offset-here t (ts ++ more) s p ∙ sym (offset-here t ts s p))
+    (λ p.
+    offset-next t (ts ++ more) s p ∙ ap (λ (k : ℕ). length t + 1 + k) (offset-append ts more s (sym (any-cons (same s) t ts p) ∙ e)) ∙ sym (offset-next t ts s p))
+    (known (same s t))
+
+pub offset-keeps : (table : List (List ℕ)) (s t : List ℕ) → isIn table t ≡ true → offsetIn (put table s) t ≡ offsetIn table t
+offset-keeps table s t e =
+    let p = put-grows table s in
+    ap (λ (z : List (List ℕ)). offsetIn z t) (p .1) ∙ offset-append table (p .0) t e
+
+-- of all strings that a table has
+pub offsets-keep : (table : List (List ℕ)) (s : List ℕ) (used : List (List ℕ)) → ((i : ℕ) → i < length used → isIn table (getD used i []) ≡ true)
+    → map (offsetIn (put table s)) used ≡ map (offsetIn table) used
+offsets-keep table s [] f = refl
+offsets-keep table s (u ∷ us) f =
+    ap₂ _∷_ (offset-keeps table s u (f 0 (omega arith))) (offsets-keep table s us (λ i h. f (suc i) (omega arith)))
+
+-- a string put behind all of them
+offset-behind : (table : List (List ℕ)) (s : List ℕ) → offsetIn (table ++ (s ∷ [])) s ≡ offsetIn table s
+unfolding offsetIn
+offset-behind [] s = offset-here s [] s (same-refl s)
+offset-behind (t ∷ ts) s =
+    ⊎-elim (λ p. offset-here t (ts ++ (s ∷ [])) s p ∙ sym (offset-here t ts s p))
+    (λ p. offset-next t (ts ++ (s ∷ [])) s p ∙ ap (λ (k : ℕ). length t + 1 + k) (offset-behind ts s) ∙ sym (offset-next t ts s p)) (known (same s t))
+
+-- a string that is put stands where the table says before that: at its place, or behind all
+pub offset-put : (table : List (List ℕ)) (s : List ℕ) → offsetIn (put table s) s ≡ offsetIn table s
+offset-put table s =
+    ⊎-elim (λ p. ap (λ (z : List (List ℕ)). offsetIn z s) (put-known table s p))
+    (λ p. ap (λ (z : List (List ℕ)). offsetIn z s) (put-new table s p) ∙ offset-behind table s) (known (isIn table s))

@@ -1,7 +1,6 @@
 -- Laws of the str_offsets section that is written: as long as the one it stands for, and its entries are the new offsets.
 -- Assumes nothing.
 use mathlib.Core.Path.{_≡_, refl, sym, ap, _∙_}
-use mathlib.Core.Bool.{true}
 use mathlib.Core.List.{List, [], _∷_, map}
 use Prim.Native.Nat.{ℕ, zero, suc, _-_, _/_, _^_, _<_, _≤_}
 use native.Mathlib.Nat.{not-suc-le-zero, le-of-suc-le-suc, lt-of-le-of-lt}
@@ -9,14 +8,11 @@ use native.Mathlib.Omega.{arith}
 use lib.ListN.{length, take, getD, length-append}
 use lib.Seq.{length-take-le, drop-at, take-at}
 use Rattle.octets.specs.Octets.{numbersOf}
-use Rattle.octets.specs.Checked.{pass}
 use Rattle.octets.proofs.Tables.{length-numbersOf, numbersIn-numbersOf}
 use Rattle.bundle.specs.Encoding.{Encoding}
-use Rattle.strings.specs.Strings.{headerSize, entriesIn, entriesOf, strOf, offsetIn, remapped, stringsAt, stringAt}
-use Rattle.strings.proofs.Offsets.{offset-le, string-in-strOf}
-use Rattle.strings.proofs.FirstUses.{isIn}
-use Rattle.strings.proofs.Ends.{length-stringsAt, stringsAt-at, stringAt-is}
-use Rattle.strings.proofs.StrOffsets.{Sound, Whole, header-within, whole-length, length-entriesIn, entries-whole}
+use Rattle.strings.specs.Strings.{headerSize, entriesIn, strOf, offsetIn, remapped}
+use Rattle.strings.proofs.Offsets.{offset-le}
+use Rattle.strings.proofs.StrOffsets.{Sound, Whole, header-within, whole-length, length-entriesIn}
 
 pub length-map : {A B : Type 0} (f : A → B) (xs : List A) → length (map f xs) ≡ length xs
 length-map f [] = refl
@@ -57,16 +53,3 @@ module _ (e : Encoding) (table : List (List ℕ)) (s : List ℕ) (used : List (L
       rw (length-remapped, ← length-entriesIn e s, ← count) (sym (length-map (offsetIn table) used)) in
       rw (n, drop-at (take (headerSize e) s) (numbersOf (e .big) (e .width) ns) (headerSize e) header-is)
       (numbersIn-numbersOf (e .big) (e .width) ns (λ i. lt-of-le-of-lt (offsets-le table used i) small))
-
--- entry k of what is written names, in the str section written, what entry k named in the object's str
-pub remapped-string : (e : Encoding) (table : List (List ℕ)) (s str ns : List ℕ) (used : List (List ℕ)) (n k : ℕ) → Sound e
-    → entriesOf e s ≡ pass ns → stringsAt str ns ≡ pass used → length (strOf table) < 256 ^ (e .width)
-    → k < length ns → isIn table (getD used k []) ≡ true
-    → stringAt n (strOf table) (getD (entriesIn e (remapped e table s used)) k 0) ≡ pass (getD used k [])
-remapped-string e table s str ns used n k ok p q small h g =
-    let w = entries-whole e s ns p in
-    let l = length-stringsAt str ns used q in
-    let count : length used ≡ length (entriesIn e s) = l ∙ ap length (w .1) in
-    let at : getD (entriesIn e (remapped e table s used)) k 0 ≡ offsetIn table (getD used k []) =
-    ap (λ (z : List ℕ). getD z k 0) (remapped-entries e table s used ok (w .0) count small) ∙ getD-map (offsetIn table) used k [] 0 (omega arith) in
-    ap (stringAt n (strOf table)) at ∙ string-in-strOf n table (getD used k []) g (stringAt-is 9 str (getD ns k 0) (getD used k []) (stringsAt-at str ns used k q h) .clean)

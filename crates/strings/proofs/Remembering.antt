@@ -1,7 +1,8 @@
--- What is remembered of an object's str by a string's start: nothing at first, and one string more.
+-- What is remembered of an object's str by a string's start: nothing at first, and one place more.
 -- Assumes nothing.
 use mathlib.Core.Path.{_≡_, refl, sym, ap, _∙_}
 use mathlib.Core.Logic.{⊎-elim}
+use mathlib.Core.Bool.{true, false}
 use mathlib.Core.List.{List, [], _∷_, _++_}
 use Prim.Native.Nat.{ℕ, zero, suc, _+_, _-_, _<_, _≤_}
 use native.Mathlib.Decide.{decLe, ℕ-discrete}
@@ -9,7 +10,7 @@ use native.Mathlib.Nat.{not-suc-le-zero, le-of-suc-le-suc}
 use native.Mathlib.Omega.{arith}
 use lib.Dec.{eqb}
 use lib.ListN.{length, take, drop, getD, length-drop}
-use lib.Seq.{getD-drop}
+use lib.Seq.{getD-drop, length-take-le}
 use borrow.Author.Tests.{eqb-true, eqb-false}
 use borrow.Rule.Slice.PartMut.{putMid}
 use Rattle.octets.specs.Octets.{placed, zeros}
@@ -18,17 +19,19 @@ use Rattle.octets.proofs.Checks.{known, then-pass, pass-inj}
 use Rattle.octets.proofs.Parts.{part-cut, length-part}
 use Rattle.octets.proofs.Placed.{length-zeros, getD-zeros}
 use Rattle.octets.proofs.Regions.{placed-whole, getD-placed, getD-before, getD-behind}
-use Rattle.strings.specs.Strings.{upToZero, stringAt, put, offsetIn}
-use Rattle.strings.specs.Kept.{Kept, bytesAt}
-use Rattle.strings.specs.Remembered.{Remembered, isPut, placeIs, Putting, LastZero}
-use Rattle.strings.specs.Objects.{tableIn, memoryIn, PuttingIn}
+use Rattle.strings.specs.Strings.{upToZero, stringAt, put, firstUses, offsetIn}
+use Rattle.strings.specs.Kept.{bytesAt, placesFrom, withEntry, PutIs}
+use Rattle.strings.specs.Remembered.{Remembered, placeIs, LastZero}
+use Rattle.strings.specs.Objects.{memoryIn, PuttingIn, Roomy}
 use Rattle.strings.specs.declared.table.Place.{Place}
+use Rattle.strings.specs.declared.table.Put.{Put}
 use Rattle.strings.specs.declared.table.StringTable.{StringTable}
-use Rattle.strings.proofs.FirstUses.{put-has, put-keeps}
+use Rattle.strings.proofs.FirstUses.{isIn, put-has, put-keeps, firstUses-snoc}
+use Rattle.strings.proofs.Offsets.{offset-keeps}
 use Rattle.strings.proofs.Ends.{upTo-zero, upTo-more, stringAt-is, stringAt-refused}
-use Rattle.strings.proofs.Keeping.{kept-known}
+use Rattle.strings.proofs.Keeping.{put-again, roomy-places}
 use Rattle.strings.proofs.Places.{cut, cut-is}
-use Rattle.strings.proofs.Storing.{length-memory, table-stays, memory-stored, length-lent, table-lent, memory-lent, memory-forgotten}
+use Rattle.strings.proofs.Storing.{lent-kept, length-memory, table-stays, memory-stored, length-lent, table-lent, memory-lent, memory-forgotten}
 
 -- ---- memory
 -- the part that is cleared
@@ -65,7 +68,7 @@ module _ (memo x : List ℕ) (at v : ℕ) (h : at < length memo) (e : x ≡ plac
       ∙ elim (decLe (suc o) at) [ yes q ↦ getD-before memo at (v ∷ []) o q (omega arith) | no q ↦ getD-behind memo at (v ∷ []) o (omega arith) (omega arith) ]
 
   -- one word more
-  pub remembered-more : (str : List ℕ) (told : List ℕ → ℕ → Type 0) (s : List ℕ) → Remembered str told memo → stringAt 9 str at ≡ pass s → told s v → Remembered str told x
+  remembered-more : (str : List ℕ) (told : List ℕ → ℕ → Type 0) (s : List ℕ) → Remembered str told memo → stringAt 9 str at ≡ pass s → told s v → Remembered str told x
   remembered-more str told s r g t =
       record {
         known = λ o l u. elim (ℕ-discrete o at) [
@@ -75,58 +78,55 @@ module _ (memo x : List ℕ) (at v : ℕ) (h : at < length memo) (e : x ≡ plac
       }
 
 -- a table that grows keeps what it has
-pub remembered-put : (str : List ℕ) (table : List (List ℕ)) (s memo : List ℕ) → Remembered str (isPut table) memo → Remembered str (isPut (put table s)) memo
+remembered-put : (str : List ℕ) (table : List (List ℕ)) (s memo : List ℕ) → Remembered str (placeIs table) memo → Remembered str (placeIs (put table s)) memo
+unfolding placeIs
 remembered-put str table s memo r =
-    record { known = λ o l u. (let k = r .known o l u in (k .0, k .1, put-keeps table s (k .0) (k .2))) }
-
--- the string at an offset is put, and remembered
-pub put-remembered : (b : List ℕ) (strings : Place) (region : List ℕ) (t : StringTable) (table : List (List ℕ)) (memo x s : List ℕ) (at : ℕ) → Remembered (bytesAt b strings) (isPut table) memo
-    → Kept b region t (put table s) → at < length memo → x ≡ placed memo at (1 ∷ []) → stringAt 9 (bytesAt b strings) at ≡ pass s → Putting b strings region x t (put table s)
-put-remembered b strings region t table memo x s at r k h e g =
     record {
-      kept = k;
-      memory = remembered-more memo x at 1 h e (bytesAt b strings) (isPut (put table s)) s (remembered-put (bytesAt b strings) table s memo r) g (put-has table s);
+      known = λ o l u. (let k = r .known o l u in (k .0, k .1, (put-keeps table s (k .0) (k .2 .0), k .2 .1 ∙ ap (λ (n : ℕ). n + 1) (sym (offset-keeps table s (k .0) (k .2 .0))))));
     }
 
--- the same where the table's words are lent, come back as y, and the memory stands behind them
-pub put-stored : (b : List ℕ) (strings : Place) (words : ℕ) (w y x : List ℕ) (t : StringTable) (table : List (List ℕ)) (s : List ℕ) (o : ℕ) → length y ≡ length (take words w)
-    → words + o < length w → x ≡ placed (y ++ drop words w) (words + o) (1 ∷ []) → Remembered (bytesAt b strings) (isPut table) (memoryIn words w) → Kept b y t (put table s)
-    → stringAt 9 (bytesAt b strings) o ≡ pass s → PuttingIn b strings words x t (put table s)
-put-stored b strings words w y x t table s o same h e r k g =
-    let v = y ++ drop words w in
-    let fits : words ≤ length w = omega arith in
-    let room : words + o + 1 ≤ length v = omega (arith, length-lent words w y same fits) in
-    put-remembered b strings (tableIn words x) t table (memoryIn words w) (memoryIn words x) s o r
-    (rw (table-stays words v x (1 ∷ []) o room e ∙ table-lent words w y same fits) k)
-    (omega (arith, length-memory words w))
-    (memory-stored words v x (1 ∷ []) o room e ∙ ap (λ (l : List ℕ). placed l o (1 ∷ [])) (memory-lent words w y same fits))
-    g
-
--- a string that is remembered is kept already
-pub known-put : (b : List ℕ) (strings : Place) (region memo : List ℕ) (t : StringTable) (table : List (List ℕ)) (s : List ℕ) (o v : ℕ) → Putting b strings region memo t table
-    → stringAt 9 (bytesAt b strings) o ≡ pass s → v ≡ getD memo o 0 → (v ≡ 0 → ⊥) → Putting b strings region memo t (put table s)
-known-put b strings region memo t table s o v p e q u =
-    let k = p .memory .known o (omega (arith, stringAt-is 9 (bytesAt b strings) o s e .within)) (λ z. u (q ∙ z)) in
-    let same : k .0 ≡ s = pass-inj (sym (k .1) ∙ e) in
-    record { kept = kept-known b region t table (p .kept) s (rw same at (k .2)); memory = remembered-put (bytesAt b strings) table s memo (p .memory) }
-
--- and so is its place
+-- what a word that is not 0 tells of the string that starts there
 pub known-place : (str : List ℕ) (table : List (List ℕ)) (s memo : List ℕ) (o v : ℕ) → Remembered str (placeIs table) memo → stringAt 9 str o ≡ pass s → v ≡ getD memo o 0 → (v ≡ 0 → ⊥)
-    → v - 1 ≡ offsetIn table s
+    → (isIn table s ≡ true) × (v - 1 ≡ offsetIn table s)
+unfolding placeIs
 known-place str table s memo o v m e q u =
     let k = m .known o (omega (arith, stringAt-is 9 str o s e .within)) (λ z. u (q ∙ z)) in
-    let same : offsetIn table (k .0) ≡ offsetIn table s = ap (offsetIn table) (pass-inj (sym (k .1) ∙ e)) in
-    omega (arith, k .2)
+    let same : k .0 ≡ s = pass-inj (sym (k .1) ∙ e) in
+    let place : v - 1 ≡ offsetIn table (k .0) = omega (arith, k .2 .1) in
+    (rw same at (k .2 .0), rw same at place)
 
-pub place-remembered : (str : List ℕ) (table : List (List ℕ)) (s memo x : List ℕ) (o v : ℕ) → Remembered str (placeIs table) memo → stringAt 9 str o ≡ pass s → v ≡ offsetIn table s
-    → o < length memo → x ≡ placed memo o ((v + 1) ∷ []) → (v ≡ offsetIn table s) × Remembered str (placeIs table) x
-place-remembered str table s memo x o v m e q h g = (q, remembered-more memo x o (v + 1) h g str (placeIs table) s m e (ap (λ (n : ℕ). n + 1) q))
+-- the table's words are lent, and come back as y; the memory stands behind them
+module _ (b : List ℕ) (strings : Place) (words : ℕ) (w y : List ℕ) (t : StringTable) (used : List (List ℕ)) (s : List ℕ) (o : ℕ) (same : length y ≡ length (take words w))
+    (fits : words ≤ length w) (f : t .over ≡ false) (p : PuttingIn b strings words w t used) (e : stringAt 9 (bytesAt b strings) o ≡ pass s) where
+  grown : Remembered (bytesAt b strings) (placeIs (firstUses (used ++ (s ∷ [])))) (memoryIn words w)
+  grown = rw (firstUses-snoc used s) (remembered-put (bytesAt b strings) (firstUses used) s (memoryIn words w) (p .memory f))
 
--- the same behind the table's words
-pub place-stored : (str : List ℕ) (table : List (List ℕ)) (s : List ℕ) (words : ℕ) (w x : List ℕ) (o v : ℕ) → Remembered str (placeIs table) (memoryIn words w) → stringAt 9 str o ≡ pass s
-    → v ≡ offsetIn table s → words + o < length w → x ≡ placed w (words + o) ((v + 1) ∷ []) → (v ≡ offsetIn table s) × Remembered str (placeIs table) (memoryIn words x)
-place-stored str table s words w x o v m e q h g =
-    place-remembered str table s (memoryIn words w) (memoryIn words x) o v m e q (omega (arith, length-memory words w)) (memory-stored words w x ((v + 1) ∷ []) o (omega arith) g)
+  -- a string that is remembered: its place is noted
+  pub known-noted : (v : ℕ) (r : StringTable) → Roomy words t → v ≡ getD (memoryIn words w) o 0 → (v ≡ 0 → ⊥) → y ≡ placed (take words w) (placesFrom (length (take words w)) + t .entries) ((v - 1) ∷ [])
+      → r ≡ withEntry t → PuttingIn b strings words (y ++ drop words w) r (used ++ (s ∷ []))
+  known-noted v r room q u g is =
+      let k = known-place (bytesAt b strings) (firstUses used) s (memoryIn words w) o v (p .memory f) e q u in
+      let lent : Roomy (length (take words w)) t = rw (length-take-le words w fits) room in
+      let put = put-again b (take words w) t used (lent-kept words w b t used (p .kept)) f y s (v - 1) r (k .0) (roomy-places (take words w) t lent) (k .1) is g in
+      record { kept = rw (table-lent words w y same fits) (put .kept); memory = λ _. rw (memory-lent words w y same fits) grown }
+
+  -- one that was sought: its place is remembered
+  pub put-stored : (x : List ℕ) (r : Put) → words + o < length w → PutIs b y used s r → x ≡ placed (y ++ drop words w) (words + o) ((r .place + 1) ∷ [])
+      → PuttingIn b strings words x (r .table) (used ++ (s ∷ []))
+  unfolding placeIs
+  put-stored x r h put g =
+      let ys = (r .place + 1) ∷ [] in
+      let v = y ++ drop words w in
+      let room : words + o + 1 ≤ length v = omega (arith, length-lent words w y same fits) in
+      let table = firstUses (used ++ (s ∷ [])) in
+      let has : isIn table s ≡ true = rw (firstUses-snoc used s) (put-has (firstUses used) s) in
+      record {
+        kept = rw (table-stays words v x ys o room g ∙ table-lent words w y same fits) (put .kept);
+        memory =
+            λ z. remembered-more (memoryIn words w) (memoryIn words x) o (r .place + 1) (omega (arith, length-memory words w))
+            (memory-stored words v x ys o room g ∙ ap (λ (l : List ℕ). placed l o ys) (memory-lent words w y same fits)) (bytesAt b strings) (placeIs table) s grown e
+            (has, ap (λ (n : ℕ). n + 1) (put .place z));
+      }
 
 -- ---- strings start up to the last zero byte, and nowhere behind it
 upTo-has : (n : ℕ) (s : List ℕ) (i : ℕ) → i < length s → getD s i 0 ≡ 0 → (t : List ℕ) × (upToZero n s ≡ pass t)

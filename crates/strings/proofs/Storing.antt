@@ -1,7 +1,7 @@
 -- What is lent for an object's strings: the words of the table, and its memory behind them. A store in the one leaves the other.
 -- Assumes nothing.
-use mathlib.Core.Path.{_≡_, refl, sym, ap, _∙_}
-use mathlib.Core.List.{List, [], _∷_, _++_, append-nil}
+use mathlib.Core.Path.{_≡_, sym, ap, _∙_}
+use mathlib.Core.List.{List, [], _++_, append-nil}
 use Prim.Native.Nat.{ℕ, _+_, _-_, _<_, _≤_}
 use native.Mathlib.Omega.{arith}
 use lib.ListN.{length, take, drop, getD, length-append, length-drop, drop-of-length-le}
@@ -25,9 +25,9 @@ module _ (words : ℕ) (w : List ℕ) where
   length-memory = length-drop words w
 
   -- the table as it is lent
-  pub lent-kept : (b : List ℕ) (t : StringTable) (ts : List (List ℕ)) → KeptIn b words w t ts → Kept b (take words w) t ts
+  pub lent-kept : (b : List ℕ) (t : StringTable) (used : List (List ℕ)) → KeptIn b words w t used → Kept b (take words w) t used
   unfolding tableIn
-  lent-kept b t ts k = k
+  lent-kept b t used k = k
 
   -- a store in the memory
   module _ (x ys : List ℕ) (o : ℕ) (fits : words + o + length ys ≤ length w) (e : x ≡ placed w (words + o) ys) where
@@ -75,5 +75,5 @@ module _ (words : ℕ) (w : List ℕ) where
   memory-forgotten x n h e = memory-stored x (zeros n) 0 (omega (arith, length-zeros n)) (e ∙ ap (λ (at : ℕ). placed w at (zeros n)) (omega arith))
 
 -- a table that stays is kept still
-pub kept-stays : (b : List ℕ) (words : ℕ) (w x : List ℕ) (t : StringTable) (ts : List (List ℕ)) → tableIn words x ≡ tableIn words w → KeptIn b words w t ts → KeptIn b words x t ts
-kept-stays b words w x t ts e k = rw e k
+pub kept-stays : (b : List ℕ) (words : ℕ) (w x : List ℕ) (t : StringTable) (used : List (List ℕ)) → tableIn words x ≡ tableIn words w → KeptIn b words w t used → KeptIn b words x t used
+kept-stays b words w x t used e k = rw e k

@@ -2,7 +2,7 @@
 -- Assumes nothing.
 use mathlib.Core.Path.{_≡_, refl, sym, _∙_}
 use mathlib.Core.Logic.{_⊎_, inl, inr, ⊎-elim}
-use mathlib.Core.Bool.{Bool, true, false, _&&_}
+use mathlib.Core.Bool.{Bool, true, false, _&&_, _||_}
 use mathlib.Core.List.{List}
 use Prim.Native.Nat.{ℕ, _+_, _*_, _-_, _/_, _%_, _<_, _≤_}
 use native.Mathlib.Nat.{mul-suc, mul-div-le, mul-le-mul-left, mul-le-mul-right, div-add-mod}
@@ -12,12 +12,14 @@ use lib.ListN.{length, drop, getD}
 use borrow.Author.Tests.{leb-true, eqb-true, eq-eqb, ne-eqb, eqb-false}
 use Rattle.octets.specs.Octets.{numberAt}
 use Rattle.octets.specs.Checked.{pass, refuse, _>>=_, require}
-use Rattle.octets.proofs.Checks.{pass-refuse, pass-inj, refuse-inj, known, fails, passes, require-pass, and-left}
+use Rattle.octets.proofs.Checks.{pass-refuse, pass-inj, refuse-inj, known, fails, passes, require-pass, and-left, and-right}
 use Rattle.octets.proofs.Numbers.{numberAt-drop}
 use Rattle.octets.proofs.Tables.{length-numbersIn, numbersIn-at}
 use Rattle.bundle.specs.Encoding.{Encoding}
 use Rattle.bundle.specs.Encoded.{four, encodingIs}
+use Rattle.bundle.specs.InitialLength.{marked, lengthField, lengthStated}
 use Rattle.bundle.specs.declared.encoding.ObjectEncoding.{ObjectEncoding}
+use Rattle.bundle.proofs.InitialLengths.{field-narrow, field-wide, field-most}
 use Rattle.strings.specs.Strings.{headerSize, headerTrue, entriesIn, entriesOf}
 
 -- ---- the width of what the code holds
@@ -46,39 +48,47 @@ pub header-four : (e : Encoding) → (e .version ≡ 5 → ⊥) → headerSize e
 unfolding headerSize
 header-four e h = rw (headerSize, ne-eqb (e .version) 5 h)
 
-pub true-wide : (e : Encoding) (s : List ℕ) → e .version ≡ 5 → (e .width ≡ 4 → ⊥)
-    → headerTrue e s ≡ (leb 16 (length s) && eqb (numberAt (e .big) 4 s 0) 0xFFFF_FFFF && eqb (numberAt (e .big) 8 s 4) (length s - 12)
-    && eqb (numberAt (e .big) 2 s 12) 5 && eqb (numberAt (e .big) 2 s 14) 0)
+pub true-five : (e : Encoding) (s : List ℕ) → e .version ≡ 5
+    → headerTrue e s ≡ (leb (lengthField e + 4) (length s) && (eqb (e .width) 4 || marked (e .big) s) && eqb (lengthStated e s) (length s - lengthField e)
+    && eqb (numberAt (e .big) 2 s (lengthField e)) 5 && eqb (numberAt (e .big) 2 s (lengthField e + 2)) 0)
 unfolding headerTrue
-true-wide e s h g = rw (headerTrue, eq-eqb (e .version) 5 h, ne-eqb (e .width) 4 g)
-
-pub true-narrow : (e : Encoding) (s : List ℕ) → e .version ≡ 5 → e .width ≡ 4
-    → headerTrue e s ≡ (leb 8 (length s) && eqb (numberAt (e .big) 4 s 0) (length s - 4) && eqb (numberAt (e .big) 2 s 4) 5 && eqb (numberAt (e .big) 2 s 6) 0)
-unfolding headerTrue
-true-narrow e s h g = rw (headerTrue, eq-eqb (e .version) 5 h, eq-eqb (e .width) 4 g)
+true-five e s h = rw (headerTrue, eq-eqb (e .version) 5 h)
 
 pub true-four : (e : Encoding) (s : List ℕ) → (e .version ≡ 5 → ⊥) → headerTrue e s ≡ true
 unfolding headerTrue
 true-four e s h = rw (headerTrue, ne-eqb (e .version) 5 h)
 
-first-of-four : (a b c d : Bool) → (a && b && c && d) ≡ true → a ≡ true
-first-of-four a b c d e = and-left a b (and-left (a && b) c (and-left (a && b && c) d e))
+-- of a true header in version 5: its length field and what follows is there, and it states the length of the rest
+module _ (e : Encoding) (s : List ℕ) (v : e .version ≡ 5) (t : headerTrue e s ≡ true) where
+  first-three : (leb (lengthField e + 4) (length s) && (eqb (e .width) 4 || marked (e .big) s) && eqb (lengthStated e s) (length s - lengthField e)) ≡ true
+  first-three = and-left _ _ (and-left _ _ (sym (true-five e s v) ∙ t))
+
+  pub true-there : lengthField e + 4 ≤ length s
+  true-there = leb-true (lengthField e + 4) (length s) (and-left _ _ (and-left _ _ first-three))
+
+  pub true-states : lengthStated e s ≡ length s - lengthField e
+  true-states = eqb-true (lengthStated e s) (length s - lengthField e) (and-right (leb (lengthField e + 4) (length s) && (eqb (e .width) 4 || marked (e .big) s)) _ first-three)
+
+-- the length field and 4 bytes behind it; just these in width 4 and 8
+header-most : (e : Encoding) → Sound e → e .version ≡ 5 → headerSize e ≤ lengthField e + 4
+header-most e w v =
+    let h = header-five e v in
+    ⊎-elim (λ n. omega (arith, eqb-true (e .width) 4 n, field-narrow e n)) (λ n. omega (arith, field-wide e n, w .high)) (known (eqb (e .width) 4))
+
+pub field-within : (e : ObjectEncoding) → encodingIs e .version ≡ 5 → lengthField (encodingIs e) ≤ headerSize (encodingIs e)
+field-within e v =
+    let h = header-five (encodingIs e) v in
+    ⊎-elim
+    (λ w. omega (arith, field-narrow (encodingIs e) (eq-eqb (encodingIs e .width) 4 w)))
+    (λ w. omega (arith, field-most (encodingIs e)))
+    (width-cases e)
 
 -- a true header lies in the section
 pub header-within : (e : Encoding) (s : List ℕ) → Sound e → headerTrue e s ≡ true → headerSize e ≤ length s
-header-within e s w t =
-    ⊎-elim
-    (λ v.
-    let h = header-five e (eqb-true (e .version) 5 v) in
-    ⊎-elim
-    (λ n.
-    let n4 = eqb-true (e .width) 4 n in
-    let p = first-of-four _ _ _ _ (sym (true-narrow e s (eqb-true (e .version) 5 v) n4) ∙ t) in
-    omega (arith, leb-true 8 (length s) p))
-    (λ n.
-    let p = first-of-four _ _ _ _ (and-left _ _ (sym (true-wide e s (eqb-true (e .version) 5 v) (eqb-false (e .width) 4 n)) ∙ t)) in
-    omega (arith, leb-true 16 (length s) p, w .high)) (known (eqb (e .width) 4)))
-    (λ v. let h = header-four e (eqb-false (e .version) 5 v) in omega arith) (known (eqb (e .version) 5))
+header-within e s w t = ⊎-elim
+    (λ v. let five = eqb-true (e .version) 5 v in omega (arith, header-most e w five, true-there e s five t))
+    (λ v. omega (arith, header-four e (eqb-false (e .version) 5 v)))
+    (known (eqb (e .version) 5))
 
 -- ---- entries
 pub length-entriesIn : (e : Encoding) (s : List ℕ) → length (entriesIn e s) ≡ (length s - headerSize e) / e .width

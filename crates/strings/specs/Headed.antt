@@ -6,28 +6,25 @@ use mathlib.Core.Bool.{true, false}
 use mathlib.Core.List.{List, [], _∷_, _++_}
 use Prim.Native.Nat.{ℕ, _+_, _*_, _/_, _<_, _≤_, _^_}
 use lib.Dec.{eqb}
-use lib.ListN.{length}
+use lib.ListN.{length, take, drop}
 use Rattle.numbers.specs.Tables.{dwarf5}
 use Rattle.numbers.specs.Limits.{stringWords}
-use Rattle.octets.specs.Octets.{numberAt, placed}
+use Rattle.octets.specs.Octets.{numbersOf, placed}
 use Rattle.octets.specs.Checked.{Check, pass, refuse, _>>=_}
 use Rattle.bundle.specs.Encoding.{Encoding}
+use Rattle.bundle.specs.InitialLength.{lengthField, lengthStated}
 use Rattle.bundle.specs.Encoded.{encodingIs}
-use Rattle.strings.specs.Strings.{entriesIn, entriesOf, stringsAt, remapped}
+use Rattle.strings.specs.Strings.{headerSize, entriesIn, entriesOf, stringsAt, remapped}
 use Rattle.strings.specs.Kept.{Inside, bytesAt, AddedIs}
 use Rattle.strings.specs.Remembered.{LastZero}
-use Rattle.strings.specs.Objects.{tableIn, KeptIn, PuttingIn, PlacesIn}
+use Rattle.strings.specs.Objects.{tableIn, KeptIn, PuttingIn}
 use Rattle.strings.specs.declared.table.Added.{Added}
 use Rattle.strings.specs.declared.table.StrOffsets.{StrOffsets}
 use Rattle.strings.specs.declared.table.StringTable.{StringTable}
 
 -- how long the piece at the front of a section is, by its header
 unfoldable pub pieceSize : Encoding → List ℕ → ℕ
-pieceSize e s =
-    elim (eqb (e .version) dwarf5) [
-      | true ↦ elim (eqb (e .width) 4) [ true ↦ 4 + numberAt (e .big) 4 s 0 | false ↦ 12 + numberAt (e .big) 8 s 4 ]
-      | false ↦ length s
-    ]
+pieceSize e s = elim (eqb (e .version) dwarf5) [ true ↦ lengthField e + lengthStated e s | false ↦ length s ]
 
 -- the section is these pieces, one behind the other, none of them empty, each of the size that its header states; 8 lets each pass
 unfoldable pub Headed : Encoding → List ℕ → List (List ℕ) → Type 0
@@ -50,13 +47,14 @@ pub record PiecesAddable (b : List ℕ) (o : StrOffsets) (words : ℕ) (store : 
   pub offsets-inside : Inside b (o .offsets)
   pub strings-inside : Inside b (o .strings)
   pub memory : words + o .strings .size ≤ length store
-  pub room : stringWords * (t .count + o .offsets .size / 4) ≤ words
+  pub room : stringWords * (t .entries + o .offsets .size / 4) ≤ words
+  pub small : words < 2 ^ 32
 
--- the strings of all pieces are put into a table, or 9
+-- the strings of all pieces are put behind those used before, or 9
 abbrev pub PiecesAdded : List ℕ → StrOffsets → List ℕ → List (List ℕ) → List (List ℕ) → Added → Type 0
-PiecesAdded b o x table ps r = AddedIs b x table (stringsOfAll (encodingIs (o .encoding)) (bytesAt b (o .strings)) ps) r
+PiecesAdded b o x used ps r = AddedIs b x used (stringsOfAll (encodingIs (o .encoding)) (bytesAt b (o .strings)) ps) r
 
--- the same for every table that is being put, and for one that is kept; x is the store after that
+-- the same for all strings that were used before, with memory and without; x is the store after that
 abbrev pub PiecesPut : List ℕ → StrOffsets → ℕ → List ℕ → StringTable → List ℕ → Added → Type 0
 PiecesPut b o words store t x r =
     (ts ps : List (List ℕ)) → PuttingIn b (o .strings) words store t ts → HeadedOf o b ps → PiecesAdded b o (tableIn words x) ts ps r
@@ -81,30 +79,28 @@ unfoldable pub remappedPieces : Encoding → List (List ℕ) → List ℕ → Li
 remappedPieces e table str [] = []
 remappedPieces e table str (p ∷ ps) = remapped e table p (usedOf e str p) ++ remappedPieces e table str ps
 
--- an object's pieces, which 8 and 9 let pass
-pub record PiecesJudged (b : List ℕ) (o : StrOffsets) (ps : List (List ℕ)) : Type 0 where
-  pub offsets-inside : Inside b (o .offsets)
-  pub strings-inside : Inside b (o .strings)
-  pub headed : HeadedOf o b ps
-  pub used : List (List ℕ)
-  pub strings : stringsOfAll (encodingIs (o .encoding)) (bytesAt b (o .strings)) ps ≡ pass used
+-- a piece with other numbers for its entries: its header as it was, and the numbers behind it
+unfoldable pub pieceWith : Encoding → List ℕ → List ℕ → List ℕ
+pieceWith e p ns = take (headerSize e) p ++ numbersOf (e .big) (e .width) ns
 
--- a table and pieces for which they can be written
-pub record PiecesHeld (b : List ℕ) (o : StrOffsets) (words : ℕ) (store : List ℕ) (t : StringTable) : Type 0 where
-  pub table : List (List ℕ)
+-- how many entries pieces have
+unfoldable pub entriesAll : Encoding → List (List ℕ) → ℕ
+entriesAll e [] = 0
+entriesAll e (p ∷ ps) = length (entriesIn e p) + entriesAll e ps
+
+-- each piece with the next of the numbers
+unfoldable pub piecesWith : Encoding → List (List ℕ) → List ℕ → List ℕ
+piecesWith e [] ns = []
+piecesWith e (p ∷ ps) ns = pieceWith e p (take (length (entriesIn e p)) ns) ++ piecesWith e ps (drop (length (entriesIn e p)) ns)
+
+-- a section of pieces, numbers for all entries, and room for it at a place of n bytes
+pub record PiecesWritable (e : Encoding) (s ns : List ℕ) (n at : ℕ) : Type 0 where
   pub pieces : List (List ℕ)
-  pub kept : KeptIn b words store t table
-  pub memory : PlacesIn b (o .strings) words store table
-  pub judged : PiecesJudged b o pieces
+  pub headed : Headed e s pieces
+  pub enough : entriesAll e pieces ≤ length ns
+  pub room : at + length s ≤ n
 
--- they are written to a place of the output, by every table that is kept; x is the output after that
-abbrev pub PiecesOut : List ℕ → StrOffsets → ℕ → List ℕ → StringTable → List ℕ → ℕ → List ℕ → Type 0
-PiecesOut b o words store t d at x =
-    (table ps : List (List ℕ)) → KeptIn b words store t table → PlacesIn b (o .strings) words store table → PiecesJudged b o ps
-    → x ≡ placed d at (remappedPieces (encodingIs (o .encoding)) table (bytesAt b (o .strings)) ps)
-
--- the same, whatever is remembered of str before it
-abbrev pub PiecesRemap : List ℕ → StrOffsets → ℕ → List ℕ → StringTable → List ℕ → ℕ → List ℕ → Type 0
-PiecesRemap b o words store t d at x =
-    (table ps : List (List ℕ)) → KeptIn b words store t table → PiecesJudged b o ps
-    → x ≡ placed d at (remappedPieces (encodingIs (o .encoding)) table (bytesAt b (o .strings)) ps)
+-- it is written there, and its entries are counted; d and x are the output before and after that
+pub record PiecesWritten (e : Encoding) (s ns : List ℕ) (at : ℕ) (d x : List ℕ) (r : ℕ) : Type 0 where
+  pub count : (ps : List (List ℕ)) → Headed e s ps → r ≡ entriesAll e ps
+  pub put : (ps : List (List ℕ)) → Headed e s ps → x ≡ placed d at (piecesWith e ps ns)

@@ -1,6 +1,6 @@
 -- Strings reached by str_offsets, in order of first use.
 -- Assumes nothing.
-use mathlib.Core.Bool.{Bool, true, false, _&&_}
+use mathlib.Core.Bool.{Bool, true, false, _&&_, _||_}
 use mathlib.Core.List.{List, [], _∷_, _++_, map}
 use Prim.Native.Nat.{ℕ, suc, _+_, _-_, _/_, _%_}
 use lib.Dec.{eqb, leb}
@@ -11,6 +11,7 @@ use Rattle.octets.specs.Octets.{numberAt, numbersIn, numbersOf}
 use Rattle.octets.specs.Lists.{joined, any, same}
 use Rattle.octets.specs.Checked.{Check, pass, refuse, _>>=_, require}
 use Rattle.bundle.specs.Encoding.{Encoding}
+use Rattle.bundle.specs.InitialLength.{marked, lengthField, lengthStated}
 
 -- "Version 5 str_offsets has a header of 8 bytes (width 4) or 16 (width 8)"; version 4 has none
 unfoldable pub headerSize : Encoding → ℕ
@@ -20,11 +21,8 @@ headerSize e = elim (eqb (e .version) dwarf5) [ true ↦ e .width + e .width | f
 unfoldable pub headerTrue : Encoding → List ℕ → Bool
 headerTrue e s =
     elim (eqb (e .version) dwarf5) [
-      | true ↦ elim (eqb (e .width) 4) [
-        | true ↦ leb 8 (length s) && eqb (numberAt (e .big) 4 s 0) (length s - 4) && eqb (numberAt (e .big) 2 s 4) dwarf5 && eqb (numberAt (e .big) 2 s 6) 0
-        | false ↦ leb 16 (length s) && eqb (numberAt (e .big) 4 s 0) 0xFFFF_FFFF && eqb (numberAt (e .big) 8 s 4) (length s - 12)
-            && eqb (numberAt (e .big) 2 s 12) dwarf5 && eqb (numberAt (e .big) 2 s 14) 0
-      ]
+      | true ↦ leb (lengthField e + 4) (length s) && (eqb (e .width) 4 || marked (e .big) s) && eqb (lengthStated e s) (length s - lengthField e)
+          && eqb (numberAt (e .big) 2 s (lengthField e)) dwarf5 && eqb (numberAt (e .big) 2 s (lengthField e + 2)) 0
       | false ↦ true
     ]
 

@@ -1,12 +1,13 @@
 // Entries of a str_offsets section (8), and the string that stands at an offset of str (9).
 ghost use mathlib.Core.Path.{_≡_};
-ghost use mathlib.Core.Bool.{true, false, _&&_};
+ghost use mathlib.Core.Bool.{_&&_, _||_};
 ghost use Prim.Native.Nat.{ℕ, _+_, _≤_, _<_};
 ghost use lib.Dec.{eqb};
 ghost use lib.ListN.{length, getD};
 ghost use Rattle.numbers.specs.Tables.{dwarf5};
 ghost use Rattle.octets.specs.Octets.{numberAt};
 ghost use Rattle.bundle.specs.Encoded.{encodingIs};
+ghost use Rattle.bundle.specs.InitialLength.{marked};
 ghost use Rattle.strings.specs.Strings.{
   headerSize,
   headerTrue,
@@ -15,6 +16,7 @@ ghost use Rattle.strings.specs.Strings.{
 ghost use Rattle.strings.specs.Answers.{entriesFor, stringFor};
 ghost use Rattle.strings.specs.Remembered.{LastZero};
 use bundle::encoding::ObjectEncoding;
+use bundle::initial_length;
 
 // The version that a header states.
 const VERSION: u16 = numbers::tables::DWARF_5 as u16;
@@ -54,49 +56,36 @@ fn version_true(big: bool, s: &[u8], at: usize) -> bool
     octets::u16_at(big, s, at + 2) == 0
 }
 
-// The header of width 4: the length of the rest, 5, 0.
-fn narrow_true(e: ObjectEncoding, s: &[u8]) -> bool
-    requires { ⌜ (e .five ≡ true) × (e .wide ≡ false) ⌝ }
-    ensures { λ r. ⌜ r ≡ headerTrue (encodingIs e) (now (s .entry)) ⌝ }
+// A length of 8 bytes stands behind FFFFFFFF.
+fn mark_true(e: ObjectEncoding, s: &[u8]) -> bool
+    ensures { λ r. ⌜ r ≡ (eqb (encodingIs e .width) 4 || marked (e .big) (now (s .entry))) ⌝ }
 {
-    if s.len() < 8 {
-        return false;
+    if e.wide {
+        return initial_length::is_marked(e.big, s);
     }
-    let rest = octets::number_at(e.big, 4, s, 0);
-    if rest != octets::long(s.len() - 4) {
-        return false;
-    }
-    version_true(e.big, s, 4)
+    true
 }
 
-// The header of width 8, whose length of 8 bytes stands behind FFFFFFFF.
-fn wide_true(e: ObjectEncoding, s: &[u8]) -> bool
-    requires { ⌜ (e .five ≡ true) × (e .wide ≡ true) ⌝ }
-    ensures { λ r. ⌜ r ≡ headerTrue (encodingIs e) (now (s .entry)) ⌝ }
-{
-    if s.len() < 16 {
-        return false;
-    }
-    if octets::number_at(e.big, 4, s, 0) != 0xFFFF_FFFF {
-        return false;
-    }
-    let rest = octets::number_at(e.big, 8, s, 4);
-    if rest != octets::long(s.len() - 12) {
-        return false;
-    }
-    version_true(e.big, s, 12)
-}
-
+// In version 5: the length of the rest, 5, 0.
 fn header_true(e: ObjectEncoding, s: &[u8]) -> bool
     ensures { λ r. ⌜ r ≡ headerTrue (encodingIs e) (now (s .entry)) ⌝ }
 {
-    if e.five {
-        if e.wide {
-            return wide_true(e, s);
-        }
-        return narrow_true(e, s);
+    if !e.five {
+        return true;
     }
-    true
+    let field = initial_length::field_size(e);
+    let header = field + 4;
+    if s.len() < header {
+        return false;
+    }
+    if !mark_true(e, s) {
+        return false;
+    }
+    let rest = initial_length::stated(e, s);
+    if rest != octets::long(s.len() - field) {
+        return false;
+    }
+    version_true(e.big, s, field)
 }
 
 // 8: the header is true and whole entries follow.
@@ -144,12 +133,9 @@ pub fn string_at(s: &[u8], offset: u64) -> StringRead
         return StringRead::Missing;
     }
     let start = octets::size(offset);
-    let mut end = start;
-    while end < s.len() {
-        if s[end] == 0 {
-            return StringRead::At(start, end - start);
-        }
-        end += 1;
+    let end = octets::first_zero(s, start);
+    if end < s.len() {
+        return StringRead::At(start, end - start);
     }
     StringRead::Missing
 }

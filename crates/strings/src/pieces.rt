@@ -5,8 +5,7 @@ ghost use Prim.Native.Nat.{ℕ, _≤_};
 ghost use lib.ListN.{length};
 ghost use Rattle.bundle.specs.Encoded.{encodingIs};
 ghost use Rattle.strings.specs.Strings.{headerSize};
-ghost use mathlib.Core.Bool.{false};
-ghost use Rattle.strings.specs.Objects.{tableIn, KeptIn, Writable};
+ghost use Rattle.strings.specs.Objects.{KeptIn};
 ghost use Rattle.strings.specs.Headed.{
   pieceSize,
   HeadedOf,
@@ -14,10 +13,8 @@ ghost use Rattle.strings.specs.Headed.{
   PiecesPutAsked,
   PiecesPut,
   PiecesKept,
-  PiecesJudged,
-  PiecesHeld,
-  PiecesOut,
-  PiecesRemap,
+  PiecesWritable,
+  PiecesWritten,
 };
 use crate::entries;
 use crate::table::Added;
@@ -25,6 +22,7 @@ use crate::table::Place;
 use crate::table::StrOffsets;
 use crate::table::StringTable;
 use bundle::encoding::ObjectEncoding;
+use bundle::initial_length;
 
 // How long the piece at the front of a section is. The caller knows that its header is true.
 pub fn piece_size(e: ObjectEncoding, s: &[u8]) -> usize
@@ -32,12 +30,8 @@ pub fn piece_size(e: ObjectEncoding, s: &[u8]) -> usize
     ensures { λ r. ⌜ r ≡ pieceSize (encodingIs e) (now (s .entry)) ⌝ }
 {
     if e.five {
-        if e.wide {
-            let rest = octets::number_at(e.big, 8, s, 4);
-            return 12 + octets::size(rest);
-        }
-        let rest = octets::number_at(e.big, 4, s, 0);
-        return 4 + octets::size(rest);
+        let rest = octets::size(initial_length::stated(e, s));
+        return initial_length::field_size(e) + rest;
     }
     s.len()
 }
@@ -81,7 +75,7 @@ fn put_pieces(
 // Puts the strings that the entries of all pieces name, each of which check_entries let pass. What is remembered of str serves all of them. The store holds the
 // table in its first words, with a row for each entry, and behind them a word of memory for each byte of str; what the memory holds after the call is not promised.
 pub fn add_pieces(o: StrOffsets, b: &[u8], store: &mut [u32], words: usize, t: StringTable) -> Added
-    requires { ⌜ PiecesAddable (now b) o words (now store) t × ((ts : List (List ℕ)) × KeptIn (now b) words (now store) t ts) × ((ps : List (List ℕ)) × HeadedOf o (now b) ps) ⌝ }
+    requires { ⌜ PiecesAddable (now b) o words (now store) t × ((used : List (List ℕ)) × KeptIn (now b) words (now store) t used) × ((ps : List (List ℕ)) × HeadedOf o (now b) ps) ⌝ }
     ensures { λ r. ⌜ PiecesKept (now (b .entry)) o words (now (store .entry)) t (now (store .exit)) r ⌝ }
 {
     let strings = o.strings;
@@ -92,56 +86,21 @@ pub fn add_pieces(o: StrOffsets, b: &[u8], store: &mut [u32], words: usize, t: S
     put_pieces(o, b, ended, store, words, t)
 }
 
-// Writes all pieces by the final table, one behind the other.
-fn write_pieces(
-    o: StrOffsets,
-    b: &[u8],
-    store: &mut [u32],
-    words: usize,
-    t: StringTable,
-    d: &mut [u8],
-    at: usize,
-)
-    requires { ⌜ (t .over ≡ false) × Writable o words (now store) (now d) at × PiecesHeld (now b) o words (now store) t ⌝ }
-    ensures { λ _. ⌜ PiecesOut (now (b .entry)) o words (now (store .entry)) t (now (d .entry)) at (now (d .exit)) ⌝ }
-    ensures { λ _. ⌜ tableIn words (now (store .exit)) ≡ tableIn words (now (store .entry)) ⌝ }
+// Writes a section with other numbers for its entries, piece by piece: each header as it was, and the next numbers behind it. Says how many entries the section has.
+pub fn write_pieces(e: ObjectEncoding, s: &[u8], numbers: &[u32], d: &mut [u8], at: usize) -> usize
+    requires { ⌜ PiecesWritable (encodingIs e) (now s) (now numbers) (length (now d)) at ⌝ }
+    ensures { λ r. ⌜ PiecesWritten (encodingIs e) (now (s .entry)) (now (numbers .entry)) at (now (d .entry)) (now (d .exit)) r ⌝ }
 {
-    let e = o.encoding;
-    let strings = o.strings;
-    let start = o.offsets.start;
-    let end = start + o.offsets.size;
-    let mut place = start;
-    let mut out = at;
-    while place < end {
-        let size = piece_size(e, &b[place..end]);
-        let offsets = Place { start: place, size };
-        let piece = StrOffsets {
-            encoding: e,
-            offsets,
-            strings,
-        };
-        crate::sections::remap_piece(piece, b, store, words, t, d, out);
-        place += size;
-        out += size;
+    let mut from = 0;
+    let mut first = 0;
+    while from < s.len() {
+        let size = piece_size(e, &s[from..]);
+        let end = from + size;
+        let count = entries::entry_count(e, &s[from..end]);
+        let last = first + count;
+        crate::sections::write_piece(e, &s[from..end], &numbers[first..last], d, at + from);
+        from = end;
+        first = last;
     }
-}
-
-// Writes an object's str_offsets by the final table, piece by piece: each header as it was, and for each entry its string's place in str. The store holds the table
-// in its first words, and behind them a word of memory for each byte of the object's str; what the memory holds after the call is not promised.
-pub fn remap_pieces(
-    o: StrOffsets,
-    b: &[u8],
-    store: &mut [u32],
-    words: usize,
-    t: StringTable,
-    d: &mut [u8],
-    at: usize,
-)
-    requires { ⌜ (t .over ≡ false) × Writable o words (now store) (now d) at × ((ts : List (List ℕ)) × KeptIn (now b) words (now store) t ts) × ((ps : List (List ℕ)) × PiecesJudged (now b) o ps) ⌝ }
-    ensures { λ _. ⌜ PiecesRemap (now (b .entry)) o words (now (store .entry)) t (now (d .entry)) at (now (d .exit)) ⌝ }
-    ensures { λ _. ⌜ tableIn words (now (store .exit)) ≡ tableIn words (now (store .entry)) ⌝ }
-{
-    let strings = o.strings;
-    crate::table::forget(store, words, strings.size);
-    write_pieces(o, b, store, words, t, d, at);
+    first
 }

@@ -9,7 +9,8 @@ ghost use Rattle.octets.specs.Checked.{pass};
 ghost use Rattle.bundle.specs.Encoded.{encodingIs};
 ghost use Rattle.strings.specs.Strings.{entriesOf};
 ghost use Rattle.strings.specs.Kept.{none, Inside, bytesAt};
-ghost use Rattle.strings.specs.Objects.{entriesAt, KeptIn, JudgedOf, AllAddable};
+ghost use Rattle.strings.specs.Objects.{entriesAt, AllAddable};
+ghost use Rattle.strings_remap.specs.Strung.{Strung};
 use bundle::encoding::ObjectEncoding;
 use libc::STDOUT_FILENO;
 use strings::entries::Entries;
@@ -30,12 +31,12 @@ enum Outcome {
 fn write_sections(
     o: StrOffsets,
     b: &[u8],
-    store: &mut [u32],
+    store: &[u32],
     words: usize,
     t: StringTable,
     output: &mut [u8],
 ) -> Outcome
-    requires { ⌜ (t .over ≡ false) × (words + o .strings .size ≤ length (now store)) × ((s : List (List ℕ)) × KeptIn (now b) words (now store) t s) × ((u : List (List ℕ)) × JudgedOf o (now b) u) ⌝ }
+    requires { ⌜ Strung (now b) o words (now store) t ⌝ }
 {
     let offsets = o.offsets;
     let at = offsets.size;
@@ -46,9 +47,12 @@ fn write_sections(
     if output.len() - at < size {
         return Outcome::Short;
     }
-    let count = t.count;
-    strings::sections::remap_str_offsets(o, b, store, words, t, output, 0);
-    strings::sections::write_strings(b, &store[..words], count, output, at);
+    let start = offsets.start;
+    let end = start + at;
+    let first = strings::table::places_from(words);
+    let last = first + t.entries;
+    strings::sections::write_piece(o.encoding, &b[start..end], &store[first..last], output, 0);
+    strings::sections::write_strings(b, &store[..words], t.count, output, at);
     Outcome::Sections(at, at + size)
 }
 
@@ -66,6 +70,7 @@ fn remap_entries(
     let t = StringTable {
         count: 0,
         size: 0,
+        entries: 0,
         over: false,
     };
     let Added::Table(kept) = strings::table::add_strings(o, b, store, words, t) else {
@@ -79,7 +84,7 @@ fn remap_entries(
 
 // The table stands in the first words of the store, and the memory behind them.
 fn remap(o: StrOffsets, b: &[u8], store: &mut [u32], words: usize, output: &mut [u8]) -> Outcome
-    requires { ⌜ (length (now b) < 2 ^ 32) × Inside (now b) (o .offsets) × Inside (now b) (o .strings) × (words ≤ length (now store)) ⌝ }
+    requires { ⌜ (length (now b) < 2 ^ 32) × Inside (now b) (o .offsets) × Inside (now b) (o .strings) × (words ≤ length (now store)) × (words < 2 ^ 32) ⌝ }
 {
     let offsets = o.offsets;
     let text = o.strings;

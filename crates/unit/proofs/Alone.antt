@@ -2,61 +2,34 @@
 -- Assumes nothing.
 use mathlib.Core.Path.{_≡_, refl, sym, ap, _∙_, subst}
 use mathlib.Core.Logic.{_⊎_, _↔_, inl, inr, ⊎-elim}
-use mathlib.Core.Bool.{Bool, true, false, not, _||_}
+use mathlib.Core.Bool.{true, false, not, _||_}
 use mathlib.Core.List.{List}
 use Prim.Native.Nat.{ℕ, _+_, _≤_}
 use native.Mathlib.Omega.{arith}
-use lib.Dec.{eqb, leb, ltb}
+use lib.Dec.{eqb, leb}
 use lib.ListN.{length, take, getD}
 use lib.Seq.{length-take-le, take-take}
 use borrow.Author.Tests.{eqb-true, eqb-false, leb-true, le-leb}
-use Rattle.octets.specs.Octets.{number, numberAt}
+use Rattle.octets.specs.Octets.{numberAt}
 use Rattle.octets.specs.Checked.{Check, pass, _>>=_, require}
 use Rattle.octets.proofs.Checks.{bind-pass, require-pass, pass-inj, pass-refuse, passes, then-pass, known, or-cases}
-use Rattle.octets.proofs.Parts.{part-take}
 use Rattle.bundle.specs.Encoding.{Encoding}
 use Rattle.unit.specs.Root.{rootIdentity}
-use Rattle.unit.specs.UnitRead.{Identity, UnitRead, isFive, lengthField, unitSize, addressPlace, commonSize, behindCommon, identityFive, identityFour, identityOf, unitOf}
+use Rattle.bundle.specs.InitialLength.{lengthField}
+use Rattle.unit.specs.UnitRead.{Identity, UnitRead, isFive, unitSize, addressPlace, commonSize, behindCommon, identityFive, identityFour, identityOf, unitOf}
+use Rattle.bundle.proofs.InitialLengths.{field-least}
+use Rattle.unit.proofs.Fields.{size-same}
 use Rattle.unit.proofs.Plain.{plain, unit-plain}
 use Rattle.unit.specs.TypeUnits.{unitType, IsTypeUnit}
 
 -- ---- read alone
-pub number-alone : (big : Bool) (w : ℕ) (s : List ℕ) (n at : ℕ) → at + w ≤ n → numberAt big w (take n s) at ≡ numberAt big w s at
-unfolding numberAt
-number-alone big w s n at h = ap (number big) (part-take s n at w h)
-
--- the size by the first words
-unfoldable sized : Encoding → ℕ → ℕ → Check ℕ
-sized e word long =
-    elim (eqb (e .width) 4) [
-      | true ↦ require (ltb word 0xFFFF_FFF0) 11 >>= λ _. pass (4 + word)
-      | false ↦ require (eqb word 0xFFFF_FFFF) 11 >>= λ _. pass (12 + long)
-    ]
-
-sized-same : (e : Encoding) (a b c d : ℕ) → a ≡ c → (eqb (e .width) 4 ≡ false → b ≡ d) → sized e a b ≡ sized e c d
-unfolding sized
-sized-same e a b c d p q = ⊎-elim (λ (t : eqb (e .width) 4 ≡ true). rw (sized, t, p)) (λ (t : eqb (e .width) 4 ≡ false). rw (sized, t, p, q t)) (known (eqb (e .width) 4))
-
-field-least : (e : Encoding) → 4 ≤ lengthField e
-unfolding lengthField
-field-least e = ⊎-elim (λ (t : eqb (e .width) 4 ≡ true). rw (lengthField, t) (omega arith)) (λ (t : eqb (e .width) 4 ≡ false). rw (lengthField, t) (omega arith)) (known (eqb (e .width) 4))
-
-field-wide : (e : Encoding) → eqb (e .width) 4 ≡ false → lengthField e ≡ 12
-unfolding lengthField
-field-wide e t = rw (lengthField, t)
-
 common-least : (e : Encoding) → lengthField e ≤ commonSize e
 unfolding commonSize
 common-least e = ⊎-elim (λ (t : isFive e ≡ true). rw (commonSize, t) (omega arith)) (λ (t : isFive e ≡ false). rw (commonSize, t) (omega arith)) (known (isFive e))
 
 size-alone : (e : Encoding) (s : List ℕ) (n : ℕ) → lengthField e ≤ n → n ≤ length s → unitSize e s ≡ pass n → unitSize e (take n s) ≡ pass n
-unfolding unitSize sized
 size-alone e s n h l q =
-    let r = require-pass (leb (lengthField e) (length s)) 11 _ n q in
-    passes (leb (lengthField e) (length (take n s))) 11 _ (le-leb (lengthField e) (length (take n s)) (rw (length-take-le n s l) h))
-    ∙ sized-same e (numberAt (e .big) 4 (take n s) 0) (numberAt (e .big) 8 (take n s) 4) (numberAt (e .big) 4 s 0) (numberAt (e .big) 8 s 4)
-    (number-alone (e .big) 4 s n 0 (omega (arith, field-least e))) (λ t. number-alone (e .big) 8 s n 4 (omega (arith, field-wide e t)))
-    ∙ r .1
+    size-same e n s (take n s) (sym (take-take n n s (omega arith))) h n (rw (length-take-le n s l) h) q
 
 -- what follows the size, of the unit's own bytes
 unfoldable behindSize : Encoding → ℕ → List ℕ → ℕ → List ℕ → Check UnitRead

@@ -21,7 +21,8 @@ use Rattle.bundle.specs.declared.encoding.ObjectEncoding.{ObjectEncoding}
 use Rattle.unit.specs.Forms.{Width, forms, widthIn, valueSize}
 use Rattle.unit.specs.Abbreviations.{Attribute, declarationsOf, declarationOf}
 use Rattle.unit.specs.Root.{needed, Value, plainValue, valueOf, identityAt, identityIn, rootTag, rootIdentity}
-use Rattle.unit.specs.UnitRead.{Identity, UnitRead, lengthField, unitSize, isFive, addressPlace, commonSize, behindCommon, identityFive, identityFour, identityOf, unitOf}
+use Rattle.bundle.specs.InitialLength.{lengthField}
+use Rattle.unit.specs.UnitRead.{Identity, UnitRead, unitSize, isFive, addressPlace, commonSize, behindCommon, identityFive, identityFour, identityOf, unitOf}
 use Rattle.unit.proofs.Plain.{plain, unit-plain}
 
 -- a value of form data8 has 8 bytes

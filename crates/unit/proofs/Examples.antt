@@ -13,7 +13,8 @@ use Rattle.bundle.specs.Encoding.{Encoding}
 use Rattle.unit.specs.Abbreviations.{attributeAt, attributesThen, attributesFrom, attributesOf, declarationAt, declarationsThen, declarationsFrom, declarationsOf, declarationOf}
 use Rattle.unit.specs.Forms.{forms, widthIn, zeroEnded, valueSize}
 use Rattle.unit.specs.Root.{needed, plainValue, valueOf, identityAt, identityIn, rootTag, rootIdentity}
-use Rattle.unit.specs.UnitRead.{UnitRead, lengthField, unitSize, isFive, addressPlace, commonSize, behindCommon, identityFive, identityFour, identityOf, unitOf, unitBy}
+use Rattle.bundle.specs.InitialLength.{marked, lengthField, lengthStated}
+use Rattle.unit.specs.UnitRead.{UnitRead, lengthGood, unitSize, isFive, addressPlace, commonSize, behindCommon, identityFive, identityFour, identityOf, unitOf, unitBy}
 
 -- offsets of 4 bytes and addresses of 8
 abbrev pub four : Encoding
@@ -118,5 +119,5 @@ Examples =
     × (unitSize wide (numbersOf false 4 (0xFFFF_FFFE ∷ 7 ∷ 0 ∷ [])) ≡ refuse 11)
 
 pub examples : Examples
-unfolding part little number numberAt littleOf bytesOf numbersOf joined any has distinct zeroTogether _>>=_ require groups short unsigned signedSize attributeAt attributesThen attributesFrom attributesOf declarationAt declarationsThen declarationsFrom declarationsOf declarationOf forms widthIn zeroEnded valueSize needed plainValue valueOf identityAt identityIn rootTag rootIdentity lengthField unitSize isFive addressPlace commonSize behindCommon identityFive identityFour identityOf unitBy unitOf
+unfolding part little number numberAt littleOf bytesOf numbersOf joined any has distinct zeroTogether _>>=_ require groups short unsigned signedSize attributeAt attributesThen attributesFrom attributesOf declarationAt declarationsThen declarationsFrom declarationsOf declarationOf forms widthIn zeroEnded valueSize needed plainValue valueOf identityAt identityIn rootTag rootIdentity marked lengthField lengthStated lengthGood unitSize isFive addressPlace commonSize behindCommon identityFive identityFour identityOf unitBy unitOf
 examples = (refl, refl, refl, refl, refl, refl, refl, refl, refl, refl, refl, refl, refl, refl, refl, refl, refl, refl, refl, refl)

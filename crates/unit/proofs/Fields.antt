@@ -2,33 +2,27 @@
 -- Assumes nothing.
 use mathlib.Core.Path.{_≡_, refl, sym, ap, _∙_}
 use mathlib.Core.Bool.{Bool, true, false}
-use mathlib.Core.Logic.{_⊎_, inl, inr}
+use mathlib.Core.Logic.{_⊎_, inl, inr, ⊎-elim}
 use mathlib.Core.List.{List}
 use Prim.Native.Nat.{ℕ, _+_, _≤_, _<_}
 use native.Mathlib.Omega.{arith}
 use lib.Dec.{eqb, leb, ltb}
-use lib.ListN.{length, getD}
-use borrow.Author.Tests.{eq-eqb, ne-eqb, le-leb, lt-leb, lt-ltb, le-ltb}
+use lib.ListN.{length, take, getD}
+use borrow.Author.Tests.{eq-eqb, ne-eqb, le-leb, lt-leb}
 use Rattle.octets.specs.Octets.{numberAt}
 use Rattle.octets.specs.Checked.{pass, refuse, _>>=_, require}
-use Rattle.octets.proofs.Checks.{passes, fails, known}
+use Rattle.octets.proofs.Checks.{passes, fails, known, require-pass, pass-inj}
 use Rattle.bundle.specs.Encoding.{Encoding}
 use Rattle.bundle.specs.Encoded.{four, encodingIs}
 use Rattle.bundle.specs.declared.encoding.ObjectEncoding.{ObjectEncoding}
-use Rattle.unit.specs.UnitRead.{lengthField, unitSize, isFive, addressPlace, commonSize}
-use Rattle.unit.specs.Headers.{fits, unitInside, narrowSize, wideSize, commonGood, fiveKind, kindOf}
+use Rattle.bundle.specs.InitialLength.{marked, lengthField, lengthStated}
+use Rattle.unit.specs.UnitRead.{lengthGood, unitSize, isFive, addressPlace, commonSize}
+use Rattle.unit.specs.Headers.{fits, unitInside, commonGood, fiveKind, kindOf}
+use Rattle.bundle.proofs.InitialLengths.{field-least, marked-same, stated-same}
 use Rattle.unit.specs.declared.header.Kind.the-variants.{Compilation, Signature, Root, Other}
 
 -- ---- by the flags of an encoding
 module _ (e : ObjectEncoding) where
-  pub width-wide : e .wide ≡ true → encodingIs e .width ≡ 8
-  unfolding encodingIs four
-  width-wide h = rw h
-
-  pub width-narrow : e .wide ≡ false → encodingIs e .width ≡ 4
-  unfolding encodingIs four
-  width-narrow h = rw h
-
   pub width-le : encodingIs e .width ≤ 8
   unfolding encodingIs four
   width-le = go (e .wide)
@@ -46,22 +40,6 @@ module _ (e : ObjectEncoding) where
   is-four h = rw h
 
 module _ (e : Encoding) where
-  pub field-narrow : e .width ≡ 4 → lengthField e ≡ 4
-  unfolding lengthField
-  field-narrow h = rw (lengthField, eq-eqb (e .width) 4 h)
-
-  pub field-wide : e .width ≡ 8 → lengthField e ≡ 12
-  unfolding lengthField
-  field-wide h = rw (lengthField, h)
-
-  pub field-le : lengthField e ≤ 12
-  unfolding lengthField
-  field-le = go (eqb (e .width) 4)
-    where
-      go : (b : Bool) → elim b [ true ↦ 4 | false ↦ 12 ] ≤ 12
-      go true = omega arith
-      go false = omega arith
-
   pub place-five : isFive e ≡ true → addressPlace e ≡ lengthField e + 3
   unfolding addressPlace
   place-five h = rw (addressPlace, h)
@@ -102,51 +80,9 @@ pub fits-in : (s : List ℕ) (n : ℕ) → n ≤ length s → fits s n ≡ pass 
 unfolding fits
 fits-in s n h = passes _ _ _ (le-leb n (length s) h)
 
-pub fits-out : (s : List ℕ) (n : ℕ) → length s < n → fits s n ≡ refuse 11
+fits-out : (s : List ℕ) (n : ℕ) → length s < n → fits s n ≡ refuse 11
 unfolding fits
 fits-out s n h = fails _ _ _ (lt-leb n (length s) h)
-
-module _ (big : Bool) (s : List ℕ) where
-  pub narrow-short : length s < 4 → refuse 11 ≡ narrowSize big s
-  unfolding narrowSize
-  narrow-short h = sym (fails _ _ _ (lt-leb 4 (length s) h))
-
-  pub wide-short : length s < 12 → refuse 11 ≡ wideSize big s
-  unfolding wideSize
-  wide-short h = sym (fails _ _ _ (lt-leb 12 (length s) h))
-
-  module _ (word : ℕ) (e : word ≡ numberAt big 4 s 0) where
-    module _ (h : 4 ≤ length s) where
-      pub narrow-word : 0xFFFF_FFF0 ≤ word → refuse 11 ≡ narrowSize big s
-      unfolding narrowSize
-      narrow-word g = sym (passes _ _ _ (le-leb 4 (length s) h) ∙ fails _ _ _ (le-ltb (numberAt big 4 s 0) 0xFFFF_FFF0 (rw e at g)))
-
-      module _ (g : word < 0xFFFF_FFF0) where
-        narrow-is : narrowSize big s ≡ fits s (4 + word)
-        unfolding narrowSize
-        narrow-is = passes _ _ _ (le-leb 4 (length s) h) ∙ passes _ _ _ (lt-ltb (numberAt big 4 s 0) 0xFFFF_FFF0 (rw e at g)) ∙ ap (λ (n : ℕ). fits s (4 + n)) (sym e)
-
-        pub narrow-out : length s < 4 + word → refuse 11 ≡ narrowSize big s
-        narrow-out f = sym (narrow-is ∙ fits-out s (4 + word) f)
-
-        pub narrow-in : 4 + word ≤ length s → pass (4 + word) ≡ narrowSize big s
-        narrow-in f = sym (narrow-is ∙ fits-in s (4 + word) f)
-
-    module _ (h : 12 ≤ length s) where
-      pub wide-word : (word ≡ 0xFFFF_FFFF → ⊥) → refuse 11 ≡ wideSize big s
-      unfolding wideSize
-      wide-word g = sym (passes _ _ _ (le-leb 12 (length s) h) ∙ fails _ _ _ (ne-eqb (numberAt big 4 s 0) 0xFFFF_FFFF (λ z. g (e ∙ z))))
-
-      module _ (g : word ≡ 0xFFFF_FFFF) (rest : ℕ) (d : rest ≡ numberAt big 8 s 4) where
-        wide-is : wideSize big s ≡ fits s (12 + rest)
-        unfolding wideSize
-        wide-is = passes _ _ _ (le-leb 12 (length s) h) ∙ passes _ _ _ (eq-eqb (numberAt big 4 s 0) 0xFFFF_FFFF (sym e ∙ g)) ∙ ap (λ (n : ℕ). fits s (12 + n)) (sym d)
-
-        pub wide-out : length s < 12 + rest → refuse 11 ≡ wideSize big s
-        wide-out f = sym (wide-is ∙ fits-out s (12 + rest) f)
-
-        pub wide-in : 12 + rest ≤ length s → pass (12 + rest) ≡ wideSize big s
-        wide-in f = sym (wide-is ∙ fits-in s (12 + rest) f)
 
 -- both tests in a row, and the size judged behind them
 chain : (a b : Bool) (n : ℕ) (s : List ℕ) → (require a 11 >>= (λ _. require b 11 >>= λ _. pass n) >>= fits s) ≡ (require a 11 >>= λ _. (require b 11 >>= λ _. fits s n))
@@ -156,13 +92,70 @@ chain true false n s = refl
 chain false b n s = refl
 
 module _ (e : Encoding) (s : List ℕ) where
-  pub inside-narrow : e .width ≡ 4 → unitInside e s ≡ narrowSize (e .big) s
-  unfolding unitInside unitSize narrowSize lengthField
-  inside-narrow h = rw (unitInside, unitSize, lengthField, h, narrowSize) (chain (leb 4 (length s)) (ltb (numberAt (e .big) 4 s 0) 0xFFFF_FFF0) (4 + numberAt (e .big) 4 s 0) s)
+  inside-is : unitInside e s ≡ (require (leb (lengthField e) (length s)) 11 >>= λ _. (require (lengthGood e s) 11 >>= λ _. fits s (lengthField e + lengthStated e s)))
+  unfolding unitInside unitSize
+  inside-is = chain (leb (lengthField e) (length s)) (lengthGood e s) (lengthField e + lengthStated e s) s
 
-  pub inside-wide : e .width ≡ 8 → unitInside e s ≡ wideSize (e .big) s
-  unfolding unitInside unitSize wideSize lengthField
-  inside-wide h = rw (unitInside, unitSize, lengthField, h, wideSize) (chain (leb 12 (length s)) (eqb (numberAt (e .big) 4 s 0) 0xFFFF_FFFF) (12 + numberAt (e .big) 8 s 4) s)
+  pub good-wide : eqb (e .width) 4 ≡ false → lengthGood e s ≡ marked (e .big) s
+  unfolding lengthGood
+  good-wide t = rw (lengthGood, t)
+
+  pub good-narrow : eqb (e .width) 4 ≡ true → lengthGood e s ≡ ltb (lengthStated e s) 0xFFFF_FFF0
+  unfolding lengthGood
+  good-narrow t = rw (lengthGood, t)
+
+  -- as the code tests it
+  module _ (field : ℕ) (p : field ≡ lengthField e) where
+    pub inside-short : length s < field → refuse 11 ≡ unitInside e s
+    inside-short h = sym (inside-is ∙ fails _ _ _ (lt-leb (lengthField e) (length s) (omega arith)))
+
+    module _ (h : field ≤ length s) where
+      there : leb (lengthField e) (length s) ≡ true
+      there = le-leb (lengthField e) (length s) (omega arith)
+
+      pub inside-bad : lengthGood e s ≡ false → refuse 11 ≡ unitInside e s
+      inside-bad g = sym (inside-is ∙ passes _ _ _ there ∙ fails _ _ _ g)
+
+      module _ (g : lengthGood e s ≡ true) (rest : ℕ) (q : rest ≡ lengthStated e s) where
+        sum-is : unitInside e s ≡ fits s (field + rest)
+        sum-is = inside-is ∙ passes _ _ _ there ∙ passes _ _ _ g ∙ ap (fits s) (omega arith)
+
+        pub inside-out : length s < field + rest → refuse 11 ≡ unitInside e s
+        inside-out f = sym (sum-is ∙ fits-out s (field + rest) f)
+
+        pub inside-in : field + rest ≤ length s → pass (field + rest) ≡ unitInside e s
+        inside-in f = sym (sum-is ∙ fits-in s (field + rest) f)
+
+-- of a size that is stated: the length starts as the width wants it, and the unit that it counts holds it
+module _ (e : Encoding) (s : List ℕ) (m : ℕ) (q : unitSize e s ≡ pass m) where
+  judged : (lengthGood e s ≡ true) × (pass (lengthField e + lengthStated e s) ≡ pass m)
+  unfolding unitSize
+  judged = require-pass (lengthGood e s) 11 _ m (require-pass (leb (lengthField e) (length s)) 11 _ m q .1)
+
+  pub size-good : lengthGood e s ≡ true
+  size-good = judged .0
+
+  pub size-is : lengthField e + lengthStated e s ≡ m
+  size-is = pass-inj (judged .1)
+
+  pub size-field : lengthField e ≤ m
+  size-field = omega (arith, size-is)
+
+-- sections that agree in the length field state the same size
+module _ (e : Encoding) (n : ℕ) (s t : List ℕ) (same : take n s ≡ take n t) (there : lengthField e ≤ n) where
+  good-same : lengthGood e s ≡ lengthGood e t
+  good-same = ⊎-elim
+      (λ w. good-narrow e s w ∙ ap (λ (k : ℕ). ltb k 0xFFFF_FFF0) (stated-same n s t same e there) ∙ sym (good-narrow e t w))
+      (λ w. good-wide e s w ∙ marked-same n s t same (e .big) (omega (arith, field-least e)) ∙ sym (good-wide e t w))
+      (known (eqb (e .width) 4))
+
+  pub size-same : (m : ℕ) → lengthField e ≤ length t → unitSize e s ≡ pass m → unitSize e t ≡ pass m
+  unfolding unitSize
+  size-same m l q =
+      passes _ _ _ (le-leb (lengthField e) (length t) l)
+      ∙ passes _ _ _ (sym good-same ∙ size-good e s m q)
+      ∙ ap (λ (k : ℕ). pass (lengthField e + k)) (sym (stated-same n s t same e there))
+      ∙ ap pass (size-is e s m q)
 
 -- ---- the common fields
 module _ (e : Encoding) (u : List ℕ) where

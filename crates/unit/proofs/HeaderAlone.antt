@@ -15,7 +15,8 @@ use Rattle.octets.specs.Checked.{Check, pass, refuse}
 use Rattle.octets.proofs.Checks.{true-false, and-left, and-right}
 use Rattle.octets.proofs.Refusals.{Only, only-pass, only-refuse, only-bind}
 use Rattle.bundle.specs.Encoding.{Encoding}
-use Rattle.unit.specs.UnitRead.{Identity, lengthField, unitSize, isFive, addressPlace, commonSize, unitOf, notEleven, headerPasses}
+use Rattle.bundle.specs.InitialLength.{lengthField, lengthStated}
+use Rattle.unit.specs.UnitRead.{Identity, lengthGood, unitSize, isFive, addressPlace, commonSize, unitOf, notEleven, headerPasses}
 use Rattle.unit.specs.Headers.{unitInside, commonGood, fieldsGood, kindOf, headerSize, identityBy, withAddress, statedAddress, addressOf}
 use Rattle.unit.specs.declared.header.Kind.{Kind}
 use Rattle.unit.specs.declared.header.Kind.the-variants.{Compilation, Signature, Root, Other}
@@ -56,12 +57,12 @@ module _ (e : Encoding) (s : List ℕ) where
   not-eleven h = rw (addressOf, headerPasses, h, notEleven)
 
   pub alone-none : unitInside e s ≡ refuse 11 → Unstated ≡ addressOf e s
-  unfolding unitInside unitSize lengthField withAddress
+  unfolding unitInside unitSize lengthGood lengthField lengthStated withAddress
   alone-none h = not-eleven (unit-none own 1 [] s h)
 
   module _ (n : ℕ) (h : unitInside e s ≡ pass n) where
     inside-own : unitInside own s ≡ pass n
-    unfolding unitInside unitSize lengthField withAddress
+    unfolding unitInside unitSize lengthGood lengthField lengthStated withAddress
     inside-own = h
 
     pub alone-fields : fieldsGood e (take n s) ≡ false → Unstated ≡ addressOf e s

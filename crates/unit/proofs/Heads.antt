@@ -13,7 +13,8 @@ use Rattle.octets.specs.Octets.{numberAt}
 use Rattle.octets.specs.Checked.{Check, pass, refuse, _>>=_, require}
 use Rattle.octets.proofs.Checks.{passes, fails, then-pass, then-refuse, bind-same, bind-pass, require-pass, pass-inj, and-left}
 use Rattle.bundle.specs.Encoding.{Encoding}
-use Rattle.unit.specs.UnitRead.{Identity, UnitRead, lengthField, unitSize, addressPlace, commonSize, identityOf, unitBy, unitOf}
+use Rattle.bundle.specs.InitialLength.{lengthField}
+use Rattle.unit.specs.UnitRead.{Identity, UnitRead, unitSize, addressPlace, commonSize, identityOf, unitBy, unitOf}
 use Rattle.unit.specs.Headers.{unitInside, commonGood, kindOf, headerSize, identityBy, headOf, nonZero, identityGood, identityAnswer, withSize, unitAnswer}
 use Rattle.unit.proofs.Units.{kinds, kind-short, kind-whole, sized, three, inside-le}
 

@@ -10,7 +10,8 @@ use Rattle.octets.specs.Octets.{numberAt}
 use Rattle.octets.specs.Checked.{Check, pass, _>>=_, require}
 use Rattle.octets.proofs.Checks.{bind-pass, require-pass, pass-inj, passes, then-pass}
 use Rattle.bundle.specs.Encoding.{Encoding}
-use Rattle.unit.specs.UnitRead.{UnitRead, lengthField, unitSize, addressPlace, commonSize, identityOf, unitBy, unitOf}
+use Rattle.bundle.specs.InitialLength.{lengthField}
+use Rattle.unit.specs.UnitRead.{UnitRead, unitSize, addressPlace, commonSize, identityOf, unitBy, unitOf}
 
 unfoldable pub plain : Encoding → ℕ → List ℕ → List ℕ → Check UnitRead
 plain e home abbreviations s = do

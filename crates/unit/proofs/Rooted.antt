@@ -17,7 +17,7 @@ use Rattle.unit.specs.Abbreviations.{Declaration, declarationsFrom, decl
 use Rattle.unit.specs.Tables.{passed, tableGood, Located}
 use Rattle.unit.specs.Root.{needed, rootTag, rootIdentity}
 use Rattle.octets.specs.Octets.{numberAt}
-use Rattle.unit.specs.UnitRead.{lengthField}
+use Rattle.bundle.specs.InitialLength.{lengthField}
 use Rattle.unit.specs.Headers.{tableAt}
 use Rattle.unit.specs.Roots.{identityFrom}
 use Rattle.unit.specs.declared.abbreviations.Found.the-variants.{At, Nothing}

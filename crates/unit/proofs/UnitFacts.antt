@@ -7,7 +7,7 @@ use mathlib.Core.List.{List, [], _∷_}
 use mathlib.Core.Option.{Option, some, none}
 use Prim.Native.Nat.{ℕ, _+_, _^_, _<_, _≤_}
 use native.Mathlib.Omega.{arith}
-use lib.Dec.{eqb, leb, ltb}
+use lib.Dec.{eqb, leb}
 use lib.ListN.{length, take, drop, getD}
 use borrow.Author.Tests.{eqb-false, leb-true, not-true}
 use Rattle.octets.specs.Octets.{numberAt}
@@ -18,7 +18,10 @@ use Rattle.bundle.specs.Encoding.{Encoding}
 use Rattle.leb128.specs.Leb128.{unsigned}
 use Rattle.unit.specs.Abbreviations.{Attribute, declarationsOf, declarationOf}
 use Rattle.unit.specs.Root.{Value, needed, valueOf, identityAt, identityIn, rootTag, rootIdentity}
-use Rattle.unit.specs.UnitRead.{Identity, UnitRead, isFive, lengthField, unitSize, addressPlace, commonSize, behindCommon, identityFive, identityFour, identityOf, unitOf}
+use Rattle.bundle.specs.InitialLength.{lengthField}
+use Rattle.bundle.proofs.InitialLengths.{field-least}
+use Rattle.unit.proofs.Fields.{size-field}
+use Rattle.unit.specs.UnitRead.{Identity, UnitRead, isFive, unitSize, addressPlace, commonSize, behindCommon, identityFive, identityFour, identityOf, unitOf}
 use Rattle.unit.proofs.Plain.{plain, unit-plain}
 
 -- ---- the root's identity has 64 bits
@@ -102,13 +105,7 @@ facts-identity e home abbreviations u i h q = ⊎-elim
 
 -- ---- the unit
 pub size-some : (e : Encoding) (s : List ℕ) (n : ℕ) → unitSize e s ≡ pass n → 4 ≤ n
-unfolding unitSize
-size-some e s n q =
-    let r = require-pass (leb (lengthField e) (length s)) 11 _ n q in
-    ⊎-elim
-    (λ (t : eqb (e .width) 4 ≡ true). subst (λ (z : ℕ). 4 ≤ z) (pass-inj (require-pass (ltb (numberAt (e .big) 4 s 0) 0xFFFF_FFF0) 11 (λ _. pass (4 + numberAt (e .big) 4 s 0)) n (rw t at (r .1)) .1)) (omega arith))
-    (λ (t : eqb (e .width) 4 ≡ false). subst (λ (z : ℕ). 4 ≤ z) (pass-inj (require-pass (eqb (numberAt (e .big) 4 s 0) 0xFFFF_FFFF) 11 (λ _. pass (12 + numberAt (e .big) 8 s 4)) n (rw t at (r .1)) .1)) (omega arith))
-    (known (eqb (e .width) 4))
+size-some e s n q = omega (arith, field-least e, size-field e s n q)
 
 pub record UnitFacts (s : List ℕ) (u : UnitRead) : Type 0 where
   pub some : 4 ≤ u .size

@@ -12,7 +12,8 @@ use Rattle.octets.specs.Octets.{numberAt}
 use Rattle.octets.specs.Checked.{Check, pass, refuse, _>>=_, require}
 use Rattle.octets.proofs.Checks.{passes, fails, then-pass, then-refuse, and-left, bind-pass, require-pass, pass-inj}
 use Rattle.bundle.specs.Encoding.{Encoding}
-use Rattle.unit.specs.UnitRead.{Identity, UnitRead, lengthField, unitSize, isFive, addressPlace, commonSize, behindCommon, identityFive, identityFour, identityOf, unitOf}
+use Rattle.bundle.specs.InitialLength.{lengthField}
+use Rattle.unit.specs.UnitRead.{Identity, UnitRead, unitSize, isFive, addressPlace, commonSize, behindCommon, identityFive, identityFour, identityOf, unitOf}
 use Rattle.unit.proofs.Plain.{plain, unit-plain}
 use Rattle.unit.specs.Headers.{fits, unitInside, commonGood, fiveKind, kindOf, headerSize, signatureAt, tableAt, identityBy}
 use Rattle.unit.specs.declared.header.Kind.{Kind}

@@ -9,7 +9,7 @@ use native.Mathlib.Omega.{arith}
 use native.Mathlib.Decide.{ℕ-discrete}
 use lib.Dec.{leb}
 use lib.ListN.{length, drop, length-drop}
-use borrow.Author.Tests.{eq-eqb, ne-eqb, leb-true}
+use borrow.Author.Tests.{eq-eqb, ne-eqb, le-leb, leb-true}
 use Rattle.octets.specs.Checked.{Check, pass, refuse, _>>=_, require}
 use Rattle.octets.proofs.Checks.{pass-refuse, pass-inj, bind-pass, then-pass, then-refuse, require-pass}
 use Rattle.octets.proofs.Refusals.{Only, only-pass, only-refuse, only-require, only-bind}
@@ -115,6 +115,11 @@ value-within e form s v h = elim (ℕ-discrete form 0x16) [
       (record { ends = omega (arith, w .1 .ends, w .0, short-taken s (r .0) (r .1) .within, length-drop (r .0 .1) s); eight = w .1 .eight })
   | no z ↦ plain-within e form s v (sym (value-plain e form s z) ∙ h) .1
 ]
+
+-- a flag that is present takes no bytes
+pub value-flag : (e : Encoding) (form : ℕ) (s : List ℕ) → form ≡ 0x19 → valueOf e form s ≡ pass (record { form = form; start = 0; size = 0 })
+unfolding valueOf plainValue widthIn forms needed valueSize require _>>=_
+value-flag e form s h = rw (h, le-leb 0 (length s) (omega arith)) refl
 
 -- ---- every refusal is 12
 pub only-needed : {A : Type 0} (o : Option A) → Only 12 (needed o)

@@ -3,7 +3,7 @@
 use mathlib.Core.Bool.{Bool, true, false, not, _&&_, _||_}
 use mathlib.Core.List.{List}
 use Prim.Native.Nat.{ℕ, _+_}
-use lib.Dec.{eqb, leb, ltb}
+use lib.Dec.{eqb, leb}
 use lib.ListN.{length, take, drop, getD}
 use Rattle.numbers.specs.Tables.{typeTable, typeUnit, skeletonUnit, splitUnit, splitTypeUnit, compilationTable}
 use Rattle.numbers.specs.Sections.{infoCode}
@@ -11,8 +11,9 @@ use Rattle.octets.specs.Octets.{numberAt}
 use Rattle.octets.specs.Checked.{Check, pass, refuse, _>>=_, require}
 use Rattle.numbers.specs.Refusals.{noIdentity, badHeader, identityZero}
 use Rattle.bundle.specs.Encoding.{Encoding}
+use Rattle.bundle.specs.InitialLength.{lengthField}
 use Rattle.unit.specs.Root.{rootIdentity}
-use Rattle.unit.specs.UnitRead.{Identity, UnitRead, lengthField, unitSize, isFive, addressPlace, commonSize, identityOf, headerPasses}
+use Rattle.unit.specs.UnitRead.{Identity, UnitRead, unitSize, isFive, addressPlace, commonSize, identityOf, headerPasses}
 use Rattle.unit.specs.declared.header.Kind.{Kind}
 use Rattle.unit.specs.declared.header.Kind.the-variants.{Compilation, Signature, Root, Other}
 use Rattle.unit.specs.declared.header.Identity as code
@@ -30,19 +31,6 @@ fits s n = require (leb n (length s)) badHeader >>= λ _. pass n
 
 unfoldable pub unitInside : Encoding → List ℕ → Check ℕ
 unitInside e s = unitSize e s >>= fits s
-
--- the same for each width
-unfoldable pub narrowSize : Bool → List ℕ → Check ℕ
-narrowSize big s = do
-  _ ← require (leb 4 (length s)) badHeader
-  _ ← require (ltb (numberAt big 4 s 0) 0xFFFF_FFF0) badHeader
-  fits s (4 + numberAt big 4 s 0)
-
-unfoldable pub wideSize : Bool → List ℕ → Check ℕ
-wideSize big s = do
-  _ ← require (leb 12 (length s)) badHeader
-  _ ← require (eqb (numberAt big 4 s 0) 0xFFFF_FFFF) badHeader
-  fits s (12 + numberAt big 8 s 4)
 
 -- ---- the common fields
 unfoldable pub commonGood : Encoding → List ℕ → Bool

@@ -8,7 +8,7 @@ use lib.ListN.{getD}
 use Rattle.numbers.specs.Sections.{typesCode}
 use Rattle.numbers.specs.Tables.{dwarf5, typeUnit, splitTypeUnit}
 use Rattle.bundle.specs.Encoding.{Encoding}
-use Rattle.unit.specs.UnitRead.{lengthField}
+use Rattle.bundle.specs.InitialLength.{lengthField}
 
 -- the unit type of version 5: it stands behind the length and 2 bytes of version
 unfoldable pub unitType : Encoding → List ℕ → ℕ

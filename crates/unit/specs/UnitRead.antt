@@ -11,6 +11,7 @@ use Rattle.numbers.specs.Refusals.{badHeader, noIdentity, identityZero}
 use Rattle.octets.specs.Octets.{numberAt}
 use Rattle.octets.specs.Checked.{Check, pass, refuse, _>>=_, require}
 use Rattle.bundle.specs.Encoding.{Encoding}
+use Rattle.bundle.specs.InitialLength.{marked, lengthField, lengthStated}
 use Rattle.unit.specs.Root.{rootIdentity}
 
 -- the table that a unit is handed in for, 1 compilation or 2 type, and its identity
@@ -23,19 +24,16 @@ pub record UnitRead : Type 0 where
   pub table : ℕ
   pub identity : ℕ
 
--- the bytes of the length field
-unfoldable pub lengthField : Encoding → ℕ
-lengthField e = elim (eqb (e .width) 4) [ true ↦ 4 | false ↦ 12 ]
+-- the length field starts as the width wants it: with FFFFFFFF in width 8, with none of FFFFFFF0 to FFFFFFFF in width 4
+unfoldable pub lengthGood : Encoding → List ℕ → Bool
+lengthGood e s = elim (eqb (e .width) 4) [ true ↦ ltb (lengthStated e s) 0xFFFF_FFF0 | false ↦ marked (e .big) s ]
 
--- the size of the whole unit; FFFFFFFF starts width 8, FFFFFFF0 to FFFFFFFE are refused
+-- the size of the whole unit
 unfoldable pub unitSize : Encoding → List ℕ → Check ℕ
 unitSize e s = do
   _ ← require (leb (lengthField e) (length s)) badHeader
-  let word = numberAt (e .big) 4 s 0
-  elim (eqb (e .width) 4) [
-    | true ↦ require (ltb word 0xFFFF_FFF0) badHeader >>= λ _. pass (4 + word)
-    | false ↦ require (eqb word 0xFFFF_FFFF) badHeader >>= λ _. pass (12 + numberAt (e .big) 8 s 4)
-  ]
+  _ ← require (lengthGood e s) badHeader
+  pass (lengthField e + lengthStated e s)
 
 -- the header fields common to all types. Version 4: version, abbrev offset, address size. Version 5: version, type, address size, abbrev offset
 unfoldable pub isFive : Encoding → Bool

@@ -3,6 +3,7 @@ use crate::judged::Judged;
 use crate::root::RootIdentity;
 use crate::root::RootRead;
 use bundle::encoding::ObjectEncoding;
+use bundle::initial_length;
 use leb128::Size;
 use numbers::refusals::BAD_HEADER;
 use numbers::refusals::IDENTITY_ZERO;
@@ -20,10 +21,9 @@ ghost use Rattle.unit.specs.Roots.{rootCheck};
 ghost use Rattle.bundle.specs.Encoded.{encodingIs};
 ghost use Rattle.numbers.specs.Refusals.{badHeader};
 ghost use Rattle.leb128.specs.Answers.{sizeCheck};
-ghost use Rattle.unit.specs.UnitRead.{unitOf, lengthField, addressPlace, commonSize};
+ghost use Rattle.bundle.specs.InitialLength.{lengthStated};
+ghost use Rattle.unit.specs.UnitRead.{lengthGood, unitOf, addressPlace, commonSize};
 ghost use Rattle.unit.specs.Headers.{
-  narrowSize,
-  wideSize,
   unitInside,
   commonGood,
   fieldsGood,
@@ -50,6 +50,9 @@ ghost use Rattle.unit.specs.TableTrees.{
   abbreviationsBytes,
   Inside,
 };
+
+// The least number of 4 bytes that is no length.
+const FIRST_RESERVED: u64 = 0xFFFF_FFF0;
 
 // The code of info, as a unit's home has it.
 const INFO: u32 = numbers::sections::INFO as u32;
@@ -113,16 +116,10 @@ pub enum AddressSize {
     Refused,
 }
 
-fn length_field(e: ObjectEncoding) -> usize
-    ensures { λ r. ⌜ r ≡ lengthField (encodingIs e) ⌝ }
-{
-    if e.wide { 12 } else { 4 }
-}
-
 fn address_place(e: ObjectEncoding) -> usize
     ensures { λ r. ⌜ r ≡ addressPlace (encodingIs e) ⌝ }
 {
-    let field = length_field(e);
+    let field = initial_length::field_size(e);
     if e.five {
         return field + 3;
     }
@@ -133,7 +130,7 @@ fn address_place(e: ObjectEncoding) -> usize
 fn common_size(e: ObjectEncoding) -> usize
     ensures { λ r. ⌜ r ≡ commonSize (encodingIs e) ⌝ }
 {
-    let field = length_field(e);
+    let field = initial_length::field_size(e);
     let width = bundle::encoding::width(e);
     if e.five {
         return field + 4 + width;
@@ -141,49 +138,34 @@ fn common_size(e: ObjectEncoding) -> usize
     field + 3 + width
 }
 
-// The size of a unit of width 4 that ends in s.
-fn narrow_size(big_endian: bool, s: &[u8]) -> Size
-    ensures { λ r. ⌜ sizeCheck badHeader r ≡ narrowSize «big_endian» (now (s .entry)) ⌝ }
+// Whether a length starts as the width wants it. It states this number.
+fn length_good(e: ObjectEncoding, s: &[u8], stated: u64) -> bool
+    requires { ⌜ stated ≡ lengthStated (encodingIs e) (now s) ⌝ }
+    ensures { λ r. ⌜ r ≡ lengthGood (encodingIs e) (now (s .entry)) ⌝ }
 {
-    if s.len() < 4 {
-        return Size::Refused;
+    if e.wide {
+        return initial_length::is_marked(e.big, s);
     }
-    let word = octets::u32_at(big_endian, s, 0);
-    if 0xFFFF_FFF0 <= word {
-        return Size::Refused;
-    }
-    let rest = octets::wide(word);
-    if s.len() - 4 < rest {
-        return Size::Refused;
-    }
-    Size::Is(4 + rest)
+    stated < FIRST_RESERVED
 }
 
-// The same of width 8, which FFFFFFFF starts.
-fn wide_size(big_endian: bool, s: &[u8]) -> Size
-    ensures { λ r. ⌜ sizeCheck badHeader r ≡ wideSize «big_endian» (now (s .entry)) ⌝ }
-{
-    if s.len() < 12 {
-        return Size::Refused;
-    }
-    let word = octets::u32_at(big_endian, s, 0);
-    if word != 0xFFFF_FFFF {
-        return Size::Refused;
-    }
-    let rest = octets::size(octets::u64_at(big_endian, s, 4));
-    if s.len() - 12 < rest {
-        return Size::Refused;
-    }
-    Size::Is(12 + rest)
-}
-
+// The size of a unit that ends in s.
 fn unit_size(e: ObjectEncoding, s: &[u8]) -> Size
     ensures { λ r. ⌜ sizeCheck badHeader r ≡ unitInside (encodingIs e) (now (s .entry)) ⌝ }
 {
-    if e.wide {
-        return wide_size(e.big, s);
+    let field = initial_length::field_size(e);
+    if s.len() < field {
+        return Size::Refused;
     }
-    narrow_size(e.big, s)
+    let stated = initial_length::stated(e, s);
+    if !length_good(e, s, stated) {
+        return Size::Refused;
+    }
+    let rest = octets::size(stated);
+    if s.len() - field < rest {
+        return Size::Refused;
+    }
+    Size::Is(field + rest)
 }
 
 // The common fields are there, and version and address size are the object's.
@@ -193,7 +175,7 @@ fn common_good(e: ObjectEncoding, u: &[u8]) -> bool
     if u.len() < common_size(e) {
         return false;
     }
-    let version = octets::u16_at(e.big, u, length_field(e));
+    let version = octets::u16_at(e.big, u, initial_length::field_size(e));
     if version as u32 != bundle::encoding::version(e) {
         return false;
     }
@@ -225,7 +207,7 @@ fn kind_of(e: ObjectEncoding, home: u32, u: &[u8]) -> Kind
     ensures { λ r. ⌜ r ≡ kindOf (encodingIs e) home (now (u .entry)) ⌝ }
 {
     if e.five {
-        let at = length_field(e) + 2;
+        let at = initial_length::field_size(e) + 2;
         return five_kind(u[at]);
     }
     if home == INFO {
@@ -267,7 +249,7 @@ fn identity_of_root(
     ensures is { λ r. ⌜ rootCheck (r .identity) ≡ rootStated (encodingIs e) (abbreviationsBytes (now (b .entry)) place) (now (u .entry)) ⌝ }
     ensures memory { λ r. ⌜ Remembers (now (b .entry)) (now (codes .exit)) (r .judged) ⌝ }
 {
-    let field = length_field(e) + 2;
+    let field = initial_length::field_size(e) + 2;
     let offset = octets::size(octets::number_at(e.big, bundle::encoding::width(e), u, field));
     let first = place.first;
     let last = place.last;
@@ -446,7 +428,7 @@ fn fields_good(e: ObjectEncoding, u: &[u8]) -> bool
     if u.len() < common_size(e) {
         return false;
     }
-    let version = octets::u16_at(e.big, u, length_field(e));
+    let version = octets::u16_at(e.big, u, initial_length::field_size(e));
     version as u32 == bundle::encoding::version(e)
 }
 

@@ -23,6 +23,9 @@ ghost use Rattle.unit.specs.Roots.{
   rootCheck,
 };
 
+// The form of a flag that is there without a value.
+const FLAG_PRESENT: u64 = 0x19;
+
 // An attribute's value: its form, where it starts behind an indirect form, and the bytes that it takes.
 pub enum Value {
     Is(u64, usize, usize),
@@ -82,6 +85,16 @@ fn value_of(e: ObjectEncoding, form: u64, s: &[u8]) -> Value
     Value::Is(same, n, size)
 }
 
+// A flag that is present takes no bytes. A root may have very many of them, so that they are answered first.
+fn attribute_value(e: ObjectEncoding, form: u64, s: &[u8]) -> Value
+    ensures { λ r. ⌜ valueCheck r ≡ valueOf (encodingIs e) form (now (s .entry)) ⌝ }
+{
+    if form == FLAG_PRESENT {
+        return Value::Is(form, 0, 0);
+    }
+    value_of(e, form, s)
+}
+
 // One attribute: t is the table from it on, and s the unit from its value on.
 fn attribute_step(e: ObjectEncoding, t: &[u8], s: &[u8], seen: Seen) -> Moved
     ensures { λ r. ⌜ movedCheck r ≡ attributeStep (encodingIs e) (now (t .entry)) (now (s .entry)) (seenIs seen) ⌝ }
@@ -92,7 +105,7 @@ fn attribute_step(e: ObjectEncoding, t: &[u8], s: &[u8], seen: Seen) -> Moved
     if name == 0 {
         return Moved::End;
     }
-    let Value::Is(real, start, size) = value_of(e, form, s) else {
+    let Value::Is(real, start, size) = attribute_value(e, form, s) else {
         return Moved::Refused;
     };
     let m = start + size;

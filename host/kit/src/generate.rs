@@ -18,7 +18,7 @@ mod spoil;
 
 pub use damage::damage;
 pub use elf::{elf, hostile as hostile_elf, long as long_elf};
-pub use honest::{last_of_many_strings, many_strings, sized, strings_of_one_hash, Kind, KINDS};
+pub use honest::{last_of_many_strings, many_strings, sized, Kind, KINDS};
 pub use hostile::{Hostile, HOSTILE, SHORT};
 pub use large::{long_line, many_units, strings_of, suffixes, units_of};
 pub use objects::{good, Draft, DraftObject};

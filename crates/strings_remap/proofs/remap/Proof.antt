@@ -70,6 +70,7 @@ remap-entries-requires c κs =
         strings-inside = a .2;
         memory = omega (arith, c .before .before .if2 .left, a .3);
         room = omega (arith, n .0, c .before .before .before .before .if1 .left);
+        small = a .4;
       },
       n .1,
     )

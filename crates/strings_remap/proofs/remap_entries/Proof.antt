@@ -8,8 +8,7 @@ use denote.Ref.{now}
 use lib.ListN.{length, take}
 use Rattle.octets.specs.Octets.{zeros}
 use Rattle.octets.proofs.Placed.{length-zeros, take-zeros}
-use Rattle.strings.specs.Strings.{putAll}
-use Rattle.strings.specs.Kept.{none}
+use Rattle.strings.specs.Kept.{none, placesFrom}
 use Rattle.strings.specs.Objects.{tableIn, KeptIn}
 use Rattle.strings.proofs.Keeping.{kept-cleared}
 use borrow.Author.Needs.{needs}
@@ -39,6 +38,7 @@ add-strings-requires c κs =
         strings-inside = p .strings-inside;
         memory = omega (arith, p .memory, c .before .before .before .clear-words .kept .0);
         room = p .room;
+        small = p .small;
       },
       ([], cleared (c .before .before .before)),
     )
@@ -62,16 +62,23 @@ returns-2 : tie.Need-returns-2
 returns-2 c = search needs
 
 write-sections-requires : tie.Need-write-sections-requires
+unfolding placesFrom
 write-sections-requires c κs =
     let a = c .before .before .before .before .before .before .before .before .before .before .before .before .before .before .before .before .before in
     let p = a .pre .0 in
     let g = c .before .before .before .before .before .before .before .before in
-    let d = g .add-strings .ensures [] (cleared (c .before .before .before .before .before .before .before .before .before .before .before .before)) .kept _ (c .before .before .before .before .kept .given .1) in (
-      c .before .before .if1 .left,
-      omega (arith, p .memory, g .add-strings .kept .1 .1 .0, c .before .before .before .before .before .before .before .before .before .before .before .before .clear-words .kept .0),
-      (putAll [] (d .0), d .2),
-      (d .0, record { offsets-inside = p .offsets-inside; strings-inside = p .strings-inside; entries = a .pre .1; strings-are = d .1 }),
-    )
+    let l = c .before .before .before .before .before .before .before .before .before .before .before .before in
+    let d = g .add-strings .ensures [] (cleared l) .kept _ (c .before .before .before .before .kept .given .1) in
+    record {
+      inside = p .offsets-inside;
+      entries = a .pre .1;
+      used = d .0;
+      strings = d .1;
+      lent = omega (arith, p .memory, g .add-strings .kept .1 .1 .0, l .clear-words .kept .0);
+      room = omega (arith, p .room);
+      kept = d .2;
+      over = c .before .before .if1 .left;
+    }
 
 same-length-3 : tie.Need-same-length-3
 same-length-3 c = search needs

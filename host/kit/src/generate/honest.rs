@@ -257,32 +257,36 @@ pub fn many_strings(count: u64) -> Vec<u8> {
     with_strings((0..count as u32).map(|i| i * 17).collect(), count)
 }
 
-/// The hash of the kept strings' index is linear in a string's bytes, modulo 2^32. What is added to the eight bytes of a string by a row here
-/// leaves it as it is; the rows are a short basis of all that does.
-const LEAVES_THE_HASH: [[i32; 8]; 8] = [
-    [-3, 5, 8, 1, -1, -3, 1, 8],
-    [4, -7, 4, -5, -11, 0, 2, -3],
-    [-8, -2, -5, 2, -7, 1, -5, 8],
-    [-5, 10, 3, -6, 7, 13, -2, -4],
-    [1, -11, 2, -4, 1, 10, -6, 7],
-    [-3, 0, 1, -12, 0, -9, 5, 2],
-    [10, 7, -7, -2, -9, -4, -2, 7],
-    [3, 4, 10, -10, 3, -7, -15, -4],
-];
+/// What the hash of the kept strings' index makes of eight bytes more: `mixed` of `crates/strings/specs/Indexed.antt`.
+fn mixed(hash: u64, bytes: &[u8]) -> u64 {
+    let bytes = bytes.iter().rev().fold(0, |number, byte| number << 8 | u64::from(*byte));
+    let product = (hash + bytes % (1 << 32)) * 798_746_317 + (bytes >> 32) * 982_451_653;
+    ((product >> 32) + product) % (1 << 32)
+}
 
-/// So many different strings of one hash, at most 390,625, each of eight bytes and named once.
-pub fn strings_of_one_hash(count: u64) -> Vec<u8> {
+/// So many different strings of one hash, each named once: so many bytes that all share, a multiple of eight, then eight that differ and eight that make
+/// up for the difference. Strings whose last bytes would hold a zero are left out.
+fn of_one_hash(shared: usize, count: u64) -> Vec<u8> {
+    let front = vec![b'a'; shared];
+    let before = front.chunks(8).fold(0, mixed);
     let string = |i: u64| {
-        let mut bytes = [128; 8];
-        let mut rest = i;
-        for row in &LEAVES_THE_HASH {
-            let times = (rest % 5) as i32 - 2;
-            bytes.iter_mut().zip(row).for_each(|(byte, more)| *byte += times * more);
-            rest /= 5;
-        }
-        bytes.into_iter().map(|byte| byte as u8).chain([0])
+        let differ = std::array::from_fn::<u8, 8, _>(|k| b'a' + (i / 26_u64.pow(k as u32) % 26) as u8);
+        let rest = (u64::from(u32::MAX) - mixed(before, &differ)) as u32;
+        let rest = rest.to_le_bytes();
+        (!rest.contains(&0)).then(|| [&front[..], &differ, &rest, b"same\0"].concat())
     };
-    naming((0..count as u32).map(|i| i * 9).collect(), (0..count).flat_map(string).collect())
+    let strings = (0..).filter_map(string).take(count as usize).flatten().collect();
+    naming((0..count as u32).map(|i| i * (shared as u32 + 17)).collect(), strings)
+}
+
+/// They part by their first bits.
+pub fn strings_of_one_hash(count: u64) -> Vec<u8> {
+    of_one_hash(0, count)
+}
+
+/// They part after 3,840 bits.
+pub fn long_strings_of_one_hash(count: u64) -> Vec<u8> {
+    of_one_hash(480, count)
 }
 
 fn with_strings(entries: Vec<u32>, count: u64) -> Vec<u8> {

@@ -1,6 +1,6 @@
 //! Bundles that would be long at work: each kind has as much as its length allows of what some search or reading takes for each of many.
 
-use super::honest::{strings_of_one_hash, Kind};
+use super::honest::{long_strings_of_one_hash, strings_of_one_hash, Kind};
 use super::large::{suffixes, units_of};
 use super::objects::{Draft, DraftObject};
 use super::rows::{one_probe_sequence, reversed_rows, rows_beside_one_place, rows_of_one_place};
@@ -33,7 +33,7 @@ const fn alone(hostile: Hostile) -> Hostile {
 /// The length at which each kind has a time of its own: a bundle so short once took no end.
 pub const SHORT: usize = 28 << 10;
 
-pub const HOSTILE: [Hostile; 17] = [
+pub const HOSTILE: [Hostile; 18] = [
     kind("units at different offsets of one run of declarations", "units", offsets_of_one_run),
     kind("units that take turns with two long tables", "units", two_tables),
     kind("units over one long table, the root's declaration last", "units", one_long_table),
@@ -42,6 +42,7 @@ pub const HOSTILE: [Hostile; 17] = [
     kind("identities of one probe sequence", "units", colliding_units),
     alone(kind("a package as input, identities of one probe sequence", "units", colliding_rows)),
     kind("different strings of one hash", "strings", strings_of_one_hash),
+    kind("different strings of one hash, the same in their first 480 bytes", "strings", long_strings_of_one_hash),
     kind("entries that name one long string", "entries", one_long_string),
     kind("suffixes of one string, the same in each object", "objects", suffixes_in_objects),
     refused(19, kind("entries to every suffix of one string", "entries", every_suffix)),

@@ -4,9 +4,9 @@ use native.Mathlib.Omega.{arith}
 use mathlib.Core.Path.{refl}
 use denote.Ref.{now}
 use borrow.Author.Tests.{le-leb}
-use Rattle.work.specs.Regions.{storeRegion}
-use Rattle.work.proofs.Stores.{store-within}
-use Rattle.work.proofs.Lending.{only-same, only-lent, lent-fits}
+use Rattle.kept.specs.Regions.{storeRegion}
+use Rattle.kept.proofs.RegionStores.{store-within}
+use Rattle.kept.proofs.RegionLending.{only-same, only-lent, lent-fits}
 use Rattle.kept.proofs.Storing.{store-kept, store-memory}
 use Rattle.filing.specs.State.{wordsIn}
 use Rattle.filing.proofs.Stringing.{inside-is, cut-ill, cut-counted, strings-none, strings-ill, strings-put, strings-missing}
@@ -75,6 +75,7 @@ add-strings-requires c κs =
         strings-inside = p .room .strings-inside;
         memory = store-memory (wordsIn (now (a .b))) (c .before .before .store .result .start) (c .before .before .store .result .size) (c .before .before .before .strings .result .size) (now (a .work)) (p .room .room) (c .before .before .store .ensures .0) (c .before .before .store .ensures .1) (c .before .before .before .strings .ensures .1) (a .o .strings .size) (omega (arith, inside-is (now (a .b)) (a .o .strings) (p .room .strings-inside), p .room .whole));
         room = omega (arith, p .room .fits, c .before .before .before .strings .ensures .1);
+        small = omega (arith, p .room .limit, p .room .whole, c .before .before .before .strings .ensures .1);
       },
       (p .strings, store-kept (wordsIn (now (a .b))) (c .before .before .store .result .start) (c .before .before .store .result .size) (c .before .before .before .strings .result .size) (now (a .work)) (p .room .room) (c .before .before .store .ensures .0) (c .before .before .store .ensures .1) (c .before .before .before .strings .ensures .1) _ _ _ (p .kept)),
     )

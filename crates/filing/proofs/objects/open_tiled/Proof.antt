@@ -1,7 +1,7 @@
 -- `open_tiled` meets its contract.
 -- Assumes nothing.
 use mathlib.Core.Path.{_∙_}
-use Rattle.work.proofs.Lending.{only-same}
+use Rattle.kept.proofs.RegionLending.{only-same}
 use Rattle.filing.proofs.InputLaws.{scan-within}
 use Rattle.filing.proofs.TiledEnds.{codes-store, codes-first, tiled-index-refused, parts-asks, work-asks, tiled-parts-refused, put-asks, tiled-put-refused, tiled-read}
 use borrow.Author.Needs.{needs}

@@ -3,7 +3,7 @@
 use mathlib.Core.Path.{sym, _∙_}
 use lib.Dec.{leb}
 use lib.ListN.{getD}
-use Rattle.work.proofs.Lending.{only-same}
+use Rattle.kept.proofs.RegionLending.{only-same}
 use Rattle.filing.proofs.Inputting.{packed-tiled, packed-whole}
 use Rattle.filing.proofs.InputLaws.{packed-from, packed-five}
 use Rattle.filing.proofs.InputEnds.{read-refused, read-opened}

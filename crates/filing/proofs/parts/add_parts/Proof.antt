@@ -3,9 +3,9 @@
 use mathlib.Core.Path.{refl}
 use native.Mathlib.Omega.{arith}
 use denote.Ref.{now}
-use Rattle.work.specs.Regions.{storeRegion}
-use Rattle.work.proofs.Stores.{store-within}
-use Rattle.work.proofs.Lending.{only-lent}
+use Rattle.kept.specs.Regions.{storeRegion}
+use Rattle.kept.proofs.RegionStores.{store-within}
+use Rattle.kept.proofs.RegionLending.{only-lent}
 use Rattle.kept.proofs.Storing.{store-kept, store-memory}
 use Rattle.filing.specs.State.{wordsIn}
 use Rattle.filing.proofs.Stringing.{inside-is}
@@ -50,7 +50,8 @@ add-pieces-requires c κs =
           (omega (arith, p .limit))
           (p .strings-inside)
           (store-memory (wordsIn (now (a .b))) (k .result .start) (k .result .size) (t .result .size) (now (a .work)) (p .room) (k .ensures .0) (k .ensures .1) (t .ensures .1) (a .o .strings .size) (omega (arith, inside, p .whole)))
-          (omega (arith, p .fits, t .ensures .1)),
+          (omega (arith, p .fits, t .ensures .1))
+          (omega (arith, p .limit, p .whole, t .ensures .1)),
       (p .strings, store-kept (wordsIn (now (a .b))) (k .result .start) (k .result .size) (t .result .size) (now (a .work)) (p .room) (k .ensures .0) (k .ensures .1) (t .ensures .1) _ _ _ (p .kept)),
       (beforeParts (now (a .b)) (a .o) (p .offsets-inside) (a .good) (p .parts) (p .upTo), good-headed (now (a .b)) (a .o) (p .offsets-inside) (a .good) (p .parts) (p .upTo) (y .result) (y .ensures)),
     )

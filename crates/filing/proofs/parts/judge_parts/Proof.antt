@@ -4,9 +4,9 @@ use mathlib.Core.Path.{refl}
 use native.Mathlib.Omega.{arith}
 use lib.ListN.{getD}
 use denote.Ref.{now}
-use Rattle.work.specs.Regions.{codesRegion}
-use Rattle.work.proofs.Stores.{codes-within}
-use Rattle.work.proofs.Lending.{only-front}
+use Rattle.kept.specs.Regions.{codesRegion}
+use Rattle.kept.proofs.RegionStores.{codes-within}
+use Rattle.kept.proofs.RegionLending.{only-front}
 use Rattle.filing.specs.State.{wordsIn}
 use borrow.Author.Needs.{needs}
 use Rattle.filing.proofs.parts.judge_parts.Statement.{statement}

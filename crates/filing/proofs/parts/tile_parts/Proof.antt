@@ -8,7 +8,7 @@ use lib.ListN.{length}
 use denote.Ref.{now}
 use Rattle.octets.proofs.Parts.{part-cut}
 use Rattle.bundle.specs.Encoded.{encodingIs}
-use Rattle.tiles.specs.Marks.{goodEnd}
+use Rattle.places.specs.Marks.{goodEnd}
 use Rattle.filing.specs.Judged.{sectionOf}
 use Rattle.filing.proofs.Tiling.{tile-clash, tile-untiled, tile-long, tile-some, tile-good}
 use borrow.Author.Needs.{needs}

@@ -3,10 +3,10 @@
 use mathlib.Core.Path.{refl, sym, _∙_}
 use native.Mathlib.Omega.{arith}
 use denote.Ref.{now}
-use Rattle.work.specs.Regions.{rowsRegion}
-use Rattle.work.proofs.Stores.{rows-within}
+use Rattle.kept.specs.Regions.{rowsRegion}
+use Rattle.kept.proofs.RegionStores.{rows-within}
 use Rattle.filing.specs.State.{wordsIn}
-use Rattle.work.proofs.Lending.{only-same, only-lent}
+use Rattle.kept.proofs.RegionLending.{only-same, only-lent}
 use Rattle.filing.proofs.ByPlace.{chained-nowhere, chain-asks, chains-left}
 use borrow.Author.Needs.{needs}
 use Rattle.filing.proofs.reading.chain_section.Statement.{statement}

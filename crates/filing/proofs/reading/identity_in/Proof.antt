@@ -3,10 +3,10 @@
 use mathlib.Core.Path.{refl, ap, _∙_}
 use denote.Ref.{now}
 use Rattle.unit.specs.Headers.{withSize}
-use Rattle.work.specs.Regions.{codesRegion}
-use Rattle.work.proofs.Stores.{codes-within}
+use Rattle.kept.specs.Regions.{codesRegion}
+use Rattle.kept.proofs.RegionStores.{codes-within}
 use Rattle.filing.specs.State.{wordsIn}
-use Rattle.work.proofs.Lending.{only-lent}
+use Rattle.kept.proofs.RegionLending.{only-lent}
 use Rattle.filing.proofs.Abbreviated.{codes-lent, codes-left}
 use borrow.Author.Needs.{needs}
 use Rattle.filing.proofs.reading.identity_in.Statement.{statement}

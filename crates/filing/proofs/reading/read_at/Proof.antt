@@ -4,8 +4,8 @@ use mathlib.Core.Path.{sym, ap, _∙_}
 use mathlib.Core.Logic.{⊎-elim}
 use native.Mathlib.Omega.{arith}
 use Rattle.leb128.specs.Answers.{sizeCheck}
-use Rattle.work.specs.Regions.{codesRegion}
-use Rattle.work.proofs.Lending.{only-same}
+use Rattle.kept.specs.Regions.{codesRegion}
+use Rattle.kept.proofs.RegionLending.{only-same}
 use Rattle.filing.proofs.Transients.{transient-coded}
 use Rattle.filing.proofs.Abbreviated.{read-headless, size-within, given-inside, read-unabbreviated, read-whole}
 use borrow.Author.Needs.{needs}

@@ -80,9 +80,8 @@ returns-3 c =
 
 finish-sections-requires : tie.Need-finish-sections-requires
 finish-sections-requires c κs =
-    let x = c .before .before .before .before .before .before .before .before .before .before .before .before .before .before .before .before .before .before .before in
     let g = end-of (c .before .before .before .before .before .before .before .before .before) in
-    record { sections = g .s; ready = g .ready _ (g .told _ (c .before .before .before .before .before .place-tables .ensures)) (c .before .before .if1 .left); zero = x .pre .1 }
+    record { sections = g .s; ready = g .ready _ (g .told _ (c .before .before .before .before .before .place-tables .ensures)) (c .before .before .if1 .left); zero = c .before .before .before .before .before .before .before .before .before .before .before .before .before .before .before .before .before .before .before .pre .1 }
 
 same-length-3 : tie.Need-same-length-3
 same-length-3 c = search needs
@@ -92,10 +91,10 @@ same-length-4 c = search needs
 
 returns-4 : tie.Need-returns-4
 returns-4 c =
-    let x = c .before .before .before .before .before .before .before .before .before .before .before .before .before .before .before .before .before .before .before .before .before .before .before .before in
-    let g = end-of (c .before .before .before .before .before .before .before .before .before .before .before .before .before .before) in
-    let f = c .before .before .before .before in
-    let ready = g .ready _ (g .told _ (c .before .before .before .before .before .before .before .before .before .before .place-tables .ensures)) (c .before .before .before .before .before .before .before .if1 .left) in (
+    let x = c .before .before .before .before .before .before .before .before .before .before .before .before .before .before .before .before .before .before .before .before .before .before in
+    let g = end-of (c .before .before .before .before .before .before .before .before .before .before .before .before) in
+    let f = c .before .before in
+    let ready = g .ready _ (g .told _ (c .before .before .before .before .before .before .before .before .place-tables .ensures)) (c .before .before .before .before .before .if1 .left) in (
       f .finish-sections .ensures .0 (g .s) ready ∙ ap (λ (k : Check (List ℕ)). finishedOf (answered k (length (now (x .args .out))))) (sym (g .whole)),
       f .finish-sections .ensures .1 (g .s) ready ∙ ap (λ (k : Check (List ℕ)). outputOf (answered k (length (now (x .args .out)))) (length (now (x .args .out)))) (sym (g .whole)),
     )

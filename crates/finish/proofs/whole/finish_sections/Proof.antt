@@ -57,31 +57,27 @@ returns-2 c =
 
 write-package-requires : tie.Need-write-package-requires
 write-package-requires c κs =
-    let x = c .before .before .before .before .before .before .before .before .before .before in
-    let k = c .before .before .before .before .before .before in
+    let x = c .before .before .before .before .before .before .before .before .before in
     record {
       sections = x .pre .sections;
       ready = x .pre .ready;
-      sized = sized k (x .pre .sections) (x .pre .ready);
-      good = sym (c .before .before .before .before .before .sizes-good .ensures) ∙ not-false _ (c .before .before .before .before .if1 .left);
+      sized = sized (c .before .before .before .before .before) (x .pre .sections) (x .pre .ready);
+      good = sym (c .before .before .before .before .sizes-good .ensures) ∙ not-false _ (c .before .before .before .if1 .left);
       zero = x .pre .zero;
-      room = rw (← c .before .before .before .package-length .ensures) (c .before .before .if2 .left);
+      room = rw (← c .before .before .package-length .ensures) (c .before .if2 .left);
     }
 
 same-length : tie.Need-same-length
 same-length c = search needs
 
-same-length-2 : tie.Need-same-length-2
-same-length-2 c = search needs
-
 returns-3 : tie.Need-returns-3
 returns-3 c =
-    let x = c .before .before .before .before .before .before .before .before .before .before .before .before .before .before .before in
-    let k = c .before .before .before .before .before .before .before .before .before .before .before in
-    let good = sym (c .before .before .before .before .before .before .before .before .before .before .sizes-good .ensures) ∙ not-false _ (c .before .before .before .before .before .before .before .before .before .if1 .left) in
-    let l = c .before .before .before .before .before .before .before .before .package-length .ensures in
-    let i = c .before .before .before .before .before .before .before in
-    let w = c .before .before .before .before in (
+    let x = c .before .before .before .before .before .before .before .before .before .before .before .before in
+    let k = c .before .before .before .before .before .before .before .before in
+    let good = sym (c .before .before .before .before .before .before .before .sizes-good .ensures) ∙ not-false _ (c .before .before .before .before .before .before .if1 .left) in
+    let l = c .before .before .before .before .before .package-length .ensures in
+    let i = c .before .before .before .before in
+    let w = c .before .before in (
       λ s r. made-answer _ _ _ (sized-good (x .args .e .big) (x .args .word) s _ (sized k s r) good) _ (sized-length (x .args .e .big) (x .args .word) s _ (sized k s r) _ l) (i .if2 .left),
       λ s r. made-output _ _ _ (sized-good (x .args .e .big) (x .args .word) s _ (sized k s r) good) _ (sized-length (x .args .e .big) (x .args .word) s _ (sized k s r) _ l) (i .if2 .left) _ (w .write-package .ensures s r (sized k s r)),
     )
@@ -97,5 +93,4 @@ finish-sections-spec =
     returns-2
     write-package-requires
     same-length
-    same-length-2
     returns-3)

@@ -11,9 +11,7 @@ use Rattle.finish.proofs.writing.write_framed.Statement.{statement}
 use Rattle.finish.proofs.writing.write_framed.Tie as tie
 
 returns : tie.Need-returns
-returns c =
-    let s = c .before .before .before .before in
-    (omega (arith, framed-none (s .args .size) (c .if1 .taken)), (λ x r q. frame-none _ _ _ _ (sym q ∙ c .if1 .taken), λ x r. r))
+returns c = (omega (arith, framed-none (c .before .before .before .before .args .size) (c .if1 .taken)), λ x r q. frame-none _ _ _ _ (sym q ∙ c .if1 .taken))
 
 add-start : tie.Need-add-start
 add-start c = search needs
@@ -36,22 +34,18 @@ put-section-word-requires c κs =
     (omega (arith, s .pre .most), omega (arith, s .pre .short), omega (arith, room))
 
 write-section-requires : tie.Need-write-section-requires
-write-section-requires c κs = frame-section _ _ _ _ _ _ _ (c .before .before .before .before .before .before .before .before .before .before .before .pre) (c .before .before .before .before .before .before .before .if1 .left) _ (c .before .before .before .before .put-section-word .kept .1 .1 .0)
+write-section-requires c κs = frame-section _ _ _ _ _ _ _ (c .before .before .before .before .before .before .before .before .before .before .pre) (c .before .before .before .before .before .before .if1 .left) _ (c .before .before .before .put-section-word .kept .1 .1 .0)
 
 same-length : tie.Need-same-length
 same-length c = search needs
 
-same-length-2 : tie.Need-same-length-2
-same-length-2 c = search needs
-
 returns-2 : tie.Need-returns-2
 returns-2 c =
-    let x = c .before .before .before .before in
-    let i = c .before .before .before .before .before .before .before .before .before .before .before .before in
-    let s = c .before .before .before .before .before .before .before .before .before .before .before .before .before .before .before .before in
+    let i = c .before .before .before .before .before .before .before .before .before in
+    let s = c .before .before .before .before .before .before .before .before .before .before .before .before .before in
     let room = frame-room _ _ _ _ _ _ _ (s .pre) (i .if1 .left) in (
-      ap (λ (k : ℕ). s .args .at + 4 + k) (c .before .before .before .before .before .before .before .before .before .before .before .filled-up .ensures) ∙ omega (arith, framed-some (s .args .size) (i .if1 .left)),
-      (λ y r q. frame-put _ _ _ _ _ _ _ (c .before .before .before .before .before .before .before .before .before .put-section-word .ensures) (x .write-section .ensures .0 y r) (omega (arith, room)) q (i .if1 .left), x .write-section .ensures .1),
+      ap (λ (k : ℕ). s .args .at + 4 + k) (c .before .before .before .before .before .before .before .before .filled-up .ensures) ∙ omega (arith, framed-some (s .args .size) (i .if1 .left)),
+      λ y r q. frame-put _ _ _ _ _ _ _ (c .before .before .before .before .before .before .put-section-word .ensures) (c .before .before .write-section .ensures y r) (omega (arith, room)) q (i .if1 .left),
     )
 
 pub write-framed-spec : {M : Type 1} → statement M
@@ -66,5 +60,4 @@ write-framed-spec =
     put-section-word-requires
     write-section-requires
     same-length
-    same-length-2
     returns-2)

@@ -2,8 +2,8 @@
 -- Assumes nothing.
 use native.Mathlib.Omega.{arith}
 use denote.Ref.{now}
-use Rattle.work.specs.Regions.{stringsRegion}
-use Rattle.work.proofs.Stores.{strings-within}
+use Rattle.kept.specs.Regions.{stringsRegion}
+use Rattle.kept.proofs.RegionStores.{strings-within}
 use Rattle.finish.proofs.Dispatch.{lent-end, lent-region, words-fit, last-code}
 use Rattle.finish.proofs.Dispatch.{str-asks, cu-asks, tu-asks, str-leaves, cu-leaves, tu-leaves}
 use borrow.Author.Needs.{needs}

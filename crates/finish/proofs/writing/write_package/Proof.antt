@@ -6,48 +6,43 @@ use Rattle.finish.proofs.writing.write_package.Statement.{statement}
 use Rattle.finish.proofs.writing.write_package.Tie as tie
 
 put-head-requires : tie.Need-put-head-requires
-put-head-requires c κs = let p = c .before .before .before .before .before .pre in head-fits (c .before .before .before .before .before .args .p .encoding .big) 0 _ _ (p .zero) (p .room)
+put-head-requires c κs = let s = c .before .before .before .before .before in head-fits (s .args .p .encoding .big) 0 _ _ (s .pre .zero) (s .pre .room)
 
 put-object-requires : tie.Need-put-object-requires
 put-object-requires c κs = let p = c .before .before .before .before .before .before .before .before .before .pre in object-fits _ 0 _ _ (p .zero) (p .room) _ (c .before .before .before .put-head .ensures)
 
 write-sections-requires : tie.Need-write-sections-requires
 write-sections-requires c κs =
-    let p = c .before .before .before .before .before .before .before .before .before .before .before .before .before .before .pre in
+    let p = c .before .before .before .before .before .before .before .before .before .before .before .before .before .pre in
     record {
       front = _;
       sections = p .sections;
       ready = p .ready;
       sized = p .sized;
       good = p .good;
-      started = package-started _ _ _ _ (p .zero) (p .room) _ (c .before .before .before .before .before .before .before .before .put-head .ensures) _ (c .before .before .before .before .put-object .ensures) (p .sections) (p .sized);
+      started = package-started _ _ _ _ (p .zero) (p .room) _ (c .before .before .before .before .before .before .before .put-head .ensures) _ (c .before .before .before .put-object .ensures) (p .sections) (p .sized);
     }
 
 put-end-requires : tie.Need-put-end-requires
 put-end-requires c κs =
-    let p = c .before .before .before .before .before .before .before .before .before .before .before .before .before .before .before .before .before .before .before .before .pre in
-    let h = c .before .before .before .before .before .before .before .before .before .before .before .before .before .before .put-head .ensures in
-    let o = c .before .before .before .before .before .before .before .before .before .before .put-object .ensures in
-    let x = c .before .before .before .before .before in
-    let started = package-started _ _ _ _ (p .zero) (p .room) _ h _ o (p .sections) (p .sized) in
-    let writing = x .write-sections .ensures _ (p .sections) (p .ready) (p .sized) started in
-    package-end _ _ _ _ (p .zero) (p .room) _ h _ o (p .sections) (p .sized) _ _ writing (x .write-sections .kept .1 .1 .1 .0) (p .good)
+    let p = c .before .before .before .before .before .before .before .before .before .before .before .before .before .before .before .before .before .pre in
+    let h = c .before .before .before .before .before .before .before .before .before .before .before .put-head .ensures in
+    let o = c .before .before .before .before .before .before .before .put-object .ensures in
+    let x = c .before .before .before .write-sections in
+    let writing = x .ensures _ (p .sections) (p .ready) (p .sized) (package-started _ _ _ _ (p .zero) (p .room) _ h _ o (p .sections) (p .sized)) in
+    package-end _ _ _ _ (p .zero) (p .room) _ h _ o (p .sections) (p .sized) _ _ writing (x .kept .1 .1 .1 .0) (p .good)
 
 same-length : tie.Need-same-length
 same-length c = search needs
 
-same-length-2 : tie.Need-same-length-2
-same-length-2 c = search needs
-
 returns : tie.Need-returns
 returns c s r z =
-    let p = c .before .before .before .before .before .before .before .before .before .before .before .before .before .before .before .before .before .before .before .before .before .before .before .pre in
-    let h = c .before .before .before .before .before .before .before .before .before .before .before .before .before .before .before .before .before .put-head .ensures in
-    let o = c .before .before .before .before .before .before .before .before .before .before .before .before .before .put-object .ensures in
-    let x = c .before .before .before .before .before .before .before .before in
-    let started = package-started _ _ _ _ (p .zero) (p .room) _ h _ o (s) (z) in
-    let writing = x .write-sections .ensures _ (s) (r) (z) started in
-    package-done _ _ _ _ (p .zero) (p .room) _ h _ o s z _ _ writing (x .write-sections .kept .1 .1 .1 .0) _ (c .before .before .put-end .ensures)
+    let p = c .before .before .before .before .before .before .before .before .before .before .before .before .before .before .before .before .before .before .before .before .pre in
+    let h = c .before .before .before .before .before .before .before .before .before .before .before .before .before .before .put-head .ensures in
+    let o = c .before .before .before .before .before .before .before .before .before .before .put-object .ensures in
+    let x = c .before .before .before .before .before .before .write-sections in
+    let writing = x .ensures _ s r z (package-started _ _ _ _ (p .zero) (p .room) _ h _ o s z) in
+    package-done _ _ _ _ (p .zero) (p .room) _ h _ o s z _ _ writing (x .kept .1 .1 .1 .0) _ (c .before .before .put-end .ensures)
 
 pub write-package-spec : {M : Type 1} → statement M
 write-package-spec =
@@ -58,5 +53,4 @@ write-package-spec =
     write-sections-requires
     put-end-requires
     same-length
-    same-length-2
     returns)

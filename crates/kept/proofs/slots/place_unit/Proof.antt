@@ -7,7 +7,7 @@ use native.Mathlib.Omega.{arith}
 use lib.ListN.{length}
 use denote.Ref.{now}
 use Rattle.octets.specs.Octets.{placed}
-use Rattle.work.specs.Regions.{recordsRegion, region}
+use Rattle.kept.specs.Regions.{recordsRegion, region}
 use Rattle.kept.specs.Records.{recordAt}
 use Rattle.kept.specs.Slots.{soughtIn, slotsIn}
 use Rattle.kept.proofs.Placing.{lent-records, records-end, records-long, slots-fit, placed-other, placed-known, free-inside, placed-free}

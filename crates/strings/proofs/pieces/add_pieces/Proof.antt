@@ -20,7 +20,7 @@ cleared c ts k =
     let a = c .before .before .before .before .before .before .before .before in
     record {
       kept = kept-stays _ _ _ _ _ ts (table-forgotten _ _ _ _ (a .pre .0 .memory) (c .forget .ensures)) k;
-      memory = forgotten _ _ _ _ _ _ (c .forget .ensures) (a .pre .0 .memory) (omega (arith, length-bytesAt (now (a .args .b)) (a .args .o .strings) (a .pre .0 .strings-inside)));
+      memory = λ _. forgotten _ _ _ _ _ _ (c .forget .ensures) (a .pre .0 .memory) (omega (arith, length-bytesAt (now (a .args .b)) (a .args .o .strings) (a .pre .0 .strings-inside)));
     }
 
 add-end : tie.Need-add-end
@@ -53,6 +53,7 @@ put-pieces-requires c κs =
         strings-inside = p .strings-inside;
         memory = omega (arith, p .memory, c .before .before .before .forget .kept .0);
         room = p .room;
+        small = p .small;
       },
       last-cut _ _ _ (c .before .before .before .before .before .last-zero .ensures),
       (a .pre .1 .0, cleared (c .before .before .before) (a .pre .1 .0) (a .pre .1 .1)),

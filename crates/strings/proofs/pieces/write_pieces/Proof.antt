@@ -1,63 +1,65 @@
--- `write_pieces` meets its contract. The loop: the pieces passed are written, and those ahead are headed.
+-- `write_pieces` meets its contract. The loop: the pieces ahead are to be written still, with the numbers that are left.
 -- Assumes nothing.
-use mathlib.Core.Path.{_≡_, refl, sym, _∙_}
+use mathlib.Core.Path.{_≡_, refl, ap, ap₂, _∙_}
 use mathlib.Core.List.{List}
 use Prim.Native.Nat.{ℕ, _+_, _-_, _≤_}
 use native.Mathlib.Omega.{arith}
 use denote.Ref.{now}
-use lib.ListN.{length}
-use Rattle.octets.specs.Octets.{part}
-use Rattle.octets.specs.Checked.{pass}
+use lib.ListN.{length, take, drop}
+use Rattle.octets.specs.Octets.{part, placed}
+use Rattle.octets.proofs.Parts.{part-cut, length-part}
 use Rattle.bundle.specs.Encoded.{encodingIs}
-use Rattle.strings.specs.Kept.{Inside, bytesAt}
-use Rattle.strings.specs.Objects.{tableIn, KeptIn, PlacesIn}
-use Rattle.strings.specs.Headed.{Headed, stringsOfAll}
+use Rattle.strings.specs.Strings.{entriesIn}
+use Rattle.strings.specs.Headed.{Headed, pieceWith}
 use Rattle.strings.proofs.StrOffsets.{sound}
-use Rattle.strings.proofs.Headed.{headed-cut}
-use Rattle.strings.proofs.HeadedWriting.{Written, written-none, out-asks, ahead-are, out-some, out-within, out-judged, written-more, written-all}
+use Rattle.strings.proofs.Headed.{walk-asks, walk-some, walk-within}
+use Rattle.strings.proofs.HeadedWriting.{PiecesAhead, ahead-all, ahead-header, ahead-size, ahead-count, ahead-more, ahead-counted, ahead-none, piece-room}
 use Rattle.strings.proofs.pieces.write_pieces.Statement.{statement}
 use Rattle.strings.proofs.pieces.write_pieces.Tie as tie
 
 abbrev Inv-loop : tie.InvT-loop
-Inv-loop b store₀ words t d₀ at e strings start end place₀ out₀ store d place out =
-    (start ≤ place) × (place ≤ end) × (out ≡ at + (place - start)) × (length store ≡ length store₀) × (length d ≡ length d₀) × (tableIn words store ≡ tableIn words store₀)
-    × ((ts ps used : List (List ℕ)) → KeptIn b words store₀ t ts → PlacesIn b strings words store₀ ts → Headed (encodingIs e) (part b start (end - start)) ps
-    → stringsOfAll (encodingIs e) (bytesAt b strings) ps ≡ pass used → Written b (encodingIs e) strings words store t ts ps place end d₀ d at out)
+Inv-loop e s numbers d₀ at from₀ first₀ d from first =
+    (from ≤ length s) × (length d ≡ length d₀) × ((ps : List (List ℕ)) → Headed (encodingIs e) s ps → PiecesAhead (encodingIs e) s numbers ps from first d₀ d at)
 
 abbrev μ-loop : tie.MeasureT-loop
-μ-loop b store₀ words t d₀ at e strings start end place₀ out₀ store d place out = end - place
+μ-loop e s numbers d₀ at from₀ first₀ d from first = length s - from
 
--- what is known of one table and one list of pieces
-known : (c : tie.In-loop Inv-loop μ-loop)
-    → (let a = c .before .before .before .before .before .before .before .before in Written (now (a .args .b)) (encodingIs (a .args .o .encoding)) (a .args .o .strings) (a .args .words) (c .before .loop .store) (a .args .t) (a .pre .2 .table) (a .pre .2 .pieces) (c .before .loop .place) (a .args .o .offsets .start + a .args .o .offsets .size) (now (a .args .d)) (c .before .loop .d) (a .args .at) (c .before .loop .out))
-known c =
-    let a = c .before .before .before .before .before .before .before .before in
-    let p = a .pre .2 in
-    c .before .loop .inv .6 (p .table) (p .pieces) (p .judged .used) (p .kept) (p .memory) (headed-cut _ _ (a .args .o .offsets) _ (p .judged .headed)) (p .judged .strings)
+-- what is known of one list of pieces
+abbrev Start : tie.In-loop Inv-loop μ-loop → tie.Start Inv-loop μ-loop
+Start i = i .before .before .before .before .before
 
-inside : (c : tie.In-loop Inv-loop μ-loop) → (let a = c .before .before .before .before .before .before .before .before in a .args .o .offsets .start + a .args .o .offsets .size ≤ length (now (a .args .b)))
-unfolding Inside
-inside c = c .before .before .before .before .before .before .before .before .pre .2 .judged .offsets-inside
+known : (i : tie.In-loop Inv-loop μ-loop)
+    → (let a = Start i .args in PiecesAhead (encodingIs (a .e)) (now (a .s)) (now (a .numbers)) (Start i .pre .pieces) (i .before .loop .from) (i .before .loop .first) (now (a .d)) (i .before .loop .d) (a .at))
+known i = i .before .loop .inv .2 (Start i .pre .pieces) (Start i .pre .headed)
 
-within : (c : tie.After-piece-size Inv-loop μ-loop) → (let a = c .before .before .before .before .before .before .before .before .before .before in c .before .before .before .loop .place + c .piece-size .result ≤ a .args .o .offsets .start + a .args .o .offsets .size)
-within c = let i = c .before .before in let a = i .before .before .before .before .before .before .before .before in out-within _ _ (sound _) _ (a .pre .2 .judged .strings-inside) _ _ _ _ _ _ _ _ _ _ _ (inside i) (known i) (i .loop-test .taken) _ (c .piece-size .ensures)
+to-end : (i : tie.In-loop Inv-loop μ-loop) → length (now (Start i .args .s)) ≤ length (now (Start i .args .s))
+to-end i = omega arith
 
-some : (c : tie.After-piece-size Inv-loop μ-loop) → 1 ≤ c .piece-size .result
-some c = let i = c .before .before in let a = i .before .before .before .before .before .before .before .before in out-some _ _ (sound _) _ (a .pre .2 .judged .strings-inside) _ _ _ _ _ _ _ _ _ _ _ (inside i) (known i) (i .loop-test .taken) _ (c .piece-size .ensures)
+within : (z : tie.After-piece-size Inv-loop μ-loop) → z .before .before .before .loop .from + z .piece-size .result ≤ length (now (Start (z .before .before) .args .s))
+within z = let i = z .before .before in walk-within _ (sound _) _ _ _ (to-end i) _ (known i .headed) (i .loop-test .taken) _ (z .piece-size .ensures)
 
--- the output has room
-room : (c : tie.After-piece-size Inv-loop μ-loop) → c .before .before .before .loop .out + c .piece-size .result ≤ length (c .before .before .before .loop .d)
-room c =
-    let l = c .before .before .before in
-    let a = l .before .before .before .before .before .before .before in
-    omega (arith, within c, l .loop .inv .0, l .loop .inv .2, l .loop .inv .4, a .pre .1 .room)
+some : (z : tie.After-piece-size Inv-loop μ-loop) → 1 ≤ z .piece-size .result
+some z = let i = z .before .before in walk-some _ (sound _) _ _ _ (to-end i) _ (known i .headed) (i .loop-test .taken) _ (z .piece-size .ensures)
 
-add-end : tie.Need-add-end Inv-loop μ-loop
-unfolding Inside
-add-end c = omega (arith, c .before .before .before .before .before .before .pre .2 .judged .offsets-inside)
+-- the piece is as the definition cuts it, and there are numbers for its entries
+abbrev Sized : tie.After-entry-count Inv-loop μ-loop → tie.After-piece-size Inv-loop μ-loop
+Sized n = n .before .before
+
+own-count : (n : tie.After-entry-count Inv-loop μ-loop)
+    → (let z = Sized n in let a = Start (z .before .before) .args in n .entry-count .result ≡ length (entriesIn (encodingIs (a .e)) (part (now (a .s)) (z .before .before .before .loop .from) (z .piece-size .result))))
+own-count n =
+    let z = Sized n in
+    let a = Start (z .before .before) .args in
+    n .entry-count .ensures ∙ ap (λ (l : List ℕ). length (entriesIn (encodingIs (a .e)) l)) (part-cut (now (a .s)) (z .before .before .before .loop .from) (z .piece-size .result))
+
+enough : (n : tie.After-entry-count Inv-loop μ-loop) → (let i = Sized n .before .before in i .before .loop .first + n .entry-count .result ≤ length (now (Start i .args .numbers)))
+enough n =
+    let z = Sized n in
+    let i = z .before .before in
+    omega (arith, ahead-count _ (sound _) _ _ _ _ _ _ _ _ (known i) (i .loop-test .taken) _ (z .piece-size .ensures), own-count n, Start i .pre .enough)
 
 loop-holds : tie.Need-loop-holds Inv-loop μ-loop
-loop-holds c = (omega arith, omega arith, omega arith, refl, refl, refl, λ ts ps used k m h s. written-none _ _ _ _ _ _ ts ps _ _ _ _ used k m h s)
+loop-holds c = (omega arith, refl, λ ps h. ahead-all _ _ _ ps _ _ h)
 
 sub-piece-size : tie.Need-sub-piece-size Inv-loop μ-loop
 sub-piece-size c = omega arith
@@ -66,86 +68,102 @@ part-piece-size-start : tie.Need-part-piece-size-start Inv-loop μ-loop
 part-piece-size-start c = omega arith
 
 part-piece-size-end : tie.Need-part-piece-size-end Inv-loop μ-loop
-part-piece-size-end c = inside c
+part-piece-size-end c = omega arith
 
 piece-size-requires : tie.Need-piece-size-requires Inv-loop μ-loop
-piece-size-requires c κs =
-    let i = c .before in
-    let a = i .before .before .before .before .before .before .before .before in
-    out-asks _ _ (sound _) _ (a .pre .2 .judged .strings-inside) _ _ _ _ _ _ _ _ _ _ _ (inside i) (known i) (i .loop-test .taken)
+piece-size-requires c κs = let i = c .before in walk-asks _ (sound _) _ _ _ (to-end i) _ (known i .headed) (i .loop-test .taken)
 
-remap-piece-requires : tie.Need-remap-piece-requires Inv-loop μ-loop
-remap-piece-requires c κs =
-    let z = c .before .before in
+add-end : tie.Need-add-end Inv-loop μ-loop
+add-end c = omega (arith, within c)
+
+sub-entry-count : tie.Need-sub-entry-count Inv-loop μ-loop
+sub-entry-count c = omega arith
+
+part-entry-count-start : tie.Need-part-entry-count-start Inv-loop μ-loop
+part-entry-count-start c = omega arith
+
+part-entry-count-end : tie.Need-part-entry-count-end Inv-loop μ-loop
+part-entry-count-end c = within c
+
+entry-count-requires : tie.Need-entry-count-requires Inv-loop μ-loop
+entry-count-requires c κs = tt
+
+add-last : tie.Need-add-last Inv-loop μ-loop
+add-last c = omega (arith, enough c)
+
+sub-write-piece : tie.Need-sub-write-piece Inv-loop μ-loop
+sub-write-piece c = omega arith
+
+part-write-piece-start : tie.Need-part-write-piece-start Inv-loop μ-loop
+part-write-piece-start c = omega arith
+
+part-write-piece-end : tie.Need-part-write-piece-end Inv-loop μ-loop
+part-write-piece-end c = within (Sized c)
+
+mul-write-piece : tie.Need-mul-write-piece Inv-loop μ-loop
+mul-write-piece c = omega (arith, enough (c .before))
+
+sub-write-piece-2 : tie.Need-sub-write-piece-2 Inv-loop μ-loop
+sub-write-piece-2 c = omega arith
+
+part-write-piece-start-2 : tie.Need-part-write-piece-start-2 Inv-loop μ-loop
+part-write-piece-start-2 c = omega arith
+
+part-write-piece-end-2 : tie.Need-part-write-piece-end-2 Inv-loop μ-loop
+part-write-piece-end-2 c = enough (c .before)
+
+add-write-piece : tie.Need-add-write-piece Inv-loop μ-loop
+add-write-piece c =
+    let n = c .before .before .before in
+    let i = Sized n .before .before in
+    omega (arith, i .before .loop .inv .0, Start i .pre .room, Start i .good)
+
+write-piece-requires : tie.Need-write-piece-requires Inv-loop μ-loop
+write-piece-requires c κs =
+    let n = c .before .before .before in
+    let z = Sized n in
     let i = z .before .before in
-    let l = i .before in
-    let a = l .before .before .before .before .before .before .before in
-    let p = known i in
-    let s = a .pre .2 .judged .strings-inside in (
-      a .pre .0,
-      record { memory = omega (arith, a .pre .1 .memory, l .loop .inv .3); room = room z },
-      record {
-        table = a .pre .2 .table;
-        used = ahead-are _ _ (sound _) _ s _ _ _ _ _ _ _ _ _ _ _ (inside i) p (i .loop-test .taken) .us;
-        is = record { kept = p .kept; judged = out-judged _ _ (sound _) _ s _ _ _ _ _ _ _ _ _ _ _ (inside i) p (i .loop-test .taken) _ (z .piece-size .ensures); memory = p .memory };
-      },
+    let a = Start i in
+    let ns = now (a .args .numbers) in
+    let first = i .before .loop .first in
+    let count = n .entry-count .result in
+    let long : length (take (first + count - first) (drop first ns)) ≡ count = ap length (part-cut ns first count) ∙ length-part ns first count (enough n) in (
+      rw (part-cut (now (a .args .s)) (i .before .loop .from) (z .piece-size .result)) (ahead-header _ (sound _) _ _ _ _ _ _ _ _ (known i) (i .loop-test .taken) _ (z .piece-size .ensures)),
+      piece-room _ _ _ _ _ _ _ _ _ _ (long ∙ own-count n) (ahead-size _ (sound _) _ _ _ _ _ _ _ _ (known i) (i .loop-test .taken) _ (z .piece-size .ensures)) (within z) (a .pre .room) (i .before .loop .inv .1),
     )
-
-add-place : tie.Need-add-place Inv-loop μ-loop
-add-place c =
-    let z = c .before .before .before .before .before .before .before in
-    omega (arith, within z, inside (z .before .before))
-
-add-out : tie.Need-add-out Inv-loop μ-loop
-add-out c =
-    let z = c .before .before .before .before .before .before .before in
-    let l = z .before .before .before in
-    omega (arith, room z, l .loop .inv .4, l .before .before .before .before .before .before .before .good)
 
 loop-less : tie.Need-loop-less Inv-loop μ-loop
 loop-less c =
-    let z = c .before .before .before .before .before .before .before in
+    let z = Sized (c .before .before .before .before .before .before) in
     omega (arith, within z, some z)
 
 loop-again : tie.Need-loop-again Inv-loop μ-loop
 loop-again c =
-    let g = c .before .before .before .before in
-    let z = g .before .before .before in
+    let g = c .before .before in
+    let n = g .before .before .before .before in
+    let z = Sized n in
     let i = z .before .before in
     let l = i .before in
-    let a = l .before .before .before .before .before .before .before in
-    let n = a .pre .2 .judged .strings-inside in (
-      omega (arith, l .loop .inv .0),
+    let a = Start i in
+    let e = encodingIs (a .args .e) in
+    let s = now (a .args .s) in
+    let ns = now (a .args .numbers) in
+    let cuts = ap₂ (λ (u v : List ℕ). placed (l .loop .d) (a .args .at + l .loop .from) (pieceWith e u v)) (part-cut s (l .loop .from) (z .piece-size .result)) (part-cut ns (l .loop .first) (n .entry-count .result)) in (
       within z,
-      omega (arith, l .loop .inv .0, l .loop .inv .2),
-      g .remap-piece .kept .1 .1 .0 ∙ l .loop .inv .3,
-      g .remap-piece .kept .1 .1 .1 .1 .1 .0 ∙ l .loop .inv .4,
-      g .remap-piece .ensures .1 .0 ∙ l .loop .inv .5,
-      λ ts ps used k m h s.
-          let q = l .loop .inv .6 ts ps used k m h s in
-          let us = ahead-are _ _ (sound _) _ n _ _ _ ts ps _ _ _ _ _ _ (inside i) q (i .loop-test .taken) .us in
-          let j = out-judged _ _ (sound _) _ n _ _ _ ts ps _ _ _ _ _ _ (inside i) q (i .loop-test .taken) _ (z .piece-size .ensures) in
-          written-more _ _ (sound _) _ n _ _ _ ts ps _ _ _ _ _ _ (inside i) q (i .loop-test .taken) _ (z .piece-size .ensures) _ _
-          (omega (arith, q .long, room z, l .loop .inv .4))
-          (g .remap-piece .ensures .0 ts us (record { kept = q .kept; judged = j; memory = q .memory })) (g .remap-piece .ensures .1 .0)
-          (g .remap-piece .ensures .1 .1 ts us (record { kept = q .kept; judged = j; memory = q .memory })),
+      g .write-piece .kept .1 .1 .1 .0 ∙ l .loop .inv .1,
+      λ ps h. ahead-more _ (sound _) _ _ ps _ _ _ _ _ (l .loop .inv .2 ps h) (i .loop-test .taken) _ (z .piece-size .ensures) _ _ (own-count n) (enough n) (omega (arith, a .pre .room, l .loop .inv .1)) (g .write-piece .ensures ∙ cuts),
     )
 
 same-length : tie.Need-same-length Inv-loop μ-loop
-same-length c = c .before .loop .inv .3
-
-same-length-2 : tie.Need-same-length-2 Inv-loop μ-loop
-same-length-2 c = c .before .loop .inv .4
+same-length c = c .before .loop .inv .1
 
 returns : tie.Need-returns Inv-loop μ-loop
-unfolding Inside
 returns c =
     let l = c .before in
-    let a = l .before .before .before .before .before .before .before in (
-      λ ts ps k m j. written-all _ _ (sound _) _ (j .strings-inside) _ _ _ ts ps _ _ _ _ _ _ (j .offsets-inside)
-          (l .loop .inv .6 ts ps (j .used) k m (headed-cut _ _ (a .args .o .offsets) ps (j .headed)) (j .strings)) (c .loop-test .left),
-      l .loop .inv .5,
-    )
+    record {
+      count = λ ps h. ahead-counted _ (sound _) _ _ ps _ _ _ _ _ (l .loop .inv .2 ps h) (c .loop-test .left);
+      put = λ ps h. ahead-none _ (sound _) _ _ ps _ _ _ _ _ (l .loop .inv .2 ps h) (c .loop-test .left);
+    }
 
 pub write-pieces-spec : {M : Type 1} → statement M
 write-pieces-spec =
@@ -153,17 +171,27 @@ write-pieces-spec =
     (tie.spec
     Inv-loop
     μ-loop
-    add-end
     loop-holds
     sub-piece-size
     part-piece-size-start
     part-piece-size-end
     piece-size-requires
-    remap-piece-requires
-    add-place
-    add-out
+    add-end
+    sub-entry-count
+    part-entry-count-start
+    part-entry-count-end
+    entry-count-requires
+    add-last
+    sub-write-piece
+    part-write-piece-start
+    part-write-piece-end
+    mul-write-piece
+    sub-write-piece-2
+    part-write-piece-start-2
+    part-write-piece-end-2
+    add-write-piece
+    write-piece-requires
     loop-less
     loop-again
     same-length
-    same-length-2
     returns)

@@ -1,13 +1,13 @@
 -- `add_entries` meets its contract. The loop: the strings of the entries passed are put, and remembered.
 -- Assumes nothing.
 use mathlib.Core.Path.{_≡_, refl, _∙_}
-use mathlib.Core.List.{List}
+use mathlib.Core.List.{List, _++_}
 use Prim.Native.Nat.{ℕ, _+_, _-_, _≤_}
 use native.Mathlib.Omega.{arith}
 use denote.Ref.{now}
 use lib.ListN.{length}
 use Rattle.octets.specs.Checked.{pass}
-use Rattle.strings.specs.Strings.{stringAt, putAll}
+use Rattle.strings.specs.Strings.{stringAt}
 use Rattle.strings.specs.Kept.{bytesAt}
 use Rattle.strings.specs.Objects.{entriesAt, PuttingIn}
 use Rattle.strings.proofs.Remembering.{last-starts, last-behind}
@@ -17,8 +17,8 @@ use Rattle.strings.proofs.table.add_entries.Tie as tie
 
 abbrev Inv-loop : tie.InvT-loop
 Inv-loop o b ended store₀ words count kept₀ k₀ store kept k =
-    (k ≤ count) × (length store ≡ length store₀) × (kept .count ≤ kept₀ .count + k)
-    × ((ts : List (List ℕ)) → PuttingIn b (o .strings) words store₀ kept₀ ts → Adding b (o .strings) words store kept ts (entriesAt o b) k)
+    (k ≤ count) × (length store ≡ length store₀) × (kept .entries ≤ kept₀ .entries + k)
+    × ((used : List (List ℕ)) → PuttingIn b (o .strings) words store₀ kept₀ used → Adding b (o .strings) words store kept used (entriesAt o b) k)
 
 abbrev μ-loop : tie.MeasureT-loop
 μ-loop o b ended store₀ words count kept₀ k₀ store kept k = count - k
@@ -31,7 +31,7 @@ entries-of-requires : tie.Need-entries-of-requires Inv-loop μ-loop
 entries-of-requires c κs = c .before .before .pre .0 .offsets-inside
 
 loop-holds : tie.Need-loop-holds Inv-loop μ-loop
-loop-holds c = (omega arith, refl, omega arith, λ ts p. adding-none _ _ _ _ _ ts _ p)
+loop-holds c = (omega arith, refl, omega arith, λ used p. adding-none _ _ _ _ _ used _ p)
 
 entry-of-requires : tie.Need-entry-of-requires Inv-loop μ-loop
 entry-of-requires c κs = (c .before .before .before .before .before .pre .0 .offsets-inside, rw (← c .before .before .entries-of .ensures) (c .loop-test .taken))
@@ -45,7 +45,7 @@ same-length c = c .before .before .before .before .loop .inv .1
 returns : tie.Need-returns Inv-loop μ-loop
 returns c =
     let a = c .before .before .before .before .before .before .before .before in
-    λ ts p. adding-missing _ _ _ _ _ ts _ _ _ _ (rw (c .before .before .before .before .before .entries-of .ensures) at (c .before .before .before .loop-test .taken)) (c .before .before .entry-of .ensures) (last-behind 9 _ _ (a .pre .1) _ (omega (arith, c .before .long .ensures, c .if1 .taken)))
+    λ used p. adding-missing _ _ _ _ _ used _ _ _ _ (rw (c .before .before .before .before .before .entries-of .ensures) at (c .before .before .before .loop-test .taken)) (c .before .before .entry-of .ensures) (last-behind 9 _ _ (a .pre .1) _ (omega (arith, c .before .long .ensures, c .if1 .taken)))
 
 size-requires : tie.Need-size-requires Inv-loop μ-loop
 size-requires c κs = tt
@@ -60,11 +60,15 @@ add-string-requires c κs =
         limit = a .pre .0 .limit;
         inside = a .pre .0 .strings-inside;
         memory = omega (arith, a .pre .0 .memory, l .loop .inv .1);
-        room = omega (arith, l .loop .inv .2, a .pre .0 .room, c .before .before .before .before .before .before .before .entries-of .ensures, c .before .before .before .before .before .loop-test .taken);
+        room =
+            record {
+              more = omega (arith, l .loop .inv .2, a .pre .0 .room, c .before .before .before .before .before .before .before .entries-of .ensures, c .before .before .before .before .before .loop-test .taken);
+              small = a .pre .0 .small;
+            };
         string = s .0;
         starts = s .1;
       },
-      (putAll (a .pre .2 .0) (d .used), d .putting),
+      (a .pre .2 .0 ++ d .more, d .putting),
     )
 
 add-k : tie.Need-add-k Inv-loop μ-loop
@@ -81,7 +85,7 @@ loop-again c =
       omega arith,
       g .add-string .kept .1 .1 .1 .0 ∙ l .loop .inv .1,
       omega (arith, g .add-string .ensures .1, l .loop .inv .2),
-      λ ts p. adding-more _ _ _ _ _ ts _ _ (l .loop .inv .3 ts p) _ _ (s .0) _ (rw (c .before .before .before .before .before .before .before .before .before .before .entries-of .ensures) at (c .before .before .before .before .before .before .before .before .loop-test .taken)) (c .before .before .before .before .size .ensures ∙ c .before .before .before .before .before .before .before .entry-of .ensures) (s .1) (g .add-string .ensures .0),
+      λ used p. adding-more _ _ _ _ _ used _ _ (l .loop .inv .3 used p) _ _ (s .0) _ (rw (c .before .before .before .before .before .before .before .before .before .before .entries-of .ensures) at (c .before .before .before .before .before .before .before .before .loop-test .taken)) (c .before .before .before .before .size .ensures ∙ c .before .before .before .before .before .before .before .entry-of .ensures) (s .1) (g .add-string .ensures .0),
     )
 
 same-length-2 : tie.Need-same-length-2 Inv-loop μ-loop
@@ -90,7 +94,7 @@ same-length-2 c = c .before .loop .inv .1
 returns-2 : tie.Need-returns-2 Inv-loop μ-loop
 returns-2 c =
     let l = c .before in
-    λ ts p. adding-all _ _ _ _ _ ts _ _ (l .loop .inv .3 ts p) _ (rw (← l .before .entries-of .ensures) (c .loop-test .left))
+    λ used p. adding-all _ _ _ _ _ used _ _ (l .loop .inv .3 used p) _ (rw (← l .before .entries-of .ensures) (c .loop-test .left))
     (omega (arith, l .loop .inv .0, l .loop .inv .2, l .before .entries-of .ensures))
 
 pub add-entries-spec : {M : Type 1} → statement M

@@ -14,14 +14,14 @@ use borrow.Author.Needs.{needs}
 use Rattle.strings.proofs.table.add_strings.Statement.{statement}
 use Rattle.strings.proofs.table.add_strings.Tie as tie
 
--- what is kept before the memory is cleared is kept behind that
-cleared : (c : tie.After-forget) (ts : List (List ℕ))
-    → (let a = c .before .before .before .before .before .before .before .before .args in KeptIn (now (a .b)) (a .words) (now (a .store)) (a .t) ts → PuttingIn (now (a .b)) (a .o .strings) (a .words) (c .forget .last .0) (a .t) ts)
-cleared c ts k =
+-- what is kept before the memory is cleared is kept after that
+cleared : (c : tie.After-forget) (used : List (List ℕ))
+    → (let a = c .before .before .before .before .before .before .before .before .args in KeptIn (now (a .b)) (a .words) (now (a .store)) (a .t) used → PuttingIn (now (a .b)) (a .o .strings) (a .words) (c .forget .last .0) (a .t) used)
+cleared c used k =
     let a = c .before .before .before .before .before .before .before .before in
     record {
-      kept = kept-stays _ _ _ _ _ ts (table-forgotten _ _ _ _ (a .pre .0 .memory) (c .forget .ensures)) k;
-      memory = forgotten _ _ _ _ _ _ (c .forget .ensures) (a .pre .0 .memory) (omega (arith, length-bytesAt (now (a .args .b)) (a .args .o .strings) (a .pre .0 .strings-inside)));
+      kept = kept-stays _ _ _ _ _ used (table-forgotten _ _ _ _ (a .pre .0 .memory) (c .forget .ensures)) k;
+      memory = λ _. forgotten _ _ _ _ _ _ (c .forget .ensures) (a .pre .0 .memory) (omega (arith, length-bytesAt (now (a .args .b)) (a .args .o .strings) (a .pre .0 .strings-inside)));
     }
 
 add-end : tie.Need-add-end
@@ -54,6 +54,7 @@ add-entries-requires c κs =
         strings-inside = p .strings-inside;
         memory = omega (arith, p .memory, c .before .before .before .forget .kept .0);
         room = p .room;
+        small = p .small;
       },
       last-cut _ _ _ (c .before .before .before .before .before .last-zero .ensures),
       (a .pre .1 .0, cleared (c .before .before .before) (a .pre .1 .0) (a .pre .1 .1)),
@@ -63,7 +64,7 @@ same-length : tie.Need-same-length
 same-length c = search needs
 
 returns : tie.Need-returns
-returns c = λ ts k. put-added _ _ _ _ _ _ _ _ (c .before .before .add-entries .ensures ts (cleared (c .before .before .before .before .before .before) ts k))
+returns c = λ used k. put-added _ _ _ _ _ _ _ _ (c .before .before .add-entries .ensures used (cleared (c .before .before .before .before .before .before) used k))
 
 pub add-strings-spec : {M : Type 1} → statement M
 add-strings-spec =

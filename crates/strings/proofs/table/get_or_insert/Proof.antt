@@ -1,84 +1,101 @@
 -- `get_or_insert` meets its contract.
 -- Assumes nothing.
-use mathlib.Core.Path.{ap, _∙_}
-use mathlib.Core.List.{List, [], _∷_}
-use Prim.Native.Nat.{ℕ, _+_}
+use mathlib.Core.Path.{_≡_, ap}
+use mathlib.Core.List.{List}
+use Prim.Native.Nat.{ℕ, _+_, _*_, _≤_}
 use native.Mathlib.Omega.{arith}
 use denote.Ref.{now}
-use Rattle.octets.specs.Octets.{part, placed}
+use lib.ListN.{length}
+use Rattle.octets.specs.Octets.{part}
+use Rattle.octets.proofs.Checks.{true-false}
+use Rattle.strings.specs.Strings.{firstUses, offsetIn}
 use Rattle.strings.specs.Indexed.{SoughtIs}
 use Rattle.strings.specs.Kept.{Kept}
-use Rattle.strings.specs.declared.slots.Sought.the-variants.{Free}
-use Rattle.strings.proofs.Holding.{sought-known, sought-free}
-use Rattle.strings.proofs.Keeping.{kept-within, kept-count, kept-over, kept-known, kept-passes, kept-slot, kept-new}
+use Rattle.strings.specs.declared.table.StringTable.{StringTable}
+use Rattle.strings.proofs.Holding.{sought-known, sought-place, row-room}
+use Rattle.strings.proofs.Keeping.{kept-over, place-small, roomy-places, put-again}
 use borrow.Author.Needs.{needs}
 use Rattle.strings.proofs.table.get_or_insert.Statement.{statement}
 use Rattle.strings.proofs.table.get_or_insert.Tie as tie
 
-free : (c : tie.After-slot) (ts : List (List ℕ))
-    → (let a = c .before .before .before .before .before .before .before .args in Kept (now (a .b)) (now (a .table)) (a .t) ts → SoughtIs (now (a .table)) (a .t .count) ts (part (now (a .b)) (a .start) (a .size)) (Free (c .slot .given .0 .0)))
-free c ts k = sought-free _ _ ts _ _ (c .before .before .seek-string .ensures _ ts (k .held (c .before .before .before .before .if1 .left))) _ (c .slot .given .1)
+-- what the search says of the strings used
+sought : (c : tie.After-seek-string) (used : List (List ℕ))
+    → (let a = c .before .before .before .before .before .args in Kept (now (a .b)) (now (a .table)) (a .t) used → SoughtIs (now (a .table)) (a .t .count) (firstUses used) (part (now (a .b)) (a .start) (a .size)) (c .seek-string .result))
+sought c used k = c .seek-string .ensures (firstUses used) (k .held (c .before .before .if1 .left))
+
+-- the row that was found
+row : (c : tie.After-i) → 3 * c .i .given .0 .0 + 3 ≤ length (now (c .before .before .before .before .before .before .before .args .table))
+row c =
+    let s = c .before .before in
+    let k = s .before .before .before .before .before .pre .1 .1 in
+    row-room _ _ _ _ (k .held (s .before .before .if1 .left)) _ (sought s _ k .row _ (c .i .given .1) .0)
+
+-- and the place that it states
+place : (c : tie.After-word) (used : List (List ℕ))
+    → (let a = c .before .before .before .before .before .before .before .before .before .before .args in Kept (now (a .b)) (now (a .table)) (a .t) used → c .word .result ≡ offsetIn (firstUses used) (part (now (a .b)) (a .start) (a .size)))
+place c used k =
+    let s = c .before .before .before .before .before in
+    sought-place _ _ _ _ (k .held (s .before .before .if1 .left)) _ _ (sought s used k) _ _ (c .before .before .before .i .given .1) (c .word .ensures)
 
 returns : tie.Need-returns
-returns c = (λ ts k. kept-over _ _ _ ts k _ _ (c .if1 .taken), omega arith)
+returns c =
+    let over = c .if1 .taken in
+    (λ used k. record { kept = kept-over _ _ _ used k _ _ over; place = λ g. absurd (true-false over g) }, record { entries = omega arith; place = omega arith })
 
 seek-string-requires : tie.Need-seek-string-requires
 seek-string-requires c κs =
-    let a = c .before .before .before .before in
-    (a .pre .0 .fits, (a .args .t .count, a .pre .1 .0, a .pre .1 .1 .held (c .before .if1 .left)))
+    let p = c .before .before .before .before .pre in
+    (record { fits = p .0 .fits; some = omega (arith, p .0 .room .more); small = p .0 .room .small }, (firstUses (p .1 .0), p .1 .1 .held (c .before .if1 .left)))
 
-enum-known-slot : tie.Need-enum-known-slot
-enum-known-slot c = search needs
+enum-known-i : tie.Need-enum-known-i
+enum-known-i c = search needs
 
-enum-told : tie.Need-enum-told
-enum-told c = search needs
+mul-word : tie.Need-mul-word
+mul-word c = omega (arith, row (c .before .before), c .before .before .before .before .before .before .before .before .before .pre .0 .room .small)
+
+add-word : tie.Need-add-word
+add-word c = omega (arith, row (c .before .before), c .before .before .before .before .before .before .before .before .before .pre .0 .room .small)
+
+word-requires : tie.Need-word-requires
+word-requires c κs = omega (arith, row (c .before .before))
+
+note-place-requires : tie.Need-note-place-requires
+note-place-requires c κs =
+    let p = c .before .before .before .before .before .before .before .before .before .before .before .pre in
+    let off = c .before .before .before .before .before .before .before .before .if1 .left in
+    (p .0 .room, omega (arith, place-small _ _ _ _ (p .1 .1) off _ _ (place (c .before) _ (p .1 .1))))
 
 same-length : tie.Need-same-length
 same-length c = search needs
 
 returns-2 : tie.Need-returns-2
 returns-2 c =
-    let off = c .before .before .before .before .if1 .left in
-    (λ ts k. kept-known _ _ _ ts k _ (sought-known _ _ _ ts (k .held off) _ _ (c .before .before .seek-string .ensures _ ts (k .held off)) _ (c .enum-told .given .1)), omega arith)
+    let w = c .before .before .before .before in
+    let s = w .before .before .before .before .before in
+    let off = s .before .before .if1 .left in
+    let p = s .before .before .before .before .before .pre in
+    let n = c .before .before .note-place .ensures in (
+      λ used k. put-again _ _ _ used k off _ _ _ _ (sought-known _ _ _ _ (k .held off) _ _ (sought s used k) _ (w .before .before .before .i .given .1)) (roomy-places _ _ (p .0 .room)) (place w used k) (n .0) (n .1),
+      record { entries = omega (arith, ap (λ (z : StringTable). z .entries) (n .0)); place = place-small _ _ _ _ (p .1 .1) off _ _ (place w _ (p .1 .1)) },
+    )
 
-sub-if2 : tie.Need-sub-if2
-sub-if2 c = omega (arith, kept-within _ _ _ _ (c .before .before .before .before .before .before .before .before .pre .1 .1) (c .before .before .before .before .before .if1 .left))
+enum-known-slot : tie.Need-enum-known-slot
+enum-known-slot c = search needs
+
+insert-string-requires : tie.Need-insert-string-requires
+insert-string-requires c κs =
+    let p = c .before .before .before .before .before .before .before .before .before .pre in
+    let s = c .before .before .before .before in
+    (c .before .before .before .before .before .before .if1 .left, p .0, (p .1 .0, p .1 .1, sought s (p .1 .0) (p .1 .1) .free _ (c .before .before .slot .given .1)))
 
 same-length-2 : tie.Need-same-length-2
 same-length-2 c = search needs
 
 returns-3 : tie.Need-returns-3
-returns-3 c = (λ ts k. kept-passes _ _ _ ts k (c .before .before .before .before .before .before .if1 .left) _ _ _ (c .before .before .before .before .before .before .before .before .before .pre .0 .fits) (free (c .before .before) ts k) (c .if2 .taken), omega arith)
-
-set-row-requires : tie.Need-set-row-requires
-set-row-requires c κs = search needs
-
-add-set-word : tie.Need-add-set-word
-add-set-word c = search needs
-
-set-word-requires : tie.Need-set-word-requires
-set-word-requires c κs =
-    let a = c .before .before .before .before .before .before .before .before .before .before .before .before .before .before in
-    let k = a .pre .1 .1 in
-    let off = c .before .before .before .before .before .before .before .before .before .before .before .if1 .left in
-    (omega (arith, c .before .before .before .set-row .kept .0, kept-slot _ _ _ _ k off _ _ _ (a .pre .0 .fits) (free (c .before .before .before .before .before .before .before) _ k) (a .pre .0 .room)), omega (arith, kept-count _ _ _ _ k off))
-
-add-t13 : tie.Need-add-t13
-add-t13 c = search needs
-
-add-t19 : tie.Need-add-t19
-add-t19 c = search needs
-
-add-t20 : tie.Need-add-t20
-add-t20 c = search needs
-
-same-length-3 : tie.Need-same-length-3
-same-length-3 c = search needs
-
-returns-4 : tie.Need-returns-4
-returns-4 c =
-    let a = c .before .before .before .before .before .before .before .before .before .before .before .before .before .before .before .before .before in
-    (λ ts k. kept-new _ _ _ ts k (c .before .before .before .before .before .before .before .before .before .before .before .before .before .before .if1 .left) _ _ _ (a .pre .0 .fits) (free (c .before .before .before .before .before .before .before .before .before .before) ts k) _ (c .before .before .before .before .before .before .before .before .if2 .left) (a .pre .0 .room) (c .before .before .set-word .ensures ∙ ap (λ (z : List ℕ). placed z (c .before .before .before .before .before .before .before .before .before .before .slot .given .0 .0) ((a .args .t .count + 1) ∷ [])) (c .before .before .before .before .before .before .set-row .ensures)), omega arith)
+returns-3 c =
+    let i = c .before .before .insert-string .ensures in
+    let s = c .before .before .before .before .before .before .before in
+    (λ used k. i .0 used k (sought s used k .free _ (c .before .before .before .before .before .slot .given .1)), i .1)
 
 pub get-or-insert-spec : {M : Type 1} → statement M
 get-or-insert-spec =
@@ -86,18 +103,14 @@ get-or-insert-spec =
     (tie.spec
     returns
     seek-string-requires
-    enum-known-slot
-    enum-told
+    enum-known-i
+    mul-word
+    add-word
+    word-requires
+    note-place-requires
     same-length
     returns-2
-    sub-if2
+    enum-known-slot
+    insert-string-requires
     same-length-2
-    returns-3
-    set-row-requires
-    add-set-word
-    set-word-requires
-    add-t13
-    add-t19
-    add-t20
-    same-length-3
-    returns-4)
+    returns-3)

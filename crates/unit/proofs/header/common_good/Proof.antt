@@ -7,7 +7,8 @@ use borrow.Author.Needs.{needs}
 use lib.ListN.{length, getD}
 use denote.Ref.{now}
 use Rattle.bundle.specs.Encoded.{encodingIs}
-use Rattle.unit.specs.UnitRead.{lengthField, commonSize}
+use Rattle.bundle.specs.InitialLength.{lengthField}
+use Rattle.unit.specs.UnitRead.{commonSize}
 use Rattle.octets.specs.Octets.{numberAt}
 use lib.Dec.{eqb}
 use Rattle.unit.proofs.Fields.{common-ge, place-lt, common-short, common-version, common-address}
@@ -20,23 +21,23 @@ common-size-requires : tie.Need-common-size-requires
 common-size-requires c κs = search needs
 
 -- the common fields are there
-whole : (c : tie.After-length-field) → commonSize (encodingIs (c .before .before .before .before .args .e)) ≤ length (now (c .before .before .before .before .args .u))
+whole : (c : tie.After-field-size) → commonSize (encodingIs (c .before .before .before .before .args .e)) ≤ length (now (c .before .before .before .before .args .u))
 whole c = rw (c .before .before .common-size .ensures) at (c .before .if1 .left)
 
 stated : (c : tie.After-u16-at) → c .u16-at .result ≡ numberAt (encodingIs (c .before .before .before .before .before .args .e) .big) 2 (now (c .before .before .before .before .before .args .u)) (lengthField (encodingIs (c .before .before .before .before .before .args .e)))
 unfolding encodingIs
 stated c =
     let a = c .before .before .before .before .before .args in
-    c .u16-at .ensures ∙ ap (numberAt (a .e .big) 2 (now (a .u))) (c .before .length-field .ensures)
+    c .u16-at .ensures ∙ ap (numberAt (a .e .big) 2 (now (a .u))) (c .before .field-size .ensures)
 
 returns : tie.Need-returns
 returns c = common-short _ _ (rw (c .before .common-size .ensures) at (c .if1 .taken))
 
-length-field-requires : tie.Need-length-field-requires
-length-field-requires c κs = search needs
+field-size-requires : tie.Need-field-size-requires
+field-size-requires c κs = search needs
 
 u16-at-requires : tie.Need-u16-at-requires
-u16-at-requires c κs = let a = c .before .before .before .before .args in omega (arith, c .length-field .ensures, c .before .before .common-size .ensures, common-ge (encodingIs (a .e)))
+u16-at-requires c κs = let a = c .before .before .before .before .args in omega (arith, c .field-size .ensures, c .before .before .common-size .ensures, common-ge (encodingIs (a .e)))
 
 cast-if2 : tie.Need-cast-if2
 cast-if2 c = search needs
@@ -83,7 +84,7 @@ common-good-spec =
     (tie.spec
     common-size-requires
     returns
-    length-field-requires
+    field-size-requires
     u16-at-requires
     cast-if2
     version-requires

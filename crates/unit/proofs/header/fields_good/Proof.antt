@@ -18,11 +18,11 @@ common-size-requires c κs = search needs
 returns : tie.Need-returns
 returns c = fields-short _ _ (rw (c .before .common-size .ensures) at (c .if1 .taken))
 
-length-field-requires : tie.Need-length-field-requires
-length-field-requires c κs = search needs
+field-size-requires : tie.Need-field-size-requires
+field-size-requires c κs = search needs
 
 u16-at-requires : tie.Need-u16-at-requires
-u16-at-requires c κs = let a = c .before .before .before .before .args in omega (arith, c .length-field .ensures, c .before .before .common-size .ensures, common-ge (encodingIs (a .e)))
+u16-at-requires c κs = let a = c .before .before .before .before .args in omega (arith, c .field-size .ensures, c .before .before .common-size .ensures, common-ge (encodingIs (a .e)))
 
 cast-result : tie.Need-cast-result
 cast-result c = search needs
@@ -36,7 +36,7 @@ returns-2 c =
     let u = c .before in
     let a = u .before .before .before .before .before .args in
     let w = rw (u .before .before .before .common-size .ensures) at (u .before .before .if1 .left) in
-    ap₂ eqb (u .u16-at .ensures ∙ ap (numberAt (a .e .big) 2 (now (a .u))) (u .before .length-field .ensures)) (c .version .ensures)
+    ap₂ eqb (u .u16-at .ensures ∙ ap (numberAt (a .e .big) 2 (now (a .u))) (u .before .field-size .ensures)) (c .version .ensures)
     ∙ fields-whole (encodingIs (a .e)) (now (a .u)) w
 
 pub fields-good-spec : {M : Type 1} → statement M
@@ -45,7 +45,7 @@ fields-good-spec =
     (tie.spec
     common-size-requires
     returns
-    length-field-requires
+    field-size-requires
     u16-at-requires
     cast-result
     version-requires

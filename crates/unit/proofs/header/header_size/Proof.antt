@@ -6,7 +6,8 @@ use native.Mathlib.Omega.{arith}
 use borrow.Author.Needs.{needs}
 use Rattle.bundle.specs.Encoded.{encodingIs}
 use Rattle.unit.specs.Headers.{headerSize}
-use Rattle.unit.proofs.Fields.{width-le, field-le, common-le}
+use Rattle.bundle.proofs.InitialLengths.{field-most}
+use Rattle.unit.proofs.Fields.{width-le, common-le}
 use borrow.Author.Needs.{needs}
 use borrow.Author.Needs.{needs}
 use Rattle.unit.proofs.header.header_size.Statement.{statement}
@@ -19,7 +20,7 @@ enum-told : tie.Need-enum-told
 enum-told c = search needs
 
 add-result : tie.Need-add-result
-add-result c = omega (arith, c .before .before .common-size .ensures, width-le (c .before .before .before .args .e), field-le (encodingIs (c .before .before .before .args .e)), common-le (encodingIs (c .before .before .before .args .e)))
+add-result c = omega (arith, c .before .before .common-size .ensures, width-le (c .before .before .before .args .e), field-most (encodingIs (c .before .before .before .args .e)), common-le (encodingIs (c .before .before .before .args .e)))
 
 enum-told-2 : tie.Need-enum-told-2
 enum-told-2 c = search needs
@@ -28,10 +29,10 @@ width-requires : tie.Need-width-requires
 width-requires c κs = search needs
 
 add-result-2 : tie.Need-add-result-2
-add-result-2 c = omega (arith, c .width .ensures, width-le (c .before .before .before .before .args .e), field-le (encodingIs (c .before .before .before .before .args .e)), common-le (encodingIs (c .before .before .before .before .args .e)))
+add-result-2 c = omega (arith, c .width .ensures, width-le (c .before .before .before .before .args .e), field-most (encodingIs (c .before .before .before .before .args .e)), common-le (encodingIs (c .before .before .before .before .args .e)))
 
 add-result-3 : tie.Need-add-result-3
-add-result-3 c = omega (arith, c .width .ensures, c .before .before .before .common-size .ensures, width-le (c .before .before .before .before .args .e), field-le (encodingIs (c .before .before .before .before .args .e)), common-le (encodingIs (c .before .before .before .before .args .e)))
+add-result-3 c = omega (arith, c .width .ensures, c .before .before .before .common-size .ensures, width-le (c .before .before .before .before .args .e), field-most (encodingIs (c .before .before .before .before .args .e)), common-le (encodingIs (c .before .before .before .before .args .e)))
 
 enum-told-3 : tie.Need-enum-told-3
 enum-told-3 c = search needs

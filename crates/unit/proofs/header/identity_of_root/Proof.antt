@@ -8,11 +8,13 @@ use denote.Ref.{now}
 use Rattle.octets.specs.Octets.{numberAt}
 use Rattle.bundle.specs.Encoded.{encodingIs}
 use Rattle.unit.specs.Root.{rootIdentity}
-use Rattle.unit.specs.UnitRead.{lengthField, commonSize}
+use Rattle.bundle.specs.InitialLength.{lengthField}
+use Rattle.unit.specs.UnitRead.{commonSize}
 use Rattle.unit.specs.Headers.{tableAt}
 use Rattle.unit.specs.TableTrees.{between}
 use Rattle.unit.proofs.Sizes.{rest}
-use Rattle.unit.proofs.Fields.{width-le, field-le, common-ge}
+use Rattle.bundle.proofs.InitialLengths.{field-most}
+use Rattle.unit.proofs.Fields.{width-le, common-ge}
 use Rattle.unit.proofs.Rooted.{root-past}
 use Rattle.unit.proofs.Remembering.{between-length, between-drop}
 use borrow.Author.Needs.{needs}
@@ -24,13 +26,13 @@ offset : (c : tie.After-size)
 unfolding encodingIs
 offset c =
     let a = c .before .before .before .before .before .before .before .args in
-    c .size .ensures ∙ (c .before .number-at .ensures ∙ ap₂ (λ (w n : ℕ). numberAt (a .e .big) w (now (a .u)) (n + 2)) (c .before .before .width .ensures) (c .before .before .before .length-field .ensures))
+    c .size .ensures ∙ (c .before .number-at .ensures ∙ ap₂ (λ (w n : ℕ). numberAt (a .e .big) w (now (a .u)) (n + 2)) (c .before .before .width .ensures) (c .before .before .before .field-size .ensures))
 
-length-field-requires : tie.Need-length-field-requires
-length-field-requires c κs = search needs
+field-size-requires : tie.Need-field-size-requires
+field-size-requires c κs = search needs
 
 add-field : tie.Need-add-field
-add-field c = omega (arith, c .length-field .ensures, field-le (encodingIs (c .before .before .before .before .args .e)))
+add-field c = omega (arith, c .field-size .ensures, field-most (encodingIs (c .before .before .before .before .args .e)))
 
 width-requires : tie.Need-width-requires
 width-requires c κs = search needs
@@ -38,7 +40,7 @@ width-requires c κs = search needs
 number-at-requires : tie.Need-number-at-requires
 number-at-requires c κs =
     let k = c .before .before .before .before .before in
-    (omega (arith, c .width .ensures, width-le (k .args .e)), omega (arith, c .width .ensures, c .before .length-field .ensures, k .pre .0, common-ge (encodingIs (k .args .e))))
+    (omega (arith, c .width .ensures, width-le (k .args .e)), omega (arith, c .width .ensures, c .before .field-size .ensures, k .pre .0, common-ge (encodingIs (k .args .e))))
 
 size-requires : tie.Need-size-requires
 size-requires c κs = search needs
@@ -94,7 +96,7 @@ pub identity-of-root-spec : {M : Type 1} → statement M
 identity-of-root-spec =
     tie.close
     (tie.spec
-    length-field-requires
+    field-size-requires
     add-field
     width-requires
     number-at-requires

@@ -39,7 +39,7 @@ told c = sym (c .before .before .before .attribute-at .ensures) ∙ ap attribute
 told2 : (c : tie.After-known-told2)
     → valueOf (encodingIs (c .before .before .before .before .before .before .before .before .before .before .before .args .e)) (c .before .before .before .before .before .before .name .given .0 .1 .0) (now (c .before .before .before .before .before .before .before .before .before .before .before .args .s))
     ≡ pass (record { form = c .before .real .given .0 .0; start = c .before .real .given .0 .1 .0; size = c .before .real .given .0 .1 .1 .0 })
-told2 c = sym (c .before .before .before .value-of .ensures) ∙ ap valueCheck (c .before .real .given .1)
+told2 c = sym (c .before .before .before .attribute-value .ensures) ∙ ap valueCheck (c .before .real .given .1)
 
 -- past an attribute that is read
 on : (c : tie.After-known-told2) (x : Option ℕ)
@@ -67,8 +67,8 @@ returns c =
 returns-2 : tie.Need-returns-2
 returns-2 c = sym (step-end _ _ _ _ _ _ (told (c .before)) (c .if1 .taken))
 
-value-of-requires : tie.Need-value-of-requires
-value-of-requires c κs = search needs
+attribute-value-requires : tie.Need-attribute-value-requires
+attribute-value-requires c κs = search needs
 
 enum-known-real : tie.Need-enum-known-real
 enum-known-real c = search needs
@@ -79,7 +79,7 @@ enum-told-2 c = search needs
 returns-3 : tie.Need-returns-3
 returns-3 c =
     let f = c .before .before .before in
-    let k = sym (c .before .before .value-of .ensures) ∙ ap valueCheck (c .enum-told2 .given .1) in
+    let k = sym (c .before .before .attribute-value .ensures) ∙ ap valueCheck (c .enum-told2 .given .1) in
     sym (step-value _ _ _ _ _ _ (told (f .before)) (f .if1 .left) 12 k)
 
 add-m : tie.Need-add-m
@@ -126,7 +126,7 @@ attribute-step-spec =
     enum-told
     returns
     returns-2
-    value-of-requires
+    attribute-value-requires
     enum-known-real
     enum-told-2
     returns-3

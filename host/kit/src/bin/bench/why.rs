@@ -2,17 +2,13 @@
 
 /// By the kind's name.
 const WHY: [(&str, &str); 4] = [
-    ("many names with common prefixes", "the hash takes a string byte by byte, twice: when the string is put and when its entry is written"),
-    (
-        "many different strings",
-        "each string is sought twice, when it is put and when its entry is written, and the index is spread over 12 MB, so that most looks miss the caches",
-    ),
+    ("many names with common prefixes", "each name is read to its zero, hashed and compared"),
+    ("many different strings", "the index and the rows are spread over more memory than the caches have"),
     ("a real release, version 4", REAL),
     ("a real release, version 5", REAL),
 ];
 
-const REAL: &str = "five sixths of the call are the strings, half of it when they are put and half when their entries are written: each time the string is read to its \
-    zero, hashed byte by byte, sought in an index spread over 12 MB, and compared";
+const REAL: &str = "most of the call is the strings, each of which is read to its zero, hashed, sought and compared, and clearing what was lent";
 
 /// The reason, where one is known.
 pub fn behind(name: &str) -> &'static str {

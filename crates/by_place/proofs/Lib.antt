@@ -1,3 +1,0 @@
--- Laws of chains.
--- Assumes nothing.
-pub mod Laws
