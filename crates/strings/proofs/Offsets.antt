@@ -16,9 +16,9 @@ use Rattle.octets.proofs.Checks.{true-false, known}
 use Rattle.octets.proofs.Lists.{same-eq, same-refl, same-sym, any-cons, any-stops}
 use Rattle.octets.proofs.Elements.{none-at}
 use Rattle.octets.proofs.Joined.{map-append, joined-append}
-use Rattle.strings.specs.Strings.{put, firstUses, ended, strOf, offsetIn, upToZero, stringAt}
+use Rattle.strings.specs.Strings.{put, ended, strOf, offsetIn, upToZero, stringAt}
 use Rattle.strings.specs.Indexed.{Distinct}
-use Rattle.strings.proofs.FirstUses.{isIn, put-known, put-new, put-grows, used-in}
+use Rattle.strings.proofs.FirstUses.{isIn, put-known, put-new, put-grows}
 use Rattle.strings.proofs.Ends.{NoZero, upTo-ended}
 
 -- ---- the str section
@@ -111,11 +111,6 @@ strOf-at (t ∷ ts) s e =
 pub string-in-strOf : (n : ℕ) (table : List (List ℕ)) (s : List ℕ) → isIn table s ≡ true → NoZero s → stringAt n (strOf table) (offsetIn table s) ≡ pass s
 unfolding stringAt
 string-in-strOf n table s e z = let r = strOf-at table s e in ap (upToZero n) (r .1) ∙ upTo-ended n s (r .0) z
-
--- of all strings used: each is read back at its place in the table of first uses
-pub used-read : (n : ℕ) (used : List (List ℕ)) (i : ℕ) → i < length used → NoZero (getD used i [])
-    → stringAt n (strOf (firstUses used)) (offsetIn (firstUses used) (getD used i [])) ≡ pass (getD used i [])
-used-read n used i h z = string-in-strOf n (firstUses used) (getD used i []) (used-in used i h) z
 
 -- ---- the place of row i
 pub row-offset : (table : List (List ℕ)) (i : ℕ) → Distinct table → i < length table → offsetIn table (getD table i []) ≡ length (strOf (take i table))

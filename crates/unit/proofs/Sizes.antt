@@ -6,7 +6,7 @@ use mathlib.Core.List.{List, [], _∷_}
 use Prim.Native.Nat.{ℕ, suc, _+_, _-_, _≤_, _<_}
 use native.Mathlib.Omega.{arith}
 use native.Mathlib.Numerals.{add-one}
-use native.Mathlib.Decide.{ℕ-discrete, decLe}
+use native.Mathlib.Decide.{ℕ-discrete}
 use lib.ListN.{length, getD, take, drop, drop-of-length-le, length-drop}
 use lib.Seq.{drop-cons, take-all}
 use borrow.Author.Tests.{eq-eqb, ne-eqb, le-leb, lt-leb}
@@ -38,15 +38,6 @@ pub ends-all : (s : List ℕ) (m : Check ℕ) → ((n : ℕ) → m ≡ pass n �
 unfolding _>>=_
 ends-all s (pass n) h = ends-in s n (h n refl)
 ends-all s (refuse k) h = refl
-
--- what passes ends in s
-pub ends-pass : (s : List ℕ) (m : Check ℕ) (n : ℕ) → (m >>= ends s) ≡ pass n → (m ≡ pass n) × (n ≤ length s)
-unfolding _>>=_
-ends-pass s (pass k) n e = elim (decLe k (length s)) [
-  | yes h ↦ (sym (ends-in s k h) ∙ e, rw (pass-inj (sym (ends-in s k h) ∙ e)) at h)
-  | no h ↦ absurd (pass-refuse n 12 (sym e ∙ ends-out s k (omega arith)))
-]
-ends-pass s (refuse k) n e = absurd (pass-refuse n k (sym e))
 
 -- ---- up to a zero byte
 zero-front : (b : ℕ) (s : List ℕ) → b ≡ 0 → zeroEnded (b ∷ s) ≡ pass 1
