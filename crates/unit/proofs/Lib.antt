@@ -19,6 +19,7 @@ pub mod Rooted
 pub mod Units
 pub mod Heads
 pub mod Remembering
+pub mod Recalling
 pub mod HeaderAlone
 pub mod Examples
 pub mod Plain

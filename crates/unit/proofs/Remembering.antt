@@ -28,28 +28,6 @@ use Rattle.unit.specs.declared.header.UnitAnswer.the-variants as whole
 use Rattle.unit.proofs.Judging.{table-good}
 use Rattle.unit.proofs.Heads.{good-short, good-whole, head-within, unit-headless, unit-headed, answer-sized}
 
--- ---- the memory
-pub recall-good : (b w : List ℕ) (j : Judged) (at end : ℕ) → at ≤ end → j .at ≡ at → j .end ≡ end → Remembers b w j → Judges (between b at end) w (Good (j .count))
-unfolding Remembers Judges
-recall-good b w j at end h e f m =
-    ⊎-elim (λ z. absurd (omega arith)) (λ t. go (subst (λ (x : List ℕ). TableHeld x w (j .count)) (ap₂ (λ (x y : ℕ). between b x y) e f) t)) m
-  where
-    go : TableHeld (between b at end) w (j .count) → (tableGood (between b at end) ≡ true) × TableHeld (between b at end) w (j .count)
-    go t = (table-good (between b at end) (t .declared) (t .read), t)
-
-module _ (s w : List ℕ) (r : TableRead) (j : Judges s w r) where
-  pub judged-bad : r ≡ Bad → tableGood s ≡ false
-  unfolding Judges
-  judged-bad e = rw e at j
-
-  pub judged-good : (n : ℕ) → r ≡ Good n → TableHeld s w n
-  unfolding Judges
-  judged-good n e = let g : (tableGood s ≡ true) × TableHeld s w n = rw e at j in g .1
-
-pub remembered : (b w : List ℕ) (at end n : ℕ) → TableHeld (between b at end) w n → Remembers b w (record { at = at; end = end; count = n })
-unfolding Remembers
-remembered b w at end n t = inr t
-
 -- ---- parts
 pub between-length : (b : List ℕ) (first last : ℕ) → first ≤ last → last ≤ length b → length (between b first last) ≡ last - first
 between-length b first last h g = length-take-le (last - first) (drop first b) (omega (arith, length-drop first b))

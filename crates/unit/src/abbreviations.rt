@@ -1,4 +1,5 @@
 // The abbreviation table at the front of lent bytes, read to its zero code. Every fault gives 12.
+use crate::tree::NODE;
 use crate::tree::Walked;
 use leb128::Number;
 use leb128::Size;
@@ -46,10 +47,11 @@ pub enum Found {
     Nothing,
 }
 
-// A table of so many declarations that is good, or one that is not.
+// A table of so many declarations that is good, or one that is not; or the words do not suffice.
 pub enum TableRead {
     Good(usize),
     Bad,
+    Full,
 }
 
 // A name and a form, zero together; form 21 hexadecimal is refused.
@@ -135,10 +137,10 @@ fn declared_at(s: &[u8]) -> Declared
     Declared::Is(code, tag, n + start, n + end)
 }
 
-// The table ends, and no code repeats: then codes hold its declarations, by where they stand. Callers lend a word for each byte: a declaration takes at
+// The table ends, and no code repeats: then codes hold its declarations, by where they stand. A word for each byte suffices: a declaration takes at
 // least five bytes, and a node five words. The bytes are read once, and each declaration takes one walk in the tree.
 pub fn judge_table(s: &[u8], codes: &mut [u32]) -> TableRead
-    requires { ⌜ (length (now s) ≤ length (now codes)) × (length (now s) < 2 ^ 32) ⌝ }
+    requires { ⌜ length (now s) < 2 ^ 32 ⌝ }
     ensures { λ r. ⌜ Judges (now (s .entry)) (now (codes .exit)) r ⌝ }
 {
     let mut at = 0;
@@ -146,6 +148,9 @@ pub fn judge_table(s: &[u8], codes: &mut [u32]) -> TableRead
     loop {
         match declared_at(&s[at..]) {
             Declared::Is(code, _, _, n) => {
+                if codes.len() < NODE * count + NODE {
+                    return TableRead::Full;
+                }
                 if !crate::tree::add_code(codes, count, at, code) {
                     return TableRead::Bad;
                 }
