@@ -9,11 +9,11 @@ use native.Mathlib.Omega.{arith}
 use native.Mathlib.Decide.{decLe}
 use lib.ListN.{length, take, drop, getD, length-append, length-drop, length-map, length-take, List·getD-append}
 use lib.Seq.{take-at, length-take-le, getD-take, getD-drop, getD-append-add, getD-append-seam}
-use borrow.Rule.Slice.PartMut.{putMid}
+use borrow.Rule.Slice.PartMut.{putMid, midOf, mid-len}
 use Rattle.octets.specs.Octets.{part, placed}
 use Rattle.octets.specs.Lists.{has, any}
 use Rattle.octets.proofs.Checks.{true-false}
-use Rattle.octets.proofs.Parts.{length-part, getD-part}
+use Rattle.octets.proofs.Parts.{length-part, getD-part, part-cut}
 use Rattle.octets.proofs.Placed.{length-placed, take-placed}
 use Rattle.octets.proofs.Regions.{placed-whole, getD-placed, getD-before, getD-behind}
 use Rattle.unit.specs.Tables.{tableGood}
@@ -141,14 +141,26 @@ module _ (b w x : List ℕ) (from n : ℕ) (l : length x ≡ n) (h : from + n �
   left-tables k free d f t =
       rw left-is (tables-kept b w (placed w from x) k free from (length-placed w from x (omega arith)) f (take-placed w from x (directorySize b) d (omega arith)) (λ i g. getD-before w from x i g (omega arith)) t)
 
--- ---- a table that the directory has from now on: y is what the directory is left as
-module _ (b w y : List ℕ) (size at end start count : ℕ) (j : Judged) (e : Enters b w size at end start count j) (h : start < length w) (d : size ≤ start) (ly : length y ≡ size)
-    (small : at < 2 ^ 32) where
+-- ---- a table that the directory has from now on
+-- its count is stored
+module _ (w u : List ℕ) (size start count : ℕ) (ui : u ≡ placed w start (count ∷ [])) (h : start < length w) (d : size ≤ start) where
+  counted-front : take size u ≡ take size w
+  counted-front = ap (take size) ui ∙ take-placed w start (count ∷ []) size d (omega arith)
+
+  counted-length : length u ≡ length w
+  counted-length = ap length ui ∙ length-placed w start (count ∷ []) (omega arith)
+
+  pub counted-size : size ≡ length (take size u)
+  counted-size = sym (length-take-le size u (omega (arith, counted-length)))
+
+  pub counted-rising : (n : ℕ) → Rising (take size w) n → Rising (take size u) n
+  counted-rising n r = rw counted-front r
+
+-- y is what the directory is left as
+module _ (b w u y : List ℕ) (size at end start count : ℕ) (j : Judged) (e : Enters b w size at end start count j) (ui : u ≡ placed w start (count ∷ [])) (h : start < length w) (d : size ≤ start)
+    (ly : length y ≡ length (take size u)) (small : at < 2 ^ 32) where
   abbrev key : ℕ
   key = keyOf at end
-
-  abbrev u : List ℕ
-  u = placed w start (count ∷ [])
 
   abbrev v : List ℕ
   v = y ++ drop size u
@@ -156,29 +168,29 @@ module _ (b w y : List ℕ) (size at end start count : ℕ) (j : Judged) (e : En
   abbrev keys : List ℕ
   keys = e .tables .keys
 
-  u-length : length u ≡ length w
-  u-length = length-placed w start (count ∷ []) (omega arith)
+  y-length : length y ≡ size
+  y-length = ly ∙ sym (counted-size w u size start count ui h d)
 
   front : take size u ≡ directory b w
-  front = take-placed w start (count ∷ []) size d (omega arith) ∙ ap (λ (n : ℕ). take n w) (e .size-is)
+  front = counted-front w u size start count ui h d ∙ ap (λ (n : ℕ). take n w) (e .size-is)
 
   tree-u : Tree (take size u) keys
   tree-u = rw front (e .tables .tree)
 
   v-front : directory b v ≡ y
-  v-front = ap (λ (n : ℕ). take n v) (sym (e .size-is)) ∙ take-at y (drop size u) size ly
+  v-front = ap (λ (n : ℕ). take n v) (sym (e .size-is)) ∙ take-at y (drop size u) size y-length
 
   v-length : length v ≡ length w
-  v-length = omega (arith, length-append y (drop size u), length-drop size u, u-length)
+  v-length = omega (arith, length-append y (drop size u), length-drop size u, counted-length w u size start count ui h d, y-length)
 
   v-behind : (i : ℕ) → size ≤ i → getD v i 0 ≡ getD u i 0
   v-behind i g =
-      let k : length y + (i - size) ≡ i = omega arith in
+      let k : length y + (i - size) ≡ i = omega (arith, y-length) in
       let m : size + (i - size) ≡ i = omega arith in
       ap (λ (n : ℕ). getD v n 0) (sym k) ∙ getD-append-add y (drop size u) (i - size) 0 ∙ getD-drop size u (i - size) 0 ∙ ap (λ (n : ℕ). getD u n 0) m
 
   kept : (i : ℕ) → size ≤ i → (i ≡ start → ⊥) → getD v i 0 ≡ getD w i 0
-  kept i g z = v-behind i g ∙ elim (decLe start i) [
+  kept i g z = v-behind i g ∙ ap (λ (x : List ℕ). getD x i 0) ui ∙ elim (decLe start i) [
     | yes m ↦ getD-behind w start (count ∷ []) i (omega arith) (omega arith)
     | no m ↦ getD-before w start (count ∷ []) i (omega arith) (omega arith)
   ]
@@ -186,7 +198,7 @@ module _ (b w y : List ℕ) (size at end start count : ℕ) (j : Judged) (e : En
   at-start : getD v start 0 ≡ count
   at-start =
       let z : start + 0 ≡ start = omega arith in
-      v-behind start d ∙ ap (λ (n : ℕ). getD u n 0) (sym z) ∙ getD-placed w start (count ∷ []) 0 (omega arith) (omega arith)
+      v-behind start d ∙ ap₂ (λ (x : List ℕ) (n : ℕ). getD x n 0) ui (sym z) ∙ getD-placed w start (count ∷ []) 0 (omega arith) (omega arith)
 
   new-held : Held b v (record { at = at; end = end; from = start + 1; count = count })
   new-held = held-kept b w v (record { at = at; end = end; from = start + 1; count = count }) v-length (λ i g l. kept i (omega arith) (λ z. absurd (omega arith))) (e .held)
@@ -199,10 +211,10 @@ module _ (b w y : List ℕ) (size at end start count : ℕ) (j : Judged) (e : En
     held = rw (at-start, key-at at end small, key-end at end small) new-held;
   }
 
-  module _ (added : Bool) (a : (cs : List ℕ) → length cs ≡ j .tables → Tree (take size u) cs → Added (take size u) y cs start key added) where
+  module _ (code : ℕ) (added : Bool) (c : code ≡ key) (a : (cs : List ℕ) → length cs ≡ j .tables → Tree (take size u) cs → Added (take size u) y cs start code added) where
     grown : Grown (take size u) y keys start key
     unfolding Added Fresh
-    grown = go added (a keys (e .tables .counted) tree-u)
+    grown = go added (subst (λ (x : ℕ). Added (take size u) y keys start x added) c (a keys (e .tables .counted) tree-u))
       where
         go : (r : Bool) → Added (take size u) y keys start key r → Grown (take size u) y keys start key
         go true g = g
@@ -313,6 +325,10 @@ module _ (s w : List ℕ) (r : TableRead) (j : Judges s w r) where
   unfolding Judges
   judged-full e = rw e at j
 
+pub recalls-known : (b w : List ℕ) (at end : ℕ) (j : Judged) → Knows b w at end j → Recalls b w at end (Known j)
+unfolding Recalls
+recalls-known b w at end j k = k
+
 pub recalls-not : (b w : List ℕ) (at end : ℕ) → tableGood (between b at end) ≡ false → Recalls b w at end Wrong
 unfolding Recalls
 recalls-not b w at end h = h
@@ -324,23 +340,66 @@ held-alone b w at end n t = held-in b w w at end 0 n t (omega arith) (λ q g. le
 pub tables-room : (b w : List ℕ) (n free : ℕ) → Tables b w n free → 5 * n ≤ directorySize b
 tables-room b w n free t = omega (arith, tables-rising b w n free t .room, length-take (directorySize b) w)
 
+pub remembers-tables : (b w : List ℕ) (j : Judged) → Remembers b w j → Tables b w (j .tables) (j .free)
+unfolding Remembers
+remembers-tables b w j m = m .1
+
 module _ (b w : List ℕ) (at end : ℕ) (r : Recalled) (k : Recalls b w at end r) where
   pub recalls-bad : r ≡ Wrong → tableGood (between b at end) ≡ false
   unfolding Recalls
   recalls-bad e = rw e at k
 
-  pub recalls-known : (j : Judged) → r ≡ Known j → Knows b w at end j
-  unfolding Recalls
-  recalls-known j e = rw e at k
+  module _ (j : Judged) (e : r ≡ Known j) where
+    knows : Knows b w at end j
+    unfolding Recalls
+    knows = rw e at k
 
-pub knows-memory : (b w : List ℕ) (at end : ℕ) (j : Judged) → Knows b w at end j → Remembers b w j
-unfolding Knows
-knows-memory b w at end j k = k .0
+    pub recalls-memory : Remembers b w j
+    unfolding Knows
+    recalls-memory = knows .0
 
-pub knows-held : (b w : List ℕ) (at end : ℕ) (j : Judged) → Knows b w at end j → Held b w (record { at = at; end = end; from = j .last .from; count = j .last .count })
-unfolding Knows
-knows-held b w at end j k = k .1
+    held : Held b w (record { at = at; end = end; from = j .last .from; count = j .last .count })
+    unfolding Knows
+    held = knows .1
 
-pub remembers-tables : (b w : List ℕ) (j : Judged) → Remembers b w j → Tables b w (j .tables) (j .free)
-unfolding Remembers
-remembers-tables b w j m = m .1
+    pub recalls-within : j .last .from + 5 * j .last .count ≤ length w
+    recalls-within = held .inside
+
+    -- in the part that the code lends
+    pub recalls-held : TableHeld (between b at end) (take (j .last .from + 5 * j .last .count - j .last .from) (drop (j .last .from) w)) (j .last .count)
+    recalls-held = rw (part-cut w (j .last .from) (5 * j .last .count)) (held .is)
+
+-- ---- behind the other tables: x is what the words behind the new one's count are left as
+module _ (b w x : List ℕ) (j : Judged) (start at end count : ℕ) (m : Lent b w j) (g : start < length b)
+    (s : start < length b → (j .free ≤ start) × (length b / 5 ≤ start) × (5 * j .tables + 5 ≤ length b / 5))
+    (lx : length x ≡ length (midOf (start + 1) (length b - (start + 1)) w)) (o : at ≤ end) (i : end ≤ length b) (t : TableHeld (between b at end) x count) where
+  abbrev n : ℕ
+  n = length b - (start + 1)
+
+  x-length : length x ≡ n
+  x-length = lx ∙ mid-len (start + 1) (length b) w (m .room)
+
+  room : start + 1 + n ≤ length w
+  room = omega (arith, m .room)
+
+  new : Held b (putMid (start + 1) n w x) (record { at = at; end = end; from = start + 1; count = count })
+  new = left-held b w x (start + 1) n x-length room at end count t
+
+  others : Tables b (putMid (start + 1) n w x) (j .tables) (j .free)
+  others = left-tables b w x (start + 1) n x-length room (j .tables) (j .free) (omega (arith, s g)) (omega (arith, s g)) (remembers-tables b w j (m .memory))
+
+  pub behind-enters : Fresh (directory b w) (j .tables) (keyOf at end) → Enters b (putMid (start + 1) n w x) (length b / 5) at end start count j
+  behind-enters f = record {
+    size-is = refl;
+    free-is = s g .0;
+    fresh = subst (λ (d : List ℕ). Fresh d (j .tables) (keyOf at end)) (sym (left-front b w x (start + 1) n x-length room (directorySize b) (omega (arith, s g)))) f;
+    tables = others;
+    held = new;
+  }
+
+  pub behind-requires : (at < 2 ^ 32) × (end < 2 ^ 32) × (count < 2 ^ 32) × (start < 2 ^ 32) × (length b / 5 ≤ start) × (start + 1 + 5 * count ≤ length (putMid (start + 1) n w x))
+      × (5 * j .tables + 5 ≤ length b / 5) × Rising (take (length b / 5) (putMid (start + 1) n w x)) (j .tables)
+  behind-requires =
+      let r : 5 * count ≤ length x = held-rising (between b at end) x count 0 t .room in
+      let small = m .small in
+      (omega arith, omega arith, omega (arith, x-length), omega arith, s g .1, new .inside, s g .2, tables-rising b (putMid (start + 1) n w x) (j .tables) (j .free) others)

@@ -94,7 +94,7 @@ fn find_table(words: &[u32], tables: usize, at: usize, end: usize) -> Sought
 
 // The word where a new table would start: behind the directory and all tables. n, where it would be no word of the first n, or where the directory is full.
 fn start_of(n: usize, judged: Judged) -> usize
-    requires { ⌜ nodeWords * judged .tables ≤ n ⌝ }
+    requires { ⌜ nodeWords * judged .tables ≤ n / 5 ⌝ }
     ensures { λ r. ⌜ (r < n → (judged .free ≤ r) × (n / 5 ≤ r) × (nodeWords * judged .tables + nodeWords ≤ n / 5)) ⌝ }
 {
     if n / SHARE < NODE * judged.tables + NODE {
@@ -108,7 +108,7 @@ fn start_of(n: usize, judged: Judged) -> usize
 
 // A table whose tree stands behind the word start is one of the directory from now on.
 fn enter_table(codes: &mut [u32], size: usize, at: usize, end: usize, start: usize, count: usize, judged: Judged) -> Judged
-    requires { ⌜ (at < 2 ^ 32) × (end < 2 ^ 32) × (count < 2 ^ 32) × (start < 2 ^ 32) × (size ≤ start) × (start < length (now codes)) × (start + 1 + nodeWords * count ≤ length (now codes)) × (nodeWords * judged .tables + nodeWords ≤ size) × Rising (take size (now codes)) (judged .tables) ⌝ }
+    requires { ⌜ (at < 2 ^ 32) × (end < 2 ^ 32) × (count < 2 ^ 32) × (start < 2 ^ 32) × (size ≤ start) × (start + 1 + nodeWords * count ≤ length (now codes)) × (nodeWords * judged .tables + nodeWords ≤ size) × Rising (take size (now codes)) (judged .tables) ⌝ }
     ensures { λ r. ⌜ ((b : List ℕ) → Enters b (now (codes .entry)) size at end start count judged → Knows b (now (codes .exit)) at end r) ⌝ }
 {
     octets::set_word(codes, start, count);

@@ -1,55 +1,58 @@
+-- `unit::judged::enter_table` meets its contract.
+-- Assumes nothing.
+use Prim.Native.Nat.{_<_}
+use native.Mathlib.Omega.{arith}
+use lib.ListN.{length}
+use denote.Ref.{now}
+use Rattle.unit.proofs.Recalling.{counted-size, counted-rising, entered}
 use borrow.Author.Needs.{needs}
 use Rattle.unit.proofs.judged.enter_table.Statement.{statement}
 use Rattle.unit.proofs.judged.enter_table.Tie as tie
-use Rattle.unit.proofs.judged.enter_table.Reads as reads
-use Rattle.unit.proofs.judged.enter_table.Lts as lts
-use Rattle.octets.proofs.set_word.Reads as set-word-reads
-use Rattle.unit.proofs.judged.key_of.Reads as key-of-reads
-use Rattle.unit.proofs.tree.add_code.Reads as add-code-reads
 
--- src/judged.rt:114:5
+-- the word of the count is one of the words
+within : (c : tie.Start) → c .args .start < length (now (c .args .codes))
+within c = omega (arith, c .pre .5)
+
 set-word-requires : tie.Need-set-word-requires
 set-word-requires c κs = search needs
 
--- src/judged.rt:115:9
 key-of-requires : tie.Need-key-of-requires
 key-of-requires c κs = search needs
 
--- src/judged.rt:116:39
 slice-relend-prefix-add-code : tie.Need-slice-relend-prefix-add-code
 slice-relend-prefix-add-code c = search needs
 
--- src/judged.rt:116:39
 slice-aggregate-add-code : tie.Need-slice-aggregate-add-code
-slice-aggregate-add-code c = ?
+slice-aggregate-add-code c = let k = c .before .before .before .before .before .before .before in counted-size _ _ _ _ _ (c .before .before .before .before .set-word .ensures) (within k) (k .pre .4)
 
--- src/judged.rt:116:9
 add-code-requires : tie.Need-add-code-requires
-add-code-requires c κs = ?
+add-code-requires c κs =
+    let k = c .before .before .before .before .before .before .before in
+    let s = c .before .before .before .before .set-word .ensures in
+    let e = counted-size _ _ (k .args .size) _ _ s (within k) (k .pre .4) in
+    (counted-rising _ _ _ _ _ s (within k) (k .pre .4) _ (k .pre .7), omega (arith, e, k .pre .6), omega (arith, k .pre), k .pre .3)
 
--- src/judged.rt:117:16
 add-from : tie.Need-add-from
 add-from c = search needs
 
--- src/judged.rt:120:17
 add-t17 : tie.Need-add-t17
 add-t17 c = search needs
 
--- src/judged.rt:121:22
 mul-t18 : tie.Need-mul-t18
 mul-t18 c = search needs
 
--- src/judged.rt:121:15
 add-t19 : tie.Need-add-t19
 add-t19 c = search needs
 
--- src/judged.rt:110:1
 same-length : tie.Need-same-length
 same-length c = search needs
 
--- src/judged.rt:110:1
 returns : tie.Need-returns
-returns c = ?
+returns c =
+    let k = c .before .before .before .before .before .before .before .before .before .before .before in
+    let s = c .before .before .before .before .before .before .before .before .set-word .ensures in
+    let a = c .before .before .before .add-code in
+    λ b e. entered b _ _ _ _ _ _ _ _ _ e s (within k) (k .pre .4) (a .kept .0) (k .pre .0) _ _ (c .before .before .before .before .before .key-of .ensures) (a .ensures)
 
 pub enter-table-spec : {M : Type 1} → statement M
 enter-table-spec =

@@ -1,63 +1,59 @@
+-- `unit::judged::recall` meets its contract.
+-- Assumes nothing.
+use mathlib.Core.Path.{sym}
+use native.Mathlib.Omega.{arith}
+use lib.Seq.{length-take-le}
+use denote.Ref.{now}
+use Rattle.unit.specs.TableTrees.{keyOf, Stored}
+use Rattle.unit.proofs.Recalling.{tables-rising, remembers-tables, recalled, recalled-last, found-stored, stored-within, stored-held, not-found}
 use borrow.Author.Needs.{needs}
 use Rattle.unit.proofs.judged.recall.Statement.{statement}
 use Rattle.unit.proofs.judged.recall.Tie as tie
-use Rattle.unit.proofs.judged.recall.Reads as reads
-use Rattle.unit.proofs.judged.recall.Lts as lts
-use Rattle.octets.proofs.word.Reads as word-reads
-use Rattle.unit.proofs.judged.find_table.Reads as find-table-reads
-use Rattle.unit.proofs.judged.judge_new.Reads as judge-new-reads
 
--- src/judged.rt:184:13
 returns : tie.Need-returns
-returns c = ?
+returns c = let k = c .before .before .before .before .before .before in recalled-last _ _ (k .args .judged) _ _ (k .pre .0) (c .before .before .if1 .taken) (c .if2 .taken) (k .pre .2 .memory)
 
--- src/judged.rt:188:40
 slice-reshare-prefix-find-table : tie.Need-slice-reshare-prefix-find-table
 slice-reshare-prefix-find-table c = search needs
 
--- src/judged.rt:188:40
 slice-aggregate-find-table : tie.Need-slice-aggregate-find-table
-slice-aggregate-find-table c = ?
+slice-aggregate-find-table c = let k = c .before .before .before .before .before in sym (length-take-le _ _ (omega (arith, k .pre .2 .room)))
 
--- src/judged.rt:188:29
 find-table-requires : tie.Need-find-table-requires
-find-table-requires c κs = ?
+find-table-requires c κs = let k = c .before .before .before .before .before in (tables-rising _ _ _ _ (remembers-tables _ _ _ (k .pre .2 .memory)), omega (arith, k .pre, k .pre .2 .small), omega (arith, k .pre, k .pre .2 .small))
 
--- src/judged.rt:188:20
 enum-known-start : tie.Need-enum-known-start
 enum-known-start c = search needs
 
--- src/judged.rt:189:38
 enum-told : tie.Need-enum-told
 enum-told c = search needs
 
--- src/judged.rt:189:9
 judge-new-requires : tie.Need-judge-new-requires
-judge-new-requires c κs = ?
+judge-new-requires c κs = let k = c .before .before .before .before .before .before .before .before .before in (k .pre .0, k .pre .1, k .pre .2, not-found (now (k .args .b)) _ _ _ _ (c .before .enum-told .given .1) (c .before .before .before .find-table .ensures))
 
--- src/judged.rt:189:9
 same-length : tie.Need-same-length
 same-length c = search needs
 
--- src/judged.rt:189:9
 returns-2 : tie.Need-returns-2
 returns-2 c = search needs
 
--- src/judged.rt:191:9
+-- what was found is a table of the directory
+found : (c : tie.After-known-told) → Stored (now (c .before .before .before .before .before .before .before .before .before .args .b)) (now (c .before .before .before .before .before .before .before .before .before .args .codes)) (c .before .before .before .before .before .before .before .before .before .args .judged .free) (c .before .start .given .0 .0) (keyOf (c .before .before .before .before .before .before .before .before .before .args .at) (c .before .before .before .before .before .before .before .before .before .args .end))
+found c = let k = c .before .before .before .before .before .before .before .before .before in found-stored _ _ _ _ _ _ _ (c .before .start .given .1) (c .before .before .before .find-table .ensures) (remembers-tables _ _ _ (k .pre .2 .memory))
+
 word-requires : tie.Need-word-requires
-word-requires c κs = ?
+word-requires c κs = stored-within _ _ _ _ _ (found (c .before))
 
--- src/judged.rt:192:16
 add-from : tie.Need-add-from
-add-from c = ?
+add-from c = omega (arith, stored-within _ _ _ _ _ (found (c .before .before)))
 
--- src/judged.rt:178:1
 same-length-2 : tie.Need-same-length-2
 same-length-2 c = search needs
 
--- src/judged.rt:178:1
 returns-3 : tie.Need-returns-3
-returns-3 c = ?
+returns-3 c =
+    let k = c .before .before .before .before .before .before .before .before .before .before .before in
+    recalled _ _ _ _ _ _ _ _ (stored-held _ _ _ _ _ _ _ (omega (arith, k .pre, k .pre .2 .small)) (found (c .before .before)) (c .word .ensures)) (remembers-tables _ _ _ (k .pre .2 .memory))
 
 pub recall-spec : {M : Type 1} → statement M
 recall-spec =
