@@ -72,7 +72,7 @@ held-kept b w v t l same h =
     record {
       inside = room;
       is = held-same (between b (t .at) (t .end)) (part w (t .from) n) (part v (t .from) n) (t .count) (h .is) (omega (arith, length-part v (t .from) n room))
-      (λ q g. getD-part v (t .from) n q g ∙ same (t .from + q) (omega arith) (omega arith) ∙ sym (getD-part w (t .from) n q g));
+          (λ q g. getD-part v (t .from) n q g ∙ same (t .from + q) (omega arith) (omega arith) ∙ sym (getD-part w (t .from) n q g));
     }
 
 -- words x that hold it, in the words v
@@ -95,7 +95,7 @@ stored-kept b w v free more start key l m same s =
       behind = s .behind;
       before = omega (arith, e, s .before);
       held = subst (λ (n : ℕ). Held b v (record { at = key % 2 ^ 32; end = key / 2 ^ 32; from = start + 1; count = n })) (sym e)
-      (held-kept b w v (tableFrom w start key) l (λ i g h. same i (omega (arith, s .behind)) (omega (arith, s .before))) (s .held));
+          (held-kept b w v (tableFrom w start key) l (λ i g h. same i (omega (arith, s .behind)) (omega (arith, s .before))) (s .held));
     }
 
 -- ---- the directory

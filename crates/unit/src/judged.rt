@@ -107,7 +107,15 @@ fn start_of(n: usize, judged: Judged) -> usize
 }
 
 // A table whose tree stands behind the word start is one of the directory from now on.
-fn enter_table(codes: &mut [u32], size: usize, at: usize, end: usize, start: usize, count: usize, judged: Judged) -> Judged
+fn enter_table(
+    codes: &mut [u32],
+    size: usize,
+    at: usize,
+    end: usize,
+    start: usize,
+    count: usize,
+    judged: Judged,
+) -> Judged
     requires { ⌜ (at < 2 ^ 32) × (end < 2 ^ 32) × (count < 2 ^ 32) × (start < 2 ^ 32) × (size ≤ start) × (start + 1 + nodeWords * count ≤ length (now codes)) × (nodeWords * judged .tables + nodeWords ≤ size) × Rising (take size (now codes)) (judged .tables) ⌝ }
     ensures { λ r. ⌜ ((b : List ℕ) → Enters b (now (codes .entry)) size at end start count judged → Knows b (now (codes .exit)) at end r) ⌝ }
 {
@@ -116,7 +124,12 @@ fn enter_table(codes: &mut [u32], size: usize, at: usize, end: usize, start: usi
     let added = crate::tree::add_code(&mut codes[..size], judged.tables, start, key);
     let from = start + 1;
     Judged {
-        last: Table { at, end, from, count },
+        last: Table {
+            at,
+            end,
+            from,
+            count,
+        },
         tables: judged.tables + 1,
         free: from + NODE * count,
     }
@@ -192,7 +205,12 @@ pub fn recall(b: &[u8], at: usize, end: usize, codes: &mut [u32], judged: Judged
     let count = octets::word(codes, start);
     let from = start + 1;
     Recalled::Known(Judged {
-        last: Table { at, end, from, count },
+        last: Table {
+            at,
+            end,
+            from,
+            count,
+        },
         tables: judged.tables,
         free: judged.free,
     })
