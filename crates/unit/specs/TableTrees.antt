@@ -67,9 +67,12 @@ pub record Held (b w : List ℕ) (t : Table) : Type 0 where
   pub inside : t .from + nodeWords * t .count ≤ length w
   pub is : TableHeld (between b (t .at) (t .end)) (part w (t .from) (nodeWords * t .count)) (t .count)
 
--- the directory: a tree in the first fifth of the words, by where the tables lie in the bundle
+-- the directory: a tree in the first words, by where the tables lie in the bundle
+abbrev pub directoryShare : ℕ
+directoryShare = 5
+
 abbrev pub directorySize : List ℕ → ℕ
-directorySize b = length b / 5
+directorySize b = length b / directoryShare
 
 abbrev pub directory : List ℕ → List ℕ → List ℕ
 directory b w = take (directorySize b) w
@@ -81,27 +84,28 @@ keyOf at end = at + 2 ^ 32 * end
 unfoldable pub tableFrom : List ℕ → ℕ → ℕ → Table
 tableFrom w start key = record { at = key % 2 ^ 32; end = key / 2 ^ 32; from = start + 1; count = getD w start 0 }
 
--- it lies behind the directory and before the free words
+-- it stands behind the directory and before the free words
 pub record Stored (b w : List ℕ) (free start key : ℕ) : Type 0 where
   pub behind : directorySize b ≤ start
   pub before : start + 1 + nodeWords * getD w start 0 ≤ free
   pub held : Held b w (tableFrom w start key)
 
--- n tables, before the free words
+-- n tables that the directory has, all before the free words
 pub record Tables (b w : List ℕ) (n free : ℕ) : Type 0 where
   pub keys : List ℕ
   pub counted : length keys ≡ n
   pub tree : Tree (directory b w) keys
   pub stored : (k : ℕ) → k < n → Stored b w free (carriedAt (directory b w) k) (getD keys k 0)
 
--- no table, or one that the words hold; and the tables of the directory
+-- the last table is none, or one that the words hold; and the tables of the directory
 unfoldable pub Remembers : List ℕ → List ℕ → Judged → Type 0
 Remembers b w j = ((j .last .end < j .last .at) ⊎ Held b w (j .last)) × Tables b w (j .tables) (j .free)
 
+-- a directory d of n tables has none of the key
 unfoldable pub Fresh : List ℕ → ℕ → ℕ → Type 0
 Fresh d n key = (cs : List ℕ) → length cs ≡ n → Tree d cs → has cs key ≡ false
 
--- a table is held behind a word, but the directory has it not
+-- a table's tree stands behind the word start, and the directory does not have it yet
 pub record Enters (b w : List ℕ) (size at end start count : ℕ) (j : Judged) : Type 0 where
   pub size-is : size ≡ directorySize b
   pub free-is : j .free ≤ start
@@ -109,7 +113,7 @@ pub record Enters (b w : List ℕ) (size at end start count : ℕ) (j : Judged) 
   pub tables : Tables b w (j .tables) (j .free)
   pub held : Held b w (record { at = at; end = end; from = start + 1; count = count })
 
--- what a search in a directory d of n tables says
+-- what a search in such a directory says
 unfoldable pub Seeks : List ℕ → ℕ → ℕ → Sought → Type 0
 Seeks d n key (At start) = (k : ℕ) × (k < n) × (codeAt d k ≡ key) × (carriedAt d k ≡ start)
 Seeks d n key New = Fresh d n key

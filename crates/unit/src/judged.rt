@@ -1,6 +1,7 @@
-// The abbreviation tables that were judged, by where they lie in the bundle: units that share a table are read without judging it again.
-// Lent words hold them, one for each byte of the bundle. The first fifth is a directory, a tree by where the tables lie: a table and a unit that names it take
-// more than 25 bytes, and a node five words. Behind it each table has a word with the number of its declarations, and their tree.
+// The abbreviation tables that were judged, by where they lie in the bundle: units that share a table are read without judging it again, also where they
+// take turns with others. Lent words hold the tables, one word for each byte of the bundle. The first fifth is a directory, a tree by where tables lie: a table
+// and a unit that names it take more than 25 bytes, and a node five words. Behind it each table has a word with the number of its declarations, and then
+// their tree. Where the words do not suffice, all tables but the last are forgotten.
 use crate::abbreviations::TableRead;
 use crate::tree::NODE;
 use crate::tree::Walked;
@@ -10,6 +11,7 @@ ghost use Prim.Native.Nat.{ℕ, _+_, _*_, _/_, _≤_, _<_, _^_};
 ghost use lib.ListN.{length, take};
 ghost use Rattle.unit.specs.Trees.{nodeWords, Rising};
 ghost use Rattle.unit.specs.TableTrees.{
+  directoryShare,
   directory,
   keyOf,
   Fresh,
@@ -21,7 +23,7 @@ ghost use Rattle.unit.specs.TableTrees.{
   Lent,
 };
 
-// The directory's share of the words is one of so many.
+// The directory has one of so many words.
 const SHARE: usize = 5;
 
 const WORD: u64 = 0x1_0000_0000;
@@ -41,13 +43,13 @@ pub struct Judged {
     pub free: usize,
 }
 
-// The memory, with the table that was asked for as its last; or that table is bad.
+// The memory, whose last table is the one that was asked for; or that table is bad.
 pub enum Recalled {
     Known(Judged),
     Wrong,
 }
 
-// The word where a table of the directory starts.
+// The word where a table of the directory starts, or it has no such table.
 pub enum Sought {
     At(usize),
     New,
@@ -69,6 +71,7 @@ pub fn nothing() -> Judged
     }
 }
 
+// Both are below 2 ^ 32: tables that differ in either have different keys.
 fn key_of(at: usize, end: usize) -> u64
     requires { ⌜ (at < 2 ^ 32) × (end < 2 ^ 32) ⌝ }
     ensures { λ r. ⌜ r ≡ keyOf at end ⌝ }
@@ -92,10 +95,10 @@ fn find_table(words: &[u32], tables: usize, at: usize, end: usize) -> Sought
     Sought::At(start)
 }
 
-// The word where a new table would start: behind the directory and all tables. n, where it would be no word of the first n, or where the directory is full.
+// The word where a new table starts, among n: behind the directory and its tables. No word of them where the directory is full.
 fn start_of(n: usize, judged: Judged) -> usize
-    requires { ⌜ nodeWords * judged .tables ≤ n / 5 ⌝ }
-    ensures { λ r. ⌜ (r < n → (judged .free ≤ r) × (n / 5 ≤ r) × (nodeWords * judged .tables + nodeWords ≤ n / 5)) ⌝ }
+    requires { ⌜ nodeWords * judged .tables ≤ n / directoryShare ⌝ }
+    ensures { λ r. ⌜ (r < n → (judged .free ≤ r) × (n / directoryShare ≤ r) × (nodeWords * judged .tables + nodeWords ≤ n / directoryShare)) ⌝ }
 {
     if n / SHARE < NODE * judged.tables + NODE {
         return n;
@@ -106,7 +109,7 @@ fn start_of(n: usize, judged: Judged) -> usize
     judged.free
 }
 
-// A table whose tree stands behind the word start is one of the directory from now on.
+// The directory has a table more, whose tree stands behind the word start already.
 fn enter_table(
     codes: &mut [u32],
     size: usize,
@@ -135,7 +138,7 @@ fn enter_table(
     }
 }
 
-// With all the words for this table: the others are forgotten.
+// With all the words for this table, which suffice: the others are forgotten.
 fn judge_alone(b: &[u8], at: usize, end: usize, codes: &mut [u32]) -> Recalled
     requires { ⌜ (at ≤ end) × (end ≤ length (now b)) × (length (now b) ≤ length (now codes)) × (length (now b) < 2 ^ 32) ⌝ }
     ensures { λ r. ⌜ Recalls (now (b .entry)) (now (codes .exit)) at end r ⌝ }

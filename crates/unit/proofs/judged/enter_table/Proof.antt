@@ -4,7 +4,7 @@ use Prim.Native.Nat.{_<_}
 use native.Mathlib.Omega.{arith}
 use lib.ListN.{length}
 use denote.Ref.{now}
-use Rattle.unit.proofs.Recalling.{counted-size, counted-rising, entered}
+use Rattle.unit.proofs.Entering.{counted-size, counted-rising, entered}
 use borrow.Author.Needs.{needs}
 use Rattle.unit.proofs.judged.enter_table.Statement.{statement}
 use Rattle.unit.proofs.judged.enter_table.Tie as tie

@@ -2,8 +2,9 @@
 -- Assumes nothing.
 use native.Mathlib.Omega.{arith}
 use denote.Ref.{now}
-use Rattle.unit.proofs.Recalling.{judged-good, judged-bad, judged-full, held-alone, tables-none, recalled, recalls-not}
-use Rattle.unit.proofs.Remembering.{between-length}
+use Rattle.unit.proofs.Holding.{held-alone, tables-none}
+use Rattle.unit.proofs.Recalling.{judged-good, judged-bad, judged-full, recalled, recalls-not}
+use Rattle.unit.proofs.Cuts.{between-length}
 use borrow.Author.Needs.{needs}
 use Rattle.unit.proofs.judged.judge_alone.Statement.{statement}
 use Rattle.unit.proofs.judged.judge_alone.Tie as tie

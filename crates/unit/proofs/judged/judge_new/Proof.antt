@@ -1,7 +1,9 @@
 -- `unit::judged::judge_new` meets its contract.
 -- Assumes nothing.
 use native.Mathlib.Omega.{arith}
-use Rattle.unit.proofs.Recalling.{tables-room, remembers-tables, judged-good, judged-bad, recalls-known, recalls-not, behind-enters, behind-requires}
+use Rattle.unit.proofs.Holding.{tables-room, remembers-tables}
+use Rattle.unit.proofs.Entering.{behind-enters, behind-requires}
+use Rattle.unit.proofs.Recalling.{judged-good, judged-bad, recalls-known, recalls-not}
 use borrow.Author.Needs.{needs}
 use Rattle.unit.proofs.judged.judge_new.Statement.{statement}
 use Rattle.unit.proofs.judged.judge_new.Tie as tie

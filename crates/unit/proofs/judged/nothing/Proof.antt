@@ -3,7 +3,7 @@
 use mathlib.Core.Logic.{inl}
 use native.Mathlib.Omega.{arith}
 use Rattle.unit.specs.TableTrees.{Remembers}
-use Rattle.unit.proofs.Recalling.{tables-none}
+use Rattle.unit.proofs.Holding.{tables-none}
 use Rattle.unit.proofs.judged.nothing.Statement.{statement}
 use Rattle.unit.proofs.judged.nothing.Tie as tie
 

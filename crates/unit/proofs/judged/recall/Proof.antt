@@ -5,7 +5,8 @@ use native.Mathlib.Omega.{arith}
 use lib.Seq.{length-take-le}
 use denote.Ref.{now}
 use Rattle.unit.specs.TableTrees.{keyOf, Stored}
-use Rattle.unit.proofs.Recalling.{tables-rising, remembers-tables, recalled, recalled-last, found-stored, stored-within, stored-held, not-found}
+use Rattle.unit.proofs.Holding.{tables-rising, remembers-tables}
+use Rattle.unit.proofs.Recalling.{recalled, recalled-last, found-stored, stored-within, stored-held, not-found}
 use borrow.Author.Needs.{needs}
 use Rattle.unit.proofs.judged.recall.Statement.{statement}
 use Rattle.unit.proofs.judged.recall.Tie as tie

@@ -1,8 +1,6 @@
--- The table judged last, and the parts of a bundle that a unit is read from.
+-- The parts of a bundle that a unit is read from.
 -- Assumes nothing.
-use mathlib.Core.Path.{_≡_, sym, subst, ap, ap₂, _∙_}
-use mathlib.Core.Logic.{⊎-elim, inr}
-use mathlib.Core.Bool.{true, false}
+use mathlib.Core.Path.{_≡_, sym, ap, ap₂, _∙_}
 use mathlib.Core.List.{List}
 use Prim.Native.Nat.{ℕ, _+_, _-_, _≤_, _<_}
 use native.Mathlib.Omega.{arith}
@@ -12,20 +10,15 @@ use Rattle.octets.specs.Octets.{part}
 use Rattle.octets.specs.Checked.{Check, pass, refuse}
 use Rattle.octets.proofs.Parts.{drop-take, length-part, part-cut}
 use Rattle.bundle.specs.Encoding.{Encoding}
-use Rattle.unit.specs.Tables.{tableGood}
-use Rattle.unit.specs.TableTrees.{TableHeld, Judges, between, Remembers}
+use Rattle.unit.specs.TableTrees.{between}
 use Rattle.unit.specs.UnitRead.{Identity, commonSize, unitOf}
 use Rattle.unit.specs.Headers.{kindOf, headerSize, identityBy, identityCheck, headOf, nonZero, identityGood, identityAnswer, withSize, unitAnswer}
-use Rattle.unit.specs.declared.judged.Judged.{Judged}
-use Rattle.unit.specs.declared.abbreviations.TableRead.{TableRead}
-use Rattle.unit.specs.declared.abbreviations.TableRead.the-variants.{Good, Bad}
 use Rattle.unit.specs.declared.header.Kind.{Kind}
 use Rattle.unit.specs.declared.header.Identity as code
 use Rattle.unit.specs.declared.header.IdentityAnswer.{IdentityAnswer}
 use Rattle.unit.specs.declared.header.IdentityAnswer.the-variants as answer
 use Rattle.unit.specs.declared.header.UnitAnswer.{UnitAnswer}
 use Rattle.unit.specs.declared.header.UnitAnswer.the-variants as whole
-use Rattle.unit.proofs.Judging.{table-good}
 use Rattle.unit.proofs.Heads.{good-short, good-whole, head-within, unit-headless, unit-headed, answer-sized}
 
 -- ---- parts
