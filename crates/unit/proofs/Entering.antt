@@ -29,14 +29,14 @@ module _ (b w x : List ℕ) (from n : ℕ) (l : length x ≡ n) (h : from + n �
   left-is : left ≡ placed w from x
   left-is = placed-whole w from n x l
 
-  pub left-held : (at end count : ℕ) → TableHeld (between b at end) x count → Held b left (record { at = at; end = end; from = from; count = count })
+  left-held : (at end count : ℕ) → TableHeld (between b at end) x count → Held b left (record { at = at; end = end; from = from; count = count })
   left-held at end count t =
       rw left-is (held-in b (placed w from x) x at end from count t (omega (arith, length-placed w from x (omega arith))) (λ q g. getD-placed w from x q g (omega arith)))
 
-  pub left-front : (m : ℕ) → m ≤ from → take m left ≡ take m w
+  left-front : (m : ℕ) → m ≤ from → take m left ≡ take m w
   left-front m g = rw left-is (take-placed w from x m g (omega arith))
 
-  pub left-tables : (k free : ℕ) → directorySize b ≤ from → free ≤ from → Tables b w k free → Tables b left k free
+  left-tables : (k free : ℕ) → directorySize b ≤ from → free ≤ from → Tables b w k free → Tables b left k free
   left-tables k free d f t =
       rw left-is (tables-kept b w (placed w from x) k free from (length-placed w from x (omega arith)) f (take-placed w from x (directorySize b) d (omega arith)) (λ i g. getD-before w from x i g (omega arith)) t)
 
