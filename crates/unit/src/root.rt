@@ -20,11 +20,17 @@ ghost use Rattle.unit.specs.Roots.{
   attributeStep,
   movedCheck,
   identityFrom,
+  Skips,
   rootCheck,
 };
 
-// The form of a flag that is there without a value.
+// The form of a flag that is there without a value, and the byte that states it.
 const FLAG_PRESENT: u64 = 0x19;
+
+const FLAG_BYTE: u8 = 0x19;
+
+// The greatest name of one byte.
+const ONE_BYTE: u8 = 0x7f;
 
 // An attribute's value: its form, where it starts behind an indirect form, and the bytes that it takes.
 pub enum Value {
@@ -126,6 +132,27 @@ fn attribute_step(e: ObjectEncoding, t: &[u8], s: &[u8], seen: Seen) -> Moved
     }
 }
 
+// The bytes at the front of t of flags that are present, whose names take one byte each. None of them is named 2131 hexadecimal, which takes two
+// bytes, and none has bytes in the unit. A root may have very many, so that this loop is short.
+fn skip_flags(t: &[u8]) -> usize
+    ensures { λ r. ⌜ Skips (now (t .entry)) r ⌝ }
+{
+    let mut i = 0;
+    while i + 1 < t.len() {
+        if t[i + 1] != FLAG_BYTE {
+            return i;
+        }
+        if t[i] == 0 {
+            return i;
+        }
+        if ONE_BYTE < t[i] {
+            return i;
+        }
+        i += 2;
+    }
+    i
+}
+
 // The identity that the attributes at the front of t state, whose values stand at the front of s.
 fn identity_in(e: ObjectEncoding, t: &[u8], s: &[u8]) -> RootIdentity
     ensures { λ r. ⌜ rootCheck r ≡ identityFrom (encodingIs e) (now (t .entry)) (now (s .entry)) none ⌝ }
@@ -134,6 +161,7 @@ fn identity_in(e: ObjectEncoding, t: &[u8], s: &[u8]) -> RootIdentity
     let mut at = 0;
     let mut seen = Seen::Nothing;
     loop {
+        a += skip_flags(&t[a..]);
         match attribute_step(e, &t[a..], &s[at..], seen) {
             Moved::On(n, m, next) => {
                 a += n;
