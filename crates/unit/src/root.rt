@@ -24,9 +24,10 @@ ghost use Rattle.unit.specs.Roots.{
   rootCheck,
 };
 
-// The form of a flag that is there without a value, and the byte that states it.
+// The form of a flag that is there without a value.
 const FLAG_PRESENT: u64 = 0x19;
 
+// The same as the one byte that states it.
 const FLAG_BYTE: u8 = 0x19;
 
 // The greatest name of one byte.
@@ -132,8 +133,8 @@ fn attribute_step(e: ObjectEncoding, t: &[u8], s: &[u8], seen: Seen) -> Moved
     }
 }
 
-// The bytes at the front of t of flags that are present, whose names take one byte each. None of them is named 2131 hexadecimal, which takes two
-// bytes, and none has bytes in the unit. A root may have very many, so that this loop is short.
+// How many bytes at the front of t are flags that are present, of one byte for the name and one for the form. One byte can't name 2131 hexadecimal,
+// and no such flag has bytes in the unit, so that they change nothing. A root may have very many: this loop passes them faster than steps do.
 fn skip_flags(t: &[u8]) -> usize
     ensures { λ r. ⌜ Skips (now (t .entry)) r ⌝ }
 {
