@@ -26,12 +26,12 @@ zero-one s n all z e j h g =
       | yes l ↦ ap (λ (k : ℕ). getD s k 0) (let q : j ≡ n = omega arith in q) ∙ last
       | no l ↦ z none j h (omega arith)
     ]
-    where
-      none : all ≡ 0
-      none = omega (arith, e, or-add-and all (getD s n 0), and-le-r all (getD s n 0))
+  where
+    none : all ≡ 0
+    none = omega (arith, e, or-add-and all (getD s n 0), and-le-r all (getD s n 0))
 
-      last : getD s n 0 ≡ 0
-      last = omega (arith, e, or-add-and all (getD s n 0), and-le-l all (getD s n 0))
+    last : getD s n 0 ≡ 0
+    last = omega (arith, e, or-add-and all (getD s n 0), and-le-l all (getD s n 0))
 
 pub zero-all : (s : List ℕ) (n : ℕ) → n ≡ length s → ZeroFrom s 0 n → s ≡ zeros (length s)
 unfolding ZeroFrom
