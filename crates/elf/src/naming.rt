@@ -2,23 +2,24 @@
 use crate::file::File;
 use crate::file::Header;
 ghost use mathlib.Core.Path.{_≡_};
-ghost use Prim.Native.Nat.{ℕ, _<_};
+ghost use mathlib.Core.List.{List};
+ghost use Prim.Native.Nat.{ℕ};
 ghost use lib.Dec.{eqb, ltb};
 ghost use lib.ListN.{drop};
-ghost use Rattle.numbers.specs.Sections.{sectionCodes};
 ghost use Rattle.octets.specs.Lists.{any};
-ghost use Rattle.numbers.specs.Names.{sectionName, sectionNames};
+ghost use Rattle.numbers.specs.NameRows.{nameRow};
+ghost use Rattle.numbers.specs.Names.{sectionNames};
 ghost use Rattle.elf.specs.File.{startsWith, codeAmong, codeOf};
 ghost use Rattle.elf.specs.Held.{headerIs, fileIs, Laid};
-use numbers::names::section_name;
+use numbers::names::Name;
+use numbers::names::section_names;
 use numbers::sections::CODES;
 
-// Whether s starts with the name of a code and the zero that ends it.
-fn starts_with(s: &[u8], code: usize) -> bool
-    requires { ⌜ code < sectionCodes ⌝ }
-    ensures { λ r. ⌜ r ≡ startsWith (now (s .entry)) (sectionName code) ⌝ }
+// Whether s starts with a name and the zero that ends it.
+fn starts_with(s: &[u8], name: Name) -> bool
+    requires { ⌜ ((x : List ℕ) × (name ≡ nameRow x)) ⌝ }
+    ensures { λ r. ⌜ ((x : List ℕ) → name ≡ nameRow x → r ≡ startsWith (now (s .entry)) x) ⌝ }
 {
-    let name = section_name(code);
     let n = name.length;
     if s.len() <= n {
         return false;
@@ -30,13 +31,14 @@ fn starts_with(s: &[u8], code: usize) -> bool
     octets::same_bytes(&s[..n], &bytes[..n])
 }
 
-// The code of the name that s starts with, 0 where it is none's.
+// The code of the name that s starts with, 0 where it is none's. The table of names is taken once.
 fn code_at(s: &[u8]) -> usize
     ensures { λ r. ⌜ r ≡ codeAmong (drop 1 sectionNames) 1 (now (s .entry)) ⌝ }
 {
+    let names = section_names();
     let mut code = 1;
     while code < CODES {
-        if starts_with(s, code) {
+        if starts_with(s, names[code]) {
             return code;
         }
         code += 1;

@@ -35,7 +35,7 @@ module _ (k : ℕ) (s : List ℕ) where
   unfolding followed groups _>>=_
   groups-open v e = groups-by k k 0 s (omega arith) ∙ rw e
 
--- ---- no byte, and a first byte that is the last
+-- ---- no byte, and a first or a second byte that is the last
 groups-none : (k : ℕ) (s : List ℕ) → length s ≡ 0 → groups (suc k) s ≡ refuse 12
 unfolding groups
 groups-none k [] h = refl
@@ -44,6 +44,11 @@ groups-none k (b ∷ s) h = absurd (omega arith)
 groups-one : (k : ℕ) (s : List ℕ) (b : ℕ) → (length s ≡ 0 → ⊥) → b ≡ getD s 0 0 → b < 128 → groups (suc k) s ≡ pass (b, 1)
 groups-one k [] b h e g = absurd (h refl)
 groups-one k (c ∷ s) b h e g = rw e (groups-last k c s (rw e at g))
+
+groups-two : (k : ℕ) (s : List ℕ) (a b : ℕ) → 2 ≤ length s → a ≡ getD s 0 0 → b ≡ getD s 1 0 → 128 ≤ a → b < 128 → groups (suc (suc k)) s ≡ pass (a - 128 + 128 * b, 2)
+groups-two k [] a b h e f g l = absurd (omega arith)
+groups-two k (c ∷ []) a b h e f g l = absurd (omega arith)
+groups-two k (c ∷ d ∷ s) a b h e f g l = rw (e, f) (groups-more (suc k) c (d ∷ s) (rw e at g) ∙ then-pass _ _ _ (groups-last k d s (rw f at l)))
 
 -- ---- a tag, a name or a form
 module _ (s : List ℕ) where
@@ -136,11 +141,11 @@ module _ (s : List ℕ) where
   pub unsigned-cut : groupsRead 9 s ≡ Cut → refuse 12 ≡ unsigned s
   unsigned-cut e = unsigned-not (ten-cut s e)
 
-  pub unsigned-none : length s ≡ 0 → refuse 12 ≡ unsigned s
-  unsigned-none h = unsigned-not (groups-none 9 s h)
-
   pub unsigned-one : (b : ℕ) → (length s ≡ 0 → ⊥) → b ≡ getD s 0 0 → b < 128 → pass (b, 1) ≡ unsigned s
   unsigned-one b h e g = unsigned-in (b, 1) (groups-one 9 s b h e g) (omega arith)
+
+  pub unsigned-two : (a b : ℕ) → 2 ≤ length s → a ≡ getD s 0 0 → b ≡ getD s 1 0 → 128 ≤ a → a < 256 → b < 128 → pass (a - 128 + 128 * b, 2) ≡ unsigned s
+  unsigned-two a b h e f g m l = unsigned-in (a - 128 + 128 * b, 2) (groups-two 8 s a b h e f g l) (omega arith)
 
   pub unsigned-nine : (v n : ℕ) → Bytes s → groupsRead 9 s ≡ Ended v n → pass (v, n) ≡ unsigned s
   unsigned-nine v n b e = unsigned-in (v, n) (ten-ended s v n e) (omega (arith, groups-lt 9 s (v, n) b (groups-ended 9 s v n e)))

@@ -75,16 +75,9 @@ pub fn read_short(s: &[u8]) -> Number
 }
 
 // Any other unsigned number: at most 10 bytes, of whose last only one bit is left.
-pub fn read_unsigned(s: &[u8]) -> Number
+fn read_long(s: &[u8]) -> Number
     ensures { λ r. ⌜ numberCheck r ≡ unsigned (now (s .entry)) ⌝ }
 {
-    if s.len() == 0 {
-        return Number::Refused;
-    }
-    let first = octets::wide_byte(s[0]);
-    if first < 128 {
-        return Number::Is(first, 1);
-    }
     match read_groups(9, s) {
         Groups::Ended(value, size) => {
             return Number::Is(value, size);
@@ -103,6 +96,24 @@ pub fn read_unsigned(s: &[u8]) -> Number
             return Number::Refused;
         }
     }
+}
+
+// The same. Most take one byte or two, which need no loop.
+pub fn read_unsigned(s: &[u8]) -> Number
+    ensures { λ r. ⌜ numberCheck r ≡ unsigned (now (s .entry)) ⌝ }
+{
+    if s.len() < 2 {
+        return read_long(s);
+    }
+    let first = octets::wide_byte(s[0]);
+    if first < 128 {
+        return Number::Is(first, 1);
+    }
+    let second = octets::wide_byte(s[1]);
+    if second < 128 {
+        return Number::Is(first - 128 + 128 * second, 2);
+    }
+    read_long(s)
 }
 
 // A signed number: a tenth byte may only repeat the sign.

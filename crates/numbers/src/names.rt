@@ -76,7 +76,7 @@ const NAMES: [Name; CODES] = [
 ];
 
 // The one place that reads the constant. Its contract is the statement over the whole table.
-fn section_names() -> [Name; CODES]
+pub fn section_names() -> [Name; CODES]
     ensures { λ r. ⌜ r ≡ map nameRow sectionNames ⌝ }
 {
     NAMES

@@ -5,6 +5,7 @@ use mathlib.Core.List.{List}
 use Prim.Native.Nat.{ℕ, _+_, _-_, _<_, _≤_}
 use native.Mathlib.Omega.{arith}
 use native.Mathlib.Decide.{decLe}
+use lib.Bits.{bitOr, or-add-and, and-le-l, and-le-r}
 use lib.ListN.{length, getD, take, drop, length-drop}
 use lib.Seq.{ext-getD, length-take-le}
 use borrow.Rule.Slice.PartMut.{putMid}
@@ -17,21 +18,20 @@ pub zero-none : (s : List ℕ) (at : ℕ) → ZeroFrom s at 0
 unfolding ZeroFrom
 zero-none s at j h g = absurd (omega arith)
 
-pub zero-two : (s : List ℕ) (at : ℕ) → getD s at 0 ≡ 0 → getD s (at + 1) 0 ≡ 0 → ZeroFrom s at 2
+-- one word more: taken together with what stands for those before it, bit by bit, it is zero only where both are
+pub zero-one : (s : List ℕ) (n all : ℕ) → (all ≡ 0 → ZeroFrom s 0 n) → bitOr all (getD s n 0) ≡ 0 → ZeroFrom s 0 (n + 1)
 unfolding ZeroFrom
-zero-two s at a b j h g =
-    elim (decLe j at) [
-      | yes l ↦ ap (λ (k : ℕ). getD s k 0) (let e : j ≡ at = omega arith in e) ∙ a
-      | no l ↦ ap (λ (k : ℕ). getD s k 0) (let e : j ≡ at + 1 = omega arith in e) ∙ b
+zero-one s n all z e j h g =
+    elim (decLe n j) [
+      | yes l ↦ ap (λ (k : ℕ). getD s k 0) (let q : j ≡ n = omega arith in q) ∙ last
+      | no l ↦ z none j h (omega arith)
     ]
+  where
+    none : all ≡ 0
+    none = omega (arith, e, or-add-and all (getD s n 0), and-le-r all (getD s n 0))
 
-pub zero-join : (s : List ℕ) (at n next m : ℕ) → next ≡ at + n → ZeroFrom s at n → ZeroFrom s next m → ZeroFrom s at (n + m)
-unfolding ZeroFrom
-zero-join s at n next m e a b j h g =
-    elim (decLe next j) [
-      | yes l ↦ b j l (omega arith)
-      | no l ↦ a j h (omega arith)
-    ]
+    last : getD s n 0 ≡ 0
+    last = omega (arith, e, or-add-and all (getD s n 0), and-le-l all (getD s n 0))
 
 pub zero-all : (s : List ℕ) (n : ℕ) → n ≡ length s → ZeroFrom s 0 n → s ≡ zeros (length s)
 unfolding ZeroFrom

@@ -1,62 +1,30 @@
 // Lent words cleared, with no store to words that are zero. A system gives memory its pages when it is first stored to, and most of the work that is
 // lent is never used: so packing takes pages for what it uses, and not for all that it is lent.
 ghost use mathlib.Core.Path.{_≡_};
-ghost use mathlib.Core.Bool.{true};
-ghost use Prim.Native.Nat.{_+_, _≤_, _<_, _^_};
+ghost use Prim.Native.Nat.{_≤_, _<_};
 ghost use lib.ListN.{length};
 ghost use Rattle.octets.specs.Octets.{zeros};
-ghost use Rattle.packer.specs.Zeros.{ZeroFrom};
-
-// Words that are looked at together: a sum of zeros is zero.
-const STRIDE: usize = 8;
 
 // Words that are cleared together, as many as a page of memory has.
 const PAGE: usize = 1_024;
 
-fn two(s: &[u32], i: usize) -> usize
-    requires { ⌜ i + 2 ≤ length (now s) ⌝ }
-    ensures zero { λ r. ⌜ (r ≡ 0 → ZeroFrom (now (s .entry)) i 2) ⌝ }
-    ensures low { λ r. ⌜ r < 2 ^ 33 ⌝ }
+// The words of s taken together, bit by bit: zero only where all are.
+fn joined(s: &[u32]) -> u32
+    ensures { λ r. ⌜ (r ≡ 0 → now (s .entry) ≡ zeros (length (now (s .entry)))) ⌝ }
 {
-    octets::word(s, i) + octets::word(s, i + 1)
-}
-
-fn four(s: &[u32], i: usize) -> usize
-    requires { ⌜ i + 4 ≤ length (now s) ⌝ }
-    ensures zero { λ r. ⌜ (r ≡ 0 → ZeroFrom (now (s .entry)) i 4) ⌝ }
-    ensures low { λ r. ⌜ r < 2 ^ 34 ⌝ }
-{
-    two(s, i) + two(s, i + 2)
-}
-
-fn eight(s: &[u32], i: usize) -> usize
-    requires { ⌜ i + 8 ≤ length (now s) ⌝ }
-    ensures { λ r. ⌜ (r ≡ 0 → ZeroFrom (now (s .entry)) i 8) ⌝ }
-{
-    four(s, i) + four(s, i + 4)
-}
-
-// True only for zeros. Words behind the last eight are not looked at: then it is false.
-fn all_zero(s: &[u32]) -> bool
-    ensures { λ r. ⌜ (r ≡ true → now (s .entry) ≡ zeros (length (now (s .entry)))) ⌝ }
-{
+    let mut all: u32 = 0;
     let mut i = 0;
-    while STRIDE <= s.len() - i {
-        if eight(s, i) != 0 {
-            return false;
-        }
-        i += STRIDE;
+    while i < s.len() {
+        all = all | s[i];
+        i += 1;
     }
-    if i == s.len() {
-        return true;
-    }
-    false
+    all
 }
 
 fn clear_page(s: &mut [u32])
     ensures { λ _. ⌜ now (s .exit) ≡ zeros (length (now (s .entry))) ⌝ }
 {
-    if all_zero(s) {
+    if joined(s) == 0 {
         return;
     }
     octets::clear_words(s);

@@ -10,16 +10,16 @@ use native.Mathlib.Omega.{arith}
 use lib.ListN.{length, drop, getD, length-map}
 use borrow.Author.Tests.{eq-eqb, ne-eqb}
 use Rattle.octets.specs.Lists.{has, any, distinct}
-use Rattle.octets.specs.Checked.{pass, refuse}
-use Rattle.octets.proofs.Checks.{pass-refuse, pass-inj, bind-pass, require-pass, true-false}
+use Rattle.octets.specs.Checked.{pass}
+use Rattle.octets.proofs.Checks.{pass-inj, bind-pass, require-pass, true-false}
 use Rattle.octets.proofs.Elements.{has-at, has-cons, has-skips, distinct-head, distinct-tail}
-use Rattle.octets.proofs.Options.{some-inj}
 use Rattle.unit.specs.Abbreviations.{Declaration, declarationsOf, declarationOf}
-use Rattle.unit.specs.Tables.{Coded, declaredAt, declarations, Located}
+use Rattle.unit.specs.Tables.{declaredAt, declarations, Headed, Located}
 use Rattle.unit.specs.Trees.{codeAt, carriedAt, Rising, Ends}
 use Rattle.unit.specs.TableTrees.{codesOf, noDeclaration, Declares, TableHeld}
 use Rattle.unit.specs.declared.tree.Walked.{Walked}
 use Rattle.unit.specs.declared.tree.Walked.the-variants as walked
+use Rattle.unit.specs.declared.abbreviations.Found.{Found}
 use Rattle.unit.specs.declared.abbreviations.Found.the-variants.{At, Nothing}
 use Rattle.unit.proofs.Trees.{free-not}
 
@@ -59,6 +59,32 @@ read-distinct s ds e =
     let p = bind-pass (declarations s) _ ds e in
     let q = require-pass _ _ _ _ (p .2) in
     ap (λ (x : List Declaration). distinct (codesOf x)) (sym (pass-inj (q .1))) ∙ q .0
+
+-- ---- what stands where a declaration does
+module _ (s : List ℕ) (at place : ℕ) (d : Declaration) (h : Declares s place d) (e : at ≡ place) where
+  pub declares-within : at ≤ length s
+  declares-within = omega (arith, h .inside, e)
+
+  module _ (r : Found) (f : Headed (drop at s) r) where
+    heading : r ≡ At (h .coded .place .tag) (h .coded .place .start)
+    unfolding Headed
+    heading = f (h .coded) (ap (λ (x : ℕ). declaredAt (drop x s)) e ∙ h .is)
+
+    pub declares-some : r ≡ Nothing → ⊥
+    declares-some g = let z : _≡_ {A = ℕ} 0 1 = same (sym heading ∙ g) in omega arith
+      where
+        same : At (h .coded .place .tag) (h .coded .place .start) ≡ Nothing → _≡_ {A = ℕ} 0 1
+        same q = cc
+
+    module _ (tag start : ℕ) (i : r ≡ At tag start) where
+      declares-tag : h .coded .place .tag ≡ tag
+      declares-tag = let g : At (h .coded .place .tag) (h .coded .place .start) ≡ At tag start = sym heading ∙ i in cc
+
+      declares-start : h .coded .place .start ≡ start
+      declares-start = let g : At (h .coded .place .tag) (h .coded .place .start) ≡ At tag start = sym heading ∙ i in cc
+
+      pub declares-inside : at + start ≤ length s
+      declares-inside = omega (arith, h .inside, e, declares-start)
 
 -- ---- in the tree
 module _ (s w : List ℕ) (n code : ℕ) (t : TableHeld s w n) where
@@ -103,32 +129,17 @@ module _ (s w : List ℕ) (n code : ℕ) (t : TableHeld s w n) where
     pub node-declares : Declares s (carriedAt w k) (getD (t .declared) k noDeclaration)
     node-declares = t .held .declares k inside
 
-    pub located-at : (ds : List Declaration) → declarationsOf s ≡ pass ds → (d : Coded) (at : ℕ) → at ≡ carriedAt w k → declaredAt (drop at s) ≡ pass (some d)
-        → Located s ds code (At (d .place .tag) (at + d .place .start))
+    pub located-at : (ds : List Declaration) → declarationsOf s ≡ pass ds → (at : ℕ) → at ≡ carriedAt w k → (o : Found) → Headed (drop at s) o → (tag start : ℕ) → o ≡ At tag start
+        → Located s ds code (At tag (at + start))
     unfolding Located
-    located-at ds e d at a g =
+    located-at ds e at a o g tag start j =
         let h = node-declares in
-        let same-coded : h .coded ≡ d = some-inj (pass-inj (sym (h .is) ∙ ap (λ (x : ℕ). declaredAt (drop x s)) (sym a) ∙ g)) in
         let its : getD (t .declared) k noDeclaration .code ≡ code =
         sym (code-at (t .declared) k inside) ∙ sym (t .held .tree .codes k (rw (codes-count) (ends-at .0))) ∙ ends-at .1 in
-        rw (a, ← same-coded) (
+        rw (a, ← declares-tag s at (carriedAt w k) _ h a o g tag start j, ← declares-start s at (carriedAt w k) _ h a o g tag start j) (
           getD (t .declared) k noDeclaration,
           ap (λ (x : List Declaration). declarationOf x code) (same ds e) ∙ the-declaration (t .declared) k code (read-distinct s (t .declared) (t .read)) inside its,
           h .tag,
           h .inside,
           (h .size, h .read),
         )
-
--- what stands there is a declaration
-module _ (s : List ℕ) (at place : ℕ) (d : Declaration) (h : Declares s place d) (e : at ≡ place) where
-  pub declares-some : declaredAt (drop at s) ≡ pass none → ⊥
-  declares-some g = let z : _≡_ {A = ℕ} 0 1 = same (pass-inj (sym (h .is) ∙ ap (λ (x : ℕ). declaredAt (drop x s)) (sym e) ∙ g)) in omega arith
-    where
-      same : some (h .coded) ≡ none → _≡_ {A = ℕ} 0 1
-      same q = cc
-
-  pub declares-read : (k : ℕ) → declaredAt (drop at s) ≡ refuse k → ⊥
-  declares-read k g = pass-refuse (some (h .coded)) k (sym (h .is) ∙ ap (λ (x : ℕ). declaredAt (drop x s)) (sym e) ∙ g)
-
-  pub declares-within : at ≤ length s
-  declares-within = omega (arith, h .inside, e)

@@ -1,20 +1,23 @@
 -- One declaration of an abbreviation table, and where its attributes lie.
 -- Assumes nothing.
-use mathlib.Core.Path.{_≡_, sym, ap, _∙_}
+use mathlib.Core.Path.{_≡_, sym, ap, ap₂, _∙_}
 use mathlib.Core.Bool.{true, not, _&&_}
 use mathlib.Core.List.{List}
 use mathlib.Core.Option.{some, none}
 use Prim.Native.Nat.{ℕ, _+_, _≤_, _<_}
 use native.Mathlib.Omega.{arith}
 use native.Mathlib.Nat.{add-zero}
+use native.Mathlib.Decide.{ℕ-discrete}
 use lib.Dec.{leb}
 use lib.ListN.{length, drop, getD, length-drop}
 use lib.Seq.{drop-drop, getD-drop}
 use borrow.Author.Tests.{eq-eqb, ne-eqb, le-leb, lt-leb}
 use Rattle.octets.specs.Checked.{pass, refuse, _>>=_}
-use Rattle.octets.proofs.Checks.{then-pass, then-refuse, passes, fails, and-both, not-left, not-right}
+use Rattle.octets.proofs.Checks.{pass-refuse, pass-inj, bind-pass, require-pass, then-pass, then-refuse, passes, fails, and-both, not-left, not-right}
+use Rattle.octets.proofs.Options.{some-inj, some-none}
 use Rattle.leb128.specs.Leb128.{short, unsigned}
-use Rattle.unit.specs.Tables.{attributesSize, Place, placeAt, declaredAt}
+use Rattle.unit.specs.Tables.{attributesSize, Place, placeAt, Coded, declaredAt, Headed}
+use Rattle.unit.specs.declared.abbreviations.Found.the-variants.{At, Nothing}
 
 -- ---- behind the code
 module _ (s : List ℕ) where
@@ -88,3 +91,38 @@ module _ (s : List ℕ) where
 
       pub declared-is : (q : Place) → placeAt (drop n s) ≡ pass q → pass (some (record { code = code; place = record { tag = q .tag; start = n + q .start; end = n + q .end } })) ≡ declaredAt s
       declared-is q e = sym (coded ∙ then-pass _ _ _ e)
+
+-- ---- its front alone
+place-front : (s : List ℕ) (p : Place) (tag m : ℕ) → short s ≡ pass (tag, m) → placeAt s ≡ pass p → (tag ≡ p .tag) × (m + 1 ≡ p .start)
+unfolding placeAt
+place-front s p tag m q e =
+    let named = require-pass _ _ _ _ (sym (then-pass _ _ _ q) ∙ e) in
+    let child = require-pass _ _ _ _ (named .1) in
+    let size = bind-pass (attributesSize (drop 1 (drop m s))) _ p (child .1) in
+    (ap (λ (x : Place). x .tag) (pass-inj (size .2)), ap (λ (x : Place). x .start) (pass-inj (size .2)))
+
+module _ (s : List ℕ) where
+  pub heading-none : unsigned s ≡ refuse 12 → Headed s Nothing
+  unfolding Headed
+  heading-none p d e = absurd (pass-refuse (some d) 12 (sym e ∙ sym (declared-none s p)))
+
+  module _ (code n : ℕ) (p : unsigned s ≡ pass (code, n)) where
+    placed : (d : Coded) → declaredAt s ≡ pass (some d) → (q : Place) × (placeAt (drop n s) ≡ pass q) × (q .tag ≡ d .place .tag) × (n + q .start ≡ d .place .start)
+    placed d e = elim (ℕ-discrete code 0) [
+      | yes z ↦ some-none (pass-inj (sym e ∙ end-is s code n p z))
+      | no z ↦
+          let q = bind-pass (placeAt (drop n s)) _ (some d) (sym (coded s code n p z) ∙ e) in
+          let c = some-inj (pass-inj (q .2)) in
+          (q .0, q .1, ap (λ (x : Coded). x .place .tag) c, ap (λ (x : Coded). x .place .start) c)
+    ]
+
+    pub heading-untagged : short (drop n s) ≡ refuse 12 → Headed s Nothing
+    unfolding Headed
+    heading-untagged g d e = let q = placed d e in absurd (pass-refuse (q .0) 12 (sym (q .1) ∙ sym (place-none (drop n s) g)))
+
+    pub heading-is : (tag m : ℕ) → short (drop n s) ≡ pass (tag, m) → Headed s (At tag (n + m + 1))
+    unfolding Headed
+    heading-is tag m g d e =
+        let q = placed d e in
+        let f = place-front (drop n s) (q .0) tag m g (q .1) in
+        ap₂ At (f .0 ∙ q .2) (omega (arith, f .1, q .3))

@@ -3,24 +3,28 @@
 use mathlib.Core.Path.{_≡_, refl, sym, ap, ap₂, _∙_}
 use mathlib.Core.List.{List, [], _∷_}
 use mathlib.Core.Option.{Option, some, none}
-use Prim.Native.Nat.{ℕ, _+_, _≤_}
+use Prim.Native.Nat.{ℕ, _+_, _-_, _≤_, _<_}
 use native.Mathlib.Omega.{arith}
+use native.Mathlib.Nat.{add-zero}
 use native.Mathlib.Decide.{ℕ-discrete}
 use lib.Dec.{eqb}
-use lib.ListN.{length, drop}
-use lib.Seq.{drop-drop}
+use lib.ListN.{length, take, drop, getD, length-drop}
+use lib.Seq.{drop-drop, getD-drop}
 use borrow.Author.Tests.{eq-eqb, ne-eqb}
 use Rattle.octets.specs.Octets.{numberAt}
 use Rattle.octets.specs.Checked.{Check, pass, refuse, _>>=_, require}
 use Rattle.octets.proofs.Checks.{pass-refuse, pass-inj, bind-pass, then-pass, then-refuse, passes, fails}
 use Rattle.octets.proofs.Refusals.{Only, only-pass, only-require, only-bind, only-refuses}
+use Rattle.leb128.specs.Leb128.{short}
+use Rattle.leb128.proofs.Tenth.{short-one}
 use Rattle.bundle.specs.Encoding.{Encoding}
 use Rattle.octets.proofs.Options.{some-inj, some-none}
 use Rattle.unit.specs.Abbreviations.{Attribute, attributeAt, attributesOf}
 use Rattle.unit.specs.Root.{needed, Value, valueOf, identityAt, identityIn}
-use Rattle.unit.specs.Roots.{Move, attributeStep, identityFrom}
-use Rattle.unit.proofs.Attributes.{before, attributeAt-taken, attributes-is, attributes-end, attributes-more, only-attributesFrom}
-use Rattle.unit.proofs.Values.{value-within, only-valueOf, only-needed}
+use Rattle.unit.specs.Roots.{Move, attributeStep, identityFrom, Skips}
+use Rattle.unit.proofs.Sizes.{rest}
+use Rattle.unit.proofs.Attributes.{before, attribute-is, neither-zero, attributeAt-taken, attributes-is, attributes-end, attributes-more, only-attributesFrom}
+use Rattle.unit.proofs.Values.{value-within, value-flag, only-valueOf, only-needed}
 
 -- ---- what an attribute states
 module _ (e : Encoding) (name : ℕ) (v : Value) (s : List ℕ) where
@@ -195,3 +199,39 @@ pub from-turn : (e : Encoding) (t s : List ℕ) (a at : ℕ) (seen : Option ℕ)
 from-turn e t s a at seen m g =
     ap₂ (λ (x y : List ℕ). identityFrom e x y (m .seen)) (sym (drop-drop (m .taken) a t)) (sym (drop-drop (m .passed) at s))
     ∙ sym (from-on e (drop a t) (drop at s) seen m g)
+
+-- ---- flags that are present, with a name of one byte each
+-- an attribute of another name than 2131 states nothing
+identity-same : (e : Encoding) (name : ℕ) (v : Value) (s : List ℕ) (seen : Option ℕ) → (name ≡ 0x2131 → ⊥) → identityAt e name v s seen ≡ pass seen
+identity-same e name v s (some x) h = identity-seen e name v s x
+identity-same e name v s none h = identity-other e name v s h
+
+module _ (t : List ℕ) where
+  pub skips-none : Skips t 0
+  unfolding Skips
+  skips-none = (omega arith, λ e s seen. refl)
+
+  module _ (i : ℕ) (l : i + 1 < length t) (z : getD t i 0 ≡ 0 → ⊥) (o : getD t i 0 ≤ 0x7f) (f : getD t (i + 1) 0 ≡ 0x19) where
+    name-read : short (drop i t) ≡ pass (getD t i 0, 1)
+    name-read = sym (short-one (drop i t) (getD t i 0) (λ h. omega (arith, h, length-drop i t)) (rw (getD-drop, add-zero i)) (omega arith))
+
+    form-read : short (drop 1 (drop i t)) ≡ pass (0x19, 1)
+    form-read = rw (drop-drop 1 i t) (sym (short-one (drop (i + 1) t) 0x19 (λ h. omega (arith, h, length-drop (i + 1) t)) (rw (getD-drop, add-zero (i + 1), f)) (omega arith)))
+
+    flag-read : attributeAt (drop i t) ≡ pass (record { name = getD t i 0; form = 0x19 }, 2)
+    flag-read = sym (attribute-is (drop i t) (getD t i 0) 1 name-read 0x19 1 form-read (neither-zero _ _ z (λ h. omega (arith, h))) (λ h. omega (arith, h)))
+
+    flag-step : (e : Encoding) (s : List ℕ) (seen : Option ℕ) → attributeStep e (drop i t) s seen ≡ pass (some (record { taken = 2; passed = 0; seen = seen }))
+    flag-step e s seen = step-on e (drop i t) s seen _ 2 flag-read z _ (value-flag e 0x19 s refl) seen (identity-same e _ _ s seen (λ h. omega (arith, h, o)))
+
+    pub skips-more : Skips t i → Skips t (i + 2)
+    unfolding Skips
+    skips-more h = (omega arith, λ e s seen. from-turn e t s i 0 seen _ (flag-step e s seen) ∙ h .1 e s seen)
+
+-- the same behind a place of the table
+pub skips-at : (t : List ℕ) (a n : ℕ) → a ≤ length t → Skips (take (length t - a) (drop a t)) n
+    → (a + n ≤ length t) × ((e : Encoding) (s : List ℕ) (seen : Option ℕ) → identityFrom e (drop (a + n) t) s seen ≡ identityFrom e (drop a t) s seen)
+unfolding Skips
+skips-at t a n l h =
+    let k : Skips (drop a t) n = rw (rest a t) at h in
+    (omega (arith, k .0, length-drop a t, l), λ e s seen. ap (λ (x : List ℕ). identityFrom e x s seen) (sym (drop-drop n a t)) ∙ k .1 e s seen)

@@ -1,14 +1,16 @@
 -- The walk over a root's attributes as code takes it, and what its answers are by the definition.
 -- Assumes nothing.
+use mathlib.Core.Path.{_≡_}
 use mathlib.Core.Bool.{true, false}
 use mathlib.Core.List.{List}
 use mathlib.Core.Option.{Option, some, none}
-use Prim.Native.Nat.{ℕ, _+_}
+use Prim.Native.Nat.{ℕ, _+_, _≤_}
 use lib.Dec.{eqb}
+use lib.ListN.{length, drop}
 use Rattle.octets.specs.Checked.{Check, pass, refuse, _>>=_}
 use Rattle.numbers.specs.Refusals.{noIdentity}
 use Rattle.bundle.specs.Encoding.{Encoding}
-use Rattle.unit.specs.Abbreviations.{Attribute, attributeAt, attributesOf}
+use Rattle.unit.specs.Abbreviations.{attributeAt, attributesOf}
 use Rattle.unit.specs.Root.{needed, Value, valueOf, identityAt, identityIn}
 use Rattle.unit.specs.declared.root.Value as code
 use Rattle.unit.specs.declared.root.Value.the-variants as value
@@ -50,6 +52,10 @@ movedCheck moved.Refused = refuse noIdentity
 -- the identity that the attributes at the front of t state, where those before them state seen
 unfoldable pub identityFrom : Encoding → List ℕ → List ℕ → Option ℕ → Check ℕ
 identityFrom e t s seen = attributesOf t >>= λ a. (identityIn e (a .0) s seen >>= needed)
+
+-- without so many bytes at the front of t, the same is stated
+unfoldable pub Skips : List ℕ → ℕ → Type 0
+Skips t n = (n ≤ length t) × ((e : Encoding) (s : List ℕ) (seen : Option ℕ) → identityFrom e (drop n t) s seen ≡ identityFrom e t s seen)
 
 abbrev pub rootCheck : RootIdentity → Check ℕ
 rootCheck (Is x) = pass x

@@ -65,6 +65,10 @@ declaredCheck (declared.Is code tag start end) = pass (some (record { code = cod
 declaredCheck declared.End = pass none
 declaredCheck declared.Refused = refuse noIdentity
 
+-- what the front of a declaration says that is read to its end: its tag, and where its attributes start
+unfoldable pub Headed : List ℕ → Found → Type 0
+Headed s r = (d : Coded) → declaredAt s ≡ pass (some d) → r ≡ At (d .place .tag) (d .place .start)
+
 -- all declarations up to the zero code, repeated codes and all
 unfoldable pub declarations : List ℕ → Check (List Declaration)
 declarations s = declarationsFrom (length s) s

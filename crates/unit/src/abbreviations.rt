@@ -18,6 +18,7 @@ ghost use Rattle.unit.specs.Tables.{
   placeCheck,
   declaredAt,
   declaredCheck,
+  Headed,
   Located,
 };
 ghost use Rattle.unit.specs.TableTrees.{TableHeld, Judges};
@@ -167,6 +168,20 @@ pub fn judge_table(s: &[u8], codes: &mut [u32]) -> TableRead
     }
 }
 
+// The tag of the declaration at the front of s, and where its attributes start behind the children byte. They were read as the table was judged,
+// and may be very many, so that they are not read here.
+fn heading_at(s: &[u8]) -> Found
+    ensures { λ r. ⌜ Headed (now (s .entry)) r ⌝ }
+{
+    let Number::Is(_, n) = leb128::read_unsigned(s) else {
+        return Found::Nothing;
+    };
+    let Number::Is(tag, m) = leb128::read_short(&s[n..]) else {
+        return Found::Nothing;
+    };
+    Found::At(tag, n + m + 1)
+}
+
 // The declaration of a code, in a table that was judged.
 pub fn find_in(s: &[u8], codes: &[u32], count: usize, code: u64) -> Found
     requires { ⌜ TableHeld (now s) (now codes) count ⌝ }
@@ -179,14 +194,11 @@ pub fn find_in(s: &[u8], codes: &[u32], count: usize, code: u64) -> Found
         return Found::Nothing;
     };
     let at = crate::tree::carried_at(codes, node);
-    match declared_at(&s[at..]) {
-        Declared::Is(_, tag, start, _) => {
+    match heading_at(&s[at..]) {
+        Found::At(tag, start) => {
             return Found::At(tag, at + start);
         }
-        Declared::End => {
-            return Found::Nothing;
-        }
-        Declared::Refused => {
+        Found::Nothing => {
             return Found::Nothing;
         }
     }

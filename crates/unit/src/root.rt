@@ -21,11 +21,18 @@ ghost use Rattle.unit.specs.Roots.{
   attributeStep,
   movedCheck,
   identityFrom,
+  Skips,
   rootCheck,
 };
 
 // The form of a flag that is there without a value.
 const FLAG_PRESENT: u64 = 0x19;
+
+// The same as the one byte that states it.
+const FLAG_BYTE: u8 = 0x19;
+
+// The greatest name of one byte.
+const ONE_BYTE: u8 = 0x7f;
 
 // An attribute's value: its form, where it starts behind an indirect form, and the bytes that it takes.
 pub enum Value {
@@ -127,6 +134,27 @@ fn attribute_step(e: ObjectEncoding, t: &[u8], s: &[u8], seen: Seen) -> Moved
     }
 }
 
+// How many bytes at the front of t are flags that are present, of one byte for the name and one for the form. One byte can't name 2131 hexadecimal,
+// and no such flag has bytes in the unit, so that they change nothing. A root may have very many: this loop passes them faster than steps do.
+fn skip_flags(t: &[u8]) -> usize
+    ensures { λ r. ⌜ Skips (now (t .entry)) r ⌝ }
+{
+    let mut i = 0;
+    while i + 1 < t.len() {
+        if t[i + 1] != FLAG_BYTE {
+            return i;
+        }
+        if t[i] == 0 {
+            return i;
+        }
+        if ONE_BYTE < t[i] {
+            return i;
+        }
+        i += 2;
+    }
+    i
+}
+
 // The identity that the attributes at the front of t state, whose values stand at the front of s.
 fn identity_in(e: ObjectEncoding, t: &[u8], s: &[u8]) -> RootIdentity
     ensures { λ r. ⌜ rootCheck r ≡ identityFrom (encodingIs e) (now (t .entry)) (now (s .entry)) none ⌝ }
@@ -135,6 +163,7 @@ fn identity_in(e: ObjectEncoding, t: &[u8], s: &[u8]) -> RootIdentity
     let mut at = 0;
     let mut seen = Seen::Nothing;
     loop {
+        a += skip_flags(&t[a..]);
         match attribute_step(e, &t[a..], &s[at..], seen) {
             Moved::On(n, m, next) => {
                 a += n;

@@ -93,14 +93,16 @@ pub fn from_elf(call: &Call, file: &[u8], shown: &str) -> Result<Lent<u8>, Stop>
     put_elf(call, file, shown, &mut bundle, 0).map(|()| bundle)
 }
 
-/// The same from a place of a bundle on, up to its end. Without output the reader judges the file and says how long its bundle is, so that
-/// the sections are copied once, to where they stay.
+/// The same from a place of a bundle on, up to its end. Few bundles are longer than their file, or than the longest that can be packed: the reader is lent
+/// so much, and where that is too short it says how much is needed. The sections are copied once, to where they stay.
 fn put_elf(call: &Call, file: &[u8], shown: &str, bundle: &mut Lent<u8>, from: usize) -> Result<(), Stop> {
-    let (mut code, length) = elf::read(file, &mut []);
+    bundle.extend_to(from + file.len().min(LONGEST_BUNDLE));
+    let (mut code, length) = elf::read(file, &mut bundle[from..]);
     if code == OUTPUT_TOO_SHORT {
         bundle.extend_to(from + length);
         (code, _) = elf::read(file, &mut bundle[from..]);
     }
+    bundle.truncate(from + length);
     match code {
         0 => Ok(()),
         _ => Err(refused_call(call, shown, code, explain::reading_elf(file, code))),
@@ -152,11 +154,12 @@ fn joined(call: &Call, package: Option<&Taken>, names: &[OsString]) -> Result<Jo
     Ok(joined)
 }
 
-/// A file is longer than what it adds; what is longer than the longest bundle is refused.
+/// A file is longer than what it adds, as a rule; what is longer than the longest bundle is refused. The last file is read behind what the
+/// others added.
 fn room(package: Option<&Taken>, names: &[OsString]) -> usize {
     let files: u64 = names.iter().filter_map(|name| fs::metadata(name).ok()).map(|told| told.len()).sum();
     let package = package.map_or(0, |package| package.bytes.len());
-    files.saturating_add(package as u64).min(LONGEST_BUNDLE as u64) as usize
+    files.saturating_add(package as u64).min(2 * LONGEST_BUNDLE as u64) as usize
 }
 
 impl Joined {

@@ -17,6 +17,9 @@ use std::os::unix::ffi::OsStrExt;
 /// The refusal of a machine that packages aren't written for.
 const OTHER_MACHINE: u32 = 36;
 
+/// A long bundle: what its packing takes counts.
+const LONG: usize = 1 << 20;
+
 const OPTIONS: [Known; 6] = [
     Known { long: "output", short: Some(b'o'), value: true },
     Known { long: "add", short: None, value: true },
@@ -166,11 +169,20 @@ fn told(call: &Call, operands: &[OsString], earlier: Option<&Earlier>, joined: &
     refused_call(call, file, number, Some(why.join("; ")))
 }
 
+/// What most packages of a bundle fit in. Those of many small units are longer than the bundle, by their indexes; those of long bundles are shorter, as a
+/// rule, since strings and type units are kept once, and what is lent is cleared.
+fn usual(bundle: usize) -> usize {
+    match bundle < LONG {
+        true => 2 * bundle,
+        false => bundle + bundle / 8,
+    }
+}
+
 /// The package and what was skipped, or the refusal's number.
 fn packed(bundle: &[u8]) -> Result<(Lent<u8>, Skipped), u32> {
     let mut work = Lent::zeros(bundle.len() / 4 * WORK_FOR_A_WORD);
     // Most packages fit; where one doesn't, the refusal names the length that it needs.
-    let mut output = Lent::zeros(2 * bundle.len());
+    let mut output = Lent::zeros(usual(bundle.len()));
     let mut answer = ffi::pack_counted(bundle, &mut work, &mut output);
     if answer.0 == OUTPUT_TOO_SHORT {
         output = Lent::zeros(answer.1);
