@@ -4,6 +4,7 @@ use crate::tree::Walked;
 use leb128::Number;
 use leb128::Size;
 ghost use mathlib.Core.Path.{_≡_};
+ghost use mathlib.Core.Bool.{true};
 ghost use mathlib.Core.List.{List};
 ghost use Prim.Native.Nat.{_≤_, _<_, _^_};
 ghost use lib.ListN.{length};
@@ -80,8 +81,21 @@ pub fn attribute_at(s: &[u8]) -> AttributeRead
     AttributeRead::Is(name, form, n + m)
 }
 
+// Whether the pair of zeros that ends attributes is in front.
+fn has_none(s: &[u8]) -> bool
+    ensures { λ r. ⌜ (r ≡ true → attributesSize (now (s .entry)) ≡ pass 2) ⌝ }
+{
+    if s.len() < 2 {
+        return false;
+    }
+    if s[0] != 0 {
+        return false;
+    }
+    s[1] == 0
+}
+
 // The bytes of a declaration's attributes, with the pair of zeros that ends them.
-fn attributes_size(s: &[u8]) -> Size
+fn walk_attributes(s: &[u8]) -> Size
     ensures { λ r. ⌜ sizeCheck noIdentity r ≡ attributesSize (now (s .entry)) ⌝ }
 {
     let mut at = 0;
@@ -98,6 +112,16 @@ fn attributes_size(s: &[u8]) -> Size
             }
         }
     }
+}
+
+// The same. Most declarations of a table made to take long have none, so that this is asked first.
+fn attributes_size(s: &[u8]) -> Size
+    ensures { λ r. ⌜ sizeCheck noIdentity r ≡ attributesSize (now (s .entry)) ⌝ }
+{
+    if has_none(s) {
+        return Size::Is(2);
+    }
+    walk_attributes(s)
 }
 
 fn place_at(s: &[u8]) -> PlaceRead
