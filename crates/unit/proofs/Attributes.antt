@@ -7,18 +7,18 @@ use Prim.Native.Nat.{ℕ, zero, suc, _+_, _≤_}
 use native.Mathlib.Omega.{arith}
 use native.Mathlib.Decide.{ℕ-discrete}
 use lib.Dec.{eqb}
-use lib.ListN.{length, drop, length-drop}
+use lib.ListN.{length, drop, getD, length-drop}
 use lib.Seq.{drop-drop}
 use borrow.Author.Tests.{eq-eqb, ne-eqb}
 use Rattle.octets.specs.Lists.{zeroTogether}
-use Rattle.octets.specs.Checked.{Check, pass, refuse, _>>=_}
+use Rattle.octets.specs.Checked.{Check, pass, refuse, _>>=_, require}
 use Rattle.octets.proofs.Checks.{pass-refuse, pass-inj, bind-pass, bind-same, then-pass, then-refuse, passes, fails, require-pass}
 use Rattle.octets.proofs.Refusals.{Only, only-pass, only-refuse, only-require, only-bind}
 use Rattle.leb128.specs.Leb128.{groups, short}
 use Rattle.leb128.proofs.Taken.{short-taken, only-short}
 use Rattle.unit.specs.Abbreviations.{Attribute, attributeAt, attributesThen, attributesFrom, attributesOf}
 use Rattle.unit.specs.Tables.{attributesSize}
-use Rattle.unit.proofs.Sizes.{further}
+use Rattle.unit.proofs.Sizes.{further, further-none}
 
 -- ---- one attribute
 module _ (s : List ℕ) where
@@ -201,6 +201,16 @@ module _ (s : List ℕ) (at : ℕ) where
         ∙ ap (further at) (sizes-more a n (attributesOf (drop n (drop at s)))) ∙ further-further at n _
         ∙ ap (λ (t : List ℕ). further (at + n) (attributesSize t)) (drop-drop n at s)
         )
+
+-- the pair of zeros in front
+zero-pair : (s : List ℕ) → attributeAt (0 ∷ 0 ∷ s) ≡ pass (record { name = 0; form = 0 }, 2)
+unfolding attributeAt short groups zeroTogether require _>>=_
+zero-pair s = refl
+
+pub size-none : (s : List ℕ) → 2 ≤ length s → getD s 0 0 ≡ 0 → getD s 1 0 ≡ 0 → attributesSize s ≡ pass 2
+size-none [] h e f = absurd (omega arith)
+size-none (a ∷ []) h e f = absurd (omega arith)
+size-none (a ∷ b ∷ s) h e f = rw (e, f) (sym (further-none _) ∙ walk-end (0 ∷ 0 ∷ s) 0 _ 2 (zero-pair s) refl)
 
 pub size-within : (s : List ℕ) (n : ℕ) → attributesSize s ≡ pass n → n ≤ length s
 unfolding attributesSize

@@ -84,7 +84,7 @@ table-repeats s ds d (pass es) g e = judged s ∙ ap passed (then-pass _ _ _ e �
         ∙ distinct-repeats (codesOf ds) (codesOf es) (d .code) g
 
 -- ---- in a tree
-tree-none : (w : List ℕ) → Tree w []
+pub tree-none : (w : List ℕ) → Tree w []
 tree-none w = record {
   rising = record { room = omega arith; later = λ k b l m z. absurd (omega arith); among = λ k b l m. absurd (omega arith) };
   codes = λ k l. absurd (omega arith);

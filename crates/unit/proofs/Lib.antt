@@ -18,7 +18,10 @@ pub mod Stepping
 pub mod Rooted
 pub mod Units
 pub mod Heads
-pub mod Remembering
+pub mod Cuts
+pub mod Holding
+pub mod Entering
+pub mod Recalling
 pub mod HeaderAlone
 pub mod Examples
 pub mod Plain

@@ -1,8 +1,10 @@
 // The abbreviation table at the front of lent bytes, read to its zero code. Every fault gives 12.
+use crate::tree::NODE;
 use crate::tree::Walked;
 use leb128::Number;
 use leb128::Size;
 ghost use mathlib.Core.Path.{_≡_};
+ghost use mathlib.Core.Bool.{true};
 ghost use mathlib.Core.List.{List};
 ghost use Prim.Native.Nat.{_≤_, _<_, _^_};
 ghost use lib.ListN.{length};
@@ -47,10 +49,11 @@ pub enum Found {
     Nothing,
 }
 
-// A table of so many declarations that is good, or one that is not.
+// A table of so many declarations that is good, or one that is not; or the words do not suffice.
 pub enum TableRead {
     Good(usize),
     Bad,
+    Full,
 }
 
 // A name and a form, zero together; form 21 hexadecimal is refused.
@@ -78,8 +81,21 @@ pub fn attribute_at(s: &[u8]) -> AttributeRead
     AttributeRead::Is(name, form, n + m)
 }
 
+// Whether the pair of zeros that ends attributes is in front.
+fn has_none(s: &[u8]) -> bool
+    ensures { λ r. ⌜ (r ≡ true → attributesSize (now (s .entry)) ≡ pass 2) ⌝ }
+{
+    if s.len() < 2 {
+        return false;
+    }
+    if s[0] != 0 {
+        return false;
+    }
+    s[1] == 0
+}
+
 // The bytes of a declaration's attributes, with the pair of zeros that ends them.
-fn attributes_size(s: &[u8]) -> Size
+fn walk_attributes(s: &[u8]) -> Size
     ensures { λ r. ⌜ sizeCheck noIdentity r ≡ attributesSize (now (s .entry)) ⌝ }
 {
     let mut at = 0;
@@ -96,6 +112,16 @@ fn attributes_size(s: &[u8]) -> Size
             }
         }
     }
+}
+
+// The same. Most declarations of a table made to take long have none, so that this is asked first.
+fn attributes_size(s: &[u8]) -> Size
+    ensures { λ r. ⌜ sizeCheck noIdentity r ≡ attributesSize (now (s .entry)) ⌝ }
+{
+    if has_none(s) {
+        return Size::Is(2);
+    }
+    walk_attributes(s)
 }
 
 fn place_at(s: &[u8]) -> PlaceRead
@@ -136,10 +162,10 @@ fn declared_at(s: &[u8]) -> Declared
     Declared::Is(code, tag, n + start, n + end)
 }
 
-// The table ends, and no code repeats: then codes hold its declarations, by where they stand. Callers lend a word for each byte: a declaration takes at
+// The table ends, and no code repeats: then codes hold its declarations, by where they stand. A word for each byte suffices: a declaration takes at
 // least five bytes, and a node five words. The bytes are read once, and each declaration takes one walk in the tree.
 pub fn judge_table(s: &[u8], codes: &mut [u32]) -> TableRead
-    requires { ⌜ (length (now s) ≤ length (now codes)) × (length (now s) < 2 ^ 32) ⌝ }
+    requires { ⌜ length (now s) < 2 ^ 32 ⌝ }
     ensures { λ r. ⌜ Judges (now (s .entry)) (now (codes .exit)) r ⌝ }
 {
     let mut at = 0;
@@ -147,6 +173,9 @@ pub fn judge_table(s: &[u8], codes: &mut [u32]) -> TableRead
     loop {
         match declared_at(&s[at..]) {
             Declared::Is(code, _, _, n) => {
+                if codes.len() < NODE * count + NODE {
+                    return TableRead::Full;
+                }
                 if !crate::tree::add_code(codes, count, at, code) {
                     return TableRead::Bad;
                 }

@@ -73,7 +73,7 @@ pub enum Identity {
     Unreadable,
 }
 
-// The same, with the table that was judged last.
+// The same, with the tables that were judged.
 pub struct IdentityRead {
     pub identity: Identity,
     pub judged: Judged,

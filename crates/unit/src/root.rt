@@ -1,9 +1,10 @@
 // The root of a unit of version 4 in info: its attributes are walked to their end, and the first 2131 hexadecimal states the identity.
 use crate::abbreviations::AttributeRead;
 use crate::abbreviations::Found;
-use crate::abbreviations::TableRead;
 use crate::forms::FormWidth;
 use crate::judged::Judged;
+use crate::judged::Recalled;
+use crate::tree::NODE;
 use bundle::encoding::ObjectEncoding;
 use leb128::Number;
 use leb128::Size;
@@ -57,7 +58,7 @@ pub enum RootIdentity {
     Unreadable,
 }
 
-// With the table that was judged last.
+// With the tables that were judged.
 pub struct RootRead {
     pub identity: RootIdentity,
     pub judged: Judged,
@@ -229,15 +230,18 @@ pub fn root_identity(
     ensures is { λ r. ⌜ rootCheck (r .identity) ≡ rootIdentity (encodingIs e) (between (now (b .entry)) at end) (now (s .entry)) ⌝ }
     ensures memory { λ r. ⌜ Remembers (now (b .entry)) (now (codes .exit)) (r .judged) ⌝ }
 {
-    let TableRead::Good(count) = crate::judged::recall(b, at, end, codes, judged) else {
+    let Recalled::Known(known) = crate::judged::recall(b, at, end, codes, judged) else {
         return RootRead {
             identity: RootIdentity::Unreadable,
             judged: crate::judged::nothing(),
         };
     };
-    let identity = root_in(e, &b[at..end], codes, count, s);
+    let from = known.last.from;
+    let count = known.last.count;
+    let to = from + NODE * count;
+    let identity = root_in(e, &b[at..end], &codes[from..to], count, s);
     RootRead {
         identity,
-        judged: Judged { at, end, count },
+        judged: known,
     }
 }

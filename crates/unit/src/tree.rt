@@ -18,7 +18,7 @@ ghost use Rattle.unit.specs.Trees.{
 };
 
 // The words of a node: the nodes on its left and on its right, what it carries, and its code.
-const NODE: usize = 5;
+pub const NODE: usize = 5;
 
 const RIGHT: usize = 1;
 

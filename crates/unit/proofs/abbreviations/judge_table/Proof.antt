@@ -10,6 +10,7 @@ use lib.ListN.{length, drop}
 use denote.Ref.{now}
 use Rattle.octets.specs.Checked.{pass}
 use Rattle.unit.specs.Tables.{declaredAt, declaredCheck}
+use Rattle.unit.specs.TableTrees.{Judges}
 use Rattle.unit.proofs.Sizes.{rest}
 use Rattle.unit.proofs.Walks.{walk-within}
 use Rattle.unit.proofs.Judging.{Judging, judging-start, judging-rising, judging-end, judging-not, judging-stops, judging-on}
@@ -55,44 +56,56 @@ declared-at-requires c κs = search needs
 enum-known-code : tie.Need-enum-known-code Inv-loop μ-loop
 enum-known-code c = search needs
 
-add-code-requires : tie.Need-add-code-requires Inv-loop μ-loop
-add-code-requires c κs =
-    let l = c .before .before .before .before .before .before in
-    let p = l .before .before .before .pre in
-    let j = l .loop .inv in
-    let b = within (c .before) in
-    (judging-rising _ _ _ _ (j .0), omega (arith, j .0 .room, j .1, b, p), omega (arith, j .0 .room, j .0 .within, p), omega (arith, j .0 .within, p))
+mul-if1 : tie.Need-mul-if1 Inv-loop μ-loop
+mul-if1 c = omega (arith, within c, c .before .before .before .before .before .loop .inv .0 .room, c .before .before .before .before .before .before .before .before .pre)
+
+add-if1 : tie.Need-add-if1 Inv-loop μ-loop
+add-if1 c = omega (arith, within c, c .before .before .before .before .before .loop .inv .0 .room, c .before .before .before .before .before .before .before .before .pre)
 
 same-length : tie.Need-same-length Inv-loop μ-loop
-same-length c = omega (arith, c .before .before .before .before .before .before .before .before .before .before .loop .inv .1)
+same-length c = c .before .before .before .before .before .before .loop .inv .1
 
 returns : tie.Need-returns Inv-loop μ-loop
-returns c =
-    let l = c .before .before .before .before .before .before .before .before .before .before in
-    judging-stops _ _ _ _ (l .loop .inv .0) _ (told (c .before .before .before .before .before)) _ _ (c .before .before .before .add-code .ensures) (not-true _ (c .if1 .taken))
+unfolding Judges
+returns c = omega (arith, c .if1 .taken, within (c .before), c .before .before .before .before .before .before .loop .inv .0 .room)
+
+add-code-requires : tie.Need-add-code-requires Inv-loop μ-loop
+add-code-requires c κs =
+    let l = c .before .before .before .before .before .before .before in
+    let p = l .before .before .before .pre in
+    let j = l .loop .inv in
+    (judging-rising _ _ _ _ (j .0), omega (arith, c .before .if1 .left), omega (arith, j .0 .room, j .0 .within, p), omega (arith, j .0 .within, p))
+
+same-length-2 : tie.Need-same-length-2 Inv-loop μ-loop
+same-length-2 c = omega (arith, c .before .before .before .before .before .before .before .before .before .before .before .loop .inv .1)
+
+returns-2 : tie.Need-returns-2 Inv-loop μ-loop
+returns-2 c =
+    let l = c .before .before .before .before .before .before .before .before .before .before .before in
+    judging-stops _ _ _ _ (l .loop .inv .0) _ (told (c .before .before .before .before .before .before)) _ _ (c .before .before .before .add-code .ensures) (not-true _ (c .if2 .taken))
 
 add-at : tie.Need-add-at Inv-loop μ-loop
-add-at c = omega (arith, within (c .before .before .before .before .before))
+add-at c = omega (arith, within (c .before .before .before .before .before .before))
 
 add-count : tie.Need-add-count Inv-loop μ-loop
-add-count c = let l = c .before .before .before .before .before .before .before .before .before .before in omega (arith, l .loop .inv .0 .room, l .loop .inv .0 .within, l .before .before .before .pre)
+add-count c = let l = c .before .before .before .before .before .before .before .before .before .before .before in omega (arith, l .loop .inv .0 .room, l .loop .inv .0 .within, l .before .before .before .pre)
 
 loop-less : tie.Need-loop-less Inv-loop μ-loop
-loop-less c = omega (arith, within (c .before .before .before .before .before))
+loop-less c = omega (arith, within (c .before .before .before .before .before .before))
 
 loop-again : tie.Need-loop-again Inv-loop μ-loop
 loop-again c =
-    let l = c .before .before .before .before .before .before .before .before .before .before in
-    (judging-on _ _ _ _ (l .loop .inv .0) _ (told (c .before .before .before .before .before)) _ _ (c .before .before .before .add-code .ensures) (not-false _ (c .if1 .left)), omega (arith, l .loop .inv .1))
+    let l = c .before .before .before .before .before .before .before .before .before .before .before in
+    (judging-on _ _ _ _ (l .loop .inv .0) _ (told (c .before .before .before .before .before .before)) _ _ (c .before .before .before .add-code .ensures) (not-false _ (c .if2 .left)), omega (arith, l .loop .inv .1))
 
 enum-told : tie.Need-enum-told Inv-loop μ-loop
 enum-told c = search needs
 
-same-length-2 : tie.Need-same-length-2 Inv-loop μ-loop
-same-length-2 c = c .before .before .before .before .loop .inv .1
+same-length-3 : tie.Need-same-length-3 Inv-loop μ-loop
+same-length-3 c = c .before .before .before .before .loop .inv .1
 
-returns-2 : tie.Need-returns-2 Inv-loop μ-loop
-returns-2 c =
+returns-3 : tie.Need-returns-3 Inv-loop μ-loop
+returns-3 c =
     let l = c .before .before .before .before in
     judging-end _ _ _ _ (l .loop .inv .0)
     (ap declaredAt (sym (rest (l .loop .at) (now (l .before .before .before .args .s)))) ∙ sym (c .before .before .declared-at .ensures) ∙ ap declaredCheck (c .enum-told .given .1))
@@ -100,11 +113,11 @@ returns-2 c =
 enum-told-2 : tie.Need-enum-told-2 Inv-loop μ-loop
 enum-told-2 c = search needs
 
-same-length-3 : tie.Need-same-length-3 Inv-loop μ-loop
-same-length-3 c = c .before .before .before .before .loop .inv .1
+same-length-4 : tie.Need-same-length-4 Inv-loop μ-loop
+same-length-4 c = c .before .before .before .before .loop .inv .1
 
-returns-3 : tie.Need-returns-3 Inv-loop μ-loop
-returns-3 c =
+returns-4 : tie.Need-returns-4 Inv-loop μ-loop
+returns-4 c =
     let l = c .before .before .before .before in
     let k = sym (c .before .before .declared-at .ensures) ∙ ap declaredCheck (c .enum-told2 .given .1) in
     judging-not _ _ _ _ (l .loop .inv .0) 12 (ap declaredAt (sym (rest (l .loop .at) (now (l .before .before .before .args .s)))) ∙ k)
@@ -121,16 +134,20 @@ judge-table-spec =
     part-declared-at-end
     declared-at-requires
     enum-known-code
-    add-code-requires
+    mul-if1
+    add-if1
     same-length
     returns
+    add-code-requires
+    same-length-2
+    returns-2
     add-at
     add-count
     loop-less
     loop-again
     enum-told
-    same-length-2
-    returns-2
-    enum-told-2
     same-length-3
-    returns-3)
+    returns-3
+    enum-told-2
+    same-length-4
+    returns-4)

@@ -16,7 +16,7 @@ use Rattle.unit.proofs.Sizes.{rest}
 use Rattle.bundle.proofs.InitialLengths.{field-most}
 use Rattle.unit.proofs.Fields.{width-le, common-ge}
 use Rattle.unit.proofs.Rooted.{root-past}
-use Rattle.unit.proofs.Remembering.{between-length, between-drop}
+use Rattle.unit.proofs.Cuts.{between-length, between-drop}
 use borrow.Author.Needs.{needs}
 use Rattle.unit.proofs.header.identity_of_root.Statement.{statement}
 use Rattle.unit.proofs.header.identity_of_root.Tie as tie

@@ -11,7 +11,7 @@ use Rattle.octets.specs.Checked.{pass}
 use Rattle.bundle.specs.Encoded.{encodingIs}
 use Rattle.unit.specs.UnitRead.{commonSize}
 use Rattle.unit.specs.Headers.{headOf}
-use Rattle.unit.proofs.Remembering.{unit-none, own-within, unit-whole}
+use Rattle.unit.proofs.Cuts.{unit-none, own-within, unit-whole}
 use borrow.Author.Needs.{needs}
 use Rattle.unit.proofs.header.read_unit.Statement.{statement}
 use Rattle.unit.proofs.header.read_unit.Tie as tie

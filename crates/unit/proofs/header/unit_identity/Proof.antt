@@ -4,7 +4,7 @@ use mathlib.Core.List.{[]}
 use native.Mathlib.Omega.{arith}
 use denote.Ref.{now}
 use Rattle.bundle.specs.Encoded.{encodingIs}
-use Rattle.unit.proofs.Remembering.{cut-length, answer-short, answer-whole, answer-good}
+use Rattle.unit.proofs.Cuts.{cut-length, answer-short, answer-whole, answer-good}
 use borrow.Author.Needs.{needs}
 use Rattle.unit.proofs.header.unit_identity.Statement.{statement}
 use Rattle.unit.proofs.header.unit_identity.Tie as tie

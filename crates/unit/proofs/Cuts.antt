@@ -1,8 +1,6 @@
--- The table judged last, and the parts of a bundle that a unit is read from.
+-- The parts of a bundle that a unit is read from.
 -- Assumes nothing.
-use mathlib.Core.Path.{_≡_, sym, subst, ap, ap₂, _∙_}
-use mathlib.Core.Logic.{⊎-elim, inr}
-use mathlib.Core.Bool.{true, false}
+use mathlib.Core.Path.{_≡_, sym, ap, ap₂, _∙_}
 use mathlib.Core.List.{List}
 use Prim.Native.Nat.{ℕ, _+_, _-_, _≤_, _<_}
 use native.Mathlib.Omega.{arith}
@@ -12,43 +10,16 @@ use Rattle.octets.specs.Octets.{part}
 use Rattle.octets.specs.Checked.{Check, pass, refuse}
 use Rattle.octets.proofs.Parts.{drop-take, length-part, part-cut}
 use Rattle.bundle.specs.Encoding.{Encoding}
-use Rattle.unit.specs.Tables.{tableGood}
-use Rattle.unit.specs.TableTrees.{TableHeld, Judges, between, Remembers}
+use Rattle.unit.specs.TableTrees.{between}
 use Rattle.unit.specs.UnitRead.{Identity, commonSize, unitOf}
 use Rattle.unit.specs.Headers.{kindOf, headerSize, identityBy, identityCheck, headOf, nonZero, identityGood, identityAnswer, withSize, unitAnswer}
-use Rattle.unit.specs.declared.judged.Judged.{Judged}
-use Rattle.unit.specs.declared.abbreviations.TableRead.{TableRead}
-use Rattle.unit.specs.declared.abbreviations.TableRead.the-variants.{Good, Bad}
 use Rattle.unit.specs.declared.header.Kind.{Kind}
 use Rattle.unit.specs.declared.header.Identity as code
 use Rattle.unit.specs.declared.header.IdentityAnswer.{IdentityAnswer}
 use Rattle.unit.specs.declared.header.IdentityAnswer.the-variants as answer
 use Rattle.unit.specs.declared.header.UnitAnswer.{UnitAnswer}
 use Rattle.unit.specs.declared.header.UnitAnswer.the-variants as whole
-use Rattle.unit.proofs.Judging.{table-good}
 use Rattle.unit.proofs.Heads.{good-short, good-whole, head-within, unit-headless, unit-headed, answer-sized}
-
--- ---- the memory
-pub recall-good : (b w : List ℕ) (j : Judged) (at end : ℕ) → at ≤ end → j .at ≡ at → j .end ≡ end → Remembers b w j → Judges (between b at end) w (Good (j .count))
-unfolding Remembers Judges
-recall-good b w j at end h e f m =
-    ⊎-elim (λ z. absurd (omega arith)) (λ t. go (subst (λ (x : List ℕ). TableHeld x w (j .count)) (ap₂ (λ (x y : ℕ). between b x y) e f) t)) m
-  where
-    go : TableHeld (between b at end) w (j .count) → (tableGood (between b at end) ≡ true) × TableHeld (between b at end) w (j .count)
-    go t = (table-good (between b at end) (t .declared) (t .read), t)
-
-module _ (s w : List ℕ) (r : TableRead) (j : Judges s w r) where
-  pub judged-bad : r ≡ Bad → tableGood s ≡ false
-  unfolding Judges
-  judged-bad e = rw e at j
-
-  pub judged-good : (n : ℕ) → r ≡ Good n → TableHeld s w n
-  unfolding Judges
-  judged-good n e = let g : (tableGood s ≡ true) × TableHeld s w n = rw e at j in g .1
-
-pub remembered : (b w : List ℕ) (at end n : ℕ) → TableHeld (between b at end) w n → Remembers b w (record { at = at; end = end; count = n })
-unfolding Remembers
-remembered b w at end n t = inr t
 
 -- ---- parts
 pub between-length : (b : List ℕ) (first last : ℕ) → first ≤ last → last ≤ length b → length (between b first last) ≡ last - first
