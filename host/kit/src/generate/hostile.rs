@@ -33,11 +33,12 @@ const fn alone(hostile: Hostile) -> Hostile {
 /// The length at which each kind has a time of its own: a bundle so short once took no end.
 pub const SHORT: usize = 28 << 10;
 
-pub const HOSTILE: [Hostile; 18] = [
+pub const HOSTILE: [Hostile; 19] = [
     kind("units at different offsets of one run of declarations", "units", offsets_of_one_run),
     kind("units that take turns with two long tables", "units", two_tables),
     kind("units over one long table, the root's declaration last", "units", one_long_table),
     kind("units whose root has very many attributes of no width", "units", many_attributes),
+    kind("units whose root has very many attributes of no width, their names of two bytes", "units", many_long_attributes),
     kind("one table, its codes descending", "declarations", descending_codes),
     kind("identities of one probe sequence", "units", colliding_units),
     alone(kind("a package as input, identities of one probe sequence", "units", colliding_rows)),
@@ -73,18 +74,22 @@ fn put_empty(out: &mut Vec<u8>, code: u64) {
     out.extend([0x2E, 0, 0, 0]);
 }
 
-/// The declaration of a root that states its identity behind so many attributes of no width.
-fn put_root(out: &mut Vec<u8>, code: u64, others: u64) {
+/// An attribute of no width, with a name of one byte or two.
+const FLAG: [u8; 2] = [0x3F, 0x19];
+const LONG_FLAG: [u8; 3] = [0xBF, 0x01, 0x19];
+
+/// The declaration of a root that states its identity behind other attributes.
+fn put_root(out: &mut Vec<u8>, code: u64, others: &[u8]) {
     put_unsigned(out, code);
     out.extend([0x11, 0]);
-    (0..others).for_each(|_| out.extend([0x3F, 0x19]));
+    out.extend(others);
     out.extend([0xB1, 0x42, 7, 0, 0]);
 }
 
 /// A table of so many declarations with rising codes, the root's last.
 fn put_table(out: &mut Vec<u8>, declarations: u64) {
     (1..declarations).for_each(|code| put_empty(out, code));
-    put_root(out, declarations, 0);
+    put_root(out, declarations, &[]);
     out.push(0);
 }
 
@@ -117,7 +122,7 @@ fn offsets_of_one_run(units: u64) -> Vec<u8> {
         places.push(abbrev.len());
         put_empty(&mut abbrev, code);
     }
-    put_root(&mut abbrev, declarations, 0);
+    put_root(&mut abbrev, declarations, &[]);
     abbrev.push(0);
     units_with(abbrev, places.into_iter().take(units as usize).map(|place| (place, declarations)))
 }
@@ -138,18 +143,26 @@ fn one_long_table(units: u64) -> Vec<u8> {
     units_with(abbrev, (0..units).map(|_| (0, declarations)))
 }
 
-/// An attribute takes a tenth of a unit's bytes.
-fn many_attributes(units: u64) -> Vec<u8> {
+/// The attributes take as many bytes as the units.
+fn units_of_one_root(units: u64, attributes: &[u8]) -> Vec<u8> {
     let mut abbrev = Vec::new();
-    put_root(&mut abbrev, 1, 10 * units);
+    put_root(&mut abbrev, 1, attributes);
     abbrev.push(0);
     units_with(abbrev, (0..units).map(|_| (0, 1)))
+}
+
+fn many_attributes(units: u64) -> Vec<u8> {
+    units_of_one_root(units, &FLAG.repeat(10 * units as usize))
+}
+
+fn many_long_attributes(units: u64) -> Vec<u8> {
+    units_of_one_root(units, &LONG_FLAG.repeat(7 * units as usize))
 }
 
 fn descending_codes(declarations: u64) -> Vec<u8> {
     let mut abbrev = Vec::new();
     (2..=declarations).rev().for_each(|code| put_empty(&mut abbrev, code));
-    put_root(&mut abbrev, 1, 0);
+    put_root(&mut abbrev, 1, &[]);
     abbrev.push(0);
     units_with(abbrev, [(0, 1)].into_iter())
 }

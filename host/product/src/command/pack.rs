@@ -170,11 +170,11 @@ fn told(call: &Call, operands: &[OsString], earlier: Option<&Earlier>, joined: &
 }
 
 /// What most packages of a bundle fit in. Those of many small units are longer than the bundle, by their indexes; those of long bundles are shorter, as a
-/// rule, since strings and type units are kept once, and what is lent is cleared.
+/// rule, since strings and type units are kept once. What is lent is cleared, which takes time.
 fn usual(bundle: usize) -> usize {
     match bundle < LONG {
         true => 2 * bundle,
-        false => bundle + bundle / 8,
+        false => bundle,
     }
 }
 
