@@ -8,6 +8,7 @@
 
 mod elves;
 mod hostile;
+mod instructions;
 mod lookups;
 mod measure;
 mod paper;
@@ -80,6 +81,8 @@ fn measure_all(sources: &Sources) -> Result<Paper> {
     let name = "many different strings";
     let strings = growing(&mut bench, name, STRINGS.iter().map(|n| (many_strings(*n), *n)))?;
     let strings = Growth { name, items: "strings", measured: strings };
+    let counted = STRINGS.iter().map(|n| instructions::of_packing(sources.barthovin, &many_strings(*n)));
+    let instructions = counted.collect::<Result<Vec<Option<u64>>>>()?;
     let (name, (many, often)) = ("100,000 entries for the last of 5,000 strings", LAST_OF);
     let measured = growing(&mut bench, name, std::iter::once((last_of_many_strings(many, often), often)))?;
     let last_of = Growth { name, items: "entries", measured };
@@ -92,6 +95,7 @@ fn measure_all(sources: &Sources) -> Result<Paper> {
         small,
         kinds,
         strings,
+        instructions,
         last_of,
         releases,
         processes,

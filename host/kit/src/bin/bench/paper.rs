@@ -28,6 +28,8 @@ pub struct Paper {
     pub small: (Measured, Duration),
     pub kinds: Vec<Growth>,
     pub strings: Growth,
+    /// Of the command for each of them; none where they were not counted.
+    pub instructions: Vec<Option<u64>>,
     /// One string named very often, the last of many.
     pub last_of: Growth,
     /// Of a real release: its bundles, and whole processes over its files. None where it was not at hand.
@@ -232,6 +234,16 @@ impl Paper {
         }
     }
 
+    /// What the command's instructions are at each length of the bundle of strings, and how many times those before.
+    fn instructions(&self) -> String {
+        let Some(counted) = self.instructions.iter().copied().collect::<Option<Vec<u64>>>() else {
+            return "valgrind was not at hand in this run, so that they were not counted.".to_string();
+        };
+        let grown = counted.windows(2).map(|two| format!("{:.2}", two[1] as f64 / two[0] as f64));
+        let counts: Vec<String> = counted.iter().map(|count| grouped(*count)).collect();
+        format!("They are {}: times the one before, {}.", counts.join("; "), grown.collect::<Vec<_>>().join(", "))
+    }
+
     fn string_figures(&self) -> Vec<(&'static str, String)> {
         let last = self.strings.measured.last();
         let most = |shown: &dyn Fn(&Measured) -> String| or_dash(last, shown);
@@ -239,6 +251,7 @@ impl Paper {
         vec![
             ("strings", grown(&self.strings)),
             ("strings_factor", format!("{:.2}", self.strings.last_factor())),
+            ("strings_instructions", self.instructions()),
             ("most_strings", most(&|m| grouped(m.items))),
             ("most_strings_time", most(&|m| time(m.ours))),
             ("most_strings_ratio", ratio.unwrap_or_default()),
@@ -378,6 +391,7 @@ mod tests {
             small: (one(), took),
             kinds: vec![growth("a")],
             strings: growth("b"),
+            instructions: vec![Some(1_000), Some(2_100)],
             last_of: growth("c"),
             releases: vec![Packed { name: "r", measured: one() }],
             processes: vec![ran("barthovin pack", 3), ran("other", 2)],
@@ -394,6 +408,7 @@ mod tests {
         };
         let text = paper.to_string();
         assert!(text.contains("| document 01's example | 44 | 1 unit | 112 | 3.00 ms |"), "{text}");
+        assert!(text.contains("They are 1,000; 2,100: times the one before, 2.10."), "{text}");
         assert!(text.contains("| some | 12 | 3.00 ms |\n") && !text.contains("\n\n\n"), "{text}");
         assert!(text.contains("| 4 | other | 6.00 ms | 2.0 MB | verified | 1.50 |\n"), "{text}");
         assert!(
