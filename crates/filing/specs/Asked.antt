@@ -79,7 +79,7 @@ pub record ChainAsked (b : List ℕ) (x : InputObject) (h : HomeSection) (w : Li
   pub is : InputIs b x input
   pub work : WorkFor b w
 
--- what counts for the section at hand alone: the rows by place, and the table judged last
+-- what counts for the section at hand alone: the rows by place, and the tables that were judged
 pub record Transient (b : List ℕ) (x : InputObject) (h : HomeSection) (j : Judged) (w : List ℕ) : Type 0 where
   pub chained : RowsChained b x h w
   pub memory : Remembered b w j

@@ -32,6 +32,6 @@ pub record TransientStay (n : ℕ) (w v : List ℕ) : Type 0 where
   pub rows : region v n rowsRegion ≡ region w n rowsRegion
   pub codes : region v n codesRegion ≡ region w n codesRegion
 
--- the abbreviation table that was judged last, in work w for the bundle b
+-- the abbreviation tables that were judged, in work w for the bundle b
 abbrev pub Remembered : List ℕ → List ℕ → Judged → Type 0
 Remembered b w j = Remembers b (region w (wordsIn b) codesRegion) j

@@ -186,7 +186,7 @@ fn abbreviations_for(
     abbrev_part(e.big, s, head, row, start, many)
 }
 
-// The identity of a unit whose head was read. One table judged is remembered in the region of codes.
+// The identity of a unit whose head was read. The tables that were judged are remembered in the region of codes.
 fn identity_in(
     e: ObjectEncoding,
     home: u32,

@@ -29,7 +29,7 @@ pub struct UnitsFiled {
     pub st: InProgress,
 }
 
-// Both with the abbreviation table that was judged last.
+// Both with the abbreviation tables that were judged.
 pub struct UnitDone {
     pub filed: UnitFiled,
     pub judged: Judged,

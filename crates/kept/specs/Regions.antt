@@ -1,5 +1,6 @@
 -- The regions of work, in words for each word of the bundle: records of kept units 5, slots of each table 1, strings 7 (their rows 3, their
--- links 2, a place for each entry 1, the roots of their index 1), the codes of an abbreviation table 4, an object's rows by place 2: 20 in all. What is remembered of an object's str by a string's start stands
+-- links 2, a place for each entry 1, the roots of their index 1), the codes of an object's abbreviation tables 4, an object's rows by place 2: 20 in all.
+-- What is remembered of an object's str by a string's start stands
 -- where the codes do, a word for each byte: codes count while units are filed, memory while strings are put or written. So that both can be lent as one
 -- store, the codes stand behind the strings.
 -- Assumes nothing.

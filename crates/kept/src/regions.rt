@@ -118,7 +118,7 @@ pub fn rows_by_place(n: usize) -> Region
     }
 }
 
-// The codes of an abbreviation table; what stands there counts for that table alone.
+// The codes of an object's abbreviation tables; what stands there counts for that object alone.
 pub fn codes(n: usize) -> Region
     requires { ⌜ n < 2 ^ 32 ⌝ }
     ensures start { λ r. ⌜ r .start ≡ codesRegion .start * n ⌝ }

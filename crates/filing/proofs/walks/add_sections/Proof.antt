@@ -1,4 +1,4 @@
--- `add_sections` meets its contract. What the loop keeps is `Sectioned`, and the table judged last.
+-- `add_sections` meets its contract. What the loop keeps is `Sectioned`, and the tables that were judged.
 -- Assumes nothing.
 use mathlib.Core.Path.{refl, sym, _∙_}
 use Prim.Native.Nat.{_-_}
