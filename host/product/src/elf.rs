@@ -48,11 +48,20 @@ pub fn write(package: &[u8], machine: u32, output: &mut [u8]) -> (u32, usize) {
 
 /// The ELF file of a package, or the refusal's number.
 pub fn file_of(package: &[u8], machine: u32) -> Result<Lent<u8>, u32> {
-    let mut output = Lent::zeros(package.len() + ROOM);
-    match write(package, machine, &mut output) {
+    file_in(package, machine, Lent::zeros(0))
+}
+
+/// The same in memory that has served, where it is long enough: the system has given it its pages.
+pub fn file_in(package: &[u8], machine: u32, mut memory: Lent<u8>) -> Result<Lent<u8>, u32> {
+    let room = package.len() + ROOM;
+    memory.truncate(room);
+    if memory.len() < room {
+        memory = Lent::zeros(room);
+    }
+    match write(package, machine, &mut memory) {
         (0, length) => {
-            output.truncate(length);
-            Ok(output)
+            memory.truncate(length);
+            Ok(memory)
         }
         (number, _) => Err(number),
     }

@@ -38,7 +38,11 @@ pub const HOSTILE: [Hostile; 19] = [
     kind("units that take turns with two long tables", "units", two_tables),
     kind("units over one long table, the root's declaration last", "units", one_long_table),
     kind("units whose root has very many attributes of no width", "units", many_attributes),
-    kind("units whose root has very many attributes of no width, their names of two bytes", "units", many_long_attributes),
+    kind(
+        "units whose root has very many attributes of no width, their names of two bytes",
+        "units",
+        many_long_attributes,
+    ),
     kind("one table, its codes descending", "declarations", descending_codes),
     kind("identities of one probe sequence", "units", colliding_units),
     alone(kind("a package as input, identities of one probe sequence", "units", colliding_rows)),

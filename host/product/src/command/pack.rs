@@ -53,33 +53,35 @@ pub fn run(arguments: &[OsString]) -> Result<u8, Stop> {
     let packed = progress::shown(about, || packed(&joined.bundle));
     let (package, skipped) = packed.map_err(|number| told(&call, &names, earlier.as_ref(), &joined, number))?;
     let added = earlier.as_ref().map(|earlier| earlier.added(names.len(), &package));
-    let file = if as_elf { elf_file(&call, to, &package, named.or(joined.machine))? } else { package };
+    let namesakes = if call.has("namesakes") { namesakes(&joined, skipped)? } else { Vec::new() };
+    let file = if as_elf { elf_file(&call, to, &package, named, joined)? } else { package };
     match &earlier {
         Some(earlier) => output::write_for(earlier.name, to, &file)?,
         None => output::write(to, &file)?,
     }
-    say(&call, to, &joined, Done { length: file.len(), skipped, added })
+    say(&call, to, Done { length: file.len(), skipped, namesakes, added })
 }
 
-/// The package as an ELF file.
-fn elf_file(call: &Call, to: &OsStr, package: &[u8], machine: Option<u32>) -> Result<Lent<u8>, Stop> {
-    let machine = machine.unwrap_or(elf::MACHINES[0].1);
+/// The package as an ELF file, for the machine that was named or that of what was packed, in whose place it is written.
+fn elf_file(call: &Call, to: &OsStr, package: &[u8], named: Option<u32>, packed: Joined) -> Result<Lent<u8>, Stop> {
+    let machine = named.or(packed.machine).unwrap_or(elf::MACHINES[0].1);
     let why = |number| Some(format!("the machine is {machine}")).filter(|_| number == OTHER_MACHINE);
-    elf::file_of(package, machine).map_err(|number| refused_call(call, &output::shown(to), number, why(number)))
+    let file = elf::file_in(package, machine, packed.bundle);
+    file.map_err(|number| refused_call(call, &output::shown(to), number, why(number)))
 }
 
-/// What was done: the length written, what was skipped, and what was added to a package.
+/// What was done: the length written, what was skipped and which of it are namesakes where that is asked for, and what was added to a package.
 struct Done {
     length: usize,
     skipped: Skipped,
+    namesakes: Vec<Namesake>,
     added: Option<Added>,
 }
 
 /// Says what was added, how many type units were skipped, where there are any, and with --namesakes which of them are namesakes. It is said
 /// on standard error where the package goes to standard output.
-fn say(call: &Call, to: &OsStr, joined: &Joined, done: Done) -> Result<u8, Stop> {
-    let Done { length, skipped, added } = done;
-    let namesakes = if call.has("namesakes") { namesakes(joined, skipped)? } else { Vec::new() };
+fn say(call: &Call, to: &OsStr, done: Done) -> Result<u8, Stop> {
+    let Done { length, skipped, namesakes, added } = done;
     if call.has("json") {
         let listed: Vec<String> = namesakes.iter().map(Namesake::json).collect();
         let listed = call.has("namesakes").then(|| format!(",\"listed\":[{}]", listed.join(",")));
