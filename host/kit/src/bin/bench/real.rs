@@ -10,7 +10,7 @@ use std::time::Duration;
 
 const VERSIONS: [u32; 2] = [4, 5];
 /// The shortest of so many runs counts.
-const RUNS: usize = 7;
+const RUNS: usize = 31;
 /// A process that takes longer is ended.
 const PATIENCE: Duration = Duration::from_secs(20);
 
