@@ -13,7 +13,7 @@ use Rattle.octets.specs.Lists.{has}
 use Rattle.octets.specs.Checked.{pass}
 use Rattle.unit.specs.Abbreviations.{Declaration, attributesOf, declarationsOf}
 use Rattle.unit.specs.Tables.{Coded, declaredAt, tableGood}
-use Rattle.unit.specs.Trees.{nodeWords, codeAt, carriedAt, Tree}
+use Rattle.unit.specs.Trees.{nodeWords, codeAt, carriedAt, Rising, Tree}
 use Rattle.unit.specs.declared.judged.Table.{Table}
 use Rattle.unit.specs.declared.judged.Judged.{Judged}
 use Rattle.unit.specs.declared.judged.Sought.{Sought}
@@ -112,6 +112,13 @@ pub record Enters (b w : List ℕ) (size at end start count : ℕ) (j : Judged) 
   pub fresh : Fresh (directory b w) (j .tables) (keyOf at end)
   pub tables : Tables b w (j .tables) (j .free)
   pub held : Held b w (record { at = at; end = end; from = start + 1; count = count })
+
+-- its numbers fit into words, and the words suffice: the directory's for one node more, the others for the count and the tree
+abbrev pub Enterable : List ℕ → ℕ → ℕ → ℕ → ℕ → ℕ → Judged → Type 0
+Enterable w size at end start count j =
+    (at < 2 ^ 32) × (end < 2 ^ 32) × (count < 2 ^ 32) × (start < 2 ^ 32)
+    × (size ≤ start) × (start + 1 + nodeWords * count ≤ length w)
+    × (nodeWords * j .tables + nodeWords ≤ size) × Rising (take size w) (j .tables)
 
 -- what a search in such a directory says
 unfoldable pub Seeks : List ℕ → ℕ → ℕ → Sought → Type 0

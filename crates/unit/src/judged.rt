@@ -8,7 +8,7 @@ use crate::tree::Walked;
 ghost use mathlib.Core.Path.{_≡_};
 ghost use mathlib.Core.List.{List};
 ghost use Prim.Native.Nat.{ℕ, _+_, _*_, _/_, _≤_, _<_, _^_};
-ghost use lib.ListN.{length, take};
+ghost use lib.ListN.{length};
 ghost use Rattle.unit.specs.Trees.{nodeWords, Rising};
 ghost use Rattle.unit.specs.TableTrees.{
   directoryShare,
@@ -16,6 +16,7 @@ ghost use Rattle.unit.specs.TableTrees.{
   keyOf,
   Fresh,
   Enters,
+  Enterable,
   Seeks,
   Remembers,
   Knows,
@@ -119,7 +120,7 @@ fn enter_table(
     count: usize,
     judged: Judged,
 ) -> Judged
-    requires { ⌜ (at < 2 ^ 32) × (end < 2 ^ 32) × (count < 2 ^ 32) × (start < 2 ^ 32) × (size ≤ start) × (start + 1 + nodeWords * count ≤ length (now codes)) × (nodeWords * judged .tables + nodeWords ≤ size) × Rising (take size (now codes)) (judged .tables) ⌝ }
+    requires { ⌜ Enterable (now codes) size at end start count judged ⌝ }
     ensures { λ r. ⌜ ((b : List ℕ) → Enters b (now (codes .entry)) size at end start count judged → Knows b (now (codes .exit)) at end r) ⌝ }
 {
     octets::set_word(codes, start, count);
