@@ -9,7 +9,7 @@ use std::time::Duration;
 /// A sixteenth, an eighth, a quarter, and all of the greatest length.
 const PARTS: [usize; 4] = [16, 8, 4, 1];
 /// What would take longer, by the growth that was seen or by the square of the length, is left out.
-const PATIENCE: Duration = Duration::from_secs(40);
+const PATIENCE: Duration = Duration::from_secs(20);
 const SQUARE: f64 = 4.0;
 
 /// One bundle; thorin's time is none where it was left out, or thorin isn't the measure.
