@@ -171,12 +171,12 @@ fn told(call: &Call, operands: &[OsString], earlier: Option<&Earlier>, joined: &
     refused_call(call, file, number, Some(why.join("; ")))
 }
 
-/// What most packages of a bundle fit in. Those of many small units are longer than the bundle, by their indexes; those of long bundles are shorter, as a
-/// rule, since strings and type units are kept once. What is lent is cleared, which takes time.
+/// What most packages of a bundle fit in. An index makes a package longer than its bundle, by less than a sixteenth where units have a kilobyte; strings and type
+/// units that are kept once make it shorter. What is lent is cleared, which takes time, so that a long bundle isn't lent twice its length.
 fn usual(bundle: usize) -> usize {
     match bundle < LONG {
         true => 2 * bundle,
-        false => bundle,
+        false => bundle + bundle / 16,
     }
 }
 
