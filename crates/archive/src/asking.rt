@@ -15,7 +15,7 @@ const NOT_LOOKED_UP: u32 = 2;
 // Packing's answer: 0 and the package's length, 18 and the length needed, else the refusal and 0. Where it is 0, the lookup's answer,
 // else `NOT_LOOKED_UP` and zeros.
 #[repr(C)]
-#[derive(Drop)]
+#[derive(Clone, Copy)]
 pub struct FromBundle {
     pub packing: u32,
     pub packed: usize,

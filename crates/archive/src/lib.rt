@@ -1,6 +1,8 @@
 // The C entries, all of them: a thin crate, for one static library. None has a requirement that a caller in Rattle could break. A caller in C must
 // keep what a Rattle caller can't help keeping: a slice is a pointer and a length, in that order; that many elements are there, for as long as the call
 // runs; `work` is aligned as 32-bit words are; and what is lent to be written, output and work, overlaps neither the other nor the bundle.
+#![tactic(auto)]
+
 pub mod asking;
 pub mod files;
 pub mod many;

@@ -8,7 +8,7 @@ use numbers::sections::{INFO, LOC, LOCLISTS, MACINFO, MACRO, RNGLISTS, TYPES};
 use numbers::tables::{INDEX_2, INDEX_5};
 
 // The sections that version 5 has in the place of one of version 2.
-#[derive(Drop)]
+#[derive(Clone, Copy)]
 pub enum InPlace {
     Gone,
     One(usize),

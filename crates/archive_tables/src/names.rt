@@ -10,7 +10,7 @@ use numbers::names::{NAME_LIMIT, Name};
 use numbers::sections::{CODES, STR};
 
 // A word and zeros.
-#[derive(Drop)]
+#[derive(Clone, Copy)]
 pub struct Word {
     pub length: usize,
     pub bytes: [u8; 11],

@@ -1,4 +1,6 @@
 // Many questions for one package, which is opened once for all of them.
+#![tactic(auto)]
+
 ghost use Rattle.std.specs.Prelude.{◌≡◌, [], ◌∷◌, ◌+◌, ◌≤◌, length};
 ghost use Rattle.octets.specs.Octets.{placed};
 ghost use Rattle.answers.specs.Answers.{output_of, written_of};

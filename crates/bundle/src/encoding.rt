@@ -7,7 +7,7 @@ ghost use Rattle.bundle.specs.Encoding.{encoding_of};
 use numbers::tables::{DWARF_4, DWARF_5};
 
 // The byte order of the data, version 5 or else 4, offsets of 8 bytes or else 4, addresses of 8 bytes or else 4.
-#[derive(Drop)]
+#[derive(Clone, Copy)]
 pub struct ObjectEncoding {
     pub big: bool,
     pub five: bool,
@@ -15,7 +15,7 @@ pub struct ObjectEncoding {
     pub long: bool,
 }
 
-#[derive(Drop)]
+#[derive(Clone, Copy)]
 pub enum WordRead {
     Good(ObjectEncoding),
     // refusal 4

@@ -1,4 +1,6 @@
 // Reading and writing the words of a bundle.
+#![tactic(auto)]
+
 pub mod encoding;
 pub mod initial_length;
 
@@ -26,7 +28,7 @@ const LAST_CODE: u32 = numbers::sections::TU_INDEX as u32;
 const FIRST_SHARED: u32 = numbers::sections::FIRST_SHARED as u32;
 
 // What stands at a place of a bundle, with the place behind it; of a section also its code, and where its bytes lie.
-#[derive(Drop)]
+#[derive(Clone, Copy)]
 pub enum Item {
     Object(u32, usize),
     Section(u32, usize, usize, usize),
@@ -35,14 +37,14 @@ pub enum Item {
 }
 
 // Whether the words of a bundle can be read, and whether its data is big-endian.
-#[derive(Drop)]
+#[derive(Clone, Copy)]
 pub enum Words {
     Readable(bool),
     Broken,
 }
 
 // An object's sections by code: how many there are and where the first lies, 0 and 0 where there is none; and the place behind the last one.
-#[derive(Drop)]
+#[derive(Clone, Copy)]
 pub struct Scan {
     pub count: [usize; CODES],
     pub start: [usize; CODES],
@@ -51,7 +53,7 @@ pub struct Scan {
 }
 
 // An info or types section: its code, where its bytes lie, and the place behind it.
-#[derive(Drop)]
+#[derive(Clone, Copy)]
 pub enum UnitSection {
     Found(u32, usize, usize, usize),
     Done,

@@ -1,4 +1,6 @@
 // The bundle check over small bundles, good and broken in each way that the format can break: a line with the verdict for each.
+#![tactic(auto)]
+
 use libc::STDOUT_FILENO;
 
 // The verdict of refusal 3, or the byte order.

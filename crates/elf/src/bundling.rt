@@ -18,7 +18,7 @@ use crate::file::File;
 use numbers::limits::SECTION_LIMIT;
 
 // What sections take with their words, in bytes.
-#[derive(Drop)]
+#[derive(Clone, Copy)]
 pub enum Room {
     Is(usize),
     // refusal 19

@@ -6,7 +6,7 @@ ghost use Rattle.elf.specs.Held.{header_is, file_is, file_check, laid_in, with_n
 
 // A section header: its number, its name's place in the name table, its type and flags, where its bytes lie, and the number of a
 // relocation section's target.
-#[derive(Drop)]
+#[derive(Clone, Copy)]
 pub struct Header {
     pub number: usize,
     pub name: usize,
@@ -18,14 +18,14 @@ pub struct Header {
 }
 
 // Bytes of a file.
-#[derive(Drop)]
+#[derive(Clone, Copy)]
 pub struct Place {
     pub start: usize,
     pub size: usize,
 }
 
 // The byte order, where the headers stand and how many there are, and where the name table lies.
-#[derive(Drop)]
+#[derive(Clone, Copy)]
 pub struct File {
     pub big: bool,
     pub at: usize,
@@ -33,7 +33,7 @@ pub struct File {
     pub names: Place,
 }
 
-#[derive(Drop)]
+#[derive(Clone, Copy)]
 pub enum FileRead {
     Is(File),
     // refusal 31

@@ -1,4 +1,6 @@
 // ELF64 files, read into bundles of one object.
+#![tactic(auto)]
+
 pub mod bundling;
 pub mod file;
 pub mod judging;

@@ -26,7 +26,7 @@ const VERSION_4: u16 = numbers::tables::DWARF_4 as u16;
 
 const VERSION_5: u16 = numbers::tables::DWARF_5 as u16;
 
-#[derive(Drop)]
+#[derive(Clone, Copy)]
 pub enum Stated {
     // the object word
     Is(u32),

@@ -62,7 +62,7 @@ pub fn put_file_header(big: bool, machine: u32, at: usize, n: usize, d: &mut [u8
 }
 
 // What differs between the headers of sections.
-#[derive(Drop)]
+#[derive(Clone, Copy)]
 pub struct SectionHeader {
     // where its name stands in the name table
     pub name: usize,

@@ -31,7 +31,7 @@ const PROGRAM_BITS: u32 = 1;
 const STRING_TABLE: u32 = 3;
 
 // The number of sections, the bytes of all of them, and those of the name table.
-#[derive(Drop)]
+#[derive(Clone, Copy)]
 pub struct Extent {
     pub count: usize,
     pub bodies: usize,
@@ -39,7 +39,7 @@ pub struct Extent {
 }
 
 // Where a header stands, its name in the name table, and its section's bytes in the file.
-#[derive(Drop)]
+#[derive(Clone, Copy)]
 pub struct HeaderPlace {
     pub at: usize,
     pub name: usize,

@@ -15,14 +15,14 @@ use numbers::sections::CODES;
 use numbers::tables::{INDEX_2, INDEX_5};
 
 // An index of the object, or that it has none.
-#[derive(Drop)]
+#[derive(Clone, Copy)]
 pub enum Indexed {
     At(IndexHead),
     Nowhere,
 }
 
 // An object that passed: where the first section of each code lies in the bundle, 0 and 0 where there is none.
-#[derive(Drop)]
+#[derive(Clone, Copy)]
 pub struct InputObject {
     pub encoding: ObjectEncoding,
     pub start: [usize; CODES],
@@ -32,14 +32,14 @@ pub struct InputObject {
 }
 
 // 0 and the encoding, or the refusal's number.
-#[derive(Drop)]
+#[derive(Clone, Copy)]
 pub struct Judged {
     pub code: u32,
     pub encoding: ObjectEncoding,
 }
 
 // 0 and the index, or the refusal's number.
-#[derive(Drop)]
+#[derive(Clone, Copy)]
 pub struct JudgedIndex {
     pub code: u32,
     pub index: Indexed,

@@ -25,14 +25,14 @@ use strings::entries::Entries;
 use strings::table::{Added, Place, StrOffsets, StringTable};
 
 // The strings of an object put: 0 or the refusal, and the table.
-#[derive(Drop)]
+#[derive(Clone, Copy)]
 pub struct StringsFiled {
     pub code: u32,
     pub strings: StringTable,
 }
 
 // Both indexes of an object judged: 0 or the first refusal, and the indexes.
-#[derive(Drop)]
+#[derive(Clone, Copy)]
 pub struct IndexesJudged {
     pub code: u32,
     pub cu: Indexed,
@@ -40,7 +40,7 @@ pub struct IndexesJudged {
 }
 
 // An object judged: 0 or the refusal, the object, and what is known with its strings.
-#[derive(Drop)]
+#[derive(Clone, Copy)]
 pub struct InputFiled {
     pub code: u32,
     pub input: InputObject,

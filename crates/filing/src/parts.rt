@@ -25,7 +25,7 @@ use numbers::sections::{CU_INDEX, STR_OFFSETS, TU_INDEX};
 use strings::table::{Added, Place, StrOffsets, StringTable};
 
 // 0 or the refusal, and where the first part starts that 8 refuses.
-#[derive(Drop)]
+#[derive(Clone, Copy)]
 pub struct Parts {
     pub code: u32,
     pub good: usize,

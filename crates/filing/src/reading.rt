@@ -37,7 +37,7 @@ use unit::header::{UnitAnswer, UnitPlace, UnitRead};
 use unit::judged::Judged;
 
 // The bytes of the bundle in which a unit's abbreviation table is read: 0 and where they lie, or the refusal's number.
-#[derive(Drop)]
+#[derive(Clone, Copy)]
 pub struct Abbreviations {
     pub code: u32,
     pub first: usize,

@@ -3,7 +3,7 @@ use kept::state::InProgress;
 use unit::judged::Judged;
 
 // The section of units at hand: its code, and where it lies in the bundle.
-#[derive(Drop)]
+#[derive(Clone, Copy)]
 pub struct HomeSection {
     pub home: usize,
     pub start: usize,
@@ -11,7 +11,7 @@ pub struct HomeSection {
 }
 
 // A unit that was read, as its header states it.
-#[derive(Drop)]
+#[derive(Clone, Copy)]
 pub struct ReadUnit {
     pub size: usize,
     pub table: usize,
@@ -19,7 +19,7 @@ pub struct ReadUnit {
 }
 
 // A unit filed: 0 or the refusal, its size, and what is known behind it.
-#[derive(Drop)]
+#[derive(Clone, Copy)]
 pub struct UnitFiled {
     pub code: u32,
     pub size: usize,
@@ -27,20 +27,20 @@ pub struct UnitFiled {
 }
 
 // The units of a section, or of an object: 0 or the refusal, and what is known behind them.
-#[derive(Drop)]
+#[derive(Clone, Copy)]
 pub struct UnitsFiled {
     pub code: u32,
     pub st: InProgress,
 }
 
 // Both with the abbreviation tables that were judged.
-#[derive(Drop)]
+#[derive(Clone, Copy)]
 pub struct UnitDone {
     pub filed: UnitFiled,
     pub judged: Judged,
 }
 
-#[derive(Drop)]
+#[derive(Clone, Copy)]
 pub struct UnitsDone {
     pub filed: UnitsFiled,
     pub judged: Judged,

@@ -21,7 +21,7 @@ use kept::state::InProgress;
 use numbers::refusals::{BAD_ENCODING, SECTION_TOO_LONG};
 
 // What packing answers: a refusal's number, 18 with the length needed, or the package's length.
-#[derive(Drop)]
+#[derive(Clone, Copy)]
 pub enum Finished {
     Refused(u32),
     Short(usize),

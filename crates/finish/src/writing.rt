@@ -26,7 +26,7 @@ use kept::writing::IndexForm;
 use numbers::sections::{CODES, CU_INDEX, LAST_SHARED, STR, STR_OFFSETS, TYPES};
 
 // What is to be written: the encoding of all objects, what is known of them, and the sizes of all sections by code.
-#[derive(Drop)]
+#[derive(Clone, Copy)]
 pub struct Package {
     pub encoding: ObjectEncoding,
     pub state: InProgress,

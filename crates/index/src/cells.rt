@@ -10,7 +10,7 @@ use numbers::sections;
 use numbers::tables::DWARF_5;
 
 // A section's code, and the code of its column.
-#[derive(Drop)]
+#[derive(Clone, Copy)]
 pub struct ColumnPlace {
     pub section: usize,
     pub column: usize,
@@ -132,7 +132,7 @@ pub fn column_at(version: u32, k: usize) -> ColumnPlace
     none
 }
 
-#[derive(Drop)]
+#[derive(Clone, Copy)]
 pub enum Place {
     At(usize),
     Nowhere,
@@ -171,7 +171,7 @@ pub fn place_of(big: bool, s: &[u8], head: IndexHead, code: usize) -> Place
 }
 
 // A contribution's offset and size.
-#[derive(Drop)]
+#[derive(Clone, Copy)]
 pub enum Cell {
     Is(usize, usize),
     Missing,

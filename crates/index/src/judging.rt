@@ -35,7 +35,7 @@ use numbers::sections::{CODES, FIRST_SHARED, LAST_SHARED, STR_OFFSETS};
 const SHARED_END: usize = LAST_SHARED + 1;
 
 // What a unit contributes of each section, by section code: 0 and 0 where it has nothing.
-#[derive(Drop)]
+#[derive(Clone, Copy)]
 pub struct Contributions {
     pub has: [bool; CODES],
     pub offset: [usize; CODES],
@@ -43,21 +43,21 @@ pub struct Contributions {
 }
 
 // 0, or the refusal's number and nothing.
-#[derive(Drop)]
+#[derive(Clone, Copy)]
 pub struct RowJudged {
     pub code: u32,
     pub contributions: Contributions,
 }
 
 // What a row is judged by: the width of offsets, 4 or 8, and the lengths of the object's sections by their code.
-#[derive(Drop)]
+#[derive(Clone, Copy)]
 pub struct Measures {
     pub width: usize,
     pub lengths: [usize; CODES],
 }
 
 // The unit: its identity, and where it stands in the section home.
-#[derive(Drop)]
+#[derive(Clone, Copy)]
 pub struct OwnUnit {
     pub identity: u64,
     pub home: usize,

@@ -1,4 +1,6 @@
 // Indexes of both forms: read and searched, and a unit's row judged.
+#![tactic(auto)]
+
 pub mod cells;
 pub mod judging;
 pub mod probing;

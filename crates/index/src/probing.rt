@@ -30,7 +30,7 @@ pub fn next_slot(at: usize, by: usize, slots: usize) -> usize
 }
 
 // The slot where a search ends, and the number of slots looked at; or absent after so many.
-#[derive(Drop)]
+#[derive(Clone, Copy)]
 pub enum Probed {
     Found(usize, usize),
     Absent(usize),

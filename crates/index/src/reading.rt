@@ -16,7 +16,7 @@ use numbers::tables::{COLUMNS_2, COLUMNS_5, INDEX_2, INDEX_5, LAST_COLUMN, TYPES
 // What an index of version 5 starts with.
 const START_5: u16 = numbers::tables::INDEX_5 as u16;
 
-#[derive(Drop)]
+#[derive(Clone, Copy)]
 pub struct IndexHead {
     // 2 or 5
     pub version: u32,
@@ -25,7 +25,7 @@ pub struct IndexHead {
     pub slots: usize,
 }
 
-#[derive(Drop)]
+#[derive(Clone, Copy)]
 pub enum IndexRead {
     Good(IndexHead),
     // refusal 10 in packing, 21 in a lookup

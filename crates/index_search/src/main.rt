@@ -1,6 +1,8 @@
 // Reads lines of text and answers each. "l" or "b", a space and hexadecimal digits: an index section, little-endian or big-endian; the
 // answer is its version, columns, units and slots, or "bad". "s", a space and 16 digits: an identity to look for in the last section;
 // the answer is its row, the number of looks and the cells of the sections 1 to 10, or "absent" and the number of looks.
+#![tactic(auto)]
+
 ghost use Rattle.std.specs.Prelude.{◌≡◌, ◌+◌, ◌<◌, ◌≤◌, length};
 ghost use Rattle.index.specs.Held.{Sized, ReadWell};
 
@@ -121,7 +123,7 @@ fn answer_index(big: bool, s: &[u8]) {
 }
 
 // The section that the last line of its kind stated.
-#[derive(Drop)]
+#[derive(Clone, Copy)]
 struct Last {
     big: bool,
     n: usize,

@@ -3,6 +3,8 @@
 // identity and how many contributions; for each of these its section code, offset and size.
 // Of the stored output, the first 21 indexes are made from document 01; the other 36 stand so in packages that thorin made, but for three of
 // three units each, for which thorin has 4 slots and ticket 3 asks for 8: those were worked out apart from the code.
+#![tactic(auto)]
+
 ghost use Rattle.std.specs.Prelude.{◌≡◌, ℕ, ◌<◌, ◌≤◌, ◌^◌, length, get_or};
 ghost use Rattle.kept.specs.Columns.{CellsFit};
 ghost use Rattle.kept.specs.Slots.{Seekable, Placeable};
@@ -38,7 +40,7 @@ fn value(b: u8) -> u8
     16
 }
 
-#[derive(Drop)]
+#[derive(Clone, Copy)]
 struct Number {
     is: u64,
     next: usize,
@@ -63,7 +65,7 @@ fn read_number(text: &[u8], start: usize) -> Number
 }
 
 // ---- one unit
-#[derive(Drop)]
+#[derive(Clone, Copy)]
 struct Unit {
     cells: Contributions,
     next: usize,
@@ -143,7 +145,7 @@ fn read_cells(text: &[u8], at: usize) -> Unit
 }
 
 // ---- a table
-#[derive(Drop)]
+#[derive(Clone, Copy)]
 struct Table {
     has: [bool; 8],
     next: usize,

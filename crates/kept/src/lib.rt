@@ -1,5 +1,7 @@
 // The units that are kept: one record for each in lent work, the slots of both tables, and what is written from them.
 // The regions of lent work, those of crates above too, lie where `regions` says.
+#![tactic(auto)]
+
 pub mod by_number;
 pub mod cells;
 pub mod columns;
@@ -13,14 +15,14 @@ pub mod writing;
 use index::cells::COLUMNS;
 
 // A table: how many rows it has, and which columns some row has.
-#[derive(Drop)]
+#[derive(Clone, Copy)]
 pub struct Table {
     pub rows: usize,
     pub has: [bool; COLUMNS],
 }
 
 // The kept units: how many there are, both tables, and how many bytes of info and of types they have.
-#[derive(Drop)]
+#[derive(Clone, Copy)]
 pub struct Units {
     pub count: usize,
     pub cu: Table,

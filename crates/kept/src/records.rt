@@ -39,7 +39,7 @@ pub const CELLS: usize = 7;
 const WORD: u64 = 0x1_0000_0000;
 
 // A kept unit without its cells.
-#[derive(Drop)]
+#[derive(Clone, Copy)]
 pub struct Unit {
     pub table: usize,
     pub row: usize,

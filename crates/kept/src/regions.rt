@@ -46,7 +46,7 @@ const CODES_START: usize = STRINGS_START + STRINGS;
 const ROWS_START: usize = CODES_START + CODES;
 
 // Where a region starts, and how many words it has.
-#[derive(Drop)]
+#[derive(Clone, Copy)]
 pub struct Region {
     pub start: usize,
     pub size: usize,

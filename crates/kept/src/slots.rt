@@ -24,7 +24,7 @@ use crate::regions::RECORD;
 use index::judging::Contributions;
 
 // Where a walk ends: at a record of the identity, or at a free slot.
-#[derive(Drop)]
+#[derive(Clone, Copy)]
 pub enum Sought {
     Known(usize),
     Free(usize),

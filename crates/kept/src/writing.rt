@@ -16,7 +16,7 @@ use numbers::tables::INDEX_2;
 const START_5: u16 = numbers::tables::INDEX_5 as u16;
 
 // Which index: its byte order and version, its table with how many rows, and the columns that are there.
-#[derive(Drop)]
+#[derive(Clone, Copy)]
 pub struct IndexForm {
     pub big: bool,
     pub five: bool,

@@ -1,11 +1,13 @@
 // LEB128 numbers at the front of lent bytes, with the limits that refusal 12 sets. A padded number counts by its value.
+#![tactic(auto)]
+
 ghost use Rattle.std.specs.Prelude.{◌≡◌, ◌≤◌};
 ghost use Rattle.numbers.specs.Refusals.{no_identity};
 ghost use Rattle.leb128.specs.Leb128.{short, unsigned, signed_size};
 ghost use Rattle.leb128.specs.Answers.{groups_read, number_check, size_check};
 
 // What a number of bytes say: they hold the last byte of a number, or none of them is the last, or there are not so many.
-#[derive(Drop)]
+#[derive(Clone, Copy)]
 pub enum Groups {
     Ended(u64, usize),
     Open(u64),
@@ -13,14 +15,14 @@ pub enum Groups {
 }
 
 // A value and the bytes that it takes.
-#[derive(Drop)]
+#[derive(Clone, Copy)]
 pub enum Number {
     Is(u64, usize),
     Refused,
 }
 
 // The bytes that a value takes.
-#[derive(Drop)]
+#[derive(Clone, Copy)]
 pub enum Size {
     Is(usize),
     Refused,

@@ -7,7 +7,7 @@ use crate::searching::Located;
 
 // Code 0: found, at that place of the package. 1: absent. Else the refusal, with zeros.
 #[repr(C)]
-#[derive(Drop)]
+#[derive(Clone, Copy)]
 pub struct Answer {
     pub code: u32,
     pub start: usize,

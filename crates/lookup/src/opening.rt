@@ -20,7 +20,7 @@ use index::reading::{IndexHead, IndexRead};
 use numbers::limits::PACKAGE_LIMIT;
 use numbers::sections::{CODES, CU_INDEX, TU_INDEX};
 
-#[derive(Drop)]
+#[derive(Clone, Copy)]
 pub enum PackageIndex {
     Present(IndexHead),
     Missing,
@@ -28,7 +28,7 @@ pub enum PackageIndex {
 }
 
 // What the one object of a package states, and where its sections and indexes lie. Where it is not good it is refused, and the rest says nothing.
-#[derive(Drop)]
+#[derive(Clone, Copy)]
 pub struct PackageHead {
     pub good: bool,
     pub encoding: ObjectEncoding,

@@ -49,7 +49,7 @@ const LAST_SHARED: u32 = numbers::sections::LAST_SHARED as u32;
 const STR_OFFSETS: u32 = numbers::sections::STR_OFFSETS as u32;
 
 // A part's start in the package, its length and the looks; absent after so many looks; or a refusal's number.
-#[derive(Drop)]
+#[derive(Clone, Copy)]
 pub enum Located {
     Part(usize, usize, usize),
     Absent(usize),

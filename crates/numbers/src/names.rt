@@ -9,7 +9,7 @@ use crate::sections::CODES;
 pub const NAME_LIMIT: usize = 22;
 
 // A name and zeros.
-#[derive(Drop)]
+#[derive(Clone, Copy)]
 pub struct Name {
     pub length: usize,
     pub bytes: [u8; NAME_LIMIT],

@@ -1,4 +1,6 @@
 // Numbers of any width in lent bytes, in either byte order; bytes copied, cleared and compared.
+#![tactic(auto)]
+
 ghost use Rattle.std.specs.Prelude.{◌≡◌, false, List, [], ◌∷◌, ℕ, ◌+◌, ◌*◌, ◌%◌, ◌≤◌, ◌<◌, ◌^◌, length, get_or, eqb};
 ghost use Rattle.octets.specs.Octets.{
   little,
@@ -342,7 +344,7 @@ pub fn put_bytes(d: &mut [u8], at: usize, s: &[u8])
     requires { at + length s.now ≤ length d.old }
     ensures { d.new ≡ placed d.old at s.now }
 {
-    let n = bytes::copy(s, &mut d[at..]);
+    d[at..at + s.len()].copy_from_slice(s);
 }
 
 pub fn clear_bytes(s: &mut [u8])
@@ -393,7 +395,7 @@ fn same_short(a: &[u8], b: &[u8]) -> bool
     ensures { result ≡ same a.now b.now }
 {
     if a.len() < FOUR {
-        return check::same(a, b);
+        return a == b;
     }
     let last = a.len() - FOUR;
     if four_at(false, a, 0) != four_at(false, b, 0) {

@@ -1,1 +1,3 @@
 // The definitions of packing and their laws; the code that packs stands in crates above.
+#![tactic(auto)]
+

@@ -1,5 +1,7 @@
 // Looks up in a package from standard input, by version 5 and in the compilation table: identity 1 at each section code and 0 and 11, its strings
 // 0 to 2, and identity 2. For each question a line: code, start, length, looks, and the bytes of the part that the lookup hands out.
+#![tactic(auto)]
+
 ghost use Rattle.std.specs.Prelude.{◌<◌};
 
 use libc::{STDIN_FILENO, STDOUT_FILENO};

@@ -12,7 +12,7 @@ use numbers::refusals::OUTPUT_SHORT;
 // Code 0: the package, of that length, and how many type units were skipped. 18: the output is too short, with the length needed. Else the refusal and 0.
 // But for code 0 both counts are 0.
 #[repr(C)]
-#[derive(Drop)]
+#[derive(Clone, Copy)]
 pub struct Packed {
     pub code: u32,
     pub length: usize,

@@ -1,4 +1,6 @@
 // Packing: any bytes in, a package or a number out.
+#![tactic(auto)]
+
 pub mod answering;
 pub mod clear;
 pub mod objects;
@@ -18,7 +20,7 @@ use numbers::limits::{BUNDLE_LIMIT, SMALL_BUNDLE, SMALL_WORK, WORK_FOR_WORD};
 use numbers::refusals::{BAD_LENGTH, BAD_WORDS, WORK_SHORT};
 
 // What packing answers, and how many type units were skipped: none where no package is made.
-#[derive(Drop)]
+#[derive(Clone, Copy)]
 pub struct Packing {
     pub finished: Finished,
     pub repeats: usize,

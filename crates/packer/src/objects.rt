@@ -23,7 +23,7 @@ use numbers::sections::CODES;
 use strings::table::StringTable;
 
 // The object at hand: the byte order, the first object's word and its own, and where its sections start.
-#[derive(Drop)]
+#[derive(Clone, Copy)]
 pub struct ObjectHead {
     pub big: bool,
     pub first: u32,
@@ -32,7 +32,7 @@ pub struct ObjectHead {
 }
 
 // An object filed: 0 or the refusal, the place behind it, and what is held.
-#[derive(Drop)]
+#[derive(Clone, Copy)]
 pub struct ObjectFiled {
     pub code: u32,
     pub next: usize,
@@ -40,14 +40,14 @@ pub struct ObjectFiled {
 }
 
 // The units of an object filed: 0 or the refusal, and what is held.
-#[derive(Drop)]
+#[derive(Clone, Copy)]
 pub struct UnitsAdded {
     pub code: u32,
     pub st: InProgress,
 }
 
 // All objects filed: 0 or the refusal, and what is held.
-#[derive(Drop)]
+#[derive(Clone, Copy)]
 pub struct ObjectsFiled {
     pub code: u32,
     pub st: InProgress,

@@ -65,7 +65,7 @@ fn names(big: bool, s: &[u8], head: IndexHead, row: usize, at: usize, size: usiz
 }
 
 // What was found so far, once a row is passed: 0 while no row names the place.
-#[derive(Drop)]
+#[derive(Clone, Copy)]
 pub enum Told {
     On(usize),
     Several,

@@ -65,7 +65,7 @@ pub fn mark_rows(big: bool, s: &[u8], head: IndexHead, marks: &mut [u32]) -> boo
 }
 
 // A place passed: how many bytes of the part at hand are left behind it.
-#[derive(Drop)]
+#[derive(Clone, Copy)]
 pub enum Turn {
     Left(usize),
     // no part starts where one must, or one starts in another

@@ -1,4 +1,6 @@
 // The archive profile: each condition by what a package that was opened holds, and the verdict.
+#![tactic(auto)]
+
 ghost use Rattle.std.specs.Prelude.{◌≡◌, not, ◌&&◌};
 ghost use Rattle.lookup.specs.Answers.{index_has};
 ghost use Rattle.numbers.specs.Tables.{index5};
@@ -12,7 +14,7 @@ use numbers::tables::INDEX_5;
 
 // Code 0: in the profile. 1: not in it, with a bit for each condition that fails, the first one's the least. 21: a bad package, with no bit.
 #[repr(C)]
-#[derive(Drop)]
+#[derive(Clone, Copy)]
 pub struct Verdict {
     pub code: u32,
     pub failed: u32,

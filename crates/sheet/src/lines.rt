@@ -3,7 +3,7 @@ ghost use Rattle.std.specs.Prelude.{◌≡◌, [], ◌∷◌, ◌++◌, ◌+◌,
 ghost use Rattle.octets.specs.Octets.{placed};
 ghost use Rattle.sheet.specs.Sheet.{line_bytes, digit, hex, decimal, space, line};
 
-#[derive(Drop)]
+#[derive(Clone, Copy)]
 pub struct Line {
     // C or T
     pub letter: u8,

@@ -20,7 +20,7 @@ use index::cells::COLUMNS;
 use index::reading::IndexHead;
 
 // An index beside its bytes: the letter of its table, and its byte order.
-#[derive(Drop)]
+#[derive(Clone, Copy)]
 pub struct Table {
     pub letter: u8,
     pub big: bool,

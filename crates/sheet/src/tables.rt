@@ -18,7 +18,7 @@ use index::reading::IndexHead;
 use lookup::opening::{PackageHead, PackageIndex};
 use numbers::tables::{COMPILATION, TYPE};
 
-#[derive(Drop)]
+#[derive(Clone, Copy)]
 pub enum Lines {
     Bytes(usize),
     // a row has not exactly one slot

@@ -1,1 +1,3 @@
 // Packing in two sittings: the law's proof. It speaks of the definitions of crate package.
+#![tactic(auto)]
+

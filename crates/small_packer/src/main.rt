@@ -1,5 +1,7 @@
 // The small packer of document 01: a bundle from standard input; the words of its package, or the refusal.
 // The stored input and output are document 01's whole package.
+#![tactic(auto)]
+
 ghost use Rattle.std.specs.Prelude.{◌≡◌, ◌<◌};
 ghost use Rattle.small_packer.specs.Lines.{digit_of, line_of};
 

@@ -7,6 +7,8 @@
 // - version 5, packages of docs/DIFFERENCES.md, 10 and 34: without strings, 112, which is thorin's answer too; two parts of str_offsets,
 //   8 + 44 + 8 + 28 + 12 + 128 + 4 = 232; one part that two units share, 8 + 44 + 8 + 16 + 8 + 128 + 4 = 216.
 // Of the last six host/kit/src/reference, which shares no code with this program, makes packages of these lengths, and the definitions give the same bytes.
+#![tactic(auto)]
+
 use finish::whole::Finished;
 use libc::{STDIN_FILENO, STDOUT_FILENO};
 

@@ -19,7 +19,7 @@ use bundle::initial_length;
 const VERSION: u16 = numbers::tables::DWARF_5 as u16;
 
 // How many entries a section has.
-#[derive(Drop)]
+#[derive(Clone, Copy)]
 pub enum Entries {
     Count(usize),
     // refusal 8
@@ -27,7 +27,7 @@ pub enum Entries {
 }
 
 // Where a string starts, and its length.
-#[derive(Drop)]
+#[derive(Clone, Copy)]
 pub enum StringRead {
     At(usize, usize),
     // refusal 9, in a lookup 26

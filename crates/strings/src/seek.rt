@@ -17,7 +17,7 @@ ghost use Rattle.strings.specs.Kept.{Held, Seekable};
 use numbers::limits::STRING_WORDS;
 
 // Where a search ends: at the row of a string, or at the free word where its number would stand.
-#[derive(Drop)]
+#[derive(Clone, Copy)]
 pub enum Sought {
     Row(usize),
     Free(usize),

@@ -42,14 +42,14 @@ use bundle::encoding::ObjectEncoding;
 use numbers::limits::{SECTION_LIMIT, STRING_WORDS};
 
 // A part of the bundle.
-#[derive(Drop)]
+#[derive(Clone, Copy)]
 pub struct Place {
     pub start: usize,
     pub size: usize,
 }
 
 // An object's str_offsets and str.
-#[derive(Drop)]
+#[derive(Clone, Copy)]
 pub struct StrOffsets {
     pub encoding: ObjectEncoding,
     pub offsets: Place,
@@ -58,7 +58,7 @@ pub struct StrOffsets {
 
 // How many strings are kept, how long their str section is, how many entries named them, and whether the section would be above 8,388,607
 // bytes (19). From then on nothing is stored: the package is refused, whatever the new offsets are, and the sum of lengths stays within 32 bits.
-#[derive(Drop)]
+#[derive(Clone, Copy)]
 pub struct StringTable {
     pub count: usize,
     pub size: usize,
@@ -67,13 +67,13 @@ pub struct StringTable {
 }
 
 // A string that was put: the state after that, and the string's place in str; 0 where that is over.
-#[derive(Drop)]
+#[derive(Clone, Copy)]
 pub struct Put {
     pub table: StringTable,
     pub place: usize,
 }
 
-#[derive(Drop)]
+#[derive(Clone, Copy)]
 pub enum Added {
     Table(StringTable),
     // refusal 9

@@ -1,5 +1,7 @@
 // The str_offsets and str of one object remapped, for small cases of each kind: a line for each with both new sections, the
 // first as hexadecimal digits and the second as text with a dot for each zero, or the refusal.
+#![tactic(auto)]
+
 ghost use Rattle.std.specs.Prelude.{◌≡◌, false, List, ℕ, ◌+◌, ◌≤◌, ◌<◌, ◌^◌, length};
 ghost use Rattle.octets.specs.Checked.{pass};
 ghost use Rattle.bundle.specs.Encoded.{encoding_is};
@@ -13,7 +15,7 @@ use libc::STDOUT_FILENO;
 use strings::entries::Entries;
 use strings::table::{Added, Place, StrOffsets, StringTable};
 
-#[derive(Drop)]
+#[derive(Clone, Copy)]
 enum Outcome {
     // where str starts in the output, and where it ends
     Sections(usize, usize),

@@ -20,21 +20,21 @@ use crate::tree::{NODE, Walked};
 use leb128::{Number, Size};
 
 // A name, a form, and the bytes that they take.
-#[derive(Drop)]
+#[derive(Clone, Copy)]
 pub enum AttributeRead {
     Is(u64, u64, usize),
     Refused,
 }
 
 // What stands behind a declaration's code: the tag, where the attributes start, and where they end.
-#[derive(Drop)]
+#[derive(Clone, Copy)]
 pub enum PlaceRead {
     Is(u64, usize, usize),
     Refused,
 }
 
 // A declaration: its code, its tag, where its attributes start, and where they end. Or the zero code that ends the table.
-#[derive(Drop)]
+#[derive(Clone, Copy)]
 pub enum Declared {
     Is(u64, u64, usize, usize),
     End,
@@ -42,14 +42,14 @@ pub enum Declared {
 }
 
 // A declaration's tag, and where its attributes start.
-#[derive(Drop)]
+#[derive(Clone, Copy)]
 pub enum Found {
     At(u64, usize),
     Nothing,
 }
 
 // A table of so many declarations that is good, or one that is not; or the words do not suffice.
-#[derive(Drop)]
+#[derive(Clone, Copy)]
 pub enum TableRead {
     Good(usize),
     Bad,

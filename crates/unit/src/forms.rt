@@ -19,7 +19,7 @@ use bundle::encoding::ObjectEncoding;
 use leb128::{Number, Size};
 
 // How the size of a value is found.
-#[derive(Drop)]
+#[derive(Clone, Copy)]
 pub enum Width {
     Fixed(usize),
     Address,
@@ -36,13 +36,13 @@ pub enum Width {
     UlebBlock,
 }
 
-#[derive(Drop)]
+#[derive(Clone, Copy)]
 pub struct Form {
     pub form: u64,
     pub width: Width,
 }
 
-#[derive(Drop)]
+#[derive(Clone, Copy)]
 pub enum FormWidth {
     Is(Width),
     Unknown,

@@ -49,7 +49,7 @@ const FIRST_RESERVED: u64 = 0xFFFF_FFF0;
 const INFO: u32 = numbers::sections::INFO as u32;
 
 // Where a unit's identity stands.
-#[derive(Drop)]
+#[derive(Clone, Copy)]
 pub enum Kind {
     // behind the common fields: a compilation identity, or a type signature and a type offset
     Compilation,
@@ -60,34 +60,34 @@ pub enum Kind {
 }
 
 // The table that a unit is handed in for, 1 compilation or 2 type, and its identity.
-#[derive(Drop)]
+#[derive(Clone, Copy)]
 pub enum Identity {
     Is(u32, u64),
     Unreadable,
 }
 
 // The same, with the tables that were judged.
-#[derive(Drop)]
+#[derive(Clone, Copy)]
 pub struct IdentityRead {
     pub identity: Identity,
     pub judged: Judged,
 }
 
 // The table and the identity, or the number by which the unit is refused.
-#[derive(Drop)]
+#[derive(Clone, Copy)]
 pub enum IdentityAnswer {
     Is(u32, u64),
     Refused(u32),
 }
 
-#[derive(Drop)]
+#[derive(Clone, Copy)]
 pub struct Identified {
     pub answer: IdentityAnswer,
     pub judged: Judged,
 }
 
 // Where a unit lies in the bundle, and from where to where the abbreviations that it is read with.
-#[derive(Drop)]
+#[derive(Clone, Copy)]
 pub struct UnitPlace {
     pub at: usize,
     pub size: usize,
@@ -96,20 +96,20 @@ pub struct UnitPlace {
 }
 
 // A unit's size, its table and its identity.
-#[derive(Drop)]
+#[derive(Clone, Copy)]
 pub enum UnitAnswer {
     Read(usize, u32, u64),
     Refused(u32),
 }
 
-#[derive(Drop)]
+#[derive(Clone, Copy)]
 pub struct UnitRead {
     pub answer: UnitAnswer,
     pub judged: Judged,
 }
 
 // The address size that a header states.
-#[derive(Drop)]
+#[derive(Clone, Copy)]
 pub enum AddressSize {
     Is(u8),
     // refusal 11

@@ -27,7 +27,7 @@ const SHARE: usize = 5;
 const WORD: u64 = 0x1_0000_0000;
 
 // It lies from at to end in the bundle, its tree stands from a word on, and it has so many declarations.
-#[derive(Drop)]
+#[derive(Clone, Copy)]
 pub struct Table {
     pub at: usize,
     pub end: usize,
@@ -36,7 +36,7 @@ pub struct Table {
 }
 
 // The table that was asked for last, how many tables the directory has, and the first word behind theirs.
-#[derive(Drop)]
+#[derive(Clone, Copy)]
 pub struct Judged {
     pub last: Table,
     pub tables: usize,
@@ -44,14 +44,14 @@ pub struct Judged {
 }
 
 // The memory, whose last table is the one that was asked for; or that table is bad.
-#[derive(Drop)]
+#[derive(Clone, Copy)]
 pub enum Recalled {
     Known(Judged),
     Wrong,
 }
 
 // The word where a table of the directory starts, or it has no such table.
-#[derive(Drop)]
+#[derive(Clone, Copy)]
 pub enum Sought {
     At(usize),
     New,

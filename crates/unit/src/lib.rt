@@ -1,4 +1,6 @@
 // A unit, read from the part of its section that starts at it: its header, and the identity that it is handed in under.
+#![tactic(auto)]
+
 pub mod abbreviations;
 pub mod forms;
 pub mod header;

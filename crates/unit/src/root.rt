@@ -31,35 +31,35 @@ const FLAG_BYTE: u8 = 0x19;
 const ONE_BYTE: u8 = 0x7f;
 
 // An attribute's value: its form, where it starts behind an indirect form, and the bytes that it takes.
-#[derive(Drop)]
+#[derive(Clone, Copy)]
 pub enum Value {
     Is(u64, usize, usize),
     Refused,
 }
 
 // What the attributes so far state.
-#[derive(Drop)]
+#[derive(Clone, Copy)]
 pub enum Seen {
     Stated(u64),
     Nothing,
 }
 
 // Past one attribute: its bytes in the table, those of its value, and what is stated then.
-#[derive(Drop)]
+#[derive(Clone, Copy)]
 pub enum Moved {
     On(usize, usize, Seen),
     End,
     Refused,
 }
 
-#[derive(Drop)]
+#[derive(Clone, Copy)]
 pub enum RootIdentity {
     Is(u64),
     Unreadable,
 }
 
 // With the tables that were judged.
-#[derive(Drop)]
+#[derive(Clone, Copy)]
 pub struct RootRead {
     pub identity: RootIdentity,
     pub judged: Judged,

@@ -28,7 +28,7 @@ const HIGH: usize = 4;
 const WORD: u64 = 0x1_0000_0000;
 
 // Where the walk of a code ends: at its node, or at the word of the empty link that its node would hang from.
-#[derive(Drop)]
+#[derive(Clone, Copy)]
 pub enum Walked {
     At(usize),
     Free(usize),

@@ -1,4 +1,6 @@
 // Reads cases from standard input, each a unit with its abbreviations, and writes what reading it answers. CASES.md lists them.
+#![tactic(auto)]
+
 ghost use Rattle.std.specs.Prelude.{◌≤◌, ◌<◌, ◌^◌, length};
 
 use bundle::encoding::ObjectEncoding;
