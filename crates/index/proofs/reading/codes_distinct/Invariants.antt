@@ -1,0 +1,14 @@
+-- `index::reading::codes_distinct` meets its contract.
+-- Assumes nothing.
+use mathlib.Core.Path.{◌≡◌}
+use Prim.Native.Nat.{◌-◌, ◌≤◌}
+use lib.ListN.{drop}
+use Rattle.octets.specs.Lists.{distinct}
+use Rattle.index.specs.Held.{index_in}
+use Rattle.index.proofs.reading.codes_distinct.Given as goal
+
+abbrev pub invariant-loop-i : goal.invariant-loop-i
+invariant-loop-i l = (l.i ≤ l.columns) × (distinct (drop l.i (index_in l.big l.s l.head).codes) ≡ distinct (index_in l.big l.s l.head).codes)
+
+abbrev pub decreases-loop-i : goal.decreases-loop-i
+decreases-loop-i l = l.columns - l.i
