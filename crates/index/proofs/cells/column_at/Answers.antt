@@ -17,14 +17,14 @@ past (x ∷ l) d zero h = absurd (not-suc-le-zero h)
 past (x ∷ l) d (suc k) h = past l d k (le_of_suc-le-suc h)
 
 pub returns-then-k-lt-COLUMNS_FIVE : goal.returns-then-k-lt-COLUMNS_FIVE
-returns-then-k-lt-COLUMNS_FIVE c = rw (columns_five_law _ c.if-version-eq-DWARF_5.true) (ap (λ (t : List ColumnPlace). get_or t c.args.k no_column) c.columns_five_law.ensures)
+returns-then-k-lt-COLUMNS_FIVE c = rw (columns_five_law _ c.if-version-eq-DWARF_5.true) (ap (λ (t : List ColumnPlace). get_or t c.args.k no_column) c.columns_five-five.ensures)
 
 pub returns-then-version-eq-DWARF_5 : goal.returns-then-version-eq-DWARF_5
 unfolding columns_five
 returns-then-version-eq-DWARF_5 c = rw (columns_five_law _ c.if-version-eq-DWARF_5.true) (sym (past (map column_place columns_five) no_column _ c.if-k-lt-COLUMNS_FIVE.false))
 
 pub returns-then-k-lt-COLUMNS : goal.returns-then-k-lt-COLUMNS
-returns-then-k-lt-COLUMNS c = rw (columns_four_law _ c.if-version-eq-DWARF_5.false) (ap (λ (t : List ColumnPlace). get_or t c.args.k no_column) c.columns_four_law.ensures)
+returns-then-k-lt-COLUMNS c = rw (columns_four_law _ c.if-version-eq-DWARF_5.false) (ap (λ (t : List ColumnPlace). get_or t c.args.k no_column) c.columns_four-four.ensures)
 
 pub returns : goal.returns
 unfolding columns_four

@@ -13,7 +13,7 @@ pub with_cell-k-requires : goal.with_cell-k-requires
 with_cell-k-requires c = (c.loop-c.invariant.1.whole, omega arith)
 
 pub loop-c-preserved : goal.loop-c-preserved
-loop-c-preserved c = (omega arith, whole_turn _ _ c.loop-c.invariant.0 c.loop-c-test.true _ _ c.loop-c.invariant.1 c.with_cell_law.ensures)
+loop-c-preserved c = (omega arith, whole_turn _ _ c.loop-c.invariant.0 c.loop-c-test.true _ _ c.loop-c.invariant.1 c.with_cell-k.ensures)
 
 pub returns : goal.returns
 returns c = whole_end _ _ _ c.loop-c-test.false c.loop-c.invariant.1

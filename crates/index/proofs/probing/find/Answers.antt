@@ -23,13 +23,13 @@ pub row_at-requires : goal.row_at-requires
 row_at-requires c = (read_sized _ _ _ c.requires, c.loop-looks.invariant.1)
 
 pub returns-then-row_at-eq0 : goal.returns-then-row_at-eq0
-returns-then-row_at-eq0 c = search_unused _ _ _ _ _ _ _ _ _ (rows_length _ _ _) c.loop-looks-test.true c.row_at_law.ensures c.loop-looks.invariant.2 c.if-row_at-eq0.true
+returns-then-row_at-eq0 c = search_unused _ _ _ _ _ _ _ _ _ (rows_length _ _ _) c.loop-looks-test.true c.row_at.ensures c.loop-looks.invariant.2 c.if-row_at-eq0.true
 
 pub identity_at-requires : goal.identity_at-requires
 identity_at-requires c = (read_sized _ _ _ c.requires, c.loop-looks.invariant.1)
 
 pub returns-then-identity_at-x : goal.returns-then-identity_at-x
-returns-then-identity_at-x c = search_found _ _ _ _ _ _ _ _ _ (rows_length _ _ _) c.loop-looks-test.true c.row_at_law.ensures c.loop-looks.invariant.2 c.if-row_at-eq0.false _ c.identity_at.ensures c.if-identity_at-x.true
+returns-then-identity_at-x c = search_found _ _ _ _ _ _ _ _ _ (rows_length _ _ _) c.loop-looks-test.true c.row_at.ensures c.loop-looks.invariant.2 c.if-row_at-eq0.false _ c.identity_at.ensures c.if-identity_at-x.true
 
 pub next_slot-at-requires : goal.next_slot-at-requires
 next_slot-at-requires c =
@@ -42,7 +42,7 @@ loop-looks-preserved c =
     rw c.next_slot-at.ensures (
       omega arith,
       mod-lt _ (omega arith),
-      search_on _ _ _ _ _ _ _ _ _ (rows_length _ _ _) c.loop-looks-test.true c.row_at_law.ensures c.loop-looks.invariant.2 c.if-row_at-eq0.false _ c.identity_at.ensures c.if-identity_at-x.false,
+      search_on _ _ _ _ _ _ _ _ _ (rows_length _ _ _) c.loop-looks-test.true c.row_at.ensures c.loop-looks.invariant.2 c.if-row_at-eq0.false _ c.identity_at.ensures c.if-identity_at-x.false,
     )
 
 pub returns : goal.returns

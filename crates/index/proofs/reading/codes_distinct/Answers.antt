@@ -18,10 +18,10 @@ pub has_code-requires : goal.has_code-requires
 has_code-requires c = (c.requires, omega arith)
 
 pub returns-then-has_code : goal.returns-then-has_code
-returns-then-has_code c = distinct_fails _ _ (in_codes _ _ _ c.loop-i-test.true) (sym c.if-has_code.true ∙ c.has_code.ensures ∙ ap (has _) c.code_at_law.ensures) ∙ c.loop-i.invariant.1
+returns-then-has_code c = distinct_fails _ _ (in_codes _ _ _ c.loop-i-test.true) (sym c.if-has_code.true ∙ c.has_code.ensures ∙ ap (has _) c.code_at-c.ensures) ∙ c.loop-i.invariant.1
 
 pub loop-i-preserved : goal.loop-i-preserved
-loop-i-preserved c = (omega arith, distinct_turn _ _ (in_codes _ _ _ c.loop-i-test.true) (sym c.if-has_code.false ∙ c.has_code.ensures ∙ ap (has _) c.code_at_law.ensures) ∙ c.loop-i.invariant.1)
+loop-i-preserved c = (omega arith, distinct_turn _ _ (in_codes _ _ _ c.loop-i-test.true) (sym c.if-has_code.false ∙ c.has_code.ensures ∙ ap (has _) c.code_at-c.ensures) ∙ c.loop-i.invariant.1)
 
 pub returns : goal.returns
 returns c = distinct_end _ _ (past_codes _ _ _ c.loop-i-test.false) ∙ c.loop-i.invariant.1

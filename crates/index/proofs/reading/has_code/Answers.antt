@@ -18,11 +18,11 @@ code_at-requires c = (c.requires.0, c.loop-i-test.true)
 
 pub returns-then-c-code_at : goal.returns-then-c-code_at
 unfolding has
-returns-then-c-code_at c = sym (any_turn_stops (eqb _) 0 _ _ (in_codes _ _ _ c.loop-i-test.true) (eq-eqb _ _ (c.if-c-code_at.true ∙ c.code_at_law.ensures))) ∙ c.loop-i.invariant.1
+returns-then-c-code_at c = sym (any_turn_stops (eqb _) 0 _ _ (in_codes _ _ _ c.loop-i-test.true) (eq-eqb _ _ (c.if-c-code_at.true ∙ c.code_at.ensures))) ∙ c.loop-i.invariant.1
 
 pub loop-i-preserved : goal.loop-i-preserved
 unfolding has
-loop-i-preserved c = (omega arith, sym (any_turn (eqb _) 0 _ _ (in_codes _ _ _ c.loop-i-test.true) (ne_eqb _ _ (λ z. c.if-c-code_at.false (z ∙ sym c.code_at_law.ensures)))) ∙ c.loop-i.invariant.1)
+loop-i-preserved c = (omega arith, sym (any_turn (eqb _) 0 _ _ (in_codes _ _ _ c.loop-i-test.true) (ne_eqb _ _ (λ z. c.if-c-code_at.false (z ∙ sym c.code_at.ensures)))) ∙ c.loop-i.invariant.1)
 
 pub returns : goal.returns
 unfolding has

@@ -8,7 +8,7 @@ use Rattle.index.specs.Held.{index_in}
 use Rattle.index.proofs.reading.has_code.Given as goal
 
 abbrev pub invariant-loop-i : goal.invariant-loop-i
-invariant-loop-i l = (l.i ≤ l.columns) × (has (drop l.i (index_in l.big l.s l.head).codes) l.c ≡ has (drop «from» (index_in l.big l.s l.head).codes) l.c)
+invariant-loop-i l = (l.i ≤ l.columns) × (has (drop l.i (index_in l.big l.s l.head).codes) l.c ≡ has (drop l.from (index_in l.big l.s l.head).codes) l.c)
 
 abbrev pub decreases-loop-i : goal.decreases-loop-i
 decreases-loop-i l = l.columns - l.i

@@ -10,16 +10,16 @@ pub returns-then-version-eq0 : goal.returns-then-version-eq0
 returns-then-version-eq0 c = front_version _ _ c.if-version-eq0.true
 
 pub returns-then-columns-columns_most : goal.returns-then-columns-columns_most
-returns-then-columns-columns_most c = front_columns _ _ c.if-version-eq0.false (rw c.columns_most_law.ensures at c.if-columns-columns_most.true)
+returns-then-columns-columns_most c = front_columns _ _ c.if-version-eq0.false (rw c.columns_most.ensures at c.if-columns-columns_most.true)
 
 pub returns-then-slots-units : goal.returns-then-slots-units
-returns-then-slots-units c = front_units _ _ c.if-version-eq0.false (rw c.columns_most_law.ensures at c.if-columns-columns_most.false) c.if-slots-units.true
+returns-then-slots-units c = front_units _ _ c.if-version-eq0.false (rw c.columns_most.ensures at c.if-columns-columns_most.false) c.if-slots-units.true
 
 pub returns-then-least_power-slots : goal.returns-then-least_power-slots
-returns-then-least_power-slots c = front_power _ _ c.if-version-eq0.false (rw c.columns_most_law.ensures at c.if-columns-columns_most.false) c.if-slots-units.false (λ z. c.if-least_power-slots.true (c.least_power_law.ensures ∙ z))
+returns-then-least_power-slots c = front_power _ _ c.if-version-eq0.false (rw c.columns_most.ensures at c.if-columns-columns_most.false) c.if-slots-units.false (λ z. c.if-least_power-slots.true (c.least_power.ensures ∙ z))
 
 pub section_length-requires : goal.section_length-requires
-section_length-requires c = (le_trans (rw c.columns_most_law.ensures at c.if-columns-columns_most.false) (columns_eight _), c.requires.0, c.requires.1)
+section_length-requires c = (le_trans (rw c.columns_most.ensures at c.if-columns-columns_most.false) (columns_eight _), c.requires.0, c.requires.1)
 
 pub returns : goal.returns
-returns c = ap (eqb _) c.section_length.ensures ∙ front_length _ _ c.if-version-eq0.false (rw c.columns_most_law.ensures at c.if-columns-columns_most.false) c.if-slots-units.false (sym c.least_power_law.ensures ∙ c.if-least_power-slots.false)
+returns c = ap (eqb _) c.section_length.ensures ∙ front_length _ _ c.if-version-eq0.false (rw c.columns_most.ensures at c.if-columns-columns_most.false) c.if-slots-units.false (sym c.least_power.ensures ∙ c.if-least_power-slots.false)
