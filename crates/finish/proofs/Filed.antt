@@ -81,6 +81,8 @@ shared_other table is c f = rw (shared_bytes, ne_eqb c 6 f)
 -- ---- objects and inputs
 matched_used : (b : List ℕ) (e : Encoding) (os : List Object) (is : List Input) → Matched b e os is → UsedBy e b os (all_used is)
 unfolding UsedBy all_used
+matched_used b e [] (i ∷ is) x'' = elim x'' [ ]
+matched_used b e (o ∷ os) [] x3 = elim x3 [ ]
 matched_used b e [] [] none = refl
 matched_used b e (o ∷ os) (i ∷ is) (more p m) =
     let good : EntriesGood e (body b o.parts 6) (body b o.parts 11) (used_in i.pieces) = rw (sym (p.bytes 6), sym (p.bytes 11)) (input_good e i p.facts) in
@@ -89,6 +91,8 @@ matched_used b e (o ∷ os) (i ∷ is) (more p m) =
 matched_offsets : (b : List ℕ) (e : Encoding) (table : List (List ℕ)) (os : List Object) (is : List Input) → Matched b e os is
     → shared_bytes table is 6 ≡ offsets_joined e table b os
 unfolding shared_bytes offsets_joined joined
+matched_offsets b e table [] (i ∷ is) x'' = elim x'' [ ]
+matched_offsets b e table (o ∷ os) [] x3 = elim x3 [ ]
 matched_offsets b e table [] [] none = refl
 matched_offsets b e table (o ∷ os) (i ∷ is) (more p m) =
     let one : remapped_all i.encoding table i.pieces ≡ remapped_in e table (body b o.parts 6) (body b o.parts 11) =
@@ -130,6 +134,8 @@ module _ (big : Bool) (b : List ℕ) (st : InProgress) (w : List ℕ) (a : AllFi
   first_good = go a.bundle.objects a.filing.inputs matched first
     where
       go : (ps : List Object) (is : List Input) → Matched b E ps is → ps ≡ o ∷ os → encoding_good E ≡ true
+      go [] (i ∷ is) x4 z = elim x4 [ ]
+      go (p ∷ ps) [] x4 z = elim x4 [ ]
       go [] [] none z = absurd (let y : ◌≡◌ {A = ℕ} 0 1 = cc in omega arith)
       go (p ∷ ps) (i ∷ is) (more m ms) z = m.facts.good
 

@@ -40,5 +40,7 @@ objects_matched b big first h base earlier (o ∷ os) f q =
 pub matched_joined : (b : List ℕ) (e : Encoding) (os : List Object) (is : List Input) → Matched b e os is → (c : ℕ)
     → joined (map (λ i. i.bytes c) is) ≡ joined (map (λ o. body b o.parts c) os)
 unfolding joined
+matched_joined b e [] (i ∷ is) x'' c = elim x'' [ ]
+matched_joined b e (o ∷ os) [] x3 c = elim x3 [ ]
 matched_joined b e [] [] none c = refl
 matched_joined b e (o ∷ os) (i ∷ is) (more p m) c = ap₂ (λ (x y : List ℕ). x ++ y) (p.bytes c) (matched_joined b e os is m c)

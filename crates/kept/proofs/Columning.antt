@@ -28,14 +28,22 @@ columns_are false = omega arith
 
 pub section_lt : (five : Bool) (k : ℕ) → k < 8 → section_at five k < 14
 unfolding section_at columns_for columns_of columns_four columns_five version_for
-section_lt five zero h = elim five [ true ↦ omega arith | false ↦ omega arith ]
-section_lt five (suc zero) h = elim five [ true ↦ omega arith | false ↦ omega arith ]
-section_lt five (suc (suc zero)) h = elim five [ true ↦ omega arith | false ↦ omega arith ]
-section_lt five (suc (suc (suc zero))) h = elim five [ true ↦ omega arith | false ↦ omega arith ]
-section_lt five (suc (suc (suc (suc zero)))) h = elim five [ true ↦ omega arith | false ↦ omega arith ]
-section_lt five (suc (suc (suc (suc (suc zero))))) h = elim five [ true ↦ omega arith | false ↦ omega arith ]
-section_lt five (suc (suc (suc (suc (suc (suc zero)))))) h = elim five [ true ↦ omega arith | false ↦ omega arith ]
-section_lt five (suc (suc (suc (suc (suc (suc (suc zero))))))) h = elim five [ true ↦ omega arith | false ↦ omega arith ]
+section_lt true zero h = omega arith
+section_lt false zero h = omega arith
+section_lt true (suc zero) h = omega arith
+section_lt false (suc zero) h = omega arith
+section_lt true (suc (suc zero)) h = omega arith
+section_lt false (suc (suc zero)) h = omega arith
+section_lt true (suc (suc (suc zero))) h = omega arith
+section_lt false (suc (suc (suc zero))) h = omega arith
+section_lt true (suc (suc (suc (suc zero)))) h = omega arith
+section_lt false (suc (suc (suc (suc zero)))) h = omega arith
+section_lt true (suc (suc (suc (suc (suc zero))))) h = omega arith
+section_lt false (suc (suc (suc (suc (suc zero))))) h = omega arith
+section_lt true (suc (suc (suc (suc (suc (suc zero)))))) h = omega arith
+section_lt false (suc (suc (suc (suc (suc (suc zero)))))) h = omega arith
+section_lt true (suc (suc (suc (suc (suc (suc (suc zero))))))) h = omega arith
+section_lt false (suc (suc (suc (suc (suc (suc (suc zero))))))) h = omega arith
 section_lt five (suc (suc (suc (suc (suc (suc (suc (suc k)))))))) h = absurd (omega arith)
 
 -- column k of the code's table

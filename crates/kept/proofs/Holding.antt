@@ -66,15 +66,21 @@ module _ {A : Type 0} (k t : ℕ) (x a b : A) (o : OneOrTwo k) where
 
 -- ---- rows
 pub rows_snoc : (five : Bool) (ks : List KeptUnit) (rs : List Row) (k : KeptUnit) (r : Row) → RowsAre five ks rs → RowIs five k r → RowsAre five (ks ++ (k ∷ [])) (rs ++ (r ∷ []))
+rows_snoc five [] (q ∷ rs) k r x4 h = elim x4 [ ]
+rows_snoc five (x ∷ ks) [] k r x5 h = elim x5 [ ]
 rows_snoc five [] [] k r none h = more h none
 rows_snoc five (x ∷ ks) (q ∷ rs) k r (more a m) h = more a (rows_snoc five ks rs k r m h)
 
 pub rows_many : (five : Bool) (ks : List KeptUnit) (rs : List Row) → RowsAre five ks rs → length ks ≡ length rs
+rows_many five [] (q ∷ rs) x'' = elim x'' [ ]
+rows_many five (x ∷ ks) [] x4 = elim x4 [ ]
 rows_many five [] [] none = refl
 rows_many five (x ∷ ks) (q ∷ rs) (more a m) = ap suc (rows_many five ks rs m)
 
 pub rows_identities : (five : Bool) (ks : List KeptUnit) (rs : List Row) → RowsAre five ks rs → map (λ (k : KeptUnit). k.identity) ks ≡ identities_of rs
 unfolding identities_of
+rows_identities five [] (q ∷ rs) x'' = elim x'' [ ]
+rows_identities five (x ∷ ks) [] x4 = elim x4 [ ]
 rows_identities five [] [] none = refl
 rows_identities five (x ∷ ks) (q ∷ rs) (more a m) = ap₂ (λ (y : ℕ) (l : List ℕ). y ∷ l) a.identity (rows_identities five ks rs m)
 
@@ -88,6 +94,8 @@ length_identities [] = refl
 length_identities (r ∷ rs) = ap suc (length_identities rs)
 
 pub each_snoc : (b : List ℕ) (ks : List KeptUnit) (us : List Filed) (k : KeptUnit) (u : Filed) → RecordsAre b ks us → RecordIs b k u → RecordsAre b (ks ++ (k ∷ [])) (us ++ (u ∷ []))
+each_snoc b [] (y ∷ us) k u x4 h = elim x4 [ ]
+each_snoc b (x ∷ ks) [] k u x5 h = elim x5 [ ]
 each_snoc b [] [] k u no_record h = one_record h no_record
 each_snoc b (x ∷ ks) (y ∷ us) k u (one_record a m) h = one_record a (each_snoc b ks us k u m h)
 

@@ -88,6 +88,8 @@ module _ (f : IndexForm) (rs : List Row) (c : ColumnsHeld f.five f.has rs) where
       → ((k : KeptUnit) (r : Row) → RowIs f.five k r → (j : ℕ) → j < length (columns_for f.five) → get_or k.cells (which + 2 * j) 0 ≡ g (r.cells (section_at f.five j)))
       → RowsAre f.five ks qs → joined (map (numbers_in f which) ks) ≡ grid g (present_columns (version_for f.five) rs) qs
   unfolding grid joined numbers_in
+  grid_is which g [] (q ∷ qs) e x4 = elim x4 [ ]
+  grid_is which g (k ∷ ks) [] e x4 = elim x4 [ ]
   grid_is which g [] [] e none = refl
   grid_is which g (k ∷ ks) (q ∷ qs) e (more h m) =
       ap₂ (λ (x y : List ℕ). x ++ y) (cells_present f.five f.has rs c k.cells which g which q (e k q h)) (grid_is which g ks qs e m)

@@ -72,6 +72,8 @@ pub record Standing (b w : List ℕ) (i : ℕ) (us : List Filed) : Type 0 where
 standing : (b w : List ℕ) (ks : List KeptUnit) (us : List Filed) (i j n : ℕ) → RecordsAre b ks us → ks ≡ records_from w i n → j < n → Standing b w (i + j) us
 unfolding records_from
 standing b w ks us i j zero r e h = absurd (not-suc-le-zero h)
+standing b w [] (u ∷ us) i j (suc n) r e h = elim r [ ]
+standing b w (k ∷ ks) [] i j (suc n) r e h = elim r [ ]
 standing b w [] [] i j (suc n) no_record e h = absurd (omega (arith, ap length e))
 standing b w (k ∷ ks) (u ∷ us) i zero (suc n) (one_record a r) e h =
     let q : k ≡ record_at w i = cc in

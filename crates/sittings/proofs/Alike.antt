@@ -85,6 +85,8 @@ same_longer before u v p q = ap₂ (λ (h : ℕ) (s : List ℕ). longer before h
 
 rows_alike : (t : ℕ) (us vs : List Filed) → Both Alike us vs → (before : BySection ℕ) → Both SameRow (rows_from before us t) (rows_from before vs t)
 unfolding rows_from those row_at entries_from
+rows_alike t [] (v ∷ vs) x'' before = elim x'' [ ]
+rows_alike t (u ∷ us) [] x3 before = elim x3 [ ]
 rows_alike t [] [] done before = done
 rows_alike t (u ∷ us) (v ∷ vs) (more p b) before =
     let next = subst (λ (f : BySection ℕ). Both SameRow (rows_from (longer before u.home (length u.bytes)) us t) (rows_from f vs t)) (same_longer before u v p.home p.bytes)

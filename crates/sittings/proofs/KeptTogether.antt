@@ -52,6 +52,8 @@ sees_one u v h t x = ap (λ (b : Bool). elim b as (λ b. Bool) [ true ↦ true |
 -- the same ones are added to what has seen the same
 pub added_moved : (ks ks' us vs : List Filed) → Sees ks ks' → Both Moved us vs → Both Moved (added ks us) (added ks' vs)
 unfolding added
+added_moved ks ks' [] (v ∷ vs) p x4 = elim x4 [ ]
+added_moved ks ks' (u ∷ us) [] p x4 = elim x4 [ ]
 added_moved ks ks' [] [] p done = done
 added_moved ks ks' (u ∷ us) (v ∷ vs) p (more m b) = ⊎_elim
     (λ (t : any (is_under u.table u.identity) ks ≡ true).
@@ -110,6 +112,8 @@ pub record Columned (all : ℕ → ℕ → Bool) (u v : Filed) : Type 0 where
 module _ (t c : ℕ) (all : ℕ → ℕ → Bool) where
   forth : (us vs : List Filed) (before : BySection ℕ) → Both (Columned all) us vs → any_has (rows_from before us t) c ≡ true → any_has (rows_from before vs t) c ≡ true
   unfolding rows_from entries_from those any row_at
+  forth [] (v ∷ vs) before x4 h = elim x4 [ ]
+  forth (u ∷ us) [] before x4 h = elim x4 [ ]
   forth [] [] before done h = h
   forth (u ∷ us) (v ∷ vs) before (more p b) h = ⊎_elim
       (λ (z : eqb u.table t ≡ true).
@@ -131,6 +135,8 @@ module _ (t c : ℕ) (all : ℕ → ℕ → Bool) where
 
   back : (us vs : List Filed) (before : BySection ℕ) → Both (Columned all) us vs → any_has (rows_from before vs t) c ≡ true → (any_has (rows_from before us t) c ≡ true) ⊎ (all t c ≡ true)
   unfolding rows_from entries_from those any row_at
+  back [] (v ∷ vs) before x4 h = elim x4 [ ]
+  back (u ∷ us) [] before x4 h = elim x4 [ ]
   back [] [] before done h = inl h
   back (u ∷ us) (v ∷ vs) before (more p b) h = ⊎_elim
       (λ (z : eqb u.table t ≡ true).

@@ -87,6 +87,8 @@ both_alike (more a b) = more a.alike (both_alike b)
 
 pub sees_alike : (us vs : List Filed) → Both Alike us vs → Sees vs us
 unfolding any
+sees_alike [] (v ∷ vs) x5 t x = elim x5 [ ]
+sees_alike (u ∷ us) [] x6 t x = elim x6 [ ]
 sees_alike [] [] none t x = refl
 sees_alike (u ∷ us) (v ∷ vs) (more p b) t x =
     ap₂ (λ (a r : Bool). elim a as (λ z. Bool) [ true ↦ true | false ↦ r ]) (sym (under_alike t x u v p)) (sees_alike us vs b t x)

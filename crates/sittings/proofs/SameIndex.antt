@@ -20,6 +20,8 @@ pub record SameRow (r s : Row) : Type 0 where
   pub size : (c : ℕ) → size_of (r.cells c) ≡ size_of (s.cells c)
 
 identities_same : (rs ss : List Row) → Both SameRow rs ss → map (λ r. r.identity) rs ≡ map (λ r. r.identity) ss
+identities_same [] (s ∷ ss) x'' = elim x'' [ ]
+identities_same (r ∷ rs) [] x3 = elim x3 [ ]
 identities_same [] [] none = refl
 identities_same (r ∷ rs) (s ∷ ss) (more p b) = ap₂ (λ (x : ℕ) (xs : List ℕ). x ∷ xs) p.identity (identities_same rs ss b)
 
@@ -29,6 +31,8 @@ cells_same f r s h (c ∷ cs) = ap₂ (λ (x : ℕ) (xs : List ℕ). x ∷ xs) (
 
 grid_same : (f : Option Contribution → ℕ) (cs : List Column) (rs ss : List Row) → Both (λ r s. (c : ℕ) → f (r.cells c) ≡ f (s.cells c)) rs ss → grid f cs rs ≡ grid f cs ss
 unfolding grid joined
+grid_same f cs [] (s ∷ ss) x'' = elim x'' [ ]
+grid_same f cs (r ∷ rs) [] x3 = elim x3 [ ]
 grid_same f cs [] [] none = refl
 grid_same f cs (r ∷ rs) (s ∷ ss) (more p b) = ap₂ (λ (x y : List ℕ). x ++ y) (cells_same f r s p cs) (grid_same f cs rs ss b)
 
@@ -46,6 +50,8 @@ those_same {A} f g xs h = ap (λ (k : A → Bool). those k xs) (λ i x. h x i)
 pub index_same : (big : Bool) (version : ℕ) (rs ss : List Row) → Both SameRow rs ss → ((c : ℕ) → any (λ r. is_some (r.cells c)) rs ≡ any (λ r. is_some (r.cells c)) ss)
     → index_bytes big version rs ≡ index_bytes big version ss
 unfolding index_bytes
+index_same big version [] (s ∷ ss) b h = elim b [ ]
+index_same big version (r ∷ rs) [] b h = elim b [ ]
 index_same big version [] [] none h = refl
 index_same big version (r ∷ rs) (s ∷ ss) b h = (λ i. index_with big version (present i) (r ∷ rs) (slots_of (identities_same (r ∷ rs) (s ∷ ss) b i)))
     ∙ rows (present_columns version (s ∷ ss)) (slots_of (map (λ (q : Row). q.identity) (s ∷ ss)))

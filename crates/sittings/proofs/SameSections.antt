@@ -76,6 +76,8 @@ module _ (home_of : ℕ → ℕ) where
 
 identities_alike : (t : ℕ) (us vs : List Filed) → Both Alike us vs → identities_in t us ≡ identities_in t vs
 unfolding identities_in those
+identities_alike t [] (v ∷ vs) x'' = elim x'' [ ]
+identities_alike t (u ∷ us) [] x3 = elim x3 [ ]
 identities_alike t [] [] none = refl
 identities_alike t (u ∷ us) (v ∷ vs) (more p b) = ⊎_elim
     (λ (q : eqb u.table t ≡ true).
@@ -92,6 +94,8 @@ Likewise ks u v = Columned (λ t c. any_has (rows_of ks t) c) u v
 
 both_home : (ks us vs : List Filed) (h : ℕ) → Both (Likewise ks) us vs → Both (Likewise ks) (of_home h us) (of_home h vs)
 unfolding those
+both_home ks [] (v ∷ vs) h x'' = elim x'' [ ]
+both_home ks (u ∷ us) [] h x3 = elim x3 [ ]
 both_home ks [] [] h none = none
 both_home ks (u ∷ us) (v ∷ vs) h (more p b) = ⊎_elim
     (λ (y : eqb u.home h ≡ true).
@@ -110,6 +114,8 @@ unfolding those
 home_whole ks us vs h b = go (of_home h us) vs b (each_passed (λ (u : Filed). eqb u.home h) us)
   where
     go : (xs ys : List Filed) → Both (Likewise ks) xs ys → Every (λ (u : Filed). eqb u.home h ≡ true) xs → of_home h ys ≡ ys
+    go [] (y ∷ ys) x4 e = elim x4 [ ]
+    go (x ∷ xs) [] x5 e = elim x5 [ ]
     go [] [] none e = refl
     go (x ∷ xs) (y ∷ ys) (more p b) e = home_keeps h y ys (sym p.alike.home ∙ eqb-true _ _ (each_head e)) ∙ ap (λ (l : List Filed). y ∷ l) (go xs ys b (each_tail e))
 
@@ -118,19 +124,27 @@ unfolding those
 home_other ks us vs h g n b = go (of_home h us) vs b (each_passed (λ (u : Filed). eqb u.home h) us)
   where
     go : (xs ys : List Filed) → Both (Likewise ks) xs ys → Every (λ (u : Filed). eqb u.home h ≡ true) xs → of_home g ys ≡ []
+    go [] (y ∷ ys) x4 e = elim x4 [ ]
+    go (x ∷ xs) [] x5 e = elim x5 [ ]
     go [] [] none e = refl
     go (x ∷ xs) (y ∷ ys) (more p b) e = home_skips g y ys (λ z. n (sym (eqb-true _ _ (each_head e)) ∙ p.alike.home ∙ z)) ∙ go xs ys b (each_tail e)
 
 both_likes : (ks us vs : List Filed) → Both (Likewise ks) us vs → Both Alike us vs
+both_likes ks [] (v ∷ vs) x'' = elim x'' [ ]
+both_likes ks (u ∷ us) [] x3 = elim x3 [ ]
 both_likes ks [] [] none = none
 both_likes ks (u ∷ us) (v ∷ vs) (more p b) = more p.alike (both_likes ks us vs b)
 
 pub likewise_again : (i : Input) (ks us vs : List Filed) → Every SharedOnly us → Every (λ u. (c : ℕ) (k : Contribution) → u.contributions c ≡ some k → has (needed_codes (lengths i)) c ≡ true) us
     → Both (AgainIn i ks) us vs → Both (Likewise ks) us vs
+likewise_again i ks [] (v ∷ vs) s n x6 = elim x6 [ ]
+likewise_again i ks (u ∷ us) [] s n x5 = elim x5 [ ]
 likewise_again i ks [] [] s n none = none
 likewise_again i ks (u ∷ us) (v ∷ vs) s n (more a b) = more (again_columned i ks u v (each_head s) (each_head n) a) (likewise_again i ks us vs (each_tail s) (each_tail n) b)
 
 likewise_moved : (ks us vs : List Filed) → Every SharedOnly us → Both Moved us vs → Both (Likewise ks) vs us
+likewise_moved ks [] (v ∷ vs) s x4 = elim x4 [ ]
+likewise_moved ks (u ∷ us) [] s x4 = elim x4 [ ]
 likewise_moved ks [] [] s none = none
 likewise_moved ks (u ∷ us) (v ∷ vs) s (more m b) = more (moved_columned (λ t c. any_has (rows_of ks t) c) u v (each_head s) m) (likewise_moved ks us vs (each_tail s) b)
 
@@ -143,6 +157,8 @@ each_added {P} ks (u ∷ us) e = ⊎_elim
     (known (any (is_under u.table u.identity) ks))
 
 each_alike : (home_of : ℕ → ℕ) (ks us vs : List Filed) → Both (Likewise ks) us vs → Every (Homed home_of) us → Every (Homed home_of) vs
+each_alike home_of ks [] (v ∷ vs) x4 e = elim x4 [ ]
+each_alike home_of ks (u ∷ us) [] x4 e = elim x4 [ ]
 each_alike home_of ks [] [] none e = nothing
 each_alike home_of ks (u ∷ us) (v ∷ vs) (more p b) e = also (sym p.alike.home ∙ each_head e ∙ ap home_of p.alike.table) (each_alike home_of ks us vs b (each_tail e))
 
@@ -219,6 +235,8 @@ module _ (home_of : ℕ → ℕ) (either : (t : ℕ) → (home_of t ≡ 1) ⊎ (
   together_homed = each_kept (os ++ vs) (each_append homed (moved_homed us vs moved Homed-more))
     where
       moved_homed : (us vs : List Filed) → Both Moved us vs → Every (Homed home_of) us → Every (Homed home_of) vs
+      moved_homed [] (v ∷ vs) x4 e = elim x4 [ ]
+      moved_homed (u ∷ us) [] x4 e = elim x4 [ ]
       moved_homed [] [] none e = nothing
       moved_homed (u ∷ us) (v ∷ vs) (more m b) e =
           let own : v.home ≡ home_of v.table = moved_home u v m (each_head e) in also own (moved_homed us vs b (each_tail e))
