@@ -1,0 +1,14 @@
+-- `unit::abbreviations::walk_attributes` meets its contract.
+-- Assumes nothing.
+use mathlib.Core.Path.{◌≡◌}
+use Prim.Native.Nat.{◌-◌, ◌≤◌}
+use lib.ListN.{length, drop}
+use Rattle.unit.specs.Tables.{attributes_size}
+use Rattle.unit.proofs.Sizes.{further}
+use Rattle.unit.proofs.abbreviations.walk_attributes.Given as goal
+
+abbrev pub invariant-loop-name : goal.invariant-loop-name
+invariant-loop-name l = (l.at ≤ length l.s) × (further l.at (attributes_size (drop l.at l.s)) ≡ attributes_size l.s)
+
+abbrev pub decreases-loop-name : goal.decreases-loop-name
+decreases-loop-name l = length l.s - l.at

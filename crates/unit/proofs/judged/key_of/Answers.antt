@@ -1,0 +1,9 @@
+-- `unit::judged::key_of` meets its contract.
+-- Assumes nothing.
+use native.Mathlib.Omega.{arith}
+use Rattle.unit.specs.TableTrees.{key_of}
+use Rattle.unit.proofs.judged.key_of.Goals as goal
+
+pub returns : goal.returns
+unfolding key_of
+returns c = omega (arith, c.long-2.ensures, c.long.ensures)
