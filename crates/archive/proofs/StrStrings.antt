@@ -110,10 +110,10 @@ module _ (b p : List ℕ) (a : Accepted b p) (h : Bytes b) where
   reached_is : (s : List ℕ) → is_in strings s ≡ true → (i : ℕ) × (i < length (pieces (str_in p))) × (get_or (pieces (str_in p)) i [] ≡ ended s)
   reached_is s e = subst (λ (l : List (List ℕ)). (i : ℕ) × (i < length l) × (get_or l i [] ≡ ended s)) (sym pieces_are) (listed_at strings s e)
 
-  module _ (some_IsFirst : (t x : ℕ) → any (is_under t x) (handed_in b) ≡ true → (u : Filed) × IsFirst b t x u) where
+  module _ (some_first : (t x : ℕ) → any (is_under t x) (handed_in b) ≡ true → (u : Filed) × IsFirst b t x u) where
     pub every_reached : EveryStringReached b p
     every_reached v t x k start size n q e = ⊎_elim
-        (λ (z : any (is_under t x) (handed_in b) ≡ true). of (some_IsFirst t x z))
+        (λ (z : any (is_under t x) (handed_in b) ≡ true). of (some_first t x z))
         (λ (z : any (is_under t x) (handed_in b) ≡ false). absurd (let y = sym e ∙ (absent_is b p a h v t x 1 k q (record { from = omega arith; to = omega arith }) z).1 in let c : ◌≡◌ {A = ℕ} 0 1 = cc in omega arith))
         (known (any (is_under t x) (handed_in b)))
       where

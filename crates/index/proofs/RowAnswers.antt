@@ -81,21 +81,21 @@ module _ (i : Index) (width : ℕ) (lengths : List ℕ) (x home at size : ℕ) w
         unfolding judged
         row_no_column e = row_judged ∙ fails _ _ _ (columns false e)
 
-        module _ (All-there : true ≡ all (There i row) (needed_codes (by_code lengths))) where
+        module _ (all_there : true ≡ all (There i row) (needed_codes (by_code lengths))) where
           place : (t : Bool) → t ≡ own_cell at size own → cell_is (own_place at size) (cell_of i row home) ≡ t
           place t e = sym (e ∙ ap (own_cell at size) is ∙ own_cell_law at size (cell_of i row home))
 
           pub row_apart : false ≡ own_cell at size own → row_contributions i width (by_code lengths) x home at size ≡ refuse 16
           unfolding judged
-          row_apart e = row_judged ∙ passes _ _ _ (columns true All-there) ∙ fails _ _ _ (place false e)
+          row_apart e = row_judged ∙ passes _ _ _ (columns true all_there) ∙ fails _ _ _ (place false e)
 
           module _ (placed : true ≡ own_cell at size own) where
             pub row_outside : false ≡ all (Good width lengths i row) (needed_codes (by_code lengths))
                 → row_contributions i width (by_code lengths) x home at size ≡ refuse 16
             unfolding judged
-            row_outside e = row_judged ∙ passes _ _ _ (columns true All-there) ∙ passes _ _ _ (place true placed) ∙ fails _ _ _ (sym e)
+            row_outside e = row_judged ∙ passes _ _ _ (columns true all_there) ∙ passes _ _ _ (place true placed) ∙ fails _ _ _ (sym e)
 
             pub row_good : true ≡ all (Good width lengths i row) (needed_codes (by_code lengths))
                 → row_contributions i width (by_code lengths) x home at size ≡ pass (chosen (by_code lengths) (cell_of i row))
             unfolding judged
-            row_good e = row_judged ∙ passes _ _ _ (columns true All-there) ∙ passes _ _ _ (place true placed) ∙ passes _ _ _ (sym e)
+            row_good e = row_judged ∙ passes _ _ _ (columns true all_there) ∙ passes _ _ _ (place true placed) ∙ passes _ _ _ (sym e)

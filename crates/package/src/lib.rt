@@ -1,3 +1,2 @@
 // The definitions of packing and their laws; the code that packs stands in crates above.
 #![tactic(auto)]
-

@@ -167,7 +167,7 @@ one_two z = omega arith
 
 module _ (home_of : ℕ → ℕ) (either : (t : ℕ) → (home_of t ≡ 1) ⊎ (home_of t ≡ 2)) (os here first second us vs : List Filed) (is : here ≡ first ++ second)
     (info : Both (Likewise (kept os)) (of_home 1 (kept os)) first) (types : Both (Likewise (kept os)) (of_home 2 (kept os)) second)
-    (homed : Every (Homed home_of) os) (Homed-more : Every (Homed home_of) us) (sharing : Every SharedOnly us) (moved : Both Moved us vs) where
+    (homed : Every (Homed home_of) os) (homed_more : Every (Homed home_of) us) (sharing : Every SharedOnly us) (moved : Both Moved us vs) where
   abbrev ks : List Filed
   ks = kept os
 
@@ -229,10 +229,10 @@ module _ (home_of : ℕ → ℕ) (either : (t : ℕ) → (home_of t ≡ 1) ⊎ (
   moved_home u v m e = ap (λ (w : Filed). w.home) m.is ∙ e ∙ sym (ap (λ (w : Filed). home_of w.table) m.is)
 
   sitting_homed : Every (Homed home_of) (kept (here ++ us))
-  sitting_homed = each_kept (here ++ us) (each_append here_homed Homed-more)
+  sitting_homed = each_kept (here ++ us) (each_append here_homed homed_more)
 
   together_homed : Every (Homed home_of) (kept (os ++ vs))
-  together_homed = each_kept (os ++ vs) (each_append homed (moved_homed us vs moved Homed-more))
+  together_homed = each_kept (os ++ vs) (each_append homed (moved_homed us vs moved homed_more))
     where
       moved_homed : (us vs : List Filed) → Both Moved us vs → Every (Homed home_of) us → Every (Homed home_of) vs
       moved_homed [] (v ∷ vs) x4 e = elim x4 [ ]
