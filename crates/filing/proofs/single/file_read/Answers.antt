@@ -1,0 +1,59 @@
+-- `file_read` meets its contract.
+-- Assumes nothing.
+use mathlib.Core.Path.{sym, ◌∙◌}
+use native.Mathlib.Omega.{arith}
+use Rattle.filing.proofs.Kept.{seek_asks, sought_is, known_is, free_is, rows_held}
+use Rattle.filing.proofs.Answering.{known_asks, answer_known, answer_bad, keep_requires, answer_filed}
+use Rattle.filing.proofs.Transients.{transient_none}
+use Rattle.filing.proofs.single.file_read.Goals as goal
+
+pub seek_in-requires : goal.seek_in-requires
+seek_in-requires c = let p = c.requires in seek_asks p.ready.at_unit.held _ p.read.least p.fits _ c.args.read.identity p.read.tables _ c.seen_slots-count.ensures
+
+pub file_known-requires : goal.file_known-requires
+file_known-requires c =
+    let p = c.requires in
+    let a = p.ready.at_unit in
+    let r = p.read in
+    known_asks a r p.fits _ (known_is a.held _ r.least p.fits _ _ r.tables _ (sym c.in-Known.is ∙ sought_is a.held _ r.least p.fits _ _ r.tables _ c.seen_slots-count.ensures _ c.seek_in.ensures))
+
+pub returns-in-Known : goal.returns-in-Known
+returns-in-Known c =
+    let p = c.requires in record {
+      filed = λ i bases earlier here s a r y.
+          answer_known a r p.fits p.homes y _ (known_is a.held _ r.least p.fits _ _ r.tables _ (sym c.in-Known.is ∙ sought_is a.held _ r.least p.fits _ _ r.tables _ c.seen_slots-count.ensures _ c.seek_in.ensures)) _ c.file_known.ensures;
+      transient = transient_none _ _;
+    }
+
+pub returns-then-code-ne0 : goal.returns-then-code-ne0
+returns-then-code-ne0 c =
+    let p = c.requires in record {
+      filed = λ i bases earlier here s a r y.
+          let f = free_is a.held _ r.least p.fits _ _ r.tables _ (sym c.in-Free.is ∙ sought_is a.held _ r.least p.fits _ _ r.tables _ c.seen_slots-count.ensures _ c.seek_in.ensures) in
+          answer_bad a r p.fits p.homes y _ (c.contributions_of-judged.ensures i a.input) f.0 _ _ c.if-code-ne0.true c.refused.ensures;
+      transient = transient_none _ _;
+    }
+
+pub unit_for-unit-requires : goal.unit_for-unit-requires
+unit_for-unit-requires c =
+    let p = c.requires in
+    let h = p.ready.at_unit.held in
+    omega (arith, rows_held h c.args.read.table p.read.tables, h.spent, h.within, h.limit)
+
+pub keep_unit-next-requires : goal.keep_unit-next-requires
+keep_unit-next-requires c =
+    let p = c.requires in
+    let a = p.ready.at_unit in
+    let r = p.read in
+    let f = free_is a.held _ r.least p.fits _ _ r.tables _ (sym c.in-Free.is ∙ sought_is a.held _ r.least p.fits _ _ r.tables _ c.seen_slots-count.ensures _ c.seek_in.ensures) in
+    keep_requires a r p.fits p.homes p.same _ (c.contributions_of-judged.ensures p.ready.input a.input) f.0 c.if-code-ne0.false _ f.1 f.2 _ c.unit_for-unit.ensures
+
+pub returns : goal.returns
+returns c =
+    let p = c.requires in
+    record {
+      filed = λ i bases earlier here s a r y.
+          let f = free_is a.held _ r.least p.fits _ _ r.tables _ (sym c.in-Free.is ∙ sought_is a.held _ r.least p.fits _ _ r.tables _ c.seen_slots-count.ensures _ c.seek_in.ensures) in
+          answer_filed a r p.fits p.homes y _ (c.contributions_of-judged.ensures i a.input) f.0 c.if-code-ne0.false _ f.1 f.2 _ c.unit_for-unit.ensures _ _ c.keep_unit-next.ensures.held c.keep_unit-next.ensures.strings;
+      transient = c.keep_unit-next.ensures.transient;
+    }

@@ -1,0 +1,13 @@
+-- `add_sections` meets its contract. What the loop keeps is `Sectioned`, and the tables that were judged.
+-- Assumes nothing.
+use Prim.Native.Nat.{◌-◌}
+use lib.ListN.{length}
+use Rattle.filing.specs.State.{Remembered}
+use Rattle.filing.proofs.OverSections.{Sectioned}
+use Rattle.filing.proofs.walks.add_sections.Given as goal
+
+abbrev pub invariant-loop-number : goal.invariant-loop-number
+invariant-loop-number l = Sectioned l.b l.x l.from l.at l.initial.work l.work l.initial.known l.known × Remembered l.b l.work l.judged
+
+abbrev pub decreases-loop-number : goal.decreases-loop-number
+decreases-loop-number l = length l.b - l.at
