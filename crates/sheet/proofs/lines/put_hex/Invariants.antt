@@ -1,0 +1,14 @@
+-- `sheet::lines::put_hex` meets its contract.
+-- Assumes nothing.
+use mathlib.Core.Path.{◌≡◌}
+use Prim.Native.Nat.{◌+◌, ◌≤◌}
+use lib.ListN.{length}
+use Rattle.octets.specs.Octets.{placed}
+use Rattle.sheet.specs.Sheet.{hex}
+use Rattle.sheet.proofs.lines.put_hex.Given as goal
+
+abbrev pub invariant-loop-left : goal.invariant-loop-left
+invariant-loop-left l = (l.at + l.left ≤ length l.d) × (length l.d ≡ length l.initial.d) × (placed l.d l.at (hex l.left l.m) ≡ placed l.initial.d l.at (hex l.w l.n))
+
+abbrev pub decreases-loop-left : goal.decreases-loop-left
+decreases-loop-left l = l.left

@@ -1,0 +1,16 @@
+-- `sheet::marks::mark` meets its contract.
+-- Assumes nothing.
+use mathlib.Core.Path.{ap}
+use Prim.Native.Nat.{ℕ, ◌/◌, ◌%◌}
+use native.Mathlib.Omega.{arith}
+use lib.Bits.{bit_or}
+use lib.ListN.{get_or, set}
+use Rattle.sheet.specs.Held.{with_mark}
+use Rattle.sheet.proofs.LawMarks.{bit_fits}
+use Rattle.sheet.proofs.marks.mark.Goals as goal
+
+pub returns : goal.returns
+unfolding with_mark
+returns c =
+    let a = c.args in
+    ap (λ (z : ℕ). set a.marks.now (a.n / 32) (bit_or (get_or a.marks.now (a.n / 32) 0) z)) (bit_fits (a.n % 32) (omega arith))
