@@ -1,0 +1,10 @@
+-- `archive::profiling::barthovin_archive_profile` meets its contract.
+-- Assumes nothing.
+use mathlib.Core.Path.{ap}
+use Rattle.profile.specs.Judged.{judged}
+use Rattle.profile.specs.declared.Verdict.{Verdict}
+use Rattle.archive.proofs.profiling.barthovin_archive_profile.Goals as goal
+
+pub returns : goal.returns
+unfolding judged
+returns c = ap (λ (v : Verdict). v.code) c.judge-verdict.ensures
