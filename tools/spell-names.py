@@ -43,7 +43,7 @@ LIBRARY = {"length-map", "map-append"}
 
 def snake(name):
     """word-joined and wordJoined as word_joined; a head of capitals, as in B1, stays."""
-    words = re.sub(r"(?<=[a-z0-9])([A-Z])", lambda m: "_" + m[1].lower(), name)
+    words = re.sub(r"(?<=[a-z0-9])[A-Z]|(?<=[a-z][A-Z])[A-Z](?=[a-z])", lambda m: "_" + m[0].lower(), name)
     return re.sub(r"(?<=[\w'₀-₉])-(?=[\w'])", "_", words)
 
 

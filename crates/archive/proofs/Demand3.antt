@@ -153,7 +153,7 @@ module _ (b p : List ℕ) (a : Accepted b p) (h : Bytes b) where
   pub from_bundle_to_answer : FromBundleToAnswer b p
   from_bundle_to_answer = record {
     every_unit_is_handed_in = every_unit;
-    each_is_aUnit = each_unit;
+    each_is_a_unit = each_unit;
     the_packages_tables = the_tables b p a h;
     found_exactly_when_handed_in = found_exactly;
     the_first_unit = first_unit;

@@ -81,7 +81,7 @@ module _ (b p : List ℕ) (t : FromBundleToAnswer b p) (v table x : ℕ) (r : Fr
     part_told = record {
       answer = l;
       the_table = λ q. t.the_packages_tables table q.tables;
-      a_unit = λ u f. t.each_is_aUnit f.before f.behind u f.stands;
+      a_unit = λ u f. t.each_is_a_unit f.before f.behind u f.stands;
       found_exactly_when_handed_in = λ q c. (
         (λ z. ⊎_elim
             (λ (e : any (is_under table x) (handed_in b) ≡ true). e)
@@ -147,7 +147,7 @@ module _ (b p : List ℕ) (t : FromBundleToAnswer b p) (v table x : ℕ) (r : Fr
     string_told = record {
       answer = l;
       the_table = λ q. t.the_packages_tables table q.tables;
-      a_unit = λ u f. t.each_is_aUnit f.before f.behind u f.stands;
+      a_unit = λ u f. t.each_is_a_unit f.before f.behind u f.stands;
       its_strings = λ u q f m. let s = t.its_strings v table x k u q f m in (s.0, s.1, told p r _ _ _ l s.2);
       no_other_string = λ u q f m. told_refused p r _ _ l (t.no_other_string v table x k u q f m);
       absent_is_absent = no_string;

@@ -197,7 +197,7 @@ NeitherRefuses b p =
 
 pub record FromBundleToAnswer (b p : List ℕ) : Type 0 where
   pub every_unit_is_handed_in : EveryUnitIsHandedIn b
-  pub each_is_aUnit : EachIsAUnit b
+  pub each_is_a_unit : EachIsAUnit b
   pub the_packages_tables : ThePackagesTables b p
   pub found_exactly_when_handed_in : FoundExactlyWhenHandedIn b p
   pub the_first_unit : TheFirstUnit b p

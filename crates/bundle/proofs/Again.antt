@@ -15,7 +15,7 @@ use Rattle.octets.proofs.Numbers.{number_at_first}
 use Rattle.octets.proofs.Parts.{part_middle}
 use Rattle.octets.proofs.Placed.{length_zeros}
 use Rattle.octets.proofs.Elements.{zeros_all}
-use Rattle.bundle.specs.Bundle.{Part, object, section, more, end, filled_up, step_at, items}
+use Rattle.bundle.specs.Bundle.{Part, object, section, more, filled_up, step_at, items}
 use Rattle.bundle.specs.Written.{Section, word_bytes, section_bytes}
 use Rattle.bundle.proofs.Steps.{before, items_end, items_more}
 use Rattle.bundle.proofs.Cases.{object_good, step_word, kind_object, kind_section, kind_end, section_good, end_good}

@@ -7,13 +7,13 @@ use Prim.Native.Nat.{ℕ, ◌+◌, ◌/◌, ◌%◌, ◌≤◌}
 use native.Mathlib.Omega.{arith}
 use lib.ListN.{length, drop}
 use Rattle.octets.specs.Checked.{pass}
-use Rattle.bundle.specs.Bundle.{Part, Item, object, section, Object, Bundle, more, end, step_at, filled_up, leading, objects_of, object_first, bundle_of}
+use Rattle.bundle.specs.Bundle.{Part, Item, object, section, Object, Bundle, more, step_at, filled_up, leading, objects_of, object_first, bundle_of}
 use Rattle.bundle.specs.Next.{next_of}
 use Rattle.bundle.specs.Scan.{place_behind}
 use Rattle.bundle.specs.declared.Item.TheVariants.{Object as AnObject, Section as ASection, End, Broken}
 use Rattle.bundle.proofs.Passed.{here, step_here, left_broken, left_end, left_more, left_cons}
 use Rattle.bundle.proofs.Next.{object_here, section_here, section_step, end_here, broken_here, filled_up_whole}
-use Rattle.bundle.proofs.Every.{Every, nothing, also}
+use Rattle.bundle.proofs.Every.{Every, also}
 use Rattle.bundle.proofs.Lies.{Lies, leading_lie, span, here_span}
 use Rattle.bundle.proofs.Items.{behind, behind_objects, behind_first}
 use Rattle.bundle.proofs.Whole.{readable}

@@ -8,9 +8,9 @@ use native.Mathlib.Omega.{arith}
 use lib.Dec.{eqb}
 use lib.ListN.{length}
 use Rattle.octets.specs.Checked.{Check, pass}
-use Rattle.bundle.specs.Bundle.{Part, Item, object, section, more, filled_up, leading, first_part}
+use Rattle.bundle.specs.Bundle.{Item, object, section, more, filled_up, leading, first_part}
 use Rattle.bundle.specs.Scan.{place_behind, size_of, size_in, holds_units, unit_section_of}
-use Rattle.bundle.specs.declared.UnitSection.TheVariants.{Found, Done}
+use Rattle.bundle.specs.declared.UnitSection.TheVariants.{Found}
 use Rattle.bundle.proofs.Passed.{here, step_here, left_cons}
 use Rattle.bundle.proofs.Next.{section_step}
 use Rattle.bundle.proofs.Units.{units_first, units_later}

@@ -13,7 +13,7 @@ use Rattle.octets.specs.Checked.{pass}
 use Rattle.octets.proofs.Numbers.{number_at_first}
 use Rattle.bundle.specs.Bundle.{Part, Item, object, section, Object, filled_up, items, leading, objects_of, object_first, bundle_of}
 use Rattle.bundle.specs.Written.{Section, Sections, word_bytes, head_bytes, section_bytes, object_bytes, end_bytes, written}
-use Rattle.bundle.proofs.Every.{Every, nothing, also}
+use Rattle.bundle.proofs.Every.{Every, also}
 use Rattle.bundle.proofs.Steps.{before}
 use Rattle.bundle.proofs.Passed.{here, prepend, prepend_nil, prepend_prepend, prepend_cons}
 use Rattle.bundle.proofs.Next.{filled_up_whole}

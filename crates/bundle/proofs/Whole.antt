@@ -9,7 +9,7 @@ use lib.Dec.{eqb}
 use borrow.Author.Tests.{ne_eqb}
 use Rattle.octets.specs.Octets.{number_at}
 use Rattle.octets.specs.Checked.{Check, pass, refuse, ◌>>=◌, require}
-use Rattle.bundle.specs.Bundle.{Item, Bundle, items, objects_of, object_first, bundle_of}
+use Rattle.bundle.specs.Bundle.{Item, Bundle, objects_of, object_first, bundle_of}
 use Rattle.bundle.proofs.Passed.{here}
 
 -- the checks that follow the head

@@ -1,20 +1,19 @@
 -- The sections of an object that can be read lie in the bundle.
 -- Assumes nothing.
-use mathlib.Core.Path.{◌≡◌, refl, ap, sym, ◌∙◌}
-use mathlib.Core.Bool.{Bool, true, false}
+use mathlib.Core.Path.{◌≡◌, ap, sym, ◌∙◌}
+use mathlib.Core.Bool.{true}
 use mathlib.Core.List.{List, [], ◌∷◌}
-use mathlib.Core.Option.{Option, some, none}
+use mathlib.Core.Option.{some}
 use Prim.Native.Nat.{ℕ, ◌+◌, ◌≤◌}
 use native.Mathlib.Omega.{arith}
 use native.Mathlib.Decide.{ℕ_discrete}
 use lib.ListN.{length}
-use Rattle.octets.specs.Checked.{Check, pass, refuse}
+use Rattle.octets.specs.Checked.{pass}
 use Rattle.bundle.specs.Bundle.{Part, Item, object, section, Object, Bundle, more, leading, objects_of, object_first, first_part, bundle_of}
-use Rattle.bundle.specs.Scan.{start_in, size_in, start_of, size_of}
 use Rattle.bundle.proofs.Passed.{here, step_here, left_cons}
-use Rattle.bundle.proofs.Next.{SectionHere, section_step}
+use Rattle.bundle.proofs.Next.{section_step}
 use Rattle.bundle.proofs.Sections.{first_same, first_other}
-use Rattle.bundle.proofs.Whole.{Readable, readable}
+use Rattle.bundle.proofs.Whole.{readable}
 
 pub leading_within : (b : List ℕ) (at : ℕ) (is : List Item) → here b at ≡ pass is → (c : ℕ) (s : Part) → first_part (leading is) c ≡ some s → s.start + s.size ≤ length b
 unfolding leading first_part

@@ -5,10 +5,10 @@ use Rattle.std.specs.Prelude.{◌≡◌, refl, Bool, true, false, ◌&&◌, ◌|
 use Rattle.std.proofs.Common.{sym, ap, eqb-true}
 use Rattle.numbers.specs.Tables.{dwarf4, dwarf5}
 use Rattle.numbers.specs.Refusals.{bad_words}
-use Rattle.octets.specs.Checked.{Check, pass, refuse, ◌>>=◌, require, mapped, Stands}
+use Rattle.octets.specs.Checked.{Check, pass, ◌>>=◌, require, mapped, Stands}
 use Rattle.octets.proofs.Checks.{true_false, and_left, and_right}
 use Rattle.octets.proofs.Refusals.{Only, only_pass, only_refuse, only_require, only_bind, stands_right}
-use Rattle.bundle.specs.Bundle.{Bundle, Item, Step, more, end, broken, step_at, followed, items_from, items, bundle_of}
+use Rattle.bundle.specs.Bundle.{Item, Step, more, end, broken, step_at, followed, items_from, items, bundle_of}
 use Rattle.bundle.specs.Encoding.{Encoding, encoding_good}
 use Rattle.bundle.specs.Encoded.{four, encoding_is, encoding_checked, word_check, word_read}
 use Rattle.bundle.specs.Next.{words_check, words_of}

@@ -1,7 +1,7 @@
 -- A bundle is little-endian 32-bit words, whose bits 28 to 31 are the word's kind: head, object, section with its bytes, end.
 -- Whatever is not so breaks the word format (3).
 -- Assumes nothing.
-use Rattle.std.specs.Prelude.{Bool, true, false, ◌&&◌, ◌||◌, List, [], ◌∷◌, map, ℕ, zero, suc, ◌+◌, ◌*◌, ◌-◌, ◌/◌, ◌%◌, eqb, leb, ltb, length, drop}
+use Rattle.std.specs.Prelude.{Bool, true, false, ◌&&◌, ◌||◌, List, [], ◌∷◌, ℕ, zero, suc, ◌+◌, ◌*◌, ◌-◌, ◌/◌, ◌%◌, eqb, leb, ltb, length, drop}
 use Rattle.std.proofs.Math.Option.{Option, some, none}
 use Rattle.numbers.specs.Sections.{info_code, tu_index_code}
 use Rattle.numbers.specs.Refusals.{bad_words}

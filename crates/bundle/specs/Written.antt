@@ -1,6 +1,6 @@
 -- A bundle written: head, objects with their sections, end.
 -- Assumes nothing.
-use Rattle.std.specs.Prelude.{Bool, true, false, List, [], ◌∷◌, ◌++◌, map, ℕ, ◌+◌, ◌*◌, ◌-◌, ◌/◌, length}
+use Rattle.std.specs.Prelude.{Bool, true, false, List, ◌++◌, map, ℕ, ◌+◌, ◌*◌, ◌-◌, ◌/◌, length}
 use Rattle.octets.specs.Octets.{bytes_of, zeros}
 use Rattle.octets.specs.Lists.{joined}
 use Rattle.bundle.specs.Bundle.{filled_up}

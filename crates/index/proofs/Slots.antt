@@ -3,14 +3,14 @@
 use mathlib.Core.Path.{◌≡◌, refl, sym, ap, ◌∙◌}
 use mathlib.Core.Logic.{◌⊎◌, inl, inr, ⊎_elim}
 use Prim.Native.Nat.{ℕ, zero, suc, ◌+◌, ◌*◌, ◌-◌, ◌/◌, ◌%◌, ◌^◌, ◌<◌, ◌≤◌}
-use native.Mathlib.Nat.{one-mul, mul-one, mul_assoc, mul_left_comm, mul-le-mul_right, pow-succ', mod-lt, not-suc-le-zero, le_of_suc-le-suc}
+use native.Mathlib.Nat.{one-mul, mul-one, mul_assoc, mul_left_comm, mul-le-mul_right, pow-succ', not-suc-le-zero, le_of_suc-le-suc}
 use native.Mathlib.Omega.{arith}
 use native.Mathlib.Decide.{dec_le, dec_lt}
-use lib.Bits.{bit_and, bit_or, and_mask, or_step, or_zero_r}
+use lib.Bits.{bit_and}
 use lib.Pow.{pow_pos}
 use borrow.Author.Tests.{le-leb, lt-leb, lt-ltb, le-ltb}
 use Rattle.index.specs.Index.{power_from, least_power}
-use Rattle.index.specs.Probing.{first_slot, stride, slots_for}
+use Rattle.index.specs.Probing.{stride, slots_for}
 use Rattle.index.specs.Held.{PowerOfTwo}
 use Rattle.index.proofs.Masks.{odd_or, least_power_law}
 

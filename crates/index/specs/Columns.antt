@@ -1,6 +1,6 @@
 -- "Columns in order, with codes": which sections an index has columns for, by its version.
 -- Assumes nothing.
-use Rattle.std.specs.Prelude.{Bool, true, false, List, [], ◌∷◌, ℕ, eqb}
+use Rattle.std.specs.Prelude.{true, false, List, [], ◌∷◌, ℕ, eqb}
 use Rattle.std.proofs.Math.Option.{Option, some, none}
 use Rattle.numbers.specs.Tables.{index5}
 use Rattle.numbers.specs.Sections.{info_code, types_code, abbrev_code, line_code, loc_code, str_offsets_code, macinfo_code, macro_code, loclists_code, rnglists_code}

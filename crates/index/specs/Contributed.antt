@@ -1,7 +1,7 @@
 -- Contributions as the code holds them, by section code in arrays.
 -- Assumes nothing.
-use Rattle.std.specs.Prelude.{◌≡◌, Bool, true, false, not, ◌&&◌, ◌||◌, List, ℕ, ◌+◌, ◌%◌, eqb, leb, ltb, length, get_or, set}
-use Rattle.std.proofs.Math.Option.{Option, some, none}
+use Rattle.std.specs.Prelude.{◌≡◌, Bool, true, false, not, ◌&&◌, ◌||◌, List, ℕ, ◌+◌, ◌%◌, eqb, leb, length, get_or, set}
+use Rattle.std.proofs.Math.Option.{Option, none}
 use Rattle.numbers.specs.Sections.{str_offsets_code, section_codes}
 use Rattle.octets.specs.Checked.{Check, pass, refuse}
 use Rattle.octets.specs.Lists.{has}

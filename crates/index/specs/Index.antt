@@ -6,7 +6,7 @@ use Rattle.numbers.specs.Tables.{index2, index5, columns2, columns5, last_column
 use Rattle.numbers.specs.Refusals.{bad_index}
 use Rattle.octets.specs.Octets.{number_at, numbers_in}
 use Rattle.octets.specs.Lists.{all, distinct, zero_together}
-use Rattle.octets.specs.Checked.{Check, pass, refuse, ◌>>=◌, require}
+use Rattle.octets.specs.Checked.{Check, pass, ◌>>=◌, require}
 use Rattle.index.specs.Columns.{columns_of, column_in}
 
 pub record Index : Type 0 where

@@ -1,7 +1,6 @@
 -- `bundle::next_unit_section` meets its contract. The loop's invariant: from here on the same is found. The measure is what is left of the bundle.
 -- Assumes nothing.
 use mathlib.Core.Path.{sym, ◌∙◌}
-use Prim.Native.Nat.{◌-◌}
 use native.Mathlib.Omega.{arith}
 use Rattle.bundle.proofs.Next.{section_here}
 use Rattle.bundle.proofs.Units.{seeking_none, seeking_found, seeking_more, seeking_object, seeking_end, seeking_broken}

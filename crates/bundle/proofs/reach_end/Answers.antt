@@ -1,7 +1,6 @@
 -- `bundle::reach_end` meets its contract. The loop's invariant: the items from here on reach the end just where all do. The measure is what is left of the bundle.
 -- Assumes nothing.
 use mathlib.Core.Path.{refl, sym, ◌∙◌}
-use Prim.Native.Nat.{◌-◌}
 use native.Mathlib.Omega.{arith}
 use Rattle.bundle.proofs.Next.{object_here, section_here}
 use Rattle.bundle.proofs.Ends.{ends_object, ends_section, ends_end, ends_broken}

@@ -1,7 +1,6 @@
 -- `bundle::scan_object` meets its contract. The loop's invariant: the scan is that of the sections passed. The measure is what is left of the bundle.
 -- Assumes nothing.
 use mathlib.Core.Path.{sym, ◌∙◌}
-use Prim.Native.Nat.{◌-◌}
 use native.Mathlib.Omega.{arith}
 use Rattle.bundle.proofs.Next.{section_here}
 use Rattle.bundle.proofs.Scanning.{scanned_none, scanned_notable, scanned_step, scanned_next, scanned_object, scanned_end, scanned_broken}

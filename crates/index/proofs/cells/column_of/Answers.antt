@@ -1,7 +1,6 @@
 -- `index::cells::column_of` meets its contract.
 -- Assumes nothing.
 use mathlib.Core.Path.{refl, ap, ◌∙◌}
-use Prim.Native.Nat.{◌-◌}
 use native.Mathlib.Omega.{arith}
 use Rattle.index.specs.Cells.{place_found}
 use Rattle.index.specs.Columns.{columns_of}

@@ -1,7 +1,6 @@
 -- `index::cells::place_of` meets its contract.
 -- Assumes nothing.
 use mathlib.Core.Path.{sym, ◌∙◌}
-use Prim.Native.Nat.{◌-◌}
 use native.Mathlib.Omega.{arith}
 use Rattle.index.proofs.Places.{place_start, place_here, place_on, place_none}
 use Rattle.index.proofs.Heads.{in_codes, past_codes}

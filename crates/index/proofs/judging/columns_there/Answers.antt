@@ -1,8 +1,6 @@
 -- `index::judging::columns_there` meets its contract.
 -- Assumes nothing.
 use mathlib.Core.Path.{sym, ◌∙◌}
-use mathlib.Core.Bool.{false}
-use Prim.Native.Nat.{◌-◌}
 use native.Mathlib.Omega.{arith}
 use Rattle.index.proofs.Columned.{codes_start, codes_end, codes_on, codes_stop}
 use Rattle.index.proofs.judging.columns_there.Goals as goal

@@ -1,7 +1,6 @@
 -- `index::judging::parts_good` meets its contract.
 -- Assumes nothing.
 use mathlib.Core.Path.{sym, ◌∙◌}
-use Prim.Native.Nat.{◌-◌}
 use native.Mathlib.Omega.{arith}
 use Rattle.index.proofs.Columned.{codes_start, codes_end, codes_on, codes_stop, good_held_law}
 use Rattle.index.proofs.judging.parts_good.Goals as goal

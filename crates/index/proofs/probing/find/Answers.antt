@@ -1,6 +1,5 @@
 -- `index::probing::find` meets its contract.
 -- Assumes nothing.
-use Prim.Native.Nat.{◌-◌}
 use native.Mathlib.Omega.{arith}
 use native.Mathlib.Nat.{mod-lt}
 use Rattle.index.proofs.Looks.{probe_start, search_unused, search_found, search_on, search_end}

@@ -1,7 +1,6 @@
 -- `index::reading::codes_distinct` meets its contract.
 -- Assumes nothing.
 use mathlib.Core.Path.{refl, sym, ap, ◌∙◌}
-use Prim.Native.Nat.{◌-◌}
 use native.Mathlib.Omega.{arith}
 use Rattle.octets.specs.Lists.{has}
 use Rattle.index.proofs.Heads.{in_codes, past_codes}

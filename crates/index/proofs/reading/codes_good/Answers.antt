@@ -1,7 +1,6 @@
 -- `index::reading::codes_good` meets its contract.
 -- Assumes nothing.
 use mathlib.Core.Path.{refl, sym, ap, ◌∙◌}
-use Prim.Native.Nat.{◌-◌}
 use native.Mathlib.Omega.{arith}
 use Rattle.octets.proofs.Elements.{all_turn, all_turn_stops, all_end}
 use Rattle.index.specs.Index.{code_good}

@@ -1,7 +1,6 @@
 -- `index::reading::slots_good` meets its contract.
 -- Assumes nothing.
 use mathlib.Core.Path.{ap₂, refl, sym, ◌∙◌}
-use Prim.Native.Nat.{◌-◌}
 use native.Mathlib.Omega.{arith}
 use Rattle.octets.specs.Lists.{zero_together}
 use Rattle.index.proofs.Heads.{in_rows, in_identities, past_identities}
