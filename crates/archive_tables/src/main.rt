@@ -6,8 +6,10 @@ mod columns;
 mod forms;
 mod names;
 
-fn main() {
-    names::print_names();
-    columns::print_columns();
-    forms::print_forms();
+use std::io;
+
+fn main(rt: HostRuntime) -> io::Result<()> {
+    names::print_names(&rt)?;
+    columns::print_columns(&rt)?;
+    forms::print_forms(&rt)
 }
