@@ -182,12 +182,10 @@ fn read_rows(five: bool, text: &[u8], at: usize, work: &mut [u32], n: usize) -> 
 {
     let mut has = [false; 8];
     let mut next = at;
-    let mut i = 0;
-    while i < n {
+    for i in 0..n {
         let table = read_row(five, text, next, work, i, has);
         has = table.has;
         next = table.next;
-        i += 1;
     }
     Table { has, next }
 }
