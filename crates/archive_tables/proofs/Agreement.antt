@@ -1,6 +1,6 @@
 -- Each table is what its rule works out, by computing both.
 -- Assumes nothing.
-use mathlib.Core.Path.{◌≡◌, refl}
+use Rattle.std.proofs.Common.{refl}
 use Rattle.numbers.specs.Names.{dwo_words, index_words, name_prefix, name_suffix, dwo_name, index_name, section_names}
 use Rattle.octets.specs.Lists.{has, any}
 use Rattle.index.specs.Columns.{columns_four, columns_five, columns_of}

@@ -1,13 +1,7 @@
 -- A match on a form's number follows the classes: at one of its keys, and where no key is met.
 -- Assumes nothing.
-use mathlib.Core.Path.{◌≡◌, refl, sym, ap, ◌∙◌}
-use mathlib.Core.Bool.{true, false}
-use mathlib.Core.List.{List, [], ◌∷◌}
-use mathlib.Core.Logic.{◌⊎◌, inl, inr}
-use mathlib.Core.Option.{Option, some, none}
-use Prim.Native.Nat.{ℕ}
-use lib.Dec.{eqb}
-use borrow.Author.Tests.{ne_eqb}
+use Rattle.std.proofs.Common.{◌≡◌, refl, sym, ap, ◌∙◌, false, List, [], ◌∷◌, inl, inr, ℕ, ne_eqb}
+use Rattle.std.proofs.Math.Option.{Option, none}
 use types.Run.{OneOf}
 use Rattle.octets.specs.Lists.{has, any}
 use Rattle.unit.specs.Forms.{Width}

@@ -1,15 +1,7 @@
 -- A name put together from its word, and a word read from the table.
 -- Assumes nothing.
-use mathlib.Core.Path.{◌≡◌, refl, ap, sym, ◌∙◌}
-use mathlib.Core.Bool.{true, false}
-use mathlib.Core.List.{List, [], ◌∷◌, ◌++◌, map, append-nil, append_assoc}
-use Prim.Native.Nat.{ℕ, zero, suc, ◌+◌, ◌-◌, ◌≤◌, ◌<◌}
-use native.Mathlib.Nat.{not-suc-le-zero, le_of_suc-le-suc}
-use native.Mathlib.Omega.{arith}
-use lib.Dec.{leb}
-use lib.ListN.{length, get_or, take, replicate, length-append, length-take}
-use lib.Seq.{take_at}
-use borrow.Author.Tests.{le-leb, lt-leb}
+use Rattle.std.proofs.Common.{◌≡◌, refl, ap, sym, ◌∙◌, List, [], ◌∷◌, ◌++◌, map, append-nil, append_assoc, ℕ, zero, suc, ◌+◌, ◌-◌, ◌≤◌, ◌<◌, not-suc-le-zero, le_of_suc-le-suc, arith, length, get_or, take, replicate, length-append, length-take, take_at}
+use Rattle.std.proofs.lemmas.Bool.{le-leb, lt-leb}
 use Rattle.numbers.specs.Names.{dwo_words, index_words, name_prefix, name_suffix}
 use Rattle.numbers.specs.NameRows.{name_row}
 use Rattle.numbers.specs.declared.names.Name.{Name}

@@ -3,9 +3,9 @@ ghost use Rattle.std.specs.Prelude.{◌≡◌};
 ghost use Rattle.archive_tables.specs.ColumnRule.{in_its_place, column_five};
 ghost use Rattle.archive_tables.specs.Rows.{standing};
 
-use libc::STDOUT_FILENO;
 use numbers::sections::{INFO, LOC, LOCLISTS, MACINFO, MACRO, RNGLISTS, TYPES};
 use numbers::tables::{INDEX_2, INDEX_5};
+use std::io;
 
 // The sections that version 5 has in the place of one of version 2.
 #[derive(Clone, Copy)]
@@ -48,45 +48,40 @@ fn column_five(section: usize) -> usize
     section
 }
 
-fn print_column(version: u32, section: usize, column: usize) {
-    io::print_decimal(STDOUT_FILENO, octets::wide64(version));
-    io::write_all(STDOUT_FILENO, b" ");
-    io::print_decimal(STDOUT_FILENO, octets::long(section));
-    io::write_all(STDOUT_FILENO, b" ");
-    io::print_decimal(STDOUT_FILENO, octets::long(column));
-    io::write_all(STDOUT_FILENO, b"\n");
+fn print_column(rt: &impl Print, version: u32, section: usize, column: usize) -> io::Result<()> {
+    println!(rt; "{version} {section} {column}")
 }
 
-fn print_five(section: usize) {
-    print_column(INDEX_5, section, column_five(section));
+fn print_five(rt: &impl Print, section: usize) -> io::Result<()> {
+    print_column(rt, INDEX_5, section, column_five(section))
 }
 
-fn print_in_place(section: usize) {
+fn print_in_place(rt: &impl Print, section: usize) -> io::Result<()> {
     match in_its_place(section) {
-        InPlace::Gone => {}
-        InPlace::One(s) => {
-            print_five(s);
-        }
+        InPlace::Gone => Ok(()),
+        InPlace::One(s) => print_five(rt, s),
         InPlace::Two(s, t) => {
-            print_five(s);
-            print_five(t);
+            print_five(rt, s)?;
+            print_five(rt, t)
         }
     }
 }
 
-pub fn print_two() {
+pub fn print_two(rt: &impl Print) -> io::Result<()> {
     for section in INFO..SECTIONS_END {
-        print_column(INDEX_2, section, section);
+        print_column(rt, INDEX_2, section, section)?;
     }
+    Ok(())
 }
 
-pub fn print_five_all() {
+pub fn print_five_all(rt: &impl Print) -> io::Result<()> {
     for section in INFO..SECTIONS_END {
-        print_in_place(section);
+        print_in_place(rt, section)?;
     }
+    Ok(())
 }
 
-pub fn print_columns() {
-    print_two();
-    print_five_all();
+pub fn print_columns(rt: &impl Print) -> io::Result<()> {
+    print_two(rt)?;
+    print_five_all(rt)
 }

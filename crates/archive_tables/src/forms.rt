@@ -3,7 +3,7 @@ ghost use Rattle.std.specs.Prelude.{◌≡◌, ◌<◌};
 ghost use Rattle.unit.specs.Widths.{width_found};
 ghost use Rattle.archive_tables.specs.FormRule.{width_by_rule};
 
-use libc::STDOUT_FILENO;
+use std::io;
 use unit::forms::{FormWidth, Width};
 
 // One more than the greatest form.
@@ -59,69 +59,45 @@ fn digit(d: u64) -> u8
     55 + (d as u8)
 }
 
-fn print_form(form: u64) {
-    io::write_all(
-        STDOUT_FILENO,
-        &[
-            digit(form / 0x1000 % 16),
-            digit(form / 0x100 % 16),
-            digit(form / 0x10 % 16),
-            digit(form % 16),
-            b' ',
-        ],
-    );
+fn print_form(rt: &impl Print, form: u64) -> io::Result<()> {
+    rt.write_all(&[
+        digit(form / 0x1000 % 16),
+        digit(form / 0x100 % 16),
+        digit(form / 0x10 % 16),
+        digit(form % 16),
+        b' ',
+    ])
 }
 
-fn print_width(width: Width) {
+fn print_width(rt: &impl Print, width: Width) -> io::Result<()> {
     match width {
-        Width::Fixed(n) => {
-            io::print_decimal(STDOUT_FILENO, octets::long(n));
-        }
-        Width::Address => {
-            io::write_all(STDOUT_FILENO, b"A");
-        }
-        Width::Offset => {
-            io::write_all(STDOUT_FILENO, b"O");
-        }
-        Width::Uleb => {
-            io::write_all(STDOUT_FILENO, b"U");
-        }
-        Width::Sleb => {
-            io::write_all(STDOUT_FILENO, b"S");
-        }
-        Width::String => {
-            io::write_all(STDOUT_FILENO, b"Z");
-        }
-        Width::Indirect => {
-            io::write_all(STDOUT_FILENO, b"I");
-        }
-        Width::Block1 => {
-            io::write_all(STDOUT_FILENO, b"B1");
-        }
-        Width::Block2 => {
-            io::write_all(STDOUT_FILENO, b"B2");
-        }
-        Width::Block4 => {
-            io::write_all(STDOUT_FILENO, b"B4");
-        }
-        Width::UlebBlock => {
-            io::write_all(STDOUT_FILENO, b"BU");
-        }
+        Width::Fixed(n) => print!(rt; "{n}"),
+        Width::Address => rt.write_all(b"A"),
+        Width::Offset => rt.write_all(b"O"),
+        Width::Uleb => rt.write_all(b"U"),
+        Width::Sleb => rt.write_all(b"S"),
+        Width::String => rt.write_all(b"Z"),
+        Width::Indirect => rt.write_all(b"I"),
+        Width::Block1 => rt.write_all(b"B1"),
+        Width::Block2 => rt.write_all(b"B2"),
+        Width::Block4 => rt.write_all(b"B4"),
+        Width::UlebBlock => rt.write_all(b"BU"),
     }
 }
 
 // A line, where the number is a form.
-fn print_number(form: u64) {
+fn print_number(rt: &impl Print, form: u64) -> io::Result<()> {
     let FormWidth::Is(width) = width_by_rule(form) else {
-        return;
+        return Ok(());
     };
-    print_form(form);
-    print_width(width);
-    io::write_all(STDOUT_FILENO, b"\n");
+    print_form(rt, form)?;
+    print_width(rt, width)?;
+    rt.write_all(b"\n")
 }
 
-pub fn print_forms() {
+pub fn print_forms(rt: &impl Print) -> io::Result<()> {
     for form in 0..FORM_LIMIT {
-        print_number(form);
+        print_number(rt, form)?;
     }
+    Ok(())
 }

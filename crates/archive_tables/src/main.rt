@@ -6,8 +6,18 @@ mod columns;
 mod forms;
 mod names;
 
-fn main() {
-    names::print_names();
-    columns::print_columns();
-    forms::print_forms();
+ghost use Rattle.archive_tables.specs.Agreement.{TablesAgree};
+
+use std::io;
+
+// The tables of the source are, entry for entry, what these rules work out.
+fn agree()
+    ensures { TablesAgree }
+{}
+
+fn main(rt: HostRuntime) -> io::Result<()> {
+    agree();
+    names::print_names(&rt)?;
+    columns::print_columns(&rt)?;
+    forms::print_forms(&rt)
 }

@@ -5,9 +5,9 @@ ghost use Rattle.numbers.specs.NameRows.{name_row};
 ghost use Rattle.archive_tables.specs.NameRule.{word_of, name_by_rule};
 ghost use Rattle.archive_tables.specs.Rows.{word_row};
 
-use libc::STDOUT_FILENO;
 use numbers::names::{NAME_LIMIT, Name};
 use numbers::sections::{CODES, STR};
+use std::io;
 
 // A word and zeros.
 #[derive(Clone, Copy)]
@@ -104,20 +104,20 @@ fn name_by_rule(code: usize) -> Name
     }
 }
 
-fn print_name(code: usize)
+fn print_name(rt: &impl Print, code: usize) -> io::Result<()>
     requires { (0 < code) × (code < section_codes) }
 {
     let name = name_by_rule(code);
     let bytes = name.bytes;
     let n = name.length;
-    io::print_decimal(STDOUT_FILENO, octets::long(code));
-    io::write_all(STDOUT_FILENO, b" ");
-    io::write_all(STDOUT_FILENO, &bytes[..n]);
-    io::write_all(STDOUT_FILENO, b"\n");
+    print!(rt; "{code} ")?;
+    rt.write_all(&bytes[..n])?;
+    rt.write_all(b"\n")
 }
 
-pub fn print_names() {
+pub fn print_names(rt: &impl Print) -> io::Result<()> {
     for code in 1..CODES {
-        print_name(code);
+        print_name(rt, code)?;
     }
+    Ok(())
 }

@@ -11,7 +11,7 @@ use Rattle.octets.specs.Lists.{joined, sum}
 use Rattle.octets.proofs.Joined.{map-append, joined_append, joined_one}
 use Rattle.octets.proofs.Placed.{length_placed, length_padded}
 use Rattle.bundle.specs.Bundle.{filled_up}
-use Rattle.bundle.specs.Written.{Section, Sections, word_bytes, head_bytes, section_bytes, object_bytes, end_bytes, written}
+use Rattle.bundle.specs.Written.{Section, word_bytes, head_bytes, section_bytes, object_bytes, end_bytes, written}
 use Rattle.bundle.proofs.Next.{filled_up_le}
 use Rattle.bundle.proofs.Putting.{length_word, length_head, length_section, word_put, end_put, section_put, head_put}
 use Rattle.bundle.proofs.Sizes.{section_size, object_size, written_size}

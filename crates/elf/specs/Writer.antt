@@ -9,7 +9,7 @@ use Rattle.octets.specs.Lists.{joined, those}
 use Rattle.octets.specs.Checked.{Check, pass, refuse, ◌>>=◌, require}
 use Rattle.bundle.specs.Bundle.{Part, count, body}
 use Rattle.bundle.specs.Written.{Section}
-use Rattle.lookup.specs.Lookup.{Package, package_of, codes}
+use Rattle.lookup.specs.Lookup.{package_of, codes}
 use Rattle.answers.specs.Answers.{Answer, refused, made}
 
 -- ---- 36: "machine 62, 183 or 243"

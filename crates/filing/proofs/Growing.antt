@@ -16,9 +16,7 @@ use Rattle.bundle.proofs.ScanFacts.{first_within}
 use Rattle.index.specs.Rows.{BySection}
 use Rattle.package.specs.Input.{Input}
 use Rattle.package.specs.Filing.{Filed}
-use Rattle.package.specs.Pack.{all_used}
 use Rattle.kept.specs.declared.state.InProgress.{InProgress}
-use Rattle.filing.specs.State.{words_in}
 use Rattle.filing.specs.ByObject.{AtObject, InputRoom}
 
 -- what `read_input` requires, of the object whose sections start at from

@@ -1,14 +1,14 @@
 -- The answers of opening an object, each from those of its checks.
 -- Assumes nothing.
-use mathlib.Core.Path.{◌≡◌, refl, sym, ap, ap₂, ◌∙◌, subst}
+use mathlib.Core.Path.{◌≡◌, refl, sym, ap, ◌∙◌, subst}
 use mathlib.Core.Logic.{⊎_elim}
-use mathlib.Core.Bool.{Bool, true}
+use mathlib.Core.Bool.{Bool}
 use mathlib.Core.List.{List, ◌++◌}
 use mathlib.Core.Option.{Option}
 use Prim.Native.Nat.{ℕ, ◌<◌}
 use native.Mathlib.Omega.{arith}
-use lib.Dec.{eqb, leb}
-use lib.ListN.{length, get_or}
+use lib.Dec.{leb}
+use lib.ListN.{get_or}
 use Rattle.octets.specs.Checked.{Check, pass, refuse, ◌>>=◌}
 use Rattle.octets.proofs.Checks.{then_pass, then_refuse}
 use Rattle.bundle.specs.Bundle.{Part, Object, body}
@@ -23,7 +23,7 @@ use Rattle.strings.specs.declared.table.StringTable.{StringTable}
 use Rattle.index.specs.Index.{Index}
 use Rattle.kept.specs.declared.state.InProgress.{InProgress}
 use Rattle.package.specs.Pieces.{Piece, used_in}
-use Rattle.package.specs.Input.{Input, present, input_index, whole_pieces, Opened, opened_whole, opened_tiled, opened, input_of}
+use Rattle.package.specs.Input.{Input, input_index, whole_pieces, Opened, opened_whole, opened, input_of}
 use Rattle.package.proofs.Numbered.{Numbered}
 use Rattle.package.proofs.OverObjects.{whole_numbered}
 use Rattle.filing.specs.Judged.{object_check, JudgedIs, IndexedIs}
@@ -33,9 +33,9 @@ use Rattle.filing.specs.declared.objects.StringsFiled.{StringsFiled}
 use Rattle.filing.specs.declared.objects.IndexesJudged.{IndexesJudged}
 use Rattle.filing.specs.declared.objects.InputFiled.{InputFiled}
 use Rattle.filing.specs.State.{with_strings}
-use Rattle.filing.specs.ByObject.{strings_check, StringsIn, StringsAre, str_offsets_in, scanned, scanned_index, IndexesAre, IndexesFound, input_in, input_given, InputRoom, InputRead}
+use Rattle.filing.specs.ByObject.{strings_check, StringsIn, StringsAre, str_offsets_in, scanned, scanned_index, IndexesFound, input_in, input_given, InputRoom, InputRead}
 use Rattle.filing.proofs.Inputting.{object_refused, object_given, whole_strings, whole_cu, whole_tu, whole_passed, index_is, whole_used}
-use Rattle.filing.proofs.InputLaws.{judged_passed, judged_refused, indexes_refused, indexes_passed, place_of, strings_same, index_same, input_is}
+use Rattle.filing.proofs.InputLaws.{judged_passed, judged_refused, indexes_refused, indexes_passed, strings_same, index_same, input_is}
 
 -- ---- the strings of pieces
 pub put_refused : (b v : List ℕ) (ts : List (List ℕ)) (m : Check (List Piece)) (s : StringsFiled) → StringsAre b v ts (m >>= λ q. pass (used_in q)) s → (s.code ≡ 0 → ⊥) → m ≡ refuse s.code

@@ -2,7 +2,7 @@
 -- Assumes nothing.
 use mathlib.Core.Path.{◌≡◌, refl, sym, ap, ◌∙◌}
 use mathlib.Core.Bool.{Bool, true, false}
-use mathlib.Core.List.{List, [], ◌∷◌, ◌++◌, append-nil}
+use mathlib.Core.List.{List, [], ◌∷◌, append-nil}
 use mathlib.Core.Option.{Option}
 use Prim.Native.Nat.{ℕ}
 use lib.Dec.{eqb}
@@ -14,7 +14,7 @@ use Rattle.strings.specs.Strings.{entries_of, strings_at}
 use Rattle.index.specs.Index.{Index}
 use Rattle.index.specs.Rows.{BySection}
 use Rattle.package.specs.Pieces.{Piece, piece_of, used_in}
-use Rattle.package.specs.Input.{Input, present, edition_good, complete, form_of, input_index, whole_pieces, is_packed, tiled_pieces, Opened, opened_whole, opened_tiled, opened, input_of}
+use Rattle.package.specs.Input.{present, edition_good, complete, form_of, input_index, whole_pieces, is_packed, tiled_pieces, opened_whole, opened_tiled, opened, input_of}
 use Rattle.filing.specs.Judged.{object_check, index_check}
 use Rattle.filing.specs.ByObject.{strings_check, input_given}
 

@@ -27,7 +27,6 @@ use Rattle.numbers.specs.Limits.{work_for_word}
 use Rattle.kept.specs.Regions.{strings_region, store_region, region}
 use Rattle.kept.proofs.RegionStores.{store_records, store_slots}
 use Rattle.kept.proofs.Storing.{store_left}
-use Rattle.package.specs.Filing.{kept}
 use Rattle.filing.specs.State.{words_in}
 use Rattle.filing.proofs.Lending.{Beside}
 use Rattle.filing.specs.ByObject.{strings_check, StringsIn, StringsAre}

@@ -1,14 +1,13 @@
 -- The answers of opening a package of version 5, each from those of its checks: 10, 34, 8, 9.
 -- Assumes nothing.
 use mathlib.Core.Path.{◌≡◌, refl, sym, ap, ap₂, ◌∙◌, subst}
-use mathlib.Core.Logic.{◌⊎◌, inl, inr, ⊎_elim}
-use mathlib.Core.Bool.{Bool, true}
+use mathlib.Core.Logic.{inl, inr, ⊎_elim}
+use mathlib.Core.Bool.{true}
 use mathlib.Core.List.{List, ◌++◌}
 use mathlib.Core.Option.{Option}
-use Prim.Native.Nat.{ℕ, ◌<◌}
+use Prim.Native.Nat.{ℕ}
 use native.Mathlib.Omega.{arith}
-use lib.ListN.{length, get_or}
-use Rattle.octets.specs.Octets.{part}
+use lib.ListN.{length}
 use Rattle.octets.specs.Checked.{Check, pass, refuse, ◌>>=◌}
 use Rattle.octets.proofs.Checks.{then_pass, then_refuse}
 use Rattle.bundle.specs.Bundle.{Part, body}
@@ -26,10 +25,10 @@ use Rattle.index.specs.Index.{Index, Contribution}
 use Rattle.index.specs.Tiles.{named, tiles}
 use Rattle.index.proofs.Tiles.{Tiling, tiles_facts, both_some}
 use Rattle.places.specs.Marks.{good_end}
-use Rattle.kept.specs.Regions.{Layout, strings_region, store_region, codes_region, region, Apart, Only}
+use Rattle.kept.specs.Regions.{Layout, strings_region, store_region, codes_region, Apart, Only}
 use Rattle.kept.specs.declared.state.InProgress.{InProgress}
 use Rattle.package.specs.Pieces.{Piece, pieces_of, used_in}
-use Rattle.package.specs.Input.{Input, input_index, tiled_pieces, opened_tiled}
+use Rattle.package.specs.Input.{input_index, tiled_pieces, opened_tiled}
 use Rattle.package.proofs.OverObjects.{pieces_numbered}
 use Rattle.filing.specs.declared.input.InputObject.{InputObject}
 use Rattle.filing.specs.declared.objects.StringsFiled.{StringsFiled}

@@ -1,19 +1,18 @@
 -- The rest of `judged` of `package/specs/Pack.antt`, from a bundle whose length and work are good; and the three answers.
 -- Assumes nothing.
-use Rattle.std.specs.Prelude.{◌≡◌, Bool, List, [], ◌∷◌, map, ℕ, ◌+◌, ◌*◌, ◌-◌, ◌/◌, ◌%◌, ◌<◌, ◌≤◌, eqb, leb, length}
+use Rattle.std.specs.Prelude.{◌≡◌, Bool, List, [], ◌∷◌, map, ℕ, ◌-◌, ◌/◌, ◌%◌, ◌≤◌, eqb, leb, length}
 use Rattle.numbers.specs.Tables.{dwarf5}
 use Rattle.numbers.specs.Limits.{section_limit}
 use Rattle.numbers.specs.Sections.{first_shared, last_shared}
 use Rattle.numbers.specs.Refusals.{section_too_long}
 use Rattle.octets.specs.Octets.{padded, zeros}
 use Rattle.octets.specs.Lists.{joined, all}
-use Rattle.octets.specs.Checked.{Check, pass, refuse, ◌>>=◌, require}
+use Rattle.octets.specs.Checked.{Check, pass, ◌>>=◌, require}
 use Rattle.bundle.specs.Bundle.{Bundle, bundle_of}
-use Rattle.bundle.specs.Written.{Section, written}
+use Rattle.bundle.specs.Written.{written}
 use Rattle.bundle.specs.declared.encoding.ObjectEncoding.{ObjectEncoding}
 use Rattle.strings.specs.Kept.{Kept}
 use Rattle.index.specs.Rows.{BySection}
-use Rattle.package.specs.Input.{Input}
 use Rattle.package.specs.Filing.{Filing, filing_of, first_word}
 use Rattle.package.specs.Pack.{Answer, refused, short, made, package_sections, package_objects, all_used, answered}
 use Rattle.finish.specs.Sections.{sections_by}

@@ -3,13 +3,13 @@
 // the answer is its row, the number of looks and the cells of the sections 1 to 10, or "absent" and the number of looks.
 #![tactic(auto)]
 
-ghost use Rattle.std.specs.Prelude.{◌≡◌, ◌+◌, ◌<◌, ◌≤◌, length};
+ghost use Rattle.std.specs.Prelude.{◌≡◌, ◌+◌, ◌<◌, ◌≤◌, length, IfOk};
 ghost use Rattle.index.specs.Held.{Sized, ReadWell};
 
 use index::cells::Cell;
 use index::probing::Probed;
 use index::reading::{IndexHead, IndexRead};
-use libc::STDOUT_FILENO;
+use std::io;
 
 // The value of a hexadecimal digit, 16 for any other byte.
 fn value(b: u8) -> u8
@@ -59,67 +59,57 @@ fn read_bytes(text: &[u8], start: usize, bytes: &mut [u8]) -> usize
     n
 }
 
-fn write_number(n: usize) {
-    io::write_all(STDOUT_FILENO, b" ");
-    io::print_decimal(STDOUT_FILENO, octets::long(n));
+fn write_number(rt: &impl Print, n: usize) -> io::Result<()> {
+    print!(rt; " {n}")
 }
 
-fn write_cell(cell: Cell) {
+fn write_cell(rt: &impl Print, cell: Cell) -> io::Result<()> {
     match cell {
-        Cell::Is(offset, size) => {
-            write_number(offset);
-            io::write_all(STDOUT_FILENO, b"+");
-            io::print_decimal(STDOUT_FILENO, octets::long(size));
-        }
-        Cell::Missing => {
-            io::write_all(STDOUT_FILENO, b" -");
-        }
+        Cell::Is(offset, size) => print!(rt; " {offset}+{size}"),
+        Cell::Missing => rt.write_all(b" -"),
     }
 }
 
-fn write_cells(big: bool, s: &[u8], head: IndexHead, row: usize)
+fn write_cells(rt: &impl Print, big: bool, s: &[u8], head: IndexHead, row: usize) -> io::Result<()>
     requires { (Sized s.now head) × (0 < row) × (row ≤ head.units) }
 {
-    let mut section = 1;
-    while section < 11 {
-        write_cell(index::cells::cell_of(big, s, head, row, section));
-        section += 1;
+    for section in 1..11 {
+        let cell = index::cells::cell_of(big, s, head, row, section);
+        write_cell(rt, cell)?;
     }
+    Ok(())
 }
 
-fn answer_search(big: bool, s: &[u8], x: u64) {
+fn answer_search(rt: &impl Print, big: bool, s: &[u8], x: u64) -> io::Result<()> {
     let IndexRead::Good(head) = index::reading::read_index(big, s) else {
-        io::write_all(STDOUT_FILENO, b"bad\n");
-        return;
+        return rt.write_all(b"bad\n");
     };
     match index::probing::find(big, s, head, x) {
         Probed::Found(slot, looks) => {
             let row = index::reading::row_at(big, s, head, slot);
-            io::write_all(STDOUT_FILENO, b"row");
-            write_number(row);
-            write_number(looks);
-            write_cells(big, s, head, row);
-            io::write_all(STDOUT_FILENO, b"\n");
+            rt.write_all(b"row")?;
+            write_number(rt, row)?;
+            write_number(rt, looks)?;
+            write_cells(rt, big, s, head, row)?;
         }
         Probed::Absent(looks) => {
-            io::write_all(STDOUT_FILENO, b"absent");
-            write_number(looks);
-            io::write_all(STDOUT_FILENO, b"\n");
+            rt.write_all(b"absent")?;
+            write_number(rt, looks)?;
         }
     }
+    rt.write_all(b"\n")
 }
 
-fn answer_index(big: bool, s: &[u8]) {
+fn answer_index(rt: &impl Print, big: bool, s: &[u8]) -> io::Result<()> {
     let IndexRead::Good(head) = index::reading::read_index(big, s) else {
-        io::write_all(STDOUT_FILENO, b"bad\n");
-        return;
+        return rt.write_all(b"bad\n");
     };
-    io::write_all(STDOUT_FILENO, b"index");
-    write_number(octets::wide(head.version));
-    write_number(head.columns);
-    write_number(head.units);
-    write_number(head.slots);
-    io::write_all(STDOUT_FILENO, b"\n");
+    rt.write_all(b"index")?;
+    write_number(rt, octets::wide(head.version))?;
+    write_number(rt, head.columns)?;
+    write_number(rt, head.units)?;
+    write_number(rt, head.slots)?;
+    rt.write_all(b"\n")
 }
 
 // The section that the last line of its kind stated.
@@ -129,26 +119,33 @@ struct Last {
     n: usize,
 }
 
-fn answer_line(text: &[u8], at: usize, section: &mut [u8], last: Last) -> Last
+fn answer_line(
+    rt: &impl Print,
+    text: &[u8],
+    at: usize,
+    section: &mut [u8],
+    last: Last,
+) -> io::Result<Last>
     requires { (at < length text.now) × (last.n ≤ length section.old) }
-    ensures count { result.n ≤ length section.new }
+    ensures count { IfOk result (λ l. l.n ≤ length section.new) }
     ensures kept { length section.new ≡ length section.old }
 {
     let kind = text[at];
     if text.len() - at < 2 {
-        return last;
+        return Ok(last);
     }
     if kind == b's' {
         let mut identity = [0u8; 8];
         read_bytes(text, at + 2, &mut identity);
         let n = last.n;
-        answer_search(last.big, &section[..n], octets::u64_at(true, &identity, 0));
-        return last;
+        let x = octets::u64_at(true, &identity, 0);
+        answer_search(rt, last.big, &section[..n], x)?;
+        return Ok(last);
     }
     let big = kind == b'b';
     let n = read_bytes(text, at + 2, section);
-    answer_index(big, &section[..n]);
-    Last { big, n }
+    answer_index(rt, big, &section[..n])?;
+    Ok(Last { big, n })
 }
 
 // The place behind the newline that ends a line.
@@ -166,18 +163,19 @@ fn next_line(text: &[u8], start: usize) -> usize
     at
 }
 
-fn answer_lines(text: &[u8]) {
+fn answer_lines(rt: &impl Print, text: &[u8]) -> io::Result<()> {
     let mut section = [0u8; 4096];
     let mut last = Last { big: false, n: 0 };
     let mut at = 0;
     while at < text.len() {
-        last = answer_line(text, at, &mut section, last);
+        last = answer_line(rt, text, at, &mut section, last)?;
         at = next_line(text, at);
     }
+    Ok(())
 }
 
-fn main() {
+fn main(rt: HostRuntime) -> io::Result<()> {
     let mut text = [0u8; 32768];
-    let got = io::read_full(0, &mut text);
-    answer_lines(&text[..got]);
+    let got = terminal::read_full(&mut rt.stdin(), &mut text)?;
+    answer_lines(&rt, &text[..got])
 }

@@ -1,3 +1,3 @@
--- Facts on numbers in lists and on row numbers in slots that the program's functions need.
+-- Facts on the slots and the length of an index that the program's functions need.
 -- Assumes nothing.
 pub mod Laws

@@ -5,15 +5,15 @@
 // three units each, for which thorin has 4 slots and ticket 3 asks for 8: those were worked out apart from the code.
 #![tactic(auto)]
 
-ghost use Rattle.std.specs.Prelude.{◌≡◌, ℕ, ◌<◌, ◌≤◌, ◌^◌, length, get_or};
+ghost use Rattle.std.specs.Prelude.{◌≡◌, ℕ, ◌<◌, ◌≤◌, ◌^◌, length, get_or, IfOk};
 ghost use Rattle.kept.specs.Columns.{CellsFit};
 ghost use Rattle.kept.specs.Slots.{Seekable, Placeable};
 
 use index::judging::Contributions;
 use kept::regions::{COMPILATION, RECORD};
 use kept::writing::IndexForm;
-use libc::STDOUT_FILENO;
 use numbers::sections::INFO;
+use std::io;
 
 // The records of a table and its slots lie in work for a bundle of so many words.
 const WORDS: usize = 80;
@@ -182,44 +182,39 @@ fn read_rows(five: bool, text: &[u8], at: usize, work: &mut [u32], n: usize) -> 
 {
     let mut has = [false; 8];
     let mut next = at;
-    let mut i = 0;
-    while i < n {
+    for i in 0..n {
         let table = read_row(five, text, next, work, i, has);
         has = table.has;
         next = table.next;
-        i += 1;
     }
     Table { has, next }
 }
 
 // ---- its index
 // A space before each word but the first.
-fn write_word(i: usize, word: u32) {
+fn write_word(rt: &impl Print, i: usize, word: u32) -> io::Result<()> {
     if 0 < i {
-        io::write_all(STDOUT_FILENO, b" ");
+        rt.write_all(b" ")?;
     }
-    io::print_hex(STDOUT_FILENO, octets::wide64(word), 8);
+    print!(rt; "{word:08x}")
 }
 
-fn write_words(big: bool, s: &[u8]) {
-    let n = s.len() / 4;
-    let mut i = 0;
-    while i < n {
-        write_word(i, octets::u32_at(big, s, 4 * i));
-        i += 1;
+fn write_words(rt: &impl Print, big: bool, s: &[u8]) -> io::Result<()> {
+    for i in 0..s.len() / 4 {
+        write_word(rt, i, octets::u32_at(big, s, 4 * i))?;
     }
-    io::write_all(STDOUT_FILENO, b"\n");
+    rt.write_all(b"\n")
 }
 
 // So many slots hold numbers of the records.
-fn show_index(f: IndexForm, work: &[u32], count: usize)
+fn show_index(rt: &impl Print, f: IndexForm, work: &[u32], count: usize) -> io::Result<()>
     requires { Seekable 80 work.now 1 f.rows count × (f.rows ≤ 16) × (count ≤ 32) }
 {
     let mut out = [0u8; 2048];
     let has = f.has;
     let length = kept::columns::index_length(f.five, has, f.rows, count);
     if 2048 < length {
-        return;
+        return Ok(());
     }
     let records = kept::regions::records(WORDS);
     let slots = kept::regions::slots(WORDS, COMPILATION);
@@ -228,29 +223,37 @@ fn show_index(f: IndexForm, work: &[u32], count: usize)
     let from = slots.start;
     let to = from + count;
     kept::writing::write_index(f, &work[first..last], f.rows, &work[from..to], &mut out, 0);
-    write_words(f.big, &out[..length]);
+    write_words(rt, f.big, &out[..length])
 }
 
-fn place(f: IndexForm, work: &mut [u32], count: usize)
+fn place(rt: &impl Print, f: IndexForm, work: &mut [u32], count: usize) -> io::Result<()>
     requires { Placeable 80 (length work.old) 1 f.rows count × (f.rows ≤ 16) × (count ≤ 32) }
 {
     kept::slots::place_units(work, WORDS, COMPILATION, f.rows, count);
-    show_index(f, work, count);
+    show_index(rt, f, work, count)
 }
 
-fn show_rows(f: IndexForm, work: &mut [u32])
+fn show_rows(rt: &impl Print, f: IndexForm, work: &mut [u32]) -> io::Result<()>
     requires { (f.rows ≤ 16) × (length work.old ≡ 1600) }
 {
     let count = kept::slots::slots_for(f.rows);
     if count <= 32 {
-        place(f, work, count);
+        place(rt, f, work, count)?;
     }
+    Ok(())
 }
 
 // A table of at most 16 units; the place behind it.
-fn show_units(big: bool, five: bool, text: &[u8], at: usize, n: usize) -> usize
+fn show_units(
+    rt: &impl Print,
+    big: bool,
+    five: bool,
+    text: &[u8],
+    at: usize,
+    n: usize,
+) -> io::Result<usize>
     requires { (at ≤ length text.now) × (n ≤ 16) }
-    ensures { result ≤ length text.now }
+    ensures { IfOk result (λ next. next ≤ length text.now) }
 {
     let mut work = [0u32; WORK];
     let table = read_rows(five, text, at, &mut work, n);
@@ -262,22 +265,23 @@ fn show_units(big: bool, five: bool, text: &[u8], at: usize, n: usize) -> usize
         rows: n,
         has,
     };
-    show_rows(form, &mut work);
-    table.next
+    show_rows(rt, form, &mut work)?;
+    Ok(table.next)
 }
 
-fn show_table(text: &[u8], at: usize) -> usize
+fn show_table(rt: &impl Print, text: &[u8], at: usize) -> io::Result<usize>
     requires { at ≤ length text.now }
-    ensures { result ≤ length text.now }
+    ensures { IfOk result (λ next. next ≤ length text.now) }
 {
     let big = read_number(text, at);
     let version = read_number(text, big.next);
     let units = read_number(text, version.next);
     let n = units.is;
     if 16 < n {
-        return units.next;
+        return Ok(units.next);
     }
     show_units(
+        rt,
         big.is == 1,
         version.is == 5,
         text,
@@ -286,18 +290,19 @@ fn show_table(text: &[u8], at: usize) -> usize
     )
 }
 
-fn show_tables(text: &[u8]) {
+fn show_tables(rt: &impl Print, text: &[u8]) -> io::Result<()> {
     let count = read_number(text, 0);
     let mut left = count.is;
     let mut at = count.next;
     while 0 < left {
-        at = show_table(text, at);
+        at = show_table(rt, text, at)?;
         left -= 1;
     }
+    Ok(())
 }
 
-fn main() {
+fn main(rt: HostRuntime) -> io::Result<()> {
     let mut text = [0u8; 16384];
-    let got = io::read_full(0, &mut text);
-    show_tables(&text[..got]);
+    let got = terminal::read_full(&mut rt.stdin(), &mut text)?;
+    show_tables(&rt, &text[..got])
 }

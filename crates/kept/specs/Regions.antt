@@ -6,7 +6,7 @@
 -- Assumes nothing.
 use Rattle.std.specs.Prelude.{◌≡◌, true, false, ◌⊎◌, List, ℕ, ◌+◌, ◌*◌, ◌≤◌, eqb, length}
 use Rattle.numbers.specs.Limits.{string_words}
-use Rattle.octets.specs.Octets.{part, placed}
+use Rattle.octets.specs.Octets.{part}
 use Rattle.numbers.specs.Tables.{compilation_table}
 
 pub record Layout : Type 0 where

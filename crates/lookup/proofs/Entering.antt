@@ -8,7 +8,6 @@ use Prim.Native.Nat.{ℕ, ◌+◌, ◌≤◌}
 use native.Mathlib.Omega.{arith}
 use lib.ListN.{length, drop}
 use Rattle.octets.specs.Checked.{Check, pass, refuse}
-use Rattle.bundle.specs.Bundle as B
 use Rattle.bundle.specs.Bundle.{Part, Item, Bundle, bundle_of, length_good, step_at, items, leading, first_part}
 use Rattle.bundle.specs.Next.{next_of, words_of}
 use Rattle.bundle.specs.Scan.{Reaches, place_behind, sections_of, start_in, size_in, start_of, size_of, scan_of}

@@ -1,14 +1,13 @@
 -- A package's length at its limit, which is too long to be computed: 21.
 -- Assumes nothing.
 use mathlib.Core.Path.{◌≡◌, ap}
-use mathlib.Core.Bool.{true, false}
 use mathlib.Core.List.{List}
 use Prim.Native.Nat.{ℕ}
 use lib.ListN.{length}
-use Rattle.octets.specs.Checked.{Check, refuse, ◌>>=◌, renumbered}
+use Rattle.octets.specs.Checked.{refuse, ◌>>=◌, renumbered}
 use Rattle.octets.proofs.Checks.{passes, fails, then_refuse}
 use Rattle.bundle.specs.Bundle.{bundle_of, length_good}
-use Rattle.lookup.specs.Lookup.{Found, refused, objects_judged, package_of, answered, part_judged, looked_up}
+use Rattle.lookup.specs.Lookup.{refused, objects_judged, package_of, answered, part_judged, looked_up}
 
 module _ (p : List ℕ) where
   -- 117,440,512 bytes pass: the words are judged

@@ -13,7 +13,6 @@ use Rattle.octets.specs.Octets.{part}
 use Rattle.octets.specs.Lists.{all}
 use Rattle.octets.specs.Checked.{Check, pass, refuse}
 use Rattle.octets.proofs.Checks.{true_false}
-use Rattle.bundle.specs.Bundle as B
 use Rattle.bundle.specs.Bundle.{Part, count, first_part, body}
 use Rattle.bundle.specs.Encoding.{Encoding, encoding_of, encoding_good}
 use Rattle.bundle.specs.Encoded.{word_read}

@@ -10,7 +10,7 @@ use Rattle.octets.specs.Checked.{Check, pass, refuse, ◌>>=◌, renumbered}
 use Rattle.octets.proofs.Checks.{refuse_renumbered}
 use Rattle.octets.proofs.Refusals.{Only, Between, between_pass as passes, between_refuse as refuses, between_require as requires, between_bind as binds, between_only as only}
 use Rattle.bundle.specs.Bundle.{Part, Object, bundle_of, first_part, body}
-use Rattle.strings.specs.Strings.{up_to_zero, string_at}
+use Rattle.strings.specs.Strings.{string_at}
 use Rattle.strings.proofs.Ends.{up_to_refused}
 use Rattle.index.specs.Index.{Index, Contribution, index_of, cell_of}
 use Rattle.index.specs.Probing.{Probe, probe, found as at, absent as nowhere}

@@ -9,7 +9,7 @@ use Rattle.numbers.specs.Refusals.{bad_package, other_version, bad_question, par
 use Rattle.octets.specs.Octets.{number_at}
 use Rattle.octets.specs.Lists.{all}
 use Rattle.octets.specs.Checked.{Check, pass, refuse, ◌>>=◌, require, renumbered}
-use Rattle.bundle.specs.Bundle.{Part, Object, Bundle, bundle_of, length_good, count, first_part, body}
+use Rattle.bundle.specs.Bundle.{Part, Object, bundle_of, length_good, count, first_part, body}
 use Rattle.bundle.specs.Encoding.{Encoding, encoding_of, encoding_good}
 use Rattle.strings.specs.Strings.{string_at}
 use Rattle.index.specs.Index.{Index, Contribution, index_of, cell_of}

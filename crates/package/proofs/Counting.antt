@@ -1,16 +1,15 @@
 -- Repeats and namesakes: one unit more, and both together with the kept units are all units.
 -- Assumes nothing.
-use mathlib.Core.Path.{◌≡◌, refl, sym, ap, ◌∙◌}
-use mathlib.Core.Logic.{◌⊎◌, inl, inr, ⊎_elim}
+use mathlib.Core.Path.{◌≡◌, refl, ap, ◌∙◌}
+use mathlib.Core.Logic.{⊎_elim}
 use mathlib.Core.Bool.{Bool, true, false}
 use mathlib.Core.List.{List, [], ◌∷◌, ◌++◌}
-use mathlib.Core.Option.{Option, some, none}
 use Prim.Native.Nat.{ℕ, ◌+◌, ◌-◌, ◌≤◌}
 use native.Mathlib.Omega.{arith}
 use lib.ListN.{length, length-append}
 use Rattle.octets.specs.Lists.{any, same}
 use Rattle.octets.proofs.Checks.{known}
-use Rattle.package.specs.Filing.{Filed, is_under, keep, keep_all, kept, first_under, Kind, repeat, namesake, of_kind, count_one, count_from, count_of}
+use Rattle.package.specs.Filing.{Filed, is_under, keep, keep_all, kept, Kind, repeat, namesake, of_kind, count_one, count_from, count_of}
 use Rattle.package.specs.Pack.{made, packed, handed_in, counted, repeats, namesakes}
 use Rattle.package.proofs.Kept.{First, first_stands, first_is, first_none, keep_new, keep_known, any_kept}
 

@@ -1,25 +1,20 @@
 -- The pieces of a str_offsets that passed are those that their headers state, so that code finds them again without an index.
 -- Assumes nothing.
-use mathlib.Core.Path.{◌≡◌, refl, sym, ap, ap₂, ◌∙◌, subst}
-use mathlib.Core.Logic.{⊎_elim}
-use mathlib.Core.Bool.{Bool, true, false, ◌&&◌}
-use mathlib.Core.List.{List, [], ◌∷◌, ◌++◌, map, append-nil}
-use Prim.Native.Nat.{ℕ, ◌+◌, ◌-◌, ◌≤◌}
+use mathlib.Core.Path.{◌≡◌, refl, sym, ap, ◌∙◌, subst}
+use mathlib.Core.Bool.{true}
+use mathlib.Core.List.{List, [], ◌∷◌, ◌++◌, append-nil}
+use Prim.Native.Nat.{ℕ, ◌+◌, ◌≤◌}
 use native.Mathlib.Omega.{arith}
-use lib.Dec.{eqb, leb}
 use lib.ListN.{length, take}
 use lib.Seq.{take_at, take-length}
-use borrow.Author.Tests.{eqb-true, eqb-false, eq-eqb, ne_eqb, leb-true}
-use Rattle.octets.specs.Octets.{number_at}
 use Rattle.octets.specs.Lists.{joined}
-use Rattle.octets.specs.Checked.{pass, ◌>>=◌}
-use Rattle.octets.proofs.Checks.{known, and_left, and_right, then_pass}
-use Rattle.octets.proofs.Numbers.{number_at_front}
+use Rattle.octets.specs.Checked.{pass}
+use Rattle.octets.proofs.Checks.{then_pass}
 use Rattle.bundle.specs.Encoding.{Encoding}
 use Rattle.bundle.specs.InitialLength.{length_field}
 use Rattle.bundle.proofs.InitialLengths.{stated_same}
-use Rattle.bundle.proofs.Every.{Every, nothing, also}
-use Rattle.strings.specs.Strings.{header_size, header_true, entries_in, strings_at}
+use Rattle.bundle.proofs.Every.{Every}
+use Rattle.strings.specs.Strings.{header_true, entries_in, strings_at}
 use Rattle.strings.specs.Headed.{piece_size, Headed, strings_of_all}
 use Rattle.strings.proofs.StrOffsets.{Sound, Whole, header_five, header_within, true_there, true_states, whole_entries}
 use Rattle.strings.proofs.Headed.{size_five, size_four}

@@ -15,7 +15,7 @@ use Rattle.bundle.specs.InitialLength.{length_field}
 use Rattle.unit.specs.UnitRead.{UnitRead, unit_size, is_five, behind_common, identity_five, identity_four, identity_of, unit_by}
 use Rattle.unit.proofs.Rooted.{only_root_identity}
 use Rattle.index.specs.Index.{Index, Contribution, cell_of}
-use Rattle.index.specs.Probing.{Probe, found, absent, probe}
+use Rattle.index.specs.Probing.{Probe, found, absent}
 use Rattle.index.specs.Rows.{BySection, row_of, row_contributions, naming, the_one, abbrev_part}
 use Rattle.package.specs.Input.{Input}
 use Rattle.package.specs.Filing.{Filed, is_under, index_for, index_by_place, abbreviations_for, contributions_of, skipped, unit_at}

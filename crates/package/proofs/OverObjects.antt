@@ -12,8 +12,8 @@ use Rattle.numbers.specs.Refusals.{bad_parts}
 use Rattle.octets.specs.Checked.{Check, pass, refuse, ◌>>=◌, require}
 use Rattle.octets.proofs.Checks.{then_pass, then_refuse, bind_refuse, pass_refuse}
 use Rattle.octets.proofs.Refusals.{Only, between_pass as passes, between_refuse as refuses, between_require as requires, between_bind as binds, between_choice as chooses}
-use Rattle.bundle.specs.Bundle.{Part, Object, Bundle, body}
-use Rattle.bundle.specs.Encoding.{Encoding, encoding_of}
+use Rattle.bundle.specs.Bundle.{Part, Object, Bundle}
+use Rattle.bundle.specs.Encoding.{Encoding}
 use Rattle.strings.specs.Strings.{entries_of, up_to_zero, string_at, strings_at}
 use Rattle.index.specs.Index.{Index, Contribution, index_of}
 use Rattle.index.specs.Rows.{BySection}

@@ -2,8 +2,8 @@
 -- Assumes nothing.
 use mathlib.Core.Path.{◌≡◌, refl, sym, ap, ap₂, ◌∙◌, subst}
 use mathlib.Core.Logic.{⊎_elim}
-use mathlib.Core.Bool.{Bool, true, false}
-use mathlib.Core.List.{List, [], ◌∷◌, ◌++◌, map, append_assoc, append-nil}
+use mathlib.Core.Bool.{true, false}
+use mathlib.Core.List.{List, [], ◌∷◌, ◌++◌, map, append-nil}
 use mathlib.Core.Option.{Option}
 use Prim.Native.Nat.{ℕ, ◌+◌, ◌*◌, ◌-◌, ◌/◌, ◌≤◌}
 use native.Mathlib.Nat.{zero-div, mul-zero}
@@ -11,9 +11,9 @@ use native.Mathlib.Omega.{arith}
 use lib.ListN.{length, length-append}
 use Rattle.octets.specs.Octets.{part, numbers_in}
 use Rattle.octets.specs.Lists.{joined}
-use Rattle.octets.specs.Checked.{pass, ◌>>=◌}
+use Rattle.octets.specs.Checked.{pass}
 use Rattle.octets.proofs.Checks.{bind_pass, pass_inj, known}
-use Rattle.octets.proofs.Joined.{map-append, joined_append, joined_one}
+use Rattle.octets.proofs.Joined.{map-append, joined_append}
 use Rattle.octets.proofs.Parts.{part_append_behind, part_append_front, part_middle, length_part}
 use Rattle.bundle.specs.Bundle.{Part, body}
 use Rattle.bundle.specs.Encoding.{Encoding}
@@ -25,8 +25,8 @@ use Rattle.strings.proofs.Remapped.{length_remapped}
 use Rattle.index.specs.Index.{Index, Contribution}
 use Rattle.index.specs.Rows.{BySection}
 use Rattle.index.specs.Tiles.{named, tiles}
-use Rattle.index.proofs.Tiles.{is_one, one_stands, Tiling, tiling_within, tiling_joined, tiling_before, part_of, Tiles, tiles_facts, both_some}
-use Rattle.package.specs.Pieces.{Piece, piece_of, pieces_of, used_in, remapped_all}
+use Rattle.index.proofs.Tiles.{is_one, one_stands, Tiling, tiling_within, tiling_joined, tiling_before, part_of, tiles_facts, both_some}
+use Rattle.package.specs.Pieces.{Piece, piece_of, pieces_of, remapped_all}
 use Rattle.package.specs.Input.{present, whole_pieces, tiled_pieces}
 use Rattle.package.proofs.Each.{each_head, each_tail, each_left, each_middle}
 

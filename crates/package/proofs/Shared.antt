@@ -15,7 +15,7 @@ use Rattle.octets.proofs.Parts.{part_append_behind, part_append_front}
 use Rattle.package.specs.Pieces.{remapped_all}
 use Rattle.package.specs.Input.{Input}
 use Rattle.package.specs.Pack.{shared_bytes}
-use Rattle.bundle.proofs.Every.{Every, nothing}
+use Rattle.bundle.proofs.Every.{Every}
 use Rattle.package.proofs.Each.{each_head, each_tail, each_left, each_middle}
 use Rattle.package.proofs.Filing.{lengths_in}
 

@@ -11,13 +11,12 @@ use native.Mathlib.Omega.{arith}
 use lib.Dec.{eqb}
 use lib.ListN.{length, get_or, length-append, length-map}
 use Rattle.octets.specs.Lists.{those, distinct}
-use Rattle.octets.specs.Checked.{pass}
 use Rattle.octets.proofs.Checks.{known}
 use Rattle.octets.proofs.Lists.{length_those}
 use Rattle.octets.proofs.Numbers.{Bytes}
 use Rattle.bundle.specs.Encoding.{Encoding, encoding_of}
 use Rattle.bundle.specs.Written.{Section}
-use Rattle.bundle.proofs.Every.{Every, nothing}
+use Rattle.bundle.proofs.Every.{Every}
 use Rattle.bundle.proofs.WrittenParts.{is_of, bytes_in, bytes_here, bytes_later}
 use Rattle.index.specs.Index.{Contribution}
 use Rattle.index.specs.Written.{Row, offset_of, size_of, index_bytes}

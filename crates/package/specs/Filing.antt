@@ -9,10 +9,9 @@ use Rattle.octets.specs.Octets.{part}
 use Rattle.octets.specs.Lists.{any, same}
 use Rattle.octets.specs.Checked.{Check, pass, refuse, ◌>>=◌, require}
 use Rattle.bundle.specs.Bundle.{Object, Bundle}
-use Rattle.bundle.specs.Encoding.{Encoding}
 use Rattle.bundle.specs.Written.{Section}
 use Rattle.unit.specs.UnitRead.{UnitRead, is_five, unit_by}
-use Rattle.strings.specs.Strings.{entries_in, strings_at}
+use Rattle.strings.specs.Strings.{entries_in}
 use Rattle.index.specs.Index.{Index, Contribution}
 use Rattle.index.specs.Rows.{BySection, is_some, row_contributions, whole_contributions, naming, the_one, abbrev_part}
 use Rattle.package.specs.Input.{Input, input_of}

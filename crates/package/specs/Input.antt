@@ -7,7 +7,7 @@ use Rattle.numbers.specs.Sections.{info_code, types_code, abbrev_code, line_code
 use Rattle.numbers.specs.Refusals.{bad_encoding, other_encoding, wrong_edition, section_missing, bad_index}
 use Rattle.octets.specs.Octets.{part}
 use Rattle.octets.specs.Lists.{all, those}
-use Rattle.octets.specs.Checked.{Check, pass, refuse, ◌>>=◌, require}
+use Rattle.octets.specs.Checked.{Check, pass, ◌>>=◌, require}
 use Rattle.bundle.specs.Bundle.{Part, Object, count, body}
 use Rattle.bundle.specs.Encoding.{Encoding, encoding_of, encoding_good}
 use Rattle.bundle.specs.Written.{Section}

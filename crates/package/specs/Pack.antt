@@ -1,6 +1,6 @@
 -- The package, and the three kinds of answer.
 -- Assumes nothing.
-use Rattle.std.specs.Prelude.{Bool, true, false, not, List, [], ◌∷◌, ◌++◌, map, ℕ, ◌+◌, ◌*◌, ◌/◌, ◌%◌, eqb, leb, length}
+use Rattle.std.specs.Prelude.{Bool, true, false, List, [], ◌∷◌, ◌++◌, map, ℕ, ◌+◌, ◌*◌, ◌/◌, ◌%◌, eqb, leb, length}
 use Rattle.std.proofs.Math.Option.{Option, some, none}
 use Rattle.numbers.specs.Tables.{compilation_table, type_table}
 use Rattle.numbers.specs.Sections.{info_code, types_code, abbrev_code, line_code, loc_code, str_offsets_code, macinfo_code, macro_code, loclists_code, rnglists_code, str_code, cu_index_code, tu_index_code}
@@ -8,7 +8,7 @@ use Rattle.numbers.specs.Refusals.{bad_length, work_short, section_too_long}
 use Rattle.numbers.specs.Limits.{work_for_word, bundle_limit, section_limit}
 use Rattle.octets.specs.Lists.{joined, those, all}
 use Rattle.octets.specs.Checked.{Check, pass, refuse, ◌>>=◌, require}
-use Rattle.bundle.specs.Bundle.{Object, Bundle, bundle_of, length_good}
+use Rattle.bundle.specs.Bundle.{Object, bundle_of, length_good}
 use Rattle.bundle.specs.Written.{Section, Sections, written}
 use Rattle.strings.specs.Strings.{first_uses, str_of}
 use Rattle.index.specs.Index.{Contribution}

@@ -4,7 +4,7 @@
 
 ghost use Rattle.std.specs.Prelude.{◌<◌};
 
-use libc::{STDIN_FILENO, STDOUT_FILENO};
+use std::io;
 
 // The character of a digit, which callers have below 16.
 fn digit(d: u8) -> u8
@@ -20,63 +20,57 @@ fn digits(b: u8) -> [u8; 2] {
     [digit(b / 16), digit(b % 16)]
 }
 
-fn write_hexadecimal(s: &[u8]) {
-    let mut i = 0;
-    while i < s.len() {
-        let b = s[i];
-        let text = digits(b);
-        io::write_all(STDOUT_FILENO, &text);
-        i += 1;
+fn write_hexadecimal(rt: &impl Print, s: &[u8]) -> io::Result<()> {
+    for b in s {
+        let text = digits(*b);
+        rt.write_all(&text)?;
     }
+    Ok(())
 }
 
-fn write_number(n: u64) {
-    io::print_decimal(STDOUT_FILENO, n);
-    io::write_all(STDOUT_FILENO, b" ");
+fn write_number(rt: &impl Print, n: u64) -> io::Result<()> {
+    print!(rt; "{n} ")
 }
 
-fn write_answer(told: [u64; 4], part: &[u8]) {
-    write_number(told[0]);
-    write_number(told[1]);
-    write_number(told[2]);
-    write_number(told[3]);
-    write_hexadecimal(part);
-    io::write_all(STDOUT_FILENO, b"\n");
+fn write_answer(rt: &impl Print, told: [u64; 4], part: &[u8]) -> io::Result<()> {
+    for n in told {
+        write_number(rt, n)?;
+    }
+    write_hexadecimal(rt, part)?;
+    rt.write_all(b"\n")
 }
 
-fn ask_part(package: &[u8], identity: u64, section: u32) {
+fn ask_part(rt: &impl Print, package: &[u8], identity: u64, section: u32) -> io::Result<()> {
     let mut told = [0u64; 4];
     let part = lookup::answering::look_up(package, 5, 1, identity, section, &mut told);
-    write_answer(told, part);
+    write_answer(rt, told, part)
 }
 
-fn ask_string(package: &[u8], entry: u64) {
+fn ask_string(rt: &impl Print, package: &[u8], entry: u64) -> io::Result<()> {
     let mut told = [0u64; 4];
     let part = lookup::answering::look_up_string(package, 5, 1, 1, entry, &mut told);
-    write_answer(told, part);
+    write_answer(rt, told, part)
 }
 
-fn ask_sections(package: &[u8]) {
-    let mut section = 0;
-    while section < 12 {
-        ask_part(package, 1, section);
-        section += 1;
+fn ask_sections(rt: &impl Print, package: &[u8]) -> io::Result<()> {
+    for section in 0..12 {
+        ask_part(rt, package, 1, section)?;
     }
+    Ok(())
 }
 
-fn ask_strings(package: &[u8]) {
-    let mut entry = 0;
-    while entry < 3 {
-        ask_string(package, entry);
-        entry += 1;
+fn ask_strings(rt: &impl Print, package: &[u8]) -> io::Result<()> {
+    for entry in 0..3 {
+        ask_string(rt, package, entry)?;
     }
+    Ok(())
 }
 
-fn main() {
+fn main(rt: HostRuntime) -> io::Result<()> {
     let mut buffer = [0u8; 1024];
-    let got = io::read_full(STDIN_FILENO, &mut buffer);
+    let got = terminal::read_full(&mut rt.stdin(), &mut buffer)?;
     let package = &buffer[..got];
-    ask_sections(package);
-    ask_strings(package);
-    ask_part(package, 2, 1);
+    ask_sections(&rt, package)?;
+    ask_strings(&rt, package)?;
+    ask_part(&rt, package, 2, 1)
 }

@@ -1,8 +1,8 @@
 -- Chains: none at the start, one row more, and the rows of one place.
 -- Assumes nothing.
 use mathlib.Core.Path.{◌≡◌, refl, sym, ap, ◌∙◌}
-use mathlib.Core.Bool.{Bool, true, false, ◌&&◌}
-use mathlib.Core.Logic.{◌⊎◌, inl, inr, ⊎_elim}
+use mathlib.Core.Bool.{Bool, true, false}
+use mathlib.Core.Logic.{⊎_elim}
 use mathlib.Core.List.{List, [], ◌∷◌, ◌++◌, append-nil, append_assoc}
 use mathlib.Core.Option.{Option, some, none}
 use Prim.Native.Nat.{ℕ, zero, suc, ◌+◌, ◌-◌, ◌/◌, ◌<◌, ◌≤◌}
@@ -14,7 +14,6 @@ use lib.Seq.{get_or-set_same, get_or-set_other, length-take-le}
 use borrow.Author.Tests.{eq-eqb, ne_eqb, eqb-true, lt-ltb, le-ltb}
 use Rattle.octets.specs.Octets.{zeros}
 use Rattle.octets.specs.Lists.{those}
-use Rattle.octets.specs.Checked.{pass, refuse}
 use Rattle.octets.proofs.Checks.{known, and_left, true_false}
 use Rattle.octets.proofs.Placed.{length_zeros, get_d_zeros}
 use Rattle.octets.proofs.Lists.{those_keeps, those_skips, length_those}

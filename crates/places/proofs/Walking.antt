@@ -2,24 +2,23 @@
 -- Assumes nothing.
 use mathlib.Core.Path.{◌≡◌, refl, sym, ap, ◌∙◌, subst}
 use mathlib.Core.Logic.{◌⊎◌, inl, inr, ⊎_elim}
-use mathlib.Core.Bool.{Bool, true, false}
+use mathlib.Core.Bool.{true, false}
 use mathlib.Core.List.{List, [], ◌∷◌}
-use Prim.Native.Nat.{ℕ, zero, suc, ◌+◌, ◌-◌, ◌<◌, ◌≤◌}
+use Prim.Native.Nat.{ℕ, suc, ◌+◌, ◌-◌, ◌<◌, ◌≤◌}
 use native.Mathlib.Omega.{arith}
 use native.Mathlib.Decide.{ℕ_discrete}
 use native.Mathlib.Numerals.{add-one}
 use lib.Dec.{eqb}
 use lib.ListN.{length, drop, get_or, drop_of_length-le}
 use lib.Seq.{drop-cons}
-use borrow.Author.Tests.{eqb-true, eqb-false, eq-eqb, ne_eqb}
+use borrow.Author.Tests.{eqb-true, eq-eqb, ne_eqb}
 use Rattle.octets.specs.Checked.{pass, refuse}
-use Rattle.octets.proofs.Checks.{known, true_false}
+use Rattle.octets.proofs.Checks.{true_false}
 use Rattle.octets.proofs.Refusals.{only_refuses}
 use Rattle.index.specs.Index.{Contribution}
 use Rattle.index.specs.Tiles.{tiles}
 use Rattle.index.proofs.Tiles.{is_one, one_here, one_later, one_cases, one_none, Tiling, Tiles, Tiled, tiles_tiled, tiled_tiles, facts_tiled, tiles_only}
 use Rattle.places.specs.Marks.{Marks, Clash, turned, marks_good}
-use Rattle.places.specs.declared.tiles.Turn.{Turn}
 use Rattle.places.specs.declared.tiles.Turn.TheVariants.{Left, Broken}
 
 -- ---- turns

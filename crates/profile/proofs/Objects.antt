@@ -1,18 +1,18 @@
 -- A package without an object has 8 bytes, and one with an object has more and an encoding that 4 lets pass.
 -- Assumes nothing.
 use mathlib.Core.Path.{◌≡◌, refl, ap, sym, ◌∙◌}
-use mathlib.Core.Bool.{Bool, true, false}
+use mathlib.Core.Bool.{true}
 use mathlib.Core.List.{List, [], ◌∷◌}
 use mathlib.Core.Logic.{◌⊎◌, inl, inr}
-use Prim.Native.Nat.{ℕ, ◌+◌, ◌≤◌, ◌<◌}
+use Prim.Native.Nat.{ℕ, ◌+◌, ◌<◌}
 use native.Mathlib.Omega.{arith}
 use native.Mathlib.Decide.{dec_le}
 use lib.ListN.{length, drop, length-drop}
 use borrow.Author.Tests.{lt-ltb}
 use Rattle.octets.specs.Checked.{pass}
 use Rattle.octets.proofs.Checks.{pass_inj}
-use Rattle.bundle.specs.Bundle.{Item, object, section, Step, more, end, broken, Object, Bundle, bundle_of, step_at, objects_of, object_first}
-use Rattle.bundle.specs.Encoding.{Encoding, encoding_of, encoding_good}
+use Rattle.bundle.specs.Bundle.{Item, object, section, Step, more, end, broken, Object, Bundle, step_at, objects_of, object_first}
+use Rattle.bundle.specs.Encoding.{encoding_of, encoding_good}
 use Rattle.bundle.proofs.Passed.{here, step_here, left_broken, left_more, left_cons}
 use Rattle.bundle.proofs.Next.{end_last}
 use Rattle.bundle.proofs.Whole.{readable}

@@ -21,7 +21,7 @@ use Rattle.numbers.specs.Refusals.{no_unit}
 use Rattle.numbers.specs.Limits.{section_limit, package_limit}
 use Rattle.bundle.specs.Written.{Section, written}
 use Rattle.bundle.specs.InitialLength.{marked, length_field}
-use Rattle.bundle.proofs.Every.{Every, nothing, also}
+use Rattle.bundle.proofs.Every.{Every, also}
 use Rattle.bundle.proofs.WrittenParts.{bytes_in}
 use Rattle.elf.specs.File.{Header, File, header_at, headers_at, no_header, unstored, body_of, inside, code_of, is_wanted, ended, wanted_of, file_of, elf_of}
 use Rattle.elf.specs.Reader.{relocates, readable, first_info, width_stated, version_stated, encoding_stated, unit_stated, bundle_read}

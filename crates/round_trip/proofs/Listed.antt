@@ -14,7 +14,7 @@ use Rattle.octets.proofs.Checks.{or_right}
 use Rattle.octets.proofs.Parts.{part_middle}
 use Rattle.numbers.specs.Names.{section_name}
 use Rattle.bundle.specs.Written.{Section}
-use Rattle.bundle.proofs.Every.{Every, nothing, also}
+use Rattle.bundle.proofs.Every.{Every, also}
 use Rattle.lookup.specs.Lookup.{codes}
 use Rattle.elf.specs.File.{Header, unstored, body_of, inside, code_of, ended}
 use Rattle.elf.specs.Writer.{bodies, table_name, ended_name, program_bits, string_table}

@@ -7,14 +7,13 @@ use mathlib.Core.List.{List, ◌++◌}
 use Prim.Native.Nat.{ℕ, ◌+◌, ◌≤◌, ◌<◌}
 use native.Mathlib.Omega.{arith}
 use native.Mathlib.Decide.{dec_le}
-use lib.Dec.{eqb, leb, ltb}
+use lib.Dec.{eqb, leb}
 use lib.ListN.{length, take, get_or, length-append}
 use lib.Seq.{take-append-le, take_at, take-length, length-take-le}
-use borrow.Author.Tests.{eqb-true, ne_eqb, le-leb, leb-true, ltb-true}
+use borrow.Author.Tests.{eqb-true, ne_eqb, leb-true, ltb-true}
 use Rattle.octets.specs.Octets.{number_at}
 use Rattle.octets.specs.Checked.{pass}
-use Rattle.octets.proofs.Checks.{bind_pass, then_pass, require_pass, pass_refuse, passes, and_both, and_left, and_right, or_cases}
-use Rattle.octets.proofs.Numbers.{number_at_front}
+use Rattle.octets.proofs.Checks.{bind_pass, then_pass, require_pass, pass_refuse, and_both, and_left, and_right, or_cases}
 use Rattle.bundle.specs.Encoding.{Encoding, encoding_good}
 use Rattle.bundle.specs.InitialLength.{marked, length_field, length_stated}
 use Rattle.bundle.proofs.InitialLengths.{number_alone, stated_narrow}

@@ -14,7 +14,7 @@ use Rattle.octets.proofs.Checks.{true_false, and_both, known, not_left}
 use Rattle.octets.proofs.Lists.{all_cons, any_cons, those_keeps, those_skips}
 use Rattle.numbers.specs.Sections.{info_code}
 use Rattle.bundle.specs.Written.{Section}
-use Rattle.bundle.proofs.Every.{Every, nothing, also}
+use Rattle.bundle.proofs.Every.{Every, also}
 use Rattle.bundle.proofs.WrittenParts.{is_of, code_is, code_not, bytes_in, bytes_here, bytes_later}
 use Rattle.lookup.specs.Lookup.{codes}
 use Rattle.elf.specs.File.{Header, unstored, body_of, inside, code_of, is_wanted, ended}

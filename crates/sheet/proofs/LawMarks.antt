@@ -10,7 +10,7 @@ use native.Mathlib.Decide.{ℕ_discrete, dec_le}
 use borrow.Author.Tests.{eq-eqb}
 use lib.Bits.{bit_or, or_shr, or_mod, or_zero_r, shifted_even}
 use lib.Pow.{pow-lt, pow-add, shl-shr, shl_exact}
-use lib.ListN.{length, get_or, set, length-set}
+use lib.ListN.{length, get_or, length-set}
 use lib.Seq.{get_or-set_same, get_or-set_other}
 use Rattle.octets.specs.Octets.{zeros}
 use Rattle.octets.proofs.Placed.{get_d_zeros}

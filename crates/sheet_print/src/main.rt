@@ -2,32 +2,30 @@
 // The stored input is the package of document 01's example, the stored output its sheet in document 02.
 #![tactic(auto)]
 
-use libc::{STDIN_FILENO, STDOUT_FILENO};
+use std::io;
 
-fn tell_refused(number: u32) {
-    io::write_all(STDOUT_FILENO, b"refused ");
-    io::print_decimal(STDOUT_FILENO, number as u64);
-    io::write_all(STDOUT_FILENO, b"\n");
+fn tell_refused(rt: &impl Print, number: u32) -> io::Result<()> {
+    println!(rt; "refused {number}")
 }
 
-fn tell_lines(page: &[u8], length: usize) {
+fn tell_lines(rt: &impl Print, page: &[u8], length: usize) -> io::Result<()> {
     if length <= page.len() {
-        io::write_all(STDOUT_FILENO, &page[..length]);
+        rt.write_all(&page[..length])?;
     }
+    Ok(())
 }
 
-fn tell_sheet(package: &[u8], page: &mut [u8]) {
+fn tell_sheet(rt: &impl Print, package: &[u8], page: &mut [u8]) -> io::Result<()> {
     let answer = sheet::writing::write_sheet(package, page);
     if answer.code != 0 {
-        tell_refused(answer.code);
-        return;
+        return tell_refused(rt, answer.code);
     }
-    tell_lines(page, answer.length);
+    tell_lines(rt, page, answer.length)
 }
 
-fn main() {
+fn main(rt: HostRuntime) -> io::Result<()> {
     let mut input = [0u8; 65536];
-    let got = io::read_full(STDIN_FILENO, &mut input);
+    let got = terminal::read_full(&mut rt.stdin(), &mut input)?;
     let mut page = [0u8; 327680];
-    tell_sheet(&input[..got], &mut page);
+    tell_sheet(&rt, &input[..got], &mut page)
 }

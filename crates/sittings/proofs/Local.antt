@@ -1,20 +1,17 @@
 -- A unit is read from its own bytes: what stands behind it doesn't count, nor do abbreviations but for a unit of info in version 4.
 -- Assumes nothing.
-use mathlib.Core.Path.{◌≡◌, refl, sym, ap, ◌∙◌, subst}
+use mathlib.Core.Path.{◌≡◌, refl, sym, ap, ◌∙◌}
 use mathlib.Core.Logic.{◌⊎◌, ⊎_elim}
 use mathlib.Core.Bool.{true, false, not}
 use mathlib.Core.List.{List, ◌++◌}
-use Prim.Native.Nat.{ℕ, ◌+◌, ◌≤◌}
+use Prim.Native.Nat.{ℕ}
 use native.Mathlib.Omega.{arith}
-use lib.Dec.{eqb, leb, ltb}
+use lib.Dec.{eqb, leb}
 use lib.ListN.{length, take, get_or, length-append}
-use lib.Seq.{take_at, take-take, take-length}
-use borrow.Author.Tests.{le-leb}
+use lib.Seq.{take_at, take-length}
 use Rattle.octets.specs.Octets.{number_at}
 use Rattle.octets.specs.Checked.{Check, pass, ◌>>=◌, require}
-use Rattle.octets.proofs.Checks.{bind_pass, require_pass, pass_inj, passes, known}
-use Rattle.octets.proofs.Numbers.{number_at_part}
-use Rattle.octets.proofs.Parts.{part_front}
+use Rattle.octets.proofs.Checks.{bind_pass, require_pass, pass_inj, known}
 use Rattle.bundle.specs.Encoding.{Encoding}
 use Rattle.bundle.specs.InitialLength.{length_field}
 use Rattle.unit.specs.UnitRead.{Identity, UnitRead, is_five, unit_size, address_place, common_size, identity_four, identity_of, unit_of}

@@ -6,7 +6,7 @@ ghost use Rattle.std.specs.Prelude.{◌≡◌, ◌<◌};
 ghost use Rattle.small_packer.specs.Lines.{digit_of, line_of};
 
 use finish::whole::Finished;
-use libc::{STDIN_FILENO, STDOUT_FILENO};
+use std::io;
 
 // The character of a digit, which callers have below 16.
 fn digit(d: u32) -> u8
@@ -37,36 +37,26 @@ fn line(word: u32) -> [u8; 9]
 }
 
 // The words of a package, a line for each.
-fn tell_package(p: &[u8]) {
-    let words = p.len() / 4;
-    let mut i = 0;
-    while i < words {
+fn tell_package(rt: &impl Print, p: &[u8]) -> io::Result<()> {
+    for i in 0..p.len() / 4 {
         let text = line(octets::word_at(p, 4 * i));
-        io::write_all(STDOUT_FILENO, &text);
-        i += 1;
+        rt.write_all(&text)?;
     }
+    Ok(())
 }
 
-fn tell_refused(number: u32) {
-    io::write_all(STDOUT_FILENO, b"refused ");
-    io::print_decimal(STDOUT_FILENO, number as u64);
-    io::write_all(STDOUT_FILENO, b"\n");
+fn tell_refused(rt: &impl Print, number: u32) -> io::Result<()> {
+    println!(rt; "refused {number}")
 }
 
 // One byte more than a bundle may have is enough to see that it has too many.
-fn main() {
+fn main(rt: HostRuntime) -> io::Result<()> {
     let mut input = [0u8; 1025];
-    let got = io::read_full(STDIN_FILENO, &mut input);
+    let got = terminal::read_full(&mut rt.stdin(), &mut input)?;
     let mut output = [0u8; 65536];
     match packer::pack_small(&input[..got], &mut output) {
-        Finished::Made(length) => {
-            tell_package(&output[..length]);
-        }
-        Finished::Short(_) => {
-            tell_refused(18);
-        }
-        Finished::Refused(number) => {
-            tell_refused(number);
-        }
+        Finished::Made(length) => tell_package(&rt, &output[..length]),
+        Finished::Short(_) => tell_refused(&rt, 18),
+        Finished::Refused(number) => tell_refused(&rt, number),
     }
 }

@@ -10,46 +10,40 @@
 #![tactic(auto)]
 
 use finish::whole::Finished;
-use libc::{STDIN_FILENO, STDOUT_FILENO};
+use std::io;
 
-fn tell(name: &[u8], number: u64) {
-    io::write_all(STDOUT_FILENO, name);
-    io::print_decimal(STDOUT_FILENO, number);
-    io::write_all(STDOUT_FILENO, b"\n");
+fn tell(rt: &impl Print, name: &[u8], number: u64) -> io::Result<()> {
+    rt.write_all(name)?;
+    println!(rt; "{number}")
 }
 
-fn tell_bundle(b: &[u8]) {
+fn tell_bundle(rt: &impl Print, b: &[u8]) -> io::Result<()> {
     let mut output = [0u8; 65536];
     match packer::pack_small(b, &mut output) {
-        Finished::Made(length) => {
-            tell(b"packed ", length as u64);
-        }
-        Finished::Short(_) => {
-            tell(b"refused ", 18);
-        }
-        Finished::Refused(number) => {
-            tell(b"refused ", number as u64);
-        }
+        Finished::Made(length) => tell(rt, b"packed ", length as u64),
+        Finished::Short(_) => tell(rt, b"refused ", 18),
+        Finished::Refused(number) => tell(rt, b"refused ", number as u64),
     }
 }
 
 // All bundles, up to a length that is not there whole.
-fn tell_bundles(input: &[u8]) {
+fn tell_bundles(rt: &impl Print, input: &[u8]) -> io::Result<()> {
     let mut at = 0;
     while 4 <= input.len() - at {
         let size = octets::wide(octets::word_at(input, at));
         let start = at + 4;
         if input.len() - start < size {
-            return;
+            return Ok(());
         }
         let end = start + size;
-        tell_bundle(&input[start..end]);
+        tell_bundle(rt, &input[start..end])?;
         at = end;
     }
+    Ok(())
 }
 
-fn main() {
+fn main(rt: HostRuntime) -> io::Result<()> {
     let mut input = [0u8; 65536];
-    let got = io::read_full(STDIN_FILENO, &mut input);
-    tell_bundles(&input[..got]);
+    let got = terminal::read_full(&mut rt.stdin(), &mut input)?;
+    tell_bundles(&rt, &input[..got])
 }

@@ -23,7 +23,6 @@ use Rattle.bundle.specs.declared.encoding.ObjectEncoding.{ObjectEncoding}
 use Rattle.strings.specs.Strings.{header_size, header_true, entries_in, entries_of, up_to_zero, string_at}
 use Rattle.strings.specs.Answers.{entries_read, string_read}
 use Rattle.strings.specs.declared.entries.Entries.TheVariants.{Count, IllFormed}
-use Rattle.strings.specs.declared.entries.StringRead.{StringRead}
 use Rattle.strings.specs.declared.entries.StringRead.TheVariants.{At, Missing}
 use Rattle.strings.proofs.Ends.{NoZero, up_to_ended, up_to_never, string_at_beyond}
 use Rattle.strings.proofs.StrOffsets.{true_five, header_five, header_four, whole_entries, entries_false, entries_odd, length_entries_in, Sound, entry_within, entries_in_at}

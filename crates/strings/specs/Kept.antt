@@ -1,6 +1,6 @@
 -- The table of kept strings as the code holds it: words of a lent region, and a state by value. Nothing here need be believed.
 -- Assumes nothing.
-use Rattle.std.specs.Prelude.{◌≡◌, true, false, List, [], ◌∷◌, ◌++◌, map, ℕ, ◌+◌, ◌*◌, ◌/◌, ◌^◌, ◌<◌, ◌≤◌, ltb, length, take, get_or}
+use Rattle.std.specs.Prelude.{◌≡◌, false, List, [], ◌∷◌, ◌++◌, map, ℕ, ◌+◌, ◌*◌, ◌/◌, ◌^◌, ◌<◌, ◌≤◌, ltb, length, take, get_or}
 use Rattle.numbers.specs.Limits.{section_limit, string_words}
 use Rattle.numbers.specs.Refusals.{no_string}
 use Rattle.octets.specs.Octets.{part, placed}

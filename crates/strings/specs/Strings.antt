@@ -1,6 +1,6 @@
 -- Strings reached by str_offsets, in order of first use.
 -- Assumes nothing.
-use Rattle.std.specs.Prelude.{Bool, true, false, ◌&&◌, ◌||◌, List, [], ◌∷◌, ◌++◌, map, ℕ, suc, ◌+◌, ◌-◌, ◌/◌, ◌%◌, eqb, leb, length, take, drop}
+use Rattle.std.specs.Prelude.{Bool, true, false, ◌&&◌, ◌||◌, List, [], ◌∷◌, ◌++◌, map, ℕ, ◌+◌, ◌-◌, ◌/◌, ◌%◌, eqb, leb, length, take, drop}
 use Rattle.numbers.specs.Tables.{dwarf5}
 use Rattle.numbers.specs.Refusals.{bad_str_offsets, no_string}
 use Rattle.octets.specs.Octets.{number_at, numbers_in, numbers_of}

@@ -11,7 +11,7 @@ ghost use Rattle.strings.specs.Objects.{entries_at, AllAddable};
 ghost use Rattle.strings_remap.specs.Strung.{Strung};
 
 use bundle::encoding::ObjectEncoding;
-use libc::STDOUT_FILENO;
+use std::io;
 use strings::entries::Entries;
 use strings::table::{Added, Place, StrOffsets, StringTable};
 
@@ -106,69 +106,67 @@ fn digit(n: u8) -> u8
     if n < 10 { n + 48 } else { n + 55 }
 }
 
-fn write_hexadecimal(s: &[u8]) {
-    let mut i = 0;
-    while i < s.len() {
-        let b = s[i];
-        io::write_all(STDOUT_FILENO, &[digit(b / 16), digit(b % 16)]);
-        i += 1;
+fn write_hexadecimal(rt: &impl Print, s: &[u8]) -> io::Result<()> {
+    for b in s {
+        rt.write_all(&[digit(*b / 16), digit(*b % 16)])?;
     }
+    Ok(())
 }
 
 fn shown(b: u8) -> u8 {
     if b == 0 { 46 } else { b }
 }
 
-fn write_text(s: &[u8]) {
-    let mut i = 0;
-    while i < s.len() {
-        io::write_all(STDOUT_FILENO, &[shown(s[i])]);
-        i += 1;
+fn write_text(rt: &impl Print, s: &[u8]) -> io::Result<()> {
+    for b in s {
+        rt.write_all(&[shown(*b)])?;
     }
+    Ok(())
 }
 
-fn write_both(output: &[u8], at: usize, end: usize) {
+fn write_both(rt: &impl Print, output: &[u8], at: usize, end: usize) -> io::Result<()> {
     if end <= output.len() {
         if at <= end {
-            write_hexadecimal(&output[..at]);
-            io::write_all(STDOUT_FILENO, b" ");
-            write_text(&output[at..end]);
+            write_hexadecimal(rt, &output[..at])?;
+            rt.write_all(b" ")?;
+            write_text(rt, &output[at..end])?;
         }
     }
+    Ok(())
 }
 
-fn tell(o: StrOffsets, b: &[u8])
+fn tell(rt: &impl Print, o: StrOffsets, b: &[u8]) -> io::Result<()>
     requires { (length b.now < 2 ^ 32) × Inside b.now o.offsets × Inside b.now o.strings }
 {
     let mut store = [0u32; 176];
     let mut output = [0u8; 256];
     match remap(o, b, &mut store, 112, &mut output) {
-        Outcome::Sections(at, end) => {
-            write_both(&output, at, end);
-        }
-        Outcome::Refused(code) => {
-            io::write_all(STDOUT_FILENO, b"refused ");
-            io::print_decimal(STDOUT_FILENO, code);
-        }
-        Outcome::Short => {
-            io::write_all(STDOUT_FILENO, b"short");
-        }
+        Outcome::Sections(at, end) => write_both(rt, &output, at, end)?,
+        Outcome::Refused(code) => print!(rt; "refused {code}")?,
+        Outcome::Short => rt.write_all(b"short")?,
     }
-    io::write_all(STDOUT_FILENO, b"\n");
+    rt.write_all(b"\n")
 }
 
 // An object of a header, entries and str, each as they are.
-fn show(name: &[u8], e: ObjectEncoding, header: &[u8], entries: &[u32], text: &[u8]) {
-    io::write_all(STDOUT_FILENO, name);
-    io::write_all(STDOUT_FILENO, b": ");
+fn show(
+    rt: &impl Print,
+    name: &[u8],
+    e: ObjectEncoding,
+    header: &[u8],
+    entries: &[u32],
+    text: &[u8],
+) -> io::Result<()> {
+    rt.write_all(name)?;
+    rt.write_all(b": ")?;
     if 16 < header.len() {
-        return;
+        return Ok(());
     }
     if 12 < entries.len() {
-        return;
+        return Ok(());
     }
     if 64 < text.len() {
-        return;
+        return Ok(());
     }
     let w = bundle::encoding::width(e);
     let at = header.len();
@@ -178,6 +176,7 @@ fn show(name: &[u8], e: ObjectEncoding, header: &[u8], entries: &[u32], text: &[
     octets::put_numbers(e.big, w, entries, &mut b, at);
     octets::put_bytes(&mut b, end, text);
     tell(
+        rt,
         StrOffsets {
             encoding: e,
             offsets: Place {
@@ -190,7 +189,7 @@ fn show(name: &[u8], e: ObjectEncoding, header: &[u8], entries: &[u32], text: &[
             },
         },
         &b,
-    );
+    )
 }
 
 fn version_4(big: bool, wide: bool) -> ObjectEncoding {
@@ -212,146 +211,185 @@ fn version_5(big: bool, wide: bool) -> ObjectEncoding {
 }
 
 // Document 01's example in each encoding.
-fn show_document() {
+fn show_document(rt: &impl Print) -> io::Result<()> {
     let text = b"a\0bc\0";
     let e = &[2, 0, 2];
-    show(b"document 01", version_4(false, false), b"", e, text);
-    show(b"big-endian", version_4(true, false), b"", e, text);
-    show(b"width 8", version_4(false, true), b"", e, text);
-    show(b"width 8, big-endian", version_4(true, true), b"", e, text);
+    show(rt, b"document 01", version_4(false, false), b"", e, text)?;
+    show(rt, b"big-endian", version_4(true, false), b"", e, text)?;
+    show(rt, b"width 8", version_4(false, true), b"", e, text)?;
+    show(
+        rt,
+        b"width 8, big-endian",
+        version_4(true, true),
+        b"",
+        e,
+        text,
+    )?;
     let h = b"\x10\0\0\0\x05\0\0\0";
-    show(b"version 5", version_5(false, false), h, e, text);
+    show(rt, b"version 5", version_5(false, false), h, e, text)?;
     let h = b"\0\0\0\x10\0\x05\0\0";
-    show(b"version 5, big-endian", version_5(true, false), h, e, text);
+    show(
+        rt,
+        b"version 5, big-endian",
+        version_5(true, false),
+        h,
+        e,
+        text,
+    )?;
     let h = b"\xFF\xFF\xFF\xFF\x1C\0\0\0\0\0\0\0\x05\0\0\0";
-    show(b"version 5, width 8", version_5(false, true), h, e, text);
+    show(
+        rt,
+        b"version 5, width 8",
+        version_5(false, true),
+        h,
+        e,
+        text,
+    )?;
     let h = b"\xFF\xFF\xFF\xFF\0\0\0\0\0\0\0\x1C\0\x05\0\0";
     show(
+        rt,
         b"version 5, width 8, big-endian",
         version_5(true, true),
         h,
         e,
         text,
-    );
+    )
 }
 
-fn show_strings() {
+fn show_strings(rt: &impl Print) -> io::Result<()> {
     let e = version_4(false, false);
-    show(b"empty strings", e, b"", &[0, 1, 2], b"\0\0a\0");
-    show(b"suffixes", e, b"", &[0, 1, 2, 3], b"abc\0");
-    show(b"one string twice", e, b"", &[3, 0, 3], b"ab\0ab\0");
-    show(b"front of another", e, b"", &[0, 4, 0], b"abc\0ab\0");
-    show(b"unused strings", e, b"", &[4], b"abc\0de\0f\0");
-    show(b"no entries", e, b"", &[], b"abc\0");
+    show(rt, b"empty strings", e, b"", &[0, 1, 2], b"\0\0a\0")?;
+    show(rt, b"suffixes", e, b"", &[0, 1, 2, 3], b"abc\0")?;
+    show(rt, b"one string twice", e, b"", &[3, 0, 3], b"ab\0ab\0")?;
+    show(rt, b"front of another", e, b"", &[0, 4, 0], b"abc\0ab\0")?;
+    show(rt, b"unused strings", e, b"", &[4], b"abc\0de\0f\0")?;
+    show(rt, b"no entries", e, b"", &[], b"abc\0")?;
     show(
+        rt,
         b"no entries, version 5",
         version_5(false, false),
         b"\x04\0\0\0\x05\0\0\0",
         &[],
         b"",
-    );
+    )
 }
 
-fn show_ill_formed_lengths() {
+fn show_ill_formed_lengths(rt: &impl Print) -> io::Result<()> {
     let narrow = version_5(false, false);
-    show(b"no header", narrow, b"", &[], b"a\0");
+    show(rt, b"no header", narrow, b"", &[], b"a\0")?;
     show(
+        rt,
         b"header too short",
         narrow,
         b"\x03\0\0\0\x05\0\0",
         &[],
         b"a\0",
-    );
+    )?;
     show(
+        rt,
         b"length of four less",
         narrow,
         b"\x04\0\0\0\x05\0\0\0",
         &[0],
         b"a\0",
-    );
+    )?;
     show(
+        rt,
         b"length of the whole",
         narrow,
         b"\x0C\0\0\0\x05\0\0\0",
         &[0],
         b"a\0",
-    );
+    )
 }
 
-fn show_ill_formed_fields() {
+fn show_ill_formed_fields(rt: &impl Print) -> io::Result<()> {
     let narrow = version_5(false, false);
     show(
+        rt,
         b"header of version 4",
         narrow,
         b"\x08\0\0\0\x04\0\0\0",
         &[0],
         b"a\0",
-    );
+    )?;
     show(
+        rt,
         b"padding not zero",
         narrow,
         b"\x08\0\0\0\x05\0\x01\0",
         &[0],
         b"a\0",
-    );
+    )?;
     show(
+        rt,
         b"other byte order",
         narrow,
         b"\0\0\0\x08\0\x05\0\0",
         &[0],
         b"a\0",
-    );
+    )
 }
 
-fn show_ill_formed_wide() {
+fn show_ill_formed_wide(rt: &impl Print) -> io::Result<()> {
     let wide = version_5(false, true);
     show(
+        rt,
         b"header of width 4",
         wide,
         b"\x0C\0\0\0\x05\0\0\0",
         &[0],
         b"a\0",
-    );
+    )?;
     let h = b"\xFE\xFF\xFF\xFF\x0C\0\0\0\0\0\0\0\x05\0\0\0";
-    show(b"mark of width 8 wrong", wide, h, &[0], b"a\0");
+    show(rt, b"mark of width 8 wrong", wide, h, &[0], b"a\0")?;
     let h = b"\xFF\xFF\xFF\xFF\x0C\0\0\0\x01\0\0\0\x05\0\0\0";
-    show(b"length above 32 bits", wide, h, &[0], b"a\0");
+    show(rt, b"length above 32 bits", wide, h, &[0], b"a\0")
 }
 
-fn show_parts_of_entries() {
+fn show_parts_of_entries(rt: &impl Print) -> io::Result<()> {
     show(
+        rt,
         b"part of an entry",
         version_4(false, false),
         b"\0\0",
         &[0],
         b"a\0",
-    );
+    )?;
     show(
+        rt,
         b"half of an entry",
         version_4(false, true),
         b"\0\0\0\0",
         &[0],
         b"a\0",
-    );
-    show(b"8 before 9", version_4(false, false), b"\0", &[9], b"a");
+    )?;
+    show(
+        rt,
+        b"8 before 9",
+        version_4(false, false),
+        b"\0",
+        &[9],
+        b"a",
+    )
 }
 
-fn show_missing() {
+fn show_missing(rt: &impl Print) -> io::Result<()> {
     let e = version_4(false, false);
-    show(b"offset of the length", e, b"", &[2], b"a\0");
-    show(b"offset beyond", e, b"", &[0, 3], b"a\0");
-    show(b"greatest offset", e, b"", &[0xFFFF_FFFF], b"a\0");
-    show(b"no zero", e, b"", &[0, 2], b"a\0b");
-    show(b"no str", e, b"", &[0], b"");
-    show(b"last zero is a string", e, b"", &[1], b"a\0");
+    show(rt, b"offset of the length", e, b"", &[2], b"a\0")?;
+    show(rt, b"offset beyond", e, b"", &[0, 3], b"a\0")?;
+    show(rt, b"greatest offset", e, b"", &[0xFFFF_FFFF], b"a\0")?;
+    show(rt, b"no zero", e, b"", &[0, 2], b"a\0b")?;
+    show(rt, b"no str", e, b"", &[0], b"")?;
+    show(rt, b"last zero is a string", e, b"", &[1], b"a\0")
 }
 
-fn main() {
-    show_document();
-    show_strings();
-    show_ill_formed_lengths();
-    show_ill_formed_fields();
-    show_ill_formed_wide();
-    show_parts_of_entries();
-    show_missing();
+fn main(rt: HostRuntime) -> io::Result<()> {
+    show_document(&rt)?;
+    show_strings(&rt)?;
+    show_ill_formed_lengths(&rt)?;
+    show_ill_formed_fields(&rt)?;
+    show_ill_formed_wide(&rt)?;
+    show_parts_of_entries(&rt)?;
+    show_missing(&rt)
 }

@@ -7,8 +7,8 @@ use Rattle.octets.specs.Octets.{number_at}
 use Rattle.octets.specs.Checked.{Check, pass, refuse, ◌>>=◌, require}
 use Rattle.leb128.specs.Leb128.{short, unsigned}
 use Rattle.bundle.specs.Encoding.{Encoding}
-use Rattle.unit.specs.Forms.{Width, forms, width_in, value_size}
-use Rattle.unit.specs.Abbreviations.{Attribute, Declaration, declarations_of, declaration_of}
+use Rattle.unit.specs.Forms.{forms, width_in, value_size}
+use Rattle.unit.specs.Abbreviations.{Attribute, declarations_of, declaration_of}
 
 -- 12 where there is none
 unfoldable pub needed : {A : Type 0} → Option A → Check A

@@ -1,8 +1,7 @@
 -- An abbreviation table as code reads it: where a declaration's attributes lie, and what the answers are by the definition.
 -- Assumes nothing.
-use Rattle.std.specs.Prelude.{◌≡◌, Bool, true, false, not, ◌&&◌, List, map, ℕ, ◌+◌, ◌≤◌, eqb, leb, length, drop, get_or}
+use Rattle.std.specs.Prelude.{◌≡◌, Bool, true, false, not, ◌&&◌, List, ℕ, ◌+◌, ◌≤◌, eqb, leb, length, drop, get_or}
 use Rattle.std.proofs.Math.Option.{Option, some, none}
-use Rattle.octets.specs.Lists.{has}
 use Rattle.octets.specs.Checked.{Check, pass, refuse, ◌>>=◌, require}
 use Rattle.numbers.specs.Refusals.{no_identity}
 use Rattle.leb128.specs.Leb128.{short, unsigned}

@@ -1,6 +1,5 @@
 -- `batch::are_questions` meets its contract.
 -- Assumes nothing.
-use Prim.Native.Nat.{◌-◌}
 use mathlib.Core.Path.{refl, sym, ◌∙◌}
 use native.Mathlib.Omega.{arith}
 use Rattle.batch.proofs.Questions.{at_end, at_short, at_other, at_more}

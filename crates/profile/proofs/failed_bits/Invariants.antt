@@ -1,7 +1,7 @@
 -- `profile::failed_bits` meets its contract: the bits of the conditions passed, from the last one on.
 -- Assumes nothing.
 use mathlib.Core.Path.{◌≡◌}
-use Prim.Native.Nat.{◌-◌, ◌≤◌}
+use Prim.Native.Nat.{◌≤◌}
 use lib.ListN.{length, drop}
 use Rattle.profile.specs.Profile.{failed_bits}
 use Rattle.profile.proofs.failed_bits.Given as goal

@@ -1,8 +1,6 @@
 -- `elf::bundling::sections_room` meets its contract.
 -- Assumes nothing.
 use mathlib.Core.Path.{sym, ap, ◌∙◌}
-use mathlib.Core.Bool.{true}
-use Prim.Native.Nat.{◌-◌}
 use native.Mathlib.Omega.{arith}
 use Rattle.octets.specs.Lists.{all}
 use Rattle.elf.specs.Held.{file_is, short_enough, room_sum, header_sections, all_sections}

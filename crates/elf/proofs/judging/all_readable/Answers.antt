@@ -1,7 +1,6 @@
 -- `elf::judging::all_readable` meets its contract.
 -- Assumes nothing.
 use mathlib.Core.Path.{refl, sym, ◌∙◌}
-use Prim.Native.Nat.{◌-◌}
 use native.Mathlib.Omega.{arith}
 use Rattle.octets.proofs.Elements.{all_turn, all_turn_stops, all_end}
 use Rattle.elf.specs.File.{no_header}

@@ -3,7 +3,7 @@
 use mathlib.Core.Path.{sym, ap, ap₂, ◌∙◌}
 use Prim.Native.Nat.{ℕ}
 use native.Mathlib.Omega.{arith}
-use lib.ListN.{length, take, get_or}
+use lib.ListN.{take, get_or}
 use lib.Seq.{length-take-le}
 use Rattle.octets.specs.Lists.{same}
 use Rattle.numbers.proofs.NameTable.{held_length, held_within, held_name}

@@ -1,7 +1,6 @@
 -- `elf::stating::first_info` meets its contract.
 -- Assumes nothing.
 use mathlib.Core.Path.{refl, sym, ◌∙◌}
-use Prim.Native.Nat.{◌-◌}
 use native.Mathlib.Omega.{arith}
 use Rattle.octets.proofs.Parts.{part_none}
 use Rattle.elf.specs.File.{wanted_of}

@@ -1,6 +1,5 @@
 -- `elf_writer::sections::measure` meets its contract.
 -- Assumes nothing.
-use Prim.Native.Nat.{◌-◌}
 use native.Mathlib.Omega.{arith}
 use Rattle.elf_writer.proofs.Loops.{measuring_none, measuring_more, measuring_end}
 use Rattle.elf_writer.proofs.sections.measure.Goals as goal

@@ -1,7 +1,6 @@
 -- `elf_writer::sections::put_headers` meets its contract.
 -- Assumes nothing.
 use mathlib.Core.Path.{ap, ◌∙◌}
-use Prim.Native.Nat.{◌-◌}
 use native.Mathlib.Omega.{arith}
 use lib.ListN.{length}
 use Rattle.elf.specs.Writer.{section_header}

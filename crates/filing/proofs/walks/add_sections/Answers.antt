@@ -1,7 +1,6 @@
 -- `add_sections` meets its contract. What the loop keeps is `Sectioned`, and the tables that were judged.
 -- Assumes nothing.
 use mathlib.Core.Path.{refl, sym, ◌∙◌}
-use Prim.Native.Nat.{◌-◌}
 use native.Mathlib.Omega.{arith}
 use Rattle.filing.proofs.OverSections.{sectioned_none, sections_reach, section_lies, at_later, sectioned_more, sectioned_refused, sectioned_end}
 use Rattle.filing.proofs.walks.add_sections.Goals as goal

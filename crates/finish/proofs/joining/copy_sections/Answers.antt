@@ -1,11 +1,11 @@
 -- Each object's section is put behind those before it: `Joining` is what the loop keeps.
 -- Assumes nothing.
 use mathlib.Core.Path.{refl, sym, ◌∙◌}
-use Prim.Native.Nat.{◌+◌, ◌-◌, ◌≤◌}
+use Prim.Native.Nat.{◌+◌, ◌≤◌}
 use native.Mathlib.Omega.{arith}
 use lib.ListN.{length, get_or, length-take, length-drop}
 use Rattle.finish.specs.Joining.{sections_joined}
-use Rattle.finish.proofs.Entering.{AtObject, object_reaches, object_scanned, objects_over, not_object}
+use Rattle.finish.proofs.Entering.{AtObject, object_reaches, object_scanned, objects_over}
 use Rattle.finish.proofs.JoinedObjects.{joining_none, joining_end, read_once, section_within, section_room, section_joined}
 use Rattle.finish.proofs.joining.copy_sections.Goals as goal
 use Rattle.finish.proofs.joining.copy_sections.Goals.{After-scan_object-scan}

@@ -1,12 +1,12 @@
 -- Each object's str_offsets is put behind those before it, with the places that stand behind theirs: `OffsetsJoining` is what the loop keeps.
 -- Assumes nothing.
 use mathlib.Core.Path.{refl, sym, ◌∙◌}
-use Prim.Native.Nat.{◌+◌, ◌-◌, ◌≤◌}
+use Prim.Native.Nat.{◌+◌, ◌≤◌}
 use native.Mathlib.Omega.{arith}
 use lib.ListN.{length, get_or}
 use Rattle.bundle.specs.Encoded.{encoding_is}
 use Rattle.finish.specs.Joining.{OffsetsJoinable}
-use Rattle.finish.proofs.Entering.{AtObject, object_reaches, object_scanned, objects_over, not_object}
+use Rattle.finish.proofs.Entering.{AtObject, object_reaches, object_scanned, objects_over}
 use Rattle.finish.proofs.Remapping.{room_again, offsets_none, offsets_end, offsets_inside, offsets_first, offsets_fit, offsets_writable, offsets_count, offsets_more}
 use Rattle.finish.proofs.joining.copy_str_offsets.Goals as goal
 use Rattle.finish.proofs.joining.copy_str_offsets.Goals.{After-scan_object-scan, Start}

@@ -1,7 +1,7 @@
 -- The loop keeps that what is counted and what is left make the length.
 -- Assumes nothing.
 use mathlib.Core.Path.{refl}
-use Prim.Native.Nat.{◌-◌, ◌≤◌}
+use Prim.Native.Nat.{◌≤◌}
 use native.Mathlib.Omega.{arith}
 use lib.ListN.{get_or}
 use Rattle.finish.specs.Sections.{length_of}

@@ -7,7 +7,7 @@ use lib.ListN.{length}
 use Rattle.octets.specs.Checked.{Check}
 use Rattle.bundle.proofs.Objects.{objects_none}
 use Rattle.package.specs.Pack.{answered}
-use Rattle.finish.proofs.Entering.{objects_over, not_object}
+use Rattle.finish.proofs.Entering.{objects_over}
 use Rattle.finish.specs.Finish.{finished_of, output_of}
 use Rattle.finish.proofs.Answers.{refused_answer, refused_output}
 use Rattle.finish.proofs.Finishing.{Ending, empty_package, word_good, ending}

@@ -1,7 +1,6 @@
 -- The sections before a code are written: `Writing` is what the loop keeps, for any sections that are ready.
 -- Assumes nothing.
 use mathlib.Core.Path.{◌≡◌, refl, ◌∙◌}
-use Prim.Native.Nat.{◌-◌}
 use native.Mathlib.Omega.{arith}
 use Rattle.finish.proofs.Frames.{frame_turn}
 use Rattle.finish.proofs.Steps.{frame_writable}

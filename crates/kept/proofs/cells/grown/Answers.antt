@@ -2,7 +2,6 @@
 -- Assumes nothing.
 use Rattle.kept.proofs.Moved.{growing_none, growing_more}
 use mathlib.Core.Path.{refl}
-use Prim.Native.Nat.{◌-◌}
 use native.Mathlib.Omega.{arith}
 use borrow.Author.Rules.{rules}
 use Rattle.kept.proofs.cells.grown.Goals as goal

@@ -1,7 +1,6 @@
 -- `moved_offsets` meets its contract.
 -- Assumes nothing.
 use Rattle.kept.proofs.Moved.{moving_none, moving_more}
-use Prim.Native.Nat.{◌-◌}
 use native.Mathlib.Omega.{arith}
 use borrow.Author.Rules.{rules}
 use Rattle.kept.proofs.cells.moved_offsets.Goals as goal

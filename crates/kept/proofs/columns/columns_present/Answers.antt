@@ -7,7 +7,6 @@ use Rattle.kept.specs.Columns.{code_at}
 use mathlib.Core.Path.{ap}
 use mathlib.Core.Bool.{false}
 use lib.ListN.{length, get_or}
-use Prim.Native.Nat.{◌-◌}
 use native.Mathlib.Omega.{arith}
 use Rattle.kept.proofs.columns.columns_present.Goals as goal
 

@@ -3,7 +3,7 @@
 use Rattle.kept.proofs.Columning.{marking_none, marking_more, marking_all}
 use Rattle.kept.proofs.Columning.{columns_are, section_lt}
 use borrow.Author.Rules.{rules}
-use Prim.Native.Nat.{◌-◌, ◌<◌}
+use Prim.Native.Nat.{◌<◌}
 use native.Mathlib.Omega.{arith}
 use Rattle.kept.proofs.columns.mark_columns.Goals as goal
 use Rattle.kept.proofs.columns.mark_columns.Goals.{After-section_at-s}

@@ -1,7 +1,7 @@
 -- `kept::records::store_cells` meets its contract: what is left is still to be stored.
 -- Assumes nothing.
 use mathlib.Core.Path.{refl}
-use Prim.Native.Nat.{◌-◌, ◌<◌}
+use Prim.Native.Nat.{◌<◌}
 use native.Mathlib.Omega.{arith}
 use Rattle.kept.specs.Records.{cells_of}
 use Rattle.kept.proofs.Columning.{section_lt}

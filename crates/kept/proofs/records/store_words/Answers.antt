@@ -1,7 +1,6 @@
 -- `kept::records::store_words` meets its contract: what is left is still to be stored.
 -- Assumes nothing.
 use mathlib.Core.Path.{refl}
-use Prim.Native.Nat.{◌-◌}
 use native.Mathlib.Omega.{arith}
 use lib.ListN.{drop_of_length-le}
 use Rattle.kept.proofs.Copying.{copying_start, copying_end, copying_more, drop_one}

@@ -1,6 +1,5 @@
 -- `kept::slots::place_all` meets its contract: records that are left are still to be placed.
 -- Assumes nothing.
-use Prim.Native.Nat.{◌-◌}
 use native.Mathlib.Omega.{arith}
 use Rattle.kept.proofs.Placing.{placing_none, placing_seekable, placing_more, placing_end}
 use Rattle.kept.proofs.slots.place_all.Goals as goal

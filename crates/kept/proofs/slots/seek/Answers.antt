@@ -1,6 +1,5 @@
 -- `kept::slots::seek` meets its contract: the looks that are left decide the walk.
 -- Assumes nothing.
-use Prim.Native.Nat.{◌-◌}
 use native.Mathlib.Omega.{arith}
 use Rattle.index.proofs.Masks.{stride_le}
 use Rattle.kept.proofs.Seeking.{seek_start, seek_last, seek_free, seek_known, seek_on, number_fits}

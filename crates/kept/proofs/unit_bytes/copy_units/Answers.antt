@@ -1,7 +1,6 @@
 -- `kept::unit_bytes::copy_units` meets its contract: records that are left are still to be copied.
 -- Assumes nothing.
 use mathlib.Core.Path.{refl}
-use Prim.Native.Nat.{◌-◌}
 use native.Mathlib.Omega.{arith}
 use native.Mathlib.Nat.{sub-zero}
 use Rattle.kept.proofs.Copying.{copying_start, copying_end, bytes_room, bytes_more, bytes_end}

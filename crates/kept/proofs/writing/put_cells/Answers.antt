@@ -1,6 +1,5 @@
 -- `kept::writing::put_cells` meets its contract: numbers that are left are still to be put.
 -- Assumes nothing.
-use Prim.Native.Nat.{◌-◌}
 use native.Mathlib.Omega.{arith}
 use Rattle.kept.proofs.Columning.{columns_are}
 use Rattle.kept.proofs.Numbering.{writing_start, writing_end, cells_from_law, cells_end, cells_room, cells_more}

@@ -1,6 +1,5 @@
 -- `kept::writing::put_codes` meets its contract: codes that are left are still to be put.
 -- Assumes nothing.
-use Prim.Native.Nat.{◌-◌}
 use native.Mathlib.Omega.{arith}
 use Rattle.kept.proofs.Columning.{columns_are}
 use Rattle.kept.proofs.Numbering.{writing_start, writing_end, codes_all, codes_end, codes_room, codes_more}

@@ -1,6 +1,5 @@
 -- `kept::writing::put_grid` meets its contract: records that are left are still to be put.
 -- Assumes nothing.
-use Prim.Native.Nat.{◌-◌}
 use native.Mathlib.Omega.{arith}
 use native.Mathlib.Nat.{sub-zero}
 use Rattle.kept.proofs.Numbering.{writing_start, writing_end}

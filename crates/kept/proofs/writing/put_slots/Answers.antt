@@ -1,7 +1,6 @@
 -- `kept::writing::put_slots` meets its contract: numbers that are left are still to be put.
 -- Assumes nothing.
 use mathlib.Core.Path.{refl, ap, ◌∙◌}
-use Prim.Native.Nat.{◌-◌}
 use native.Mathlib.Omega.{arith}
 use lib.ListN.{length-map}
 use Rattle.kept.specs.Indexed.{slot_number}

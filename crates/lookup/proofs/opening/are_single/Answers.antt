@@ -1,7 +1,6 @@
 -- `lookup::opening::are_single` meets its contract. The loop's invariant: the codes from here on decide. The measure is what is left of the codes.
 -- Assumes nothing.
 use mathlib.Core.Path.{◌∙◌}
-use Prim.Native.Nat.{◌-◌}
 use native.Mathlib.Omega.{arith}
 use Rattle.lookup.proofs.Singles.{single_start, single_stop, single_on, single_end}
 use Rattle.lookup.proofs.opening.are_single.Goals as goal

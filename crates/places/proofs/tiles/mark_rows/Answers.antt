@@ -1,7 +1,6 @@
 -- `places::tiles::mark_rows` meets its contract: the rows so far are marked.
 -- Assumes nothing.
 use mathlib.Core.Path.{refl, ◌∙◌}
-use Prim.Native.Nat.{◌-◌}
 use native.Mathlib.Omega.{arith}
 use Rattle.places.proofs.Marking.{rows_none, row_marked, row_clashes, rows_all, units_are}
 use Rattle.places.proofs.tiles.mark_rows.Goals as goal

@@ -1,7 +1,6 @@
 -- `places::tiles::tiled` meets its contract: from here on the same comes out.
 -- Assumes nothing.
 use mathlib.Core.Path.{refl, sym, ◌∙◌}
-use Prim.Native.Nat.{◌-◌}
 use native.Mathlib.Omega.{arith}
 use Rattle.places.proofs.Walking.{walk_on, walk_stops, walk_end}
 use Rattle.places.proofs.tiles.tiled.Goals as goal

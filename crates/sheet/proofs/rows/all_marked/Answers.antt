@@ -1,7 +1,6 @@
 -- `sheet::rows::all_marked` meets its contract.
 -- Assumes nothing.
 use mathlib.Core.Path.{sym, ap, ◌∙◌}
-use Prim.Native.Nat.{◌-◌}
 use native.Mathlib.Nat.{sub-zero}
 use native.Mathlib.Omega.{arith}
 use Rattle.sheet.specs.Held.{all_marked}

@@ -1,7 +1,7 @@
 -- `sheet::rows::mark_rows` meets its contract.
 -- Assumes nothing.
 use mathlib.Core.Path.{◌≡◌}
-use Prim.Native.Nat.{◌-◌, ◌≤◌}
+use Prim.Native.Nat.{◌≤◌}
 use lib.ListN.{length}
 use Rattle.index.specs.Held.{index_in}
 use Rattle.sheet.proofs.LawSifted.{Sifted}

@@ -1,7 +1,6 @@
 -- `sheet::rows::section_of` meets its contract.
 -- Assumes nothing.
 use mathlib.Core.Path.{refl, sym, ◌∙◌}
-use Prim.Native.Nat.{◌-◌}
 use native.Mathlib.Omega.{arith}
 use Rattle.index.specs.Columns.{columns_of}
 use Rattle.index.proofs.Places.{column_section, column_code}

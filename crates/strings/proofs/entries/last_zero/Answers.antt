@@ -1,6 +1,5 @@
 -- `last_zero` meets its contract. The loop: no byte behind is zero.
 -- Assumes nothing.
-use Prim.Native.Nat.{◌-◌}
 use native.Mathlib.Omega.{arith}
 use Rattle.strings.proofs.Remembering.{last_found, last_turn}
 use Rattle.strings.proofs.entries.last_zero.Goals as goal

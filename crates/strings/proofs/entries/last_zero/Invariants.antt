@@ -1,7 +1,7 @@
 -- `last_zero` meets its contract. The loop: no byte behind is zero.
 -- Assumes nothing.
 use mathlib.Core.Path.{◌≡◌}
-use Prim.Native.Nat.{ℕ, ◌-◌, ◌<◌, ◌≤◌}
+use Prim.Native.Nat.{ℕ, ◌<◌, ◌≤◌}
 use lib.ListN.{length, get_or}
 use Rattle.strings.proofs.entries.last_zero.Given as goal
 

@@ -1,7 +1,6 @@
 -- `long_hash` meets its contract. The loop: the groups that are left give the hash from here on.
 -- Assumes nothing.
 use mathlib.Core.Path.{sym, ap, ap₂, ◌∙◌}
-use Prim.Native.Nat.{◌-◌}
 use native.Mathlib.Nat.{sub-zero}
 use native.Mathlib.Omega.{arith}
 use Rattle.strings.specs.Indexed.{mixed}

@@ -1,7 +1,6 @@
 -- `unit::forms::zero_ended` meets its contract.
 -- Assumes nothing.
 use mathlib.Core.Path.{sym, ◌∙◌}
-use Prim.Native.Nat.{◌-◌}
 use native.Mathlib.Omega.{arith}
 use Rattle.unit.proofs.Sizes.{further_none, zero_none, zero_here, zero_on}
 use Rattle.unit.proofs.forms.zero_ended.Goals as goal

@@ -4,7 +4,6 @@ use mathlib.Core.Path.{ap, ◌∙◌}
 use Rattle.octets.specs.Octets.{number_at}
 use Rattle.bundle.specs.Encoded.{encoding_is}
 use Rattle.unit.specs.Headers.{signature_at}
-use Rattle.unit.specs.declared.header.Identity as code
 use Rattle.unit.proofs.header.signature.Goals as goal
 
 pub returns : goal.returns

@@ -1,6 +1,5 @@
 -- `unit::root::skip_flags` meets its contract.
 -- Assumes nothing.
-use Prim.Native.Nat.{◌-◌}
 use native.Mathlib.Omega.{arith}
 use Rattle.unit.proofs.Stepping.{skips_none, skips_more}
 use Rattle.unit.proofs.root.skip_flags.Goals as goal

@@ -1,7 +1,6 @@
 -- `unit::tree::walk` meets its contract.
 -- Assumes nothing.
 use mathlib.Core.Path.{sym, ◌∙◌}
-use Prim.Native.Nat.{◌-◌}
 use native.Mathlib.Omega.{arith}
 use Rattle.unit.proofs.Trees.{walking_start, walking_at, walking_later, walking_on, walking_free}
 use Rattle.unit.proofs.tree.walk.Goals as goal
