@@ -5,8 +5,9 @@ mod common;
 
 use common::*;
 use std::fs::{self, Permissions};
+use std::ops::Deref;
 use std::os::unix::fs::PermissionsExt;
-use std::path::Path;
+use std::path::{Path, PathBuf};
 use std::process::{Command, Output};
 
 const ROOT: &str = concat!(env!("CARGO_MANIFEST_DIR"), "/../..");
@@ -53,8 +54,25 @@ fn make(home: &Path, target: &str) -> Output {
     make.output().expect("make")
 }
 
-fn laid_out(name: &str) -> std::path::PathBuf {
-    let home = directory(name);
+/// A directory that goes when its test ends: it lies in the checkout, and the checker would take its `crates.txt` for one of the checkout's.
+struct Home(PathBuf);
+
+impl Deref for Home {
+    type Target = Path;
+
+    fn deref(&self) -> &Path {
+        &self.0
+    }
+}
+
+impl Drop for Home {
+    fn drop(&mut self) {
+        let _ = fs::remove_dir_all(&self.0);
+    }
+}
+
+fn laid_out(name: &str) -> Home {
+    let home = Home(directory(name));
     ["crates/archive/out", "host", "tools", "target"].into_iter().for_each(|folder| {
         fs::create_dir_all(home.join(folder)).unwrap();
     });
