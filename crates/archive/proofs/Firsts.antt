@@ -29,9 +29,8 @@ use Rattle.package.proofs.Accepted.{Accepted, handed_in_law}
 use Rattle.package.proofs.PackageRead.{sections_of}
 use Rattle.package.proofs.Tables.{index_of_table, encoding_in}
 use Rattle.lookup.specs.Lookup.{Found, refused, part, Package, package_of, version_good, index_for, Place, cell_place, part_place, in_table, answered, looked_up, string_place, string_found}
-use Rattle.archive.specs.Theorem as theorem
 use Rattle.archive.specs.Theorem.{Asked, IsCode, IsFirst, looks_of, looks, Holds}
-use Rattle.archive.proofs.Read.{rows_in, version_in, Table, empty, full, table}
+use Rattle.archive.proofs.Read.{rows_in, version_in, Table, empty, full}
 use Rattle.archive.proofs.Places.{PlaceOf}
 use Rattle.archive.proofs.Units.{row_within, row_identity, AtCode, at_code}
 use Rattle.archive.proofs.Judged.{part_judged_law, string_judged_law, ends_found, ends_refused, looks_some}

@@ -20,7 +20,6 @@ use Rattle.index.proofs.LawColumns.{form_of, forms}
 use Rattle.index.proofs.LawGrid.{identities_of}
 use Rattle.index.proofs.LawWhole.{Indexed}
 use Rattle.index.proofs.LawExact.{written_version}
-use Rattle.index.proofs.RoundTrip.{written}
 use Rattle.package.specs.Filing.{Filed, first_word, kept}
 use Rattle.package.proofs.Kept.{identities_in}
 use Rattle.package.proofs.Accepted.{Accepted, handed_in_law}

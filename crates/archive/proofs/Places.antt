@@ -11,7 +11,6 @@ use lib.Dec.{leb}
 use lib.ListN.{length, get_or}
 use borrow.Author.Tests.{le-leb}
 use Rattle.octets.specs.Octets.{part as bytes_at}
-use Rattle.octets.specs.Lists.{any}
 use Rattle.octets.specs.Checked.{Check, pass}
 use Rattle.octets.proofs.Checks.{passes, known, true_false}
 use Rattle.octets.proofs.Elements.{at_any}

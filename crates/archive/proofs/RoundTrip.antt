@@ -17,10 +17,10 @@ use Rattle.octets.proofs.Checks.{true_false, known, or_cases}
 use Rattle.octets.proofs.Lists.{length_those}
 use Rattle.octets.proofs.Mapped.{those_map}
 use Rattle.octets.proofs.Numbers.{Bytes}
-use Rattle.answers.specs.Answers.{short, made, answered}
+use Rattle.answers.specs.Answers.{made, answered}
 use Rattle.bundle.specs.Bundle.{Part, Object, count, first_part, body}
 use Rattle.bundle.specs.Encoding.{Encoding, encoding_of}
-use Rattle.bundle.specs.Written.{Section, written}
+use Rattle.bundle.specs.Written.{Section}
 use Rattle.bundle.proofs.Every.{Every, nothing, also}
 use Rattle.bundle.proofs.Lies.{Stands, bundle_stands}
 use Rattle.bundle.proofs.RoundTrip.{parts_from}

@@ -2,7 +2,7 @@
 -- Assumes nothing.
 use mathlib.Core.Path.{◌≡◌, refl, sym, ap, ◌∙◌}
 use mathlib.Core.Logic.{⊎_elim}
-use mathlib.Core.Bool.{true, false}
+use mathlib.Core.Bool.{true}
 use mathlib.Core.List.{List, [], ◌∷◌, ◌++◌, map, append_assoc}
 use Prim.Native.Nat.{ℕ, zero, suc, ◌<◌}
 use native.Mathlib.Nat.{not-suc-le-zero, le_of_suc-le-suc}
@@ -10,14 +10,14 @@ use native.Mathlib.Omega.{arith}
 use lib.Dec.{eqb}
 use lib.ListN.{length, get_or, take, length-map, length-append}
 use lib.Seq.{take_at}
-use borrow.Author.Tests.{eqb-false, eq-eqb, ne_eqb}
-use Rattle.octets.specs.Lists.{any, same, has}
+use borrow.Author.Tests.{eqb-false, ne_eqb}
+use Rattle.octets.specs.Lists.{same, has}
 use Rattle.octets.specs.Checked.{pass}
 use Rattle.octets.proofs.Checks.{known, bind_pass, pass_inj, true_false}
 use Rattle.octets.proofs.Lists.{any_none_head, any_none_tail, same_eq, same_refl}
 use Rattle.octets.proofs.Elements.{at_any, any_at}
 use Rattle.bundle.proofs.Every.{Every, nothing, also}
-use Rattle.package.proofs.Each.{each_head, each_tail, each_append, each_snoc}
+use Rattle.package.proofs.Each.{each_head, each_tail, each_snoc}
 use Rattle.strings.specs.Strings.{string_at, strings_at, put, put_all, first_uses, ended, str_of}
 use Rattle.strings.proofs.Ends.{NoZero, string_at_is}
 use Rattle.strings.specs.Indexed.{Distinct}

@@ -3,14 +3,14 @@
 use mathlib.Core.Path.{◌≡◌, refl, sym, ap, ◌∙◌, subst}
 use mathlib.Core.Logic.{⊎_elim}
 use mathlib.Core.Bool.{true, false}
-use mathlib.Core.List.{List, [], ◌∷◌, ◌++◌, map}
-use Prim.Native.Nat.{ℕ, ◌+◌, ◌<◌, ◌≤◌}
+use mathlib.Core.List.{List, [], ◌∷◌, map}
+use Prim.Native.Nat.{ℕ, ◌<◌}
 use native.Mathlib.Omega.{arith}
 use native.Mathlib.Decide.{ℕ_discrete, dec_lt}
 use lib.ListN.{length, get_or}
 use Rattle.octets.specs.Octets.{part as bytes_at}
 use Rattle.octets.specs.Lists.{any}
-use Rattle.octets.specs.Checked.{Check, pass, ◌>>=◌}
+use Rattle.octets.specs.Checked.{pass}
 use Rattle.octets.proofs.Checks.{known, pass_inj, then_pass}
 use Rattle.octets.proofs.Numbers.{Bytes}
 use Rattle.bundle.specs.Bundle.{Part, Object, bundle_of, first_part, body}
@@ -32,9 +32,9 @@ use Rattle.package.proofs.Inputs.{InputFacts}
 use Rattle.package.proofs.ByCode.{str_bytes}
 use Rattle.package.proofs.Accepted.{Accepted}
 use Rattle.package.proofs.PackageRead.{sections_of, section_there, section_missing}
-use Rattle.package.proofs.Tables.{encoding_in, facts_of}
-use Rattle.lookup.specs.Lookup.{refused, absent, part, Package, package_of, string_found}
-use Rattle.archive.specs.Theorem.{Asked, IsFirst, looks, EveryStringReached, EachStringOnce, FirstUsesAndNoOther}
+use Rattle.package.proofs.Tables.{facts_of}
+use Rattle.lookup.specs.Lookup.{Package, package_of}
+use Rattle.archive.specs.Theorem.{IsFirst, EveryStringReached, EachStringOnce, FirstUsesAndNoOther}
 use Rattle.archive.specs.StrSection.{pieces, str_in, strings_named}
 use Rattle.archive.proofs.Read.{nothing_read, body_is}
 use Rattle.archive.proofs.Absences.{opens, absent_is}

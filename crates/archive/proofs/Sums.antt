@@ -1,10 +1,10 @@
 -- The sum of looks of many questions for the package of an accepted bundle.
 -- Assumes nothing.
-use mathlib.Core.Path.{◌≡◌, refl, sym, ap, ◌∙◌, subst}
+use mathlib.Core.Path.{◌≡◌, refl}
 use mathlib.Core.Logic.{◌⊎◌, inl, inr, ⊎_elim}
 use mathlib.Core.Bool.{Bool, true, false}
-use mathlib.Core.List.{List, [], ◌∷◌, ◌++◌, map}
-use Prim.Native.Nat.{ℕ, suc, ◌+◌, ◌*◌, ◌/◌, ◌≤◌, max}
+use mathlib.Core.List.{List, [], ◌∷◌}
+use Prim.Native.Nat.{ℕ, ◌+◌, ◌*◌, ◌≤◌, max}
 use native.Mathlib.Nat.{suc-mul}
 use native.Mathlib.Omega.{arith}
 use lib.Dec.{eqb}
@@ -17,7 +17,7 @@ use Rattle.lookup.specs.Answers.{numbered}
 use Rattle.batch.specs.Batch.{Question, words_of, asked, answer_to, answers_to}
 use Rattle.batch.specs.Ties.{questions_in}
 use Rattle.batch.proofs.Answering.{batch_is}
-use Rattle.archive.specs.Looks.{units_in, units_of}
+use Rattle.archive.specs.Looks.{units_of}
 use Rattle.archive.specs.Many.{looks_in, SumOfLooks, LooksAreFew}
 use Rattle.archive.proofs.Few.{finding_takes_law, absence_takes_law}
 

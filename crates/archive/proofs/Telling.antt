@@ -1,6 +1,6 @@
 -- Demand 3 for one question, from the theorem and the lookup's answer.
 -- Assumes nothing.
-use mathlib.Core.Path.{◌≡◌, refl, sym, ap, ◌∙◌, subst}
+use mathlib.Core.Path.{◌≡◌, refl, ap, ◌∙◌, subst}
 use mathlib.Core.Logic.{◌⊎◌, inl, inr, ⊎_elim}
 use mathlib.Core.Bool.{true, false}
 use mathlib.Core.List.{List, []}
@@ -10,15 +10,14 @@ use native.Mathlib.Omega.{arith}
 use lib.ListN.{length, get_or}
 use Rattle.octets.specs.Octets.{part as bytes_at}
 use Rattle.octets.specs.Lists.{any}
-use Rattle.octets.specs.Checked.{pass}
 use Rattle.octets.proofs.Checks.{known}
-use Rattle.strings.specs.Strings.{string_at, ended}
+use Rattle.strings.specs.Strings.{ended}
 use Rattle.package.specs.Filing.{Filed, is_under, entries_of_unit}
 use Rattle.package.specs.Pack.{handed_in}
 use Rattle.package.proofs.Kept.{first_stands}
 use Rattle.lookup.specs.Lookup.{Found, refused, absent, part, looked_up, string_found}
 use Rattle.lookup.specs.Answers.{numbered}
-use Rattle.archive.specs.Theorem.{Asked, IsCode, IsHandedIn, IsFirst, handed_part, is_index_version, slots_of_table, looks, IsPart, Holds, FromBundleToAnswer}
+use Rattle.archive.specs.Theorem.{Asked, IsCode, IsHandedIn, IsFirst, handed_part, slots_of_table, looks, IsPart, Holds, FromBundleToAnswer}
 use Rattle.archive.specs.Question.{Looked, Told, ToldAbsent, PartTold, StringTold}
 use Rattle.archive.specs.Looks.{units_of}
 use Rattle.archive.specs.StrSection.{pieces, str_in}

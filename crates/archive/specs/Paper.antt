@@ -1,6 +1,6 @@
 -- Ticket 6's law: the sheet and the lookups say the same. b is a bundle that packing accepts, p its package.
 -- Assumes nothing.
-use Rattle.std.specs.Prelude.{◌≡◌, true, false, List, [], ◌++◌, map, ℕ, ◌-◌}
+use Rattle.std.specs.Prelude.{◌≡◌, true, List, [], ◌++◌, map, ℕ, ◌-◌}
 use Rattle.std.proofs.Math.Option.{Option, some, none}
 use Rattle.numbers.specs.Tables.{compilation_table, type_table}
 use Rattle.octets.specs.Lists.{joined}

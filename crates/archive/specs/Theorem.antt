@@ -8,7 +8,7 @@ use Rattle.numbers.specs.Sections.{str_offsets_code, str_code, first_shared, las
 use Rattle.numbers.specs.Refusals.{no_string, other_version, no_entry}
 use Rattle.octets.specs.Octets.{part as bytes_at}
 use Rattle.octets.specs.Lists.{any, those}
-use Rattle.octets.specs.Checked.{Check, pass, refuse}
+use Rattle.octets.specs.Checked.{pass, refuse}
 use Rattle.bundle.specs.Bundle.{Object, Bundle, bundle_of}
 use Rattle.strings.specs.Strings.{string_at, ended, first_uses}
 use Rattle.index.specs.Index.{Index}

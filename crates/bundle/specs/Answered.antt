@@ -1,17 +1,16 @@
 -- What the functions that read words answer, with the proof that each answer, with its number and values, is the definition's.
--- Nothing here need be believed but the types of `words_for` and `word_for`.
+-- Nothing here need be believed but the type of `word_for`. What the words of a bundle answer, `words_for`, is in proofs/WordsAnswered.antt.
 -- Assumes nothing.
 use Rattle.std.specs.Prelude.{◌≡◌, refl, Bool, true, false, ◌&&◌, ◌||◌, List, ℕ, zero, suc, ◌+◌, eqb, drop}
 use Rattle.std.proofs.Common.{sym, ap, eqb-true}
 use Rattle.numbers.specs.Tables.{dwarf4, dwarf5}
 use Rattle.numbers.specs.Refusals.{bad_words}
-use Rattle.octets.specs.Checked.{Check, pass, ◌>>=◌, require, mapped, Stands}
+use Rattle.octets.specs.Checked.{Check, pass, ◌>>=◌, require, Stands}
 use Rattle.octets.proofs.Checks.{true_false, and_left, and_right}
-use Rattle.octets.proofs.Refusals.{Only, only_pass, only_refuse, only_require, only_bind, stands_right}
+use Rattle.octets.proofs.Refusals.{Only, only_pass, only_refuse, only_require, only_bind}
 use Rattle.bundle.specs.Bundle.{Item, Step, more, end, broken, step_at, followed, items_from, items, bundle_of}
 use Rattle.bundle.specs.Encoding.{Encoding, encoding_good}
 use Rattle.bundle.specs.Encoded.{four, encoding_is, encoding_checked, word_check, word_read}
-use Rattle.bundle.specs.Next.{words_check, words_of}
 
 -- ---- the words of a bundle: every refusal is 3
 followed_only : (s : Step) (rest : ℕ → Check (List Item)) → ((n : ℕ) → Only bad_words (rest n)) → Only bad_words (followed s rest)
@@ -28,13 +27,6 @@ items_only (suc k) at s = followed_only (step_at at s) _ (λ n. items_only k (at
 pub bundle_only : (b : List ℕ) → Only bad_words (bundle_of b)
 unfolding bundle_of items
 bundle_only b = only_bind bad_words _ _ (only_require _ bad_words) (λ _. only_bind bad_words _ _ (items_only _ 4 (drop 4 b)) (λ is. only_bind bad_words _ _ (only_require _ bad_words) (λ _. only_pass bad_words _)))
-
-pub words_right : (b : List ℕ) → words_check (words_of (bundle_of b)) ≡ mapped (λ u. u.big) (bundle_of b)
-unfolding words_of
-words_right b = stands_right bad_words (λ u. u.big) words_check words_of (λ u. refl) (λ n. refl) (bundle_of b) (bundle_only b)
-
-abbrev pub words_for : (b : List ℕ) → Stands words_check (mapped (λ u. u.big) (bundle_of b))
-words_for b = record { answer = words_of (bundle_of b); right = words_right b }
 
 -- ---- an object word
 pub four_is : (x n : ℕ) → (eqb x 4 || eqb x n) ≡ true → four (eqb x n) n ≡ x

@@ -8,6 +8,7 @@ ghost use Rattle.std.specs.Prelude.{◌≡◌, Bool, [], ◌++◌, ℕ, ◌+◌,
 ghost use Rattle.octets.specs.Octets.{placed};
 ghost use Rattle.bundle.specs.Written.{word_bytes, head_bytes, end_bytes};
 ghost use Rattle.bundle.specs.Bundle.{
+  bundle_of,
   filled_up,
   object_step,
   section_step,
@@ -17,8 +18,7 @@ ghost use Rattle.bundle.specs.Bundle.{
   length_good,
 };
 ghost use Rattle.bundle.specs.Scan.{Notable, Reaches, sections_of, scan_of, noted, unit_section_of};
-ghost use Rattle.bundle.specs.Answered.{words_for};
-ghost use Rattle.bundle.specs.Next.{next_of, ends, items_good};
+ghost use Rattle.bundle.specs.Next.{words_of, next_of, ends, items_good};
 
 use numbers::sections::CODES;
 
@@ -199,7 +199,7 @@ fn items_good(b: &[u8]) -> bool
 
 // 3: whether the words of a bundle are well formed, and its byte order.
 pub fn check_words(b: &[u8]) -> Words
-    ensures { result ≡ (words_for b.now).answer }
+    ensures { result ≡ words_of (bundle_of b.now) }
 {
     if b.len() < 4 {
         return Words::Broken;

@@ -4,7 +4,6 @@ use mathlib.Core.Path.{◌≡◌, sym, ap, ◌∙◌}
 use mathlib.Core.Bool.{Bool}
 use mathlib.Core.List.{List}
 use Prim.Native.Nat.{ℕ}
-use Rattle.octets.specs.Checked.{pass}
 use Rattle.octets.proofs.Checks.{then_pass}
 use Rattle.bundle.specs.Bundle.{bundle_of}
 use Rattle.package.specs.Filing.{filing_of, repeat, namesake, count_of}

@@ -2,8 +2,6 @@
 -- Assumes nothing.
 use mathlib.Core.Path.{refl}
 use Rattle.archive.specs.Question.{unpacked}
-use Rattle.archive.proofs.asking.not_packed.Reads as reads
-use Rattle.archive.proofs.asking.not_packed.Lts as lts
 use Rattle.archive.proofs.asking.not_packed.Goals as goal
 
 pub returns : goal.returns

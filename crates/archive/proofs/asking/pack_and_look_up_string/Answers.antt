@@ -4,12 +4,6 @@ use mathlib.Core.Path.{sym, ◌∙◌}
 use lib.Seq.{length-take-le}
 use Rattle.packer.proofs.Made.{package_fits}
 use Rattle.archive.proofs.Packaged.{string_answered, short_told, refused_told}
-use Rattle.archive.proofs.asking.pack_and_look_up_string.Reads as reads
-use Rattle.archive.proofs.asking.pack_and_look_up_string.Lts as lts
-use Rattle.archive.proofs.asking.answered.Reads as answered-reads
-use Rattle.archive.proofs.asking.not_packed.Reads as not-packed-reads
-use Rattle.lookup.proofs.answering.answer_string.Reads as answer-string-reads
-use Rattle.packer.proofs.pack.Reads as pack-reads
 use Rattle.archive.proofs.asking.pack_and_look_up_string.Goals as goal
 
 pub slice_bounds-answer_string-end : goal.slice_bounds-answer_string-end

@@ -1,9 +1,7 @@
 -- `add_input_objects` meets its contract. What the loop keeps is `SoFar`.
 -- Assumes nothing.
 use mathlib.Core.Path.{refl, sym, ◌∙◌}
-use Prim.Native.Nat.{◌-◌}
 use native.Mathlib.Omega.{arith}
-use Rattle.finish.proofs.Entering.{not_object}
 use Rattle.packer.proofs.OverObjects.{far_none, far_end, word_asked, word_further, far_more, far_refused}
 use Rattle.packer.proofs.objects.add_input_objects.Goals as goal
 

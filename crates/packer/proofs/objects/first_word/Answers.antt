@@ -1,7 +1,6 @@
 -- The item behind the head is the first object's word, or there is no object.
 -- Assumes nothing.
 use mathlib.Core.Path.{sym, ◌∙◌}
-use Rattle.finish.proofs.Entering.{not_object}
 use Rattle.packer.proofs.OverObjects.{first_none, first_some}
 use Rattle.packer.proofs.objects.first_word.Goals as goal
 

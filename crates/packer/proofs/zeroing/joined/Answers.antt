@@ -1,6 +1,5 @@
 -- `joined` meets its contract. Invariant: where all is zero, so are the words that were passed.
 -- Assumes nothing.
-use Prim.Native.Nat.{◌-◌}
 use native.Mathlib.Omega.{arith}
 use Rattle.packer.proofs.Zeros.{zero_none, zero_one, zero_all}
 use Rattle.packer.proofs.zeroing.joined.Goals as goal
