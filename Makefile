@@ -1,5 +1,5 @@
-# `make help` lists what there is. `make test` is the gate: the layout of every Rattle file; every proof, must-fail edit and program, from
-# nothing; then the host's tests on the proved functions. Its last line is that of `rt ci`, and it stops with an error where any step fails.
+# `make help` lists what there is. `make test` is the gate: `rt ci`, which judges the layout of every Rattle file, every proof, must-fail edit and
+# program; then the host's tests on the proved functions. Its last line is that of `rt ci`, and it stops with an error where any step fails.
 
 # A program that packs bundles with thorin; it is built where it is and what it needs is at hand.
 ORACLE_SOURCE ?= ../shared/oracle
@@ -25,42 +25,50 @@ help:
 	@echo 'make command        the same, and builds the command: host/target/release/barthovin'
 	@echo 'make install        installs command, library, barthovin.h and the manual page under DESTDIR and PREFIX ($(PREFIX))'
 	@echo 'make uninstall      removes them'
-	@echo 'make test           the gate: every proof from nothing, every edit that must fail, every program, the tests of the host'
+	@echo 'make test           the gate: rt ci (layout, every proof, every edit that must fail, every program), then the tests of the host'
 	@echo 'make host           the tests of the host alone'
 	@echo 'make differential   compares with thorin itself, where it is at hand, feeds a million damaged bundles, packs in two sittings and hostile bundles; fails where packing takes too long'
 	@echo 'make hostile        packs hostile bundles of 28 KB; fails where one takes more than 50 ms'
 	@echo 'make string-index   times the index of strings against a proved build that walks the kept strings; fails below five times'
 	@echo 'make bench          times packing and looking up and writes docs/PERFORMANCE.md'
 	@echo 'make fmt            formats every file'
-	@echo 'make clean          removes all that was built, proofs too: the next command proves again'
+	@echo 'make clean          removes all that was built here, kept proofs too'
 
+# An edit that could not be tried shows nothing of a contract. `rt ci` passes all the same and counts it as bad, so the gate fails there itself. The
+# library for the host's tests is made anew.
 test:
-	rt fmt --check
 	@out=$$(mktemp) || exit 1; trap 'rm -f "$$out" "$$out.status"' EXIT; \
 	{ rt ci 2>&1; echo $$? > "$$out.status"; } | tee "$$out"; \
 	test "$$(cat "$$out.status")" = 0 || exit 1; \
+	grep -q '^rt: ok' "$$out" || { echo "rt ci has no line 'rt: ok'" >&2; exit 1; }; \
+	if grep -q '^rt: ok.*, [1-9][0-9]* bad' "$$out"; then echo 'some must-fail edits are bad' >&2; exit 1; fi; \
+	end=$$(tail -n 1 "$$out" | sed -n 's/^\([0-9][0-9]* passed, 0 failed\)\( (.*)\)\{0,1\}$$/\1/p'); \
+	test -n "$$end" || { echo "rt ci does not end with 'N passed, 0 failed'" >&2; exit 1; }; \
+	rm -rf target/staticlib || exit 1; \
 	$(MAKE) --no-print-directory host || exit 1; \
 	echo "crates, edits and programs of rt ci:"; \
-	tail -n 1 "$$out"
+	echo "$$end"
 
-# The static library is written after `rt ci`, which removes target/. It is made anew only where a source is newer. The second name is
-# one that no other library has.
+# The static library is made anew only where a source is newer. The second name is one that no other library has.
 LIBRARY = target/staticlib/libarchive.a
-SOURCES = crates.txt $(shell find crates -name '*.rt' -o -name '*.antt' | grep -v /must-fail/)
+SOURCES = crates.txt $(shell find crates -path 'crates/*/out' -prune -o \( -name '*.rt' -o -name '*.antt' \) -print)
 
 library: $(LIBRARY) target/staticlib/libbarthovin.a
 
 target/staticlib/libbarthovin.a: $(LIBRARY)
 	@cp $(LIBRARY) $@
 
-# Each crate is counted as it is proved; archive, with the theorem and the C entries, is the last.
+# Each crate is counted as it is proved; archive, with the theorem and the C entries, is the last. A library that an earlier check on this machine
+# proved, and that has not changed, is taken as it is and not counted.
 $(LIBRARY): $(SOURCES)
-	@count=$$(sed -n 's/^archive://p' crates.txt | wc -w); \
-	status=$$(mktemp) || exit 1; trap 'rm -f "$$status"' EXIT; \
+	@count=$$(sed -n 's/^archive staticlib://p' crates.txt | wc -w); \
+	out=$$(mktemp) || exit 1; trap 'rm -f "$$out" "$$out.status"' EXIT; \
 	echo "proving the packer: $$count crates, then archive with the theorem"; \
-	{ rt staticlib archive 2>&1 > /dev/null; echo $$? > "$$status"; } | \
-	awk -v count="$$count" '/^rt: .* proved/ { printf "[%d of %d] ", ++n, count + 1 } { print; fflush() }'; \
-	test "$$(cat "$$status")" = 0 || exit 1; \
+	{ (cd crates/archive && rt lib) 2>&1; echo $$? > "$$out.status"; } | tee "$$out" | \
+	awk -v count="$$count" '/^crate [^ ]*: / { name = substr($$2, 1, length($$2) - 1) } \
+	/^logic=proved / && name != "archive" { printf "[%d of %d] %s proved\n", ++n, count + 1, name; fflush() }'; \
+	test "$$(cat "$$out.status")" = 0 || { cat "$$out" >&2; exit 1; }; \
+	mkdir -p target/staticlib && cp crates/archive/out/libarchive.a $@ || exit 1; \
 	echo "[$$((count + 1)) of $$((count + 1))] archive proved; its C entries are in target/staticlib"
 
 # After the tests one line counts them.
@@ -115,10 +123,10 @@ uninstall:
 	rm -rf '$(DESTDIR)$(PREFIX)/share/doc/barthovin'
 
 clean:
-	rm -rf target host/target
+	rm -rf target host/target host/walks/target crates/*/out
 
 fmt:
-	rt fmt
+	@for crate in crates/*/; do (cd "$$crate" && rt fmt) || exit 1; done
 	cd host && cargo fmt
 
 oracle:
@@ -146,15 +154,19 @@ hostile: library
 	host/target/release/hostile
 
 # A proved build whose hash of a string is always 0, so that a search walks the kept strings up to the first match, as it did before there was an
-# index. Its entries have other names, so that one program can call both.
+# index. Its entries have other names, so that one program can call both. Its sources stand outside the checkout while it is built: `rt ci` refuses
+# sources that no crate of the checkout reads.
 VARIANT = target/variants/walk
 
 $(VARIANT)/libwalk.a: host/variants/walk.patch $(SOURCES)
-	rm -rf $(VARIANT) && mkdir -p $(VARIANT)/tree
-	cp -r crates crates.txt $(VARIANT)/tree
-	cd $(VARIANT)/tree && patch -s -p1 < $(CURDIR)/host/variants/walk.patch && rt staticlib archive > /dev/null
-	nm $(VARIANT)/tree/target/staticlib/libarchive.a | sed -n 's/.* T barthovin_\(.*\)/barthovin_\1 walk_\1/p' > $(VARIANT)/names
-	objcopy --redefine-syms=$(VARIANT)/names $(VARIANT)/tree/target/staticlib/libarchive.a $@
+	rm -rf $(VARIANT) && mkdir -p $(VARIANT)
+	@tree=$$(mktemp -d) || exit 1; trap 'rm -rf "$$tree"' EXIT; \
+	find crates crates.txt -path 'crates/*/out' -prune -o -type f -print0 | xargs -0 cp --parents -t "$$tree" || exit 1; \
+	patch -s -p1 -d "$$tree" < host/variants/walk.patch || exit 1; \
+	(cd "$$tree/crates/archive" && rt lib) > $(VARIANT)/log 2>&1 || { cat $(VARIANT)/log >&2; exit 1; }; \
+	cp "$$tree/crates/archive/out/libarchive.a" $(VARIANT)/libarchive.a
+	nm $(VARIANT)/libarchive.a | sed -n 's/.* T barthovin_\(.*\)/barthovin_\1 walk_\1/p' > $(VARIANT)/names
+	objcopy --redefine-syms=$(VARIANT)/names $(VARIANT)/libarchive.a $@
 
 string-index: library $(VARIANT)/libwalk.a
 	cd host/walks && cargo run --release --offline --quiet -- ../../target/variants/string-index

@@ -5,7 +5,7 @@ mod common;
 
 use common::*;
 use std::fs::{self, Permissions};
-use std::os::unix::fs::{chown, symlink, MetadataExt, PermissionsExt};
+use std::os::unix::fs::{chown, MetadataExt, PermissionsExt};
 use std::os::unix::process::CommandExt;
 use std::path::Path;
 use std::process::Output;
@@ -260,7 +260,7 @@ fn the_package_is_never_written_in_place() {
     let [main, race] = ["gcc-4-main", "gcc-4-race"].map(file);
     done(&home, &["pack", &main, &race, "-o", "all"]);
     done(&home, &["pack", &main, "-o", "package"]);
-    symlink("package", home.join("link")).unwrap();
+    let _link = Link::to("package", home.join("link"));
     fs::set_permissions(home.join("package"), Permissions::from_mode(0o640)).unwrap();
     let before = fs::metadata(home.join("package")).unwrap();
     done(&home, &["pack", "--add", "package", &race, "-o", "link"]);

@@ -4,7 +4,7 @@ mod common;
 
 use common::*;
 use std::fs::{self, Permissions};
-use std::os::unix::fs::{symlink, MetadataExt, PermissionsExt};
+use std::os::unix::fs::{MetadataExt, PermissionsExt};
 use std::os::unix::process::CommandExt;
 use std::path::Path;
 use std::process::Output;
@@ -51,7 +51,7 @@ fn links_stay_and_lead_to_the_package() {
     let home = directory("link");
     fs::create_dir(home.join("elsewhere")).unwrap();
     fs::write(home.join("elsewhere/old"), b"old").unwrap();
-    symlink("elsewhere/old", home.join("link")).unwrap();
+    let _link = Link::to("elsewhere/old", home.join("link"));
     packed(&home, "link");
     assert!(fs::symlink_metadata(home.join("link")).unwrap().is_symlink());
     assert_eq!(names(&home.join("elsewhere")), ["old"]);
@@ -60,7 +60,7 @@ fn links_stay_and_lead_to_the_package() {
 #[test]
 fn a_link_that_leads_nowhere_stays() {
     let home = directory("dangling");
-    symlink("nowhere", home.join("link")).unwrap();
+    let _link = Link::to("nowhere", home.join("link"));
     let output = pack_to(&home, "link");
     let wanted = "barthovin: link: not written through a symbolic link that leads nowhere\n";
     assert_eq!((message(&output).as_str(), status(&output)), (wanted, 2));

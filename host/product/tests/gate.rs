@@ -5,19 +5,36 @@ mod common;
 
 use common::*;
 use std::fs::{self, Permissions};
+use std::ops::Deref;
 use std::os::unix::fs::PermissionsExt;
-use std::path::Path;
+use std::path::{Path, PathBuf};
 use std::process::{Command, Output};
 
 const ROOT: &str = concat!(env!("CARGO_MANIFEST_DIR"), "/../..");
 
-/// Says of each crate that archive cites that it is proved; fails where a file says so.
+/// `ci` at the top, with nothing behind it and nothing of the checkout gone, tells a run; its line `rt: ok` and its last one come from files where those
+/// are there. `lib` in archive's folder tells of each crate that archive cites that it is proved, and then of archive. Each fails where a file says so.
 const CHECKER: &str = "#!/bin/sh
-case \"$1\" in
-ci) echo 'rt: much is proved'; echo '41 passed, 0 failed'; test ! -e checker-fails ;;
-staticlib)
-    for crate in $(sed -n 's/^archive://p' crates.txt); do echo \"rt: $crate proved\" >&2; done
-    mkdir -p target/staticlib && echo library > target/staticlib/libarchive.a ;;
+case \"$*\" in
+ci)
+    for file in Makefile crates.txt tools/rt crates/archive/out/kept target/kept; do test -e $file || exit 3; done
+    touch checked
+    echo 'rt: much is proved, 1 bad'
+    cat ok 2> /dev/null || echo 'rt: ok; handles allowed: none; must-fail edits: 17 refused; every proof and must-fail edit was done in this run'
+    cat last 2> /dev/null || echo '41 passed, 0 failed'
+    test ! -e checker-fails ;;
+lib)
+    test \"$(basename \"$PWD\")\" = archive || exit 3
+    for crate in $(sed -n 's/^archive staticlib://p' ../../crates.txt) archive; do
+        echo \"rt: chose --jobs 2 for $crate\"
+        echo \"fn $crate::of: proved\"
+        echo 'library std: modules loaded=3 checked=0'
+        echo \"crate $crate: modules loaded=5 checked=2\"
+        test ! -e ../../library-fails || { echo 'error[unproved]: a goal is open' >&2; exit 1; }
+        echo 'logic=proved functions=1 target=none'
+    done
+    mkdir -p out && echo library > out/libarchive.a ;;
+*) exit 3 ;;
 esac
 ";
 const CARGO: &str = "#!/bin/sh
@@ -37,9 +54,29 @@ fn make(home: &Path, target: &str) -> Output {
     make.output().expect("make")
 }
 
-fn laid_out(name: &str) -> std::path::PathBuf {
-    let home = directory(name);
-    ["crates", "host", "tools"].into_iter().for_each(|folder| fs::create_dir(home.join(folder)).unwrap());
+/// A directory that goes when its test ends: it lies in the checkout, and the checker would take its `crates.txt` for one of the checkout's.
+struct Home(PathBuf);
+
+impl Deref for Home {
+    type Target = Path;
+
+    fn deref(&self) -> &Path {
+        &self.0
+    }
+}
+
+impl Drop for Home {
+    fn drop(&mut self) {
+        let _ = fs::remove_dir_all(&self.0);
+    }
+}
+
+fn laid_out(name: &str) -> Home {
+    let home = Home(directory(name));
+    ["crates/archive/out", "host", "tools", "target"].into_iter().for_each(|folder| {
+        fs::create_dir_all(home.join(folder)).unwrap();
+    });
+    ["crates/archive/out/kept", "target/kept"].into_iter().for_each(|file| fs::write(home.join(file), "").unwrap());
     for file in ["Makefile", "crates.txt"] {
         fs::copy(format!("{ROOT}/{file}"), home.join(file)).unwrap();
     }
@@ -59,11 +96,48 @@ fn the_gates_end_counts_the_tests_of_the_host_too() {
     let lines: Vec<&str> = told.lines().collect();
     let end = ["tests of the host: 12 passed, 0 failed", "crates, edits and programs of rt ci:", "41 passed, 0 failed"];
     assert_eq!(lines[lines.len() - 3..], end);
-    for failing in ["cargo-fails", "checker-fails"] {
+    // What the checker is run on is the checkout itself, and the host's tests use a library that is made behind it.
+    assert!(
+        home.join("checked").exists() && told.find("41 passed").unwrap() < told.find("proving the packer").unwrap()
+    );
+    for failing in ["cargo-fails", "checker-fails", "library-fails"] {
         fs::write(home.join(failing), "").unwrap();
         let output = make(&home, "test");
         assert!(status(&output) != 0 && !text(&output).contains("tests of the host: "), "{failing}");
+        fs::remove_file(home.join(failing)).unwrap();
     }
+}
+
+/// Edits that could not be tried fail the gate, though the checker passes them; and so does an end that says nothing, or not that all is well.
+#[test]
+fn the_gate_reads_what_the_checker_says() {
+    let home = laid_out("gate-reads");
+    let after = |file: &str, line: &str| {
+        fs::write(home.join(file), format!("{line}\n")).unwrap();
+        let output = make(&home, "test");
+        fs::remove_file(home.join(file)).unwrap();
+        (status(&output) == 0, text(&output))
+    };
+    let ok = |bad: &str| {
+        format!("rt: ok; handles allowed: none; must-fail edits: 17 refused{bad}; every proof was done in this run")
+    };
+    for bad in [", 1 bad", ", 10 bad", ", 2 of them only by a limit, 3 bad"] {
+        let (passes, told) = after("ok", &ok(bad));
+        assert!(!passes && !told.contains("tests of the host: "), "{bad}");
+    }
+    for good in ["", ", 0 bad", ", 2 of them only by a limit"] {
+        let (passes, told) = after("ok", &ok(good));
+        assert!(passes && told.ends_with("\n41 passed, 0 failed\n"), "{good}");
+    }
+    for wrong in
+        [("ok", "rt: some passed. This is not the gate"), ("last", "40 passed, 1 failed"), ("last", "rt: no count")]
+    {
+        let (passes, told) = after(wrong.0, wrong.1);
+        assert!(!passes && !told.contains("tests of the host: "), "{wrong:?}");
+    }
+    // The last line is plain also where the checker's has something behind it.
+    let (passes, told) = after("last", "39 passed, 0 failed (all of them kept)");
+    assert!(passes && told.ends_with("\n39 passed, 0 failed\n"));
 }
 
 /// Each crate is counted as it is proved, the theorem's last.
@@ -73,16 +147,24 @@ fn the_first_command_says_how_far_it_is() {
     let output = make(&home, "library");
     assert_eq!(status(&output), 0, "{}", message(&output));
     let list = fs::read_to_string(format!("{ROOT}/crates.txt")).unwrap();
-    let line = list.lines().find_map(|line| line.strip_prefix("archive:")).unwrap();
+    let line = list.lines().find_map(|line| line.strip_prefix("archive staticlib:")).unwrap();
     let crates: Vec<&str> = line.split_whitespace().collect();
     let all = crates.len() + 1;
     let mut wanted = vec![format!("proving the packer: {} crates, then archive with the theorem", crates.len())];
-    wanted.extend(crates.iter().zip(1..).map(|(name, n)| format!("[{n} of {all}] rt: {name} proved")));
+    wanted.extend(crates.iter().zip(1..).map(|(name, n)| format!("[{n} of {all}] {name} proved")));
     wanted.push(format!("[{all} of {all}] archive proved; its C entries are in target/staticlib"));
     assert_eq!(text(&output).lines().collect::<Vec<_>>(), wanted);
     // It isn't proved twice.
     assert!(!text(&make(&home, "library")).contains("proving"));
-    assert_eq!(fs::read(home.join("target/staticlib/libbarthovin.a")).unwrap(), b"library\n");
+    for name in ["archive", "barthovin"] {
+        assert_eq!(fs::read(home.join(format!("target/staticlib/lib{name}.a"))).unwrap(), b"library\n");
+    }
+    // Where a proof fails, what the checker said of it is shown, and no library is there.
+    let home = laid_out("first-command-fails");
+    fs::write(home.join("library-fails"), "").unwrap();
+    let output = make(&home, "library");
+    assert!(status(&output) != 0 && message(&output).contains("error[unproved]: a goal is open\n"));
+    assert!(!home.join("target/staticlib").exists() && !text(&output).contains("proved"));
 }
 
 /// What papers say to call is a target, and `make help` has it.

@@ -28,6 +28,22 @@ pub fn directory(name: &str) -> PathBuf {
     path
 }
 
+/// A symbolic link that goes when its test ends: the gate refuses a checkout with links in it, and these directories are in it.
+pub struct Link(PathBuf);
+
+impl Link {
+    pub fn to(target: &str, link: PathBuf) -> Link {
+        std::os::unix::fs::symlink(target, &link).unwrap();
+        Link(link)
+    }
+}
+
+impl Drop for Link {
+    fn drop(&mut self) {
+        let _ = fs::remove_file(&self.0);
+    }
+}
+
 pub fn names(directory: &Path) -> Vec<String> {
     let mut names: Vec<String> =
         fs::read_dir(directory).unwrap().map(|e| e.unwrap().file_name().into_string().unwrap()).collect();
