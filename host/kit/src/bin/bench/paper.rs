@@ -127,6 +127,13 @@ impl Growth {
     }
 }
 
+/// The line of the kit that is at hand.
+fn kit() -> String {
+    let said = std::process::Command::new("rt").arg("version").output();
+    let line = said.ok().filter(|o| o.status.success()).map(|o| String::from_utf8_lossy(&o.stdout).trim().to_string());
+    line.map_or_else(|| "not known".to_string(), |line| format!("`{line}`"))
+}
+
 /// The processor's name, where the system says it.
 fn processor() -> String {
     let told = std::fs::read_to_string("/proc/cpuinfo").unwrap_or_default();
@@ -155,6 +162,7 @@ impl Paper {
         let other = option_env!("BARTHOVIN_LIBRARY").map(|d| format!("- NOT the library of this repository: {d}.\n"));
         let mut figures = vec![
             ("processor", processor()),
+            ("kit", kit()),
             ("cores", cores.to_string()),
             ("load", format!("{} when this run began and {} when it ended", self.load.0, self.load.1)),
             ("thorin", thorin.unwrap_or("not at hand in this run, so that only ours was measured".to_string())),
