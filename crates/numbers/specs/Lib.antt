@@ -4,5 +4,6 @@ pub mod Sections
 pub mod Tables
 pub mod Limits
 pub mod Refusals
+pub mod Refused
 pub mod Names
 pub mod NameRows

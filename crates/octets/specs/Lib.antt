@@ -3,3 +3,4 @@
 pub mod Octets
 pub mod Lists
 pub mod Checked
+pub mod Options
