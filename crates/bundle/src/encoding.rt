@@ -22,22 +22,26 @@ pub enum WordRead {
     Bad,
 }
 
-pub fn version(e: ObjectEncoding) -> u32
-    ensures { result ≡ (encoding_is e).version }
-{
-    if e.five { DWARF_5 } else { DWARF_4 }
-}
+impl ObjectEncoding {
+    pub fn version(self) -> u32
+        ensures { result ≡ (encoding_is self).version }
+    {
+        if self.five { DWARF_5 } else { DWARF_4 }
+    }
 
-pub fn width(e: ObjectEncoding) -> usize
-    ensures { result ≡ (encoding_is e).width }
-{
-    if e.wide { 8 } else { 4 }
-}
+    // The bytes of an offset.
+    pub fn width(self) -> usize
+        ensures { result ≡ (encoding_is self).width }
+    {
+        if self.wide { 8 } else { 4 }
+    }
 
-pub fn address(e: ObjectEncoding) -> usize
-    ensures { result ≡ (encoding_is e).address }
-{
-    if e.long { 8 } else { 4 }
+    // The bytes of an address.
+    pub fn address(self) -> usize
+        ensures { result ≡ (encoding_is self).address }
+    {
+        if self.long { 8 } else { 4 }
+    }
 }
 
 fn is_neither(n: u32, a: u32, b: u32) -> bool

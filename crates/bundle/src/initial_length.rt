@@ -8,22 +8,24 @@ use crate::encoding::ObjectEncoding;
 // What stands before a number of 8 bytes.
 const MARK: u32 = 0xFFFF_FFFF;
 
-// The bytes of the field.
-pub fn field_size(e: ObjectEncoding) -> usize
-    ensures { result ≡ length_field (encoding_is e) }
-{
-    if e.wide { 12 } else { 4 }
-}
-
-// The number in it. The caller knows that the field is there.
-pub fn stated(e: ObjectEncoding, s: &[u8]) -> u64
-    requires { length_field (encoding_is e) ≤ length s.now }
-    ensures { result ≡ length_stated (encoding_is e) s.now }
-{
-    if e.wide {
-        return octets::number_at(e.big, 8, s, 4);
+impl ObjectEncoding {
+    // The bytes of the field.
+    pub fn field_size(self) -> usize
+        ensures { result ≡ length_field (encoding_is self) }
+    {
+        if self.wide { 12 } else { 4 }
     }
-    octets::number_at(e.big, 4, s, 0)
+
+    // The number in it. The caller knows that the field is there.
+    pub fn stated_length(self, s: &[u8]) -> u64
+        requires { length_field (encoding_is self) ≤ length s.now }
+        ensures { result ≡ length_stated (encoding_is self) s.now }
+    {
+        if self.wide {
+            return octets::number_at(self.big, 8, s, 4);
+        }
+        octets::number_at(self.big, 4, s, 0)
+    }
 }
 
 // FFFFFFFF stands at the front.

@@ -67,8 +67,8 @@ pub fn first_info(f: &[u8], e: File) -> Place
 fn word_of(e: ObjectEncoding, address: u8) -> u32
     ensures { result ≡ object_word (with_address (encoding_is e) address) }
 {
-    let width = octets::narrow(bundle::encoding::width(e));
-    0x1000_0000 + bundle::encoding::version(e) + 0x100 * width + 0x1_0000 * address as u32
+    let width = octets::narrow(e.width());
+    0x1000_0000 + e.version() + 0x100 * width + 0x1_0000 * address as u32
 }
 
 // The word that a unit of this version and width states.
@@ -92,7 +92,7 @@ pub fn first_unit(big: bool, s: &[u8]) -> Stated
         wide,
         long: false,
     };
-    let field = initial_length::field_size(four);
+    let field = four.field_size();
     if s.len() < field + 2 {
         return Stated::Refused;
     }

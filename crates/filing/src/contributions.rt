@@ -92,7 +92,7 @@ pub fn contributions_of(
     ensures { ContributionsGiven b.now x home at read result }
 {
     let e = x.encoding;
-    let width = bundle::encoding::width(e);
+    let width = e.width();
     let lengths = x.size;
     let m = Measures { width, lengths };
     let u = OwnUnit {

@@ -305,7 +305,7 @@ fn locate_entry(
     ensures { result ≡ located_of (answered (after looks (entry_place «package».now version entry start size))) }
 {
     let encoding = head.encoding;
-    let width = bundle::encoding::width(encoding);
+    let width = encoding.width();
     let first = entries_start(version, width);
     if size < first {
         return Located::Refused(NO_ENTRY);

@@ -37,7 +37,7 @@ pub enum StringRead {
 pub fn header_size(e: ObjectEncoding) -> usize
     ensures { result ≡ header_size (encoding_is e) }
 {
-    let w = bundle::encoding::width(e);
+    let w = e.width();
     if e.five {
         return w + w;
     }
@@ -72,7 +72,7 @@ fn header_true(e: ObjectEncoding, s: &[u8]) -> bool
     if !e.five {
         return true;
     }
-    let field = initial_length::field_size(e);
+    let field = e.field_size();
     let header = field + 4;
     if s.len() < header {
         return false;
@@ -80,7 +80,7 @@ fn header_true(e: ObjectEncoding, s: &[u8]) -> bool
     if !mark_true(e, s) {
         return false;
     }
-    let rest = initial_length::stated(e, s);
+    let rest = e.stated_length(s);
     if rest != octets::long(s.len() - field) {
         return false;
     }
@@ -95,7 +95,7 @@ pub fn check_entries(e: ObjectEncoding, s: &[u8]) -> Entries
         return Entries::IllFormed;
     }
     let rest = s.len() - header_size(e);
-    let w = bundle::encoding::width(e);
+    let w = e.width();
     if rest % w != 0 {
         return Entries::IllFormed;
     }
@@ -107,7 +107,7 @@ pub fn entry_count(e: ObjectEncoding, s: &[u8]) -> usize
     ensures { result ≡ length (entries_in (encoding_is e) s.now) }
 {
     let h = header_size(e);
-    let w = bundle::encoding::width(e);
+    let w = e.width();
     if s.len() < h {
         return 0;
     }
@@ -119,7 +119,7 @@ pub fn entry_at(e: ObjectEncoding, s: &[u8], k: usize) -> u64
     requires { k < length (entries_in (encoding_is e) s.now) }
     ensures { result ≡ get_or (entries_in (encoding_is e) s.now) k 0 }
 {
-    let w = bundle::encoding::width(e);
+    let w = e.width();
     let at = header_size(e) + w * k;
     octets::number_at(e.big, w, s, at)
 }

@@ -17,7 +17,6 @@ ghost use Rattle.strings.specs.Headed.{
 use crate::entries;
 use crate::table::{Added, Place, StrOffsets, StringTable};
 use bundle::encoding::ObjectEncoding;
-use bundle::initial_length;
 
 // How long the piece at the front of a section is. The caller knows that its header is true.
 pub fn piece_size(e: ObjectEncoding, s: &[u8]) -> usize
@@ -25,8 +24,8 @@ pub fn piece_size(e: ObjectEncoding, s: &[u8]) -> usize
     ensures { result ≡ piece_size (encoding_is e) s.now }
 {
     if e.five {
-        let rest = octets::size(initial_length::stated(e, s));
-        return initial_length::field_size(e) + rest;
+        let rest = octets::size(e.stated_length(s));
+        return e.field_size() + rest;
     }
     s.len()
 }

@@ -15,7 +15,7 @@ pub fn write_piece(e: ObjectEncoding, s: &[u8], numbers: &[u32], d: &mut [u8], a
     ensures { d.new ≡ placed d.old at (piece_with (encoding_is e) s.now numbers.now) }
 {
     let h = entries::header_size(e);
-    let w = bundle::encoding::width(e);
+    let w = e.width();
     octets::put_bytes(d, at, &s[..h]);
     octets::put_numbers(e.big, w, numbers, d, at + h);
 }

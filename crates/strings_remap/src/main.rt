@@ -168,7 +168,7 @@ fn show(
     if 64 < text.len() {
         return Ok(());
     }
-    let w = bundle::encoding::width(e);
+    let w = e.width();
     let at = header.len();
     let end = at + w * entries.len();
     let mut b = [0u8; 192];

@@ -252,8 +252,8 @@ pub fn value_size(e: ObjectEncoding, w: Width, s: &[u8]) -> Size
 {
     match w {
         Width::Fixed(n) => within(n, s),
-        Width::Address => within(bundle::encoding::address(e), s),
-        Width::Offset => within(bundle::encoding::width(e), s),
+        Width::Address => within(e.address(), s),
+        Width::Offset => within(e.width(), s),
         Width::Uleb => uleb_size(s),
         Width::Sleb => leb128::read_signed_size(s),
         Width::String => zero_ended(s),

@@ -119,19 +119,19 @@ pub enum AddressSize {
 fn address_place(e: ObjectEncoding) -> usize
     ensures { result ≡ address_place (encoding_is e) }
 {
-    let field = initial_length::field_size(e);
+    let field = e.field_size();
     if e.five {
         return field + 3;
     }
-    field + 2 + bundle::encoding::width(e)
+    field + 2 + e.width()
 }
 
 // The header fields that all types have.
 fn common_size(e: ObjectEncoding) -> usize
     ensures { result ≡ common_size (encoding_is e) }
 {
-    let field = initial_length::field_size(e);
-    let width = bundle::encoding::width(e);
+    let field = e.field_size();
+    let width = e.width();
     if e.five {
         return field + 4 + width;
     }
@@ -153,11 +153,11 @@ fn length_good(e: ObjectEncoding, s: &[u8], stated: u64) -> bool
 fn unit_size(e: ObjectEncoding, s: &[u8]) -> Size
     ensures { size_check bad_header result ≡ unit_inside (encoding_is e) s.now }
 {
-    let field = initial_length::field_size(e);
+    let field = e.field_size();
     if s.len() < field {
         return Size::Refused;
     }
-    let stated = initial_length::stated(e, s);
+    let stated = e.stated_length(s);
     if !length_good(e, s, stated) {
         return Size::Refused;
     }
@@ -175,12 +175,12 @@ fn common_good(e: ObjectEncoding, u: &[u8]) -> bool
     if u.len() < common_size(e) {
         return false;
     }
-    let version = octets::u16_at(e.big, u, initial_length::field_size(e));
-    if version as u32 != bundle::encoding::version(e) {
+    let version = octets::u16_at(e.big, u, e.field_size());
+    if version as u32 != e.version() {
         return false;
     }
     let place = address_place(e);
-    octets::size(octets::wide_byte(u[place])) == bundle::encoding::address(e)
+    octets::size(octets::wide_byte(u[place])) == e.address()
 }
 
 fn five_kind(unit_type: u8) -> Kind
@@ -207,7 +207,7 @@ fn kind_of(e: ObjectEncoding, home: u32, u: &[u8]) -> Kind
     ensures { result ≡ kind_of (encoding_is e) home u.now }
 {
     if e.five {
-        let at = initial_length::field_size(e) + 2;
+        let at = e.field_size() + 2;
         return five_kind(u[at]);
     }
     if home == INFO {
@@ -222,7 +222,7 @@ fn header_size(e: ObjectEncoding, kind: Kind) -> usize
     let common = common_size(e);
     match kind {
         Kind::Compilation => common + 8,
-        Kind::Signature => common + (8 + bundle::encoding::width(e)),
+        Kind::Signature => common + (8 + e.width()),
         Kind::Root => common,
         Kind::Other => common,
     }
@@ -249,8 +249,8 @@ fn identity_of_root(
     ensures is { root_check result.identity ≡ root_stated (encoding_is e) (abbreviations_bytes b.now place) u.now }
     ensures memory { Remembers b.now codes.new result.judged }
 {
-    let field = initial_length::field_size(e) + 2;
-    let offset = octets::size(octets::number_at(e.big, bundle::encoding::width(e), u, field));
+    let field = e.field_size() + 2;
+    let offset = octets::size(octets::number_at(e.big, e.width(), u, field));
     let first = place.first;
     let last = place.last;
     if last - first < offset {
@@ -428,8 +428,8 @@ fn fields_good(e: ObjectEncoding, u: &[u8]) -> bool
     if u.len() < common_size(e) {
         return false;
     }
-    let version = octets::u16_at(e.big, u, initial_length::field_size(e));
-    version as u32 == bundle::encoding::version(e)
+    let version = octets::u16_at(e.big, u, e.field_size());
+    version as u32 == e.version()
 }
 
 // The address size that the header of a unit in info states, whatever it is, where the header passes 11 otherwise. Of e it takes the byte order,

@@ -27,7 +27,7 @@ pub returns-then-not-mark_true : goal.returns-then-not-mark_true
 returns-then-not-mark_true c = header_unmarked _ _ (five (goal.at.returns-then-not-mark_true c).Else-not-e) _ c.field_size-field.ensures (sym c.mark_true.ensures ∙ c.if-not-mark_true.true)
 
 pub returns-then-rest-long : goal.returns-then-rest-long
-returns-then-rest-long c = header_rest _ _ (five (goal.at.returns-then-rest-long c).Else-not-e) _ c.field_size-field.ensures _ c.stated-rest.ensures (λ z. c.if-rest-long.true (z ∙ sym c.long.ensures))
+returns-then-rest-long c = header_rest _ _ (five (goal.at.returns-then-rest-long c).Else-not-e) _ c.field_size-field.ensures _ c.stated_length-rest.ensures (λ z. c.if-rest-long.true (z ∙ sym c.long.ensures))
 
 pub returns : goal.returns
-returns c = header_all _ _ (five (goal.at.returns c).Else-not-e) _ c.field_size-field.ensures _ c.stated-rest.ensures _ c.if-s-header.false (sym c.mark_true.ensures ∙ c.if-not-mark_true.false) (c.if-rest-long.false ∙ c.long.ensures) c.version_true.ensures
+returns c = header_all _ _ (five (goal.at.returns c).Else-not-e) _ c.field_size-field.ensures _ c.stated_length-rest.ensures _ c.if-s-header.false (sym c.mark_true.ensures ∙ c.if-not-mark_true.false) (c.if-rest-long.false ∙ c.long.ensures) c.version_true.ensures

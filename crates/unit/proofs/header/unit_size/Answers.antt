@@ -12,7 +12,7 @@ pub returns-then-not-length_good : goal.returns-then-not-length_good
 returns-then-not-length_good c = inside_bad _ _ _ c.field_size-field.ensures c.if-s-field.false (sym c.length_good.ensures ∙ c.if-not-length_good.true)
 
 pub returns-then-s-field-2 : goal.returns-then-s-field-2
-returns-then-s-field-2 c = inside_out _ _ _ c.field_size-field.ensures c.if-s-field.false (sym c.length_good.ensures ∙ c.if-not-length_good.false) _ (c.size-rest.ensures ∙ c.stated-stated.ensures) (omega arith)
+returns-then-s-field-2 c = inside_out _ _ _ c.field_size-field.ensures c.if-s-field.false (sym c.length_good.ensures ∙ c.if-not-length_good.false) _ (c.size-rest.ensures ∙ c.stated_length-stated.ensures) (omega arith)
 
 pub returns : goal.returns
-returns c = inside_in _ _ _ c.field_size-field.ensures c.if-s-field.false (sym c.length_good.ensures ∙ c.if-not-length_good.false) _ (c.size-rest.ensures ∙ c.stated-stated.ensures) (omega arith)
+returns c = inside_in _ _ _ c.field_size-field.ensures c.if-s-field.false (sym c.length_good.ensures ∙ c.if-not-length_good.false) _ (c.size-rest.ensures ∙ c.stated_length-stated.ensures) (omega arith)
