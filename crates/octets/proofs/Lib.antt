@@ -13,6 +13,5 @@ pub mod Elements
 pub mod Joined
 pub mod Mapped
 pub mod Stores
-pub mod Fours
+pub mod Fixed
 pub mod ZeroBytes
-pub mod Compared
