@@ -22,7 +22,7 @@ use crate::input::{Indexed, InputObject};
 use crate::objects::StringsFiled;
 use numbers::refusals::{BAD_PARTS, BAD_STR_OFFSETS, NO_STRING};
 use numbers::sections::{CU_INDEX, STR_OFFSETS, TU_INDEX};
-use strings::table::{Added, Place, StrOffsets, StringTable};
+use strings::table::{Place, StrOffsets, StringTable};
 
 // 0 or the refusal, and where the first part starts that 8 refuses.
 #[derive(Clone, Copy)]
@@ -141,13 +141,8 @@ pub fn add_parts(
     let to = from + store.size;
     let whole = o.offsets;
     let before = offsets_before(o, good);
-    let Added::Table(more) = strings::pieces::add_pieces(
-        before,
-        b,
-        &mut work[from..to],
-        table.size,
-        t,
-    ) else {
+    let mut more = t;
+    let Ok(()) = more.add_pieces(before, b, &mut work[from..to], table.size) else {
         return StringsFiled {
             code: NO_STRING,
             strings: t,

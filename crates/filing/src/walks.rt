@@ -9,7 +9,7 @@ ghost use Rattle.filing.specs.Asked.{
 
 use crate::input::InputObject;
 use crate::units::{HomeSection, UnitsDone, UnitsFiled};
-use bundle::UnitSection;
+use bundle::Section;
 use kept::state::InProgress;
 use unit::judged::Judged;
 
@@ -67,7 +67,14 @@ pub fn add_sections(
     let mut judged = unit::judged::nothing();
     loop {
         match bundle::next_unit_section(b, at) {
-            UnitSection::Found(number, start, size, next) => {
+            Some(
+                Section {
+                    code: number,
+                    start,
+                    size,
+                    next,
+                },
+            ) => {
                 let home = octets::wide(number);
                 let stop = start + size;
                 let section = HomeSection { home, start, stop };
@@ -84,7 +91,7 @@ pub fn add_sections(
                 }
                 at = next;
             }
-            UnitSection::Done => {
+            None => {
                 return UnitsFiled { code: 0, st: known };
             }
         }

@@ -1,0 +1,19 @@
+-- `bundle::check_items` meets its contract.
+-- Assumes nothing.
+use mathlib.Core.Path.{sym, ap, ◌∙◌}
+use Rattle.std.proofs.Common.{rules}
+use Rattle.octets.specs.Checked.{pass}
+use Rattle.bundle.proofs.Ends.{ordered_object, ordered_section, ordered_end, ordered_broken}
+use Rattle.bundle.proofs.check_items.Goals as goal
+
+pub returns-in_err-next : goal.returns-in_err-next
+returns-in_err-next c = search (rules, ordered_broken c.args.b.now 4 _ c.in_err-next.ensures)
+
+pub returns-in-Object : goal.returns-in-Object
+returns-in-Object c = c.reach_end.ensures ∙ ordered_object c.args.b.now 4 _ _ (sym (ap pass c.in-Object.is) ∙ c.in_ok-next.ensures)
+
+pub returns-in-Section : goal.returns-in-Section
+returns-in-Section c = ordered_section c.args.b.now 4 _ (sym (ap pass c.in-Section.is) ∙ c.in_ok-next.ensures)
+
+pub returns-in-End : goal.returns-in-End
+returns-in-End c = ordered_end c.args.b.now 4 (sym (ap pass c.in-End.is) ∙ c.in_ok-next.ensures)
