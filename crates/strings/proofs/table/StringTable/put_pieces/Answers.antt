@@ -1,0 +1,81 @@
+-- `put_pieces` meets its contract. The loop: the strings of the pieces passed are put, and those ahead are headed.
+-- Assumes nothing.
+use Prim.Native.Nat.{◌+◌, ◌≤◌}
+use native.Mathlib.Omega.{arith}
+use mathlib.Core.List.{◌++◌}
+use Rattle.std.proofs.lemmas.Result.{err_from_is_err_and}
+use Rattle.bundle.specs.Encoded.{encoding_is}
+use Rattle.strings.proofs.StrOffsets.{sound}
+use Rattle.strings.proofs.Headed.{PiecesPut, headed_cut, walk_asks, walk_some, walk_within, pieces_none, pieces_more, pieces_missing, pieces_all, piece_few}
+use Rattle.strings.proofs.table.StringTable.put_pieces.Goals as goal
+use Rattle.strings.proofs.table.StringTable.put_pieces.Goals.{After-piece_size-size, In-loop-at}
+
+-- what is known of one table and one list of pieces
+known : (c : In-loop-at)
+    → PiecesPut c.args.b.now (encoding_is c.args.o.encoding) c.args.o.strings c.loop-at.table c.loop-at.memory c.loop-at.self c.requires.2.0 c.requires.3.0 c.loop-at.at (c.args.o.offsets.start + c.args.o.offsets.size)
+known c = c.loop-at.invariant.3 c.requires.2.0 c.requires.3.0 c.requires.2.1 (headed_cut _ _ c.args.o.offsets _ c.requires.3.1)
+
+within : (c : After-piece_size-size) → c.loop-at.at + c.piece_size-size.result ≤ c.args.o.offsets.start + c.args.o.offsets.size
+within c =
+    let p = c.loop-at.invariant.3 c.requires.2.0 c.requires.3.0 c.requires.2.1 (headed_cut _ _ c.args.o.offsets _ c.requires.3.1) in
+    walk_within _ (sound _) _ _ _ c.requires.0.offsets_inside _ p.headed c.loop-at-test.true _ c.piece_size-size.ensures
+
+some : (c : After-piece_size-size) → 1 ≤ c.piece_size-size.result
+some c =
+    let p = c.loop-at.invariant.3 c.requires.2.0 c.requires.3.0 c.requires.2.1 (headed_cut _ _ c.args.o.offsets _ c.requires.3.1) in
+    walk_some _ (sound _) _ _ _ c.requires.0.offsets_inside _ p.headed c.loop-at-test.true _ c.piece_size-size.ensures
+
+pub loop-at-init : goal.loop-at-init
+loop-at-init c = (omega arith, omega arith, omega arith, λ ts ps p h. pieces_none _ _ _ _ _ _ ts ps _ _ p h)
+
+pub piece_size-size-requires : goal.piece_size-size-requires
+piece_size-size-requires c = walk_asks _ (sound _) _ _ _ c.requires.0.offsets_inside _ (known (goal.at.piece_size-size-requires c).In-loop-at).headed c.loop-at-test.true
+
+pub add_entries-requires : goal.add_entries-requires
+add_entries-requires c =
+    let inside = c.requires.0.offsets_inside in
+    let p = known (goal.at.add_entries-requires c).In-loop-at in
+    let w = within (goal.at.add_entries-requires c).After-piece_size-size in (
+      record {
+        limit = c.requires.0.limit;
+        offsets_inside = omega (arith, w, inside);
+        strings_inside = c.requires.0.strings_inside;
+        enough = omega (arith, c.requires.0.enough, c.loop-at.auto.memory);
+        room = omega (arith, piece_few _ _ (sound _) _ _ _ _ _ _ _ _ inside p c.loop-at-test.true _ c.piece_size-size.ensures, w, c.loop-at.invariant.1, c.loop-at.invariant.2, c.requires.0.room, c.loop-at.auto.table);
+        small = omega (arith, c.requires.0.small, c.loop-at.auto.table);
+      },
+      c.requires.1,
+      (c.requires.2.0 ++ p.used, p.putting),
+    )
+
+pub returns-in_err-add_entries : goal.returns-in_err-add_entries
+returns-in_err-add_entries c =
+    let r = err_from_is_err_and c.from_residual.result c.from_residual.ensures.1 in
+    rw (r.1, r.2)
+    (λ ts ps k h.
+    let p = c.loop-at.invariant.3 ts ps k (headed_cut _ _ c.args.o.offsets ps h) in
+    pieces_missing _ _ (sound _) _ _ _ _ ts ps _ _ c.requires.0.offsets_inside p c.loop-at-test.true _ c.piece_size-size.ensures _ (c.in_err-add_entries.ensures (ts ++ p.used) p.putting))
+
+pub overflow_add-at : goal.overflow_add-at
+overflow_add-at c = omega (arith, within (goal.at.overflow_add-at c).After-piece_size-size, c.requires.0.offsets_inside, c.requires.0.limit)
+
+pub loop-at-smaller : goal.loop-at-smaller
+loop-at-smaller c = omega (arith, within (goal.at.loop-at-smaller c).After-piece_size-size, some (goal.at.loop-at-smaller c).After-piece_size-size)
+
+pub loop-at-preserved : goal.loop-at-preserved
+loop-at-preserved c =
+    let inside = c.requires.0.offsets_inside in
+    let p = known (goal.at.loop-at-preserved c).In-loop-at in
+    let f = (c.in_ok-add_entries.ensures (c.requires.2.0 ++ p.used) p.putting).1 in
+    let n = piece_few _ _ (sound _) _ _ _ _ _ _ _ _ inside p c.loop-at-test.true _ c.piece_size-size.ensures in (
+      within (goal.at.loop-at-preserved c).After-piece_size-size,
+      omega (arith, c.loop-at.invariant.1),
+      omega (arith, c.loop-at.invariant.1, c.loop-at.invariant.2, f, n),
+      λ ts ps k h.
+          let q = c.loop-at.invariant.3 ts ps k h in
+          let g = (c.in_ok-add_entries.ensures (ts ++ q.used) q.putting).0 in
+          pieces_more _ _ (sound _) _ _ _ _ ts ps _ _ inside q c.loop-at-test.true _ c.piece_size-size.ensures _ _ _ g.0 g.1 g.2,
+    )
+
+pub returns : goal.returns
+returns c = λ ts ps k h. pieces_all _ _ (sound _) _ _ _ _ ts ps _ _ c.requires.0.offsets_inside (c.loop-at.invariant.3 ts ps k (headed_cut _ _ c.args.o.offsets ps h)) c.loop-at-test.false
