@@ -3,4 +3,5 @@
 
 pub mod answering;
 pub mod opening;
+pub mod package;
 pub mod searching;
