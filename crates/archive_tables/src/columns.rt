@@ -9,7 +9,7 @@ use std::io;
 
 // The sections that version 5 has in the place of one of version 2.
 #[derive(Clone, Copy)]
-pub enum InPlace {
+enum InPlace {
     Gone,
     One(usize),
     Two(usize, usize),
@@ -18,34 +18,27 @@ pub enum InPlace {
 // One more than the last section with a column in version 2.
 const SECTIONS_END: usize = 9;
 
+#[tactic(auto, unfolding(crate::specs::ColumnRule::in_its_place))]
 fn in_its_place(section: usize) -> InPlace
     ensures { standing result ≡ in_its_place section }
 {
-    if section == TYPES {
-        return InPlace::Gone;
+    match section {
+        TYPES | MACINFO => InPlace::Gone,
+        LOC => InPlace::Two(LOCLISTS, RNGLISTS),
+        _ => InPlace::One(section),
     }
-    if section == MACINFO {
-        return InPlace::Gone;
-    }
-    if section == LOC {
-        return InPlace::Two(LOCLISTS, RNGLISTS);
-    }
-    InPlace::One(section)
 }
 
+#[tactic(auto, unfolding(crate::specs::ColumnRule::column_five))]
 fn column_five(section: usize) -> usize
     ensures { result ≡ column_five section }
 {
-    if section == LOCLISTS {
-        return LOC;
+    match section {
+        LOCLISTS => LOC,
+        MACRO => MACINFO,
+        RNGLISTS => MACRO,
+        _ => section,
     }
-    if section == MACRO {
-        return MACINFO;
-    }
-    if section == RNGLISTS {
-        return MACRO;
-    }
-    section
 }
 
 fn print_column(rt: &impl Print, version: u32, section: usize, column: usize) -> io::Result<()> {
@@ -67,14 +60,14 @@ fn print_in_place(rt: &impl Print, section: usize) -> io::Result<()> {
     }
 }
 
-pub fn print_two(rt: &impl Print) -> io::Result<()> {
+fn print_two(rt: &impl Print) -> io::Result<()> {
     for section in INFO..SECTIONS_END {
         print_column(rt, INDEX_2, section, section)?;
     }
     Ok(())
 }
 
-pub fn print_five_all(rt: &impl Print) -> io::Result<()> {
+fn print_five_all(rt: &impl Print) -> io::Result<()> {
     for section in INFO..SECTIONS_END {
         print_in_place(rt, section)?;
     }

@@ -1,5 +1,6 @@
 -- The store is cleared, so that its front holds no string before those of the object are put.
 use Rattle.std.proofs.Common.{◌≡◌, sym, ap, ◌∙◌, List, [], ℕ, ◌≤◌, arith, length, take}
+use Rattle.std.proofs.lemmas.List.{length-take-le}
 use Rattle.octets.specs.Octets.{zeros}
 use Rattle.octets.proofs.Placed.{length_zeros, take_zeros}
 use Rattle.strings.specs.Kept.{none, places_from}
@@ -16,30 +17,31 @@ front_cleared b words n x e h =
 
 pub add_strings-requires : goal.add_strings-requires
 add_strings-requires c =
-    let p = c.requires.0 in (
+    let p = c.requires.1 in (
+      omega (arith, c.requires.0, c.clear_words.auto.s),
       record {
         limit = p.limit;
         offsets_inside = p.offsets_inside;
         strings_inside = p.strings_inside;
-        memory = omega (arith, p.memory, c.clear_words.auto.s);
+        enough = omega (arith, p.enough, c.clear_words.auto.s);
         room = p.room;
         small = p.small;
       },
-      ([], front_cleared _ _ _ _ c.clear_words.ensures (omega (arith, p.memory))),
+      ([], front_cleared _ _ _ _ c.clear_words.ensures c.requires.0),
     )
 
 pub write_sections-requires : goal.write_sections-requires
-unfolding places_from
+unfolding places_from table_in
 write_sections-requires c =
-    let p = c.requires.0 in
-    let d = (c.add_strings.ensures [] (front_cleared _ _ _ _ c.clear_words.ensures (omega (arith, p.memory)))).kept _ c.in-Table.is in
+    let p = c.requires.1 in
+    let d = c.in-Ok.ensures [] (front_cleared _ _ _ _ c.clear_words.ensures c.requires.0) in
+    let l = length-take-le c.args.words c.add_strings.new.store (omega (arith, c.requires.0, c.add_strings.auto.store, c.clear_words.auto.s)) in
     record {
       inside = p.offsets_inside;
-      entries = c.requires.1;
+      entries = c.requires.2;
       used = d.0;
       strings = d.1;
-      lent = omega (arith, p.memory, c.add_strings.auto.store, c.clear_words.auto.s);
-      room = omega (arith, p.room);
+      room = omega (arith, p.room, l);
       kept = d.2;
       over = c.if-kept.false;
     }
