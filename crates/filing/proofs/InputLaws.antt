@@ -22,7 +22,7 @@ use Rattle.octets.proofs.Parts.{length_part}
 use Rattle.strings.proofs.StrOffsets.{sound, entries_few}
 use Rattle.bundle.proofs.Scanned.{length_by_code}
 use Rattle.bundle.proofs.ScanFacts.{scan_count, scan_start, scan_size, scan_body}
-use Rattle.strings.specs.Kept.{bytes_at}
+use Rattle.strings.specs.Kept.{Inside, bytes_at}
 use Rattle.strings.specs.declared.table.Place.{Place}
 use Rattle.strings.specs.declared.table.StringTable.{StringTable}
 use Rattle.index.specs.Index.{Index}
@@ -123,7 +123,7 @@ module _ (b : List ℕ) (scan : Scan) (at : ℕ) (ps : List Part) (is : scan ≡
         (known (leb 14 c))
 
     pub strings_room_of : (e : ObjectEncoding) → StringsRoom b (record { encoding = e; offsets = place_of 6; strings = place_of 11 }) words t
-    unfolding bytes_at
+    unfolding Inside bytes_at
     strings_room_of e = record {
       room = room.room;
       limit = room.limit;

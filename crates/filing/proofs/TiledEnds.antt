@@ -17,7 +17,7 @@ use Rattle.bundle.specs.Scan.{scan_of}
 use Rattle.bundle.specs.declared.Scan.{Scan}
 use Rattle.bundle.specs.declared.encoding.ObjectEncoding.{ObjectEncoding}
 use Rattle.bundle.proofs.ScanFacts.{scan_body, scan_size}
-use Rattle.strings.specs.Kept.{Kept, bytes_at}
+use Rattle.strings.specs.Kept.{Kept, Inside, bytes_at}
 use Rattle.strings.specs.declared.table.StrOffsets.{StrOffsets}
 use Rattle.strings.specs.declared.table.StringTable.{StringTable}
 use Rattle.strings.proofs.Headers.{is_five_law}
@@ -145,6 +145,7 @@ module _ (b : List ℕ) (x : ObjectEncoding) (scan : Scan) (at : ℕ) (ps : List
 
         pub put_asks : x.five ≡ true → (w u : List ℕ) (tab : StringTable) → InputRoom b ps (length w) tab → Only codes_region (words_in b) w u → (us : List (List ℕ)) → StringsIn b w tab us
             → (o : StrOffsets) → o ≡ str_offsets_in x scan → PartsPutAsked b o p.good tab u
+        unfolding Inside
         put_asks f w u tab room c us k o eo = subst (λ (y : StrOffsets). PartsPutAsked b y p.good tab u) (sym eo) (record {
           room = rw c.same room.room;
           limit = room.limit;

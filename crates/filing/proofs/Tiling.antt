@@ -6,7 +6,6 @@ use mathlib.Core.List.{List, [], ◌++◌, map, append-nil}
 use mathlib.Core.Option.{Option, some, none}
 use Prim.Native.Nat.{ℕ, ◌+◌, ◌*◌, ◌-◌, ◌/◌, ◌^◌, ◌<◌, ◌≤◌}
 use native.Mathlib.Omega.{arith}
-use Rattle.std.specs.Prelude.{Result, Ok, Err}
 use native.Mathlib.Decide.{dec_lt}
 use lib.ListN.{length, take, drop, get_or}
 use borrow.Rule.Slice.PartMut.{put_mid}
@@ -21,8 +20,8 @@ use Rattle.numbers.specs.Limits.{work_for_word}
 use Rattle.strings.specs.Kept.{Inside, bytes_at}
 use Rattle.strings.specs.Objects.{table_in}
 use Rattle.strings.specs.Headed.{Headed, HeadedOf, PiecesAddable, PiecesAdded}
-use Rattle.numbers.specs.Refused.{number_of}
-use Rattle.numbers.specs.declared.refusals.Refusal.{Refusal}
+use Rattle.strings.specs.declared.table.Added.{Added}
+use Rattle.strings.specs.declared.table.Added.TheVariants.{Table, NoString}
 use Rattle.strings.specs.declared.table.StrOffsets.{StrOffsets}
 use Rattle.strings.specs.declared.table.StringTable.{StringTable}
 use Rattle.index.specs.Index.{Index, Contribution}
@@ -159,7 +158,7 @@ module _ (b : List ℕ) (o : StrOffsets) (inside : Inside b o.offsets) (good : �
   judged = parts_judged e str s ps
 
   long : length s ≡ o.offsets.size
-  unfolding bytes_at
+  unfolding bytes_at Inside
   long = length_part b o.offsets.start o.offsets.size inside
 
   good_within : good ≤ o.offsets.size
@@ -190,14 +189,15 @@ module _ (b : List ℕ) (o : StrOffsets) (inside : Inside b o.offsets) (good : �
     good_headed = subst (λ (z : StrOffsets). HeadedOf z b before_parts) (sym ey) (subst (λ (l : List ℕ). Headed e l before_parts) front ending.headed)
 
     pub good_addable : (words : ℕ) (store : List ℕ) (t : StringTable) → length b < 2 ^ 32 → Inside b o.strings → words + o.strings.size ≤ length store
-        → 7 * (t.entries + o.offsets.size / 4) ≤ words → words < 2 ^ 32 → PiecesAddable b y words (length store - words) t
+        → 7 * (t.entries + o.offsets.size / 4) ≤ words → words < 2 ^ 32 → PiecesAddable b y words store t
+    unfolding Inside
     good_addable words store t limit strings memory room small =
-        subst (λ (z : StrOffsets). PiecesAddable b z words (length store - words) t) (sym ey)
+        subst (λ (z : StrOffsets). PiecesAddable b z words store t) (sym ey)
         record {
           limit = limit;
           offsets_inside = omega (arith, good_within, inside);
           strings_inside = strings;
-          enough = omega (arith, memory);
+          memory = memory;
           room = omega (arith, good_within);
           small = small;
         }
@@ -205,26 +205,25 @@ module _ (b : List ℕ) (o : StrOffsets) (inside : Inside b o.offsets) (good : �
     -- the store as it is lent
     module _ (n from many words : ℕ) (w : List ℕ) (room : work_for_word * n ≤ length w) (ef : from ≡ store_region.start * n) (em : many ≡ store_region.words * n) (et : words ≡ strings_region.words * n)
         (store v : List ℕ) (same : length store ≡ length (take (from + many - from) (drop from w))) (is : v ≡ put_mid from (from + many - from) w store) (wide : n ≡ words_in b)
-        (ts : List (List ℕ)) (k : StringTable) where
-      own : (r : Result (Unit {0}) Refusal) → PiecesAdded b y (table_in words store) ts before_parts k r → PiecesAdded b (offsets_before o good) (table_in words store) ts before_parts k r
-      own r added = subst (λ (z : StrOffsets). PiecesAdded b z (table_in words store) ts before_parts k r) ey added
+        (ts : List (List ℕ)) (r : Added) (added : PiecesAdded b y (table_in words store) ts before_parts r) where
+      own : PiecesAdded b (offsets_before o good) (table_in words store) ts before_parts r
+      own = subst (λ (z : StrOffsets). PiecesAdded b z (table_in words store) ts before_parts r) ey added
 
-      pub parts_missing : (r : Refusal) → PiecesAdded b y (table_in words store) ts before_parts k (Err r) → (t : StringTable)
-          → StringsAre b v ts (pieces_of e str s ps >>= λ q. pass (used_in q)) (record { code = 9; strings = t })
+      pub parts_missing : r ≡ NoString → (t : StringTable) → StringsAre b v ts (pieces_of e str s ps >>= λ q. pass (used_in q)) (record { code = 9; strings = t })
       unfolding StringsAre
-      parts_missing r added t = rw (then_refuse (pieces_of e str s ps) (λ z. pass (used_in z)) 9 (judged.missing (number_of r) (own (Err r) added))) refl
+      parts_missing q t = rw (then_refuse (pieces_of e str s ps) (λ z. pass (used_in z)) 9 (judged.missing 9 (own.missing q))) refl
 
-      module _ (added : PiecesAdded b y (table_in words store) ts before_parts k (Ok tt)) where
+      module _ (k : StringTable) (q : r ≡ Table k) where
         pub parts_ill : good < o.offsets.size → (t : StringTable) → StringsAre b v ts (pieces_of e str s ps >>= λ z. pass (used_in z)) (record { code = 8; strings = t })
         unfolding StringsAre
         parts_ill h t =
-            let a = own (Ok tt) added in
+            let a = own.kept k q in
             rw (then_refuse (pieces_of e str s ps) (λ z. pass (used_in z)) 8 (judged.ill a.0 a.1 (some_bad h))) refl
 
         pub parts_put : o.offsets.size ≤ good → StringsAre b v ts (pieces_of e str s ps >>= λ z. pass (used_in z)) (record { code = 0; strings = k })
         unfolding StringsAre
         parts_put h =
-            let a = own (Ok tt) added in
+            let a = own.kept k q in
             let j = judged.all a.0 a.1 (all_good h) in
             rw (then_pass (pieces_of e str s ps) (λ z. pass (used_in z)) j.0 j.1)
             (refl, rw (← wide, store_left n from many words w room ef em et store v same is, j.2) a.2)

@@ -8,8 +8,8 @@ ghost use Rattle.package.specs.Input.{form_of};
 ghost use Rattle.filing.specs.Judged.{object_check, JudgedIs, index_check, JudgedIndexIs};
 
 use bundle::Scan;
-use bundle::encoding::ObjectEncoding;
-use index::reading::{IndexHead, IndexRead};
+use bundle::encoding::{ObjectEncoding, WordRead};
+use index::reading::{Index, IndexHead};
 use numbers::refusals::{BAD_ENCODING, BAD_INDEX, OTHER_ENCODING, SECTION_MISSING, WRONG_EDITION};
 use numbers::sections::CODES;
 use numbers::tables::{INDEX_2, INDEX_5};
@@ -49,7 +49,7 @@ pub struct JudgedIndex {
 pub fn judge_object(big: bool, first: u32, word: u32, scan: Scan) -> Judged
     ensures { (at : ℕ) (ps : List Part) → scan ≡ scan_of at ps → JudgedIs (object_check big first word ps) result }
 {
-    let Ok(encoding) = bundle::encoding::read_word(big, word) else {
+    let WordRead::Good(encoding) = bundle::encoding::read_word(big, word) else {
         let none = ObjectEncoding {
             big,
             five: false,
@@ -112,12 +112,13 @@ pub fn judge_index(
         };
     }
     let end = start + size;
-    let IndexRead::Good(head) = index::reading::read_index(e.big, &b[start..end]) else {
+    let Ok(index) = Index::read(e.big, &b[start..end]) else {
         return JudgedIndex {
             code: BAD_INDEX,
             index: Indexed::Nowhere,
         };
     };
+    let head = index.head();
     if head.version != version {
         return JudgedIndex {
             code: BAD_INDEX,

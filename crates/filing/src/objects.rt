@@ -21,7 +21,8 @@ use bundle::encoding::ObjectEncoding;
 use kept::state::InProgress;
 use numbers::refusals::{BAD_STR_OFFSETS, NO_STRING};
 use numbers::sections::{CU_INDEX, STR, STR_OFFSETS, TU_INDEX};
-use strings::table::{Place, StrOffsets, StringTable};
+use strings::entries::Entries;
+use strings::table::{Added, Place, StrOffsets, StringTable};
 
 // The strings of an object put: 0 or the refusal, and the table.
 #[derive(Clone, Copy)]
@@ -64,8 +65,10 @@ pub fn add_object_strings(
             strings: t,
         };
     }
-    let section = o.section(b);
-    let Ok(_) = section.check_entries() else {
+    let offsets = o.offsets;
+    let first = offsets.start;
+    let last = first + offsets.size;
+    let Entries::Count(_) = strings::entries::check_entries(o.encoding, &b[first..last]) else {
         return StringsFiled {
             code: BAD_STR_OFFSETS,
             strings: t,
@@ -76,8 +79,8 @@ pub fn add_object_strings(
     let store = kept::regions::store(n);
     let from = store.start;
     let to = from + store.size;
-    let mut more = t;
-    let Ok(()) = more.add_strings(o, b, &mut work[from..to], table.size) else {
+    let Added::Table(more) = strings::table::add_strings(o, b, &mut work[from..to], table.size, t)
+    else {
         return StringsFiled {
             code: NO_STRING,
             strings: t,

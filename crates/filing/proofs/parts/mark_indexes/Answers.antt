@@ -3,17 +3,17 @@
 use mathlib.Core.Path.{◌∙◌}
 use native.Mathlib.Omega.{arith}
 use Rattle.index.specs.Tiles.{named}
-use Rattle.strings.specs.Kept.{bytes_at}
+use Rattle.strings.specs.Kept.{Inside, bytes_at}
 use Rattle.filing.specs.Judged.{section_of}
 use Rattle.filing.proofs.Tiling.{both_first, both_second}
 use Rattle.filing.proofs.parts.mark_indexes.Goals as goal
 
 pub mark_index-requires : goal.mark_index-requires
-unfolding section_of bytes_at
+unfolding section_of bytes_at Inside
 mark_index-requires c = let p = c.requires in (p.0.within 13, p.1, (p.0.tu, p.0.tu_is))
 
 pub mark_index-requires-then-mark_index : goal.mark_index-requires-then-mark_index
-unfolding section_of bytes_at
+unfolding section_of bytes_at Inside
 mark_index-requires-then-mark_index c =
     let p = c.requires in
     (p.0.within 12, omega (arith, p.1, c.mark_index.auto.marks), (p.0.cu, p.0.cu_is))
