@@ -30,7 +30,7 @@ use Rattle.kept.proofs.RegionStores.{rows_within}
 use Rattle.package.specs.Input.{Input}
 use Rattle.package.specs.Filing.{index_by_place}
 use Rattle.filing.specs.declared.input.InputObject.{InputObject}
-use Rattle.filing.specs.declared.input.Indexed.TheVariants.{At, Nowhere}
+use Rattle.std.specs.Prelude.{Some, None}
 use Rattle.filing.specs.declared.units.HomeSection.{HomeSection}
 use Rattle.filing.specs.Judged.{section_of, IndexedIs, InputIs}
 use Rattle.filing.specs.State.{words_in}
@@ -41,19 +41,6 @@ use Rattle.filing.proofs.Entering.{five_is}
 use Rattle.kept.proofs.RegionLending.{lent_is, lent_length, lent_left}
 
 -- ---- the index that has them
-module _ (x : InputObject) (home : ℕ) where
-  pub by_place_five : x.encoding.five ≡ true → Nowhere ≡ indexed_by_place x home
-  unfolding indexed_by_place
-  by_place_five e = rw (indexed_by_place, e)
-
-  pub by_place_other : x.encoding.five ≡ false → (home ≡ 1 → ⊥) → Nowhere ≡ indexed_by_place x home
-  unfolding indexed_by_place
-  by_place_other e h = rw (indexed_by_place, e, ne_eqb home 1 h)
-
-  pub by_place_cu : x.encoding.five ≡ false → home ≡ 1 → x.cu ≡ indexed_by_place x home
-  unfolding indexed_by_place
-  by_place_cu e h = rw (indexed_by_place, e, eq-eqb home 1 h)
-
 pub by_place_is : (b : List ℕ) (x : InputObject) (i : Input) → InputIs b x i → (home : ℕ) → IndexedIs x.encoding.big (section_of b x 12) (indexed_by_place x home) (index_by_place i home)
 unfolding indexed_by_place index_by_place is_five IndexedIs section_of
 by_place_is b x i is home = go x.encoding.five refl (eqb home 1) refl
@@ -109,78 +96,69 @@ module _ (i : Index) (at size row : ℕ) (is : row ≡ row_told (the_one (naming
   row_counted : (row ≡ 0 → ⊥) → (0 < row) × (row ≤ i.units)
   row_counted z = one_counted row (row_one z)
 
--- ---- an index that is there; s is its section as code cuts it out
-module _ (b : List ℕ) (x : InputObject) (i : Input) (is : InputIs b x i) (limit : length b ≤ 4_194_304) (home : ℕ) (head : IndexHead) (e : At head ≡ indexed_by_place x home) where
-  abbrev pub cut : List ℕ
-  cut = take (get_or x.start 12 0 + get_or x.size 12 0 - get_or x.start 12 0) (drop (get_or x.start 12 0) b)
-
-  pub cut_section : cut ≡ section_of b x 12
-  unfolding section_of
-  cut_section = part_cut b (get_or x.start 12 0) (get_or x.size 12 0)
-
+-- ---- an index that is there
+module _ (b : List ℕ) (x : InputObject) (i : Input) (is : InputIs b x i) (limit : length b ≤ 4_194_304) (home : ℕ) (head : IndexHead) (e : Some head ≡ indexed_by_place x home) where
   read_well : ReadWell x.encoding.big (section_of b x 12) head
   read_well = (index_well x.encoding.big (section_of b x 12) (indexed_by_place x home) (index_by_place i home) (by_place_is b x i is home) head (sym e)).0
 
   pub index_there : index_by_place i home ≡ some (index_in x.encoding.big (section_of b x 12) head)
   index_there = (index_well x.encoding.big (section_of b x 12) (indexed_by_place x home) (index_by_place i home) (by_place_is b x i is home) head (sym e)).1
 
-  pub cut_sized : Sized cut head
-  cut_sized = record { is = ap length cut_section ∙ (well x.encoding.big (section_of b x 12) head read_well).sized }
+  pub index_sized : Sized (section_of b x 12) head
+  index_sized = record { is = (well x.encoding.big (section_of b x 12) head read_well).sized }
 
-  cut_length : length cut ≤ length b
+  index_length : length (section_of b x 12) ≤ length b
   unfolding section_of
-  cut_length = omega (arith, ap length cut_section ∙ length_part b (get_or x.start 12 0) (get_or x.size 12 0) (is.within 12), is.within 12)
+  index_length = omega (arith, length_part b (get_or x.start 12 0) (get_or x.size 12 0) (is.within 12), is.within 12)
 
   -- three words for each slot, and more slots than rows
   pub few_rows : 12 * head.units + 16 ≤ length b
-  few_rows = omega (arith, cut_sized.is, cut_length, (well x.encoding.big (section_of b x 12) head read_well).above)
+  few_rows = omega (arith, index_sized.is, index_length, (well x.encoding.big (section_of b x 12) head read_well).above)
 
-  pub row_within : (at size row : ℕ) → row ≡ row_told (the_one (naming (index_in x.encoding.big cut head) at size)) → (row ≡ 0 → ⊥) → (0 < row) × (row ≤ head.units)
+  pub row_within : (at size row : ℕ) → row ≡ row_told (the_one (naming (index_in x.encoding.big (section_of b x 12) head) at size)) → (row ≡ 0 → ⊥) → (0 < row) × (row ≤ head.units)
   row_within at size row t z =
-      let r = row_counted (index_in x.encoding.big cut head) at size row t z in
-      (r.0, omega (arith, r.1, units_are x.encoding.big cut head))
+      let r = row_counted (index_in x.encoding.big (section_of b x 12) head) at size row t z in
+      (r.0, omega (arith, r.1, units_are x.encoding.big (section_of b x 12) head))
 
 -- ---- their chains
-pub chained_nowhere : (b : List ℕ) (x : InputObject) (h : HomeSection) (w : List ℕ) → Nowhere ≡ indexed_by_place x h.home → RowsChained b x h w
+pub chained_nowhere : (b : List ℕ) (x : InputObject) (h : HomeSection) (w : List ℕ) → None ≡ indexed_by_place x h.home → RowsChained b x h w
 unfolding ChainsHeld
 chained_nowhere b x h w e = rw (← e) tt
 
-module _ {b : List ℕ} {x : InputObject} {h : HomeSection} {w : List ℕ} (p : ChainAsked b x h w) (head : IndexHead) (e : At head ≡ indexed_by_place x h.home)
+module _ {b : List ℕ} {x : InputObject} {h : HomeSection} {w : List ℕ} (p : ChainAsked b x h w) (head : IndexHead) (e : Some head ≡ indexed_by_place x h.home)
     (from many : ℕ) (ef : from ≡ rows_region.start * words_in b) (em : many ≡ rows_region.words * words_in b) where
   pub chain_asks : (heads : ℕ) → heads ≡ heads_for h
-      → Sized (cut b x p.input p.is p.work.limit h.home head e) head × (head.units < 2 ^ 32) × (heads + head.units ≤ length (take (from + many - from) (drop from w)))
+      → Sized (section_of b x 12) head × (head.units < 2 ^ 32) × (heads + head.units ≤ length (take (from + many - from) (drop from w)))
   unfolding heads_for
   chain_asks heads q =
       let few = few_rows b x p.input p.is p.work.limit h.home head e in (
-        cut_sized b x p.input p.is p.work.limit h.home head e,
+        index_sized b x p.input p.is p.work.limit h.home head e,
         omega (arith, few, p.work.limit),
         omega (arith, few, q, p.from, p.within, p.work.words, lent_length rows_region rows_within (words_in b) from many w p.work.room ef em),
       )
 
   pub chains_left : (heads : ℕ) → heads ≡ heads_for h → (words v : List ℕ) → length words ≡ length (take (from + many - from) (drop from w)) → v ≡ put_mid from (from + many - from) w words
-      → Chained (index_in x.encoding.big (cut b x p.input p.is p.work.limit h.home head e) head) info_code heads words → RowsChained b x h v
+      → Chained (index_in x.encoding.big (section_of b x 12) head) info_code heads words → RowsChained b x h v
   unfolding ChainsHeld
   chains_left heads q words v same is c =
       rw (← e)
       (subst (λ (l : List ℕ). Chained (index_in x.encoding.big (section_of b x 12) head) info_code (heads_for h) l) (sym (lent_left rows_region rows_within (words_in b) from many w p.work.room ef em words v same is))
-      (subst (λ (k : ℕ). Chained (index_in x.encoding.big (section_of b x 12) head) info_code k words) q
-      (subst (λ (l : List ℕ). Chained (index_in x.encoding.big l head) info_code heads words) (cut_section b x p.input p.is p.work.limit h.home head e) c)))
+      (subst (λ (k : ℕ). Chained (index_in x.encoding.big (section_of b x 12) head) info_code k words) q c))
 
 -- ---- a place in them
-module _ {b : List ℕ} {x : InputObject} {h : HomeSection} {at : ℕ} {w : List ℕ} (p : PlaceAsked b x h at w) (c : RowsChained b x h w) (head : IndexHead) (e : At head ≡ indexed_by_place x h.home)
+module _ {b : List ℕ} {x : InputObject} {h : HomeSection} {at : ℕ} {w : List ℕ} (p : PlaceAsked b x h at w) (c : RowsChained b x h w) (head : IndexHead) (e : Some head ≡ indexed_by_place x h.home)
     (from many : ℕ) (ef : from ≡ rows_region.start * words_in b) (em : many ≡ rows_region.words * words_in b) where
   chained_here : Chained (index_in x.encoding.big (section_of b x 12) head) info_code (heads_for h) (region w (words_in b) rows_region)
   unfolding ChainsHeld
   chained_here = rw (← e) at c
 
   pub row_asks : (heads : ℕ) → heads ≡ heads_for h
-      → Sized (cut b x p.input p.is p.work.limit h.home head e) head × ((at - h.start) / 4 < heads)
-      × Chained (index_in x.encoding.big (cut b x p.input p.is p.work.limit h.home head e) head) info_code heads (take (from + many - from) (drop from w))
+      → Sized (section_of b x 12) head × ((at - h.start) / 4 < heads)
+      × Chained (index_in x.encoding.big (section_of b x 12) head) info_code heads (take (from + many - from) (drop from w))
   unfolding heads_for
   row_asks heads q = (
-    cut_sized b x p.input p.is p.work.limit h.home head e,
+    index_sized b x p.input p.is p.work.limit h.home head e,
     omega (arith, q, p.from, p.low),
-    subst (λ (l : List ℕ). Chained (index_in x.encoding.big l head) info_code heads (take (from + many - from) (drop from w))) (sym (cut_section b x p.input p.is p.work.limit h.home head e))
-        (subst (λ (k : ℕ). Chained (index_in x.encoding.big (section_of b x 12) head) info_code k (take (from + many - from) (drop from w))) (sym q)
-        (subst (λ (l : List ℕ). Chained (index_in x.encoding.big (section_of b x 12) head) info_code (heads_for h) l) (sym (lent_is rows_region rows_within (words_in b) from many w p.work.room ef em)) chained_here)),
+    subst (λ (k : ℕ). Chained (index_in x.encoding.big (section_of b x 12) head) info_code k (take (from + many - from) (drop from w))) (sym q)
+        (subst (λ (l : List ℕ). Chained (index_in x.encoding.big (section_of b x 12) head) info_code (heads_for h) l) (sym (lent_is rows_region rows_within (words_in b) from many w p.work.room ef em)) chained_here),
   )

@@ -1,7 +1,9 @@
 -- Laws of filing: one unit more, the answers of filing it, and what the loops over units, sections and objects keep.
 -- Assumes nothing.
+pub mod Telling
 pub mod Counts
 pub mod Judging
+pub mod Numbers
 pub mod Contributing
 pub mod More
 pub mod Kept

@@ -1,26 +1,28 @@
 -- The strings of an object put into their store in work: nothing else changes, and the answers by the definition.
 -- Assumes nothing.
-use mathlib.Core.Path.{◌≡◌, refl, ap, ◌∙◌}
+use mathlib.Core.Path.{◌≡◌, refl, sym, ap, ◌∙◌}
 use mathlib.Core.Bool.{Bool, true}
 use mathlib.Core.List.{List, [], append-nil}
-use Rattle.std.specs.Prelude.{Ok, Err}
 use Prim.Native.Nat.{ℕ, ◌+◌, ◌*◌, ◌-◌, ◌<◌, ◌≤◌}
 use lib.Dec.{leb}
 use lib.ListN.{length, take, drop}
 use borrow.Rule.Slice.PartMut.{put_mid}
-use borrow.Author.Tests.{le-leb, lt-leb}
+use borrow.Author.Tests.{le-leb}
 use Rattle.octets.specs.Checked.{pass, refuse}
 use Rattle.octets.proofs.Checks.{then_pass, then_refuse}
+use Rattle.octets.proofs.Parts.{part_cut}
 use Rattle.bundle.specs.Encoding.{Encoding}
 use Rattle.strings.specs.Strings.{entries_in, entries_of, strings_at}
-use Rattle.strings.specs.Kept.{AddedIs, Inside}
+use Rattle.strings.specs.Answers.{entries_read}
+use Rattle.strings.specs.Kept.{AddedIs, Inside, bytes_at}
 use Rattle.strings.specs.Objects.{table_in}
+use Rattle.strings.specs.declared.entries.Entries.TheVariants.{Count, IllFormed}
+use Rattle.strings.specs.declared.table.Added.{Added}
+use Rattle.strings.specs.declared.table.Added.TheVariants.{Table, NoString}
 use Rattle.strings.specs.declared.table.Place.{Place}
 use Rattle.strings.specs.declared.table.StringTable.{StringTable}
-use Rattle.strings.proofs.Ends.{strings_at_refused}
-use Rattle.strings.proofs.StrOffsets.{entries_refused}
-use Rattle.numbers.specs.Refused.{number_of}
-use Rattle.numbers.specs.declared.refusals.Refusal.{Refusal}
+use Rattle.strings.specs.declared.entries.Entries.{Entries}
+use Rattle.strings.proofs.Callers.{entries_counted, entries_ill}
 use Rattle.numbers.specs.Limits.{work_for_word}
 use Rattle.kept.specs.Regions.{strings_region, store_region, region}
 use Rattle.kept.proofs.RegionStores.{store_records, store_slots}
@@ -28,6 +30,10 @@ use Rattle.kept.proofs.Storing.{store_left}
 use Rattle.filing.specs.State.{words_in}
 use Rattle.filing.proofs.Lending.{Beside}
 use Rattle.filing.specs.ByObject.{strings_check, StringsIn, StringsAre}
+use Rattle.std.specs.Prelude.{Ok, Err}
+use Rattle.numbers.specs.declared.refusals.Refusal.TheVariants as Refusal
+use Rattle.numbers.specs.declared.refusals.Refusal.TheVariants.{BadStrOffsets}
+use Rattle.filing.proofs.Telling.{tells_pass, tells_refuse}
 
 -- ---- what is filed stays
 pub store_beside : Beside store_region
@@ -44,33 +50,42 @@ module _ (n from many words : ℕ) (w : List ℕ) (room : work_for_word * n ≤ 
     region_part = store_left n from many words w room ef em et store v same is
 
     module _ (b : List ℕ) (wide : n ≡ words_in b) (e : Encoding) (there : Bool) (o s : List ℕ) (t : StringTable) (yes-there : there ≡ true) (counted : entries_of e o ≡ pass (entries_in e o))
-        (ts : List (List ℕ)) (k : StringTable) where
+        (ts : List (List ℕ)) (r : Added) (added : AddedIs b (table_in words store) ts (strings_at s (entries_in e o)) r) where
       all_is : strings_check e there o s ≡ strings_at s (entries_in e o)
       unfolding strings_check
       all_is = rw (strings_check, yes-there) (then_pass _ _ _ counted)
 
-      pub strings_put : AddedIs b (table_in words store) ts (strings_at s (entries_in e o)) k (Ok tt) → StringsAre b v ts (strings_check e there o s) (record { code = 0; strings = k })
-      unfolding StringsAre
-      strings_put a = rw (all_is ∙ a.1) (refl, rw (← wide, region_part) a.2)
+      pub strings_put : (k : StringTable) → r ≡ Table k → StringsAre b v ts k (strings_check e there o s) (Ok tt)
+      strings_put k q = let a = added.kept k q in tells_pass tt a.0 (all_is ∙ a.1) (rw (← wide, region_part) a.2)
 
-      pub strings_missing : (r : Refusal) → AddedIs b (table_in words store) ts (strings_at s (entries_in e o)) k (Err r)
-          → StringsAre b v ts (strings_check e there o s) (record { code = 9; strings = t })
-      unfolding StringsAre
-      strings_missing r q = rw (all_is ∙ q ∙ ap refuse (strings_at_refused s (entries_in e o) (number_of r) q)) refl
+      pub strings_missing : r ≡ NoString → StringsAre b v ts t (strings_check e there o s) (Err Refusal.NoString)
+      strings_missing q = tells_refuse Refusal.NoString (all_is ∙ added.missing q)
 
 module _ (b w : List ℕ) (ts : List (List ℕ)) (e : Encoding) (o s : List ℕ) (t : StringTable) where
-  pub strings_none : (count : ℕ) → count < 1 → StringsIn b w t ts → StringsAre b w ts (strings_check e (leb 1 count) o s) (record { code = 0; strings = t })
-  unfolding StringsAre strings_check
+  pub strings_none : (count : ℕ) → count ≡ 0 → StringsIn b w t ts → StringsAre b w ts t (strings_check e (leb 1 count) o s) (Ok tt)
+  unfolding strings_check
   strings_none count h k =
-      let z : strings_check e (leb 1 count) o s ≡ pass [] = rw (strings_check, lt-leb 1 count h) in
-      rw z (refl, rw (append-nil ts) k)
+      let z : strings_check e (leb 1 count) o s ≡ pass [] = rw (strings_check, h) in
+      tells_pass tt [] z (rw (append-nil ts) k)
 
-  pub strings_ill : (count : ℕ) → 1 ≤ count → (m : ℕ) → entries_of e o ≡ refuse m → StringsAre b w ts (strings_check e (leb 1 count) o s) (record { code = 8; strings = t })
-  unfolding StringsAre strings_check
-  strings_ill count h m q =
-      let z : strings_check e (leb 1 count) o s ≡ refuse 8 = rw (strings_check, le-leb 1 count h) (then_refuse _ _ 8 (q ∙ ap refuse (entries_refused e o m q))) in
-      rw z refl
+  pub strings_ill : (count : ℕ) → 1 ≤ count → IllFormed ≡ entries_read (entries_of e o) → StringsAre b w ts t (strings_check e (leb 1 count) o s) (Err BadStrOffsets)
+  unfolding strings_check
+  strings_ill count h q =
+      let z : strings_check e (leb 1 count) o s ≡ refuse 8 = rw (strings_check, le-leb 1 count h) (then_refuse _ _ 8 (entries_ill e o q)) in
+      tells_refuse BadStrOffsets z
 
 -- ---- a place of the bundle, as code cuts it out
 pub inside_is : (b : List ℕ) (p : Place) → Inside b p → p.start + p.size ≤ length b
+unfolding Inside
 inside_is b p h = h
+
+module _ (b : List ℕ) (p : Place) (e : Encoding) (r : Entries) (is : r ≡ entries_read (entries_of e (take (p.start + p.size - p.start) (drop p.start b)))) where
+  cut_read : r ≡ entries_read (entries_of e (bytes_at b p))
+  unfolding bytes_at
+  cut_read = is ∙ ap (λ (s : List ℕ). entries_read (entries_of e s)) (part_cut b p.start p.size)
+
+  pub cut_ill : r ≡ IllFormed → IllFormed ≡ entries_read (entries_of e (bytes_at b p))
+  cut_ill q = sym q ∙ cut_read
+
+  pub cut_counted : (k : ℕ) → r ≡ Count k → entries_of e (bytes_at b p) ≡ pass (entries_in e (bytes_at b p))
+  cut_counted k q = (entries_counted e (bytes_at b p) k (sym q ∙ cut_read)).1

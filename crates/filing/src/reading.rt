@@ -12,10 +12,9 @@ ghost use Rattle.filing.specs.State.{words_in, Remembered};
 ghost use Rattle.filing.specs.ByPlace.{
   WorkFor,
   indexed_by_place,
-  heads_for,
   RowsChained,
   AbbreviationsAre,
-  identified,
+  Identified,
 };
 ghost use Rattle.filing.specs.Asked.{
   ChainAsked,
@@ -25,83 +24,50 @@ ghost use Rattle.filing.specs.Asked.{
   Transient,
 };
 
-use crate::input::{Indexed, InputObject};
-use crate::units::HomeSection;
+use crate::input::InputObject;
+use crate::units::{HomeSection, ReadUnit};
 use bundle::encoding::ObjectEncoding;
 use index::cells::Cell;
 use index::reading::IndexHead;
-use leb128::Size;
-use numbers::refusals::{BAD_HEADER, BAD_ROW, NO_ROW};
+use numbers::refusals::Refusal;
 use numbers::sections::{ABBREV, CU_INDEX, INFO};
-use unit::header::{UnitAnswer, UnitPlace, UnitRead};
+use unit::header::UnitPlace;
 use unit::judged::Judged;
 
-// The bytes of the bundle in which a unit's abbreviation table is read: 0 and where they lie, or the refusal's number.
+// The bytes of the bundle in which a unit's abbreviation table is read: where they lie.
 #[derive(Clone, Copy)]
 pub struct Abbreviations {
-    pub code: u32,
     pub first: usize,
     pub last: usize,
 }
 
 // The index whose rows name the units of a section by their place: cu_index, for info of version 4.
-fn index_by_place(x: InputObject, home: usize) -> Indexed
-    ensures { result ≡ indexed_by_place x home }
+#[tactic(auto, using(std::proofs::lemmas::Bool::Decides::nat_tests), unfolding(crate::specs::ByPlace::indexed_by_place))]
+fn index_by_place(x: &InputObject, home: usize) -> Option<IndexHead>
+    ensures { result ≡ indexed_by_place x.now home }
 {
-    let e = x.encoding;
-    if e.five {
-        return Indexed::Nowhere;
+    if !x.encoding.five && home == INFO {
+        x.cu
+    } else {
+        None
     }
-    if home != INFO {
-        return Indexed::Nowhere;
-    }
-    let cu = x.cu;
-    cu
-}
-
-// A chain for each word of a section.
-fn heads_for(section: HomeSection) -> usize
-    requires { (section.start ≤ section.stop) × (section.stop < 2 ^ 32) }
-    ensures { result ≡ heads_for section }
-{
-    (section.stop - section.start + 3) / 4
 }
 
 // Chains the rows by the places that they name in a section, where its units are read by their place.
-pub fn chain_section(b: &[u8], x: InputObject, section: HomeSection, work: &mut [u32])
-    requires { ChainAsked b.now x section work.old }
-    ensures chained { RowsChained b.now x section work.new }
+pub fn chain_section(b: &[u8], x: &InputObject, section: HomeSection, work: &mut [u32])
+    requires { ChainAsked b.now x.now section work.old }
+    ensures chained { RowsChained b.now x.now section work.new }
     ensures frame { Only rows_region (words_in b.now) work.old work.new }
 {
-    let indexed = index_by_place(x, section.home);
-    let Indexed::At(head) = indexed else {
+    let Some(head) = index_by_place(x, section.home) else {
         return;
     };
-    let e = x.encoding;
-    let start = x.start[CU_INDEX];
-    let end = start + x.size[CU_INDEX];
-    let heads = heads_for(section);
+    let s = x.section(b, CU_INDEX);
+    let heads = section.heads();
     let region = kept::regions::rows_by_place(b.len() / 4);
     let from = region.start;
     let to = from + region.size;
-    places::by_place::chain_rows(
-        e.big,
-        &b[start..end],
-        head,
-        INFO,
-        heads,
-        &mut work[from..to],
-    );
-}
-
-fn refused(code: u32) -> Abbreviations
-    ensures { result.code ≡ code }
-{
-    Abbreviations {
-        code,
-        first: 0,
-        last: 0,
-    }
+    places::by_place::chain_rows(x.encoding.big, s, head, INFO, heads, &mut work[from..to]);
 }
 
 // The abbrev part of a row, of the object's abbrev that lies at start.
@@ -112,135 +78,109 @@ fn abbrev_part(
     row: usize,
     start: usize,
     size: usize,
-) -> Abbreviations
+) -> Result<Abbreviations, Refusal>
     requires { Sized s.now head × (0 < row) × (row ≤ head.units) × (start + size < 2 ^ 32) }
     ensures { (b : List ℕ) → start + size ≤ length b → AbbreviationsAre b (abbrev_part (index_in big s.now head) row (part b start size)) result }
 {
     if size == 0 {
-        return Abbreviations {
-            code: 0,
+        return Ok(Abbreviations {
             first: start,
             last: start,
-        };
+        });
     }
     let Cell::Is(o, z) = index::cells::cell_of(big, s, head, row, ABBREV) else {
-        return refused(NO_ROW);
+        return Err(Refusal::NoRow);
     };
-    if o > size {
-        return refused(BAD_ROW);
-    }
-    if z > size - o {
-        return refused(BAD_ROW);
+    if o > size || z > size - o {
+        return Err(Refusal::BadRow);
     }
     let first = start + o;
-    Abbreviations {
-        code: 0,
+    Ok(Abbreviations {
         first,
         last: first + z,
-    }
+    })
 }
 
 // The abbreviations of the unit of so many bytes at a place of a section: a row's part, where its units are read by their place, else the object's whole abbrev.
 fn abbreviations_for(
     b: &[u8],
-    x: InputObject,
+    x: &InputObject,
     section: HomeSection,
     at: usize,
     size: usize,
     work: &[u32],
-) -> Abbreviations
-    requires { PlaceAsked b.now x section at work.now × RowsChained b.now x section work.now }
-    ensures { AbbreviationsGiven b.now x section at size result }
+) -> Result<Abbreviations, Refusal>
+    requires { PlaceAsked b.now x.now section at work.now × RowsChained b.now x.now section work.now }
+    ensures { AbbreviationsGiven b.now x.now section at size result }
 {
     let start = x.start[ABBREV];
     let many = x.size[ABBREV];
-    let indexed = index_by_place(x, section.home);
-    let Indexed::At(head) = indexed else {
-        return Abbreviations {
-            code: 0,
+    let Some(head) = index_by_place(x, section.home) else {
+        return Ok(Abbreviations {
             first: start,
             last: start + many,
-        };
+        });
     };
-    let e = x.encoding;
-    let first = x.start[CU_INDEX];
-    let last = first + x.size[CU_INDEX];
-    let s = &b[first..last];
-    let heads = heads_for(section);
+    let big = x.encoding.big;
+    let s = x.section(b, CU_INDEX);
+    let heads = section.heads();
     let region = kept::regions::rows_by_place(b.len() / 4);
     let from = region.start;
     let to = from + region.size;
     let place = at - section.start;
-    let row = places::by_place::row_at(e.big, s, head, heads, &work[from..to], place, size);
+    let row = places::by_place::row_at(big, s, head, heads, &work[from..to], place, size);
     if row == 0 {
-        return refused(NO_ROW);
+        return Err(Refusal::NoRow);
     }
-    abbrev_part(e.big, s, head, row, start, many)
+    abbrev_part(big, s, head, row, start, many)
 }
 
-// The identity of a unit whose head was read. The tables that were judged are remembered in the region of codes.
+// The table and the identity of a unit whose head was read. The tables that were judged are remembered in the region of codes.
 fn identity_in(
     e: ObjectEncoding,
     home: u32,
     b: &[u8],
     place: UnitPlace,
-    judged: Judged,
+    judged: &mut Judged,
     work: &mut [u32],
-) -> UnitRead
-    requires { (common_size (encoding_is e) ≤ place.size) × Inside b.now place × WorkFor b.now work.old × Remembered b.now work.old judged }
-    ensures is { result.answer ≡ identified (encoding_is e) home b.now place }
-    ensures memory { Remembered b.now work.new result.judged }
+) -> Result<ReadUnit, Refusal>
+    requires { (common_size (encoding_is e) ≤ place.size) × Inside b.now place × WorkFor b.now work.old × Remembered b.now work.old judged.old }
+    ensures is { Identified (encoding_is e) home b.now place result }
+    ensures memory { Remembered b.now work.new judged.new }
     ensures frame { Only codes_region (words_in b.now) work.old work.new }
 {
     let region = kept::regions::codes(b.len() / 4);
     let from = region.start;
     let to = from + region.size;
-    let read = unit::header::unit_identity(e, home, b, place, &mut work[from..to], judged);
-    let answer = read.answer;
-    let memory = read.judged;
-    let whole = unit::header::with_size(place.size, answer);
-    UnitRead {
-        answer: whole,
-        judged: memory,
-    }
+    let read = unit::header::unit_identity(e, home, b, place, &mut work[from..to], judged)?;
+    Ok(ReadUnit {
+        size: place.size,
+        table: read.table as usize,
+        identity: read.identity,
+    })
 }
 
 // The unit at a place of a section: its head, its abbreviations, its identity.
 pub fn read_at(
     b: &[u8],
-    x: InputObject,
+    x: &InputObject,
     section: HomeSection,
     at: usize,
-    judged: Judged,
+    judged: &mut Judged,
     work: &mut [u32],
-) -> UnitRead
-    requires { PlaceAsked b.now x section at work.old × Transient b.now x section judged work.old }
-    ensures read { PlaceRead b.now x section at result }
-    ensures transient { Transient b.now x section result.judged work.new }
+) -> Result<ReadUnit, Refusal>
+    requires { PlaceAsked b.now x.now section at work.old × Transient b.now x.now section judged.old work.old }
+    ensures read { PlaceRead b.now x.now section at result }
+    ensures transient { Transient b.now x.now section judged.new work.new }
     ensures frame { Only codes_region (words_in b.now) work.old work.new }
 {
-    let e = x.encoding;
-    let stop = section.stop;
-    let Size::Is(size) = unit::header::unit_head(e, &b[at..stop]) else {
-        return UnitRead {
-            answer: UnitAnswer::Refused(BAD_HEADER),
-            judged,
-        };
-    };
-    let theirs = abbreviations_for(b, x, section, at, size, work);
-    let code = theirs.code;
-    if code != 0 {
-        return UnitRead {
-            answer: UnitAnswer::Refused(code),
-            judged,
-        };
-    }
+    let size = unit::header::unit_head(x.encoding, &b[at..section.stop])?;
+    let theirs = abbreviations_for(b, x, section, at, size, work)?;
     let place = UnitPlace {
         at,
         size,
         first: theirs.first,
         last: theirs.last,
     };
-    let home = octets::narrow(section.home);
-    identity_in(e, home, b, place, judged, work)
+    identity_in(x.encoding, section.home as u32, b, place, judged, work)
 }

@@ -9,7 +9,6 @@ ghost use Rattle.finish.specs.Joining.{sections_joined, Joinable, OffsetsJoinabl
 use bundle::Item;
 use bundle::encoding::ObjectEncoding;
 use numbers::sections::STR_OFFSETS;
-use strings::entries::Section;
 
 // Copies each object's first section of a code, where it has one. The caller has checked the words of the bundle, and has room for all.
 pub fn copy_sections(b: &[u8], code: usize, out: &mut [u8], at: usize)
@@ -19,7 +18,7 @@ pub fn copy_sections(b: &[u8], code: usize, out: &mut [u8], at: usize)
     let mut o = at;
     let mut place = 4;
     loop {
-        let Ok(Item::Object { next, .. }) = bundle::next_item(b, place) else {
+        let Item::Object(_, next) = bundle::next_item(b, place) else {
             return;
         };
         let scan = bundle::scan_object(b, next);
@@ -42,18 +41,14 @@ pub fn copy_str_offsets(e: ObjectEncoding, b: &[u8], table: &[u32], out: &mut [u
     let mut o = at;
     let mut place = 4;
     loop {
-        let Ok(Item::Object { next, .. }) = bundle::next_item(b, place) else {
+        let Item::Object(_, next) = bundle::next_item(b, place) else {
             return;
         };
         let scan = bundle::scan_object(b, next);
         let start = scan.start[STR_OFFSETS];
         let long = scan.size[STR_OFFSETS];
         let end = start + long;
-        let section = Section {
-            encoding: e,
-            bytes: &b[start..end],
-        };
-        let count = section.write_pieces(&table[first..], out, o);
+        let count = strings::pieces::write_pieces(e, &b[start..end], &table[first..], out, o);
         first += count;
         o += long;
         place = scan.next;

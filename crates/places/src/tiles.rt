@@ -20,7 +20,7 @@ use bundle::encoding::ObjectEncoding;
 use index::cells::Cell;
 use index::reading::IndexHead;
 use numbers::sections::STR_OFFSETS;
-use strings::entries::Section;
+use strings::entries::Entries;
 
 // Marks the part that a cell names, where it is not empty. False where it ends outside, or where a part of another size starts at its place.
 fn mark_part(marks: &mut [u32], cell: Cell) -> bool
@@ -113,11 +113,7 @@ pub fn good_parts(e: ObjectEncoding, s: &[u8], marks: &[u32]) -> usize
     let mut at = 0;
     while at < s.len() {
         let end = at + octets::word(marks, at);
-        let part = Section {
-            encoding: e,
-            bytes: &s[at..end],
-        };
-        let Ok(_) = part.check_entries() else {
+        let Entries::Count(_) = strings::entries::check_entries(e, &s[at..end]) else {
             return at;
         };
         at = end;

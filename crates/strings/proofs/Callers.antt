@@ -3,39 +3,31 @@
 use mathlib.Core.Path.{◌≡◌, refl, ap, ◌∙◌}
 use mathlib.Core.List.{List}
 use Prim.Native.Nat.{ℕ}
+use native.Mathlib.Omega.{arith}
 use lib.ListN.{length}
-use Rattle.octets.specs.Checked.{Check, pass, refuse, mapped}
+use Rattle.octets.specs.Checked.{Check, pass, refuse}
 use Rattle.bundle.specs.Encoding.{Encoding}
-use Rattle.bundle.specs.Encoded.{encoding_is}
-use Rattle.bundle.specs.declared.encoding.ObjectEncoding.{ObjectEncoding}
 use Rattle.strings.specs.Strings.{entries_in, entries_of}
-use Rattle.strings.specs.Kept.{bytes_at}
-use Rattle.strings.specs.Objects.{entries_at}
-use Rattle.strings.specs.declared.table.StrOffsets.{StrOffsets}
-use Rattle.strings.proofs.StrOffsets.{entries_whole, whole_entries}
+use Rattle.strings.specs.Answers.{entries_read}
+use Rattle.strings.specs.declared.entries.Entries.TheVariants.{Count, IllFormed}
+use Rattle.strings.proofs.StrOffsets.{entries_whole, whole_entries, entries_refused}
 
 -- what check_entries answers
-read_count : (n : ℕ) (m : Check (List ℕ)) → pass n ≡ mapped length m → (ns : List ℕ) × (m ≡ pass ns) × (n ≡ length ns)
-unfolding mapped
+read_count : (n : ℕ) (m : Check (List ℕ)) → Count n ≡ entries_read m → (ns : List ℕ) × (m ≡ pass ns) × (n ≡ length ns)
+unfolding entries_read
 read_count n (pass ns) e = (ns, refl, cc)
-read_count n (refuse k) e = cc
+read_count n (refuse k) e = absurd (let z : ◌≡◌ {A = ℕ} 0 1 = cc in omega arith)
 
-pub read_ill : (n : ℕ) (m : Check (List ℕ)) → refuse n ≡ mapped length m → m ≡ refuse n
-unfolding mapped
-read_ill n (pass ns) e = cc
-read_ill n (refuse k) e = cc
+pub read_ill : (m : Check (List ℕ)) → IllFormed ≡ entries_read m → (n : ℕ) × (m ≡ refuse n)
+unfolding entries_read
+read_ill (pass ns) e = absurd (let z : ◌≡◌ {A = ℕ} 0 1 = cc in omega arith)
+read_ill (refuse n) e = (n, refl)
 
-pub entries_counted : (e : Encoding) (s : List ℕ) (n : ℕ) → pass n ≡ mapped length (entries_of e s) → (n ≡ length (entries_in e s)) × (entries_of e s ≡ pass (entries_in e s))
+pub entries_counted : (e : Encoding) (s : List ℕ) (n : ℕ) → Count n ≡ entries_read (entries_of e s) → (n ≡ length (entries_in e s)) × (entries_of e s ≡ pass (entries_in e s))
 entries_counted e s n p =
     let r = read_count n (entries_of e s) p in
     let w = entries_whole e s r.0 r.1 in
     (r.2 ∙ ap length w.1, whole_entries e s w.0)
 
--- of an object's section, as StrOffsets cuts it out
-pub section_counted : (o : StrOffsets) (b : List ℕ) (e : ObjectEncoding) (s : List ℕ) → e ≡ o.encoding → s ≡ bytes_at b o.offsets
-    → (n : ℕ) → pass n ≡ mapped length (entries_of (encoding_is e) s) → (n ≡ length (entries_at o b)) × (entries_of (encoding_is o.encoding) (bytes_at b o.offsets) ≡ pass (entries_at o b))
-section_counted o b e s f g n p = entries_counted (encoding_is o.encoding) (bytes_at b o.offsets) n (rw (f, g) at p)
-
-pub section_ill : (o : StrOffsets) (b : List ℕ) (e : ObjectEncoding) (s : List ℕ) → e ≡ o.encoding → s ≡ bytes_at b o.offsets
-    → (n : ℕ) → refuse n ≡ mapped length (entries_of (encoding_is e) s) → entries_of (encoding_is o.encoding) (bytes_at b o.offsets) ≡ refuse n
-section_ill o b e s f g n p = read_ill n (entries_of (encoding_is o.encoding) (bytes_at b o.offsets)) (rw (f, g) at p)
+pub entries_ill : (e : Encoding) (s : List ℕ) → IllFormed ≡ entries_read (entries_of e s) → entries_of e s ≡ refuse 8
+entries_ill e s p = let r = read_ill (entries_of e s) p in r.1 ∙ ap refuse (entries_refused e s r.0 r.1)

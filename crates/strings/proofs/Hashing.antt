@@ -84,6 +84,6 @@ pub side_behind : (s : List ℕ) (step : ℕ) → length s ≤ step / 8 → 0 �
 unfolding side
 side_behind s step h = rw (get_or-eq_default s 0 h, zero-div)
 
-pub side_is : (s : List ℕ) (step byte : ℕ) → byte ≡ get_or s (step / 8) 0 → byte / 2 ^ (step % 8) % 2 ≡ side s step
+pub side_is : (s : List ℕ) (step byte k : ℕ) → byte ≡ get_or s (step / 8) 0 → k ≡ step % 8 → byte / 2 ^ k % 2 ≡ side s step
 unfolding side
-side_is s step byte e = rw e
+side_is s step byte k e f = rw (e, f)

@@ -14,9 +14,11 @@ use Rattle.octets.proofs.Parts.{part_add, part_is, part_none, length_part}
 use Rattle.bundle.specs.Encoding.{Encoding}
 use Rattle.bundle.specs.InitialLength.{length_field, length_stated}
 use Rattle.strings.specs.Strings.{header_size, entries_in, entries_of, strings_at}
-use Rattle.strings.specs.Kept.{bytes_at, Kept}
-use Rattle.strings.specs.Remembered.{Putting}
+use Rattle.strings.specs.Kept.{bytes_at, AddedIs}
+use Rattle.strings.specs.Objects.{table_in, PuttingIn, AllPut}
 use Rattle.strings.specs.Headed.{piece_size, Headed, strings_of_all}
+use Rattle.strings.specs.declared.table.Added.{Added}
+use Rattle.strings.specs.declared.table.Added.TheVariants.{Table, NoString}
 use Rattle.strings.specs.declared.table.Place.{Place}
 use Rattle.strings.specs.declared.table.StringTable.{StringTable}
 use Rattle.strings.proofs.StrOffsets.{Sound, entries_whole, header_within, entries_few}
@@ -162,14 +164,14 @@ module _ (e : Encoding) (str : List ℕ) where
   all_refused done p ps used n d q = all_behind done (p ∷ ps) used d ∙ then_refuse (strings_of_all e str (p ∷ ps)) _ n (then_refuse (strings_at str (entries_in e p)) _ n q)
 
 -- ---- putting them: those before a place are put behind the strings used before, those ahead are headed
-pub record PiecesPut (b : List ℕ) (e : Encoding) (strings : Place) (region memo : List ℕ) (t : StringTable) (ts ps : List (List ℕ)) (at end : ℕ) : Type 0 where
+pub record PiecesPut (b : List ℕ) (e : Encoding) (strings : Place) (words : ℕ) (store : List ℕ) (t : StringTable) (ts ps : List (List ℕ)) (at end : ℕ) : Type 0 where
   pub done : List (List ℕ)
   pub ahead : List (List ℕ)
   pub all : ps ≡ done ++ ahead
   pub headed : Headed e (part b at (end - at)) ahead
   pub used : List (List ℕ)
   pub are : strings_of_all e (bytes_at b strings) done ≡ pass used
-  pub putting : Putting b strings region memo t (ts ++ used)
+  pub putting : PuttingIn b strings words store t (ts ++ used)
 
 -- a section as the walk over it begins
 pub headed_cut : (e : Encoding) (b : List ℕ) (offsets : Place) (ps : List (List ℕ)) → Headed e (bytes_at b offsets) ps
@@ -179,55 +181,59 @@ headed_cut e b offsets ps h =
     let z : offsets.size ≡ offsets.start + offsets.size - offsets.start = omega arith in
     subst (λ (n : ℕ). Headed e (part b offsets.start n) ps) z h
 
-pub pieces_none : (b : List ℕ) (e : Encoding) (strings : Place) (region memo : List ℕ) (t : StringTable) (ts ps : List (List ℕ)) (at end : ℕ)
-    → Putting b strings region memo t ts → Headed e (part b at (end - at)) ps → PiecesPut b e strings region memo t ts ps at end
+pub pieces_none : (b : List ℕ) (e : Encoding) (strings : Place) (words : ℕ) (store : List ℕ) (t : StringTable) (ts ps : List (List ℕ)) (at end : ℕ)
+    → PuttingIn b strings words store t ts → Headed e (part b at (end - at)) ps → PiecesPut b e strings words store t ts ps at end
 unfolding strings_of_all
-pieces_none b e strings region memo t ts ps at end p h =
+pieces_none b e strings words store t ts ps at end p h =
     record { done = []; ahead = ps; all = refl; headed = h; used = []; are = refl; putting = rw (append-nil ts) p }
 
-module _ (b : List ℕ) (e : Encoding) (ok : Sound e) (strings : Place) (region memo : List ℕ) (t : StringTable) (ts ps : List (List ℕ)) (at end : ℕ) (inside : end ≤ length b)
-    (p : PiecesPut b e strings region memo t ts ps at end) where
+module _ (b : List ℕ) (e : Encoding) (ok : Sound e) (strings : Place) (words : ℕ) (store : List ℕ) (t : StringTable) (ts ps : List (List ℕ)) (at end : ℕ) (inside : end ≤ length b)
+    (p : PiecesPut b e strings words store t ts ps at end) where
   module _ (more : at < end) (size : ℕ) (q : size ≡ piece_size e (take (end - at) (drop at b))) where
     abbrev front : Front e (part b at (end - at)) p.ahead
     front = walk_front e ok b at end inside p.ahead p.headed more
 
-    abbrev piece : Place
-    piece = record { start = at; size = size }
-
-    own : bytes_at b piece ≡ front.piece
+    own : bytes_at b (record { start = at; size = size }) ≡ front.piece
     unfolding bytes_at
     own = walk_own e ok b at end inside p.ahead p.headed more size q
 
-    entries_own : strings_at (bytes_at b strings) (entries_in e front.piece) ≡ strings_at (bytes_at b strings) (entries_in e (bytes_at b piece))
+    entries_own : strings_at (bytes_at b strings) (entries_in e front.piece) ≡ strings_at (bytes_at b strings) (entries_in e (bytes_at b (record { start = at; size = size })))
     entries_own = ap (λ (l : List ℕ). strings_at (bytes_at b strings) (entries_in e l)) (sym own)
 
-    pub piece_few : 4 * length (entries_in e (bytes_at b piece)) ≤ size
+    pub piece_few : 4 * length (entries_in e (bytes_at b (record { start = at; size = size }))) ≤ size
     unfolding bytes_at
     piece_few = walk_few e ok b at end inside p.ahead p.headed more size q
 
     -- its strings are put
-    pub pieces_more : (x m : List ℕ) (u : StringTable) (us : List (List ℕ)) → strings_at (bytes_at b strings) (entries_in e (bytes_at b piece)) ≡ pass us → Putting b strings x m u ((ts ++ p.used) ++ us)
-        → PiecesPut b e strings x m u ts ps (at + size) end
-    pieces_more x m u us g put =
+    pub pieces_more : (x : List ℕ) (r : Added) (u : StringTable) → AllPut b strings (entries_in e (bytes_at b (record { start = at; size = size }))) words x t (ts ++ p.used) r → r ≡ Table u
+        → PiecesPut b e strings words x u ts ps (at + size) end
+    pieces_more x r u a y =
+        let g = a.put u y in
         record {
           done = p.done ++ (front.piece ∷ []);
           ahead = front.others;
           all = p.all ∙ ap (λ (l : List (List ℕ)). p.done ++ l) front.parts ∙ sym (append_assoc p.done (front.piece ∷ []) front.others);
           headed = walk_on e ok b at end inside p.ahead p.headed more size q;
-          used = p.used ++ us;
-          are = all_more e (bytes_at b strings) p.done front.piece p.used us p.are (entries_own ∙ g);
-          putting = rw append_assoc at put;
+          used = p.used ++ g.0;
+          are = all_more e (bytes_at b strings) p.done front.piece p.used g.0 p.are (entries_own ∙ g.1);
+          putting = rw append_assoc at g.2;
         }
 
     -- one is missing
-    pub pieces_missing : (n : ℕ) → strings_at (bytes_at b strings) (entries_in e (bytes_at b piece)) ≡ refuse n → strings_of_all e (bytes_at b strings) ps ≡ refuse n
-    pieces_missing n g =
-        ap (strings_of_all e (bytes_at b strings)) (p.all ∙ ap (λ (l : List (List ℕ)). p.done ++ l) front.parts)
-        ∙ all_refused e (bytes_at b strings) p.done front.piece front.others p.used n p.are (entries_own ∙ g)
+    pub pieces_missing : (x : List ℕ) (r : Added) → AllPut b strings (entries_in e (bytes_at b (record { start = at; size = size }))) words x t (ts ++ p.used) r → r ≡ NoString
+        → AddedIs b (table_in words x) ts (strings_of_all e (bytes_at b strings) ps) NoString
+    pieces_missing x r a y = record {
+      kept = λ u g. absurd (let z : ◌≡◌ {A = ℕ} 0 1 = cc in omega arith);
+      missing = λ _. ap (strings_of_all e (bytes_at b strings)) (p.all ∙ ap (λ (l : List (List ℕ)). p.done ++ l) front.parts)
+          ∙ all_refused e (bytes_at b strings) p.done front.piece front.others p.used 9 p.are (entries_own ∙ a.missing y);
+    }
 
   -- none is left
-  pub pieces_all : end ≤ at → (more : List (List ℕ)) × (strings_of_all e (bytes_at b strings) ps ≡ pass more) × Kept b region t (ts ++ more)
+  pub pieces_all : end ≤ at → AddedIs b (table_in words store) ts (strings_of_all e (bytes_at b strings) ps) (Table t)
   pieces_all h =
       let none : p.ahead ≡ [] = walk_end e ok b at end inside p.ahead p.headed h in
       let are : strings_of_all e (bytes_at b strings) ps ≡ pass p.used = ap (strings_of_all e (bytes_at b strings)) (p.all ∙ ap (λ (l : List (List ℕ)). p.done ++ l) none ∙ append-nil p.done) ∙ p.are in
-      (p.used, are, p.putting.kept)
+      record {
+        kept = λ u e2. (p.used, are, (let same : t ≡ u = cc in rw same at p.putting.kept));
+        missing = λ e2. absurd (let y : ◌≡◌ {A = ℕ} 0 1 = cc in omega arith);
+      }

@@ -4,6 +4,7 @@ use mathlib.Core.Path.{◌≡◌, refl, sym, ap, ◌∙◌}
 use mathlib.Core.Bool.{Bool, true, false, ◌&&◌, ◌||◌}
 use mathlib.Core.List.{List, ◌∷◌, ◌++◌}
 use Prim.Native.Nat.{ℕ, suc, ◌+◌, ◌*◌, ◌-◌, ◌/◌, ◌%◌, ◌<◌, ◌≤◌}
+use native.Mathlib.Nat.{zero-div}
 use native.Mathlib.Omega.{arith}
 use lib.Dec.{eqb, leb}
 use lib.ListN.{length, drop, get_or, length-drop}
@@ -11,7 +12,7 @@ use lib.Seq.{drop-cons, get_or-drop}
 use borrow.Author.Tests.{lt-leb, le-leb, eq-eqb, ne_eqb}
 use Rattle.octets.specs.Octets.{part, number_at}
 use Rattle.octets.specs.Lists.{FirstZero}
-use Rattle.octets.specs.Checked.{Check, pass, refuse, mapped}
+use Rattle.octets.specs.Checked.{Check, pass, refuse}
 use Rattle.octets.proofs.Checks.{not_left, not_right}
 use Rattle.octets.proofs.Parts.{length_part, get_d_part, drop_part}
 use Rattle.octets.proofs.Elements.{not_has}
@@ -20,8 +21,9 @@ use Rattle.bundle.specs.Encoded.{four, encoding_is}
 use Rattle.bundle.specs.InitialLength.{marked, length_field, length_stated}
 use Rattle.bundle.specs.declared.encoding.ObjectEncoding.{ObjectEncoding}
 use Rattle.strings.specs.Strings.{header_size, header_true, entries_in, entries_of, up_to_zero, string_at}
-use Rattle.strings.specs.Answers.{string_place}
-use Rattle.strings.specs.declared.table.Place.{Place}
+use Rattle.strings.specs.Answers.{entries_read, string_read}
+use Rattle.strings.specs.declared.entries.Entries.TheVariants.{Count, IllFormed}
+use Rattle.strings.specs.declared.entries.StringRead.TheVariants.{At, Missing}
 use Rattle.strings.proofs.Ends.{NoZero, up_to_ended, up_to_never, string_at_beyond}
 use Rattle.strings.proofs.StrOffsets.{true_five, header_five, header_four, whole_entries, entries_false, entries_odd, length_entries_in, Sound, entry_within, entries_in_at}
 
@@ -35,8 +37,8 @@ module _ (e : ObjectEncoding) where
   unfolding encoding_is four
   not_five h p = let q : ◌≡◌ {A = ℕ} 4 5 = sym (ap (λ (t : Bool). four t 5) h) ∙ p in omega arith
 
-  pub size_five : e.five ≡ true → 2 * (encoding_is e).width ≡ header_size (encoding_is e)
-  size_five h = sym (header_five (encoding_is e) (is_five_law h) ∙ omega arith)
+  pub size_five : e.five ≡ true → (encoding_is e).width + (encoding_is e).width ≡ header_size (encoding_is e)
+  size_five h = sym (header_five (encoding_is e) (is_five_law h))
 
   pub size_four : e.five ≡ false → 0 ≡ header_size (encoding_is e)
   size_four h = sym (header_four (encoding_is e) (not_five h))
@@ -65,25 +67,28 @@ module _ (e : ObjectEncoding) where
 
 -- ---- 8 as the code tests it
 module _ (e : Encoding) (s : List ℕ) where
-  pub ill_header : header_true e s ≡ false → refuse 8 ≡ mapped length (entries_of e s)
-  unfolding mapped
-  ill_header h = sym (ap (mapped length) (entries_false e s h))
+  pub ill_header : header_true e s ≡ false → IllFormed ≡ entries_read (entries_of e s)
+  unfolding entries_read
+  ill_header h = sym (ap entries_read (entries_false e s h))
 
   -- with the header's size and the width as the code has them
   module _ (h w : ℕ) (p : h ≡ header_size e) (q : w ≡ e.width) where
-    pub ill_rest : header_true e s ≡ true → ((length s - h) % w ≡ 0 → ⊥) → refuse 8 ≡ mapped length (entries_of e s)
-    unfolding mapped
-    ill_rest t g = sym (ap (mapped length) (entries_odd e s t (λ z. g (rw (p, q) z))))
+    pub ill_rest : header_true e s ≡ true → ((length s - h) % w ≡ 0 → ⊥) → IllFormed ≡ entries_read (entries_of e s)
+    unfolding entries_read
+    ill_rest t g = sym (ap entries_read (entries_odd e s t (λ z. g (rw (p, q) z))))
 
-    pub well_formed : header_true e s ≡ true → (length s - h) % w ≡ 0 → pass ((length s - h) / w) ≡ mapped length (entries_of e s)
-    unfolding mapped
+    pub well_formed : header_true e s ≡ true → (length s - h) % w ≡ 0 → Count ((length s - h) / w) ≡ entries_read (entries_of e s)
+    unfolding entries_read
     well_formed t g =
         rw (p, q)
-        (ap pass (sym (length_entries_in e s)) ∙ sym (ap (mapped length) (whole_entries e s (record { header = t; even = rw (p, q) at g }))))
+        (ap Count (sym (length_entries_in e s)) ∙ sym (ap entries_read (whole_entries e s (record { header = t; even = rw (p, q) at g }))))
 
     -- how many there are
     pub count_is : (length s - h) / w ≡ length (entries_in e s)
     count_is = rw (p, q) (sym (length_entries_in e s))
+
+    pub count_none : length s < h → 0 ≡ length (entries_in e s)
+    count_none l = let z : length s - h ≡ 0 = omega arith in sym (zero-div w) ∙ (rw z at count_is)
 
     -- where an entry ends
     pub entry_ends : (k : ℕ) → Sound e → k < length (entries_in e s) → h + w * k + w ≤ length s
@@ -93,13 +98,13 @@ module _ (e : Encoding) (s : List ℕ) where
     entry_is k n l g = g ∙ rw (p, q) (sym (entries_in_at e s k l))
 
 -- ---- a string up to the first zero byte
-pub read_beyond : (n : ℕ) (s : List ℕ) (offset : ℕ) → length s ≤ offset → refuse n ≡ mapped (string_place offset) (string_at n s offset)
-unfolding mapped
-read_beyond n s offset h = sym (ap (mapped (string_place offset)) (string_at_beyond n s offset h))
+pub read_beyond : (n : ℕ) (s : List ℕ) (offset : ℕ) → length s ≤ offset → Missing ≡ string_read offset (string_at n s offset)
+unfolding string_read
+read_beyond n s offset h = sym (ap (string_read offset) (string_at_beyond n s offset h))
 
-module _ (n : ℕ) (s : List ℕ) (start end : ℕ) (f : FirstZero s start end) where
-  pub read_found : end < length s → pass (record { start = start; size = end - start }) ≡ mapped (string_place start) (string_at n s start)
-  unfolding string_at mapped
+module _ (n : ℕ) (s : List ℕ) (start offset end : ℕ) (e : start ≡ offset) (f : FirstZero s start end) where
+  pub read_found : end < length s → At start (end - start) ≡ string_read offset (string_at n s offset)
+  unfolding string_at string_read
   read_found h =
       let k = f.reached in
       let t = part s start (end - start) in
@@ -110,23 +115,40 @@ module _ (n : ℕ) (s : List ℕ) (start end : ℕ) (f : FirstZero s start end) 
       let parts : drop start s ≡ t ++ (0 ∷ drop (suc end) s) =
       drop_part s start (end - start) ∙ ap (λ (z : ℕ). t ++ drop z s) behind ∙ ap (λ (z : List ℕ). t ++ z) (drop-cons s end 0 h)
       ∙ ap (λ (z : ℕ). t ++ (z ∷ drop (suc end) s)) (f.found h) in
-      let place : ℕ → Place = λ (z : ℕ). record { start = start; size = z } in
-      sym (ap (mapped (string_place start)) (ap (up_to_zero n) parts ∙ up_to_ended n t (drop (suc end) s) clean) ∙ ap (λ (z : ℕ). pass (place z)) l)
+      rw (← e) (sym (ap (string_read start) (ap (up_to_zero n) parts ∙ up_to_ended n t (drop (suc end) s) clean) ∙ ap (At start) l))
 
-  pub read_none : length s ≤ end → refuse n ≡ mapped (string_place start) (string_at n s start)
-  unfolding string_at mapped
+  pub read_none : length s ≤ end → Missing ≡ string_read offset (string_at n s offset)
+  unfolding string_at string_read
   read_none h =
       let clean : NoZero (drop start s) =
       not_has (drop start s) 0 (λ i g z. f.before (start + i) (omega arith) (omega (arith, length-drop start s)) (sym (get_or-drop start s i 0) ∙ z)) in
-      sym (ap (mapped (string_place start)) (up_to_never n (drop start s) clean))
+      rw (← e) (sym (ap (string_read start) (up_to_never n (drop start s) clean)))
 
--- ---- what callers read from it
-pub place_found : (p : Place) (at : ℕ) (m : Check (List ℕ)) → pass p ≡ mapped (string_place at) m → (t : List ℕ) × (m ≡ pass t) × (p.start ≡ at) × (p.size ≡ length t)
-unfolding mapped
-place_found p at (pass t) e = let q : p ≡ string_place at t = cc in (t, refl, ap (λ (z : Place). z.start) q, ap (λ (z : Place). z.size) q)
-place_found p at (refuse k) e = cc
+-- ---- the string of an entry, by its place in the bundle
+-- what was read in a part that starts at base
+pub moved : (base start size : ℕ) (m : Check (List ℕ)) → At start size ≡ string_read start m → At (base + start) size ≡ string_read (base + start) m
+unfolding string_read
+moved base start size (pass t) e = let n : size ≡ length t = cc in ap (At (base + start)) n
+moved base start size (refuse n) e = absurd (let z : ◌≡◌ {A = ℕ} 0 1 = cc in omega arith)
 
-pub place_missing : (n at : ℕ) (m : Check (List ℕ)) → refuse n ≡ mapped (string_place at) m → m ≡ refuse n
-unfolding mapped
-place_missing n at (pass t) e = cc
-place_missing n at (refuse k) e = cc
+-- where it starts is the offset
+pub starts_at : (start size offset : ℕ) (m : Check (List ℕ)) → At start size ≡ string_read offset m → start ≡ offset
+unfolding string_read
+starts_at start size offset (pass t) e = cc
+starts_at start size offset (refuse n) e = absurd (let z : ◌≡◌ {A = ℕ} 0 1 = cc in omega arith)
+
+pub read_missing : (start : ℕ) (m : Check (List ℕ)) → Missing ≡ string_read start m → (n : ℕ) × (m ≡ refuse n)
+unfolding string_read
+read_missing start (pass t) e = absurd (let z : ◌≡◌ {A = ℕ} 0 1 = cc in omega arith)
+read_missing start (refuse n) e = (n, refl)
+
+pub read_string : (at size start : ℕ) (m : Check (List ℕ)) → At at size ≡ string_read start m → (t : List ℕ) × (m ≡ pass t) × (at ≡ start) × (size ≡ length t)
+unfolding string_read
+read_string at size start (pass t) e = (t, refl, cc, cc)
+read_string at size start (refuse n) e = absurd (let z : ◌≡◌ {A = ℕ} 0 1 = cc in omega arith)
+
+-- a missing string is missing wherever its part starts
+pub missing_moved : (start other : ℕ) (m : Check (List ℕ)) → Missing ≡ string_read start m → Missing ≡ string_read other m
+unfolding string_read
+missing_moved start other (pass t) e = absurd (let z : ◌≡◌ {A = ℕ} 0 1 = cc in omega arith)
+missing_moved start other (refuse n) e = refl

@@ -1,41 +1,42 @@
 -- The region that holds the table of kept strings: a search of it, one row more with its number in the index, and one place more.
 -- Assumes nothing.
-use mathlib.Core.Path.{◌≡◌, refl, sym, ap, ◌∙◌}
+use mathlib.Core.Path.{◌≡◌, refl, sym, ap, ap₂, ◌∙◌}
 use mathlib.Core.Logic.{◌⊎◌, inl, inr, ⊎_elim}
 use mathlib.Core.Bool.{Bool, true, false}
 use mathlib.Core.List.{List, [], ◌∷◌, ◌++◌}
 use Prim.Native.Nat.{ℕ, zero, suc, ◌+◌, ◌*◌, ◌-◌, ◌/◌, ◌<◌, ◌≤◌}
 use native.Mathlib.Decide.{dec_le}
 use native.Mathlib.Omega.{arith}
-use Rattle.std.specs.Prelude.{Ok, Err}
-use lib.ListN.{length, get_or, length-append, get_or-append}
+use lib.ListN.{length, take, drop, get_or, length-append, get_or-append}
 use lib.Seq.{take-append-le, get_or_at, take_at}
 use Rattle.octets.specs.Octets.{part, placed}
 use Rattle.octets.specs.Lists.{same}
+use Rattle.octets.proofs.Parts.{part_cut, length_part}
 use Rattle.octets.proofs.Lists.{same_eq, same_refl, ne_same}
 use Rattle.octets.proofs.Elements.{any_at}
 use Rattle.octets.proofs.Placed.{length_placed}
 use Rattle.octets.proofs.Regions.{get_d_placed, get_d_before, get_d_behind, part_before, part_behind}
 use Rattle.strings.specs.Strings.{str_of, offset_in}
 use Rattle.strings.specs.Indexed.{room_of, side, link_of, Distinct, EndsFree, SoughtIs}
-use Rattle.strings.specs.Kept.{bytes_at, Inside, row_place, RowHeld, Held, row_added, places_from, places_in}
-use Rattle.strings.specs.declared.table.Place.{Place}
+use Rattle.strings.specs.Kept.{RowHeld, Held, row_added, places_from, places_in}
+use Rattle.strings.specs.declared.seek.Sought.{Sought}
+use Rattle.strings.specs.declared.seek.Sought.TheVariants.{Row, Free}
 use Rattle.strings.specs.declared.table.StringTable.{StringTable}
 use Rattle.strings.proofs.FirstUses.{is_in, distinct_snoc}
 use Rattle.strings.proofs.Offsets.{row_offset}
-use Rattle.strings.proofs.Places.{length_bytes_at}
 use Rattle.strings.proofs.Indexing.{Stands, Passing, indexed_none, indexed_same, number_among, comes_inside, passing_more, passing_stands, passing_rises, passing_free, walk_stands, indexed_more}
 
 -- ---- a search
 -- what the row where it ended says of the string
-module _ (b region : List ℕ) (n : ℕ) (table : List (List ℕ)) (k : Held b region n table) (s : List ℕ) (i : ℕ) (f : SoughtIs region n table s (Ok i)) where
-  pub sought_known : is_in table s ≡ true
-  sought_known = any_at (same s) [] table i (omega (arith, k.count, f.0)) (rw f.1 (same_refl s))
+module _ (b region : List ℕ) (n : ℕ) (table : List (List ℕ)) (k : Held b region n table) (s : List ℕ) (r : Sought) (f : SoughtIs region n table s r) where
+  pub sought_known : (i : ℕ) → r ≡ Row i → is_in table s ≡ true
+  sought_known i e = let p = f.row i e in any_at (same s) [] table i (omega (arith, k.count, p.0)) (rw p.1 (same_refl s))
 
-  pub sought_place : get_or region (3 * i + 2) 0 ≡ offset_in table s
-  sought_place =
-      let h : i < length table = omega (arith, k.count, f.0) in
-      (k.rows i f.0).place ∙ sym (row_offset table i k.distinct h) ∙ ap (offset_in table) f.1
+  pub sought_place : (i o : ℕ) → r ≡ Row i → o ≡ get_or region (3 * i + 2) 0 → o ≡ offset_in table s
+  sought_place i o e q =
+      let p = f.row i e in
+      let h : i < length table = omega (arith, k.count, p.0) in
+      q ∙ (k.rows i p.0).place ∙ sym (row_offset table i k.distinct h) ∙ ap (offset_in table) p.1
 
 -- turns of the search: at a word that is free, at one that holds the string's number, and at another's
 module _ (b region : List ℕ) (n : ℕ) (table : List (List ℕ)) (k : Held b region n table) (s : List ℕ) (steps at : ℕ) (p : Passing (room_of region) region table s steps at) where
@@ -45,10 +46,15 @@ module _ (b region : List ℕ) (n : ℕ) (table : List (List ℕ)) (k : Held b r
       omega (arith, comes_inside (room_of region) region n table k.index s some k.room steps p.walk.used, p.walk.is)
 
   module _ (number : ℕ) (e : number ≡ get_or region at 0) where
-    pub ends_free : number ≡ 0 → SoughtIs region n table s (Err at)
+    pub ends_free : number ≡ 0 → SoughtIs region n table s (Free at)
     ends_free z =
         let free = sym e ∙ z in
-        record { new = passing_free (room_of region) region table s steps at p n k.index k.count free; steps = steps; walk = p.walk; zero = free }
+        record {
+          row = λ i e. absurd (let q : ◌≡◌ {A = ℕ} 0 1 = cc in omega arith);
+          free = λ o e.
+              let q : at ≡ o = cc in
+              rw (← q) record { new = passing_free (room_of region) region table s steps at p n k.index k.count free; steps = steps; walk = p.walk; zero = free };
+        }
 
     module _ (used : number ≡ 0 → ⊥) where
       -- there are no more steps than rows
@@ -59,12 +65,17 @@ module _ (b region : List ℕ) (n : ℕ) (table : List (List ℕ)) (k : Held b r
       pub row_inside : number - 1 < n
       row_inside = omega (arith, few_steps.1)
 
-      module _ (r : Bool) (q : r ≡ same s (bytes_at b (row_place region (number - 1)))) where
+      module _ (r : Bool) (q : r ≡ same s (part b (get_or region (3 * (number - 1)) 0) (get_or region (3 * (number - 1) + 1) 0))) where
         row_is : r ≡ same s (get_or table (number - 1) [])
         row_is = q ∙ ap (same s) (k.rows (number - 1) row_inside).bytes
 
-        pub ends_row : r ≡ true → SoughtIs region n table s (Ok (number - 1))
-        ends_row t = (row_inside, sym (same_eq s (get_or table (number - 1) []) (sym row_is ∙ t)))
+        pub ends_row : r ≡ true → SoughtIs region n table s (Row (number - 1))
+        ends_row t =
+            let f : get_or table (number - 1) [] ≡ s = sym (same_eq s (get_or table (number - 1) []) (sym row_is ∙ t)) in
+            record {
+              row = λ o g. (let m : number - 1 ≡ o = cc in rw (← m) (row_inside, f));
+              free = λ o g. absurd (let z : ◌≡◌ {A = ℕ} 0 1 = cc in omega arith);
+            }
 
         pub goes_on : r ≡ false → (next : ℕ) → next ≡ link_of (room_of region) number (side s steps) → Passing (room_of region) region table s (steps + 1) next
         goes_on t next l =
@@ -76,12 +87,17 @@ module _ (b region : List ℕ) (n : ℕ) (table : List (List ℕ)) (k : Held b r
   unfolding room_of
   row_room = omega (arith, k.room)
 
-  pub row_fits : Inside b (row_place region i)
+  pub row_fits : get_or region (3 * i) 0 + get_or region (3 * i + 1) 0 ≤ length b
   row_fits = (k.rows i h).fits
 
--- parts of other lengths differ
-pub other_row : (b s : List ℕ) (p : Place) → Inside b p → (p.size ≡ length s → ⊥) → false ≡ same s (bytes_at b p)
-other_row b s p h d = sym (ne_same s (bytes_at b p) (λ e. d (sym (length_bytes_at b p h) ∙ ap length (sym e))))
+-- two parts compared, by the words that the code read: parts of other lengths differ
+pub other_rows : (b : List ℕ) (start size at n p q : ℕ) → at ≡ p → n ≡ q → start + size ≤ length b → p + q ≤ length b → (n ≡ size → ⊥) → false ≡ same (part b start size) (part b p q)
+other_rows b start size at n p q f g h l d =
+    sym (ne_same (part b start size) (part b p q) (λ e. d (g ∙ sym (length_part b p q l) ∙ ap length (sym e) ∙ length_part b start size h)))
+
+pub same_rows : (b : List ℕ) (start size at n p q : ℕ) → at ≡ p → n ≡ q → (r : Bool) → r ≡ same (take (start + size - start) (drop start b)) (take (at + n - at) (drop at b))
+    → r ≡ same (part b start size) (part b p q)
+same_rows b start size at n p q f g r e = e ∙ ap₂ same (part_cut b start size) (part_cut b at n ∙ ap₂ (part b) f g)
 
 -- ---- one row more
 pub held_none : (b region : List ℕ) → ((j : ℕ) → 6 * room_of region ≤ j → get_or region j 0 ≡ 0) → Held b region 0 []
@@ -114,13 +130,13 @@ unfolding Stands
 stands_apart room n j h p = ⊎_elim (λ r. (omega arith, inr r)) (λ l. (omega (arith, l.is), inl (omega (arith, l.is, l.within, l.two)))) p
 
 -- a row behind the others, and its number in the free word where the search for it ended
-module _ (b region : List ℕ) (t : StringTable) (table : List (List ℕ)) (k : Held b region t.count table) (p : Place) (slot : ℕ) (more : t.count < room_of region) (fits : Inside b p)
-    (at_end : t.size ≡ length (str_of table)) (free : EndsFree region table (bytes_at b p) slot) where
+module _ (b region : List ℕ) (t : StringTable) (table : List (List ℕ)) (k : Held b region t.count table) (start size slot : ℕ) (more : t.count < room_of region) (fits : start + size ≤ length b)
+    (at_end : t.size ≡ length (str_of table)) (free : EndsFree region table (part b start size) slot) where
   row : List ℕ
-  row = p.start ∷ p.size ∷ t.size ∷ []
+  row = start ∷ size ∷ t.size ∷ []
 
   new : List (List ℕ)
-  new = table ++ (bytes_at b p ∷ [])
+  new = table ++ (part b start size ∷ [])
 
   words : List ℕ
   words = placed region (3 * t.count) row
@@ -136,10 +152,10 @@ module _ (b region : List ℕ) (t : StringTable) (table : List (List ℕ)) (k : 
   enough = omega arith
 
   slot_within : slot < length region
-  slot_within = slot_inside b region t.count table k (bytes_at b p) slot (omega (arith, more)) free
+  slot_within = slot_inside b region t.count table k (part b start size) slot (omega (arith, more)) free
 
   slot_stands : Stands (room_of region) t.count slot
-  slot_stands = walk_stands (room_of region) region t.count table (bytes_at b p) k.index free.steps slot free.walk
+  slot_stands = walk_stands (room_of region) region t.count table (part b start size) k.index free.steps slot free.walk
 
   slot_apart : (3 * room_of region ≤ slot) × ((slot < 3 * room_of region + 2 * t.count) ⊎ (6 * room_of region ≤ slot))
   slot_apart = stands_apart (room_of region) t.count slot k.room slot_stands
@@ -209,8 +225,8 @@ module _ (b region : List ℕ) (t : StringTable) (table : List (List ℕ)) (k : 
       let l : i < length table = omega (arith, k.count) in
       record {
         fits = rw (e₀, e₁) r.fits;
-        bytes = rw (e₀, e₁) (r.bytes ∙ sym (get_or-append table (bytes_at b p ∷ []) [] i l));
-        place = rw e₂ (r.place ∙ ap (λ (z : List (List ℕ)). length (str_of z)) (sym (take-append-le i table (bytes_at b p ∷ []) (omega arith))));
+        bytes = rw (e₀, e₁) (r.bytes ∙ sym (get_or-append table (part b start size ∷ []) [] i l));
+        place = rw e₂ (r.place ∙ ap (λ (z : List (List ℕ)). length (str_of z)) (sym (take-append-le i table (part b start size ∷ []) (omega arith))));
       }
 
   new_row : RowHeld b stored new t.count
@@ -218,30 +234,30 @@ module _ (b region : List ℕ) (t : StringTable) (table : List (List ℕ)) (k : 
   new_row =
       let e : (j : ℕ) → j < 3 → get_or stored (3 * t.count + j) 0 ≡ get_or row j 0 =
       (λ j g. in_row (3 * t.count + j) (omega (arith, more)) ∙ get_d_placed region (3 * t.count) row j g (omega (arith, more, enough))) in
-      let e₀ : get_or stored (3 * t.count) 0 ≡ p.start = ap (λ (j : ℕ). get_or stored j 0) (omega arith) ∙ e 0 (omega arith) in
-      let e₁ : get_or stored (3 * t.count + 1) 0 ≡ p.size = e 1 (omega arith) in
+      let e₀ : get_or stored (3 * t.count) 0 ≡ start = ap (λ (j : ℕ). get_or stored j 0) (omega arith) ∙ e 0 (omega arith) in
+      let e₁ : get_or stored (3 * t.count + 1) 0 ≡ size = e 1 (omega arith) in
       let e₂ : get_or stored (3 * t.count + 2) 0 ≡ t.size = e 2 (omega arith) in
       record {
         fits = rw (e₀, e₁) fits;
-        bytes = rw (e₀, e₁) (sym (get_or_at table (bytes_at b p) [] [] t.count (sym k.count)));
-        place = e₂ ∙ at_end ∙ ap (λ (z : List (List ℕ)). length (str_of z)) (sym (take_at table (bytes_at b p ∷ []) t.count (sym k.count)));
+        bytes = rw (e₀, e₁) (sym (get_or_at table (part b start size) [] [] t.count (sym k.count)));
+        place = e₂ ∙ at_end ∙ ap (λ (z : List (List ℕ)). length (str_of z)) (sym (take_at table (part b start size ∷ []) t.count (sym k.count)));
       }
 
-  pub held_more : Held b (row_added region slot t p) (t.count + 1) (table ++ (bytes_at b p ∷ []))
+  pub held_more : Held b (row_added region slot t start size) (t.count + 1) (table ++ (part b start size ∷ []))
   unfolding row_added new words row linked stored
   held_more =
       record {
         count = simp length-append (omega (arith, k.count));
         room = rw same_room (omega (arith, more));
         rows = λ i h. elim (dec_le (suc i) t.count) [ yes p ↦ old_row i p | no p ↦ (let e : i ≡ t.count = omega arith in rw e new_row) ];
-        distinct = distinct_snoc table (bytes_at b p) k.distinct free.new;
+        distinct = distinct_snoc table (part b start size) k.distinct free.new;
         index =
             rw same_room
-            (indexed_more (room_of region) region t.count table (bytes_at b p) k.index free.steps slot free.walk k.count free.zero stored old_word new_number new_links);
+            (indexed_more (room_of region) region t.count table (part b start size) k.index free.steps slot free.walk k.count free.zero stored old_word new_number new_links);
       }
 
   -- the places of entries stay
-  pub row_places : (m : ℕ) → m ≤ room_of region → places_in (row_added region slot t p) m ≡ places_in region m
+  pub row_places : (m : ℕ) → m ≤ room_of region → places_in (row_added region slot t start size) m ≡ places_in region m
   unfolding row_added words row linked stored places_in places_from room_of
   row_places m h =
       let from = 5 * (length region / 7) in

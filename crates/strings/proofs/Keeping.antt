@@ -10,18 +10,17 @@ use borrow.Author.Tests.{ltb-true, ltb-false, lt-ltb, le-ltb}
 use Rattle.octets.specs.Octets.{part, placed, zeros}
 use Rattle.octets.proofs.Checks.{true_false}
 use Rattle.octets.proofs.Joined.{map-append}
-use Rattle.octets.proofs.Parts.{part_none, part_add}
+use Rattle.octets.proofs.Parts.{length_part, part_none, part_add}
 use Rattle.octets.proofs.Placed.{get_d_zeros, length_placed, placed_placed}
 use Rattle.octets.proofs.Regions.{part_before, part_placed}
 use Rattle.strings.specs.Strings.{put, put_all, first_uses, str_of, offset_in}
 use Rattle.strings.specs.Indexed.{room_of}
-use Rattle.strings.specs.Kept.{none, bytes_at, Inside, Held, Kept, places_from, places_in, places_of, with_entry, row_added, NewAt, PutIs}
+use Rattle.strings.specs.Kept.{none, Held, Kept, places_from, places_in, places_of, with_entry, row_added, NewAt, PutIs}
 use Rattle.strings.specs.Objects.{Roomy}
-use Rattle.strings.specs.declared.table.Place.{Place}
+use Rattle.strings.specs.declared.table.Put.{Put}
 use Rattle.strings.specs.declared.table.StringTable.{StringTable}
 use Rattle.strings.proofs.FirstUses.{is_in, put_known, put_new, length_first_uses, first_uses_snoc, used_in_law}
 use Rattle.strings.proofs.Offsets.{str_of_none, length_str_of_snoc, put_longer, str_of_counts, offset_le, offset_absent, offset_put, offsets_keep}
-use Rattle.strings.proofs.Places.{length_bytes_at}
 use Rattle.strings.proofs.Holding.{held_none, held_more, held_noted, row_places, slot_inside}
 
 -- ---- places of entries
@@ -68,19 +67,19 @@ pub kept_cleared : (b region : List ℕ) → region ≡ zeros (length region) �
 kept_cleared b region e = kept_none b region (λ j _. ap (λ (z : List ℕ). get_or z j 0) e ∙ get_d_zeros (length region) j)
 
 -- a row as the code stores it, word by word
-pub row_stored : (region r l m x : List ℕ) (slot links : ℕ) (t : StringTable) (p : Place) → t.count < room_of region → links ≡ 3 * room_of region + 2 * t.count
-    → r ≡ placed region (3 * t.count) (p.start ∷ p.size ∷ t.size ∷ []) → l ≡ placed r links (0 ∷ []) → m ≡ placed l (links + 1) (0 ∷ []) → x ≡ placed m slot ((t.count + 1) ∷ [])
-    → x ≡ row_added region slot t p
+pub row_stored : (region r l m x : List ℕ) (slot links : ℕ) (t : StringTable) (start size : ℕ) → t.count < room_of region → links ≡ 3 * room_of region + 2 * t.count
+    → r ≡ placed region (3 * t.count) (start ∷ size ∷ t.size ∷ []) → l ≡ placed r links (0 ∷ []) → m ≡ placed l (links + 1) (0 ∷ []) → x ≡ placed m slot ((t.count + 1) ∷ [])
+    → x ≡ row_added region slot t start size
 unfolding row_added room_of
-row_stored region r l m x slot links t p h e er el em ex =
-    let long : length r ≡ length region = ap length er ∙ length_placed region (3 * t.count) (p.start ∷ p.size ∷ t.size ∷ []) (omega arith) in
+row_stored region r l m x slot links t start size h e er el em ex =
+    let long : length r ≡ length region = ap length er ∙ length_placed region (3 * t.count) (start ∷ size ∷ t.size ∷ []) (omega arith) in
     let two : m ≡ placed r links (0 ∷ 0 ∷ []) = em ∙ ap (λ (z : List ℕ). placed z (links + 1) (0 ∷ [])) el ∙ placed_placed r links (0 ∷ []) (0 ∷ []) (omega arith) in
     ex ∙ ap (λ (z : List ℕ). placed z slot ((t.count + 1) ∷ [])) (two ∙ ap₂ (λ (z : List ℕ) (n : ℕ). placed z n (0 ∷ 0 ∷ [])) er e)
 
 -- a string whose place is noted, in a region that holds the table with it
 put_noted : (b y x : List ℕ) (u r : StringTable) (used : List (List ℕ)) (s : List ℕ) (v : ℕ) → u.over ≡ false → u.entries ≡ length used → u.entries < room_of y
     → Held b y u.count (put (first_uses used) s) → u.size ≡ length (str_of (put (first_uses used) s)) → u.size ≤ 8388607 → places_in y (length used) ≡ places_of used
-    → v ≡ offset_in (first_uses used) s → r ≡ with_entry u → x ≡ placed y (places_from (length y) + u.entries) (v ∷ []) → PutIs b x used s r v
+    → v ≡ offset_in (first_uses used) s → r ≡ with_entry u → x ≡ placed y (places_from (length y) + u.entries) (v ∷ []) → PutIs b x used s (record { table = r; place = v })
 put_noted b y x u r used s v f n room k size low places o q e =
     let new = first_uses_snoc used s in
     let count : length (used ++ (s ∷ [])) ≡ length used + 1 = length-append used (s ∷ []) in
@@ -98,7 +97,7 @@ put_noted b y x u r used s v f n room k size low places o q e =
             entries = λ _. omega (arith, count);
             places = λ _. grown;
           };
-      stands = λ _. o ∙ sym (offset_put (first_uses used) s) ∙ ap (λ (z : List (List ℕ)). offset_in z s) (sym new);
+      place = λ _. o ∙ sym (offset_put (first_uses used) s) ∙ ap (λ (z : List (List ℕ)). offset_in z s) (sym new);
     }
 
 module _ (b region : List ℕ) (t : StringTable) (used : List (List ℕ)) (k : Kept b region t used) where
@@ -135,21 +134,22 @@ module _ (b region : List ℕ) (t : StringTable) (used : List (List ℕ)) (k : K
 
     -- a known string: its place is noted
     pub put_again : (x s : List ℕ) (v : ℕ) (r : StringTable) → is_in (first_uses used) s ≡ true → t.entries < room_of region → v ≡ offset_in (first_uses used) s
-        → r ≡ with_entry t → x ≡ placed region (places_from (length region) + t.entries) (v ∷ []) → PutIs b x used s r v
+        → r ≡ with_entry t → x ≡ placed region (places_from (length region) + t.entries) (v ∷ []) → PutIs b x used s (record { table = r; place = v })
     put_again x s v r e room o is q =
         let old = put_known (first_uses used) s e in
         put_noted b region x t r used s v f (k.entries f) room (rw old (k.held f)) (rw old (k.size f)) (kept_within f) (k.places f) o is q
 
-    module _ (p : Place) (slot : ℕ) (fits : Inside b p) (new : NewAt b p region used slot) where
-      longer : length (str_of (put (first_uses used) (bytes_at b p))) ≡ t.size + p.size + 1
+    module _ (start size slot : ℕ) (fits : start + size ≤ length b) (new : NewAt b start size region used slot) where
+      longer : length (str_of (put (first_uses used) (part b start size))) ≡ t.size + size + 1
       longer =
-          rw (put_new (first_uses used) (bytes_at b p) new.new)
-          (length_str_of_snoc (first_uses used) (bytes_at b p) ∙ omega (arith, k.size f, length_bytes_at b p fits))
+          rw (put_new (first_uses used) (part b start size) new.new)
+          (length_str_of_snoc (first_uses used) (part b start size) ∙ omega (arith, k.size f, length_part b start size fits))
 
       -- a new string that would end above the limit
-      pub put_passes : 8388607 - t.size ≤ p.size → PutIs b region used (bytes_at b p) (record { count = t.count; size = t.size; entries = t.entries; over = true }) 0
+      pub put_passes : 8388607 - t.size ≤ size
+          → PutIs b region used (part b start size) (record { table = record { count = t.count; size = t.size; entries = t.entries; over = true }; place = 0 })
       put_passes h =
-          let s = bytes_at b p in
+          let s = part b start size in
           record {
             kept =
                 record {
@@ -160,28 +160,28 @@ module _ (b region : List ℕ) (t : StringTable) (used : List (List ℕ)) (k : K
                   entries = λ g. absurd (true_false refl g);
                   places = λ g. absurd (true_false refl g);
                 };
-            stands = λ g. absurd (true_false refl g);
+            place = λ g. absurd (true_false refl g);
           }
 
       pub new_inside : t.entries < room_of region → slot < length region
-      new_inside room = slot_inside b region t.count (first_uses used) (k.held f) (bytes_at b p) slot (omega arith) new
+      new_inside room = slot_inside b region t.count (first_uses used) (k.held f) (part b start size) slot (omega arith) new
 
       -- a new string: its row behind the others, and its place
-      pub put_row : (y x : List ℕ) (r : StringTable) → p.size < 8388607 - t.size → t.entries < room_of region → y ≡ row_added region slot t p → length y ≡ length region
-          → r ≡ with_entry (record { count = t.count + 1; size = t.size + (p.size + 1); entries = t.entries; over = t.over }) → x ≡ placed y (places_from (length y) + t.entries) (t.size ∷ [])
-          → PutIs b x used (bytes_at b p) r t.size
+      pub put_row : (y x : List ℕ) (r : StringTable) → size < 8388607 - t.size → t.entries < room_of region → y ≡ row_added region slot t start size → length y ≡ length region
+          → r ≡ with_entry (record { count = t.count + 1; size = t.size + size + 1; entries = t.entries; over = false }) → x ≡ placed y (places_from (length y) + t.entries) (t.size ∷ [])
+          → PutIs b x used (part b start size) (record { table = r; place = t.size })
       unfolding room_of
       put_row y x r h room e same is q =
-          let s = bytes_at b p in
+          let s = part b start size in
           let table = first_uses used in
           let low : t.count < room_of region = omega (arith, kept_rows) in
           let grown : put table s ≡ table ++ (s ∷ []) = put_new table s new.new in
-          let held : Held b y (t.count + 1) (put table s) = rw (grown, e) (held_more b region t table (k.held f) p slot low fits (k.size f) new) in
+          let held : Held b y (t.count + 1) (put table s) = rw (grown, e) (held_more b region t table (k.held f) start size slot low fits (k.size f) new) in
           let places : places_in y (length used) ≡ places_of used =
           ap (λ (z : List ℕ). places_in z (length used)) e
-          ∙ row_places b region t table (k.held f) p slot low fits (k.size f) new (length used) (omega (arith, k.entries f))
+          ∙ row_places b region t table (k.held f) start size slot low fits (k.size f) new (length used) (omega (arith, k.entries f))
           ∙ k.places f in
-          put_noted b y x (record { count = t.count + 1; size = t.size + (p.size + 1); entries = t.entries; over = t.over }) r used s t.size f (k.entries f) (rw same room) held (omega (arith, longer))
+          put_noted b y x (record { count = t.count + 1; size = t.size + size + 1; entries = t.entries; over = false }) r used s t.size refl (k.entries f) (rw same room) held (sym longer)
           (omega (arith, kept_within f))
           places
           (k.size f ∙ sym (offset_absent table s new.new))
@@ -189,5 +189,5 @@ module _ (b region : List ℕ) (t : StringTable) (used : List (List ℕ)) (k : K
           q
 
 -- the string put, by its bytes
-pub put_as : (b x : List ℕ) (used : List (List ℕ)) (u s : List ℕ) (r : StringTable) (v : ℕ) → u ≡ s → PutIs b x used u r v → PutIs b x used s r v
-put_as b x used u s r v e p = rw e at p
+pub put_as : (b x : List ℕ) (used : List (List ℕ)) (u s : List ℕ) (r : Put) → u ≡ s → PutIs b x used u r → PutIs b x used s r
+put_as b x used u s r e p = rw e at p

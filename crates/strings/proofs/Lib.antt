@@ -7,11 +7,11 @@ pub mod Offsets
 pub mod StrOffsets
 pub mod Remapped
 pub mod Headers
-pub mod Places
 pub mod Hashing
 pub mod Indexing
 pub mod Holding
 pub mod Keeping
+pub mod Places
 pub mod Storing
 pub mod Remembering
 pub mod Adding

@@ -1,6 +1,6 @@
 -- What is remembered of an object's str by a string's start: nothing at first, and one place more.
 -- Assumes nothing.
-use mathlib.Core.Path.{◌≡◌, refl, sym, ap, ap₂, ◌∙◌}
+use mathlib.Core.Path.{◌≡◌, refl, sym, ap, ◌∙◌}
 use mathlib.Core.Logic.{⊎_elim}
 use mathlib.Core.Bool.{true, false}
 use mathlib.Core.List.{List, [], ◌∷◌, ◌++◌}
@@ -12,45 +12,46 @@ use lib.Dec.{eqb}
 use lib.ListN.{length, take, drop, get_or, length-drop}
 use lib.Seq.{get_or-drop, length-take-le}
 use borrow.Author.Tests.{eqb-true, eqb-false}
+use borrow.Rule.Slice.PartMut.{put_mid}
 use Rattle.octets.specs.Octets.{placed, zeros}
 use Rattle.octets.specs.Checked.{Check, pass, refuse}
 use Rattle.octets.proofs.Checks.{known, then_pass, pass_inj}
+use Rattle.octets.proofs.Parts.{part_cut, length_part}
 use Rattle.octets.proofs.Placed.{length_zeros, get_d_zeros}
-use Rattle.octets.proofs.Regions.{get_d_placed, get_d_before, get_d_behind}
+use Rattle.octets.proofs.Regions.{placed_whole, get_d_placed, get_d_before, get_d_behind}
 use Rattle.strings.specs.Strings.{up_to_zero, string_at, put, first_uses, offset_in}
-use Rattle.strings.specs.Kept.{bytes_at, Inside, places_from, with_entry, Kept, PutIs}
-use Rattle.strings.specs.Remembered.{Remembered, place_is, Putting, LastZero}
-use Rattle.strings.specs.Objects.{Roomy}
+use Rattle.strings.specs.Kept.{bytes_at, places_from, with_entry, PutIs}
+use Rattle.strings.specs.Remembered.{Remembered, place_is, LastZero}
+use Rattle.strings.specs.Objects.{memory_in, PuttingIn, Roomy}
 use Rattle.strings.specs.declared.table.Place.{Place}
+use Rattle.strings.specs.declared.table.Put.{Put}
 use Rattle.strings.specs.declared.table.StringTable.{StringTable}
 use Rattle.strings.proofs.FirstUses.{is_in, put_has, put_keeps, first_uses_snoc}
 use Rattle.strings.proofs.Offsets.{offset_keeps}
 use Rattle.strings.proofs.Ends.{up_to_zero_law, up_to_more, string_at_is, string_at_refused}
-use Rattle.strings.proofs.Places.{length_bytes_at}
 use Rattle.strings.proofs.Keeping.{put_again, roomy_places}
+use Rattle.strings.proofs.Places.{cut, cut_is}
+use Rattle.strings.proofs.Storing.{lent_kept, length_memory, table_stays, memory_stored, length_lent, table_lent, memory_lent, memory_forgotten}
 
 -- ---- memory
 -- the part that is cleared
-pub cleared : (memo x : List ℕ) (n : ℕ) → n ≤ length memo → x ≡ zeros (length (take n memo)) → x ++ drop n memo ≡ placed memo 0 (zeros n)
-unfolding placed
-cleared memo x n h e =
-    let q : x ≡ zeros n = e ∙ ap zeros (length-take-le n memo h) in
-    ap₂ (λ (z : List ℕ) (k : ℕ). z ++ drop k memo) q (sym (length_zeros n) ∙ omega arith)
+pub cleared : (store x : List ℕ) (words n : ℕ) → words + n ≤ length store → x ≡ zeros (length (take (words + n - words) (drop words store)))
+    → put_mid words (words + n - words) store x ≡ placed store words (zeros n)
+cleared store x words n h e =
+    let m : words + n - words ≡ n = omega arith in
+    let l : length (take (words + n - words) (drop words store)) ≡ n = ap length (part_cut store words n) ∙ length_part store words n h in
+    let q : x ≡ zeros n = e ∙ ap zeros l in
+    ap (put_mid words (words + n - words) store) q ∙ placed_whole store words (words + n - words) (zeros n) (length_zeros n ∙ sym m)
 
-pub forgotten : (str : List ℕ) (told : List ℕ → ℕ → Type 0) (memo x : List ℕ) (n : ℕ) → x ≡ placed memo 0 (zeros n) → length str ≤ n → Remembered str told x
-forgotten str told memo x n e h =
+nothing_known : (str : List ℕ) (told : List ℕ → ℕ → Type 0) (memo x : List ℕ) (n : ℕ) → x ≡ placed memo 0 (zeros n) → length str ≤ n → Remembered str told x
+nothing_known str told memo x n e h =
     record {
       known = λ o l u. absurd (u (ap (λ (z : List ℕ). get_or z o 0) e ∙ ap (λ (i : ℕ). get_or (placed memo 0 (zeros n)) i 0) (omega arith) ∙ get_d_placed memo 0 (zeros n) o (omega (arith, length_zeros n)) (omega arith) ∙ get_d_zeros n o));
     }
 
--- what is kept before the memory is cleared is kept after that
-pub begun : (b : List ℕ) (strings : Place) (region memo x : List ℕ) (t : StringTable) (used : List (List ℕ)) → Inside b strings → x ≡ placed memo 0 (zeros strings.size)
-    → Kept b region t used → Putting b strings region x t used
-begun b strings region memo x t used h e k =
-    record {
-      kept = k;
-      memory = λ _. forgotten (bytes_at b strings) (place_is (first_uses used)) memo x strings.size e (omega (arith, length_bytes_at b strings h));
-    }
+pub forgotten : (str : List ℕ) (told : List ℕ → ℕ → Type 0) (words : ℕ) (w x : List ℕ) (n : ℕ) → x ≡ placed w words (zeros n) → words + n ≤ length w → length str ≤ n
+    → Remembered str told (memory_in words x)
+forgotten str told words w x n e h g = nothing_known str told (memory_in words w) (memory_in words x) n (memory_forgotten words w x n h e) g
 
 -- what is told of a word
 told_of : (str : List ℕ) (told : List ℕ → ℕ → Type 0) (s : List ℕ) (o v w : ℕ) → string_at 9 str o ≡ pass s → told s v → w ≡ v → (s : List ℕ) × (string_at 9 str o ≡ pass s) × told s w
@@ -94,29 +95,37 @@ known_place str table s memo o v m e q u =
     let place : v - 1 ≡ offset_in table k.0 = omega (arith, k.2.1) in
     (rw same at k.2.0, rw same at place)
 
--- what putting one string leaves: y and x are the table and the memory after that
-module _ (b : List ℕ) (strings : Place) (region memo : List ℕ) (t : StringTable) (used : List (List ℕ)) (s : List ℕ) (o : ℕ) (f : t.over ≡ false)
-    (p : Putting b strings region memo t used) (e : string_at 9 (bytes_at b strings) o ≡ pass s) (y : List ℕ) where
-  grown : Remembered (bytes_at b strings) (place_is (first_uses (used ++ (s ∷ [])))) memo
-  grown = rw (first_uses_snoc used s) (remembered_put (bytes_at b strings) (first_uses used) s memo (p.memory f))
+-- the table's words are lent, and come back as y; the memory stands behind them
+module _ (b : List ℕ) (strings : Place) (words : ℕ) (w y : List ℕ) (t : StringTable) (used : List (List ℕ)) (s : List ℕ) (o : ℕ) (same : length y ≡ length (take words w))
+    (fits : words ≤ length w) (f : t.over ≡ false) (p : PuttingIn b strings words w t used) (e : string_at 9 (bytes_at b strings) o ≡ pass s) where
+  grown : Remembered (bytes_at b strings) (place_is (first_uses (used ++ (s ∷ [])))) (memory_in words w)
+  grown = rw (first_uses_snoc used s) (remembered_put (bytes_at b strings) (first_uses used) s (memory_in words w) (p.memory f))
 
   -- a string that is remembered: its place is noted
-  pub known_noted : (v : ℕ) (r : StringTable) → Roomy (length region) t → v ≡ get_or memo o 0 → (v ≡ 0 → ⊥) → y ≡ placed region (places_from (length region) + t.entries) ((v - 1) ∷ [])
-      → r ≡ with_entry t → Putting b strings y memo r (used ++ (s ∷ []))
+  pub known_noted : (v : ℕ) (r : StringTable) → Roomy words t → v ≡ get_or (memory_in words w) o 0 → (v ≡ 0 → ⊥) → y ≡ placed (take words w) (places_from (length (take words w)) + t.entries) ((v - 1) ∷ [])
+      → r ≡ with_entry t → PuttingIn b strings words (y ++ drop words w) r (used ++ (s ∷ []))
   known_noted v r room q u g is =
-      let k = known_place (bytes_at b strings) (first_uses used) s memo o v (p.memory f) e q u in
-      let put = put_again b region t used p.kept f y s (v - 1) r k.0 (roomy_places region t room) k.1 is g in
-      record { kept = put.kept; memory = λ _. grown }
+      let k = known_place (bytes_at b strings) (first_uses used) s (memory_in words w) o v (p.memory f) e q u in
+      let lent : Roomy (length (take words w)) t = rw (length-take-le words w fits) room in
+      let put = put_again b (take words w) t used (lent_kept words w b t used p.kept) f y s (v - 1) r k.0 (roomy_places (take words w) t lent) k.1 is g in
+      record { kept = rw (table_lent words w y same fits) put.kept; memory = λ _. rw (memory_lent words w y same fits) grown }
 
   -- one that was sought: its place is remembered
-  pub put_stored : (x : List ℕ) (r : StringTable) (v : ℕ) → o < length memo → PutIs b y used s r v → x ≡ placed memo o ((v + 1) ∷ []) → Putting b strings y x r (used ++ (s ∷ []))
+  pub put_stored : (x : List ℕ) (r : Put) → words + o < length w → PutIs b y used s r → x ≡ placed (y ++ drop words w) (words + o) ((r.place + 1) ∷ [])
+      → PuttingIn b strings words x r.table (used ++ (s ∷ []))
   unfolding place_is
-  put_stored x r v h put g =
+  put_stored x r h put g =
+      let ys = (r.place + 1) ∷ [] in
+      let v = y ++ drop words w in
+      let room : words + o + 1 ≤ length v = omega (arith, length_lent words w y same fits) in
       let table = first_uses (used ++ (s ∷ [])) in
       let has : is_in table s ≡ true = rw (first_uses_snoc used s) (put_has (first_uses used) s) in
       record {
-        kept = put.kept;
-        memory = λ z. remembered_more memo x o (v + 1) h g (bytes_at b strings) (place_is table) s grown e (has, ap (λ (n : ℕ). n + 1) (put.stands z));
+        kept = rw (table_stays words v x ys o room g ∙ table_lent words w y same fits) put.kept;
+        memory =
+            λ z. remembered_more (memory_in words w) (memory_in words x) o (r.place + 1) (omega (arith, length_memory words w))
+            (memory_stored words v x ys o room g ∙ ap (λ (l : List ℕ). placed l o ys) (memory_lent words w y same fits)) (bytes_at b strings) (place_is table) s grown e
+            (has, ap (λ (n : ℕ). n + 1) (put.place z));
       }
 
 -- ---- strings start up to the last zero byte, and nowhere behind it
@@ -144,3 +153,15 @@ module _ (n : ℕ) (str : List ℕ) (end : ℕ) (z : LastZero str end) (o : ℕ)
 
   pub last_behind : end ≤ o → string_at n str o ≡ refuse n
   last_behind h = none_behind (string_at n str o) refl h
+
+-- turns of the loop that looks for the last zero byte from the end
+pub last_found : (s : List ℕ) (n i : ℕ) → n ≡ i + 1 → get_or s (n - 1) 0 ≡ 0 → get_or s i 0 ≡ 0
+last_found s n i e z = let m : n - 1 ≡ i = omega arith in rw m at z
+
+pub last_turn : (s : List ℕ) (n : ℕ) → 0 < n → (get_or s (n - 1) 0 ≡ 0 → ⊥) → ((i : ℕ) → n ≤ i → i < length s → get_or s i 0 ≡ 0 → ⊥)
+    → (i : ℕ) → n - 1 ≤ i → i < length s → get_or s i 0 ≡ 0 → ⊥
+last_turn s n h u f i g l z = elim (ℕ_discrete i (n - 1)) [ yes e ↦ u (rw e at z) | no e ↦ f i (omega arith) l z ]
+
+-- in the part that the code cuts
+pub last_cut : (b : List ℕ) (strings : Place) (n : ℕ) → LastZero (cut b strings) n → LastZero (bytes_at b strings) n
+last_cut b strings n z = rw (cut_is b strings) at z

@@ -2,16 +2,15 @@
 -- Assumes nothing.
 use mathlib.Core.Path.{◌≡◌, sym, ap, ap₂, ◌∙◌}
 use mathlib.Core.List.{List, [], ◌∷◌, ◌++◌}
-use Prim.Native.Nat.{ℕ, ◌+◌, ◌*◌, ◌<◌, ◌≤◌}
+use Prim.Native.Nat.{ℕ, ◌+◌, ◌*◌, ◌-◌, ◌<◌, ◌≤◌}
 use native.Mathlib.Omega.{arith}
-use lib.ListN.{length, take, get_or}
+use lib.ListN.{length, take, drop, get_or}
 use lib.Seq.{ext_get_or, take_all}
-use Rattle.octets.specs.Octets.{placed}
+use Rattle.octets.specs.Octets.{part, placed}
+use Rattle.octets.proofs.Parts.{part_cut, length_part}
 use Rattle.octets.proofs.Placed.{placed_none, placed_placed}
 use Rattle.strings.specs.Strings.{ended, str_of}
-use Rattle.strings.specs.Kept.{bytes_at, Inside, row_place, Held}
-use Rattle.strings.specs.declared.table.Place.{Place}
-use Rattle.strings.proofs.Places.{length_bytes_at}
+use Rattle.strings.specs.Kept.{Held}
 use Rattle.strings.proofs.Offsets.{str_of_none, str_of_take, length_str_of_take, length_str_of_take_le}
 
 -- ---- what a region holds is one table
@@ -21,12 +20,13 @@ held_unique b region n ts us p q =
     (λ i h. let l : i < n = omega (arith, p.count) in sym (p.rows i l).bytes ∙ (q.rows i l).bytes)
 
 -- ---- str
-pub ended_is : (b : List ℕ) (s : Place) (d x y : List ℕ) (at : ℕ) → Inside b s → at + s.size + 1 ≤ length d
-    → x ≡ placed d at (bytes_at b s) → y ≡ placed x (at + s.size) (0 ∷ []) → y ≡ placed d at (ended (bytes_at b s))
+pub ended_is : (b : List ℕ) (start size : ℕ) (d x y : List ℕ) (at : ℕ) → start + size ≤ length b → at + size + 1 ≤ length d
+    → x ≡ placed d at (take (start + size - start) (drop start b)) → y ≡ placed x (at + size) (0 ∷ []) → y ≡ placed d at (ended (part b start size))
 unfolding ended
-ended_is b s d x y at h g p q =
-    let l : length (bytes_at b s) ≡ s.size = length_bytes_at b s h in
-    q ∙ ap₂ (λ (z : List ℕ) (n : ℕ). placed z (at + n) (0 ∷ [])) p (sym l) ∙ placed_placed d at (bytes_at b s) (0 ∷ []) (omega arith)
+ended_is b start size d x y at h g p q =
+    let s = part b start size in
+    let l : length s ≡ size = length_part b start size h in
+    q ∙ ap₂ (λ (z : List ℕ) (n : ℕ). placed z (at + n) (0 ∷ [])) (p ∙ ap (placed d at) (part_cut b start size)) (sym l) ∙ placed_placed d at s (0 ∷ []) (omega arith)
 
 module _ (b region : List ℕ) (n : ℕ) (table : List (List ℕ)) (k : Held b region n table) (i : ℕ) (h : i < n) (d₀ : List ℕ) (at : ℕ) (room : at + length (str_of table) ≤ length d₀) where
   here : i < length table
@@ -35,18 +35,18 @@ module _ (b region : List ℕ) (n : ℕ) (table : List (List ℕ)) (k : Held b r
   pub written_room : at + get_or region (3 * i + 2) 0 + get_or region (3 * i + 1) 0 + 1 ≤ length d₀
   written_room =
       let r = k.rows i h in
-      let l = ap length (sym r.bytes) ∙ length_bytes_at b (row_place region i) r.fits in
+      let l = ap length (sym r.bytes) ∙ length_part b (get_or region (3 * i) 0) (get_or region (3 * i + 1) 0) r.fits in
       omega (arith, r.place, l, length_str_of_take table i here, length_str_of_take_le table (i + 1))
 
-  pub written_more : (d x : List ℕ) → d ≡ placed d₀ at (str_of (take i table)) → x ≡ placed d (at + get_or region (3 * i + 2) 0) (ended (bytes_at b (row_place region i)))
-      → x ≡ placed d₀ at (str_of (take (i + 1) table))
-  written_more d x e f =
+  pub written_more : (d x : List ℕ) (start size offset : ℕ) → d ≡ placed d₀ at (str_of (take i table))
+      → start ≡ get_or region (3 * i) 0 → size ≡ get_or region (3 * i + 1) 0 → offset ≡ get_or region (3 * i + 2) 0
+      → x ≡ placed d (at + offset) (ended (part b start size)) → x ≡ placed d₀ at (str_of (take (i + 1) table))
+  written_more d x start size offset e p q o f =
       let r = k.rows i h in
       let front = str_of (take i table) in
-      let row = ended (bytes_at b (row_place region i)) in
-      let s : row ≡ ended (get_or table i []) = ap ended r.bytes in
-      f ∙ ap₂ (λ (z : List ℕ) (m : ℕ). placed z (at + m) row) e r.place
-      ∙ placed_placed d₀ at front row (omega (arith, length_str_of_take_le table i))
+      let s : ended (part b start size) ≡ ended (get_or table i []) = ap ended (ap₂ (part b) p q ∙ r.bytes) in
+      f ∙ ap₂ (λ (z : List ℕ) (m : ℕ). placed z (at + m) (ended (part b start size))) e (o ∙ r.place)
+      ∙ placed_placed d₀ at front (ended (part b start size)) (omega (arith, length_str_of_take_le table i))
       ∙ ap (placed d₀ at) (ap (λ (z : List ℕ). front ++ z) s ∙ sym (str_of_take table i here))
 
 pub written_none : (table : List (List ℕ)) (d : List ℕ) (at : ℕ) → d ≡ placed d at (str_of (take 0 table))

@@ -1,10 +1,9 @@
 -- A str_offsets section piece by piece, as code walks it: in version 5 each piece has its own header, which states how long it is; in version 4 the section
 -- is one piece. Nothing here need be believed: laws say that the pieces which 8 let pass are these.
 -- Assumes nothing.
-use Rattle.std.specs.Prelude.{◌≡◌, true, false, List, [], ◌∷◌, ◌++◌, ℕ, ◌+◌, ◌*◌, ◌/◌, ◌<◌, ◌≤◌, ◌^◌, eqb, length, take, drop, Result}
+use Rattle.std.specs.Prelude.{◌≡◌, true, false, List, [], ◌∷◌, ◌++◌, ℕ, ◌+◌, ◌*◌, ◌/◌, ◌<◌, ◌≤◌, ◌^◌, eqb, length, take, drop}
 use Rattle.numbers.specs.Tables.{dwarf5}
 use Rattle.numbers.specs.Limits.{string_words}
-use Rattle.numbers.specs.declared.refusals.Refusal.{Refusal}
 use Rattle.octets.specs.Octets.{numbers_of, placed}
 use Rattle.octets.specs.Checked.{Check, pass, refuse, ◌>>=◌}
 use Rattle.bundle.specs.Encoding.{Encoding}
@@ -12,8 +11,9 @@ use Rattle.bundle.specs.InitialLength.{length_field, length_stated}
 use Rattle.bundle.specs.Encoded.{encoding_is}
 use Rattle.strings.specs.Strings.{header_size, entries_in, entries_of, strings_at, remapped}
 use Rattle.strings.specs.Kept.{Inside, bytes_at, AddedIs}
-use Rattle.strings.specs.Remembered.{LastZero, Putting}
-use Rattle.strings.specs.Objects.{table_in, KeptIn}
+use Rattle.strings.specs.Remembered.{LastZero}
+use Rattle.strings.specs.Objects.{table_in, KeptIn, PuttingIn}
+use Rattle.strings.specs.declared.table.Added.{Added}
 use Rattle.strings.specs.declared.table.StrOffsets.{StrOffsets}
 use Rattle.strings.specs.declared.table.StringTable.{StringTable}
 
@@ -37,31 +37,31 @@ abbrev pub HeadedOf : StrOffsets → List ℕ → List (List ℕ) → Type 0
 HeadedOf o b ps = Headed (encoding_is o.encoding) (bytes_at b o.offsets) ps
 
 -- room for a row for each entry, which takes 4 bytes or more, and a word of memory for each byte of str
-pub record PiecesAddable (b : List ℕ) (o : StrOffsets) (words memory : ℕ) (t : StringTable) : Type 0 where
+pub record PiecesAddable (b : List ℕ) (o : StrOffsets) (words : ℕ) (store : List ℕ) (t : StringTable) : Type 0 where
   pub limit : length b < 2 ^ 32
   pub offsets_inside : Inside b o.offsets
   pub strings_inside : Inside b o.strings
-  pub enough : o.strings.size ≤ memory
+  pub memory : words + o.strings.size ≤ length store
   pub room : string_words * (t.entries + o.offsets.size / 4) ≤ words
   pub small : words < 2 ^ 32
 
 -- the strings of all pieces are put behind those used before, or 9
-abbrev pub PiecesAdded : List ℕ → StrOffsets → List ℕ → List (List ℕ) → List (List ℕ) → StringTable → Result (Unit {0}) Refusal → Type 0
-PiecesAdded b o x used ps u r = AddedIs b x used (strings_of_all (encoding_is o.encoding) (bytes_at b o.strings) ps) u r
+abbrev pub PiecesAdded : List ℕ → StrOffsets → List ℕ → List (List ℕ) → List (List ℕ) → Added → Type 0
+PiecesAdded b o x used ps r = AddedIs b x used (strings_of_all (encoding_is o.encoding) (bytes_at b o.strings) ps) r
 
--- the same for all strings that were used before, with memory and without; x and u are the table, or the store, and the state after that
-abbrev pub PiecesPut : List ℕ → StrOffsets → List ℕ → List ℕ → StringTable → List ℕ → StringTable → Result (Unit {0}) Refusal → Type 0
-PiecesPut b o region memory t x u r =
-    (ts ps : List (List ℕ)) → Putting b o.strings region memory t ts → HeadedOf o b ps → PiecesAdded b o x ts ps u r
+-- the same for all strings that were used before, with memory and without; x is the store after that
+abbrev pub PiecesPut : List ℕ → StrOffsets → ℕ → List ℕ → StringTable → List ℕ → Added → Type 0
+PiecesPut b o words store t x r =
+    (ts ps : List (List ℕ)) → PuttingIn b o.strings words store t ts → HeadedOf o b ps → PiecesAdded b o (table_in words x) ts ps r
 
-abbrev pub PiecesKept : List ℕ → StrOffsets → ℕ → List ℕ → StringTable → List ℕ → StringTable → Result (Unit {0}) Refusal → Type 0
-PiecesKept b o words store t x u r =
-    (ts ps : List (List ℕ)) → KeptIn b words store t ts → HeadedOf o b ps → PiecesAdded b o (table_in words x) ts ps u r
+abbrev pub PiecesKept : List ℕ → StrOffsets → ℕ → List ℕ → StringTable → List ℕ → Added → Type 0
+PiecesKept b o words store t x r =
+    (ts ps : List (List ℕ)) → KeptIn b words store t ts → HeadedOf o b ps → PiecesAdded b o (table_in words x) ts ps r
 
 -- what putting them takes: room, where the last string of str ends, a table that is being put, and pieces
-abbrev pub PiecesPutAsked : List ℕ → StrOffsets → ℕ → List ℕ → List ℕ → StringTable → Type 0
-PiecesPutAsked b o last region memory t =
-    PiecesAddable b o (length region) (length memory) t × LastZero (bytes_at b o.strings) last × ((ts : List (List ℕ)) × Putting b o.strings region memory t ts)
+abbrev pub PiecesPutAsked : List ℕ → StrOffsets → ℕ → ℕ → List ℕ → StringTable → Type 0
+PiecesPutAsked b o last words store t =
+    PiecesAddable b o words store t × LastZero (bytes_at b o.strings) last × ((ts : List (List ℕ)) × PuttingIn b o.strings words store t ts)
     × ((ps : List (List ℕ)) × HeadedOf o b ps)
 
 -- ---- written

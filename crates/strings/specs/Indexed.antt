@@ -3,10 +3,12 @@
 -- A region of 7 n words holds n rows of three words; behind them two links for each row; a place for each of n entries; and n roots. Roots and links hold the number of a
 -- row, counted from 1; 0 leads nowhere.
 -- Assumes nothing.
-use Rattle.std.specs.Prelude.{◌≡◌, true, false, List, [], ◌∷◌, ℕ, zero, suc, ◌+◌, ◌*◌, ◌-◌, ◌/◌, ◌%◌, ◌^◌, ◌<◌, ◌≤◌, ltb, length, drop, get_or, Result, Ok, Err}
+use Rattle.std.specs.Prelude.{◌≡◌, true, false, List, [], ◌∷◌, ℕ, zero, suc, ◌+◌, ◌*◌, ◌-◌, ◌/◌, ◌%◌, ◌^◌, ◌<◌, ◌≤◌, ltb, length, drop, get_or}
 use Rattle.numbers.specs.Limits.{string_words}
 use Rattle.octets.specs.Octets.{number_at}
 use Rattle.octets.specs.Lists.{any, same}
+use Rattle.strings.specs.declared.seek.Sought.{Sought}
+use Rattle.strings.specs.declared.seek.Sought.TheVariants.{Row, Free}
 
 -- ---- a hash of all bytes
 -- Eight bytes more, as one number: both halves are multiplied, and the halves of the sum are added, within 32 bits.
@@ -83,6 +85,6 @@ pub record EndsFree (region : List ℕ) (table : List (List ℕ)) (s : List ℕ)
   pub zero : get_or region at 0 ≡ 0
 
 -- where a search ends: at the row of the string, or at the free word where its number would stand
-abbrev pub SoughtIs : List ℕ → ℕ → List (List ℕ) → List ℕ → Result ℕ ℕ → Type 0
-SoughtIs region n table s (Ok i) = (i < n) × (get_or table i [] ≡ s)
-SoughtIs region n table s (Err at) = EndsFree region table s at
+pub record SoughtIs (region : List ℕ) (n : ℕ) (table : List (List ℕ)) (s : List ℕ) (r : Sought) : Type 0 where
+  pub row : (i : ℕ) → r ≡ Row i → (i < n) × (get_or table i [] ≡ s)
+  pub free : (at : ℕ) → r ≡ Free at → EndsFree region table s at

@@ -1,13 +1,15 @@
 -- The table of kept strings as the code holds it: words of a lent region, and a state by value. Nothing here need be believed.
 -- Assumes nothing.
-use Rattle.std.specs.Prelude.{◌≡◌, false, List, [], ◌∷◌, ◌++◌, map, ℕ, ◌+◌, ◌*◌, ◌/◌, ◌^◌, ◌<◌, ◌≤◌, ltb, length, take, get_or, Result, Ok, Err}
+use Rattle.std.specs.Prelude.{◌≡◌, false, List, [], ◌∷◌, ◌++◌, map, ℕ, ◌+◌, ◌*◌, ◌/◌, ◌^◌, ◌<◌, ◌≤◌, ltb, length, take, get_or}
 use Rattle.numbers.specs.Limits.{section_limit, string_words}
-use Rattle.numbers.specs.Refused.{number_of}
-use Rattle.numbers.specs.declared.refusals.Refusal.{Refusal}
+use Rattle.numbers.specs.Refusals.{no_string}
 use Rattle.octets.specs.Octets.{part, placed}
 use Rattle.octets.specs.Checked.{Check, pass, refuse}
 use Rattle.strings.specs.Strings.{first_uses, str_of, offset_in}
 use Rattle.strings.specs.Indexed.{room_of, Indexed, Distinct, EndsFree}
+use Rattle.strings.specs.declared.table.Put.{Put}
+use Rattle.strings.specs.declared.table.Added.{Added}
+use Rattle.strings.specs.declared.table.Added.TheVariants.{Table, NoString}
 use Rattle.strings.specs.declared.table.Place.{Place}
 use Rattle.strings.specs.declared.table.StringTable.{StringTable}
 
@@ -16,17 +18,13 @@ unfoldable pub bytes_at : List ℕ → Place → List ℕ
 bytes_at b p = part b p.start p.size
 
 -- the place lies in the bundle
-abbrev pub Inside : List ℕ → Place → Type 0
+unfoldable pub Inside : List ℕ → Place → Type 0
 Inside b p = p.start + p.size ≤ length b
-
--- where the string of row i lies in the bundle
-abbrev pub row_place : List ℕ → ℕ → Place
-row_place region i = record { start = get_or region (3 * i) 0; size = get_or region (3 * i + 1) 0 }
 
 -- three words for string i of the table: where it lies in the bundle, its length, its offset in str
 pub record RowHeld (b region : List ℕ) (table : List (List ℕ)) (i : ℕ) : Type 0 where
-  pub fits : Inside b (row_place region i)
-  pub bytes : bytes_at b (row_place region i) ≡ get_or table i []
+  pub fits : get_or region (3 * i) 0 + get_or region (3 * i + 1) 0 ≤ length b
+  pub bytes : part b (get_or region (3 * i) 0) (get_or region (3 * i + 1) 0) ≡ get_or table i []
   pub place : get_or region (3 * i + 2) 0 ≡ length (str_of (take i table))
 
 -- the first n rows of the region are a table, no string of it stands there twice, and links and roots are its index
@@ -38,8 +36,8 @@ pub record Held (b region : List ℕ) (n : ℕ) (table : List (List ℕ)) : Type
   pub index : Indexed (room_of region) region n table
 
 -- a string of the bundle, and a region with room for a row
-pub record Seekable (b : List ℕ) (at : Place) (region : List ℕ) : Type 0 where
-  pub fits : Inside b at
+pub record Seekable (b : List ℕ) (start size : ℕ) (region : List ℕ) : Type 0 where
+  pub fits : start + size ≤ length b
   pub some : string_words ≤ length region
   pub small : length region < 2 ^ 32
 
@@ -75,41 +73,41 @@ abbrev pub with_entry : StringTable → StringTable
 with_entry t = record { count = t.count; size = t.size; entries = t.entries + 1; over = t.over }
 
 -- a row without links behind the others, and its number in a word
-unfoldable pub row_added : List ℕ → ℕ → StringTable → Place → List ℕ
-row_added region slot t p =
+unfoldable pub row_added : List ℕ → ℕ → StringTable → ℕ → ℕ → List ℕ
+row_added region slot t start size =
     placed
-    (placed (placed region (3 * t.count) (p.start ∷ p.size ∷ t.size ∷ [])) (3 * room_of region + 2 * t.count) (0 ∷ 0 ∷ []))
+    (placed (placed region (3 * t.count) (start ∷ size ∷ t.size ∷ [])) (3 * room_of region + 2 * t.count) (0 ∷ 0 ∷ []))
     slot
     ((t.count + 1) ∷ [])
 
-pub record RowAddable (region : List ℕ) (slot : ℕ) (t : StringTable) (p : Place) : Type 0 where
+pub record RowAddable (region : List ℕ) (slot : ℕ) (t : StringTable) (start size : ℕ) : Type 0 where
   pub room : t.count < room_of region
   pub within : slot < length region
-  pub start_small : p.start < 2 ^ 32
-  pub size_small : p.size < 2 ^ 32
+  pub start_small : start < 2 ^ 32
+  pub size_small : size < 2 ^ 32
   pub place_small : t.size < 2 ^ 32
   pub count_small : t.count + 1 < 2 ^ 32
   pub words_small : length region < 2 ^ 32
 
 -- the search for a string of the bundle ended at a free word
-abbrev pub NewAt : List ℕ → Place → List ℕ → List (List ℕ) → ℕ → Type 0
-NewAt b p region used slot = EndsFree region (first_uses used) (bytes_at b p) slot
+abbrev pub NewAt : List ℕ → ℕ → ℕ → List ℕ → List (List ℕ) → ℕ → Type 0
+NewAt b start size region used slot = EndsFree region (first_uses used) (part b start size) slot
 
--- what a caller may store after that; u is the state after it
-pub record PutSmall (t u : StringTable) (place : ℕ) : Type 0 where
-  pub entries : u.entries ≤ t.entries + 1
-  pub small : place ≤ section_limit
+-- what a caller may store after that
+pub record PutSmall (t : StringTable) (r : Put) : Type 0 where
+  pub entries : r.table.entries ≤ t.entries + 1
+  pub place : r.place ≤ section_limit
 
 -- a string is put behind those used before, and where it stands in str
-pub record PutIs (b region : List ℕ) (used : List (List ℕ)) (s : List ℕ) (u : StringTable) (place : ℕ) : Type 0 where
-  pub kept : Kept b region u (used ++ (s ∷ []))
-  pub stands : u.over ≡ false → place ≡ offset_in (first_uses (used ++ (s ∷ []))) s
+pub record PutIs (b region : List ℕ) (used : List (List ℕ)) (s : List ℕ) (r : Put) : Type 0 where
+  pub kept : Kept b region r.table (used ++ (s ∷ []))
+  pub place : r.table.over ≡ false → r.place ≡ offset_in (first_uses (used ++ (s ∷ []))) s
 
--- a string that is not kept yet is put; region and x are the words before and after that, t and u the states
-abbrev pub PutsNew : List ℕ → Place → ℕ → List ℕ → StringTable → List ℕ → StringTable → ℕ → Type 0
-PutsNew b p slot region t x u place = (used : List (List ℕ)) → Kept b region t used → NewAt b p region used slot → PutIs b x used (bytes_at b p) u place
+-- a string that is not kept yet is put; region and x are the words before and after that
+abbrev pub PutsNew : List ℕ → ℕ → ℕ → ℕ → List ℕ → StringTable → List ℕ → Put → Type 0
+PutsNew b start size slot region t x r = (used : List (List ℕ)) → Kept b region t used → NewAt b start size region used slot → PutIs b x used (part b start size) r
 
--- the strings of an object put behind those used before, or why not; t is the state after that
-abbrev pub AddedIs : List ℕ → List ℕ → List (List ℕ) → Check (List (List ℕ)) → StringTable → Result (Unit {0}) Refusal → Type 0
-AddedIs b region used strings t (Ok _) = (more : List (List ℕ)) × (strings ≡ pass more) × Kept b region t (used ++ more)
-AddedIs b region used strings t (Err r) = strings ≡ refuse (number_of r)
+-- the strings of an object put behind those used before, or 9
+pub record AddedIs (b region : List ℕ) (used : List (List ℕ)) (strings : Check (List (List ℕ))) (r : Added) : Type 0 where
+  pub kept : (t : StringTable) → r ≡ Table t → (more : List (List ℕ)) × (strings ≡ pass more) × Kept b region t (used ++ more)
+  pub missing : r ≡ NoString → strings ≡ refuse no_string

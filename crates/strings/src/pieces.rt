@@ -1,5 +1,5 @@
 // A str_offsets section piece by piece. In version 5 each piece has its own header, which states how long it is; in version 4 the section is one piece.
-ghost use Rattle.std.specs.Prelude.{◌≡◌, List, ℕ, ◌-◌, ◌≤◌, length};
+ghost use Rattle.std.specs.Prelude.{◌≡◌, List, ℕ, ◌≤◌, length};
 ghost use Rattle.bundle.specs.Encoded.{encoding_is};
 ghost use Rattle.strings.specs.Strings.{header_size};
 ghost use Rattle.strings.specs.Objects.{KeptIn};
@@ -15,91 +15,86 @@ ghost use Rattle.strings.specs.Headed.{
 };
 
 use crate::entries;
-use crate::entries::Section;
-use crate::table::{Place, StrOffsets, StringTable};
-use numbers::refusals::Refusal;
+use crate::table::{Added, Place, StrOffsets, StringTable};
+use bundle::encoding::ObjectEncoding;
 
-impl Section<'_> {
-    // How long the piece at the front of a section is. The caller knows that its header is true.
-    pub fn piece_size(self) -> usize
-        requires { (header_size (encoding_is self.encoding) ≤ length self.bytes.now) × (piece_size (encoding_is self.encoding) self.bytes.now ≤ length self.bytes.now) }
-        ensures { result ≡ piece_size (encoding_is self.entry.encoding) self.entry.bytes.now }
-    {
-        let e = self.encoding;
-        if e.five {
-            e.field_size() + e.stated_length(self.bytes) as usize
-        } else {
-            self.bytes.len()
-        }
+// How long the piece at the front of a section is. The caller knows that its header is true.
+pub fn piece_size(e: ObjectEncoding, s: &[u8]) -> usize
+    requires { (header_size (encoding_is e) ≤ length s.now) × (piece_size (encoding_is e) s.now ≤ length s.now) }
+    ensures { result ≡ piece_size (encoding_is e) s.now }
+{
+    if e.five {
+        let rest = octets::size(e.stated_length(s));
+        return e.field_size() + rest;
     }
-
-    // Writes a section with other numbers for its entries, piece by piece: each header as it was, and the next numbers behind it. Says how many entries the section has.
-    pub fn write_pieces(self, numbers: &[u32], d: &mut [u8], at: usize) -> usize
-        requires { PiecesWritable (encoding_is self.encoding) self.bytes.now numbers.now (length d.old) at }
-        ensures { PiecesWritten (encoding_is self.entry.encoding) self.entry.bytes.now numbers.now at d.old d.new result }
-    {
-        let encoding = self.encoding;
-        let mut from = 0;
-        let mut first = 0;
-        // Each piece states how far the next one is: no range has these steps.
-        while from < self.bytes.len() {
-            let bytes = &self.bytes[from..];
-            let size = Section { encoding, bytes }.piece_size();
-            let end = from + size;
-            let bytes = &self.bytes[from..end];
-            let piece = Section { encoding, bytes };
-            let count = piece.entry_count();
-            let last = first + count;
-            piece.write_piece(&numbers[first..last], d, at + from);
-            from = end;
-            first = last;
-        }
-        first
-    }
+    s.len()
 }
 
-impl StringTable {
-    // Puts the strings of all pieces. ended says where the last string of str ends.
-    fn put_pieces(
-        &mut self,
-        o: StrOffsets,
-        b: &[u8],
-        ended: usize,
-        table: &mut [u32],
-        memory: &mut [u32],
-    ) -> Result<(), Refusal>
-        requires { PiecesPutAsked b.now o ended table.old memory.old self.old }
-        ensures { PiecesPut b.now o table.old memory.old self.old table.new self.new result }
-    {
-        let encoding = o.encoding;
-        let mut at = o.offsets.start;
-        let end = at + o.offsets.size;
-        // Each piece states how far the next one is: no range has these steps.
-        while at < end {
-            let bytes = &b[at..end];
-            let size = Section { encoding, bytes }.piece_size();
-            let offsets = Place { start: at, size };
-            self.add_entries(StrOffsets { offsets, ..o }, b, ended, table, memory)?;
-            at += size;
-        }
-        Ok(())
+// Puts the strings of all pieces. ended says where the last string of str ends.
+fn put_pieces(
+    o: StrOffsets,
+    b: &[u8],
+    ended: usize,
+    store: &mut [u32],
+    words: usize,
+    t: StringTable,
+) -> Added
+    requires { PiecesPutAsked b.now o ended words store.old t }
+    ensures { PiecesPut b.now o words store.old t store.new result }
+{
+    let e = o.encoding;
+    let strings = o.strings;
+    let start = o.offsets.start;
+    let end = start + o.offsets.size;
+    let mut at = start;
+    let mut kept = t;
+    while at < end {
+        let size = piece_size(e, &b[at..end]);
+        let offsets = Place { start: at, size };
+        let piece = StrOffsets {
+            encoding: e,
+            offsets,
+            strings,
+        };
+        let Added::Table(more) = crate::table::add_entries(piece, b, ended, store, words, kept)
+        else {
+            return Added::NoString;
+        };
+        kept = more;
+        at += size;
     }
+    Added::Table(kept)
+}
 
-    // Puts the strings that the entries of all pieces name, each of which check_entries let pass. What is remembered of str serves all of them. The store holds the
-    // table in its first words, with a row for each entry, and behind them a word of memory for each byte of str; what the memory holds after the call is not promised.
-    pub fn add_pieces(
-        &mut self,
-        o: StrOffsets,
-        b: &[u8],
-        store: &mut [u32],
-        words: usize,
-    ) -> Result<(), Refusal>
-        requires { (words ≤ length store.old) × PiecesAddable b.now o words (length store.old - words) self.old × ((used : List (List ℕ)) × KeptIn b.now words store.old self.old used) × ((ps : List (List ℕ)) × HeadedOf o b.now ps) }
-        ensures { PiecesKept b.now o words store.old self.old store.new self.new result }
-    {
-        let (table, memory) = store.split_at_mut(words);
-        let ended = entries::last_zero(o.strings.of(b));
-        crate::table::forget(memory, o.strings.size);
-        self.put_pieces(o, b, ended, table, memory)
+// Puts the strings that the entries of all pieces name, each of which check_entries let pass. What is remembered of str serves all of them. The store holds the
+// table in its first words, with a row for each entry, and behind them a word of memory for each byte of str; what the memory holds after the call is not promised.
+pub fn add_pieces(o: StrOffsets, b: &[u8], store: &mut [u32], words: usize, t: StringTable) -> Added
+    requires { PiecesAddable b.now o words store.old t × ((used : List (List ℕ)) × KeptIn b.now words store.old t used) × ((ps : List (List ℕ)) × HeadedOf o b.now ps) }
+    ensures { PiecesKept b.now o words store.old t store.new result }
+{
+    let strings = o.strings;
+    let base = strings.start;
+    let end = base + strings.size;
+    let ended = entries::last_zero(&b[base..end]);
+    crate::table::forget(store, words, strings.size);
+    put_pieces(o, b, ended, store, words, t)
+}
+
+// Writes a section with other numbers for its entries, piece by piece: each header as it was, and the next numbers behind it. Says how many entries the section has.
+pub fn write_pieces(e: ObjectEncoding, s: &[u8], numbers: &[u32], d: &mut [u8], at: usize) -> usize
+    requires { PiecesWritable (encoding_is e) s.now numbers.now (length d.old) at }
+    ensures { PiecesWritten (encoding_is e) s.now numbers.now at d.old d.new result }
+{
+    let mut from = 0;
+    let mut first = 0;
+    while from < s.len() {
+        let size = piece_size(e, &s[from..]);
+        let end = from + size;
+        let count = entries::entry_count(e, &s[from..end]);
+        let last = first + count;
+        crate::sections::write_piece(e, &s[from..end], &numbers[first..last], d, at + from);
+        from = end;
+        first = last;
     }
+    first
 }

@@ -1,7 +1,8 @@
 // The index beside the kept strings: trees of rows. A hash of all bytes of a string picks the root where its search starts. From a row that is another
 // string's one of two links leads on, and the string's own bits say which: no string needs more steps than it has bits, and eight more, whatever
 // strings are chosen.
-ghost use Rattle.std.specs.Prelude.{◌≡◌, List, ℕ, ◌+◌, ◌*◌, ◌≤◌, ◌<◌, ◌^◌, length};
+ghost use Rattle.std.specs.Prelude.{◌≡◌, false, List, ℕ, ◌+◌, ◌*◌, ◌≤◌, ◌<◌, ◌^◌, length, get_or};
+ghost use Rattle.octets.specs.Octets.{part, number_at};
 ghost use Rattle.octets.specs.Lists.{same};
 ghost use Rattle.strings.specs.Indexed.{
   mixed,
@@ -11,10 +12,16 @@ ghost use Rattle.strings.specs.Indexed.{
   link_of,
   SoughtIs,
 };
-ghost use Rattle.strings.specs.Kept.{bytes_at, Inside, row_place, Held, Seekable};
+ghost use Rattle.strings.specs.Kept.{Held, Seekable};
 
-use crate::table::{Place, row_place};
 use numbers::limits::STRING_WORDS;
+
+// Where a search ends: at the row of a string, or at the free word where its number would stand.
+#[derive(Clone, Copy)]
+pub enum Sought {
+    Row(usize),
+    Free(usize),
+}
 
 // Two primes below 2 to the power 30, so that the sum of products stays within 64 bits.
 const LOW: u64 = 798_746_317;
@@ -47,8 +54,10 @@ fn long_hash(s: &[u8]) -> u64
 {
     let last = s.len() - 8;
     let mut h: u64 = 0;
-    for at in (0..last).step_by(8) {
+    let mut at = 0;
+    while at < last {
         h = mixed(h, octets::u64_at(false, s, at));
+        at += 8;
     }
     mixed(h, octets::u64_at(false, s, last))
 }
@@ -57,10 +66,9 @@ fn hash_of(s: &[u8]) -> u64
     ensures { result ≡ hash_of s.now }
 {
     if s.len() < 8 {
-        short_hash(s)
-    } else {
-        long_hash(s)
+        return short_hash(s);
     }
+    long_hash(s)
 }
 
 // Where the search for a string starts, in a region with room for so many rows.
@@ -69,17 +77,19 @@ fn root_of(room: usize, s: &[u8]) -> usize
     ensures { result ≡ root_of room s.now }
 {
     let h = hash_of(s);
-    6 * room + (h * room as u64 / HALF) as usize
+    6 * room + octets::size(h * octets::long(room) / HALF)
 }
 
 // The side on which the search for a string goes on after so many steps.
 fn side(s: &[u8], step: usize) -> usize
     ensures { result ≡ side s.now step }
 {
-    match s.get(step / 8) {
-        Some(byte) => (*byte >> (step % 8)) as usize % 2,
-        None => 0,
+    let i = step / 8;
+    if s.len() <= i {
+        return 0;
     }
+    let byte = octets::wide_byte(s[i]);
+    octets::size((byte >> octets::long(step % 8)) % 2)
 }
 
 // The link of the row with a number, on a side.
@@ -90,32 +100,39 @@ fn link_of(room: usize, number: usize, on: usize) -> usize
     3 * room + 2 * (number - 1) + on
 }
 
-// Whether row i is a string. Lengths are compared before bytes.
-fn row_same(b: &[u8], table: &[u32], i: usize, s: &[u8]) -> bool
-    requires { (3 * i + 3 ≤ length table.now) × Inside b.now (row_place table.now i) }
-    ensures { result ≡ same s.now (bytes_at b.now (row_place table.now i)) }
+// Whether row i is the string at a place of the bundle. Lengths are compared before bytes.
+fn row_same(b: &[u8], table: &[u32], i: usize, start: usize, size: usize) -> bool
+    requires { (3 * i + 3 ≤ length table.now) × (start + size ≤ length b.now) × (get_or table.now (3 * i) 0 + get_or table.now (3 * i + 1) 0 ≤ length b.now) }
+    ensures { result ≡ same (part b.now start size) (part b.now (get_or table.now (3 * i) 0) (get_or table.now (3 * i + 1) 0)) }
 {
-    let row = row_place(table, i);
-    row.size == s.len() && octets::same_bytes(s, row.of(b))
+    let at = octets::word(table, 3 * i);
+    let n = octets::word(table, 3 * i + 1);
+    if n != size {
+        return false;
+    }
+    let end = start + size;
+    let row_end = at + n;
+    octets::same_bytes(&b[start..end], &b[at..row_end])
 }
 
-// Seeks a string of the bundle through the index of count rows: its row, or else the free word where its number would stand. The caller has room for a row more.
-pub fn seek_string(b: &[u8], table: &[u32], count: usize, at: Place) -> Result<usize, usize>
-    requires { Seekable b.now at table.now × ((ts : List (List ℕ)) × Held b.now table.now count ts) }
-    ensures { (ts : List (List ℕ)) → Held b.now table.now count ts → SoughtIs table.now count ts (bytes_at b.now at) result }
+// Seeks a string of the bundle through the index of count rows. The caller has room for a row more.
+pub fn seek_string(b: &[u8], table: &[u32], count: usize, start: usize, size: usize) -> Sought
+    requires { Seekable b.now start size table.now × ((ts : List (List ℕ)) × Held b.now table.now count ts) }
+    ensures { (ts : List (List ℕ)) → Held b.now table.now count ts → SoughtIs table.now count ts (part b.now start size) result }
 {
-    let s = at.of(b);
+    let end = start + size;
     let room = table.len() / STRING_WORDS;
-    let mut word = root_of(room, s);
-    let mut number = table[word] as usize;
+    let mut at = root_of(room, &b[start..end]);
+    let mut number = octets::word(table, at);
     let mut step = 0;
     while number != 0 {
-        if row_same(b, table, number - 1, s) {
-            return Ok(number - 1);
+        if row_same(b, table, number - 1, start, size) {
+            return Sought::Row(number - 1);
         }
-        word = link_of(room, number, side(s, step));
-        number = table[word] as usize;
+        let on = side(&b[start..end], step);
+        at = link_of(room, number, on);
+        number = octets::word(table, at);
         step += 1;
     }
-    Err(word)
+    Sought::Free(at)
 }

@@ -1,6 +1,5 @@
 -- The store is cleared, so that its front holds no string before those of the object are put.
 use Rattle.std.proofs.Common.{◌≡◌, sym, ap, ◌∙◌, List, [], ℕ, ◌≤◌, arith, length, take}
-use Rattle.std.proofs.lemmas.List.{length-take-le}
 use Rattle.octets.specs.Octets.{zeros}
 use Rattle.octets.proofs.Placed.{length_zeros, take_zeros}
 use Rattle.strings.specs.Kept.{none, places_from}
@@ -17,31 +16,30 @@ front_cleared b words n x e h =
 
 pub add_strings-requires : goal.add_strings-requires
 add_strings-requires c =
-    let p = c.requires.1 in (
-      omega (arith, c.requires.0, c.clear_words.auto.s),
+    let p = c.requires.0 in (
       record {
         limit = p.limit;
         offsets_inside = p.offsets_inside;
         strings_inside = p.strings_inside;
-        enough = omega (arith, p.enough, c.clear_words.auto.s);
+        memory = omega (arith, p.memory, c.clear_words.auto.s);
         room = p.room;
         small = p.small;
       },
-      ([], front_cleared _ _ _ _ c.clear_words.ensures c.requires.0),
+      ([], front_cleared _ _ _ _ c.clear_words.ensures (omega (arith, p.memory))),
     )
 
 pub write_sections-requires : goal.write_sections-requires
-unfolding places_from table_in
+unfolding places_from
 write_sections-requires c =
-    let p = c.requires.1 in
-    let d = c.in-Ok.ensures [] (front_cleared _ _ _ _ c.clear_words.ensures c.requires.0) in
-    let l = length-take-le c.args.words c.add_strings.new.store (omega (arith, c.requires.0, c.add_strings.auto.store, c.clear_words.auto.s)) in
+    let p = c.requires.0 in
+    let d = (c.add_strings.ensures [] (front_cleared _ _ _ _ c.clear_words.ensures (omega (arith, p.memory)))).kept _ c.in-Table.is in
     record {
       inside = p.offsets_inside;
-      entries = c.requires.2;
+      entries = c.requires.1;
       used = d.0;
       strings = d.1;
-      room = omega (arith, p.room, l);
+      lent = omega (arith, p.memory, c.add_strings.auto.store, c.clear_words.auto.s);
+      room = omega (arith, p.room);
       kept = d.2;
       over = c.if-kept.false;
     }

@@ -1,35 +1,24 @@
 -- `indexed_contributions` meets its contract.
 -- Assumes nothing.
-use mathlib.Core.Path.{refl, sym, subst}
-use mathlib.Core.List.{List}
-use Prim.Native.Nat.{ℕ}
-use native.Mathlib.Omega.{arith}
-use Rattle.octets.proofs.Parts.{part_cut}
-use Rattle.index.specs.Held.{ReadWell}
 use Rattle.index.specs.Contributed.{judged_row}
-use Rattle.strings.specs.Kept.{bytes_at}
-use Rattle.filing.proofs.Stringing.{inside_is}
+use Rattle.filing.proofs.Numbers.{row_given, row_missing, row_bad}
 use Rattle.filing.proofs.Contributing.{given_none, index_well, given_at}
 use Rattle.filing.proofs.contributions.indexed_contributions.Goals as goal
 
-pub returns-in_default : goal.returns-in_default
-returns-in_default c = λ o h. given_none _ _ _ o h _ _ _ _ _ _ _ _ c.in_default.is c.whole_given.ensures
+pub judge_row-judged-requires : goal.judge_row-judged-requires
+judge_row-judged-requires c = let p = c.requires in ((index_well _ _ _ _ p.1.1 _ c.in-Some.is).0, p.0)
 
-pub overflow_add-end : goal.overflow_add-end
-overflow_add-end c = omega (arith, inside_is _ c.args.place c.requires.1)
+pub returns-then-judged-eq0 : goal.returns-then-judged-eq0
+unfolding judged_row
+returns-then-judged-eq0 c = let j = c.judge_row-judged in λ o h. given_at _ _ _ o h _ _ _ _ _ _ _ _ _ c.in-Some.is (row_given _ _ _ _ _ _ _ j.result j.ensures.code j.ensures.contributions c.if-judged-eq0.true)
 
-pub slice_bounds-judge_row-end : goal.slice_bounds-judge_row-end
-slice_bounds-judge_row-end c = omega (arith, inside_is _ c.args.place c.requires.1)
+pub returns-then-judged-eq-NO_ROW : goal.returns-then-judged-eq-NO_ROW
+unfolding judged_row
+returns-then-judged-eq-NO_ROW c = let j = c.judge_row-judged in λ o h. given_at _ _ _ o h _ _ _ _ _ _ _ _ _ c.in-Some.is (row_missing _ _ _ _ _ _ _ j.result j.ensures.code j.ensures.contributions c.if-judged-eq-NO_ROW.true)
 
-pub judge_row-requires : goal.judge_row-requires
-unfolding bytes_at
-judge_row-requires c =
-    let a = c.args in
-    let w = index_well _ _ _ _ c.requires.2.1 _ c.in-At.is in
-    (subst (λ (l : List ℕ). ReadWell a.big l c.in-At.head) (sym (part_cut a.b.now a.place.start a.place.size)) w.0, c.requires.0)
+pub returns-else-judged-eq-NO_ROW : goal.returns-else-judged-eq-NO_ROW
+unfolding judged_row
+returns-else-judged-eq-NO_ROW c = let j = c.judge_row-judged in λ o h. given_at _ _ _ o h _ _ _ _ _ _ _ _ _ c.in-Some.is (row_bad _ _ _ _ _ _ _ j.result j.ensures.code j.ensures.contributions c.if-judged-eq0.false c.if-judged-eq-NO_ROW.false)
 
-pub returns : goal.returns
-unfolding judged_row bytes_at
-returns c =
-    let a = c.args in
-    λ o h. given_at _ _ _ o h _ _ _ _ _ _ _ _ _ _ _ c.in-At.is (part_cut a.b.now a.place.start a.place.size) refl c.judge_row.ensures.code c.judge_row.ensures.contributions
+pub returns-in-None : goal.returns-in-None
+returns-in-None c = λ o h. given_none _ _ _ o h _ _ _ _ _ _ _ _ c.in-None.is c.whole_given.ensures

@@ -8,27 +8,30 @@ use Rattle.kept.proofs.RegionStores.{store_within}
 use Rattle.kept.proofs.RegionLending.{only_same, only_lent}
 use Rattle.kept.proofs.Storing.{store_kept, store_memory}
 use Rattle.filing.specs.State.{words_in}
-use Rattle.strings.proofs.Callers.{section_counted, section_ill}
-use Rattle.filing.proofs.Stringing.{strings_none, strings_ill, strings_put, strings_missing}
+use Rattle.filing.proofs.Stringing.{inside_is, cut_ill, cut_counted, strings_none, strings_ill, strings_put, strings_missing}
 use Rattle.filing.proofs.objects.add_object_strings.Goals as goal
 
-pub returns-then-count-lt1 : goal.returns-then-count-lt1
-returns-then-count-lt1 c = record { put = λ ts k. strings_none _ _ ts _ _ _ _ _ c.if-count-lt1.true k; frame = only_same store_region _ _ }
+pub returns-then-count-eq0 : goal.returns-then-count-eq0
+returns-then-count-eq0 c = record { put = λ ts k. strings_none _ _ ts _ _ _ _ _ c.if-count-eq0.true k; frame = only_same store_region _ _ }
+
+pub overflow_add-last : goal.overflow_add-last
+overflow_add-last c = let p = c.requires.room in omega (arith, inside_is _ _ p.offsets_inside, p.limit)
+
+pub slice_bounds-check_entries-end : goal.slice_bounds-check_entries-end
+slice_bounds-check_entries-end c = let p = c.requires.room in omega (arith, inside_is _ _ p.offsets_inside)
 
 pub returns-in_default : goal.returns-in_default
-returns-in_default c = record { put = λ ts q. strings_ill _ _ ts _ _ _ _ _ c.if-count-lt1.false _ (section_ill c.args.o _ _ _ c.section-section.ensures.encoding c.section-section.ensures.bytes _ c.in_default.ensures); frame = only_same store_region _ _ }
+returns-in_default c = record { put = λ ts q. strings_ill _ _ ts _ _ _ _ _ (omega arith) (cut_ill _ c.args.o.offsets _ _ c.check_entries.ensures c.in_default.is); frame = only_same store_region _ _ }
 
 pub add_strings-requires : goal.add_strings-requires
 add_strings-requires c =
     let a = c.args in
-    let p = c.requires in
-    let memory = store_memory (words_in a.b.now) c.store-store.result.start c.store-store.result.size c.strings-table.result.size a.work.now p.room.room c.store-store.ensures.start c.store-store.ensures.size c.strings-table.ensures.size a.o.strings.size (omega (arith, p.room.strings_inside, p.room.whole)) in (
-      omega (arith, memory),
+    let p = c.requires in (
       record {
         limit = omega (arith, p.room.limit);
         offsets_inside = p.room.offsets_inside;
         strings_inside = p.room.strings_inside;
-        enough = omega (arith, memory);
+        memory = store_memory (words_in a.b.now) c.store-store.result.start c.store-store.result.size c.strings-table.result.size a.work.now p.room.room c.store-store.ensures.start c.store-store.ensures.size c.strings-table.ensures.size a.o.strings.size (omega (arith, inside_is a.b.now a.o.strings p.room.strings_inside, p.room.whole));
         room = omega (arith, p.room.fits, c.strings-table.ensures.size);
         small = omega (arith, p.room.limit, p.room.whole, c.strings-table.ensures.size);
       },
@@ -39,9 +42,9 @@ pub returns-in_default-add_strings : goal.returns-in_default-add_strings
 returns-in_default-add_strings c =
     let a = c.args in
     let p = c.requires in record {
-      put = λ ts k. strings_missing (words_in a.b.now) c.store-store.result.start c.store-store.result.size c.strings-table.result.size a.work.now p.room.room c.store-store.ensures.start c.store-store.ensures.size c.strings-table.ensures.size _ _ c.add_strings.auto.store refl _ refl _ _ _ _ a.t (le-leb 1 a.count c.if-count-lt1.false)
-          (section_counted a.o _ _ _ c.section-section.ensures.encoding c.section-section.ensures.bytes _ c.in-Ok.ensures).1 ts c.add_strings.new.self
-          _ (c.in_default-add_strings.ensures ts (store_kept (words_in a.b.now) c.store-store.result.start c.store-store.result.size c.strings-table.result.size a.work.now p.room.room c.store-store.ensures.start c.store-store.ensures.size c.strings-table.ensures.size _ _ _ k));
+      put = λ ts k. strings_missing (words_in a.b.now) c.store-store.result.start c.store-store.result.size c.strings-table.result.size a.work.now p.room.room c.store-store.ensures.start c.store-store.ensures.size c.strings-table.ensures.size _ _ c.add_strings.auto.store refl _ refl _ _ _ _ a.t.now (le-leb 1 a.count (omega arith))
+          (cut_counted _ a.o.offsets _ _ c.check_entries.ensures _ c.in-Count.is) ts c.add_strings.result
+          (c.add_strings.ensures ts (store_kept (words_in a.b.now) c.store-store.result.start c.store-store.result.size c.strings-table.result.size a.work.now p.room.room c.store-store.ensures.start c.store-store.ensures.size c.strings-table.ensures.size _ _ _ k)) c.in_default-add_strings.is;
       frame = only_lent store_region store_within (words_in a.b.now) c.store-store.result.start c.store-store.result.size a.work.now p.room.room c.store-store.ensures.start c.store-store.ensures.size c.add_strings.new.store _ c.add_strings.auto.store refl;
     }
 
@@ -49,8 +52,8 @@ pub returns : goal.returns
 returns c =
     let a = c.args in
     let p = c.requires in record {
-      put = λ ts k. strings_put (words_in a.b.now) c.store-store.result.start c.store-store.result.size c.strings-table.result.size a.work.now p.room.room c.store-store.ensures.start c.store-store.ensures.size c.strings-table.ensures.size _ _ c.add_strings.auto.store refl _ refl _ _ _ _ a.t (le-leb 1 a.count c.if-count-lt1.false)
-          (section_counted a.o _ _ _ c.section-section.ensures.encoding c.section-section.ensures.bytes _ c.in-Ok.ensures).1 ts c.add_strings.new.self
-          (c.in-Ok-add_strings.ensures ts (store_kept (words_in a.b.now) c.store-store.result.start c.store-store.result.size c.strings-table.result.size a.work.now p.room.room c.store-store.ensures.start c.store-store.ensures.size c.strings-table.ensures.size _ _ _ k));
+      put = λ ts k. strings_put (words_in a.b.now) c.store-store.result.start c.store-store.result.size c.strings-table.result.size a.work.now p.room.room c.store-store.ensures.start c.store-store.ensures.size c.strings-table.ensures.size _ _ c.add_strings.auto.store refl _ refl _ _ _ _ a.t.now (le-leb 1 a.count (omega arith))
+          (cut_counted _ a.o.offsets _ _ c.check_entries.ensures _ c.in-Count.is) ts c.add_strings.result
+          (c.add_strings.ensures ts (store_kept (words_in a.b.now) c.store-store.result.start c.store-store.result.size c.strings-table.result.size a.work.now p.room.room c.store-store.ensures.start c.store-store.ensures.size c.strings-table.ensures.size _ _ _ k)) _ c.in-Table.is;
       frame = only_lent store_region store_within (words_in a.b.now) c.store-store.result.start c.store-store.result.size a.work.now p.room.room c.store-store.ensures.start c.store-store.ensures.size c.add_strings.new.store _ c.add_strings.auto.store refl;
     }

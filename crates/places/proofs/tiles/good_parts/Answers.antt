@@ -44,20 +44,20 @@ word-requires c = omega (arith, c.loop-at-test.true, c.requires.0)
 pub overflow_add-end : goal.overflow_add-end
 overflow_add-end c = omega (arith, within (goal.at.overflow_add-end c).After-word)
 
-pub slice_bounds-part-end : goal.slice_bounds-part-end
-slice_bounds-part-end c = within (goal.at.slice_bounds-part-end c).After-word
+pub slice_bounds-check_entries-end : goal.slice_bounds-check_entries-end
+slice_bounds-check_entries-end c = within (goal.at.slice_bounds-check_entries-end c).After-word
 
 pub returns-in_default : goal.returns-in_default
 returns-in_default c =
-    let k = read_ill _ _ c.in_default.ensures in
-    λ ts t. (here (goal.at.returns-in_default c).In-loop-at ts t).stops _ (ap (entries_of _) (sym (cut_part _ _ _ _ (ap (λ (n : ℕ). c.loop-at.at + n) c.word.ensures))) ∙ k)
+    let k = read_ill _ (sym c.in_default.is ∙ c.check_entries.ensures) in
+    λ ts t. (here (goal.at.returns-in_default c).In-loop-at ts t).stops k.0 (ap (entries_of _) (sym (cut_part _ _ _ _ (ap (λ (n : ℕ). c.loop-at.at + n) c.word.ensures))) ∙ k.1)
 
 pub loop-at-smaller : goal.loop-at-smaller
 loop-at-smaller c = omega (arith, within (goal.at.loop-at-smaller c).After-word, c.word.ensures, (known (goal.at.loop-at-smaller c).In-loop-at).some)
 
 pub loop-at-preserved : goal.loop-at-preserved
 loop-at-preserved c =
-    let k = read_count _ _ c.in-Ok.ensures in (
+    let k = read_count _ _ (sym c.in-Count.is ∙ c.check_entries.ensures) in (
       within (goal.at.loop-at-preserved c).After-word,
       λ ts t. subst (λ (n : ℕ). PartsAhead (encoding_is c.args.e) c.args.s.now c.args.marks.now ts (c.loop-at.at + n)) (sym c.word.ensures)
           ((here (goal.at.loop-at-preserved c).In-loop-at ts t).on k.0 (ap (entries_of _) (sym (cut_part _ _ _ _ (ap (λ (n : ℕ). c.loop-at.at + n) c.word.ensures))) ∙ k.1)),

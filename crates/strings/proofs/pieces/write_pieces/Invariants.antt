@@ -1,0 +1,16 @@
+-- `write_pieces` meets its contract. The loop: the pieces ahead are to be written still, with the numbers that are left.
+-- Assumes nothing.
+use mathlib.Core.Path.{◌≡◌}
+use mathlib.Core.List.{List}
+use Prim.Native.Nat.{ℕ, ◌-◌, ◌≤◌}
+use lib.ListN.{length}
+use Rattle.bundle.specs.Encoded.{encoding_is}
+use Rattle.strings.specs.Headed.{Headed}
+use Rattle.strings.proofs.HeadedWriting.{PiecesAhead}
+use Rattle.strings.proofs.pieces.write_pieces.Given as goal
+
+abbrev pub invariant-loop-from : goal.invariant-loop-from
+invariant-loop-from l = (l.from ≤ length l.s) × (length l.d ≡ length l.initial.d) × ((ps : List (List ℕ)) → Headed (encoding_is l.e) l.s ps → PiecesAhead (encoding_is l.e) l.s l.numbers ps l.from l.first l.initial.d l.d l.at)
+
+abbrev pub decreases-loop-from : goal.decreases-loop-from
+decreases-loop-from l = length l.s - l.from
