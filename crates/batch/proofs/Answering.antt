@@ -7,34 +7,19 @@ use mathlib.Core.Logic.{⊎_elim}
 use Prim.Native.Nat.{ℕ, ◌+◌, ◌*◌, ◌/◌, ◌≤◌, ◌<◌}
 use native.Mathlib.Omega.{arith}
 use lib.Dec.{leb}
-use lib.ListN.{length, get_or, take, drop, drop_of_length-le, length-append, length-drop}
-use borrow.Author.Tests.{leb-true}
+use lib.ListN.{length, get_or, drop, drop_of_length-le, length-append}
+use borrow.Author.Tests.{le-leb, lt-leb, leb-true}
 use Rattle.numbers.specs.Limits.{questions_limit}
 use Rattle.numbers.specs.Refusals.{bad_questions}
 use Rattle.octets.specs.Octets.{placed, zeros}
-use Rattle.std.specs.Prelude.{Result, Ok, Err}
-use Rattle.numbers.specs.Refused.{number_of}
-use Rattle.numbers.specs.declared.refusals.Refusal.{Refusal}
-use Rattle.octets.specs.Checked.{pass, refuse, mapped}
-use Rattle.octets.proofs.Checks.{passes, fails, then_pass, then_refuse, and_left, and_right, and_fails, known}
+use Rattle.octets.specs.Checked.{pass, refuse}
+use Rattle.octets.proofs.Checks.{passes, fails, then_pass, then_refuse, and_left, and_right, and_fails, not_left, not_right, known}
 use Rattle.octets.proofs.Placed.{length_placed, placed_none, placed_placed, padded_none, padded_step}
 use Rattle.answers.specs.Answers.{refused, made, output_of, written_of}
 use Rattle.answers.specs.declared.Written.{Written}
 use Rattle.batch.specs.Batch.{Question, question, questions_of, words_of, answer_to, answers_to, batch_judged, batch_answered}
-use Rattle.lookup.specs.Lookup.{package_of}
-use Rattle.lookup.specs.Answers.{opened}
-use Rattle.lookup.specs.declared.package.Package.{Package}
-use Rattle.batch.specs.Ties.{or_none, OpenedAs, are_questions, questions_in, is_taken, Ready}
-use Rattle.batch.proofs.Questions.{three, are_in, are_not, at_rest, at_next, counted}
-
--- ---- the package
-module _ (p : List ℕ) (r : Result Package Refusal) (o : OpenedAs p r) where
-  pub opened_bytes : (k : Package) → r ≡ Ok k → k.bytes.now ≡ p
-  opened_bytes k e = rw e at o.bytes
-
-  pub opened_refused : (n : Refusal) → r ≡ Err n → refuse (number_of n) ≡ opened (package_of p)
-  unfolding mapped
-  opened_refused n e = rw e at o.head
+use Rattle.batch.specs.Ties.{or_none, are_questions, questions_in, is_taken, Ready}
+use Rattle.batch.proofs.Questions.{are_in, are_not, at_least, at_rest, at_next, counted}
 
 -- ---- the answers
 pub answers_length : (p : List ℕ) (version : ℕ) (qs : List Question) → length (answers_to p version qs) ≡ 4 * length qs
@@ -44,73 +29,75 @@ answers_length p version (q ∷ qs) =
     let l = length-append (answer_to p version q) (answers_to p version qs) in
     omega (arith, answers_length p version qs)
 
--- what a loop over the questions has: k of them are answered
-pub record Answering (p : List ℕ) (version : ℕ) (w d₀ d : List ℕ) (k : ℕ) : Type 0 where
-  pub within : 3 * k ≤ length w
+-- what a loop over the words has: i words of questions are answered in at words
+pub record Answering (p : List ℕ) (version : ℕ) (w d₀ d : List ℕ) (i at : ℕ) : Type 0 where
+  pub within : i ≤ length w
   pub same : length d ≡ length d₀
-  pub good : are_questions (drop (3 * k) w) ≡ true
-  pub room : 4 * k + 4 * length (questions_in (drop (3 * k) w)) ≤ length d
-  pub left : placed d (4 * k) (answers_to p version (questions_in (drop (3 * k) w))) ≡ placed d₀ 0 (answers_to p version (questions_in w))
-
--- the three words of a question
-pub words_at : (w : List ℕ) (i n : ℕ) → i + 3 ≤ length w → n ≡ 3 → take n (drop i w) ≡ get_or w i 0 ∷ get_or w (i + 1) 0 ∷ get_or w (i + 2) 0 ∷ []
-words_at w i n h e = rw (e, three w i h)
+  pub good : are_questions (drop i w) ≡ true
+  pub room : at + 4 * length (questions_in (drop i w)) ≤ length d
+  pub left : placed d at (answers_to p version (questions_in (drop i w))) ≡ placed d₀ 0 (answers_to p version (questions_in w))
 
 module _ (p : List ℕ) (version : ℕ) (w d₀ : List ℕ) where
-  pub answering_none : Ready w (length d₀) → Answering p version w d₀ d₀ 0
+  pub answering_none : Ready w (length d₀) → Answering p version w d₀ d₀ 0 0
   answering_none r = record { within = omega arith; same = refl; good = r.good; room = omega (arith, r.fit); left = refl }
 
-  module _ (d : List ℕ) (k : ℕ) (a : Answering p version w d₀ d k) where
-    pub answering_end : length w / 3 ≤ k → d ≡ placed d₀ 0 (answers_to p version (questions_in w))
+  module _ (d : List ℕ) (i at : ℕ) (a : Answering p version w d₀ d i at) where
+    pub answering_end : length w ≤ i → d ≡ placed d₀ 0 (answers_to p version (questions_in w))
     unfolding answers_to questions_in questions_of or_none
-    answering_end h =
-        let n = counted (drop (3 * k) w) a.good in
-        let l = length-drop (3 * k) w in
-        let z : length w ≤ 3 * k = omega (arith, a.within) in
-        sym (placed_none d (4 * k)) ∙ ap (λ (s : List ℕ). placed d (4 * k) (answers_to p version (questions_in s))) (sym (drop_of_length-le w z)) ∙ a.left
+    answering_end h = sym (placed_none d at) ∙ ap (λ (s : List ℕ). placed d at (answers_to p version (questions_in s))) (sym (drop_of_length-le w h)) ∙ a.left
 
-    module _ (h : k < length w / 3) where
-      fits : 3 * k + 3 ≤ length w
-      fits = omega arith
+    module _ (h : i < length w) where
+      pub answering_fits : i + 3 ≤ length w
+      answering_fits = at_least w i a.good h
 
-      pub answering_room : 4 * k + 4 ≤ length d
+      pub answering_room : at + 4 ≤ length d
       answering_room =
-          let n = ap length (at_next w (3 * k) fits a.good) in
+          let n = ap length (at_next w i answering_fits a.good) in
           omega (arith, a.room)
 
-      pub answering_more : (x s : List ℕ) (n : ℕ) → n ≡ 3 → s ≡ take n (drop (3 * k) w)
-          → x ≡ placed d (4 * k) (answer_to p version (question (get_or s 0 0) (get_or s 1 0) (get_or s 2 0))) → Answering p version w d₀ x (k + 1)
+      pub answering_more : (x : List ℕ) (first low high : ℕ) → first ≡ get_or w i 0 → low ≡ get_or w (i + 1) 0 → high ≡ get_or w (i + 2) 0
+          → x ≡ placed d at (answer_to p version (question first low high)) → Answering p version w d₀ x (i + 3) (at + 4)
       unfolding answers_to answer_to words_of
-      answering_more x s n en es ex =
-          let q = question (get_or w (3 * k) 0) (get_or w (3 * k + 1) 0) (get_or w (3 * k + 2) 0) in
-          let ew = es ∙ words_at w (3 * k) n fits en in
-          let exq : x ≡ placed d (4 * k) (answer_to p version q) = rw ew at ex in
-          let next : questions_in (drop (3 * k) w) ≡ q ∷ questions_in (drop (3 * k + 3) w) = at_next w (3 * k) fits a.good in
-          let l = length_placed d (4 * k) (answer_to p version q) answering_room in
-          let same' : length x ≡ length d₀ = ap length exq ∙ l ∙ a.same in
-          let e3 : 3 * (k + 1) ≡ 3 * k + 3 = omega arith in
-          let e4 : 4 * (k + 1) ≡ 4 * k + 4 = omega arith in
+      answering_more x first low high ea eb ec ex =
+          let f = answering_fits in
+          let q = question first low high in
+          let next : questions_in (drop i w) ≡ q ∷ questions_in (drop (i + 3) w) = rw (ea, eb, ec) (at_next w i f a.good) in
+          let n = ap length next in
+          let l = length_placed d at (answer_to p version q) answering_room in
+          let same' : length x ≡ length d₀ = ap length ex ∙ l ∙ a.same in
           record {
-            within = omega arith;
+            within = f;
             same = same';
-            good = rw e3 (at_rest w (3 * k) fits a.good);
-            room = rw e3 (let m = ap length next in omega (arith, a.room, a.same));
+            good = at_rest w i f a.good;
+            room = omega (arith, a.room, a.same);
             left =
-                rw (e3, e4)
-                (ap (λ (s : List ℕ). placed s (4 * k + 4) (answers_to p version (questions_in (drop (3 * k + 3) w)))) exq
-                ∙ placed_placed d (4 * k) (answer_to p version q) (answers_to p version (questions_in (drop (3 * k + 3) w))) answering_room
-                ∙ ap (λ (qs : List Question). placed d (4 * k) (answers_to p version qs)) (sym next)
-                ∙ a.left);
+                ap (λ (s : List ℕ). placed s (at + 4) (answers_to p version (questions_in (drop (i + 3) w)))) ex
+                ∙ placed_placed d at (answer_to p version q) (answers_to p version (questions_in (drop (i + 3) w))) answering_room
+                ∙ ap (λ (qs : List Question). placed d at (answers_to p version qs)) (sym next)
+                ∙ a.left;
           }
 
 -- ---- 38
 module _ (w : List ℕ) (room : ℕ) where
-  count_is : are_questions w ≡ true → length w / 3 ≡ length (questions_in w)
-  count_is e = let c = counted w e in omega arith
-
-  pub taken_by : (are_questions w && leb (length w / 3) questions_limit && leb (4 * (length w / 3)) room) ≡ is_taken w room
+  pub taken_not : are_questions w ≡ false → false ≡ is_taken w room
   unfolding is_taken
-  taken_by = ⊎_elim (λ e. rw (count_is e)) (λ e. rw e) (known (are_questions w))
+  taken_not e = sym (not_left _ _ (not_left _ _ e))
+
+  module _ (e : are_questions w ≡ true) where
+    count_is : length w / 3 ≡ length (questions_in w)
+    count_is = let c = counted w e in omega arith
+
+    pub taken_many : questions_limit < length w / 3 → false ≡ is_taken w room
+    unfolding is_taken
+    taken_many h =
+        let c = count_is in
+        sym (not_left (are_questions w && leb (length (questions_in w)) questions_limit) _ (not_right (are_questions w) _ (lt-leb (length (questions_in w)) questions_limit (omega arith))))
+
+    pub taken_if : length w / 3 ≤ questions_limit → leb (4 * (length w / 3)) room ≡ is_taken w room
+    unfolding is_taken
+    taken_if h =
+        let c = count_is in
+        rw (is_taken, e, le-leb (length (questions_in w)) questions_limit (omega arith), c)
 
   pub taken_ready : is_taken w room ≡ true → Ready w room
   unfolding is_taken

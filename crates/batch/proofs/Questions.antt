@@ -3,17 +3,16 @@
 use mathlib.Core.Path.{◌≡◌, refl, ap, sym, ◌∙◌}
 use mathlib.Core.Bool.{true, false}
 use mathlib.Core.List.{List, [], ◌∷◌}
-use Prim.Native.Nat.{ℕ, suc, ◌+◌, ◌*◌, ◌/◌, ◌%◌, ◌≤◌}
+use Prim.Native.Nat.{ℕ, suc, ◌+◌, ◌*◌, ◌-◌, ◌/◌, ◌≤◌, ◌<◌}
 use native.Mathlib.Omega.{arith}
-use native.Mathlib.Decide.{ℕ_discrete}
+use native.Mathlib.Decide.{ℕ_discrete, dec_lt}
 use native.Mathlib.Numerals.{add-one, add-two, add-three}
-use lib.ListN.{length, get_or, drop, drop_of_length-le}
+use lib.ListN.{length, get_or, drop, length-drop, drop_of_length-le}
 use lib.Seq.{drop-cons}
 use borrow.Author.Tests.{eq-eqb, ne_eqb}
 use Rattle.numbers.specs.Refusals.{bad_questions}
 use Rattle.octets.specs.Checked.{Check, pass, refuse, ◌>>=◌}
-use mathlib.Core.Logic.{⊎_elim}
-use Rattle.octets.proofs.Checks.{true_false, passes, fails, then_refuse, known}
+use Rattle.octets.proofs.Checks.{true_false, passes, fails, then_refuse}
 use Rattle.batch.specs.Batch.{Question, question_kind, question, questions_of}
 use Rattle.batch.specs.Ties.{is_pass, or_none, are_questions, questions_in}
 
@@ -56,6 +55,16 @@ module _ (w : List ℕ) (i : ℕ) where
   unfolding are_questions questions_of is_pass
   at_end h = ap are_questions (drop_of_length-le w h)
 
+  pub at_short : i < length w → length w - i < 3 → are_questions (drop i w) ≡ false
+  unfolding are_questions questions_of is_pass
+  at_short h g = go (drop i w) (let l = length-drop i w in omega (arith, l)) (let l = length-drop i w in omega (arith, l))
+    where
+      go : (s : List ℕ) → 0 < length s → length s < 3 → are_questions s ≡ false
+      go [] a b = absurd (omega arith)
+      go (x ∷ []) a b = refl
+      go (x ∷ y ∷ []) a b = refl
+      go (x ∷ y ∷ z ∷ s) a b = absurd (omega arith)
+
   module _ (h : i + 3 ≤ length w) where
     pub at_other : (first : ℕ) → first ≡ get_or w i 0 → (first / 256 ≡ question_kind → ⊥) → are_questions (drop i w) ≡ false
     at_other first s f = ap are_questions (three w i h) ∙ are_other (get_or w i 0) _ _ _ (λ z. f (ap (λ (n : ℕ). n / 256) s ∙ z))
@@ -74,6 +83,13 @@ module _ (w : List ℕ) (i : ℕ) where
       pub at_next : questions_in (drop i w) ≡ question (get_or w i 0) (get_or w (i + 1) 0) (get_or w (i + 2) 0) ∷ questions_in (drop (i + 3) w)
       at_next = ap questions_in (three w i h) ∙ in_more (get_or w i 0) _ _ _ at_kind at_rest
 
+pub at_least : (w : List ℕ) (i : ℕ) → are_questions (drop i w) ≡ true → i < length w → i + 3 ≤ length w
+at_least w i e h =
+    elim (dec_lt (length w - i) 3) [
+      | yes g ↦ absurd (true_false e (at_short w i h g))
+      | no g ↦ omega arith
+    ]
+
 -- ---- how many they are
 pub counted : (w : List ℕ) → are_questions w ≡ true → length w ≡ 3 * length (questions_in w)
 unfolding are_questions questions_in questions_of is_pass or_none
@@ -85,9 +101,6 @@ counted (a ∷ b ∷ c ∷ w) e =
     let r = sym (are_more a b c w k) ∙ e in
     let n = ap length (in_more a b c w k r) in
     omega (arith, counted w r)
-
-pub not_whole : (w : List ℕ) → (length w % 3 ≡ 0 → ⊥) → false ≡ are_questions w
-not_whole w f = ⊎_elim (λ e. let c = counted w e in absurd (f (omega arith))) (λ e. sym e) (known (are_questions w))
 
 -- ---- all of them
 pub are_in : (w : List ℕ) → are_questions w ≡ true → questions_of w ≡ pass (questions_in w)

@@ -1,14 +1,10 @@
 -- What ties the code to the definitions. Nothing here need be believed.
 -- Assumes nothing.
-use Rattle.std.specs.Prelude.{◌≡◌, Bool, true, false, ◌&&◌, List, [], ℕ, ◌*◌, ◌^◌, ◌≤◌, ◌<◌, leb, length, Result, IfOk}
+use Rattle.std.specs.Prelude.{◌≡◌, Bool, true, false, ◌&&◌, List, [], ◌∷◌, ℕ, ◌*◌, ◌^◌, ◌≤◌, ◌<◌, leb, length}
 use Rattle.numbers.specs.Limits.{questions_limit}
-use Rattle.numbers.specs.Refused.{told}
-use Rattle.numbers.specs.declared.refusals.Refusal.{Refusal}
-use Rattle.octets.specs.Checked.{Check, pass, refuse, mapped}
-use Rattle.lookup.specs.Lookup.{package_of}
-use Rattle.lookup.specs.Answers.{opened}
-use Rattle.lookup.specs.declared.answering.Answer.{Answer}
-use Rattle.lookup.specs.declared.package.Package.{Package}
+use Rattle.octets.specs.Checked.{Check, pass, refuse}
+use Rattle.lookup.specs.declared.searching.Located.{Located}
+use Rattle.lookup.specs.declared.searching.Located.TheVariants.{Part, Absent, Refused}
 use Rattle.batch.specs.Batch.{Question, questions_of}
 
 -- ---- the questions
@@ -36,14 +32,14 @@ pub record Ready (words : List ℕ) (room : ℕ) : Type 0 where
   pub good : are_questions words ≡ true
   pub fit : 4 * length (questions_in words) ≤ room
 
--- ---- the package, which was opened or refused
-pub record OpenedAs (p : List ℕ) (r : Result Package Refusal) : Type 0 where
-  pub head : mapped (λ k. k.head) (told r) ≡ opened (package_of p)
-  pub bytes : IfOk r (λ k. k.bytes.now ≡ p)
-
 -- ---- one answer
+unfoldable pub words_in : Located → List ℕ
+words_in (Part start size looks) = 0 ∷ start ∷ size ∷ looks ∷ []
+words_in (Absent looks) = 1 ∷ 0 ∷ 0 ∷ looks ∷ []
+words_in (Refused n) = n ∷ 0 ∷ 0 ∷ 0 ∷ []
+
 -- its numbers have 32 bits
-pub record Narrow (a : Answer) : Type 0 where
-  pub start : a.start < 2 ^ 32
-  pub length : a.length < 2 ^ 32
-  pub looks : a.looks < 2 ^ 32
+unfoldable pub Narrow : Located → Type 0
+Narrow (Part start size looks) = (start < 2 ^ 32) × (size < 2 ^ 32) × (looks < 2 ^ 32)
+Narrow (Absent looks) = looks < 2 ^ 32
+Narrow (Refused n) = Unit {0}

@@ -1,26 +1,26 @@
 // Many questions for one package, which is opened once for all of them.
 #![tactic(auto)]
 
-ghost use Rattle.std.specs.Prelude.{◌≡◌, length, get_or};
+ghost use Rattle.std.specs.Prelude.{◌≡◌, [], ◌∷◌, ◌+◌, ◌≤◌, length};
 ghost use Rattle.octets.specs.Octets.{placed};
 ghost use Rattle.answers.specs.Answers.{output_of, written_of};
-ghost use Rattle.lookup.specs.Answers.{numbered};
-ghost use Rattle.batch.specs.Batch.{question, asked, answers_to, batch_answered, words_of};
+ghost use Rattle.lookup.specs.Lookup.{package_of};
+ghost use Rattle.lookup.specs.Answers.{located_of, opened};
+ghost use Rattle.batch.specs.Batch.{question, asked, answers_to, batch_answered};
 ghost use Rattle.batch.specs.Ties.{
   are_questions,
   questions_in,
   is_taken,
-  OpenedAs,
   Ready,
+  words_in,
   Narrow,
 };
 
-use answers::{Unwritten, Written};
-use lookup::answering::Answer;
-use lookup::package::Package;
-use lookup::searching::Question;
+use answers::Written;
+use lookup::opening::PackageHead;
+use lookup::searching::Located;
 use numbers::limits::QUESTIONS_LIMIT;
-use numbers::refusals::Refusal;
+use numbers::refusals::BAD_QUESTIONS;
 
 // Kind 4 and the zeros of a question's first word, above its lowest 8 bits.
 const QUESTION_KIND: u32 = 0x40_0000;
@@ -30,13 +30,16 @@ const QUESTION_KIND: u32 = 0x40_0000;
 fn are_questions(words: &[u32]) -> bool
     ensures { result ≡ are_questions words.now }
 {
-    if words.len() % 3 != 0 {
-        return false;
-    }
-    for i in 0..words.len() / 3 {
-        if words[3 * i] / 256 != QUESTION_KIND {
+    let mut i = 0;
+    while i < words.len() {
+        if words.len() - i < 3 {
             return false;
         }
+        let first = words[i];
+        if first / 256 != QUESTION_KIND {
+            return false;
+        }
+        i += 3;
     }
     true
 }
@@ -44,57 +47,84 @@ fn are_questions(words: &[u32]) -> bool
 fn is_taken(words: &[u32], room: usize) -> bool
     ensures { result ≡ is_taken words.now room }
 {
+    if !are_questions(words) {
+        return false;
+    }
     let count = words.len() / 3;
-    are_questions(words) && count <= QUESTIONS_LIMIT && 4 * count <= room
+    if QUESTIONS_LIMIT < count {
+        return false;
+    }
+    4 * count <= room
 }
 
 // ---- the answers
-// One question, of three words. The caller has opened the package, or it was refused.
-fn ask(package: &[u8], opened: &Result<Package, Refusal>, version: u32, words: &[u32]) -> Answer
-    requires { (OpenedAs «package».now opened.now) × (length words.now ≡ 3) }
-    ensures { result ≡ numbered (asked «package».now version (question (get_or words.now 0 0) (get_or words.now 1 0) (get_or words.now 2 0))) }
+// One question. The caller has opened the package.
+fn ask(package: &[u8], head: PackageHead, version: u32, first: u32, low: u32, high: u32) -> Located
+    requires { head ≡ opened (package_of «package».now) }
+    ensures { result ≡ located_of (asked «package».now version (question first low high)) }
 {
-    let question = Question {
-        version,
-        table: words[0] % 16,
-        identity: u64::from(words[1]) + 0x1_0000_0000 * u64::from(words[2]),
-        section: words[0] / 16 % 16,
-    };
-    let located = match opened {
-        Ok(package) => package.locate(question),
-        Err(refusal) => Err(*refusal),
-    };
-    Answer::from(located)
+    let table = first % 16;
+    let section = first / 16 % 16;
+    let identity = octets::wide64(low) + 0x1_0000_0000 * octets::wide64(high);
+    lookup::searching::locate_in(package, head, version, table, identity, section)
+}
+
+fn put_four(answers: &mut [u32], at: usize, code: u32, start: u32, size: u32, looks: u32)
+    requires { at + 4 ≤ length answers.old }
+    ensures { answers.new ≡ placed answers.old at (code ∷ start ∷ size ∷ looks ∷ []) }
+{
+    answers[at] = code;
+    answers[at + 1] = start;
+    answers[at + 2] = size;
+    answers[at + 3] = looks;
 }
 
 // The four words of an answer.
-#[tactic(auto, unfolding(crate::specs::Batch::words_of))]
-fn words_of(answer: Answer) -> [u32; 4]
-    requires { Narrow answer }
-    ensures { result ≡ words_of answer }
+fn put_answer(located: Located, answers: &mut [u32], at: usize)
+    requires { (at + 4 ≤ length answers.old) × (Narrow located) }
+    ensures { answers.new ≡ placed answers.old at (words_in located) }
 {
-    [
-        answer.code,
-        answer.start as u32,
-        answer.length as u32,
-        answer.looks as u32,
-    ]
+    match located {
+        Located::Part(start, size, looks) => {
+            put_four(
+                answers,
+                at,
+                0,
+                octets::narrow(start),
+                octets::narrow(size),
+                octets::narrow(looks),
+            );
+        }
+        Located::Absent(looks) => {
+            put_four(answers, at, 1, 0, 0, octets::narrow(looks));
+        }
+        Located::Refused(number) => {
+            put_four(answers, at, number, 0, 0, 0);
+        }
+    }
 }
 
-// All answers, in order, from the front. The caller has judged the questions.
+// All answers, in order, from the front. The caller has opened the package and judged the questions.
 fn put_answers(
     package: &[u8],
-    opened: &Result<Package, Refusal>,
+    head: PackageHead,
     version: u32,
     questions: &[u32],
     answers: &mut [u32],
 )
-    requires { (OpenedAs «package».now opened.now) × (Ready questions.now (length answers.old)) }
+    requires { (head ≡ opened (package_of «package».now)) × (Ready questions.now (length answers.old)) }
     ensures { answers.new ≡ placed answers.old 0 (answers_to «package».now version (questions_in questions.now)) }
 {
-    for i in 0..questions.len() / 3 {
-        let answer = ask(package, opened, version, &questions[3 * i..3 * i + 3]);
-        answers[4 * i..4 * i + 4].copy_from_slice(&words_of(answer));
+    let mut i = 0;
+    let mut at = 0;
+    while i < questions.len() {
+        let first = questions[i];
+        let low = questions[i + 1];
+        let high = questions[i + 2];
+        let located = ask(package, head, version, first, low, high);
+        put_answer(located, answers, at);
+        i += 3;
+        at += 4;
     }
 }
 
@@ -103,16 +133,17 @@ pub fn answer_batch(package: &[u8], version: u32, questions: &[u32], answers: &m
     ensures answer { result ≡ written_of (batch_answered «package».now version questions.now (length answers.old)) }
     ensures output { answers.new ≡ output_of (batch_answered «package».now version questions.now (length answers.old)) (length answers.old) }
 {
-    answers.fill(0);
+    octets::clear_words(answers);
     if !is_taken(questions, answers.len()) {
-        return Written::from(Err(Unwritten::Refused(Refusal::BadQuestions)));
+        return Written {
+            code: BAD_QUESTIONS,
+            length: 0,
+        };
     }
-    put_answers(
-        package,
-        &Package::open(package),
-        version,
-        questions,
-        answers,
-    );
-    Written::from(Ok(4 * (questions.len() / 3)))
+    let head = lookup::opening::open_package(package);
+    put_answers(package, head, version, questions, answers);
+    Written {
+        code: 0,
+        length: 4 * (questions.len() / 3),
+    }
 }

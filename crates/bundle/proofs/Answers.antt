@@ -3,41 +3,73 @@
 use mathlib.Core.Path.{◌≡◌, ap, sym, ◌∙◌}
 use mathlib.Core.Bool.{true, false}
 use mathlib.Core.List.{List}
-use Prim.Native.Nat.{ℕ, ◌+◌, ◌-◌, ◌/◌, ◌%◌, ◌≤◌, ◌<◌}
+use Prim.Native.Nat.{ℕ, ◌+◌, ◌*◌, ◌-◌, ◌/◌, ◌%◌, ◌≤◌, ◌<◌}
 use native.Mathlib.Omega.{arith}
 use lib.Dec.{eqb}
 use lib.ListN.{length, drop, length-drop}
 use Rattle.octets.specs.Octets.{part, number_at}
-use Rattle.octets.specs.Checked.{pass, refuse}
 use Rattle.octets.specs.Lists.{all}
 use Rattle.octets.proofs.Parts.{part_drop}
 use Rattle.octets.proofs.Numbers.{number_at_drop}
 use Rattle.bundle.specs.Bundle.{Step, broken, filled_up, object_step, section_step, end_step, step_of, step_at}
 use Rattle.bundle.specs.Next.{next_of}
-use Rattle.bundle.specs.declared.Item.TheVariants.{Section}
-use Rattle.bundle.proofs.Cases.{step_short, step_word, kind_object, kind_section, kind_end, kind_other, section_good, section_unfilled}
+use Rattle.bundle.specs.declared.Item.TheVariants.{Object, Section, End, Broken}
+use Rattle.bundle.proofs.Cases.{object_good, object_bad, step_short, step_word, kind_object, kind_section, kind_end, kind_other, section_good, section_low, section_high, section_long, section_unfilled, end_good, end_early, end_count}
+
+module _ (at rest : ℕ) where
+  pub object_answer : rest < 0x100_0000 → Object (0x1000_0000 + rest) (at + 4) ≡ next_of at (object_step rest)
+  unfolding next_of
+  object_answer h =
+      let place : at + 4 ≡ at + 4 + 0 = omega arith in
+      ap (Object (0x1000_0000 + rest)) place ∙ sym (ap (next_of at) (object_good rest h))
+
+  pub object_broken : 0x100_0000 ≤ rest → Broken ≡ next_of at (object_step rest)
+  unfolding next_of
+  object_broken h = sym (ap (next_of at) (object_bad rest h))
 
 module _ (b : List ℕ) (at : ℕ) where
-  breaks : (st : Step) → st ≡ broken → refuse 3 ≡ next_of at st
+  breaks : (st : Step) → st ≡ broken → Broken ≡ next_of at st
   unfolding next_of
   breaks st e = sym (ap (next_of at) e)
 
-  -- a section that has room, by the bytes that fill it up
-  module _ (code size : ℕ) (h : 1 ≤ code) (g : code ≤ 13) (l : 4 + filled_up size ≤ length b - at) where
-    filling : all (eqb 0) (part (drop at b) (4 + size) (filled_up size - size)) ≡ all (eqb 0) (part b (at + 4 + size) (filled_up size - size))
-    filling =
-        let place : at + (4 + size) ≡ at + 4 + size = omega arith in
-        ap (all (eqb 0)) (part_drop b at (4 + size) (filled_up size - size) ∙ ap (λ (k : ℕ). part b k (filled_up size - size)) place)
-
-    pub unfilled : all (eqb 0) (part b (at + 4 + size) (filled_up size - size)) ≡ false → refuse 3 ≡ next_of at (section_step at (drop at b) code size)
-    unfilled z = breaks _ (section_unfilled at (drop at b) code size h g (rw length-drop l) (filling ∙ z))
-
-    pub section_answer : all (eqb 0) (part b (at + 4 + size) (filled_up size - size)) ≡ true
-        → pass (Section (record { code = code; start = at + 4; size = size; next = at + 4 + filled_up size })) ≡ next_of at (section_step at (drop at b) code size)
+  module _ (rest : ℕ) where
+    pub end_answer : length b - at ≡ 4 → 4 * rest ≡ at + 4 → End ≡ next_of at (end_step at (drop at b) rest)
     unfolding next_of
-    section_answer z = sym (ap (next_of at) (section_good at (drop at b) code size h g (rw length-drop l) (filling ∙ z)))
+    end_answer h e = sym (ap (next_of at) (end_good at (drop at b) rest (length-drop at b ∙ h) e))
 
-  pub no_word : length b - at < 4 → refuse 3 ≡ next_of at (step_at at (drop at b))
+    pub end_not_last : (length b - at ≡ 4 → ⊥) → Broken ≡ next_of at (end_step at (drop at b) rest)
+    end_not_last h = breaks _ (end_early at (drop at b) rest (λ z. h (sym (length-drop at b) ∙ z)))
+
+    pub end_miscounts : length b - at ≡ 4 → (4 * rest ≡ at + 4 → ⊥) → Broken ≡ next_of at (end_step at (drop at b) rest)
+    end_miscounts h e = breaks _ (end_count at (drop at b) rest (length-drop at b ∙ h) e)
+
+  module _ (code size : ℕ) where
+    pub code_low : code < 1 → Broken ≡ next_of at (section_step at (drop at b) code size)
+    code_low h = breaks _ (section_low at (drop at b) code size h)
+
+    module _ (h : 1 ≤ code) where
+      pub code_high : 13 < code → Broken ≡ next_of at (section_step at (drop at b) code size)
+      code_high g = breaks _ (section_high at (drop at b) code size h g)
+
+      module _ (g : code ≤ 13) where
+        pub too_long : length b - at < 4 + filled_up size → Broken ≡ next_of at (section_step at (drop at b) code size)
+        too_long l = breaks _ (section_long at (drop at b) code size h g (rw length-drop l))
+
+        module _ (l : 4 + filled_up size ≤ length b - at) where
+          filling : all (eqb 0) (part (drop at b) (4 + size) (filled_up size - size)) ≡ all (eqb 0) (part b (at + 4 + size) (filled_up size - size))
+          filling =
+              let place : at + (4 + size) ≡ at + 4 + size = omega arith in
+              ap (all (eqb 0)) (part_drop b at (4 + size) (filled_up size - size) ∙ ap (λ (k : ℕ). part b k (filled_up size - size)) place)
+
+          pub unfilled : all (eqb 0) (part b (at + 4 + size) (filled_up size - size)) ≡ false → Broken ≡ next_of at (section_step at (drop at b) code size)
+          unfilled z = breaks _ (section_unfilled at (drop at b) code size h g (rw length-drop l) (filling ∙ z))
+
+          pub section_answer : all (eqb 0) (part b (at + 4 + size) (filled_up size - size)) ≡ true
+              → Section code (at + 4) size (at + 4 + filled_up size) ≡ next_of at (section_step at (drop at b) code size)
+          unfolding next_of
+          section_answer z = sym (ap (next_of at) (section_good at (drop at b) code size h g (rw length-drop l) (filling ∙ z)))
+
+  pub no_word : length b - at < 4 → Broken ≡ next_of at (step_at at (drop at b))
   no_word h = breaks _ (step_short at (drop at b) (rw length-drop h))
 
   -- a word at the place, in its kind and the rest
@@ -51,12 +83,16 @@ module _ (b : List ℕ) (at : ℕ) where
     pub an_object : word / 0x1000_0000 ≡ 1 → next_of at (object_step (word % 0x1000_0000)) ≡ next_of at (step_at at (drop at b))
     an_object k = sym (ap (next_of at) (of_kind ∙ kind_object at (drop at b) (word / 0x1000_0000) (word % 0x1000_0000) k))
 
-    pub a_section : word / 0x1000_0000 ≡ 2
-        → next_of at (section_step at (drop at b) (word % 0x1000_0000 / 0x80_0000) (word % 0x1000_0000 % 0x80_0000)) ≡ next_of at (step_at at (drop at b))
-    a_section k = sym (ap (next_of at) (of_kind ∙ kind_section at (drop at b) (word / 0x1000_0000) (word % 0x1000_0000) k))
+    pub a_section : (size : ℕ) → size ≡ word % 0x1000_0000 % 0x80_0000 → word / 0x1000_0000 ≡ 2
+        → next_of at (section_step at (drop at b) (word % 0x1000_0000 / 0x80_0000) size) ≡ next_of at (step_at at (drop at b))
+    a_section size z k =
+        ap (λ (n : ℕ). next_of at (section_step at (drop at b) (word % 0x1000_0000 / 0x80_0000) n)) z
+        ∙ sym (ap (next_of at) (of_kind ∙ kind_section at (drop at b) (word / 0x1000_0000) (word % 0x1000_0000) k))
 
-    pub an_end : word / 0x1000_0000 ≡ 3 → next_of at (end_step at (drop at b) (word % 0x1000_0000)) ≡ next_of at (step_at at (drop at b))
-    an_end k = sym (ap (next_of at) (of_kind ∙ kind_end at (drop at b) (word / 0x1000_0000) (word % 0x1000_0000) k))
+    pub an_end : (rest : ℕ) → rest ≡ word % 0x1000_0000 → word / 0x1000_0000 ≡ 3 → next_of at (end_step at (drop at b) rest) ≡ next_of at (step_at at (drop at b))
+    an_end rest z k =
+        ap (λ (n : ℕ). next_of at (end_step at (drop at b) n)) z
+        ∙ sym (ap (next_of at) (of_kind ∙ kind_end at (drop at b) (word / 0x1000_0000) (word % 0x1000_0000) k))
 
-    pub another : (word / 0x1000_0000 ≡ 1 → ⊥) → (word / 0x1000_0000 ≡ 2 → ⊥) → (word / 0x1000_0000 ≡ 3 → ⊥) → refuse 3 ≡ next_of at (step_at at (drop at b))
+    pub another : (word / 0x1000_0000 ≡ 1 → ⊥) → (word / 0x1000_0000 ≡ 2 → ⊥) → (word / 0x1000_0000 ≡ 3 → ⊥) → Broken ≡ next_of at (step_at at (drop at b))
     another f g l = breaks _ (of_kind ∙ kind_other at (drop at b) (word / 0x1000_0000) (word % 0x1000_0000) f g l)

@@ -1,121 +1,122 @@
--- Whether the items from a place on reach the end, and are in order, by an answer of `next_item` at the place; and what `check_words` makes of it.
+-- Whether the items from a place on reach the end, by an answer of `next_item` at the place; and what `check_words` makes of it.
 -- Assumes nothing.
 use mathlib.Core.Path.{◌≡◌, refl, ap, sym, ◌∙◌}
 use mathlib.Core.Bool.{Bool, true, false}
 use mathlib.Core.List.{List}
-use Prim.Native.Nat.{ℕ, ◌+◌, ◌<◌}
+use Prim.Native.Nat.{ℕ, ◌+◌, ◌<◌, ◌≤◌}
 use native.Mathlib.Omega.{arith}
+use native.Mathlib.Decide.{ℕ_discrete}
+use lib.Dec.{eqb}
 use lib.ListN.{length, take, drop, length-take}
+use borrow.Author.Tests.{eq-eqb, ne_eqb}
 use Rattle.octets.specs.Octets.{part, number_at}
 use Rattle.octets.proofs.Numbers.{Bytes, number_lt_width, bytes_take}
-use Rattle.octets.specs.Checked.{Check, pass, refuse, ◌>>=◌, require, mapped}
-use Rattle.octets.proofs.Checks.{pass_refuse, refuse_inj}
-use Rattle.bundle.specs.Bundle.{Item, Bundle, object, section, step_at, filled_up, items, object_first, bundle_of}
-use Rattle.bundle.specs.Next.{next_of, ended, in_order}
-use Rattle.bundle.specs.declared.Section.{Section}
-use Rattle.bundle.specs.declared.Item.TheVariants.{Object, Section as ASection, End}
+use Rattle.octets.specs.Checked.{Check, pass, refuse}
+use Rattle.bundle.specs.Bundle.{Part, Item, object, section, step_at, filled_up, items, object_first, bundle_of}
+use Rattle.bundle.specs.Next.{next_of, ends, items_good, words_of}
+use Rattle.bundle.specs.declared.Item.TheVariants.{Object, Section, End, Broken}
+use Rattle.bundle.specs.declared.Words.TheVariants.{Readable, Broken as Unreadable}
 use Rattle.bundle.proofs.Steps.{before}
 use Rattle.bundle.proofs.Passed.{here, here_more, here_end, here_broken}
-use Rattle.bundle.proofs.Next.{part_of, object_here, section_here, object_nearer, section_nearer, end_here, broken_here, broken_number}
-use Rattle.bundle.proofs.WordsAnswered.{here_only}
+use Rattle.bundle.proofs.Next.{object_here, section_here, end_here, broken_here}
 use Rattle.bundle.proofs.Whole.{head_word, bundle_head, bundle_items, bundle_section, bundle_good}
 
-ended_before : (i : Item) (c : Check (List Item)) → ended c ≡ ended (before i c)
-unfolding ended mapped before
-ended_before i (pass is) = refl
-ended_before i (refuse n) = refl
+ends_before : (i : Item) (c : Check (List Item)) → ends c ≡ ends (before i c)
+unfolding ends before
+ends_before i (pass is) = refl
+ends_before i (refuse n) = refl
 
-ordered_before : (w : ℕ) (c : Check (List Item)) → ended c ≡ in_order (before (object w) c)
-unfolding ended mapped before in_order ◌>>=◌ require object_first
-ordered_before w (pass is) = refl
-ordered_before w (refuse n) = refl
+good_before : (w : ℕ) (c : Check (List Item)) → ends c ≡ items_good (before (object w) c)
+unfolding ends before items_good object_first
+good_before w (pass is) = refl
+good_before w (refuse n) = refl
+
+bad_before : (p : Part) (c : Check (List Item)) → false ≡ items_good (before (section p) c)
+unfolding before items_good object_first
+bad_before p (pass is) = refl
+bad_before p (refuse n) = refl
 
 module _ (b : List ℕ) (at : ℕ) where
-  object_there : (word next : ℕ) → pass (Object word next) ≡ next_of at (step_at at (drop at b)) → here b at ≡ before (object word) (here b next)
-  object_there word next e =
+  object_first_law : (word next : ℕ) → Object word next ≡ next_of at (step_at at (drop at b)) → here b at ≡ before (object word) (here b next)
+  object_first_law word next e =
       let h = object_here b at word next e in
       let place : at + 4 + 0 ≡ next = omega (arith, h.place) in
       here_more b at (object word) 0 h.step ∙ ap (λ (k : ℕ). before (object word) (here b k)) place
 
-  section_there : (x : Section) → pass (ASection x) ≡ next_of at (step_at at (drop at b)) → here b at ≡ before (section (part_of x)) (here b x.next)
-  section_there x e =
-      let h = section_here b at x e in
-      let place : at + 4 + filled_up x.size ≡ x.next = omega (arith, h.place, h.behind) in
-      here_more b at (section (part_of x)) (filled_up x.size) h.step ∙ ap (λ (k : ℕ). before (section (part_of x)) (here b k)) place
+  section_first : (code start size next : ℕ) → Section code start size next ≡ next_of at (step_at at (drop at b))
+      → here b at ≡ before (section (record { code = code; start = start; size = size })) (here b next)
+  section_first code start size next e =
+      let h = section_here b at code start size next e in
+      let p : Part = record { code = code; start = start; size = size } in
+      let place : at + 4 + filled_up size ≡ next = omega (arith, h.place, h.behind) in
+      here_more b at (section p) (filled_up size) h.step ∙ ap (λ (k : ℕ). before (section p) (here b k)) place
 
-  pub ended_object : (word next : ℕ) → pass (Object word next) ≡ next_of at (step_at at (drop at b)) → ended (items next (drop next b)) ≡ ended (items at (drop at b))
+  pub ends_object : (word next : ℕ) → Object word next ≡ next_of at (step_at at (drop at b)) → ends (items next (drop next b)) ≡ ends (items at (drop at b))
   unfolding here
-  ended_object word next e = ended_before (object word) (items next (drop next b)) ∙ ap ended (sym (object_there word next e))
+  ends_object word next e = ends_before (object word) (items next (drop next b)) ∙ ap ends (sym (object_first_law word next e))
 
-  pub ended_section : (x : Section) → pass (ASection x) ≡ next_of at (step_at at (drop at b)) → ended (items x.next (drop x.next b)) ≡ ended (items at (drop at b))
+  pub ends_section : (code start size next : ℕ) → Section code start size next ≡ next_of at (step_at at (drop at b)) → ends (items next (drop next b)) ≡ ends (items at (drop at b))
   unfolding here
-  ended_section x e = ended_before (section (part_of x)) (items x.next (drop x.next b)) ∙ ap ended (sym (section_there x e))
+  ends_section code start size next e =
+      ends_before (section (record { code = code; start = start; size = size })) (items next (drop next b)) ∙ ap ends (sym (section_first code start size next e))
 
-  pub ended_end : pass End ≡ next_of at (step_at at (drop at b)) → pass tt ≡ ended (items at (drop at b))
-  unfolding here ended mapped
-  ended_end e = sym (ap ended (here_end b at (end_here b at e)))
+  pub ends_end : End ≡ next_of at (step_at at (drop at b)) → true ≡ ends (items at (drop at b))
+  unfolding here ends
+  ends_end e = sym (ap ends (here_end b at (end_here b at e)))
 
-  pub ended_broken : (k : ℕ) → refuse k ≡ next_of at (step_at at (drop at b)) → refuse k ≡ ended (items at (drop at b))
-  unfolding here ended mapped
-  ended_broken k e = ap refuse (broken_number b at k e) ∙ sym (ap ended (here_broken b at (broken_here b at k e)))
+  pub ends_broken : Broken ≡ next_of at (step_at at (drop at b)) → false ≡ ends (items at (drop at b))
+  unfolding here ends
+  ends_broken e = sym (ap ends (here_broken b at (broken_here b at e)))
 
-  pub ordered_object : (word next : ℕ) → pass (Object word next) ≡ next_of at (step_at at (drop at b)) → ended (items next (drop next b)) ≡ in_order (items at (drop at b))
+  pub good_object : (word next : ℕ) → Object word next ≡ next_of at (step_at at (drop at b)) → ends (items next (drop next b)) ≡ items_good (items at (drop at b))
   unfolding here
-  ordered_object word next e = ordered_before word (items next (drop next b)) ∙ ap in_order (sym (object_there word next e))
+  good_object word next e = good_before word (items next (drop next b)) ∙ ap items_good (sym (object_first_law word next e))
 
-  pub ordered_end : pass End ≡ next_of at (step_at at (drop at b)) → pass tt ≡ in_order (items at (drop at b))
-  unfolding here in_order ◌>>=◌ require object_first
-  ordered_end e = sym (ap in_order (here_end b at (end_here b at e)))
+  pub good_section : (code start size next : ℕ) → Section code start size next ≡ next_of at (step_at at (drop at b)) → false ≡ items_good (items at (drop at b))
+  unfolding here
+  good_section code start size next e =
+      bad_before (record { code = code; start = start; size = size }) (items next (drop next b)) ∙ ap items_good (sym (section_first code start size next e))
 
-  pub ordered_broken : (k : ℕ) → refuse k ≡ next_of at (step_at at (drop at b)) → refuse k ≡ in_order (items at (drop at b))
-  unfolding here in_order ◌>>=◌
-  ordered_broken k e = ap refuse (broken_number b at k e) ∙ sym (ap in_order (here_broken b at (broken_here b at k e)))
+  pub good_end : End ≡ next_of at (step_at at (drop at b)) → true ≡ items_good (items at (drop at b))
+  unfolding here items_good object_first
+  good_end e = sym (ap items_good (here_end b at (end_here b at e)))
 
-  -- a section before any object, whatever follows
-  pub ordered_section : (x : Section) → pass (ASection x) ≡ next_of at (step_at at (drop at b)) → refuse 3 ≡ in_order (items at (drop at b))
-  unfolding here before in_order ◌>>=◌ require object_first
-  ordered_section x e = bad (here b x.next) (λ n h. here_only b x.next n h) ∙ ap in_order (sym (section_there x e))
-    where
-      bad : (c : Check (List Item)) → ((n : ℕ) → c ≡ refuse n → n ≡ 3) → refuse 3 ≡ in_order (before (section (part_of x)) c)
-      bad (pass is) f = refl
-      bad (refuse n) f = ap refuse (sym (f n refl))
-
--- what a walk up to the end cites
-pub ruleset ending = (object_nearer, section_nearer, ended_object, ended_section, ended_end, ended_broken)
+  pub good_broken : Broken ≡ next_of at (step_at at (drop at b)) → false ≡ items_good (items at (drop at b))
+  unfolding here items_good
+  good_broken e = sym (ap items_good (here_broken b at (broken_here b at e)))
 
 -- ---- the whole bundle
+pub head_either : (h : ℕ) → 0xF000_0000 ≤ h → h ≤ 0xF000_0001 → h ≡ head_word (eqb h 0xF000_0001)
+unfolding head_word
+head_either h l m =
+    elim (ℕ_discrete h 0xF000_0001) [
+      | yes e ↦ rw (eq-eqb h 0xF000_0001 e) e
+      | no f ↦ rw (ne_eqb h 0xF000_0001 f) (omega arith)
+    ]
+
 -- fewer than four bytes state no head
 pub head_short : (b : List ℕ) → Bytes b → length b < 4 → number_at false 4 b 0 < 0x100_0000
 unfolding number_at part
 head_short b y h = number_lt_width false (take 4 b) 3 (simp length-take (omega arith)) (bytes_take 4 b y)
 
 module _ (b : List ℕ) where
-  pub words_head : (number_at false 4 b 0 ≡ 0xF000_0000 → ⊥) → (number_at false 4 b 0 ≡ 0xF000_0001 → ⊥) → refuse 3 ≡ mapped (λ (u : Bundle). u.big) (bundle_of b)
-  unfolding mapped
-  words_head f g = sym (ap (mapped (λ (u : Bundle). u.big)) (bundle_head b f g))
+  pub words_head : (number_at false 4 b 0 ≡ 0xF000_0000 → ⊥) → (number_at false 4 b 0 ≡ 0xF000_0001 → ⊥) → Unreadable ≡ words_of (bundle_of b)
+  unfolding words_of
+  words_head f g = sym (ap words_of (bundle_head b f g))
 
-  -- by the items behind a good head
   module _ (big : Bool) (e : number_at false 4 b 0 ≡ head_word big) where
-    pub words_bad : (k : ℕ) → refuse k ≡ in_order (items 4 (drop 4 b)) → refuse k ≡ mapped (λ (u : Bundle). u.big) (bundle_of b)
-    unfolding in_order ◌>>=◌ require mapped here
-    words_bad k h = go (items 4 (drop 4 b)) refl h
+    pub words_bad : items_good (items 4 (drop 4 b)) ≡ false → Unreadable ≡ words_of (bundle_of b)
+    unfolding items_good words_of here
+    words_bad h = go (items 4 (drop 4 b)) refl h
       where
-        first : (is : List Item) → here b 4 ≡ pass is → (t : Bool) → object_first is ≡ t → refuse k ≡ require t 3 → refuse k ≡ mapped (λ (u : Bundle). u.big) (bundle_of b)
-        first is f true g h = absurd (pass_refuse tt k (sym h))
-        first is f false g h = ap refuse (refuse_inj {A = Unit {0}} h) ∙ sym (ap (mapped (λ (u : Bundle). u.big)) (bundle_section b big e is f g))
+        go : (c : Check (List Item)) → here b 4 ≡ c → items_good c ≡ false → Unreadable ≡ words_of (bundle_of b)
+        go (pass is) f h = sym (ap words_of (bundle_section b big e is f h))
+        go (refuse n) f h = sym (ap words_of (bundle_items b big e n f))
 
-        go : (c : Check (List Item)) → here b 4 ≡ c → refuse k ≡ in_order c → refuse k ≡ mapped (λ (u : Bundle). u.big) (bundle_of b)
-        go (pass is) f h = first is f (object_first is) refl h
-        go (refuse n) f h = ap refuse (refuse_inj {A = Unit {0}} h) ∙ sym (ap (mapped (λ (u : Bundle). u.big)) (bundle_items b big e n f))
-
-    pub words_good : (u : Unit {0}) → pass u ≡ in_order (items 4 (drop 4 b)) → pass big ≡ mapped (λ (u : Bundle). u.big) (bundle_of b)
-    unfolding in_order ◌>>=◌ require mapped here
-    words_good u h = go (items 4 (drop 4 b)) refl h
+    pub words_good : items_good (items 4 (drop 4 b)) ≡ true → Readable big ≡ words_of (bundle_of b)
+    unfolding items_good words_of here
+    words_good h = go (items 4 (drop 4 b)) refl h
       where
-        first : (is : List Item) → here b 4 ≡ pass is → (t : Bool) → object_first is ≡ t → pass u ≡ require t 3 → pass big ≡ mapped (λ (u : Bundle). u.big) (bundle_of b)
-        first is f true g h = sym (ap (mapped (λ (u : Bundle). u.big)) (bundle_good b big e is f g))
-        first is f false g h = absurd (pass_refuse u 3 h)
-
-        go : (c : Check (List Item)) → here b 4 ≡ c → pass u ≡ in_order c → pass big ≡ mapped (λ (u : Bundle). u.big) (bundle_of b)
-        go (pass is) f h = first is f (object_first is) refl h
-        go (refuse n) f h = absurd (pass_refuse u n h)
+        go : (c : Check (List Item)) → here b 4 ≡ c → items_good c ≡ true → Readable big ≡ words_of (bundle_of b)
+        go (pass is) f h = sym (ap words_of (bundle_good b big e is f h))
+        go (refuse n) f h = absurd (let z : ◌≡◌ {A = ℕ} 0 1 = cc in omega arith)

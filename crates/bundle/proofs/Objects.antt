@@ -6,17 +6,13 @@ use mathlib.Core.List.{List, [], ◌∷◌, ◌++◌, append-nil, append_assoc}
 use Prim.Native.Nat.{ℕ, ◌+◌, ◌/◌, ◌%◌, ◌≤◌}
 use native.Mathlib.Omega.{arith}
 use lib.ListN.{length, drop}
-use Rattle.octets.specs.Checked.{pass, refuse}
+use Rattle.octets.specs.Checked.{pass}
 use Rattle.bundle.specs.Bundle.{Part, Item, object, section, Object, Bundle, more, step_at, filled_up, leading, objects_of, object_first, bundle_of}
 use Rattle.bundle.specs.Next.{next_of}
 use Rattle.bundle.specs.Scan.{place_behind}
-use denote.Enum.Declared.{tag_of}
-use Rattle.bundle.specs.contracts.Item.{the_type}
-use Rattle.bundle.specs.declared.Section.{Section}
-use Rattle.bundle.specs.declared.Item.{Item as Answered}
-use Rattle.bundle.specs.declared.Item.TheVariants.{Object as AnObject, Section as ASection, End}
+use Rattle.bundle.specs.declared.Item.TheVariants.{Object as AnObject, Section as ASection, End, Broken}
 use Rattle.bundle.proofs.Passed.{here, step_here, left_broken, left_end, left_more, left_cons}
-use Rattle.bundle.proofs.Next.{part_of, object_here, section_here, section_step, end_here, broken_here, filled_up_whole}
+use Rattle.bundle.proofs.Next.{object_here, section_here, section_step, end_here, broken_here, filled_up_whole}
 use Rattle.bundle.proofs.Every.{Every, also}
 use Rattle.bundle.proofs.Lies.{Lies, leading_lie, span, here_span}
 use Rattle.bundle.proofs.Items.{behind, behind_objects, behind_first}
@@ -45,34 +41,37 @@ pub walked_none : (b : List ℕ) (at : ℕ) (is : List Item) → here b at ≡ p
 walked_none b at is e = record { ahead = is; left = e; is = refl }
 
 module _ (b : List ℕ) (at : ℕ) (done parts : List Part) (w : Walked b at done parts) where
-  pub walked_section : (x : Section) → pass (ASection x) ≡ next_of at (step_at at (drop at b)) → Walked b x.next (done ++ (part_of x ∷ [])) parts
+  pub walked_section : (code start size next : ℕ) → ASection code start size next ≡ next_of at (step_at at (drop at b))
+      → Walked b next (done ++ (record { code = code; start = start; size = size } ∷ [])) parts
   unfolding leading
-  walked_section x e =
-      let h = section_here b at x e in
-      let place : at + 4 + filled_up x.size ≡ x.next = omega (arith, h.behind, h.place) in
-      go place (left_more b at w.ahead w.left (section (part_of x)) (filled_up x.size) h.step)
+  walked_section code start size next e =
+      let h = section_here b at code start size next e in
+      let p : Part = record { code = code; start = start; size = size } in
+      let place : at + 4 + filled_up size ≡ next = omega (arith, h.behind, h.place) in
+      go place (left_more b at w.ahead w.left (section p) (filled_up size) h.step)
     where
-      go : at + 4 + filled_up x.size ≡ x.next → (rest : List Item) × (w.ahead ≡ section (part_of x) ∷ rest) × (here b (at + 4 + filled_up x.size) ≡ pass rest)
-          → Walked b x.next (done ++ (part_of x ∷ [])) parts
+      go : at + 4 + filled_up size ≡ next
+          → (rest : List Item) × (w.ahead ≡ section (record { code = code; start = start; size = size }) ∷ rest) × (here b (at + 4 + filled_up size) ≡ pass rest)
+          → Walked b next (done ++ (record { code = code; start = start; size = size } ∷ [])) parts
       go place (rest, e, h) = record {
         ahead = rest;
         left = ap (here b) (sym place) ∙ h;
-        is = append_assoc done (part_of x ∷ []) (leading rest) ∙ ap (λ (l : List Item). done ++ leading l) (sym e) ∙ w.is;
+        is = append_assoc done (record { code = code; start = start; size = size } ∷ []) (leading rest) ∙ ap (λ (l : List Item). done ++ leading l) (sym e) ∙ w.is;
       }
 
-  pub walked_object : (word next : ℕ) → pass (AnObject word next) ≡ next_of at (step_at at (drop at b)) → done ≡ parts
+  pub walked_object : (word next : ℕ) → AnObject word next ≡ next_of at (step_at at (drop at b)) → done ≡ parts
   unfolding leading
   walked_object word next e = go (left_more b at w.ahead w.left (object word) 0 (object_here b at word next e).step)
     where
       go : (rest : List Item) × (w.ahead ≡ object word ∷ rest) × (here b (at + 4 + 0) ≡ pass rest) → done ≡ parts
       go (rest, e, h) = sym (append-nil done) ∙ ap (λ (l : List Item). done ++ leading l) (sym e) ∙ w.is
 
-  pub walked_end : pass End ≡ next_of at (step_at at (drop at b)) → done ≡ parts
+  pub walked_end : End ≡ next_of at (step_at at (drop at b)) → done ≡ parts
   unfolding leading
   walked_end e = sym (append-nil done) ∙ ap (λ (l : List Item). done ++ leading l) (sym (left_end b at w.ahead w.left (end_here b at e))) ∙ w.is
 
-  pub walked_broken : (k : ℕ) → refuse k ≡ next_of at (step_at at (drop at b)) → ⊥
-  walked_broken k e = left_broken b at w.ahead w.left (broken_here b at k e)
+  pub walked_broken : Broken ≡ next_of at (step_at at (drop at b)) → ⊥
+  walked_broken e = left_broken b at w.ahead w.left (broken_here b at e)
 
 -- ---- the objects
 -- at a place that starts an object or is the end, the objects `done` are passed, of all that the bundle has
@@ -121,7 +120,7 @@ pub objects_none : (b : List ℕ) (u : Bundle) → bundle_of b ≡ pass u → Ob
 objects_none b u e = let r = readable b u e in record { rest = r.all; left = r.left; first = r.first; is = r.objects; whole = refl; far = omega arith }
 
 module _ (b : List ℕ) (at : ℕ) (done all : List Object) (o : Objects b at done all) where
-  pub objects_object : (word next : ℕ) → pass (AnObject word next) ≡ next_of at (step_at at (drop at b)) → Entered b next word done all
+  pub objects_object : (word next : ℕ) → AnObject word next ≡ next_of at (step_at at (drop at b)) → Entered b next word done all
   unfolding objects_of
   objects_object word next e =
       let h = object_here b at word next e in
@@ -152,28 +151,21 @@ module _ (b : List ℕ) (at : ℕ) (done all : List Object) (o : Objects b at do
             };
           }
 
-  pub objects_section : (x : Section) → pass (ASection x) ≡ next_of at (step_at at (drop at b)) → ⊥
+  pub objects_section : (code start size next : ℕ) → ASection code start size next ≡ next_of at (step_at at (drop at b)) → ⊥
   unfolding object_first
-  objects_section x e = go (left_more b at o.rest o.left (section (part_of x)) (filled_up x.size) (section_here b at x e).step)
+  objects_section code start size next e =
+      let h = section_here b at code start size next e in
+      go (left_more b at o.rest o.left (section (record { code = code; start = start; size = size })) (filled_up size) h.step)
     where
-      go : (rest : List Item) × (o.rest ≡ section (part_of x) ∷ rest) × (here b (at + 4 + filled_up x.size) ≡ pass rest) → ⊥
+      go : (rest : List Item) × (o.rest ≡ section (record { code = code; start = start; size = size }) ∷ rest) × (here b (at + 4 + filled_up size) ≡ pass rest) → ⊥
       go (rest, e, h) =
           let f : false ≡ true = ap object_first (sym e) ∙ o.first in
           let z : ◌≡◌ {A = ℕ} 0 1 = cc in
           omega arith
 
-  pub objects_end : pass End ≡ next_of at (step_at at (drop at b)) → done ≡ all
+  pub objects_end : End ≡ next_of at (step_at at (drop at b)) → done ≡ all
   unfolding objects_of
   objects_end e = sym (append-nil done) ∙ ap (λ (l : List Item). done ++ objects_of l) (sym (left_end b at o.rest o.left (end_here b at e))) ∙ o.is
 
-  pub objects_broken : (k : ℕ) → refuse k ≡ next_of at (step_at at (drop at b)) → ⊥
-  objects_broken k e = left_broken b at o.rest o.left (broken_here b at k e)
-
-  -- any other answer than an object: all are passed
-  pub objects_other : (x : Answered) → (tag_of the_type x ≡ 0 → ⊥) → pass x ≡ next_of at (step_at at (drop at b)) → done ≡ all
-  objects_other (AnObject word next) f e = absurd (f (omega arith))
-  objects_other (ASection x) f e = absurd (objects_section x e)
-  objects_other End f e = objects_end e
-
-  pub objects_refused : (k : ℕ) → refuse k ≡ next_of at (step_at at (drop at b)) → done ≡ all
-  objects_refused k e = absurd (objects_broken k e)
+  pub objects_broken : Broken ≡ next_of at (step_at at (drop at b)) → ⊥
+  objects_broken e = left_broken b at o.rest o.left (broken_here b at e)

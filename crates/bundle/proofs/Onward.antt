@@ -3,7 +3,6 @@
 use mathlib.Core.Path.{◌≡◌, refl, ap, sym, ◌∙◌}
 use mathlib.Core.Bool.{Bool, true, false}
 use mathlib.Core.List.{List, [], ◌∷◌}
-use mathlib.Core.Option.{some}
 use Prim.Native.Nat.{ℕ, ◌+◌, ◌≤◌}
 use native.Mathlib.Omega.{arith}
 use lib.Dec.{eqb}
@@ -11,8 +10,7 @@ use lib.ListN.{length}
 use Rattle.octets.specs.Checked.{Check, pass}
 use Rattle.bundle.specs.Bundle.{Item, object, section, more, filled_up, leading, first_part}
 use Rattle.bundle.specs.Scan.{place_behind, size_of, size_in, holds_units, unit_section_of}
-use Rattle.bundle.specs.Next.{section_at}
-use Rattle.bundle.specs.declared.Section.{Section}
+use Rattle.bundle.specs.declared.UnitSection.TheVariants.{Found}
 use Rattle.bundle.proofs.Passed.{here, step_here, left_cons}
 use Rattle.bundle.proofs.Next.{section_step}
 use Rattle.bundle.proofs.Units.{units_first, units_later}
@@ -40,27 +38,26 @@ same_ahead : (c : Check (List Item)) (is js : List Item) → c ≡ pass is → c
 same_ahead c is js e f = cc
 
 -- behind the next section of units it is still the same
-pub onward_same : (b : List ℕ) (at : ℕ) (is : List Item) (x : Section) (ahead : List Item) → here b at ≡ pass is → some x ≡ unit_section_of (leading is)
-    → here b x.next ≡ pass ahead → place_behind x.next (leading ahead) ≡ place_behind at (leading is)
+pub onward_same : (b : List ℕ) (at : ℕ) (is : List Item) (code start size next : ℕ) (ahead : List Item) → here b at ≡ pass is → Found code start size next ≡ unit_section_of (leading is)
+    → here b next ≡ pass ahead → place_behind next (leading ahead) ≡ place_behind at (leading is)
 unfolding place_behind leading unit_section_of
-onward_same b at [] x ahead e f l = absurd (let z : ◌≡◌ {A = ℕ} 0 1 = cc in omega arith)
-onward_same b at (object w ∷ is) x ahead e f l = absurd (let z : ◌≡◌ {A = ℕ} 0 1 = cc in omega arith)
-onward_same b at (section p ∷ is) x ahead e f l =
-    go (left_cons b at (section p) is e) (holds_units p) refl (λ k g. onward_same b (p.start + filled_up p.size) is x ahead k g l)
+onward_same b at [] code start size next ahead e f l = absurd (let z : ◌≡◌ {A = ℕ} 0 1 = cc in omega arith)
+onward_same b at (object w ∷ is) code start size next ahead e f l = absurd (let z : ◌≡◌ {A = ℕ} 0 1 = cc in omega arith)
+onward_same b at (section p ∷ is) code start size next ahead e f l =
+    go (left_cons b at (section p) is e) (holds_units p) refl (λ k g. onward_same b (p.start + filled_up p.size) is code start size next ahead k g l)
   where
     go : (n : ℕ) × (step_here b at ≡ more (section p) n) × (here b (at + 4 + n) ≡ pass is) → (t : Bool) → holds_units p ≡ t
-        → (here b (p.start + filled_up p.size) ≡ pass is → some x ≡ unit_section_of (leading is) → place_behind x.next (leading ahead) ≡ place_behind (p.start + filled_up p.size) (leading is))
-        → place_behind x.next (leading ahead) ≡ place_behind (p.start + filled_up p.size) (leading is)
+        → (here b (p.start + filled_up p.size) ≡ pass is → Found code start size next ≡ unit_section_of (leading is) → place_behind next (leading ahead) ≡ place_behind (p.start + filled_up p.size) (leading is))
+        → place_behind next (leading ahead) ≡ place_behind (p.start + filled_up p.size) (leading is)
     go (n, s, h) true u on =
-        let r : some x ≡ some (section_at p (p.start + filled_up p.size)) = f ∙ units_first p (leading is) u in
-        let y : x ≡ section_at p (p.start + filled_up p.size) = cc in
-        let m : x.next ≡ p.start + filled_up p.size = ap (λ (z : Section). z.next) y in
+        let r : Found code start size next ≡ Found p.code p.start p.size (p.start + filled_up p.size) = f ∙ sym (units_first p (leading is) u) in
+        let m : next ≡ p.start + filled_up p.size = cc in
         let g = section_step b at p n s in
-        let k : here b x.next ≡ pass is = ap (here b) (m ∙ sym g.behind) ∙ h in
-        ap (λ (js : List Item). place_behind x.next (leading js)) (same_ahead (here b x.next) ahead is l k) ∙ ap (λ (a : ℕ). place_behind a (leading is)) m
+        let k : here b next ≡ pass is = ap (here b) (m ∙ sym g.behind) ∙ h in
+        ap (λ (js : List Item). place_behind next (leading js)) (same_ahead (here b next) ahead is l k) ∙ ap (λ (a : ℕ). place_behind a (leading is)) m
     go (n, s, h) false u on =
         let g = section_step b at p n s in
-        on (ap (here b) (sym g.behind) ∙ h) (f ∙ units_later p (leading is) u)
+        on (ap (here b) (sym g.behind) ∙ h) (f ∙ sym (units_later p (leading is) u))
 
 -- a section of an object is no longer than all of them
 pub size_behind : (b : List ℕ) (c at : ℕ) (is : List Item) → here b at ≡ pass is → at ≤ length b → at + size_of (leading is) c ≤ place_behind at (leading is)

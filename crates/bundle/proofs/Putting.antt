@@ -8,7 +8,7 @@ use native.Mathlib.Omega.{arith}
 use lib.ListN.{length, length-append}
 use Rattle.octets.specs.Octets.{placed, padded, zeros}
 use Rattle.octets.proofs.Numbers.{length_bytes_of}
-use Rattle.octets.proofs.Placed.{length_zeros, placed_placed, padded_step, padded_zeros}
+use Rattle.octets.proofs.Placed.{length_zeros, length_placed, placed_placed, padded_step, padded_zeros}
 use Rattle.bundle.specs.Bundle.{filled_up}
 use Rattle.bundle.specs.Written.{Section, word_bytes, head_bytes, section_bytes, end_bytes}
 use Rattle.bundle.proofs.Next.{filled_up_le}
@@ -33,6 +33,10 @@ length_section s =
     let w = word_bytes (0x2000_0000 + s.code * 0x80_0000 + n) in
     length-append (w ++ s.bytes) (zeros (filled_up n - n))
     ∙ omega (arith, length-append w s.bytes, length_word (0x2000_0000 + s.code * 0x80_0000 + n), length_zeros (filled_up n - n), filled_up_le n)
+
+-- a word, and bytes behind it
+pub placed_word : (d x : List ℕ) (at n : ℕ) → x ≡ placed d at (word_bytes n) → at + 4 ≤ length d → length x ≡ length d
+placed_word d x at n e h = ap length e ∙ length_placed d at (word_bytes n) (omega (arith, length_word n))
 
 pub placed_behind : (d s x y : List ℕ) (at n : ℕ) → x ≡ placed d at (word_bytes n) → y ≡ placed x (at + 4) s → at + 4 ≤ length d → y ≡ placed d at (word_bytes n ++ s)
 placed_behind d s x y at n e f h =

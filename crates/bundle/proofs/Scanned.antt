@@ -12,9 +12,7 @@ use lib.Seq.{ext_get_or, get_or-set_same, get_or-set_other}
 use borrow.Author.Tests.{eq-eqb, ne_eqb}
 use Rattle.bundle.specs.Bundle.{Part, filled_up, count, first_part}
 use Rattle.bundle.specs.Scan.{place_behind, start_in, size_in, start_of, size_of, numbered, by_code, scan_of, noted}
-use Rattle.bundle.specs.Next.{section_at}
 use Rattle.bundle.specs.declared.Scan.{Scan}
-use Rattle.bundle.specs.declared.Section.{Section}
 use Rattle.bundle.proofs.Sections.{count_append, count_same, count_other, first_same, first_other, first_none, first_some, none_counted, counted_none}
 
 length_numbered : (f : ℕ → ℕ) (i n : ℕ) → length (numbered f i n) ≡ n
@@ -55,20 +53,20 @@ by_code_same : (f g : ℕ → ℕ) → ((d : ℕ) → f d ≡ g d) → by_code f
 by_code_same f g o = ap by_code (λ i d. o d i)
 
 -- the cases of `noted`
-module _ (s : Scan) (x : Section) where
-  pub noted_first : get_or s.count x.code 0 ≡ 0
-      → record { count = set s.count x.code (get_or s.count x.code 0 + 1); start = set s.start x.code x.start; size = set s.size x.code x.size; next = x.next } ≡ noted s x
+module _ (s : Scan) (code start size next : ℕ) where
+  pub noted_first : get_or s.count code 0 ≡ 0
+      → record { count = set s.count code (get_or s.count code 0 + 1); start = set s.start code start; size = set s.size code size; next = next } ≡ noted s code start size next
   unfolding noted
-  noted_first e = rw (noted, eq-eqb (get_or s.count x.code 0) 0 e)
+  noted_first e = rw (noted, eq-eqb (get_or s.count code 0) 0 e)
 
-  pub noted_again : (get_or s.count x.code 0 ≡ 0 → ⊥)
-      → record { count = set s.count x.code (get_or s.count x.code 0 + 1); start = s.start; size = s.size; next = x.next } ≡ noted s x
+  pub noted_again : (get_or s.count code 0 ≡ 0 → ⊥)
+      → record { count = set s.count code (get_or s.count code 0 + 1); start = s.start; size = s.size; next = next } ≡ noted s code start size next
   unfolding noted
-  noted_again f = rw (noted, ne_eqb (get_or s.count x.code 0) 0 f)
+  noted_again f = rw (noted, ne_eqb (get_or s.count code 0) 0 f)
 
-  pub noted_next : (noted s x).next ≡ x.next
+  pub noted_next : (noted s code start size next).next ≡ next
   noted_next =
-      elim (ℕ_discrete (get_or s.count x.code 0) 0) [
+      elim (ℕ_discrete (get_or s.count code 0) 0) [
         | yes e ↦ sym (ap (λ (z : Scan). z.next) (noted_first e))
         | no f ↦ sym (ap (λ (z : Scan). z.next) (noted_again f))
       ]
@@ -142,7 +140,7 @@ module _ (ps : List Part) (p : Part) where
   sizes_old f = by_code_same (size_of ps) (size_of (ps ++ (p ∷ []))) (λ d. ap size_in (still f d))
 
   pub noted_more : (at next : ℕ) → p.code < 14 → next ≡ p.start + filled_up p.size
-      → noted (scan_of at ps) (section_at p next) ≡ scan_of at (ps ++ (p ∷ []))
+      → noted (scan_of at ps) p.code p.start p.size next ≡ scan_of at (ps ++ (p ∷ []))
   unfolding noted scan_of
   noted_more at next h n =
       let place : next ≡ place_behind at (ps ++ (p ∷ [])) = n ∙ sym (place_more at) in

@@ -24,14 +24,6 @@ unfoldable pub head_word : Bool → ℕ
 head_word true = 0xF000_0001
 head_word false = 0xF000_0000
 
-pub big_head : 0xF000_0001 ≡ head_word true
-unfolding head_word
-big_head = refl
-
-pub little_head : 0xF000_0000 ≡ head_word false
-unfolding head_word
-little_head = refl
-
 module _ (b : List ℕ) where
   by_head : bundle_of b ≡ (require (head_good (number_at false 4 b 0)) 3 >>= (λ _. behind_head (eqb (number_at false 4 b 0) 0xF000_0001) (here b 4)))
   unfolding bundle_of behind_head head_good here

@@ -1,11 +1,13 @@
 -- The code's form of an encoding, which holds only what 4 lets pass.
 -- Assumes nothing.
-use Rattle.std.specs.Prelude.{Bool, true, false, ℕ}
+use Rattle.std.specs.Prelude.{Bool, true, false, ℕ, eqb}
 use Rattle.numbers.specs.Tables.{dwarf5}
-use Rattle.octets.specs.Checked.{Check, pass, ◌>>=◌, require}
+use Rattle.octets.specs.Checked.{Check, pass, refuse, ◌>>=◌, require}
 use Rattle.numbers.specs.Refusals.{bad_encoding}
 use Rattle.bundle.specs.Encoding.{Encoding, encoding_good}
 use Rattle.bundle.specs.declared.encoding.ObjectEncoding.{ObjectEncoding}
+use Rattle.bundle.specs.declared.encoding.WordRead.{WordRead}
+use Rattle.bundle.specs.declared.encoding.WordRead.TheVariants.{Good, Bad}
 
 unfoldable pub four : Bool → ℕ → ℕ
 four true n = n
@@ -17,3 +19,14 @@ encoding_is e = record { big = e.big; version = four e.five dwarf5; width = four
 -- what 4 lets pass
 unfoldable pub encoding_checked : Encoding → Check Encoding
 encoding_checked e = require (encoding_good e) bad_encoding >>= λ _. pass e
+
+abbrev pub word_check : WordRead → Check Encoding
+word_check (Good e) = pass (encoding_is e)
+word_check Bad = refuse bad_encoding
+
+unfoldable pub word_read : Encoding → WordRead
+word_read e =
+    elim (encoding_good e) [
+      | true ↦ Good (record { big = e.big; five = eqb e.version dwarf5; wide = eqb e.width 8; long = eqb e.address 8 })
+      | false ↦ Bad
+    ]

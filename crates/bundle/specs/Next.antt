@@ -1,28 +1,36 @@
 -- What the functions that read a bundle's words answer, from the definitions.
 -- Assumes nothing.
-use Rattle.std.specs.Prelude.{List, ℕ, ◌+◌}
-use Rattle.octets.specs.Checked.{Check, pass, refuse, ◌>>=◌, require, mapped}
+use Rattle.std.specs.Prelude.{Bool, true, false, List, ℕ, ◌+◌}
+use Rattle.octets.specs.Checked.{Check, pass, refuse}
 use Rattle.numbers.specs.Refusals.{bad_words}
 use Rattle.bundle.specs.Bundle as bundle
-use Rattle.bundle.specs.Bundle.{Part, Step, more, end, broken, object, section, object_first}
-use Rattle.bundle.specs.declared.Section.{Section}
+use Rattle.bundle.specs.Bundle.{Bundle, Step, more, end, broken, object, section, object_first}
 use Rattle.bundle.specs.declared.Item.{Item}
-use Rattle.bundle.specs.declared.Item.TheVariants.{Object, Section as ASection, End}
-
--- a section with the place behind it
-abbrev pub section_at : Part → ℕ → Section
-section_at p next = record { code = p.code; start = p.start; size = p.size; next = next }
+use Rattle.bundle.specs.declared.Item.TheVariants.{Object, Section, End, Broken}
+use Rattle.bundle.specs.declared.Words.{Words}
+use Rattle.bundle.specs.declared.Words.TheVariants.{Readable, Broken as Unreadable}
 
 -- of a step at a place: the item with the place behind it
-unfoldable pub next_of : ℕ → Step → Check Item
-next_of at (more (object w) n) = pass (Object w (at + 4 + n))
-next_of at (more (section p) n) = pass (ASection (section_at p (at + 4 + n)))
-next_of at end = pass End
-next_of at broken = refuse bad_words
+unfoldable pub next_of : ℕ → Step → Item
+next_of at (more (object w) n) = Object w (at + 4 + n)
+next_of at (more (section p) n) = Section p.code p.start p.size (at + 4 + n)
+next_of at end = End
+next_of at broken = Broken
 
--- of items: that they reach the bundle's end, and also that no section stands before an object
-unfoldable pub ended : Check (List bundle.Item) → Check (Unit {0})
-ended m = mapped (λ _. tt) m
+-- of items: whether they reach the bundle's end, and whether no section stands before an object
+unfoldable pub ends : Check (List bundle.Item) → Bool
+ends (pass is) = true
+ends (refuse n) = false
 
-unfoldable pub in_order : Check (List bundle.Item) → Check (Unit {0})
-in_order m = m >>= λ is. require (object_first is) bad_words
+unfoldable pub items_good : Check (List bundle.Item) → Bool
+items_good (pass is) = object_first is
+items_good (refuse n) = false
+
+-- of a bundle: its byte order, or 3
+abbrev pub words_check : Words → Check Bool
+words_check (Readable big) = pass big
+words_check Unreadable = refuse bad_words
+
+unfoldable pub words_of : Check Bundle → Words
+words_of (pass u) = Readable u.big
+words_of (refuse n) = Unreadable

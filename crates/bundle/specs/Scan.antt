@@ -6,9 +6,9 @@ use Rattle.numbers.specs.Sections.{info_code, types_code, section_codes}
 use Rattle.octets.specs.Lists.{those}
 use Rattle.octets.specs.Checked.{Check, pass, refuse}
 use Rattle.bundle.specs.Bundle.{Part, Item, filled_up, items, leading, count, first_part}
-use Rattle.bundle.specs.Next.{section_at}
 use Rattle.bundle.specs.declared.Scan.{Scan}
-use Rattle.bundle.specs.declared.Section.{Section}
+use Rattle.bundle.specs.declared.UnitSection.{UnitSection}
+use Rattle.bundle.specs.declared.UnitSection.TheVariants.{Found, Done}
 
 -- the place behind sections that stand at a place
 unfoldable pub place_behind : ℕ → List Part → ℕ
@@ -49,11 +49,11 @@ unfoldable pub scan_of : ℕ → List Part → Scan
 scan_of at ps = record { count = by_code (count ps); start = by_code (start_of ps); size = by_code (size_of ps); next = place_behind at ps }
 
 -- with one section more
-unfoldable pub noted : Scan → Section → Scan
-noted s x =
-    elim (eqb (get_or s.count x.code 0) 0) [
-      | true ↦ record { count = set s.count x.code (get_or s.count x.code 0 + 1); start = set s.start x.code x.start; size = set s.size x.code x.size; next = x.next }
-      | false ↦ record { count = set s.count x.code (get_or s.count x.code 0 + 1); start = s.start; size = s.size; next = x.next }
+unfoldable pub noted : Scan → ℕ → ℕ → ℕ → ℕ → Scan
+noted s code start size next =
+    elim (eqb (get_or s.count code 0) 0) [
+      | true ↦ record { count = set s.count code (get_or s.count code 0 + 1); start = set s.start code start; size = set s.size code size; next = next }
+      | false ↦ record { count = set s.count code (get_or s.count code 0 + 1); start = s.start; size = s.size; next = next }
     ]
 
 -- the items from a place of a bundle on reach its end: what `bundle_of` has found
@@ -74,7 +74,7 @@ unfoldable pub unit_parts : List Part → List Part
 unit_parts ps = those holds_units ps
 
 -- the first one, with the place behind it
-unfoldable pub unit_section_of : List Part → Option Section
-unit_section_of [] = none
+unfoldable pub unit_section_of : List Part → UnitSection
+unit_section_of [] = Done
 unit_section_of (p ∷ ps) =
-    elim (holds_units p) [ true ↦ some (section_at p (p.start + filled_up p.size)) | false ↦ unit_section_of ps ]
+    elim (holds_units p) [ true ↦ Found p.code p.start p.size (p.start + filled_up p.size) | false ↦ unit_section_of ps ]

@@ -1,11 +1,9 @@
 // What an object word states, in a form that holds only what refusal 4 lets pass.
-ghost use Rattle.std.specs.Prelude.{◌≡◌};
-ghost use Rattle.octets.specs.Checked.{mapped};
-ghost use Rattle.numbers.specs.Refused.{told};
-ghost use Rattle.bundle.specs.Encoded.{encoding_is, encoding_checked};
+ghost use Rattle.std.specs.Prelude.{eqb, ◌||◌, not, ◌≡◌};
+ghost use Rattle.bundle.specs.Answered.{word_for};
+ghost use Rattle.bundle.specs.Encoded.{encoding_is};
 ghost use Rattle.bundle.specs.Encoding.{encoding_of};
 
-use numbers::refusals::Refusal;
 use numbers::tables::{DWARF_4, DWARF_5};
 
 // The byte order of the data, version 5 or else 4, offsets of 8 bytes or else 4, addresses of 8 bytes or else 4.
@@ -17,8 +15,14 @@ pub struct ObjectEncoding {
     pub long: bool,
 }
 
+#[derive(Clone, Copy)]
+pub enum WordRead {
+    Good(ObjectEncoding),
+    // refusal 4
+    Bad,
+}
+
 impl ObjectEncoding {
-    #[tactic(auto, unfolding(crate::specs::Encoded::encoding_is, crate::specs::Encoded::four))]
     pub fn version(self) -> u32
         ensures { result ≡ (encoding_is self).version }
     {
@@ -26,7 +30,6 @@ impl ObjectEncoding {
     }
 
     // The bytes of an offset.
-    #[tactic(auto, unfolding(crate::specs::Encoded::encoding_is, crate::specs::Encoded::four))]
     pub fn width(self) -> usize
         ensures { result ≡ (encoding_is self).width }
     {
@@ -34,7 +37,6 @@ impl ObjectEncoding {
     }
 
     // The bytes of an address.
-    #[tactic(auto, unfolding(crate::specs::Encoded::encoding_is, crate::specs::Encoded::four))]
     pub fn address(self) -> usize
         ensures { result ≡ (encoding_is self).address }
     {
@@ -42,21 +44,37 @@ impl ObjectEncoding {
     }
 }
 
-// The encoding that an object word states. Refused is any version but 4 and 5, and any size but 4 and 8.
-#[tactic(auto, using(crate::proofs::Encodings::checked_bad), unfolding(crate::specs::Encoding::encoding_of, crate::specs::Encoding::encoding_good, octets::specs::Checked::mapped))]
-pub fn read_word(big: bool, word: u32) -> Result<ObjectEncoding, Refusal>
-    ensures { mapped encoding_is (told result) ≡ encoding_checked (encoding_of big word) }
+fn is_neither(n: u32, a: u32, b: u32) -> bool
+    ensures { (eqb n a || eqb n b) ≡ not result }
+{
+    if n == a {
+        return false;
+    }
+    if n == b {
+        return false;
+    }
+    true
+}
+
+pub fn read_word(big: bool, word: u32) -> WordRead
+    ensures { result ≡ (word_for (encoding_of big word)).answer }
 {
     let version = word % 256;
     let width = word / 256 % 256;
     let address = word / 0x1_0000 % 256;
-    match (version, width, address) {
-        (DWARF_4 | DWARF_5, 4 | 8, 4 | 8) => Ok(ObjectEncoding {
-            big,
-            five: version == DWARF_5,
-            wide: width == 8,
-            long: address == 8,
-        }),
-        _ => Err(Refusal::BadEncoding),
+    if is_neither(version, DWARF_4, DWARF_5) {
+        return WordRead::Bad;
     }
+    if is_neither(width, 4, 8) {
+        return WordRead::Bad;
+    }
+    if is_neither(address, 4, 8) {
+        return WordRead::Bad;
+    }
+    WordRead::Good(ObjectEncoding {
+        big,
+        five: version == DWARF_5,
+        wide: width == 8,
+        long: address == 8,
+    })
 }

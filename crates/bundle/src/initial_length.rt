@@ -10,7 +10,6 @@ const MARK: u32 = 0xFFFF_FFFF;
 
 impl ObjectEncoding {
     // The bytes of the field.
-    #[tactic(auto, unfolding(crate::specs::Encoded::encoding_is, crate::specs::Encoded::four, crate::specs::InitialLength::length_field))]
     pub fn field_size(self) -> usize
         ensures { result ≡ length_field (encoding_is self) }
     {
@@ -18,23 +17,23 @@ impl ObjectEncoding {
     }
 
     // The number in it. The caller knows that the field is there.
-    #[tactic(auto, unfolding(crate::specs::Encoded::encoding_is, crate::specs::Encoded::four, crate::specs::InitialLength::length_field, crate::specs::InitialLength::length_stated))]
     pub fn stated_length(self, s: &[u8]) -> u64
         requires { length_field (encoding_is self) ≤ length s.now }
         ensures { result ≡ length_stated (encoding_is self) s.now }
     {
         if self.wide {
-            octets::number_at(self.big, 8, s, 4)
-        } else {
-            octets::number_at(self.big, 4, s, 0)
+            return octets::number_at(self.big, 8, s, 4);
         }
+        octets::number_at(self.big, 4, s, 0)
     }
 }
 
 // FFFFFFFF stands at the front.
-#[tactic(auto, using(crate::proofs::InitialLengths::marked_short), unfolding(crate::specs::InitialLength::marked))]
 pub fn is_marked(big: bool, s: &[u8]) -> bool
     ensures { result ≡ marked big s.now }
 {
-    4 <= s.len() && octets::u32_at(big, s, 0) == MARK
+    if s.len() < 4 {
+        return false;
+    }
+    octets::u32_at(big, s, 0) == MARK
 }

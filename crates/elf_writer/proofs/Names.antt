@@ -5,8 +5,11 @@ use mathlib.Core.Bool.{true}
 use mathlib.Core.List.{List, [], ◌∷◌}
 use Prim.Native.Nat.{ℕ, ◌+◌, ◌≤◌}
 use native.Mathlib.Omega.{arith}
-use lib.ListN.{length, length-append}
+use lib.ListN.{length, take, length-append}
 use Rattle.numbers.specs.Names.{section_name}
+use Rattle.numbers.specs.NameRows.{name_row}
+use Rattle.numbers.specs.declared.names.Name.{Name}
+use Rattle.numbers.proofs.NameTable.{held_length, held_name}
 use Rattle.octets.specs.Octets.{placed}
 use Rattle.bundle.specs.declared.Scan.{Scan}
 use Rattle.elf.specs.Writer.{ended_name, table_name}
@@ -14,13 +17,14 @@ use Rattle.elf_writer.specs.Held.{here, name_at, joined_from, name_table_of}
 use Rattle.elf_writer.proofs.Headers.{put_two}
 use Rattle.elf_writer.proofs.Cases.{name_here, length_name_here}
 
-pub name_put : (s : Scan) (c : ℕ) (name d a b : List ℕ) (at : ℕ) → here s c ≡ true → name ≡ section_name c
-    → at + length (name_at s c) ≤ length d → a ≡ placed d at name → b ≡ placed a (at + length name) (0 ∷ [])
+pub name_put : (s : Scan) (c : ℕ) (r : Name) (d a b : List ℕ) (at : ℕ) → here s c ≡ true → r ≡ name_row (section_name c)
+    → at + length (name_at s c) ≤ length d → a ≡ placed d at (take r.length r.bytes) → b ≡ placed a (at + r.length) (0 ∷ [])
     → b ≡ placed d at (name_at s c)
 unfolding ended_name
-name_put s c name d a b at e q fits pa pb =
-    let l = ap length q in
-    put_two d a b (section_name c) (0 ∷ []) at (at + length name) (pa ∙ ap (placed d at) q) pb (omega (arith, l)) (omega (arith, fits, l, length_name_here s c e))
+name_put s c r d a b at e q fits pa pb =
+    let n = section_name c in
+    let l = held_length r n q in
+    put_two d a b n (0 ∷ []) at (at + r.length) (pa ∙ ap (placed d at) (held_name r n q)) pb (omega (arith, l)) (omega (arith, fits, length_name_here s c e))
     ∙ ap (placed d at) (sym (name_here s c e))
 
 pub length_table : (s : Scan) → length (name_table_of s) ≡ 11 + length (joined_from (name_at s) 1)

@@ -23,7 +23,6 @@ ghost use Rattle.elf_writer.specs.Held.{
 use crate::fields::{HEADER, SectionHeader};
 use bundle::Scan;
 use lookup::opening::PackageHead;
-use lookup::package::Package;
 use numbers::names::section_name;
 use numbers::sections::CODES;
 
@@ -73,7 +72,7 @@ fn extended(e: Extent, s: Scan, code: usize) -> Extent
     Extent {
         count: e.count + 1,
         bodies,
-        names: e.names + name.len() + 1,
+        names: e.names + name.length + 1,
     }
 }
 
@@ -105,11 +104,7 @@ pub fn put_bodies(package: &[u8], head: PackageHead, d: &mut [u8])
     let mut at = HEADER;
     let mut code = 1;
     while code < CODES {
-        let s = Package {
-            bytes: package,
-            head,
-        }
-        .section_bytes(code);
+        let s = lookup::searching::section_bytes(package, head, code);
         octets::put_bytes(d, at, s);
         at += s.len();
         code += 1;
@@ -127,8 +122,9 @@ fn put_name(s: Scan, code: usize, d: &mut [u8], at: usize) -> usize
         return at;
     }
     let name = section_name(code);
-    let n = name.len();
-    octets::put_bytes(d, at, name);
+    let bytes = name.bytes;
+    let n = name.length;
+    octets::put_bytes(d, at, &bytes[..n]);
     octets::put_byte(d, at + n, 0);
     at + n + 1
 }
@@ -179,7 +175,7 @@ fn put_header(big: bool, s: Scan, code: usize, h: HeaderPlace, d: &mut [u8]) -> 
     crate::fields::put_section_header(big, header, d, h.at);
     HeaderPlace {
         at: h.at + HEADER,
-        name: h.name + name.len() + 1,
+        name: h.name + name.length + 1,
         offset: h.offset + size,
     }
 }

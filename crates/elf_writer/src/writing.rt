@@ -59,9 +59,10 @@ pub fn write_elf(package: &[u8], machine: u32, out: &mut [u8]) -> Written
     if !crate::fields::machine_good(machine) {
         return refused(OTHER_MACHINE);
     }
-    let Ok(head) = lookup::opening::open_package(package) else {
+    let head = lookup::opening::open_package(package);
+    if !head.good {
         return refused(BAD_PACKAGE);
-    };
+    }
     let e = crate::sections::measure(head.sections);
     let length = file_size(e);
     if out.len() < length {

@@ -1,26 +1,23 @@
 -- 4 to 7 and 10 as code judges them: each case.
 -- Assumes nothing.
 use mathlib.Core.Path.{◌≡◌, refl, sym, ap, ◌∙◌}
-use mathlib.Core.Bool.{Bool, true, false}
+use mathlib.Core.Bool.{Bool, true, false, ◌||◌, ◌&&◌}
 use mathlib.Core.List.{List}
 use mathlib.Core.Option.{some}
 use Prim.Native.Nat.{ℕ}
 use native.Mathlib.Omega.{arith}
 use lib.Dec.{eqb}
 use borrow.Author.Tests.{eq-eqb, ne_eqb}
-use Rattle.std.specs.Prelude.{Ok, Err}
-use Rattle.numbers.specs.Refused.{told}
-use Rattle.numbers.specs.declared.refusals.Refusal.{Refusal}
-use Rattle.octets.specs.Checked.{Check, pass, refuse, ◌>>=◌, mapped}
-use Rattle.octets.proofs.Checks.{fails, passes}
+use Rattle.octets.specs.Checked.{Check, pass, refuse, ◌>>=◌}
+use Rattle.octets.proofs.Checks.{fails, passes, and_left, and_right}
 use Rattle.octets.proofs.Refusals.{Only, only_pass, only_require, only_bind}
 use Rattle.bundle.specs.Bundle.{Part, count}
 use Rattle.bundle.specs.Scan.{by_code, scan_of}
 use Rattle.bundle.specs.declared.Scan.{Scan}
-use Rattle.bundle.specs.Encoding.{encoding_of, encoding_good}
-use Rattle.bundle.specs.Encoded.{encoding_is, encoding_checked}
+use Rattle.bundle.specs.Encoding.{Encoding, encoding_of, encoding_good}
+use Rattle.bundle.specs.Encoded.{encoding_is, word_read}
 use Rattle.bundle.specs.declared.encoding.ObjectEncoding.{ObjectEncoding}
-use Rattle.bundle.proofs.Encodings.{word_good, word_bad}
+use Rattle.bundle.specs.declared.encoding.WordRead.TheVariants.{Good, Bad}
 use Rattle.index.specs.Index.{Index, index_of, layout}
 use Rattle.index.specs.Held.{index_read, index_in}
 use Rattle.index.specs.declared.reading.IndexHead.{IndexHead}
@@ -29,6 +26,7 @@ use Rattle.index.proofs.Heads.{read_is}
 use Rattle.unit.specs.UnitRead.{is_five}
 use Rattle.unit.proofs.Fields.{is_five_law, is_four}
 use Rattle.package.specs.Input.{edition_good, complete, form_of}
+use Rattle.bundle.specs.Answered.{four_is}
 use Rattle.filing.specs.Counted.{edition_by, complete_by}
 use Rattle.filing.proofs.Counts.{edition_is, complete_is}
 use Rattle.filing.specs.Judged.{IndexedIs, object_check, JudgedIs, index_check, JudgedIndexIs}
@@ -36,36 +34,60 @@ use Rattle.filing.specs.declared.input.Judged.{Judged}
 use Rattle.filing.specs.declared.input.JudgedIndex.{JudgedIndex}
 use Rattle.filing.specs.declared.input.Indexed.TheVariants.{At, Nowhere}
 
+-- ---- 4
+pub word_good : (e : Encoding) (x : ObjectEncoding) → Good x ≡ word_read e → (encoding_good e ≡ true) × (encoding_is x ≡ e)
+unfolding word_read encoding_good encoding_is
+word_good e x h = go (encoding_good e) refl
+  where
+    made : encoding_good e ≡ true → x ≡ record { big = e.big; five = eqb e.version 5; wide = eqb e.width 8; long = eqb e.address 8 }
+    made t = (let g = rw (word_read, t) at h in cc)
+
+    go : (t : Bool) → encoding_good e ≡ t → (encoding_good e ≡ true) × (encoding_is x ≡ e)
+    go false t = absurd (let g = rw (word_read, t) at h in let z : ◌≡◌ {A = ℕ} 0 1 = cc in omega arith)
+    go true t =
+        let v = and_left _ _ (and_left _ _ t) in
+        let w = and_right (eqb e.version 4 || eqb e.version 5) _ (and_left _ _ t) in
+        let a = and_right ((eqb e.version 4 || eqb e.version 5) && (eqb e.width 4 || eqb e.width 8)) _ t in
+        (t, rw (made t, four_is e.version 5 v, four_is e.width 8 w, four_is e.address 8 a))
+
+pub word_bad : (e : Encoding) → Bad ≡ word_read e → encoding_good e ≡ false
+unfolding word_read
+word_bad e h = go (encoding_good e) refl
+  where
+    go : (t : Bool) → encoding_good e ≡ t → encoding_good e ≡ false
+    go false t = t
+    go true t = absurd (let g = rw (word_read, t) at h in let z : ◌≡◌ {A = ℕ} 0 1 = cc in omega arith)
+
 -- ---- the cases of 4 to 7
 module _ (big : Bool) (first word : ℕ) (ps : List Part) (r : Judged) where
-  pub judged_word : (n : Refusal) → mapped encoding_is (told (Err n)) ≡ encoding_checked (encoding_of big word) → r.code ≡ 4 → JudgedIs (object_check big first word ps) r
+  pub judged_word : Bad ≡ word_read (encoding_of big word) → r.code ≡ 4 → JudgedIs (object_check big first word ps) r
   unfolding object_check JudgedIs
-  judged_word n h c = rw (object_check, fails (encoding_good (encoding_of big word)) 4 _ (word_bad _ n h).0) (c, omega arith)
+  judged_word h c = rw (object_check, fails (encoding_good (encoding_of big word)) 4 _ (word_bad _ h)) (c, omega arith)
 
-  module _ (h : mapped encoding_is (told (Ok r.encoding)) ≡ encoding_checked (encoding_of big word)) where
+  module _ (h : Good r.encoding ≡ word_read (encoding_of big word)) where
     pub judged_first : (word ≡ first → ⊥) → r.code ≡ 5 → JudgedIs (object_check big first word ps) r
     unfolding object_check JudgedIs
-    judged_first n c = rw (object_check, passes (encoding_good (encoding_of big word)) 4 _ (word_good _ r.encoding h).0, fails (eqb word first) 5 _ (ne_eqb _ _ n)) (c, omega arith)
+    judged_first n c = rw (object_check, passes (encoding_good (encoding_of big word)) 4 _ (word_good _ _ h).0, fails (eqb word first) 5 _ (ne_eqb _ _ n)) (c, omega arith)
 
     module _ (s : word ≡ first) where
       pub judged_edition : edition_good (encoding_is r.encoding) ps ≡ false → r.code ≡ 6 → JudgedIs (object_check big first word ps) r
       unfolding object_check JudgedIs
       judged_edition n c =
-          rw (object_check, passes (encoding_good (encoding_of big word)) 4 _ (word_good _ r.encoding h).0, passes (eqb word first) 5 _ (eq-eqb _ _ s), fails (edition_good (encoding_of big word) ps) 6 _ (rw (word_good _ r.encoding h).1 at n))
+          rw (object_check, passes (encoding_good (encoding_of big word)) 4 _ (word_good _ _ h).0, passes (eqb word first) 5 _ (eq-eqb _ _ s), fails (edition_good (encoding_of big word) ps) 6 _ (rw (word_good _ _ h).1 at n))
           (c, omega arith)
 
       module _ (t : edition_good (encoding_is r.encoding) ps ≡ true) where
         pub judged_complete : complete ps ≡ false → r.code ≡ 7 → JudgedIs (object_check big first word ps) r
         unfolding object_check JudgedIs
         judged_complete n c =
-            rw (object_check, passes (encoding_good (encoding_of big word)) 4 _ (word_good _ r.encoding h).0, passes (eqb word first) 5 _ (eq-eqb _ _ s), passes (edition_good (encoding_of big word) ps) 6 _ (rw (word_good _ r.encoding h).1 at t), fails (complete ps) 7 _ n)
+            rw (object_check, passes (encoding_good (encoding_of big word)) 4 _ (word_good _ _ h).0, passes (eqb word first) 5 _ (eq-eqb _ _ s), passes (edition_good (encoding_of big word) ps) 6 _ (rw (word_good _ _ h).1 at t), fails (complete ps) 7 _ n)
             (c, omega arith)
 
         pub judged_good : complete ps ≡ true → r.code ≡ 0 → JudgedIs (object_check big first word ps) r
         unfolding object_check JudgedIs
         judged_good n c =
-            rw (object_check, passes (encoding_good (encoding_of big word)) 4 _ (word_good _ r.encoding h).0, passes (eqb word first) 5 _ (eq-eqb _ _ s), passes (edition_good (encoding_of big word) ps) 6 _ (rw (word_good _ r.encoding h).1 at t), passes (complete ps) 7 _ n)
-            (c, (word_good _ r.encoding h).1)
+            rw (object_check, passes (encoding_good (encoding_of big word)) 4 _ (word_good _ _ h).0, passes (eqb word first) 5 _ (eq-eqb _ _ s), passes (edition_good (encoding_of big word) ps) 6 _ (rw (word_good _ _ h).1 at t), passes (complete ps) 7 _ n)
+            (c, (word_good _ _ h).1)
 
 -- 6 and 7 by the counts of a scan
 module _ (scan : Scan) (at : ℕ) (ps : List Part) (e : scan ≡ scan_of at ps) (t : Bool) where

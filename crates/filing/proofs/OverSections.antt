@@ -4,7 +4,6 @@ use mathlib.Core.Path.{◌≡◌, refl, sym, ap, ◌∙◌, subst}
 use mathlib.Core.Logic.{◌⊎◌, inl, inr}
 use mathlib.Core.Bool.{Bool}
 use mathlib.Core.List.{List, [], ◌∷◌, map}
-use mathlib.Core.Option.{some, none}
 use Prim.Native.Nat.{ℕ, suc, ◌+◌, ◌-◌, ◌<◌, ◌≤◌}
 use native.Mathlib.Omega.{arith}
 use borrow.Author.Tests.{eqb-true}
@@ -16,7 +15,7 @@ use Rattle.octets.proofs.Checks.{or_cases}
 use Rattle.bundle.specs.Bundle.{Part, Item, items, leading}
 use Rattle.bundle.specs.Scan.{Reaches, sections_of, place_behind, holds_units, unit_parts, unit_section_of}
 use Rattle.bundle.specs.Written.{Section}
-use Rattle.bundle.specs.declared.Section.{Section as UnitsSection}
+use Rattle.bundle.specs.declared.UnitSection.TheVariants.{Found, Done}
 use Rattle.bundle.proofs.Passed.{here}
 use Rattle.bundle.proofs.Units.{UnitsHere, UnitsLeft, units_reach, units_here, units_done}
 use Rattle.bundle.proofs.Onward.{Onward, onward, onward_same}
@@ -108,7 +107,7 @@ module _ {b : List ℕ} {x : InputObject} {from at : ℕ} {w₀ w : List ℕ} {s
   sections_reach = units_reach b at [] _ left_here
 
   -- at the end of the object
-  pub sectioned_end : none ≡ unit_section_of (all_from b at) → (i : Input) (bases : BySection ℕ) (earlier here : List Filed) → AtUnit b x i from w₀ st₀ bases earlier here
+  pub sectioned_end : Done ≡ unit_section_of (all_from b at) → (i : Input) (bases : BySection ℕ) (earlier here : List Filed) → AtUnit b x i from w₀ st₀ bases earlier here
       → UnitsAre b x i (place_behind from (all_from b from)) w₀ w st₀ bases earlier (units_in i bases earlier here (unit_sections b (all_from b from))) (record { code = 0; st = st })
   unfolding UnitsAre
   sectioned_end e i bases earlier here a =
@@ -120,23 +119,23 @@ module _ {b : List ℕ} {x : InputObject} {from at : ℕ} {w₀ w : List ℕ} {s
       (refl, at_later at _ o.at_unit (rw (← k.behind) g.further) (rw (← k.behind) g.within), o.kept)
 
   -- one section more
-  module _ (y : UnitsSection) (e : some y ≡ unit_section_of (all_from b at)) where
-    found : UnitsHere b at k.ahead y
-    found = units_here b at [] _ left_here y e
+  module _ (code start size next : ℕ) (e : Found code start size next ≡ unit_section_of (all_from b at)) where
+    found : UnitsHere b at k.ahead code start size next
+    found = units_here b at [] _ left_here code start size next e
 
     pub record SectionLies : Type 0 where
-      pub home : (y.code ≡ 1) ⊎ (y.code ≡ 2)
-      pub further : at < y.next
-      pub low : at ≤ y.start
-      pub inside : y.start + y.size ≤ y.next
-      pub within : y.next ≤ length b
+      pub home : (code ≡ 1) ⊎ (code ≡ 2)
+      pub further : at < next
+      pub low : at ≤ start
+      pub inside : start + size ≤ next
+      pub within : next ≤ length b
 
     pub section_lies : SectionLies
     unfolding holds_units
     section_lies =
         let h = found in
         record {
-          home = elim (or_cases (eqb y.code 1) (eqb y.code 2) h.units) [ inl t ↦ inl (eqb-true y.code 1 t) | inr t ↦ inr (eqb-true y.code 2 t) ];
+          home = elim (or_cases (eqb code 1) (eqb code 2) h.units) [ inl t ↦ inl (eqb-true code 1 t) | inr t ↦ inr (eqb-true code 2 t) ];
           further = h.further;
           low = omega (arith, h.behind);
           inside = h.inside;
@@ -144,29 +143,29 @@ module _ {b : List ℕ} {x : InputObject} {from at : ℕ} {w₀ w : List ℕ} {s
         }
 
     -- what is left of the object's sections
-    rest_is : unit_sections b (all_from b at) ≡ record { code = y.code; bytes = part b y.start y.size } ∷ unit_sections b (all_from b y.next)
+    rest_is : unit_sections b (all_from b at) ≡ record { code = code; bytes = part b start size } ∷ unit_sections b (all_from b next)
     rest_is =
         let h = found in
         sections_map b (all_from b at) ∙ ap (λ (ps : List Part). map (section_at b) (unit_parts ps)) (all_from_law b at k.ahead k.left) ∙ ap (map (section_at b)) h.first
-        ∙ ap (λ (zs : List Section). record { code = y.code; bytes = part b y.start y.size } ∷ zs)
-        (ap (λ (ps : List Part). map (section_at b) (unit_parts ps)) (sym (all_from_law b y.next h.ahead h.left)) ∙ sym (sections_map b (all_from b y.next)))
+        ∙ ap (λ (zs : List Section). record { code = code; bytes = part b start size } ∷ zs)
+        (ap (λ (ps : List Part). map (section_at b) (unit_parts ps)) (sym (all_from_law b next h.ahead h.left)) ∙ sym (sections_map b (all_from b next)))
 
     -- the answer of `add_units` for it
-    module _ (home stop : ℕ) (same_home : home ≡ y.code) (same_stop : stop ≡ y.start + y.size) (v : List ℕ) (r : UnitsFiled) (same : length v ≡ length w)
-        (added : (i : Input) (bases : BySection ℕ) (earlier here : List Filed) → AtUnit b x i y.start w st bases earlier here
-        → UnitsAre b x i stop w v st bases earlier (units_from (suc (length (part b y.start (stop - y.start)))) i bases earlier here home 0 (part b y.start (stop - y.start))) r) where
+    module _ (home stop : ℕ) (same_home : home ≡ code) (same_stop : stop ≡ start + size) (v : List ℕ) (r : UnitsFiled) (same : length v ≡ length w)
+        (added : (i : Input) (bases : BySection ℕ) (earlier here : List Filed) → AtUnit b x i start w st bases earlier here
+        → UnitsAre b x i stop w v st bases earlier (units_from (suc (length (part b start (stop - start)))) i bases earlier here home 0 (part b start (stop - start))) r) where
       section_is : (i : Input) (bases : BySection ℕ) (earlier here : List Filed)
-          → units_from (suc (length (part b y.start (stop - y.start)))) i bases earlier here home 0 (part b y.start (stop - y.start)) ≡ units_from (suc (length (part b y.start y.size))) i bases earlier here y.code 0 (part b y.start y.size)
-      section_is i bases earlier here = let z : stop - y.start ≡ y.size = omega arith in rw (z, same_home)
+          → units_from (suc (length (part b start (stop - start)))) i bases earlier here home 0 (part b start (stop - start)) ≡ units_from (suc (length (part b start size))) i bases earlier here code 0 (part b start size)
+      section_is i bases earlier here = let z : stop - start ≡ size = omega arith in rw (z, same_home)
 
       -- the walk of one section, from what is filed before it
       answered : (i : Input) (bases : BySection ℕ) (earlier here : List Filed) → AtUnit b x i at w st bases earlier here
-          → UnitsAre b x i stop w v st bases earlier (units_from (suc (length (part b y.start y.size))) i bases earlier here y.code 0 (part b y.start y.size)) r
+          → UnitsAre b x i stop w v st bases earlier (units_from (suc (length (part b start size))) i bases earlier here code 0 (part b start size)) r
       answered i bases earlier here a =
           subst (λ (m : Check (List Filed)). UnitsAre b x i stop w v st bases earlier m r) (section_is i bases earlier here)
-          (added i bases earlier here (at_later at y.start a section_lies.low (let h = section_lies in omega (arith, h.inside, h.within))))
+          (added i bases earlier here (at_later at start a section_lies.low (let h = section_lies in omega (arith, h.inside, h.within))))
 
-      pub sectioned_more : r.code ≡ 0 → Sectioned b x from y.next w₀ v st₀ r.st
+      pub sectioned_more : r.code ≡ 0 → Sectioned b x from next w₀ v st₀ r.st
       unfolding UnitsAre
       sectioned_more z =
           let h = found in
@@ -175,25 +174,25 @@ module _ {b : List ℕ} {x : InputObject} {from at : ℕ} {w₀ w : List ℕ} {s
             ahead = h.ahead;
             left = h.left;
             within = h.within;
-            behind = ap (place_behind y.next) (all_from_law b y.next h.ahead h.left) ∙ onward_same b at k.ahead y h.ahead k.left (e ∙ ap unit_section_of (all_from_law b at k.ahead k.left)) h.left
+            behind = ap (place_behind next) (all_from_law b next h.ahead h.left) ∙ onward_same b at k.ahead code start size next h.ahead k.left (e ∙ ap unit_section_of (all_from_law b at k.ahead k.left)) h.left
                 ∙ ap (place_behind at) (sym (all_from_law b at k.ahead k.left)) ∙ k.behind;
             goes = λ i bases earlier here a. on i bases earlier here (k.goes i bases earlier here a);
           }
         where
-          on : (i : Input) (bases : BySection ℕ) (earlier here : List Filed) → On b x from at w₀ w st₀ st i bases earlier here → On b x from y.next w₀ v st₀ r.st i bases earlier here
+          on : (i : Input) (bases : BySection ℕ) (earlier here : List Filed) → On b x from at w₀ w st₀ st i bases earlier here → On b x from next w₀ v st₀ r.st i bases earlier here
           on i bases earlier here o = go _ refl (answered i bases earlier o.filed o.at_unit)
             where
-              go : (m : Check (List Filed)) → units_from (suc (length (part b y.start y.size))) i bases earlier o.filed y.code 0 (part b y.start y.size) ≡ m → UnitsAre b x i stop w v st bases earlier m r
-                  → On b x from y.next w₀ v st₀ r.st i bases earlier here
+              go : (m : Check (List Filed)) → units_from (suc (length (part b start size))) i bases earlier o.filed code 0 (part b start size) ≡ m → UnitsAre b x i stop w v st bases earlier m r
+                  → On b x from next w₀ v st₀ r.st i bases earlier here
               go (pass us) q f =
                   let l = section_lies in
                   record {
                     filed = us;
-                    at_unit = at_later stop y.next f.1 (omega (arith, l.inside)) l.within;
+                    at_unit = at_later stop next f.1 (omega (arith, l.inside)) l.within;
                     kept = kept_more o.kept f.2;
                     is = sym (ap (units_in i bases earlier o.filed) rest_is ∙ section_filed i bases earlier o.filed us _ _ q) ∙ o.is;
                   }
-              go (refuse m) q f = absurd (let g = (units_numbered i bases earlier _ o.filed y.code 0 (part b y.start y.size)).is m q in let z : m ≡ 0 = sym f ∙ z in omega arith)
+              go (refuse m) q f = absurd (let g = (units_numbered i bases earlier _ o.filed code 0 (part b start size)).is m q in let y : m ≡ 0 = sym f ∙ z in omega arith)
 
       pub sectioned_refused : (r.code ≡ 0 → ⊥) → (i : Input) (bases : BySection ℕ) (earlier here : List Filed) → AtUnit b x i from w₀ st₀ bases earlier here
           → (u : UnitsFiled) → u.code ≡ r.code → UnitsAre b x i (place_behind from (all_from b from)) w₀ v st₀ bases earlier (units_in i bases earlier here (unit_sections b (all_from b from))) u
@@ -203,7 +202,7 @@ module _ {b : List ℕ} {x : InputObject} {from at : ℕ} {w₀ w : List ℕ} {s
           o : On b x from at w₀ w st₀ st i bases earlier here
           o = k.goes i bases earlier here a
 
-          go : (m : Check (List Filed)) → units_from (suc (length (part b y.start y.size))) i bases earlier o.filed y.code 0 (part b y.start y.size) ≡ m → UnitsAre b x i stop w v st bases earlier m r
+          go : (m : Check (List Filed)) → units_from (suc (length (part b start size))) i bases earlier o.filed code 0 (part b start size) ≡ m → UnitsAre b x i stop w v st bases earlier m r
               → UnitsAre b x i (place_behind from (all_from b from)) w₀ v st₀ bases earlier (units_in i bases earlier here (unit_sections b (all_from b from))) u
           go (pass us) y f = absurd (z f.0)
           go (refuse m) y f =

@@ -8,7 +8,7 @@ ghost use Rattle.package.specs.Input.{form_of};
 ghost use Rattle.filing.specs.Judged.{object_check, JudgedIs, index_check, JudgedIndexIs};
 
 use bundle::Scan;
-use bundle::encoding::ObjectEncoding;
+use bundle::encoding::{ObjectEncoding, WordRead};
 use index::reading::{IndexHead, IndexRead};
 use numbers::refusals::{BAD_ENCODING, BAD_INDEX, OTHER_ENCODING, SECTION_MISSING, WRONG_EDITION};
 use numbers::sections::CODES;
@@ -49,7 +49,7 @@ pub struct JudgedIndex {
 pub fn judge_object(big: bool, first: u32, word: u32, scan: Scan) -> Judged
     ensures { (at : ℕ) (ps : List Part) → scan ≡ scan_of at ps → JudgedIs (object_check big first word ps) result }
 {
-    let Ok(encoding) = bundle::encoding::read_word(big, word) else {
+    let WordRead::Good(encoding) = bundle::encoding::read_word(big, word) else {
         let none = ObjectEncoding {
             big,
             five: false,

@@ -30,17 +30,17 @@ pub fn keep_unit(
     let home = unit.home;
     let table = unit.table;
     let size = unit.size;
-    let place = kept::by_number::bytes_of(units, home);
+    let place = units.bytes_of(home);
     let cells = kept::cells::cells_of(k, bases, home, place, size);
     kept::slots::keep(work, n, units.count, slot, unit, five, cells);
-    let old = kept::by_number::table_of(units, table);
+    let old = units.table_of(table);
     let marked = old.has;
     let has = kept::columns::mark_columns(five, marked, cells);
     let t = Table {
         rows: unit.row,
         has,
     };
-    let more = kept::by_number::with_unit(units, table, t, home, place + size);
+    let more = units.with_unit(table, t, home, place + size);
     InProgress {
         units: more,
         bases,

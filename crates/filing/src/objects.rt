@@ -72,8 +72,8 @@ pub fn add_object_strings(
         };
     };
     let n = b.len() / 4;
-    let table = kept::regions::strings(n);
-    let store = kept::regions::store(n);
+    let table = kept::regions::STRINGS.of(n);
+    let store = kept::regions::STORE.of(n);
     let from = store.start;
     let to = from + store.size;
     let mut more = t;

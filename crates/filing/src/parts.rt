@@ -98,7 +98,7 @@ pub fn judge_parts(b: &[u8], x: InputObject, work: &mut [u32]) -> Parts
     ensures frame { Only codes_region (words_in b.now) work.old work.new }
 {
     let n = b.len() / 4;
-    let codes = kept::regions::codes(n);
+    let codes = kept::regions::CODES.of(n);
     let from = codes.start;
     let to = from + x.size[STR_OFFSETS];
     tile_parts(b, x, &mut work[from..to])
@@ -135,8 +135,8 @@ pub fn add_parts(
     ensures frame { OnlyStore (words_in b.now) work.old work.new }
 {
     let n = b.len() / 4;
-    let table = kept::regions::strings(n);
-    let store = kept::regions::store(n);
+    let table = kept::regions::STRINGS.of(n);
+    let store = kept::regions::STORE.of(n);
     let from = store.start;
     let to = from + store.size;
     let whole = o.offsets;

@@ -81,7 +81,7 @@ pub fn chain_section(b: &[u8], x: InputObject, section: HomeSection, work: &mut 
     let start = x.start[CU_INDEX];
     let end = start + x.size[CU_INDEX];
     let heads = heads_for(section);
-    let region = kept::regions::rows_by_place(b.len() / 4);
+    let region = kept::regions::ROWS_BY_PLACE.of(b.len() / 4);
     let from = region.start;
     let to = from + region.size;
     places::by_place::chain_rows(
@@ -167,7 +167,7 @@ fn abbreviations_for(
     let last = first + x.size[CU_INDEX];
     let s = &b[first..last];
     let heads = heads_for(section);
-    let region = kept::regions::rows_by_place(b.len() / 4);
+    let region = kept::regions::ROWS_BY_PLACE.of(b.len() / 4);
     let from = region.start;
     let to = from + region.size;
     let place = at - section.start;
@@ -192,7 +192,7 @@ fn identity_in(
     ensures memory { Remembered b.now work.new result.judged }
     ensures frame { Only codes_region (words_in b.now) work.old work.new }
 {
-    let region = kept::regions::codes(b.len() / 4);
+    let region = kept::regions::CODES.of(b.len() / 4);
     let from = region.start;
     let to = from + region.size;
     let read = unit::header::unit_identity(e, home, b, place, &mut work[from..to], judged);

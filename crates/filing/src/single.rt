@@ -16,7 +16,6 @@ use crate::state::COMPILATION;
 use crate::units::{HomeSection, ReadUnit, UnitDone, UnitFiled};
 use kept::Units;
 use kept::records::Unit;
-use kept::slots::Sought;
 use kept::state::InProgress;
 use numbers::refusals::IDENTITY_SEEN;
 use unit::header::UnitAnswer;
@@ -45,7 +44,8 @@ fn file_known(
         return refused(IDENTITY_SEEN, st);
     }
     let agrees = kept::unit_bytes::same_as_kept(b, work, number, at, size);
-    let next = kept::state::skip_one(st, agrees);
+    let mut next = st;
+    next.skip_one(agrees);
     UnitFiled {
         code: 0,
         size,
@@ -58,7 +58,7 @@ fn unit_for(units: Units, home: usize, at: usize, read: ReadUnit) -> Unit
     requires { (pick read.table units.cu units.tu).rows < 2 ^ 32 }
     ensures { result ≡ unit_for units home at read }
 {
-    let table = kept::by_number::table_of(units, read.table);
+    let table = units.table_of(read.table);
     Unit {
         table: read.table,
         row: table.rows + 1,
@@ -91,10 +91,10 @@ fn file_read(
     let e = x.encoding;
     let count = kept::slots::seen_slots(n);
     let slot = match kept::slots::seek_in(work, n, table, units.count, count, read.identity) {
-        Sought::Known(number) => {
+        Ok(number) => {
             return file_known(b, number, at, read, st, work);
         }
-        Sought::Free(slot) => slot,
+        Err(slot) => slot,
     };
     let judged = crate::contributions::contributions_of(b, x, home, at - section.start, read);
     let code = judged.code;

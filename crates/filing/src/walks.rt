@@ -9,7 +9,7 @@ ghost use Rattle.filing.specs.Asked.{
 
 use crate::input::InputObject;
 use crate::units::{HomeSection, UnitsDone, UnitsFiled};
-use bundle::Section;
+use bundle::UnitSection;
 use kept::state::InProgress;
 use unit::judged::Judged;
 
@@ -67,14 +67,7 @@ pub fn add_sections(
     let mut judged = unit::judged::nothing();
     loop {
         match bundle::next_unit_section(b, at) {
-            Some(
-                Section {
-                    code: number,
-                    start,
-                    size,
-                    next,
-                },
-            ) => {
+            UnitSection::Found(number, start, size, next) => {
                 let home = octets::wide(number);
                 let stop = start + size;
                 let section = HomeSection { home, start, stop };
@@ -91,7 +84,7 @@ pub fn add_sections(
                 }
                 at = next;
             }
-            None => {
+            UnitSection::Done => {
                 return UnitsFiled { code: 0, st: known };
             }
         }

@@ -4,7 +4,11 @@ use mathlib.Core.Path.{◌≡◌, refl, sym, ap, ◌∙◌}
 use mathlib.Core.List.{List, [], ◌∷◌, ◌++◌}
 use mathlib.Core.Option.{Option, some, none}
 use Prim.Native.Nat.{ℕ, ◌+◌, ◌<◌, ◌≤◌}
+use mathlib.Core.Logic.{⊎_elim}
 use native.Mathlib.Omega.{arith}
+use types.Run.{OneOf}
+use denote.Enum.Declared.{tag_of}
+use Rattle.bundle.specs.contracts.Item.{the_type}
 use lib.ListN.{length, get_or, drop}
 use Rattle.octets.specs.Octets.{part}
 use Rattle.octets.specs.Checked.{Check, pass}
@@ -12,14 +16,15 @@ use Rattle.bundle.specs.Bundle.{Part, Item, Object, items, leading, first_part, 
 use Rattle.bundle.specs.Next.{next_of}
 use Rattle.bundle.specs.Scan.{Reaches, place_behind, sections_of, start_in, size_in, start_of, size_of, scan_of}
 use Rattle.bundle.specs.declared.Scan.{Scan}
-use Rattle.bundle.specs.declared.Item.TheVariants.{Object as AnObject}
+use Rattle.bundle.specs.declared.Item.{Item as Answered}
+use Rattle.bundle.specs.declared.Item.TheVariants.{Object as AnObject, Section as ASection, End, Broken}
 use Rattle.bundle.proofs.Passed.{here}
 use Rattle.bundle.proofs.Items.{behind}
 use Rattle.bundle.proofs.Next.{object_here}
 use Rattle.bundle.proofs.Lies.{here_span}
 use Rattle.bundle.proofs.Scanned.{by_code_at}
 use Rattle.bundle.proofs.Sections.{body_part}
-use Rattle.bundle.proofs.Objects.{Objects, objects_object, here_behind, behind_span}
+use Rattle.bundle.proofs.Objects.{Objects, objects_object, objects_section, objects_end, objects_broken, here_behind, behind_span}
 use Rattle.bundle.proofs.Within.{leading_within}
 
 -- at an object: what its word's answer and a scan of its sections say
@@ -32,7 +37,7 @@ pub record AtObject (b : List ℕ) (place next : ℕ) (scan : Scan) (done all : 
   pub size : (c : ℕ) → c < 14 → get_or scan.size c 0 ≡ size_of one.parts c
   pub lies : (c : ℕ) → start_of one.parts c + size_of one.parts c ≤ length b
 
-pub object_reaches : (b : List ℕ) (place : ℕ) (done all : List Object) → Objects b place done all → (word next : ℕ) → pass (AnObject word next) ≡ next_of place (step_at place (drop place b)) → Reaches b next
+pub object_reaches : (b : List ℕ) (place : ℕ) (done all : List Object) → Objects b place done all → (word next : ℕ) → AnObject word next ≡ next_of place (step_at place (drop place b)) → Reaches b next
 unfolding here
 object_reaches b place done all o word next e = let n = objects_object b place done all o word next e in record { ahead = n.ahead; left = n.left }
 
@@ -44,7 +49,7 @@ lies_in b at is e c = go (first_part (leading is) c) refl
     go (some p) f = leading_within b at is e c p f
     go none f = omega arith
 
-pub object_scanned : (b : List ℕ) (place : ℕ) (done all : List Object) → Objects b place done all → (word next : ℕ) → pass (AnObject word next) ≡ next_of place (step_at place (drop place b))
+pub object_scanned : (b : List ℕ) (place : ℕ) (done all : List Object) → Objects b place done all → (word next : ℕ) → AnObject word next ≡ next_of place (step_at place (drop place b))
     → (scan : Scan) → scan ≡ scan_of next (sections_of (items next (drop next b))) → AtObject b place next scan done all
 unfolding here sections_of scan_of
 object_scanned b place done all o word next e scan s =
@@ -68,3 +73,15 @@ object_scanned b place done all o word next e scan s =
 pub scanned_body : (b : List ℕ) (place next : ℕ) (scan : Scan) (done all : List Object) (a : AtObject b place next scan done all) (c : ℕ) → c < 14
     → part b (get_or scan.start c 0) (get_or scan.size c 0) ≡ body b a.one.parts c
 scanned_body b place next scan done all a c h = rw (a.start c h, a.size c h) (sym (body_part c b a.one.parts))
+
+-- any other answer than an object's word: all objects are passed
+pub objects_over : (b : List ℕ) (place : ℕ) (done all : List Object) → Objects b place done all → (r : Answered) → ((word next : ℕ) → r ≡ AnObject word next → ⊥)
+    → r ≡ next_of place (step_at place (drop place b)) → done ≡ all
+objects_over b place done all o (AnObject word next) f e = absurd (f word next refl)
+objects_over b place done all o (ASection code start size next) f e = absurd (objects_section b place done all o code start size next e)
+objects_over b place done all o End f e = objects_end b place done all o e
+objects_over b place done all o Broken f e = absurd (objects_broken b place done all o e)
+
+-- an answer of another kind is no object's word
+pub not_object : (r : Answered) (word next : ℕ) → OneOf (1 ∷ 2 ∷ 3 ∷ []) (tag_of the_type r) → r ≡ AnObject word next → ⊥
+not_object r word next k e = ⊎_elim (λ z. omega arith) (⊎_elim (λ z. omega arith) (λ z. omega arith)) (rw e at k)

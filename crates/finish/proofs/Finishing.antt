@@ -7,19 +7,17 @@ use Prim.Native.Nat.{ℕ, ◌/◌, ◌%◌}
 use lib.Dec.{leb}
 use lib.ListN.{length, drop}
 use Rattle.octets.specs.Lists.{joined, those, all}
-use Rattle.std.specs.Prelude.{Ok, Err}
-use Rattle.numbers.specs.Refused.{told as answer}
-use Rattle.numbers.specs.declared.refusals.Refusal.{Refusal}
-use Rattle.octets.specs.Checked.{pass, refuse, ◌>>=◌, require, mapped}
+use Rattle.octets.specs.Checked.{pass, refuse, ◌>>=◌, require}
 use Rattle.octets.proofs.Checks.{then_pass, pass_inj}
 use Rattle.octets.proofs.Numbers.{Bytes}
 use Rattle.bundle.specs.Bundle.{Part, Object, Bundle, bundle_of, step_at, leading, objects_of}
 use Rattle.bundle.specs.Encoding.{encoding_of}
-use Rattle.bundle.specs.Encoded.{encoding_is, encoding_checked}
+use Rattle.bundle.specs.Encoded.{word_read}
 use Rattle.bundle.specs.Written.{Section, written}
 use Rattle.bundle.specs.Next.{next_of}
 use Rattle.bundle.specs.declared.Item.TheVariants.{Object as AnObject}
 use Rattle.bundle.specs.declared.encoding.ObjectEncoding.{ObjectEncoding}
+use Rattle.bundle.specs.declared.encoding.WordRead.TheVariants.{Good, Bad}
 use Rattle.bundle.proofs.Objects.{objects_none, objects_object}
 use Rattle.strings.specs.Strings.{first_uses, put_all, str_of}
 use Rattle.index.specs.Written.{index_bytes}
@@ -57,7 +55,7 @@ empty_package big b st w a z =
     ∙ ap (λ (l : List Section). require (all (λ (s : Section). leb (length s.bytes) 8_388_607) l) 19 >>= (λ _. pass (written k.big (package_objects k.objects l)))) nothing ∙ written_none k.big big k.objects a.order z
 
 -- ---- with objects
-first_object : (b : List ℕ) (k : Bundle) → bundle_of b ≡ pass k → (word next : ℕ) → pass (AnObject word next) ≡ next_of 4 (step_at 4 (drop 4 b))
+first_object : (b : List ℕ) (k : Bundle) → bundle_of b ≡ pass k → (word next : ℕ) → AnObject word next ≡ next_of 4 (step_at 4 (drop 4 b))
     → (ps : List Part) × ((os : List Object) × (k.objects ≡ record { word = word; parts = ps } ∷ os))
 first_object b k e word next q =
     let n = objects_object b 4 [] k.objects (objects_none b k e) word next q in
@@ -74,24 +72,25 @@ pub record Ending (big : Bool) (b : List ℕ) (st : InProgress) (w : List ℕ) (
   pub ready : (v : List ℕ) → BothPlaced (length b / 4) st.units w v → st.strings.over ≡ false → Ready e b st v s
 
 module _ (big : Bool) (b : List ℕ) (st : InProgress) (w : List ℕ) (a : AllFiled big b st w) (ok : Bytes b) (word next : ℕ)
-    (q : pass (AnObject word next) ≡ next_of 4 (step_at 4 (drop 4 b))) where
+    (q : AnObject word next ≡ next_of 4 (step_at 4 (drop 4 b))) where
   one : Object
   one = record { word = word; parts = (first_object b a.bundle a.reads word next q).0 }
 
-  pub word_good : (r : Refusal) → mapped encoding_is (answer (Err r)) ≡ encoding_checked (encoding_of big word) → ⊥
+  pub word_good : Bad ≡ word_read (encoding_of big word) → ⊥
   unfolding one
-  word_good r z = let f = first_object b a.bundle a.reads word next q in word_never_bad (encoding_of big word) (first_good big b st w a ok one f.1.0 f.1.1) r z
+  word_good z = let f = first_object b a.bundle a.reads word next q in word_never_bad (encoding_of big word) (first_good big b st w a ok one f.1.0 f.1.1) z
 
-  pub ending : (e : ObjectEncoding) → mapped encoding_is (answer (Ok e)) ≡ encoding_checked (encoding_of big word) → Ending big b st w e word
+  pub ending : (e : ObjectEncoding) → Good e ≡ word_read (encoding_of big word) → Ending big b st w e word
   unfolding one encoding_of
   ending e g =
       let f = first_object b a.bundle a.reads word next q in
       let os = f.1.0 in
       let first = f.1.1 in
       let E = encoding_of big word in
-      let encoding = word_encoding E e g in
-      let same = word_big E e g in
-      let five = word_five E e g in
+      let good = first_good big b st w a ok one os first in
+      let encoding = word_encoding E good e g in
+      let same = word_big E good e g in
+      let five = word_five E good e g in
       let c1 = index_bytes e.big (version_for e.five) (rows_of (kept a.filing.units) 1) in
       let c2 = index_bytes e.big (version_for e.five) (rows_of (kept a.filing.units) 2) in
       let same-package = package_one big b st w a ok one os first e encoding same five c1 c2 refl refl in

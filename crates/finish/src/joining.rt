@@ -19,7 +19,7 @@ pub fn copy_sections(b: &[u8], code: usize, out: &mut [u8], at: usize)
     let mut o = at;
     let mut place = 4;
     loop {
-        let Ok(Item::Object { next, .. }) = bundle::next_item(b, place) else {
+        let Item::Object(_, next) = bundle::next_item(b, place) else {
             return;
         };
         let scan = bundle::scan_object(b, next);
@@ -42,7 +42,7 @@ pub fn copy_str_offsets(e: ObjectEncoding, b: &[u8], table: &[u32], out: &mut [u
     let mut o = at;
     let mut place = 4;
     loop {
-        let Ok(Item::Object { next, .. }) = bundle::next_item(b, place) else {
+        let Item::Object(_, next) = bundle::next_item(b, place) else {
             return;
         };
         let scan = bundle::scan_object(b, next);

@@ -16,7 +16,7 @@ ghost use Rattle.finish.specs.Finish.{
 
 use crate::writing::Package;
 use bundle::Item;
-use bundle::encoding::ObjectEncoding;
+use bundle::encoding::{ObjectEncoding, WordRead};
 use kept::state::InProgress;
 use numbers::refusals::{BAD_ENCODING, SECTION_TOO_LONG};
 
@@ -78,10 +78,10 @@ pub fn finish(b: &[u8], big: bool, st: InProgress, work: &mut [u32], out: &mut [
     ensures answer { result ≡ finished_of (answered (package_in b.now) (length out.old)) }
     ensures output { out.new ≡ output_of (answered (package_in b.now) (length out.old)) (length out.old) }
 {
-    let Ok(Item::Object { word, .. }) = bundle::next_item(b, 4) else {
+    let Item::Object(word, _) = bundle::next_item(b, 4) else {
         return finish_empty(big, out);
     };
-    let Ok(e) = bundle::encoding::read_word(big, word) else {
+    let WordRead::Good(e) = bundle::encoding::read_word(big, word) else {
         return Finished::Refused(BAD_ENCODING);
     };
     let strings = st.strings;

@@ -55,13 +55,9 @@ fn write_index(f: IndexForm, words: usize, n: usize, work: &[u32], out: &mut [u8
         return;
     }
     let count = kept::slots::slots_for(f.rows);
-    let records = kept::regions::records(words);
-    let slots = kept::regions::slots(words, f.table);
-    let first = records.start;
-    let last = first + records.size;
-    let from = slots.start;
-    let to = from + count;
-    kept::writing::write_index(f, &work[first..last], n, &work[from..to], out, at);
+    let records = kept::regions::RECORDS.part(work, words);
+    let slots = kept::regions::slots(f.table).part(work, words);
+    f.write_index(records, n, &slots[..count], out, at);
 }
 
 // The bytes of str or of an index, by its code.
@@ -74,7 +70,7 @@ fn write_last_section(code: usize, p: Package, b: &[u8], work: &[u32], out: &mut
     let units = st.units;
     if code == STR {
         let strings = st.strings;
-        let region = kept::regions::strings(words);
+        let region = kept::regions::STRINGS.of(words);
         let first = region.start;
         let last = first + region.size;
         strings::sections::write_strings(b, &work[first..last], strings.count, out, at);
@@ -98,14 +94,14 @@ fn write_section(code: usize, p: Package, b: &[u8], work: &[u32], out: &mut [u8]
     let st = p.state;
     if code <= TYPES {
         let units = st.units;
-        let region = kept::regions::records(words);
+        let region = kept::regions::RECORDS.of(words);
         let first = region.start;
         let last = first + region.size;
         kept::unit_bytes::copy_units(b, &work[first..last], units.count, code, out, at);
         return;
     }
     if code == STR_OFFSETS {
-        let table = kept::regions::strings(words);
+        let table = kept::regions::STRINGS.of(words);
         let first = table.start;
         let last = first + table.size;
         crate::joining::copy_str_offsets(p.encoding, b, &work[first..last], out, at);

@@ -7,27 +7,24 @@ use mathlib.Core.Option.{Option, some, none}
 use Prim.Native.Nat.{ℕ, ◌+◌, ◌≤◌}
 use native.Mathlib.Omega.{arith}
 use lib.ListN.{length, drop}
-use Rattle.octets.specs.Checked.{Check, pass, refuse, mapped}
+use Rattle.octets.specs.Checked.{Check, pass, refuse}
 use Rattle.bundle.specs.Bundle.{Part, Item, Bundle, bundle_of, length_good, step_at, items, leading, first_part}
-use Rattle.bundle.specs.Next.{next_of}
+use Rattle.bundle.specs.Next.{next_of, words_of}
 use Rattle.bundle.specs.Scan.{Reaches, place_behind, sections_of, start_in, size_in, start_of, size_of, scan_of}
 use Rattle.bundle.specs.declared.Scan.{Scan}
-use denote.Enum.Declared.{tag_of}
-use Rattle.bundle.specs.contracts.Item.{the_type}
-use Rattle.bundle.specs.declared.Item.{Item as Next}
-use Rattle.bundle.specs.declared.Item.TheVariants.{Object, Section, End}
+use Rattle.bundle.specs.declared.Item.TheVariants.{Object, Section, End, Broken}
+use Rattle.bundle.specs.declared.Words.TheVariants.{Readable, Broken as Unreadable}
 use Rattle.bundle.proofs.Passed.{here}
 use Rattle.bundle.proofs.Next.{object_here}
 use Rattle.bundle.proofs.Objects.{Objects, Entered, objects_none, objects_object, objects_section, objects_end, objects_broken}
 use Rattle.bundle.proofs.Within.{leading_within}
 use Rattle.lookup.specs.Lookup.{objects_judged, package_of}
-use Rattle.lookup.specs.Answers.{indexed, head_in, empty, opened, Alone, Entering}
-use Rattle.lookup.proofs.Told.{of_pass, of_refuse}
+use Rattle.lookup.specs.Answers.{indexed, head_in, empty, closed, opened, Alone, Entering}
 use Rattle.lookup.proofs.Packages as P
 
 -- refused
-pub shut : (p : List ℕ) → package_of p ≡ refuse 21 → refuse 21 ≡ opened (package_of p)
-unfolding opened mapped
+pub shut : (p : List ℕ) → package_of p ≡ refuse 21 → closed ≡ opened (package_of p)
+unfolding opened
 shut p e = sym (ap opened e)
 
 -- ---- behind the word of the first object
@@ -62,7 +59,7 @@ module _ (p : List ℕ) (big : Bool) (word : ℕ) (e : Entering p big word) wher
         go none f = rw f (omega arith)
         go (some q) f = rw f (leading_within p 8 entered.ahead entered.left c q f)
 
-    pub entering_alone : pass End ≡ next_of sections.next (step_at sections.next (drop sections.next p)) → Alone p big word sections
+    pub entering_alone : End ≡ next_of sections.next (step_at sections.next (drop sections.next p)) → Alone p big word sections
     unfolding objects_judged
     entering_alone f = record {
       parts = leading entered.ahead;
@@ -71,52 +68,59 @@ module _ (p : List ℕ) (big : Bool) (word : ℕ) (e : Entering p big word) wher
       is = judged ∙ sym (ap (objects_judged big p) (objects_end p sections.next _ e.bundle.objects behind f));
     }
 
-    -- whatever else follows
-    pub entering_other : (x : Next) → (tag_of the_type x ≡ 2 → ⊥) → pass x ≡ next_of sections.next (step_at sections.next (drop sections.next p)) → refuse 21 ≡ opened (package_of p)
+    pub entering_more : (w next : ℕ) → Object w next ≡ next_of sections.next (step_at sections.next (drop sections.next p)) → closed ≡ opened (package_of p)
     unfolding objects_judged
-    entering_other (Object w next) g f =
+    entering_more w next f =
         let m = (objects_object p sections.next _ e.bundle.objects behind w next f).more in
         shut p (judged ∙ sym (ap (objects_judged big p) m.is))
-    entering_other (Section x) g f = absurd (objects_section p sections.next _ e.bundle.objects behind x f)
-    entering_other End g f = absurd (g refl)
 
-    pub entering_refused : (n : ℕ) → refuse n ≡ next_of sections.next (step_at sections.next (drop sections.next p)) → refuse 21 ≡ opened (package_of p)
-    entering_refused n f = absurd (objects_broken p sections.next _ e.bundle.objects behind n f)
+    pub entering_section : (code start size next : ℕ) → Section code start size next ≡ next_of sections.next (step_at sections.next (drop sections.next p)) → ⊥
+    entering_section code start size next f = objects_section p sections.next _ e.bundle.objects behind code start size next f
+
+    pub entering_broken : Broken ≡ next_of sections.next (step_at sections.next (drop sections.next p)) → ⊥
+    entering_broken f = objects_broken p sections.next _ e.bundle.objects behind f
 
 -- ---- its words
 module _ (p : List ℕ) where
-  pub length_refused : length_good 117_440_512 p ≡ false → refuse 21 ≡ opened (package_of p)
+  pub length_refused : length_good 117_440_512 p ≡ false → closed ≡ opened (package_of p)
   length_refused e = shut p (P.package_length p e)
 
   module _ (l : length_good 117_440_512 p ≡ true) where
-    pub words_refused : (n : ℕ) → refuse n ≡ mapped (λ u. u.big) (bundle_of p) → refuse 21 ≡ opened (package_of p)
-    words_refused n e = shut p (P.package_words p l n (of_refuse _ (bundle_of p) n e))
+    pub words_refused : Unreadable ≡ words_of (bundle_of p) → closed ≡ opened (package_of p)
+    unfolding words_of
+    words_refused e = go (bundle_of p) refl e
+      where
+        go : (m : Check Bundle) → bundle_of p ≡ m → Unreadable ≡ words_of m → closed ≡ opened (package_of p)
+        go (pass u) f g = absurd (let z : ◌≡◌ {A = ℕ} 0 1 = cc in omega arith)
+        go (refuse n) f g = shut p (P.package_words p l n f)
 
-    module _ (big : Bool) (e : pass big ≡ mapped (λ u. u.big) (bundle_of p)) where
-      bundled : (u : Bundle) × (bundle_of p ≡ pass u) × (big ≡ u.big)
-      bundled = of_pass _ (bundle_of p) big e
+    module _ (big : Bool) (e : Readable big ≡ words_of (bundle_of p)) where
+      bundled : (u : Bundle) × (bundle_of p ≡ pass u) × (u.big ≡ big)
+      unfolding words_of
+      bundled = go (bundle_of p) refl e
+        where
+          go : (m : Check Bundle) → bundle_of p ≡ m → Readable big ≡ words_of m → (u : Bundle) × (bundle_of p ≡ pass u) × (u.big ≡ big)
+          go (pass u) f g = (u, f, cc)
+          go (refuse n) f g = absurd (let z : ◌≡◌ {A = ℕ} 0 1 = cc in omega arith)
 
       all : Objects p 4 [] bundled.0.objects
       all = objects_none p bundled.0 bundled.1
 
-      pub words_object : (word next : ℕ) → pass (Object word next) ≡ next_of 4 (step_at 4 (drop 4 p)) → Entering p big word
+      pub words_object : (word next : ℕ) → Object word next ≡ next_of 4 (step_at 4 (drop 4 p)) → Entering p big word
       words_object word next f =
           let place : 8 ≡ next = omega (arith, (object_here p 4 word next f).place) in
-          record { long = l; bundle = bundled.0; read = bundled.1; order = sym bundled.2; first = ap (λ (n : ℕ). pass (Object word n)) place ∙ f }
+          record { long = l; bundle = bundled.0; read = bundled.1; order = bundled.2; first = ap (Object word) place ∙ f }
 
-      pub words_empty : pass End ≡ next_of 4 (step_at 4 (drop 4 p)) → pass (empty big) ≡ opened (package_of p)
-      unfolding opened mapped head_in empty objects_judged indexed
+      pub words_empty : End ≡ next_of 4 (step_at 4 (drop 4 p)) → empty true big ≡ opened (package_of p)
+      unfolding opened head_in empty objects_judged indexed
       words_empty f =
           let none : [] ≡ bundled.0.objects = objects_end p 4 [] bundled.0.objects all f in
           let is : package_of p ≡ objects_judged big p []
-          = P.package_bundle p l bundled.0 bundled.1 ∙ ap (λ (b : Bool). objects_judged b p bundled.0.objects) (sym bundled.2) ∙ sym (ap (objects_judged big p) none) in
+          = P.package_bundle p l bundled.0 bundled.1 ∙ ap (λ (b : Bool). objects_judged b p bundled.0.objects) bundled.2 ∙ sym (ap (objects_judged big p) none) in
           sym (ap opened is)
 
-      -- whatever else stands first
-      pub words_other : (x : Next) → (tag_of the_type x ≡ 0 → ⊥) → (tag_of the_type x ≡ 2 → ⊥) → pass x ≡ next_of 4 (step_at 4 (drop 4 p)) → refuse 21 ≡ opened (package_of p)
-      words_other (Object word next) g h f = absurd (g refl)
-      words_other (Section x) g h f = absurd (objects_section p 4 [] bundled.0.objects all x f)
-      words_other End g h f = absurd (h refl)
+      pub words_section : (code start size next : ℕ) → Section code start size next ≡ next_of 4 (step_at 4 (drop 4 p)) → ⊥
+      words_section code start size next f = objects_section p 4 [] bundled.0.objects all code start size next f
 
-      pub words_broken : (n : ℕ) → refuse n ≡ next_of 4 (step_at 4 (drop 4 p)) → refuse 21 ≡ opened (package_of p)
-      words_broken n f = absurd (objects_broken p 4 [] bundled.0.objects all n f)
+      pub words_broken : Broken ≡ next_of 4 (step_at 4 (drop 4 p)) → ⊥
+      words_broken f = objects_broken p 4 [] bundled.0.objects all f

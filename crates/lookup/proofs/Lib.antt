@@ -4,7 +4,6 @@ pub mod Packages
 pub mod Tables
 pub mod Places
 pub mod Answered
-pub mod Told
 pub mod Singles
 pub mod Opened
 pub mod Entering

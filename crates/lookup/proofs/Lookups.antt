@@ -1,71 +1,59 @@
 -- Both lookups, from what the code holds to what the definitions answer: 21 to 23, and the search.
 -- Assumes nothing.
 use mathlib.Core.Path.{◌≡◌, refl, ap, sym, ◌∙◌}
-use mathlib.Core.Bool.{Bool, true, false, ◌||◌}
+use mathlib.Core.Bool.{Bool, true, false}
 use mathlib.Core.List.{List}
-use Prim.Native.Nat.{ℕ, ◌+◌, ◌≤◌}
+use Prim.Native.Nat.{ℕ, ◌+◌, ◌≤◌, ◌<◌}
 use native.Mathlib.Omega.{arith}
-use lib.Dec.{eqb}
 use lib.ListN.{length}
-use borrow.Author.Tests.{eqb-true}
-use Rattle.std.specs.Prelude.{Result, Ok, Err, Some, None}
-use Rattle.numbers.specs.Refused.{told, number_of}
-use Rattle.numbers.specs.Tabled.{table_named, table_number}
-use Rattle.numbers.specs.declared.refusals.Refusal.{Refusal}
-use Rattle.numbers.specs.declared.refusals.Refusal.TheVariants.{BadQuestion}
-use Rattle.numbers.specs.declared.tables.Table.{Table}
-use Rattle.numbers.specs.declared.tables.Table.TheVariants.{Compilation, «Type»}
-use Rattle.octets.specs.Checked.{Check, pass, refuse, ◌>>=◌, mapped}
+use Rattle.octets.specs.Checked.{Check, pass, refuse}
+use Rattle.octets.proofs.Checks.{pass_inj}
 use Rattle.bundle.specs.Encoding.{encoding_good}
-use Rattle.lookup.specs.Lookup.{Found, refused, absent, part, Package, package_of, version_good, table_good, Place as Held, string_place, answered, looked_up, string_found}
-use Rattle.lookup.specs.Answers.{head_in, opened, package_in, Opened, version_by, part_in, placed, found_in, found_as}
+use Rattle.lookup.specs.Lookup.{Found, refused, absent, part, Package, package_of, version_good, table_good, answered, looked_up, string_found}
+use Rattle.lookup.specs.Answers.{head_in, opened, package_in, Opened, version_by, after, entry_place, part_in, located_of}
 use Rattle.lookup.specs.declared.opening.PackageHead.{PackageHead}
-use Rattle.lookup.specs.declared.searching.Located.{Located}
-use Rattle.strings.specs.declared.table.Place.{Place}
-use Rattle.lookup.proofs.Told.{of_refuse}
+use Rattle.lookup.specs.declared.searching.Located.TheVariants.{Part, Absent, Refused}
 use Rattle.lookup.proofs.Answered as A
 use Rattle.lookup.proofs.Asked.{version_by_law}
-use Rattle.lookup.proofs.Tables.{asked_table, asked_out, asked_good}
+use Rattle.lookup.proofs.Tables.{asked_table, asked_low, asked_high, asked_good}
 use Rattle.lookup.proofs.Known.{encoding_known}
 use Rattle.lookup.proofs.Bounds.{part_named, part_inside}
+use Rattle.lookup.proofs.Searches.{opened_not}
 
--- what an answer stands for, by what a search in a table answers
-pub as_answered : (r : Result Located Refusal) → found_as r ≡ answered (mapped found_in (told r))
-unfolding answered mapped
-as_answered (Ok l) = refl
-as_answered (Err r) = refl
+-- an answer tells its case
+module _ (f : Found) where
+  pub part_of : (a n looks : ℕ) → Part a n looks ≡ located_of f → f ≡ part a n looks
+  unfolding located_of
+  part_of a n looks e = go f e
+    where
+      go : (f : Found) → Part a n looks ≡ located_of f → f ≡ part a n looks
+      go (part b m l) g = cc
+      go (absent l) g = absurd (let z : ◌≡◌ {A = ℕ} 0 1 = cc in omega arith)
+      go (refused m) g = absurd (let z : ◌≡◌ {A = ℕ} 0 1 = cc in omega arith)
 
--- 23, by the table that a number names
-table_not : (n : ℕ) (r : Refusal) → Err r ≡ table_named n → (BadQuestion ≡ r) × (table_good n ≡ false)
-unfolding table_good
-table_not n r e = go (eqb n 1) (eqb n 2) e
-  where
-    go : (s t : Bool) → ◌≡◌ {A = Result Table Refusal} (Err r) (elim s [ true ↦ Ok Compilation | false ↦ elim t [ true ↦ Ok «Type» | false ↦ Err BadQuestion ] ]) → (BadQuestion ≡ r) × ((s || t) ≡ false)
-    go true t h = absurd (let z : ◌≡◌ {A = ℕ} 0 1 = cc in omega arith)
-    go false true h = absurd (let z : ◌≡◌ {A = ℕ} 0 1 = cc in omega arith)
-    go false false h = (cc, refl)
+  pub absent_of : (looks : ℕ) → Absent looks ≡ located_of f → f ≡ absent looks
+  unfolding located_of
+  absent_of looks e = go f e
+    where
+      go : (f : Found) → Absent looks ≡ located_of f → f ≡ absent looks
+      go (part b m l) g = absurd (let z : ◌≡◌ {A = ℕ} 0 1 = cc in omega arith)
+      go (absent l) g = cc
+      go (refused m) g = absurd (let z : ◌≡◌ {A = ℕ} 0 1 = cc in omega arith)
 
-table_is : (n : ℕ) (table : Table) → Ok table ≡ table_named n → (n ≡ table_number table) × (table_good n ≡ true)
-unfolding table_good
-table_is n table e = go (eqb n 1) (eqb n 2) refl refl e
-  where
-    go : (s t : Bool) → eqb n 1 ≡ s → eqb n 2 ≡ t → ◌≡◌ {A = Result Table Refusal} (Ok table) (elim s [ true ↦ Ok Compilation | false ↦ elim t [ true ↦ Ok «Type» | false ↦ Err BadQuestion ] ])
-        → (n ≡ table_number table) × ((s || t) ≡ true)
-    go true t f g h = let z : Compilation ≡ table = cc in (rw (← z) (eqb-true n 1 f), refl)
-    go false true f g h = let z : «Type» ≡ table = cc in (rw (← z) (eqb-true n 2 g), refl)
-    go false false f g h = absurd (let z : ◌≡◌ {A = ℕ} 0 1 = cc in omega arith)
+  pub refused_of : (n : ℕ) → Refused n ≡ located_of f → f ≡ refused n
+  unfolding located_of
+  refused_of n e = go f e
+    where
+      go : (f : Found) → Refused n ≡ located_of f → f ≡ refused n
+      go (part b m l) g = absurd (let z : ◌≡◌ {A = ℕ} 0 1 = cc in omega arith)
+      go (absent l) g = absurd (let z : ◌≡◌ {A = ℕ} 0 1 = cc in omega arith)
+      go (refused m) g = cc
 
 -- ---- 21
-module _ (p : List ℕ) (n : ℕ) (e : refuse n ≡ opened (package_of p)) (version table x : ℕ) where
-  closed : package_of p ≡ refuse n
-  unfolding opened
-  closed = of_refuse head_in (package_of p) n e
-
-  pub looked_closed : (code : ℕ) → refused n ≡ looked_up p version table x code
-  looked_closed code = sym (A.part_closed p version table x n closed code)
-
-  pub strung_closed : (entry : ℕ) → refused n ≡ string_found p version table x entry
-  strung_closed entry = sym (A.string_closed p version table x n closed entry)
+module _ (p : List ℕ) (h : PackageHead) (e : h ≡ opened (package_of p)) (f : h.good ≡ false) (version table x : ℕ) where
+  pub looked_closed : (code : ℕ) → Refused 21 ≡ located_of (looked_up p version table x code)
+  unfolding located_of
+  looked_closed code = sym (ap located_of (A.part_closed p version table x 21 (opened_not p h e f) code))
 
 module _ (p : List ℕ) (h : PackageHead) (o : Opened p h) (version table x : ℕ) where
   by : (t : Bool) → version_by h version ≡ t → version_good (package_in p) version ≡ t
@@ -73,28 +61,31 @@ module _ (p : List ℕ) (h : PackageHead) (o : Opened p h) (version table x : �
 
   -- ---- 22
   module _ (v : version_by h version ≡ false) where
-    pub looked_version : (code : ℕ) → refused 22 ≡ looked_up p version table x code
-    looked_version code = sym (A.part_version p version table x (package_in p) o.is (by false v) code)
+    pub looked_version : (code : ℕ) → Refused 22 ≡ located_of (looked_up p version table x code)
+    unfolding located_of
+    looked_version code = sym (ap located_of (A.part_version p version table x (package_in p) o.is (by false v) code))
 
   -- ---- 23, and the search
   module _ (v : version_by h version ≡ true) where
-    module _ (r : Refusal) (t : Err r ≡ table_named table) where
-      pub looked_table : (code : ℕ) → refused (number_of r) ≡ looked_up p version table x code
-      looked_table code =
-          let n = table_not table r t in
-          ap (λ (q : Refusal). refused (number_of q)) (sym n.0)
-          ∙ sym (A.part_asked p version table x (package_in p) o.is (by true v) code (asked_table table code n.1))
+    module _ (t : table_good table ≡ false) where
+      pub looked_table : (code : ℕ) → Refused 23 ≡ located_of (looked_up p version table x code)
+      unfolding located_of
+      looked_table code = sym (ap located_of (A.part_asked p version table x (package_in p) o.is (by true v) code (asked_table table code t)))
 
-    module _ (t : Table) (e : Ok t ≡ table_named table) where
-      pub looked_out : (code : ℕ) → (1 ≤ code → code ≤ 10 → ⊥) → refused 23 ≡ looked_up p version table x code
-      looked_out code f = sym (A.part_asked p version table x (package_in p) o.is (by true v) code (asked_out table code f))
+    pub looked_low : (code : ℕ) → code < 1 → Refused 23 ≡ located_of (looked_up p version table x code)
+    unfolding located_of
+    looked_low code l = sym (ap located_of (A.part_asked p version table x (package_in p) o.is (by true v) code (asked_low table code l)))
 
-      pub looked_in : (code : ℕ) → 1 ≤ code → code ≤ 10 → (r : Result Located Refusal) → mapped found_in (told r) ≡ part_in (package_in p) (table_number t) x code
-          → found_as r ≡ looked_up p version table x code
-      looked_in code l g r q =
-          let n = table_is table t e in
-          as_answered r ∙ ap answered (q ∙ ap (λ (m : ℕ). part_in (package_in p) m x code) (sym n.0))
-          ∙ sym (A.part_searched p version table x (package_in p) o.is (by true v) code (asked_good table code n.1 l g))
+    pub looked_high : (code : ℕ) → 10 < code → Refused 23 ≡ located_of (looked_up p version table x code)
+    unfolding located_of
+    looked_high code l = sym (ap located_of (A.part_asked p version table x (package_in p) o.is (by true v) code (asked_high table code l)))
+
+    module _ (t : table_good table ≡ true) where
+      pub looked_in : (code c : ℕ) → c ≡ code → 1 ≤ code → code ≤ 10
+          → located_of (answered (part_in (package_in p) table x c)) ≡ located_of (looked_up p version table x code)
+      looked_in code c s l g =
+          ap (λ (n : ℕ). located_of (answered (part_in (package_in p) table x n))) s
+          ∙ sym (ap located_of (A.part_searched p version table x (package_in p) o.is (by true v) code (asked_good table code t l g)))
 
 -- ---- a string, by the lookup of the part of section 6
 module _ (p : List ℕ) (version table x entry : ℕ) where
@@ -122,37 +113,38 @@ module _ (p : List ℕ) (version table x entry : ℕ) where
       closed_or (refuse n) g = A.string_closed p version table x n g entry ∙ sym (ap follow (A.part_closed p version table x n g 6))
       closed_or (pass k) g = version_or k g (version_good k version) refl
 
-  by_part : (f : Found) → f ≡ looked_up p version table x 6 → A.followed p (package_in p) version entry f ≡ string_found p version table x entry
-  by_part f e = ap (A.followed p (package_in p) version entry) e ∙ sym strung
+  by_part : (f : Found) → looked_up p version table x 6 ≡ f → located_of (A.followed p (package_in p) version entry f) ≡ located_of (string_found p version table x entry)
+  by_part f e = sym (ap located_of (strung ∙ ap (A.followed p (package_in p) version entry) e))
 
-  pub strung_refused : (n : ℕ) → refused n ≡ looked_up p version table x 6 → refused n ≡ string_found p version table x entry
-  unfolding A.followed
-  strung_refused n e = by_part (refused n) e
+  pub strung_refused : (n : ℕ) → Refused n ≡ located_of (looked_up p version table x 6) → Refused n ≡ located_of (string_found p version table x entry)
+  unfolding located_of A.followed
+  strung_refused n e = by_part (refused n) (refused_of (looked_up p version table x 6) n e)
 
-  module _ (l : Located) (e : found_in l ≡ looked_up p version table x 6) where
-    pub strung_absent : l.place ≡ None → found_in l ≡ string_found p version table x entry
-    unfolding A.followed
-    strung_absent f =
-        let is : found_in l ≡ absent l.looks = rw f in
-        is ∙ by_part (absent l.looks) (sym is ∙ e)
+  pub strung_absent : (n : ℕ) → Absent n ≡ located_of (looked_up p version table x 6) → Absent n ≡ located_of (string_found p version table x entry)
+  unfolding located_of A.followed
+  strung_absent n e = by_part (absent n) (absent_of (looked_up p version table x 6) n e)
 
-    module _ (q : Place) (f : l.place ≡ Some q) where
-      -- the part was found
-      found : looked_up p version table x 6 ≡ part q.start q.size l.looks
-      found = sym e ∙ rw f
+  pub strung_in : (start size looks : ℕ) → Part start size looks ≡ located_of (looked_up p version table x 6)
+      → located_of (answered (after looks (entry_place p version entry start size))) ≡ located_of (string_found p version table x entry)
+  unfolding A.followed after entry_place
+  strung_in start size looks e = by_part (part start size looks) (part_of (looked_up p version table x 6) start size looks e)
 
-      pub strung_within : q.start + q.size ≤ length p
-      strung_within = part_inside p version table x q.start q.size l.looks 6 found
+-- what is known where a part was found: the package was opened, its encoding has passed, and the part lies in it
+module _ (p : List ℕ) (h : PackageHead) (o : h ≡ opened (package_of p)) (version table x code start size looks : ℕ) (e : Part start size looks ≡ located_of (looked_up p version table x code)) where
+  found : looked_up p version table x code ≡ part start size looks
+  found = part_of (looked_up p version table x code) start size looks e
 
-      pub strung_encoding : encoding_good (package_in p).encoding ≡ true
-      unfolding package_in
-      strung_encoding =
-          let m = part_named p version table x q.start q.size l.looks 6 found in
-          rw (package_in, m.opened) (encoding_known p m.held m.opened table m.index m.there)
+  pub found_opened : Opened p h
+  unfolding opened package_in
+  found_opened =
+      let m = part_named p version table x start size looks code found in
+      let is : m.held ≡ package_in p = rw (package_in, m.opened) in
+      record { is = m.opened ∙ ap pass is; head = o ∙ ap opened m.opened ∙ ap head_in is }
 
-      pub strung_in : (r : Check Held) → r ≡ string_place p (package_in p) version entry (placed q)
-          → answered (r >>= λ s. pass (part s.start s.size l.looks)) ≡ string_found p version table x entry
-      unfolding A.followed
-      strung_in r g =
-          ap (λ (m : Check Held). answered (m >>= λ s. pass (part s.start s.size l.looks))) g
-          ∙ by_part (part q.start q.size l.looks) (sym found)
+  pub found_within : start + size ≤ length p
+  found_within = part_inside p version table x start size looks code found
+
+  pub found_encoding : encoding_good (package_in p).encoding ≡ true
+  found_encoding =
+      let m = part_named p version table x start size looks code found in
+      ap (λ (k : Package). encoding_good k.encoding) (pass_inj (sym found_opened.is ∙ m.opened)) ∙ encoding_known p m.held m.opened table m.index m.there

@@ -4,24 +4,22 @@ use mathlib.Core.Path.{◌≡◌, refl, ap, sym, ◌∙◌}
 use mathlib.Core.Bool.{Bool, true, false}
 use mathlib.Core.List.{List}
 use mathlib.Core.Option.{Option, some, none}
-use Prim.Native.Nat.{ℕ, ◌+◌, ◌-◌, ◌≤◌, ◌<◌}
+use Prim.Native.Nat.{ℕ, ◌+◌, ◌≤◌, ◌<◌}
 use native.Mathlib.Omega.{arith}
-use lib.Dec.{eqb, leb}
-use lib.ListN.{length, get_or, take, drop}
+use lib.Dec.{leb}
+use lib.ListN.{length, get_or}
 use borrow.Author.Tests.{eq-eqb, ne_eqb}
 use Rattle.octets.specs.Octets.{part}
 use Rattle.octets.specs.Lists.{all}
-use Rattle.octets.specs.Checked.{Check, pass, refuse, ◌>>=◌, renumbered, mapped}
-use Rattle.std.specs.Prelude.{Option as Opt, Some, None, Ok, Err}
-use Rattle.numbers.specs.Refused.{told}
-use Rattle.numbers.specs.declared.refusals.Refusal.{Refusal}
+use Rattle.octets.specs.Checked.{Check, pass, refuse}
+use Rattle.octets.proofs.Checks.{true_false}
 use Rattle.bundle.specs.Bundle.{Part, count, first_part, body}
 use Rattle.bundle.specs.Encoding.{Encoding, encoding_of, encoding_good}
-use Rattle.bundle.specs.Encoded.{encoding_is, encoding_checked}
+use Rattle.bundle.specs.Encoded.{word_read}
 use Rattle.bundle.specs.Scan.{start_of, size_of, scan_of}
 use Rattle.bundle.specs.declared.Scan.{Scan}
 use Rattle.bundle.specs.declared.encoding.ObjectEncoding.{ObjectEncoding}
-use Rattle.bundle.proofs.Encodings.{word_good, word_bad, coded_again}
+use Rattle.bundle.specs.declared.encoding.WordRead.TheVariants.{Good as GoodWord, Bad as BadWord}
 use Rattle.bundle.proofs.Sections.{body_part, none_counted, counted_none}
 use Rattle.bundle.proofs.Scanned.{by_code_at}
 use Rattle.index.specs.Index.{Index, index_of}
@@ -29,53 +27,83 @@ use Rattle.index.specs.Held.{head_of, index_read}
 use Rattle.index.specs.declared.reading.IndexHead.{IndexHead}
 use Rattle.index.specs.declared.reading.IndexRead.TheVariants.{Good, Bad}
 use Rattle.lookup.specs.Lookup.{codes, package_index, object_judged, package_of}
-use Rattle.lookup.specs.Answers.{coded, indexed, head_in, opened, single, index_by, Alone}
+use Rattle.lookup.specs.Answers.{coded, indexed, head_in, closed, opened, single, index_by, index_good, Alone}
 use Rattle.lookup.specs.declared.opening.PackageHead.{PackageHead}
-use Rattle.lookup.proofs.Told.{of_pass, of_refuse}
+use Rattle.lookup.specs.declared.opening.PackageIndex.{PackageIndex}
+use Rattle.lookup.specs.declared.opening.PackageIndex.TheVariants.{Present, Missing, IllFormed}
 use Rattle.lookup.proofs.Packages as P
 use Rattle.lookup.proofs.Singles.{single_scan}
 
 -- ---- an index
 module _ (n : ℕ) (m : Check Index) where
-  pub index_none : n ≡ 0 → pass None ≡ index_by n m
+  pub index_none : n ≡ 0 → Missing ≡ index_by n m
   unfolding index_by
   index_none e = rw (index_by, eq-eqb n 0 e)
 
   module _ (f : n ≡ 0 → ⊥) where
-    pub index_is : (h : IndexHead) → Good h ≡ index_read m → pass (Some h) ≡ index_by n m
-    unfolding index_by index_read mapped renumbered
+    pub index_is : (h : IndexHead) → Good h ≡ index_read m → Present h ≡ index_by n m
+    unfolding index_by index_read
     index_is h e = rw (index_by, ne_eqb n 0 f) (go m e)
       where
-        go : (m : Check Index) → Good h ≡ index_read m → pass (Some h) ≡ mapped (λ i. Some (head_of i)) (renumbered 21 m)
+        go : (m : Check Index) → Good h ≡ index_read m → Present h ≡ elim m [ pass i ↦ Present (head_of i) | refuse n ↦ IllFormed ]
         go (pass i) g = cc
         go (refuse j) g = absurd (let z : ◌≡◌ {A = ℕ} 0 1 = cc in omega arith)
 
-    pub index_not : Bad ≡ index_read m → refuse 21 ≡ index_by n m
-    unfolding index_by index_read mapped renumbered
+    pub index_not : Bad ≡ index_read m → IllFormed ≡ index_by n m
+    unfolding index_by index_read
     index_not e = rw (index_by, ne_eqb n 0 f) (go m e)
       where
-        go : (m : Check Index) → Bad ≡ index_read m → refuse 21 ≡ mapped (λ i. Some (head_of i)) (renumbered 21 m)
+        go : (m : Check Index) → Bad ≡ index_read m → IllFormed ≡ elim m [ pass i ↦ Present (head_of i) | refuse n ↦ IllFormed ]
         go (pass i) g = absurd (let z : ◌≡◌ {A = ℕ} 0 1 = cc in omega arith)
         go (refuse j) g = refl
 
 -- as the definition judges it
-module _ (big : Bool) (p : List ℕ) (ps : List Part) (c : ℕ) where
-  pub index_by_law : index_by (count ps c) (index_of big (part p (start_of ps c) (size_of ps c))) ≡ mapped indexed (package_index big p ps c)
-  unfolding index_by package_index mapped renumbered ◌>>=◌ indexed
-  index_by_law = sym (ap (λ (s : List ℕ). index_by (count ps c) (index_of big s)) (body_part c p ps)) ∙ go (first_part ps c) refl
-    where
-      there : (n : ℕ) → (n ≡ 0 → ⊥) → (m : Check Index) → index_by n m ≡ mapped indexed (renumbered 21 m >>= λ i. pass (some i))
-      there n f (pass i) = rw (index_by, ne_eqb n 0 f)
-      there n f (refuse k) = rw (index_by, ne_eqb n 0 f)
+unfoldable pub index_checked : Check (Option Index) → PackageIndex
+index_checked (pass o) = indexed o
+index_checked (refuse n) = IllFormed
 
-      go : (o : Option Part) → first_part ps c ≡ o → index_by (count ps c) (index_of big (body p ps c)) ≡ mapped indexed (package_index big p ps c)
-      go none e = rw (index_by, package_index, e, eq-eqb (count ps c) 0 (counted_none c ps e))
-      go (some s) e = rw (package_index, e) (there (count ps c) (λ z. let h = none_counted c ps z in let y : ◌≡◌ {A = ℕ} 0 1 = cc in absurd (omega arith)) (index_of big (body p ps c)))
+module _ (big : Bool) (p : List ℕ) (ps : List Part) (c : ℕ) where
+  pub index_checked_law : index_by (count ps c) (index_of big (part p (start_of ps c) (size_of ps c))) ≡ index_checked (package_index big p ps c)
+  unfolding index_checked indexed index_by
+  index_checked_law = sym (ap (λ (s : List ℕ). index_by (count ps c) (index_of big s)) (body_part c p ps)) ∙ go (first_part ps c) refl
+    where
+      read : (s : Part) → first_part ps c ≡ some s → (count ps c ≡ 0 → ⊥) → (m : Check Index) → index_of big (body p ps c) ≡ m
+          → index_by (count ps c) (index_of big (body p ps c)) ≡ index_checked (package_index big p ps c)
+      read s e f (pass i) g = rw (index_by, ne_eqb (count ps c) 0 f, g) (sym (ap index_checked (P.index_good_law big p ps c s e i g)))
+      read s e f (refuse n) g = rw (index_by, ne_eqb (count ps c) 0 f, g) (sym (ap index_checked (P.index_bad big p ps c s e n g)))
+
+      go : (o : Option Part) → first_part ps c ≡ o → index_by (count ps c) (index_of big (body p ps c)) ≡ index_checked (package_index big p ps c)
+      go none e = sym (index_none (count ps c) (index_of big (body p ps c)) (counted_none c ps e)) ∙ sym (ap index_checked (P.index_missing big p ps c e))
+      go (some s) e = read s e (λ z. let h = none_counted c ps z in let y : ◌≡◌ {A = ℕ} 0 1 = cc in absurd (omega arith)) (index_of big (body p ps c)) refl
+
+-- what a good index and an ill-formed one were
+good_index : (m : Check (Option Index)) → index_good (index_checked m) ≡ true → (o : Option Index) × (m ≡ pass o)
+unfolding index_good index_checked
+good_index (pass o) e = (o, refl)
+good_index (refuse n) e = absurd (true_false e refl)
+
+bad_index : (m : Check (Option Index)) → index_good (index_checked m) ≡ false → (n : ℕ) × (m ≡ refuse n)
+unfolding index_good index_checked indexed
+bad_index (pass (some i)) e = absurd (true_false refl e)
+bad_index (pass none) e = absurd (true_false refl e)
+bad_index (refuse n) e = (n, refl)
 
 -- ---- the object word
-word_coded : (e : Encoding) (w : ObjectEncoding) → encoding_is w ≡ e → w ≡ coded e
-unfolding coded
-word_coded e w h = sym (coded_again w) ∙ ap (λ (z : Encoding). record { big = z.big; five = eqb z.version 5; wide = eqb z.width 8; long = eqb z.address 8 }) h
+word_bad : (e : Encoding) → BadWord ≡ word_read e → encoding_good e ≡ false
+unfolding word_read
+word_bad e h = go (encoding_good e) refl
+  where
+    go : (t : Bool) → encoding_good e ≡ t → encoding_good e ≡ false
+    go false g = g
+    go true g = absurd (let f = rw (word_read, g) at h in let z : ◌≡◌ {A = ℕ} 0 1 = cc in omega arith)
+
+word_good : (e : Encoding) (w : ObjectEncoding) → GoodWord w ≡ word_read e → (encoding_good e ≡ true) × (w ≡ coded e)
+unfolding word_read coded
+word_good e w h = go (encoding_good e) refl
+  where
+    go : (t : Bool) → encoding_good e ≡ t → (encoding_good e ≡ true) × (w ≡ coded e)
+    go true g = (g, (let f = rw (word_read, g) at h in cc))
+    go false g = absurd (let f = rw (word_read, g) at h in let z : ◌≡◌ {A = ℕ} 0 1 = cc in omega arith)
 
 -- ---- what a scan says of a code
 module _ (s : Scan) (ps : List Part) (from : ℕ) (e : s ≡ scan_of from ps) (c : ℕ) (h : c < 14) where
@@ -93,53 +121,54 @@ module _ (s : Scan) (ps : List Part) (from : ℕ) (e : s ≡ scan_of from ps) (c
 
 -- ---- its one object
 module _ (p : List ℕ) (big : Bool) (word : ℕ) (sections : Scan) (a : Alone p big word sections) where
-  shut : (n : ℕ) → object_judged big p (record { word = word; parts = a.parts }) ≡ refuse n → refuse n ≡ opened (package_of p)
-  unfolding opened mapped
-  shut n e = sym (ap opened (a.is ∙ e))
+  shut : object_judged big p (record { word = word; parts = a.parts }) ≡ refuse 21 → closed ≡ opened (package_of p)
+  unfolding opened
+  shut e = sym (ap opened (a.is ∙ e))
 
   pub alone_within : (c : ℕ) → c < 14 → get_or sections.start c 0 + get_or sections.size c 0 ≤ length p
   alone_within c h = rw (scan_start sections a.parts 8 a.scan c h, scan_size sections a.parts 8 a.scan c h) (a.within c)
 
-  pub alone_word : (r : Refusal) → mapped encoding_is (told (Err r)) ≡ encoding_checked (encoding_of big word) → refuse 21 ≡ opened (package_of p)
-  alone_word r e = shut 21 (P.object_word big p _ (word_bad (encoding_of big word) r e).0)
+  pub alone_word : BadWord ≡ word_read (encoding_of big word) → closed ≡ opened (package_of p)
+  alone_word e = shut (P.object_word big p _ (word_bad (encoding_of big word) e))
 
-  module _ (w : ObjectEncoding) (e : mapped encoding_is (told (Ok w)) ≡ encoding_checked (encoding_of big word)) where
+  module _ (w : ObjectEncoding) (e : GoodWord w ≡ word_read (encoding_of big word)) where
     good : encoding_good (encoding_of big word) ≡ true
     good = (word_good (encoding_of big word) w e).0
 
-    counted : single (take (length sections.count - 1) (drop 1 sections.count)) ≡ all (λ c. leb (count a.parts c) 1) codes
+    counted : single sections.count ≡ all (λ c. leb (count a.parts c) 1) codes
     unfolding scan_of
-    counted = ap (λ (s : Scan). single (take (length s.count - 1) (drop 1 s.count))) a.scan ∙ single_scan a.parts
+    counted = ap (λ (s : Scan). single s.count) a.scan ∙ single_scan a.parts
 
-    pub alone_repeated : single (take (length sections.count - 1) (drop 1 sections.count)) ≡ false → refuse 21 ≡ opened (package_of p)
-    alone_repeated f = shut 21 (P.object_repeated big p _ good (sym counted ∙ f))
+    pub alone_repeated : single sections.count ≡ false → closed ≡ opened (package_of p)
+    alone_repeated f = shut (P.object_repeated big p _ good (sym counted ∙ f))
 
-    module _ (f : single (take (length sections.count - 1) (drop 1 sections.count)) ≡ true) where
-      -- what the code reads of an index
-      abbrev Read : Check (Opt IndexHead) → ℕ → Type 0
-      Read r c = r ≡ index_by (get_or sections.count c 0) (index_of big (part p (get_or sections.start c 0) (get_or sections.size c 0)))
+    module _ (f : single sections.count ≡ true) where
+      checked : (c : ℕ) (i : PackageIndex) → c < 14 → i ≡ index_by (get_or sections.count c 0) (index_of big (part p (get_or sections.start c 0) (get_or sections.size c 0)))
+          → i ≡ index_checked (package_index big p a.parts c)
+      checked c i h g = g ∙ rw (scan_count sections a.parts 8 a.scan c h, scan_start sections a.parts 8 a.scan c h, scan_size sections a.parts 8 a.scan c h) (index_checked_law big p a.parts c)
 
-      checked : (c : ℕ) (r : Check (Opt IndexHead)) → c < 14 → Read r c → r ≡ mapped indexed (package_index big p a.parts c)
-      checked c r h g = g ∙ rw (scan_count sections a.parts 8 a.scan c h, scan_start sections a.parts 8 a.scan c h, scan_size sections a.parts 8 a.scan c h) (index_by_law big p a.parts c)
+      module _ (cu : PackageIndex) (c : cu ≡ index_by (get_or sections.count 12 0) (index_of big (part p (get_or sections.start 12 0) (get_or sections.size 12 0)))) where
+        pub alone_cu : index_good cu ≡ false → closed ≡ opened (package_of p)
+        alone_cu g =
+            let (n, h) = bad_index (package_index big p a.parts 12) (sym (ap index_good (checked 12 cu (omega arith) c)) ∙ g) in
+            shut (P.object_cu big p _ good (sym counted ∙ f) n h ∙ ap refuse (P.index_refused big p a.parts 12 n h))
 
-      pub alone_cu : (n : ℕ) → Read (refuse n) 12 → refuse n ≡ opened (package_of p)
-      alone_cu n g = shut n (P.object_cu big p _ good (sym counted ∙ f) n (of_refuse indexed _ n (checked 12 _ (omega arith) g)))
+        module _ (g : index_good cu ≡ true) (tu : PackageIndex)
+            (t : tu ≡ index_by (get_or sections.count 13 0) (index_of big (part p (get_or sections.start 13 0) (get_or sections.size 13 0)))) where
+          pub alone_tu : index_good tu ≡ false → closed ≡ opened (package_of p)
+          alone_tu h =
+              let (o, u) = good_index (package_index big p a.parts 12) (sym (ap index_good (checked 12 cu (omega arith) c)) ∙ g) in
+              let (n, v) = bad_index (package_index big p a.parts 13) (sym (ap index_good (checked 13 tu (omega arith) t)) ∙ h) in
+              shut (P.object_tu big p _ good (sym counted ∙ f) o u n v ∙ ap refuse (P.index_refused big p a.parts 13 n v))
 
-      module _ (cu : Opt IndexHead) (c : Read (pass cu) 12) where
-        cu_read : (o : Option Index) × (package_index big p a.parts 12 ≡ pass o) × (cu ≡ indexed o)
-        cu_read = of_pass indexed _ cu (checked 12 _ (omega arith) c)
-
-        pub alone_tu : (n : ℕ) → Read (refuse n) 13 → refuse n ≡ opened (package_of p)
-        alone_tu n g = shut n (P.object_tu big p _ good (sym counted ∙ f) cu_read.0 cu_read.1 n (of_refuse indexed _ n (checked 13 _ (omega arith) g)))
-
-        pub alone_good : (tu : Opt IndexHead) → Read (pass tu) 13
-            → ◌≡◌ {A = Check PackageHead} (pass (record { encoding = w; sections = sections; cu = cu; tu = tu })) (opened (package_of p))
-        unfolding opened mapped head_in
-        alone_good tu t =
-            let tu_read : (o : Option Index) × (package_index big p a.parts 13 ≡ pass o) × (tu ≡ indexed o) = of_pass indexed _ tu (checked 13 _ (omega arith) t) in
-            let ew : w ≡ coded (encoding_of big word) = word_coded _ w (word_good (encoding_of big word) w e).1 in
-            let ec : cu ≡ indexed cu_read.0 = cu_read.2 in
-            let et : tu ≡ indexed tu_read.0 = tu_read.2 in
-            let es : sections ≡ scan_of 8 a.parts = a.scan in
-            (λ i. pass (record { encoding = ew i; sections = es i; cu = ec i; tu = et i }))
-            ∙ sym (ap opened (a.is ∙ P.object_good big p _ good (sym counted ∙ f) cu_read.0 cu_read.1 tu_read.0 tu_read.1))
+          pub alone_good : index_good tu ≡ true → ◌≡◌ {A = PackageHead} (record { good = true; encoding = w; sections = sections; cu = cu; tu = tu }) (opened (package_of p))
+          unfolding opened head_in index_checked
+          alone_good h =
+              let (o, u) = good_index (package_index big p a.parts 12) (sym (ap index_good (checked 12 cu (omega arith) c)) ∙ g) in
+              let (q, v) = good_index (package_index big p a.parts 13) (sym (ap index_good (checked 13 tu (omega arith) t)) ∙ h) in
+              let ew : w ≡ coded (encoding_of big word) = (word_good (encoding_of big word) w e).1 in
+              let ec : cu ≡ indexed o = checked 12 cu (omega arith) c ∙ ap index_checked u in
+              let et : tu ≡ indexed q = checked 13 tu (omega arith) t ∙ ap index_checked v in
+              let es : sections ≡ scan_of 8 a.parts = a.scan in
+              (λ i. record { good = true; encoding = ew i; sections = es i; cu = ec i; tu = et i })
+              ∙ sym (ap opened (a.is ∙ P.object_good big p _ good (sym counted ∙ f) o u q v))

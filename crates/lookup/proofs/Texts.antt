@@ -1,7 +1,7 @@
 -- 25 and 26, by what the code holds: the entry of a part of str_offsets, and the string that it names.
 -- Assumes nothing.
 use mathlib.Core.Path.{◌≡◌, refl, ap, sym, ◌∙◌}
-use mathlib.Core.Bool.{true, ◌&&◌, ◌||◌}
+use mathlib.Core.Bool.{Bool, true, ◌&&◌, ◌||◌}
 use mathlib.Core.List.{List}
 use mathlib.Core.Logic.{◌⊎◌, inl, inr, ⊎_elim}
 use mathlib.Core.Option.{Option, some, none}
@@ -24,12 +24,24 @@ use Rattle.strings.specs.declared.table.Place.{Place as StringPlace}
 use Rattle.strings.proofs.Ends.{string_at_is}
 use Rattle.strings.proofs.Headers.{place_found, place_missing}
 use Rattle.strings.proofs.StrOffsets.{width_cases}
-use Rattle.bundle.proofs.Encodings.{coded_is}
-use Rattle.lookup.specs.Lookup.{Package, Place, entries_start, start_of, string_place}
-use Rattle.lookup.specs.Answers.{coded, head_in, package_in, Opened, text_place, entries_from}
+use Rattle.bundle.specs.Answered.{four_is}
+use Rattle.lookup.specs.Lookup.{Package, Place, answered, entries_start, start_of, string_place}
+use Rattle.lookup.specs.Answers.{coded, head_in, package_in, Opened, after, text_place, entries_from, entry_place, located_of}
 use Rattle.lookup.specs.declared.opening.PackageHead.{PackageHead}
+use Rattle.lookup.specs.declared.searching.Located.TheVariants.{Part, Refused}
 use Rattle.lookup.proofs.Places.{entry_offset, entry_missing, string_missing, string_there}
 use Rattle.lookup.proofs.Searches.{start_is, size_is, section_fits, big_is}
+
+-- ---- the encoding of a good object word
+pub coded_is : (e : Encoding) → encoding_good e ≡ true → encoding_is (coded e) ≡ e
+unfolding encoding_good encoding_is coded
+coded_is e g =
+    let vw = (eqb e.version 4 || eqb e.version 5) && (eqb e.width 4 || eqb e.width 8) in
+    let two = and_left vw (eqb e.address 4 || eqb e.address 8) g in
+    let a = four_is e.address 8 (and_right vw (eqb e.address 4 || eqb e.address 8) g) in
+    let v = four_is e.version 5 (and_left (eqb e.version 4 || eqb e.version 5) (eqb e.width 4 || eqb e.width 8) two) in
+    let w = four_is e.width 8 (and_right (eqb e.version 4 || eqb e.version 5) (eqb e.width 4 || eqb e.width 8) two) in
+    λ i. record { big = e.big; version = v i; width = w i; address = a i }
 
 -- ---- an entry, of width 4 or 8, among n bytes
 pub entry_inside : (w n k : ℕ) → (w ≡ 4) ⊎ (w ≡ 8) → k < n / w → k * w + w ≤ n
@@ -49,6 +61,13 @@ unfolding start_of Scans.start_in
 start_in_law (some s) = refl
 start_in_law none = refl
 
+-- where an entry lies, by equal numbers
+entry_at : (p : List ℕ) (k : Package) (version entry start size : ℕ) (big : Bool) (width first n : ℕ) → big ≡ k.encoding.big → width ≡ k.encoding.width
+    → first ≡ entries_start version k.encoding → n ≡ entry
+    → number_at big width p (start + first + n * width) ≡ entry_offset p k version entry (record { start = start; size = size })
+unfolding entry_offset
+entry_at p k version entry start size big width first n eb ew ef en = rw (eb, ew, ef, en)
+
 -- a string is found at an entry's offset
 text_entry : (p : List ℕ) (k : Package) (version entry : ℕ) (s : Place) → entry < (s.size - entries_start version k.encoding) / k.encoding.width
     → text_place p k (entry_offset p k version entry s) ≡ string_place p k version entry s
@@ -63,9 +82,9 @@ text_entry p k version entry s l = go (string_at 26 (body p k.parts 11) (entry_o
 
 module _ (p : List ℕ) (h : PackageHead) (o : Opened p h) where
   -- ---- the string at an offset
-  module _ (s : List ℕ) (b : s ≡ body p (package_in p).parts 11) (offset : ℕ) where
-    pub text_missing : refuse 26 ≡ mapped (place_read offset) (string_at 26 s offset) → refuse 26 ≡ text_place p (package_in p) offset
-    unfolding text_place ◌>>=◌
+  module _ (s : List ℕ) (b : s ≡ body p (package_in p).parts 11) (offset looks : ℕ) where
+    pub text_missing : refuse 26 ≡ mapped (place_read offset) (string_at 26 s offset) → Refused 26 ≡ located_of (answered (after looks (text_place p (package_in p) offset)))
+    unfolding text_place after answered located_of ◌>>=◌
     text_missing e =
         let is : string_at 26 (body p (package_in p).parts 11) offset ≡ refuse 26 = sym (ap (λ (l : List ℕ). string_at 26 l offset) b) ∙ place_missing 26 offset (string_at 26 s offset) e in
         rw (text_place, is)
@@ -84,20 +103,21 @@ module _ (p : List ℕ) (h : PackageHead) (o : Opened p h) where
           let sn = text.3 in
           omega (arith, is.within)
 
-      pub text_found : pass (record { start = start + x.start; size = x.size }) ≡ text_place p (package_in p) offset
-      unfolding text_place
+      pub text_found : Part (start + x.start) x.size looks ≡ located_of (answered (after looks (text_place p (package_in p) offset)))
+      unfolding text_place after answered located_of ◌>>=◌
       text_found =
           let is : string_at 26 (body p (package_in p).parts 11) offset ≡ pass text.0 = sym (ap (λ (l : List ℕ). string_at 26 l offset) b) ∙ text.1 in
           let sa = text.2 in
           let place : Scans.start_of (package_in p).parts 11 + offset ≡ start + x.start = omega (arith, c, start_is p h o 11 (omega arith)) in
           let size : length text.0 ≡ x.size = sym text.3 in
-          sym (then_pass _ _ _ is ∙ ap pass (λ i. record { start = place i; size = size i }))
+          let there : text_place p (package_in p) offset ≡ pass (record { start = start + x.start; size = x.size }) = then_pass _ _ _ is ∙ ap pass (λ i. record { start = place i; size = size i }) in
+          sym (ap (λ (m : Check Place). located_of (answered (after looks m))) there)
 
   -- ---- an entry
-  module _ (g : encoding_good (package_in p).encoding ≡ true) (version entry : ℕ) (s : Place) (width first : ℕ) (ew : width ≡ (encoding_is h.encoding).width)
+  module _ (g : encoding_good (package_in p).encoding ≡ true) (version entry start size looks width first : ℕ) (ew : width ≡ (encoding_is h.encoding).width)
       (ef : first ≡ entries_from version width) where
     width_is : width ≡ (package_in p).encoding.width
-    unfolding head_in coded
+    unfolding head_in
     width_is =
         ew ∙ ap (λ (z : PackageHead). (encoding_is z.encoding).width) o.head ∙ ap (λ (z : Encoding). z.width) (coded_is (package_in p).encoding g)
 
@@ -105,34 +125,38 @@ module _ (p : List ℕ) (h : PackageHead) (o : Opened p h) where
     either = ⊎_elim (λ f. inl (ew ∙ f)) (λ f. inr (ew ∙ f)) (width_cases h.encoding)
 
     first_is : first ≡ entries_start version (package_in p).encoding
-    unfolding entries_start
+    unfolding entries_from entries_start
     first_is = ef ∙ ap (entries_from version) width_is
 
-    missing : (s.size - first) / width ≤ entry → refuse 25 ≡ string_place p (package_in p) version entry s
+    missing : (size - first) / width ≤ entry → Refused 25 ≡ located_of (answered (after looks (entry_place p version entry start size)))
+    unfolding entry_place after answered located_of ◌>>=◌
     missing l =
-        let m : (s.size - entries_start version (package_in p).encoding) / (package_in p).encoding.width ≤ entry = rw (← first_is, ← width_is) l in
-        sym (entry_missing p (package_in p) version entry s m)
+        let m : (size - entries_start version (package_in p).encoding) / (package_in p).encoding.width ≤ entry = rw (← first_is, ← width_is) l in
+        sym (ap (λ (q : Check Place). located_of (answered (after looks q))) (entry_missing p (package_in p) version entry (record { start = start; size = size }) m))
 
-    pub entry_short : s.size < first → refuse 25 ≡ string_place p (package_in p) version entry s
+    pub entry_short : size < first → Refused 25 ≡ located_of (answered (after looks (entry_place p version entry start size)))
     entry_short l =
-        let z : 0 ≡ s.size - first = omega arith in
+        let z : 0 ≡ size - first = omega arith in
         missing (rw z at (none_inside width entry either))
 
-    pub entry_past : (s.size - first) / width ≤ entry → refuse 25 ≡ string_place p (package_in p) version entry s
-    entry_past l = missing l
+    pub entry_past : (n : ℕ) → n ≡ (size - first) / width → n ≤ entry → Refused 25 ≡ located_of (answered (after looks (entry_place p version entry start size)))
+    entry_past n e l = missing (rw e at l)
 
-    module _ (l : entry < (s.size - first) / width) (f : first ≤ s.size) (w : s.start + s.size ≤ length p) where
-      pub entry_fits : s.start + first + entry * width + width ≤ length p
+    module _ (n k : ℕ) (e : n ≡ (size - first) / width) (ek : k ≡ entry) (l : entry < n) (f : first ≤ size) (w : start + size ≤ length p) where
+      pub entry_fits : start + first + k * width + width ≤ length p
       entry_fits =
-          let m = entry_inside width (s.size - first) entry either l in
+          let m = entry_inside width (size - first) k either (rw (ek, ← e) l) in
           omega arith
 
-      pub entry_text : (offset : ℕ) → offset ≡ number_at h.encoding.big width p (s.start + first + entry * width)
-          → text_place p (package_in p) offset ≡ string_place p (package_in p) version entry s
-      unfolding entry_offset
+      pub entry_text : (offset : ℕ) → offset ≡ number_at h.encoding.big width p (start + first + k * width)
+          → located_of (answered (after looks (text_place p (package_in p) offset))) ≡ located_of (answered (after looks (entry_place p version entry start size)))
+      unfolding entry_place
       entry_text offset eo =
-          let same : offset ≡ entry_offset p (package_in p) version entry s = eo ∙ offset_is in
-          ap (text_place p (package_in p)) same ∙ text_entry p (package_in p) version entry s (rw (← first_is, ← width_is) l)
+          let same : offset ≡ entry_offset p (package_in p) version entry (record { start = start; size = size }) = eo ∙ offset_is in
+          ap (λ (q : Check Place). located_of (answered (after looks q))) (ap (text_place p (package_in p)) same ∙ text_entry p (package_in p) version entry (record { start = start; size = size }) there)
         where
-          offset_is : number_at h.encoding.big width p (s.start + first + entry * width) ≡ entry_offset p (package_in p) version entry s
-          offset_is = rw (big_is p h o, width_is, first_is)
+          there : entry < (size - entries_start version (package_in p).encoding) / (package_in p).encoding.width
+          there = rw (← first_is, ← width_is, ← e) l
+
+          offset_is : number_at h.encoding.big width p (start + first + k * width) ≡ entry_offset p (package_in p) version entry (record { start = start; size = size })
+          offset_is = entry_at p (package_in p) version entry start size h.encoding.big width first k (big_is p h o) width_is first_is ek

@@ -1,14 +1,11 @@
 // Both lookups as callers are told them: numbers, or the part of the lent package itself with the numbers beside it.
-ghost use Rattle.std.specs.Prelude.{◌≡◌, ◌+◌, ◌≤◌, length};
-ghost use Rattle.lookup.specs.Lookup.{looked_up, string_found};
-ghost use Rattle.lookup.specs.Answers.{beside, bytes_in, found_as, numbered};
+ghost use Rattle.std.specs.Prelude.{◌≡◌};
+ghost use Rattle.lookup.specs.Lookup.{Found, looked_up, string_found};
+ghost use Rattle.lookup.specs.Answers.{beside, bytes_in, located_of, numbered};
 
-use crate::searching::{Located, Question};
-use numbers::refusals::Refusal;
-use strings::table::Place;
+use crate::searching::Located;
 
 // Code 0: found, at that place of the package. 1: absent. Else the refusal, with zeros.
-// A struct for C, so it has numbers for what `Located` and `Refusal` say.
 #[repr(C)]
 #[derive(Clone, Copy)]
 pub struct Answer {
@@ -18,76 +15,45 @@ pub struct Answer {
     pub looks: usize,
 }
 
-impl From<Result<Located, Refusal>> for Answer {
-    ghost from_gives = { λ r a. a ≡ numbered (found_as r) };
-
-    #[tactic(auto, unfolding(crate::specs::Answers::numbered))]
-    fn from(answer: Result<Located, Refusal>) -> Answer {
-        match answer {
-            Ok(
-                Located {
-                    place: Some(Place { start, size }),
-                    looks,
-                },
-            ) => Answer {
-                code: 0,
-                start,
-                length: size,
-                looks,
-            },
-            Ok(Located { place: None, looks }) => Answer {
-                code: 1,
-                start: 0,
-                length: 0,
-                looks,
-            },
-            Err(refusal) => Answer {
-                code: refusal.number(),
-                start: 0,
-                length: 0,
-                looks: 0,
-            },
-        }
+fn answer_of(located: Located) -> Answer
+    ensures { (f : Found) → located ≡ located_of f → result ≡ numbered f }
+{
+    match located {
+        Located::Part(start, length, looks) => Answer {
+            code: 0,
+            start,
+            length,
+            looks,
+        },
+        Located::Absent(looks) => Answer {
+            code: 1,
+            start: 0,
+            length: 0,
+            looks,
+        },
+        Located::Refused(number) => Answer {
+            code: number,
+            start: 0,
+            length: 0,
+            looks: 0,
+        },
     }
 }
 
 pub fn answer_part(package: &[u8], version: u32, table: u32, identity: u64, section: u32) -> Answer
     ensures { result ≡ numbered (looked_up «package».now version table identity section) }
 {
-    let question = Question {
-        version,
-        table,
-        identity,
-        section,
-    };
-    Answer::from(crate::searching::locate(package, question))
+    answer_of(crate::searching::locate(package, version, table, identity, section))
 }
 
 pub fn answer_string(package: &[u8], version: u32, table: u32, identity: u64, entry: u64) -> Answer
     ensures { result ≡ numbered (string_found «package».now version table identity entry) }
 {
-    Answer::from(crate::searching::locate_string(package, version, table, identity, entry))
-}
-
-// The bytes that an answer names, and its numbers beside them. The caller has found them in the package.
-#[tactic(auto, using(octets::proofs::Parts::part_cut), unfolding(crate::specs::Answers::beside, crate::specs::Answers::bytes_in))]
-fn hand_out<'a, 'b>(package: &'a [u8], answer: Answer, told: &'b mut [u64; 4]) -> &'a [u8]
-    requires { answer.start + answer.length ≤ length «package».now }
-    ensures result_value { result.now ≡ bytes_in «package».now answer }
-    ensures told_after { told.new ≡ beside answer }
-{
-    *told = [
-        u64::from(answer.code),
-        answer.start as u64,
-        answer.length as u64,
-        answer.looks as u64,
-    ];
-    &package[answer.start..answer.start + answer.length]
+    answer_of(crate::searching::locate_string(package, version, table, identity, entry))
 }
 
 // The part of the lent package itself, and beside it the code, its place in the package, its length and the looks. It is empty where nothing is
 // found.
-#[tactic(auto, using(crate::proofs::Bounds::part_fits))]
 pub fn look_up<'a, 'b>(
     package: &'a [u8],
     version: u32,
@@ -100,11 +66,18 @@ pub fn look_up<'a, 'b>(
     ensures told_after { told.new ≡ beside (numbered (looked_up «package».now version table identity section)) }
 {
     let answer = answer_part(package, version, table, identity, section);
-    hand_out(package, answer, told)
+    let start = answer.start;
+    let end = start + answer.length;
+    *told = [
+        octets::wide64(answer.code),
+        octets::long(start),
+        octets::long(answer.length),
+        octets::long(answer.looks),
+    ];
+    &package[start..end]
 }
 
 // The string in the lent package itself, without its zero, with the same beside it.
-#[tactic(auto, using(crate::proofs::Bounds::string_fits))]
 pub fn look_up_string<'a, 'b>(
     package: &'a [u8],
     version: u32,
@@ -117,5 +90,13 @@ pub fn look_up_string<'a, 'b>(
     ensures told_after { told.new ≡ beside (numbered (string_found «package».now version table identity entry)) }
 {
     let answer = answer_string(package, version, table, identity, entry);
-    hand_out(package, answer, told)
+    let start = answer.start;
+    let end = start + answer.length;
+    *told = [
+        octets::wide64(answer.code),
+        octets::long(start),
+        octets::long(answer.length),
+        octets::long(answer.looks),
+    ];
+    &package[start..end]
 }

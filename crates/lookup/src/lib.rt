@@ -3,5 +3,4 @@
 
 pub mod answering;
 pub mod opening;
-pub mod package;
 pub mod searching;

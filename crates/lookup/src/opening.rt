@@ -1,34 +1,48 @@
 // 21: a package is opened once, and the lookups go by what was found.
-ghost use Rattle.std.specs.Prelude.{◌≡◌, ◌+◌, ◌≤◌, ◌<◌, length, get_or};
-ghost use Rattle.numbers.specs.Sections.{section_codes};
-ghost use Rattle.numbers.specs.Refused.{told};
+ghost use Rattle.std.specs.Prelude.{◌≡◌, ◌+◌, ◌≤◌, length};
 ghost use Rattle.octets.specs.Octets.{part};
 ghost use Rattle.index.specs.Index.{index_of};
 ghost use Rattle.lookup.specs.Lookup.{package_of};
-ghost use Rattle.lookup.specs.Answers.{empty, opened, single, index_by, Alone, Entering};
+ghost use Rattle.lookup.specs.Answers.{
+  closed,
+  empty,
+  opened,
+  single,
+  index_by,
+  index_good,
+  Alone,
+  Entering,
+};
 
-use bundle::encoding::ObjectEncoding;
-use bundle::{Item, Scan};
+use bundle::encoding::{ObjectEncoding, WordRead};
+use bundle::{Item, Scan, Words};
 use index::reading::{IndexHead, IndexRead};
 use numbers::limits::PACKAGE_LIMIT;
-use numbers::refusals::Refusal;
-use numbers::sections::{CU_INDEX, TU_INDEX};
+use numbers::sections::{CODES, CU_INDEX, TU_INDEX};
 
-// What the one object of a package states, and where its sections and indexes lie.
 #[derive(Clone, Copy)]
-pub struct PackageHead {
-    pub encoding: ObjectEncoding,
-    pub sections: Scan,
-    pub cu: Option<IndexHead>,
-    pub tu: Option<IndexHead>,
+pub enum PackageIndex {
+    Present(IndexHead),
+    Missing,
+    IllFormed,
 }
 
-// A package without objects.
-#[tactic(auto, unfolding(crate::specs::Answers::empty, crate::specs::Answers::coded, bundle::specs::Encoding::encoding_of))]
-fn without_object(big: bool) -> PackageHead
-    ensures { result ≡ empty big }
+// What the one object of a package states, and where its sections and indexes lie. Where it is not good it is refused, and the rest says nothing.
+#[derive(Clone, Copy)]
+pub struct PackageHead {
+    pub good: bool,
+    pub encoding: ObjectEncoding,
+    pub sections: Scan,
+    pub cu: PackageIndex,
+    pub tu: PackageIndex,
+}
+
+// A package without objects, and with good false a refusal.
+fn without_object(good: bool, big: bool) -> PackageHead
+    ensures { result ≡ empty good big }
 {
     PackageHead {
+        good,
         encoding: ObjectEncoding {
             big,
             five: false,
@@ -36,89 +50,124 @@ fn without_object(big: bool) -> PackageHead
             long: false,
         },
         sections: bundle::no_sections(8),
-        cu: None,
-        tu: None,
+        cu: PackageIndex::Missing,
+        tu: PackageIndex::Missing,
     }
 }
 
-// No section stands there twice, by how many there are of each.
-fn are_single(counts: &[usize]) -> bool
-    ensures { result ≡ single counts.now }
+fn refused() -> PackageHead
+    ensures { result ≡ closed }
 {
-    counts.iter().all(|n| *n <= 1)
+    without_object(false, false)
 }
 
-// The index in the section of a code, if it is there. The caller has seen that the section lies in the package.
-fn read_index(
-    package: &[u8],
-    big: bool,
-    sections: &Scan,
-    code: usize,
-) -> Result<Option<IndexHead>, Refusal>
-    requires { (code < section_codes) × (get_or sections.now.start code 0 + get_or sections.now.size code 0 ≤ length «package».now) }
-    ensures { told result ≡ index_by (get_or sections.now.count code 0) (index_of big (part «package».now (get_or sections.now.start code 0) (get_or sections.now.size code 0))) }
+// No section stands there twice.
+fn are_single(sections: Scan) -> bool
+    ensures { result ≡ single sections.count }
 {
-    if sections.count[code] == 0 {
-        return Ok(None);
+    let mut code = 1;
+    while code < CODES {
+        if 1 < sections.count[code] {
+            return false;
+        }
+        code += 1;
     }
-    let start = sections.start[code];
-    let end = start + sections.size[code];
+    true
+}
+
+// The index in a section, of which there are so many. The caller has seen that the section lies in the package.
+fn read_index(package: &[u8], big: bool, count: usize, start: usize, size: usize) -> PackageIndex
+    requires { start + size ≤ length «package».now }
+    ensures { result ≡ index_by count (index_of big (part «package».now start size)) }
+{
+    if count == 0 {
+        return PackageIndex::Missing;
+    }
+    let end = start + size;
     match index::reading::read_index(big, &package[start..end]) {
-        IndexRead::Good(head) => Ok(Some(head)),
-        IndexRead::Bad => Err(Refusal::BadPackage),
+        IndexRead::Good(head) => PackageIndex::Present(head),
+        IndexRead::Bad => PackageIndex::IllFormed,
+    }
+}
+
+fn is_good(i: PackageIndex) -> bool
+    ensures { result ≡ index_good i }
+{
+    match i {
+        PackageIndex::Present(_) => true,
+        PackageIndex::Missing => true,
+        PackageIndex::IllFormed => false,
     }
 }
 
 // The package of one object, of that word and those sections. The caller has scanned it.
-fn open_sections(
-    package: &[u8],
-    big: bool,
-    word: u32,
-    sections: Scan,
-) -> Result<PackageHead, Refusal>
+fn open_sections(package: &[u8], big: bool, word: u32, sections: Scan) -> PackageHead
     requires { Alone «package».now big word sections }
-    ensures { told result ≡ opened (package_of «package».now) }
+    ensures { result ≡ opened (package_of «package».now) }
 {
-    let Ok(encoding) = bundle::encoding::read_word(big, word) else {
-        return Err(Refusal::BadPackage);
+    let WordRead::Good(encoding) = bundle::encoding::read_word(big, word) else {
+        return refused();
     };
-    if !are_single(&sections.count[1..]) {
-        return Err(Refusal::BadPackage);
+    if !are_single(sections) {
+        return refused();
     }
-    let cu = read_index(package, big, &sections, CU_INDEX)?;
-    let tu = read_index(package, big, &sections, TU_INDEX)?;
-    Ok(PackageHead {
+    let cu = read_index(
+        package,
+        big,
+        sections.count[CU_INDEX],
+        sections.start[CU_INDEX],
+        sections.size[CU_INDEX],
+    );
+    if !is_good(cu) {
+        return refused();
+    }
+    let tu = read_index(
+        package,
+        big,
+        sections.count[TU_INDEX],
+        sections.start[TU_INDEX],
+        sections.size[TU_INDEX],
+    );
+    if !is_good(tu) {
+        return refused();
+    }
+    PackageHead {
+        good: true,
         encoding,
         sections,
         cu,
         tu,
-    })
+    }
 }
 
 // The package whose first object has that word, which ends at 8. The caller has checked its length and its words.
-fn open_object(package: &[u8], big: bool, word: u32) -> Result<PackageHead, Refusal>
+fn open_object(package: &[u8], big: bool, word: u32) -> PackageHead
     requires { Entering «package».now big word }
-    ensures { told result ≡ opened (package_of «package».now) }
+    ensures { result ≡ opened (package_of «package».now) }
 {
     let sections = bundle::scan_object(package, 8);
-    match bundle::next_item(package, sections.next) {
-        Ok(Item::End) => open_sections(package, big, word, sections),
-        _ => Err(Refusal::BadPackage),
+    let next = sections.next;
+    match bundle::next_item(package, next) {
+        Item::End => open_sections(package, big, word, sections),
+        Item::Object(_, _) => refused(),
+        Item::Section(_, _, _, _) => refused(),
+        Item::Broken => refused(),
     }
 }
 
-pub fn open_package(package: &[u8]) -> Result<PackageHead, Refusal>
-    ensures { told result ≡ opened (package_of «package».now) }
+pub fn open_package(package: &[u8]) -> PackageHead
+    ensures { result ≡ opened (package_of «package».now) }
 {
     if !bundle::length_good(PACKAGE_LIMIT, package) {
-        return Err(Refusal::BadPackage);
+        return refused();
     }
-    let Ok(big) = bundle::check_words(package) else {
-        return Err(Refusal::BadPackage);
+    let Words::Readable(big) = bundle::check_words(package) else {
+        return refused();
     };
     match bundle::next_item(package, 4) {
-        Ok(Item::Object { word, .. }) => open_object(package, big, word),
-        Ok(Item::End) => Ok(without_object(big)),
-        _ => Err(Refusal::BadPackage),
+        Item::Object(word, _) => open_object(package, big, word),
+        Item::End => without_object(true, big),
+        Item::Section(_, _, _, _) => refused(),
+        Item::Broken => refused(),
     }
 }

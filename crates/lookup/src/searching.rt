@@ -1,179 +1,268 @@
 // Both lookups: where a part or a string lies in a package, or absent, or refused, with the number of slots looked at.
-ghost use Rattle.std.specs.Prelude.{◌≡◌, true, ◌+◌, ◌≤◌, ◌<◌, ◌^◌, length};
-ghost use Rattle.numbers.specs.Refused.{told};
+ghost use Rattle.std.specs.Prelude.{◌≡◌, true, ◌||◌, eqb, ◌+◌, ◌≤◌, ◌<◌, ◌^◌, length};
+ghost use Rattle.numbers.specs.Tables.{index2, index5};
 ghost use Rattle.numbers.specs.Sections.{section_codes};
-ghost use Rattle.numbers.specs.Tabled.{table_number};
-ghost use Rattle.octets.specs.Checked.{mapped};
-ghost use Rattle.bundle.specs.Bundle.{body, first_part};
+ghost use Rattle.bundle.specs.Bundle.{body};
 ghost use Rattle.bundle.specs.Encoding.{encoding_good};
-ghost use Rattle.lookup.specs.Lookup.{looked_up, place_in, string_found, string_place};
+ghost use Rattle.lookup.specs.Lookup.{
+  answered,
+  looked_up,
+  package_of,
+  string_found,
+  table_good,
+};
 ghost use Rattle.lookup.specs.Answers.{
+  Opened,
   RowHere,
+  after,
   entries_from,
-  found_as,
-  found_in,
+  entry_place,
   index_code,
+  index_has,
+  located_of,
+  opened,
   package_in,
   part_in,
-  placed,
+  place_by,
   row_place,
   table_index,
   text_place,
   version_by,
 };
+ghost use Rattle.lookup.specs.declared.opening.PackageIndex.TheVariants.{Present};
 
-use crate::opening::PackageHead;
-use crate::package::Package;
+use crate::opening::{PackageHead, PackageIndex};
+use bundle::encoding::ObjectEncoding;
 use index::cells::Cell;
 use index::probing::Probed;
 use index::reading::IndexHead;
-use numbers::refusals::Refusal;
+use numbers::refusals::{
+    BAD_PACKAGE, BAD_QUESTION, NO_ENTRY, NO_STRING_THERE, OTHER_VERSION, PART_OUTSIDE,
+};
 use numbers::sections::{CU_INDEX, STR, TU_INDEX};
-use numbers::tables::{INDEX_2, INDEX_5, Table};
-use strings::table::Place;
+use numbers::tables::{COMPILATION, INDEX_2, INDEX_5, TYPE};
 
 // Codes of sections as a question has them: the last that can be asked for, and str_offsets.
 const LAST_SHARED: u32 = numbers::sections::LAST_SHARED as u32;
 
 const STR_OFFSETS: u32 = numbers::sections::STR_OFFSETS as u32;
 
-// The part of a section that a unit contributes: the version of the indexes, the unit's table and identity, and the section's code.
-#[derive(Clone, Copy, Debug, PartialEq, Eq)]
-pub struct Question {
-    pub version: u32,
-    pub table: u32,
-    pub identity: u64,
-    pub section: u32,
-}
-
-// The place in the package, or none where the identity is absent; and the looks.
+// A part's start in the package, its length and the looks; absent after so many looks; or a refusal's number.
 #[derive(Clone, Copy)]
-pub struct Located {
-    pub place: Option<Place>,
-    pub looks: usize,
+pub enum Located {
+    Part(usize, usize, usize),
+    Absent(usize),
+    Refused(u32),
 }
 
 // ---- what is asked
-impl PackageHead {
-    // 22: the version is 2 or 5, and that of each index that is there.
-    fn has_version(&self, version: u32) -> bool
-        ensures { result ≡ version_by self.now version }
-    {
-        matches!(version, INDEX_2 | INDEX_5)
-            && self.cu.is_none_or(|i| i.version == version)
-            && self.tu.is_none_or(|i| i.version == version)
-    }
-
-    pub fn index_for(&self, table: Table) -> Option<IndexHead>
-        ensures { result ≡ table_index self.now table }
-    {
-        match table {
-            Table::Compilation => self.cu,
-            Table::Type => self.tu,
-        }
+fn index_has(i: PackageIndex, version: u32) -> bool
+    ensures { result ≡ index_has version i }
+{
+    match i {
+        PackageIndex::Present(head) => head.version == version,
+        PackageIndex::Missing => true,
+        PackageIndex::IllFormed => true,
     }
 }
 
-#[tactic(auto, unfolding(crate::specs::Answers::index_code))]
-pub fn index_code(table: Table) -> usize
-    ensures { result ≡ index_code (table_number table) }
+fn is_version(version: u32) -> bool
+    ensures { result ≡ (eqb version index2 || eqb version index5) }
 {
-    match table {
-        Table::Compilation => CU_INDEX,
-        Table::Type => TU_INDEX,
+    if version == INDEX_2 {
+        return true;
     }
+    version == INDEX_5
+}
+
+// 22: the version is 2 or 5, and that of each index that is there.
+fn has_version(head: PackageHead, version: u32) -> bool
+    ensures { result ≡ version_by head version }
+{
+    if !is_version(version) {
+        return false;
+    }
+    let cu = head.cu;
+    if !index_has(cu, version) {
+        return false;
+    }
+    let tu = head.tu;
+    index_has(tu, version)
+}
+
+// 23: compilation or type.
+fn is_table(table: u32) -> bool
+    ensures { result ≡ table_good table }
+{
+    if table == COMPILATION {
+        return true;
+    }
+    table == TYPE
+}
+
+pub fn index_for(head: PackageHead, table: u32) -> PackageIndex
+    ensures { result ≡ table_index head table }
+{
+    if table == COMPILATION {
+        let cu = head.cu;
+        return cu;
+    }
+    let tu = head.tu;
+    tu
+}
+
+pub fn index_code(table: u32) -> usize
+    ensures { result ≡ index_code table }
+{
+    if table == COMPILATION {
+        return CU_INDEX;
+    }
+    TU_INDEX
 }
 
 // ---- parts
-impl<'a> Package<'a> {
-    // The bytes of a section, none where it is missing.
-    pub fn section_bytes(&self, code: usize) -> &'a [u8]
-        requires { code < section_codes }
-        ensures { result.now ≡ body self.now.bytes.now (package_in self.now.bytes.now).parts code }
-    {
-        let start = self.head.sections.start[code];
-        let end = start + self.head.sections.size[code];
-        &self.bytes[start..end]
-    }
+// The bytes of a section, none where it is missing. The caller has opened the package.
+pub fn section_bytes<'a>(package: &'a [u8], head: PackageHead, code: usize) -> &'a [u8]
+    requires { (Opened «package».now head) × (code < section_codes) }
+    ensures { result.now ≡ body «package».now (package_in «package».now).parts code }
+{
+    let sections = head.sections;
+    let start = sections.start[code];
+    let end = start + sections.size[code];
+    &package[start..end]
+}
 
-    // 24: a contribution to a section. Its numbers have 32 bits.
-    fn place_in(&self, section: usize, offset: usize, size: usize) -> Result<Place, Refusal>
-        requires { (section < section_codes) × (offset < 2 ^ 32) × (size < 2 ^ 32) }
-        ensures { mapped placed (told result) ≡ place_in (first_part (package_in self.now.bytes.now).parts section) (record { offset = «offset»; size = «size» }) }
-    {
-        let sections = &self.head.sections;
-        if sections.count[section] == 0 || sections.size[section] < offset + size {
-            return Err(Refusal::PartOutside);
-        }
-        Ok(Place {
-            start: sections.start[section] + offset,
-            size,
-        })
+// 24: a contribution to a section of which there are so many, and which lies there. The numbers of a contribution have 32 bits.
+fn place_in(
+    count: usize,
+    start: usize,
+    size: usize,
+    offset: usize,
+    length: usize,
+    looks: usize,
+) -> Located
+    requires { (start + size < 2 ^ 64) × (offset < 2 ^ 32) × (length < 2 ^ 32) }
+    ensures { result ≡ located_of (answered (after looks (place_by count start size offset length))) }
+{
+    if count == 0 {
+        return Located::Refused(PART_OUTSIDE);
     }
-
-    // The part of a row's section. The caller has found the row in the slot, in the index whose bytes are s.
-    fn row_part(
-        &self,
-        s: &[u8],
-        index: IndexHead,
-        slot: usize,
-        section: usize,
-    ) -> Result<Place, Refusal>
-        requires { (section < section_codes) × (RowHere self.now.head.encoding.big s.now index slot) }
-        ensures { mapped placed (told result) ≡ row_place self.now.bytes.now self.now.head.encoding.big s.now index slot section }
-    {
-        let big = self.head.encoding.big;
-        let row = index::reading::row_at(big, s, index, slot);
-        match index::cells::cell_of(big, s, index, row, section) {
-            Cell::Is(offset, size) => self.place_in(section, offset, size),
-            Cell::Missing => Ok(Place { start: 0, size: 0 }),
-        }
+    if size < offset + length {
+        return Located::Refused(PART_OUTSIDE);
     }
+    Located::Part(start + offset, length, looks)
+}
 
-    // The part of a section in the index of a table.
-    fn search(&self, table: Table, identity: u64, section: usize) -> Result<Located, Refusal>
-        requires { section < section_codes }
-        ensures { mapped found_in (told result) ≡ part_in (package_in self.now.bytes.now) (table_number table) identity section }
-    {
-        let Some(index) = self.head.index_for(table) else {
-            return Ok(Located {
-                place: None,
-                looks: 0,
-            });
-        };
-        let s = self.section_bytes(index_code(table));
-        match index::probing::find(self.head.encoding.big, s, index, identity) {
-            Probed::Found(slot, looks) => {
-                let place = self.row_part(s, index, slot, section)?;
-                Ok(Located {
-                    place: Some(place),
-                    looks,
-                })
-            }
-            Probed::Absent(looks) => Ok(Located { place: None, looks }),
+// The part of a row's section. The caller has found the row in the slot, in the index whose bytes are s.
+fn row_part(
+    package: &[u8],
+    head: PackageHead,
+    s: &[u8],
+    index_head: IndexHead,
+    slot: usize,
+    section: usize,
+    looks: usize,
+) -> Located
+    requires { (Opened «package».now head) × (section < section_codes) × (RowHere head.encoding.big s.now index_head slot) }
+    ensures { result ≡ located_of (answered (after looks (row_place «package».now head.encoding.big s.now index_head slot section))) }
+{
+    let encoding = head.encoding;
+    let big = encoding.big;
+    let row = index::reading::row_at(big, s, index_head, slot);
+    match index::cells::cell_of(big, s, index_head, row, section) {
+        Cell::Is(offset, size) => {
+            let sections = head.sections;
+            place_in(
+                sections.count[section],
+                sections.start[section],
+                sections.size[section],
+                offset,
+                size,
+                looks,
+            )
         }
-    }
-
-    // The part of a section, code 1 to 10, that a unit contributes. Where its column is missing the part is empty, and its place, which is free, is 0.
-    pub fn locate(&self, q: Question) -> Result<Located, Refusal>
-        ensures { found_as result ≡ looked_up self.now.bytes.now q.version q.table q.identity q.section }
-    {
-        if !self.head.has_version(q.version) {
-            return Err(Refusal::OtherVersion);
-        }
-        let table = Table::try_from(q.table)?;
-        if !matches!(q.section, 1..=LAST_SHARED) {
-            return Err(Refusal::BadQuestion);
-        }
-        self.search(table, q.identity, q.section as usize)
+        Cell::Missing => Located::Part(0, 0, looks),
     }
 }
 
-// The same for one question.
-pub fn locate(package: &[u8], q: Question) -> Result<Located, Refusal>
-    ensures { found_as result ≡ looked_up «package».now q.version q.table q.identity q.section }
+// The part of a section in an index that is there.
+fn search_index(
+    package: &[u8],
+    head: PackageHead,
+    table: u32,
+    index_head: IndexHead,
+    identity: u64,
+    section: usize,
+) -> Located
+    requires { (Opened «package».now head) × (Present index_head ≡ table_index head table) × (section < section_codes) }
+    ensures { result ≡ located_of (answered (part_in (package_in «package».now) table identity section)) }
 {
-    Package::open(package)?.locate(q)
+    let encoding = head.encoding;
+    let big = encoding.big;
+    let s = section_bytes(package, head, index_code(table));
+    match index::probing::find(big, s, index_head, identity) {
+        Probed::Found(slot, looks) => row_part(package, head, s, index_head, slot, section, looks),
+        Probed::Absent(looks) => Located::Absent(looks),
+    }
+}
+
+// The part of a section in the index of a table. The caller has opened the package.
+fn locate_part(
+    package: &[u8],
+    head: PackageHead,
+    table: u32,
+    identity: u64,
+    section: usize,
+) -> Located
+    requires { (Opened «package».now head) × (section < section_codes) }
+    ensures { result ≡ located_of (answered (part_in (package_in «package».now) table identity section)) }
+{
+    match index_for(head, table) {
+        PackageIndex::Present(index_head) => search_index(
+            package, head, table, index_head, identity, section,
+        ),
+        PackageIndex::Missing => Located::Absent(0),
+        PackageIndex::IllFormed => Located::Absent(0),
+    }
+}
+
+// The part of a section, code 1 to 10, that a unit contributes. Where its column is missing the part is empty, and its place, which is free, is 0.
+// The caller has opened the package, once for as many questions as it has.
+pub fn locate_in(
+    package: &[u8],
+    head: PackageHead,
+    version: u32,
+    table: u32,
+    identity: u64,
+    section: u32,
+) -> Located
+    requires { head ≡ opened (package_of «package».now) }
+    ensures { result ≡ located_of (looked_up «package».now version table identity section) }
+{
+    if !head.good {
+        return Located::Refused(BAD_PACKAGE);
+    }
+    if !has_version(head, version) {
+        return Located::Refused(OTHER_VERSION);
+    }
+    if !is_table(table) {
+        return Located::Refused(BAD_QUESTION);
+    }
+    if section < 1 {
+        return Located::Refused(BAD_QUESTION);
+    }
+    if LAST_SHARED < section {
+        return Located::Refused(BAD_QUESTION);
+    }
+    locate_part(package, head, table, identity, octets::wide(section))
+}
+
+// The same for one question.
+pub fn locate(package: &[u8], version: u32, table: u32, identity: u64, section: u32) -> Located
+    ensures { result ≡ located_of (looked_up «package».now version table identity section) }
+{
+    let head = crate::opening::open_package(package);
+    locate_in(package, head, version, table, identity, section)
 }
 
 // ---- strings
@@ -181,77 +270,64 @@ fn entries_start(version: u32, width: usize) -> usize
     requires { width < 16 }
     ensures { result ≡ entries_from version width }
 {
-    if version == INDEX_5 { width + width } else { 0 }
+    if version == INDEX_5 {
+        return width + width;
+    }
+    0
 }
 
-impl<'a> Package<'a> {
-    // 26: the string at an offset of str.
-    fn text_at(&self, offset: u64) -> Result<Place, Refusal>
-        ensures { mapped placed (told result) ≡ text_place self.now.bytes.now (package_in self.now.bytes.now) offset }
-    {
-        let Some(text) = strings::entries::string_at(self.section_bytes(STR), offset) else {
-            return Err(Refusal::NoStringThere);
-        };
-        Ok(Place {
-            start: self.head.sections.start[STR] + text.start,
-            size: text.size,
-        })
-    }
-
-    // 25: the string of an entry in a part of str_offsets. The caller has found the part in the package.
-    fn entry_text(&self, version: u32, entry: u64, part: Place) -> Result<Place, Refusal>
-        requires { (part.start + part.size ≤ length self.now.bytes.now) × (encoding_good (package_in self.now.bytes.now).encoding ≡ true) }
-        ensures { mapped placed (told result) ≡ string_place self.now.bytes.now (package_in self.now.bytes.now) version entry (placed part) }
-    {
-        let width = self.head.encoding.width();
-        let first = entries_start(version, width);
-        if part.size < first {
-            return Err(Refusal::NoEntry);
-        }
-        let count = (part.size - first) / width;
-        if count as u64 <= entry {
-            return Err(Refusal::NoEntry);
-        }
-        let at = part.start + first + entry as usize * width;
-        self.text_at(octets::number_at(self.head.encoding.big, width, self.bytes, at))
-    }
-
-    // The string that entry number `entry` of a unit's part of str_offsets names, without its zero.
-    pub fn locate_string(
-        &self,
-        version: u32,
-        table: u32,
-        identity: u64,
-        entry: u64,
-    ) -> Result<Located, Refusal>
-        ensures { found_as result ≡ string_found self.now.bytes.now version table identity entry }
-    {
-        let located = self.locate(Question {
-            version,
-            table,
-            identity,
-            section: STR_OFFSETS,
-        })?;
-        let Some(part) = located.place else {
-            return Ok(located);
-        };
-        let place = self.entry_text(version, entry, part)?;
-        Ok(Located {
-            place: Some(place),
-            looks: located.looks,
-        })
-    }
-}
-
-// The same for one question.
-pub fn locate_string(
-    package: &[u8],
-    version: u32,
-    table: u32,
-    identity: u64,
-    entry: u64,
-) -> Result<Located, Refusal>
-    ensures { found_as result ≡ string_found «package».now version table identity entry }
+// 26: the string at an offset of str. The caller has opened the package.
+fn locate_text(package: &[u8], head: PackageHead, offset: u64, looks: usize) -> Located
+    requires { Opened «package».now head }
+    ensures { result ≡ located_of (answered (after looks (text_place «package».now (package_in «package».now) offset))) }
 {
-    Package::open(package)?.locate_string(version, table, identity, entry)
+    let s = section_bytes(package, head, STR);
+    let sections = head.sections;
+    let start = sections.start[STR];
+    match strings::entries::string_at(s, offset) {
+        Some(text) => Located::Part(start + text.start, text.size, looks),
+        None => Located::Refused(NO_STRING_THERE),
+    }
+}
+
+// 25: the string of an entry in a part of str_offsets. The caller has found the part in the package.
+fn locate_entry(
+    package: &[u8],
+    head: PackageHead,
+    version: u32,
+    entry: u64,
+    start: usize,
+    size: usize,
+    looks: usize,
+) -> Located
+    requires { (Opened «package».now head) × (start + size ≤ length «package».now) × (encoding_good (package_in «package».now).encoding ≡ true) }
+    ensures { result ≡ located_of (answered (after looks (entry_place «package».now version entry start size))) }
+{
+    let encoding = head.encoding;
+    let width = encoding.width();
+    let first = entries_start(version, width);
+    if size < first {
+        return Located::Refused(NO_ENTRY);
+    }
+    let count = (size - first) / width;
+    if octets::long(count) <= entry {
+        return Located::Refused(NO_ENTRY);
+    }
+    let at = start + first + octets::size(entry) * width;
+    let offset = octets::number_at(encoding.big, width, package, at);
+    locate_text(package, head, offset, looks)
+}
+
+// The string that entry number `entry` of a unit's part of str_offsets names, without its zero.
+pub fn locate_string(package: &[u8], version: u32, table: u32, identity: u64, entry: u64) -> Located
+    ensures { result ≡ located_of (string_found «package».now version table identity entry) }
+{
+    let head = crate::opening::open_package(package);
+    match locate_in(package, head, version, table, identity, STR_OFFSETS) {
+        Located::Part(start, size, looks) => locate_entry(
+            package, head, version, entry, start, size, looks,
+        ),
+        Located::Absent(looks) => Located::Absent(looks),
+        Located::Refused(number) => Located::Refused(number),
+    }
 }

@@ -5,5 +5,5 @@ pub mod Tables
 pub mod Limits
 pub mod Refusals
 pub mod Refused
-pub mod Tabled
 pub mod Names
+pub mod NameRows

@@ -1,34 +1,7 @@
 // The two tables of units, the versions of DWARF and of an index, the columns of an index, and the types of a version 5 unit.
-ghost use Rattle.std.specs.Prelude.{◌≡◌};
-ghost use Rattle.numbers.specs.Tabled.{table_named};
-
-use crate::refusals::Refusal;
-
 pub const COMPILATION: u32 = 1;
 
 pub const TYPE: u32 = 2;
-
-// One of the two tables.
-#[derive(Clone, Copy, Debug, PartialEq, Eq)]
-pub enum Table {
-    Compilation,
-    Type,
-}
-
-// The table of a number in a question.
-impl TryFrom<u32> for Table {
-    type Error = Refusal;
-
-    ghost try_from_gives = { λ n r. r ≡ table_named n };
-
-    fn try_from(number: u32) -> Result<Table, Refusal> {
-        match number {
-            COMPILATION => Ok(Table::Compilation),
-            TYPE => Ok(Table::Type),
-            _ => Err(Refusal::BadQuestion),
-        }
-    }
-}
 
 pub const DWARF_4: u32 = 4;
 

@@ -13,5 +13,6 @@ pub mod Elements
 pub mod Joined
 pub mod Mapped
 pub mod Stores
-pub mod Fixed
+pub mod Fours
 pub mod ZeroBytes
+pub mod Compared

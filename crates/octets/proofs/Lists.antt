@@ -6,7 +6,6 @@ use mathlib.Core.Bool.{Bool, true, false, ◌&&◌, ◌||◌}
 use mathlib.Core.List.{List, [], ◌∷◌, ◌++◌}
 use Prim.Native.Nat.{ℕ, ◌≤◌}
 use native.Mathlib.Omega.{arith}
-use Rattle.std.specs.List.{list_all}
 use lib.Dec.{eqb}
 use lib.ListN.{length}
 use borrow.Author.Tests.{eqb-true, eq-eqb}
@@ -75,13 +74,6 @@ module _ {A : Type 0} (f : A → Bool) where
   all_append (x ∷ xs) ys =
       ⊎_elim (λ p. all_cons x (xs ++ ys) p ∙ all_append xs ys ∙ sym (ap (λ (b : Bool). b && all f ys) (all_cons x xs p)))
       (λ p. all_stops x (xs ++ ys) p ∙ sym (ap (λ (b : Bool). b && all f ys) (all_stops x xs p))) (known (f x))
-
-  -- as the library tests all
-  pub all_is_list_all : (xs : List A) → all f xs ≡ list_all f xs
-  unfolding all
-  all_is_list_all [] = refl
-  all_is_list_all (x ∷ xs) =
-      ⊎_elim (λ p. all_cons x xs p ∙ all_is_list_all xs ∙ rw p) (λ p. all_stops x xs p ∙ rw p) (known (f x))
 
   -- ---- any
   pub any_cons : (x : A) (xs : List A) → f x ≡ false → any f (x ∷ xs) ≡ any f xs

@@ -2,9 +2,9 @@
 -- Assumes nothing.
 use mathlib.Core.Path.{◌≡◌, sym, refl, ap, ◌∙◌}
 use mathlib.Core.Bool.{Bool, true, false}
-use mathlib.Core.List.{List, [], ◌∷◌, ◌++◌, append-nil, append_assoc}
+use mathlib.Core.List.{List, [], ◌∷◌, ◌++◌}
 use Prim.Native.Nat.{ℕ, zero, suc, ◌+◌, ◌*◌, ◌/◌, ◌%◌, ◌^◌, ◌<◌, ◌≤◌}
-use native.Mathlib.Nat.{le_refl, lt_of_le_of_lt, lt_of_lt_of_le, mul_assoc, one-mul, pow-le-pow_right, mul-le-mul_right, pow-succ'}
+use native.Mathlib.Nat.{le_refl, lt_of_lt_of_le, mul_assoc, one-mul, pow-le-pow_right, mul-le-mul_right, pow-succ'}
 use native.Mathlib.Omega.{arith}
 use native.Mathlib.Numerals.{add-one}
 use lib.Dec.{lit<}
@@ -40,10 +40,6 @@ pub bytes_left : (s t : List ℕ) → Bytes (s ++ t) → Bytes s
 bytes_left [] t h i = omega arith
 bytes_left (b ∷ s) t h zero = h 0
 bytes_left (b ∷ s) t h (suc i) = bytes_left s t (bytes_tail b (s ++ t) h) i
-
-pub bytes_right : (s t : List ℕ) → Bytes (s ++ t) → Bytes t
-bytes_right [] t h = h
-bytes_right (b ∷ s) t h = bytes_right s t (bytes_tail b (s ++ t) h)
 
 -- ---- bounds
 pub big_from_ge : (n : ℕ) (bs : List ℕ) → n ≤ big_from n bs
@@ -83,45 +79,18 @@ little_lt64 bs h l = lt_of_lt_of_le (little_lt bs h) (pow-le-pow_right (lit< tt)
 pub big_from_lt64 : (bs : List ℕ) → Bytes bs → length bs ≤ 8 → big_from 0 bs < 2 ^ 64
 big_from_lt64 bs h l = lt_of_lt_of_le (big_from_lt 0 bs h) (rw one-mul (pow-le-pow_right (lit< tt) l))
 
--- ---- a turn of a loop that reads from the front
+-- ---- a turn of a loop that reads: from the front, and from the back
 pub big_turn : (n : ℕ) (s : List ℕ) (i : ℕ) → i < length s → big_from n (drop i s) ≡ big_from (n * 256 + get_or s i 0) (drop (i + 1) s)
 unfolding big_from
 big_turn n s i h = rw (add-one, drop-cons s i 0)
-
-pub big_fits : (n : ℕ) (s : List ℕ) (i : ℕ) → big_from n (drop i s) ≡ big_from 0 s → i < length s → Bytes s → length s ≤ 8 → n * 256 + get_or s i 0 < 2 ^ 64
-big_fits n s i e h b l = lt_of_le_of_lt (big_from_ge _ (drop (i + 1) s)) (rw (← big_turn n s i h, e) (big_from_lt64 s b l))
 
 pub big_end : (n : ℕ) (s : List ℕ) (i : ℕ) → length s ≤ i → big_from n (drop i s) ≡ n
 unfolding big_from
 big_end n s i h = rw (drop_of_length-le s h)
 
--- ---- and from the back: rest is what is left of s, and n what the bytes behind it state
-pub record Passed (s rest : List ℕ) (n : ℕ) : Type 0 where
-  pub bytes : List ℕ
-  pub whole : s ≡ rest ++ bytes
-  pub states : n ≡ little bytes
-
-pub passed_none : (s rest : List ℕ) → rest ≡ s → Passed s rest 0
+pub little_turn : (s : List ℕ) (i : ℕ) → i < length s → little (drop i s) ≡ little (drop (i + 1) s) * 256 + get_or s i 0
 unfolding little
-passed_none s rest e = record { bytes = []; whole = sym (append-nil rest ∙ e); states = refl }
-
-module _ (s rest : List ℕ) (n : ℕ) (p : Passed s rest n) where
-  pub passed_more : (t : List ℕ) (b : ℕ) → rest ≡ t ++ (b ∷ []) → Passed s t (n * 256 + b)
-  unfolding little
-  passed_more t b e = record {
-    bytes = b ∷ p.bytes;
-    whole = p.whole ∙ ap (λ (z : List ℕ). z ++ p.bytes) e ∙ append_assoc t (b ∷ []) p.bytes;
-    states = omega (arith, p.states);
-  }
-
-  pub passed_fits : Bytes s → length s ≤ 8 → n < 2 ^ 64
-  passed_fits h l =
-      let e = p.whole in
-      rw p.states (little_lt64 p.bytes (bytes_right rest p.bytes (rw e at h)) (omega (arith, ap length e, length-append rest p.bytes)))
-
-pub passed_all : (s : List ℕ) (n : ℕ) (rest : List ℕ) → length rest ≡ 0 → Passed s rest n → n ≡ little s
-passed_all s n [] e p = p.states ∙ sym (ap little p.whole)
-passed_all s n (b ∷ rest) e p = absurd (omega arith)
+little_turn s i h = rw (add-one, drop-cons s i 0) (omega arith)
 
 -- ---- the same number in a part of the list, and in a longer list
 pub number_at_part : (big : Bool) (w : ℕ) (s : List ℕ) (a n at : ℕ) → at + w ≤ n → number_at big w (part s a n) at ≡ number_at big w s (a + at)

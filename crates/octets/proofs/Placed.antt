@@ -3,12 +3,12 @@
 use mathlib.Core.Path.{◌≡◌, refl, sym, ap, ◌∙◌}
 use mathlib.Core.List.{List, [], ◌∷◌, ◌++◌, append-nil, append_assoc}
 use Prim.Native.Nat.{ℕ, zero, suc, ◌+◌, ◌-◌, ◌/◌, ◌%◌, ◌<◌, ◌≤◌}
-use native.Mathlib.Nat.{add-zero, le-add_right}
+use native.Mathlib.Nat.{sub-zero, zero-sub, suc-sub-suc, add-zero, le-add_right}
 use native.Mathlib.Omega.{arith}
 use native.Mathlib.Numerals.{add-one, add-two}
 use lib.ListN.{length, take, drop, set, get_or, length-append, length-take, length-drop, length-replicate, drop_of_length-le, take-append-drop, replicate-append-replicate}
-use lib.Seq.{append_snoc, take-suc-set, drop-set-lt, take-set-le, set_split, sets-eq, take-take, take-append-le, drop-drop, take_at, drop_at, drop-append-add, length-take-le}
-use Rattle.std.proofs.lemmas.List.{drop-replicate, take-replicate}
+use lib.Seq.{drop-length, append_snoc, take-suc-set, drop-set-lt, take-set-le, set_split, sets-eq, take-take, take-append-le, drop-drop, take_at, drop_at, drop-append-add, length-take-le}
+use borrow.Author.Fill.{fill_none, fill_more}
 use Rattle.octets.specs.Octets.{placed, padded, zeros, little_of, big_of}
 use Rattle.octets.proofs.Numbers.{length_big_of}
 
@@ -19,11 +19,15 @@ length_zeros n = length-replicate n 0
 
 pub drop_zeros : (k n : ℕ) → drop k (zeros n) ≡ zeros (n - k)
 unfolding zeros
-drop_zeros k n = drop-replicate k n 0
+drop_zeros zero n = rw sub-zero
+drop_zeros (suc k) zero = rw zero-sub
+drop_zeros (suc k) (suc n) = rw suc-sub-suc (drop_zeros k n)
 
 pub take_zeros : (k n : ℕ) → k ≤ n → take k (zeros n) ≡ zeros k
 unfolding zeros
-take_zeros k n h = take-replicate k n 0 h
+take_zeros zero n h = refl
+take_zeros (suc k) zero h = absurd (omega arith)
+take_zeros (suc k) (suc n) h = ap (λ (z : List ℕ). 0 ∷ z) (take_zeros k n (omega arith))
 
 pub zeros_add : (n m : ℕ) → zeros n ++ zeros m ≡ zeros (n + m)
 unfolding zeros
@@ -38,6 +42,18 @@ get_d_zeros (suc n) (suc i) = get_d_zeros n i
 pub zeros_none : zeros 0 ≡ []
 unfolding zeros
 zeros_none = refl
+
+-- a turn of a loop that clears
+pub clear_none : (d : List ℕ) → d ≡ zeros 0 ++ drop 0 d
+unfolding zeros
+clear_none d = fill_none d 0
+
+pub clear_more : (i : ℕ) (d : List ℕ) → i < length d → set (zeros i ++ drop i d) i 0 ≡ zeros (i + 1) ++ drop (i + 1) d
+unfolding zeros
+clear_more i d h = fill_more i 0 d h
+
+pub clear_end : (i : ℕ) (d : List ℕ) → i ≡ length d → zeros i ++ drop i d ≡ zeros (length d)
+clear_end i d e = rw (e, drop-length d) (append-nil (zeros (length d)))
 
 -- ---- length and elements
 pub length_placed : (d : List ℕ) (at : ℕ) (x : List ℕ) → at + length x ≤ length d → length (placed d at x) ≡ length d
@@ -144,15 +160,19 @@ pub padded_zeros : (p : List ℕ) (k n : ℕ) → padded (p ++ zeros k) n ≡ pa
 unfolding padded
 padded_zeros p k n = append_assoc p (zeros k) (zeros n) ∙ ap (λ (z : List ℕ). p ++ z) (zeros_add k n)
 
--- ---- a loop that stores a number byte by byte: k bytes are left, and j after this one
-module _ (d : List ℕ) (k j m b : ℕ) (p : b ≡ m % 256) (q : k ≡ suc j) where
-  pub little_store : (i : ℕ) → i < length d → placed (set d i b) (i + 1) (little_of j (m / 256)) ≡ placed d i (little_of k m)
-  unfolding little_of
-  little_store i h = rw (p, q) (placed_front d i (m % 256) (little_of j (m / 256)) h)
+-- ---- a loop that stores a number byte by byte
+pub little_store : (d : List ℕ) (i w m : ℕ) → 0 < w → i < length d
+    → placed (set d i (m % 256)) (i + 1) (little_of (w - 1) (m / 256)) ≡ placed d i (little_of w m)
+unfolding little_of
+little_store d i zero m h g = absurd (omega arith)
+little_store d i (suc w) m h g = let e : suc w - 1 ≡ w = omega arith in rw e (placed_front d i (m % 256) (little_of w (m / 256)) g)
 
-  pub big_store : (at i : ℕ) → i ≡ at + j → i < length d → placed (set d i b) at (big_of j (m / 256)) ≡ placed d at (big_of k m)
-  unfolding big_of
-  big_store at i e h =
-      let x = big_of j (m / 256) in
-      let l : length x ≡ j = length_big_of j (m / 256) in
-      rw (e, p, q) (rw l at (placed_back d at (m % 256) x (omega arith)))
+pub big_store : (d : List ℕ) (at w m : ℕ) → 0 < w → at + w ≤ length d
+    → placed (set d (at + (w - 1)) (m % 256)) at (big_of (w - 1) (m / 256)) ≡ placed d at (big_of w m)
+unfolding big_of
+big_store d at zero m h g = absurd (omega arith)
+big_store d at (suc w) m h g =
+    let e : suc w - 1 ≡ w = omega arith in
+    let x = big_of w (m / 256) in
+    let l : length x ≡ w = length_big_of w (m / 256) in
+    rw e (rw l at (placed_back d at (m % 256) x (omega arith)))

@@ -2,13 +2,13 @@
 -- Assumes nothing.
 use mathlib.Core.Path.{◌≡◌, refl, sym, ap, ◌∙◌}
 use mathlib.Core.Bool.{Bool}
-use mathlib.Core.List.{List, ◌++◌, append_assoc}
-use Prim.Native.Nat.{ℕ, suc, ◌+◌, ◌*◌, ◌<◌, ◌≤◌}
+use mathlib.Core.List.{List, ◌++◌, append-nil, append_assoc}
+use Prim.Native.Nat.{ℕ, suc, ◌+◌, ◌*◌, ◌-◌, ◌<◌, ◌≤◌}
 use native.Mathlib.Nat.{add_assoc, mul-suc, mul-le-mul_left}
 use native.Mathlib.Omega.{arith}
 use native.Mathlib.Numerals.{add-one}
-use lib.ListN.{length, take, drop, get_or, length-drop, take-append-drop}
-use lib.Seq.{take-take, take-add, drop-append-le, drop-drop, drop-cons, take_at, length-take-le, get_or-take, get_or-drop}
+use lib.ListN.{length, take, drop, get_or, length-drop, drop_of_length-le, take-append-drop}
+use lib.Seq.{take_all, take-length, take-take, take-add, drop-append-le, drop-drop, drop-cons, take_at, length-take-le, get_or-take, get_or-drop}
 use borrow.Rule.Slice.PartMut.{put_mid, mid_of}
 use Rattle.octets.specs.Octets.{placed, bytes_of, numbers_of, part}
 use Rattle.octets.proofs.Parts.{part_append_front, get_d_part}
@@ -34,6 +34,14 @@ placed_mid w base n at x h g =
 pub placed_whole : (w : List ℕ) (base n : ℕ) (x : List ℕ) → length x ≡ n → put_mid base n w x ≡ placed w base x
 unfolding placed
 placed_whole w base n x e = rw (e, drop-drop n base w) (sym (append_assoc (take base w) x (drop (base + n) w)))
+
+-- what a part from a place to the end leaves, where x was copied to its front
+pub placed_part : (d x : List ℕ) (at : ℕ) → at + length x ≤ length d
+    → put_mid at (length d - at) d (take (length x) x ++ drop (length x) (mid_of at (length d - at) d)) ≡ placed d at x
+unfolding placed
+placed_part d x at h =
+    let whole : length (drop at d) ≤ length d - at = simp length-drop (omega arith) in
+    rw (take-length, take_all (length d - at) (drop at d) whole, drop_of_length-le (drop at d) whole, append-nil, drop-drop) (sym (append_assoc (take at d) x (drop (at + length x) d)))
 
 -- ---- parts of what was placed
 -- a part that does not meet what is placed is as it was: before it, and behind it

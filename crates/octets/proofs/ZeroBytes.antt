@@ -175,6 +175,9 @@ pub clear_none : (s : List ℕ) (at : ℕ) → Clear s at at
 clear_none s at i g h = absurd (omega arith)
 
 module _ (s : List ℕ) (from at : ℕ) (c : Clear s from at) where
+  pub clear_one : (get_or s at 0 ≡ 0 → ⊥) → Clear s from (at + 1)
+  clear_one ne i g h e = elim (ℕ_discrete i at) [ yes p ↦ ne (rw p at e) | no p ↦ c i g (omega arith) e ]
+
   -- the first from a place on is the first of all, where none stands before it
   pub first_behind : (n : ℕ) → from ≤ at → FirstZero s at n → FirstZero s from n
   first_behind n g f = record { reached = omega (arith, f.reached); within = f.within; found = f.found; before = both }

@@ -3,7 +3,6 @@
 
 ghost use Rattle.std.specs.Prelude.{◌≡◌, false, List, [], ◌∷◌, ℕ, ◌+◌, ◌*◌, ◌%◌, ◌≤◌, ◌<◌, ◌^◌, length, get_or, eqb};
 ghost use Rattle.octets.specs.Octets.{
-  part,
   little,
   big_from,
   number_at,
@@ -17,10 +16,18 @@ ghost use Rattle.octets.specs.Octets.{
 };
 ghost use Rattle.octets.specs.Lists.{all, same, FirstZero};
 
-// One more than the greatest number of four bytes.
+// What the second, third and fourth lowest byte of a number count, and one more than the greatest number of four bytes.
+const SECOND: u64 = 0x100;
+
+const THIRD: u64 = 0x1_0000;
+
+const FOURTH: u64 = 0x100_0000;
+
 const WORD: u64 = 0x1_0000_0000;
 
 // Bytes that are read at once.
+const FOUR: usize = 4;
+
 const EIGHT: usize = 8;
 
 // The bits of a byte, and the low seven of each of eight bytes.
@@ -68,102 +75,6 @@ pub fn narrow(x: usize) -> u32
     x as u32
 }
 
-// ---- numbers of two, four and eight bytes
-pub trait Number {
-    ghost width: { ℕ };
-
-    ghost value: { Self → ℕ };
-
-    // The number at a place. Callers have tested that its bytes are there.
-    fn read(big_endian: bool, s: &[u8], at: usize) -> Self
-        requires { at + width ≤ length s.now }
-        ensures { value result ≡ number_at big_endian width s.now at };
-
-    // Stores the number at a place. Callers have tested that there is room.
-    fn put(self, big_endian: bool, d: &mut [u8], at: usize)
-        requires { at + width ≤ length d.old }
-        ensures { d.new ≡ placed d.old at (bytes_of big_endian width (value self)) };
-}
-
-// The N bytes at a place.
-fn bytes_at<const N: usize>(s: &[u8], at: usize) -> [u8; N]
-    requires { at + N ≤ length s.now }
-    ensures { result ≡ part s.now at N }
-{
-    let mut bytes = [0; N];
-    bytes.copy_from_slice(&s[at..at + N]);
-    bytes
-}
-
-impl Number for u16 {
-    ghost width = { 2 };
-
-    ghost value = { λ n. n };
-
-    fn read(big_endian: bool, s: &[u8], at: usize) -> u16 {
-        let bytes = bytes_at(s, at);
-        if big_endian {
-            u16::from_be_bytes(bytes)
-        } else {
-            u16::from_le_bytes(bytes)
-        }
-    }
-
-    fn put(self, big_endian: bool, d: &mut [u8], at: usize) {
-        if big_endian {
-            put_bytes(d, at, &u16::to_be_bytes(self));
-        } else {
-            put_bytes(d, at, &u16::to_le_bytes(self));
-        }
-    }
-}
-
-impl Number for u32 {
-    ghost width = { 4 };
-
-    ghost value = { λ n. n };
-
-    fn read(big_endian: bool, s: &[u8], at: usize) -> u32 {
-        let bytes = bytes_at(s, at);
-        if big_endian {
-            u32::from_be_bytes(bytes)
-        } else {
-            u32::from_le_bytes(bytes)
-        }
-    }
-
-    fn put(self, big_endian: bool, d: &mut [u8], at: usize) {
-        if big_endian {
-            put_bytes(d, at, &u32::to_be_bytes(self));
-        } else {
-            put_bytes(d, at, &u32::to_le_bytes(self));
-        }
-    }
-}
-
-impl Number for u64 {
-    ghost width = { 8 };
-
-    ghost value = { λ n. n };
-
-    fn read(big_endian: bool, s: &[u8], at: usize) -> u64 {
-        let bytes = bytes_at(s, at);
-        if big_endian {
-            u64::from_be_bytes(bytes)
-        } else {
-            u64::from_le_bytes(bytes)
-        }
-    }
-
-    fn put(self, big_endian: bool, d: &mut [u8], at: usize) {
-        if big_endian {
-            put_bytes(d, at, &u64::to_be_bytes(self));
-        } else {
-            put_bytes(d, at, &u64::to_le_bytes(self));
-        }
-    }
-}
-
 // ---- numbers read
 // One byte more, behind those that n states.
 fn shifted(n: u64, b: u8) -> u64
@@ -173,14 +84,45 @@ fn shifted(n: u64, b: u8) -> u64
     n * 256 + b as u64
 }
 
+// What four bytes state, greatest first. As a sum of four terms the compiler knows it for one load.
+fn four(a: u8, b: u8, c: u8, d: u8) -> u64
+    ensures { result ≡ big_from 0 (a ∷ b ∷ c ∷ d ∷ []) }
+{
+    FOURTH * a as u64 + THIRD * b as u64 + SECOND * c as u64 + d as u64
+}
+
+// The number in the four bytes at a place.
+fn four_at(big_endian: bool, s: &[u8], at: usize) -> u64
+    requires { at + 4 ≤ length s.now }
+    ensures { result ≡ number_at big_endian 4 s.now at }
+{
+    if big_endian {
+        return four(s[at], s[at + 1], s[at + 2], s[at + 3]);
+    }
+    four(s[at + 3], s[at + 2], s[at + 1], s[at])
+}
+
+// The number in the eight bytes at a place. The byte order is tested first, so that this is one load too.
+fn eight_at(big_endian: bool, s: &[u8], at: usize) -> u64
+    requires { at + 8 ≤ length s.now }
+    ensures { result ≡ number_at big_endian 8 s.now at }
+{
+    if big_endian {
+        return WORD * four_at(true, s, at) + four_at(true, s, at + 4);
+    }
+    four_at(false, s, at) + WORD * four_at(false, s, at + 4)
+}
+
 // The number that a part states, greatest byte first.
 fn big(s: &[u8]) -> u64
     requires { length s.now ≤ 8 }
     ensures { result ≡ big_from 0 s.now }
 {
-    let mut n = 0;
-    for b in s {
-        n = shifted(n, *b);
+    let mut n: u64 = 0;
+    let mut i = 0;
+    while i < s.len() {
+        n = shifted(n, s[i]);
+        i += 1;
     }
     n
 }
@@ -190,9 +132,11 @@ fn little(s: &[u8]) -> u64
     requires { length s.now ≤ 8 }
     ensures { result ≡ little s.now }
 {
-    let mut n = 0;
-    for b in s.iter().rev() {
-        n = shifted(n, *b);
+    let mut n: u64 = 0;
+    let mut i = s.len();
+    while 0 < i {
+        i -= 1;
+        n = shifted(n, s[i]);
     }
     n
 }
@@ -202,11 +146,17 @@ pub fn number_at(big_endian: bool, w: usize, s: &[u8], at: usize) -> u64
     requires { (w ≤ 8) × (at + w ≤ length s.now) }
     ensures { result ≡ number_at big_endian w s.now at }
 {
-    match w {
-        4 => u64::from(u32::read(big_endian, s, at)),
-        8 => u64::read(big_endian, s, at),
-        _ if big_endian => big(&s[at..at + w]),
-        _ => little(&s[at..at + w]),
+    if w == 4 {
+        return four_at(big_endian, s, at);
+    }
+    if w == 8 {
+        return eight_at(big_endian, s, at);
+    }
+    let e = at + w;
+    if big_endian {
+        big(&s[at..e])
+    } else {
+        little(&s[at..e])
     }
 }
 
@@ -214,21 +164,21 @@ pub fn u16_at(big_endian: bool, s: &[u8], at: usize) -> u16
     requires { at + 2 ≤ length s.now }
     ensures { result ≡ number_at big_endian 2 s.now at }
 {
-    u16::read(big_endian, s, at)
+    number_at(big_endian, 2, s, at) as u16
 }
 
 pub fn u32_at(big_endian: bool, s: &[u8], at: usize) -> u32
     requires { at + 4 ≤ length s.now }
     ensures { result ≡ number_at big_endian 4 s.now at }
 {
-    u32::read(big_endian, s, at)
+    number_at(big_endian, 4, s, at) as u32
 }
 
 pub fn u64_at(big_endian: bool, s: &[u8], at: usize) -> u64
     requires { at + 8 ≤ length s.now }
     ensures { result ≡ number_at big_endian 8 s.now at }
 {
-    u64::read(big_endian, s, at)
+    number_at(big_endian, 8, s, at)
 }
 
 // A word of a bundle, which is little-endian whatever the bundle's byte order.
@@ -240,22 +190,19 @@ pub fn word_at(s: &[u8], at: usize) -> u32
 }
 
 // ---- numbers stored
-// The lowest byte of n.
-fn low(n: u64) -> u8
-    ensures { result ≡ n % 256 }
-{
-    (n % 256) as u8
-}
-
 // Stores the low w bytes of n, least byte first.
 fn put_little(w: usize, n: u64, d: &mut [u8], at: usize)
     requires { at + w ≤ length d.old }
     ensures { d.new ≡ placed d.old at (little_of w n) }
 {
     let mut m = n;
-    for i in at..at + w {
-        d[i] = low(m);
-        m /= 256;
+    let mut i = at;
+    let mut left = w;
+    while 0 < left {
+        d[i] = (m % 256) as u8;
+        m = m / 256;
+        i += 1;
+        left -= 1;
     }
 }
 
@@ -265,10 +212,60 @@ fn put_big(w: usize, n: u64, d: &mut [u8], at: usize)
     ensures { d.new ≡ placed d.old at (big_of w n) }
 {
     let mut m = n;
-    for i in (at..at + w).rev() {
-        d[i] = low(m);
-        m /= 256;
+    let mut left = w;
+    while 0 < left {
+        left -= 1;
+        let i = at + left;
+        d[i] = (m % 256) as u8;
+        m = m / 256;
     }
+}
+
+// The lowest byte of n.
+fn low(n: u64) -> u8
+    ensures { result ≡ n % 256 }
+{
+    (n % 256) as u8
+}
+
+// Four bytes, one behind the other. No loop: the compiler makes one store of them.
+fn put_row(a: u8, b: u8, c: u8, e: u8, d: &mut [u8], at: usize)
+    requires { at + 4 ≤ length d.old }
+    ensures { d.new ≡ placed d.old at (a ∷ b ∷ c ∷ e ∷ []) }
+{
+    d[at] = a;
+    d[at + 1] = b;
+    d[at + 2] = c;
+    d[at + 3] = e;
+}
+
+// Stores the low four bytes of n.
+fn put_four(big_endian: bool, n: u64, d: &mut [u8], at: usize)
+    requires { at + 4 ≤ length d.old }
+    ensures { d.new ≡ placed d.old at (bytes_of big_endian 4 n) }
+{
+    let second = n / 256;
+    let third = second / 256;
+    let fourth = third / 256;
+    if big_endian {
+        put_row(low(fourth), low(third), low(second), low(n), d, at);
+        return;
+    }
+    put_row(low(n), low(second), low(third), low(fourth), d, at);
+}
+
+// Stores eight bytes, as two stores of four that are one behind the other.
+fn put_eight(big_endian: bool, n: u64, d: &mut [u8], at: usize)
+    requires { at + 8 ≤ length d.old }
+    ensures { d.new ≡ placed d.old at (bytes_of big_endian 8 n) }
+{
+    if big_endian {
+        put_four(true, n / WORD, d, at);
+        put_four(true, n, d, at + 4);
+        return;
+    }
+    put_four(false, n, d, at);
+    put_four(false, n / WORD, d, at + 4);
 }
 
 // Stores the low w bytes of n in a byte order. Callers have tested that there is room. Most numbers take 4 or 8.
@@ -276,11 +273,18 @@ pub fn put_number(big_endian: bool, w: usize, n: u64, d: &mut [u8], at: usize)
     requires { at + w ≤ length d.old }
     ensures { d.new ≡ placed d.old at (bytes_of big_endian w n) }
 {
-    match w {
-        4 => ((n % WORD) as u32).put(big_endian, d, at),
-        8 => n.put(big_endian, d, at),
-        _ if big_endian => put_big(w, n, d, at),
-        _ => put_little(w, n, d, at),
+    if w == 4 {
+        put_four(big_endian, n, d, at);
+        return;
+    }
+    if w == 8 {
+        put_eight(big_endian, n, d, at);
+        return;
+    }
+    if big_endian {
+        put_big(w, n, d, at);
+    } else {
+        put_little(w, n, d, at);
     }
 }
 
@@ -288,21 +292,21 @@ pub fn put_u16(big_endian: bool, n: u16, d: &mut [u8], at: usize)
     requires { at + 2 ≤ length d.old }
     ensures { d.new ≡ placed d.old at (bytes_of big_endian 2 n) }
 {
-    n.put(big_endian, d, at);
+    put_number(big_endian, 2, n as u64, d, at);
 }
 
 pub fn put_u32(big_endian: bool, n: u32, d: &mut [u8], at: usize)
     requires { at + 4 ≤ length d.old }
     ensures { d.new ≡ placed d.old at (bytes_of big_endian 4 n) }
 {
-    n.put(big_endian, d, at);
+    put_number(big_endian, 4, n as u64, d, at);
 }
 
 pub fn put_u64(big_endian: bool, n: u64, d: &mut [u8], at: usize)
     requires { at + 8 ≤ length d.old }
     ensures { d.new ≡ placed d.old at (bytes_of big_endian 8 n) }
 {
-    n.put(big_endian, d, at);
+    put_number(big_endian, 8, n, d, at);
 }
 
 // Stores a word of a bundle, which is little-endian whatever the bundle's byte order.
@@ -318,9 +322,11 @@ pub fn put_numbers(big_endian: bool, w: usize, words: &[u32], d: &mut [u8], at: 
     requires { (w ≤ 8) × (at + w * length words.now ≤ length d.old) }
     ensures { d.new ≡ placed d.old at (numbers_of big_endian w words.now) }
 {
+    let mut i = 0;
     let mut o = at;
-    for word in words {
-        put_number(big_endian, w, u64::from(*word), d, o);
+    while i < words.len() {
+        put_number(big_endian, w, wide64(words[i]), d, o);
+        i += 1;
         o += w;
     }
 }
@@ -341,33 +347,75 @@ pub fn put_bytes(d: &mut [u8], at: usize, s: &[u8])
     d[at..at + s.len()].copy_from_slice(s);
 }
 
-#[tactic(auto, unfolding(crate::specs::Octets::zeros))]
 pub fn clear_bytes(s: &mut [u8])
     ensures { s.new ≡ zeros (length s.old) }
 {
-    s.fill(0);
+    let mut i = 0;
+    while i < s.len() {
+        s[i] = 0;
+        i += 1;
+    }
 }
 
-#[tactic(auto, unfolding(crate::specs::Octets::zeros))]
 pub fn clear_words(s: &mut [u32])
     ensures { s.new ≡ zeros (length s.old) }
 {
-    s.fill(0);
+    let mut i = 0;
+    while i < s.len() {
+        s[i] = 0;
+        i += 1;
+    }
 }
 
 // ---- bytes compared
-// Whether two parts hold the same bytes.
+// Whether two parts hold the same bytes, eight at a time. The last eight may overlap those before them.
 pub fn same_bytes(a: &[u8], b: &[u8]) -> bool
     ensures { result ≡ same a.now b.now }
 {
-    a == b
+    if a.len() != b.len() {
+        return false;
+    }
+    if a.len() < EIGHT {
+        return same_short(a, b);
+    }
+    let last = a.len() - EIGHT;
+    let mut i = 0;
+    while i < last {
+        if eight_at(false, a, i) != eight_at(false, b, i) {
+            return false;
+        }
+        i += EIGHT;
+    }
+    eight_at(false, a, last) == eight_at(false, b, last)
+}
+
+// The same of at most eight bytes: the first four and the last four, or one by one.
+fn same_short(a: &[u8], b: &[u8]) -> bool
+    requires { (length a.now ≤ 8) × (length a.now ≡ length b.now) }
+    ensures { result ≡ same a.now b.now }
+{
+    if a.len() < FOUR {
+        return a == b;
+    }
+    let last = a.len() - FOUR;
+    if four_at(false, a, 0) != four_at(false, b, 0) {
+        return false;
+    }
+    four_at(false, a, last) == four_at(false, b, last)
 }
 
 // Whether a part holds zeros only.
 pub fn all_zero(s: &[u8]) -> bool
     ensures { result ≡ all (eqb 0) s.now }
 {
-    s.iter().all(|b| *b == 0)
+    let mut i = 0;
+    while i < s.len() {
+        if s[i] != 0 {
+            return false;
+        }
+        i += 1;
+    }
+    true
 }
 
 // Marks the bytes of x that are zero. The low seven bits of a byte and 127 make 128 or more, and no carry, where one of the seven is set: so a byte that is
@@ -386,9 +434,9 @@ pub fn first_zero(s: &[u8], from: usize) -> usize
 {
     let mut at = from;
     while EIGHT <= s.len() - at {
-        let marks = zero_marks(u64::read(false, s, at));
+        let marks = zero_marks(eight_at(false, s, at));
         if marks != 0 {
-            return at + (marks.trailing_zeros() / BITS) as usize;
+            return at + (u64::trailing_zeros(marks) / BITS) as usize;
         }
         at += EIGHT;
     }
@@ -399,12 +447,14 @@ fn first_zero_singly(s: &[u8], from: usize) -> usize
     requires { from ≤ length s.now }
     ensures { FirstZero s.now from result }
 {
-    for (i, b) in s[from..].iter().enumerate() {
-        if *b == 0 {
-            return from + i;
+    let mut at = from;
+    while at < s.len() {
+        if s[at] == 0 {
+            return at;
         }
+        at += 1;
     }
-    s.len()
+    at
 }
 
 // ---- words of a work area
@@ -412,7 +462,7 @@ pub fn word(words: &[u32], i: usize) -> usize
     requires { i < length words.now }
     ensures { result ≡ get_or words.now i 0 }
 {
-    words[i] as usize
+    wide(words[i])
 }
 
 pub fn set_word(words: &mut [u32], i: usize, n: usize)

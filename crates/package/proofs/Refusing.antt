@@ -15,7 +15,7 @@ use Rattle.octets.specs.Checked.{Check, pass, refuse}
 use Rattle.octets.proofs.Checks.{require_refuse, bind_refuse, pass_refuse, known}
 use Rattle.bundle.specs.Bundle.{bundle_of, length_good}
 use Rattle.bundle.specs.Written.{Section}
-use Rattle.bundle.proofs.WordsAnswered.{bundle_only}
+use Rattle.bundle.specs.Answered.{bundle_only}
 use Rattle.package.specs.Filing.{filing_of, first_word}
 use Rattle.package.specs.Pack.{package_sections, judged, refused, answered, packed}
 use Rattle.package.proofs.OverObjects.{filing_numbered}

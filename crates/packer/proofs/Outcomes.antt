@@ -10,10 +10,13 @@ use lib.ListN.{length}
 use borrow.Author.Tests.{le-leb, lt-leb, leb-true, eqb-true}
 use Rattle.numbers.specs.Limits.{work_for_word}
 use Rattle.octets.specs.Octets.{zeros}
-use Rattle.octets.specs.Checked.{Check, pass, refuse, mapped}
+use Rattle.octets.specs.Checked.{Check, pass, refuse}
 use Rattle.octets.proofs.Checks.{fails, passes, then_pass, then_refuse, and_left, and_right}
+use Rattle.octets.proofs.Refusals.{only_refuses}
 use Rattle.bundle.specs.Bundle.{Bundle, bundle_of, length_good}
-use Rattle.bundle.proofs.WordsAnswered.{words_broken}
+use Rattle.bundle.specs.Next.{words_of}
+use Rattle.bundle.specs.Answered.{bundle_only}
+use Rattle.bundle.specs.declared.Words.TheVariants.{Readable, Broken as Unreadable}
 use Rattle.package.specs.Filing.{Filing, filing_of}
 use Rattle.package.specs.Pack.{Answer, judged, packed, answered}
 use Rattle.package.proofs.OverObjects.{filing_numbered}
@@ -42,6 +45,19 @@ module _ (limit : ℕ) (b : List ℕ) (e : length_good limit b ≡ true) where
   pub length_whole : length b % 4 ≡ 0
   unfolding length_good
   length_whole = eqb-true (length b % 4) 0 (and_right (leb 8 (length b) && leb (length b) limit) _ e)
+
+-- ---- the words
+pub words_broken : (b : List ℕ) → Unreadable ≡ words_of (bundle_of b) → bundle_of b ≡ refuse 3
+unfolding words_of
+words_broken b e = only_refuses 3 (bundle_of b) (bundle_only b) (λ k f. let g : Unreadable ≡ words_of (pass k) = e ∙ ap words_of f in let z : ◌≡◌ {A = ℕ} 0 1 = cc in omega arith)
+
+pub words_readable : (b : List ℕ) (big : Bool) → Readable big ≡ words_of (bundle_of b) → (k : Bundle) × (bundle_of b ≡ pass k) × (k.big ≡ big)
+unfolding words_of
+words_readable b big e = go (bundle_of b) refl e
+  where
+    go : (m : Check Bundle) → bundle_of b ≡ m → Readable big ≡ words_of m → (k : Bundle) × (bundle_of b ≡ pass k) × (k.big ≡ big)
+    go (pass u) f g = (u, f, cc)
+    go (refuse n) f g = absurd (let z : ◌≡◌ {A = ℕ} 0 1 = cc in omega arith)
 
 -- ---- all objects, with the number that code tests
 module _ (big : Bool) (b v : List ℕ) (k : Bundle) (r : ObjectsFiled) (e : ObjectsAre big b v (filing_of b k) r) where
@@ -87,9 +103,9 @@ module _ (b : List ℕ) (w o : ℕ) (d : List ℕ) where
         judges : judged b w ≡ package_in b
         judges = judged_is b w good (le-leb _ _ enough)
 
-        pub answers_words : (n : ℕ) → refuse n ≡ mapped (λ (u : Bundle). u.big) (bundle_of b) → Answers (none 3)
+        pub answers_words : Unreadable ≡ words_of (bundle_of b) → Answers (none 3)
         unfolding package_in
-        answers_words n e = refused 3 (judges ∙ then_refuse (bundle_of b) _ 3 (words_broken b n e))
+        answers_words e = refused 3 (judges ∙ then_refuse (bundle_of b) _ 3 (words_broken b e))
 
         pub answers_filing : (k : Bundle) (n : ℕ) → bundle_of b ≡ pass k → filing_of b k ≡ refuse n → Answers (none n)
         unfolding package_in

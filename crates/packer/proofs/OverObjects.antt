@@ -15,14 +15,13 @@ use Rattle.bundle.specs.Bundle.{Part, Item, Object, Bundle, step_at, leading, ob
 use Rattle.bundle.specs.Next.{next_of}
 use Rattle.bundle.specs.Scan.{place_behind}
 use Rattle.bundle.specs.Encoding.{encoding_of}
-use denote.Enum.Declared.{tag_of}
-use Rattle.bundle.specs.contracts.Item.{the_type}
 use Rattle.bundle.specs.declared.Item.{Item as Answered}
 use Rattle.bundle.specs.declared.Item.TheVariants.{Object as AnObject}
 use Rattle.bundle.proofs.ScanFacts.{left_sections}
 use Rattle.bundle.proofs.Passed.{here}
 use Rattle.bundle.proofs.Next.{object_here}
-use Rattle.bundle.proofs.Objects.{Objects, Entered, objects_none, objects_object, objects_other, objects_refused}
+use Rattle.bundle.proofs.Objects.{Objects, Entered, objects_none, objects_object}
+use Rattle.finish.proofs.Entering.{objects_over}
 use Rattle.index.specs.Rows.{BySection}
 use Rattle.package.specs.Input.{Input, input_of}
 use Rattle.package.specs.Filing.{Filed, units_in, grown, filing_from, first_word, filing_of}
@@ -40,17 +39,11 @@ use Rattle.packer.proofs.Start.{at_start}
 
 -- ---- the first word
 module _ (b : List ℕ) (k : Bundle) (e : bundle_of b ≡ pass k) where
-  pub first_none : [] ≡ k.objects → 0 ≡ first_word k.objects
+  pub first_none : (r : Answered) → ((word next : ℕ) → r ≡ AnObject word next → ⊥) → r ≡ next_of 4 (step_at 4 (drop 4 b)) → 0 ≡ first_word k.objects
   unfolding first_word
-  first_none h = ap first_word h
+  first_none r f h = ap first_word (objects_over b 4 [] k.objects (objects_none b k e) r f h)
 
-  pub first_other : (x : Answered) → (tag_of the_type x ≡ 0 → ⊥) → pass x ≡ next_of 4 (step_at 4 (drop 4 b)) → 0 ≡ first_word k.objects
-  first_other x f h = first_none (objects_other b 4 [] k.objects (objects_none b k e) x f h)
-
-  pub first_refused : (n : ℕ) → refuse n ≡ next_of 4 (step_at 4 (drop 4 b)) → 0 ≡ first_word k.objects
-  first_refused n h = first_none (objects_refused b 4 [] k.objects (objects_none b k e) n h)
-
-  pub first_some : (word next : ℕ) → pass (AnObject word next) ≡ next_of 4 (step_at 4 (drop 4 b)) → word ≡ first_word k.objects
+  pub first_some : (word next : ℕ) → AnObject word next ≡ next_of 4 (step_at 4 (drop 4 b)) → word ≡ first_word k.objects
   unfolding first_word
   first_some word next h = ap first_word (objects_object b 4 [] k.objects (objects_none b k e) word next h).more.is
 
@@ -117,9 +110,11 @@ module _ {b : List ℕ} {big : Bool} {first at : ℕ} {w₀ w : List ℕ} {st : 
       rw (z, s.order, s.word)
 
   -- at the end
-  far_end : s.done ≡ s.bundle.objects → (k : Bundle) → bundle_of b ≡ pass k → ObjectsAre big b w (filing_of b k) (record { code = 0; st = st })
+  pub far_end : (r : Answered) → ((word next : ℕ) → r ≡ AnObject word next → ⊥) → r ≡ next_of at (step_at at (drop at b))
+      → (k : Bundle) → bundle_of b ≡ pass k → ObjectsAre big b w (filing_of b k) (record { code = 0; st = st })
   unfolding ObjectsAre encoding_of
-  far_end over k e =
+  far_end r f h k e =
+      let over = objects_over b at s.done s.bundle.objects s.passed r f h in
       let whole = ahead_end b big first s.inputs s.units s.bases s.bundle.objects (s.ahead [] (append-nil s.done ∙ over)) in
       let v : eqb (first % 256) 5 ≡ eqb (first_word s.bundle.objects % 256) 5 = ap (λ (n : ℕ). eqb (n % 256) 5) s.word in
       rw (filing_is k e ∙ whole) (
@@ -137,16 +132,8 @@ module _ {b : List ℕ} {big : Bool} {first at : ℕ} {w₀ w : List ℕ} {st : 
         },
       )
 
-  pub far_other : (x : Answered) → (tag_of the_type x ≡ 0 → ⊥) → pass x ≡ next_of at (step_at at (drop at b))
-      → (k : Bundle) → bundle_of b ≡ pass k → ObjectsAre big b w (filing_of b k) (record { code = 0; st = st })
-  far_other x f h = far_end (objects_other b at s.done s.bundle.objects s.passed x f h)
-
-  pub far_refusal : (n : ℕ) → refuse n ≡ next_of at (step_at at (drop at b))
-      → (k : Bundle) → bundle_of b ≡ pass k → ObjectsAre big b w (filing_of b k) (record { code = 0; st = st })
-  far_refusal n h = far_end (objects_refused b at s.done s.bundle.objects s.passed n h)
-
   -- one object more
-  module _ (word next : ℕ) (e : pass (AnObject word next) ≡ next_of at (step_at at (drop at b))) where
+  module _ (word next : ℕ) (e : AnObject word next ≡ next_of at (step_at at (drop at b))) where
     entered : Entered b next word s.done s.bundle.objects
     entered = objects_object b at s.done s.bundle.objects s.passed word next e
 

@@ -13,6 +13,7 @@ ghost use Rattle.finish.specs.Finish.{finished_of, output_of};
 ghost use Rattle.packer.specs.Small.{packed_small};
 ghost use Rattle.packer.specs.Counted.{packing_for, packing_of};
 
+use bundle::Words;
 use finish::whole::Finished;
 use kept::state::Skipped;
 use numbers::limits::{BUNDLE_LIMIT, SMALL_BUNDLE, SMALL_WORK, WORK_FOR_WORD};
@@ -68,7 +69,7 @@ fn pack_cleared(b: &[u8], work: &mut [u32], out: &mut [u8]) -> Packing
             namesakes: 0,
         };
     }
-    let Ok(big) = bundle::check_words(b) else {
+    let Words::Readable(big) = bundle::check_words(b) else {
         return Packing {
             finished: Finished::Refused(BAD_WORDS),
             repeats: 0,

@@ -163,7 +163,7 @@ fn nothing_filed() -> InProgress
 fn first_word(b: &[u8]) -> u32
     ensures { (k : Bundle) → bundle_of b.now ≡ pass k → result ≡ first_word k.objects }
 {
-    let Ok(Item::Object { word, .. }) = bundle::next_item(b, 4) else {
+    let Item::Object(word, _) = bundle::next_item(b, 4) else {
         return 0;
     };
     word
@@ -178,7 +178,7 @@ pub fn add_input_objects(b: &[u8], big: bool, work: &mut [u32]) -> ObjectsFiled
     let mut st = nothing_filed();
     let mut at = 4;
     loop {
-        let Ok(Item::Object { word, next: from }) = bundle::next_item(b, at) else {
+        let Item::Object(word, from) = bundle::next_item(b, at) else {
             return ObjectsFiled { code: 0, st };
         };
         let head = ObjectHead {

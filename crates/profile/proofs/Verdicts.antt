@@ -2,7 +2,6 @@
 -- Assumes nothing.
 use mathlib.Core.Path.{◌≡◌, refl, ap, ◌∙◌}
 use mathlib.Core.Bool.{Bool, true, false, not, ◌&&◌, ◌||◌}
-use mir.Val.{bool_byte}
 use mathlib.Core.List.{List}
 use mathlib.Core.Logic.{⊎_elim}
 use mathlib.Core.Option.{Option, some, none}
@@ -11,7 +10,7 @@ use native.Mathlib.Omega.{arith}
 use lib.Dec.{eqb, ltb}
 use lib.ListN.{length}
 use borrow.Author.Tests.{lt-ltb, eqb-true}
-use Rattle.octets.specs.Checked.{pass, refuse}
+use Rattle.octets.specs.Checked.{pass}
 use Rattle.octets.proofs.Checks.{and_left, and_right}
 use Rattle.bundle.specs.Encoding.{Encoding, encoding_good}
 use Rattle.bundle.specs.Scan.{scan_of, by_code, numbered}
@@ -20,12 +19,10 @@ use Rattle.index.specs.Held.{head_of}
 use Rattle.lookup.specs.Lookup.{Package, package_of}
 use Rattle.lookup.specs.Answers.{coded, indexed, head_in, opened, package_in}
 use Rattle.lookup.specs.declared.opening.PackageHead.{PackageHead}
-use Rattle.lookup.proofs.Told.{of_refuse}
-use Rattle.lookup.proofs.Packages.{package_refused}
-use Rattle.lookup.proofs.Searches.{opened_good}
+use Rattle.lookup.proofs.Searches.{opened_not, opened_good}
 use Rattle.lookup.proofs.Asked.{has_indexed}
 use Rattle.profile.specs.Profile.{is_there, has_row, conditions, profiled, failed_bits, failed}
-use Rattle.profile.specs.Judged.{present_in, row_in, conditions_in, judged}
+use Rattle.profile.specs.Judged.{present_in, row_in, conditions_in, verdict_by, judged}
 use Rattle.profile.proofs.Bits.{failed_none}
 use Rattle.profile.proofs.Objects.{Without, With, package_object}
 
@@ -53,35 +50,29 @@ narrow p k e = ⊎_elim
     (package_object p k e)
 
 present_is : (o : Option Index) → present_in (indexed o) ≡ is_there o
-unfolding indexed is_there
+unfolding present_in indexed is_there
 present_is (some i) = refl
 present_is none = refl
 
 row_is : (o : Option Index) → row_in (indexed o) ≡ has_row o
-unfolding indexed has_row head_of
+unfolding row_in indexed has_row head_of
 row_is (some i) = refl
 row_is none = refl
 
 conditions_are : (p : List ℕ) (k : Package) → package_of p ≡ pass k → conditions_in (ltb 8 (length p)) (head_in k) ≡ conditions k
-unfolding conditions head_in coded scan_of by_code numbered
+unfolding conditions_in conditions head_in coded scan_of by_code numbered
 conditions_are p k e = rw (narrow p k e, present_is k.cu_index, has_indexed 5 k.cu_index, row_is k.cu_index)
 
 -- ---- the verdict
-code_is : (t : Bool) → bool_byte (not t) ≡ elim t [ true ↦ 0 | false ↦ 1 ]
-code_is true = refl
-code_is false = refl
-
-module _ (p : List ℕ) where
-  pub judged_bad : (n : ℕ) → refuse n ≡ opened (package_of p) → record { code = n; failed = 0 } ≡ judged p
-  unfolding judged profiled failed opened
-  judged_bad n e =
-      let f = of_refuse head_in (package_of p) n e in
-      rw (judged, profiled, failed, f, package_refused p n f)
-
-  pub judged_good : (h : PackageHead) → pass h ≡ opened (package_of p) → (object : Bool) → object ≡ ltb 8 (length p) → (bits code : ℕ) → bits ≡ failed_bits (conditions_in object h) → code ≡ bool_byte (not (eqb bits 0))
-      → record { code = code; failed = bits } ≡ judged p
+module _ (p : List ℕ) (h : PackageHead) (e : h ≡ opened (package_of p)) where
+  pub judged_bad : h.good ≡ false → record { code = 21; failed = 0 } ≡ judged p
   unfolding judged profiled failed
-  judged_good h e object same bits code sums c =
-      let o = opened_good p h e in
-      let is : bits ≡ failed_bits (conditions (package_in p)) = sums ∙ rw (same, o.head) (ap failed_bits (conditions_are p (package_in p) o.is)) in
-      rw (c, is, code_is, judged, profiled, failed, o.is, failed_none (conditions (package_in p)))
+  judged_bad f = rw (judged, profiled, failed, opened_not p h e f)
+
+  module _ (f : h.good ≡ true) (object : Bool) (same : object ≡ ltb 8 (length p)) (bits : ℕ) (sums : bits ≡ failed_bits (conditions_in object h)) where
+    pub judged_good : verdict_by bits ≡ judged p
+    unfolding judged profiled failed verdict_by
+    judged_good =
+        let o = opened_good p h e f in
+        let is : bits ≡ failed_bits (conditions (package_in p)) = sums ∙ rw (same, o.head) (ap failed_bits (conditions_are p (package_in p) o.is)) in
+        rw (verdict_by, is, judged, profiled, failed, o.is, failed_none (conditions (package_in p)))

@@ -1,24 +1,27 @@
 -- The conditions by what the code holds of a package, and the verdict as callers are told it. Nothing here need be believed but `judged`, the last definition.
 -- Assumes nothing.
-use Rattle.std.specs.Prelude.{Bool, true, false, not, ◌&&◌, List, [], ◌∷◌, ℕ, eqb, get_or, Option, Some, None}
+use Rattle.std.specs.Prelude.{Bool, true, false, not, ◌&&◌, List, [], ◌∷◌, ℕ, eqb, get_or}
 use Rattle.numbers.specs.Sections.{macro_code}
 use Rattle.numbers.specs.Tables.{index5}
-use Rattle.index.specs.declared.reading.IndexHead.{IndexHead}
 use Rattle.lookup.specs.Answers.{index_has}
 use Rattle.lookup.specs.declared.opening.PackageHead.{PackageHead}
+use Rattle.lookup.specs.declared.opening.PackageIndex.{PackageIndex}
+use Rattle.lookup.specs.declared.opening.PackageIndex.TheVariants.{Present, Missing, IllFormed}
 use Rattle.profile.specs.Profile.{profiled, failed}
 use Rattle.profile.specs.declared.Verdict.{Verdict}
 
-abbrev pub present_in : Option IndexHead → Bool
-present_in (Some h) = true
-present_in None = false
+unfoldable pub present_in : PackageIndex → Bool
+present_in (Present h) = true
+present_in Missing = false
+present_in IllFormed = false
 
-abbrev pub row_in : Option IndexHead → Bool
-row_in (Some h) = not (eqb h.units 0)
-row_in None = true
+unfoldable pub row_in : PackageIndex → Bool
+row_in (Present h) = not (eqb h.units 0)
+row_in Missing = true
+row_in IllFormed = true
 
 -- of a package with an object or without one
-abbrev pub conditions_in : Bool → PackageHead → List Bool
+unfoldable pub conditions_in : Bool → PackageHead → List Bool
 conditions_in object h =
     h.encoding.five
     ∷ not h.encoding.big
@@ -29,6 +32,10 @@ conditions_in object h =
     ∷ index_has index5 h.cu
     ∷ row_in h.cu
     ∷ []
+
+-- by the bits
+unfoldable pub verdict_by : ℕ → Verdict
+verdict_by bits = record { code = elim (eqb bits 0) [ true ↦ 0 | false ↦ 1 ]; failed = bits }
 
 -- 0, 1 or 21, and beside it the conditions that fail
 unfoldable pub judged : List ℕ → Verdict

@@ -21,7 +21,7 @@ use index::reading::IndexHead;
 
 // An index beside its bytes: the letter of its table, and its byte order.
 #[derive(Clone, Copy)]
-pub struct IndexTable {
+pub struct Table {
     pub letter: u8,
     pub big: bool,
     pub head: IndexHead,
@@ -110,7 +110,7 @@ fn sections_of(big: bool, s: &[u8], head: IndexHead) -> [usize; COLUMNS]
 }
 
 // The line of a row's column k, whose cell has number n.
-fn line_of(t: IndexTable, s: &[u8], sections: &[usize], identity: u64, k: usize, n: usize) -> Line
+fn line_of(t: Table, s: &[u8], sections: &[usize], identity: u64, k: usize, n: usize) -> Line
     requires index { IndexHere t.big s.now t.head }
     requires sections { Sections (index_in t.big s.now t.head) sections.now t.head.columns }
     requires cell { (k < t.head.columns) × (n < t.head.units * t.head.columns) }
@@ -132,7 +132,7 @@ fn line_of(t: IndexTable, s: &[u8], sections: &[usize], identity: u64, k: usize,
 
 // Stores the lines of a row, counted from 1.
 fn put_row(
-    t: IndexTable,
+    t: Table,
     s: &[u8],
     sections: &[usize],
     row: usize,
@@ -157,7 +157,7 @@ fn put_row(
 }
 
 // Stores the lines of all rows, each where its slot is met, over zeros. From the last slot to the first.
-fn put_slots(t: IndexTable, s: &[u8], sections: &[usize], d: &mut [u8])
+fn put_slots(t: Table, s: &[u8], sections: &[usize], d: &mut [u8])
     requires index { IndexHere t.big s.now t.head }
     requires sections { Sections (index_in t.big s.now t.head) sections.now t.head.columns }
     requires page { (line_bytes * t.head.columns * t.head.units ≤ length d.old) × (d.old ≡ zeros (length d.old)) }
@@ -177,7 +177,7 @@ fn put_slots(t: IndexTable, s: &[u8], sections: &[usize], d: &mut [u8])
     }
 }
 
-pub fn put_rows(t: IndexTable, s: &[u8], d: &mut [u8])
+pub fn put_rows(t: Table, s: &[u8], d: &mut [u8])
     requires { (IndexHere t.big s.now t.head) × (line_bytes * t.head.columns * t.head.units ≤ length d.old) × (d.old ≡ zeros (length d.old)) }
     ensures { d.new ≡ laid_out t.letter (index_in t.big s.now t.head) (length d.old) }
 {

@@ -1,21 +1,21 @@
 -- `batch::are_questions` meets its contract.
 -- Assumes nothing.
-use Prim.Native.Nat.{◌+◌, ◌*◌}
-use mathlib.Core.Path.{◌≡◌, refl, sym, ◌∙◌}
+use mathlib.Core.Path.{refl, sym, ◌∙◌}
 use native.Mathlib.Omega.{arith}
-use Rattle.batch.proofs.Questions.{not_whole, at_end, at_other, at_more}
+use Rattle.batch.proofs.Questions.{at_end, at_short, at_other, at_more}
 use Rattle.batch.proofs.are_questions.Goals as goal
 
-pub returns-then-words-ne0 : goal.returns-then-words-ne0
-returns-then-words-ne0 c = not_whole _ c.if-words-ne0.true
+pub loop-i-init : goal.loop-i-init
+loop-i-init c = (omega arith, refl)
 
-pub returns-then-words-i-ne-QUESTION_KIND : goal.returns-then-words-i-ne-QUESTION_KIND
-returns-then-words-i-ne-QUESTION_KIND c = sym (at_other _ (3 * c.loop-i.i) (omega arith) _ refl c.if-words-i-ne-QUESTION_KIND.true) ∙ c.loop-i.invariant
+pub returns-then-words-i-lt3 : goal.returns-then-words-i-lt3
+returns-then-words-i-lt3 c = sym (at_short _ c.loop-i.i c.loop-i-test.true c.if-words-i-lt3.true) ∙ c.loop-i.invariant.1
+
+pub returns-then-first-ne-QUESTION_KIND : goal.returns-then-first-ne-QUESTION_KIND
+returns-then-first-ne-QUESTION_KIND c = sym (at_other _ c.loop-i.i (omega arith) _ refl c.if-first-ne-QUESTION_KIND.true) ∙ c.loop-i.invariant.1
 
 pub loop-i-preserved : goal.loop-i-preserved
-loop-i-preserved c =
-    let e : 3 * (c.loop-i.i + 1) ≡ 3 * c.loop-i.i + 3 = omega arith in
-    rw e (sym (at_more _ (3 * c.loop-i.i) (omega arith) _ refl c.if-words-i-ne-QUESTION_KIND.false) ∙ c.loop-i.invariant)
+loop-i-preserved c = (omega arith, sym (at_more _ c.loop-i.i (omega arith) _ refl c.if-first-ne-QUESTION_KIND.false) ∙ c.loop-i.invariant.1)
 
 pub returns : goal.returns
-returns c = sym (at_end _ (3 * c.loop-i.i) (omega arith)) ∙ c.loop-i.invariant
+returns c = sym (at_end _ c.loop-i.i c.loop-i-test.false) ∙ c.loop-i.invariant.1

@@ -1,12 +1,14 @@
 -- `batch::is_taken` meets its contract.
 -- Assumes nothing.
-use native.Mathlib.Omega.{arith}
-use Rattle.std.proofs.lemmas.Grind.{common_steps}
-use Rattle.batch.proofs.Answering.{taken_by}
+use mathlib.Core.Path.{sym, ◌∙◌}
+use Rattle.batch.proofs.Answering.{taken_not, taken_many, taken_if}
 use Rattle.batch.proofs.is_taken.Goals as goal
 
-pub returns-then-count-le-QUESTIONS_LIMIT : goal.returns-then-count-le-QUESTIONS_LIMIT
-returns-then-count-le-QUESTIONS_LIMIT c = grind (arith, common_steps, taken_by c.args.words.now c.args.room)
+pub returns-then-not-are_questions : goal.returns-then-not-are_questions
+returns-then-not-are_questions c = taken_not _ _ (sym c.are_questions.ensures ∙ c.if-not-are_questions.true)
 
-pub returns-else-count-le-QUESTIONS_LIMIT : goal.returns-else-count-le-QUESTIONS_LIMIT
-returns-else-count-le-QUESTIONS_LIMIT c = grind (arith, common_steps, taken_by c.args.words.now c.args.room)
+pub returns-then-count-gt-QUESTIONS_LIMIT : goal.returns-then-count-gt-QUESTIONS_LIMIT
+returns-then-count-gt-QUESTIONS_LIMIT c = taken_many _ _ (sym c.are_questions.ensures ∙ c.if-not-are_questions.false) c.if-count-gt-QUESTIONS_LIMIT.true
+
+pub returns : goal.returns
+returns c = taken_if _ _ (sym c.are_questions.ensures ∙ c.if-not-are_questions.false) c.if-count-gt-QUESTIONS_LIMIT.false

@@ -4,22 +4,21 @@ use mathlib.Core.Path.{◌∙◌}
 use native.Mathlib.Omega.{arith}
 use Rattle.bundle.proofs.Answers.{no_word, an_object, a_section, an_end, another}
 use Rattle.bundle.proofs.next_item.Goals as goal
-use Rattle.bundle.proofs.next_item.Goals.{then-b-at-via-then-b-at, then-b-at-via-else-b-at+then-b-at-lt4}
 
 pub returns-then-b-at : goal.returns-then-b-at
-returns-then-b-at c = elim c.then-b-at.branch [
-  | then-b-at-via-then-b-at w ↦ no_word c.args.b.now c.args.at (omega arith)
-  | then-b-at-via-else-b-at+then-b-at-lt4 w ↦ no_word _ _ w.if-b-at-lt4.true
-]
+returns-then-b-at c = no_word c.args.b.now c.args.at (omega arith)
 
-pub returns-in-1 : goal.returns-in-1
-returns-in-1 c = c.object_item.ensures ∙ an_object _ _ _ c.word_at-word.ensures c.if-b-at-lt4.false c.in-1.is
+pub returns-then-b-at-lt4 : goal.returns-then-b-at-lt4
+returns-then-b-at-lt4 c = no_word _ _ c.if-b-at-lt4.true
 
-pub returns-in-2 : goal.returns-in-2
-returns-in-2 c = c.section_item.ensures ∙ a_section _ _ _ c.word_at-word.ensures c.if-b-at-lt4.false c.in-2.is
+pub returns-then-kind-eq1 : goal.returns-then-kind-eq1
+returns-then-kind-eq1 c = c.object_item.ensures ∙ an_object _ _ _ c.word_at-word.ensures c.if-b-at-lt4.false c.if-kind-eq1.true
 
-pub returns-in-3 : goal.returns-in-3
-returns-in-3 c = c.end_item.ensures ∙ an_end _ _ _ c.word_at-word.ensures c.if-b-at-lt4.false c.in-3.is
+pub returns-then-kind-eq2 : goal.returns-then-kind-eq2
+returns-then-kind-eq2 c = c.section_item.ensures ∙ a_section _ _ _ c.word_at-word.ensures c.if-b-at-lt4.false _ c.wide.ensures c.if-kind-eq2.true
 
-pub returns-in_default : goal.returns-in_default
-returns-in_default c = another _ _ _ c.word_at-word.ensures c.if-b-at-lt4.false (λ z. omega arith) (λ z. omega arith) (λ z. omega arith)
+pub returns-then-kind-eq3 : goal.returns-then-kind-eq3
+returns-then-kind-eq3 c = c.end_item.ensures ∙ an_end _ _ _ c.word_at-word.ensures c.if-b-at-lt4.false _ c.wide-then-kind-eq3.ensures c.if-kind-eq3.true
+
+pub returns : goal.returns
+returns c = another _ _ _ c.word_at-word.ensures c.if-b-at-lt4.false c.if-kind-eq1.false c.if-kind-eq2.false c.if-kind-eq3.false

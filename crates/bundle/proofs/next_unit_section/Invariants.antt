@@ -5,8 +5,8 @@ use lib.ListN.{length}
 use Rattle.bundle.proofs.Units.{Seeking}
 use Rattle.bundle.proofs.next_unit_section.Given as goal
 
-abbrev pub invariant-loop-section : goal.invariant-loop-section
-invariant-loop-section l = Seeking l.b l.from l.at
+abbrev pub invariant-loop-code : goal.invariant-loop-code
+invariant-loop-code l = Seeking l.b l.from l.at
 
-abbrev pub decreases-loop-section : goal.decreases-loop-section
-decreases-loop-section l = length l.b - l.at
+abbrev pub decreases-loop-code : goal.decreases-loop-code
+decreases-loop-code l = length l.b - l.at

@@ -4,11 +4,11 @@ use mathlib.Core.Path.{◌≡◌}
 use Prim.Native.Nat.{◌-◌}
 use lib.ListN.{length, drop}
 use Rattle.bundle.specs.Bundle.{items}
-use Rattle.bundle.specs.Next.{ended}
+use Rattle.bundle.specs.Next.{ends}
 use Rattle.bundle.proofs.reach_end.Given as goal
 
 abbrev pub invariant-loop-next : goal.invariant-loop-next
-invariant-loop-next l = ended (items l.at (drop l.at l.b)) ≡ ended (items l.from (drop l.from l.b))
+invariant-loop-next l = ends (items l.at (drop l.at l.b)) ≡ ends (items l.from (drop l.from l.b))
 
 abbrev pub decreases-loop-next : goal.decreases-loop-next
 decreases-loop-next l = length l.b - l.at

@@ -5,8 +5,8 @@ use lib.ListN.{length}
 use Rattle.bundle.proofs.Scanning.{Scanned}
 use Rattle.bundle.proofs.scan_object.Given as goal
 
-abbrev pub invariant-loop-section : goal.invariant-loop-section
-invariant-loop-section l = Scanned l.b l.from l.scan
+abbrev pub invariant-loop-code : goal.invariant-loop-code
+invariant-loop-code l = Scanned l.b l.from l.scan
 
-abbrev pub decreases-loop-section : goal.decreases-loop-section
-decreases-loop-section l = length l.b - l.scan.next
+abbrev pub decreases-loop-code : goal.decreases-loop-code
+decreases-loop-code l = length l.b - l.scan.next

@@ -2,8 +2,9 @@
 -- Assumes nothing.
 use Prim.Native.Nat.{◌+◌, ◌≤◌}
 use native.Mathlib.Omega.{arith}
+use lib.Count.{trailing_le}
 use lib.ListN.{length}
-use Rattle.octets.proofs.ZeroBytes.{clear_more, first_found}
+use Rattle.octets.proofs.ZeroBytes.{clear_none, clear_more, first_found, first_behind}
 use Rattle.octets.proofs.first_zero.Goals as goal
 use Rattle.octets.proofs.first_zero.Goals.{In-loop-at}
 
@@ -11,8 +12,20 @@ use Rattle.octets.proofs.first_zero.Goals.{In-loop-at}
 fits : (i : In-loop-at) → i.loop-at.at + 8 ≤ length i.args.s.now
 fits i = omega arith
 
+pub loop-at-init : goal.loop-at-init
+loop-at-init c = (omega arith, c.requires, clear_none c.args.s.now _)
+
+pub overflow_cast-result : goal.overflow_cast-result
+overflow_cast-result c = omega (arith, trailing_le 64 c.zero_marks-marks.result)
+
+pub overflow_add-result : goal.overflow_add-result
+overflow_add-result c = omega (arith, trailing_le 64 c.zero_marks-marks.result, fits (goal.at.overflow_add-result c).In-loop-at)
+
 pub returns-then-marks-ne0 : goal.returns-then-marks-ne0
-returns-then-marks-ne0 c = let l = c.loop-at in first_found _ _ _ _ (fits (goal.at.returns-then-marks-ne0 c).In-loop-at) (λ i. (c.type_inv.s i).fits) c.read.ensures c.zero_marks-marks.ensures _ l.invariant.2 l.invariant.0 c.if-marks-ne0.true
+returns-then-marks-ne0 c = let l = c.loop-at in first_found _ _ _ _ (fits (goal.at.returns-then-marks-ne0 c).In-loop-at) (λ i. (c.type_inv.s i).fits) c.eight_at.ensures c.zero_marks-marks.ensures _ l.invariant.2 l.invariant.0 c.if-marks-ne0.true
 
 pub loop-at-preserved : goal.loop-at-preserved
-loop-at-preserved c = let l = c.loop-at in (omega arith, omega arith, clear_more _ _ _ _ (fits (goal.at.loop-at-preserved c).In-loop-at) (λ i. (c.type_inv.s i).fits) c.read.ensures c.zero_marks-marks.ensures _ l.invariant.2 c.if-marks-ne0.false)
+loop-at-preserved c = let l = c.loop-at in (omega arith, omega arith, clear_more _ _ _ _ (fits (goal.at.loop-at-preserved c).In-loop-at) (λ i. (c.type_inv.s i).fits) c.eight_at.ensures c.zero_marks-marks.ensures _ l.invariant.2 c.if-marks-ne0.false)
+
+pub returns : goal.returns
+returns c = let l = c.loop-at in first_behind _ _ _ l.invariant.2 _ l.invariant.0 c.first_zero_singly.ensures

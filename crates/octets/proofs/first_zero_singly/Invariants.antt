@@ -1,8 +1,12 @@
 -- `octets::first_zero_singly` meets its contract. Invariant: no byte that was passed is zero.
 -- Assumes nothing.
-use Prim.Native.Nat.{◌+◌}
+use Prim.Native.Nat.{◌-◌, ◌≤◌}
+use lib.ListN.{length}
 use Rattle.octets.proofs.ZeroBytes.{Clear}
 use Rattle.octets.proofs.first_zero_singly.Given as goal
 
-abbrev pub invariant-loop-i : goal.invariant-loop-i
-invariant-loop-i l = Clear l.s l.from (l.from + l.i)
+abbrev pub invariant-loop-at : goal.invariant-loop-at
+invariant-loop-at l = (l.from ≤ l.at) × (l.at ≤ length l.s) × Clear l.s l.from l.at
+
+abbrev pub decreases-loop-at : goal.decreases-loop-at
+decreases-loop-at l = length l.s - l.at

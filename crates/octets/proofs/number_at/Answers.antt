@@ -6,16 +6,22 @@ use native.Mathlib.Omega.{arith}
 use Rattle.octets.specs.Octets.{number_at, number, part}
 use Rattle.octets.proofs.number_at.Goals as goal
 
-pub returns-in_default : goal.returns-in_default
+pub returns-then-w-eq4 : goal.returns-then-w-eq4
+returns-then-w-eq4 c = rw c.if-w-eq4.true c.four_at.ensures
+
+pub returns-then-w-eq8 : goal.returns-then-w-eq8
+returns-then-w-eq8 c = rw c.if-w-eq8.true c.eight_at.ensures
+
+pub returns-then-big_endian : goal.returns-then-big_endian
 unfolding number_at number part
-returns-in_default c =
+returns-then-big_endian c =
     let a = c.args in
     let h : a.at + a.w - a.at ≡ a.w = omega arith in
     rw c.if-big_endian.true (rw h at c.big.ensures)
 
-pub returns-in_default-2 : goal.returns-in_default-2
+pub returns-else-big_endian : goal.returns-else-big_endian
 unfolding number_at number part
-returns-in_default-2 c =
+returns-else-big_endian c =
     let a = c.args in
     let h : a.at + a.w - a.at ≡ a.w = omega arith in
     rw c.if-big_endian.false (rw h at c.little.ensures)

@@ -1,9 +1,13 @@
--- `octets::put_little` meets its contract. Invariant: what is still to be placed.
+-- `octets::put_little` meets its contract.
 -- Assumes nothing.
 use mathlib.Core.Path.{◌≡◌}
-use Prim.Native.Nat.{◌+◌, ◌-◌}
+use Prim.Native.Nat.{◌+◌, ◌≤◌}
+use lib.ListN.{length}
 use Rattle.octets.specs.Octets.{little_of, placed}
 use Rattle.octets.proofs.put_little.Given as goal
 
-abbrev pub invariant-loop-i : goal.invariant-loop-i
-invariant-loop-i l = placed l.d l.i (little_of (l.at + l.w - l.i) l.m) ≡ placed l.initial.d l.at (little_of l.w l.n)
+abbrev pub invariant-loop-left : goal.invariant-loop-left
+invariant-loop-left l = (l.i + l.left ≤ length l.d) × (length l.d ≡ length l.initial.d) × (placed l.d l.i (little_of l.left l.m) ≡ placed l.initial.d l.at (little_of l.w l.n))
+
+abbrev pub decreases-loop-left : goal.decreases-loop-left
+decreases-loop-left l = l.left

@@ -1,17 +1,18 @@
 -- `octets::put_number` meets its contract.
 -- Assumes nothing.
-use mathlib.Core.Path.{ap, ◌∙◌}
-use Rattle.octets.specs.Octets.{bytes_of, placed}
-use Rattle.octets.proofs.Fixed.{low_word}
+use Rattle.octets.specs.Octets.{bytes_of}
 use Rattle.octets.proofs.put_number.Goals as goal
 
-pub returns-in-4 : goal.returns-in-4
-returns-in-4 c = rw c.in-4.is (c.put.ensures ∙ ap (placed _ _) (low_word _ _))
+pub returns-then-w-eq4 : goal.returns-then-w-eq4
+returns-then-w-eq4 c = rw c.if-w-eq4.true c.put_four.ensures
 
-pub returns-in_default : goal.returns-in_default
-unfolding bytes_of
-returns-in_default c = rw c.if-big_endian.true c.put_big.ensures
+pub returns-then-w-eq8 : goal.returns-then-w-eq8
+returns-then-w-eq8 c = rw c.if-w-eq8.true c.put_eight.ensures
 
-pub returns-in_default-2 : goal.returns-in_default-2
+pub returns-then-big_endian : goal.returns-then-big_endian
 unfolding bytes_of
-returns-in_default-2 c = rw c.if-big_endian.false c.put_little.ensures
+returns-then-big_endian c = rw c.if-big_endian.true c.put_big.ensures
+
+pub returns-else-big_endian : goal.returns-else-big_endian
+unfolding bytes_of
+returns-else-big_endian c = rw c.if-big_endian.false c.put_little.ensures

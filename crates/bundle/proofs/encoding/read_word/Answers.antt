@@ -1,16 +1,25 @@
 -- `read_word` meets its contract.
 -- Assumes nothing.
-use mathlib.Core.Path.{◌≡◌}
-use mathlib.Core.Logic.{◌⊎◌, inl, inr}
-use Prim.Native.Nat.{◌%◌}
-use native.Mathlib.Omega.{arith}
-use native.Mathlib.Decide.{ℕ_discrete}
+use mathlib.Core.Path.{ap, ◌∙◌}
+use mathlib.Core.Bool.{not}
 use Rattle.bundle.specs.Encoding.{encoding_of}
-use Rattle.bundle.proofs.Encodings.{word_passes}
+use Rattle.bundle.proofs.Encodings.{bad_version, bad_width, bad_address, good_word}
 use Rattle.bundle.proofs.encoding.read_word.Goals as goal
 
-pub returns-in-4-eq4-eq4 : goal.returns-in-4-eq4-eq4
+pub returns-then-is_neither : goal.returns-then-is_neither
 unfolding encoding_of
-returns-in-4-eq4-eq4 c =
-    let v : (c.args.word % 256 ≡ 4) ⊎ (c.args.word % 256 ≡ 5) = elim (ℕ_discrete (c.args.word % 256) 4) [ yes e ↦ inl e | no f ↦ inr (omega arith) ] in
-    word_passes (encoding_of c.args.big c.args.word) v c.in-4-eq4-eq4.is-1 c.in-4-eq4-eq4.is-2
+returns-then-is_neither c = bad_version _ (c.is_neither.ensures ∙ ap not c.if-is_neither.true)
+
+pub returns-then-is_neither-2 : goal.returns-then-is_neither-2
+unfolding encoding_of
+returns-then-is_neither-2 c = bad_width _ (c.is_neither-2.ensures ∙ ap not c.if-is_neither-2.true)
+
+pub returns-then-is_neither-3 : goal.returns-then-is_neither-3
+unfolding encoding_of
+returns-then-is_neither-3 c = bad_address _ (c.is_neither-3.ensures ∙ ap not c.if-is_neither-3.true)
+
+pub returns : goal.returns
+unfolding encoding_of
+returns c =
+    good_word _ (c.is_neither.ensures ∙ ap not c.if-is_neither.false) (c.is_neither-2.ensures ∙ ap not c.if-is_neither-2.false)
+    (c.is_neither-3.ensures ∙ ap not c.if-is_neither-3.false)

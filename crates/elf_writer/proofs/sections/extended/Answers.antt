@@ -1,8 +1,9 @@
 -- `elf_writer::sections::extended` meets its contract.
 -- Assumes nothing.
-use mathlib.Core.Path.{refl, sym, ap, ◌∙◌}
+use mathlib.Core.Path.{refl, sym, ◌∙◌}
 use native.Mathlib.Omega.{arith}
-use lib.ListN.{length}
+use Rattle.numbers.specs.Names.{section_name}
+use Rattle.numbers.proofs.NameTable.{held_length}
 use Rattle.elf_writer.specs.Held.{size_at}
 use Rattle.elf_writer.proofs.Cases.{counted_here, counted_not, length_name_here, length_name_not, name_short}
 use Rattle.elf_writer.proofs.sections.extended.Goals as goal
@@ -19,10 +20,10 @@ returns-then-not-is_here c =
     record { count = omega (arith, counted_not a.s a.code e); bodies = refl; names = omega (arith, length_name_not a.s a.code e) }
 
 pub overflow_add-result-2 : goal.overflow_add-result-2
-overflow_add-result-2 c = omega (arith, ap length c.section_name-name.ensures, name_short c.args.code c.requires.0, c.requires.4)
+overflow_add-result-2 c = omega (arith, held_length _ (section_name c.args.code) c.section_name-name.ensures, name_short c.args.code c.requires.0, c.requires.4)
 
 pub overflow_add-result-3 : goal.overflow_add-result-3
-overflow_add-result-3 c = omega (arith, ap length c.section_name-name.ensures, name_short c.args.code c.requires.0, c.requires.4)
+overflow_add-result-3 c = omega (arith, held_length _ (section_name c.args.code) c.section_name-name.ensures, name_short c.args.code c.requires.0, c.requires.4)
 
 pub returns : goal.returns
 unfolding size_at
@@ -31,5 +32,5 @@ returns c =
     let e = sym c.is_here.ensures ∙ c.if-not-is_here.false in record {
       count = omega (arith, counted_here a.s a.code e);
       bodies = refl;
-      names = omega (arith, length_name_here a.s a.code e, ap length c.section_name-name.ensures);
+      names = omega (arith, length_name_here a.s a.code e, held_length _ (section_name a.code) c.section_name-name.ensures);
     }

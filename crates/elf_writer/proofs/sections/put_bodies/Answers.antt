@@ -18,7 +18,7 @@ pub loop-code-init : goal.loop-code-init
 loop-code-init c = putting_none _ _ _
 
 pub section_bytes-s-requires : goal.section_bytes-s-requires
-section_bytes-s-requires c = c.loop-code-test.true
+section_bytes-s-requires c = (c.requires.0, c.loop-code-test.true)
 
 pub put_bytes-requires : goal.put_bytes-requires
 unfolding body_at

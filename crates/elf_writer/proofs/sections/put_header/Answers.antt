@@ -3,8 +3,9 @@
 use mathlib.Core.Path.{sym, ap, ◌∙◌}
 use Prim.Native.Nat.{◌+◌}
 use native.Mathlib.Omega.{arith}
-use lib.ListN.{length}
 use Rattle.octets.specs.Octets.{placed}
+use Rattle.numbers.specs.Names.{section_name}
+use Rattle.numbers.proofs.NameTable.{held_length}
 use Rattle.octets.proofs.Placed.{placed_none}
 use Rattle.elf_writer.specs.Held.{size_at}
 use Rattle.elf_writer.proofs.Cases.{header_here, header_not, after_here, after_not, name_short}
@@ -21,10 +22,10 @@ unfolding size_at
 put_section_header-requires c = (omega (arith, c.requires.2), omega (arith, c.requires.3), omega (arith, c.requires.1.is c.args.code c.requires.0), c.requires.4)
 
 pub overflow_add-result-2 : goal.overflow_add-result-2
-overflow_add-result-2 c = omega (arith, ap length c.section_name-name.ensures, name_short c.args.code c.requires.0, c.requires.2)
+overflow_add-result-2 c = omega (arith, held_length _ (section_name c.args.code) c.section_name-name.ensures, name_short c.args.code c.requires.0, c.requires.2)
 
 pub overflow_add-result-3 : goal.overflow_add-result-3
-overflow_add-result-3 c = omega (arith, ap length c.section_name-name.ensures, name_short c.args.code c.requires.0, c.requires.2)
+overflow_add-result-3 c = omega (arith, held_length _ (section_name c.args.code) c.section_name-name.ensures, name_short c.args.code c.requires.0, c.requires.2)
 
 pub overflow_add-result-4 : goal.overflow_add-result-4
 unfolding size_at
@@ -35,5 +36,5 @@ unfolding size_at
 returns c =
     let a = c.args in
     let e = sym c.is_here.ensures ∙ c.if-not-is_here.false in
-    let l = ap length c.section_name-name.ensures in
+    let l = held_length _ (section_name a.code) c.section_name-name.ensures in
     record { next = (λ j. record { at = a.h.at + 64; name = a.h.name + l j + 1; offset = a.h.offset + size_at a.s a.code }) ∙ sym (after_here a.s a.code a.h e); output = c.put_section_header.ensures ∙ ap (placed a.d.now a.h.at) (sym (header_here a.s a.code a.big a.h e)) }

@@ -15,15 +15,15 @@ add_pieces-requires c =
     let a = c.args in
     let p = c.requires in
     let y = c.offsets_before-before in
-    let memory = store_memory (words_in a.b.now) c.store-store.result.start c.store-store.result.size c.strings-table.result.size a.work.now p.room c.store-store.ensures.start c.store-store.ensures.size c.strings-table.ensures.size a.o.strings.size (omega (arith, p.strings_inside, p.whole)) in (
+    let memory = store_memory (words_in a.b.now) c.of-store.result.start c.of-store.result.size c.of-table.result.size a.work.now p.room c.of-store.ensures.start c.of-store.ensures.size c.of-table.ensures.size a.o.strings.size (omega (arith, p.strings_inside, p.whole)) in (
       omega (arith, memory),
-      good_addable a.b.now a.o p.offsets_inside a.good p.parts p.up_to y.result y.ensures c.strings-table.result.size _ a.t
+      good_addable a.b.now a.o p.offsets_inside a.good p.parts p.up_to y.result y.ensures c.of-table.result.size _ a.t
           (omega (arith, p.limit))
           p.strings_inside
           memory
-          (omega (arith, p.fits, c.strings-table.ensures.size))
-          (omega (arith, p.limit, p.whole, c.strings-table.ensures.size)),
-      (p.strings, store_kept (words_in a.b.now) c.store-store.result.start c.store-store.result.size c.strings-table.result.size a.work.now p.room c.store-store.ensures.start c.store-store.ensures.size c.strings-table.ensures.size _ _ _ p.kept),
+          (omega (arith, p.fits, c.of-table.ensures.size))
+          (omega (arith, p.limit, p.whole, c.of-table.ensures.size)),
+      (p.strings, store_kept (words_in a.b.now) c.of-store.result.start c.of-store.result.size c.of-table.result.size a.work.now p.room c.of-store.ensures.start c.of-store.ensures.size c.of-table.ensures.size _ _ _ p.kept),
       (before_parts a.b.now a.o p.offsets_inside a.good p.parts p.up_to, good_headed a.b.now a.o p.offsets_inside a.good p.parts p.up_to y.result y.ensures),
     )
 
@@ -33,9 +33,9 @@ returns-in_default c =
     let p = c.requires in
     let y = c.offsets_before-before in
     record {
-      put = λ ts ps q u. parts_missing a.b.now a.o p.offsets_inside a.good ps u y.result y.ensures (words_in a.b.now) c.store-store.result.start c.store-store.result.size c.strings-table.result.size a.work.now p.room c.store-store.ensures.start c.store-store.ensures.size c.strings-table.ensures.size c.add_pieces.new.store _ c.add_pieces.auto.store refl refl ts c.add_pieces.new.self
-          _ (c.in_default.ensures ts (before_parts a.b.now a.o p.offsets_inside a.good ps u) (store_kept (words_in a.b.now) c.store-store.result.start c.store-store.result.size c.strings-table.result.size a.work.now p.room c.store-store.ensures.start c.store-store.ensures.size c.strings-table.ensures.size _ _ _ q) (good_headed a.b.now a.o p.offsets_inside a.good ps u y.result y.ensures)) _;
-      frame = only_lent store_region store_within (words_in a.b.now) c.store-store.result.start c.store-store.result.size a.work.now p.room c.store-store.ensures.start c.store-store.ensures.size c.add_pieces.new.store _ c.add_pieces.auto.store refl;
+      put = λ ts ps q u. parts_missing a.b.now a.o p.offsets_inside a.good ps u y.result y.ensures (words_in a.b.now) c.of-store.result.start c.of-store.result.size c.of-table.result.size a.work.now p.room c.of-store.ensures.start c.of-store.ensures.size c.of-table.ensures.size c.add_pieces.new.store _ c.add_pieces.auto.store refl refl ts c.add_pieces.new.self
+          _ (c.in_default.ensures ts (before_parts a.b.now a.o p.offsets_inside a.good ps u) (store_kept (words_in a.b.now) c.of-store.result.start c.of-store.result.size c.of-table.result.size a.work.now p.room c.of-store.ensures.start c.of-store.ensures.size c.of-table.ensures.size _ _ _ q) (good_headed a.b.now a.o p.offsets_inside a.good ps u y.result y.ensures)) _;
+      frame = only_lent store_region store_within (words_in a.b.now) c.of-store.result.start c.of-store.result.size a.work.now p.room c.of-store.ensures.start c.of-store.ensures.size c.add_pieces.new.store _ c.add_pieces.auto.store refl;
     }
 
 pub returns-then-good-whole : goal.returns-then-good-whole
@@ -44,9 +44,9 @@ returns-then-good-whole c =
     let p = c.requires in
     let y = c.offsets_before-before in
     record {
-      put = λ ts ps q u. parts_ill a.b.now a.o p.offsets_inside a.good ps u y.result y.ensures (words_in a.b.now) c.store-store.result.start c.store-store.result.size c.strings-table.result.size a.work.now p.room c.store-store.ensures.start c.store-store.ensures.size c.strings-table.ensures.size c.add_pieces.new.store _ c.add_pieces.auto.store refl refl ts c.add_pieces.new.self
-          (c.in-Ok.ensures ts (before_parts a.b.now a.o p.offsets_inside a.good ps u) (store_kept (words_in a.b.now) c.store-store.result.start c.store-store.result.size c.strings-table.result.size a.work.now p.room c.store-store.ensures.start c.store-store.ensures.size c.strings-table.ensures.size _ _ _ q) (good_headed a.b.now a.o p.offsets_inside a.good ps u y.result y.ensures)) c.if-good-whole.true _;
-      frame = only_lent store_region store_within (words_in a.b.now) c.store-store.result.start c.store-store.result.size a.work.now p.room c.store-store.ensures.start c.store-store.ensures.size c.add_pieces.new.store _ c.add_pieces.auto.store refl;
+      put = λ ts ps q u. parts_ill a.b.now a.o p.offsets_inside a.good ps u y.result y.ensures (words_in a.b.now) c.of-store.result.start c.of-store.result.size c.of-table.result.size a.work.now p.room c.of-store.ensures.start c.of-store.ensures.size c.of-table.ensures.size c.add_pieces.new.store _ c.add_pieces.auto.store refl refl ts c.add_pieces.new.self
+          (c.in-Ok.ensures ts (before_parts a.b.now a.o p.offsets_inside a.good ps u) (store_kept (words_in a.b.now) c.of-store.result.start c.of-store.result.size c.of-table.result.size a.work.now p.room c.of-store.ensures.start c.of-store.ensures.size c.of-table.ensures.size _ _ _ q) (good_headed a.b.now a.o p.offsets_inside a.good ps u y.result y.ensures)) c.if-good-whole.true _;
+      frame = only_lent store_region store_within (words_in a.b.now) c.of-store.result.start c.of-store.result.size a.work.now p.room c.of-store.ensures.start c.of-store.ensures.size c.add_pieces.new.store _ c.add_pieces.auto.store refl;
     }
 
 pub returns : goal.returns
@@ -55,7 +55,7 @@ returns c =
     let p = c.requires in
     let y = c.offsets_before-before in
     record {
-      put = λ ts ps q u. parts_put a.b.now a.o p.offsets_inside a.good ps u y.result y.ensures (words_in a.b.now) c.store-store.result.start c.store-store.result.size c.strings-table.result.size a.work.now p.room c.store-store.ensures.start c.store-store.ensures.size c.strings-table.ensures.size c.add_pieces.new.store _ c.add_pieces.auto.store refl refl ts c.add_pieces.new.self
-          (c.in-Ok.ensures ts (before_parts a.b.now a.o p.offsets_inside a.good ps u) (store_kept (words_in a.b.now) c.store-store.result.start c.store-store.result.size c.strings-table.result.size a.work.now p.room c.store-store.ensures.start c.store-store.ensures.size c.strings-table.ensures.size _ _ _ q) (good_headed a.b.now a.o p.offsets_inside a.good ps u y.result y.ensures)) c.if-good-whole.false;
-      frame = only_lent store_region store_within (words_in a.b.now) c.store-store.result.start c.store-store.result.size a.work.now p.room c.store-store.ensures.start c.store-store.ensures.size c.add_pieces.new.store _ c.add_pieces.auto.store refl;
+      put = λ ts ps q u. parts_put a.b.now a.o p.offsets_inside a.good ps u y.result y.ensures (words_in a.b.now) c.of-store.result.start c.of-store.result.size c.of-table.result.size a.work.now p.room c.of-store.ensures.start c.of-store.ensures.size c.of-table.ensures.size c.add_pieces.new.store _ c.add_pieces.auto.store refl refl ts c.add_pieces.new.self
+          (c.in-Ok.ensures ts (before_parts a.b.now a.o p.offsets_inside a.good ps u) (store_kept (words_in a.b.now) c.of-store.result.start c.of-store.result.size c.of-table.result.size a.work.now p.room c.of-store.ensures.start c.of-store.ensures.size c.of-table.ensures.size _ _ _ q) (good_headed a.b.now a.o p.offsets_inside a.good ps u y.result y.ensures)) c.if-good-whole.false;
+      frame = only_lent store_region store_within (words_in a.b.now) c.of-store.result.start c.of-store.result.size a.work.now p.room c.of-store.ensures.start c.of-store.ensures.size c.add_pieces.new.store _ c.add_pieces.auto.store refl;
     }

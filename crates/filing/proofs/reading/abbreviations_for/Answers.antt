@@ -19,7 +19,7 @@ pub slice_bounds-s-end : goal.slice_bounds-s-end
 slice_bounds-s-end c = omega (arith, c.requires.0.is.within 12)
 
 pub row_at-row-requires : goal.row_at-row-requires
-row_at-row-requires c = row_asks c.requires.0 c.requires.1 c.in-At.head (sym c.in-At.is ∙ c.index_by_place-indexed.ensures) c.rows_by_place-region.result.start c.rows_by_place-region.result.size c.rows_by_place-region.ensures.start c.rows_by_place-region.ensures.size _ c.heads_for-heads.ensures
+row_at-row-requires c = row_asks c.requires.0 c.requires.1 c.in-At.head (sym c.in-At.is ∙ c.index_by_place-indexed.ensures) c.of-region.result.start c.of-region.result.size c.of-region.ensures.start c.of-region.ensures.size _ c.heads_for-heads.ensures
 
 pub returns-then-row-eq0 : goal.returns-then-row-eq0
 returns-then-row-eq0 c = λ i is. given_none _ _ i is _ _ _ c.requires.0.work.limit c.in-At.head (sym c.in-At.is ∙ c.index_by_place-indexed.ensures) _ c.row_at-row.ensures c.if-row-eq0.true _ c.refused.ensures

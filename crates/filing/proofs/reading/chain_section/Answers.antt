@@ -19,7 +19,7 @@ pub slice_bounds-chain_rows-end : goal.slice_bounds-chain_rows-end
 slice_bounds-chain_rows-end c = omega (arith, c.requires.is.within 12)
 
 pub chain_rows-requires : goal.chain_rows-requires
-chain_rows-requires c = chain_asks c.requires c.in-At.head (sym c.in-At.is ∙ c.index_by_place-indexed.ensures) c.rows_by_place-region.result.start c.rows_by_place-region.result.size c.rows_by_place-region.ensures.start c.rows_by_place-region.ensures.size _ c.heads_for-heads.ensures
+chain_rows-requires c = chain_asks c.requires c.in-At.head (sym c.in-At.is ∙ c.index_by_place-indexed.ensures) c.of-region.result.start c.of-region.result.size c.of-region.ensures.start c.of-region.ensures.size _ c.heads_for-heads.ensures
 
 pub returns : goal.returns
-returns c = record { chained = chains_left c.requires c.in-At.head (sym c.in-At.is ∙ c.index_by_place-indexed.ensures) c.rows_by_place-region.result.start c.rows_by_place-region.result.size c.rows_by_place-region.ensures.start c.rows_by_place-region.ensures.size _ c.heads_for-heads.ensures _ _ c.chain_rows.auto.words refl c.chain_rows.ensures; frame = only_lent rows_region rows_within (words_in c.args.b.now) c.rows_by_place-region.result.start c.rows_by_place-region.result.size c.args.work.now c.requires.work.room c.rows_by_place-region.ensures.start c.rows_by_place-region.ensures.size c.chain_rows.new.words _ c.chain_rows.auto.words refl }
+returns c = record { chained = chains_left c.requires c.in-At.head (sym c.in-At.is ∙ c.index_by_place-indexed.ensures) c.of-region.result.start c.of-region.result.size c.of-region.ensures.start c.of-region.ensures.size _ c.heads_for-heads.ensures _ _ c.chain_rows.auto.words refl c.chain_rows.ensures; frame = only_lent rows_region rows_within (words_in c.args.b.now) c.of-region.result.start c.of-region.result.size c.args.work.now c.requires.work.room c.of-region.ensures.start c.of-region.ensures.size c.chain_rows.new.words _ c.chain_rows.auto.words refl }

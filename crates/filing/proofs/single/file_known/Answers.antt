@@ -12,13 +12,13 @@ returns-then-read-eq-COMPILATION c = record { second = λ e. c.refused.ensures; 
 pub same_as_kept-agrees-requires : goal.same_as_kept-agrees-requires
 same_as_kept-agrees-requires c = c.requires.compared
 
-pub skip_one-next-requires : goal.skip_one-next-requires
-skip_one-next-requires c = c.requires.few
+pub skip_one-requires : goal.skip_one-requires
+skip_one-requires c = c.requires.few
 
 pub returns : goal.returns
 returns c =
     let a = c.args in
     record {
       second = λ e. absurd (c.if-read-eq-COMPILATION.false e);
-      skipped = λ f. ap (λ (s : InProgress). record { code = 0; size = a.read.size; st = s }) (c.skip_one-next.ensures ∙ ap (λ (z : Bool). skipped_one a.st z) c.same_as_kept-agrees.ensures);
+      skipped = λ f. ap (λ (s : InProgress). record { code = 0; size = a.read.size; st = s }) (c.skip_one.ensures ∙ ap (λ (z : Bool). skipped_one a.st z) c.same_as_kept-agrees.ensures);
     }

@@ -15,13 +15,13 @@ file_known-requires c =
     let p = c.requires in
     let a = p.ready.at_unit in
     let r = p.read in
-    known_asks a r p.fits _ (known_is a.held _ r.least p.fits _ _ r.tables _ (sym c.in-Known.is ∙ sought_is a.held _ r.least p.fits _ _ r.tables _ c.seen_slots-count.ensures _ c.seek_in.ensures))
+    known_asks a r p.fits _ (known_is a.held _ r.least p.fits _ _ r.tables _ (sym c.in-Ok.is ∙ sought_is a.held _ r.least p.fits _ _ r.tables _ c.seen_slots-count.ensures _ c.seek_in.ensures))
 
-pub returns-in-Known : goal.returns-in-Known
-returns-in-Known c =
+pub returns-in-Ok : goal.returns-in-Ok
+returns-in-Ok c =
     let p = c.requires in record {
       filed = λ i bases earlier here s a r y.
-          answer_known a r p.fits p.homes y _ (known_is a.held _ r.least p.fits _ _ r.tables _ (sym c.in-Known.is ∙ sought_is a.held _ r.least p.fits _ _ r.tables _ c.seen_slots-count.ensures _ c.seek_in.ensures)) _ c.file_known.ensures;
+          answer_known a r p.fits p.homes y _ (known_is a.held _ r.least p.fits _ _ r.tables _ (sym c.in-Ok.is ∙ sought_is a.held _ r.least p.fits _ _ r.tables _ c.seen_slots-count.ensures _ c.seek_in.ensures)) _ c.file_known.ensures;
       transient = transient_none _ _;
     }
 
@@ -29,7 +29,7 @@ pub returns-then-code-ne0 : goal.returns-then-code-ne0
 returns-then-code-ne0 c =
     let p = c.requires in record {
       filed = λ i bases earlier here s a r y.
-          let f = free_is a.held _ r.least p.fits _ _ r.tables _ (sym c.in-Free.is ∙ sought_is a.held _ r.least p.fits _ _ r.tables _ c.seen_slots-count.ensures _ c.seek_in.ensures) in
+          let f = free_is a.held _ r.least p.fits _ _ r.tables _ (sym c.in-Err.is ∙ sought_is a.held _ r.least p.fits _ _ r.tables _ c.seen_slots-count.ensures _ c.seek_in.ensures) in
           answer_bad a r p.fits p.homes y _ (c.contributions_of-judged.ensures i a.input) f.0 _ _ c.if-code-ne0.true c.refused.ensures;
       transient = transient_none _ _;
     }
@@ -45,7 +45,7 @@ keep_unit-next-requires c =
     let p = c.requires in
     let a = p.ready.at_unit in
     let r = p.read in
-    let f = free_is a.held _ r.least p.fits _ _ r.tables _ (sym c.in-Free.is ∙ sought_is a.held _ r.least p.fits _ _ r.tables _ c.seen_slots-count.ensures _ c.seek_in.ensures) in
+    let f = free_is a.held _ r.least p.fits _ _ r.tables _ (sym c.in-Err.is ∙ sought_is a.held _ r.least p.fits _ _ r.tables _ c.seen_slots-count.ensures _ c.seek_in.ensures) in
     keep_requires a r p.fits p.homes p.same _ (c.contributions_of-judged.ensures p.ready.input a.input) f.0 c.if-code-ne0.false _ f.1 f.2 _ c.unit_for-unit.ensures
 
 pub returns : goal.returns
@@ -53,7 +53,7 @@ returns c =
     let p = c.requires in
     record {
       filed = λ i bases earlier here s a r y.
-          let f = free_is a.held _ r.least p.fits _ _ r.tables _ (sym c.in-Free.is ∙ sought_is a.held _ r.least p.fits _ _ r.tables _ c.seen_slots-count.ensures _ c.seek_in.ensures) in
+          let f = free_is a.held _ r.least p.fits _ _ r.tables _ (sym c.in-Err.is ∙ sought_is a.held _ r.least p.fits _ _ r.tables _ c.seen_slots-count.ensures _ c.seek_in.ensures) in
           answer_filed a r p.fits p.homes y _ (c.contributions_of-judged.ensures i a.input) f.0 c.if-code-ne0.false _ f.1 f.2 _ c.unit_for-unit.ensures _ _ c.keep_unit-next.ensures.held c.keep_unit-next.ensures.strings;
       transient = c.keep_unit-next.ensures.transient;
     }

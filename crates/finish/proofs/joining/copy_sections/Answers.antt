@@ -1,24 +1,22 @@
 -- Each object's section is put behind those before it: `Joining` is what the loop keeps.
 -- Assumes nothing.
-use mathlib.Core.Path.{refl, sym, ap, ◌∙◌}
+use mathlib.Core.Path.{refl, sym, ◌∙◌}
 use Prim.Native.Nat.{◌+◌, ◌≤◌}
 use native.Mathlib.Omega.{arith}
 use lib.ListN.{length, get_or, length-take, length-drop}
-use Rattle.octets.specs.Checked.{pass}
-use Rattle.bundle.proofs.Objects.{objects_other, objects_refused}
 use Rattle.finish.specs.Joining.{sections_joined}
-use Rattle.finish.proofs.Entering.{AtObject, object_reaches, object_scanned}
+use Rattle.finish.proofs.Entering.{AtObject, object_reaches, object_scanned, objects_over}
 use Rattle.finish.proofs.JoinedObjects.{joining_none, joining_end, read_once, section_within, section_room, section_joined}
 use Rattle.finish.proofs.joining.copy_sections.Goals as goal
 use Rattle.finish.proofs.joining.copy_sections.Goals.{After-scan_object-scan}
 
 -- the object whose sections are scanned
 at-object : (c : After-scan_object-scan)
-    → (AtObject c.args.b.now c.loop-next.place c.in-Ok-Object.next c.scan_object-scan.result (c.loop-next.invariant.1 c.requires.bundle c.requires.reads).done c.requires.bundle.objects)
+    → (AtObject c.args.b.now c.loop-next.place c.in-Object.next c.scan_object-scan.result (c.loop-next.invariant.1 c.requires.bundle c.requires.reads).done c.requires.bundle.objects)
 at-object c =
     let pre = c.requires in
     let j = c.loop-next.invariant.1 pre.bundle pre.reads in
-    object_scanned _ _ _ _ j.passed _ _ (sym (ap pass c.in-Ok-Object.field-0-is) ∙ c.in-Ok-Object.ensures) _ c.scan_object-scan.ensures
+    object_scanned _ _ _ _ j.passed _ _ (sym c.in-Object.is ∙ c.next_item.ensures) _ c.scan_object-scan.ensures
 
 within : (c : After-scan_object-scan)
     → (let x = c.scan_object-scan.result in
@@ -42,22 +40,14 @@ unfolding sections_joined
 returns-in_default c k e =
     let pre = c.requires in
     let j = c.loop-next.invariant.1 pre.bundle pre.reads in
-    let over = objects_other _ _ _ _ j.passed _ (λ z. omega arith) c.in_default.ensures in
-    rw (read_once _ _ k pre.reads e) (joining_end _ _ _ _ _ _ _ _ j pre.room over)
-
-pub returns-in_default-2 : goal.returns-in_default-2
-unfolding sections_joined
-returns-in_default-2 c k e =
-    let pre = c.requires in
-    let j = c.loop-next.invariant.1 pre.bundle pre.reads in
-    let over = objects_refused _ _ _ _ j.passed _ (rw c.in_default.is at c.next_item.ensures) in
+    let over = objects_over _ _ _ _ j.passed c.next_item.result c.in_default.not-Object c.next_item.ensures in
     rw (read_once _ _ k pre.reads e) (joining_end _ _ _ _ _ _ _ _ j pre.room over)
 
 pub scan_object-scan-requires : goal.scan_object-scan-requires
 scan_object-scan-requires c =
     let pre = c.requires in
     let j = c.loop-next.invariant.1 pre.bundle pre.reads in
-    object_reaches _ _ _ _ j.passed _ _ (sym (ap pass c.in-Ok-Object.field-0-is) ∙ c.in-Ok-Object.ensures)
+    object_reaches _ _ _ _ j.passed _ _ (sym c.in-Object.is ∙ c.next_item.ensures)
 
 pub overflow_add-end : goal.overflow_add-end
 overflow_add-end c = omega (arith, within (goal.at.overflow_add-end c).After-scan_object-scan)

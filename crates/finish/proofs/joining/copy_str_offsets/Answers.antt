@@ -1,14 +1,12 @@
 -- Each object's str_offsets is put behind those before it, with the places that stand behind theirs: `OffsetsJoining` is what the loop keeps.
 -- Assumes nothing.
-use mathlib.Core.Path.{refl, sym, ap, ◌∙◌}
+use mathlib.Core.Path.{refl, sym, ◌∙◌}
 use Prim.Native.Nat.{◌+◌, ◌≤◌}
 use native.Mathlib.Omega.{arith}
 use lib.ListN.{length, get_or}
-use Rattle.octets.specs.Checked.{pass}
 use Rattle.bundle.specs.Encoded.{encoding_is}
-use Rattle.bundle.proofs.Objects.{objects_other, objects_refused}
 use Rattle.finish.specs.Joining.{OffsetsJoinable}
-use Rattle.finish.proofs.Entering.{AtObject, object_reaches, object_scanned}
+use Rattle.finish.proofs.Entering.{AtObject, object_reaches, object_scanned, objects_over}
 use Rattle.finish.proofs.Remapping.{room_again, offsets_none, offsets_end, offsets_inside, offsets_first, offsets_fit, offsets_writable, offsets_count, offsets_more}
 use Rattle.finish.proofs.joining.copy_str_offsets.Goals as goal
 use Rattle.finish.proofs.joining.copy_str_offsets.Goals.{After-scan_object-scan, Start}
@@ -21,10 +19,10 @@ Asked_at_After_scan_object_scan s = OffsetsJoinable (encoding_is s.args.e) s.arg
 
 -- the object whose sections are scanned
 at-object : (x : After-scan_object-scan) (a : Asked_at_After_scan_object_scan x)
-    → AtObject x.args.b.now x.loop-next.place x.in-Ok-Object.next x.scan_object-scan.result (x.loop-next.invariant.1 a).joining.done a.bundle.objects
+    → AtObject x.args.b.now x.loop-next.place x.in-Object.next x.scan_object-scan.result (x.loop-next.invariant.1 a).joining.done a.bundle.objects
 at-object x a =
     let j = (x.loop-next.invariant.1 a).joining in
-    object_scanned _ _ _ _ j.passed _ _ (sym (ap pass x.in-Ok-Object.field-0-is) ∙ x.in-Ok-Object.ensures) _ x.scan_object-scan.ensures
+    object_scanned _ _ _ _ j.passed _ _ (sym x.in-Object.is ∙ x.next_item.ensures) _ x.scan_object-scan.ensures
 
 inside : (x : After-scan_object-scan) → get_or x.scan_object-scan.result.start 6 0 + get_or x.scan_object-scan.result.size 6 0 ≤ length x.args.b.now
 inside x = let a = x.requires in offsets_inside _ _ _ _ _ a _ _ _ _ (x.loop-next.invariant.1 a) _ _ (at-object x a)
@@ -42,23 +40,13 @@ pub returns-in_default : goal.returns-in_default
 returns-in_default c k used e g p =
     let a : Asked (goal.at.returns-in_default c).Start = record { bundle = k; reads = e; used = used; good = g; places = p; room = room_again _ _ _ _ _ c.requires k e } in
     let j = c.loop-next.invariant.1 a in
-    let over = objects_other _ _ _ _ j.joining.passed _ (λ z. omega arith) c.in_default.ensures in
-    offsets_end _ _ _ _ _ a _ _ _ _ j over
-
-pub shape_of-out-in_default-2 : goal.shape_of-out-in_default-2
-shape_of-out-in_default-2 c = c.loop-next.invariant.0
-
-pub returns-in_default-2 : goal.returns-in_default-2
-returns-in_default-2 c k used e g p =
-    let a : Asked (goal.at.returns-in_default-2 c).Start = record { bundle = k; reads = e; used = used; good = g; places = p; room = room_again _ _ _ _ _ c.requires k e } in
-    let j = c.loop-next.invariant.1 a in
-    let over = objects_refused _ _ _ _ j.joining.passed _ (rw c.in_default.is at c.next_item.ensures) in
+    let over = objects_over _ _ _ _ j.joining.passed c.next_item.result c.in_default.not-Object c.next_item.ensures in
     offsets_end _ _ _ _ _ a _ _ _ _ j over
 
 pub scan_object-scan-requires : goal.scan_object-scan-requires
 scan_object-scan-requires c =
     let j = (c.loop-next.invariant.1 c.requires).joining in
-    object_reaches _ _ _ _ j.passed _ _ (sym (ap pass c.in-Ok-Object.field-0-is) ∙ c.in-Ok-Object.ensures)
+    object_reaches _ _ _ _ j.passed _ _ (sym c.in-Object.is ∙ c.next_item.ensures)
 
 pub overflow_add-end : goal.overflow_add-end
 overflow_add-end c = omega (arith, inside (goal.at.overflow_add-end c).After-scan_object-scan)

@@ -10,22 +10,22 @@ use Rattle.finish.proofs.Dispatch.{lent_end, lent_region, words_fit, units_asks,
 use Rattle.finish.proofs.writing.write_section.Goals as goal
 use Rattle.finish.proofs.writing.write_section.Goals.{After-struct_known-1, After-struct_known-then-code-eq-STR_OFFSETS-1}
 
-records-end : (k : After-struct_known-1) → k.records-region.result.start + k.records-region.result.size ≤ length k.args.work.now
-records-end k = lent_end records_region records_within _ k.args.work.now k.requires.ready.room _ _ k.records-region.ensures.start k.records-region.ensures.size
+records-end : (k : After-struct_known-1) → k.of-region.result.start + k.of-region.result.size ≤ length k.args.work.now
+records-end k = lent_end records_region records_within _ k.args.work.now k.requires.ready.room _ _ k.of-region.ensures.start k.of-region.ensures.size
 
 records-cut : (k : After-struct_known-1)
-    → (let r = k.records-region.result in take (r.start + r.size - r.start) (drop r.start k.args.work.now) ≡ region k.args.work.now (length k.args.b.now / 4) records_region)
-records-cut k = lent_region records_region records_within _ k.args.work.now k.requires.ready.room _ _ k.records-region.ensures.start k.records-region.ensures.size
+    → (let r = k.of-region.result in take (r.start + r.size - r.start) (drop r.start k.args.work.now) ≡ region k.args.work.now (length k.args.b.now / 4) records_region)
+records-cut k = lent_region records_region records_within _ k.args.work.now k.requires.ready.room _ _ k.of-region.ensures.start k.of-region.ensures.size
 
-strings-end : (k : After-struct_known-then-code-eq-STR_OFFSETS-1) → k.strings-table.result.start + k.strings-table.result.size ≤ length k.args.work.now
-strings-end k = lent_end strings_region strings_within _ k.args.work.now k.requires.ready.room _ _ k.strings-table.ensures.start k.strings-table.ensures.size
+strings-end : (k : After-struct_known-then-code-eq-STR_OFFSETS-1) → k.of-table.result.start + k.of-table.result.size ≤ length k.args.work.now
+strings-end k = lent_end strings_region strings_within _ k.args.work.now k.requires.ready.room _ _ k.of-table.ensures.start k.of-table.ensures.size
 
 strings-cut : (k : After-struct_known-then-code-eq-STR_OFFSETS-1)
-    → (let r = k.strings-table.result in take (r.start + r.size - r.start) (drop r.start k.args.work.now) ≡ region k.args.work.now (length k.args.b.now / 4) strings_region)
-strings-cut k = lent_region strings_region strings_within _ k.args.work.now k.requires.ready.room _ _ k.strings-table.ensures.start k.strings-table.ensures.size
+    → (let r = k.of-table.result in take (r.start + r.size - r.start) (drop r.start k.args.work.now) ≡ region k.args.work.now (length k.args.b.now / 4) strings_region)
+strings-cut k = lent_region strings_region strings_within _ k.args.work.now k.requires.ready.room _ _ k.of-table.ensures.start k.of-table.ensures.size
 
-pub records-region-requires : goal.records-region-requires
-records-region-requires c = words_fit _ _ _ _ _ _ c.requires
+pub of-region-requires : goal.of-region-requires
+of-region-requires c = (omega arith, words_fit _ _ _ _ _ _ c.requires)
 
 pub overflow_add-last : goal.overflow_add-last
 overflow_add-last c = omega (arith, records-end (goal.at.overflow_add-last c).After-struct_known-1, c.ranges, c.well_formed)
@@ -42,8 +42,8 @@ copy_units-requires c = units_asks _ _ _ _ _ _ c.requires _ (records-cut (goal.a
 pub returns-then-code-le-TYPES : goal.returns-then-code-le-TYPES
 returns-then-code-le-TYPES c s r = units_leaves _ _ _ _ s r _ _ _ _ _ (records-cut (goal.at.returns-then-code-le-TYPES c).After-struct_known-1) c.requires.least c.if-code-le-TYPES.true c.copy_units.ensures
 
-pub strings-table-requires : goal.strings-table-requires
-strings-table-requires c = words_fit _ _ _ _ _ _ c.requires
+pub of-table-requires : goal.of-table-requires
+of-table-requires c = (omega arith, words_fit _ _ _ _ _ _ c.requires)
 
 pub overflow_add-last-then-code-eq-STR_OFFSETS : goal.overflow_add-last-then-code-eq-STR_OFFSETS
 overflow_add-last-then-code-eq-STR_OFFSETS c = omega (arith, strings-end (goal.at.overflow_add-last-then-code-eq-STR_OFFSETS c).After-struct_known-then-code-eq-STR_OFFSETS-1, c.ranges, c.well_formed)

@@ -1,17 +1,20 @@
 -- `lookup::opening::open_object` meets its contract.
 -- Assumes nothing.
-use Rattle.lookup.proofs.Entering.{entering_reaches, entering_alone, entering_other, entering_refused}
-use native.Mathlib.Omega.{arith}
+use Rattle.lookup.proofs.Entering.{entering_reaches, entering_alone, entering_more, entering_section, entering_broken}
+use mathlib.Core.Path.{sym, ◌∙◌}
 use Rattle.lookup.proofs.opening.open_object.Goals as goal
 
 pub scan_object-sections-requires : goal.scan_object-sections-requires
 scan_object-sections-requires c = entering_reaches _ _ _ c.requires
 
 pub open_sections-requires : goal.open_sections-requires
-open_sections-requires c = entering_alone _ _ _ c.requires _ c.scan_object-sections.ensures (rw c.in-Ok-End.field-0-is at c.in-Ok-End.ensures)
+open_sections-requires c = entering_alone _ _ _ c.requires _ c.scan_object-sections.ensures (sym c.in-End.is ∙ c.next_item.ensures)
 
-pub returns-in_default : goal.returns-in_default
-returns-in_default c = entering_other _ _ _ c.requires _ c.scan_object-sections.ensures _ (λ z. omega arith) c.in_default.ensures
+pub returns-in-Object : goal.returns-in-Object
+returns-in-Object c = c.refused.ensures ∙ entering_more _ _ _ c.requires _ c.scan_object-sections.ensures _ _ (sym c.in-Object.is ∙ c.next_item.ensures)
 
-pub returns-in_default-2 : goal.returns-in_default-2
-returns-in_default-2 c = entering_refused _ _ _ c.requires _ c.scan_object-sections.ensures _ (rw c.in_default.is at c.next_item.ensures)
+pub returns-in-Section : goal.returns-in-Section
+returns-in-Section c = absurd (entering_section _ _ _ c.requires _ c.scan_object-sections.ensures _ _ _ _ (sym c.in-Section.is ∙ c.next_item.ensures))
+
+pub returns-in-Broken : goal.returns-in-Broken
+returns-in-Broken c = absurd (entering_broken _ _ _ c.requires _ c.scan_object-sections.ensures (sym c.in-Broken.is ∙ c.next_item.ensures))

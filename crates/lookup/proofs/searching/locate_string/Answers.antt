@@ -1,12 +1,21 @@
 -- `lookup::searching::locate_string` meets its contract.
 -- Assumes nothing.
-use Rattle.octets.specs.Checked.{mapped}
-use Rattle.std.proofs.lemmas.Result.{err_from_is_err_and}
-use Rattle.lookup.proofs.Lookups.{strung_closed}
+use Rattle.lookup.proofs.Lookups as lookups
+use mathlib.Core.Path.{sym, ◌∙◌}
 use Rattle.lookup.proofs.searching.locate_string.Goals as goal
 
-pub returns-in_err-open : goal.returns-in_err-open
-unfolding mapped
-returns-in_err-open c =
-    let p = err_from_is_err_and c.from_residual.result c.from_residual.ensures.1 in
-    rw (p.1, p.2) (strung_closed _ _ c.in_err-open.ensures.head _ _ _ _)
+pub locate_entry-requires : goal.locate_entry-requires
+locate_entry-requires c =
+    let o = c.open_package-head.ensures in
+    let v = c.args.version in
+    let e = sym c.in-Part.is ∙ c.locate_in.ensures in
+    (lookups.found_opened _ _ o v _ _ 6 _ _ _ e, lookups.found_within _ _ o v _ _ 6 _ _ _ e, lookups.found_encoding _ _ o v _ _ 6 _ _ _ e)
+
+pub returns-in-Part : goal.returns-in-Part
+returns-in-Part c = c.locate_entry.ensures ∙ lookups.strung_in _ _ _ _ _ _ _ _ (sym c.in-Part.is ∙ c.locate_in.ensures)
+
+pub returns-in-Absent : goal.returns-in-Absent
+returns-in-Absent c = lookups.strung_absent _ _ _ _ _ _ (sym c.in-Absent.is ∙ c.locate_in.ensures)
+
+pub returns-in-Refused : goal.returns-in-Refused
+returns-in-Refused c = lookups.strung_refused _ _ _ _ _ _ (sym c.in-Refused.is ∙ c.locate_in.ensures)

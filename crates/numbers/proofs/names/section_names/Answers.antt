@@ -2,8 +2,9 @@
 -- Assumes nothing.
 use mathlib.Core.Path.{refl}
 use Rattle.numbers.specs.Names.{dwo_words, index_words, name_prefix, name_suffix, dwo_name, index_name, section_names}
+use Rattle.numbers.specs.NameRows.{name_row}
 use Rattle.numbers.proofs.names.section_names.Goals as goal
 
 pub returns : goal.returns
-unfolding dwo_words index_words name_prefix name_suffix dwo_name index_name section_names
+unfolding dwo_words index_words name_prefix name_suffix dwo_name index_name section_names name_row
 returns c = refl

@@ -1,16 +1,11 @@
 -- The item behind the head is the first object's word, or there is no object.
 -- Assumes nothing.
-use mathlib.Core.Path.{sym, ap, ◌∙◌}
-use native.Mathlib.Omega.{arith}
-use Rattle.octets.specs.Checked.{pass}
-use Rattle.packer.proofs.OverObjects.{first_other, first_refused, first_some}
+use mathlib.Core.Path.{sym, ◌∙◌}
+use Rattle.packer.proofs.OverObjects.{first_none, first_some}
 use Rattle.packer.proofs.objects.first_word.Goals as goal
 
 pub returns-in_default : goal.returns-in_default
-returns-in_default c k e = first_other _ k e _ (λ z. omega arith) c.in_default.ensures
-
-pub returns-in_default-2 : goal.returns-in_default-2
-returns-in_default-2 c k e = first_refused _ k e _ (rw c.in_default.is at c.next_item.ensures)
+returns-in_default c k e = first_none _ k e c.next_item.result c.in_default.not-Object c.next_item.ensures
 
 pub returns : goal.returns
-returns c k e = first_some _ k e _ _ (sym (ap pass c.in-Ok-Object.field-0-is) ∙ c.in-Ok-Object.ensures)
+returns c k e = first_some _ k e _ _ (sym c.in-Object.is ∙ c.next_item.ensures)

@@ -1,8 +1,0 @@
--- `octets::bytes_at` meets its contract.
--- Assumes nothing.
-use mathlib.Core.Path.{◌∙◌}
-use Rattle.octets.proofs.Parts.{part_cut}
-use Rattle.octets.proofs.bytes_at.Goals as goal
-
-pub returns : goal.returns
-returns g c = c.copy_from_slice.ensures.after ∙ part_cut _ _ _
