@@ -12,7 +12,7 @@ use lib.ListN.{length}
 use borrow.Author.Tests.{eqb-true, le-leb, lt-leb, leb-true, leb-false}
 use Rattle.numbers.specs.Sections.{info_code}
 use Rattle.octets.specs.Lists.{those, any, has}
-use Rattle.octets.specs.Checked.{Check, pass, mapped}
+use Rattle.octets.specs.Checked.{Check, pass}
 use Rattle.octets.proofs.Checks.{true_false, known, or_cases}
 use Rattle.octets.proofs.Lists.{length_those}
 use Rattle.octets.proofs.Mapped.{those_map}
@@ -39,6 +39,8 @@ use Rattle.lookup.specs.Lookup.{Package, package_of, codes}
 use Rattle.lookup.specs.Answers.{package_in}
 use Rattle.elf.specs.Reader.{object_word, unit_stated, bundle_read, elf_read}
 use Rattle.elf.specs.Writer.{amd64, aarch64, riscv, machine_good, sections_here, file_bytes}
+use Rattle.elf.specs.Held.{stated_of}
+use Rattle.elf.specs.declared.stating.Stated.TheVariants.{Is}
 use Rattle.elf_writer.specs.Held.{file_of}
 use Rattle.elf_writer.proofs.Answering.{written_short, written_made}
 use Rattle.round_trip.proofs.Listed.{Named}
@@ -147,16 +149,16 @@ module _ (b p : List ℕ) (a : Accepted b p) (h : Bytes b) (o : Object) (os : Li
   pub info_is : bytes_in ss info_code ≡ unit_bytes (kept a.filing.units) info_code
   info_is = (left list info_code (list_distinct a.filing a.cu a.tu)).bytes ∙ info_bytes a.filing a.cu a.tu
 
-  word_stated : any stands_in_info (handed_in b) ≡ true → pass o.word ≡ mapped object_word (unit_stated big (bytes_in ss info_code))
+  word_stated : any stands_in_info (handed_in b) ≡ true → Is o.word ≡ stated_of (unit_stated big (bytes_in ss info_code))
   unfolding encoding_of
   word_stated t =
       let i = in_info t in
       let u = i.unit in
       let r = i.good.unit.read in
       let alone = ap₂ (λ (d : Encoding) (n : ℕ). unit_of d n r.abbreviations u.bytes) (sym i.good.object.encoded) (sym i.home) ∙ r.alone in
-      ap pass (sym word_is)
+      ap Is (sym word_is)
       ∙ unit_stated_law e r.abbreviations u.bytes i.rest _ i.good.object.good alone
-      ∙ ap (λ (s : List ℕ). mapped object_word (unit_stated big s)) (sym (info_is ∙ i.is))
+      ∙ ap (λ (s : List ℕ). stated_of (unit_stated big s)) (sym (info_is ∙ i.is))
 
   -- ---- there and back
   module _ (machine : ℕ) (m : machine_good machine ≡ true) where

@@ -4,7 +4,7 @@ use Rattle.std.specs.Prelude.{List, [], ◌∷◌, ℕ}
 use Rattle.archive_tables.specs.declared.columns.InPlace.{InPlace}
 use Rattle.archive_tables.specs.declared.columns.InPlace.TheVariants.{Gone, One, Two}
 
-abbrev pub standing : InPlace → List ℕ
+unfoldable pub standing : InPlace → List ℕ
 standing Gone = []
 standing (One s) = s ∷ []
 standing (Two s t) = s ∷ t ∷ []

@@ -9,7 +9,7 @@ use std::io;
 
 // The sections that version 5 has in the place of one of version 2.
 #[derive(Clone, Copy)]
-enum InPlace {
+pub enum InPlace {
     Gone,
     One(usize),
     Two(usize, usize),
@@ -18,27 +18,34 @@ enum InPlace {
 // One more than the last section with a column in version 2.
 const SECTIONS_END: usize = 9;
 
-#[tactic(auto, unfolding(crate::specs::ColumnRule::in_its_place))]
 fn in_its_place(section: usize) -> InPlace
     ensures { standing result ≡ in_its_place section }
 {
-    match section {
-        TYPES | MACINFO => InPlace::Gone,
-        LOC => InPlace::Two(LOCLISTS, RNGLISTS),
-        _ => InPlace::One(section),
+    if section == TYPES {
+        return InPlace::Gone;
     }
+    if section == MACINFO {
+        return InPlace::Gone;
+    }
+    if section == LOC {
+        return InPlace::Two(LOCLISTS, RNGLISTS);
+    }
+    InPlace::One(section)
 }
 
-#[tactic(auto, unfolding(crate::specs::ColumnRule::column_five))]
 fn column_five(section: usize) -> usize
     ensures { result ≡ column_five section }
 {
-    match section {
-        LOCLISTS => LOC,
-        MACRO => MACINFO,
-        RNGLISTS => MACRO,
-        _ => section,
+    if section == LOCLISTS {
+        return LOC;
     }
+    if section == MACRO {
+        return MACINFO;
+    }
+    if section == RNGLISTS {
+        return MACRO;
+    }
+    section
 }
 
 fn print_column(rt: &impl Print, version: u32, section: usize, column: usize) -> io::Result<()> {
@@ -60,14 +67,14 @@ fn print_in_place(rt: &impl Print, section: usize) -> io::Result<()> {
     }
 }
 
-fn print_two(rt: &impl Print) -> io::Result<()> {
+pub fn print_two(rt: &impl Print) -> io::Result<()> {
     for section in INFO..SECTIONS_END {
         print_column(rt, INDEX_2, section, section)?;
     }
     Ok(())
 }
 
-fn print_five_all(rt: &impl Print) -> io::Result<()> {
+pub fn print_five_all(rt: &impl Print) -> io::Result<()> {
     for section in INFO..SECTIONS_END {
         print_in_place(rt, section)?;
     }

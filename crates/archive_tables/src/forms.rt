@@ -1,5 +1,5 @@
 // Forms and their widths, rising.
-ghost use Rattle.std.specs.Prelude.{◌≡◌};
+ghost use Rattle.std.specs.Prelude.{◌≡◌, ◌<◌};
 ghost use Rattle.unit.specs.Widths.{width_found};
 ghost use Rattle.archive_tables.specs.FormRule.{width_by_rule};
 
@@ -49,6 +49,26 @@ fn width_by_rule(form: u64) -> FormWidth
     }
 }
 
+// The character of an upper-case hexadecimal digit, which callers have below 16.
+fn digit(d: u64) -> u8
+    requires { d < 16 }
+{
+    if d < 10 {
+        return 48 + (d as u8);
+    }
+    55 + (d as u8)
+}
+
+fn print_form(rt: &impl Print, form: u64) -> io::Result<()> {
+    rt.write_all(&[
+        digit(form / 0x1000 % 16),
+        digit(form / 0x100 % 16),
+        digit(form / 0x10 % 16),
+        digit(form % 16),
+        b' ',
+    ])
+}
+
 fn print_width(rt: &impl Print, width: Width) -> io::Result<()> {
     match width {
         Width::Fixed(n) => print!(rt; "{n}"),
@@ -70,7 +90,7 @@ fn print_number(rt: &impl Print, form: u64) -> io::Result<()> {
     let FormWidth::Is(width) = width_by_rule(form) else {
         return Ok(());
     };
-    print!(rt; "{form:04X} ")?;
+    print_form(rt, form)?;
     print_width(rt, width)?;
     rt.write_all(b"\n")
 }

@@ -13,12 +13,10 @@ use lib.Seq.{drop-cons}
 use borrow.Author.Tests.{eq-eqb, eqb-true, ne_eqb}
 use Rattle.octets.specs.Octets.{number_at}
 use Rattle.octets.specs.Lists.{those}
-use Rattle.octets.specs.Checked.{Check, pass, refuse, mapped}
-use Rattle.octets.proofs.Checks.{known, passes, fails, or_left, or_right, or_neither}
+use Rattle.octets.specs.Checked.{Check, pass, refuse}
+use Rattle.octets.proofs.Checks.{known, true_false, passes, fails, or_left, or_right, or_neither}
 use Rattle.octets.proofs.Lists.{those_keeps, those_skips}
 use Rattle.octets.proofs.Refusals.{Only, only_pass, only_require, only_bind}
-use Rattle.bundle.specs.Written.{Section}
-use Rattle.elf.proofs.Rooms.{one_wanted, one_unwanted}
 use Rattle.bundle.specs.Encoding.{Encoding}
 use Rattle.bundle.specs.Encoded.{encoding_is, four}
 use Rattle.bundle.specs.declared.encoding.ObjectEncoding.{ObjectEncoding}
@@ -32,7 +30,9 @@ use Rattle.numbers.specs.Sections.{info_code}
 use Rattle.numbers.specs.Refusals.{no_unit}
 use Rattle.elf.specs.File.{Header, body_of, no_header, code_of, is_wanted}
 use Rattle.elf.specs.Reader.{first_info, width_stated, version_stated, encoding_stated, unit_stated, object_word}
-use Rattle.elf.specs.Held.{section_of, sections_in, word_with}
+use Rattle.elf.specs.Held.{info_of, stated_of, word_with}
+use Rattle.elf.specs.declared.stating.Stated.TheVariants as stated
+use Rattle.elf.proofs.Judged.{wanted, unwanted}
 
 -- ---- a unit that doesn't end in its section
 only_unit_inside : (e : Encoding) (s : List ℕ) → Only 11 (unit_inside e s)
@@ -40,7 +40,7 @@ unfolding unit_inside unit_size fits
 only_unit_inside e s =
     only_bind 11 _ _ (only_bind 11 _ _ (only_require _ 11) (λ _. only_bind 11 _ _ (only_require _ 11) (λ _. only_pass 11 _))) (λ n. only_bind 11 _ _ (only_require _ 11) (λ _. only_pass 11 n))
 
--- ---- the first info, by the sections of the headers
+-- ---- the first info
 module _ (f names : List ℕ) (hs : List Header) (i : ℕ) where
   pub info_none : length hs ≤ i → [] ≡ first_info f names (those (is_wanted names) (drop i hs))
   unfolding first_info those
@@ -53,73 +53,69 @@ module _ (f names : List ℕ) (hs : List Header) (i : ℕ) where
     one : drop i hs ≡ h ∷ drop (i + 1) hs
     one = drop-cons hs i no_header l ∙ ap (λ (k : ℕ). h ∷ drop k hs) (sym (add-one i))
 
-    skipped : is_wanted names h ≡ false → first_info f names (those (is_wanted names) (drop (i + 1) hs)) ≡ first_info f names (those (is_wanted names) (drop i hs))
-    skipped e = sym (ap (first_info f names) (ap (those (is_wanted names)) one ∙ those_skips (is_wanted names) h (drop (i + 1) hs) e))
+    -- of a code that isn't 0
+    kept : (code_of names h ≡ 0 → ⊥) → those (is_wanted names) (drop i hs) ≡ h ∷ those (is_wanted names) (drop (i + 1) hs)
+    kept g = ap (those (is_wanted names)) one ∙ those_keeps (is_wanted names) h (drop (i + 1) hs) (wanted names h g)
 
-    kept : is_wanted names h ≡ true → those (is_wanted names) (drop i hs) ≡ h ∷ those (is_wanted names) (drop (i + 1) hs)
-    kept e = ap (those (is_wanted names)) one ∙ those_keeps (is_wanted names) h (drop (i + 1) hs) e
+    pub info_here : (length (info_of f names h) ≡ 0 → ⊥) → info_of f names h ≡ first_info f names (those (is_wanted names) (drop i hs))
+    unfolding info_of first_info
+    info_here g = go (eqb (code_of names h) info_code) refl
+      where
+        go : (t : Bool) → eqb (code_of names h) info_code ≡ t → info_of f names h ≡ first_info f names (those (is_wanted names) (drop i hs))
+        go false e = absurd (g (rw (info_of, e)))
+        go true e =
+            let c : code_of names h ≡ 1 = eqb-true (code_of names h) 1 e in
+            let n : length (body_of f h) ≡ 0 → ⊥ = λ z. g (rw (info_of, e) z) in
+            let is : info_of f names h ≡ body_of f h = rw (info_of, e) in
+            is ∙ sym (ap (first_info f names) (kept (λ z. let o : 1 ≡ 0 = sym c ∙ z in omega arith)) ∙ rw (first_info, e, ne_eqb (length (body_of f h)) 0 n))
 
-    -- it is unwanted
-    pub info_unwanted : [] ≡ sections_in f names (h ∷ []) → first_info f names (those (is_wanted names) (drop (i + 1) hs)) ≡ first_info f names (those (is_wanted names) (drop i hs))
-    info_unwanted e = ⊎_elim (λ t. absurd (let q : [] ≡ section_of f names h ∷ [] = e ∙ one_wanted f names h t in let z : ◌≡◌ {A = ℕ} 0 1 = cc in omega arith)) skipped (known (is_wanted names h))
+    pub info_on : length (info_of f names h) ≡ 0 → first_info f names (those (is_wanted names) (drop (i + 1) hs)) ≡ first_info f names (those (is_wanted names) (drop i hs))
+    unfolding info_of first_info
+    info_on g = ⊎_elim some none (known (eqb (code_of names h) 0))
+      where
+        some : eqb (code_of names h) 0 ≡ true → first_info f names (those (is_wanted names) (drop (i + 1) hs)) ≡ first_info f names (those (is_wanted names) (drop i hs))
+        some e = sym (ap (first_info f names) (ap (those (is_wanted names)) one ∙ those_skips (is_wanted names) h (drop (i + 1) hs) (unwanted names h (eqb-true (code_of names h) 0 e))))
 
-    -- its section
-    module _ (s : Section) (e : s ∷ [] ≡ sections_in f names (h ∷ [])) where
-      section_is : (is_wanted names h ≡ true) × (s ≡ section_of f names h)
-      section_is = ⊎_elim
-          (λ (t : is_wanted names h ≡ true). let q : s ∷ [] ≡ section_of f names h ∷ [] = e ∙ one_wanted f names h t in (t, cc))
-          (λ (t : is_wanted names h ≡ false). absurd (let q : s ∷ [] ≡ [] = e ∙ one_unwanted f names h t in let z : ◌≡◌ {A = ℕ} 0 1 = cc in omega arith))
-          (known (is_wanted names h))
+        go : (t : Bool) → eqb (code_of names h) info_code ≡ t
+            → first_info f names (those (is_wanted names) (drop (i + 1) hs)) ≡ first_info f names (h ∷ those (is_wanted names) (drop (i + 1) hs))
+        go false e = rw (first_info, e)
+        go true e =
+            let n : length (body_of f h) ≡ 0 = rw (info_of, e) at g in
+            rw (first_info, e, eq-eqb (length (body_of f h)) 0 n)
 
-      pub info_here : s.code ≡ 1 → (length s.bytes ≡ 0 → ⊥) → s.bytes ≡ first_info f names (those (is_wanted names) (drop i hs))
-      unfolding first_info section_of
-      info_here c g =
-          let q = section_is in
-          let code : code_of names h ≡ 1 = ap (λ (x : Section). x.code) (sym q.1) ∙ c in
-          let bytes : s.bytes ≡ body_of f h = ap (λ (x : Section). x.bytes) q.1 in
-          bytes ∙ sym (ap (first_info f names) (kept q.0) ∙ rw (first_info, eq-eqb (code_of names h) 1 code, ne_eqb (length (body_of f h)) 0 (λ z. g (ap length bytes ∙ z))))
-
-      pub info_other : (s.code ≡ 1 → length s.bytes ≡ 0) → first_info f names (those (is_wanted names) (drop (i + 1) hs)) ≡ first_info f names (those (is_wanted names) (drop i hs))
-      unfolding first_info section_of
-      info_other g =
-          let q = section_is in
-          sym (ap (first_info f names) (kept q.0) ∙ go (eqb (code_of names h) info_code) refl (ap (λ (x : Section). x.code) (sym q.1)) (ap (λ (x : Section). x.bytes) (sym q.1)))
-        where
-          go : (t : Bool) → eqb (code_of names h) info_code ≡ t → code_of names h ≡ s.code → body_of f h ≡ s.bytes
-              → first_info f names (h ∷ those (is_wanted names) (drop (i + 1) hs)) ≡ first_info f names (those (is_wanted names) (drop (i + 1) hs))
-          go false e c b = rw (first_info, e)
-          go true e c b = rw (first_info, e, eq-eqb (length (body_of f h)) 0 (ap length b ∙ g (sym c ∙ eqb-true (code_of names h) 1 e)))
+        none : eqb (code_of names h) 0 ≡ false → first_info f names (those (is_wanted names) (drop (i + 1) hs)) ≡ first_info f names (those (is_wanted names) (drop i hs))
+        none e = go (eqb (code_of names h) info_code) refl ∙ sym (ap (first_info f names) (kept (λ z. true_false (eq-eqb (code_of names h) 0 z) e)))
 
 -- ---- what the unit states
 module _ (big : Bool) (s : List ℕ) where
   abbrev versions : Bool
   versions = eqb (encoding_stated big s).version 4 || eqb (encoding_stated big s).version 5
 
-  pub bad_version : (eqb (encoding_stated big s).version 4 || eqb (encoding_stated big s).version 5) ≡ false → refuse no_unit ≡ mapped object_word (unit_stated big s)
-  unfolding unit_stated mapped
-  bad_version e = sym (ap (mapped object_word) (fails _ no_unit _ e))
+  pub bad_version : (eqb (encoding_stated big s).version 4 || eqb (encoding_stated big s).version 5) ≡ false → stated.Refused ≡ stated_of (unit_stated big s)
+  unfolding unit_stated stated_of
+  bad_version e = sym (ap stated_of (fails _ no_unit _ e))
 
   module _ (e : Encoding) (own : with_address e (stated_address e s) ≡ encoding_stated big s) where
-    pub good_version : (eqb (encoding_stated big s).version 4 || eqb (encoding_stated big s).version 5) ≡ true → word_with e (address_of e s) ≡ mapped object_word (unit_stated big s)
-    unfolding unit_stated mapped word_with address_of
+    pub good_version : (eqb (encoding_stated big s).version 4 || eqb (encoding_stated big s).version 5) ≡ true → word_with e (address_of e s) ≡ stated_of (unit_stated big s)
+    unfolding unit_stated stated_of word_with address_of
     good_version v = go (header_passes (with_address e (stated_address e s)) 1 s) refl
       where
-        go : (t : Bool) → header_passes (with_address e (stated_address e s)) 1 s ≡ t → word_with e (address_of e s) ≡ mapped object_word (unit_stated big s)
+        go : (t : Bool) → header_passes (with_address e (stated_address e s)) 1 s ≡ t → word_with e (address_of e s) ≡ stated_of (unit_stated big s)
         go true p =
             let q : header_passes (encoding_stated big s) info_code s ≡ true = ap (λ (x : Encoding). header_passes x 1 s) (sym own) ∙ p in
-            let left : word_with e (address_of e s) ≡ pass (object_word (with_address e (stated_address e s))) = rw (address_of, p) in
-            left ∙ ap (λ (x : Encoding). pass (object_word x)) own ∙ sym (ap (mapped object_word) (passes _ no_unit _ v ∙ passes _ no_unit _ q))
+            let left : word_with e (address_of e s) ≡ stated.Is (object_word (with_address e (stated_address e s))) = rw (address_of, p) in
+            left ∙ ap (λ (x : Encoding). stated.Is (object_word x)) own ∙ sym (ap stated_of (passes _ no_unit _ v ∙ passes _ no_unit _ q))
         go false p =
             let q : header_passes (encoding_stated big s) info_code s ≡ false = ap (λ (x : Encoding). header_passes x 1 s) (sym own) ∙ p in
-            let left : word_with e (address_of e s) ≡ refuse no_unit = rw (address_of, p) in
-            left ∙ sym (ap (mapped object_word) (passes _ no_unit _ v ∙ fails _ no_unit _ q))
+            let left : word_with e (address_of e s) ≡ stated.Refused = rw (address_of, p) in
+            left ∙ sym (ap stated_of (passes _ no_unit _ v ∙ fails _ no_unit _ q))
 
   own_stated : with_address (version_stated big s) (stated_address (version_stated big s) s) ≡ encoding_stated big s
   unfolding encoding_stated version_stated with_address stated_address
   own_stated = refl
 
   -- no version stands there
-  pub no_version : length s < length_field (version_stated big s) + 2 → refuse no_unit ≡ mapped object_word (unit_stated big s)
+  pub no_version : length s < length_field (version_stated big s) + 2 → stated.Refused ≡ stated_of (unit_stated big s)
   unfolding word_with
   no_version h = ⊎_elim good (bad_version) (known versions)
     where
@@ -130,7 +126,7 @@ module _ (big : Bool) (s : List ℕ) where
       unread (pass n) q = alone_fields e s n q (sym (fields_short e (take n s) (omega (arith, length-take n s, common_ge e))))
       unread (refuse m) q = alone_none e s (q ∙ ap refuse ((only_unit_inside e s).is m q))
 
-      good : versions ≡ true → refuse no_unit ≡ mapped object_word (unit_stated big s)
+      good : versions ≡ true → stated.Refused ≡ stated_of (unit_stated big s)
       good v = ap (word_with e) (unread (unit_inside e s) refl) ∙ good_version e own_stated v
 
 -- in the code's form
@@ -166,19 +162,19 @@ module _ (big : Bool) (s : List ℕ) (wide : Bool) (w : wide ≡ marked big s) w
     stands : n ≡ (encoding_stated big s).version
     stands = e ∙ ap (number_at big 2 s) d ∙ version_is
 
-    pub stated_four : n ≡ 4 → word_with (code_form big false wide) (address_of (code_form big false wide) s) ≡ mapped object_word (unit_stated big s)
+    pub stated_four : n ≡ 4 → word_with (code_form big false wide) (address_of (code_form big false wide) s) ≡ stated_of (unit_stated big s)
     unfolding four
     stated_four v =
         good_version big s (code_form big false wide) (own_is false (ap (number_at big 2 s) (sym d) ∙ sym e ∙ v))
         (or_left (eqb (encoding_stated big s).version 4) (eqb (encoding_stated big s).version 5) (eq-eqb (encoding_stated big s).version 4 (sym stands ∙ v)))
 
-    pub stated_five : n ≡ 5 → word_with (code_form big true wide) (address_of (code_form big true wide) s) ≡ mapped object_word (unit_stated big s)
+    pub stated_five : n ≡ 5 → word_with (code_form big true wide) (address_of (code_form big true wide) s) ≡ stated_of (unit_stated big s)
     unfolding four
     stated_five v =
         good_version big s (code_form big true wide) (own_is true (ap (number_at big 2 s) (sym d) ∙ sym e ∙ v))
         (or_right (eqb (encoding_stated big s).version 4) (eqb (encoding_stated big s).version 5) (eq-eqb (encoding_stated big s).version 5 (sym stands ∙ v)))
 
-    pub stated_neither : (n ≡ 4 → ⊥) → (n ≡ 5 → ⊥) → refuse no_unit ≡ mapped object_word (unit_stated big s)
+    pub stated_neither : (n ≡ 4 → ⊥) → (n ≡ 5 → ⊥) → stated.Refused ≡ stated_of (unit_stated big s)
     stated_neither v w =
         bad_version big s (or_neither (eqb (encoding_stated big s).version 4) (eqb (encoding_stated big s).version 5) (ne_eqb (encoding_stated big s).version 4 (λ z. v (stands ∙ z))) (ne_eqb (encoding_stated big s).version 5 (λ z. w (stands ∙ z))))
 

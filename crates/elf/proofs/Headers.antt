@@ -2,23 +2,17 @@
 -- Assumes nothing.
 use mathlib.Core.Path.{◌≡◌, refl, sym, ap, ap₂, ◌∙◌}
 use mathlib.Core.Bool.{Bool, true, false}
-use mathlib.Core.List.{List, []}
+use mathlib.Core.List.{List}
 use Prim.Native.Nat.{ℕ, zero, suc, ◌+◌, ◌*◌, ◌-◌, ◌≤◌, ◌<◌}
 use native.Mathlib.Nat.{not-suc-le-zero, le_of_suc-le-suc, zero-add}
+use native.Mathlib.Decide.{dec_le}
 use native.Mathlib.Omega.{arith}
-use lib.ListN.{length, take, drop, get_or, length-drop}
-use lib.Seq.{take_all}
-use denote.Bor.{Bor}
-use Rattle.std.proofs.Common.{Option, None, Some}
-use Rattle.std.specs.List.{slice_range}
-use Rattle.std.specs.Option.{MatchOption}
-use Rattle.std.specs.Slice.{IsGetRangeResult}
-use borrow.Author.Tests.{eq-eqb, ne_eqb, le-leb, lt-leb}
-use Rattle.octets.specs.Octets.{part}
+use lib.Dec.{leb}
+use lib.ListN.{length, get_or}
+use borrow.Author.Tests.{eq-eqb, ne_eqb, le-leb, lt-leb, leb-true}
 use Rattle.octets.proofs.Parts.{part_none}
-use Rattle.elf.specs.Held.{file_is}
-use Rattle.elf.specs.declared.file.ElfFile.{ElfFile}
 use Rattle.elf.specs.File.{Header, header_at, headers_at, unstored, body_of, inside, no_header}
+use Rattle.elf.specs.Held.{bytes_in, Stored}
 
 -- ---- the list of headers
 pub length_headers : (big : Bool) (f : List ℕ) (j at n : ℕ) → length (headers_at big f j at n) ≡ n
@@ -40,47 +34,42 @@ pub headers_number : (big : Bool) (f : List ℕ) (at n i : ℕ) → i < n → (g
 unfolding header_at
 headers_number big f at n i h = ap (λ (x : Header). x.number) (headers_at_law big f 0 at n i h) ∙ zero-add i
 
--- ---- the bytes of a section, where all of them are in the file
+-- ---- inside the file
 module _ (f : List ℕ) (h : Header) where
-  pub unstored_is : h.type ≡ 8 → (inside f h ≡ true) × ([] ≡ body_of f h)
-  unfolding inside body_of unstored
-  unstored_is e = (rw (inside, unstored, eq-eqb h.type 8 e), rw (body_of, unstored, eq-eqb h.type 8 e))
+  pub inside_unstored : h.type ≡ 8 → true ≡ inside f h
+  unfolding inside unstored
+  inside_unstored e = rw (inside, unstored, eq-eqb h.type 8 e)
 
   module _ (u : h.type ≡ 8 → ⊥) where
-    pub empty_is : h.size ≡ 0 → (inside f h ≡ true) × ([] ≡ body_of f h)
-    unfolding inside body_of unstored
-    empty_is e = (rw (inside, unstored, ne_eqb h.type 8 u, eq-eqb h.size 0 e), rw (body_of, unstored, ne_eqb h.type 8 u, e) (sym (part_none f h.offset)))
+    pub inside_empty : h.size ≡ 0 → true ≡ inside f h
+    unfolding inside unstored
+    inside_empty e = rw (inside, unstored, ne_eqb h.type 8 u, eq-eqb h.size 0 e)
 
     module _ (v : h.size ≡ 0 → ⊥) where
-      pub outside_is : length f < h.offset + h.size → inside f h ≡ false
+      pub inside_is : leb (h.offset + h.size) (length f) ≡ inside f h
       unfolding inside unstored
-      outside_is g = rw (inside, unstored, ne_eqb h.type 8 u, ne_eqb h.size 0 v) (lt-leb (h.offset + h.size) (length f) g)
+      inside_is = rw (inside, unstored, ne_eqb h.type 8 u, ne_eqb h.size 0 v)
 
-      pub stored_is : h.offset + h.size ≤ length f → (inside f h ≡ true) × (take h.size (drop h.offset f) ≡ body_of f h)
-      unfolding inside body_of unstored part
-      stored_is g = (rw (inside, unstored, ne_eqb h.type 8 u, ne_eqb h.size 0 v) (le-leb (h.offset + h.size) (length f) g), rw (body_of, unstored, ne_eqb h.type 8 u))
+      pub inside_long : length f < h.size → false ≡ inside f h
+      inside_long g = sym (lt-leb (h.offset + h.size) (length f) (omega arith)) ∙ inside_is
 
-      -- as the code takes them: what follows the section's place, and so many bytes at its front
-      module _ (rest : List ℕ) (g : h.offset ≤ length f) (e : rest ≡ slice_range f h.offset (length f)) where
-        rest_is : rest ≡ drop h.offset f
-        rest_is = e ∙ take_all (length f - h.offset) (drop h.offset f) (omega (arith, length-drop h.offset f))
+      pub inside_tested : h.size ≤ length f → leb h.offset (length f - h.size) ≡ inside f h
+      inside_tested g = elim (dec_le (h.offset + h.size) (length f)) [
+        | yes y ↦ le-leb h.offset (length f - h.size) (omega arith) ∙ sym (le-leb (h.offset + h.size) (length f) y) ∙ inside_is
+        | no y ↦ lt-leb h.offset (length f - h.size) (omega arith) ∙ sym (lt-leb (h.offset + h.size) (length f) (omega arith)) ∙ inside_is
+      ]
 
-        pub taken_is : (r : Option (Bor (List ℕ))) → IsGetRangeResult rest 0 h.size r → MatchOption r (inside f h ≡ false) (λ b. (inside f h ≡ true) × (b.now ≡ body_of f h))
-        taken_is None p = outside_is (omega (arith, p.0, ap length rest_is, length-drop h.offset f))
-        taken_is (Some b) p =
-            let there : (inside f h ≡ true) × (take h.size (drop h.offset f) ≡ body_of f h) = stored_is (omega (arith, p.0, ap length rest_is, length-drop h.offset f)) in
-            (there.0, p.0.2 ∙ ap₂ (λ (n : ℕ) (l : List ℕ). take n l) (omega arith) rest_is ∙ there.1)
+-- ---- where the bytes lie
+module _ (f : List ℕ) (h : Header) where
+  pub stored_unstored : h.type ≡ 8 → Stored f h (record { start = 0; size = 0 })
+  unfolding bytes_in body_of unstored
+  stored_unstored e = record { bytes = rw (body_of, unstored, eq-eqb h.type 8 e) (part_none f 0); lies = omega arith }
 
--- ---- a file that was opened
-module _ (e : ElfFile) where
-  pub length_all : length (file_is e).headers ≡ e.count
-  length_all = length_headers e.big e.bytes.now 0 e.at e.count
+  module _ (u : h.type ≡ 8 → ⊥) where
+    pub stored_empty : h.size ≡ 0 → Stored f h (record { start = 0; size = 0 })
+    unfolding bytes_in body_of unstored
+    stored_empty e = record { bytes = rw (body_of, unstored, ne_eqb h.type 8 u, e) (part_none f 0 ∙ sym (part_none f h.offset)); lies = omega arith }
 
-  pub in_headers : (i : ℕ) → i < e.count → i < length (file_is e).headers
-  in_headers i h = omega (arith, length_all)
-
-  pub past_headers : (i : ℕ) → e.count ≤ i → length (file_is e).headers ≤ i
-  past_headers i h = omega (arith, length_all)
-
-  pub numbered : (i : ℕ) → i < length (file_is e).headers → (get_or (file_is e).headers i no_header).number ≡ i
-  numbered i h = headers_number e.big e.bytes.now e.at e.count i (omega (arith, length_all))
+    pub stored_there : (h.size ≡ 0 → ⊥) → inside f h ≡ true → Stored f h (record { start = h.offset; size = h.size })
+    unfolding bytes_in body_of unstored
+    stored_there v g = record { bytes = rw (body_of, unstored, ne_eqb h.type 8 u); lies = leb-true (h.offset + h.size) (length f) (inside_is f h u v ∙ g) }

@@ -3,9 +3,7 @@
 use mathlib.Core.Path.{◌≡◌, refl, sym, ap, ◌∙◌}
 use mathlib.Core.Bool.{Bool, true, false, not, ◌&&◌, ◌||◌}
 use mathlib.Core.List.{List, [], ◌∷◌}
-use Prim.Native.Nat.{ℕ, suc, ◌+◌, ◌≤◌, ◌<◌}
-use Rattle.std.specs.List.{list_all, range_with_len}
-use native.Mathlib.Omega.{arith}
+use Prim.Native.Nat.{ℕ, ◌≤◌, ◌<◌}
 use lib.Dec.{eqb, ltb}
 use lib.ListN.{length, drop, get_or}
 use borrow.Author.Tests.{eq-eqb, ne_eqb, lt-ltb, le-ltb}
@@ -13,11 +11,8 @@ use Rattle.octets.specs.Lists.{all, any, those}
 use Rattle.octets.proofs.Checks.{true_false}
 use Rattle.octets.proofs.Lists.{all_cons, all_stops, those_keeps, those_skips}
 use Rattle.octets.proofs.Elements.{all_at}
-use Rattle.elf.specs.File.{Header, body_of, inside, no_header, code_of, is_wanted, ended}
-use Rattle.elf.specs.Held.{header_good, code_found}
-use Rattle.std.proofs.Common.{Option, Some, None}
-use Rattle.std.specs.Option.{is_some, MatchOption}
-use denote.Bor.{Bor}
+use Rattle.elf.specs.File.{Header, inside, no_header, code_of, is_wanted, ended}
+use Rattle.elf.specs.Held.{header_good}
 
 -- ---- wanted or not
 module _ (names : List ℕ) (h : Header) where
@@ -28,15 +23,6 @@ module _ (names : List ℕ) (h : Header) where
   pub wanted : (code_of names h ≡ 0 → ⊥) → is_wanted names h ≡ true
   unfolding is_wanted
   wanted e = rw (is_wanted, ne_eqb (code_of names h) 0 e)
-
-  -- as the code tells it
-  pub told_wanted : (r : Option ℕ) → r ≡ code_found (code_of names h) → is_some r ≡ is_wanted names h
-  unfolding is_wanted
-  told_wanted r e = ap is_some e ∙ go (eqb (code_of names h) 0) refl
-    where
-      go : (t : Bool) → eqb (code_of names h) 0 ≡ t → is_some (code_found (code_of names h)) ≡ is_wanted names h
-      go true q = rw (code_found, is_wanted, q)
-      go false q = rw (code_found, is_wanted, q)
 
 -- a test of those that pass another
 pub all_of_those : {A : Type 0} (w p : A → Bool) (xs : List A) → all p (those w xs) ≡ all (λ x. not (w x) || p x) xs
@@ -66,41 +52,31 @@ all_both p q (x ∷ xs) = go (p x) (q x) refl refl (all_both p q xs)
 
 -- ---- 31 of one header
 module _ (f names : List ℕ) (h : Header) (last : ℕ) (is : (n : ℕ) → any (eqb 0) (drop n names) ≡ ltb n last) where
-  pub good_unended : last ≤ h.name → ltb h.name last ≡ header_good f names h
-  unfolding ended
-  good_unended g = rw (ended, is h.name, le-ltb h.name last g)
+  pub good_unended : last ≤ h.name → false ≡ header_good f names h
+  unfolding header_good ended
+  good_unended g = rw (header_good, ended, is h.name, le-ltb h.name last g)
 
-  pub good_ended : h.name < last → (not (is_wanted names h) || inside f h) ≡ header_good f names h
-  unfolding ended
-  good_ended g = rw (ended, is h.name, lt-ltb h.name last g)
+  module _ (g : h.name < last) where
+    pub good_unwanted : code_of names h ≡ 0 → true ≡ header_good f names h
+    unfolding header_good ended
+    good_unwanted e = rw (header_good, ended, is h.name, lt-ltb h.name last g, unwanted names h e)
 
--- whether a section's bytes were found
-pub stored_inside : (f : List ℕ) (h : Header) (r : Option (Bor (List ℕ))) → MatchOption r (inside f h ≡ false) (λ b. (inside f h ≡ true) × (b.now ≡ body_of f h)) → is_some r ≡ inside f h
-stored_inside f h None e = sym e
-stored_inside f h (Some b) e = sym e.0
+    pub good_wanted : (code_of names h ≡ 0 → ⊥) → inside f h ≡ header_good f names h
+    unfolding header_good ended
+    good_wanted e = rw (header_good, ended, is h.name, lt-ltb h.name last g, wanted names h e)
 
 pub good_all : (f names : List ℕ) (hs : List Header) → all (header_good f names) hs ≡ (all (ended names) hs && all (inside f) (those (is_wanted names) hs))
+unfolding header_good
 good_all f names hs =
     all_both (ended names) (λ h. not (is_wanted names h) || inside f h) hs ∙ ap (λ (b : Bool). all (ended names) hs && b) (sym (all_of_those (is_wanted names) (inside f) hs))
 
 -- a wanted section's bytes are inside, where all of them are
 pub wanted_inside : (f names : List ℕ) (hs : List Header) (i : ℕ) → all (inside f) (those (is_wanted names) hs) ≡ true → i < length hs
-    → is_wanted names (get_or hs i no_header) ≡ true → inside f (get_or hs i no_header) ≡ true
-wanted_inside f names hs i a h w =
-    either (is_wanted names (get_or hs i no_header)) (inside f (get_or hs i no_header)) w
+    → (code_of names (get_or hs i no_header) ≡ 0 → ⊥) → inside f (get_or hs i no_header) ≡ true
+wanted_inside f names hs i a h e =
+    either (is_wanted names (get_or hs i no_header)) (inside f (get_or hs i no_header)) (wanted names (get_or hs i no_header) e)
     (all_at (λ x. not (is_wanted names x) || inside f x) no_header hs i (sym (all_of_those (is_wanted names) (inside f) hs) ∙ a) h)
   where
     either : (t u : Bool) → t ≡ true → (not t || u) ≡ true → u ≡ true
     either true u p q = q
     either false u p q = absurd (true_false p refl)
-
--- ---- a test of each header by its number
-pub all_range : {A : Type 0} (p : A → Bool) (d : A) (t : ℕ → Bool) (k : ℕ) (xs : List A) → ((i : ℕ) → i < length xs → t (k + i) ≡ p (get_or xs i d))
-    → list_all t (range_with_len k (length xs)) ≡ all p xs
-unfolding all
-all_range p d t k [] h = refl
-all_range p d t k (x ∷ xs) h = go (p x) refl (ap t (omega arith) ∙ h 0 (omega arith)) (all_range p d t (k + 1) xs (λ i l. ap t (omega arith) ∙ h (suc i) (omega arith)))
-  where
-    go : (b : Bool) → p x ≡ b → t k ≡ p x → list_all t (range_with_len (k + 1) (length xs)) ≡ all p xs → list_all t (range_with_len k (length (x ∷ xs))) ≡ all p (x ∷ xs)
-    go true e q more = rw (q, e) (more ∙ sym (all_cons p x xs e))
-    go false e q more = rw (q, e) (sym (all_stops p x xs e))

@@ -10,16 +10,15 @@ use native.Mathlib.Numerals.{add-one}
 use native.Mathlib.Omega.{arith}
 use lib.Dec.{eqb, ltb}
 use lib.ListN.{length, take, drop, get_or, length-append, length-take, length-drop, drop_of_length-le}
-use Rattle.std.specs.List.{slice_range}
-use lib.Seq.{drop-cons, take_all, take-suc, take_at, length-take-le, get_or-take, get_or-drop, get_or-append-add}
-use borrow.Author.Tests.{eq-eqb, ne_eqb, eqb-true, lt-ltb, le-ltb}
+use lib.Seq.{drop-cons, drop-drop, take-suc, take_at, length-take-le, get_or-take, get_or-drop, get_or-append-add}
+use borrow.Author.Tests.{eq-eqb, eqb-true, lt-ltb, le-ltb}
+use Rattle.octets.specs.Octets.{part}
 use Rattle.octets.specs.Lists.{any, same}
-use Rattle.octets.proofs.Checks.{known}
+use Rattle.octets.proofs.Checks.{true_false, known}
 use Rattle.octets.proofs.Lists.{same_both, eq_same, same_eq, ne_same}
-use Rattle.octets.proofs.Elements.{any_at, at_any}
+use Rattle.octets.proofs.Elements.{any_at, at_any, none_at}
+use Rattle.octets.proofs.Parts.{drop_take}
 use Rattle.numbers.specs.Names.{dwo_words, index_words, name_prefix, name_suffix, dwo_name, index_name, section_names}
-use Rattle.std.proofs.Common.{Some}
-use Rattle.elf.specs.Held.{code_found}
 use Rattle.elf.specs.File.{Header, starts_with, code_among, code_of}
 
 -- ---- s starts with a name and a zero
@@ -64,10 +63,6 @@ module _ (ns : List (List ℕ)) (i : ℕ) (s : List ℕ) where
   unfolding code_among
   among_none h = rw (drop_of_length-le ns h)
 
--- a code that is not 0
-pub found_some : (n : ℕ) → (n ≡ 0 → ⊥) → Some n ≡ code_found n
-found_some n h = rw (code_found, ne_eqb n 0 h)
-
 among_nothing : (ns : List (List ℕ)) (c : ℕ) → code_among ns c [] ≡ 0
 unfolding code_among
 among_nothing [] c = refl
@@ -91,26 +86,32 @@ pub code_most : (names : List ℕ) (h : Header) → code_of names h ≤ 13
 unfolding code_of
 code_most names h = omega (arith, among_most (drop 1 section_names) 1 (drop h.name names), length-drop 1 section_names, names_fourteen)
 
--- of the bytes that follow the name's place
-module _ (names : List ℕ) (h : Header) where
-  pub code_behind : length names < h.name → 0 ≡ code_of names h
-  unfolding code_of
-  code_behind g = sym (ap (code_among (drop 1 section_names) 1) (drop_of_length-le names (omega arith)) ∙ among_nothing (drop 1 section_names) 1)
+-- in a table at a place of the file
+module _ (f : List ℕ) (start size : ℕ) (lies : start + size ≤ length f) (h : Header) where
+  pub code_behind : size < h.name → 0 ≡ code_of (part f start size) h
+  unfolding code_of part
+  code_behind g =
+      let short : length (take size (drop start f)) ≤ h.name = omega (arith, length-take size (drop start f)) in
+      let none = drop_of_length-le (take size (drop start f)) short in
+      sym (ap (code_among (drop 1 section_names) 1) none ∙ among_nothing (drop 1 section_names) 1)
 
-  pub code_there : (rest : List ℕ) → rest ≡ slice_range names h.name (length names) → code_among (drop 1 section_names) 1 rest ≡ code_of names h
-  unfolding code_of
-  code_there rest e = ap (code_among (drop 1 section_names) 1) (e ∙ take_all (length names - h.name) (drop h.name names) (omega (arith, length-drop h.name names)))
+  pub code_there : h.name ≤ size → code_among (drop 1 section_names) 1 (take (start + size - (start + h.name)) (drop (start + h.name) f)) ≡ code_of (part f start size) h
+  unfolding code_of part
+  code_there g =
+      let n : start + size - (start + h.name) ≡ size - h.name = omega arith in
+      ap (code_among (drop 1 section_names) 1)
+      (ap (λ (k : ℕ). take k (drop (start + h.name) f)) n ∙ ap (take (size - h.name)) (sym (drop-drop h.name start f)) ∙ sym (drop_take h.name size (drop start f)))
 
 -- ---- the last zero byte
-module _ (s : List ℕ) (i : ℕ) (later : (k : ℕ) → i ≤ k → k < length s → get_or s k 0 ≡ 0 → ⊥) where
-  no_end : (n : ℕ) → i ≤ n → any (eqb 0) (drop n s) ≡ false
+module _ (s : List ℕ) (i : ℕ) (later : any (eqb 0) (drop i s) ≡ false) where
+  pub no_end : (n : ℕ) → i ≤ n → any (eqb 0) (drop n s) ≡ false
   no_end n h = ⊎_elim (λ t. absurd (found (at_any (eqb 0) 0 (drop n s) t))) (λ t. t) (known (any (eqb 0) (drop n s)))
     where
       found : (j : ℕ) × (j < length (drop n s)) × (eqb 0 (get_or (drop n s) j 0) ≡ true) → ⊥
-      found (j, l, e) = later (n + j) (omega arith) (omega (arith, l, length-drop n s)) (sym (get_or-drop n s j 0) ∙ sym (eqb-true 0 (get_or (drop n s) j 0) e))
-
-  pub none_is : i ≡ 0 → (n : ℕ) → any (eqb 0) (drop n s) ≡ ltb n 0
-  none_is z n = no_end n (omega arith) ∙ sym (le-ltb n 0 (omega arith))
+      found (j, l, e) =
+          let k : i + (n + j - i) ≡ n + j = omega arith in
+          let there : get_or (drop i s) (n + j - i) 0 ≡ get_or (drop n s) j 0 = get_or-drop i s (n + j - i) 0 ∙ ap (λ (m : ℕ). get_or s m 0) k ∙ sym (get_or-drop n s j 0) in
+          true_false (ap (eqb 0) there ∙ e) (none_at (eqb 0) 0 (drop i s) (n + j - i) later (omega (arith, l, length-drop n s, length-drop i s)))
 
   pub last_is : 0 < i → i ≤ length s → get_or s (i - 1) 0 ≡ 0 → (n : ℕ) → any (eqb 0) (drop n s) ≡ ltb n i
   last_is p h z n = elim (dec_le i n) [
@@ -121,3 +122,18 @@ module _ (s : List ℕ) (i : ℕ) (later : (k : ℕ) → i ≤ k → k < length 
         (eq-eqb 0 (get_or (drop n s) (i - 1 - n) 0) (sym (get_or-drop n s (i - 1 - n) 0 ∙ ap (λ (m : ℕ). get_or s m 0) k ∙ z)))
         ∙ sym (lt-ltb n i (omega arith))
   ]
+
+  -- one byte more that is no zero
+  pub last_on : 0 < i → i ≤ length s → (get_or s (i - 1) 0 ≡ 0 → ⊥) → any (eqb 0) (drop (i - 1) s) ≡ false
+  last_on p h z = ⊎_elim (λ t. absurd (found (at_any (eqb 0) 0 (drop (i - 1) s) t))) (λ t. t) (known (any (eqb 0) (drop (i - 1) s)))
+    where
+      found : (j : ℕ) × (j < length (drop (i - 1) s)) × (eqb 0 (get_or (drop (i - 1) s) j 0) ≡ true) → ⊥
+      found (j, l, e) = elim (dec_le 1 j) [
+        | yes g ↦
+            let k : i + (j - 1) ≡ i - 1 + j = omega arith in
+            let there : get_or (drop i s) (j - 1) 0 ≡ get_or (drop (i - 1) s) j 0 = get_or-drop i s (j - 1) 0 ∙ ap (λ (m : ℕ). get_or s m 0) k ∙ sym (get_or-drop (i - 1) s j 0) in
+            true_false (ap (eqb 0) there ∙ e) (none_at (eqb 0) 0 (drop i s) (j - 1) later (omega (arith, l, length-drop (i - 1) s, length-drop i s)))
+        | no g ↦
+            let k : i - 1 + j ≡ i - 1 = omega arith in
+            z (sym (ap (λ (m : ℕ). get_or s m 0) k) ∙ sym (get_or-drop (i - 1) s j 0) ∙ sym (eqb-true 0 (get_or (drop (i - 1) s) j 0) e))
+      ]

@@ -16,6 +16,17 @@ use Rattle.numbers.specs.Refusals.{not_elf}
 use Rattle.elf.specs.File.{Header, header_at, headers_at, body_of, inside, file_of}
 use Rattle.elf.specs.Held.{with_names, from_type}
 
+-- ---- the bytes that start a file, as they are tested
+module _ (m : Bool) (x : ℕ) where
+  pub ident_first : m ≡ true → x ≡ 1 → true ≡ (m && (eqb x 1 || eqb x 2))
+  ident_first e h = rw (e, h)
+
+  pub ident_second : m ≡ true → (x ≡ 1 → ⊥) → eqb x 2 ≡ (m && (eqb x 1 || eqb x 2))
+  ident_second e h = rw (e, ne_eqb x 1 h)
+
+  pub ident_none : m ≡ false → false ≡ (m && (eqb x 1 || eqb x 2))
+  ident_none e = rw e
+
 module _ (f : List ℕ) where
   -- the bytes that start the file
   abbrev ident : Bool

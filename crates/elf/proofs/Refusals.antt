@@ -2,38 +2,31 @@
 -- Assumes nothing.
 use mathlib.Core.Path.{◌≡◌, refl, sym, ap, ◌∙◌}
 use mathlib.Core.Logic.{⊎_elim}
-use mathlib.Core.Bool.{true, false, ◌&&◌}
+use mathlib.Core.Bool.{Bool, true, false, ◌&&◌}
 use mathlib.Core.List.{List}
 use Prim.Native.Nat.{ℕ, ◌≤◌, ◌<◌}
+use native.Mathlib.Omega.{arith}
 use lib.ListN.{length}
 use borrow.Author.Tests.{le-leb, lt-leb}
 use Rattle.octets.specs.Lists.{all}
-use Rattle.octets.specs.Checked.{Check, pass, refuse, mapped}
-use Rattle.octets.proofs.Checks.{pass_refuse, pass_inj, refuse_inj, passes, fails, then_pass, then_refuse, and_left, and_right, and_fails, known}
+use Rattle.octets.specs.Checked.{Check, pass, refuse}
+use Rattle.octets.proofs.Checks.{passes, fails, then_pass, then_refuse, and_left, and_right, and_fails, known}
+use Rattle.octets.proofs.Refusals.{Only, only_pass, only_require, only_bind}
+use Rattle.bundle.specs.Encoding.{Encoding}
 use Rattle.bundle.specs.Written.{Section}
 use Rattle.answers.specs.declared.Written.{Written}
-use Rattle.numbers.specs.Refusals.{not_elf, unreadable_section, section_too_long}
+use Rattle.numbers.specs.Refusals.{not_elf, unreadable_section, no_unit, section_too_long}
 use Rattle.numbers.specs.Limits.{package_limit}
 use Rattle.elf.specs.File.{File, inside, ended, wanted_of, file_of, elf_of}
 use Rattle.elf.specs.Reader.{readable, first_info, unit_stated, object_word, sections_read, bundle_read}
-use Rattle.elf.specs.Held.{section_of, sections_in, short_enough, one_object, bundle_of_word, bundle_from}
-
--- ---- a check of what is made of a value
-mapped_refuse : {A B : Type 0} (g : A → B) (c : Check A) (n : ℕ) → refuse n ≡ mapped g c → c ≡ refuse n
-unfolding mapped
-mapped_refuse g (pass a) n e = absurd (pass_refuse (g a) n (sym e))
-mapped_refuse g (refuse m) n e = ap refuse (sym (refuse_inj e))
-
-mapped_pass : {A B : Type 0} (g : A → B) (c : Check A) (b : B) → pass b ≡ mapped g c → (a : A) × (c ≡ pass a) × (b ≡ g a)
-unfolding mapped
-mapped_pass g (pass a) b e = (a, refl, pass_inj e)
-mapped_pass g (refuse m) b e = absurd (pass_refuse b m e)
+use Rattle.elf.specs.Held.{section_of, sections_in, short_enough, stated_of, one_object, bundle_of_word, bundle_from}
+use Rattle.elf.specs.declared.stating.Stated.TheVariants.{Is, Refused}
 
 -- ---- 31
 module _ (f : List ℕ) where
-  pub elf_refused : (n : ℕ) → refuse n ≡ file_of f → refuse n ≡ elf_of f
+  pub elf_refused : refuse not_elf ≡ file_of f → refuse not_elf ≡ elf_of f
   unfolding elf_of
-  elf_refused n e = sym (then_refuse (file_of f) _ n (sym e))
+  elf_refused e = sym (then_refuse (file_of f) _ not_elf (sym e))
 
   module _ (e : File) (o : pass e ≡ file_of f) where
     pub elf_bad : (all (ended e.names) e.headers && all (inside f) (wanted_of e)) ≡ false → refuse not_elf ≡ elf_of f
@@ -50,29 +43,45 @@ module _ (f : List ℕ) where
     unfolding elf_of
     elf_good t = sym (then_pass (file_of f) _ e (sym o) ∙ passes _ _ _ (and_left _ _ t) ∙ passes _ _ _ (and_right (all (ended e.names) e.headers) _ t))
 
-  pub read_refused : (n : ℕ) → refuse n ≡ elf_of f → bundle_read f ≡ refuse n
+  pub read_refused : refuse not_elf ≡ elf_of f → bundle_read f ≡ refuse not_elf
   unfolding bundle_read
-  read_refused n e = then_refuse (elf_of f) _ n (sym e)
+  read_refused e = then_refuse (elf_of f) _ not_elf (sym e)
 
   pub read_from : (e : File) → pass e ≡ elf_of f → bundle_from f e ≡ bundle_read f
   unfolding bundle_read bundle_from bundle_of_word
   read_from e o = sym (then_pass (elf_of f) _ e (sym o))
 
 -- ---- 32 and 33
+only_unit_stated : (big : Bool) (s : List ℕ) → Only no_unit (unit_stated big s)
+unfolding unit_stated
+only_unit_stated big s = only_bind no_unit _ _ (only_require _ no_unit) (λ _. only_bind no_unit _ _ (only_require _ no_unit) (λ _. only_pass no_unit _))
+
+stated_refuse : (c : Check Encoding) → Refused ≡ stated_of c → (n : ℕ) × (c ≡ refuse n)
+unfolding stated_of
+stated_refuse (pass u) z = absurd (let o : ◌≡◌ {A = ℕ} 0 1 = cc in omega arith)
+stated_refuse (refuse n) z = (n, refl)
+
+stated_pass : (c : Check Encoding) (word : ℕ) → Is word ≡ stated_of c → (u : Encoding) × (c ≡ pass u) × (word ≡ object_word u)
+unfolding stated_of
+stated_pass (pass u) word z = (u, refl, cc)
+stated_pass (refuse n) word z = absurd (let o : ◌≡◌ {A = ℕ} 0 1 = cc in omega arith)
+
 module _ (f : List ℕ) (e : File) where
   pub from_unreadable : all (readable e.headers) (wanted_of e) ≡ false → bundle_from f e ≡ refuse unreadable_section
   unfolding bundle_from
   from_unreadable t = fails _ _ _ t
 
   module _ (t : all (readable e.headers) (wanted_of e) ≡ true) (s : List ℕ) (i : s ≡ first_info f e.names (wanted_of e)) where
-    pub from_unstated : (n : ℕ) → refuse n ≡ mapped object_word (unit_stated e.big s) → bundle_from f e ≡ refuse n
+    pub from_unstated : Refused ≡ stated_of (unit_stated e.big s) → bundle_from f e ≡ refuse no_unit
     unfolding bundle_from
-    from_unstated n r = passes _ _ _ t ∙ then_refuse _ _ n (ap (unit_stated e.big) (sym i) ∙ mapped_refuse object_word (unit_stated e.big s) n r)
+    from_unstated r =
+        let g = stated_refuse (unit_stated e.big s) r in
+        passes _ _ _ t ∙ then_refuse _ _ no_unit (ap (unit_stated e.big) (sym i) ∙ g.1 ∙ ap refuse ((only_unit_stated e.big s).is g.0 g.1))
 
-    pub from_word : (word : ℕ) → pass word ≡ mapped object_word (unit_stated e.big s) → bundle_of_word f e word ≡ bundle_from f e
+    pub from_word : (word : ℕ) → Is word ≡ stated_of (unit_stated e.big s) → bundle_of_word f e word ≡ bundle_from f e
     unfolding bundle_from
     from_word word r =
-        let g = mapped_pass object_word (unit_stated e.big s) word r in
+        let g = stated_pass (unit_stated e.big s) word r in
         sym (passes _ _ _ t ∙ then_pass _ _ g.0 (ap (unit_stated e.big) (sym i) ∙ g.1) ∙ ap (bundle_of_word f e) (sym g.2))
 
 -- ---- 19

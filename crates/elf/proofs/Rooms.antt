@@ -11,27 +11,27 @@ use lib.ListN.{length, take, drop, get_or, take-append-drop}
 use lib.Seq.{take-suc, take_all}
 use borrow.Author.Tests.{leb-true}
 use Rattle.octets.specs.Lists.{all, joined, sum, those}
-use Rattle.octets.specs.Checked.{Check, pass, refuse}
-use Rattle.numbers.specs.Refusals.{section_too_long}
-use Rattle.octets.proofs.Checks.{known, pass_refuse, and_both, and_left, and_right, not_left, not_right}
+use Rattle.octets.proofs.Checks.{known, and_both, and_left, and_right, not_left, not_right}
 use Rattle.octets.proofs.Lists.{all_append, those_append, those_keeps, those_skips}
 use Rattle.octets.proofs.Joined.{map-append, sum_append}
 use Rattle.bundle.specs.Bundle.{filled_up}
 use Rattle.bundle.specs.Written.{Section, section_bytes}
 use Rattle.bundle.proofs.Next.{filled_up_most}
 use Rattle.bundle.proofs.Sizes.{section_size, sections_size}
-use Rattle.elf.specs.File.{Header, body_of, no_header, is_wanted}
+use Rattle.elf.specs.File.{Header, body_of, no_header, code_of, is_wanted}
 use Rattle.elf.specs.Held.{section_of, sections_in, short_enough, room_sum, room_of}
+use Rattle.elf.specs.declared.bundling.Room.TheVariants.{Is, TooLong}
+use Rattle.elf.proofs.Judged.{wanted, unwanted}
 
 -- ---- of one header
 module _ (f names : List ℕ) (h : Header) where
-  pub one_wanted : is_wanted names h ≡ true → sections_in f names (h ∷ []) ≡ section_of f names h ∷ []
+  pub one_unwanted : code_of names h ≡ 0 → sections_in f names (h ∷ []) ≡ []
   unfolding sections_in those
-  one_wanted e = ap (map (section_of f names)) (those_keeps (is_wanted names) h [] e)
+  one_unwanted e = ap (map (section_of f names)) (those_skips (is_wanted names) h [] (unwanted names h e))
 
-  pub one_unwanted : is_wanted names h ≡ false → sections_in f names (h ∷ []) ≡ []
+  pub one_wanted : (code_of names h ≡ 0 → ⊥) → sections_in f names (h ∷ []) ≡ section_of f names h ∷ []
   unfolding sections_in those
-  one_unwanted e = ap (map (section_of f names)) (those_skips (is_wanted names) h [] e)
+  one_wanted e = ap (map (section_of f names)) (those_keeps (is_wanted names) h [] (wanted names h e))
 
 -- ---- room
 pub room_one : (s : Section) → room_sum (s ∷ []) ≡ 4 + filled_up (length s.bytes)
@@ -59,24 +59,24 @@ short_one s = go (short_enough s) refl
     go true e = rw (all, e)
     go false e = rw (all, e)
 
-pub room_good : (ss : List Section) → all short_enough ss ≡ true → pass (room_sum ss) ≡ room_of ss
+pub room_good : (ss : List Section) → all short_enough ss ≡ true → Is (room_sum ss) ≡ room_of ss
 unfolding room_of
 room_good ss e = rw (room_of, e)
 
-pub room_bad : (ss : List Section) → all short_enough ss ≡ false → refuse section_too_long ≡ room_of ss
+pub room_bad : (ss : List Section) → all short_enough ss ≡ false → TooLong ≡ room_of ss
 unfolding room_of
 room_bad ss e = rw (room_of, e)
 
-pub room_is : (ss : List Section) (n : ℕ) → pass n ≡ room_of ss → (all short_enough ss ≡ true) × (n ≡ room_sum ss)
+pub room_is : (ss : List Section) (n : ℕ) → Is n ≡ room_of ss → (all short_enough ss ≡ true) × (n ≡ room_sum ss)
 room_is ss n e = ⊎_elim
-    (λ (t : all short_enough ss ≡ true). let q : pass n ≡ pass (room_sum ss) = e ∙ sym (room_good ss t) in (t, cc))
-    (λ (t : all short_enough ss ≡ false). absurd (pass_refuse n section_too_long (e ∙ sym (room_bad ss t))))
+    (λ (t : all short_enough ss ≡ true). let q : Is n ≡ Is (room_sum ss) = e ∙ sym (room_good ss t) in (t, cc))
+    (λ (t : all short_enough ss ≡ false). absurd (let q : Is n ≡ TooLong = e ∙ sym (room_bad ss t) in let z : ◌≡◌ {A = ℕ} 0 1 = cc in omega arith))
     (known (all short_enough ss))
 
-pub room_not : (ss : List Section) (k : ℕ) → refuse k ≡ room_of ss → (all short_enough ss ≡ false) × (k ≡ section_too_long)
-room_not ss k e = ⊎_elim
-    (λ (t : all short_enough ss ≡ true). absurd (pass_refuse (room_sum ss) k (room_good ss t ∙ sym e)))
-    (λ (t : all short_enough ss ≡ false). let q : ◌≡◌ {A = Check ℕ} (refuse k) (refuse section_too_long) = e ∙ sym (room_bad ss t) in (t, cc))
+pub room_not : (ss : List Section) → TooLong ≡ room_of ss → all short_enough ss ≡ false
+room_not ss e = ⊎_elim
+    (λ (t : all short_enough ss ≡ true). absurd (let q : TooLong ≡ Is (room_sum ss) = e ∙ sym (room_good ss t) in let z : ◌≡◌ {A = ℕ} 0 1 = cc in omega arith))
+    (λ (t : all short_enough ss ≡ false). t)
     (known (all short_enough ss))
 
 -- ---- headers in a row
@@ -89,15 +89,23 @@ module _ (f names : List ℕ) where
   unfolding sections_in those
   sections_none = refl
 
+  keeps : (h : Header) → is_wanted names h ≡ true → sections_in f names (h ∷ []) ≡ section_of f names h ∷ []
+  unfolding sections_in those
+  keeps h e = ap (map (section_of f names)) (those_keeps (is_wanted names) h [] e)
+
+  skips : (h : Header) → is_wanted names h ≡ false → sections_in f names (h ∷ []) ≡ []
+  unfolding sections_in those
+  skips h e = ap (map (section_of f names)) (those_skips (is_wanted names) h [] e)
+
   -- what one header takes is bounded
   pub room_most : (h : Header) → all short_enough (sections_in f names (h ∷ [])) ≡ true → room_sum (sections_in f names (h ∷ [])) ≤ 8_388_615
   unfolding short_enough section_of
   room_most h e = ⊎_elim
       (λ (t : is_wanted names h ≡ true).
-      let q = one_wanted f names h t in
+      let q = keeps h t in
       let l : length (body_of f h) ≤ 8_388_607 = leb-true (length (body_of f h)) 8_388_607 (sym (short_one (section_of f names h)) ∙ ap (all short_enough) (sym q) ∙ e) in
       rw (q, room_one (section_of f names h)) (omega (arith, filled_up_most (length (body_of f h)))))
-      (λ (t : is_wanted names h ≡ false). rw (one_unwanted f names h t, room_none) (omega arith))
+      (λ (t : is_wanted names h ≡ false). rw (skips h t, room_none) (omega arith))
       (known (is_wanted names h))
 
   module _ (hs : List Header) (i : ℕ) (l : i < length hs) where

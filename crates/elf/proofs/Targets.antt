@@ -4,32 +4,70 @@ use mathlib.Core.Path.{◌≡◌, refl, sym, ap, ◌∙◌}
 use mathlib.Core.Logic.{⊎_elim}
 use mathlib.Core.Bool.{Bool, true, false, not, ◌&&◌, ◌||◌}
 use mathlib.Core.List.{List}
-use Prim.Native.Nat.{ℕ, ◌≤◌, ◌<◌}
+use Prim.Native.Nat.{ℕ, ◌/◌, ◌%◌, ◌≤◌, ◌<◌}
 use lib.Dec.{eqb, ltb}
 use lib.ListN.{length, get_or}
-use borrow.Author.Tests.{eq-eqb, eqb-true, lt-ltb, le-ltb, ltb-true, not-true}
+use borrow.Author.Tests.{eq-eqb, ne_eqb, eqb-true, lt-ltb, le-ltb, ltb-true, not-true}
 use Rattle.octets.specs.Lists.{all, any}
 use Rattle.octets.proofs.Checks.{known, true_false, and_both, and_left, and_right, both_ways}
 use Rattle.octets.proofs.Elements.{all_at, at_all, at_any, none_at}
-use Rattle.elf.specs.File.{Header, File, unstored, no_header, is_wanted, wanted_of}
+use Rattle.elf.specs.File.{Header, File, unstored, no_header, code_of, is_wanted, wanted_of}
 use Rattle.elf.specs.Reader.{compressed, relocates, readable}
 use Rattle.elf.specs.Held.{is_relocation, target_wanted, relocates_wanted, header_readable}
-use Rattle.elf.proofs.Judged.{all_of_those}
+use Rattle.elf.proofs.Judged.{all_of_those, wanted, unwanted}
 
--- ---- 32 of one header
+-- ---- relocation sections
+pub relocation_first : (h : Header) → h.type ≡ 4 → true ≡ is_relocation h
+unfolding is_relocation
+relocation_first h e = rw (is_relocation, eq-eqb h.type 4 e)
+
+pub relocation_second : (h : Header) → (h.type ≡ 4 → ⊥) → eqb h.type 9 ≡ is_relocation h
+unfolding is_relocation
+relocation_second h e = rw (is_relocation, ne_eqb h.type 4 e)
+
 module _ (e : File) where
-  pub target_absent : (i n : ℕ) → length e.headers ≡ n → n ≤ i → ltb i n ≡ target_wanted e i
-  target_absent i n l h = rw (target_wanted, l, le-ltb i n h)
+  pub target_absent : (i : ℕ) → length e.headers ≤ i → false ≡ target_wanted e i
+  unfolding target_wanted
+  target_absent i h = rw (target_wanted, le-ltb i (length e.headers) h)
 
-  pub target_there : (i : ℕ) → i < length e.headers → is_wanted e.names (get_or e.headers i no_header) ≡ target_wanted e i
-  target_there i h = rw (lt-ltb i (length e.headers) h)
+  pub target_there : (i : ℕ) → i < length e.headers → not (eqb (code_of e.names (get_or e.headers i no_header)) 0) ≡ target_wanted e i
+  unfolding target_wanted is_wanted
+  target_there i h = rw (target_wanted, lt-ltb i (length e.headers) h)
+
+  pub relocates_some : (h : Header) → is_relocation h ≡ true → target_wanted e h.info ≡ relocates_wanted e h
+  unfolding relocates_wanted
+  relocates_some h r = rw (relocates_wanted, r)
+
+  pub relocates_none : (h : Header) → is_relocation h ≡ false → false ≡ relocates_wanted e h
+  unfolding relocates_wanted
+  relocates_none h r = rw (relocates_wanted, r)
+
+  -- ---- 32 of one header
+  pub readable_aimed : (h : Header) → relocates_wanted e h ≡ true → false ≡ header_readable e h
+  unfolding header_readable
+  readable_aimed h r = rw (header_readable, r)
 
   module _ (h : Header) (r : relocates_wanted e h ≡ false) where
-    pub readable_unwanted : is_wanted e.names h ≡ false → true ≡ header_readable e h
-    readable_unwanted c = rw (header_readable, r, c)
+    pub readable_unwanted : code_of e.names h ≡ 0 → true ≡ header_readable e h
+    unfolding header_readable
+    readable_unwanted c = rw (header_readable, r, unwanted e.names h c)
 
-    pub readable_wanted : is_wanted e.names h ≡ true → (not (compressed h) && not (unstored h)) ≡ header_readable e h
-    readable_wanted c = rw (header_readable, r, c)
+    module _ (c : code_of e.names h ≡ 0 → ⊥) where
+      pub readable_unstored : h.type ≡ 8 → false ≡ header_readable e h
+      unfolding header_readable unstored
+      readable_unstored u = rw (header_readable, r, wanted e.names h c, unstored, eq-eqb h.type 8 u) (none (not (compressed h)))
+        where
+          none : (b : Bool) → false ≡ (b && false)
+          none true = refl
+          none false = refl
+
+      pub readable_stored : (h.type ≡ 8 → ⊥) → not (eqb (h.flags / 0x800 % 2) 1) ≡ header_readable e h
+      unfolding header_readable unstored compressed
+      readable_stored u = rw (header_readable, r, wanted e.names h c, unstored, ne_eqb h.type 8 u, compressed) (same (not (eqb (h.flags / 0x800 % 2) 1)))
+        where
+          same : (b : Bool) → b ≡ (b && true)
+          same true = refl
+          same false = refl
 
 -- ---- all of them
 -- what is wanted and passes if it is wanted passes
@@ -49,7 +87,7 @@ module _ (e : File) (numbered : (i : ℕ) → i < length e.headers → (get_or e
 
   -- a relocation section of a wanted target makes it unreadable
   target : all free hs ≡ true → (i : ℕ) → i < length hs → relocates_wanted e (at i) ≡ true → ⊥
-  unfolding readable relocates
+  unfolding relocates_wanted target_wanted readable relocates is_relocation
   target a i h r =
       let kind = and_left (is_relocation (at i)) (target_wanted e (at i).info) r in
       let wanted = and_right (is_relocation (at i)) _ r in
@@ -62,7 +100,7 @@ module _ (e : File) (numbered : (i : ℕ) → i < length e.headers → (get_or e
 
   -- the other way round: an unreadable target is that of a relocation section
   source : all (header_readable e) hs ≡ true → (i : ℕ) → i < length hs → is_wanted e.names (at i) ≡ true → any (relocates (at i)) hs ≡ true → ⊥
-  unfolding relocates
+  unfolding header_readable relocates_wanted target_wanted relocates is_relocation
   source a i h w r = found (at_any (relocates (at i)) no_header hs r)
     where
       found : (j : ℕ) × (j < length hs) × (relocates (at i) (at j) ≡ true) → ⊥
@@ -75,7 +113,7 @@ module _ (e : File) (numbered : (i : ℕ) → i < length e.headers → (get_or e
 
   -- one header after the other
   forth : all (header_readable e) hs ≡ true → (i : ℕ) → i < length hs → free (at i) ≡ true
-  unfolding readable
+  unfolding header_readable readable
   forth a i h = go (is_wanted e.names (at i)) refl (all_at (header_readable e) no_header hs i a h)
     where
       go : (t : Bool) → is_wanted e.names (at i) ≡ t → header_readable e (at i) ≡ true → (not t || readable hs (at i)) ≡ true
@@ -85,7 +123,7 @@ module _ (e : File) (numbered : (i : ℕ) → i < length e.headers → (get_or e
           ⊎_elim (λ r. absurd (source a i h w r)) (λ r. and_both _ _ plain (ap not r)) (known (any (relocates (at i)) hs))
 
   back : all free hs ≡ true → (i : ℕ) → i < length hs → header_readable e (at i) ≡ true
-  unfolding readable
+  unfolding header_readable readable
   back a i h = go (is_wanted e.names (at i)) refl (all_at free no_header hs i a h)
     where
       unaimed : relocates_wanted e (at i) ≡ false

@@ -1,7 +1,7 @@
 -- What the code's values are by the definitions, and what holds of them. Nothing here need be believed.
 -- Assumes nothing.
-use Rattle.std.specs.Prelude.{◌≡◌, Option, Some, None, Bool, true, false, not, ◌&&◌, ◌||◌, List, [], ◌∷◌, ◌++◌, map, ℕ, ◌+◌, ◌*◌, ◌-◌, ◌≤◌, eqb, leb, ltb, length, get_or}
-use Rattle.octets.specs.Octets.{number_at, zeros, padded}
+use Rattle.std.specs.Prelude.{◌≡◌, Bool, true, false, not, ◌&&◌, ◌||◌, List, [], ◌∷◌, ◌++◌, map, ℕ, ◌+◌, ◌*◌, ◌-◌, ◌≤◌, ◌<◌, eqb, leb, ltb, length, get_or}
+use Rattle.octets.specs.Octets.{part, number_at, zeros, padded}
 use Rattle.octets.specs.Lists.{all, joined, sum, those}
 use Rattle.octets.specs.Checked.{Check, pass, refuse, ◌>>=◌, require}
 use Rattle.bundle.specs.Encoding.{Encoding}
@@ -10,26 +10,62 @@ use Rattle.bundle.specs.Written.{Section, section_bytes, written}
 use Rattle.unit.specs.Headers.{with_address}
 use Rattle.unit.specs.declared.header.AddressSize.{AddressSize}
 use Rattle.unit.specs.declared.header.AddressSize.TheVariants as address
-use Rattle.numbers.specs.Refusals.{not_elf, unreadable_section, no_unit, section_too_long}
+use Rattle.numbers.specs.Refusals.{not_elf, unreadable_section, section_too_long}
 use Rattle.numbers.specs.Sections.{info_code}
 use Rattle.numbers.specs.Limits.{section_limit, package_limit}
 use Rattle.elf.specs.File.{Header, header_at, headers_at, unstored, body_of, inside, File, no_header, code_of, is_wanted, ended, wanted_of}
 use Rattle.elf.specs.Reader.{compressed, readable, first_info, unit_stated, object_word, sections_read}
 use Rattle.elf.specs.declared.file.Header as code
-use Rattle.elf.specs.declared.file.ElfFile.{ElfFile}
-use Rattle.elf.specs.declared.accepted.Section as found
+use Rattle.elf.specs.declared.file.Place.{Place}
+use Rattle.elf.specs.declared.file.File as opened
+use Rattle.elf.specs.declared.file.FileRead.{FileRead}
+use Rattle.elf.specs.declared.file.FileRead.TheVariants.{Is, Refused}
+use Rattle.elf.specs.declared.stating.Stated.{Stated}
+use Rattle.elf.specs.declared.stating.Stated.TheVariants as stated
+use Rattle.elf.specs.declared.bundling.Room.{Room}
+use Rattle.elf.specs.declared.bundling.Room.TheVariants as room
 
 -- ---- headers and the file
-abbrev pub header_is : code.Header → Header
+unfoldable pub header_is : code.Header → Header
 header_is h =
     record { number = h.number; name = h.name; type = h.kind; flags = h.flags; offset = h.offset; size = h.size; info = h.info }
 
-abbrev pub file_is : ElfFile → File
-file_is e = record { big = e.big; headers = headers_at e.big e.bytes.now 0 e.at e.count; names = e.names.now }
+unfoldable pub bytes_in : List ℕ → Place → List ℕ
+bytes_in f p = part f p.start p.size
+
+unfoldable pub file_is : List ℕ → opened.File → File
+file_is f e = record { big = e.big; headers = headers_at e.big f 0 e.at e.count; names = bytes_in f e.names }
+
+unfoldable pub file_check : List ℕ → FileRead → Check File
+file_check f (Is e) = pass (file_is f e)
+file_check f Refused = refuse not_elf
+
+-- a place in the file
+abbrev pub Lies : List ℕ → Place → Type 0
+Lies f p = p.start + p.size ≤ length f
+
+-- the headers and the name table are in the file
+pub record Laid (f : List ℕ) (e : opened.File) : Type 0 where
+  pub headers : e.at + 64 * e.count ≤ length f
+  pub few : e.count < 0x1_0000
+  pub names : Lies f e.names
+
+unfoldable pub laid_in : List ℕ → FileRead → Type 0
+laid_in f (Is e) = Laid f e
+laid_in f Refused = Unit {0}
 
 -- the wanted bytes are in the file
-abbrev pub WantedInside : ElfFile → Type 0
-WantedInside e = all (inside e.bytes.now) (wanted_of (file_is e)) ≡ true
+unfoldable pub WantedInside : List ℕ → opened.File → Type 0
+WantedInside f e = all (inside f) (wanted_of (file_is f e)) ≡ true
+
+unfoldable pub accepted_in : List ℕ → FileRead → Type 0
+accepted_in f (Is e) = WantedInside f e
+accepted_in f Refused = Unit {0}
+
+-- where a section's bytes lie
+pub record Stored (f : List ℕ) (h : Header) (p : Place) : Type 0 where
+  pub bytes : bytes_in f p ≡ body_of f h
+  pub lies : Lies f p
 
 -- `file_of` from the name table's header on
 unfoldable pub with_names : List ℕ → Bool → ℕ → ℕ → Header → Check File
@@ -50,19 +86,19 @@ from_type f big = do
   with_names f big at n (header_at big f table (at + 64 * table))
 
 -- ---- one header judged
-abbrev pub header_good : List ℕ → List ℕ → Header → Bool
+unfoldable pub header_good : List ℕ → List ℕ → Header → Bool
 header_good f names h = ended names h && (not (is_wanted names h) || inside f h)
 
-abbrev pub is_relocation : Header → Bool
+unfoldable pub is_relocation : Header → Bool
 is_relocation h = eqb h.type 4 || eqb h.type 9
 
-abbrev pub target_wanted : File → ℕ → Bool
+unfoldable pub target_wanted : File → ℕ → Bool
 target_wanted e i = ltb i (length e.headers) && is_wanted e.names (get_or e.headers i no_header)
 
-abbrev pub relocates_wanted : File → Header → Bool
+unfoldable pub relocates_wanted : File → Header → Bool
 relocates_wanted e h = is_relocation h && target_wanted e h.info
 
-abbrev pub header_readable : File → Header → Bool
+unfoldable pub header_readable : File → Header → Bool
 header_readable e h = not (relocates_wanted e h) && (not (is_wanted e.names h) || (not (compressed h) && not (unstored h)))
 
 -- ---- the first unit
@@ -70,10 +106,14 @@ header_readable e h = not (relocates_wanted e h) && (not (is_wanted e.names h) |
 unfoldable pub info_of : List ℕ → List ℕ → Header → List ℕ
 info_of f names h = elim (eqb (code_of names h) info_code) [ true ↦ body_of f h | false ↦ [] ]
 
+unfoldable pub stated_of : Check Encoding → Stated
+stated_of (pass e) = stated.Is (object_word e)
+stated_of (refuse n) = stated.Refused
+
 -- the word of a version and width, with the address size stated
-unfoldable pub word_with : Encoding → AddressSize → Check ℕ
-word_with e (address.Is a) = pass (object_word (with_address e a))
-word_with e address.Refused = refuse no_unit
+unfoldable pub word_with : Encoding → AddressSize → Stated
+word_with e (address.Is a) = stated.Is (object_word (with_address e a))
+word_with e address.Refused = stated.Refused
 
 -- ---- the sections of some headers
 unfoldable pub section_of : List ℕ → List ℕ → Header → Section
@@ -89,24 +129,15 @@ short_enough s = leb (length s.bytes) section_limit
 unfoldable pub room_sum : List Section → ℕ
 room_sum ss = sum (map (λ s. 4 + filled_up (length s.bytes)) ss)
 
-unfoldable pub room_of : List Section → Check ℕ
-room_of ss = elim (all short_enough ss) [ true ↦ pass (room_sum ss) | false ↦ refuse section_too_long ]
+unfoldable pub room_of : List Section → Room
+room_of ss = elim (all short_enough ss) [ true ↦ room.Is (room_sum ss) | false ↦ room.TooLong ]
 
 -- of a file that was opened: the section of header i, if it is wanted, and all of them
-unfoldable pub header_sections : ElfFile → ℕ → List Section
-header_sections e i = sections_in e.bytes.now e.names.now (get_or (file_is e).headers i no_header ∷ [])
+unfoldable pub header_sections : List ℕ → opened.File → ℕ → List Section
+header_sections f e i = sections_in f (file_is f e).names (get_or (file_is f e).headers i no_header ∷ [])
 
-unfoldable pub all_sections : ElfFile → List Section
-all_sections e = sections_in e.bytes.now e.names.now (file_is e).headers
-
--- 0 is no code
-abbrev pub code_found : ℕ → Option ℕ
-code_found n = elim (eqb n 0) [ true ↦ None | false ↦ Some n ]
-
--- what the code found of a header's section
-abbrev pub sections_found : Option found.Section → List Section
-sections_found (Some s) = record { code = s.code; bytes = s.bytes.now } ∷ []
-sections_found None = []
+unfoldable pub all_sections : List ℕ → opened.File → List Section
+all_sections f e = sections_in f (file_is f e).names (file_is f e).headers
 
 -- ---- writing
 -- there is room for them from a place on

@@ -1,14 +1,8 @@
 // An ELF64 file: its section headers and its name table, and where the bytes of a section lie.
-ghost use Rattle.std.specs.Prelude.{◌≡◌, true, false, ◌&&◌, ◌||◌, [], ◌∷◌, ◌+◌, ◌*◌, ◌≤◌, ◌<◌, eqb, length, take, get_or, MatchOption, IfOk};
+ghost use Rattle.std.specs.Prelude.{◌≡◌, true, ◌&&◌, ◌||◌, [], ◌∷◌, ◌+◌, ◌*◌, ◌≤◌, ◌<◌, eqb, length, take, get_or};
 ghost use Rattle.octets.specs.Lists.{same};
-
-use numbers::refusals::Refusal;
-
-// The type of a section that has no bytes in the file.
-pub const UNSTORED: u32 = 8;
-
-// The bytes of a section header.
-pub const HEADER: usize = 64;
+ghost use Rattle.elf.specs.File.{header_at, inside, no_header, file_of};
+ghost use Rattle.elf.specs.Held.{header_is, file_is, file_check, laid_in, with_names, from_type, Laid, Stored};
 
 // A section header: its number, its name's place in the name table, its type and flags, where its bytes lie, and the number of a
 // relocation section's target.
@@ -23,47 +17,84 @@ pub struct Header {
     pub info: usize,
 }
 
-// The byte order, where the headers stand and how many there are, and the name table. All of it is in the bytes of the file.
+// Bytes of a file.
 #[derive(Clone, Copy)]
-pub struct ElfFile<'a> {
-    pub bytes: &'a [u8],
+pub struct Place {
+    pub start: usize,
+    pub size: usize,
+}
+
+// The byte order, where the headers stand and how many there are, and where the name table lies.
+#[derive(Clone, Copy)]
+pub struct File {
     pub big: bool,
     pub at: usize,
     pub count: usize,
-    pub names: &'a [u8],
-    ghost headers_there: { at + 64 * count ≤ length bytes.now },
-    ghost few: { count < 0x1_0000 },
+    pub names: Place,
 }
 
-impl Header {
-    ghost use Rattle.elf.specs.File.{header_at, inside, body_of};
-    ghost use Rattle.elf.specs.Held.{header_is};
+#[derive(Clone, Copy)]
+pub enum FileRead {
+    Is(File),
+    // refusal 31
+    Refused,
+}
 
-    // Header number i, which stands at a place. The caller has seen that it is in the file.
-    #[tactic(auto, unfolding(crate::specs::File::header_at))]
-    pub fn read(big: bool, f: &[u8], number: usize, at: usize) -> Header
-        requires { at + 64 ≤ length f.now }
-        ensures { header_is result ≡ header_at big f.now number at }
-    {
-        Header {
-            number,
-            name: octets::u32_at(big, f, at) as usize,
-            kind: octets::u32_at(big, f, at + 4),
-            flags: octets::u64_at(big, f, at + 8),
-            offset: octets::u64_at(big, f, at + 24) as usize,
-            size: octets::u64_at(big, f, at + 32) as usize,
-            info: octets::u32_at(big, f, at + 44) as usize,
-        }
+// The type of a section that has no bytes in the file.
+pub const UNSTORED: u32 = 8;
+
+// Header number i, which stands at a place. The caller has seen that it is in the file.
+fn read_header(big: bool, f: &[u8], number: usize, at: usize) -> Header
+    requires { at + 64 ≤ length f.now }
+    ensures { header_is result ≡ header_at big f.now number at }
+{
+    let name = octets::wide(octets::u32_at(big, f, at));
+    let kind = octets::u32_at(big, f, at + 4);
+    let flags = octets::u64_at(big, f, at + 8);
+    let offset = octets::size(octets::u64_at(big, f, at + 24));
+    let size = octets::size(octets::u64_at(big, f, at + 32));
+    let info = octets::wide(octets::u32_at(big, f, at + 44));
+    Header {
+        number,
+        name,
+        kind,
+        flags,
+        offset,
+        size,
+        info,
     }
+}
 
-    // The bytes of a section, where all of them are in the file.
-    pub fn stored(self, f: &[u8]) -> Option<&[u8]>
-        ensures { MatchOption result (inside f.now (header_is self) ≡ false) (λ b. (inside f.now (header_is self) ≡ true) × (b.now ≡ body_of f.now (header_is self))) }
-    {
-        if self.kind == UNSTORED || self.size == 0 {
-            return Some(&[]);
-        }
-        f.get(self.offset..)?.get(..self.size)
+// Whether all bytes of a section are in the file.
+pub fn is_inside(f: &[u8], h: Header) -> bool
+    ensures { result ≡ inside f.now (header_is h) }
+{
+    if h.kind == UNSTORED {
+        return true;
+    }
+    if h.size == 0 {
+        return true;
+    }
+    if f.len() < h.size {
+        return false;
+    }
+    h.offset <= f.len() - h.size
+}
+
+// Where the bytes of a section lie. The caller has seen that they are in the file.
+pub fn stored(f: &[u8], h: Header) -> Place
+    requires { inside f.now (header_is h) ≡ true }
+    ensures { Stored f.now (header_is h) result }
+{
+    if h.kind == UNSTORED {
+        return Place { start: 0, size: 0 };
+    }
+    if h.size == 0 {
+        return Place { start: 0, size: 0 };
+    }
+    Place {
+        start: h.offset,
+        size: h.size,
     }
 }
 
@@ -72,61 +103,80 @@ fn ident_good(f: &[u8]) -> bool
     requires { 64 ≤ length f.now }
     ensures { result ≡ (same (take 5 f.now) (0x7F ∷ 0x45 ∷ 0x4C ∷ 0x46 ∷ 2 ∷ []) && (eqb (get_or f.now 5 0) 1 || eqb (get_or f.now 5 0) 2)) }
 {
-    octets::same_bytes(&f[..5], b"\x7fELF\x02") && matches!(f[5], 1 | 2)
+    if octets::same_bytes(&f[..5], b"\x7fELF\x02") {
+        let order = f[5];
+        if order == 1 {
+            return true;
+        }
+        return order == 2;
+    }
+    false
 }
 
-impl<'a> ElfFile<'a> {
-    ghost use Rattle.octets.specs.Checked.{mapped};
-    ghost use Rattle.numbers.specs.Refused.{told};
-    ghost use Rattle.elf.specs.File.{no_header, file_of};
-    ghost use Rattle.elf.specs.Held.{header_is, file_is, from_type};
-
-    // 31, but for names and wanted sections.
-    pub fn open(f: &'a [u8]) -> Result<ElfFile<'a>, Refusal>
-        ensures file { mapped file_is (told result) ≡ file_of f.now }
-        ensures bytes { IfOk result (λ e. e.bytes.now ≡ f.now) }
-    {
-        if f.len() < HEADER || !ident_good(f) {
-            return Err(Refusal::NotElf);
-        }
-        ElfFile::with_headers(f, f[5] == 2)
-    }
-
-    // The file from its type on. The caller has seen the bytes that start it.
-    fn with_headers(f: &'a [u8], big: bool) -> Result<ElfFile<'a>, Refusal>
-        requires { 64 ≤ length f.now }
-        ensures file { mapped file_is (told result) ≡ from_type f.now big }
-        ensures bytes { IfOk result (λ e. e.bytes.now ≡ f.now) }
-    {
-        if octets::u16_at(big, f, 16) != 1 || octets::u16_at(big, f, 58) != 64 {
-            return Err(Refusal::NotElf);
-        }
-        let at = octets::u64_at(big, f, 40) as usize;
-        let count = octets::u16_at(big, f, 60) as usize;
-        let size = HEADER * count;
-        if f.len() < size || f.len() - size < at {
-            return Err(Refusal::NotElf);
-        }
-        let table = octets::u16_at(big, f, 62) as usize;
-        if count <= table {
-            return Err(Refusal::NotElf);
-        }
-        let t = Header::read(big, f, table, at + HEADER * table);
-        let names = t.stored(f).ok_or(Refusal::NotElf)?;
-        Ok(ElfFile {
-            bytes: f,
+// The file with its name table, whose header is t. The caller has seen that the headers are in the file.
+fn with_names(f: &[u8], big: bool, at: usize, count: usize, t: Header) -> FileRead
+    requires { (at + 64 * count ≤ length f.now) × (count < 0x1_0000) }
+    ensures file { file_check f.now result ≡ with_names f.now big at count (header_is t) }
+    ensures laid { laid_in f.now result }
+{
+    if is_inside(f, t) {
+        let names = stored(f, t);
+        return FileRead::Is(File {
             big,
             at,
             count,
             names,
-        })
+        });
     }
+    FileRead::Refused
+}
 
-    // A header of the file.
-    pub fn header(&self, i: usize) -> Header
-        requires { i < self.now.count }
-        ensures { header_is result ≡ get_or (file_is self.now).headers i no_header }
-    {
-        Header::read(self.big, self.bytes, i, self.at + HEADER * i)
+// The file from its type on. The caller has seen the bytes that start it.
+fn with_headers(f: &[u8], big: bool) -> FileRead
+    requires { 64 ≤ length f.now }
+    ensures file { file_check f.now result ≡ from_type f.now big }
+    ensures laid { laid_in f.now result }
+{
+    if octets::u16_at(big, f, 16) != 1 {
+        return FileRead::Refused;
     }
+    if octets::u16_at(big, f, 58) != 64 {
+        return FileRead::Refused;
+    }
+    let at = octets::size(octets::u64_at(big, f, 40));
+    let count = octets::u16_at(big, f, 60) as usize;
+    if f.len() < 64 * count {
+        return FileRead::Refused;
+    }
+    if f.len() - 64 * count < at {
+        return FileRead::Refused;
+    }
+    let table = octets::u16_at(big, f, 62) as usize;
+    if count <= table {
+        return FileRead::Refused;
+    }
+    let t = read_header(big, f, table, at + 64 * table);
+    with_names(f, big, at, count, t)
+}
+
+// 31, but for names and wanted sections.
+pub fn open_file(f: &[u8]) -> FileRead
+    ensures file { file_check f.now result ≡ file_of f.now }
+    ensures laid { laid_in f.now result }
+{
+    if f.len() < 64 {
+        return FileRead::Refused;
+    }
+    if ident_good(f) {
+        return with_headers(f, f[5] == 2);
+    }
+    FileRead::Refused
+}
+
+// A header of a file that was opened.
+pub fn header_of(f: &[u8], e: File, i: usize) -> Header
+    requires { Laid f.now e × (i < e.count) }
+    ensures { header_is result ≡ get_or (file_is f.now e).headers i no_header }
+{
+    read_header(e.big, f, i, e.at + 64 * i)
 }

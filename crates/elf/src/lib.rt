@@ -1,7 +1,6 @@
 // ELF64 files, read into bundles of one object.
 #![tactic(auto)]
 
-pub mod accepted;
 pub mod bundling;
 pub mod file;
 pub mod judging;

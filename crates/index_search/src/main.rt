@@ -3,38 +3,70 @@
 // the answer is its row, the number of looks and the cells of the sections 1 to 10, or "absent" and the number of looks.
 #![tactic(auto)]
 
-ghost use Rattle.std.specs.Prelude.{◌<◌, ◌≤◌};
-ghost use Rattle.index.specs.Held.{Sized};
+ghost use Rattle.std.specs.Prelude.{◌≡◌, ◌+◌, ◌<◌, ◌≤◌, length, IfOk};
+ghost use Rattle.index.specs.Held.{Sized, ReadWell};
 
 use index::cells::Cell;
 use index::probing::Probed;
 use index::reading::{IndexHead, IndexRead};
 use std::io;
 
-// The longest section that is read.
-const SECTION: usize = 4096;
-
-// A section as a line states it.
-#[derive(Clone, Copy)]
-struct Stated<'a> {
-    big: bool,
-    digits: &'a [u8],
+// The value of a hexadecimal digit, 16 for any other byte.
+fn value(b: u8) -> u8
+    ensures { result ≤ 16 }
+{
+    if b < 48 {
+        return 16;
+    }
+    if b < 58 {
+        return b - 48;
+    }
+    if b < 97 {
+        return 16;
+    }
+    if b < 103 {
+        return b - 87;
+    }
+    16
 }
 
-// The bytes that digits state, in the room that is lent for them; none where they are no digits, or too many.
-fn read_bytes<'a>(digits: &[u8], room: &'a mut [u8]) -> &'a [u8] {
-    let n = digits.len() / 2;
-    if n <= room.len() && hex::decode_to_slice(digits, &mut room[..n]).is_ok() {
-        &room[..n]
-    } else {
-        &[]
+// The bytes that digits from a place on state, as many as there is room for.
+fn read_bytes(text: &[u8], start: usize, bytes: &mut [u8]) -> usize
+    ensures count { result ≤ length bytes.new }
+    ensures kept { length bytes.new ≡ length bytes.old }
+{
+    let mut at = start;
+    let mut n = 0;
+    while n < bytes.len() {
+        if text.len() <= at {
+            return n;
+        }
+        if text.len() - at < 2 {
+            return n;
+        }
+        let high = value(text[at]);
+        let low = value(text[at + 1]);
+        if high > 15 {
+            return n;
+        }
+        if low > 15 {
+            return n;
+        }
+        bytes[n] = 16 * high + low;
+        n += 1;
+        at += 2;
     }
+    n
+}
+
+fn write_number(rt: &impl Print, n: usize) -> io::Result<()> {
+    print!(rt; " {n}")
 }
 
 fn write_cell(rt: &impl Print, cell: Cell) -> io::Result<()> {
     match cell {
         Cell::Is(offset, size) => print!(rt; " {offset}+{size}"),
-        Cell::Missing => print!(rt; " -"),
+        Cell::Missing => rt.write_all(b" -"),
     }
 }
 
@@ -50,52 +82,94 @@ fn write_cells(rt: &impl Print, big: bool, s: &[u8], head: IndexHead, row: usize
 
 fn answer_search(rt: &impl Print, big: bool, s: &[u8], x: u64) -> io::Result<()> {
     let IndexRead::Good(head) = index::reading::read_index(big, s) else {
-        return println!(rt; "bad");
+        return rt.write_all(b"bad\n");
     };
     match index::probing::find(big, s, head, x) {
         Probed::Found(slot, looks) => {
             let row = index::reading::row_at(big, s, head, slot);
-            print!(rt; "row {row} {looks}")?;
+            rt.write_all(b"row")?;
+            write_number(rt, row)?;
+            write_number(rt, looks)?;
             write_cells(rt, big, s, head, row)?;
         }
-        Probed::Absent(looks) => print!(rt; "absent {looks}")?,
+        Probed::Absent(looks) => {
+            rt.write_all(b"absent")?;
+            write_number(rt, looks)?;
+        }
     }
-    println!(rt)
+    rt.write_all(b"\n")
 }
 
 fn answer_index(rt: &impl Print, big: bool, s: &[u8]) -> io::Result<()> {
     let IndexRead::Good(head) = index::reading::read_index(big, s) else {
-        return println!(rt; "bad");
+        return rt.write_all(b"bad\n");
     };
-    println!(rt;
-        "index {} {} {} {}",
-        head.version, head.columns, head.units, head.slots
-    )
+    rt.write_all(b"index")?;
+    write_number(rt, octets::wide(head.version))?;
+    write_number(rt, head.columns)?;
+    write_number(rt, head.units)?;
+    write_number(rt, head.slots)?;
+    rt.write_all(b"\n")
+}
+
+// The section that the last line of its kind stated.
+#[derive(Clone, Copy)]
+struct Last {
+    big: bool,
+    n: usize,
+}
+
+fn answer_line(
+    rt: &impl Print,
+    text: &[u8],
+    at: usize,
+    section: &mut [u8],
+    last: Last,
+) -> io::Result<Last>
+    requires { (at < length text.now) × (last.n ≤ length section.old) }
+    ensures count { IfOk result (λ l. l.n ≤ length section.new) }
+    ensures kept { length section.new ≡ length section.old }
+{
+    let kind = text[at];
+    if text.len() - at < 2 {
+        return Ok(last);
+    }
+    if kind == b's' {
+        let mut identity = [0u8; 8];
+        read_bytes(text, at + 2, &mut identity);
+        let n = last.n;
+        let x = octets::u64_at(true, &identity, 0);
+        answer_search(rt, last.big, &section[..n], x)?;
+        return Ok(last);
+    }
+    let big = kind == b'b';
+    let n = read_bytes(text, at + 2, section);
+    answer_index(rt, big, &section[..n])?;
+    Ok(Last { big, n })
+}
+
+// The place behind the newline that ends a line.
+fn next_line(text: &[u8], start: usize) -> usize
+    requires { start < length text.now }
+    ensures { (start < result) × (result ≤ length text.now) }
+{
+    let mut at = start;
+    while at < text.len() {
+        if text[at] == 10 {
+            return at + 1;
+        }
+        at += 1;
+    }
+    at
 }
 
 fn answer_lines(rt: &impl Print, text: &[u8]) -> io::Result<()> {
-    let mut room = [0; SECTION];
-    let mut last = Stated {
-        big: false,
-        digits: &[],
-    };
-    for line in text.split(|b| *b == b'\n') {
-        match line {
-            [b's', b' ', digits @ ..] => {
-                let mut identity = [0; 8];
-                hex::decode_to_slice(digits, &mut identity).ok();
-                let section = read_bytes(last.digits, &mut room);
-                answer_search(rt, last.big, section, u64::from_be_bytes(identity))?;
-            }
-            [order, b' ', digits @ ..] => {
-                last = Stated {
-                    big: *order == b'b',
-                    digits,
-                };
-                answer_index(rt, last.big, read_bytes(digits, &mut room))?;
-            }
-            _ => {}
-        }
+    let mut section = [0u8; 4096];
+    let mut last = Last { big: false, n: 0 };
+    let mut at = 0;
+    while at < text.len() {
+        last = answer_line(rt, text, at, &mut section, last)?;
+        at = next_line(text, at);
     }
     Ok(())
 }

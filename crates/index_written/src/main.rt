@@ -21,34 +21,62 @@ const WORDS: usize = 80;
 const WORK: usize = numbers::limits::WORK_FOR_WORD * WORDS;
 
 // ---- numbers
-// What is left of the text.
-#[derive(Drop)]
-struct Numbers<'a> {
-    text: &'a [u8],
+// The value of a hexadecimal digit, 16 for any other byte.
+fn value(b: u8) -> u8
+    ensures { result ≤ 16 }
+{
+    if b < 48 {
+        return 16;
+    }
+    if b < 58 {
+        return b - 48;
+    }
+    if b < 97 {
+        return 16;
+    }
+    if b < 103 {
+        return b - 87;
+    }
+    16
 }
 
-impl Numbers<'_> {
-    // The next number, its last 16 digits; 0 where the text has ended.
-    fn next(&mut self) -> u64 {
-        let mut n = 0;
-        while let [b, rest @ ..] = self.text {
-            self.text = rest;
-            let Some(digit) = char::from(*b).to_digit(16) else {
-                break;
-            };
-            n = n % 0x1000_0000_0000_0000 * 16 + u64::from(digit);
+#[derive(Clone, Copy)]
+struct Number {
+    is: u64,
+    next: usize,
+}
+
+// The number at a place, its last 16 digits, and the place behind it; 0 where the text has ended.
+fn read_number(text: &[u8], start: usize) -> Number
+    requires { start ≤ length text.now }
+    ensures { result.next ≤ length text.now }
+{
+    let mut is: u64 = 0;
+    let mut at = start;
+    while at < text.len() {
+        let digit = value(text[at]);
+        at += 1;
+        if digit > 15 {
+            return Number { is, next: at };
         }
-        n
+        is = is % 0x1000_0000_0000_0000 * 16 + octets::wide_byte(digit);
     }
+    Number { is, next: at }
 }
 
 // ---- one unit
+#[derive(Clone, Copy)]
+struct Unit {
+    cells: Contributions,
+    next: usize,
+}
+
 // The numbers with the low half of x at a place.
 fn with_number(numbers: [usize; 14], s: usize, x: u64) -> [usize; 14]
     requires { (s < 14) × ((c : ℕ) → get_or numbers c 0 < 2 ^ 32) }
     ensures { (c : ℕ) → get_or result c 0 < 2 ^ 32 }
 {
-    let low = (x % 0x1_0000_0000) as usize;
+    let low = octets::size(x % 0x1_0000_0000);
     let mut more = numbers;
     more[s] = low;
     more
@@ -62,7 +90,7 @@ fn with_cell(cells: Contributions, section: u64, first: u64, count: u64) -> Cont
     if 13 < section {
         return cells;
     }
-    let s = section as usize;
+    let s = octets::size(section);
     let mut has = cells.has;
     let offset = cells.offset;
     let size = cells.size;
@@ -76,14 +104,17 @@ fn with_cell(cells: Contributions, section: u64, first: u64, count: u64) -> Cont
     }
 }
 
-fn read_cell(numbers: &mut Numbers<'_>, cells: Contributions) -> Contributions
-    requires { CellsFit cells }
-    ensures { CellsFit result }
+fn read_cell(text: &[u8], at: usize, cells: Contributions) -> Unit
+    requires { (at ≤ length text.now) × CellsFit cells }
+    ensures { (result.next ≤ length text.now) × CellsFit result.cells }
 {
-    let section = numbers.next();
-    let offset = numbers.next();
-    let size = numbers.next();
-    with_cell(cells, section, offset, size)
+    let section = read_number(text, at);
+    let offset = read_number(text, section.next);
+    let size = read_number(text, offset.next);
+    Unit {
+        cells: with_cell(cells, section.is, offset.is, size.is),
+        next: size.next,
+    }
 }
 
 fn no_cells() -> Contributions
@@ -96,60 +127,74 @@ fn no_cells() -> Contributions
     }
 }
 
-fn read_cells(numbers: &mut Numbers<'_>) -> Contributions
-    ensures { CellsFit result }
+fn read_cells(text: &[u8], at: usize) -> Unit
+    requires { at ≤ length text.now }
+    ensures { (result.next ≤ length text.now) × CellsFit result.cells }
 {
+    let count = read_number(text, at);
+    let mut left = count.is;
     let mut cells = no_cells();
-    for _ in 0..numbers.next() {
-        cells = read_cell(numbers, cells);
+    let mut next = count.next;
+    while 0 < left {
+        let unit = read_cell(text, next, cells);
+        cells = unit.cells;
+        next = unit.next;
+        left -= 1;
     }
-    cells
+    Unit { cells, next }
 }
 
 // ---- a table
-// Stores one unit as record i; the columns that it or a unit before it has.
-fn read_row(
-    five: bool,
-    numbers: &mut Numbers<'_>,
-    work: &mut [u32],
-    i: usize,
+#[derive(Clone, Copy)]
+struct Table {
     has: [bool; 8],
-) -> [bool; 8]
-    requires { (i < 16) × (length work.old ≡ 1600) }
-    ensures { length work.new ≡ length work.old }
+    next: usize,
+}
+
+// Stores one unit as record i; the columns that it or a unit before it has.
+fn read_row(five: bool, text: &[u8], at: usize, work: &mut [u32], i: usize, has: [bool; 8]) -> Table
+    requires { (at ≤ length text.now) × (i < 16) × (length work.old ≡ 1600) }
+    ensures next { result.next ≤ length text.now }
+    ensures kept { length work.new ≡ length work.old }
 {
-    let identity = numbers.next();
-    let cells = read_cells(numbers);
+    let identity = read_number(text, at);
+    let read = read_cells(text, identity.next);
     let unit = kept::records::Unit {
         table: COMPILATION,
         row: i + 1,
-        identity,
+        identity: identity.is,
         home: INFO,
         start: 0,
         size: 0,
     };
     let records = kept::regions::records(WORDS);
-    kept::records::store_unit(work, records.start + RECORD * i, unit, five, cells);
-    kept::columns::mark_columns(five, has, cells)
+    kept::records::store_unit(work, records.start + RECORD * i, unit, five, read.cells);
+    Table {
+        has: kept::columns::mark_columns(five, has, read.cells),
+        next: read.next,
+    }
 }
 
-fn read_rows(five: bool, numbers: &mut Numbers<'_>, work: &mut [u32], n: usize) -> [bool; 8]
-    requires { (n ≤ 16) × (length work.old ≡ 1600) }
-    ensures { length work.new ≡ length work.old }
+fn read_rows(five: bool, text: &[u8], at: usize, work: &mut [u32], n: usize) -> Table
+    requires { (at ≤ length text.now) × (n ≤ 16) × (length work.old ≡ 1600) }
+    ensures next { result.next ≤ length text.now }
+    ensures kept { length work.new ≡ length work.old }
 {
     let mut has = [false; 8];
+    let mut next = at;
     for i in 0..n {
-        let more = read_row(five, numbers, work, i, has);
-        has = more;
+        let table = read_row(five, text, next, work, i, has);
+        has = table.has;
+        next = table.next;
     }
-    has
+    Table { has, next }
 }
 
 // ---- its index
 // A space before each word but the first.
 fn write_word(rt: &impl Print, i: usize, word: u32) -> io::Result<()> {
     if 0 < i {
-        print!(rt; " ")?;
+        rt.write_all(b" ")?;
     }
     print!(rt; "{word:08x}")
 }
@@ -158,7 +203,7 @@ fn write_words(rt: &impl Print, big: bool, s: &[u8]) -> io::Result<()> {
     for i in 0..s.len() / 4 {
         write_word(rt, i, octets::u32_at(big, s, 4 * i))?;
     }
-    println!(rt)
+    rt.write_all(b"\n")
 }
 
 // So many slots hold numbers of the records.
@@ -198,18 +243,21 @@ fn show_rows(rt: &impl Print, f: IndexForm, work: &mut [u32]) -> io::Result<()>
     Ok(())
 }
 
-// A table of at most 16 units.
+// A table of at most 16 units; the place behind it.
 fn show_units(
     rt: &impl Print,
     big: bool,
     five: bool,
-    numbers: &mut Numbers<'_>,
+    text: &[u8],
+    at: usize,
     n: usize,
-) -> io::Result<()>
-    requires { n ≤ 16 }
+) -> io::Result<usize>
+    requires { (at ≤ length text.now) × (n ≤ 16) }
+    ensures { IfOk result (λ next. next ≤ length text.now) }
 {
     let mut work = [0u32; WORK];
-    let has = read_rows(five, numbers, &mut work, n);
+    let table = read_rows(five, text, at, &mut work, n);
+    let has = table.has;
     let form = IndexForm {
         big,
         five,
@@ -217,23 +265,38 @@ fn show_units(
         rows: n,
         has,
     };
-    show_rows(rt, form, &mut work)
+    show_rows(rt, form, &mut work)?;
+    Ok(table.next)
 }
 
-fn show_table(rt: &impl Print, numbers: &mut Numbers<'_>) -> io::Result<()> {
-    let big = numbers.next() == 1;
-    let five = numbers.next() == 5;
-    let n = numbers.next();
-    if n <= 16 {
-        show_units(rt, big, five, numbers, n as usize)?;
+fn show_table(rt: &impl Print, text: &[u8], at: usize) -> io::Result<usize>
+    requires { at ≤ length text.now }
+    ensures { IfOk result (λ next. next ≤ length text.now) }
+{
+    let big = read_number(text, at);
+    let version = read_number(text, big.next);
+    let units = read_number(text, version.next);
+    let n = units.is;
+    if 16 < n {
+        return Ok(units.next);
     }
-    Ok(())
+    show_units(
+        rt,
+        big.is == 1,
+        version.is == 5,
+        text,
+        units.next,
+        octets::size(n),
+    )
 }
 
 fn show_tables(rt: &impl Print, text: &[u8]) -> io::Result<()> {
-    let mut numbers = Numbers { text };
-    for _ in 0..numbers.next() {
-        show_table(rt, &mut numbers)?;
+    let count = read_number(text, 0);
+    let mut left = count.is;
+    let mut at = count.next;
+    while 0 < left {
+        at = show_table(rt, text, at)?;
+        left -= 1;
     }
     Ok(())
 }

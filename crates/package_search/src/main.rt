@@ -2,20 +2,42 @@
 // 0 to 2, and identity 2. For each question a line: code, start, length, looks, and the bytes of the part that the lookup hands out.
 #![tactic(auto)]
 
+ghost use Rattle.std.specs.Prelude.{◌<◌};
+
 use std::io;
+
+// The character of a digit, which callers have below 16.
+fn digit(d: u8) -> u8
+    requires { d < 16 }
+{
+    if d < 10 {
+        return 48 + d;
+    }
+    87 + d
+}
+
+fn digits(b: u8) -> [u8; 2] {
+    [digit(b / 16), digit(b % 16)]
+}
 
 fn write_hexadecimal(rt: &impl Print, s: &[u8]) -> io::Result<()> {
     for b in s {
-        print!(rt; "{b:02x}")?;
+        let text = digits(*b);
+        rt.write_all(&text)?;
     }
     Ok(())
 }
 
+fn write_number(rt: &impl Print, n: u64) -> io::Result<()> {
+    print!(rt; "{n} ")
+}
+
 fn write_answer(rt: &impl Print, told: [u64; 4], part: &[u8]) -> io::Result<()> {
-    let [code, start, length, looks] = told;
-    print!(rt; "{code} {start} {length} {looks} ")?;
+    for n in told {
+        write_number(rt, n)?;
+    }
     write_hexadecimal(rt, part)?;
-    println!(rt)
+    rt.write_all(b"\n")
 }
 
 fn ask_part(rt: &impl Print, package: &[u8], identity: u64, section: u32) -> io::Result<()> {

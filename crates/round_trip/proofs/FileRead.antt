@@ -10,7 +10,7 @@ use lib.ListN.{length, get_or, length-append}
 use borrow.Author.Tests.{le-leb}
 use Rattle.octets.specs.Octets.{part, little, big_from, number, number_at, zeros}
 use Rattle.octets.specs.Lists.{joined, all, any, those}
-use Rattle.octets.specs.Checked.{pass, refuse, mapped}
+use Rattle.octets.specs.Checked.{pass, refuse}
 use Rattle.octets.proofs.Checks.{and_both}
 use Rattle.octets.proofs.Lists.{all_cons, any_cons, any_stops, those_skips}
 use Rattle.octets.proofs.Parts.{part_middle}
@@ -24,8 +24,9 @@ use Rattle.bundle.specs.InitialLength.{marked, length_field}
 use Rattle.bundle.proofs.Every.{Every, also}
 use Rattle.bundle.proofs.WrittenParts.{bytes_in}
 use Rattle.elf.specs.File.{Header, File, header_at, headers_at, no_header, unstored, body_of, inside, code_of, is_wanted, ended, wanted_of, file_of, elf_of}
-use Rattle.elf.specs.Reader.{relocates, readable, first_info, width_stated, version_stated, encoding_stated, unit_stated, object_word, bundle_read}
-use Rattle.elf.specs.Held.{from_type, sections_in, section_of, short_enough, one_object}
+use Rattle.elf.specs.Reader.{relocates, readable, first_info, width_stated, version_stated, encoding_stated, unit_stated, bundle_read}
+use Rattle.elf.specs.Held.{from_type, sections_in, section_of, short_enough, one_object, stated_of}
+use Rattle.elf.specs.declared.stating.Stated.TheVariants.{Is}
 use Rattle.elf.proofs.Headers.{header_there}
 use Rattle.elf.proofs.Judged.{unwanted}
 use Rattle.elf.proofs.Opening.{open_type, table_there, names_there}
@@ -249,7 +250,7 @@ module _ (big : Bool) (machine : ℕ) (fm : machine < 256 ^ 2) (ss : List Sectio
       short_all [] e = unfold all in refl
       short_all (x ∷ xs) (also h e) = all_cons short_enough x xs (unfold short_enough in le-leb (length x.bytes) section_limit h) ∙ short_all xs e
 
-  pub file_read : (word : ℕ) → pass word ≡ mapped object_word (unit_stated big (bytes_in ss info_code)) → length (written big (record { word = word; sections = ss } ∷ [])) ≤ package_limit
+  pub file_read : (word : ℕ) → Is word ≡ stated_of (unit_stated big (bytes_in ss info_code)) → length (written big (record { word = word; sections = ss } ∷ [])) ≤ package_limit
       → bundle_read (file_bytes big machine ss) ≡ pass (written big (record { word = word; sections = ss } ∷ []))
   unfolding one_object
   file_read word u h =
@@ -264,7 +265,7 @@ module _ (big : Bool) (machine : ℕ) (fm : machine < 256 ^ 2) (ss : List Sectio
   file_unread e =
       ap bundle_read file_is
       ∙ sym (read_from f file is_elf)
-      ∙ from_unstated f file are_readable [] (sym e ∙ info_is) no_unit (bad_version big [] (no_version big))
+      ∙ from_unstated f file are_readable [] (sym e ∙ info_is) (bad_version big [] (no_version big))
     where
       no_version : (big : Bool) → (eqb (encoding_stated big []).version 4 || eqb (encoding_stated big []).version 5) ≡ false
       no_version true = unfold encoding_stated version_stated width_stated marked length_field number_at number part big_from in refl

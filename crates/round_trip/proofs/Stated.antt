@@ -12,7 +12,7 @@ use lib.ListN.{length, take, get_or, length-append}
 use lib.Seq.{take-append-le, take_at, take-length, length-take-le}
 use borrow.Author.Tests.{eqb-true, ne_eqb, leb-true, ltb-true}
 use Rattle.octets.specs.Octets.{number_at}
-use Rattle.octets.specs.Checked.{pass, mapped}
+use Rattle.octets.specs.Checked.{pass}
 use Rattle.octets.proofs.Checks.{bind_pass, then_pass, require_pass, pass_refuse, and_both, and_left, and_right, or_cases}
 use Rattle.bundle.specs.Encoding.{Encoding, encoding_good}
 use Rattle.bundle.specs.InitialLength.{marked, length_field, length_stated}
@@ -23,7 +23,8 @@ use Rattle.unit.proofs.Fields.{good_narrow, good_wide, size_field, size_good, si
 use Rattle.unit.proofs.Units.{unit_is, behind_size, inside_le, kinds, kind_short}
 use Rattle.unit.proofs.HeaderAlone.{address_there, alone_whole}
 use Rattle.elf.specs.Reader.{width_stated, version_stated, encoding_stated, unit_stated, object_word}
-use Rattle.elf.specs.Held.{word_with}
+use Rattle.elf.specs.Held.{stated_of, word_with}
+use Rattle.elf.specs.declared.stating.Stated.TheVariants.{Is}
 use Rattle.elf.proofs.FirstUnit.{good_version}
 
 -- ---- the size, in a section that goes on
@@ -126,15 +127,15 @@ module _ (e : Encoding) (s : List ℕ) (n : ℕ) (g : encoding_good e ≡ true) 
       ∙ and_left (eqb e.version 4 || eqb e.version 5) (eqb e.width 4 || eqb e.width 8)
       (and_left ((eqb e.version 4 || eqb e.version 5) && (eqb e.width 4 || eqb e.width 8)) (eqb e.address 4 || eqb e.address 8) g)
 
-  pub stated : pass (object_word e) ≡ mapped object_word (unit_stated e.big s)
+  pub stated : Is (object_word e) ≡ stated_of (unit_stated e.big s)
   unfolding word_with object_word with_address
   stated =
-      ap (λ (k : ℕ). pass (object_word (with_address e k))) (sym address_is)
+      ap (λ (k : ℕ). Is (object_word (with_address e k))) (sym address_is)
       ∙ ap (word_with e) (alone_whole e s n z.inside h.fields h.whole)
       ∙ good_version e.big s e own good
 
 -- a unit that was read alone, at the front of a section
-pub unit_stated_law : (e : Encoding) (a u rest : List ℕ) (r : UnitRead) → encoding_good e ≡ true → unit_of e 1 a u ≡ pass r → pass (object_word e) ≡ mapped object_word (unit_stated e.big (u ++ rest))
+pub unit_stated_law : (e : Encoding) (a u rest : List ℕ) (r : UnitRead) → encoding_good e ≡ true → unit_of e 1 a u ≡ pass r → Is (object_word e) ≡ stated_of (unit_stated e.big (u ++ rest))
 unit_stated_law e a u rest r g q =
     let k = bind_pass (unit_inside e u) _ r (sym (unit_is e 1 a u) ∙ q) in
     let n = k.0 in

@@ -11,43 +11,43 @@ ghost use Rattle.strings.specs.Objects.{entries_at, AllAddable};
 ghost use Rattle.strings_remap.specs.Strung.{Strung};
 
 use bundle::encoding::ObjectEncoding;
-use numbers::refusals::Refusal;
 use std::io;
 use strings::entries::Section;
 use strings::table::{Place, StrOffsets, StringTable};
 
-// Why there are no new sections.
 #[derive(Clone, Copy)]
-enum Failure {
-    Refused(Refusal),
+enum Outcome {
+    // where str starts in the output, and where it ends
+    Sections(usize, usize),
+    Refused(u64),
     // the table or the output of this program is too short for the case
     Short,
 }
 
-// The new str_offsets from the front of the output, and the new str behind it: where str starts, and where it ends.
+// The new str_offsets from the front of the output, and the new str behind it.
 fn write_sections(
     o: StrOffsets,
     b: &[u8],
     table: &[u32],
     t: StringTable,
     output: &mut [u8],
-) -> Result<(usize, usize), Failure>
+) -> Outcome
     requires { Strung b.now o table.now t }
 {
     let at = o.offsets.size;
     if output.len() < at {
-        return Err(Failure::Short);
+        return Outcome::Short;
     }
     let size = t.size;
     if output.len() - at < size {
-        return Err(Failure::Short);
+        return Outcome::Short;
     }
     let first = strings::table::places_from(table.len());
     let last = first + t.entries;
     let section = o.section(b);
     section.write_piece(&table[first..last], output, 0);
     strings::sections::write_strings(b, table, t.count, output, at);
-    Ok((at, at + size))
+    Outcome::Sections(at, at + size)
 }
 
 // Puts the strings of an object whose entries were counted, in a table that is cleared, and writes its sections.
@@ -57,7 +57,7 @@ fn remap_entries(
     store: &mut [u32],
     words: usize,
     output: &mut [u8],
-) -> Result<(usize, usize), Failure>
+) -> Outcome
     requires { (words ≤ length store.old) × AllAddable b.now o words (length store.old - words) none × (entries_of (encoding_is o.encoding) (bytes_at b.now o.offsets) ≡ pass (entries_at o b.now)) }
 {
     octets::clear_words(store);
@@ -68,57 +68,64 @@ fn remap_entries(
         over: false,
     };
     let Ok(()) = kept.add_strings(o, b, store, words) else {
-        return Err(Failure::Refused(Refusal::NoString));
+        return Outcome::Refused(9);
     };
     if kept.over {
-        return Err(Failure::Refused(Refusal::SectionTooLong));
+        return Outcome::Refused(19);
     }
     write_sections(o, b, &store[..words], kept, output)
 }
 
 // The table stands in the first words of the store, and the memory behind them.
-fn remap(
-    o: StrOffsets,
-    b: &[u8],
-    store: &mut [u32],
-    words: usize,
-    output: &mut [u8],
-) -> Result<(usize, usize), Failure>
+fn remap(o: StrOffsets, b: &[u8], store: &mut [u32], words: usize, output: &mut [u8]) -> Outcome
     requires { (length b.now < 2 ^ 32) × Inside b.now o.offsets × Inside b.now o.strings × (words ≤ length store.old) × (words < 2 ^ 32) }
 {
     let text = o.strings;
     let section = o.section(b);
     let Ok(n) = section.check_entries() else {
-        return Err(Failure::Refused(Refusal::BadStrOffsets));
+        return Outcome::Refused(8);
     };
     if words / 7 < n {
-        return Err(Failure::Short);
+        return Outcome::Short;
     }
     if store.len() - words < text.size {
-        return Err(Failure::Short);
+        return Outcome::Short;
     }
     remap_entries(o, b, store, words, output)
 }
 
+// An upper-case hexadecimal digit.
+fn digit(n: u8) -> u8
+    requires { n < 16 }
+{
+    if n < 10 { n + 48 } else { n + 55 }
+}
+
 fn write_hexadecimal(rt: &impl Print, s: &[u8]) -> io::Result<()> {
     for b in s {
-        print!(rt; "{b:02X}")?;
+        rt.write_all(&[digit(*b / 16), digit(*b % 16)])?;
     }
     Ok(())
 }
 
+fn shown(b: u8) -> u8 {
+    if b == 0 { 46 } else { b }
+}
+
 fn write_text(rt: &impl Print, s: &[u8]) -> io::Result<()> {
     for b in s {
-        rt.write_all(&[if *b == 0 { b'.' } else { *b }])?;
+        rt.write_all(&[shown(*b)])?;
     }
     Ok(())
 }
 
 fn write_both(rt: &impl Print, output: &[u8], at: usize, end: usize) -> io::Result<()> {
-    if at <= end && end <= output.len() {
-        write_hexadecimal(rt, &output[..at])?;
-        print!(rt; " ")?;
-        write_text(rt, &output[at..end])?;
+    if end <= output.len() {
+        if at <= end {
+            write_hexadecimal(rt, &output[..at])?;
+            rt.write_all(b" ")?;
+            write_text(rt, &output[at..end])?;
+        }
     }
     Ok(())
 }
@@ -129,27 +136,33 @@ fn tell(rt: &impl Print, o: StrOffsets, b: &[u8]) -> io::Result<()>
     let mut store = [0u32; 176];
     let mut output = [0u8; 256];
     match remap(o, b, &mut store, 112, &mut output) {
-        Ok((at, end)) => write_both(rt, &output, at, end)?,
-        Err(Failure::Refused(refusal)) => print!(rt; "refused {}", refusal.number())?,
-        Err(Failure::Short) => print!(rt; "short")?,
+        Outcome::Sections(at, end) => write_both(rt, &output, at, end)?,
+        Outcome::Refused(code) => print!(rt; "refused {code}")?,
+        Outcome::Short => rt.write_all(b"short")?,
     }
-    println!(rt)
+    rt.write_all(b"\n")
 }
 
 // An object of a header, entries and str, each as they are.
 fn show(
     rt: &impl Print,
-    name: &str,
+    name: &[u8],
     e: ObjectEncoding,
     header: &[u8],
     entries: &[u32],
     text: &[u8],
-) -> io::Result<()>
-    requires header { length header.now ≤ 16 }
-    requires entries { length entries.now ≤ 12 }
-    requires text { length text.now ≤ 64 }
-{
-    print!(rt; "{name}: ")?;
+) -> io::Result<()> {
+    rt.write_all(name)?;
+    rt.write_all(b": ")?;
+    if 16 < header.len() {
+        return Ok(());
+    }
+    if 12 < entries.len() {
+        return Ok(());
+    }
+    if 64 < text.len() {
+        return Ok(());
+    }
     let w = e.width();
     let at = header.len();
     let end = at + w * entries.len();
@@ -185,8 +198,10 @@ fn version_4(big: bool, wide: bool) -> ObjectEncoding {
 
 fn version_5(big: bool, wide: bool) -> ObjectEncoding {
     ObjectEncoding {
+        big,
         five: true,
-        ..version_4(big, wide)
+        wide,
+        long: true,
     }
 }
 
@@ -194,34 +209,41 @@ fn version_5(big: bool, wide: bool) -> ObjectEncoding {
 fn show_document(rt: &impl Print) -> io::Result<()> {
     let text = b"a\0bc\0";
     let e = &[2, 0, 2];
-    show(rt, "document 01", version_4(false, false), b"", e, text)?;
-    show(rt, "big-endian", version_4(true, false), b"", e, text)?;
-    show(rt, "width 8", version_4(false, true), b"", e, text)?;
+    show(rt, b"document 01", version_4(false, false), b"", e, text)?;
+    show(rt, b"big-endian", version_4(true, false), b"", e, text)?;
+    show(rt, b"width 8", version_4(false, true), b"", e, text)?;
     show(
         rt,
-        "width 8, big-endian",
+        b"width 8, big-endian",
         version_4(true, true),
         b"",
         e,
         text,
     )?;
     let h = b"\x10\0\0\0\x05\0\0\0";
-    show(rt, "version 5", version_5(false, false), h, e, text)?;
+    show(rt, b"version 5", version_5(false, false), h, e, text)?;
     let h = b"\0\0\0\x10\0\x05\0\0";
     show(
         rt,
-        "version 5, big-endian",
+        b"version 5, big-endian",
         version_5(true, false),
         h,
         e,
         text,
     )?;
     let h = b"\xFF\xFF\xFF\xFF\x1C\0\0\0\0\0\0\0\x05\0\0\0";
-    show(rt, "version 5, width 8", version_5(false, true), h, e, text)?;
+    show(
+        rt,
+        b"version 5, width 8",
+        version_5(false, true),
+        h,
+        e,
+        text,
+    )?;
     let h = b"\xFF\xFF\xFF\xFF\0\0\0\0\0\0\0\x1C\0\x05\0\0";
     show(
         rt,
-        "version 5, width 8, big-endian",
+        b"version 5, width 8, big-endian",
         version_5(true, true),
         h,
         e,
@@ -231,15 +253,15 @@ fn show_document(rt: &impl Print) -> io::Result<()> {
 
 fn show_strings(rt: &impl Print) -> io::Result<()> {
     let e = version_4(false, false);
-    show(rt, "empty strings", e, b"", &[0, 1, 2], b"\0\0a\0")?;
-    show(rt, "suffixes", e, b"", &[0, 1, 2, 3], b"abc\0")?;
-    show(rt, "one string twice", e, b"", &[3, 0, 3], b"ab\0ab\0")?;
-    show(rt, "front of another", e, b"", &[0, 4, 0], b"abc\0ab\0")?;
-    show(rt, "unused strings", e, b"", &[4], b"abc\0de\0f\0")?;
-    show(rt, "no entries", e, b"", &[], b"abc\0")?;
+    show(rt, b"empty strings", e, b"", &[0, 1, 2], b"\0\0a\0")?;
+    show(rt, b"suffixes", e, b"", &[0, 1, 2, 3], b"abc\0")?;
+    show(rt, b"one string twice", e, b"", &[3, 0, 3], b"ab\0ab\0")?;
+    show(rt, b"front of another", e, b"", &[0, 4, 0], b"abc\0ab\0")?;
+    show(rt, b"unused strings", e, b"", &[4], b"abc\0de\0f\0")?;
+    show(rt, b"no entries", e, b"", &[], b"abc\0")?;
     show(
         rt,
-        "no entries, version 5",
+        b"no entries, version 5",
         version_5(false, false),
         b"\x04\0\0\0\x05\0\0\0",
         &[],
@@ -249,10 +271,10 @@ fn show_strings(rt: &impl Print) -> io::Result<()> {
 
 fn show_ill_formed_lengths(rt: &impl Print) -> io::Result<()> {
     let narrow = version_5(false, false);
-    show(rt, "no header", narrow, b"", &[], b"a\0")?;
+    show(rt, b"no header", narrow, b"", &[], b"a\0")?;
     show(
         rt,
-        "header too short",
+        b"header too short",
         narrow,
         b"\x03\0\0\0\x05\0\0",
         &[],
@@ -260,7 +282,7 @@ fn show_ill_formed_lengths(rt: &impl Print) -> io::Result<()> {
     )?;
     show(
         rt,
-        "length of four less",
+        b"length of four less",
         narrow,
         b"\x04\0\0\0\x05\0\0\0",
         &[0],
@@ -268,7 +290,7 @@ fn show_ill_formed_lengths(rt: &impl Print) -> io::Result<()> {
     )?;
     show(
         rt,
-        "length of the whole",
+        b"length of the whole",
         narrow,
         b"\x0C\0\0\0\x05\0\0\0",
         &[0],
@@ -280,7 +302,7 @@ fn show_ill_formed_fields(rt: &impl Print) -> io::Result<()> {
     let narrow = version_5(false, false);
     show(
         rt,
-        "header of version 4",
+        b"header of version 4",
         narrow,
         b"\x08\0\0\0\x04\0\0\0",
         &[0],
@@ -288,7 +310,7 @@ fn show_ill_formed_fields(rt: &impl Print) -> io::Result<()> {
     )?;
     show(
         rt,
-        "padding not zero",
+        b"padding not zero",
         narrow,
         b"\x08\0\0\0\x05\0\x01\0",
         &[0],
@@ -296,7 +318,7 @@ fn show_ill_formed_fields(rt: &impl Print) -> io::Result<()> {
     )?;
     show(
         rt,
-        "other byte order",
+        b"other byte order",
         narrow,
         b"\0\0\0\x08\0\x05\0\0",
         &[0],
@@ -308,22 +330,22 @@ fn show_ill_formed_wide(rt: &impl Print) -> io::Result<()> {
     let wide = version_5(false, true);
     show(
         rt,
-        "header of width 4",
+        b"header of width 4",
         wide,
         b"\x0C\0\0\0\x05\0\0\0",
         &[0],
         b"a\0",
     )?;
     let h = b"\xFE\xFF\xFF\xFF\x0C\0\0\0\0\0\0\0\x05\0\0\0";
-    show(rt, "mark of width 8 wrong", wide, h, &[0], b"a\0")?;
+    show(rt, b"mark of width 8 wrong", wide, h, &[0], b"a\0")?;
     let h = b"\xFF\xFF\xFF\xFF\x0C\0\0\0\x01\0\0\0\x05\0\0\0";
-    show(rt, "length above 32 bits", wide, h, &[0], b"a\0")
+    show(rt, b"length above 32 bits", wide, h, &[0], b"a\0")
 }
 
 fn show_parts_of_entries(rt: &impl Print) -> io::Result<()> {
     show(
         rt,
-        "part of an entry",
+        b"part of an entry",
         version_4(false, false),
         b"\0\0",
         &[0],
@@ -331,23 +353,30 @@ fn show_parts_of_entries(rt: &impl Print) -> io::Result<()> {
     )?;
     show(
         rt,
-        "half of an entry",
+        b"half of an entry",
         version_4(false, true),
         b"\0\0\0\0",
         &[0],
         b"a\0",
     )?;
-    show(rt, "8 before 9", version_4(false, false), b"\0", &[9], b"a")
+    show(
+        rt,
+        b"8 before 9",
+        version_4(false, false),
+        b"\0",
+        &[9],
+        b"a",
+    )
 }
 
 fn show_missing(rt: &impl Print) -> io::Result<()> {
     let e = version_4(false, false);
-    show(rt, "offset of the length", e, b"", &[2], b"a\0")?;
-    show(rt, "offset beyond", e, b"", &[0, 3], b"a\0")?;
-    show(rt, "greatest offset", e, b"", &[0xFFFF_FFFF], b"a\0")?;
-    show(rt, "no zero", e, b"", &[0, 2], b"a\0b")?;
-    show(rt, "no str", e, b"", &[0], b"")?;
-    show(rt, "last zero is a string", e, b"", &[1], b"a\0")
+    show(rt, b"offset of the length", e, b"", &[2], b"a\0")?;
+    show(rt, b"offset beyond", e, b"", &[0, 3], b"a\0")?;
+    show(rt, b"greatest offset", e, b"", &[0xFFFF_FFFF], b"a\0")?;
+    show(rt, b"no zero", e, b"", &[0, 2], b"a\0b")?;
+    show(rt, b"no str", e, b"", &[0], b"")?;
+    show(rt, b"last zero is a string", e, b"", &[1], b"a\0")
 }
 
 fn main(rt: HostRuntime) -> io::Result<()> {

@@ -16,3 +16,4 @@ returns-then-marks-ne0 c = let l = c.loop-at in first_found _ _ _ _ (fits (goal.
 
 pub loop-at-preserved : goal.loop-at-preserved
 loop-at-preserved c = let l = c.loop-at in (omega arith, omega arith, clear_more _ _ _ _ (fits (goal.at.loop-at-preserved c).In-loop-at) (λ i. (c.type_inv.s i).fits) c.read.ensures c.zero_marks-marks.ensures _ l.invariant.2 c.if-marks-ne0.false)
+

@@ -11,3 +11,4 @@ shifted-n-requires c = passed_fits _ _ _ (passed_more _ _ _ c.loop-b.invariant _
 
 pub loop-b-preserved : goal.loop-b-preserved
 loop-b-preserved c = rw c.shifted-n.ensures (passed_more _ _ _ c.loop-b.invariant _ _ c.in-Some.ensures.steps)
+

@@ -1,51 +1,56 @@
 -- `elf::bundling::sections_room` meets its contract.
 -- Assumes nothing.
-use Rattle.std.proofs.Common.{◌∙◌, ap, sym, arith}
-use Rattle.std.proofs.lemmas.Result.{err_from_is_err_and}
+use mathlib.Core.Path.{sym, ap, ◌∙◌}
+use native.Mathlib.Omega.{arith}
 use Rattle.octets.specs.Lists.{all}
-use Rattle.octets.specs.Checked.{pass, refuse}
 use Rattle.elf.specs.Held.{file_is, short_enough, room_sum, header_sections, all_sections}
+use Rattle.elf.specs.declared.bundling.Room.TheVariants.{Is}
 use Rattle.elf.proofs.Rooms.{sections_none, room_none, room_good, room_bad, room_is, room_not, room_more, short_more, short_not}
-use Rattle.elf.proofs.Headers.{in_headers}
-use Rattle.elf.proofs.Opened.{room_bound, whole}
+use Rattle.elf.proofs.Opened.{in_headers, room_bound, whole}
 use Rattle.elf.proofs.bundling.sections_room.Goals as goal
 
 pub loop-i-init : goal.loop-i-init
 unfolding all
 loop-i-init c =
-    let e = c.args.a.now.file in
-    let none = sections_none e.bytes.now e.names.now in
-    record { short = ap (all short_enough) none; sum = omega (arith, ap room_sum none, room_none); most = omega arith }
+    let f = c.args.f.now in
+    let none = sections_none f (file_is f c.args.e).names in
+    (omega arith, ap (all short_enough) none, omega (arith, ap room_sum none, room_none), omega arith)
+
+pub header_room-requires : goal.header_room-requires
+header_room-requires c = (c.requires.0, c.requires.1, c.loop-i-test.true)
 
 pub overflow_add-total : goal.overflow_add-total
 overflow_add-total c =
-    let e = c.args.a.now.file in
-    omega (arith, room_bound e c.loop-i.i c.in_ok-total.field-0 c.in_ok-total.ensures, e.few, c.loop-i.invariant.most, c.loop-i-test.true)
+    let a = c.args in
+    omega (arith, room_bound a.f.now a.e c.loop-i.i c.in-Is.n (sym c.in-Is.is ∙ c.header_room.ensures), c.requires.0.few, c.loop-i.invariant.3, c.loop-i-test.true)
 
-pub returns-in_err-total : goal.returns-in_err-total
+pub returns-in-TooLong : goal.returns-in-TooLong
 unfolding header_sections all_sections
-returns-in_err-total c =
-    let e = c.args.a.now.file in
-    let p = err_from_is_err_and c.from_residual.result c.from_residual.ensures.1 in
-    let r = room_not (header_sections e c.loop-i.i) _ c.in_err-total.ensures in
-    rw (p.1, p.2) (ap refuse r.1 ∙ room_bad (all_sections e) (short_not e.bytes.now e.names.now (file_is e).headers c.loop-i.i (in_headers e c.loop-i.i c.loop-i-test.true) r.0))
+returns-in-TooLong c =
+    let a = c.args in
+    let f = a.f.now in
+    let e = file_is f a.e in
+    room_bad (all_sections f a.e) (short_not f e.names e.headers c.loop-i.i (in_headers f a.e c.loop-i.i c.loop-i-test.true) (room_not (header_sections f a.e c.loop-i.i) (sym c.in-TooLong.is ∙ c.header_room.ensures)))
 
 pub loop-i-preserved : goal.loop-i-preserved
 unfolding header_sections
 loop-i-preserved c =
-    let e = c.args.a.now.file in
+    let a = c.args in
+    let f = a.f.now in
+    let e = file_is f a.e in
     let i = c.loop-i.i in
-    let hs = (file_is e).headers in
-    let r = room_is (header_sections e i) c.in_ok-total.field-0 c.in_ok-total.ensures in
-    let lt = in_headers e i c.loop-i-test.true in
-    record {
-      short = short_more e.bytes.now e.names.now hs i lt c.loop-i.invariant.short r.0;
-      sum = omega (arith, room_more e.bytes.now e.names.now hs i lt, r.1, c.loop-i.invariant.sum);
-      most = omega (arith, room_bound e i c.in_ok-total.field-0 c.in_ok-total.ensures, c.loop-i.invariant.most);
-    }
+    let told = sym c.in-Is.is ∙ c.header_room.ensures in
+    let r = room_is (header_sections f a.e i) c.in-Is.n told in
+    let lt = in_headers f a.e i c.loop-i-test.true in (
+      omega arith,
+      short_more f e.names e.headers i lt c.loop-i.invariant.1 r.0,
+      omega (arith, room_more f e.names e.headers i lt, r.1, c.loop-i.invariant.2),
+      omega (arith, room_bound f a.e i c.in-Is.n told, c.loop-i.invariant.3),
+    )
 
 pub returns : goal.returns
 returns c =
-    let e = c.args.a.now.file in
-    let q = whole e c.loop-i.i c.loop-i-test.false in
-    ap pass (c.loop-i.invariant.sum ∙ ap room_sum q) ∙ room_good (all_sections e) (ap (all short_enough) (sym q) ∙ c.loop-i.invariant.short)
+    let a = c.args in
+    let f = a.f.now in
+    let q = whole f a.e c.loop-i.i c.loop-i-test.false in
+    ap Is (c.loop-i.invariant.2 ∙ ap room_sum q) ∙ room_good (all_sections f a.e) (ap (all short_enough) (sym q) ∙ c.loop-i.invariant.1)

@@ -1,34 +1,41 @@
 -- `elf::stating::first_info` meets its contract.
 -- Assumes nothing.
-use Rattle.std.proofs.Common.{◌∙◌, sym}
-use borrow.Author.Tests.{eq-eqb, eqb-true}
-use Rattle.octets.proofs.Checks.{true_false}
+use mathlib.Core.Path.{refl, sym, ◌∙◌}
+use native.Mathlib.Omega.{arith}
+use Rattle.octets.proofs.Parts.{part_none}
 use Rattle.elf.specs.File.{wanted_of}
-use Rattle.elf.specs.Held.{file_is, header_sections}
-use Rattle.elf.proofs.FirstUnit.{info_none, info_here, info_unwanted, info_other}
-use Rattle.elf.proofs.Headers.{in_headers, past_headers}
+use Rattle.elf.specs.Held.{file_is, bytes_in}
+use Rattle.elf.proofs.FirstUnit.{info_none, info_here, info_on}
+use Rattle.elf.proofs.Opened.{in_headers, past_headers, place_size}
 use Rattle.elf.proofs.stating.first_info.Goals as goal
-use Rattle.elf.proofs.stating.first_info.Goals.{in-Some+else-s-eq-INFO, else-s-eq-INFO-via-then-s-eq-INFO+else-not-is_empty, else-s-eq-INFO-via-else-s-eq-INFO, in_default}
 
-pub returns-then-not-is_empty : goal.returns-then-not-is_empty
-unfolding wanted_of header_sections
-returns-then-not-is_empty c =
-    let e = c.args.a.now.file in
-    let i = c.loop-i.i in
-    info_here e.bytes.now e.names.now (file_is e).headers i (in_headers e i c.loop-i-test.true) _ c.in-Some.ensures c.if-s-eq-INFO.true (λ z. absurd (true_false (eq-eqb _ 0 z) (sym c.if-not-is_empty.ensures))) ∙ c.loop-i.invariant
+pub loop-i-init : goal.loop-i-init
+loop-i-init c = (omega arith, refl)
+
+pub info_at-place-requires : goal.info_at-place-requires
+info_at-place-requires c = (c.requires.0, c.requires.1, c.loop-i-test.true)
+
+pub returns-then-place-ne0 : goal.returns-then-place-ne0
+unfolding wanted_of
+returns-then-place-ne0 c =
+    let a = c.args in
+    let f = a.f.now in
+    let e = file_is f a.e in
+    let n = place_size f _ c.info_at-place.result c.info_at-place.ensures.bytes c.info_at-place.ensures.lies in
+    record { bytes = c.info_at-place.ensures.bytes ∙ info_here f e.names e.headers c.loop-i.i (in_headers f a.e c.loop-i.i c.loop-i-test.true) (λ z. c.if-place-ne0.true (sym n ∙ z)) ∙ c.loop-i.invariant.1; lies = c.info_at-place.ensures.lies }
 
 pub loop-i-preserved : goal.loop-i-preserved
-unfolding header_sections
 loop-i-preserved c =
-    let e = c.args.a.now.file in
-    let i = c.loop-i.i in
-    elim c.match-section.branch [
-      | in-Some+else-s-eq-INFO w ↦ info_other e.bytes.now e.names.now (file_is e).headers i (in_headers e i c.loop-i-test.true) _ w.in-Some.ensures (λ z. elim w.else-s-eq-INFO.branch [ else-s-eq-INFO-via-then-s-eq-INFO+else-not-is_empty v ↦ eqb-true _ 0 (sym v.if-not-is_empty.ensures) | else-s-eq-INFO-via-else-s-eq-INFO v ↦ absurd (v.if-s-eq-INFO.false z) ]) ∙ c.loop-i.invariant
-      | in_default w ↦ info_unwanted e.bytes.now e.names.now (file_is e).headers i (in_headers e i c.loop-i-test.true) w.in_default.ensures ∙ c.loop-i.invariant
-    ]
+    let a = c.args in
+    let f = a.f.now in
+    let e = file_is f a.e in
+    let n = place_size f _ c.info_at-place.result c.info_at-place.ensures.bytes c.info_at-place.ensures.lies in
+    (omega arith, info_on f e.names e.headers c.loop-i.i (in_headers f a.e c.loop-i.i c.loop-i-test.true) (n ∙ c.if-place-ne0.false) ∙ c.loop-i.invariant.1)
 
 pub returns : goal.returns
-unfolding wanted_of
+unfolding wanted_of bytes_in
 returns c =
-    let e = c.args.a.now.file in
-    info_none e.bytes.now e.names.now (file_is e).headers c.loop-i.i (past_headers e c.loop-i.i c.loop-i-test.false) ∙ c.loop-i.invariant
+    let a = c.args in
+    let f = a.f.now in
+    let e = file_is f a.e in
+    record { bytes = part_none f 0 ∙ info_none f e.names e.headers c.loop-i.i (past_headers f a.e c.loop-i.i c.loop-i-test.false) ∙ c.loop-i.invariant.1; lies = omega arith }

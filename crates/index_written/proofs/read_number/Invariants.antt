@@ -1,0 +1,9 @@
+-- The place moves on within the text.
+use Rattle.std.proofs.Common.{◌-◌, ◌≤◌, length}
+use Rattle.index_written.proofs.read_number.Given as goal
+
+abbrev pub invariant-loop-at : goal.invariant-loop-at
+invariant-loop-at l = l.at ≤ length l.text
+
+abbrev pub decreases-loop-at : goal.decreases-loop-at
+decreases-loop-at l = length l.text - l.at
