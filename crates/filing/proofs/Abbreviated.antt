@@ -26,9 +26,9 @@ use Rattle.index.specs.Index.{Index, Contribution, cell_of}
 use Rattle.index.specs.Rows.{naming, the_one, abbrev_part}
 use Rattle.index.specs.Held.{index_in}
 use Rattle.index.specs.Cells.{cell_found}
-use Rattle.index.specs.declared.cells.Cell.TheVariants.{Is, Missing}
+use Rattle.index.specs.declared.cells.Contribution as code
+use Rattle.std.specs.Prelude.{Some, None}
 use Rattle.index.specs.declared.reading.IndexHead.{IndexHead}
-use Rattle.places.specs.Chains.{row_told}
 use Rattle.kept.specs.Regions.{codes_region}
 use Rattle.kept.proofs.RegionStores.{codes_within}
 use Rattle.package.specs.Input.{Input}
@@ -43,18 +43,18 @@ use Rattle.filing.specs.State.{words_in, Remembered}
 use Rattle.filing.specs.ByPlace.{WorkFor, indexed_by_place, AbbreviationsAre, identified}
 use Rattle.filing.specs.Asked.{PlaceAsked}
 use Rattle.kept.proofs.RegionLending.{lent_is, lent_length, lent_left}
-use Rattle.filing.proofs.ByPlace.{by_place_is, cut, cut_section, index_there, row_none, row_one}
+use Rattle.filing.proofs.ByPlace.{by_place_is, cut, cut_section, index_there, row_none}
 
 -- ---- a row's abbrev part
-cell_none : (o : Option Contribution) → Missing ≡ cell_found o → o ≡ none
+cell_none : (o : Option Contribution) → None ≡ cell_found o → o ≡ none
 unfolding cell_found
 cell_none none e = refl
 cell_none (some c) e = absurd (let z : ◌≡◌ {A = ℕ} 0 1 = cc in omega arith)
 
-cell_some : (k : Option Contribution) (o z : ℕ) → Is o z ≡ cell_found k → k ≡ some (record { offset = o; size = z })
+cell_some : (k : Option Contribution) (v : code.Contribution) → Some v ≡ cell_found k → k ≡ some (record { offset = v.offset; size = v.size })
 unfolding cell_found
-cell_some (some c) o z e = let p : o ≡ c.offset = cc in let q : z ≡ c.size = cc in rw (p, q)
-cell_some none o z e = absurd (let y : ◌≡◌ {A = ℕ} 0 1 = cc in omega arith)
+cell_some (some c) v e = let p : v ≡ record { offset = c.offset; size = c.size } = cc in rw p
+cell_some none v e = absurd (let y : ◌≡◌ {A = ℕ} 0 1 = cc in omega arith)
 
 module _ (i : Index) (row : ℕ) where
   part_missing : (s : List ℕ) → 0 < length s → cell_of i row 3 ≡ none → abbrev_part i row s ≡ refuse 15
@@ -86,19 +86,25 @@ module _ (i : Index) (row : ℕ) where
         rw (ap (abbrev_part i row) e) (refl, ap (λ (k : ℕ). take k (drop start b)) n, omega arith, omega arith)
 
     module _ (some_bytes : size ≡ 0 → ⊥) where
-      pub abbrev_missing : (r : Abbreviations) → r.code ≡ 15 → Missing ≡ cell_found (cell_of i row 3) → AbbreviationsAre b (abbrev_part i row (part b start size)) r
+      pub abbrev_missing : (r : Abbreviations) → r.code ≡ 15 → None ≡ cell_found (cell_of i row 3) → AbbreviationsAre b (abbrev_part i row (part b start size)) r
       unfolding AbbreviationsAre
       abbrev_missing r c m = rw (part_missing (part b start size) (omega (arith, many)) (cell_none _ m)) (c, omega arith)
 
-      module _ (o z : ℕ) (m : Is o z ≡ cell_found (cell_of i row 3)) where
+      module _ (v : code.Contribution) (m : Some v ≡ cell_found (cell_of i row 3)) where
+        abbrev o : ℕ
+        o = v.offset
+
+        abbrev z : ℕ
+        z = v.size
+
         pub abbrev_outside : (r : Abbreviations) → r.code ≡ 16 → size < o + z → AbbreviationsAre b (abbrev_part i row (part b start size)) r
         unfolding AbbreviationsAre
-        abbrev_outside r c l = rw (part_outside (record { offset = o; size = z }) (part b start size) (omega (arith, many)) (cell_some _ o z m) (omega (arith, many))) (c, omega arith)
+        abbrev_outside r c l = rw (part_outside (record { offset = o; size = z }) (part b start size) (omega (arith, many)) (cell_some _ v m) (omega (arith, many))) (c, omega arith)
 
         pub abbrev_inside : o + z ≤ size → AbbreviationsAre b (abbrev_part i row (part b start size)) (record { code = 0; first = start + o; last = start + o + z })
         unfolding AbbreviationsAre
         abbrev_inside l =
-            rw (part_inside (record { offset = o; size = z }) (part b start size) (omega (arith, many)) (cell_some _ o z m) (omega (arith, many)))
+            rw (part_inside (record { offset = o; size = z }) (part b start size) (omega (arith, many)) (cell_some _ v m) (omega (arith, many)))
             (refl, part_cut b (start + o) z ∙ sym (part_part b start size o z l), omega arith, omega arith)
 
 -- ---- the abbreviations of a unit
@@ -117,8 +123,7 @@ module _ (b : List ℕ) (x : InputObject) (i : Input) (is : InputIs b x i) (home
       go none q k = rw (abbreviations_for, q) (refl, part_cut b (get_or x.start 3 0) (get_or x.size 3 0) ∙ sym (is.bytes 3 (omega arith)), omega arith, is.within 3)
       go (some y) q k = absurd k
 
-  module _ (limit : length b ≤ 4_194_304) (head : IndexHead) (e : At head ≡ indexed_by_place x home) (row : ℕ)
-      (told : row ≡ row_told (the_one (naming (index_in x.encoding.big (cut b x i is limit home head e) head) at size))) where
+  module _ (limit : length b ≤ 4_194_304) (head : IndexHead) (e : At head ≡ indexed_by_place x home) where
     abbrev here : Index
     here = index_in x.encoding.big (cut b x i is limit home head e) head
 
@@ -128,15 +133,15 @@ module _ (b : List ℕ) (x : InputObject) (i : Input) (is : InputIs b x i) (home
         rw (abbreviations_for, index_there b x i is limit home head e)
         (ap (λ (l : List ℕ). the_one (naming (index_in x.encoding.big l head) at size) >>= λ k. abbrev_part (index_in x.encoding.big l head) k (i.bytes 3)) (sym (cut_section b x i is limit home head e)))
 
-    pub given_none : row ≡ 0 → (r : Abbreviations) → r.code ≡ 15 → AbbreviationsAre b (abbreviations_for i home at size) r
+    pub given_none : (n : ℕ) → refuse n ≡ the_one (naming here at size) → (r : Abbreviations) → r.code ≡ 15 → AbbreviationsAre b (abbreviations_for i home at size) r
     unfolding AbbreviationsAre
-    given_none z r c = rw (by_row ∙ then_refuse _ _ 15 (row_none here at size row told z)) (c, omega arith)
+    given_none n z r c = rw (by_row ∙ then_refuse _ _ 15 (row_none here at size n z)) (c, omega arith)
 
-    pub given_part : (row ≡ 0 → ⊥) → (r : Abbreviations) → AbbreviationsAre b (abbrev_part here row section) r → AbbreviationsAre b (abbreviations_for i home at size) r
+    pub given_part : (row : ℕ) → pass row ≡ the_one (naming here at size) → (r : Abbreviations) → AbbreviationsAre b (abbrev_part here row section) r → AbbreviationsAre b (abbreviations_for i home at size) r
     unfolding section_of
-    given_part z r k =
+    given_part row z r k =
         subst (λ (m : Check (List ℕ)). AbbreviationsAre b m r)
-        (sym (by_row ∙ then_pass _ _ row (row_one here at size row told z) ∙ ap (abbrev_part here row) (is.bytes 3 (omega arith)))) k
+        (sym (by_row ∙ then_pass _ _ row (sym z) ∙ ap (abbrev_part here row) (is.bytes 3 (omega arith)))) k
 
 -- what an answer of 0 says
 pub given_inside : (b : List ℕ) (m : Check (List ℕ)) (r : Abbreviations) → AbbreviationsAre b m r → r.code ≡ 0 → (m ≡ pass (between b r.first r.last)) × (r.first ≤ r.last) × (r.last ≤ length b)

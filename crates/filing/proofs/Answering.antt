@@ -16,8 +16,11 @@ use Rattle.unit.specs.UnitRead.{UnitRead}
 use Rattle.index.specs.Index.{Contribution}
 use Rattle.index.specs.Rows.{BySection}
 use Rattle.index.specs.Written.{offset_of, size_of}
-use Rattle.index.specs.Contributed.{ContributionsAre}
-use Rattle.index.specs.declared.judging.RowJudged.{RowJudged}
+use Rattle.index.specs.Contributed.{ContributionsAre, Answers}
+use Rattle.index.specs.declared.judging.Contributions.{Contributions}
+use Rattle.numbers.specs.Refused.{number_of}
+use Rattle.numbers.specs.declared.refusals.Refusal.{Refusal}
+use Rattle.std.specs.Prelude.{Ok, Err}
 use Rattle.package.specs.Input.{Input}
 use Rattle.kept.specs.Regions.{records_region, region}
 use Rattle.package.specs.Filing.{Filed, is_under, kept, contributions_of, unit_at, repeat, namesake}
@@ -123,26 +126,26 @@ module _ {b : List ℕ} {x : InputObject} {i : Input} {place : ℕ} {w : List �
         | no t ↦ subst (UnitIs b x i place w w st bases earlier here (unit_at i bases earlier here home at s)) (sym (is.skipped t)) (answer_skipped t)
       ]
 
-    module _ (j : RowJudged) (g : GivenIs (contributions_of i home at read) j) (e : any (is_under table identity) us ≡ false) where
-      pub answer_bad : (v : List ℕ) (z : UnitFiled) → (j.code ≡ 0 → ⊥) → z.code ≡ j.code
+    module _ (e : any (is_under table identity) us ≡ false) where
+      pub answer_bad : (q : Refusal) → GivenIs (contributions_of i home at read) (Err q) → (v : List ℕ) (z : UnitFiled) → z.code ≡ number_of q
           → UnitIs b x i place w v st bases earlier here (unit_at i bases earlier here home at s) z
-      unfolding UnitIs GivenIs
-      answer_bad v z d c = go (contributions_of i home at read) refl g
+      unfolding UnitIs Answers
+      answer_bad q g v z c = go (contributions_of i home at read) refl g
         where
-          go : (m : Check (BySection (Option Contribution))) → contributions_of i home at read ≡ m → GivenIs m j
+          go : (m : Check (BySection (Option Contribution))) → contributions_of i home at read ≡ m → GivenIs m (Err q)
               → UnitIs b x i place w v st bases earlier here (unit_at i bases earlier here home at s) z
-          go (pass f) q k = absurd (d k.0)
-          go (refuse m) q k = rw (unit_bad i bases earlier here home at s size table identity r m e q) (c ∙ k.0)
+          go (pass f) p k = absurd k
+          go (refuse m) p k = rw (unit_bad i bases earlier here home at s size table identity r m e p) (c ∙ k)
 
-      module _ (d : j.code ≡ 0) where
-        given : (f : BySection (Option Contribution)) × (contributions_of i home at read ≡ pass f) × ContributionsAre j.contributions f
-        unfolding GivenIs
+      module _ (k : Contributions) (g : GivenIs (contributions_of i home at read) (Ok k)) where
+        given : (f : BySection (Option Contribution)) × (contributions_of i home at read ≡ pass f) × ContributionsAre k f
+        unfolding Answers
         given = go (contributions_of i home at read) refl g
           where
-            go : (m : Check (BySection (Option Contribution))) → contributions_of i home at read ≡ m → GivenIs m j
-                → (f : BySection (Option Contribution)) × (contributions_of i home at read ≡ pass f) × ContributionsAre j.contributions f
-            go (pass f) q k = (f, q, k.1)
-            go (refuse m) q k = absurd (omega (arith, k.0, k.1, d))
+            go : (m : Check (BySection (Option Contribution))) → contributions_of i home at read ≡ m → GivenIs m (Ok k)
+                → (f : BySection (Option Contribution)) × (contributions_of i home at read ≡ pass f) × ContributionsAre k f
+            go (pass f) q h = (f, q, h)
+            go (refuse m) q h = absurd h
 
         abbrev new : Filed
         new = unit given.0
@@ -154,7 +157,7 @@ module _ {b : List ℕ} {x : InputObject} {i : Input} {place : ℕ} {w : List �
         abbrev head : UnitHead
         head = record { table = table; row = (pick table st.units.cu st.units.tu).rows + 1; identity = identity; home = home; start = place; size = size }
 
-        new_unit : (slot : ℕ) → free_for (slots_in w n table (seen_slots n)) identity ≡ slot → slot < seen_slots n → NewUnit b n slot head j.contributions st w bases us new
+        new_unit : (slot : ℕ) → free_for (slots_in w n table (seen_slots n)) identity ≡ slot → slot < seen_slots n → NewUnit b n slot head k st w bases us new
         new_unit slot free inside =
             record {
               table_is = refl;
@@ -188,12 +191,12 @@ module _ {b : List ℕ} {x : InputObject} {i : Input} {place : ℕ} {w : List �
             )
 
         module _ (slot : ℕ) (free : free_for (slots_in w n table (seen_slots n)) identity ≡ slot) (inside : slot < seen_slots n) (u : UnitHead) (is : u ≡ head) where
-          pub keep_requires : KeepAsked five n slot u j.contributions st w
+          pub keep_requires : KeepAsked five n slot u k st w
           keep_requires =
-              subst (λ (z : UnitHead). KeepAsked five n slot z j.contributions st w) (sym is)
+              subst (λ (z : UnitHead). KeepAsked five n slot z k st w) (sym is)
               (record { bundle = b; bases = bases; units = us; unit = new; held = a.held; new = new_unit slot free inside })
 
-          pub answer_filed : (v : List ℕ) (next : InProgress) → UnitKept five n slot u j.contributions st w v next → StringsKept n w v st next
+          pub answer_filed : (v : List ℕ) (next : InProgress) → UnitKept five n slot u k st w v next → StringsKept n w v st next
               → UnitIs b x i place w v st bases earlier here (unit_at i bases earlier here home at s) (record { code = 0; size = size; st = next })
           answer_filed v next keeps strings =
-              answer_kept v next (subst (λ (z : UnitHead). UnitKept five n slot z j.contributions st w v next) is keeps b bases us new a.held (new_unit slot free inside)) strings
+              answer_kept v next (subst (λ (z : UnitHead). UnitKept five n slot z k st w v next) is keeps b bases us new a.held (new_unit slot free inside)) strings

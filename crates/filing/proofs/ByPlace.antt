@@ -22,9 +22,8 @@ use Rattle.index.specs.Index.{Index}
 use Rattle.index.specs.Rows.{row_numbers, naming, the_one}
 use Rattle.index.specs.Held.{Sized, ReadWell, index_in}
 use Rattle.index.specs.declared.reading.IndexHead.{IndexHead}
-use Rattle.index.proofs.Heads.{well}
-use Rattle.places.specs.Chains.{Chained, row_told}
-use Rattle.places.proofs.Chaining.{units_are}
+use Rattle.index.proofs.Heads.{well, units_are}
+use Rattle.places.specs.Chains.{Chained}
 use Rattle.kept.specs.Regions.{rows_region, region}
 use Rattle.kept.proofs.RegionStores.{rows_within}
 use Rattle.package.specs.Input.{Input}
@@ -85,29 +84,13 @@ one_above f (suc n) r e = ⊎_elim
     first [] q = let z : suc n ≡ r = pass_inj q in (omega arith, omega arith)
     first (x ∷ rs) q = absurd (pass_refuse r 15 (sym q))
 
-module _ (i : Index) (at size row : ℕ) (is : row ≡ row_told (the_one (naming i at size))) where
-  one_counted : (r : ℕ) → the_one (naming i at size) ≡ pass r → (0 < r) × (r ≤ i.units)
+module _ (i : Index) (at size : ℕ) where
+  pub row_none : (n : ℕ) → refuse n ≡ the_one (naming i at size) → the_one (naming i at size) ≡ refuse 15
+  row_none n e = sym e ∙ ap (λ (k : ℕ). refuse k) (one_refuses (naming i at size) n (sym e))
+
+  row_counted : (row : ℕ) → pass row ≡ the_one (naming i at size) → (0 < row) × (row ≤ i.units)
   unfolding naming
-  one_counted r q = one_above _ i.units r q
-
-  pub row_none : row ≡ 0 → the_one (naming i at size) ≡ refuse 15
-  unfolding row_told
-  row_none z = go (the_one (naming i at size)) refl
-    where
-      go : (m : Check ℕ) → the_one (naming i at size) ≡ m → the_one (naming i at size) ≡ refuse 15
-      go (pass r) q = absurd (omega (arith, (one_counted r q).0, is ∙ ap row_told q))
-      go (refuse n) q = q ∙ ap (λ (k : ℕ). refuse k) (one_refuses (naming i at size) n q)
-
-  pub row_one : (row ≡ 0 → ⊥) → the_one (naming i at size) ≡ pass row
-  unfolding row_told
-  row_one z = go (the_one (naming i at size)) refl
-    where
-      go : (m : Check ℕ) → the_one (naming i at size) ≡ m → the_one (naming i at size) ≡ pass row
-      go (pass r) q = q ∙ ap (λ (k : ℕ). pass k) (sym (is ∙ ap row_told q))
-      go (refuse n) q = absurd (z (is ∙ ap row_told q))
-
-  row_counted : (row ≡ 0 → ⊥) → (0 < row) × (row ≤ i.units)
-  row_counted z = one_counted row (row_one z)
+  row_counted row e = one_above _ i.units row (sym e)
 
 -- ---- an index that is there; s is its section as code cuts it out
 module _ (b : List ℕ) (x : InputObject) (i : Input) (is : InputIs b x i) (limit : length b ≤ 4_194_304) (home : ℕ) (head : IndexHead) (e : At head ≡ indexed_by_place x home) where
@@ -135,9 +118,9 @@ module _ (b : List ℕ) (x : InputObject) (i : Input) (is : InputIs b x i) (limi
   pub few_rows : 12 * head.units + 16 ≤ length b
   few_rows = omega (arith, cut_sized.is, cut_length, (well x.encoding.big (section_of b x 12) head read_well).above)
 
-  pub row_within : (at size row : ℕ) → row ≡ row_told (the_one (naming (index_in x.encoding.big cut head) at size)) → (row ≡ 0 → ⊥) → (0 < row) × (row ≤ head.units)
-  row_within at size row t z =
-      let r = row_counted (index_in x.encoding.big cut head) at size row t z in
+  pub row_within : (at size row : ℕ) → pass row ≡ the_one (naming (index_in x.encoding.big cut head) at size) → (0 < row) × (row ≤ head.units)
+  row_within at size row t =
+      let r = row_counted (index_in x.encoding.big cut head) at size row t in
       (r.0, omega (arith, r.1, units_are x.encoding.big cut head))
 
 -- ---- their chains
@@ -147,12 +130,12 @@ chained_nowhere b x h w e = rw (← e) tt
 
 module _ {b : List ℕ} {x : InputObject} {h : HomeSection} {w : List ℕ} (p : ChainAsked b x h w) (head : IndexHead) (e : At head ≡ indexed_by_place x h.home)
     (from many : ℕ) (ef : from ≡ rows_region.start * words_in b) (em : many ≡ rows_region.words * words_in b) where
-  pub chain_asks : (heads : ℕ) → heads ≡ heads_for h
-      → Sized (cut b x p.input p.is p.work.limit h.home head e) head × (head.units < 2 ^ 32) × (heads + head.units ≤ length (take (from + many - from) (drop from w)))
+  pub chain_asks : (heads : ℕ) → heads ≡ heads_for h → (i : Index) → i ≡ index_in x.encoding.big (cut b x p.input p.is p.work.limit h.home head e) head
+      → (i.units < 2 ^ 32) × (heads + i.units ≤ length (take (from + many - from) (drop from w)))
   unfolding heads_for
-  chain_asks heads q =
-      let few = few_rows b x p.input p.is p.work.limit h.home head e in (
-        cut_sized b x p.input p.is p.work.limit h.home head e,
+  chain_asks heads q i is =
+      let few = few_rows b x p.input p.is p.work.limit h.home head e in
+      let u = ap (λ (j : Index). j.units) is ∙ units_are x.encoding.big (cut b x p.input p.is p.work.limit h.home head e) head in (
         omega (arith, few, p.work.limit),
         omega (arith, few, q, p.from, p.within, p.work.words, lent_length rows_region rows_within (words_in b) from many w p.work.room ef em),
       )
@@ -174,11 +157,10 @@ module _ {b : List ℕ} {x : InputObject} {h : HomeSection} {at : ℕ} {w : List
   chained_here = rw (← e) at c
 
   pub row_asks : (heads : ℕ) → heads ≡ heads_for h
-      → Sized (cut b x p.input p.is p.work.limit h.home head e) head × ((at - h.start) / 4 < heads)
+      → ((at - h.start) / 4 < heads)
       × Chained (index_in x.encoding.big (cut b x p.input p.is p.work.limit h.home head e) head) info_code heads (take (from + many - from) (drop from w))
   unfolding heads_for
   row_asks heads q = (
-    cut_sized b x p.input p.is p.work.limit h.home head e,
     omega (arith, q, p.from, p.low),
     subst (λ (l : List ℕ). Chained (index_in x.encoding.big l head) info_code heads (take (from + many - from) (drop from w))) (sym (cut_section b x p.input p.is p.work.limit h.home head e))
         (subst (λ (k : ℕ). Chained (index_in x.encoding.big (section_of b x 12) head) info_code k (take (from + many - from) (drop from w))) (sym q)

@@ -21,9 +21,12 @@ use Rattle.index.specs.Index.{Index, Contribution, cell_of}
 use Rattle.index.specs.Probing.{Probe, found, absent, probe}
 use Rattle.index.specs.Rows.{BySection, shared, needed_codes, is_some, row_of, cell_is, own_place, part_good, row_contributions, whole_contributions}
 use Rattle.index.specs.Held.{ReadWell, index_in}
-use Rattle.index.specs.Contributed.{by_code, ContributionsAre, code_given, contributions_given}
+use Rattle.index.specs.Contributed.{by_code, ContributionsAre, Answers}
 use Rattle.index.specs.declared.reading.IndexHead.{IndexHead}
-use Rattle.index.specs.declared.judging.RowJudged.{RowJudged}
+use Rattle.index.specs.declared.judging.Contributions.{Contributions}
+use Rattle.numbers.specs.declared.refusals.Refusal.{Refusal}
+use Rattle.numbers.specs.declared.refusals.Refusal.TheVariants.{NoRow}
+use Rattle.std.specs.Prelude.{Result, Ok, Err}
 use Rattle.index.proofs.Contributions.{needed_shared}
 use Rattle.unit.specs.UnitRead.{is_five}
 use Rattle.package.specs.Input.{Input}
@@ -36,49 +39,8 @@ use Rattle.filing.specs.declared.input.InputObject.{InputObject}
 use Rattle.filing.specs.declared.input.Indexed.{Indexed}
 use Rattle.filing.specs.declared.input.Indexed.TheVariants.{At, Nowhere}
 
--- ---- every refusal has a number
-pub record Above {A : Type 0} (m : Check A) : Type 0 where
-  pub is : (n : ℕ) → m ≡ refuse n → 0 < n
-
-pub above_pass : {A : Type 0} (a : A) → Above (pass a)
-above_pass a = record { is = λ n e. absurd (pass_refuse a n e) }
-
-pub above_refuse : {A : Type 0} (k : ℕ) → 0 < k → Above {A = A} (refuse k)
-above_refuse k h = record { is = λ n e. rw (refuse_inj e) at h }
-
-pub above_require : (t : Bool) (k : ℕ) → 0 < k → Above (require t k)
-unfolding require
-above_require true k h = above_pass tt
-above_require false k h = above_refuse k h
-
-pub above_bind : {A B : Type 0} (m : Check A) (f : A → Check B) → Above m → ((a : A) → Above (f a)) → Above (m >>= f)
-above_bind m f o g = record { is = λ n e. ⊎_elim (λ r. o.is n r) (λ p. (g p.0).is n p.2) (bind_refuse m f n e) }
-
-row_found : (i : Index) (p : Probe) → Above (row_of i p)
-unfolding row_of
-row_found i (found slot looks) = above_pass _
-row_found i (absent looks) = above_refuse 15 (omega arith)
-
-pub row_above : (i : Index) (width : ℕ) (ls : BySection ℕ) (x home at size : ℕ) → Above (row_contributions i width ls x home at size)
-unfolding row_contributions
-row_above i width ls x home at size =
-    above_bind _ _ (row_found i (probe i x))
-    (λ row. above_bind _ _ (above_require _ 15 (omega arith)) (λ _. above_bind _ _ (above_require _ 16 (omega arith)) (λ _. above_bind _ _ (above_require _ 16 (omega arith)) (λ _. above_pass _))))
-
--- ---- an answer by an index
-pub given_row : (i : Index) (width : ℕ) (ls : BySection ℕ) (x home at size : ℕ) (r : RowJudged)
-    → r.code ≡ code_given (row_contributions i width ls x home at size)
-    → ContributionsAre r.contributions (contributions_given (row_contributions i width ls x home at size))
-    → GivenIs (row_contributions i width ls x home at size) r
-unfolding GivenIs code_given contributions_given
-given_row i width ls x home at size r e k = go (row_contributions i width ls x home at size) refl
-  where
-    go : (m : Check (BySection (Option Contribution))) → row_contributions i width ls x home at size ≡ m → GivenIs (row_contributions i width ls x home at size) r
-    go (pass f) q = rw q ((rw q at e), (rw q at k))
-    go (refuse n) q = rw q ((rw q at e), (row_above i width ls x home at size).is n q)
-
 module _ (big : Bool) (s : List ℕ) (indexed : Indexed) (o : Option Index) (is : IndexedIs big s indexed o) where
-  pub given_none : (packed : Bool) (width : ℕ) (ls : BySection ℕ) (x home at size : ℕ) (r : RowJudged) → indexed ≡ Nowhere
+  pub given_none : (packed : Bool) (width : ℕ) (ls : BySection ℕ) (x home at size : ℕ) (r : Result Contributions Refusal) → indexed ≡ Nowhere
       → GivenIs (whole_given packed ls) r → GivenIs (contributions_by packed o width ls x home at size) r
   unfolding contributions_by IndexedIs
   given_none packed width ls x home at size r e k = go o (rw e at is)
@@ -95,15 +57,11 @@ module _ (big : Bool) (s : List ℕ) (indexed : Indexed) (o : Option Index) (is 
       go none h = absurd h
       go (some y) h = (h.0, ap some h.1)
 
-  pub given_at : (packed : Bool) (t : List ℕ) (head : IndexHead) (width w : ℕ) (ls : BySection ℕ) (x home at size : ℕ) (r : RowJudged) → indexed ≡ At head → t ≡ s → w ≡ width
-      → r.code ≡ code_given (row_contributions (index_in big t head) w ls x home at size)
-      → ContributionsAre r.contributions (contributions_given (row_contributions (index_in big t head) w ls x home at size))
-      → GivenIs (contributions_by packed o width ls x home at size) r
+  pub given_at : (packed : Bool) (t : List ℕ) (head : IndexHead) (width : ℕ) (ls : BySection ℕ) (x home at size : ℕ) (r : Result Contributions Refusal) → indexed ≡ At head → t ≡ s
+      → GivenIs (row_contributions (index_in big t head) width ls x home at size) r → GivenIs (contributions_by packed o width ls x home at size) r
   unfolding contributions_by
-  given_at packed t head width w ls x home at size r e p q c k =
-      rw (index_well head e).1
-      (subst (λ (l : List ℕ). GivenIs (row_contributions (index_in big l head) width ls x home at size) r) p
-      (subst (λ (n : ℕ). GivenIs (row_contributions (index_in big t head) n ls x home at size) r) q (given_row (index_in big t head) w ls x home at size r c k)))
+  given_at packed t head width ls x home at size r e p g =
+      rw (index_well head e).1 (subst (λ (l : List ℕ). GivenIs (row_contributions (index_in big l head) width ls x home at size) r) p g)
 
 -- whether there is one, and whether the object is a package
 pub there_yes : (y : Indexed) (h : IndexHead) → y ≡ At h → true ≡ is_there y
@@ -128,13 +86,13 @@ module _ (x : InputObject) where
   package_four f = rw (packed_by, f)
 
 -- without an index
-pub whole_fifteen : (packed : Bool) (ls : BySection ℕ) (r : RowJudged) → packed ≡ true → r.code ≡ 15 → GivenIs (whole_given packed ls) r
-unfolding GivenIs whole_given require ◌>>=◌
-whole_fifteen packed ls r e c = rw e (c, omega arith)
+pub whole_fifteen : (packed : Bool) (ls : BySection ℕ) → packed ≡ true → GivenIs (whole_given packed ls) (Err NoRow)
+unfolding Answers whole_given require ◌>>=◌
+whole_fifteen packed ls e = rw e refl
 
-pub whole_passes : (packed : Bool) (ls : BySection ℕ) (r : RowJudged) → packed ≡ false → r.code ≡ 0 → ContributionsAre r.contributions (whole_contributions ls) → GivenIs (whole_given packed ls) r
-unfolding GivenIs whole_given require ◌>>=◌
-whole_passes packed ls r e c k = rw e (c, k)
+pub whole_passes : (packed : Bool) (ls : BySection ℕ) (k : Contributions) → packed ≡ false → ContributionsAre k (whole_contributions ls) → GivenIs (whole_given packed ls) (Ok k)
+unfolding Answers whole_given require ◌>>=◌
+whole_passes packed ls k e h = rw e h
 
 -- ---- only shared codes count
 among : (c : ℕ) (xs : List ℕ) → all (λ d. ltb d 14) xs ≡ true → has xs c ≡ true → c < 14
@@ -221,11 +179,15 @@ module _ (b : List ℕ) (x : InputObject) (i : Input) (is : InputIs b x i) where
       ap (λ (t : Bool). t && (is_there x.cu || is_there x.tu)) (five_is x.encoding i.encoding is.encoding)
       ∙ ap₂ (λ (c t : Bool). eqb i.encoding.version 5 && (c || t)) (there_is _ x.cu i.cu_index is.cu_index) (there_is _ x.tu i.tu_index is.tu_index)
 
-  module _ (table identity home at size : ℕ) (r : RowJudged) where
+  module _ (table identity home at size : ℕ) (r : Result Contributions Refusal) where
     whole_width : (t : Bool) → GivenIs (whole_given t (by_code x.size)) r → GivenIs (whole_given t (lengths i)) r
-    unfolding whole_given GivenIs require ◌>>=◌
+    unfolding whole_given Answers require ◌>>=◌
     whole_width true a = a
-    whole_width false a = (a.0, same_held r.contributions (whole_contributions (by_code x.size)) (whole_contributions (lengths i)) (whole_same (by_code x.size) (lengths i) lengths_are) a.1)
+    whole_width false a = kept r a
+      where
+        kept : (q : Result Contributions Refusal) → GivenIs (pass (whole_contributions (by_code x.size))) q → GivenIs (pass (whole_contributions (lengths i))) q
+        kept (Ok k) h = same_held k (whole_contributions (by_code x.size)) (whole_contributions (lengths i)) (whole_same (by_code x.size) (lengths i) lengths_are) h
+        kept (Err n) h = absurd h
 
     given_width : (o : Option Index) → index_for i table ≡ o
         → GivenIs (contributions_by (packed_by x) o (encoding_is x.encoding).width (by_code x.size) identity home at size) r

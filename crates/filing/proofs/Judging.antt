@@ -12,7 +12,7 @@ use Rattle.std.specs.Prelude.{Ok, Err}
 use Rattle.numbers.specs.Refused.{told}
 use Rattle.numbers.specs.declared.refusals.Refusal.{Refusal}
 use Rattle.octets.specs.Checked.{Check, pass, refuse, ◌>>=◌, mapped}
-use Rattle.octets.proofs.Checks.{fails, passes}
+use Rattle.octets.proofs.Checks.{fails, passes, and_left, and_right}
 use Rattle.octets.proofs.Refusals.{Only, only_pass, only_require, only_bind}
 use Rattle.bundle.specs.Bundle.{Part, count}
 use Rattle.bundle.specs.Scan.{by_code, scan_of}
@@ -22,9 +22,8 @@ use Rattle.bundle.specs.Encoded.{encoding_is, encoding_checked}
 use Rattle.bundle.specs.declared.encoding.ObjectEncoding.{ObjectEncoding}
 use Rattle.bundle.proofs.Encodings.{word_good, word_bad}
 use Rattle.index.specs.Index.{Index, index_of, layout}
-use Rattle.index.specs.Held.{index_read, index_in}
+use Rattle.index.specs.Held.{head_of, index_in, ReadWell}
 use Rattle.index.specs.declared.reading.IndexHead.{IndexHead}
-use Rattle.index.specs.declared.reading.IndexRead.TheVariants as read
 use Rattle.index.proofs.Heads.{read_is}
 use Rattle.unit.specs.UnitRead.{is_five}
 use Rattle.unit.proofs.Fields.{is_five_law, is_four}
@@ -100,17 +99,17 @@ module _ (big : Bool) (form : ℕ) (s : List ℕ) (r : JudgedIndex) where
   index_none there e c i = rw (index_check, e, i) (c, tt)
 
   module _ (there : Bool) (e : there ≡ true) where
-    pub index_bad : read.Bad ≡ index_read (index_of big s) → r.code ≡ 10 → JudgedIndexIs big s (index_check big form there s) r
-    unfolding index_check JudgedIndexIs index_read ◌>>=◌
-    index_bad h c = go (index_of big s) refl
-      where
-        go : (m : Check Index) → index_of big s ≡ m → JudgedIndexIs big s (index_check big form there s) r
-        go (pass i) q = absurd (let g = rw q at h in let z : ◌≡◌ {A = ℕ} 0 1 = cc in omega arith)
-        go (refuse n) q = rw (index_check, e, q) (let k = (index_only big s).is n q in (rw k c, rw k (omega arith)))
+    pub index_bad : (n : ℕ) → refuse n ≡ index_of big s → r.code ≡ 10 → JudgedIndexIs big s (index_check big form there s) r
+    unfolding index_check JudgedIndexIs ◌>>=◌
+    index_bad n h c = let k = (index_only big s).is n (sym h) in rw (index_check, e, ← h) (c ∙ sym k, omega arith)
 
-    module _ (head : IndexHead) (h : read.Good head ≡ index_read (index_of big s)) (version : ℕ) (is : version ≡ form) where
+    module _ (i : Index) (h : pass i ≡ index_of big s) (head : IndexHead) (of : head ≡ head_of i) (version : ℕ) (is : version ≡ form) where
+      read : ReadWell big s head
+      unfolding mapped
+      read = record { is = ap (mapped head_of) (sym h) ∙ ap pass (sym of) }
+
       index_there : index_of big s ≡ pass (index_in big s head)
-      index_there = read_is big s head (record { is = h })
+      index_there = read_is big s head read
 
       pub index_other : (head.version ≡ version → ⊥) → r.code ≡ 10 → JudgedIndexIs big s (index_check big form there s) r
       unfolding index_check JudgedIndexIs index_in layout ◌>>=◌
@@ -122,4 +121,4 @@ module _ (big : Bool) (form : ℕ) (s : List ℕ) (r : JudgedIndex) where
       unfolding index_check JudgedIndexIs IndexedIs index_in layout ◌>>=◌
       index_good_law v c i =
           rw (index_check, e, index_there)
-          (rw (passes (eqb head.version form) 10 (λ _. pass (some (index_in big s head))) (eq-eqb _ _ (v ∙ is)), i) (c, (record { is = h }, refl)))
+          (rw (passes (eqb head.version form) 10 (λ _. pass (some (index_in big s head))) (eq-eqb _ _ (v ∙ is)), i) (c, (read, refl)))

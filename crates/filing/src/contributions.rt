@@ -11,8 +11,9 @@ ghost use Rattle.filing.specs.Contributing.{whole_given, GivenIs, GivenBy, Contr
 use crate::input::{Indexed, InputObject};
 use crate::state::COMPILATION;
 use crate::units::ReadUnit;
-use index::judging::{Measures, OwnUnit, RowJudged};
-use numbers::refusals::NO_ROW;
+use index::judging::{Contributions, Measures, OwnUnit};
+use index::reading::Index;
+use numbers::refusals::Refusal;
 use numbers::sections::{CODES, CU_INDEX, TU_INDEX};
 use strings::table::Place;
 
@@ -42,20 +43,13 @@ fn is_package(x: InputObject) -> bool
 }
 
 // Without an index for the unit's table: its object's sections as a whole, but 15 in a package.
-fn whole_given(packed: bool, lengths: [usize; CODES]) -> RowJudged
+fn whole_given(packed: bool, lengths: [usize; CODES]) -> Result<Contributions, Refusal>
     ensures { GivenIs (whole_given packed (by_code lengths)) result }
 {
-    let contributions = index::judging::whole_contributions(lengths);
     if packed {
-        return RowJudged {
-            code: NO_ROW,
-            contributions,
-        };
+        return Err(Refusal::NoRow);
     }
-    RowJudged {
-        code: 0,
-        contributions,
-    }
+    Ok(index::judging::whole_contributions(lengths))
 }
 
 // By the index of the unit's table, which lies there where there is one.
@@ -67,7 +61,7 @@ fn indexed_contributions(
     packed: bool,
     m: Measures,
     u: OwnUnit,
-) -> RowJudged
+) -> Result<Contributions, Refusal>
     requires { (0 < m.width) × Inside b.now place × ((o : Option Index) × IndexedIs big (bytes_at b.now place) indexed o) }
     ensures { (o : Option Index) → IndexedIs big (bytes_at b.now place) indexed o → GivenBy packed o m u result }
 {
@@ -77,7 +71,8 @@ fn indexed_contributions(
     };
     let start = place.start;
     let end = start + place.size;
-    index::judging::judge_row(big, &b[start..end], head, m, u)
+    let index = Index::of(big, &b[start..end], head);
+    index.judge_row(m, u)
 }
 
 // A unit that was read at a place of the section home.
@@ -87,7 +82,7 @@ pub fn contributions_of(
     home: usize,
     at: usize,
     read: ReadUnit,
-) -> RowJudged
+) -> Result<Contributions, Refusal>
     requires { (i : Input) × InputIs b.now x i }
     ensures { ContributionsGiven b.now x home at read result }
 {

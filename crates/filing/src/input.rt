@@ -9,7 +9,7 @@ ghost use Rattle.filing.specs.Judged.{object_check, JudgedIs, index_check, Judge
 
 use bundle::Scan;
 use bundle::encoding::ObjectEncoding;
-use index::reading::{IndexHead, IndexRead};
+use index::reading::{Index, IndexHead};
 use numbers::refusals::{BAD_ENCODING, BAD_INDEX, OTHER_ENCODING, SECTION_MISSING, WRONG_EDITION};
 use numbers::sections::CODES;
 use numbers::tables::{INDEX_2, INDEX_5};
@@ -112,12 +112,13 @@ pub fn judge_index(
         };
     }
     let end = start + size;
-    let IndexRead::Good(head) = index::reading::read_index(e.big, &b[start..end]) else {
+    let Ok(index) = Index::read(e.big, &b[start..end]) else {
         return JudgedIndex {
             code: BAD_INDEX,
             index: Indexed::Nowhere,
         };
     };
+    let head = index.head();
     if head.version != version {
         return JudgedIndex {
             code: BAD_INDEX,

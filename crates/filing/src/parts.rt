@@ -3,7 +3,6 @@ ghost use Rattle.std.specs.Prelude.{◌≡◌, ◌<◌, ◌^◌, length, get_or}
 ghost use Rattle.std.proofs.Math.Option.{Option};
 ghost use Rattle.numbers.specs.Sections.{str_offsets_code};
 ghost use Rattle.strings.specs.Kept.{Inside, bytes_at};
-ghost use Rattle.index.specs.Index.{Index};
 ghost use Rattle.kept.specs.Regions.{codes_region, Only};
 ghost use Rattle.filing.specs.State.{words_in, OnlyStore};
 ghost use Rattle.filing.specs.Judged.{IndexedIs};
@@ -20,6 +19,7 @@ ghost use Rattle.filing.specs.Tiled.{
 
 use crate::input::{Indexed, InputObject};
 use crate::objects::StringsFiled;
+use index::reading::Index;
 use numbers::refusals::{BAD_PARTS, BAD_STR_OFFSETS, NO_STRING};
 use numbers::sections::{CU_INDEX, STR_OFFSETS, TU_INDEX};
 use strings::table::{Place, StrOffsets, StringTable};
@@ -41,7 +41,8 @@ fn mark_index(b: &[u8], big: bool, place: Place, indexed: Indexed, marks: &mut [
     };
     let start = place.start;
     let end = start + place.size;
-    places::tiles::mark_rows(big, &b[start..end], head, marks)
+    let index = Index::of(big, &b[start..end], head);
+    places::tiles::mark_rows(&index, marks)
 }
 
 // Marks the parts that both indexes name.

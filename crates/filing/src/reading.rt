@@ -28,8 +28,7 @@ ghost use Rattle.filing.specs.Asked.{
 use crate::input::{Indexed, InputObject};
 use crate::units::HomeSection;
 use bundle::encoding::ObjectEncoding;
-use index::cells::Cell;
-use index::reading::IndexHead;
+use index::reading::{Index, IndexHead};
 use leb128::Size;
 use numbers::refusals::{BAD_HEADER, BAD_ROW, NO_ROW};
 use numbers::sections::{ABBREV, CU_INDEX, INFO};
@@ -84,14 +83,8 @@ pub fn chain_section(b: &[u8], x: InputObject, section: HomeSection, work: &mut 
     let region = kept::regions::rows_by_place(b.len() / 4);
     let from = region.start;
     let to = from + region.size;
-    places::by_place::chain_rows(
-        e.big,
-        &b[start..end],
-        head,
-        INFO,
-        heads,
-        &mut work[from..to],
-    );
+    let index = Index::of(e.big, &b[start..end], head);
+    places::by_place::chain_rows(&index, INFO, heads, &mut work[from..to]);
 }
 
 fn refused(code: u32) -> Abbreviations
@@ -123,20 +116,21 @@ fn abbrev_part(
             last: start,
         };
     }
-    let Cell::Is(o, z) = index::cells::cell_of(big, s, head, row, ABBREV) else {
+    let index = Index::of(big, s, head);
+    let Some(cell) = index.cell_of(row, ABBREV) else {
         return refused(NO_ROW);
     };
-    if o > size {
+    if cell.offset > size {
         return refused(BAD_ROW);
     }
-    if z > size - o {
+    if cell.size > size - cell.offset {
         return refused(BAD_ROW);
     }
-    let first = start + o;
+    let first = start + cell.offset;
     Abbreviations {
         code: 0,
         first,
-        last: first + z,
+        last: first + cell.size,
     }
 }
 
@@ -171,10 +165,10 @@ fn abbreviations_for(
     let from = region.start;
     let to = from + region.size;
     let place = at - section.start;
-    let row = places::by_place::row_at(e.big, s, head, heads, &work[from..to], place, size);
-    if row == 0 {
+    let index = Index::of(e.big, s, head);
+    let Ok(row) = places::by_place::row_at(&index, heads, &work[from..to], place, size) else {
         return refused(NO_ROW);
-    }
+    };
     abbrev_part(e.big, s, head, row, start, many)
 }
 

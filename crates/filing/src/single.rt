@@ -96,12 +96,10 @@ fn file_read(
         }
         Sought::Free(slot) => slot,
     };
-    let judged = crate::contributions::contributions_of(b, x, home, at - section.start, read);
-    let code = judged.code;
-    if code != 0 {
-        return refused(code, st);
-    }
-    let k = judged.contributions;
+    let k = match crate::contributions::contributions_of(b, x, home, at - section.start, read) {
+        Ok(k) => k,
+        Err(refusal) => return refused(refusal.number(), st),
+    };
     let unit = unit_for(units, home, at, read);
     let next = crate::keep::keep_unit(e.five, n, slot, unit, k, st, work);
     UnitFiled {

@@ -4,14 +4,12 @@
 use mathlib.Core.Path.{◌≡◌, refl, sym}
 use mathlib.Core.Bool.{Bool, true, false, not, ◌&&◌}
 use mathlib.Core.List.{List}
-use Prim.Native.Nat.{ℕ, zero, suc, ◌+◌, ◌*◌, ◌^◌, ◌-◌, ◌<◌, ◌≤◌}
+use Prim.Native.Nat.{ℕ, suc, ◌+◌, ◌<◌, ◌≤◌}
 use native.Mathlib.Omega.{arith}
-use native.Mathlib.Nat.{mul_assoc, mul_comm, pow-succ', mul-le-mul_left, mul-one}
 use native.Mathlib.Numerals.{add-one}
 use lib.Dec.{eqb, leb}
 use lib.ListN.{length, drop, get_or, drop_of_length-le}
 use lib.Seq.{drop-cons}
-use lib.Pow.{pow_pos}
 use borrow.Author.Tests.{le-leb, lt-leb, eq-eqb, ne_eqb}
 use Rattle.octets.specs.Octets.{number_at}
 use Rattle.octets.specs.Lists.{has, distinct, zero_together}
@@ -110,13 +108,3 @@ module _ (units : ℕ) (ids rows : List ℕ) (i : ℕ) where
   pub slots_end : length ids ≤ i → true ≡ slots_good units (drop i ids) (drop i rows)
   unfolding slots_good
   slots_end h = rw (drop_of_length-le ids h)
-
--- ---- doublings that are left
-pub doubling_fits : (p left : ℕ) → p * 2 ^ left ≡ 2 ^ 32 → p ≤ 2 ^ 32
-doubling_fits p left e = omega (arith, mul-one p, mul-le-mul_left p (pow_pos left))
-
-pub doubling_on : (p left : ℕ) → 0 < left → p * 2 ^ left ≡ 2 ^ 32 → 2 * p * 2 ^ (left - 1) ≡ 2 ^ 32
-doubling_on p zero h e = absurd (omega arith)
-doubling_on p (suc k) h e =
-    let n : suc k - 1 ≡ k = omega arith in
-    rw (n, mul_comm 2 p, mul_assoc) (rw pow-succ' at e)

@@ -4,11 +4,9 @@
 #![tactic(auto)]
 
 ghost use Rattle.std.specs.Prelude.{◌<◌, ◌≤◌};
-ghost use Rattle.index.specs.Held.{Sized};
 
-use index::cells::Cell;
-use index::probing::Probed;
-use index::reading::{IndexHead, IndexRead};
+use index::cells::Contribution;
+use index::reading::Index;
 use std::io;
 
 // The longest section that is read.
@@ -21,52 +19,55 @@ struct Stated<'a> {
     digits: &'a [u8],
 }
 
-// The bytes that digits state, in the room that is lent for them; none where they are no digits, or too many.
+// The bytes that digits state, in the room that is lent for them, up to the first that are no digits.
 fn read_bytes<'a>(digits: &[u8], room: &'a mut [u8]) -> &'a [u8] {
-    let n = digits.len() / 2;
-    if n <= room.len() && hex::decode_to_slice(digits, &mut room[..n]).is_ok() {
-        &room[..n]
-    } else {
-        &[]
+    let mut n = 0;
+    for pair in digits.chunks_exact(2) {
+        if room.len() <= n || hex::decode_to_slice(pair, &mut room[n..n + 1]).is_err() {
+            break;
+        }
+        n += 1;
     }
+    &room[..n]
 }
 
-fn write_cell(rt: &impl Print, cell: Cell) -> io::Result<()> {
+fn write_cell(rt: &impl Print, cell: Option<Contribution>) -> io::Result<()> {
     match cell {
-        Cell::Is(offset, size) => print!(rt; " {offset}+{size}"),
-        Cell::Missing => print!(rt; " -"),
+        Some(Contribution { offset, size }) => print!(rt; " {offset}+{size}"),
+        None => print!(rt; " -"),
     }
 }
 
-fn write_cells(rt: &impl Print, big: bool, s: &[u8], head: IndexHead, row: usize) -> io::Result<()>
-    requires { (Sized s.now head) × (0 < row) × (row ≤ head.units) }
+fn write_cells(rt: &impl Print, index: &Index, row: usize) -> io::Result<()>
+    requires { (0 < row) × (row ≤ index.now.units) }
 {
     for section in 1..11 {
-        let cell = index::cells::cell_of(big, s, head, row, section);
-        write_cell(rt, cell)?;
+        write_cell(rt, index.cell_of(row, section))?;
     }
     Ok(())
 }
 
 fn answer_search(rt: &impl Print, big: bool, s: &[u8], x: u64) -> io::Result<()> {
-    let IndexRead::Good(head) = index::reading::read_index(big, s) else {
+    let Ok(index) = Index::read(big, s) else {
         return println!(rt; "bad");
     };
-    match index::probing::find(big, s, head, x) {
-        Probed::Found(slot, looks) => {
-            let row = index::reading::row_at(big, s, head, slot);
-            print!(rt; "row {row} {looks}")?;
-            write_cells(rt, big, s, head, row)?;
+    let ended = index.find(x);
+    match ended.slot {
+        Some(slot) => {
+            let row = index.row_at(slot);
+            print!(rt; "row {row} {}", ended.looks)?;
+            write_cells(rt, &index, row)?;
         }
-        Probed::Absent(looks) => print!(rt; "absent {looks}")?,
+        None => print!(rt; "absent {}", ended.looks)?,
     }
     println!(rt)
 }
 
 fn answer_index(rt: &impl Print, big: bool, s: &[u8]) -> io::Result<()> {
-    let IndexRead::Good(head) = index::reading::read_index(big, s) else {
+    let Ok(index) = Index::read(big, s) else {
         return println!(rt; "bad");
     };
+    let head = index.head();
     println!(rt;
         "index {} {} {} {}",
         head.version, head.columns, head.units, head.slots
@@ -83,7 +84,7 @@ fn answer_lines(rt: &impl Print, text: &[u8]) -> io::Result<()> {
         match line {
             [b's', b' ', digits @ ..] => {
                 let mut identity = [0; 8];
-                hex::decode_to_slice(digits, &mut identity).ok();
+                read_bytes(digits, &mut identity);
                 let section = read_bytes(last.digits, &mut room);
                 answer_search(rt, last.big, section, u64::from_be_bytes(identity))?;
             }

@@ -12,8 +12,8 @@ use borrow.Author.Tests.{le-leb, lt-leb}
 use borrow.Rule.Slice.PartMut.{put_mid}
 use Rattle.numbers.specs.Refusals.{bad_package, page_short}
 use Rattle.octets.specs.Octets.{zeros, padded}
-use Rattle.octets.specs.Checked.{Check, pass, refuse, mapped}
-use Rattle.octets.proofs.Checks.{then_pass, then_refuse, pass_refuse, pass_inj, refuse_inj, known}
+use Rattle.octets.specs.Checked.{Check, pass, refuse}
+use Rattle.octets.proofs.Checks.{then_pass, then_refuse, pass_refuse, known}
 use Rattle.octets.proofs.Placed.{length_zeros, length_padded, padded_step, padded_full}
 use Rattle.octets.proofs.Parts.{cut_rest}
 use Rattle.octets.proofs.Regions.{placed_whole}
@@ -24,28 +24,29 @@ use Rattle.lookup.specs.Lookup.{package_of, index_for}
 use Rattle.lookup.specs.Answers.{package_in}
 use Rattle.sheet.specs.Sheet.{table_lines, sheet_lines, on_page, sheet_of}
 use Rattle.sheet.specs.Held.{single}
-use Rattle.sheet.specs.Laid.{letter_of, table_of, both_of, lines_of, TableFits, BothFit}
+use Rattle.sheet.specs.Laid.{letter_of, table_of, both_of, measured, lines_of, TableFits, BothFit}
+use Rattle.sheet.specs.declared.tables.Lines.TheVariants.{Bytes, Bad}
 use Rattle.sheet.proofs.LawSlots.{single_lines, not_single_lines}
 
 -- ---- what a measure says
-pub measured_bad : (m : Check (List ℕ)) (n : ℕ) → refuse n ≡ mapped length m → m ≡ refuse n
-unfolding mapped
-measured_bad (pass l) n e = absurd (pass_refuse _ _ (sym e))
-measured_bad (refuse k) n e = ap refuse (refuse_inj {A = ℕ} (sym e))
+pub measured_bad : (m : Check (List ℕ)) → Bad ≡ measured m → (n : ℕ) × (m ≡ refuse n)
+unfolding measured
+measured_bad (pass l) e = absurd (let z : ◌≡◌ {A = ℕ} 0 1 = cc in omega arith)
+measured_bad (refuse n) e = (n, refl)
 
-pub measured_good : (m : Check (List ℕ)) (n : ℕ) → pass n ≡ mapped length m → (l : List ℕ) × (m ≡ pass l) × (length l ≡ n)
-unfolding mapped
-measured_good (pass l) n e = (l, refl, sym (pass_inj e))
-measured_good (refuse k) n e = absurd (pass_refuse _ _ e)
+pub measured_good : (m : Check (List ℕ)) (n : ℕ) → Bytes n ≡ measured m → (l : List ℕ) × (m ≡ pass l) × (length l ≡ n)
+unfolding measured
+measured_good (pass l) n e = (l, refl, cc)
+measured_good (refuse k) n e = absurd (let z : ◌≡◌ {A = ℕ} 0 1 = cc in omega arith)
 
 -- ---- a refusal
 pub refused_page : (a : Answer) (o n : ℕ) → a ≡ refused n → zeros o ≡ output_of a o
 unfolding output_of
 refused_page a o n e = sym (ap (λ (z : Answer). output_of z o) e)
 
-pub refused_told : (a : Answer) (n : ℕ) → a ≡ refused n → ◌≡◌ {A = Written} (record { code = n; length = 0 }) (written_of a)
+pub refused_told : (a : Answer) (n : ℕ) → a ≡ refused n → (w : Written) → w.code ≡ n → w.length ≡ 0 → w ≡ written_of a
 unfolding written_of
-refused_told a n e = sym (ap written_of e)
+refused_told a n e w c l = (λ j. record { code = c j; length = l j }) ∙ sym (ap written_of e)
 
 -- ---- the lines of both tables
 table_refused : (letter : ℕ) (m : Option Index) (n : ℕ) → table_lines letter m ≡ refuse n → table_lines letter m ≡ refuse bad_package

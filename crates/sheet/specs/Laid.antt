@@ -7,6 +7,8 @@ use Rattle.octets.specs.Checked.{Check, pass, refuse, ◌>>=◌}
 use Rattle.lookup.specs.Lookup.{index_for}
 use Rattle.lookup.specs.Answers.{package_in}
 use Rattle.sheet.specs.Sheet.{letter_c, letter_t, table_lines}
+use Rattle.sheet.specs.declared.tables.Lines.{Lines}
+use Rattle.sheet.specs.declared.tables.Lines.TheVariants.{Bytes, Bad}
 
 unfoldable pub letter_of : ℕ → ℕ
 letter_of table = elim (eqb table 1) [ true ↦ letter_c | false ↦ letter_t ]
@@ -16,6 +18,11 @@ table_of p table = table_lines (letter_of table) (index_for (package_in p) table
 
 unfoldable pub both_of : List ℕ → Check (List ℕ)
 both_of p = table_of p compilation_table >>= λ a. table_of p type_table >>= λ b. pass (a ++ b)
+
+-- the bytes that the lines take
+unfoldable pub measured : Check (List ℕ) → Lines
+measured (pass lines) = Bytes (length lines)
+measured (refuse n) = Bad
 
 -- the lines, and zeros behind them up to o bytes
 unfoldable pub lines_of : Check (List ℕ) → ℕ → List ℕ

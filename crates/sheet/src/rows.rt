@@ -17,11 +17,11 @@ ghost use Rattle.sheet.specs.Held.{
 
 use crate::lines::{LINE, Line};
 use index::cells::COLUMNS;
-use index::reading::IndexHead;
+use index::reading::{Index, IndexHead};
 
 // An index beside its bytes: the letter of its table, and its byte order.
 #[derive(Clone, Copy)]
-pub struct IndexTable {
+pub struct Table {
     pub letter: u8,
     pub big: bool,
     pub head: IndexHead,
@@ -35,10 +35,11 @@ fn mark_rows(big: bool, s: &[u8], head: IndexHead, marks: &mut [u32]) -> bool
     ensures marks { result ≡ true → Marked marks.new (index_in big s.now head).rows }
     ensures kept { length marks.new ≡ length marks.old }
 {
+    let index = Index::of(big, s, head);
     let mut k = head.slots;
     while 0 < k {
         k -= 1;
-        let row = index::reading::row_at(big, s, head, k);
+        let row = index.row_at(k);
         if row != 0 {
             if crate::marks::is_marked(marks, row) {
                 return false;
@@ -93,16 +94,17 @@ fn section_of(version: u32, code: usize) -> usize
     0
 }
 
-// Our codes of an index's columns: worked out once and not for each line, since each look into the table of columns stores all of it anew.
+// Our codes of an index's columns: worked out once and not for each line.
 fn sections_of(big: bool, s: &[u8], head: IndexHead) -> [usize; COLUMNS]
     requires { IndexHere big s.now head }
     ensures { Sections (index_in big s.now head) result head.columns }
 {
+    let index = Index::of(big, s, head);
     let columns = head.columns;
     let mut sections = [0usize; COLUMNS];
     let mut k = 0;
     while k < columns {
-        let code = index::reading::code_at(big, s, head, k);
+        let code = index.code_at(k);
         sections[k] = section_of(head.version, code);
         k += 1;
     }
@@ -110,7 +112,7 @@ fn sections_of(big: bool, s: &[u8], head: IndexHead) -> [usize; COLUMNS]
 }
 
 // The line of a row's column k, whose cell has number n.
-fn line_of(t: IndexTable, s: &[u8], sections: &[usize], identity: u64, k: usize, n: usize) -> Line
+fn line_of(t: Table, s: &[u8], sections: &[usize], identity: u64, k: usize, n: usize) -> Line
     requires index { IndexHere t.big s.now t.head }
     requires sections { Sections (index_in t.big s.now t.head) sections.now t.head.columns }
     requires cell { (k < t.head.columns) × (n < t.head.units * t.head.columns) }
@@ -118,9 +120,10 @@ fn line_of(t: IndexTable, s: &[u8], sections: &[usize], identity: u64, k: usize,
 {
     let head = t.head;
     let big = t.big;
+    let index = Index::of(big, s, head);
     let section = sections[k];
-    let offset = index::reading::offset_at(big, s, head, n);
-    let size = index::reading::size_at(big, s, head, n);
+    let offset = index.offset_at(n);
+    let size = index.size_at(n);
     Line {
         letter: t.letter,
         identity,
@@ -132,7 +135,7 @@ fn line_of(t: IndexTable, s: &[u8], sections: &[usize], identity: u64, k: usize,
 
 // Stores the lines of a row, counted from 1.
 fn put_row(
-    t: IndexTable,
+    t: Table,
     s: &[u8],
     sections: &[usize],
     row: usize,
@@ -157,7 +160,7 @@ fn put_row(
 }
 
 // Stores the lines of all rows, each where its slot is met, over zeros. From the last slot to the first.
-fn put_slots(t: IndexTable, s: &[u8], sections: &[usize], d: &mut [u8])
+fn put_slots(t: Table, s: &[u8], sections: &[usize], d: &mut [u8])
     requires index { IndexHere t.big s.now t.head }
     requires sections { Sections (index_in t.big s.now t.head) sections.now t.head.columns }
     requires page { (line_bytes * t.head.columns * t.head.units ≤ length d.old) × (d.old ≡ zeros (length d.old)) }
@@ -166,18 +169,19 @@ fn put_slots(t: IndexTable, s: &[u8], sections: &[usize], d: &mut [u8])
     let head = t.head;
     let big = t.big;
     let block = LINE * head.columns;
+    let index = Index::of(big, s, head);
     let mut k = head.slots;
     while 0 < k {
         k -= 1;
-        let row = index::reading::row_at(big, s, head, k);
+        let row = index.row_at(k);
         if row != 0 {
-            let identity = index::reading::identity_at(big, s, head, k);
+            let identity = index.identity_at(k);
             put_row(t, s, sections, row, identity, d, block * (row - 1));
         }
     }
 }
 
-pub fn put_rows(t: IndexTable, s: &[u8], d: &mut [u8])
+pub fn put_rows(t: Table, s: &[u8], d: &mut [u8])
     requires { (IndexHere t.big s.now t.head) × (line_bytes * t.head.columns * t.head.units ≤ length d.old) × (d.old ≡ zeros (length d.old)) }
     ensures { d.new ≡ laid_out t.letter (index_in t.big s.now t.head) (length d.old) }
 {

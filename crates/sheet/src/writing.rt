@@ -1,35 +1,20 @@
 // The sheet on a page that is lent. All of the page is written: behind the lines, and after a refusal, it is zero.
 ghost use Rattle.std.specs.Prelude.{◌≡◌, length};
-ghost use Rattle.octets.specs.Octets.{zeros};
 ghost use Rattle.answers.specs.Answers.{output_of, written_of};
-ghost use Rattle.answers.specs.Written.{written_as};
 ghost use Rattle.sheet.specs.Sheet.{sheet_of};
 
-use answers::{Unwritten, Written};
-use lookup::package::Package;
-use numbers::refusals::Refusal;
-use numbers::tables::Table;
+use crate::tables::Lines;
+use answers::Written;
+use numbers::refusals::{BAD_PACKAGE, PAGE_SHORT};
+use numbers::tables::{COMPILATION, TYPE};
 
-// Stores the sheet on a page of zeros, and says how long it is.
-fn put_sheet(package: &[u8], page: &mut [u8]) -> Result<usize, Unwritten>
-    requires { page.old ≡ zeros (length page.old) }
-    ensures answer { written_as result ≡ written_of (sheet_of «package».now (length page.old)) }
-    ensures page { page.new ≡ output_of (sheet_of «package».now (length page.old)) (length page.old) }
+fn refused(number: u32) -> Written
+    ensures { (result.code ≡ number) × (result.length ≡ 0) }
 {
-    let Ok(package) = Package::open(package) else {
-        return Err(Unwritten::Refused(Refusal::BadPackage));
-    };
-    let Ok(compilations) = crate::tables::measure_table(&package, Table::Compilation) else {
-        return Err(Unwritten::Refused(Refusal::BadPackage));
-    };
-    let Ok(types) = crate::tables::measure_table(&package, Table::Type) else {
-        return Err(Unwritten::Refused(Refusal::BadPackage));
-    };
-    if page.len() < compilations || page.len() - compilations < types {
-        return Err(Unwritten::Refused(Refusal::PageShort));
+    Written {
+        code: number,
+        length: 0,
     }
-    crate::tables::write_tables(&package, compilations, page);
-    Ok(compilations + types)
 }
 
 pub fn write_sheet(package: &[u8], page: &mut [u8]) -> Written
@@ -37,5 +22,25 @@ pub fn write_sheet(package: &[u8], page: &mut [u8]) -> Written
     ensures page { page.new ≡ output_of (sheet_of «package».now (length page.old)) (length page.old) }
 {
     octets::clear_bytes(page);
-    Written::from(put_sheet(package, page))
+    let head = lookup::opening::open_package(package);
+    if !head.good {
+        return refused(BAD_PACKAGE);
+    }
+    let Lines::Bytes(compilations) = crate::tables::measure_table(package, head, COMPILATION) else {
+        return refused(BAD_PACKAGE);
+    };
+    let Lines::Bytes(types) = crate::tables::measure_table(package, head, TYPE) else {
+        return refused(BAD_PACKAGE);
+    };
+    if page.len() < compilations {
+        return refused(PAGE_SHORT);
+    }
+    if page.len() - compilations < types {
+        return refused(PAGE_SHORT);
+    }
+    crate::tables::write_tables(package, head, compilations, page);
+    Written {
+        code: 0,
+        length: compilations + types,
+    }
 }

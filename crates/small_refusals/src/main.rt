@@ -12,25 +12,32 @@
 use finish::whole::Finished;
 use std::io;
 
+fn tell(rt: &impl Print, name: &[u8], number: u64) -> io::Result<()> {
+    rt.write_all(name)?;
+    println!(rt; "{number}")
+}
+
 fn tell_bundle(rt: &impl Print, b: &[u8]) -> io::Result<()> {
     let mut output = [0u8; 65536];
     match packer::pack_small(b, &mut output) {
-        Finished::Made(length) => println!(rt; "packed {length}"),
-        Finished::Short(_) => println!(rt; "refused 18"),
-        Finished::Refused(number) => println!(rt; "refused {number}"),
+        Finished::Made(length) => tell(rt, b"packed ", length as u64),
+        Finished::Short(_) => tell(rt, b"refused ", 18),
+        Finished::Refused(number) => tell(rt, b"refused ", number as u64),
     }
 }
 
 // All bundles, up to a length that is not there whole.
 fn tell_bundles(rt: &impl Print, input: &[u8]) -> io::Result<()> {
-    let mut left = input;
-    while let Some((length, rest)) = left.split_first_chunk() {
-        let size = u32::from_le_bytes(*length) as usize;
-        let Some((bundle, more)) = rest.split_at_checked(size) else {
-            break;
-        };
-        tell_bundle(rt, bundle)?;
-        left = more;
+    let mut at = 0;
+    while 4 <= input.len() - at {
+        let size = octets::wide(octets::word_at(input, at));
+        let start = at + 4;
+        if input.len() - start < size {
+            return Ok(());
+        }
+        let end = start + size;
+        tell_bundle(rt, &input[start..end])?;
+        at = end;
     }
     Ok(())
 }

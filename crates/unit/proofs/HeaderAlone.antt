@@ -13,14 +13,13 @@ use borrow.Author.Tests.{eq-eqb, eqb-true, le-leb, lt-leb, leb-true}
 use Rattle.octets.specs.Octets.{number_at}
 use Rattle.octets.specs.Checked.{Check, pass, refuse}
 use Rattle.octets.proofs.Checks.{true_false, and_left, and_right}
-use Rattle.octets.proofs.Refusals.{Only, only_pass, only_refuse, only_bind}
+use Rattle.octets.proofs.Refusals.{Only, only_pass, only_refuse, only_require, only_bind}
 use Rattle.bundle.specs.Encoding.{Encoding}
 use Rattle.bundle.specs.InitialLength.{length_field, length_stated}
 use Rattle.unit.specs.UnitRead.{Identity, length_good, unit_size, is_five, address_place, common_size, unit_of, not_eleven, header_passes}
-use Rattle.unit.specs.Headers.{unit_inside, common_good, fields_good, kind_of, header_size, identity_by, with_address, stated_address, address_of}
+use Rattle.unit.specs.Headers.{fits, unit_inside, common_good, fields_good, kind_of, header_size, identity_by, with_address, stated_address, address_of}
 use Rattle.unit.specs.declared.header.Kind.{Kind}
 use Rattle.unit.specs.declared.header.Kind.TheVariants.{Compilation, Signature, Root, Other}
-use Rattle.unit.specs.declared.header.AddressSize.TheVariants.{Is as Stated, Refused as Unstated}
 use Rattle.unit.proofs.Rooted.{only_root_identity}
 use Rattle.unit.proofs.Fields.{place_lt, common_address}
 use Rattle.unit.proofs.Units.{unit_none, unit_common, unit_header, unit_unreadable, unit_zero, unit_read, inside_le}
@@ -32,6 +31,11 @@ only_identity_by e Signature a u = only_pass 12 _
 only_identity_by e Root a u = only_bind 12 _ _ (only_root_identity e _ _) (λ x. only_pass 12 _)
 only_identity_by e Other a u = only_refuse 12
 
+fields_bad : (p q r : Bool) → (p && q) ≡ false → (p && (q && r)) ≡ false
+fields_bad true true r h = absurd (true_false refl h)
+fields_bad true false r h = refl
+fields_bad false q r h = refl
+
 -- ---- the common fields but for the address size
 module _ (e : Encoding) (u : List ℕ) where
   pub fields_short : length u < common_size e → false ≡ fields_good e u
@@ -42,30 +46,50 @@ module _ (e : Encoding) (u : List ℕ) where
   unfolding fields_good
   fields_whole h = rw (fields_good, le-leb (common_size e) (length u) h)
 
-fields_bad : (p q r : Bool) → (p && q) ≡ false → (p && (q && r)) ≡ false
-fields_bad true true r h = absurd (true_false refl h)
-fields_bad true false r h = refl
-fields_bad false q r h = refl
+  -- and the address size besides
+  pub fields_common : fields_good e u ≡ true → common_size e ≤ length u
+  unfolding fields_good
+  fields_common h = leb-true (common_size e) (length u) (and_left _ _ h)
+
+  pub good_fields : fields_good e u ≡ true → eqb (get_or u (address_place e) 0) e.address ≡ common_good e u
+  unfolding fields_good common_good
+  good_fields h = go (leb (common_size e) (length u)) (eqb (number_at e.big 2 u (length_field e)) e.version) h
+    where
+      go : (p q : Bool) → (p && q) ≡ true → eqb (get_or u (address_place e) 0) e.address ≡ (p && (q && eqb (get_or u (address_place e) 0) e.address))
+      go true true g = refl
+      go true false g = absurd (true_false g refl)
+      go false q g = absurd (true_false g refl)
+
+  pub bad_fields : fields_good e u ≡ false → false ≡ common_good e u
+  unfolding fields_good common_good
+  bad_fields h = sym (fields_bad (leb (common_size e) (length u)) _ _ h)
 
 module _ (e : Encoding) (s : List ℕ) where
   -- the encoding that is judged
   abbrev own : Encoding
   own = with_address e (stated_address e s)
 
-  not_eleven_law : unit_of own 1 [] s ≡ refuse 11 → Unstated ≡ address_of e s
+  not_eleven_law : unit_of own 1 [] s ≡ refuse 11 → refuse 11 ≡ address_of e s
   unfolding address_of header_passes not_eleven
   not_eleven_law h = rw (address_of, header_passes, h, not_eleven)
 
-  pub alone_none : unit_inside e s ≡ refuse 11 → Unstated ≡ address_of e s
+  only_inside : Only 11 (unit_inside e s)
+  unfolding unit_inside unit_size fits
+  only_inside = only_bind 11 _ _ (only_bind 11 _ _ (only_require _ 11) (λ _. only_bind 11 _ _ (only_require _ 11) (λ _. only_pass 11 _))) (λ n. only_bind 11 _ _ (only_require _ 11) (λ _. only_pass 11 _))
+
+  pub alone_none : unit_inside e s ≡ refuse 11 → refuse 11 ≡ address_of e s
   unfolding unit_inside unit_size length_good length_field length_stated with_address
   alone_none h = not_eleven_law (unit_none own 1 [] s h)
+
+  pub alone_not : (k : ℕ) → refuse k ≡ unit_inside e s → refuse k ≡ address_of e s
+  alone_not k h = let same = only_inside.is k (sym h) in rw same (alone_none (sym h ∙ ap refuse same))
 
   module _ (n : ℕ) (h : unit_inside e s ≡ pass n) where
     inside_own : unit_inside own s ≡ pass n
     unfolding unit_inside unit_size length_good length_field length_stated with_address
     inside_own = h
 
-    pub alone_fields : fields_good e (take n s) ≡ false → Unstated ≡ address_of e s
+    pub alone_fields : fields_good e (take n s) ≡ false → refuse 11 ≡ address_of e s
     unfolding fields_good common_good common_size length_field is_five with_address
     alone_fields g = not_eleven_law (unit_common own 1 [] s n inside_own (take n s) refl (fields_bad (leb (common_size e) (length (take n s))) _ _ g))
 
@@ -114,7 +138,7 @@ module _ (e : Encoding) (s : List ℕ) where
       header_own : header_size own (kind_of own 1 (take n s)) ≡ header_size e (kind_of e 1 (take n s))
       header_own = size_own (kind_of own 1 (take n s)) ∙ ap (header_size e) kind_own
 
-      pub alone_header : length (take n s) < header_size e (kind_of e 1 (take n s)) → Unstated ≡ address_of e s
+      pub alone_header : length (take n s) < header_size e (kind_of e 1 (take n s)) → refuse 11 ≡ address_of e s
       alone_header f = not_eleven_law (unit_header own 1 [] s n inside_own (take n s) refl good_own (omega (arith, header_own)))
 
       module _ (f : header_size e (kind_of e 1 (take n s)) ≤ length (take n s)) where
@@ -132,6 +156,6 @@ module _ (e : Encoding) (s : List ℕ) where
           | no z ↦ ap not_eleven (unit_read own 1 [] s n inside_own (take n s) refl good_own whole_own i q z)
         ]
 
-        pub alone_whole : Stated (stated_address e s) ≡ address_of e s
+        pub alone_whole : pass (stated_address e s) ≡ address_of e s
         unfolding address_of header_passes
         alone_whole = rw (address_of, header_passes, read _ refl)

@@ -1,5 +1,6 @@
 -- Laws of units, and the proofs of their readers.
 -- Assumes nothing.
+pub mod Steps
 pub mod Entries
 pub mod Sizes
 pub mod Fields

@@ -1,7 +1,7 @@
 // Reads cases from standard input, each a unit with its abbreviations, and writes what reading it answers. CASES.md lists them.
 #![tactic(auto)]
 
-ghost use Rattle.std.specs.Prelude.{◌≤◌, ◌<◌, ◌^◌, length, IfOk, IfSome};
+ghost use Rattle.std.specs.Prelude.{◌≤◌, ◌<◌, ◌^◌, length, IfOk};
 
 use bundle::encoding::ObjectEncoding;
 use std::io;
@@ -17,6 +17,16 @@ fn encoding(flags: u8) -> ObjectEncoding {
     }
 }
 
+fn home(code: u8) -> u32 {
+    code as u32
+}
+
+fn size_of(n: u8) -> usize
+    ensures { result ≤ 255 }
+{
+    n as usize
+}
+
 fn write_answer(rt: &impl Print, answer: UnitAnswer) -> io::Result<()> {
     match answer {
         UnitAnswer::Read(size, table, identity) => {
@@ -26,47 +36,44 @@ fn write_answer(rt: &impl Print, answer: UnitAnswer) -> io::Result<()> {
     }
 }
 
-// The case at the front of s: flags, the section's code, the sizes of abbreviations and section, and both. What follows it, or nothing where it isn't there whole.
-fn run_case<'a>(rt: &impl Print, s: &'a [u8], codes: &mut [u32]) -> io::Result<Option<&'a [u8]>>
+// The case at the front of s: flags, the section's code, the sizes of abbreviations and section, and both. Answers how many bytes it takes.
+fn run_case(rt: &impl Print, s: &[u8], codes: &mut [u32]) -> io::Result<usize>
     requires { (length s.now ≤ length codes.old) × (length s.now < 2 ^ 32) }
-    ensures { IfOk result (λ more. IfSome more (λ rest. length rest.now < length s.now)) }
+    ensures { IfOk result (λ n. n ≤ length s.now) }
 {
-    let [flags, code, abbreviations, section, ..] = s else {
-        return Ok(None);
-    };
-    let mid = 4 + usize::from(*abbreviations);
-    let end = mid + usize::from(*section);
-    if s.len() < end {
-        return Ok(None);
+    if s.len() < 4 {
+        return Ok(0);
     }
-    let e = encoding(*flags);
+    let e = encoding(s[0]);
+    let code = home(s[1]);
+    let mid = 4 + size_of(s[2]);
+    let end = mid + size_of(s[3]);
+    if s.len() < end {
+        return Ok(0);
+    }
     let place = UnitPlace {
         at: mid,
         size: end - mid,
         first: 4,
         last: mid,
     };
-    let read = unit::header::read_unit(
-        e,
-        u32::from(*code),
-        s,
-        place,
-        codes,
-        unit::judged::nothing(),
-    );
+    let read = unit::header::read_unit(e, code, s, place, codes, unit::judged::nothing());
     let answer = read.answer;
     write_answer(rt, answer)?;
-    Ok(Some(&s[end..]))
+    Ok(end)
 }
 
 fn run_cases(rt: &impl Print, s: &[u8], codes: &mut [u32]) -> io::Result<()>
     requires { (length s.now ≤ length codes.old) × (length s.now < 2 ^ 32) }
 {
-    let mut left = s;
-    while let Some(more) = run_case(rt, left, codes)? {
-        left = more;
+    let mut at = 0;
+    loop {
+        let n = run_case(rt, &s[at..], codes)?;
+        if n == 0 {
+            return Ok(());
+        }
+        at += n;
     }
-    Ok(())
 }
 
 fn main(rt: HostRuntime) -> io::Result<()> {

@@ -1,9 +1,9 @@
--- What is left gets shorter, and the codes keep their number.
-use Rattle.std.proofs.Common.{◌≡◌, ◌≤◌, length}
+-- The place moves on within the input, and the codes keep their number.
+use Rattle.std.proofs.Common.{◌≡◌, ◌-◌, ◌≤◌, length}
 use Rattle.unit_read.proofs.run_cases.Given as goal
 
-abbrev pub invariant-loop-more : goal.invariant-loop-more
-invariant-loop-more g l = record { within : length l.left ≤ length l.s; room : length l.codes ≡ length l.initial.codes }
+abbrev pub invariant-loop-n : goal.invariant-loop-n
+invariant-loop-n g l = record { within : l.at ≤ length l.s; room : length l.codes ≡ length l.initial.codes }
 
-abbrev pub decreases-loop-more : goal.decreases-loop-more
-decreases-loop-more g l = length l.left
+abbrev pub decreases-loop-n : goal.decreases-loop-n
+decreases-loop-n g l = length l.s - l.at

@@ -16,9 +16,9 @@ unfolding section_name
 returns-then-starts_with c =
     found_some c.loop-code.code (λ z. absurd (omega arith))
     ∙ ap code_found
-    (among_here section_names c.loop-code.code c.args.s.now (omega (arith, names_fourteen))
-    (ap (starts_with c.args.s.now) (sym c.section_name.ensures) ∙ sym c.starts_with.ensures ∙ c.if-starts_with.true)
-    ∙ c.loop-code.invariant)
+        (among_here section_names c.loop-code.code c.args.s.now (omega (arith, names_fourteen))
+        (ap (starts_with c.args.s.now) (sym c.section_name.ensures) ∙ sym c.starts_with.ensures ∙ c.if-starts_with.true)
+        ∙ c.loop-code.invariant)
 
 pub loop-code-preserved : goal.loop-code-preserved
 unfolding section_name

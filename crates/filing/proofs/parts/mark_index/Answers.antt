@@ -19,19 +19,18 @@ returns-in_default c = λ o cs h m. marked_none _ _ _ o h cs _ m c.in_default.is
 pub overflow_add-end : goal.overflow_add-end
 overflow_add-end c = omega (arith, inside_is _ c.args.place c.requires.0)
 
-pub slice_bounds-mark_rows-end : goal.slice_bounds-mark_rows-end
-slice_bounds-mark_rows-end c = omega (arith, inside_is _ c.args.place c.requires.0)
+pub slice_bounds-of-end : goal.slice_bounds-of-end
+slice_bounds-of-end c = omega (arith, inside_is _ c.args.place c.requires.0)
 
-pub mark_rows-requires : goal.mark_rows-requires
+pub of-index-requires : goal.of-index-requires
 unfolding bytes_at
-mark_rows-requires c =
+of-index-requires c =
     let a = c.args in
-    let p = c.requires in
-    let w = index_well _ _ _ _ p.2.1 _ c.in-At.is in
-    (read_sized _ _ _ (subst (λ (l : List ℕ). ReadWell a.big l c.in-At.head) (sym (part_cut a.b.now a.place.start a.place.size)) w.0), p.1)
+    let w = index_well _ _ _ _ c.requires.2.1 _ c.in-At.is in
+    read_sized _ _ _ (subst (λ (l : List ℕ). ReadWell a.big l c.in-At.head) (sym (part_cut a.b.now a.place.start a.place.size)) w.0)
 
 pub returns : goal.returns
 unfolding bytes_at
 returns c =
     let a = c.args in
-    λ o cs h m. marked_at _ _ _ o h cs _ _ _ _ _ c.in-At.is (part_cut a.b.now a.place.start a.place.size) (c.mark_rows.ensures cs m)
+    λ o cs h m. marked_at _ _ _ o h cs _ _ _ _ _ c.in-At.is (part_cut a.b.now a.place.start a.place.size) (rw c.of-index.ensures at (c.mark_rows.ensures cs m))

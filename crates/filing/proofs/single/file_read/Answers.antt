@@ -25,12 +25,12 @@ returns-in-Known c =
       transient = transient_none _ _;
     }
 
-pub returns-then-code-ne0 : goal.returns-then-code-ne0
-returns-then-code-ne0 c =
+pub returns-in-Err : goal.returns-in-Err
+returns-in-Err c =
     let p = c.requires in record {
       filed = λ i bases earlier here s a r y.
           let f = free_is a.held _ r.least p.fits _ _ r.tables _ (sym c.in-Free.is ∙ sought_is a.held _ r.least p.fits _ _ r.tables _ c.seen_slots-count.ensures _ c.seek_in.ensures) in
-          answer_bad a r p.fits p.homes y _ (c.contributions_of-judged.ensures i a.input) f.0 _ _ c.if-code-ne0.true c.refused.ensures;
+          answer_bad a r p.fits p.homes y f.0 _ (c.in-Err.ensures i a.input) _ _ (c.refused.ensures ∙ c.number.ensures);
       transient = transient_none _ _;
     }
 
@@ -46,7 +46,7 @@ keep_unit-next-requires c =
     let a = p.ready.at_unit in
     let r = p.read in
     let f = free_is a.held _ r.least p.fits _ _ r.tables _ (sym c.in-Free.is ∙ sought_is a.held _ r.least p.fits _ _ r.tables _ c.seen_slots-count.ensures _ c.seek_in.ensures) in
-    keep_requires a r p.fits p.homes p.same _ (c.contributions_of-judged.ensures p.ready.input a.input) f.0 c.if-code-ne0.false _ f.1 f.2 _ c.unit_for-unit.ensures
+    keep_requires a r p.fits p.homes p.same f.0 _ (c.in-Ok.ensures p.ready.input a.input) _ f.1 f.2 _ c.unit_for-unit.ensures
 
 pub returns : goal.returns
 returns c =
@@ -54,6 +54,6 @@ returns c =
     record {
       filed = λ i bases earlier here s a r y.
           let f = free_is a.held _ r.least p.fits _ _ r.tables _ (sym c.in-Free.is ∙ sought_is a.held _ r.least p.fits _ _ r.tables _ c.seen_slots-count.ensures _ c.seek_in.ensures) in
-          answer_filed a r p.fits p.homes y _ (c.contributions_of-judged.ensures i a.input) f.0 c.if-code-ne0.false _ f.1 f.2 _ c.unit_for-unit.ensures _ _ c.keep_unit-next.ensures.held c.keep_unit-next.ensures.strings;
+          answer_filed a r p.fits p.homes y f.0 _ (c.in-Ok.ensures i a.input) _ f.1 f.2 _ c.unit_for-unit.ensures _ _ c.keep_unit-next.ensures.held c.keep_unit-next.ensures.strings;
       transient = c.keep_unit-next.ensures.transient;
     }

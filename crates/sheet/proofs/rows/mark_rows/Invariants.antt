@@ -8,7 +8,7 @@ use Rattle.sheet.proofs.LawSifted.{Sifted}
 use Rattle.sheet.proofs.rows.mark_rows.Given as goal
 
 abbrev pub invariant-loop-k : goal.invariant-loop-k
-invariant-loop-k l = (l.k ≤ l.head.slots) × (length l.marks ≡ length l.initial.marks) × Sifted l.marks (index_in l.big l.s l.head).rows l.k
+invariant-loop-k l = (l.k ≤ l.fn.head.slots) × (length l.marks ≡ length l.initial.marks) × Sifted l.marks (index_in l.big l.s l.fn.head).rows l.k
 
 abbrev pub decreases-loop-k : goal.decreases-loop-k
 decreases-loop-k l = l.k

@@ -8,7 +8,7 @@ use Rattle.sheet.proofs.LawLaid.{laid_from}
 use Rattle.sheet.proofs.rows.put_slots.Given as goal
 
 abbrev pub invariant-loop-k : goal.invariant-loop-k
-invariant-loop-k l = (l.k ≤ l.head.slots) × (length l.d ≡ length l.initial.d) × (l.d ≡ laid_from l.t.letter (index_in l.big l.s l.head) l.k (length l.initial.d))
+invariant-loop-k l = (l.k ≤ l.t.head.slots) × (length l.d ≡ length l.initial.d) × (l.d ≡ laid_from l.t.letter (index_in l.t.big l.s l.t.head) l.k (length l.initial.d))
 
 abbrev pub decreases-loop-k : goal.decreases-loop-k
 decreases-loop-k l = l.k
