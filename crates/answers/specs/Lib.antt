@@ -2,3 +2,4 @@
 -- Assumes nothing.
 pub mod Answers
 pub mod Written
+pub mod Outcome

@@ -10,14 +10,14 @@ use native.Mathlib.Omega.{arith}
 use lib.Dec.{eqb, leb}
 use lib.ListN.{length}
 use borrow.Author.Tests.{leb-true}
-use Rattle.octets.specs.Checked.{pass}
+use Rattle.octets.specs.Checked.{pass, mapped}
 use Rattle.octets.proofs.Checks.{and_left, and_right}
 use Rattle.octets.proofs.Parts.{length_part_le}
 use Rattle.bundle.specs.Bundle.{length_good, body}
 use Rattle.bundle.specs.Scan.{start_of, size_of}
 use Rattle.bundle.proofs.Sections.{body_part}
 use Rattle.index.specs.Index.{Index}
-use Rattle.index.specs.Held.{head_of, index_read, ReadWell}
+use Rattle.index.specs.Held.{head_of, ReadWell}
 use Rattle.index.proofs.Heads.{read_sized}
 use Rattle.lookup.specs.Lookup.{Found, refused, absent, part, Package, package_of, index_for, looked_up}
 use Rattle.lookup.specs.Answers.{index_code, numbered}
@@ -35,10 +35,10 @@ module _ (p : List ℕ) (k : Package) (e : package_of p ≡ pass k) where
       leb-true (length p) 117_440_512 (and_right (leb 8 (length p)) (leb (length p) 117_440_512) (and_left (leb 8 (length p) && leb (length p) 117_440_512) (eqb (length p % 4) 0) l))
 
   slots_few : (table : ℕ) (i : Index) → index_for k table ≡ some i → length i.rows ≤ length p
-  unfolding index_read head_of
+  unfolding mapped
   slots_few table i f =
       let c = index_code table in
-      let well : ReadWell k.encoding.big (body p k.parts c) (head_of i) = record { is = sym (ap index_read (index_known p k e table i f)) } in
+      let well : ReadWell k.encoding.big (body p k.parts c) (head_of i) = record { is = ap (mapped head_of) (index_known p k e table i f) } in
       let n = (read_sized k.encoding.big (body p k.parts c) (head_of i) well).is in
       let l : length (body p k.parts c) ≤ size_of k.parts c = rw (body_part c p k.parts) (length_part_le p (start_of k.parts c) (size_of k.parts c)) in
       omega (arith, within_package p k e c)

@@ -25,11 +25,10 @@ use Rattle.bundle.specs.declared.encoding.ObjectEncoding.{ObjectEncoding}
 use Rattle.bundle.specs.InitialLength.{marked, length_field}
 use Rattle.unit.specs.UnitRead.{unit_size, is_five, address_place, header_passes}
 use Rattle.unit.specs.Headers.{fits, unit_inside, with_address, stated_address, address_of}
-use Rattle.unit.specs.declared.header.AddressSize.TheVariants as address
 use Rattle.unit.proofs.Fields.{common_ge}
 use Rattle.unit.proofs.HeaderAlone.{alone_none, alone_fields, fields_short}
 use Rattle.numbers.specs.Sections.{info_code}
-use Rattle.numbers.specs.Refusals.{no_unit}
+use Rattle.numbers.specs.Refusals.{bad_header, no_unit}
 use Rattle.elf.specs.File.{Header, body_of, no_header, code_of, is_wanted}
 use Rattle.elf.specs.Reader.{first_info, width_stated, version_stated, encoding_stated, unit_stated, object_word}
 use Rattle.elf.specs.Held.{section_of, sections_in, word_with}
@@ -126,7 +125,7 @@ module _ (big : Bool) (s : List ℕ) where
       e : Encoding
       e = version_stated big s
 
-      unread : (c : Check ℕ) → unit_inside e s ≡ c → address.Refused ≡ address_of e s
+      unread : (c : Check ℕ) → unit_inside e s ≡ c → refuse bad_header ≡ address_of e s
       unread (pass n) q = alone_fields e s n q (sym (fields_short e (take n s) (omega (arith, length-take n s, common_ge e))))
       unread (refuse m) q = alone_none e s (q ∙ ap refuse ((only_unit_inside e s).is m q))
 

@@ -8,8 +8,6 @@ use Rattle.bundle.specs.Encoding.{Encoding}
 use Rattle.bundle.specs.Bundle.{filled_up}
 use Rattle.bundle.specs.Written.{Section, section_bytes, written}
 use Rattle.unit.specs.Headers.{with_address}
-use Rattle.unit.specs.declared.header.AddressSize.{AddressSize}
-use Rattle.unit.specs.declared.header.AddressSize.TheVariants as address
 use Rattle.numbers.specs.Refusals.{not_elf, unreadable_section, no_unit, section_too_long}
 use Rattle.numbers.specs.Sections.{info_code}
 use Rattle.numbers.specs.Limits.{section_limit, package_limit}
@@ -71,9 +69,9 @@ unfoldable pub info_of : List ℕ → List ℕ → Header → List ℕ
 info_of f names h = elim (eqb (code_of names h) info_code) [ true ↦ body_of f h | false ↦ [] ]
 
 -- the word of a version and width, with the address size stated
-unfoldable pub word_with : Encoding → AddressSize → Check ℕ
-word_with e (address.Is a) = pass (object_word (with_address e a))
-word_with e address.Refused = refuse no_unit
+unfoldable pub word_with : Encoding → Check ℕ → Check ℕ
+word_with e (pass a) = pass (object_word (with_address e a))
+word_with e (refuse n) = refuse no_unit
 
 -- ---- the sections of some headers
 unfoldable pub section_of : List ℕ → List ℕ → Header → Section

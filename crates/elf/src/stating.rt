@@ -13,7 +13,6 @@ use bundle::encoding::ObjectEncoding;
 use bundle::initial_length;
 use numbers::refusals::Refusal;
 use numbers::sections::INFO;
-use unit::header::AddressSize;
 
 // The versions that a unit may state.
 const VERSION_4: u16 = numbers::tables::DWARF_4 as u16;
@@ -46,8 +45,8 @@ fn word_stated(e: ObjectEncoding, s: &[u8]) -> Result<u32, Refusal>
     ensures { told result ≡ word_with (encoding_is e) (address_of (encoding_is e) s.now) }
 {
     match unit::header::stated_address(e, s) {
-        AddressSize::Is(address) => Ok(word_of(e, address)),
-        AddressSize::Refused => Err(Refusal::NoUnit),
+        Ok(address) => Ok(word_of(e, address)),
+        Err(_) => Err(Refusal::NoUnit),
     }
 }
 

@@ -22,9 +22,9 @@ pub refused_output : (a : Answer) (o n : ℕ) → a ≡ refused n → zeros o �
 unfolding output_of
 refused_output a o n e = sym (ap (λ (z : Answer). output_of z o) e)
 
-pub refused_written : (a : Answer) (n : ℕ) → a ≡ refused n → (r : Written) → r.code ≡ n → r.length ≡ 0 → r ≡ written_of a
+pub refused_written : (a : Answer) (n : ℕ) → a ≡ refused n → ◌≡◌ {A = Written} (record { code = n; length = 0 }) (written_of a)
 unfolding written_of
-refused_written a n e r c l = (λ j. record { code = c j; length = l j }) ∙ sym (ap written_of e)
+refused_written a n e = sym (ap written_of e)
 
 pub made_output : (a : Answer) (f : List ℕ) (o : ℕ) → a ≡ made f → padded f (o - length f) ≡ output_of a o
 unfolding output_of

@@ -1,32 +1,16 @@
 -- Fields put one behind the other are the header.
 -- Assumes nothing.
-use mathlib.Core.Path.{◌≡◌, refl, sym, ap, ap₂, ◌∙◌}
-use mathlib.Core.Bool.{Bool, true, ◌||◌}
+use mathlib.Core.Path.{◌≡◌, refl, ap, ap₂, ◌∙◌}
+use mathlib.Core.Bool.{Bool}
 use mathlib.Core.List.{List, [], ◌∷◌, ◌++◌}
 use Prim.Native.Nat.{ℕ, ◌+◌, ◌-◌, ◌≤◌}
 use native.Mathlib.Omega.{arith}
-use lib.Dec.{eqb}
 use lib.ListN.{length, length-append}
-use borrow.Author.Tests.{eq-eqb, ne_eqb}
 use Rattle.octets.specs.Octets.{bytes_of, numbers_of, placed, zeros}
 use Rattle.octets.proofs.Numbers.{length_bytes_of}
 use Rattle.octets.proofs.Placed.{placed_placed}
 use Rattle.octets.proofs.Tables.{length_numbers_of}
-use Rattle.octets.proofs.Checks.{or_left, or_right}
-use Rattle.elf.specs.Writer.{amd64, aarch64, riscv, machine_good, header_size, identification, order_code, file_header, section_header}
-
--- ---- 36
-pub machine_first : (m : ℕ) → m ≡ amd64 → true ≡ machine_good m
-unfolding machine_good
-machine_first m e = sym (or_left (eqb m amd64 || eqb m aarch64) (eqb m riscv) (or_left (eqb m amd64) (eqb m aarch64) (eq-eqb m amd64 e)))
-
-pub machine_second : (m : ℕ) → m ≡ aarch64 → true ≡ machine_good m
-unfolding machine_good
-machine_second m e = sym (or_left (eqb m amd64 || eqb m aarch64) (eqb m riscv) (or_right (eqb m amd64) (eqb m aarch64) (eq-eqb m aarch64 e)))
-
-pub machine_last : (m : ℕ) → (m ≡ amd64 → ⊥) → (m ≡ aarch64 → ⊥) → eqb m riscv ≡ machine_good m
-unfolding machine_good
-machine_last m f g = rw (ne_eqb m amd64 f, ne_eqb m aarch64 g)
+use Rattle.elf.specs.Writer.{header_size, identification, order_code, file_header, section_header}
 
 -- ---- two stores
 pub put_two : (d a b x y : List ℕ) (at o : ℕ) → a ≡ placed d at x → b ≡ placed a o y → o ≡ at + length x → at + length x ≤ length d → b ≡ placed d at (x ++ y)
@@ -34,14 +18,14 @@ put_two d a b x y at o p q r h = q ∙ ap₂ (λ (z : List ℕ) (k : ℕ). place
 
 -- ---- a section's header
 module _ (big : Bool) (d : List ℕ) (at : ℕ) (fits : at + 64 ≤ length d) where
-  pub section_put : (name kind offset size n o z : ℕ) (a b c e : List ℕ) → n ≡ name → o ≡ offset → z ≡ size
-      → a ≡ placed d at (numbers_of big 4 (n ∷ kind ∷ []))
-      → b ≡ placed a (at + 8) (numbers_of big 8 (0 ∷ 0 ∷ o ∷ z ∷ []))
+  pub section_put : (name kind offset size : ℕ) (a b c e : List ℕ)
+      → a ≡ placed d at (numbers_of big 4 (name ∷ kind ∷ []))
+      → b ≡ placed a (at + 8) (numbers_of big 8 (0 ∷ 0 ∷ offset ∷ size ∷ []))
       → c ≡ placed b (at + 40) (numbers_of big 4 (0 ∷ 0 ∷ []))
       → e ≡ placed c (at + 48) (numbers_of big 8 (1 ∷ 0 ∷ []))
       → e ≡ placed d at (section_header big name kind offset size)
   unfolding section_header
-  section_put name kind offset size n o z a b c e en eo ez pa pb pc pe =
+  section_put name kind offset size a b c e pa pb pc pe =
       let x1 = numbers_of big 4 (name ∷ kind ∷ []) in
       let x2 = numbers_of big 8 (0 ∷ 0 ∷ offset ∷ size ∷ []) in
       let x3 = numbers_of big 4 (0 ∷ 0 ∷ []) in
@@ -51,9 +35,7 @@ module _ (big : Bool) (d : List ℕ) (at : ℕ) (fits : at + 64 ≤ length d) wh
       let l3 : length x3 ≡ 8 = length_numbers_of big 4 (0 ∷ 0 ∷ []) in
       let l12 : length (x1 ++ x2) ≡ 40 = length-append x1 x2 ∙ omega arith in
       let l123 : length ((x1 ++ x2) ++ x3) ≡ 48 = length-append (x1 ++ x2) x3 ∙ omega arith in
-      let qa : a ≡ placed d at x1 = pa ∙ ap (λ (k : ℕ). placed d at (numbers_of big 4 (k ∷ kind ∷ []))) en in
-      let qb : b ≡ placed a (at + 8) x2 = pb ∙ ap₂ (λ (k m : ℕ). placed a (at + 8) (numbers_of big 8 (0 ∷ 0 ∷ k ∷ m ∷ []))) eo ez in
-      let two = put_two d a b x1 x2 at (at + 8) qa qb (omega arith) (omega arith) in
+      let two = put_two d a b x1 x2 at (at + 8) pa pb (omega arith) (omega arith) in
       let three = put_two d b c (x1 ++ x2) x3 at (at + 40) two pc (omega arith) (omega arith) in
       put_two d c e ((x1 ++ x2) ++ x3) x4 at (at + 48) three pe (omega arith) (omega arith)
 
@@ -120,21 +102,19 @@ module _ (big : Bool) (machine at n : ℕ) where
   unfolding file_header
   length_file_header = length-append ((((identification big ++ kinds) ++ version) ++ places) ++ flags) sizes ∙ omega (arith, front4, length_sizes)
 
-  pub file_put : (place count : ℕ) (d a b c e f g : List ℕ) → 64 ≤ length d → place ≡ at → count ≡ n
+  pub file_put : (d a b c e f g : List ℕ) → 64 ≤ length d
       → a ≡ placed d 0 (identification big)
       → b ≡ placed a 16 (numbers_of big 2 (1 ∷ machine ∷ []))
       → c ≡ placed b 20 (bytes_of big 4 1)
-      → e ≡ placed c 24 (numbers_of big 8 (0 ∷ 0 ∷ place ∷ []))
+      → e ≡ placed c 24 (numbers_of big 8 (0 ∷ 0 ∷ at ∷ []))
       → f ≡ placed e 48 (bytes_of big 4 0)
-      → g ≡ placed f 52 (numbers_of big 2 (64 ∷ 0 ∷ 0 ∷ 64 ∷ count ∷ (count - 1) ∷ []))
+      → g ≡ placed f 52 (numbers_of big 2 (64 ∷ 0 ∷ 0 ∷ 64 ∷ n ∷ (n - 1) ∷ []))
       → g ≡ placed d 0 (file_header big machine at n)
   unfolding file_header
-  file_put place count d a b c e f g fits ep ec pa pb pc pe pf pg =
+  file_put d a b c e f g fits pa pb pc pe pf pg =
       let i = identification big in
-      let qe : e ≡ placed c 24 places = pe ∙ ap (λ (k : ℕ). placed c 24 (numbers_of big 8 (0 ∷ 0 ∷ k ∷ []))) ep in
-      let qg : g ≡ placed f 52 sizes = pg ∙ ap (λ (k : ℕ). placed f 52 (numbers_of big 2 (64 ∷ 0 ∷ 0 ∷ 64 ∷ k ∷ (k - 1) ∷ []))) ec in
       let two = put_two d a b i kinds 0 16 pa pb (omega (arith, length_identification big)) (omega (arith, length_identification big)) in
       let three = put_two d b c (i ++ kinds) version 0 20 two pc (omega (arith, front1)) (omega (arith, front1)) in
-      let four = put_two d c e ((i ++ kinds) ++ version) places 0 24 three qe (omega (arith, front2)) (omega (arith, front2)) in
+      let four = put_two d c e ((i ++ kinds) ++ version) places 0 24 three pe (omega (arith, front2)) (omega (arith, front2)) in
       let five = put_two d e f (((i ++ kinds) ++ version) ++ places) flags 0 48 four pf (omega (arith, front3)) (omega (arith, front3)) in
-      put_two d f g ((((i ++ kinds) ++ version) ++ places) ++ flags) sizes 0 52 five qg (omega (arith, front4)) (omega (arith, front4))
+      put_two d f g ((((i ++ kinds) ++ version) ++ places) ++ flags) sizes 0 52 five pg (omega (arith, front4)) (omega (arith, front4))

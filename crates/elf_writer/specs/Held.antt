@@ -9,8 +9,8 @@ use Rattle.octets.specs.Lists.{joined, sum}
 use Rattle.bundle.specs.Bundle.{body}
 use Rattle.bundle.specs.declared.Scan.{Scan}
 use Rattle.lookup.specs.Lookup.{codes}
-use Rattle.lookup.specs.Answers.{package_in, Opened}
-use Rattle.lookup.specs.declared.opening.PackageHead.{PackageHead}
+use Rattle.lookup.specs.Answers.{package_in}
+use Rattle.lookup.specs.declared.package.Package.{Package}
 use Rattle.elf.specs.Writer.{ended_name, table_name, header_size, program_bits, string_table, section_header, aligned, sections_here, file_bytes}
 use Rattle.elf_writer.specs.declared.sections.Extent.{Extent}
 use Rattle.elf_writer.specs.declared.sections.HeaderPlace.{HeaderPlace}
@@ -95,9 +95,8 @@ file_size e = headers_place e + header_size * (e.count + 2)
 unfoldable pub file_of : List ℕ → ℕ → List ℕ
 file_of p machine = file_bytes (package_in p).encoding.big machine (sections_here p (package_in p).parts)
 
--- a package was opened and measured, and the output is zero and has room
-pub record Ready (p : List ℕ) (h : PackageHead) (e : Extent) (out : List ℕ) : Type 0 where
-  pub opened : Opened p h
-  pub measured : Measured h.sections e
+-- a package was measured, and the output is zero and has room
+pub record Ready (p : Package) (e : Extent) (out : List ℕ) : Type 0 where
+  pub measured : Measured p.head.sections e
   pub blank : out ≡ zeros (length out)
   pub room : file_size e ≤ length out

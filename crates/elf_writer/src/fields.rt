@@ -13,16 +13,11 @@ const RISCV: u32 = 243;
 pub const HEADER: usize = 64;
 
 // 36: the machines that a file can be for.
+#[tactic(auto, unfolding(elf::specs::Writer::machine_good))]
 pub fn machine_good(machine: u32) -> bool
     ensures { result ≡ machine_good machine }
 {
-    if machine == AMD64 {
-        return true;
-    }
-    if machine == AARCH64 {
-        return true;
-    }
-    machine == RISCV
+    matches!(machine, AMD64 | AARCH64 | RISCV)
 }
 
 fn order_code(big: bool) -> u8
@@ -48,10 +43,9 @@ pub fn put_file_header(big: bool, machine: u32, at: usize, n: usize, d: &mut [u8
     requires { (at < 2 ^ 32) × (n < 2 ^ 16) × (0 < n) × (64 ≤ length d.old) }
     ensures { d.new ≡ placed d.old 0 (file_header big machine at n) }
 {
-    let place = octets::narrow(at);
-    let count = octets::narrow(n);
+    let count = n as u32;
     let kind = [1, machine];
-    let places = [0, 0, place];
+    let places = [0, 0, at as u32];
     let sizes = [64, 0, 0, 64, count, count - 1];
     put_identification(big, d);
     octets::put_numbers(big, 2, &kind, d, 16);
@@ -75,8 +69,8 @@ pub fn put_section_header(big: bool, h: SectionHeader, d: &mut [u8], at: usize)
     requires { (h.name < 2 ^ 32) × (h.offset < 2 ^ 32) × (h.size < 2 ^ 32) × (at + 64 ≤ length d.old) }
     ensures { d.new ≡ placed d.old at (section_header big h.name h.kind h.offset h.size) }
 {
-    let names = [octets::narrow(h.name), h.kind];
-    let places = [0, 0, octets::narrow(h.offset), octets::narrow(h.size)];
+    let names = [h.name as u32, h.kind];
+    let places = [0, 0, h.offset as u32, h.size as u32];
     let links = [0, 0];
     let alignment = [1, 0];
     octets::put_numbers(big, 4, &names, d, at);

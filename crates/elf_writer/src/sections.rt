@@ -2,7 +2,6 @@
 ghost use Rattle.std.specs.Prelude.{◌≡◌, ◌+◌, ◌*◌, ◌≤◌, ◌<◌, ◌^◌, length};
 ghost use Rattle.numbers.specs.Sections.{section_codes};
 ghost use Rattle.octets.specs.Octets.{placed};
-ghost use Rattle.lookup.specs.Answers.{Opened};
 ghost use Rattle.elf_writer.specs.Held.{
   here,
   size_at,
@@ -22,7 +21,6 @@ ghost use Rattle.elf_writer.specs.Held.{
 
 use crate::fields::{HEADER, SectionHeader};
 use bundle::Scan;
-use lookup::opening::PackageHead;
 use lookup::package::Package;
 use numbers::names::section_name;
 use numbers::sections::CODES;
@@ -88,31 +86,23 @@ pub fn measure(s: Scan) -> Extent
         bodies: 0,
         names: 11,
     };
-    let mut code = 1;
-    while code < CODES {
+    for code in 1..CODES {
         e = extended(e, s, code);
-        code += 1;
     }
     e
 }
 
 // ---- bytes
 // The bytes of all sections follow the file's header.
-pub fn put_bodies(package: &[u8], head: PackageHead, d: &mut [u8])
-    requires { Opened «package».now head × (64 + length (joined_from (body_at «package».now) 1) ≤ length d.old) }
-    ensures { d.new ≡ placed d.old 64 (joined_from (body_at «package».now) 1) }
+pub fn put_bodies(package: &Package, d: &mut [u8])
+    requires { 64 + length (joined_from (body_at «package».now.bytes.now) 1) ≤ length d.old }
+    ensures { d.new ≡ placed d.old 64 (joined_from (body_at «package».now.bytes.now) 1) }
 {
     let mut at = HEADER;
-    let mut code = 1;
-    while code < CODES {
-        let s = Package {
-            bytes: package,
-            head,
-        }
-        .section_bytes(code);
+    for code in 1..CODES {
+        let s = package.section_bytes(code);
         octets::put_bytes(d, at, s);
         at += s.len();
-        code += 1;
     }
 }
 
@@ -140,10 +130,8 @@ fn put_names(s: Scan, d: &mut [u8], from: usize) -> usize
     ensures output { d.new ≡ placed d.old from (joined_from (name_at s) 1) }
 {
     let mut at = from;
-    let mut code = 1;
-    while code < CODES {
+    for code in 1..CODES {
         at = put_name(s, code, d, at);
-        code += 1;
     }
     at
 }
@@ -194,10 +182,8 @@ pub fn put_headers(big: bool, s: Scan, table: usize, d: &mut [u8], from: usize)
         name: 1,
         offset: HEADER,
     };
-    let mut code = 1;
-    while code < CODES {
+    for code in 1..CODES {
         h = put_header(big, s, code, h, d);
-        code += 1;
     }
     let header = SectionHeader {
         name: h.name,

@@ -1,53 +1,69 @@
 // A package written as an ELF64 file: 36, 21 and 37, in this order.
 ghost use Rattle.std.specs.Prelude.{◌≡◌, ◌-◌, length};
-ghost use Rattle.octets.specs.Octets.{padded};
+ghost use Rattle.octets.specs.Octets.{padded, zeros};
 ghost use Rattle.answers.specs.Answers.{output_of, written_of};
+ghost use Rattle.answers.specs.Written.{written_as};
 ghost use Rattle.elf.specs.Writer.{elf_written};
 ghost use Rattle.elf_writer.specs.Held.{Within, Ready, headers_place, file_size, file_of};
 
 use crate::fields::HEADER;
+use crate::sections;
 use crate::sections::Extent;
-use answers::Written;
-use lookup::opening::PackageHead;
-use numbers::refusals::{BAD_PACKAGE, FILE_SHORT, OTHER_MACHINE};
+use answers::{Unwritten, Written};
+use lookup::package::Package;
+use numbers::refusals::Refusal;
 
-fn refused(number: u32) -> Written
-    ensures { (result.code ≡ number) × (result.length ≡ 0) }
-{
-    Written {
-        code: number,
-        length: 0,
+// The section headers stand at a multiple of this.
+const ALIGNMENT: usize = 8;
+
+impl Extent {
+    // Where the section headers stand.
+    fn headers_place(self) -> usize
+        requires { Within self }
+        ensures { result ≡ headers_place self }
+    {
+        (HEADER + self.bodies + self.names).next_multiple_of(ALIGNMENT)
+    }
+
+    fn file_size(self) -> usize
+        requires { Within self }
+        ensures { result ≡ file_size self }
+    {
+        self.headers_place() + HEADER * (self.count + 2)
     }
 }
 
-// The section headers stand at a multiple of 8.
-fn headers_place(e: Extent) -> usize
-    requires { Within e }
-    ensures { result ≡ headers_place e }
-{
-    (HEADER + e.bodies + e.names + 7) / 8 * 8
-}
-
-fn file_size(e: Extent) -> usize
-    requires { Within e }
-    ensures { result ≡ file_size e }
-{
-    headers_place(e) + HEADER * (e.count + 2)
-}
-
 // The file, into an output that is zero, so that the zeros in front of the headers and the null header stand there.
-fn put_file(package: &[u8], head: PackageHead, machine: u32, e: Extent, out: &mut [u8])
-    requires { Ready «package».now head e out.old }
-    ensures { out.new ≡ padded (file_of «package».now machine) (length out.old - length (file_of «package».now machine)) }
+fn put_file(package: &Package, machine: u32, e: Extent, out: &mut [u8])
+    requires { Ready «package».now e out.old }
+    ensures { out.new ≡ padded (file_of «package».now.bytes.now machine) (length out.old - length (file_of «package».now.bytes.now machine)) }
 {
-    let encoding = head.encoding;
-    let sections = head.sections;
-    let big = encoding.big;
-    let at = headers_place(e);
+    let head = package.head;
+    let big = head.encoding.big;
+    let at = e.headers_place();
     crate::fields::put_file_header(big, machine, at, e.count + 2, out);
-    crate::sections::put_bodies(package, head, out);
-    crate::sections::put_name_table(sections, out, HEADER + e.bodies);
-    crate::sections::put_headers(big, sections, e.names, out, at + HEADER);
+    sections::put_bodies(package, out);
+    sections::put_name_table(head.sections, out, HEADER + e.bodies);
+    sections::put_headers(big, head.sections, e.names, out, at + HEADER);
+}
+
+// The same, or a refusal.
+fn write_into(package: &[u8], machine: u32, out: &mut [u8]) -> Result<usize, Unwritten>
+    requires { out.old ≡ zeros (length out.old) }
+    ensures answer { written_as result ≡ written_of (elf_written «package».now machine (length out.old)) }
+    ensures output { out.new ≡ output_of (elf_written «package».now machine (length out.old)) (length out.old) }
+{
+    if !crate::fields::machine_good(machine) {
+        return Err(Unwritten::Refused(Refusal::OtherMachine));
+    }
+    let opened = Package::open(package)?;
+    let e = sections::measure(opened.head.sections);
+    let length = e.file_size();
+    if out.len() < length {
+        return Err(Unwritten::Refused(Refusal::FileShort));
+    }
+    put_file(&opened, machine, e, out);
+    Ok(length)
 }
 
 // Whatever the package holds: the file and zeros, or a refusal; then the output is zeros only.
@@ -55,18 +71,6 @@ pub fn write_elf(package: &[u8], machine: u32, out: &mut [u8]) -> Written
     ensures answer { result ≡ written_of (elf_written «package».now machine (length out.old)) }
     ensures output { out.new ≡ output_of (elf_written «package».now machine (length out.old)) (length out.old) }
 {
-    octets::clear_bytes(out);
-    if !crate::fields::machine_good(machine) {
-        return refused(OTHER_MACHINE);
-    }
-    let Ok(head) = lookup::opening::open_package(package) else {
-        return refused(BAD_PACKAGE);
-    };
-    let e = crate::sections::measure(head.sections);
-    let length = file_size(e);
-    if out.len() < length {
-        return refused(FILE_SHORT);
-    }
-    put_file(package, head, machine, e, out);
-    Written { code: 0, length }
+    out.fill(0);
+    Written::from(write_into(package, machine, out))
 }

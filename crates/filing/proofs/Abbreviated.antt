@@ -10,51 +10,53 @@ use lib.Seq.{take-take}
 use borrow.Author.Tests.{le-leb, lt-leb}
 use borrow.Rule.Slice.PartMut.{put_mid}
 use Rattle.octets.specs.Octets.{part}
-use Rattle.octets.specs.Checked.{Check, pass, refuse, ◌>>=◌}
+use Rattle.octets.specs.Checked.{Check, pass, refuse, ◌>>=◌, mapped}
 use Rattle.octets.proofs.Checks.{fails, passes, then_pass, then_refuse}
 use Rattle.octets.proofs.Parts.{length_part, part_none, part_part, part_cut}
 use Rattle.bundle.specs.Encoding.{Encoding}
 use Rattle.bundle.specs.Encoded.{encoding_is}
 use Rattle.unit.specs.UnitRead.{common_size, unit_by}
-use Rattle.unit.specs.Headers.{head_of, identity_good, identity_answer, with_size, unit_answer}
-use Rattle.unit.specs.TableTrees.{Remembers, Lent, between}
-use Rattle.unit.specs.declared.header.UnitAnswer.{UnitAnswer}
-use Rattle.unit.specs.declared.header.UnitAnswer.TheVariants.{Refused}
+use Rattle.unit.specs.UnitRead as read
+use Rattle.unit.specs.Headers.{head_of, identity_good, identity_is, unit_is}
+use Rattle.unit.specs.declared.header.Identity as code
+use Rattle.unit.specs.declared.header.UnitPlace.{UnitPlace}
+use Rattle.unit.specs.TableTrees.{Remembers, Lent, between, abbreviations_bytes, unit_bytes}
 use Rattle.unit.specs.declared.judged.Judged.{Judged}
-use Rattle.unit.proofs.Heads.{head_within, unit_parts, answer_sized, unit_with}
+use Rattle.unit.proofs.Heads.{head_within, unit_parts, unit_with}
 use Rattle.index.specs.Index.{Index, Contribution, cell_of}
 use Rattle.index.specs.Rows.{naming, the_one, abbrev_part}
-use Rattle.index.specs.Held.{index_in}
 use Rattle.index.specs.Cells.{cell_found}
-use Rattle.index.specs.declared.cells.Cell.TheVariants.{Is, Missing}
-use Rattle.index.specs.declared.reading.IndexHead.{IndexHead}
-use Rattle.places.specs.Chains.{row_told}
+use Rattle.index.specs.declared.cells.Contribution as cell
+use Rattle.octets.specs.Options.{found}
+use Rattle.bundle.proofs.Units.{found_some, found_none}
 use Rattle.kept.specs.Regions.{codes_region}
 use Rattle.kept.proofs.RegionStores.{codes_within}
 use Rattle.package.specs.Input.{Input}
 use Rattle.package.specs.Filing.{index_by_place, abbreviations_for}
 use Rattle.filing.specs.declared.input.InputObject.{InputObject}
-use Rattle.filing.specs.declared.input.Indexed.{Indexed}
-use Rattle.filing.specs.declared.input.Indexed.TheVariants.{At, Nowhere}
+use Rattle.std.specs.Prelude.{Some, None, Result, Ok, Err}
+use Rattle.numbers.specs.Refused.{number_of, told}
+use Rattle.numbers.specs.declared.refusals.Refusal.{Refusal}
+use Rattle.numbers.specs.declared.refusals.Refusal.TheVariants.{NoRow, BadRow}
+use Rattle.filing.proofs.Telling.{tells_pass, tells_refuse, tells_same}
 use Rattle.filing.specs.declared.reading.Abbreviations.{Abbreviations}
 use Rattle.filing.specs.declared.units.HomeSection.{HomeSection}
-use Rattle.filing.specs.Judged.{section_of, IndexedIs, InputIs}
+use Rattle.filing.specs.Judged.{section_of, InputIs}
 use Rattle.filing.specs.State.{words_in, Remembered}
-use Rattle.filing.specs.ByPlace.{WorkFor, indexed_by_place, AbbreviationsAre, identified}
+use Rattle.filing.specs.ByPlace.{WorkFor, AbbreviationsAre}
 use Rattle.filing.specs.Asked.{PlaceAsked}
 use Rattle.kept.proofs.RegionLending.{lent_is, lent_length, lent_left}
-use Rattle.filing.proofs.ByPlace.{by_place_is, cut, cut_section, index_there, row_none, row_one}
 
 -- ---- a row's abbrev part
-cell_none : (o : Option Contribution) → Missing ≡ cell_found o → o ≡ none
+cell_none : (o : Option Contribution) → None ≡ cell_found o → o ≡ none
 unfolding cell_found
 cell_none none e = refl
 cell_none (some c) e = absurd (let z : ◌≡◌ {A = ℕ} 0 1 = cc in omega arith)
 
-cell_some : (k : Option Contribution) (o z : ℕ) → Is o z ≡ cell_found k → k ≡ some (record { offset = o; size = z })
+cell_some : (k : Option Contribution) (v : cell.Contribution) → Some v ≡ cell_found k → k ≡ some (record { offset = v.offset; size = v.size })
 unfolding cell_found
-cell_some (some c) o z e = let p : o ≡ c.offset = cc in let q : z ≡ c.size = cc in rw (p, q)
-cell_some none o z e = absurd (let y : ◌≡◌ {A = ℕ} 0 1 = cc in omega arith)
+cell_some (some c) v e = let p : v ≡ record { offset = c.offset; size = c.size } = cc in rw p
+cell_some none v e = absurd (let y : ◌≡◌ {A = ℕ} 0 1 = cc in omega arith)
 
 module _ (i : Index) (row : ℕ) where
   part_missing : (s : List ℕ) → 0 < length s → cell_of i row 3 ≡ none → abbrev_part i row s ≡ refuse 15
@@ -78,28 +80,29 @@ module _ (i : Index) (row : ℕ) where
     many : length (part b start size) ≡ size
     many = length_part b start size fits
 
-    pub abbrev_empty : size ≡ 0 → AbbreviationsAre b (abbrev_part i row (part b start size)) (record { code = 0; first = start; last = start })
-    unfolding AbbreviationsAre abbrev_part
+    pub abbrev_empty : size ≡ 0 → AbbreviationsAre b (abbrev_part i row (part b start size)) (Ok (record { first = start; last = start }))
+    unfolding abbrev_part
     abbrev_empty z =
         let e : part b start size ≡ [] = ap (part b start) z ∙ part_none b start in
         let n : start - start ≡ 0 = omega arith in
-        rw (ap (abbrev_part i row) e) (refl, ap (λ (k : ℕ). take k (drop start b)) n, omega arith, omega arith)
+        tells_pass _ [] (ap (abbrev_part i row) e) (record { is = ap (λ (k : ℕ). take k (drop start b)) n; order = omega arith; within = omega arith })
 
     module _ (some_bytes : size ≡ 0 → ⊥) where
-      pub abbrev_missing : (r : Abbreviations) → r.code ≡ 15 → Missing ≡ cell_found (cell_of i row 3) → AbbreviationsAre b (abbrev_part i row (part b start size)) r
-      unfolding AbbreviationsAre
-      abbrev_missing r c m = rw (part_missing (part b start size) (omega (arith, many)) (cell_none _ m)) (c, omega arith)
+      pub abbrev_missing : None ≡ cell_found (cell_of i row 3) → AbbreviationsAre b (abbrev_part i row (part b start size)) (Err NoRow)
+      abbrev_missing m = tells_refuse NoRow (part_missing (part b start size) (omega (arith, many)) (cell_none _ m))
 
-      module _ (o z : ℕ) (m : Is o z ≡ cell_found (cell_of i row 3)) where
-        pub abbrev_outside : (r : Abbreviations) → r.code ≡ 16 → size < o + z → AbbreviationsAre b (abbrev_part i row (part b start size)) r
-        unfolding AbbreviationsAre
-        abbrev_outside r c l = rw (part_outside (record { offset = o; size = z }) (part b start size) (omega (arith, many)) (cell_some _ o z m) (omega (arith, many))) (c, omega arith)
+      module _ (v : cell.Contribution) (m : Some v ≡ cell_found (cell_of i row 3)) where
+        abbrev part_named : Contribution
+        part_named = record { offset = v.offset; size = v.size }
 
-        pub abbrev_inside : o + z ≤ size → AbbreviationsAre b (abbrev_part i row (part b start size)) (record { code = 0; first = start + o; last = start + o + z })
-        unfolding AbbreviationsAre
+        pub abbrev_outside : size < v.offset + v.size → AbbreviationsAre b (abbrev_part i row (part b start size)) (Err BadRow)
+        abbrev_outside l = tells_refuse BadRow (part_outside part_named (part b start size) (omega (arith, many)) (cell_some _ v m) (omega (arith, many)))
+
+        pub abbrev_inside : v.offset + v.size ≤ size → AbbreviationsAre b (abbrev_part i row (part b start size)) (Ok (record { first = start + v.offset; last = start + v.offset + v.size }))
         abbrev_inside l =
-            rw (part_inside (record { offset = o; size = z }) (part b start size) (omega (arith, many)) (cell_some _ o z m) (omega (arith, many)))
-            (refl, part_cut b (start + o) z ∙ sym (part_part b start size o z l), omega arith, omega arith)
+            tells_pass _ (part (part b start size) v.offset v.size)
+            (part_inside part_named (part b start size) (omega (arith, many)) (cell_some _ v m) (omega (arith, many)))
+            (record { is = part_cut b (start + v.offset) v.size ∙ sym (part_part b start size v.offset v.size l); order = omega arith; within = omega arith })
 
 -- ---- the abbreviations of a unit
 module _ (b : List ℕ) (x : InputObject) (i : Input) (is : InputIs b x i) (home at size : ℕ) where
@@ -107,55 +110,36 @@ module _ (b : List ℕ) (x : InputObject) (i : Input) (is : InputIs b x i) (home
   section = part b (get_or x.start 3 0) (get_or x.size 3 0)
 
   -- in the whole section
-  pub given_whole : Nowhere ≡ indexed_by_place x home
-      → AbbreviationsAre b (abbreviations_for i home at size) (record { code = 0; first = get_or x.start 3 0; last = get_or x.start 3 0 + get_or x.size 3 0 })
-  unfolding abbreviations_for AbbreviationsAre IndexedIs section_of
-  given_whole e = go (index_by_place i home) refl (subst (λ (z : Indexed). IndexedIs x.encoding.big (section_of b x 12) z (index_by_place i home)) (sym e) (by_place_is b x i is home))
-    where
-      go : (o : Option Index) → index_by_place i home ≡ o → IndexedIs x.encoding.big (section_of b x 12) Nowhere o
-          → AbbreviationsAre b (abbreviations_for i home at size) (record { code = 0; first = get_or x.start 3 0; last = get_or x.start 3 0 + get_or x.size 3 0 })
-      go none q k = rw (abbreviations_for, q) (refl, part_cut b (get_or x.start 3 0) (get_or x.size 3 0) ∙ sym (is.bytes 3 (omega arith)), omega arith, is.within 3)
-      go (some y) q k = absurd k
+  pub given_whole : None ≡ found (index_by_place i home)
+      → AbbreviationsAre b (abbreviations_for i home at size) (Ok (record { first = get_or x.start 3 0; last = get_or x.start 3 0 + get_or x.size 3 0 }))
+  unfolding abbreviations_for section_of
+  given_whole e =
+      let q : index_by_place i home ≡ none = sym (found_none _ e) in
+      tells_pass _ (i.bytes 3) (rw (abbreviations_for, q))
+      (record { is = part_cut b (get_or x.start 3 0) (get_or x.size 3 0) ∙ sym (is.bytes 3 (omega arith)); order = omega arith; within = is.within 3 })
 
-  module _ (limit : length b ≤ 4_194_304) (head : IndexHead) (e : At head ≡ indexed_by_place x home) (row : ℕ)
-      (told : row ≡ row_told (the_one (naming (index_in x.encoding.big (cut b x i is limit home head e) head) at size))) where
-    abbrev here : Index
-    here = index_in x.encoding.big (cut b x i is limit home head e) head
-
-    by_row : abbreviations_for i home at size ≡ (the_one (naming here at size) >>= λ k. abbrev_part here k (i.bytes 3))
+  module _ (idx : Index) (e : Some idx ≡ found (index_by_place i home)) where
+    by_row : abbreviations_for i home at size ≡ (the_one (naming idx at size) >>= λ k. abbrev_part idx k (i.bytes 3))
     unfolding abbreviations_for
-    by_row =
-        rw (abbreviations_for, index_there b x i is limit home head e)
-        (ap (λ (l : List ℕ). the_one (naming (index_in x.encoding.big l head) at size) >>= λ k. abbrev_part (index_in x.encoding.big l head) k (i.bytes 3)) (sym (cut_section b x i is limit home head e)))
+    by_row = rw (abbreviations_for, ← found_some idx _ e)
 
-    pub given_none : row ≡ 0 → (r : Abbreviations) → r.code ≡ 15 → AbbreviationsAre b (abbreviations_for i home at size) r
-    unfolding AbbreviationsAre
-    given_none z r c = rw (by_row ∙ then_refuse _ _ 15 (row_none here at size row told z)) (c, omega arith)
+    pub given_none : (r : Refusal) → refuse (number_of r) ≡ the_one (naming idx at size) → AbbreviationsAre b (abbreviations_for i home at size) (Err r)
+    given_none r z = tells_refuse r (by_row ∙ then_refuse _ _ (number_of r) (sym z))
 
-    pub given_part : (row ≡ 0 → ⊥) → (r : Abbreviations) → AbbreviationsAre b (abbrev_part here row section) r → AbbreviationsAre b (abbreviations_for i home at size) r
+    pub given_part : (row : ℕ) → pass row ≡ the_one (naming idx at size) → (r : Result Abbreviations Refusal) → AbbreviationsAre b (abbrev_part idx row section) r → AbbreviationsAre b (abbreviations_for i home at size) r
     unfolding section_of
-    given_part z r k =
-        subst (λ (m : Check (List ℕ)). AbbreviationsAre b m r)
-        (sym (by_row ∙ then_pass _ _ row (row_one here at size row told z) ∙ ap (abbrev_part here row) (is.bytes 3 (omega arith)))) k
-
--- what an answer of 0 says
-pub given_inside : (b : List ℕ) (m : Check (List ℕ)) (r : Abbreviations) → AbbreviationsAre b m r → r.code ≡ 0 → (m ≡ pass (between b r.first r.last)) × (r.first ≤ r.last) × (r.last ≤ length b)
-unfolding AbbreviationsAre
-given_inside b (pass l) r k z = (ap (λ (s : List ℕ). pass s) (sym k.1), k.2, k.3)
-given_inside b (refuse n) r k z = absurd (omega (arith, k.0, k.1))
-
-pub given_refused : (b : List ℕ) (m : Check (List ℕ)) (r : Abbreviations) → AbbreviationsAre b m r → (r.code ≡ 0 → ⊥) → m ≡ refuse r.code
-unfolding AbbreviationsAre
-given_refused b (pass l) r k z = absurd (z k.0)
-given_refused b (refuse n) r k z = ap (λ (q : ℕ). refuse q) (sym k.0)
+    given_part row z r k = tells_same (sym (by_row ∙ then_pass _ _ row (sym z) ∙ ap (abbrev_part idx row) (is.bytes 3 (omega arith)))) k
 
 -- ---- a unit at a place; its section's bytes from there as code cuts them
 module _ {b : List ℕ} {x : InputObject} {h : HomeSection} {at : ℕ} {w : List ℕ} (p : PlaceAsked b x h at w) where
   abbrev pub rest : List ℕ
   rest = take (h.stop - at) (drop at b)
 
-  abbrev answer : Input → UnitAnswer
-  answer i = unit_answer (unit_by i.encoding h.home (abbreviations_for i h.home (at - h.start)) (part b at (h.stop - at)))
+  abbrev checked : Input → Check read.UnitRead
+  checked i = unit_by i.encoding h.home (abbreviations_for i h.home (at - h.start)) (part b at (h.stop - at))
+
+  abbrev Refuses : Input → Refusal → Type 0
+  Refuses i r = refuse (number_of r) ≡ checked i
 
   parts_are : (i : Input) → InputIs b x i
       → unit_by i.encoding h.home (abbreviations_for i h.home (at - h.start)) (part b at (h.stop - at))
@@ -165,9 +149,8 @@ module _ {b : List ℕ} {x : InputObject} {h : HomeSection} {at : ℕ} {w : List
       ap (λ (e : Encoding). unit_by e h.home (abbreviations_for i h.home (at - h.start)) rest) (sym is.encoding)
       ∙ unit_parts (encoding_is x.encoding) h.home (abbreviations_for i h.home (at - h.start)) rest
 
-  pub read_headless : (i : Input) → InputIs b x i → head_of (encoding_is x.encoding) rest ≡ refuse 11 → Refused 11 ≡ answer i
-  unfolding unit_answer
-  read_headless i is e = sym (ap unit_answer (parts_are i is ∙ then_refuse _ _ 11 e))
+  pub read_headless : (r : Refusal) (i : Input) → InputIs b x i → refuse (number_of r) ≡ head_of (encoding_is x.encoding) rest → Refuses i r
+  read_headless r i is e = sym (parts_are i is ∙ then_refuse _ _ (number_of r) (sym e))
 
   module _ (size : ℕ) (e : head_of (encoding_is x.encoding) rest ≡ pass size) where
     pub size_within : (at + size ≤ length b) × (size ≤ h.stop - at) × (common_size (encoding_is x.encoding) ≤ size)
@@ -177,20 +160,29 @@ module _ {b : List ℕ} {x : InputObject} {h : HomeSection} {at : ℕ} {w : List
         let l = length_part b at (h.stop - at) (omega (arith, p.low, p.within)) in
         (omega (arith, q.0, l, p.low, p.within), omega (arith, q.0, l), q.1)
 
-    module _ (r : Abbreviations) where
-      pub read_unabbreviated : (i : Input) → InputIs b x i → AbbreviationsAre b (abbreviations_for i h.home (at - h.start) size) r → (r.code ≡ 0 → ⊥) → Refused r.code ≡ answer i
-      unfolding unit_answer
-      read_unabbreviated i is k z = sym (ap unit_answer (parts_are i is ∙ then_pass _ _ size e ∙ then_refuse _ _ r.code (given_refused b _ r k z)))
+    pub read_unabbreviated : (r : Refusal) (i : Input) → InputIs b x i → AbbreviationsAre b (abbreviations_for i h.home (at - h.start) size) (Err r) → Refuses i r
+    read_unabbreviated r i is k = sym (parts_are i is ∙ then_pass _ _ size e ∙ then_refuse _ _ (number_of r) (k.refuses r refl))
 
-      pub read_whole : (i : Input) → InputIs b x i → AbbreviationsAre b (abbreviations_for i h.home (at - h.start) size) r → r.code ≡ 0 → (home : ℕ) → home ≡ h.home → (a : UnitAnswer)
-          → a ≡ identified (encoding_is x.encoding) home b (record { at = at; size = size; first = r.first; last = r.last }) → a ≡ answer i
+    module _ (a : Abbreviations) (i : Input) (is : InputIs b x i) (k : AbbreviationsAre b (abbreviations_for i h.home (at - h.start) size) (Ok a)) (u : UnitPlace) (eu : u ≡ record { at = at; size = size; first = a.first; last = a.last }) where
+      -- its identity, and the definition's
+      abbrev Identified : Result code.Identity Refusal → Type 0
+      Identified r = mapped identity_is (told r) ≡ identity_good (encoding_is x.encoding) h.home (abbreviations_bytes b u) (unit_bytes b u)
+
+      read_on : checked i
+          ≡ (identity_good (encoding_is x.encoding) h.home (abbreviations_bytes b u) (unit_bytes b u) >>= unit_with size)
       unfolding part
-      read_whole i is k z home same a q =
-          let t = between b r.first r.last in
-          q
-          ∙ ap₂ (λ (n : ℕ) (u : List ℕ). with_size size (identity_answer (identity_good (encoding_is x.encoding) n t u))) same (sym (take-take size (h.stop - at) (drop at b) size_within.1))
-          ∙ answer_sized size (identity_good (encoding_is x.encoding) h.home t (take size rest))
-          ∙ sym (ap unit_answer (parts_are i is ∙ then_pass _ _ size e ∙ then_pass _ _ t (given_inside b _ r k z).0))
+      read_on =
+          let l = k.passes a refl in
+          parts_are i is ∙ then_pass _ _ size e ∙ then_pass _ _ (between b a.first a.last) (l.1 ∙ ap pass (sym l.2.is))
+          ∙ rw (eu, take-take size (h.stop - at) (drop at b) size_within.1)
+
+      pub read_unidentified : (r : Refusal) → Identified (Err r) → Refuses i r
+      unfolding mapped
+      read_unidentified r t = sym (read_on ∙ then_refuse _ _ (number_of r) (sym t))
+
+      pub read_whole : (d : code.Identity) → Identified (Ok d) → mapped unit_is (told (Ok (record { size = size; table = d.table; identity = d.identity }))) ≡ checked i
+      unfolding mapped
+      read_whole d t = sym (read_on ∙ then_pass _ _ (identity_is d) (sym t))
 
 -- ---- the region of codes, as it is lent
 module _ {b w : List ℕ} (k : WorkFor b w) (j : Judged) (from many : ℕ) (ef : from ≡ codes_region.start * words_in b) (em : many ≡ codes_region.words * words_in b) where

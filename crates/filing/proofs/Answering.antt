@@ -10,14 +10,18 @@ use native.Mathlib.Decide.{ℕ_discrete}
 use lib.ListN.{length, take}
 use Rattle.octets.specs.Octets.{part}
 use Rattle.octets.specs.Lists.{any, same}
-use Rattle.octets.specs.Checked.{Check, pass, refuse}
+use Rattle.std.specs.Prelude.{Result, Ok, Err}
+use Rattle.numbers.specs.Refused.{number_of}
+use Rattle.numbers.specs.declared.refusals.Refusal.{Refusal}
+use Rattle.numbers.specs.declared.refusals.Refusal.TheVariants.{IdentitySeen}
+use Rattle.octets.specs.Checked.{pass}
 use Rattle.octets.proofs.Parts.{length_part}
 use Rattle.unit.specs.UnitRead.{UnitRead}
 use Rattle.index.specs.Index.{Contribution}
 use Rattle.index.specs.Rows.{BySection}
 use Rattle.index.specs.Written.{offset_of, size_of}
 use Rattle.index.specs.Contributed.{ContributionsAre}
-use Rattle.index.specs.declared.judging.RowJudged.{RowJudged}
+use Rattle.index.specs.declared.judging.Contributions.{Contributions}
 use Rattle.package.specs.Input.{Input}
 use Rattle.kept.specs.Regions.{records_region, region}
 use Rattle.package.specs.Filing.{Filed, is_under, kept, contributions_of, unit_at, repeat, namesake}
@@ -31,11 +35,11 @@ use Rattle.kept.specs.declared.state.InProgress.{InProgress}
 use Rattle.kept.proofs.Naming.{KnownUnit}
 use Rattle.filing.specs.Contributing.{GivenIs}
 use Rattle.filing.specs.declared.input.InputObject.{InputObject}
-use Rattle.filing.specs.declared.units.UnitFiled.{UnitFiled}
 use Rattle.filing.specs.State.{words_in, StringsKept}
 use Rattle.filing.specs.Answers.{AtUnit, UnitIs}
 use Rattle.filing.specs.Choices.{agrees_with, KnownAsked, KnownIs, NewUnit, ReadAt}
 use Rattle.filing.specs.Asked.{KeepAsked, UnitKept}
+use Rattle.filing.proofs.Telling.{tells_pass, tells_refuse}
 use Rattle.filing.proofs.Kept.{placeable, held_skip}
 use Rattle.filing.proofs.Filing.{filed, unit_second, unit_skipped, unit_bad, unit_new, contributed_low}
 
@@ -80,10 +84,8 @@ module _ {b : List ℕ} {x : InputObject} {i : Input} {place : ℕ} {w : List �
     unit_good : (f : BySection (Option Contribution)) → UnitGood (unit f)
     unit_good f = record { tables = r.tables; homes = homes; identity_not0 = r.not_zero_law; identity_fits = r.small }
 
-    answer_second : (v : List ℕ) (z : UnitFiled) → any (is_under table identity) us ≡ true → table ≡ 1 → z.code ≡ 14
-        → UnitIs b x i place w v st bases earlier here (unit_at i bases earlier here home at s) z
-    unfolding UnitIs
-    answer_second v z e t c = rw (unit_second i bases earlier here home at s size table identity r e t) c
+    answer_second : (v : List ℕ) (next : InProgress) → any (is_under table identity) us ≡ true → table ≡ 1 → UnitIs b x i place w v st next bases earlier here (unit_at i bases earlier here home at s) (Err IdentitySeen)
+    answer_second v next e t = tells_refuse IdentitySeen (unit_second i bases earlier here home at s size table identity r e t)
 
     -- ---- its table and identity are those of a kept unit, by the number of its record
     module _ (number : ℕ) (k : KnownUnit b (region w n records_region) (kept us) st.units.count table identity number) where
@@ -106,43 +108,29 @@ module _ {b : List ℕ} {x : InputObject} {i : Input} {place : ℕ} {w : List �
           (held_skip a.held size skipped k.unit seen first (unit_good (λ c. none)) r.least fits))
 
       answer_skipped : (table ≡ 1 → ⊥)
-          → UnitIs b x i place w w st bases earlier here (unit_at i bases earlier here home at s) (record { code = 0; size = size; st = skipped_one st (agrees_with b number place size w) })
-      unfolding UnitIs
+          → UnitIs b x i place w w st (skipped_one st (agrees_with b number place size w)) bases earlier here (unit_at i bases earlier here home at s) (Ok size)
       answer_skipped t =
-          rw (unit_skipped i bases earlier here home at s size table identity r seen t) (
-            refl,
-            sym bytes_many,
-            record { input = a.input; held = held_skipped },
-            record { same = refl; strings = refl; table = refl },
-          )
+          tells_pass size skipped (unit_skipped i bases earlier here home at s size table identity r seen t) (record {
+            size_is = sym bytes_many;
+            at_unit = record { input = a.input; held = held_skipped };
+            strings = record { same = refl; strings = refl; table = refl };
+          })
 
       -- 14, or skipped
-      pub answer_known : (z : UnitFiled) → KnownIs b number place table size st w z → UnitIs b x i place w w st bases earlier here (unit_at i bases earlier here home at s) z
-      answer_known z is = elim (ℕ_discrete table 1) [
-        | yes t ↦ answer_second w z seen t (is.second t)
-        | no t ↦ subst (UnitIs b x i place w w st bases earlier here (unit_at i bases earlier here home at s)) (sym (is.skipped t)) (answer_skipped t)
+      pub answer_known : (next : InProgress) (z : Result ℕ Refusal) → KnownIs b number place table size st next w z → UnitIs b x i place w w st next bases earlier here (unit_at i bases earlier here home at s) z
+      answer_known next z is = elim (ℕ_discrete table 1) [
+        | yes t ↦ rw (is.second t) (answer_second w next seen t)
+        | no t ↦ rw ((is.skipped t).0, (is.skipped t).1) (answer_skipped t)
       ]
 
-    module _ (j : RowJudged) (g : GivenIs (contributions_of i home at read) j) (e : any (is_under table identity) us ≡ false) where
-      pub answer_bad : (v : List ℕ) (z : UnitFiled) → (j.code ≡ 0 → ⊥) → z.code ≡ j.code
-          → UnitIs b x i place w v st bases earlier here (unit_at i bases earlier here home at s) z
-      unfolding UnitIs GivenIs
-      answer_bad v z d c = go (contributions_of i home at read) refl g
-        where
-          go : (m : Check (BySection (Option Contribution))) → contributions_of i home at read ≡ m → GivenIs m j
-              → UnitIs b x i place w v st bases earlier here (unit_at i bases earlier here home at s) z
-          go (pass f) q k = absurd (d k.0)
-          go (refuse m) q k = rw (unit_bad i bases earlier here home at s size table identity r m e q) (c ∙ k.0)
+    module _ (e : any (is_under table identity) us ≡ false) where
+      pub answer_bad : (v : List ℕ) (next : InProgress) (n : Refusal) → GivenIs (contributions_of i home at read) (Err n)
+          → UnitIs b x i place w v st next bases earlier here (unit_at i bases earlier here home at s) (Err n)
+      answer_bad v next n g = tells_refuse n (unit_bad i bases earlier here home at s size table identity r (number_of n) e (g.refuses n refl))
 
-      module _ (d : j.code ≡ 0) where
-        given : (f : BySection (Option Contribution)) × (contributions_of i home at read ≡ pass f) × ContributionsAre j.contributions f
-        unfolding GivenIs
-        given = go (contributions_of i home at read) refl g
-          where
-            go : (m : Check (BySection (Option Contribution))) → contributions_of i home at read ≡ m → GivenIs m j
-                → (f : BySection (Option Contribution)) × (contributions_of i home at read ≡ pass f) × ContributionsAre j.contributions f
-            go (pass f) q k = (f, q, k.1)
-            go (refuse m) q k = absurd (omega (arith, k.0, k.1, d))
+      module _ (k : Contributions) (g : GivenIs (contributions_of i home at read) (Ok k)) where
+        given : (f : BySection (Option Contribution)) × (contributions_of i home at read ≡ pass f) × ContributionsAre k f
+        given = g.passes k refl
 
         abbrev new : Filed
         new = unit given.0
@@ -154,7 +142,7 @@ module _ {b : List ℕ} {x : InputObject} {i : Input} {place : ℕ} {w : List �
         abbrev head : UnitHead
         head = record { table = table; row = (pick table st.units.cu st.units.tu).rows + 1; identity = identity; home = home; start = place; size = size }
 
-        new_unit : (slot : ℕ) → free_for (slots_in w n table (seen_slots n)) identity ≡ slot → slot < seen_slots n → NewUnit b n slot head j.contributions st w bases us new
+        new_unit : (slot : ℕ) → free_for (slots_in w n table (seen_slots n)) identity ≡ slot → slot < seen_slots n → NewUnit b n slot head k st w bases us new
         new_unit slot free inside =
             record {
               table_is = refl;
@@ -174,26 +162,21 @@ module _ {b : List ℕ} {x : InputObject} {i : Input} {place : ℕ} {w : List �
             }
 
         answer_kept : (v : List ℕ) (next : InProgress) → Held five b n (place + size) v next bases (us ++ (new ∷ [])) → StringsKept n w v st next
-            → UnitIs b x i place w v st bases earlier here (unit_at i bases earlier here home at s) (record { code = 0; size = size; st = next })
-        unfolding UnitIs
+            → UnitIs b x i place w v st next bases earlier here (unit_at i bases earlier here home at s) (Ok size)
         answer_kept v next held strings =
-            rw (unit_new i bases earlier here home at s size table identity r given.0 e given.1) (
-              refl,
-              sym bytes_many,
-              record {
-                input = a.input;
-                held = subst (Held five b n (place + size) v next bases) (append_assoc earlier here (new ∷ [])) held;
-              },
-              strings,
-            )
+            tells_pass size new (unit_new i bases earlier here home at s size table identity r given.0 e given.1) (record {
+              size_is = sym bytes_many;
+              at_unit = record { input = a.input; held = subst (Held five b n (place + size) v next bases) (append_assoc earlier here (new ∷ [])) held };
+              strings = strings;
+            })
 
         module _ (slot : ℕ) (free : free_for (slots_in w n table (seen_slots n)) identity ≡ slot) (inside : slot < seen_slots n) (u : UnitHead) (is : u ≡ head) where
-          pub keep_requires : KeepAsked five n slot u j.contributions st w
+          pub keep_requires : KeepAsked five n slot u k st w
           keep_requires =
-              subst (λ (z : UnitHead). KeepAsked five n slot z j.contributions st w) (sym is)
+              subst (λ (z : UnitHead). KeepAsked five n slot z k st w) (sym is)
               (record { bundle = b; bases = bases; units = us; unit = new; held = a.held; new = new_unit slot free inside })
 
-          pub answer_filed : (v : List ℕ) (next : InProgress) → UnitKept five n slot u j.contributions st w v next → StringsKept n w v st next
-              → UnitIs b x i place w v st bases earlier here (unit_at i bases earlier here home at s) (record { code = 0; size = size; st = next })
+          pub answer_filed : (v : List ℕ) (next : InProgress) → UnitKept five n slot u k st w v next → StringsKept n w v st next
+              → UnitIs b x i place w v st next bases earlier here (unit_at i bases earlier here home at s) (Ok size)
           answer_filed v next keeps strings =
-              answer_kept v next (subst (λ (z : UnitHead). UnitKept five n slot z j.contributions st w v next) is keeps b bases us new a.held (new_unit slot free inside)) strings
+              answer_kept v next (subst (λ (z : UnitHead). UnitKept five n slot z k st w v next) is keeps b bases us new a.held (new_unit slot free inside)) strings

@@ -11,6 +11,9 @@ use lib.Dec.{eqb, ltb}
 use lib.ListN.{length, get_or}
 use borrow.Author.Tests.{eqb-true, eq-eqb, ne_eqb, ltb-true}
 use Rattle.octets.specs.Lists.{all, any, those, has}
+use Rattle.std.specs.Prelude.{Result, Ok, Err}
+use Rattle.numbers.specs.declared.refusals.Refusal.{Refusal}
+use Rattle.numbers.specs.declared.refusals.Refusal.TheVariants.{NoRow}
 use Rattle.octets.specs.Checked.{Check, pass, refuse, ◌>>=◌, require}
 use Rattle.octets.proofs.Checks.{pass_refuse, refuse_inj, bind_refuse, true_false}
 use Rattle.octets.proofs.Lists.{any_cases, any_stops, any_more, all_head, all_tail, those_keeps, those_skips}
@@ -18,123 +21,75 @@ use Rattle.octets.proofs.Parts.{length_part}
 use Rattle.bundle.specs.Encoded.{four, encoding_is}
 use Rattle.bundle.specs.declared.encoding.ObjectEncoding.{ObjectEncoding}
 use Rattle.index.specs.Index.{Index, Contribution, cell_of}
-use Rattle.index.specs.Probing.{Probe, found, absent, probe}
+use Rattle.index.specs.Probing.{probe}
 use Rattle.index.specs.Rows.{BySection, shared, needed_codes, is_some, row_of, cell_is, own_place, part_good, row_contributions, whole_contributions}
 use Rattle.index.specs.Held.{ReadWell, index_in}
-use Rattle.index.specs.Contributed.{by_code, ContributionsAre, code_given, contributions_given}
+use Rattle.index.specs.Contributed.{by_code, ContributionsAre}
 use Rattle.index.specs.declared.reading.IndexHead.{IndexHead}
-use Rattle.index.specs.declared.judging.RowJudged.{RowJudged}
+use Rattle.index.specs.declared.judging.Contributions.{Contributions}
 use Rattle.index.proofs.Contributions.{needed_shared}
 use Rattle.unit.specs.UnitRead.{is_five}
 use Rattle.package.specs.Input.{Input}
 use Rattle.package.specs.Filing.{index_for, lengths, is_package, contributions_of}
 use Rattle.index.proofs.Filled.{same_held}
-use Rattle.filing.specs.Judged.{section_of, IndexedIs, is_there, packed_by, InputIs}
+use Rattle.filing.specs.Judged.{section_of, Indexed, IndexedIs, packed_by, InputIs}
+use Rattle.filing.proofs.Telling.{tells_pass, tells_refuse, tells_value}
 use Rattle.filing.proofs.Entering.{five_is}
 use Rattle.filing.specs.Contributing.{whole_given, contributions_by, GivenIs}
 use Rattle.filing.specs.declared.input.InputObject.{InputObject}
-use Rattle.filing.specs.declared.input.Indexed.{Indexed}
-use Rattle.filing.specs.declared.input.Indexed.TheVariants.{At, Nowhere}
+use Rattle.std.specs.Prelude.{Some, None}
+use Rattle.std.specs.Prelude.{is_some as code_some}
+use Rattle.octets.specs.Options.{found}
+use Rattle.bundle.proofs.Units.{found_some, found_none}
+use Rattle.index.specs.Contributed.{Answers}
 
--- ---- every refusal has a number
-pub record Above {A : Type 0} (m : Check A) : Type 0 where
-  pub is : (n : ℕ) → m ≡ refuse n → 0 < n
-
-pub above_pass : {A : Type 0} (a : A) → Above (pass a)
-above_pass a = record { is = λ n e. absurd (pass_refuse a n e) }
-
-pub above_refuse : {A : Type 0} (k : ℕ) → 0 < k → Above {A = A} (refuse k)
-above_refuse k h = record { is = λ n e. rw (refuse_inj e) at h }
-
-pub above_require : (t : Bool) (k : ℕ) → 0 < k → Above (require t k)
-unfolding require
-above_require true k h = above_pass tt
-above_require false k h = above_refuse k h
-
-pub above_bind : {A B : Type 0} (m : Check A) (f : A → Check B) → Above m → ((a : A) → Above (f a)) → Above (m >>= f)
-above_bind m f o g = record { is = λ n e. ⊎_elim (λ r. o.is n r) (λ p. (g p.0).is n p.2) (bind_refuse m f n e) }
-
-row_found : (i : Index) (p : Probe) → Above (row_of i p)
-unfolding row_of
-row_found i (found slot looks) = above_pass _
-row_found i (absent looks) = above_refuse 15 (omega arith)
-
-pub row_above : (i : Index) (width : ℕ) (ls : BySection ℕ) (x home at size : ℕ) → Above (row_contributions i width ls x home at size)
-unfolding row_contributions
-row_above i width ls x home at size =
-    above_bind _ _ (row_found i (probe i x))
-    (λ row. above_bind _ _ (above_require _ 15 (omega arith)) (λ _. above_bind _ _ (above_require _ 16 (omega arith)) (λ _. above_bind _ _ (above_require _ 16 (omega arith)) (λ _. above_pass _))))
-
--- ---- an answer by an index
-pub given_row : (i : Index) (width : ℕ) (ls : BySection ℕ) (x home at size : ℕ) (r : RowJudged)
-    → r.code ≡ code_given (row_contributions i width ls x home at size)
-    → ContributionsAre r.contributions (contributions_given (row_contributions i width ls x home at size))
-    → GivenIs (row_contributions i width ls x home at size) r
-unfolding GivenIs code_given contributions_given
-given_row i width ls x home at size r e k = go (row_contributions i width ls x home at size) refl
-  where
-    go : (m : Check (BySection (Option Contribution))) → row_contributions i width ls x home at size ≡ m → GivenIs (row_contributions i width ls x home at size) r
-    go (pass f) q = rw q ((rw q at e), (rw q at k))
-    go (refuse n) q = rw q ((rw q at e), (row_above i width ls x home at size).is n q)
-
+-- ---- an index by value
 module _ (big : Bool) (s : List ℕ) (indexed : Indexed) (o : Option Index) (is : IndexedIs big s indexed o) where
-  pub given_none : (packed : Bool) (width : ℕ) (ls : BySection ℕ) (x home at size : ℕ) (r : RowJudged) → indexed ≡ Nowhere
-      → GivenIs (whole_given packed ls) r → GivenIs (contributions_by packed o width ls x home at size) r
-  unfolding contributions_by IndexedIs
-  given_none packed width ls x home at size r e k = go o (rw e at is)
-    where
-      go : (p : Option Index) → IndexedIs big s Nowhere p → GivenIs (contributions_by packed p width ls x home at size) r
-      go none h = k
-      go (some y) h = absurd h
-
-  pub index_well : (head : IndexHead) → indexed ≡ At head → ReadWell big s head × (o ≡ some (index_in big s head))
+  pub index_well : (head : IndexHead) → indexed ≡ Some head → ReadWell big s head × (o ≡ some (index_in big s head))
   unfolding IndexedIs
   index_well head e = go o (rw e at is)
     where
-      go : (p : Option Index) → IndexedIs big s (At head) p → ReadWell big s head × (p ≡ some (index_in big s head))
+      go : (p : Option Index) → IndexedIs big s (Some head) p → ReadWell big s head × (p ≡ some (index_in big s head))
       go none h = absurd h
       go (some y) h = (h.0, ap some h.1)
 
-  pub given_at : (packed : Bool) (t : List ℕ) (head : IndexHead) (width w : ℕ) (ls : BySection ℕ) (x home at size : ℕ) (r : RowJudged) → indexed ≡ At head → t ≡ s → w ≡ width
-      → r.code ≡ code_given (row_contributions (index_in big t head) w ls x home at size)
-      → ContributionsAre r.contributions (contributions_given (row_contributions (index_in big t head) w ls x home at size))
-      → GivenIs (contributions_by packed o width ls x home at size) r
+  -- as code holds it
+  pub held_none : indexed ≡ None → None ≡ found o
+  unfolding IndexedIs
+  held_none e = go o (rw e at is)
+    where
+      go : (p : Option Index) → IndexedIs big s None p → None ≡ found p
+      go none h = refl
+      go (some y) h = absurd h
+
+  pub held_some : (head : IndexHead) → indexed ≡ Some head → Some (index_in big s head) ≡ found o
+  held_some head e = ap found (sym (index_well head e).1)
+
+-- ---- an answer by an index
+answers_given : (m : Check (BySection (Option Contribution))) (r : Result Contributions Refusal) → Answers r m → GivenIs m r
+unfolding Answers
+answers_given (pass f) (Ok k) h = tells_pass k f refl h
+answers_given (pass f) (Err e) h = absurd h
+answers_given (refuse n) (Ok k) h = absurd h
+answers_given (refuse n) (Err e) h = tells_refuse e (ap refuse (sym h))
+
+module _ (packed : Bool) (o : Option Index) (width : ℕ) (ls : BySection ℕ) (x home at size : ℕ) (r : Result Contributions Refusal) where
+  pub given_none : None ≡ found o → GivenIs (whole_given packed ls) r → GivenIs (contributions_by packed o width ls x home at size) r
   unfolding contributions_by
-  given_at packed t head width w ls x home at size r e p q c k =
-      rw (index_well head e).1
-      (subst (λ (l : List ℕ). GivenIs (row_contributions (index_in big l head) width ls x home at size) r) p
-      (subst (λ (n : ℕ). GivenIs (row_contributions (index_in big t head) n ls x home at size) r) q (given_row (index_in big t head) w ls x home at size r c k)))
+  given_none e k = rw (← found_none o e) k
 
--- whether there is one, and whether the object is a package
-pub there_yes : (y : Indexed) (h : IndexHead) → y ≡ At h → true ≡ is_there y
-unfolding is_there
-there_yes y h e = rw e
-
-pub there_no : (y : Indexed) → y ≡ Nowhere → false ≡ is_there y
-unfolding is_there
-there_no y e = rw e
-
-module _ (x : InputObject) where
-  pub package_cu : x.encoding.five ≡ true → true ≡ is_there x.cu → true ≡ packed_by x
-  unfolding packed_by
-  package_cu f h = rw (packed_by, f, ← h)
-
-  pub package_tu : x.encoding.five ≡ true → false ≡ is_there x.cu → (r : Bool) → r ≡ is_there x.tu → r ≡ packed_by x
-  unfolding packed_by
-  package_tu f h r e = rw (packed_by, f, ← h, e)
-
-  pub package_four : x.encoding.five ≡ false → false ≡ packed_by x
-  unfolding packed_by
-  package_four f = rw (packed_by, f)
+  pub given_some : (i : Index) → Some i ≡ found o → Answers r (row_contributions i width ls x home at size) → GivenIs (contributions_by packed o width ls x home at size) r
+  unfolding contributions_by
+  given_some i e k = rw (← found_some i o e) (answers_given (row_contributions i width ls x home at size) r k)
 
 -- without an index
-pub whole_fifteen : (packed : Bool) (ls : BySection ℕ) (r : RowJudged) → packed ≡ true → r.code ≡ 15 → GivenIs (whole_given packed ls) r
-unfolding GivenIs whole_given require ◌>>=◌
-whole_fifteen packed ls r e c = rw e (c, omega arith)
+pub whole_fifteen : (packed : Bool) (ls : BySection ℕ) → packed ≡ true → GivenIs (whole_given packed ls) (Err NoRow)
+unfolding whole_given require ◌>>=◌
+whole_fifteen packed ls e = rw e (tells_refuse NoRow refl)
 
-pub whole_passes : (packed : Bool) (ls : BySection ℕ) (r : RowJudged) → packed ≡ false → r.code ≡ 0 → ContributionsAre r.contributions (whole_contributions ls) → GivenIs (whole_given packed ls) r
-unfolding GivenIs whole_given require ◌>>=◌
-whole_passes packed ls r e c k = rw e (c, k)
+pub whole_passes : (packed : Bool) (ls : BySection ℕ) (k : Contributions) → packed ≡ false → ContributionsAre k (whole_contributions ls) → GivenIs (whole_given packed ls) (Ok k)
+unfolding whole_given require ◌>>=◌
+whole_passes packed ls k e h = rw e (tells_pass k (whole_contributions ls) refl h)
 
 -- ---- only shared codes count
 among : (c : ℕ) (xs : List ℕ) → all (λ d. ltb d 14) xs ≡ true → has xs c ≡ true → c < 14
@@ -208,24 +163,24 @@ module _ (b : List ℕ) (x : InputObject) (i : Input) (is : InputIs b x i) where
   unfolding by_code lengths section_of
   lengths_are c h = sym (ap length (is.bytes c h) ∙ length_part b (get_or x.start c 0) (get_or x.size c 0) (is.within c))
 
-  there_is : (s : List ℕ) (indexed : Indexed) (o : Option Index) → IndexedIs x.encoding.big s indexed o → is_there indexed ≡ is_some o
-  unfolding IndexedIs is_there is_some
-  there_is s (At h) (some y) k = refl
-  there_is s (At h) none k = absurd k
-  there_is s Nowhere (some y) k = absurd k
-  there_is s Nowhere none k = refl
+  there_is : (s : List ℕ) (indexed : Indexed) (o : Option Index) → IndexedIs x.encoding.big s indexed o → code_some indexed ≡ is_some o
+  unfolding IndexedIs is_some
+  there_is s (Some h) (some y) k = refl
+  there_is s (Some h) none k = absurd k
+  there_is s None (some y) k = absurd k
+  there_is s None none k = refl
 
   pub packed_is : packed_by x ≡ is_package i
   unfolding packed_by is_package is_five encoding_is
   packed_is =
-      ap (λ (t : Bool). t && (is_there x.cu || is_there x.tu)) (five_is x.encoding i.encoding is.encoding)
+      ap (λ (t : Bool). t && (code_some x.cu || code_some x.tu)) (five_is x.encoding i.encoding is.encoding)
       ∙ ap₂ (λ (c t : Bool). eqb i.encoding.version 5 && (c || t)) (there_is _ x.cu i.cu_index is.cu_index) (there_is _ x.tu i.tu_index is.tu_index)
 
-  module _ (table identity home at size : ℕ) (r : RowJudged) where
+  module _ (table identity home at size : ℕ) (r : Result Contributions Refusal) where
     whole_width : (t : Bool) → GivenIs (whole_given t (by_code x.size)) r → GivenIs (whole_given t (lengths i)) r
-    unfolding whole_given GivenIs require ◌>>=◌
+    unfolding whole_given require ◌>>=◌
     whole_width true a = a
-    whole_width false a = (a.0, same_held r.contributions (whole_contributions (by_code x.size)) (whole_contributions (lengths i)) (whole_same (by_code x.size) (lengths i) lengths_are) a.1)
+    whole_width false a = tells_value (λ k h. same_held k (whole_contributions (by_code x.size)) (whole_contributions (lengths i)) (whole_same (by_code x.size) (lengths i) lengths_are) h) a
 
     given_width : (o : Option Index) → index_for i table ≡ o
         → GivenIs (contributions_by (packed_by x) o (encoding_is x.encoding).width (by_code x.size) identity home at size) r

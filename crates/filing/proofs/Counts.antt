@@ -7,6 +7,8 @@ use Prim.Native.Nat.{ℕ, zero, suc, ◌<◌, ◌≤◌}
 use native.Mathlib.Omega.{arith}
 use lib.Dec.{leb, ltb}
 use lib.ListN.{get_or}
+use Rattle.std.specs.List.{list_all}
+use Rattle.std.proofs.lemmas.Bool.Decides.{nat_tests}
 use borrow.Author.Tests.{ltb-true, le-leb}
 use Rattle.octets.specs.Lists.{all}
 use Rattle.octets.proofs.Lists.{all_head, all_tail}
@@ -17,65 +19,14 @@ use Rattle.bundle.specs.declared.encoding.ObjectEncoding.{ObjectEncoding}
 use Rattle.package.specs.Input.{present, repeated, wrong_codes, only_once, beside_info, edition_good, complete}
 use Rattle.filing.specs.Counted.{wrong_for, edition_by, complete_by}
 
--- a list of small numbers has no large one at any place
-pub all_below : (xs : List ℕ) → all (λ c. ltb c 14) xs ≡ true → (i : ℕ) → get_or xs i 0 < 14
-all_below [] h i = omega arith
-all_below (x ∷ xs) h zero = ltb-true x 14 (all_head (λ c. ltb c 14) x xs h)
-all_below (x ∷ xs) h (suc i) = all_below xs (all_tail (λ c. ltb c 14) x xs h) i
+-- what the library says of each code of a list is what the definition says
+not_below : (n x : ℕ) → ltb x n ≡ not (leb n x)
+not_below n x = grind (arith, nat_tests)
 
--- ---- an index beside info
-module _ (five : Bool) (cu tu : ℕ) where
-  pub beside_cu : 1 ≤ cu → leb 1 cu ≡ (leb 1 cu || (five && leb 1 tu))
-  beside_cu h = rw (le-leb 1 cu h)
-
-  pub beside_tu : cu < 1 → five ≡ true → leb 1 tu ≡ (leb 1 cu || (five && leb 1 tu))
-  beside_tu h f = let z : cu ≡ 0 = omega arith in rw (z, f)
-
-  pub beside_none : cu < 1 → five ≡ false → leb 1 0 ≡ (leb 1 cu || (five && leb 1 tu))
-  beside_none h f = let z : cu ≡ 0 = omega arith in rw (z, f)
-
-  pub packed_cu : five ≡ true → 1 ≤ cu → true ≡ (five && (leb 1 cu || leb 1 tu))
-  packed_cu f h = rw (f, le-leb 1 cu h)
-
-  pub packed_tu : five ≡ true → cu < 1 → leb 1 tu ≡ (five && (leb 1 cu || leb 1 tu))
-  packed_tu f h = let z : cu ≡ 0 = omega arith in rw (f, z)
-
-  pub packed_four : five ≡ false → false ≡ (five && (leb 1 cu || leb 1 tu))
-  packed_four f = rw f
-
--- ---- four tests in a row
-module _ (five : Bool) (counts : List ℕ) where
-  abbrev right : Bool
-  right = all (λ c. not (leb 1 (get_or counts c 0))) (wrong_for five)
-
-  abbrev once : Bool
-  once = all (λ c. not (leb 2 (get_or counts c 0))) only_once
-
-  abbrev beside : Bool
-  beside = (leb 1 (get_or counts 12 0) || (five && leb 1 (get_or counts 13 0))) && leb 2 (get_or counts 1 0)
-
-  abbrev beside_types : Bool
-  beside_types = leb 1 (get_or counts 13 0) && leb 2 (get_or counts 2 0)
-
-  pub wrong_edition : right ≡ false → false ≡ edition_by five counts
-  unfolding edition_by
-  wrong_edition e = rw (edition_by, e)
-
-  pub second_one : right ≡ true → once ≡ false → false ≡ edition_by five counts
-  unfolding edition_by
-  second_one e f = rw (edition_by, e, f)
-
-  pub second_info : right ≡ true → once ≡ true → beside ≡ true → false ≡ edition_by five counts
-  unfolding edition_by
-  second_info e f g = rw (edition_by, e, f, g)
-
-  pub second_types : right ≡ true → once ≡ true → beside ≡ false → beside_types ≡ true → false ≡ edition_by five counts
-  unfolding edition_by
-  second_types e f g h = rw (edition_by, e, f, g, h)
-
-  pub good_edition : right ≡ true → once ≡ true → beside ≡ false → beside_types ≡ false → true ≡ edition_by five counts
-  unfolding edition_by
-  good_edition e f g h = rw (edition_by, e, f, g, h)
+pub none_listed : (counts : List ℕ) (least : ℕ) (cs : List ℕ) → list_all (λ c. ltb (get_or counts c 0) least) cs ≡ all (λ c. not (leb least (get_or counts c 0))) cs
+unfolding all
+none_listed counts least [] = refl
+none_listed counts least (c ∷ cs) = rw (not_below least (get_or counts c 0), none_listed counts least cs) (grind (arith, nat_tests))
 
 -- ---- the definitions
 wrong_is : (e : ObjectEncoding) (f : Bool) → e.five ≡ f → wrong_for f ≡ wrong_codes (encoding_is e)

@@ -8,13 +8,12 @@ use native.Mathlib.Omega.{arith}
 use lib.ListN.{length}
 use Rattle.octets.specs.Octets.{part}
 use Rattle.octets.specs.Checked.{Check, pass, refuse, ◌>>=◌}
-use Rattle.octets.proofs.Checks.{then_pass, then_refuse, bind_pass, bind_refuse, pass_inj, pass_refuse}
+use Rattle.octets.proofs.Checks.{then_pass, then_refuse, bind_pass, bind_refuse, pass_inj, pass_refuse, refuse_inj}
 use Rattle.octets.proofs.Parts.{part_add, part_none, length_part}
 use Rattle.bundle.specs.Encoding.{Encoding}
 use Rattle.strings.specs.Strings.{entries_in, entries_of, strings_at}
 use Rattle.strings.specs.Headed.{Headed, strings_of_all}
 use Rattle.strings.proofs.StrOffsets.{entries_whole, entries_refused}
-use Rattle.strings.proofs.Ends.{strings_at_refused}
 use Rattle.index.specs.Index.{Contribution}
 use Rattle.index.proofs.Tiles.{Tiling, tiling_end, part_of}
 use Rattle.places.specs.Marks.{good_end}
@@ -46,7 +45,7 @@ module _ (e : Encoding) (str s : List ℕ) where
   -- ---- what 8 and 9 answer
   pub record Judged (ts : List Contribution) : Type 0 where
     -- a string of a part before it is missing: 9
-    pub missing : (n : ℕ) → strings_of_all e str (map (part_of s) (good_parts ts)) ≡ refuse n → pieces_of e str s ts ≡ refuse 9
+    pub missing : (n : ℕ) → strings_of_all e str (map (part_of s) (good_parts ts)) ≡ refuse n → pieces_of e str s ts ≡ refuse n
     -- none is: 8 where a part is ill formed, else all strings
     pub ill : (used : List (List ℕ)) → strings_of_all e str (map (part_of s) (good_parts ts)) ≡ pass used → length (good_parts ts) < length ts → pieces_of e str s ts ≡ refuse 8
     pub all : (used : List (List ℕ)) → strings_of_all e str (map (part_of s) (good_parts ts)) ≡ pass used → length (good_parts ts) ≡ length ts
@@ -57,11 +56,11 @@ module _ (e : Encoding) (str s : List ℕ) where
   unfolding piece_of
   piece_ill p n q = then_refuse _ _ 8 (q ∙ ap refuse (entries_refused e p n q))
 
-  piece_missing : (p ns : List ℕ) (n : ℕ) → entries_of e p ≡ pass ns → strings_at str (entries_in e p) ≡ refuse n → piece_of e str p ≡ refuse 9
+  piece_missing : (p ns : List ℕ) (n : ℕ) → entries_of e p ≡ pass ns → strings_at str (entries_in e p) ≡ refuse n → piece_of e str p ≡ refuse n
   unfolding piece_of
   piece_missing p ns n q z =
       let is = (entries_whole e p ns q).1 in
-      then_pass _ _ ns q ∙ then_refuse _ _ 9 (ap (strings_at str) is ∙ z ∙ ap refuse (strings_at_refused str (entries_in e p) n z))
+      then_pass _ _ ns q ∙ then_refuse _ _ n (ap (strings_at str) is ∙ z)
 
   piece_good : (p ns : List ℕ) (us : List (List ℕ)) → entries_of e p ≡ pass ns → strings_at str (entries_in e p) ≡ pass us → piece_of e str p ≡ pass (record { bytes = p; used = us })
   unfolding piece_of
@@ -97,7 +96,7 @@ module _ (e : Encoding) (str s : List ℕ) where
   missing_here t ts ns n q z =
       let are : strings_of_all e str (map (part_of s) (good_parts (t ∷ ts))) ≡ refuse n = ap (λ (l : List Contribution). strings_of_all e str (map (part_of s) l)) (good_cons t ts ns q) ∙ then_refuse _ _ n z in
       record {
-        missing = λ m y. pieces_stop t ts 9 (piece_missing (part_of s t) ns n q z);
+        missing = λ m y. (let k : n ≡ m = refuse_inj (sym are ∙ y) in rw (← k) (pieces_stop t ts n (piece_missing (part_of s t) ns n q z)));
         ill = λ used y l. absurd (pass_refuse used n (sym y ∙ are));
         all = λ used y l. absurd (pass_refuse used n (sym y ∙ are));
       }
@@ -114,7 +113,7 @@ module _ (e : Encoding) (str s : List ℕ) where
       ap (λ (l : List Contribution). strings_of_all e str (map (part_of s) l)) cons ∙ then_pass _ _ us z in
       record {
         missing = λ n y. ⊎_elim
-            (λ w. pieces_later t ts p 9 own (j.missing n w))
+            (λ w. pieces_later t ts p n own (j.missing n w))
             (λ w. absurd (pass_refuse (us ++ w.0) n w.2))
             (bind_refuse (strings_of_all e str (map (part_of s) g)) _ n (sym are ∙ y));
         ill = λ used y l. let w = bind_pass (strings_of_all e str (map (part_of s) g)) _ used (sym are ∙ y) in pieces_later t ts p 8 own (j.ill w.0 w.1 (omega (arith, l, ap length cons)));

@@ -1,7 +1,7 @@
 -- What the answers of the checks of one object say together: `input_of`.
 -- Assumes nothing.
 use mathlib.Core.Path.{◌≡◌, refl, sym, ap, ap₂, ◌∙◌}
-use mathlib.Core.Logic.{◌⊎◌, inl, inr, ⊎_elim}
+use mathlib.Core.Logic.{⊎_elim}
 use mathlib.Core.Bool.{Bool, true, false, ◌&&◌, ◌||◌}
 use mathlib.Core.List.{List}
 use mathlib.Core.Option.{Option}
@@ -10,7 +10,6 @@ use native.Mathlib.Omega.{arith}
 use lib.Dec.{leb}
 use lib.ListN.{length, get_or}
 use borrow.Author.Tests.{leb-true, leb-false}
-use Rattle.octets.specs.Checked.{Check, pass, refuse}
 use Rattle.octets.proofs.Checks.{known, and_left}
 use Rattle.bundle.specs.Bundle.{Part, body}
 use Rattle.bundle.specs.Encoding.{Encoding}
@@ -29,12 +28,9 @@ use Rattle.index.specs.Index.{Index}
 use Rattle.kept.proofs.Moved.{get_d_past}
 use Rattle.package.specs.Input.{Input, present, form_of, is_packed}
 use Rattle.filing.proofs.Entering.{five_is}
-use Rattle.filing.specs.Judged.{index_check, JudgedIs, JudgedIndexIs, InputIs, IndexedIs, section_of}
-use Rattle.filing.specs.declared.input.Judged.{Judged}
-use Rattle.filing.specs.declared.input.JudgedIndex.{JudgedIndex}
-use Rattle.filing.specs.declared.input.Indexed.{Indexed}
-use Rattle.filing.specs.declared.objects.IndexesJudged.{IndexesJudged}
-use Rattle.filing.specs.ByObject.{strings_check, StringsRoom, scanned, scanned_index, IndexesAre, ScanInside, InputRoom}
+use Rattle.filing.specs.Judged.{index_check, InputIs, section_of}
+use Rattle.filing.specs.declared.input.InputObject.{InputObject}
+use Rattle.filing.specs.ByObject.{strings_check, StringsRoom, scanned, scanned_index, IndexedObject, ScanInside, InputRoom}
 
 -- ---- a package of version 5, by how many indexes there are
 pub packed_five : (five : Bool) (x y : Bool) → true ≡ (five && (x || y)) → five ≡ true
@@ -47,45 +43,6 @@ packed_from scan at ps is e t q =
     ap₂ (λ (v s : Bool). v && s) (sym (five_is e (encoding_is e) refl))
     (ap₂ (λ (c d : Bool). c || d) (ap (leb 1) (sym (scan_count scan at ps is 12 (omega arith)))) (ap (leb 1) (sym (scan_count scan at ps is 13 (omega arith)))))
     ∙ q
-
--- ---- one answer
-pub judged_passed : (m : Check Encoding) (r : Judged) → JudgedIs m r → r.code ≡ 0 → m ≡ pass (encoding_is r.encoding)
-unfolding JudgedIs
-judged_passed (pass e) r j z = ap pass (sym j.1)
-judged_passed (refuse n) r j z = absurd (omega (arith, j.0, j.1))
-
-pub judged_refused : (m : Check Encoding) (r : Judged) → JudgedIs m r → (r.code ≡ 0 → ⊥) → m ≡ refuse r.code
-unfolding JudgedIs
-judged_refused (pass e) r j z = absurd (z j.0)
-judged_refused (refuse n) r j z = ap refuse (sym j.0)
-
--- ---- both indexes
-module _ (big : Bool) (cs ts : List ℕ) where
-  pub indexes_first : (m w : Check (Option Index)) (cu : JudgedIndex) → JudgedIndexIs big cs m cu → (cu.code ≡ 0 → ⊥) → (r : IndexesJudged) → r.code ≡ cu.code → IndexesAre big cs ts m w r
-  unfolding JudgedIndexIs IndexesAre
-  indexes_first (pass o) w cu j z r q = absurd (z j.0)
-  indexes_first (refuse n) w cu j z r q = (q ∙ j.0, j.1)
-
-  pub indexes_both : (m w : Check (Option Index)) (cu : JudgedIndex) → JudgedIndexIs big cs m cu → cu.code ≡ 0 → (tu : JudgedIndex) → JudgedIndexIs big ts w tu
-      → IndexesAre big cs ts m w (record { code = tu.code; cu = cu.index; tu = tu.index })
-  unfolding JudgedIndexIs IndexesAre
-  indexes_both (pass c) (pass t) cu j z tu k = (k.0, j.1, k.1)
-  indexes_both (pass c) (refuse n) cu j z tu k = k
-  indexes_both (refuse n) w cu j z tu k = absurd (omega (arith, j.0, j.1))
-
-  pub indexes_refused : (m w : Check (Option Index)) (r : IndexesJudged) → IndexesAre big cs ts m w r → (r.code ≡ 0 → ⊥)
-      → (m ≡ refuse r.code) ⊎ ((c : Option Index) × (m ≡ pass c) × (w ≡ refuse r.code))
-  unfolding IndexesAre
-  indexes_refused (pass c) (pass t) r a z = absurd (z a.0)
-  indexes_refused (pass c) (refuse n) r a z = inr (c, refl, ap refuse (sym a.0))
-  indexes_refused (refuse n) w r a z = inl (ap refuse (sym a.0))
-
-  pub indexes_passed : (m w : Check (Option Index)) (r : IndexesJudged) → IndexesAre big cs ts m w r → r.code ≡ 0
-      → (c t : Option Index) × (m ≡ pass c) × (w ≡ pass t) × IndexedIs big cs r.cu c × IndexedIs big ts r.tu t
-  unfolding IndexesAre
-  indexes_passed (pass c) (pass t) r a z = (c, t, refl, refl, a.1, a.2)
-  indexes_passed (pass c) (refuse n) r a z = absurd (omega (arith, a.0, a.1))
-  indexes_passed (refuse n) w r a z = absurd (omega (arith, a.0, a.1))
 
 -- ---- what code reads of a scan
 module _ (b : List ℕ) (scan : Scan) (at : ℕ) (ps : List Part) (is : scan ≡ scan_of at ps) where
@@ -133,14 +90,13 @@ module _ (b : List ℕ) (scan : Scan) (at : ℕ) (ps : List Part) (is : scan ≡
       fits = omega (arith, room.fits, entries_few (encoding_is e) (bytes_at b (place_of 6)) (sound e), length_part b (get_or scan.start 6 0) (get_or scan.size 6 0) (scan_within 6), scan_size scan at ps is 6 (omega arith));
     }
 
-    pub input_is : (e : ObjectEncoding) (cu tu : Indexed) (ci ti : Option Index) (i : Input) → i ≡ record { encoding = encoding_is e; bytes = body b ps; units = i.units; pieces = i.pieces; cu_index = ci; tu_index = ti }
-        → IndexedIs e.big (scanned b scan 12) cu ci → IndexedIs e.big (scanned b scan 13) tu ti
-        → InputIs b (record { encoding = e; start = scan.start; size = scan.size; cu = cu; tu = tu }) i
+    pub input_is : (e : ObjectEncoding) (x : InputObject) (cu tu : Option Index) → IndexedObject b e scan x (cu, tu) → (i : Input)
+        → i ≡ record { encoding = encoding_is e; bytes = body b ps; units = i.units; pieces = i.pieces; cu_index = cu; tu_index = tu } → InputIs b x i
     unfolding section_of scanned
-    input_is e cu tu ci ti i q x y = rw q (record {
+    input_is e x cu tu h i q = rw (h.whole, q) (record {
       encoding = refl;
-      bytes = λ c h. sym (scan_body scan at ps is c h b);
+      bytes = λ c l. sym (scan_body scan at ps is c l b);
       within = scan_within;
-      cu_index = x;
-      tu_index = y;
+      cu_index = h.cu;
+      tu_index = h.tu;
     })

@@ -7,14 +7,14 @@ use mathlib.Core.Option.{Option}
 use Prim.Native.Nat.{ℕ}
 use lib.Dec.{eqb}
 use Rattle.octets.specs.Checked.{Check, pass, refuse, ◌>>=◌, require}
-use Rattle.octets.proofs.Checks.{then_pass, then_refuse}
+use Rattle.octets.proofs.Checks.{then_pass}
 use Rattle.bundle.specs.Bundle.{Part, Object, body}
 use Rattle.bundle.specs.Encoding.{Encoding, encoding_of, encoding_good}
 use Rattle.strings.specs.Strings.{entries_of, strings_at}
 use Rattle.index.specs.Index.{Index}
 use Rattle.index.specs.Rows.{BySection}
 use Rattle.package.specs.Pieces.{Piece, piece_of, used_in}
-use Rattle.package.specs.Input.{present, edition_good, complete, form_of, input_index, whole_pieces, is_packed, tiled_pieces, opened_whole, opened_tiled, opened, input_of}
+use Rattle.package.specs.Input.{present, edition_good, complete, form_of, input_index, whole_pieces, is_packed, tiled_pieces, Opened, opened_whole, opened_tiled, opened, input_of}
 use Rattle.filing.specs.Judged.{object_check, index_check}
 use Rattle.filing.specs.ByObject.{strings_check, input_given}
 
@@ -27,19 +27,18 @@ four_tests true true false v a f = refl
 four_tests true true true false a f = refl
 four_tests true true true true a f = refl
 
-module _ (b : List ℕ) (big : Bool) (first : ℕ) (o : Object) where
-  input_checks : input_of b big first o
-      ≡ (object_check big first o.word o.parts >>= λ e. input_given b e o.parts (opened e o.parts (body b o.parts)))
-  unfolding input_of object_check input_given
-  input_checks = sym (four_tests (encoding_good (encoding_of big o.word)) (eqb o.word first) (edition_good (encoding_of big o.word) o.parts) (complete o.parts) (encoding_of big o.word) _)
-
-  pub object_refused : (m : ℕ) → object_check big first o.word o.parts ≡ refuse m → input_of b big first o ≡ refuse m
-  object_refused m q = input_checks ∙ then_refuse _ _ m q
-
-  pub object_given : (e : Encoding) → object_check big first o.word o.parts ≡ pass e → input_of b big first o ≡ input_given b e o.parts (opened e o.parts (body b o.parts))
-  object_given e q = input_checks ∙ then_pass _ _ e q
+pub input_checks : (b : List ℕ) (big : Bool) (first : ℕ) (o : Object) → input_of b big first o
+    ≡ (object_check big first o.word o.parts >>= λ e. input_given b e o.parts (opened e o.parts (body b o.parts)))
+unfolding input_of object_check input_given
+input_checks b big first o = sym (four_tests (encoding_good (encoding_of big o.word)) (eqb o.word first) (edition_good (encoding_of big o.word) o.parts) (complete o.parts) (encoding_of big o.word) _)
 
 -- ---- either order
+two_steps : {A B C : Type 0} (m : Check A) (w : Check B) (f : A × B → Check C) → ((m >>= λ a. (w >>= λ b. pass (a, b))) >>= f) ≡ (m >>= λ a. (w >>= λ b. f (a, b)))
+unfolding ◌>>=◌
+two_steps (pass a) (pass b) f = refl
+two_steps (pass a) (refuse n) f = refl
+two_steps (refuse n) w f = refl
+
 module _ (e : Encoding) (ps : List Part) (bytes : BySection (List ℕ)) where
   pub packed_tiled : is_packed e ps ≡ true → opened e ps bytes ≡ opened_tiled e ps bytes
   unfolding opened
@@ -49,43 +48,19 @@ module _ (e : Encoding) (ps : List Part) (bytes : BySection (List ℕ)) where
   unfolding opened
   packed_whole z = rw (opened, z)
 
+  -- both indexes, the first refusal first
+  abbrev pub indexes : Check (Option Index × Option Index)
+  indexes = input_index e ps bytes 12 >>= λ cu. (input_index e ps bytes 13 >>= λ tu. pass (cu, tu))
+
   -- 8, 9, 10
-  pub whole_strings : (m : ℕ) → whole_pieces e ps bytes ≡ refuse m → opened_whole e ps bytes ≡ refuse m
+  pub whole_steps : opened_whole e ps bytes ≡ (whole_pieces e ps bytes >>= λ q. (indexes >>= λ p. pass (record { pieces = q; cu_index = p.0; tu_index = p.1 })))
   unfolding opened_whole
-  whole_strings m q = then_refuse _ _ m q
-
-  module _ (pieces : List Piece) (put : whole_pieces e ps bytes ≡ pass pieces) where
-    pub whole_cu : (m : ℕ) → input_index e ps bytes 12 ≡ refuse m → opened_whole e ps bytes ≡ refuse m
-    unfolding opened_whole
-    whole_cu m q = then_pass _ _ pieces put ∙ then_refuse _ _ m q
-
-    module _ (cu : Option Index) (first_read : input_index e ps bytes 12 ≡ pass cu) where
-      pub whole_tu : (m : ℕ) → input_index e ps bytes 13 ≡ refuse m → opened_whole e ps bytes ≡ refuse m
-      unfolding opened_whole
-      whole_tu m q = then_pass _ _ pieces put ∙ then_pass _ _ cu first_read ∙ then_refuse _ _ m q
-
-      pub whole_passed : (tu : Option Index) → input_index e ps bytes 13 ≡ pass tu → opened_whole e ps bytes ≡ pass (record { pieces = pieces; cu_index = cu; tu_index = tu })
-      unfolding opened_whole
-      whole_passed tu q = then_pass _ _ pieces put ∙ then_pass _ _ cu first_read ∙ then_pass _ _ tu q
+  whole_steps = ap (λ (f : List Piece → Check Opened). whole_pieces e ps bytes >>= f) (λ i q. sym (two_steps (input_index e ps bytes 12) (input_index e ps bytes 13) (λ p. pass (record { pieces = q; cu_index = p.0; tu_index = p.1 }))) i)
 
   -- 10, 34, 8, 9
-  pub tiled_cu : (m : ℕ) → input_index e ps bytes 12 ≡ refuse m → opened_tiled e ps bytes ≡ refuse m
+  pub tiled_steps : opened_tiled e ps bytes ≡ (indexes >>= λ p. (tiled_pieces e bytes p.0 p.1 >>= λ q. pass (record { pieces = q; cu_index = p.0; tu_index = p.1 })))
   unfolding opened_tiled
-  tiled_cu m q = then_refuse _ _ m q
-
-  module _ (cu : Option Index) (first_read : input_index e ps bytes 12 ≡ pass cu) where
-    pub tiled_tu : (m : ℕ) → input_index e ps bytes 13 ≡ refuse m → opened_tiled e ps bytes ≡ refuse m
-    unfolding opened_tiled
-    tiled_tu m q = then_pass _ _ cu first_read ∙ then_refuse _ _ m q
-
-    module _ (tu : Option Index) (second-read : input_index e ps bytes 13 ≡ pass tu) where
-      pub tiled_pieces_law : (m : ℕ) → tiled_pieces e bytes cu tu ≡ refuse m → opened_tiled e ps bytes ≡ refuse m
-      unfolding opened_tiled
-      tiled_pieces_law m q = then_pass _ _ cu first_read ∙ then_pass _ _ tu second-read ∙ then_refuse _ _ m q
-
-      pub tiled_passed : (pieces : List Piece) → tiled_pieces e bytes cu tu ≡ pass pieces → opened_tiled e ps bytes ≡ pass (record { pieces = pieces; cu_index = cu; tu_index = tu })
-      unfolding opened_tiled
-      tiled_passed pieces q = then_pass _ _ cu first_read ∙ then_pass _ _ tu second-read ∙ then_pass _ _ pieces q
+  tiled_steps = sym (two_steps (input_index e ps bytes 12) (input_index e ps bytes 13) (λ p. tiled_pieces e bytes p.0 p.1 >>= λ q. pass (record { pieces = q; cu_index = p.0; tu_index = p.1 })))
 
   -- 10, as code judges it
   pub index_is : (c : ℕ) → index_check e.big (form_of e) (present ps c) (bytes c) ≡ input_index e ps bytes c

@@ -11,7 +11,10 @@ use borrow.Author.Tests.{eqb-true}
 use lib.Dec.{eqb}
 use lib.ListN.{length, drop}
 use Rattle.octets.specs.Octets.{part}
-use Rattle.octets.specs.Checked.{Check, pass, refuse}
+use Rattle.std.specs.Prelude.{Result, Ok, Err}
+use Rattle.numbers.specs.Refused.{number_of}
+use Rattle.numbers.specs.declared.refusals.Refusal.{Refusal}
+use Rattle.octets.specs.Checked.{Check, pass}
 use Rattle.octets.proofs.Checks.{or_cases}
 use Rattle.bundle.specs.Bundle.{Part, Item, items, leading}
 use Rattle.bundle.specs.Scan.{Reaches, sections_of, place_behind, holds_units, unit_parts, unit_section_of}
@@ -23,13 +26,13 @@ use Rattle.bundle.proofs.Onward.{Onward, onward, onward_same}
 use Rattle.index.specs.Rows.{BySection}
 use Rattle.package.specs.Input.{Input, unit_sections}
 use Rattle.package.specs.Filing.{Filed, units_from, units_in}
-use Rattle.package.proofs.NumberedWalks.{units_numbered, section_none, section_filed, section_refused}
+use Rattle.package.proofs.NumberedWalks.{section_none, section_filed, section_refused}
 use Rattle.filing.specs.declared.input.InputObject.{InputObject}
 use Rattle.kept.specs.State.{Held}
 use Rattle.kept.specs.declared.state.InProgress.{InProgress}
-use Rattle.filing.specs.declared.units.UnitsFiled.{UnitsFiled}
 use Rattle.filing.specs.State.{words_in, StringsKept}
 use Rattle.filing.specs.Answers.{AtUnit, UnitsAre}
+use Rattle.filing.proofs.Telling.{tells_pass, tells_refuse, tells_same}
 use Rattle.filing.proofs.Walking.{kept_none, kept_more}
 
 -- what is held up to a place is held up to a later one
@@ -109,15 +112,14 @@ module _ {b : List ℕ} {x : InputObject} {from at : ℕ} {w₀ w : List ℕ} {s
 
   -- at the end of the object
   pub sectioned_end : none ≡ unit_section_of (all_from b at) → (i : Input) (bases : BySection ℕ) (earlier here : List Filed) → AtUnit b x i from w₀ st₀ bases earlier here
-      → UnitsAre b x i (place_behind from (all_from b from)) w₀ w st₀ bases earlier (units_in i bases earlier here (unit_sections b (all_from b from))) (record { code = 0; st = st })
-  unfolding UnitsAre
+      → UnitsAre b x i (place_behind from (all_from b from)) w₀ w st₀ st bases earlier (units_in i bases earlier here (unit_sections b (all_from b from))) (Ok tt)
   sectioned_end e i bases earlier here a =
       let o = k.goes i bases earlier here a in
       let f = all_from_law b at k.ahead k.left in
       let none : unit_sections b (all_from b at) ≡ [] = sections_map b (all_from b at) ∙ ap (λ (ps : List Part). map (section_at b) (unit_parts ps)) f ∙ ap (map (section_at b)) (sym (units_done b at [] _ left_here e)) in
       let g : Onward b at (place_behind at (all_from b at)) = subst (λ (ps : List Part). Onward b at (place_behind at ps)) (sym f) (onward b at k.ahead k.left k.within) in
-      rw (sym o.is ∙ ap (units_in i bases earlier o.filed) none ∙ section_none i bases earlier o.filed)
-      (refl, at_later at _ o.at_unit (rw (← k.behind) g.further) (rw (← k.behind) g.within), o.kept)
+      tells_pass tt o.filed (sym o.is ∙ ap (units_in i bases earlier o.filed) none ∙ section_none i bases earlier o.filed)
+      (record { at_unit = at_later at _ o.at_unit (rw (← k.behind) g.further) (rw (← k.behind) g.within); strings = o.kept })
 
   -- one section more
   module _ (y : UnitsSection) (e : some y ≡ unit_section_of (all_from b at)) where
@@ -151,24 +153,25 @@ module _ {b : List ℕ} {x : InputObject} {from at : ℕ} {w₀ w : List ℕ} {s
         ∙ ap (λ (zs : List Section). record { code = y.code; bytes = part b y.start y.size } ∷ zs)
         (ap (λ (ps : List Part). map (section_at b) (unit_parts ps)) (sym (all_from_law b y.next h.ahead h.left)) ∙ sym (sections_map b (all_from b y.next)))
 
-    -- the answer of `add_units` for it
-    module _ (home stop : ℕ) (same_home : home ≡ y.code) (same_stop : stop ≡ y.start + y.size) (v : List ℕ) (r : UnitsFiled) (same : length v ≡ length w)
-        (added : (i : Input) (bases : BySection ℕ) (earlier here : List Filed) → AtUnit b x i y.start w st bases earlier here
-        → UnitsAre b x i stop w v st bases earlier (units_from (suc (length (part b y.start (stop - y.start)))) i bases earlier here home 0 (part b y.start (stop - y.start))) r) where
+    -- what `add_units` answers of it
+    module _ (home stop : ℕ) (same_home : home ≡ y.code) (same_stop : stop ≡ y.start + y.size) (v : List ℕ) (after : InProgress) (same : length v ≡ length w) where
+      abbrev pub Added : Result (Unit {0}) Refusal → Type 0
+      Added r =
+          (i : Input) (bases : BySection ℕ) (earlier here : List Filed) → AtUnit b x i y.start w st bases earlier here
+          → UnitsAre b x i stop w v st after bases earlier (units_from (suc (length (part b y.start (stop - y.start)))) i bases earlier here home 0 (part b y.start (stop - y.start))) r
+
       section_is : (i : Input) (bases : BySection ℕ) (earlier here : List Filed)
           → units_from (suc (length (part b y.start (stop - y.start)))) i bases earlier here home 0 (part b y.start (stop - y.start)) ≡ units_from (suc (length (part b y.start y.size))) i bases earlier here y.code 0 (part b y.start y.size)
       section_is i bases earlier here = let z : stop - y.start ≡ y.size = omega arith in rw (z, same_home)
 
       -- the walk of one section, from what is filed before it
-      answered : (i : Input) (bases : BySection ℕ) (earlier here : List Filed) → AtUnit b x i at w st bases earlier here
-          → UnitsAre b x i stop w v st bases earlier (units_from (suc (length (part b y.start y.size))) i bases earlier here y.code 0 (part b y.start y.size)) r
-      answered i bases earlier here a =
-          subst (λ (m : Check (List Filed)). UnitsAre b x i stop w v st bases earlier m r) (section_is i bases earlier here)
-          (added i bases earlier here (at_later at y.start a section_lies.low (let h = section_lies in omega (arith, h.inside, h.within))))
+      answered : (r : Result (Unit {0}) Refusal) → Added r → (i : Input) (bases : BySection ℕ) (earlier here : List Filed) → AtUnit b x i at w st bases earlier here
+          → UnitsAre b x i stop w v st after bases earlier (units_from (suc (length (part b y.start y.size))) i bases earlier here y.code 0 (part b y.start y.size)) r
+      answered r added i bases earlier here a =
+          tells_same (section_is i bases earlier here) (added i bases earlier here (at_later at y.start a section_lies.low (let h = section_lies in omega (arith, h.inside, h.within))))
 
-      pub sectioned_more : r.code ≡ 0 → Sectioned b x from y.next w₀ v st₀ r.st
-      unfolding UnitsAre
-      sectioned_more z =
+      pub sectioned_more : Added (Ok tt) → Sectioned b x from y.next w₀ v st₀ after
+      sectioned_more added =
           let h = found in
           record {
             same = same ∙ k.same;
@@ -180,31 +183,20 @@ module _ {b : List ℕ} {x : InputObject} {from at : ℕ} {w₀ w : List ℕ} {s
             goes = λ i bases earlier here a. on i bases earlier here (k.goes i bases earlier here a);
           }
         where
-          on : (i : Input) (bases : BySection ℕ) (earlier here : List Filed) → On b x from at w₀ w st₀ st i bases earlier here → On b x from y.next w₀ v st₀ r.st i bases earlier here
-          on i bases earlier here o = go _ refl (answered i bases earlier o.filed o.at_unit)
-            where
-              go : (m : Check (List Filed)) → units_from (suc (length (part b y.start y.size))) i bases earlier o.filed y.code 0 (part b y.start y.size) ≡ m → UnitsAre b x i stop w v st bases earlier m r
-                  → On b x from y.next w₀ v st₀ r.st i bases earlier here
-              go (pass us) q f =
-                  let l = section_lies in
-                  record {
-                    filed = us;
-                    at_unit = at_later stop y.next f.1 (omega (arith, l.inside)) l.within;
-                    kept = kept_more o.kept f.2;
-                    is = sym (ap (units_in i bases earlier o.filed) rest_is ∙ section_filed i bases earlier o.filed us _ _ q) ∙ o.is;
-                  }
-              go (refuse m) q f = absurd (let g = (units_numbered i bases earlier _ o.filed y.code 0 (part b y.start y.size)).is m q in let z : m ≡ 0 = sym f ∙ z in omega arith)
+          on : (i : Input) (bases : BySection ℕ) (earlier here : List Filed) → On b x from at w₀ w st₀ st i bases earlier here → On b x from y.next w₀ v st₀ after i bases earlier here
+          on i bases earlier here o =
+              let f = (answered (Ok tt) added i bases earlier o.filed o.at_unit).passes tt refl in
+              let l = section_lies in
+              record {
+                filed = f.0;
+                at_unit = at_later stop y.next f.2.at_unit (omega (arith, l.inside)) l.within;
+                kept = kept_more o.kept f.2.strings;
+                is = sym (ap (units_in i bases earlier o.filed) rest_is ∙ section_filed i bases earlier o.filed f.0 _ _ f.1) ∙ o.is;
+              }
 
-      pub sectioned_refused : (r.code ≡ 0 → ⊥) → (i : Input) (bases : BySection ℕ) (earlier here : List Filed) → AtUnit b x i from w₀ st₀ bases earlier here
-          → (u : UnitsFiled) → u.code ≡ r.code → UnitsAre b x i (place_behind from (all_from b from)) w₀ v st₀ bases earlier (units_in i bases earlier here (unit_sections b (all_from b from))) u
-      unfolding UnitsAre
-      sectioned_refused z i bases earlier here a u q = go _ refl (answered i bases earlier o.filed o.at_unit)
-        where
-          o : On b x from at w₀ w st₀ st i bases earlier here
-          o = k.goes i bases earlier here a
-
-          go : (m : Check (List Filed)) → units_from (suc (length (part b y.start y.size))) i bases earlier o.filed y.code 0 (part b y.start y.size) ≡ m → UnitsAre b x i stop w v st bases earlier m r
-              → UnitsAre b x i (place_behind from (all_from b from)) w₀ v st₀ bases earlier (units_in i bases earlier here (unit_sections b (all_from b from))) u
-          go (pass us) y f = absurd (z f.0)
-          go (refuse m) y f =
-              rw (sym o.is ∙ ap (units_in i bases earlier o.filed) rest_is ∙ section_refused i bases earlier o.filed _ _ m y) (q ∙ f)
+      pub sectioned_refused : (r : Refusal) → Added (Err r) → (i : Input) (bases : BySection ℕ) (earlier here : List Filed) → AtUnit b x i from w₀ st₀ bases earlier here
+          → UnitsAre b x i (place_behind from (all_from b from)) w₀ v st₀ after bases earlier (units_in i bases earlier here (unit_sections b (all_from b from))) (Err r)
+      sectioned_refused r added i bases earlier here a =
+          let o = k.goes i bases earlier here a in
+          tells_refuse r
+          (sym o.is ∙ ap (units_in i bases earlier o.filed) rest_is ∙ section_refused i bases earlier o.filed _ _ (number_of r) ((answered (Err r) added i bases earlier o.filed o.at_unit).refuses r refl))

@@ -6,7 +6,6 @@ use mathlib.Core.List.{List, [], ◌++◌, map, append-nil}
 use mathlib.Core.Option.{Option, some, none}
 use Prim.Native.Nat.{ℕ, ◌+◌, ◌*◌, ◌-◌, ◌/◌, ◌^◌, ◌<◌, ◌≤◌}
 use native.Mathlib.Omega.{arith}
-use Rattle.std.specs.Prelude.{Result, Ok, Err}
 use native.Mathlib.Decide.{dec_lt}
 use lib.ListN.{length, take, drop, get_or}
 use borrow.Rule.Slice.PartMut.{put_mid}
@@ -21,14 +20,10 @@ use Rattle.numbers.specs.Limits.{work_for_word}
 use Rattle.strings.specs.Kept.{Inside, bytes_at}
 use Rattle.strings.specs.Objects.{table_in}
 use Rattle.strings.specs.Headed.{Headed, HeadedOf, PiecesAddable, PiecesAdded}
-use Rattle.numbers.specs.Refused.{number_of}
-use Rattle.numbers.specs.declared.refusals.Refusal.{Refusal}
 use Rattle.strings.specs.declared.table.StrOffsets.{StrOffsets}
 use Rattle.strings.specs.declared.table.StringTable.{StringTable}
 use Rattle.index.specs.Index.{Index, Contribution}
-use Rattle.index.specs.Held.{index_in}
 use Rattle.index.specs.Tiles.{named, tiles}
-use Rattle.index.specs.declared.reading.IndexHead.{IndexHead}
 use Rattle.index.proofs.Tiles.{is_one, one_right, part_of, Tiles, tiles_facts, both_some}
 use Rattle.places.specs.Marks.{Marks, Clash, Marked, marks_good, TiledBy, good_end}
 use Rattle.places.proofs.Marking.{marks_none}
@@ -37,31 +32,30 @@ use Rattle.places.proofs.Parts.{tiles_marked}
 use Rattle.kept.specs.Regions.{strings_region, store_region}
 use Rattle.kept.proofs.Storing.{store_left}
 use Rattle.package.specs.Pieces.{used_in, pieces_of}
-use Rattle.filing.specs.declared.input.Indexed.{Indexed}
-use Rattle.filing.specs.declared.input.Indexed.TheVariants.{At, Nowhere}
-use Rattle.filing.specs.declared.parts.Parts.{Parts}
+use Rattle.filing.specs.Judged.{Indexed}
+use Rattle.std.specs.Prelude.{Some, None}
 use Rattle.filing.specs.declared.input.InputObject.{InputObject}
 use Rattle.filing.specs.Judged.{section_of, IndexedIs}
 use Rattle.filing.specs.State.{words_in}
 use Rattle.filing.specs.ByObject.{StringsAre}
+use Rattle.std.specs.Prelude.{Result, Ok, Err}
+use Rattle.octets.specs.Options.{found}
+use Rattle.bundle.proofs.Units.{found_some, found_none}
+use Rattle.numbers.specs.Refused.{number_of}
+use Rattle.numbers.specs.declared.refusals.Refusal.{Refusal}
+use Rattle.numbers.specs.declared.refusals.Refusal.TheVariants.{BadStrOffsets, BadParts}
+use Rattle.filing.proofs.Telling.{tells_pass, tells_refuse}
 use Rattle.filing.specs.Tiled.{PartsAsked, BothMarked, PartsAre, PartsAnswered, offsets_before, GoodUpTo}
-use Rattle.filing.proofs.Contributing.{index_well}
 use Rattle.filing.proofs.GoodParts.{good_parts, Judged, parts_judged, Ending, parts_ending}
 
 -- ---- the parts of one index
-module _ (big : Bool) (s : List ℕ) (indexed : Indexed) (o : Option Index) (is : IndexedIs big s indexed o) (cs : List Contribution) (ms : List ℕ) where
-  pub marked_none : Marks cs ms → indexed ≡ Nowhere → Marked (named o ++ cs) ms ms true
-  unfolding IndexedIs named
-  marked_none m e = go o (rw e at is)
-    where
-      go : (p : Option Index) → IndexedIs big s Nowhere p → Marked (named p ++ cs) ms ms true
-      go none h = record { good = λ _. m; bad = λ y. absurd (true_false refl y) }
-      go (some y) h = absurd h
+module _ (o : Option Index) (cs : List Contribution) (ms : List ℕ) where
+  pub marked_none : None ≡ found o → Marks cs ms → Marked (named o ++ cs) ms ms true
+  unfolding named
+  marked_none e m = rw (← found_none o e) (record { good = λ _. m; bad = λ y. absurd (true_false refl y) })
 
-  pub marked_at : (t : List ℕ) (head : IndexHead) (ns : List ℕ) (r : Bool) → indexed ≡ At head → t ≡ s → Marked (named (some (index_in big t head)) ++ cs) ms ns r → Marked (named o ++ cs) ms ns r
-  marked_at t head ns r e q k =
-      subst (λ (p : Option Index). Marked (named p ++ cs) ms ns r) (sym (index_well big s indexed o is head e).1)
-      (subst (λ (l : List ℕ). Marked (named (some (index_in big l head)) ++ cs) ms ns r) q k)
+  pub marked_some : (i : Index) → Some i ≡ found o → (ns : List ℕ) (r : Bool) → Marked (named (some i) ++ cs) ms ns r → Marked (named o ++ cs) ms ns r
+  marked_some i e ns r k = subst (λ (p : Option Index). Marked (named p ++ cs) ms ns r) (found_some i o e) k
 
 -- ---- of both; those of the second are marked first
 module _ (cs ds : List Contribution) (ms : List ℕ) where
@@ -87,14 +81,12 @@ module _ (cs ds : List Contribution) (ms : List ℕ) where
 -- ---- 34
 module _ (e : Encoding) (s : List ℕ) (cs : List Contribution) (some : (c : Contribution) → is_one cs c ≡ true → 1 ≤ c.size) (ms ns : List ℕ) (lm : length ms ≡ length s) (ln : length ns ≡ length ms)
     (r : Bool) (k : Marked cs ms ns r) where
-  pub parts_clash : r ≡ false → (p : Parts) → p.code ≡ 34 → PartsAre e s (tiles cs s) p
-  unfolding PartsAre
-  parts_clash q p c = rw (clash_refused cs s some (subst (Clash cs) lm (k.bad q))) (c, omega arith)
+  pub parts_clash : r ≡ false → PartsAre e s (tiles cs s) (Err BadParts)
+  parts_clash q = tells_refuse BadParts (clash_refused cs s some (subst (Clash cs) lm (k.bad q)))
 
   module _ (q : r ≡ true) where
-    pub parts_untiled : marks_good 0 ns ≡ false → (p : Parts) → p.code ≡ 34 → PartsAre e s (tiles cs s) p
-    unfolding PartsAre
-    parts_untiled g p c = rw (bad_refused cs ns (k.good q) s (ln ∙ lm) g) (c, omega arith)
+    pub parts_untiled : marks_good 0 ns ≡ false → PartsAre e s (tiles cs s) (Err BadParts)
+    parts_untiled g = tells_refuse BadParts (bad_refused cs ns (k.good q) s (ln ∙ lm) g)
 
     module _ (g : marks_good 0 ns ≡ true) where
       pub parts_tiled : (ts : List Contribution) × TiledBy ns ts
@@ -102,13 +94,12 @@ module _ (e : Encoding) (s : List ℕ) (cs : List Contribution) (some : (c : Con
           let t = good_tiles cs ns (k.good q) g in
           (t.0, tiles_marked cs ns (k.good q) t.0 t.1)
 
-      pub parts_good : (good : ℕ) → ((ts : List Contribution) → TiledBy ns ts → good ≡ good_end e s ts) → PartsAre e s (tiles cs s) (record { code = 0; good = good })
-      unfolding PartsAre
+      pub parts_good : (good : ℕ) → ((ts : List Contribution) → TiledBy ns ts → good ≡ good_end e s ts) → PartsAre e s (tiles cs s) (Ok good)
       parts_good good h =
           let m = k.good q in
           let t = good_pass cs ns m s (ln ∙ lm) g in
           let f = subst (λ (n : ℕ). Tiles cs m.some n t.0) (sym (ln ∙ lm)) (tiles_facts cs m.some s t.0 t.1) in
-          rw t.1 (refl, h t.0 (tiles_marked cs ns m t.0 f))
+          tells_pass good t.0 t.1 (h t.0 (tiles_marked cs ns m t.0 f))
 
 -- the same of an object, whose marks were cleared
 module _ (b : List ℕ) (x : InputObject) (a : PartsAsked b x) (n : ℕ) (size : n ≡ get_or x.size 6 0) (ms : List ℕ) (clear : ms ≡ zeros n) (ns : List ℕ) (r : Bool) (both : BothMarked b x ms ns r) where
@@ -119,12 +110,12 @@ module _ (b : List ℕ) (x : InputObject) (a : PartsAsked b x) (n : ℕ) (size :
   cleared : Marks [] ms
   cleared = marks_none n ms clear
 
-  pub tile_clash : r ≡ false → (p : Parts) → p.code ≡ 34 → PartsAnswered b x p
-  tile_clash q p c = λ cu tu i j. (let m = both cu tu i j cleared in parts_clash (encoding_is x.encoding) (section_of b x 6) (named cu ++ named tu) (both_some cu tu) ms ns cleared_long m.0 r m.1 q p c)
+  pub tile_clash : r ≡ false → PartsAnswered b x (Err BadParts)
+  tile_clash q = λ cu tu i j. (let m = both cu tu i j cleared in parts_clash (encoding_is x.encoding) (section_of b x 6) (named cu ++ named tu) (both_some cu tu) ms ns cleared_long m.0 r m.1 q)
 
   module _ (q : r ≡ true) where
-    pub tile_untiled : marks_good 0 ns ≡ false → (p : Parts) → p.code ≡ 34 → PartsAnswered b x p
-    tile_untiled g p c = λ cu tu i j. (let m = both cu tu i j cleared in parts_untiled (encoding_is x.encoding) (section_of b x 6) (named cu ++ named tu) (both_some cu tu) ms ns cleared_long m.0 r m.1 q g p c)
+    pub tile_untiled : marks_good 0 ns ≡ false → PartsAnswered b x (Err BadParts)
+    tile_untiled g = λ cu tu i j. (let m = both cu tu i j cleared in parts_untiled (encoding_is x.encoding) (section_of b x 6) (named cu ++ named tu) (both_some cu tu) ms ns cleared_long m.0 r m.1 q g)
 
     pub tile_long : length ns ≡ length (section_of b x 6)
     tile_long = (both a.cu a.tu a.cu_is a.tu_is cleared).0 ∙ cleared_long
@@ -134,7 +125,7 @@ module _ (b : List ℕ) (x : InputObject) (a : PartsAsked b x) (n : ℕ) (size :
         let m = both a.cu a.tu a.cu_is a.tu_is cleared in
         parts_tiled (encoding_is x.encoding) (section_of b x 6) (named a.cu ++ named a.tu) (both_some a.cu a.tu) ms ns cleared_long m.0 r m.1 q g
 
-    pub tile_good : marks_good 0 ns ≡ true → (good : ℕ) → ((ts : List Contribution) → TiledBy ns ts → good ≡ good_end (encoding_is x.encoding) (section_of b x 6) ts) → PartsAnswered b x (record { code = 0; good = good })
+    pub tile_good : marks_good 0 ns ≡ true → (good : ℕ) → ((ts : List Contribution) → TiledBy ns ts → good ≡ good_end (encoding_is x.encoding) (section_of b x 6) ts) → PartsAnswered b x (Ok good)
     tile_good g good h = λ cu tu i j. (let m = both cu tu i j cleared in
         parts_good (encoding_is x.encoding) (section_of b x 6) (named cu ++ named tu) (both_some cu tu) ms ns cleared_long m.0 r m.1 q g good h)
 
@@ -209,22 +200,19 @@ module _ (b : List ℕ) (o : StrOffsets) (inside : Inside b o.offsets) (good : �
       own : (r : Result (Unit {0}) Refusal) → PiecesAdded b y (table_in words store) ts before_parts k r → PiecesAdded b (offsets_before o good) (table_in words store) ts before_parts k r
       own r added = subst (λ (z : StrOffsets). PiecesAdded b z (table_in words store) ts before_parts k r) ey added
 
-      pub parts_missing : (r : Refusal) → PiecesAdded b y (table_in words store) ts before_parts k (Err r) → (t : StringTable)
-          → StringsAre b v ts (pieces_of e str s ps >>= λ q. pass (used_in q)) (record { code = 9; strings = t })
-      unfolding StringsAre
-      parts_missing r added t = rw (then_refuse (pieces_of e str s ps) (λ z. pass (used_in z)) 9 (judged.missing (number_of r) (own (Err r) added))) refl
+      pub parts_missing : (r : Refusal) → PiecesAdded b y (table_in words store) ts before_parts k (Err r) → StringsAre b v ts k (pieces_of e str s ps >>= λ q. pass (used_in q)) (Err r)
+      parts_missing r added =
+          let n = judged.missing (number_of r) (own (Err r) added) in
+          tells_refuse r (then_refuse (pieces_of e str s ps) (λ z. pass (used_in z)) (number_of r) n)
 
       module _ (added : PiecesAdded b y (table_in words store) ts before_parts k (Ok tt)) where
-        pub parts_ill : good < o.offsets.size → (t : StringTable) → StringsAre b v ts (pieces_of e str s ps >>= λ z. pass (used_in z)) (record { code = 8; strings = t })
-        unfolding StringsAre
-        parts_ill h t =
+        pub parts_ill : good < o.offsets.size → StringsAre b v ts k (pieces_of e str s ps >>= λ z. pass (used_in z)) (Err BadStrOffsets)
+        parts_ill h =
             let a = own (Ok tt) added in
-            rw (then_refuse (pieces_of e str s ps) (λ z. pass (used_in z)) 8 (judged.ill a.0 a.1 (some_bad h))) refl
+            tells_refuse BadStrOffsets (then_refuse (pieces_of e str s ps) (λ z. pass (used_in z)) 8 (judged.ill a.0 a.1 (some_bad h)))
 
-        pub parts_put : o.offsets.size ≤ good → StringsAre b v ts (pieces_of e str s ps >>= λ z. pass (used_in z)) (record { code = 0; strings = k })
-        unfolding StringsAre
+        pub parts_put : o.offsets.size ≤ good → StringsAre b v ts k (pieces_of e str s ps >>= λ z. pass (used_in z)) (Ok tt)
         parts_put h =
             let a = own (Ok tt) added in
             let j = judged.all a.0 a.1 (all_good h) in
-            rw (then_pass (pieces_of e str s ps) (λ z. pass (used_in z)) j.0 j.1)
-            (refl, rw (← wide, store_left n from many words w room ef em et store v same is, j.2) a.2)
+            tells_pass tt (used_in j.0) (then_pass (pieces_of e str s ps) (λ z. pass (used_in z)) j.0 j.1) (rw (← wide, store_left n from many words w room ef em et store v same is, j.2) a.2)

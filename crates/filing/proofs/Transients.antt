@@ -5,26 +5,25 @@ use mathlib.Core.Logic.{inr}
 use mathlib.Core.List.{List}
 use Prim.Native.Nat.{ℕ}
 use native.Mathlib.Omega.{arith}
-use Rattle.octets.specs.Checked.{Check, pass, refuse}
-use Rattle.numbers.specs.Sections.{cu_index_code}
+use Rattle.std.specs.Prelude.{Result}
+use Rattle.numbers.specs.declared.refusals.Refusal.{Refusal}
+use Rattle.octets.specs.Checked.{Check}
 use Rattle.unit.specs.TableTrees.{Remembers}
 use Rattle.unit.specs.declared.judged.Judged.{Judged}
 use Rattle.index.specs.Rows.{BySection}
 use Rattle.kept.specs.Regions.{Layout, records_region, strings_region, rows_region, codes_region, region, Apart, Only}
 use Rattle.kept.proofs.RegionStores.{rows_behind, codes_behind, codes_rows, rows_slots, codes_slots}
 use Rattle.package.specs.Input.{Input}
-use Rattle.package.specs.Filing.{Filed}
+use Rattle.package.specs.Filing.{Filed, index_by_place}
 use Rattle.kept.specs.declared.state.InProgress.{InProgress}
 use Rattle.filing.specs.declared.input.InputObject.{InputObject}
-use Rattle.filing.specs.declared.units.UnitFiled.{UnitFiled}
-use Rattle.filing.specs.declared.units.UnitsFiled.{UnitsFiled}
 use Rattle.filing.specs.declared.units.HomeSection.{HomeSection}
-use Rattle.filing.specs.Judged.{section_of}
 use Rattle.filing.specs.State.{words_in, StringsKept, TransientStay, Remembered}
 use Rattle.filing.specs.Answers.{AtUnit, UnitIs, UnitsAre}
-use Rattle.filing.specs.ByPlace.{indexed_by_place, heads_for, ChainsHeld, RowsChained}
+use Rattle.filing.specs.ByPlace.{heads_for, ChainsHeld, RowsChained}
 use Rattle.filing.specs.Asked.{Transient}
 use Rattle.filing.proofs.Lending.{Beside, held_stays}
+use Rattle.filing.proofs.Telling.{tells_more}
 use Rattle.filing.proofs.Walking.{kept_more}
 
 -- a region that holds neither units nor strings
@@ -48,17 +47,13 @@ module _ {r : Layout} (passing : Passing r) (b : List ℕ) {w v : List ℕ} (o :
   strings_lent st = record { same = o.same; strings = o.others strings_region passing.strings; table = refl }
 
   -- the answer for work behind it is that for work before
-  pub unit_lent : (x : InputObject) (i : Input) (place : ℕ) (u : List ℕ) (st : InProgress) (bases : BySection ℕ) (earlier here : List Filed) (m : Check Filed) (z : UnitFiled)
-      → UnitIs b x i place v u st bases earlier here m z → UnitIs b x i place w u st bases earlier here m z
-  unfolding UnitIs
-  unit_lent x i place u st bases earlier here (pass y) z k = (k.0, k.1, k.2, kept_more (strings_lent st) k.3)
-  unit_lent x i place u st bases earlier here (refuse n) z k = k
+  pub unit_lent : {x : InputObject} {i : Input} {place : ℕ} {u : List ℕ} {st next : InProgress} {bases : BySection ℕ} {earlier here : List Filed} {m : Check Filed} {r : Result ℕ Refusal}
+      → UnitIs b x i place v u st next bases earlier here m r → UnitIs b x i place w u st next bases earlier here m r
+  unit_lent {st = st} k = tells_more (λ size y h. record { size_is = h.size_is; at_unit = h.at_unit; strings = kept_more (strings_lent st) h.strings }) k
 
-  pub units_lent : (x : InputObject) (i : Input) (place : ℕ) (u : List ℕ) (st : InProgress) (bases : BySection ℕ) (earlier : List Filed) (m : Check (List Filed)) (z : UnitsFiled)
-      → UnitsAre b x i place v u st bases earlier m z → UnitsAre b x i place w u st bases earlier m z
-  unfolding UnitsAre
-  units_lent x i place u st bases earlier (pass y) z k = (k.0, k.1, kept_more (strings_lent st) k.2)
-  units_lent x i place u st bases earlier (refuse n) z k = k
+  pub units_lent : {x : InputObject} {i : Input} {place : ℕ} {u : List ℕ} {st next : InProgress} {bases : BySection ℕ} {earlier : List Filed} {m : Check (List Filed)} {r : Result (Unit {0}) Refusal}
+      → UnitsAre b x i place v u st next bases earlier m r → UnitsAre b x i place w u st next bases earlier m r
+  units_lent {st = st} k = tells_more (λ t y h. record { at_unit = h.at_unit; strings = kept_more (strings_lent st) h.strings }) k
 
 -- ---- each stays where the other is written
 rows_codes : Apart rows_region codes_region
@@ -69,7 +64,7 @@ pub remembered_stays : (b w v : List ℕ) (j : Judged) → region v (words_in b)
 remembered_stays b w v j e m = subst (λ (l : List ℕ). Remembers b l j) (sym e) m
 
 pub chains_stay : (b : List ℕ) (x : InputObject) (h : HomeSection) (w v : List ℕ) → region v (words_in b) rows_region ≡ region w (words_in b) rows_region → RowsChained b x h w → RowsChained b x h v
-chains_stay b x h w v e c = subst (λ (l : List ℕ). ChainsHeld x.encoding.big (section_of b x cu_index_code) (heads_for h) l (indexed_by_place x h.home)) (sym e) c
+chains_stay b x h w v e c i is = subst (λ (l : List ℕ). ChainsHeld (heads_for h) l (index_by_place i h.home)) (sym e) (c i is)
 
 module _ (b : List ℕ) (x : InputObject) (h : HomeSection) (j : Judged) (w v : List ℕ) where
   -- rows are chained

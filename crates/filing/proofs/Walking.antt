@@ -7,7 +7,10 @@ use native.Mathlib.Omega.{arith}
 use lib.ListN.{length, take, drop}
 use lib.Seq.{drop-drop}
 use Rattle.octets.specs.Octets.{part}
-use Rattle.octets.specs.Checked.{Check, pass, refuse}
+use Rattle.std.specs.Prelude.{Result, Ok, Err}
+use Rattle.numbers.specs.Refused.{number_of}
+use Rattle.numbers.specs.declared.refusals.Refusal.{Refusal}
+use Rattle.octets.specs.Checked.{pass}
 use Rattle.octets.proofs.Parts.{length_part, drop_take}
 use Rattle.index.specs.Rows.{BySection}
 use Rattle.package.specs.Input.{Input}
@@ -15,10 +18,9 @@ use Rattle.package.specs.Filing.{Filed, unit_at, units_from}
 use Rattle.package.proofs.Walks.{Read, filed_read, units_over, units_over_law, over_end, over_refused, over_more}
 use Rattle.filing.specs.declared.input.InputObject.{InputObject}
 use Rattle.kept.specs.declared.state.InProgress.{InProgress}
-use Rattle.filing.specs.declared.units.UnitFiled.{UnitFiled}
-use Rattle.filing.specs.declared.units.UnitsFiled.{UnitsFiled}
 use Rattle.filing.specs.State.{words_in, StringsKept}
-use Rattle.filing.specs.Answers.{AtUnit, UnitIs, UnitsAre}
+use Rattle.filing.specs.Answers.{AtUnit, UnitFiled, UnitIs, UnitsAre}
+use Rattle.filing.proofs.Telling.{tells_pass, tells_refuse}
 
 -- for one input and one list of units filed before: the units filed since, and that the rest of the walk is still to come
 pub record On (b : List ℕ) (x : InputObject) (home start stop at : ℕ) (w₀ w : List ℕ) (st₀ st : InProgress) (i : Input) (bases : BySection ℕ) (earlier here₀ : List Filed) : Type 0 where
@@ -61,93 +63,84 @@ walking_none b x home start stop w st h =
       };
     }
 
-module _ {b : List ℕ} {x : InputObject} {home start stop at : ℕ} {w₀ w : List ℕ} {st₀ st : InProgress}
-    (k : Walking b x home start stop at w₀ w st₀ st) (low : at < stop) (high : stop ≤ length b) where
-  -- one unit of it
-  module _ (v : List ℕ) (r : UnitFiled) (same : length v ≡ length w)
-      (filed : (i : Input) (bases : BySection ℕ) (earlier here : List Filed) → AtUnit b x i at w st bases earlier here
-      → UnitIs b x i at w v st bases earlier here (unit_at i bases earlier here home (at - start) (part b at (stop - at))) r)
-      (numbered : (i : Input) (bases : BySection ℕ) (earlier here : List Filed) (m : ℕ) → unit_at i bases earlier here home (at - start) (part b at (stop - at)) ≡ refuse m → 1 ≤ m) where
-    some_left : 0 < length (part b at (stop - at))
-    some_left = rw (length_part b at (stop - at) (omega arith)) (omega arith)
+-- the walk of a section, as the definition has it, is what is still to come at its start
+walk_is : (b : List ℕ) (home start stop : ℕ) (i : Input) (bases : BySection ℕ) (earlier here : List Filed)
+    → units_over i bases earlier home here 0 (part b start (stop - start)) ≡ units_from (suc (length (part b start (stop - start)))) i bases earlier here home 0 (part b start (stop - start))
+walk_is b home start stop i bases earlier here = sym (units_over_law i bases earlier home (suc (length (part b start (stop - start)))) here 0 (part b start (stop - start)) (omega arith))
 
-    -- a unit that was filed
+module _ {b : List ℕ} {x : InputObject} {home start stop at : ℕ} {w₀ w : List ℕ} {st₀ st : InProgress}
+    (k : Walking b x home start stop at w₀ w st₀ st) (low : at < stop) (high : stop ≤ length b) (v : List ℕ) (next : InProgress) (same : length v ≡ length w) where
+  some_left : 0 < length (part b at (stop - at))
+  some_left = rw (length_part b at (stop - at) (omega arith)) (omega arith)
+
+  -- what `file_unit` answers of the unit there
+  abbrev pub Answered : Result ℕ Refusal → Type 0
+  Answered r =
+      (i : Input) (bases : BySection ℕ) (earlier here : List Filed) → AtUnit b x i at w st bases earlier here
+      → UnitIs b x i at w v st next bases earlier here (unit_at i bases earlier here home (at - start) (part b at (stop - at))) r
+
+  -- ---- a unit that was filed
+  module _ (size : ℕ) (filed : Answered (Ok size)) where
     record Next (i : Input) (bases : BySection ℕ) (earlier here : List Filed) : Type 0 where
       unit : Filed
       is : unit_at i bases earlier here home (at - start) (part b at (stop - at)) ≡ pass unit
-      size : r.size ≡ length unit.bytes
-      at_unit : AtUnit b x i (at + r.size) v r.st bases earlier (here ++ (unit ∷ []))
-      kept : StringsKept (words_in b) w v st r.st
+      done : UnitFiled b x i at w v st next bases earlier here size unit
 
-    next : r.code ≡ 0 → (i : Input) (bases : BySection ℕ) (earlier here : List Filed) → AtUnit b x i at w st bases earlier here → Next i bases earlier here
-    unfolding UnitIs
-    next z i bases earlier here a = go _ refl (filed i bases earlier here a)
-      where
-        go : (m : Check Filed) → unit_at i bases earlier here home (at - start) (part b at (stop - at)) ≡ m → UnitIs b x i at w v st bases earlier here m r → Next i bases earlier here
-        go (pass u) e f = record { unit = u; is = e; size = f.1; at_unit = f.2; kept = f.3 }
-        go (refuse m) e f = absurd (let h = numbered i bases earlier here m e in let q : m ≡ 0 = sym f ∙ z in omega arith)
+    next_unit : (i : Input) (bases : BySection ℕ) (earlier here : List Filed) → AtUnit b x i at w st bases earlier here → Next i bases earlier here
+    next_unit i bases earlier here a = let f = (filed i bases earlier here a).passes size refl in record { unit = f.0; is = f.1; done = f.2 }
 
-    size_read : r.code ≡ 0 → (i : Input) (bases : BySection ℕ) (earlier here : List Filed) → AtUnit b x i at w st bases earlier here → Read (part b at (stop - at)) r.size
-    size_read z i bases earlier here a =
-        let u = next z i bases earlier here a in
-        rw u.size (filed_read i bases earlier home here (at - start) (part b at (stop - at)) u.unit u.is)
+    size_read : (i : Input) (bases : BySection ℕ) (earlier here : List Filed) → AtUnit b x i at w st bases earlier here → Read (part b at (stop - at)) size
+    size_read i bases earlier here a =
+        let u = next_unit i bases earlier here a in
+        rw u.done.size_is (filed_read i bases earlier home here (at - start) (part b at (stop - at)) u.unit u.is)
 
     -- the place behind it
-    pub place_behind : r.code ≡ 0 → (i : Input) (bases : BySection ℕ) (earlier here : List Filed) → AtUnit b x i start w₀ st₀ bases earlier here
-        → (1 ≤ r.size) × (at + r.size ≤ stop)
-    place_behind z i bases earlier here a =
+    pub place_behind : (i : Input) (bases : BySection ℕ) (earlier here : List Filed) → AtUnit b x i start w₀ st₀ bases earlier here → (1 ≤ size) × (at + size ≤ stop)
+    place_behind i bases earlier here a =
         let o = k.goes i bases earlier here a in
-        let h = size_read z i bases earlier o.here o.at_unit in
+        let h = size_read i bases earlier o.here o.at_unit in
         let l = length_part b at (stop - at) (omega arith) in
         (h.some, omega (arith, h.within))
 
-    pub walking_more : r.code ≡ 0 → at + r.size ≤ stop → Walking b x home start stop (at + r.size) w₀ v st₀ r.st
-    walking_more z fits =
+    pub walking_more : at + size ≤ stop → Walking b x home start stop (at + size) w₀ v st₀ next
+    walking_more fits =
         record { same = same ∙ k.same; from = omega (arith, k.from); to = fits; goes = λ i bases earlier here a. on i bases earlier here (k.goes i bases earlier here a) }
       where
         turned : (i : Input) (bases : BySection ℕ) (earlier here : List Filed) {p q : ℕ} {s t : List ℕ} → p ≡ q → s ≡ t → units_over i bases earlier home here p s ≡ units_over i bases earlier home here q t
         turned i bases earlier here e d = ap₂ (units_over i bases earlier home here) e d
 
         on : (i : Input) (bases : BySection ℕ) (earlier here : List Filed) → On b x home start stop at w₀ w st₀ st i bases earlier here
-            → On b x home start stop (at + r.size) w₀ v st₀ r.st i bases earlier here
+            → On b x home start stop (at + size) w₀ v st₀ next i bases earlier here
         on i bases earlier here o =
-            let u = next z i bases earlier o.here o.at_unit in
+            let u = next_unit i bases earlier o.here o.at_unit in
             let s = part b at (stop - at) in
-            let e : at - start + length u.unit.bytes ≡ at + r.size - start = omega (arith, u.size, k.from) in
-            let d : drop (length u.unit.bytes) s ≡ part b (at + r.size) (stop - (at + r.size)) = rw (← u.size) (rest_of b at (stop - at) r.size (stop - (at + r.size)) (omega arith)) in
+            let e : at - start + length u.unit.bytes ≡ at + size - start = omega (arith, u.done.size_is, k.from) in
+            let d : drop (length u.unit.bytes) s ≡ part b (at + size) (stop - (at + size)) = rw (← u.done.size_is) (rest_of b at (stop - at) size (stop - (at + size)) (omega arith)) in
             record {
               here = o.here ++ (u.unit ∷ []);
-              at_unit = u.at_unit;
-              kept = kept_more o.kept u.kept;
+              at_unit = u.done.at_unit;
+              kept = kept_more o.kept u.done.strings;
               is = sym (over_more i bases earlier home o.here (at - start) s u.unit some_left u.is ∙ turned i bases earlier (o.here ++ (u.unit ∷ [])) e d) ∙ o.is;
             }
 
-    -- the refusal of a unit is that of the walk
-    pub walking_refused : (r.code ≡ 0 → ⊥) → (i : Input) (bases : BySection ℕ) (earlier here : List Filed) → AtUnit b x i start w₀ st₀ bases earlier here
-        → (u : UnitsFiled) → u.code ≡ r.code → UnitsAre b x i stop w₀ v st₀ bases earlier (units_from (suc (length (part b start (stop - start)))) i bases earlier here home 0 (part b start (stop - start))) u
-    unfolding UnitIs UnitsAre
-    walking_refused z i bases earlier here a u q = go _ refl (filed i bases earlier o.here o.at_unit)
-      where
-        o : On b x home start stop at w₀ w st₀ st i bases earlier here
-        o = k.goes i bases earlier here a
-
-        whole : units_from (suc (length (part b start (stop - start)))) i bases earlier here home 0 (part b start (stop - start)) ≡ units_over i bases earlier home here 0 (part b start (stop - start))
-        whole = units_over_law i bases earlier home (suc (length (part b start (stop - start)))) here 0 (part b start (stop - start)) (omega arith)
-
-        go : (m : Check Filed) → unit_at i bases earlier o.here home (at - start) (part b at (stop - at)) ≡ m → UnitIs b x i at w v st bases earlier o.here m r
-            → UnitsAre b x i stop w₀ v st₀ bases earlier (units_from (suc (length (part b start (stop - start)))) i bases earlier here home 0 (part b start (stop - start))) u
-        go (pass y) e f = absurd (z f.0)
-        go (refuse m) e f = rw (whole ∙ sym o.is ∙ over_refused i bases earlier home o.here (at - start) m (part b at (stop - at)) some_left e) (q ∙ f)
+  -- the refusal of a unit is that of the walk
+  pub walking_refused : (r : Refusal) → Answered (Err r) → (i : Input) (bases : BySection ℕ) (earlier here : List Filed) → AtUnit b x i start w₀ st₀ bases earlier here
+      → UnitsAre b x i stop w₀ v st₀ next bases earlier (units_from (suc (length (part b start (stop - start)))) i bases earlier here home 0 (part b start (stop - start))) (Err r)
+  walking_refused r filed i bases earlier here a =
+      let o = k.goes i bases earlier here a in
+      tells_refuse r
+      (sym (walk_is b home start stop i bases earlier here) ∙ sym o.is
+      ∙ over_refused i bases earlier home o.here (at - start) (number_of r) (part b at (stop - at)) some_left ((filed i bases earlier o.here o.at_unit).refuses r refl))
 
 -- at the section's end
 pub walking_end : {b : List ℕ} {x : InputObject} {home start stop at : ℕ} {w₀ w : List ℕ} {st₀ st : InProgress}
     → Walking b x home start stop at w₀ w st₀ st → stop ≤ at → stop ≤ length b
     → (i : Input) (bases : BySection ℕ) (earlier here : List Filed) → AtUnit b x i start w₀ st₀ bases earlier here
-    → UnitsAre b x i stop w₀ w st₀ bases earlier (units_from (suc (length (part b start (stop - start)))) i bases earlier here home 0 (part b start (stop - start))) (record { code = 0; st = st })
-unfolding UnitsAre
+    → UnitsAre b x i stop w₀ w st₀ st bases earlier (units_from (suc (length (part b start (stop - start)))) i bases earlier here home 0 (part b start (stop - start))) (Ok tt)
 walking_end {b} {x} {home} {start} {stop} {at} k end high i bases earlier here a =
     let o = k.goes i bases earlier here a in
     let e : at ≡ stop = omega (arith, k.to) in
     let z : length (part b at (stop - at)) ≡ 0 = length_part b at (stop - at) (omega arith) ∙ omega arith in
-    rw (units_over_law i bases earlier home (suc (length (part b start (stop - start)))) here 0 (part b start (stop - start)) (omega arith) ∙ sym o.is ∙ over_end i bases earlier home o.here (at - start) (part b at (stop - at)) z)
-    (refl, rw (← e) o.at_unit, o.kept)
+    tells_pass tt o.here
+    (sym (walk_is b home start stop i bases earlier here) ∙ sym o.is ∙ over_end i bases earlier home o.here (at - start) (part b at (stop - at)) z)
+    (record { at_unit = rw (← e) o.at_unit; strings = o.kept })

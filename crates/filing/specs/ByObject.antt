@@ -1,11 +1,12 @@
 -- What the functions that file whole objects answer, from the definitions.
 -- Assumes nothing.
-use Rattle.std.specs.Prelude.{◌≡◌, Bool, true, false, List, [], ◌++◌, ℕ, ◌+◌, ◌*◌, ◌/◌, ◌<◌, ◌≤◌, eqb, leb, length, get_or}
+use Rattle.std.specs.Prelude.{◌≡◌, Bool, true, false, List, [], ◌++◌, ℕ, ◌+◌, ◌*◌, ◌/◌, ◌<◌, ◌≤◌, eqb, leb, length, get_or, Result}
 use Rattle.std.proofs.Math.Option.{Option}
 use Rattle.numbers.specs.Tables.{dwarf5}
 use Rattle.numbers.specs.Sections.{str_offsets_code, str_code, cu_index_code, tu_index_code}
 use Rattle.octets.specs.Octets.{part}
-use Rattle.octets.specs.Checked.{Check, pass, refuse, ◌>>=◌}
+use Rattle.numbers.specs.declared.refusals.Refusal.{Refusal}
+use Rattle.octets.specs.Checked.{Check, pass, ◌>>=◌}
 use Rattle.bundle.specs.Bundle.{Part, body}
 use Rattle.bundle.specs.Scan.{scan_of, start_of, size_of}
 use Rattle.bundle.specs.declared.Scan.{Scan}
@@ -29,10 +30,8 @@ use Rattle.package.specs.Filing.{Filed}
 use Rattle.package.specs.Pack.{all_used}
 use Rattle.filing.specs.Judged.{IndexedIs, InputIs, index_check}
 use Rattle.filing.specs.declared.input.InputObject.{InputObject}
-use Rattle.filing.specs.declared.objects.StringsFiled.{StringsFiled}
-use Rattle.filing.specs.declared.objects.IndexesJudged.{IndexesJudged}
-use Rattle.filing.specs.declared.objects.InputFiled.{InputFiled}
-use Rattle.filing.specs.State.{words_in, with_strings}
+use Rattle.filing.specs.State.{words_in}
+use Rattle.filing.specs.Tells.{Tells}
 
 -- ---- 8 and 9
 -- the strings of a str_offsets that is there
@@ -57,14 +56,13 @@ pub record StringsAsked (b : List ℕ) (o : StrOffsets) (t : StringTable) (w : L
   pub strings : List (List ℕ)
   pub kept : StringsIn b w t strings
 
--- the refusal, or that they are put behind those used before
-unfoldable pub StringsAre : List ℕ → List ℕ → List (List ℕ) → Check (List (List ℕ)) → StringsFiled → Type 0
-StringsAre b v ts (refuse m) r = r.code ≡ m
-StringsAre b v ts (pass used) r = (r.code ≡ 0) × StringsIn b v r.strings (ts ++ used)
+-- the refusal, or that they are put behind those used before; v is work behind, next the table
+abbrev pub StringsAre : List ℕ → List ℕ → List (List ℕ) → StringTable → Check (List (List ℕ)) → Result (Unit {0}) Refusal → Type 0
+StringsAre b v ts next c r = Tells (λ _ used. StringsIn b v next (ts ++ used)) c r
 
-abbrev pub StringsAnswered : List ℕ → StrOffsets → ℕ → StringTable → List ℕ → List ℕ → StringsFiled → Type 0
-StringsAnswered b o count t w v r =
-    (ts : List (List ℕ)) → StringsIn b w t ts → StringsAre b v ts (strings_check (encoding_is o.encoding) (leb 1 count) (bytes_at b o.offsets) (bytes_at b o.strings)) r
+abbrev pub StringsAnswered : List ℕ → StrOffsets → ℕ → StringTable → StringTable → List ℕ → List ℕ → Result (Unit {0}) Refusal → Type 0
+StringsAnswered b o count t next w v r =
+    (ts : List (List ℕ)) → StringsIn b w t ts → StringsAre b v ts next (strings_check (encoding_is o.encoding) (leb 1 count) (bytes_at b o.offsets) (bytes_at b o.strings)) r
 
 -- those of the object that a scan has
 abbrev pub str_offsets_in : ObjectEncoding → Scan → StrOffsets
@@ -88,19 +86,18 @@ ScanInside b scan c = get_or scan.start c 0 + get_or scan.size c 0 ≤ length b
 unfoldable pub scanned_index : ObjectEncoding → List ℕ → Scan → ℕ → Check (Option Index)
 scanned_index e b scan c = index_check e.big (form_of (encoding_is e)) (leb 1 (get_or scan.count c 0)) (scanned b scan c)
 
--- of two sections: the first refusal, or that both indexes are there by value
-unfoldable pub IndexesAre : Bool → List ℕ → List ℕ → Check (Option Index) → Check (Option Index) → IndexesJudged → Type 0
-IndexesAre big cs ts (refuse m) tu r = (r.code ≡ m) × (0 < m)
-IndexesAre big cs ts (pass c) (refuse m) r = (r.code ≡ m) × (0 < m)
-IndexesAre big cs ts (pass c) (pass t) r = (r.code ≡ 0) × IndexedIs big cs r.cu c × IndexedIs big ts r.tu t
+-- both, the first refusal first
+abbrev pub scanned_indexes : ObjectEncoding → List ℕ → Scan → Check (Option Index × Option Index)
+scanned_indexes e b scan = scanned_index e b scan cu_index_code >>= λ c. (scanned_index e b scan tu_index_code >>= λ t. pass (c, t))
 
--- of those that a scan has
-abbrev pub IndexesFound : List ℕ → ObjectEncoding → Scan → IndexesJudged → Type 0
-IndexesFound b e scan r = IndexesAre e.big (scanned b scan cu_index_code) (scanned b scan tu_index_code) (scanned_index e b scan cu_index_code) (scanned_index e b scan tu_index_code) r
+-- an object with a scan's sections and both indexes by value
+pub record IndexedObject (b : List ℕ) (e : ObjectEncoding) (scan : Scan) (x : InputObject) (is : Option Index × Option Index) : Type 0 where
+  pub whole : x ≡ record { encoding = e; start = scan.start; size = scan.size; cu = x.cu; tu = x.tu }
+  pub cu : IndexedIs e.big (scanned b scan cu_index_code) x.cu is.0
+  pub tu : IndexedIs e.big (scanned b scan tu_index_code) x.tu is.1
 
--- the object with both by value
-abbrev pub input_in : ObjectEncoding → Scan → IndexesJudged → InputObject
-input_in e scan x = record { encoding = e; start = scan.start; size = scan.size; cu = x.cu; tu = x.tu }
+abbrev pub IndexesFound : List ℕ → ObjectEncoding → Scan → Result InputObject Refusal → Type 0
+IndexesFound b e scan r = Tells (IndexedObject b e scan) (scanned_indexes e b scan) r
 
 -- ---- everything at hand between two objects: inputs and units are filed up to a place
 pub record AtObject (b : List ℕ) (big : Bool) (first place : ℕ) (w : List ℕ) (st : InProgress) (bases : BySection ℕ) (is : List Input) (us : List Filed) : Type 0 where
@@ -110,11 +107,9 @@ pub record AtObject (b : List ℕ) (big : Bool) (first place : ℕ) (w : List �
   pub used : 4 * length (all_used is) ≤ place
 
 -- ---- 4 to 10
--- the refusal, or that the object is there by value and its strings are put; nothing else has changed of what is by value
-unfoldable pub InputRead : List ℕ → List ℕ → InProgress → List (List ℕ) → Check Input → InputFiled → Type 0
-InputRead b v st ts (refuse m) r = r.code ≡ m
-InputRead b v st ts (pass i) r =
-    (r.code ≡ 0) × InputIs b r.input i × (r.st ≡ with_strings st r.st.strings) × StringsIn b v r.st.strings (ts ++ used_in i.pieces)
+-- the refusal, or that the object is there by value and its strings are put; v is work behind, next the table
+abbrev pub InputRead : List ℕ → List ℕ → List (List ℕ) → StringTable → Check Input → Result InputObject Refusal → Type 0
+InputRead b v ts next c r = Tells (λ x i. InputIs b x i × StringsIn b v next (ts ++ used_in i.pieces)) c r
 
 -- an object and what is opened of it
 unfoldable pub input_given : List ℕ → Encoding → List Part → Check Opened → Check Input
@@ -129,21 +124,21 @@ pub record InputRoom (b : List ℕ) (ps : List Part) (words : ℕ) (t : StringTa
   pub inside : (c : ℕ) → start_of ps c + size_of ps c ≤ length b
   pub fits : string_words * (t.entries + size_of ps str_offsets_code / 4) ≤ strings_region.words * words_in b
 
-pub record InputAsked (b : List ℕ) (scan : Scan) (st : InProgress) (w : List ℕ) : Type 0 where
+pub record InputAsked (b : List ℕ) (scan : Scan) (t : StringTable) (w : List ℕ) : Type 0 where
   pub at : ℕ
   pub parts : List Part
   pub is : scan ≡ scan_of at parts
-  pub room : InputRoom b parts (length w) st.strings
+  pub room : InputRoom b parts (length w) t
   pub strings : List (List ℕ)
-  pub kept : StringsIn b w st.strings strings
+  pub kept : StringsIn b w t strings
 
 -- 8 to 10 and 34, of an object with a good encoding e, by what opens it
-abbrev pub OpenAnswered : (Encoding → List Part → BySection (List ℕ) → Check Opened) → List ℕ → ObjectEncoding → Scan → InProgress → List ℕ → List ℕ → InputFiled → Type 0
-OpenAnswered opens b e scan st w v r =
-    (at : ℕ) (ps : List Part) (ts : List (List ℕ)) → scan ≡ scan_of at ps → InputRoom b ps (length w) st.strings → StringsIn b w st.strings ts
-    → InputRead b v st ts (input_given b (encoding_is e) ps (opens (encoding_is e) ps (body b ps))) r
+abbrev pub OpenAnswered : (Encoding → List Part → BySection (List ℕ) → Check Opened) → List ℕ → ObjectEncoding → Scan → StringTable → StringTable → List ℕ → List ℕ → Result InputObject Refusal → Type 0
+OpenAnswered opens b e scan t next w v r =
+    (at : ℕ) (ps : List Part) (ts : List (List ℕ)) → scan ≡ scan_of at ps → InputRoom b ps (length w) t → StringsIn b w t ts
+    → InputRead b v ts next (input_given b (encoding_is e) ps (opens (encoding_is e) ps (body b ps))) r
 
-abbrev pub InputAnswered : List ℕ → Bool → ℕ → ℕ → Scan → InProgress → List ℕ → List ℕ → InputFiled → Type 0
-InputAnswered b big first word scan st w v r =
-    (at : ℕ) (ps : List Part) (ts : List (List ℕ)) → scan ≡ scan_of at ps → InputRoom b ps (length w) st.strings → StringsIn b w st.strings ts
-    → InputRead b v st ts (input_of b big first (record { word = word; parts = ps })) r
+abbrev pub InputAnswered : List ℕ → Bool → ℕ → ℕ → Scan → StringTable → StringTable → List ℕ → List ℕ → Result InputObject Refusal → Type 0
+InputAnswered b big first word scan t next w v r =
+    (at : ℕ) (ps : List Part) (ts : List (List ℕ)) → scan ≡ scan_of at ps → InputRoom b ps (length w) t → StringsIn b w t ts
+    → InputRead b v ts next (input_of b big first (record { word = word; parts = ps })) r

@@ -1,8 +1,9 @@
 -- A unit that was read, and one that is to be kept.
 -- Assumes nothing.
-use Rattle.std.specs.Prelude.{◌≡◌, Bool, false, List, ℕ, ◌+◌, ◌-◌, ◌^◌, ◌<◌, ◌≤◌, length}
+use Rattle.std.specs.Prelude.{◌≡◌, Bool, false, List, ℕ, ◌+◌, ◌-◌, ◌^◌, ◌<◌, ◌≤◌, length, Result, Ok, Err}
 use Rattle.numbers.specs.Tables.{compilation_table}
-use Rattle.numbers.specs.Refusals.{identity_seen}
+use Rattle.numbers.specs.declared.refusals.Refusal.{Refusal}
+use Rattle.numbers.specs.declared.refusals.Refusal.TheVariants.{IdentitySeen}
 use Rattle.octets.specs.Octets.{part}
 use Rattle.octets.specs.Lists.{any, same}
 use Rattle.octets.specs.Checked.{pass}
@@ -23,8 +24,7 @@ use Rattle.kept.specs.declared.Units.{Units}
 use Rattle.kept.specs.declared.records.Unit.{Unit as UnitHead}
 use Rattle.kept.specs.declared.state.InProgress.{InProgress}
 use Rattle.filing.specs.State.{words_in}
-use Rattle.filing.specs.declared.units.ReadUnit.{ReadUnit}
-use Rattle.filing.specs.declared.units.UnitFiled.{UnitFiled}
+use Rattle.unit.specs.declared.header.UnitRead.{UnitRead}
 
 -- a unit of so many bytes was read from the front of s, which stands at a place of the section home
 pub record ReadAt (i : Input) (home at size table identity : ℕ) (s : List ℕ) : Type 0 where
@@ -44,12 +44,12 @@ pub record KnownAsked (b : List ℕ) (number at size : ℕ) (st : InProgress) (w
   pub few : (st.skipped.repeats < 2 ^ 32) × (st.skipped.namesakes < 2 ^ 32)
 
 -- the answer for a unit whose table and identity are kept: 14, or it is counted
-pub record KnownIs (b : List ℕ) (number at table size : ℕ) (st : InProgress) (w : List ℕ) (r : UnitFiled) : Type 0 where
-  pub second : table ≡ compilation_table → r.code ≡ identity_seen
-  pub skipped : (table ≡ compilation_table → ⊥) → r ≡ record { code = 0; size = size; st = skipped_one st (agrees_with b number at size w) }
+pub record KnownIs (b : List ℕ) (number at table size : ℕ) (st next : InProgress) (w : List ℕ) (r : Result ℕ Refusal) : Type 0 where
+  pub second : table ≡ compilation_table → r ≡ Err IdentitySeen
+  pub skipped : (table ≡ compilation_table → ⊥) → (r ≡ Ok size) × (next ≡ skipped_one st (agrees_with b number at size w))
 
 -- what is stored of a unit that was read at a place
-abbrev pub unit_for : Units → ℕ → ℕ → ReadUnit → UnitHead
+abbrev pub unit_for : Units → ℕ → ℕ → UnitRead → UnitHead
 unit_for us home at u =
     record { table = u.table; row = (pick u.table us.cu us.tu).rows + 1; identity = u.identity; home = home; start = at; size = u.size }
 

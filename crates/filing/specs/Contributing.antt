@@ -1,19 +1,21 @@
 -- 15 and 16 by an index or none.
 -- Assumes nothing.
-use Rattle.std.specs.Prelude.{◌≡◌, Bool, not, List, ℕ, ◌<◌}
+use Rattle.std.specs.Prelude.{◌≡◌, Bool, not, List, ℕ, Result}
 use Rattle.std.proofs.Math.Option.{Option, some, none}
 use Rattle.numbers.specs.Refusals.{no_row}
-use Rattle.octets.specs.Checked.{Check, pass, refuse, ◌>>=◌, require}
+use Rattle.numbers.specs.declared.refusals.Refusal.{Refusal}
+use Rattle.octets.specs.Checked.{Check, pass, ◌>>=◌, require}
 use Rattle.index.specs.Index.{Index, Contribution}
 use Rattle.index.specs.Rows.{BySection, row_contributions, whole_contributions}
 use Rattle.index.specs.Contributed.{ContributionsAre, by_code}
-use Rattle.index.specs.declared.judging.RowJudged.{RowJudged}
+use Rattle.index.specs.declared.judging.Contributions.{Contributions}
 use Rattle.index.specs.declared.judging.Measures.{Measures}
 use Rattle.index.specs.declared.judging.OwnUnit.{OwnUnit}
 use Rattle.package.specs.Input.{Input}
 use Rattle.package.specs.Filing.{contributions_of}
 use Rattle.filing.specs.declared.input.InputObject.{InputObject}
-use Rattle.filing.specs.declared.units.ReadUnit.{ReadUnit}
+use Rattle.unit.specs.declared.header.UnitRead.{UnitRead}
+use Rattle.filing.specs.Tells.{Tells}
 use Rattle.filing.specs.Judged.{InputIs}
 
 -- without an index for the unit's table: 15 in a package of version 5
@@ -24,16 +26,15 @@ unfoldable pub contributions_by : Bool → Option Index → ℕ → BySection �
 contributions_by packed (some x) width lengths identity home at size = row_contributions x width lengths identity home at size
 contributions_by packed none width lengths identity home at size = whole_given packed lengths
 
--- 0 and the contributions, or the refusal's number
-unfoldable pub GivenIs : Check (BySection (Option Contribution)) → RowJudged → Type 0
-GivenIs (pass f) r = (r.code ≡ 0) × ContributionsAre r.contributions f
-GivenIs (refuse n) r = (r.code ≡ n) × (0 < n)
+-- the contributions by value
+abbrev pub GivenIs : Check (BySection (Option Contribution)) → Result Contributions Refusal → Type 0
+GivenIs c r = Tells ContributionsAre c r
 
 -- by measures and a unit by value
-abbrev pub GivenBy : Bool → Option Index → Measures → OwnUnit → RowJudged → Type 0
+abbrev pub GivenBy : Bool → Option Index → Measures → OwnUnit → Result Contributions Refusal → Type 0
 GivenBy packed o m u r = GivenIs (contributions_by packed o m.width (by_code m.lengths) u.identity u.home u.at u.size) r
 
 -- of a unit that was read, for any object
-abbrev pub ContributionsGiven : List ℕ → InputObject → ℕ → ℕ → ReadUnit → RowJudged → Type 0
+abbrev pub ContributionsGiven : List ℕ → InputObject → ℕ → ℕ → UnitRead → Result Contributions Refusal → Type 0
 ContributionsGiven b x home at u r =
     (i : Input) → InputIs b x i → GivenIs (contributions_of i home at (record { size = u.size; table = u.table; identity = u.identity })) r

@@ -1,41 +1,41 @@
 -- An object by value, and the definition's.
 -- Assumes nothing.
-use Rattle.std.specs.Prelude.{◌≡◌, Bool, true, false, ◌&&◌, ◌||◌, List, ℕ, ◌+◌, ◌<◌, ◌≤◌, length, get_or, eqb}
-use Rattle.std.proofs.Math.Option.{Option, some, none}
+use Rattle.std.specs.Prelude.{◌≡◌, Bool, true, false, ◌&&◌, ◌||◌, Option, Some, None, is_some, Result, List, ℕ, ◌+◌, ◌<◌, ◌≤◌, length, get_or, eqb}
+use Rattle.std.proofs.Math.Option as math
 use Rattle.numbers.specs.Sections.{cu_index_code, tu_index_code, section_codes}
 use Rattle.numbers.specs.Refusals.{bad_encoding, other_encoding, wrong_edition, section_missing, bad_index}
 use Rattle.octets.specs.Octets.{part}
-use Rattle.octets.specs.Checked.{Check, pass, refuse, ◌>>=◌, require}
+use Rattle.numbers.specs.declared.refusals.Refusal.{Refusal}
+use Rattle.octets.specs.Checked.{Check, pass, ◌>>=◌, require}
 use Rattle.bundle.specs.Bundle.{Part}
 use Rattle.bundle.specs.Encoding.{Encoding, encoding_of, encoding_good}
 use Rattle.bundle.specs.Encoded.{encoding_is}
+use Rattle.bundle.specs.declared.encoding.ObjectEncoding.{ObjectEncoding}
 use Rattle.index.specs.Index.{Index, index_of}
 use Rattle.index.specs.Held.{ReadWell, index_in}
+use Rattle.index.specs.declared.reading.IndexHead.{IndexHead}
 use Rattle.package.specs.Input.{Input, edition_good, complete}
 use Rattle.filing.specs.declared.input.InputObject.{InputObject}
-use Rattle.filing.specs.declared.input.Judged.{Judged}
-use Rattle.filing.specs.declared.input.JudgedIndex.{JudgedIndex}
-use Rattle.filing.specs.declared.input.Indexed.{Indexed}
-use Rattle.filing.specs.declared.input.Indexed.TheVariants.{At, Nowhere}
+use Rattle.filing.specs.Tells.{Tells}
 
 -- section c of the object
 unfoldable pub section_of : List ℕ → InputObject → ℕ → List ℕ
 section_of b x c = part b (get_or x.start c 0) (get_or x.size c 0)
 
--- an index by value, of a section's bytes
-unfoldable pub IndexedIs : Bool → List ℕ → Indexed → Option Index → Type 0
-IndexedIs big s (At h) (some i) = (ReadWell big s h) × (i ≡ index_in big s h)
-IndexedIs big s (At h) none = ⊥
-IndexedIs big s Nowhere (some i) = ⊥
-IndexedIs big s Nowhere none = Unit {0}
+-- an index by value, where there is one
+abbrev pub Indexed : Type 0
+Indexed = Option IndexHead
 
--- whether there is one, and whether the object is a package of version 5
-unfoldable pub is_there : Indexed → Bool
-is_there (At h) = true
-is_there Nowhere = false
+-- it is that of a section's bytes
+unfoldable pub IndexedIs : Bool → List ℕ → Indexed → math.Option Index → Type 0
+IndexedIs big s (Some h) (math.some i) = (ReadWell big s h) × (i ≡ index_in big s h)
+IndexedIs big s (Some h) math.none = ⊥
+IndexedIs big s None (math.some i) = ⊥
+IndexedIs big s None math.none = Unit {0}
 
+-- whether the object is a package of version 5
 unfoldable pub packed_by : InputObject → Bool
-packed_by x = x.encoding.five && (is_there x.cu || is_there x.tu)
+packed_by x = x.encoding.five && (is_some x.cu || is_some x.tu)
 
 pub record InputIs (b : List ℕ) (x : InputObject) (i : Input) : Type 0 where
   pub encoding : encoding_is x.encoding ≡ i.encoding
@@ -55,18 +55,16 @@ object_check big first word ps = do
   _ ← require (complete ps) section_missing
   pass e
 
-unfoldable pub JudgedIs : Check Encoding → Judged → Type 0
-JudgedIs (pass e) r = (r.code ≡ 0) × (encoding_is r.encoding ≡ e)
-JudgedIs (refuse n) r = (r.code ≡ n) × (0 < n)
+abbrev pub JudgedIs : Check Encoding → Result ObjectEncoding Refusal → Type 0
+JudgedIs c r = Tells (λ x e. encoding_is x ≡ e) c r
 
 -- 10, where the section is there or not; form is the version that an index must have
-unfoldable pub index_check : Bool → ℕ → Bool → List ℕ → Check (Option Index)
+unfoldable pub index_check : Bool → ℕ → Bool → List ℕ → Check (math.Option Index)
 index_check big form there s =
     elim there [
-      | true ↦ index_of big s >>= λ i. (require (eqb i.version form) bad_index >>= λ _. pass (some i))
-      | false ↦ pass none
+      | true ↦ index_of big s >>= λ i. (require (eqb i.version form) bad_index >>= λ _. pass (math.some i))
+      | false ↦ pass math.none
     ]
 
-unfoldable pub JudgedIndexIs : Bool → List ℕ → Check (Option Index) → JudgedIndex → Type 0
-JudgedIndexIs big s (pass o) r = (r.code ≡ 0) × IndexedIs big s r.index o
-JudgedIndexIs big s (refuse n) r = (r.code ≡ n) × (0 < n)
+abbrev pub JudgedIndexIs : Bool → List ℕ → Check (math.Option Index) → Result Indexed Refusal → Type 0
+JudgedIndexIs big s c r = Tells (IndexedIs big s) c r

@@ -11,6 +11,7 @@ use Rattle.kept.specs.declared.state.InProgress.{InProgress}
 abbrev pub words_in : List ℕ → ℕ
 words_in b = length b / 4
 
+-- the same with another table of strings
 abbrev pub with_strings : InProgress → StringTable → InProgress
 with_strings st t = record { units = st.units; bases = st.bases; strings = t; skipped = st.skipped }
 

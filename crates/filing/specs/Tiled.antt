@@ -1,10 +1,12 @@
 -- What the functions for a package of version 5 require and ensure: 34, then 8 and 9 part by part.
 -- Assumes nothing.
-use Rattle.std.specs.Prelude.{◌≡◌, Bool, List, [], ◌++◌, ℕ, ◌+◌, ◌*◌, ◌/◌, ◌<◌, ◌≤◌, length, get_or}
+use Rattle.std.specs.Prelude.{◌≡◌, Bool, List, [], ◌++◌, ℕ, ◌+◌, ◌*◌, ◌/◌, ◌<◌, ◌≤◌, length, get_or, Result}
+use Rattle.std.specs.Prelude as code
 use Rattle.std.proofs.Math.Option.{Option}
 use Rattle.numbers.specs.Tables.{dwarf5}
 use Rattle.numbers.specs.Sections.{str_offsets_code, cu_index_code, tu_index_code}
-use Rattle.octets.specs.Checked.{Check, pass, refuse, ◌>>=◌}
+use Rattle.numbers.specs.declared.refusals.Refusal.{Refusal}
+use Rattle.octets.specs.Checked.{Check, pass, ◌>>=◌}
 use Rattle.bundle.specs.Encoding.{Encoding}
 use Rattle.bundle.specs.Encoded.{encoding_is}
 use Rattle.numbers.specs.Limits.{bundle_limit, work_for_word, string_words}
@@ -18,11 +20,10 @@ use Rattle.places.specs.Marks.{Marks, Marked, good_end}
 use Rattle.package.specs.Pieces.{used_in, pieces_of}
 use Rattle.kept.specs.Regions.{strings_region}
 use Rattle.filing.specs.declared.input.InputObject.{InputObject}
-use Rattle.filing.specs.declared.input.Indexed.{Indexed}
-use Rattle.filing.specs.declared.parts.Parts.{Parts}
-use Rattle.filing.specs.declared.objects.StringsFiled.{StringsFiled}
+use Rattle.octets.specs.Options.{found}
 use Rattle.filing.specs.Judged.{section_of, IndexedIs}
 use Rattle.filing.specs.State.{words_in}
+use Rattle.filing.specs.Tells.{Tells}
 use Rattle.filing.specs.ByObject.{StringsIn, StringsAre}
 
 -- ---- 34
@@ -36,8 +37,8 @@ pub record PartsAsked (b : List ℕ) (x : InputObject) : Type 0 where
   pub tu_is : IndexedIs x.encoding.big (section_of b x tu_index_code) x.tu tu
 
 -- the parts that the rows of an index name are marked, beside those that are; ms are the marks before, ns those after it
-abbrev pub IndexMarked : Bool → List ℕ → Indexed → List ℕ → List ℕ → Bool → Type 0
-IndexMarked big s indexed ms ns r = (o : Option Index) (cs : List Contribution) → IndexedIs big s indexed o → Marks cs ms → Marked (named o ++ cs) ms ns r
+abbrev pub IndexMarked : code.Option Index → List ℕ → List ℕ → Bool → Type 0
+IndexMarked index ms ns r = (o : Option Index) (cs : List Contribution) → index ≡ found o → Marks cs ms → Marked (named o ++ cs) ms ns r
 
 -- the parts that both indexes name are marked; ms are the marks before, ns those after it
 abbrev pub BothMarked : List ℕ → InputObject → List ℕ → List ℕ → Bool → Type 0
@@ -46,11 +47,10 @@ BothMarked b x ms ns r =
     → Marks [] ms → (length ns ≡ length ms) × Marked (named cu ++ named tu) ms ns r
 
 -- the refusal, or where the first part starts that 8 refuses
-unfoldable pub PartsAre : Encoding → List ℕ → Check (List Contribution) → Parts → Type 0
-PartsAre e s (refuse m) r = (r.code ≡ m) × (0 < m)
-PartsAre e s (pass ts) r = (r.code ≡ 0) × (r.good ≡ good_end e s ts)
+abbrev pub PartsAre : Encoding → List ℕ → Check (List Contribution) → Result ℕ Refusal → Type 0
+PartsAre e s c r = Tells (λ good ts. good ≡ good_end e s ts) c r
 
-abbrev pub PartsAnswered : List ℕ → InputObject → Parts → Type 0
+abbrev pub PartsAnswered : List ℕ → InputObject → Result ℕ Refusal → Type 0
 PartsAnswered b x r =
     (cu tu : Option Index) → IndexedIs x.encoding.big (section_of b x cu_index_code) x.cu cu → IndexedIs x.encoding.big (section_of b x tu_index_code) x.tu tu
     → PartsAre (encoding_is x.encoding) (section_of b x str_offsets_code) (tiles (named cu ++ named tu) (section_of b x str_offsets_code)) r
@@ -78,7 +78,7 @@ pub record PartsPutAsked (b : List ℕ) (o : StrOffsets) (good : ℕ) (t : Strin
   pub parts : List Contribution
   pub up_to : GoodUpTo b o good parts
 
-abbrev pub PartsPut : List ℕ → StrOffsets → ℕ → StringTable → List ℕ → List ℕ → StringsFiled → Type 0
-PartsPut b o good t w v r =
+abbrev pub PartsPut : List ℕ → StrOffsets → ℕ → StringTable → StringTable → List ℕ → List ℕ → Result (Unit {0}) Refusal → Type 0
+PartsPut b o good t next w v r =
     (ts : List (List ℕ)) (ps : List Contribution) → StringsIn b w t ts → GoodUpTo b o good ps
-    → StringsAre b v ts (pieces_of (encoding_is o.encoding) (bytes_at b o.strings) (bytes_at b o.offsets) ps >>= λ q. pass (used_in q)) r
+    → StringsAre b v ts next (pieces_of (encoding_is o.encoding) (bytes_at b o.strings) (bytes_at b o.offsets) ps >>= λ q. pass (used_in q)) r

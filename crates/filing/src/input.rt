@@ -1,25 +1,30 @@
 // One object, judged up to its units: 4 to 7 and 10. What it answers is by value; the bytes stay in the bundle.
-ghost use Rattle.std.specs.Prelude.{◌≡◌, List, ℕ, ◌+◌, ◌≤◌, leb, length};
-ghost use Rattle.octets.specs.Octets.{part};
+ghost use Rattle.std.specs.Prelude.{◌≡◌, List, ℕ, ◌+◌, ◌<◌, ◌≤◌, leb, length, get_or, IfSome};
+ghost use Rattle.std.proofs.Math.Option.{Option};
+ghost use Rattle.octets.specs.Options.{found};
+ghost use Rattle.index.specs.Index.{Index};
+ghost use Rattle.index.specs.Held.{Well};
+ghost use Rattle.numbers.specs.Sections.{section_codes};
 ghost use Rattle.bundle.specs.Bundle.{Part};
 ghost use Rattle.bundle.specs.Scan.{scan_of};
 ghost use Rattle.bundle.specs.Encoded.{encoding_is};
 ghost use Rattle.package.specs.Input.{form_of};
-ghost use Rattle.filing.specs.Judged.{object_check, JudgedIs, index_check, JudgedIndexIs};
+ghost use Rattle.filing.specs.Judged.{
+  IndexedIs,
+  section_of,
+  packed_by,
+  object_check,
+  JudgedIs,
+  index_check,
+  JudgedIndexIs,
+};
 
 use bundle::Scan;
 use bundle::encoding::ObjectEncoding;
-use index::reading::{IndexHead, IndexRead};
-use numbers::refusals::{BAD_ENCODING, BAD_INDEX, OTHER_ENCODING, SECTION_MISSING, WRONG_EDITION};
+use index::reading::{Index, IndexHead};
+use numbers::refusals::Refusal;
 use numbers::sections::CODES;
 use numbers::tables::{INDEX_2, INDEX_5};
-
-// An index of the object, or that it has none.
-#[derive(Clone, Copy)]
-pub enum Indexed {
-    At(IndexHead),
-    Nowhere,
-}
 
 // An object that passed: where the first section of each code lies in the bundle, 0 and 0 where there is none.
 #[derive(Clone, Copy)]
@@ -27,105 +32,79 @@ pub struct InputObject {
     pub encoding: ObjectEncoding,
     pub start: [usize; CODES],
     pub size: [usize; CODES],
-    pub cu: Indexed,
-    pub tu: Indexed,
+    pub cu: Option<IndexHead>,
+    pub tu: Option<IndexHead>,
 }
 
-// 0 and the encoding, or the refusal's number.
-#[derive(Clone, Copy)]
-pub struct Judged {
-    pub code: u32,
-    pub encoding: ObjectEncoding,
+impl InputObject {
+    // The first section of a code. Callers know that it lies in the bundle.
+    pub fn section<'a>(&self, b: &'a [u8], code: usize) -> &'a [u8]
+        requires { (code < section_codes) × (get_or self.now.start code 0 + get_or self.now.size code 0 ≤ length b.now) }
+        ensures { result.now ≡ section_of b.now self.now code }
+    {
+        let start = self.start[code];
+        &b[start..start + self.size[code]]
+    }
+
+    // Whether the object is a package of version 5.
+    #[tactic(auto, unfolding(crate::specs::Judged::packed_by))]
+    pub fn is_package(&self) -> bool
+        ensures { result ≡ packed_by self.now }
+    {
+        crate::editions::is_packed(self.encoding.five, self.cu.is_some(), self.tu.is_some())
+    }
 }
 
-// 0 and the index, or the refusal's number.
-#[derive(Clone, Copy)]
-pub struct JudgedIndex {
-    pub code: u32,
-    pub index: Indexed,
+// An index of the object, as its section's bytes hold it, where it has one.
+pub fn held<'a>(big: bool, s: &'a [u8], indexed: Option<IndexHead>) -> Option<Index<'a>>
+    requires { (o : Option Index) × IndexedIs big s.now indexed o }
+    ensures is { (o : Option Index) → IndexedIs big s.now indexed o → result ≡ found o }
+    ensures well { IfSome result Well }
+{
+    let head = indexed?;
+    Some(Index::of(big, s, head))
 }
 
 // 4 to 7, of an object by its word and how many sections of each code it has; first is the first object's word.
-pub fn judge_object(big: bool, first: u32, word: u32, scan: Scan) -> Judged
-    ensures { (at : ℕ) (ps : List Part) → scan ≡ scan_of at ps → JudgedIs (object_check big first word ps) result }
+pub fn judge_object(
+    big: bool,
+    first: u32,
+    word: u32,
+    scan: &Scan,
+) -> Result<ObjectEncoding, Refusal>
+    ensures { (at : ℕ) (ps : List Part) → scan.now ≡ scan_of at ps → JudgedIs (object_check big first word ps) result }
 {
-    let Ok(encoding) = bundle::encoding::read_word(big, word) else {
-        let none = ObjectEncoding {
-            big,
-            five: false,
-            wide: false,
-            long: false,
-        };
-        return Judged {
-            code: BAD_ENCODING,
-            encoding: none,
-        };
-    };
+    let encoding = bundle::encoding::read_word(big, word)?;
     if word != first {
-        return Judged {
-            code: OTHER_ENCODING,
-            encoding,
-        };
+        return Err(Refusal::OtherEncoding);
     }
-    let count = scan.count;
-    if !crate::editions::edition_good(encoding.five, count) {
-        return Judged {
-            code: WRONG_EDITION,
-            encoding,
-        };
+    if !crate::editions::edition_good(encoding.five, scan.count) {
+        return Err(Refusal::WrongEdition);
     }
-    if !crate::editions::complete(count) {
-        return Judged {
-            code: SECTION_MISSING,
-            encoding,
-        };
+    if !crate::editions::complete(scan.count) {
+        return Err(Refusal::SectionMissing);
     }
-    Judged { code: 0, encoding }
+    Ok(encoding)
 }
 
 // The version of an object's indexes.
 fn form(e: ObjectEncoding) -> u32
     ensures { result ≡ form_of (encoding_is e) }
 {
-    if e.five {
-        return INDEX_5;
-    }
-    INDEX_2
+    if e.five { INDEX_5 } else { INDEX_2 }
 }
 
-// 10, of a section that lies there where there is one. Callers have it from a scan of the bundle.
-pub fn judge_index(
-    b: &[u8],
-    e: ObjectEncoding,
-    start: usize,
-    size: usize,
-    count: usize,
-) -> JudgedIndex
-    requires { start + size ≤ length b.now }
-    ensures { JudgedIndexIs e.big (part b.now start size) (index_check e.big (form_of (encoding_is e)) (leb 1 count) (part b.now start size)) result }
+// 10, of a section by its bytes, where there is one: count says how often.
+pub fn judge_index(s: &[u8], e: ObjectEncoding, count: usize) -> Result<Option<IndexHead>, Refusal>
+    ensures { JudgedIndexIs e.big s.now (index_check e.big (form_of (encoding_is e)) (leb 1 count) s.now) result }
 {
-    let version = form(e);
-    if count < 1 {
-        return JudgedIndex {
-            code: 0,
-            index: Indexed::Nowhere,
-        };
+    if count == 0 {
+        return Ok(None);
     }
-    let end = start + size;
-    let IndexRead::Good(head) = index::reading::read_index(e.big, &b[start..end]) else {
-        return JudgedIndex {
-            code: BAD_INDEX,
-            index: Indexed::Nowhere,
-        };
-    };
-    if head.version != version {
-        return JudgedIndex {
-            code: BAD_INDEX,
-            index: Indexed::Nowhere,
-        };
+    let index = Index::read(e.big, s)?;
+    let head = index.head();
+    if head.version != form(e) {
+        return Err(Refusal::BadIndex);
     }
-    JudgedIndex {
-        code: 0,
-        index: Indexed::At(head),
-    }
+    Ok(Some(head))
 }

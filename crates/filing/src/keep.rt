@@ -15,36 +15,21 @@ pub fn keep_unit(
     slot: usize,
     unit: Unit,
     k: Contributions,
-    st: InProgress,
+    st: &mut InProgress,
     work: &mut [u32],
-) -> InProgress
-    requires { KeepAsked five n slot unit k st work.old }
-    ensures held { UnitKept five n slot unit k st work.old work.new result }
-    ensures strings { StringsKept n work.old work.new st result }
+)
+    requires { KeepAsked five n slot unit k st.old work.old }
+    ensures held { UnitKept five n slot unit k st.old work.old work.new st.new }
+    ensures strings { StringsKept n work.old work.new st.old st.new }
     ensures transient { TransientStay n work.old work.new }
 {
-    let units = st.units;
-    let bases = st.bases;
-    let strings = st.strings;
-    let skipped = st.skipped;
-    let home = unit.home;
-    let table = unit.table;
-    let size = unit.size;
-    let place = kept::by_number::bytes_of(units, home);
-    let cells = kept::cells::cells_of(k, bases, home, place, size);
-    kept::slots::keep(work, n, units.count, slot, unit, five, cells);
-    let old = kept::by_number::table_of(units, table);
-    let marked = old.has;
-    let has = kept::columns::mark_columns(five, marked, cells);
+    let place = kept::by_number::bytes_of(st.units, unit.home);
+    let cells = kept::cells::cells_of(k, st.bases, unit.home, place, unit.size);
+    kept::slots::keep(work, n, st.units.count, slot, unit, five, cells);
+    let old = kept::by_number::table_of(st.units, unit.table);
     let t = Table {
         rows: unit.row,
-        has,
+        has: kept::columns::mark_columns(five, old.has, cells),
     };
-    let more = kept::by_number::with_unit(units, table, t, home, place + size);
-    InProgress {
-        units: more,
-        bases,
-        strings,
-        skipped,
-    }
+    st.units = kept::by_number::with_unit(st.units, unit.table, t, unit.home, place + unit.size);
 }

@@ -9,6 +9,5 @@ pub mod objects;
 pub mod parts;
 pub mod reading;
 pub mod single;
-pub mod state;
 pub mod units;
 pub mod walks;

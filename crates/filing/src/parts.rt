@@ -1,12 +1,8 @@
 // A package of version 5: 34, that the parts which rows name tile str_offsets, then 8 and 9 part by part.
 ghost use Rattle.std.specs.Prelude.{◌≡◌, ◌<◌, ◌^◌, length, get_or};
-ghost use Rattle.std.proofs.Math.Option.{Option};
 ghost use Rattle.numbers.specs.Sections.{str_offsets_code};
-ghost use Rattle.strings.specs.Kept.{Inside, bytes_at};
-ghost use Rattle.index.specs.Index.{Index};
 ghost use Rattle.kept.specs.Regions.{codes_region, Only};
 ghost use Rattle.filing.specs.State.{words_in, OnlyStore};
-ghost use Rattle.filing.specs.Judged.{IndexedIs};
 ghost use Rattle.filing.specs.ByPlace.{WorkFor};
 ghost use Rattle.filing.specs.Tiled.{
   PartsAsked,
@@ -18,88 +14,53 @@ ghost use Rattle.filing.specs.Tiled.{
   PartsPut,
 };
 
-use crate::input::{Indexed, InputObject};
-use crate::objects::StringsFiled;
-use numbers::refusals::{BAD_PARTS, BAD_STR_OFFSETS, NO_STRING};
+use crate::input::{InputObject, held};
+use index::reading::Index;
+use numbers::refusals::Refusal;
 use numbers::sections::{CU_INDEX, STR_OFFSETS, TU_INDEX};
 use strings::table::{Place, StrOffsets, StringTable};
 
-// 0 or the refusal, and where the first part starts that 8 refuses.
-#[derive(Clone, Copy)]
-pub struct Parts {
-    pub code: u32,
-    pub good: usize,
-}
-
-// Marks the parts that the rows of an index name, which lies there where there is one. False where they clash.
-fn mark_index(b: &[u8], big: bool, place: Place, indexed: Indexed, marks: &mut [u32]) -> bool
-    requires { Inside b.now place × (length marks.old < 2 ^ 32) × ((o : Option Index) × IndexedIs big (bytes_at b.now place) indexed o) }
-    ensures { IndexMarked big (bytes_at b.now place) indexed marks.old marks.new result }
+// Marks the parts that the rows of an index name, where there is one. False where they clash.
+fn mark_index(index: Option<Index>, marks: &mut [u32]) -> bool
+    requires { length marks.old < 2 ^ 32 }
+    ensures { IndexMarked index.entry marks.old marks.new result }
 {
-    let Indexed::At(head) = indexed else {
-        return true;
-    };
-    let start = place.start;
-    let end = start + place.size;
-    places::tiles::mark_rows(big, &b[start..end], head, marks)
+    match index {
+        Some(index) => places::tiles::mark_rows(&index, marks),
+        None => true,
+    }
 }
 
 // Marks the parts that both indexes name.
-fn mark_indexes(b: &[u8], x: InputObject, marks: &mut [u32]) -> bool
-    requires { PartsAsked b.now x × (length marks.old < 2 ^ 32) }
-    ensures { BothMarked b.now x marks.old marks.new result }
+fn mark_indexes(b: &[u8], x: &InputObject, marks: &mut [u32]) -> bool
+    requires { PartsAsked b.now x.now × (length marks.old < 2 ^ 32) }
+    ensures { BothMarked b.now x.now marks.old marks.new result }
 {
     let big = x.encoding.big;
-    let tu = x.tu;
-    let types = Place {
-        start: x.start[TU_INDEX],
-        size: x.size[TU_INDEX],
-    };
-    if mark_index(b, big, types, tu, marks) {
-        let cu = x.cu;
-        let compilations = Place {
-            start: x.start[CU_INDEX],
-            size: x.size[CU_INDEX],
-        };
-        return mark_index(b, big, compilations, cu, marks);
-    }
-    false
+    mark_index(held(big, x.section(b, TU_INDEX), x.tu), marks)
+        && mark_index(held(big, x.section(b, CU_INDEX), x.cu), marks)
 }
 
 // By marks, a word for each byte of str_offsets.
-fn tile_parts(b: &[u8], x: InputObject, marks: &mut [u32]) -> Parts
-    requires { PartsAsked b.now x × (length marks.old ≡ get_or x.size str_offsets_code 0) }
-    ensures { PartsAnswered b.now x result }
+fn tile_parts(b: &[u8], x: &InputObject, marks: &mut [u32]) -> Result<usize, Refusal>
+    requires { PartsAsked b.now x.now × (length marks.old ≡ get_or x.now.size str_offsets_code 0) }
+    ensures { PartsAnswered b.now x.now result }
 {
     octets::clear_words(marks);
-    if mark_indexes(b, x, marks) {
-        if places::tiles::tiled(marks) {
-            let e = x.encoding;
-            let first = x.start[STR_OFFSETS];
-            let last = first + x.size[STR_OFFSETS];
-            let good = places::tiles::good_parts(e, &b[first..last], marks);
-            return Parts { code: 0, good };
-        }
-        return Parts {
-            code: BAD_PARTS,
-            good: 0,
-        };
+    if !mark_indexes(b, x, marks) || !places::tiles::tiled(marks) {
+        return Err(Refusal::BadParts);
     }
-    Parts {
-        code: BAD_PARTS,
-        good: 0,
-    }
+    let offsets = x.section(b, STR_OFFSETS);
+    Ok(places::tiles::good_parts(x.encoding, offsets, marks))
 }
 
-// 34. The marks stand where the codes of an abbreviation table do, which count while units are filed.
-pub fn judge_parts(b: &[u8], x: InputObject, work: &mut [u32]) -> Parts
-    requires { PartsAsked b.now x × WorkFor b.now work.old }
-    ensures parts_answered { PartsAnswered b.now x result }
+// 34, and where the first part starts that 8 refuses. The marks stand where the codes of an abbreviation table do, which count while units are filed.
+pub fn judge_parts(b: &[u8], x: &InputObject, work: &mut [u32]) -> Result<usize, Refusal>
+    requires { PartsAsked b.now x.now × WorkFor b.now work.old }
+    ensures parts_answered { PartsAnswered b.now x.now result }
     ensures frame { Only codes_region (words_in b.now) work.old work.new }
 {
-    let n = b.len() / 4;
-    let codes = kept::regions::codes(n);
-    let from = codes.start;
+    let from = kept::regions::codes(b.len() / 4).start;
     let to = from + x.size[STR_OFFSETS];
     tile_parts(b, x, &mut work[from..to])
 }
@@ -108,18 +69,11 @@ pub fn judge_parts(b: &[u8], x: InputObject, work: &mut [u32]) -> Parts
 fn offsets_before(o: StrOffsets, good: usize) -> StrOffsets
     ensures { result ≡ offsets_before o good }
 {
-    let encoding = o.encoding;
-    let whole = o.offsets;
-    let strings = o.strings;
     let offsets = Place {
-        start: whole.start,
         size: good,
+        ..o.offsets
     };
-    StrOffsets {
-        encoding,
-        offsets,
-        strings,
-    }
+    StrOffsets { offsets, ..o }
 }
 
 // 9 of the parts before the first one that 8 refuses, then 8. The caller knows that parts tile the section.
@@ -127,11 +81,11 @@ pub fn add_parts(
     b: &[u8],
     o: StrOffsets,
     good: usize,
-    t: StringTable,
+    t: &mut StringTable,
     work: &mut [u32],
-) -> StringsFiled
-    requires { PartsPutAsked b.now o good t work.old }
-    ensures put { PartsPut b.now o good t work.old work.new result }
+) -> Result<(), Refusal>
+    requires { PartsPutAsked b.now o good t.old work.old }
+    ensures put { PartsPut b.now o good t.old t.new work.old work.new result }
     ensures frame { OnlyStore (words_in b.now) work.old work.new }
 {
     let n = b.len() / 4;
@@ -139,23 +93,10 @@ pub fn add_parts(
     let store = kept::regions::store(n);
     let from = store.start;
     let to = from + store.size;
-    let whole = o.offsets;
     let before = offsets_before(o, good);
-    let mut more = t;
-    let Ok(()) = more.add_pieces(before, b, &mut work[from..to], table.size) else {
-        return StringsFiled {
-            code: NO_STRING,
-            strings: t,
-        };
-    };
-    if good < whole.size {
-        return StringsFiled {
-            code: BAD_STR_OFFSETS,
-            strings: t,
-        };
+    t.add_pieces(before, b, &mut work[from..to], table.size)?;
+    if good < o.offsets.size {
+        return Err(Refusal::BadStrOffsets);
     }
-    StringsFiled {
-        code: 0,
-        strings: more,
-    }
+    Ok(())
 }

@@ -2,245 +2,166 @@
 // row's part alone.
 ghost use Rattle.std.specs.Prelude.{◌≡◌, List, ℕ, ◌+◌, ◌≤◌, ◌<◌, ◌^◌, length};
 ghost use Rattle.octets.specs.Octets.{part};
-ghost use Rattle.bundle.specs.Encoded.{encoding_is};
-ghost use Rattle.unit.specs.UnitRead.{common_size};
-ghost use Rattle.unit.specs.TableTrees.{Inside};
-ghost use Rattle.index.specs.Held.{Sized, index_in};
+ghost use Rattle.octets.specs.Options.{found};
+ghost use Rattle.package.specs.Input.{Input};
+ghost use Rattle.package.specs.Filing.{index_by_place};
+ghost use Rattle.filing.specs.Judged.{InputIs};
 ghost use Rattle.index.specs.Rows.{abbrev_part};
 ghost use Rattle.kept.specs.Regions.{rows_region, codes_region, Only};
 ghost use Rattle.filing.specs.State.{words_in, Remembered};
-ghost use Rattle.filing.specs.ByPlace.{
-  WorkFor,
-  indexed_by_place,
-  heads_for,
-  RowsChained,
-  AbbreviationsAre,
-  identified,
-};
+ghost use Rattle.filing.specs.ByPlace.{AbbreviationsAre};
 ghost use Rattle.filing.specs.Asked.{
+  RowsChained,
   ChainAsked,
+  IdentityAsked,
+  IdentityRead,
   AbbreviationsGiven,
   PlaceAsked,
   PlaceRead,
   Transient,
 };
 
-use crate::input::{Indexed, InputObject};
-use crate::units::HomeSection;
-use bundle::encoding::ObjectEncoding;
-use index::cells::Cell;
-use index::reading::IndexHead;
-use leb128::Size;
-use numbers::refusals::{BAD_HEADER, BAD_ROW, NO_ROW};
+use crate::input::held;
+use crate::units::Reading;
+use index::reading::Index;
+use numbers::refusals::Refusal;
 use numbers::sections::{ABBREV, CU_INDEX, INFO};
-use unit::header::{UnitAnswer, UnitPlace, UnitRead};
+use unit::header::{Identity, UnitPlace, UnitRead};
 use unit::judged::Judged;
 
-// The bytes of the bundle in which a unit's abbreviation table is read: 0 and where they lie, or the refusal's number.
+// The bytes of the bundle in which a unit's abbreviation table is read: where they lie.
 #[derive(Clone, Copy)]
 pub struct Abbreviations {
-    pub code: u32,
     pub first: usize,
     pub last: usize,
 }
 
-// The index whose rows name the units of a section by their place: cu_index, for info of version 4.
-fn index_by_place(x: InputObject, home: usize) -> Indexed
-    ensures { result ≡ indexed_by_place x home }
-{
-    let e = x.encoding;
-    if e.five {
-        return Indexed::Nowhere;
-    }
-    if home != INFO {
-        return Indexed::Nowhere;
-    }
-    let cu = x.cu;
-    cu
-}
-
-// A chain for each word of a section.
-fn heads_for(section: HomeSection) -> usize
-    requires { (section.start ≤ section.stop) × (section.stop < 2 ^ 32) }
-    ensures { result ≡ heads_for section }
-{
-    (section.stop - section.start + 3) / 4
-}
-
-// Chains the rows by the places that they name in a section, where its units are read by their place.
-pub fn chain_section(b: &[u8], x: InputObject, section: HomeSection, work: &mut [u32])
-    requires { ChainAsked b.now x section work.old }
-    ensures chained { RowsChained b.now x section work.new }
-    ensures frame { Only rows_region (words_in b.now) work.old work.new }
-{
-    let indexed = index_by_place(x, section.home);
-    let Indexed::At(head) = indexed else {
-        return;
-    };
-    let e = x.encoding;
-    let start = x.start[CU_INDEX];
-    let end = start + x.size[CU_INDEX];
-    let heads = heads_for(section);
-    let region = kept::regions::rows_by_place(b.len() / 4);
-    let from = region.start;
-    let to = from + region.size;
-    places::by_place::chain_rows(
-        e.big,
-        &b[start..end],
-        head,
-        INFO,
-        heads,
-        &mut work[from..to],
-    );
-}
-
-fn refused(code: u32) -> Abbreviations
-    ensures { result.code ≡ code }
-{
-    Abbreviations {
-        code,
-        first: 0,
-        last: 0,
-    }
-}
-
 // The abbrev part of a row, of the object's abbrev that lies at start.
 fn abbrev_part(
-    big: bool,
-    s: &[u8],
-    head: IndexHead,
+    index: &Index,
     row: usize,
     start: usize,
     size: usize,
-) -> Abbreviations
-    requires { Sized s.now head × (0 < row) × (row ≤ head.units) × (start + size < 2 ^ 32) }
-    ensures { (b : List ℕ) → start + size ≤ length b → AbbreviationsAre b (abbrev_part (index_in big s.now head) row (part b start size)) result }
+) -> Result<Abbreviations, Refusal>
+    requires { (0 < row) × (row ≤ index.now.units) × (start + size < 2 ^ 32) }
+    ensures { (b : List ℕ) → start + size ≤ length b → AbbreviationsAre b (abbrev_part index.now row (part b start size)) result }
 {
     if size == 0 {
-        return Abbreviations {
-            code: 0,
+        return Ok(Abbreviations {
             first: start,
             last: start,
-        };
+        });
     }
-    let Cell::Is(o, z) = index::cells::cell_of(big, s, head, row, ABBREV) else {
-        return refused(NO_ROW);
+    let Some(cell) = index.cell_of(row, ABBREV) else {
+        return Err(Refusal::NoRow);
     };
-    if o > size {
-        return refused(BAD_ROW);
+    if cell.offset > size || cell.size > size - cell.offset {
+        return Err(Refusal::BadRow);
     }
-    if z > size - o {
-        return refused(BAD_ROW);
-    }
-    let first = start + o;
-    Abbreviations {
-        code: 0,
+    let first = start + cell.offset;
+    Ok(Abbreviations {
         first,
-        last: first + z,
-    }
+        last: first + cell.size,
+    })
 }
 
-// The abbreviations of the unit of so many bytes at a place of a section: a row's part, where its units are read by their place, else the object's whole abbrev.
-fn abbreviations_for(
-    b: &[u8],
-    x: InputObject,
-    section: HomeSection,
-    at: usize,
-    size: usize,
-    work: &[u32],
-) -> Abbreviations
-    requires { PlaceAsked b.now x section at work.now × RowsChained b.now x section work.now }
-    ensures { AbbreviationsGiven b.now x section at size result }
-{
-    let start = x.start[ABBREV];
-    let many = x.size[ABBREV];
-    let indexed = index_by_place(x, section.home);
-    let Indexed::At(head) = indexed else {
-        return Abbreviations {
-            code: 0,
-            first: start,
-            last: start + many,
-        };
-    };
-    let e = x.encoding;
-    let first = x.start[CU_INDEX];
-    let last = first + x.size[CU_INDEX];
-    let s = &b[first..last];
-    let heads = heads_for(section);
-    let region = kept::regions::rows_by_place(b.len() / 4);
-    let from = region.start;
-    let to = from + region.size;
-    let place = at - section.start;
-    let row = places::by_place::row_at(e.big, s, head, heads, &work[from..to], place, size);
-    if row == 0 {
-        return refused(NO_ROW);
+impl<'a> Reading<'a> {
+    // The index whose rows name the units of the section by their place: cu_index, for info of version 4.
+    fn index_by_place(&self) -> Option<Index<'a>>
+        requires { (i : Input) × InputIs self.now.bundle.now self.now.object.now i }
+        ensures { (i : Input) → InputIs self.now.bundle.now self.now.object.now i → result ≡ found (index_by_place i self.now.section.home) }
+    {
+        let x = self.object;
+        if !x.encoding.five && self.section.home == INFO {
+            held(x.encoding.big, x.section(self.bundle, CU_INDEX), x.cu)
+        } else {
+            None
+        }
     }
-    abbrev_part(e.big, s, head, row, start, many)
-}
 
-// The identity of a unit whose head was read. The tables that were judged are remembered in the region of codes.
-fn identity_in(
-    e: ObjectEncoding,
-    home: u32,
-    b: &[u8],
-    place: UnitPlace,
-    judged: Judged,
-    work: &mut [u32],
-) -> UnitRead
-    requires { (common_size (encoding_is e) ≤ place.size) × Inside b.now place × WorkFor b.now work.old × Remembered b.now work.old judged }
-    ensures is { result.answer ≡ identified (encoding_is e) home b.now place }
-    ensures memory { Remembered b.now work.new result.judged }
-    ensures frame { Only codes_region (words_in b.now) work.old work.new }
-{
-    let region = kept::regions::codes(b.len() / 4);
-    let from = region.start;
-    let to = from + region.size;
-    let read = unit::header::unit_identity(e, home, b, place, &mut work[from..to], judged);
-    let answer = read.answer;
-    let memory = read.judged;
-    let whole = unit::header::with_size(place.size, answer);
-    UnitRead {
-        answer: whole,
-        judged: memory,
+    // Chains the rows by the places that they name in the section, where its units are read by their place.
+    pub fn chain_rows(&self, work: &mut [u32])
+        requires { ChainAsked self.now work.old }
+        ensures chained { RowsChained self.now work.new }
+        ensures frame { Only rows_region (words_in self.now.bundle.now) work.old work.new }
+    {
+        let Some(index) = self.index_by_place() else {
+            return;
+        };
+        let region = kept::regions::rows_by_place(self.bundle.len() / 4);
+        let from = region.start;
+        let to = from + region.size;
+        places::by_place::chain_rows(&index, INFO, self.section.heads(), &mut work[from..to]);
     }
-}
 
-// The unit at a place of a section: its head, its abbreviations, its identity.
-pub fn read_at(
-    b: &[u8],
-    x: InputObject,
-    section: HomeSection,
-    at: usize,
-    judged: Judged,
-    work: &mut [u32],
-) -> UnitRead
-    requires { PlaceAsked b.now x section at work.old × Transient b.now x section judged work.old }
-    ensures read { PlaceRead b.now x section at result }
-    ensures transient { Transient b.now x section result.judged work.new }
-    ensures frame { Only codes_region (words_in b.now) work.old work.new }
-{
-    let e = x.encoding;
-    let stop = section.stop;
-    let Size::Is(size) = unit::header::unit_head(e, &b[at..stop]) else {
-        return UnitRead {
-            answer: UnitAnswer::Refused(BAD_HEADER),
-            judged,
+    // The abbreviations of the unit of so many bytes at a place: a row's part, where its units are read by their place, else the object's whole abbrev.
+    fn abbreviations(&self, at: usize, size: usize, work: &[u32]) -> Result<Abbreviations, Refusal>
+        requires { PlaceAsked self.now at work.now × RowsChained self.now work.now }
+        ensures { AbbreviationsGiven self.now at size result }
+    {
+        let start = self.object.start[ABBREV];
+        let many = self.object.size[ABBREV];
+        let Some(index) = self.index_by_place() else {
+            return Ok(Abbreviations {
+                first: start,
+                last: start + many,
+            });
         };
-    };
-    let theirs = abbreviations_for(b, x, section, at, size, work);
-    let code = theirs.code;
-    if code != 0 {
-        return UnitRead {
-            answer: UnitAnswer::Refused(code),
-            judged,
-        };
+        let heads = self.section.heads();
+        let region = kept::regions::rows_by_place(self.bundle.len() / 4);
+        let from = region.start;
+        let to = from + region.size;
+        let place = at - self.section.start;
+        let row = places::by_place::row_at(&index, heads, &work[from..to], place, size)?;
+        abbrev_part(&index, row, start, many)
     }
-    let place = UnitPlace {
-        at,
-        size,
-        first: theirs.first,
-        last: theirs.last,
-    };
-    let home = octets::narrow(section.home);
-    identity_in(e, home, b, place, judged, work)
+
+    // The identity of a unit whose head was read, and its table. The tables that were judged are remembered in the region of codes.
+    fn identity(
+        &self,
+        place: UnitPlace,
+        judged: &mut Judged,
+        work: &mut [u32],
+    ) -> Result<Identity, Refusal>
+        requires { IdentityAsked self.now place judged.old work.old }
+        ensures is { IdentityRead self.now place result }
+        ensures memory { Remembered self.now.bundle.now work.new judged.new }
+        ensures frame { Only codes_region (words_in self.now.bundle.now) work.old work.new }
+    {
+        let e = self.object.encoding;
+        let home = self.section.home as u32;
+        let region = kept::regions::codes(self.bundle.len() / 4);
+        let from = region.start;
+        let to = from + region.size;
+        unit::header::unit_identity(e, home, self.bundle, place, &mut work[from..to], judged)
+    }
+
+    // The unit at a place of the section: its head, its abbreviations, its identity.
+    pub fn read_at(
+        &self,
+        at: usize,
+        judged: &mut Judged,
+        work: &mut [u32],
+    ) -> Result<UnitRead, Refusal>
+        requires { PlaceAsked self.now at work.old × Transient self.now judged.old work.old }
+        ensures read { PlaceRead self.now at result }
+        ensures transient { Transient self.now judged.new work.new }
+        ensures frame { Only codes_region (words_in self.now.bundle.now) work.old work.new }
+    {
+        let e = self.object.encoding;
+        let size = unit::header::unit_head(e, &self.bundle[at..self.section.stop])?;
+        let theirs = self.abbreviations(at, size, work)?;
+        let place = UnitPlace {
+            at,
+            size,
+            first: theirs.first,
+            last: theirs.last,
+        };
+        let read = self.identity(place, judged, work)?;
+        Ok(UnitRead {
+            size,
+            table: read.table,
+            identity: read.identity,
+        })
+    }
 }

@@ -11,57 +11,45 @@ ghost use Rattle.filing.specs.Asked.{
   UnitAnswered,
 };
 
-use crate::input::InputObject;
-use crate::state::COMPILATION;
-use crate::units::{HomeSection, ReadUnit, UnitDone, UnitFiled};
+use crate::units::Reading;
 use kept::Units;
 use kept::records::Unit;
 use kept::slots::Sought;
 use kept::state::InProgress;
-use numbers::refusals::IDENTITY_SEEN;
-use unit::header::UnitAnswer;
+use numbers::refusals::Refusal;
+use numbers::tables::COMPILATION;
+use unit::header::UnitRead;
 use unit::judged::Judged;
-
-fn refused(code: u32, st: InProgress) -> UnitFiled
-    ensures { result.code ≡ code }
-{
-    UnitFiled { code, size: 0, st }
-}
 
 // A unit whose table and identity are those of the record with a number: 14, or skipped and compared with the kept one.
 fn file_known(
     b: &[u8],
     number: usize,
     at: usize,
-    read: ReadUnit,
-    st: InProgress,
+    read: UnitRead,
+    st: &mut InProgress,
     work: &[u32],
-) -> UnitFiled
-    requires { KnownAsked b.now number at read.size st work.now }
-    ensures { KnownIs b.now number at read.table read.size st work.now result }
+) -> Result<usize, Refusal>
+    requires { KnownAsked b.now number at read.size st.old work.now }
+    ensures { KnownIs b.now number at read.table read.size st.old st.new work.now result }
 {
-    let size = read.size;
     if read.table == COMPILATION {
-        return refused(IDENTITY_SEEN, st);
+        return Err(Refusal::IdentitySeen);
     }
-    let agrees = kept::unit_bytes::same_as_kept(b, work, number, at, size);
-    let next = kept::state::skip_one(st, agrees);
-    UnitFiled {
-        code: 0,
-        size,
-        st: next,
-    }
+    let agrees = kept::unit_bytes::same_as_kept(b, work, number, at, read.size);
+    *st = kept::state::skip_one(*st, agrees);
+    Ok(read.size)
 }
 
 // What is stored of a unit that was read at a place of the bundle. Callers have few rows.
-fn unit_for(units: Units, home: usize, at: usize, read: ReadUnit) -> Unit
+fn unit_for(units: Units, home: usize, at: usize, read: UnitRead) -> Unit
     requires { (pick read.table units.cu units.tu).rows < 2 ^ 32 }
     ensures { result ≡ unit_for units home at read }
 {
-    let table = kept::by_number::table_of(units, read.table);
+    let table = read.table as usize;
     Unit {
-        table: read.table,
-        row: table.rows + 1,
+        table,
+        row: kept::by_number::table_of(units, table).rows + 1,
         identity: read.identity,
         home,
         start: at,
@@ -69,79 +57,49 @@ fn unit_for(units: Units, home: usize, at: usize, read: ReadUnit) -> Unit
     }
 }
 
-// A unit that was read: 14, skipped, 15 and 16, or kept. A free slot is always found, since slots exceed units.
-fn file_read(
-    b: &[u8],
-    x: InputObject,
-    section: HomeSection,
-    at: usize,
-    read: ReadUnit,
-    st: InProgress,
-    work: &mut [u32],
-) -> UnitFiled
-    requires { ReadAsked b.now x section at read st work.old }
-    ensures filed { ReadFiled b.now x section at read st work.old work.new result }
-    ensures transient { TransientStay (words_in b.now) work.old work.new }
-{
-    let n = b.len() / 4;
-    let home = section.home;
-    let table = read.table;
-    let size = read.size;
-    let units = st.units;
-    let e = x.encoding;
-    let count = kept::slots::seen_slots(n);
-    let slot = match kept::slots::seek_in(work, n, table, units.count, count, read.identity) {
-        Sought::Known(number) => {
-            return file_known(b, number, at, read, st, work);
-        }
-        Sought::Free(slot) => slot,
-    };
-    let judged = crate::contributions::contributions_of(b, x, home, at - section.start, read);
-    let code = judged.code;
-    if code != 0 {
-        return refused(code, st);
+impl<'a> Reading<'a> {
+    // A unit that was read: 14, skipped, 15 and 16, or kept. A free slot is always found, since slots exceed units.
+    fn file_read(
+        &self,
+        at: usize,
+        read: UnitRead,
+        st: &mut InProgress,
+        work: &mut [u32],
+    ) -> Result<usize, Refusal>
+        requires { ReadAsked self.now at read st.old work.old }
+        ensures filed { ReadFiled self.now at read st.old st.new work.old work.new result }
+        ensures transient { TransientStay (words_in self.now.bundle.now) work.old work.new }
+    {
+        let b = self.bundle;
+        let x = self.object;
+        let home = self.section.home;
+        let n = b.len() / 4;
+        let table = read.table as usize;
+        let count = st.units.count;
+        let slots = kept::slots::seen_slots(n);
+        let slot = match kept::slots::seek_in(work, n, table, count, slots, read.identity) {
+            Sought::Known(number) => return file_known(b, number, at, read, st, work),
+            Sought::Free(slot) => slot,
+        };
+        let k = crate::contributions::contributions_of(b, x, home, at - self.section.start, read)?;
+        let unit = unit_for(st.units, home, at, read);
+        crate::keep::keep_unit(x.encoding.five, n, slot, unit, k, st, work);
+        Ok(read.size)
     }
-    let k = judged.contributions;
-    let unit = unit_for(units, home, at, read);
-    let next = crate::keep::keep_unit(e.five, n, slot, unit, k, st, work);
-    UnitFiled {
-        code: 0,
-        size,
-        st: next,
-    }
-}
 
-// The unit at a place of a section of units.
-pub fn file_unit(
-    b: &[u8],
-    x: InputObject,
-    section: HomeSection,
-    at: usize,
-    st: InProgress,
-    last: Judged,
-    work: &mut [u32],
-) -> UnitDone
-    requires { UnitAsked b.now x section at st work.old × Transient b.now x section last work.old }
-    ensures filed { UnitAnswered b.now x section at st work.old work.new result.filed }
-    ensures transient { Transient b.now x section result.judged work.new }
-{
-    let unit = crate::reading::read_at(b, x, section, at, last, work);
-    let judged = unit.judged;
-    let answer = unit.answer;
-    match answer {
-        UnitAnswer::Refused(code) => {
-            let filed = refused(code, st);
-            UnitDone { filed, judged }
-        }
-        UnitAnswer::Read(size, number, identity) => {
-            let table = octets::wide(number);
-            let read = ReadUnit {
-                size,
-                table,
-                identity,
-            };
-            let filed = file_read(b, x, section, at, read, st, work);
-            UnitDone { filed, judged }
-        }
+    // The unit at a place of the section, and its size. The abbreviation tables that were judged are remembered.
+    pub fn file_unit(
+        &self,
+        at: usize,
+        st: &mut InProgress,
+        judged: &mut Judged,
+        work: &mut [u32],
+    ) -> Result<usize, Refusal>
+        requires { UnitAsked self.now at st.old work.old × Transient self.now judged.old work.old }
+        ensures filed { UnitAnswered self.now at st.old st.new work.old work.new result }
+        ensures transient { Transient self.now judged.new work.new }
+    {
+        let read = self.read_at(at, judged, work)?;
+        self.file_read(at, read, st, work)
     }
 }

@@ -1,6 +1,8 @@
-// What filing units takes and answers by value.
-use kept::state::InProgress;
-use unit::judged::Judged;
+// What is read while the units of an object are filed.
+ghost use Rattle.std.specs.Prelude.{◌≡◌, ◌<◌, ◌≤◌, ◌^◌};
+ghost use Rattle.filing.specs.ByPlace.{heads_for};
+
+use crate::input::InputObject;
 
 // The section of units at hand: its code, and where it lies in the bundle.
 #[derive(Clone, Copy)]
@@ -10,38 +12,21 @@ pub struct HomeSection {
     pub stop: usize,
 }
 
-// A unit that was read, as its header states it.
-#[derive(Clone, Copy)]
-pub struct ReadUnit {
-    pub size: usize,
-    pub table: usize,
-    pub identity: u64,
+impl HomeSection {
+    // A chain for each word of the section.
+    #[tactic(auto, unfolding(crate::specs::ByPlace::heads_for))]
+    pub fn heads(self) -> usize
+        requires { (self.start ≤ self.stop) × (self.stop < 2 ^ 32) }
+        ensures { result ≡ heads_for self }
+    {
+        (self.stop - self.start + 3) / 4
+    }
 }
 
-// A unit filed: 0 or the refusal, its size, and what is known behind it.
+// The bundle, the object and the section at hand.
 #[derive(Clone, Copy)]
-pub struct UnitFiled {
-    pub code: u32,
-    pub size: usize,
-    pub st: InProgress,
-}
-
-// The units of a section, or of an object: 0 or the refusal, and what is known behind them.
-#[derive(Clone, Copy)]
-pub struct UnitsFiled {
-    pub code: u32,
-    pub st: InProgress,
-}
-
-// Both with the abbreviation tables that were judged.
-#[derive(Clone, Copy)]
-pub struct UnitDone {
-    pub filed: UnitFiled,
-    pub judged: Judged,
-}
-
-#[derive(Clone, Copy)]
-pub struct UnitsDone {
-    pub filed: UnitsFiled,
-    pub judged: Judged,
+pub struct Reading<'a> {
+    pub bundle: &'a [u8],
+    pub object: &'a InputObject,
+    pub section: HomeSection,
 }

@@ -13,16 +13,17 @@ use Rattle.octets.specs.Lists.{all}
 use Rattle.octets.specs.Checked.{Check, pass, refuse}
 use Rattle.octets.proofs.Checks.{passes, fails}
 use Rattle.bundle.specs.Written.{written}
-use Rattle.package.specs.Pack.{Answer, short, made, answered}
+use Rattle.answers.specs.Answers.{Answer, short, made, answered, output_of}
+use Rattle.answers.specs.Outcome.{outcome_of}
+use Rattle.answers.specs.Outcome as told
 use Rattle.finish.specs.Sections.{Sized, sections_by, sizes_good, length_of}
 use Rattle.finish.proofs.SectionSizes.{good_is, length_is, bad_sections}
-use Rattle.finish.specs.Finish.{finished_of, output_of, one_object}
-use Rattle.finish.specs.declared.whole.Finished.TheVariants.{Refused, Short, Made}
+use Rattle.finish.specs.Finish.{one_object}
 
 -- ---- of a check
 module _ (c : Check (List ℕ)) (o : ℕ) where
-  pub refused_answer : (n : ℕ) → c ≡ refuse n → Refused n ≡ finished_of (answered c o)
-  unfolding finished_of answered
+  pub refused_answer : (n : ℕ) → c ≡ refuse n → told.refused n ≡ outcome_of (answered c o)
+  unfolding outcome_of answered
   refused_answer n e = rw e
 
   pub refused_output : (n : ℕ) → c ≡ refuse n → (d : List ℕ) → d ≡ zeros o → d ≡ output_of (answered c o) o
@@ -38,17 +39,17 @@ module _ (c : Check (List ℕ)) (o : ℕ) where
     unfolding answered
     made_is h = rw (e, answered, le-leb (length p) o h)
 
-    pub short_answer : (n : ℕ) → n ≡ length p → o < n → Short n ≡ finished_of (answered c o)
-    unfolding finished_of
-    short_answer n q h = ap Short q ∙ sym (ap finished_of (short_is (omega arith)))
+    pub short_answer : (n : ℕ) → n ≡ length p → o < n → told.short n ≡ outcome_of (answered c o)
+    unfolding outcome_of
+    short_answer n q h = ap told.short q ∙ sym (ap outcome_of (short_is (omega arith)))
 
     pub short_output : (n : ℕ) → n ≡ length p → o < n → (d : List ℕ) → d ≡ zeros o → d ≡ output_of (answered c o) o
     unfolding output_of
     short_output n q h d z = z ∙ sym (ap (λ (a : Answer). output_of a o) (short_is (omega arith)))
 
-    pub made_answer : (n : ℕ) → n ≡ length p → n ≤ o → Made n ≡ finished_of (answered c o)
-    unfolding finished_of
-    made_answer n q h = ap Made q ∙ sym (ap finished_of (made_is (omega arith)))
+    pub made_answer : (n : ℕ) → n ≡ length p → n ≤ o → told.made n ≡ outcome_of (answered c o)
+    unfolding outcome_of
+    made_answer n q h = ap told.made q ∙ sym (ap outcome_of (made_is (omega arith)))
 
     pub made_output : (n : ℕ) → n ≡ length p → n ≤ o → (d : List ℕ) → d ≡ padded p (o - length p) → d ≡ output_of (answered c o) o
     unfolding output_of

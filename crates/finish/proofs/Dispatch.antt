@@ -3,14 +3,12 @@
 use mathlib.Core.Path.{◌≡◌, sym, ap, ◌∙◌}
 use mathlib.Core.Logic.{inl, inr}
 use mathlib.Core.List.{List}
-use Prim.Native.Nat.{ℕ, ◌+◌, ◌*◌, ◌-◌, ◌/◌, ◌^◌, ◌<◌, ◌≤◌}
+use Prim.Native.Nat.{ℕ, ◌+◌, ◌*◌, ◌/◌, ◌^◌, ◌<◌, ◌≤◌}
 use native.Mathlib.Omega.{arith}
 use native.Mathlib.Decide.{ℕ_discrete}
-use lib.ListN.{length, take, drop}
+use lib.ListN.{length}
 use Rattle.octets.specs.Octets.{placed}
 use Rattle.octets.specs.Checked.{pass}
-use Rattle.octets.proofs.Parts.{part_cut}
-use Rattle.numbers.specs.Limits.{work_for_word}
 use Rattle.numbers.specs.Tables.{compilation_table, type_table}
 use Rattle.bundle.specs.Bundle.{Bundle, bundle_of}
 use Rattle.bundle.specs.Encoded.{encoding_is}
@@ -18,40 +16,34 @@ use Rattle.bundle.specs.declared.encoding.ObjectEncoding.{ObjectEncoding}
 use Rattle.strings.specs.Strings.{first_uses, str_of}
 use Rattle.strings.specs.Kept as kept
 use Rattle.strings.proofs.StrOffsets.{sound}
-use Rattle.kept.specs.Regions.{Layout, records_region, strings_region, record_words, region}
-use Rattle.kept.proofs.RegionStores.{Within, region_fits, length_region, records_within}
+use Rattle.kept.specs.Regions.{records_region, strings_region, record_words, region}
+use Rattle.kept.proofs.RegionStores.{length_region, records_within}
 use Rattle.kept.specs.Records.{bytes_from, UnitsInside}
 use Rattle.kept.specs.Held.{OneOrTwo}
 use Rattle.kept.specs.declared.state.InProgress.{InProgress}
-use Rattle.kept.specs.declared.writing.IndexForm.{IndexForm}
 use Rattle.finish.specs.Joining.{sections_joined, offsets_joined, Joinable, OffsetsJoinable, OffsetsPut}
 use Rattle.finish.proofs.Remapping.{length_offsets}
-use Rattle.finish.specs.Ready.{form_of, IndexHeld, IndexWritable, Ready, SectionWritable}
+use Rattle.finish.specs.Ready.{form_of, words_of, IndexHeld, IndexWritable, Ready, SectionWritable}
 use Rattle.finish.specs.declared.writing.Package.{Package}
 
--- a region, as the code cuts it
-module _ (l : Layout) (i : Within l) (n : ℕ) (w : List ℕ) (room : work_for_word * n ≤ length w) (first size : ℕ) (e : first ≡ l.start * n) (f : size ≡ l.words * n) where
-  pub lent_end : first + size ≤ length w
-  lent_end = omega (arith, region_fits l i n w room)
+-- the words of a bundle that is packed are few
+pub words_fit : (p : Package) → words_of p < 2 ^ 32
+words_fit p = omega (arith, p.limit)
 
-  pub lent_region : take (first + size - first) (drop first w) ≡ region w n l
-  unfolding region
-  lent_region = rw (← e, ← f) (part_cut w first size)
-
--- the first codes and the last of all
+-- the first codes
 pub first_codes : (c : ℕ) → 1 ≤ c → c ≤ 2 → OneOrTwo c
 first_codes c h g = elim (ℕ_discrete c 1) [ yes e ↦ inl e | no f ↦ inr (omega arith) ]
 
-pub last_code : (c : ℕ) → c < 14 → 10 < c → (c ≡ 11 → ⊥) → (c ≡ 12 → ⊥) → c ≡ 13
-last_code c h g n11 n12 = omega arith
-
 -- ---- what each function asks; cut is the region of work as the code cuts it
-module _ (code : ℕ) (p : Package) (b w : List ℕ) (n at : ℕ) (r : SectionWritable code p b w n at) where
+module _ (code : ℕ) (p : Package) (n at : ℕ) (r : SectionWritable code p n at) where
+  abbrev b : List ℕ
+  b = p.bundle.now
+
+  abbrev w : List ℕ
+  w = p.work.now
+
   fits : (c : ℕ) → code ≡ c → at + length (r.sections c) ≤ n
   fits c z = rw (sym z) r.room
-
-  pub words_fit : length b / 4 < 2 ^ 32
-  words_fit = omega (arith, r.ready.limit)
 
   pub units_asks : (cut : List ℕ) → cut ≡ region w (length b / 4) records_region → code ≤ 2
       → (record_words * p.state.units.count ≤ length cut) × UnitsInside b cut p.state.units.count × (at + length (bytes_from b cut code 0 p.state.units.count) ≤ n)
@@ -76,11 +68,11 @@ module _ (code : ℕ) (p : Package) (b w : List ℕ) (n at : ℕ) (r : SectionWr
       → (ts : List (List ℕ)) × kept.Held b cut p.state.strings.count ts × (at + length (str_of ts) ≤ n)
   str_asks cut q z = (first_uses r.ready.used, rw q (r.ready.kept.held r.ready.small), omega (arith, fits 11 z, ap length r.ready.str_is))
 
-  pub cu_asks : (f : IndexForm) → f ≡ form_of p.encoding compilation_table p.state.units.cu → code ≡ 12 → IndexWritable f (length b / 4) p.state.units.count w n at
-  cu_asks f q z = rw q (record { bytes = r.sections 12; held = r.ready.cu; room = fits 12 z })
+  pub cu_asks : code ≡ 12 → IndexWritable (form_of p.encoding compilation_table p.state.units.cu) (length b / 4) p.state.units.count w n at
+  cu_asks z = record { bytes = r.sections 12; held = r.ready.cu; room = fits 12 z }
 
-  pub tu_asks : (f : IndexForm) → f ≡ form_of p.encoding type_table p.state.units.tu → code ≡ 13 → IndexWritable f (length b / 4) p.state.units.count w n at
-  tu_asks f q z = rw q (record { bytes = r.sections 13; held = r.ready.tu; room = fits 13 z })
+  pub tu_asks : code ≡ 13 → IndexWritable (form_of p.encoding type_table p.state.units.tu) (length b / 4) p.state.units.count w n at
+  tu_asks z = record { bytes = r.sections 13; held = r.ready.tu; room = fits 13 z }
 
   module _ (n2 : 2 < code) (n6 : code ≡ 6 → ⊥) (low : code ≤ 10) where
     pub shared_asks : Joinable b code n at
@@ -109,10 +101,8 @@ module _ (e : ObjectEncoding) (b : List ℕ) (st : InProgress) (w : List ℕ) (s
       → ((ts : List (List ℕ)) → kept.Held b cut st.strings.count ts → x ≡ placed d at (str_of ts)) → x ≡ placed d at (s code)
   str_leaves cut q z f = f (first_uses r.used) (rw q (r.kept.held r.small)) ∙ ap (placed d at) (sym r.str_is ∙ ap s (sym z))
 
-  pub cu_leaves : (f : IndexForm) → f ≡ form_of e compilation_table st.units.cu → code ≡ 12
-      → ((y : List ℕ) → IndexHeld f (length b / 4) st.units.count w y → x ≡ placed d at y) → x ≡ placed d at (s code)
-  cu_leaves f q z g = g (s 12) (rw q r.cu) ∙ ap (placed d at) (ap s (sym z))
+  pub cu_leaves : code ≡ 12 → ((y : List ℕ) → IndexHeld (form_of e compilation_table st.units.cu) (length b / 4) st.units.count w y → x ≡ placed d at y) → x ≡ placed d at (s code)
+  cu_leaves z g = g (s 12) r.cu ∙ ap (placed d at) (ap s (sym z))
 
-  pub tu_leaves : (f : IndexForm) → f ≡ form_of e type_table st.units.tu → code ≡ 13
-      → ((y : List ℕ) → IndexHeld f (length b / 4) st.units.count w y → x ≡ placed d at y) → x ≡ placed d at (s code)
-  tu_leaves f q z g = g (s 13) (rw q r.tu) ∙ ap (placed d at) (ap s (sym z))
+  pub tu_leaves : code ≡ 13 → ((y : List ℕ) → IndexHeld (form_of e type_table st.units.tu) (length b / 4) st.units.count w y → x ≡ placed d at y) → x ≡ placed d at (s code)
+  tu_leaves z g = g (s 13) r.tu ∙ ap (placed d at) (ap s (sym z))

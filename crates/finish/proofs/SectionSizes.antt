@@ -8,6 +8,7 @@ use Prim.Native.Nat.{ℕ, zero, suc, ◌+◌, ◌*◌, ◌-◌, ◌<◌, ◌≤�
 use native.Mathlib.Omega.{arith}
 use native.Mathlib.Decide.{ℕ_discrete}
 use lib.Dec.{leb}
+use Rattle.std.specs.List.{list_all}
 use lib.ListN.{length, get_or}
 use borrow.Author.Tests.{le-leb, lt-leb, leb-true, leb-false, eq-eqb, ne_eqb}
 use Rattle.octets.specs.Lists.{all, those, sum}
@@ -19,6 +20,16 @@ use Rattle.bundle.specs.Written.{Section, written}
 use Rattle.bundle.proofs.Next.{filled_up_most}
 use Rattle.bundle.proofs.Sizes.{section_size, object_size, written_size}
 use Rattle.finish.specs.Sections.{sections_from, not_empty, sections_by, sizes_good, framed_size, framed_from, length_of, Sized}
+
+-- a test of all, as the library says it
+pub all_listed : {A : Type 0} (p : A → Bool) (xs : List A) → list_all p xs ≡ all p xs
+unfolding all
+all_listed p [] = refl
+all_listed p (x ∷ xs) = go (p x) refl (all_listed p xs)
+  where
+    go : (b : Bool) → p x ≡ b → list_all p xs ≡ all p xs → list_all p (x ∷ xs) ≡ all p (x ∷ xs)
+    go true e more = rw e (more ∙ sym (all_cons p x xs e))
+    go false e more = rw e (sym (all_stops p x xs e))
 
 -- ---- the cases of a section's frame
 pub framed_none : (n : ℕ) → n ≡ 0 → 0 ≡ framed_size n

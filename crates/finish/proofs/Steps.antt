@@ -52,11 +52,11 @@ module _ (f : IndexForm) (words n : ℕ) (w : List ℕ) where
     index_leaves s d x at h p = p ∙ ap (placed d at) (sym (stands s h))
 
 -- ---- a section with its word
-module _ (code size : ℕ) (p : Package) (b w : List ℕ) (n at : ℕ) (r : FrameWritable code size p b w n at) (f : size ≡ 0 → ⊥) where
+module _ (code size : ℕ) (p : Package) (n at : ℕ) (r : FrameWritable code size p n at) (f : size ≡ 0 → ⊥) where
   pub frame_room : at + 4 + filled_up size ≤ n
   frame_room = omega (arith, r.room, framed_some size f)
 
-  pub frame_section : (m : ℕ) → m ≡ n → SectionWritable code p b w m (at + 4)
+  pub frame_section : (m : ℕ) → m ≡ n → SectionWritable code p m (at + 4)
   frame_section m l = record { sections = r.sections; ready = r.ready; least = r.least; most = r.most; room = omega (arith, frame_room, r.sized, filled_up_le size) }
 
 pub frame_put : (d x y : List ℕ) (at c size : ℕ) (s : List ℕ) → x ≡ placed d at (word_bytes (0x2000_0000 + c * 0x80_0000 + size)) → y ≡ placed x (at + 4) s → at + 4 ≤ length d
@@ -66,18 +66,18 @@ frame_put d x y at c size s p q h e f =
     ∙ frame_some d at c s (λ z. f (e ∙ z))
 
 -- what one turn of the loop over the codes asks
-pub frame_writable : (p : Package) (b w d₀ d : List ℕ) (at c size : ℕ) (r : SectionsWritable p b w d₀) → Writing r.front r.sections d at c
-    → 1 ≤ c → c < 14 → size ≡ get_or p.sizes c 0 → FrameWritable c size p b w (length d) at
-frame_writable p b w d₀ d at c size r wr l m q =
-    let is : size ≡ length (r.sections c) = q ∙ r.sized.are c l m in
-    let room = writing_frame_room r.front r.sections d at c wr m size is in
+pub frame_writable : (p : Package) (d₀ d : List ℕ) (at c : ℕ) (r : SectionsWritable p d₀) → Writing r.front r.sections d at c
+    → 1 ≤ c → c < 14 → FrameWritable c (get_or p.sizes c 0) p (length d) at
+frame_writable p d₀ d at c r wr l m =
+    let is : get_or p.sizes c 0 ≡ length (r.sections c) = r.sized.are c l m in
+    let room = writing_frame_room r.front r.sections d at c wr m (get_or p.sizes c 0) is in
     record {
       sections = r.sections;
       ready = r.ready;
       least = l;
       most = m;
       sized = is;
-      short = rw q (size_good p.sizes c r.sized.fourteen r.good m);
+      short = size_good p.sizes c r.sized.fourteen r.good m;
       room = omega arith;
     }
 

@@ -1,39 +1,28 @@
--- The rest of `judged` of `package/specs/Pack.antt`, from a bundle whose length and work are good; and the three answers.
+-- The rest of `judged` of `package/specs/Pack.antt`, from a bundle whose length and work are good; and what the packer has by then.
 -- Assumes nothing.
-use Rattle.std.specs.Prelude.{◌≡◌, Bool, List, [], ◌∷◌, map, ℕ, ◌-◌, ◌/◌, ◌%◌, ◌≤◌, eqb, leb, length}
+use Rattle.std.specs.Prelude.{◌≡◌, Bool, Result, List, [], ◌∷◌, map, ℕ, ◌/◌, ◌%◌, ◌≤◌, eqb, leb, length}
 use Rattle.numbers.specs.Tables.{dwarf5}
 use Rattle.numbers.specs.Limits.{section_limit}
 use Rattle.numbers.specs.Sections.{first_shared, last_shared}
 use Rattle.numbers.specs.Refusals.{section_too_long}
-use Rattle.octets.specs.Octets.{padded, zeros}
+use Rattle.octets.specs.Octets.{zeros}
 use Rattle.octets.specs.Lists.{joined, all}
 use Rattle.octets.specs.Checked.{Check, pass, ◌>>=◌, require}
 use Rattle.bundle.specs.Bundle.{Bundle, bundle_of}
 use Rattle.bundle.specs.Written.{written}
-use Rattle.bundle.specs.declared.encoding.ObjectEncoding.{ObjectEncoding}
 use Rattle.strings.specs.Kept.{Kept}
 use Rattle.index.specs.Rows.{BySection}
 use Rattle.package.specs.Filing.{Filing, filing_of, first_word}
-use Rattle.package.specs.Pack.{Answer, refused, short, made, package_sections, package_objects, all_used, answered}
-use Rattle.finish.specs.Sections.{sections_by}
+use Rattle.answers.specs.Answers.{answered, output_of}
+use Rattle.answers.specs.Outcome.{outcome_of, outcome_as}
+use Rattle.answers.specs.declared.Unwritten.{Unwritten}
+use Rattle.package.specs.Pack.{package_sections, package_objects, all_used}
+use Rattle.finish.specs.Sections.{Sized, sections_by}
 use Rattle.kept.specs.Regions.{strings_region, region}
 use Rattle.kept.specs.State.{Held}
 use Rattle.kept.specs.declared.state.InProgress.{InProgress}
-use Rattle.finish.specs.Ready.{Ready}
-use Rattle.finish.specs.declared.whole.Finished.{Finished}
-use Rattle.finish.specs.declared.whole.Finished.TheVariants.{Refused, Short, Made}
-
--- ---- answers; `told_of` of `packer/specs/Told.antt` gives each case its number
-unfoldable pub finished_of : Answer → Finished
-finished_of (refused n) = Refused n
-finished_of (short n) = Short n
-finished_of (made p) = Made (length p)
-
--- an output of o bytes: the package and zeros behind it, or zeros only
-unfoldable pub output_of : Answer → ℕ → List ℕ
-output_of (refused n) o = zeros o
-output_of (short n) o = zeros o
-output_of (made p) o = padded p (o - length p)
+use Rattle.finish.specs.Ready.{ReadyFor}
+use Rattle.finish.specs.declared.writing.Package.{Package}
 
 -- ---- the package
 -- 19
@@ -70,14 +59,15 @@ pub record AllFiled (big : Bool) (b : List ℕ) (st : InProgress) (w : List ℕ)
   pub strings : Kept b (region w (length b / 4) strings_region) st.strings (all_used filing.inputs)
 
 -- the sections are ready to be written into an output that is zero
-pub record Writable (e : ObjectEncoding) (b : List ℕ) (st : InProgress) (w d : List ℕ) : Type 0 where
+pub record Writable (p : Package) (d : List ℕ) : Type 0 where
   pub sections : ℕ → List ℕ
-  pub ready : Ready e b st w sections
+  pub ready : ReadyFor p sections
+  pub sized : Sized p.sizes sections
   pub zero : d ≡ zeros (length d)
 
 -- answer and output for any sections that are ready, with an output of o bytes
-abbrev pub AnswerFor : (e : ObjectEncoding) (word : ℕ) (b : List ℕ) (st : InProgress) (w : List ℕ) (o : ℕ) (r : Finished) → Type 0
-AnswerFor e word b st w o r = (s : ℕ → List ℕ) → Ready e b st w s → r ≡ finished_of (answered (one_object e.big word s) o)
+abbrev pub AnswerFor : (p : Package) (word o : ℕ) (r : Result ℕ Unwritten) → Type 0
+AnswerFor p word o r = (s : ℕ → List ℕ) → ReadyFor p s → Sized p.sizes s → outcome_as r ≡ outcome_of (answered (one_object p.encoding.big word s) o)
 
-abbrev pub OutputFor : (e : ObjectEncoding) (word : ℕ) (b : List ℕ) (st : InProgress) (w : List ℕ) (o : ℕ) (x : List ℕ) → Type 0
-OutputFor e word b st w o x = (s : ℕ → List ℕ) → Ready e b st w s → x ≡ output_of (answered (one_object e.big word s) o) o
+abbrev pub OutputFor : (p : Package) (word o : ℕ) (x : List ℕ) → Type 0
+OutputFor p word o x = (s : ℕ → List ℕ) → ReadyFor p s → Sized p.sizes s → x ≡ output_of (answered (one_object p.encoding.big word s) o) o

@@ -115,53 +115,58 @@ pub record Ready (e : ObjectEncoding) (b : List ℕ) (st : InProgress) (w : List
   pub cu : IndexHeld (form_of e compilation_table st.units.cu) (length b / 4) st.units.count w (s cu_index_code)
   pub tu : IndexHeld (form_of e type_table st.units.tu) (length b / 4) st.units.count w (s tu_index_code)
 
+-- of a package: s says what its sections are
+abbrev pub ReadyFor : Package → (ℕ → List ℕ) → Type 0
+ReadyFor p s = Ready p.encoding p.bundle.now p.state p.work.now s
+
+-- the words of its bundle
+abbrev pub words_of : Package → ℕ
+words_of p = length p.bundle.now / 4
+
 -- one section fits at a place of n bytes
-pub record SectionWritable (code : ℕ) (p : Package) (b w : List ℕ) (n at : ℕ) : Type 0 where
+pub record SectionWritable (code : ℕ) (p : Package) (n at : ℕ) : Type 0 where
   pub sections : ℕ → List ℕ
-  pub ready : Ready p.encoding b p.state w sections
+  pub ready : ReadyFor p sections
   pub least : 1 ≤ code
   pub most : code < section_codes
   pub room : at + length (sections code) ≤ n
 
--- and is put there, for any sections that are ready; d is the output before, x behind
-abbrev pub SectionPut : (code : ℕ) (p : Package) (b w : List ℕ) (at : ℕ) (d x : List ℕ) → Type 0
-SectionPut code p b w at d x = (s : ℕ → List ℕ) → Ready p.encoding b p.state w s → x ≡ placed d at (s code)
+abbrev pub SectionPut : (code : ℕ) (p : Package) (at : ℕ) (d x : List ℕ) → Type 0
+SectionPut code p at d x = (s : ℕ → List ℕ) → ReadyFor p s → x ≡ placed d at (s code)
 
 -- the same with its word, where it is not empty
 unfoldable pub framed_in : List ℕ → ℕ → ℕ → List ℕ → List ℕ
 framed_in d at c x = elim (eqb (length x) 0) [ true ↦ d | false ↦ placed d at (word_bytes (0x2000_0000 + c * 0x80_0000 + length x) ++ x) ]
 
-pub record FrameWritable (code size : ℕ) (p : Package) (b w : List ℕ) (n at : ℕ) : Type 0 where
+pub record FrameWritable (code size : ℕ) (p : Package) (n at : ℕ) : Type 0 where
   pub sections : ℕ → List ℕ
-  pub ready : Ready p.encoding b p.state w sections
+  pub ready : ReadyFor p sections
   pub least : 1 ≤ code
   pub most : code < section_codes
   pub sized : size ≡ length (sections code)
   pub short : size ≤ section_limit
   pub room : at + framed_size size ≤ n
 
-abbrev pub FramePut : (code size : ℕ) (p : Package) (b w : List ℕ) (at : ℕ) (d x : List ℕ) → Type 0
-FramePut code size p b w at d x =
-    (s : ℕ → List ℕ) → Ready p.encoding b p.state w s → size ≡ length (s code) → x ≡ framed_in d at code (s code)
+abbrev pub FramePut : (code size : ℕ) (p : Package) (at : ℕ) (d x : List ℕ) → Type 0
+FramePut code size p at d x = (s : ℕ → List ℕ) → ReadyFor p s → size ≡ length (s code) → x ≡ framed_in d at code (s code)
 
 -- head and object word stand in the output d, and the sections fit
-pub record SectionsWritable (p : Package) (b w d : List ℕ) : Type 0 where
+pub record SectionsWritable (p : Package) (d : List ℕ) : Type 0 where
   pub front : List ℕ
   pub sections : ℕ → List ℕ
-  pub ready : Ready p.encoding b p.state w sections
+  pub ready : ReadyFor p sections
   pub sized : Sized p.sizes sections
   pub good : sizes_good p.sizes ≡ true
   pub started : Writing front sections d 8 1
 
 -- all of them are put there, up to a place
-abbrev pub SectionsPut : (p : Package) (b w d x : List ℕ) (at : ℕ) → Type 0
-SectionsPut p b w d x at =
-    (front : List ℕ) (s : ℕ → List ℕ) → Ready p.encoding b p.state w s → Sized p.sizes s → Writing front s d 8 1 → Writing front s x at section_codes
+abbrev pub SectionsPut : (p : Package) (d x : List ℕ) (at : ℕ) → Type 0
+SectionsPut p d x at = (front : List ℕ) (s : ℕ → List ℕ) → ReadyFor p s → Sized p.sizes s → Writing front s d 8 1 → Writing front s x at section_codes
 
 -- the output d is zero, and the package fits
-pub record PackageWritable (p : Package) (b w d : List ℕ) : Type 0 where
+pub record PackageWritable (p : Package) (d : List ℕ) : Type 0 where
   pub sections : ℕ → List ℕ
-  pub ready : Ready p.encoding b p.state w sections
+  pub ready : ReadyFor p sections
   pub sized : Sized p.sizes sections
   pub good : sizes_good p.sizes ≡ true
   pub zero : d ≡ zeros (length d)
@@ -171,7 +176,6 @@ pub record PackageWritable (p : Package) (b w d : List ℕ) : Type 0 where
 abbrev pub written_one : Bool → ℕ → (ℕ → List ℕ) → List ℕ
 written_one big word s = written big (record { word = word; sections = sections_by s } ∷ [])
 
-abbrev pub PackagePut : (p : Package) (word : ℕ) (b w d x : List ℕ) → Type 0
-PackagePut p word b w d x =
-    (s : ℕ → List ℕ) → Ready p.encoding b p.state w s → Sized p.sizes s
-    → x ≡ padded (written_one p.encoding.big word s) (length d - length (written_one p.encoding.big word s))
+abbrev pub PackagePut : (p : Package) (word : ℕ) (d x : List ℕ) → Type 0
+PackagePut p word d x =
+    (s : ℕ → List ℕ) → ReadyFor p s → Sized p.sizes s → x ≡ padded (written_one p.encoding.big word s) (length d - length (written_one p.encoding.big word s))

@@ -18,15 +18,11 @@ pub fn copy_sections(b: &[u8], code: usize, out: &mut [u8], at: usize)
 {
     let mut o = at;
     let mut place = 4;
-    loop {
-        let Ok(Item::Object { next, .. }) = bundle::next_item(b, place) else {
-            return;
-        };
+    while let Ok(Item::Object { next, .. }) = bundle::next_item(b, place) {
         let scan = bundle::scan_object(b, next);
         let start = scan.start[code];
         let size = scan.size[code];
-        let end = start + size;
-        octets::put_bytes(out, o, &b[start..end]);
+        octets::put_bytes(out, o, &b[start..start + size]);
         o += size;
         place = scan.next;
     }
@@ -41,17 +37,13 @@ pub fn copy_str_offsets(e: ObjectEncoding, b: &[u8], table: &[u32], out: &mut [u
     let mut first = strings::table::places_from(table.len());
     let mut o = at;
     let mut place = 4;
-    loop {
-        let Ok(Item::Object { next, .. }) = bundle::next_item(b, place) else {
-            return;
-        };
+    while let Ok(Item::Object { next, .. }) = bundle::next_item(b, place) {
         let scan = bundle::scan_object(b, next);
         let start = scan.start[STR_OFFSETS];
         let long = scan.size[STR_OFFSETS];
-        let end = start + long;
         let section = Section {
             encoding: e,
-            bytes: &b[start..end],
+            bytes: &b[start..start + long],
         };
         let count = section.write_pieces(&table[first..], out, o);
         first += count;

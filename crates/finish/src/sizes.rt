@@ -1,5 +1,5 @@
 // The sizes of all sections of the package.
-ghost use Rattle.std.specs.Prelude.{◌≡◌, ℕ, ◌≤◌};
+ghost use Rattle.std.specs.Prelude.{◌≡◌, ◌≤◌};
 ghost use Rattle.numbers.specs.Limits.{words_limit};
 ghost use Rattle.finish.specs.Ready.{index_size_of, sizes_of};
 
@@ -12,13 +12,10 @@ fn index_size(five: bool, t: Table) -> usize
     requires { t.rows ≤ words_limit }
     ensures { result ≡ index_size_of five t }
 {
-    let n = t.rows;
-    if n == 0 {
+    if t.rows == 0 {
         return 0;
     }
-    let has = t.has;
-    let slots = kept::slots::slots_for(n);
-    kept::columns::index_length(five, has, n, slots)
+    kept::columns::index_length(five, t.has, t.rows, kept::slots::slots_for(t.rows))
 }
 
 // By section code. The caller has filed all objects.
@@ -26,16 +23,12 @@ pub fn section_sizes(five: bool, st: InProgress) -> [usize; CODES]
     requires { (st.units.cu.rows ≤ words_limit) × (st.units.tu.rows ≤ words_limit) }
     ensures { result ≡ sizes_of five st }
 {
-    let units = st.units;
-    let strings = st.strings;
-    let cu = units.cu;
-    let tu = units.tu;
     let mut sizes = st.bases;
     sizes[0] = 0;
-    sizes[INFO] = units.info;
-    sizes[TYPES] = units.types;
-    sizes[STR] = strings.size;
-    sizes[CU_INDEX] = index_size(five, cu);
-    sizes[TU_INDEX] = index_size(five, tu);
+    sizes[INFO] = st.units.info;
+    sizes[TYPES] = st.units.types;
+    sizes[STR] = st.strings.size;
+    sizes[CU_INDEX] = index_size(five, st.units.cu);
+    sizes[TU_INDEX] = index_size(five, st.units.tu);
     sizes
 }

@@ -4,6 +4,7 @@ ghost use Rattle.finish.specs.Ready.{TablesPlaceable, TablesPlaced};
 
 use kept::Units;
 use kept::regions::COMPILATION;
+use kept::slots::{place_units, slots_for};
 
 // The second table, by its number.
 pub const TYPE: usize = numbers::tables::TYPE as usize;
@@ -13,11 +14,8 @@ pub fn place_tables(words: usize, units: Units, work: &mut [u32])
     requires { TablesPlaceable words units (length work.old) }
     ensures { TablesPlaced words units work.old work.new }
 {
-    let n = units.count;
-    let cu = units.cu;
-    let tu = units.tu;
-    let cu_slots = kept::slots::slots_for(cu.rows);
-    kept::slots::place_units(work, words, COMPILATION, n, cu_slots);
-    let tu_slots = kept::slots::slots_for(tu.rows);
-    kept::slots::place_units(work, words, TYPE, n, tu_slots);
+    let cu_slots = slots_for(units.cu.rows);
+    place_units(work, words, COMPILATION, units.count, cu_slots);
+    let tu_slots = slots_for(units.tu.rows);
+    place_units(work, words, TYPE, units.count, tu_slots);
 }

@@ -1,171 +1,160 @@
 // The package written front to back.
-ghost use Rattle.std.specs.Prelude.{◌≡◌, List, ℕ, ◌+◌, ◌<◌, length};
-ghost use Rattle.numbers.specs.Sections.{last_shared};
-ghost use Rattle.octets.specs.Octets.{placed};
-ghost use Rattle.finish.specs.Sections.{framed_size};
-ghost use Rattle.finish.specs.Ready.{
-  form_of,
-  IndexHeld,
-  IndexWritable,
-  SectionWritable,
-  SectionPut,
-  FrameWritable,
-  FramePut,
-  SectionsWritable,
-  SectionsPut,
-  PackageWritable,
-  PackagePut,
-};
+ghost use Rattle.std.specs.Prelude.{◌≡◌, ◌*◌, ◌/◌, ◌≤◌, length};
+ghost use Rattle.numbers.specs.Limits.{bundle_limit, work_for_word};
 
+use crate::joining;
 use crate::tables::TYPE;
 use bundle::encoding::ObjectEncoding;
 use kept::Table;
-use kept::regions::COMPILATION;
+use kept::regions::{COMPILATION, RECORDS, STRINGS};
 use kept::state::InProgress;
 use kept::writing::IndexForm;
-use numbers::sections::{CODES, CU_INDEX, LAST_SHARED, STR, STR_OFFSETS, TYPES};
+use numbers::sections::{CODES, CU_INDEX, INFO, STR, STR_OFFSETS, TU_INDEX, TYPES};
 
-// What is to be written: the encoding of all objects, what is known of them, and the sizes of all sections by code.
+// The bytes of a word.
+const WORD: usize = 4;
+
+// What is to be written: the encoding of all objects, what is known of them, the sizes of all sections by code, and where their bytes are. Work has words
+// enough for the bundle.
 #[derive(Clone, Copy)]
-pub struct Package {
+pub struct Package<'a> {
     pub encoding: ObjectEncoding,
     pub state: InProgress,
     pub sizes: [usize; CODES],
+    pub bundle: &'a [u8],
+    pub work: &'a [u32],
+    ghost limit: { length bundle.now ≤ bundle_limit },
+    ghost room: { work_for_word * (length bundle.now / 4) ≤ length work.now },
 }
 
-fn index_form(e: ObjectEncoding, table: usize, t: Table) -> IndexForm
-    ensures { result ≡ form_of e table t }
-{
-    let has = t.has;
-    IndexForm {
-        big: e.big,
-        five: e.five,
-        table,
-        rows: t.rows,
-        has,
-    }
-}
+impl Package<'_> {
+    ghost use Rattle.std.specs.Prelude.{◌+◌, get_or, List, ℕ};
+    ghost use Rattle.octets.specs.Octets.{placed};
+    ghost use Rattle.kept.specs.Regions.{region, records_region, strings_region};
+    ghost use Rattle.finish.specs.Sections.{framed_size};
+    ghost use Rattle.finish.specs.Ready.{
+      form_of,
+      words_of,
+      IndexHeld,
+      IndexWritable,
+      SectionWritable,
+      SectionPut,
+      FrameWritable,
+      FramePut,
+      SectionsWritable,
+      SectionsPut,
+      PackageWritable,
+      PackagePut,
+    };
 
-// A table's index, nothing without rows. Work is for a bundle of so many words, and holds n units.
-fn write_index(f: IndexForm, words: usize, n: usize, work: &[u32], out: &mut [u8], at: usize)
-    requires { IndexWritable f words n work.now (length out.old) at }
-    ensures { (s : List ℕ) → IndexHeld f words n work.now s → out.new ≡ placed out.old at s }
-{
-    if f.rows == 0 {
-        return;
+    // The words that hold the kept units.
+    fn records(&self) -> &[u32]
+        ensures { result.now ≡ region self.now.work.now (words_of self.now) records_region }
+    {
+        RECORDS.part(self.work, self.bundle.len() / WORD)
     }
-    let count = kept::slots::slots_for(f.rows);
-    let records = kept::regions::records(words);
-    let slots = kept::regions::slots(words, f.table);
-    let first = records.start;
-    let last = first + records.size;
-    let from = slots.start;
-    let to = from + count;
-    kept::writing::write_index(f, &work[first..last], n, &work[from..to], out, at);
-}
 
-// The bytes of str or of an index, by its code.
-fn write_last_section(code: usize, p: Package, b: &[u8], work: &[u32], out: &mut [u8], at: usize)
-    requires { SectionWritable code p b.now work.now (length out.old) at × (last_shared < code) }
-    ensures { SectionPut code p b.now work.now at out.old out.new }
-{
-    let words = b.len() / 4;
-    let st = p.state;
-    let units = st.units;
-    if code == STR {
-        let strings = st.strings;
-        let region = kept::regions::strings(words);
-        let first = region.start;
-        let last = first + region.size;
-        strings::sections::write_strings(b, &work[first..last], strings.count, out, at);
-        return;
+    // The words that hold the strings.
+    fn strings(&self) -> &[u32]
+        ensures { result.now ≡ region self.now.work.now (words_of self.now) strings_region }
+    {
+        STRINGS.part(self.work, self.bundle.len() / WORD)
     }
-    if code == CU_INDEX {
-        let cu = index_form(p.encoding, COMPILATION, units.cu);
-        write_index(cu, words, units.count, work, out, at);
-        return;
-    }
-    let tu = index_form(p.encoding, TYPE, units.tu);
-    write_index(tu, words, units.count, work, out, at);
-}
 
-// The bytes of one section of the package, by its code.
-fn write_section(code: usize, p: Package, b: &[u8], work: &[u32], out: &mut [u8], at: usize)
-    requires { SectionWritable code p b.now work.now (length out.old) at }
-    ensures { SectionPut code p b.now work.now at out.old out.new }
-{
-    let words = b.len() / 4;
-    let st = p.state;
-    if code <= TYPES {
-        let units = st.units;
-        let region = kept::regions::records(words);
-        let first = region.start;
-        let last = first + region.size;
-        kept::unit_bytes::copy_units(b, &work[first..last], units.count, code, out, at);
-        return;
+    // A table's index, nothing without rows.
+    fn write_index(&self, table: usize, t: Table, out: &mut [u8], at: usize)
+        requires { IndexWritable (form_of self.now.encoding table t) (words_of self.now) self.now.state.units.count self.now.work.now (length out.old) at }
+        ensures { (s : List ℕ) → IndexHeld (form_of self.now.encoding table t) (words_of self.now) self.now.state.units.count self.now.work.now s → out.new ≡ placed out.old at s }
+    {
+        if t.rows == 0 {
+            return;
+        }
+        let has = t.has;
+        let form = IndexForm {
+            big: self.encoding.big,
+            five: self.encoding.five,
+            table,
+            rows: t.rows,
+            has,
+        };
+        let count = kept::slots::slots_for(t.rows);
+        let slots = kept::regions::slots(table).part(self.work, self.bundle.len() / WORD);
+        form.write_index(
+            self.records(),
+            self.state.units.count,
+            &slots[..count],
+            out,
+            at,
+        );
     }
-    if code == STR_OFFSETS {
-        let table = kept::regions::strings(words);
-        let first = table.start;
-        let last = first + table.size;
-        crate::joining::copy_str_offsets(p.encoding, b, &work[first..last], out, at);
-        return;
-    }
-    if LAST_SHARED < code {
-        write_last_section(code, p, b, work, out, at);
-        return;
-    }
-    crate::joining::copy_sections(b, code, out, at);
-}
 
-// One section with its word, where it isn't empty; the place behind it.
-fn write_framed(
-    code: usize,
-    size: usize,
-    p: Package,
-    b: &[u8],
-    work: &[u32],
-    out: &mut [u8],
-    at: usize,
-) -> usize
-    requires { FrameWritable code size p b.now work.now (length out.old) at }
-    ensures next { result ≡ at + framed_size size }
-    ensures output { FramePut code size p b.now work.now at out.old out.new }
-{
-    if size == 0 {
-        return at;
+    // The bytes of one section of the package, by its code.
+    fn write_section(&self, code: usize, out: &mut [u8], at: usize)
+        requires { SectionWritable code self.now (length out.old) at }
+        ensures { SectionPut code self.now at out.old out.new }
+    {
+        let units = self.state.units;
+        match code {
+            INFO | TYPES => {
+                let records = self.records();
+                kept::unit_bytes::copy_units(self.bundle, records, units.count, code, out, at);
+            }
+            STR_OFFSETS => {
+                joining::copy_str_offsets(self.encoding, self.bundle, self.strings(), out, at);
+            }
+            STR => {
+                let strings = self.strings();
+                strings::sections::write_strings(
+                    self.bundle,
+                    strings,
+                    self.state.strings.count,
+                    out,
+                    at,
+                );
+            }
+            CU_INDEX => self.write_index(COMPILATION, units.cu, out, at),
+            TU_INDEX => self.write_index(TYPE, units.tu, out, at),
+            _ => joining::copy_sections(self.bundle, code, out, at),
+        }
     }
-    let start = at + 4;
-    let next = start + bundle::filled_up(size);
-    bundle::put_section_word(code as u32, size, out, at);
-    write_section(code, p, b, work, out, start);
-    next
-}
 
-// All sections behind head and object word, in order of code; the place behind them.
-fn write_sections(p: Package, b: &[u8], work: &[u32], out: &mut [u8]) -> usize
-    requires { SectionsWritable p b.now work.now out.old }
-    ensures { SectionsPut p b.now work.now out.old out.new result }
-{
-    let sizes = p.sizes;
-    let mut at = 8;
-    let mut code = 1;
-    while code < CODES {
-        let size = sizes[code];
-        at = write_framed(code, size, p, b, work, out, at);
-        code += 1;
+    // One section with its word, where it isn't empty. Returns the place that follows it.
+    fn write_framed(&self, code: usize, out: &mut [u8], at: usize) -> usize
+        requires { FrameWritable code (get_or self.now.sizes code 0) self.now (length out.old) at }
+        ensures next { result ≡ at + framed_size (get_or self.now.sizes code 0) }
+        ensures output { FramePut code (get_or self.now.sizes code 0) self.now at out.old out.new }
+    {
+        let size = self.sizes[code];
+        if size == 0 {
+            return at;
+        }
+        let start = at + 4;
+        let next = start + bundle::filled_up(size);
+        bundle::put_section_word(code as u32, size, out, at);
+        self.write_section(code, out, start);
+        next
     }
-    at
-}
 
-// The package, into an output that is zero and long enough.
-pub fn write_package(p: Package, word: u32, b: &[u8], work: &[u32], out: &mut [u8])
-    requires { PackageWritable p b.now work.now out.old }
-    ensures { PackagePut p word b.now work.now out.old out.new }
-{
-    let e = p.encoding;
-    bundle::put_head(e.big, out);
-    bundle::put_object(word, out, 4);
-    let at = write_sections(p, b, work, out);
-    bundle::put_end(out, at);
+    // All sections following head and object word, in order of code. Returns the place that follows them.
+    fn write_sections(&self, out: &mut [u8]) -> usize
+        requires { SectionsWritable self.now out.old }
+        ensures { SectionsPut self.now out.old out.new result }
+    {
+        let mut at = 8;
+        for code in 1..CODES {
+            at = self.write_framed(code, out, at);
+        }
+        at
+    }
+
+    // The package, into an output that is zero and long enough.
+    pub fn write(&self, word: u32, out: &mut [u8])
+        requires { PackageWritable self.now out.old }
+        ensures { PackagePut self.now word out.old out.new }
+    {
+        bundle::put_head(self.encoding.big, out);
+        bundle::put_object(word, out, 4);
+        let at = self.write_sections(out);
+        bundle::put_end(out, at);
+    }
 }

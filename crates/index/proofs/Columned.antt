@@ -16,10 +16,9 @@ use Rattle.octets.proofs.Elements.{has_cons, has_skips}
 use Rattle.index.specs.Index.{Index, Contribution, cell_of}
 use Rattle.index.specs.Rows.{BySection, needed_codes, is_some, cell_is, part_good, whole_contributions}
 use Rattle.index.specs.Cells.{cell_found}
-use Rattle.index.specs.Contributed.{by_code, good_cell, with_cell, chosen, ContributionsAre, cell_held, good_held}
+use Rattle.index.specs.Contributed.{Cell, by_code, good_cell, with_cell, chosen, ContributionsAre, cell_held, good_held}
 use Rattle.index.specs.Written.{offset_of, size_of}
-use Rattle.index.specs.declared.cells.Cell.{Cell}
-use Rattle.index.specs.declared.cells.Cell.TheVariants.{Is, Missing}
+use Rattle.std.specs.Prelude.{Some, None}
 use Rattle.index.specs.declared.judging.Contributions.{Contributions}
 use Rattle.index.proofs.Judgements.{ahead, ahead_start, ahead_on, ahead_stops, ahead_end, good_cell_law}
 use Rattle.index.proofs.Filled.{up_to, fill_turn, fill_end, same_held, whole_chosen}
@@ -43,14 +42,6 @@ all_same f g (x ∷ xs) e =
 
 -- ---- a cell among contributions
 module _ (k : Contributions) (c : ℕ) where
-  pub held_there : get_or k.has c false ≡ true → Is (get_or k.offset c 0) (get_or k.size c 0) ≡ cell_held k c
-  unfolding cell_held
-  held_there e = rw (cell_held, e)
-
-  pub held_missing : get_or k.has c false ≡ false → Missing ≡ cell_held k c
-  unfolding cell_held
-  held_missing e = rw (cell_held, e)
-
   -- as a loop tests it
   pub good_held_law : (width : ℕ) (lengths : List ℕ) (cell : Cell) {t : Bool} → cell ≡ cell_held k c
       → t ≡ (eqb (get_or lengths c 0) 0 || good_cell width (get_or lengths c 0) c cell) → t ≡ (eqb (get_or lengths c 0) 0 || good_held width (by_code lengths) k c)
@@ -107,7 +98,7 @@ unfoldable pub whole_cell : List ℕ → BySection (Option Contribution)
 whole_cell lengths c = some (record { offset = 0; size = get_or lengths c 0 })
 
 pub whole_turn : (c : ℕ) (lengths : List ℕ) → 3 ≤ c → c < 11 → (k r : Contributions) → ContributionsAre k (up_to c (chosen (by_code lengths) (whole_cell lengths)))
-    → r ≡ with_cell k c (get_or lengths c 0) (Is 0 (get_or lengths c 0)) → ContributionsAre r (up_to (c + 1) (chosen (by_code lengths) (whole_cell lengths)))
+    → r ≡ with_cell k c (get_or lengths c 0) (Some (record { offset = 0; size = get_or lengths c 0 })) → ContributionsAre r (up_to (c + 1) (chosen (by_code lengths) (whole_cell lengths)))
 unfolding by_code whole_cell cell_found
 whole_turn c lengths low high k r h e = rw e (fill_turn (by_code lengths) (whole_cell lengths) k c low high h)
 
@@ -116,3 +107,6 @@ pub whole_end : (c : ℕ) (lengths : List ℕ) (k : Contributions) → 11 ≤ c 
 unfolding by_code whole_cell
 whole_end c lengths k h e =
     same_held k (chosen (by_code lengths) (whole_cell lengths)) (whole_contributions (by_code lengths)) (λ s. whole_chosen (by_code lengths) s) (fill_end (by_code lengths) (whole_cell lengths) k c h e)
+
+-- what the proof of a loop over the codes cites
+pub ruleset code_turns = (codes_start, codes_end, codes_on, codes_stop, good_held_law)

@@ -1,6 +1,6 @@
 -- Where a search ends: the slot, its row number and the looks; and how large the numbers of a cell are.
 -- Assumes nothing.
-use mathlib.Core.Path.{◌≡◌, refl, sym, ◌∙◌}
+use mathlib.Core.Path.{◌≡◌, refl, sym, ap, ◌∙◌}
 use mathlib.Core.Bool.{Bool, true, false, ◌&&◌}
 use mathlib.Core.List.{List, [], ◌∷◌}
 use mathlib.Core.Option.{Option, some, none}
@@ -15,16 +15,17 @@ use Rattle.octets.specs.Lists.{zero_together}
 use Rattle.octets.proofs.Checks.{and_left, true_false}
 use Rattle.octets.proofs.Numbers.{Bytes, bytes_drop}
 use Rattle.octets.proofs.Tables.{numbers_in_lt}
-use Rattle.index.specs.Index.{layout, slots_good, place_of, cell_at, cell_of}
+use Rattle.index.specs.Index.{Index, layout, slots_good, place_of, cell_at, cell_of}
 use Rattle.index.specs.Columns.{columns_of, column_in}
 use Rattle.index.specs.Cells.{cell_found}
-use Rattle.index.specs.declared.cells.Cell.TheVariants.{Is}
+use Rattle.std.specs.Prelude as std
+use Rattle.index.specs.declared.cells.Contribution as code
 use Rattle.index.specs.Probing.{Probe, found, absent, look, search, probe}
-use Rattle.index.specs.Held.{ReadWell, index_in, probed_of}
+use Rattle.index.specs.Held.{Well, index_in, probed_of}
 use Rattle.index.specs.declared.reading.IndexHead.{IndexHead}
-use Rattle.index.specs.declared.probing.Probed.TheVariants.{Found, Absent}
+use Rattle.index.specs.declared.probing.Probed.{Probed}
 use Rattle.index.proofs.Masks.{positive, first_slot_lt}
-use Rattle.index.proofs.Heads.{well, read_power, rows_length, identities_length, codes_length}
+use Rattle.index.proofs.Heads.{well_facts, codes_length}
 use Rattle.index.proofs.Places.{place_lt, cell_lt}
 use Rattle.index.proofs.Looks.{look_unused, look_found, look_on}
 
@@ -81,44 +82,43 @@ slots_row units (x ∷ xs) (r ∷ rs) zero e h g = (slots_head units x r xs rs e
 slots_row units (x ∷ xs) (r ∷ rs) (suc k) e h g = slots_row units xs rs k (slots_head units x r xs rs e).1 (le_of_suc-le-suc h) (le_of_suc-le-suc g)
 
 -- ---- of an index that was read well
-pub record FoundRow (big : Bool) (s : List ℕ) (h : IndexHead) (slot looks : ℕ) : Type 0 where
-  pub inside : slot < h.slots
-  pub counted : 0 < get_or (index_in big s h).rows slot 0
-  pub within : get_or (index_in big s h).rows slot 0 ≤ h.units
-  pub few : looks ≤ h.slots
+pub record FoundRow (i : Index) (slot looks : ℕ) : Type 0 where
+  pub inside : slot < length i.rows
+  pub counted : 0 < get_or i.rows slot 0
+  pub within : get_or i.rows slot 0 ≤ i.units
+  pub few : looks ≤ length i.rows
 
-module _ (big : Bool) (s : List ℕ) (h : IndexHead) (r : ReadWell big s h) (x : ℕ) where
-  pub found_row : (slot looks : ℕ) → Found slot looks ≡ probed_of (probe (index_in big s h) x) → FoundRow big s h slot looks
-  unfolding probe search probed_of
-  found_row slot looks e = go (probe (index_in big s h) x) refl e
+module _ (i : Index) (w : Well i) (x : ℕ) where
+  pub found_row : (slot looks : ℕ) → probe i x ≡ found slot looks → FoundRow i slot looks
+  unfolding probe search
+  found_row slot looks e =
+      let f = well_facts w in
+      let t = look_ends i.rows i.identities x _ (positive f.power) _ _ 0 slot looks (first_slot_lt x _ f.power) e in
+      let most = slots_row i.units i.identities i.rows slot f.slots (rw f.identities t.inside) t.inside in
+      let nonzero = t.used in
+      record { inside = t.inside; counted = elim (ℕ_discrete (get_or i.rows slot 0) 0) [ yes z ↦ absurd (nonzero z) | no z ↦ omega arith ]; within = most; few = omega (arith, t.few) }
+
+  pub absent_looks : (looks : ℕ) → probe i x ≡ absent looks → looks ≤ length i.rows
+  unfolding probe search
+  absent_looks looks e = let f = well_facts w in omega (arith, look_few i.rows i.identities x _ (positive f.power) _ _ 0 looks e)
+
+-- ---- the code's answer
+module _ (p : Probed) (q : Probe) (e : p ≡ probed_of q) where
+  pub probed_found : (slot : ℕ) → p.slot ≡ std.Some slot → q ≡ found slot p.looks
+  unfolding probed_of
+  probed_found slot s = go q e
     where
-      rows : List ℕ
-      rows = (index_in big s h).rows
+      go : (r : Probe) → p ≡ probed_of r → r ≡ found slot p.looks
+      go (found a n) f = let t : std.Some a ≡ std.Some slot = sym (ap (λ (z : Probed). z.slot) f) ∙ s in let u : a ≡ slot = cc in rw (u, ap (λ (z : Probed). z.looks) f)
+      go (absent n) f = absurd (let t = sym s ∙ ap (λ (z : Probed). z.slot) f in let z : ◌≡◌ {A = ℕ} 0 1 = cc t in omega arith)
 
-      go : (p : Probe) → probe (index_in big s h) x ≡ p → Found slot looks ≡ probed_of p → FoundRow big s h slot looks
-      go (absent n) p q = absurd (let z : ◌≡◌ {A = ℕ} 0 1 = cc in omega arith)
-      go (found a n) p q =
-          let u : a ≡ slot = cc in
-          let v : n ≡ looks = cc in
-          let l = rows_length big s h in
-          let w = well big s h r in
-          let power = rw (sym l) at (read_power big s h r) in
-          let t = look_ends (index_in big s h).rows (index_in big s h).identities x _ (positive power) _ _ 0 slot looks (first_slot_lt x _ power) (rw (u, v) at p) in
-          let most = slots_row h.units (index_in big s h).identities (index_in big s h).rows slot w.slots_good_law (rw (identities_length big s h, ← l) t.inside) t.inside in
-          let nonzero = t.used in
-          record { inside = rw l at t.inside; counted = elim (ℕ_discrete (get_or (index_in big s h).rows slot 0) 0) [ yes z ↦ absurd (nonzero z) | no z ↦ omega arith ]; within = most; few = omega (arith, t.few, l) }
-
-  pub absent_looks : (looks : ℕ) → Absent looks ≡ probed_of (probe (index_in big s h) x) → looks ≤ h.slots
-  unfolding probe search probed_of
-  absent_looks looks e = go (probe (index_in big s h) x) refl e
+  pub probed_absent : p.slot ≡ std.None → q ≡ absent p.looks
+  unfolding probed_of
+  probed_absent s = go q e
     where
-      go : (p : Probe) → probe (index_in big s h) x ≡ p → Absent looks ≡ probed_of p → looks ≤ h.slots
-      go (found a n) p q = absurd (let z : ◌≡◌ {A = ℕ} 0 1 = cc in omega arith)
-      go (absent n) p q =
-          let v : n ≡ looks = cc in
-          let l = rows_length big s h in
-          let power = rw (sym l) at (read_power big s h r) in
-          omega (arith, look_few (index_in big s h).rows (index_in big s h).identities x _ (positive power) _ _ 0 looks (rw v at p), l)
+      go : (r : Probe) → p ≡ probed_of r → r ≡ absent p.looks
+      go (absent n) f = rw (ap (λ (z : Probed). z.looks) f)
+      go (found a n) f = absurd (let t = sym s ∙ ap (λ (z : Probed). z.slot) f in let z : ◌≡◌ {A = ℕ} 0 1 = cc t in omega arith)
 
 -- ---- the numbers of a cell have 32 bits
 module _ (big : Bool) (s : List ℕ) (h : IndexHead) (b : Bytes s) (k : ℕ) (g : k < h.units * h.columns) where
@@ -130,22 +130,22 @@ module _ (big : Bool) (s : List ℕ) (h : IndexHead) (b : Bytes s) (k : ℕ) (g 
   unfolding index_in layout
   size_lt = numbers_in_lt big 4 (h.units * h.columns) _ k (bytes_drop (16 + 12 * h.slots + 4 * h.columns + 4 * (h.units * h.columns)) s b) g
 
-pub cell_small : (big : Bool) (s : List ℕ) (h : IndexHead) (row section offset size : ℕ) → Bytes s → 0 < row → row ≤ h.units
-    → Is offset size ≡ cell_found (cell_of (index_in big s h) row section) → (offset < 2 ^ 32) × (size < 2 ^ 32)
+pub cell_small : (big : Bool) (s : List ℕ) (h : IndexHead) (row section : ℕ) (v : code.Contribution) → Bytes s → 0 < row → row ≤ h.units
+    → std.Some v ≡ cell_found (cell_of (index_in big s h) row section) → (v.offset < 2 ^ 32) × (v.size < 2 ^ 32)
 unfolding cell_of cell_at cell_found
-cell_small big s h row section offset size b pos most e = go (column_in (columns_of (index_in big s h).version) section) refl
+cell_small big s h row section v b pos most e = go (column_in (columns_of (index_in big s h).version) section) refl
   where
-    at : (c : ℕ) (o : Option ℕ) → place_of (index_in big s h).codes c ≡ o → Is offset size ≡ cell_found (cell_at (index_in big s h) row o) → (offset < 2 ^ 32) × (size < 2 ^ 32)
+    at : (c : ℕ) (o : Option ℕ) → place_of (index_in big s h).codes c ≡ o → std.Some v ≡ cell_found (cell_at (index_in big s h) row o)
+        → (v.offset < 2 ^ 32) × (v.size < 2 ^ 32)
     at c none p q = absurd (let z : ◌≡◌ {A = ℕ} 0 1 = cc in omega arith)
     at c (some k) p q =
         let n = (row - 1) * length (index_in big s h).codes + k in
         let l = codes_length big s h in
         let k_lt = rw l at (place_lt (index_in big s h).codes c k p) in
         let in_table_law : n < h.units * h.columns = rw l (cell_lt row h.units h.columns k pos most k_lt) in
-        let u : offset ≡ get_or (index_in big s h).offsets n 0 = cc in
-        let v : size ≡ get_or (index_in big s h).sizes n 0 = cc in
-        (rw u (offset_lt big s h b n in_table_law), rw v (size_lt big s h b n in_table_law))
+        let same : v ≡ record { offset = get_or (index_in big s h).offsets n 0; size = get_or (index_in big s h).sizes n 0 } = cc in
+        rw same (offset_lt big s h b n in_table_law, size_lt big s h b n in_table_law)
 
-    go : (o : Option ℕ) → column_in (columns_of (index_in big s h).version) section ≡ o → (offset < 2 ^ 32) × (size < 2 ^ 32)
+    go : (o : Option ℕ) → column_in (columns_of (index_in big s h).version) section ≡ o → (v.offset < 2 ^ 32) × (v.size < 2 ^ 32)
     go none p = absurd (let q = rw (cell_of, p) at e in let z : ◌≡◌ {A = ℕ} 0 1 = cc q in omega arith)
     go (some c) p = at c (place_of (index_in big s h).codes c) refl (rw (cell_of, p) at e)

@@ -21,9 +21,9 @@ use Rattle.index.specs.Index.{Contribution}
 use Rattle.index.specs.Rows.{BySection, shared, needed_codes, is_some, whole_contributions}
 use Rattle.index.specs.Written.{offset_of, size_of}
 use Rattle.index.specs.Cells.{cell_found}
-use Rattle.index.specs.Contributed.{ContributionsAre, with_cell, chosen}
-use Rattle.index.specs.declared.cells.Cell.{Cell}
-use Rattle.index.specs.declared.cells.Cell.TheVariants.{Is, Missing}
+use Rattle.index.specs.Contributed.{Cell, ContributionsAre, with_cell, chosen}
+use Rattle.std.specs.Prelude.{Some, None}
+use Rattle.index.specs.declared.cells.Contribution as code
 use Rattle.index.specs.declared.judging.Contributions.{Contributions}
 use Rattle.index.proofs.Judgements.{shared_at}
 
@@ -73,17 +73,17 @@ nothing_held = record { has = λ c. get_d_same 14 c false; offset = λ c. get_d_
 -- ---- the cases of one more
 pub with_empty : (k : Contributions) (c n : ℕ) (cell : Cell) → n ≡ 0 → k ≡ with_cell k c n cell
 unfolding with_cell
-with_empty k c n Missing e = refl
-with_empty k c n (Is o z) e = rw (with_cell, eq-eqb n 0 e)
+with_empty k c n None e = refl
+with_empty k c n (Some v) e = rw (with_cell, eq-eqb n 0 e)
 
-pub with_missing : (k : Contributions) (c n : ℕ) (cell : Cell) → cell ≡ Missing → k ≡ with_cell k c n cell
+pub with_none : (k : Contributions) (c n : ℕ) (cell : Cell) → cell ≡ None → k ≡ with_cell k c n cell
 unfolding with_cell
-with_missing k c n cell e = rw e
+with_none k c n cell e = rw e
 
-pub with_cell_law : (k : Contributions) (c n : ℕ) (cell : Cell) (o z : ℕ) → (n ≡ 0 → ⊥) → cell ≡ Is o z
-    → ◌≡◌ {A = Contributions} (record { has = set k.has c true; offset = set k.offset c o; size = set k.size c z }) (with_cell k c n cell)
+pub with_some : (k : Contributions) (c n : ℕ) (cell : Cell) (v : code.Contribution) → (n ≡ 0 → ⊥) → cell ≡ Some v
+    → ◌≡◌ {A = Contributions} (record { has = set k.has c true; offset = set k.offset c v.offset; size = set k.size c v.size }) (with_cell k c n cell)
 unfolding with_cell
-with_cell_law k c n cell o z h e = rw (e, with_cell, ne_eqb n 0 h)
+with_some k c n cell v h e = rw (e, with_cell, ne_eqb n 0 h)
 
 -- ---- filled up to a code
 unfoldable pub up_to : ℕ → BySection (Option Contribution) → BySection (Option Contribution)
@@ -195,9 +195,9 @@ module _ (lengths : BySection ℕ) (f : BySection (Option Contribution)) (k : Co
         empty q = rw (sym (with_empty k c (lengths c) (cell_found (f c)) q)) (idle (chosen_empty lengths f c low high q))
 
         full : (lengths c ≡ 0 → ⊥) → (o : Option Contribution) → f c ≡ o → ContributionsAre (with_cell k c (lengths c) (cell_found (f c))) (up_to (c + 1) (chosen lengths f))
-        full q none e = rw (sym (with_missing k c (lengths c) (cell_found (f c)) (ap cell_found e))) (idle (chosen_in lengths f c low high q ∙ e))
+        full q none e = rw (sym (with_none k c (lengths c) (cell_found (f c)) (ap cell_found e))) (idle (chosen_in lengths f c low high q ∙ e))
         full q (some v) e =
-            rw (sym (with_cell_law k c (lengths c) (cell_found (f c)) v.offset v.size q (ap cell_found e))) (stored v (chosen_in lengths f c low high q ∙ e))
+            rw (sym (with_some k c (lengths c) (cell_found (f c)) _ q (ap cell_found e))) (stored v (chosen_in lengths f c low high q ∙ e))
 
 pub whole_chosen : (lengths : BySection ℕ) (s : ℕ) → chosen lengths (λ c. some (record { offset = 0; size = lengths c })) s ≡ whole_contributions lengths s
 unfolding chosen whole_contributions

@@ -4,22 +4,21 @@
 use mathlib.Core.Path.{◌≡◌, refl, sym, ap, ◌∙◌}
 use mathlib.Core.Bool.{Bool, true, ◌||◌}
 use mathlib.Core.List.{List}
-use Prim.Native.Nat.{ℕ, ◌+◌, ◌*◌, ◌<◌, ◌≤◌}
+use Prim.Native.Nat.{ℕ, ◌+◌, ◌*◌, ◌^◌, ◌<◌, ◌≤◌}
 use native.Mathlib.Omega.{arith}
 use lib.Dec.{eqb, ltb}
 use lib.ListN.{length, drop, get_or}
 use borrow.Author.Tests.{ltb-true, leb-true, eqb-true}
 use Rattle.octets.specs.Octets.{number_at, numbers_in}
 use Rattle.octets.specs.Lists.{all, distinct}
-use Rattle.octets.specs.Checked.{Check, pass, refuse}
+use Rattle.octets.specs.Checked.{Check, pass, refuse, mapped}
 use Rattle.octets.proofs.Checks.{require_pass, and_left, and_right, pass_inj}
 use Rattle.octets.proofs.Numbers.{number_at_drop}
 use Rattle.octets.proofs.Tables.{length_numbers_in, numbers_in_at}
 use Rattle.index.specs.Index.{Index, index_of, layout, version_of, columns_most, code_good, least_power, slots_good}
-use Rattle.index.specs.Held.{PowerOfTwo, Sized, ReadWell, head_of, stated, index_in, index_read}
+use Rattle.index.specs.Held.{PowerOfTwo, Sized, Well, ReadWell, head_of, stated, index_in}
 use Rattle.index.specs.declared.reading.IndexHead.{IndexHead}
-use Rattle.index.specs.declared.reading.IndexRead.TheVariants.{Good}
-use Rattle.index.proofs.Masks.{least_power_law}
+use Rattle.index.proofs.Masks.{least_power_law, least_power_most}
 
 pub table_at : (big : Bool) (w n : ℕ) (s : List ℕ) (a k : ℕ) → k < n → number_at big w s (a + w * k) ≡ get_or (numbers_in big w n (drop a s)) k 0
 table_at big w n s a k h = sym (numbers_in_at big w n (drop a s) k h ∙ number_at_drop big w s a (w * k))
@@ -60,6 +59,18 @@ module _ (big : Bool) (s : List ℕ) (h : IndexHead) where
   unfolding index_in layout
   codes_length = length_numbers_in big 4 h.columns (drop (16 + 12 * h.slots) s)
 
+  pub units_are : (index_in big s h).units ≡ h.units
+  unfolding index_in layout
+  units_are = refl
+
+  pub offsets_length : length (index_in big s h).offsets ≡ h.units * h.columns
+  unfolding index_in layout
+  offsets_length = length_numbers_in big 4 (h.units * h.columns) (drop (16 + 12 * h.slots + 4 * h.columns) s)
+
+  pub sizes_length : length (index_in big s h).sizes ≡ h.units * h.columns
+  unfolding index_in layout
+  sizes_length = length_numbers_in big 4 (h.units * h.columns) (drop (16 + 12 * h.slots + 4 * h.columns + 4 * (h.units * h.columns)) s)
+
 pub record WellFormed (big : Bool) (s : List ℕ) (h : IndexHead) : Type 0 where
   pub head : h ≡ stated big s
   pub long : 16 ≤ length s
@@ -76,7 +87,7 @@ pub record WellFormed (big : Bool) (s : List ℕ) (h : IndexHead) : Type 0 where
 module _ (big : Bool) (s : List ℕ) where
   -- the head of the index that was read is what the section states
   pub head_of_law : head_of (index_in big s (stated big s)) ≡ stated big s
-  unfolding head_of stated index_in layout
+  unfolding stated index_in layout
   head_of_law =
       let h = stated big s in
       rw (length_numbers_in big 4 h.columns (drop (16 + 12 * h.slots) s), length_numbers_in big 4 h.slots (drop (16 + 8 * h.slots) s))
@@ -105,19 +116,23 @@ module _ (big : Bool) (s : List ℕ) where
         is = e ∙ sym e7;
       }
 
+  -- an index that was read is the one that the head states
+  pub read_stated : (i : Index) → index_of big s ≡ pass i → i ≡ index_in big s (stated big s)
+  read_stated i e = pass_inj (sym e ∙ (well_stated i e).is)
+
+  pub head_stated : (i : Index) → index_of big s ≡ pass i → head_of i ≡ stated big s
+  head_stated i e = ap head_of (read_stated i e) ∙ head_of_law
+
   -- a head that was read
   pub well : (h : IndexHead) → ReadWell big s h → WellFormed big s h
-  unfolding index_read
+  unfolding mapped
   well h r = go (index_of big s) refl r.is
     where
-      go : (x : Check Index) → index_of big s ≡ x → Good h ≡ index_read x → WellFormed big s h
+      go : (x : Check Index) → index_of big s ≡ x → mapped head_of x ≡ pass h → WellFormed big s h
       go (refuse n) e g = absurd (let z : ◌≡◌ {A = ℕ} 0 1 = cc in omega arith)
       go (pass i) e g =
-          let w = well_stated i e in
-          let q : i ≡ index_in big s (stated big s) = pass_inj (sym e ∙ w.is) in
-          let p : Good h ≡ Good (stated big s) = g ∙ ap (λ (j : Index). Good (head_of j)) q ∙ ap Good head_of_law in
-          let same : h ≡ stated big s = cc in
-          rw same w
+          let same : h ≡ stated big s = sym (pass_inj g) ∙ head_stated i e in
+          rw same (well_stated i e)
 
 module _ (big : Bool) (s : List ℕ) (h : IndexHead) (r : ReadWell big s h) where
   pub read_sized : Sized s h
@@ -128,6 +143,31 @@ module _ (big : Bool) (s : List ℕ) (h : IndexHead) (r : ReadWell big s h) wher
 
   pub read_is : index_of big s ≡ pass (index_in big s h)
   read_is = (well big s h r).is
+
+  pub read_well : Well (index_in big s h)
+  read_well = record { big = big; bytes = s; is = read_is }
+
+-- what every well formed index has
+pub record Facts (i : Index) : Type 0 where
+  pub power : PowerOfTwo (length i.rows)
+  pub few : length i.rows ≤ 2 ^ 32
+  pub identities : length i.identities ≡ length i.rows
+  pub slots : slots_good i.units i.identities i.rows ≡ true
+
+pub well_facts : {i : Index} → Well i → Facts i
+unfolding index_in layout
+well_facts {i} r =
+    let h = stated r.big r.bytes in
+    let w = well_stated r.big r.bytes i r.is in
+    let l = rows_length r.big r.bytes h in
+    let p = rw w.power at (least_power_law h.slots) in
+    rw (read_stated r.big r.bytes i r.is)
+    (record {
+      power = rw l p;
+      few = rw l (rw w.power at (least_power_most h.slots));
+      identities = identities_length r.big r.bytes h ∙ sym l;
+      slots = w.slots_good_law;
+    })
 
 -- the same as bounds
 module _ (big : Bool) (s : List ℕ) (h : IndexHead) {i : ℕ} where
@@ -143,10 +183,33 @@ module _ (big : Bool) (s : List ℕ) (h : IndexHead) {i : ℕ} where
   pub in_identities : i < h.slots → i < length (index_in big s h).identities
   in_identities g = rw (identities_length big s h) g
 
-  pub past_identities : h.slots ≤ i → length (index_in big s h).identities ≤ i
-  past_identities g = rw (identities_length big s h) g
+-- ---- the numbers of an index that a section holds, as the code reads them
+module _ (big : Bool) (s : List ℕ) (h : IndexHead) {i : Index} (v : index_in big s h ≡ i) where
+  pub head_held : h ≡ head_of i
+  unfolding index_in layout
+  head_held = rw (← v) (rw (codes_length big s h, rows_length big s h))
 
-pub stated_is : (big : Bool) (s : List ℕ) (v c u n : ℕ) → v ≡ version_of big s → c ≡ number_at big 4 s 4 → u ≡ number_at big 4 s 8 → n ≡ number_at big 4 s 12
-    → ◌≡◌ {A = IndexHead} (record { version = v; columns = c; units = u; slots = n }) (stated big s)
-unfolding stated
-stated_is big s v c u n p q r t = rw (p, q, r, t)
+  pub slots_held : (length i.identities ≡ h.slots) × (length i.rows ≡ h.slots)
+  slots_held = rw (← v) (identities_length big s h, rows_length big s h)
+
+  pub cells_held : (length i.codes ≡ h.columns) × (length i.offsets ≡ h.units * h.columns) × (length i.sizes ≡ h.units * h.columns) × (i.units ≡ h.units)
+  unfolding index_in layout
+  cells_held = rw (← v) (codes_length big s h, offsets_length big s h, sizes_length big s h, refl)
+
+  module _ {k : ℕ} where
+    pub identity_read : k < length i.identities → (k < h.slots) × (number_at big 8 s (16 + 8 * k) ≡ get_or i.identities k 0)
+    identity_read l = let g : k < h.slots = rw identities_length at (rw (← v) at l) in (g, rw (← v) (identity_is big s h k g))
+
+    pub row_read : k < length i.rows → (k < h.slots) × (number_at big 4 s (16 + 8 * h.slots + 4 * k) ≡ get_or i.rows k 0)
+    row_read l = let g : k < h.slots = rw rows_length at (rw (← v) at l) in (g, rw (← v) (row_is big s h k g))
+
+    pub code_read : k < length i.codes → (k < h.columns) × (number_at big 4 s (16 + 12 * h.slots + 4 * k) ≡ get_or i.codes k 0)
+    code_read l = let g : k < h.columns = rw codes_length at (rw (← v) at l) in (g, rw (← v) (code_is big s h k g))
+
+    pub offset_read : k < length i.offsets
+        → (k < h.units * h.columns) × (number_at big 4 s (16 + 12 * h.slots + 4 * h.columns + 4 * k) ≡ get_or i.offsets k 0)
+    offset_read l = let g : k < h.units * h.columns = rw offsets_length at (rw (← v) at l) in (g, rw (← v) (offset_is big s h k g))
+
+    pub size_read : k < length i.sizes
+        → (k < h.units * h.columns) × (number_at big 4 s (16 + 12 * h.slots + 4 * h.columns + 4 * (h.units * h.columns) + 4 * k) ≡ get_or i.sizes k 0)
+    size_read l = let g : k < h.units * h.columns = rw sizes_length at (rw (← v) at l) in (g, rw (← v) (size_is big s h k g))

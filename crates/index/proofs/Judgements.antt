@@ -6,81 +6,21 @@ use mathlib.Core.Bool.{Bool, true, false, not, ◌||◌}
 use mathlib.Core.List.{List, ◌∷◌}
 use mathlib.Core.Logic.{⊎_elim}
 use mathlib.Core.Option.{Option, some, none}
-use Prim.Native.Nat.{ℕ, zero, suc, ◌+◌, ◌-◌, ◌%◌, ◌<◌, ◌≤◌}
+use Prim.Native.Nat.{ℕ, zero, suc, ◌+◌, ◌-◌, ◌<◌, ◌≤◌}
 use native.Mathlib.Omega.{arith}
 use lib.Dec.{eqb}
 use lib.ListN.{length, get_or, drop, drop_of_length-le}
 use lib.Seq.{drop-cons}
-use borrow.Author.Tests.{eq-eqb, ne_eqb, le-leb, lt-leb}
+use borrow.Author.Tests.{eq-eqb, ne_eqb}
 use Rattle.octets.specs.Lists.{all, those}
 use Rattle.octets.proofs.Checks.{known, true_false}
 use Rattle.octets.proofs.Lists.{all_cons, all_stops, those_keeps, those_skips}
 use Rattle.index.specs.Index.{Contribution}
-use Rattle.index.specs.Rows.{BySection, shared, needed_codes, is_some, cell_is, own_place, part_good}
+use Rattle.index.specs.Rows.{BySection, shared, needed_codes, cell_is, own_place, part_good}
 use Rattle.index.specs.Cells.{cell_found}
-use Rattle.index.specs.Contributed.{is_cell, own_cell, whole_entries, good_cell}
-use Rattle.index.specs.declared.cells.Cell.{Cell}
-use Rattle.index.specs.declared.cells.Cell.TheVariants.{Is, Missing}
-
-pub needed_empty : (n : ℕ) (t : Bool) → n ≡ 0 → true ≡ (eqb n 0 || t)
-needed_empty n t e = rw (eq-eqb n 0 e)
-
-pub needed_cell : (n : ℕ) (t u : Bool) → (n ≡ 0 → ⊥) → u ≡ t → u ≡ (eqb n 0 || t)
-needed_cell n t u e q = rw (ne_eqb n 0 e) q
-
-pub cell_there : (cell : Cell) (o z : ℕ) → cell ≡ Is o z → true ≡ is_cell cell
-unfolding is_cell
-cell_there cell o z e = rw e
-
-pub cell_missing : (cell : Cell) → cell ≡ Missing → false ≡ is_cell cell
-unfolding is_cell
-cell_missing cell e = rw e
-
-pub own_missing : (at size : ℕ) (cell : Cell) → cell ≡ Missing → false ≡ own_cell at size cell
-unfolding own_cell
-own_missing at size cell e = rw e
-
-module _ (at size : ℕ) (cell : Cell) (o z : ℕ) (e : cell ≡ Is o z) where
-  pub own_apart : (o ≡ at → ⊥) → false ≡ own_cell at size cell
-  unfolding own_cell
-  own_apart h = rw (e, own_cell, ne_eqb o at h)
-
-  pub own_size : o ≡ at → eqb z size ≡ own_cell at size cell
-  unfolding own_cell
-  own_size h = rw (e, own_cell, eq-eqb o at h)
-
-module _ (width section o z : ℕ) where
-  pub entries_other : (section ≡ 6 → ⊥) → true ≡ whole_entries width section o z
-  unfolding whole_entries
-  entries_other h = rw (whole_entries, ne_eqb section 6 h)
-
-  pub entries_offset : section ≡ 6 → (o % width ≡ 0 → ⊥) → false ≡ whole_entries width section o z
-  unfolding whole_entries
-  entries_offset h g = rw (whole_entries, eq-eqb section 6 h, ne_eqb (o % width) 0 g)
-
-  pub entries_size : section ≡ 6 → o % width ≡ 0 → eqb (z % width) 0 ≡ whole_entries width section o z
-  unfolding whole_entries
-  entries_size h g = rw (whole_entries, eq-eqb section 6 h, eq-eqb (o % width) 0 g)
-
-pub part_missing : (width n section : ℕ) (cell : Cell) → cell ≡ Missing → false ≡ good_cell width n section cell
-unfolding good_cell
-part_missing width n section cell e = rw e
-
-module _ (width n section : ℕ) (cell : Cell) (o z : ℕ) (e : cell ≡ Is o z) where
-  pub part_outside : n < o + z → false ≡ good_cell width n section cell
-  unfolding good_cell
-  part_outside g = rw (e, good_cell, lt-leb (o + z) n g)
-
-  pub part_entries : o + z ≤ n → whole_entries width section o z ≡ good_cell width n section cell
-  unfolding good_cell
-  part_entries g = rw (e, good_cell, le-leb (o + z) n g)
+use Rattle.index.specs.Contributed.{own_cell, whole_entries, good_cell}
 
 -- ---- the definition's tests of a cell are these
-pub is_cell_law : (o : Option Contribution) → is_cell (cell_found o) ≡ is_some o
-unfolding is_cell cell_found is_some
-is_cell_law (some c) = refl
-is_cell_law none = refl
-
 pub own_cell_law : (at size : ℕ) (o : Option Contribution) → own_cell at size (cell_found o) ≡ cell_is (own_place at size) o
 unfolding own_cell cell_found cell_is own_place
 own_cell_law at size (some c) = refl

@@ -31,6 +31,7 @@ pub mod Ends
 pub mod OneRow
 pub mod Tiles
 pub mod Judgements
+pub mod Ranges
 pub mod Filled
 pub mod Columned
 pub mod RowAnswers

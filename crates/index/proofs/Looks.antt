@@ -2,15 +2,16 @@
 -- Assumes nothing.
 use mathlib.Core.Path.{◌≡◌, sym, ap, ◌∙◌}
 use mathlib.Core.List.{List}
-use Prim.Native.Nat.{ℕ, suc, ◌+◌, ◌-◌, ◌%◌, ◌≤◌, ◌<◌}
+use Prim.Native.Nat.{ℕ, suc, ◌+◌, ◌-◌, ◌%◌, ◌<◌}
 use native.Mathlib.Omega.{arith}
 use native.Mathlib.Nat.{sub-zero}
 use lib.ListN.{length, get_or}
+use Rattle.std.specs.Prelude.{Some, None}
 use borrow.Author.Tests.{eq-eqb, ne_eqb}
 use Rattle.index.specs.Index.{Index}
 use Rattle.index.specs.Probing.{Probe, found, absent, first_slot, stride, look, search, probe}
 use Rattle.index.specs.Held.{probed_of}
-use Rattle.index.specs.declared.probing.Probed.TheVariants.{Found, Absent}
+use Rattle.index.specs.declared.probing.Probed.{Probed}
 
 module _ (rows ids : List ℕ) (x at by n k : ℕ) where
   pub look_unused : get_or rows at 0 ≡ 0 → absent (n + 1) ≡ look (suc k) rows ids x at by n
@@ -30,6 +31,12 @@ module _ (rows ids : List ℕ) (x at by n k : ℕ) where
 pub one : (n looks : ℕ) → looks < n → n - looks ≡ suc (n - (looks + 1))
 one n looks h = omega arith
 
+abbrev at_slot : ℕ → ℕ → Probed
+at_slot slot looks = record { slot = Some slot; looks = looks }
+
+abbrev at_none : ℕ → Probed
+at_none looks = record { slot = None; looks = looks }
+
 -- ---- a loop that searches: its start, its ends and its turn, over the values that it has
 pub probe_start : (i : Index) (x slots first by : ℕ) → length i.rows ≡ slots → first ≡ first_slot x slots → by ≡ stride x slots
     → look (slots - 0) i.rows i.identities x first by 0 ≡ probe i x
@@ -41,21 +48,21 @@ module _ (rows ids : List ℕ) (x slots at by looks row : ℕ) (p : Probe) (l : 
   left : look (suc (slots - (looks + 1))) rows ids x at by looks ≡ p
   left = rw (one slots looks h) at e
 
-  pub search_unused : row ≡ 0 → Absent (looks + 1) ≡ probed_of p
+  pub search_unused : row ≡ 0 → at_none (looks + 1) ≡ probed_of p
   unfolding probed_of
   search_unused z = ap probed_of (look_unused rows ids x at by looks (slots - (looks + 1)) (sym r ∙ z) ∙ left)
 
   module _ (used : row ≡ 0 → ⊥) (y : ℕ) (i : y ≡ get_or ids at 0) where
-    pub search_found : y ≡ x → Found at (looks + 1) ≡ probed_of p
+    pub search_found : y ≡ x → at_slot at (looks + 1) ≡ probed_of p
     unfolding probed_of
     search_found z = ap probed_of (look_found rows ids x at by looks (slots - (looks + 1)) (λ u. used (r ∙ u)) (sym i ∙ z) ∙ left)
 
     pub search_on : (y ≡ x → ⊥) → look (slots - (looks + 1)) rows ids x ((at + by) % slots) by (looks + 1) ≡ p
     search_on z = rw l at (look_on rows ids x at by looks (slots - (looks + 1)) (λ u. used (r ∙ u)) (λ u. z (i ∙ u)) ∙ left)
 
-pub search_end : (rows ids : List ℕ) (x slots at by looks : ℕ) (p : Probe) → slots ≤ looks → look (slots - looks) rows ids x at by looks ≡ p
-    → Absent looks ≡ probed_of p
+pub search_end : (rows ids : List ℕ) (x slots at by looks : ℕ) (p : Probe) → slots ≡ looks → look (slots - looks) rows ids x at by looks ≡ p
+    → at_none slots ≡ probed_of p
 unfolding look probed_of
 search_end rows ids x slots at by looks p h e =
     let z : slots - looks ≡ 0 = omega arith in
-    ap probed_of (rw z at e)
+    rw h (ap probed_of (rw z at e))

@@ -1,8 +1,8 @@
 -- Masks of powers of two are remainders, and `| 1` makes odd.
 -- Assumes nothing.
-use mathlib.Core.Path.{◌≡◌, refl, sym, ◌∙◌}
+use mathlib.Core.Path.{◌≡◌, refl, sym, ap, ◌∙◌}
 use Prim.Native.Nat.{ℕ, zero, suc, ◌+◌, ◌*◌, ◌-◌, ◌/◌, ◌%◌, ◌^◌, ◌<◌, ◌≤◌}
-use native.Mathlib.Nat.{mod-lt, pow-succ'}
+use native.Mathlib.Nat.{mod-lt, pow-succ', one-mul, mul_assoc, mul_left_comm, mul-le-mul_right}
 use native.Mathlib.Omega.{arith}
 use native.Mathlib.Decide.{dec_le}
 use lib.Bits.{bit_and, bit_or, and_mask, or_step, or_zero_r}
@@ -61,12 +61,16 @@ pub least_power_law : (n : ℕ) → PowerOfTwo (least_power n)
 unfolding least_power
 least_power_law n = power_from_law 32 1 n (record { power = 0; is = refl })
 
--- as a loop counts the doublings that are left
-pub power_left : (left p n : ℕ) → 0 < left → p < n → power_from (left - 1) (2 * p) n ≡ power_from left p n
-power_left zero p n h g = absurd (omega arith)
-power_left (suc k) p n h g = let e : suc k - 1 ≡ k = omega arith in rw e (sym (power_more k p n g))
-
-pub power_end : (left p n : ℕ) → left ≤ 0 → p ≡ power_from left p n
+power_from_most : (k p n : ℕ) → power_from k p n ≤ 2 ^ k * p
 unfolding power_from
-power_end zero p n h = refl
-power_end (suc k) p n h = absurd (omega arith)
+power_from_most zero p n = omega (arith, one-mul p)
+power_from_most (suc k) p n =
+    let more : 2 ^ k * (2 * p) ≡ 2 ^ suc k * p = mul_left_comm (2 ^ k) 2 p ∙ sym (mul_assoc 2 (2 ^ k) p) ∙ ap (λ (z : ℕ). z * p) (sym (pow-succ' 2 k)) in
+    elim (dec_le n p) [
+      | yes g ↦ rw (power_stop (suc k) p n g) (omega (arith, mul-le-mul_right p (pow_pos (suc k)), one-mul p))
+      | no g ↦ rw (power_more k p n (omega arith)) (rw more at (power_from_most k (2 * p) n))
+    ]
+
+pub least_power_most : (n : ℕ) → least_power n ≤ 2 ^ 32
+unfolding least_power
+least_power_most n = omega (arith, power_from_most 32 1 n)

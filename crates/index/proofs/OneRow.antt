@@ -16,12 +16,9 @@ use Rattle.octets.specs.Checked.{pass}
 use Rattle.octets.proofs.Checks.{bind_pass, require_pass, pass_inj, pass_refuse, known, true_false}
 use Rattle.octets.proofs.Elements.{has_cons, has_skips}
 use Rattle.octets.proofs.Lists.{any_cases, any_stops, any_more, those_keeps, those_skips}
-use Rattle.index.specs.Index.{Index, Contribution, index_of, layout, cell_of}
+use Rattle.index.specs.Index.{Index, Contribution, index_of, cell_of}
 use Rattle.index.specs.Probing.{Probe, found, absent, probe}
 use Rattle.index.specs.Rows.{BySection, needed_codes, is_some, row_of, cell_is, own_place, row_contributions, row_numbers, naming, the_one}
-use Rattle.index.specs.Held.{ReadWell, stated, index_in, index_read, probed_of}
-use Rattle.index.specs.declared.reading.IndexRead.TheVariants.{Good}
-use Rattle.index.proofs.Heads.{head_of_law, well_stated}
 use Rattle.index.proofs.Ends.{found_row}
 
 pub one_is : (rs : List ℕ) (row r : ℕ) → the_one rs ≡ pass row → has rs r ≡ true → r ≡ row
@@ -49,21 +46,14 @@ those_has f (x ∷ xs) c h e = ⊎_elim
 
 module _ (big : Bool) (s : List ℕ) (i : Index) (e : index_of big s ≡ pass i) (x : ℕ) where
   row_counted : (r : ℕ) → row_of i (probe i x) ≡ pass r → (0 < r) × (r ≤ i.units)
-  unfolding index_read index_in layout row_of probed_of
-  row_counted r q =
-      let w = well_stated big s i e in
-      let same : i ≡ read = pass_inj (sym e ∙ w.is) in
-      subst (λ (j : Index). row_of j (probe j x) ≡ pass r → (0 < r) × (r ≤ j.units)) (sym same)
-      (from (record { is = sym (ap index_read w.is ∙ ap Good (head_of_law big s)) }) (probe read x) refl) q
+  unfolding row_of
+  row_counted r q = from (probe i x) refl q
     where
-      read : Index
-      read = index_in big s (stated big s)
-
-      from : ReadWell big s (stated big s) → (p : Probe) → probe read x ≡ p → row_of read p ≡ pass r → (0 < r) × (r ≤ read.units)
-      from w (absent n) f z = absurd (pass_refuse r 15 (sym z))
-      from w (found slot looks) f z =
-          let k = found_row big s (stated big s) w x slot looks (ap probed_of (sym f)) in
-          subst (λ (m : ℕ). (0 < m) × (m ≤ read.units)) (pass_inj z) (k.counted, k.within)
+      from : (p : Probe) → probe i x ≡ p → row_of i p ≡ pass r → (0 < r) × (r ≤ i.units)
+      from (absent n) f z = absurd (pass_refuse r 15 (sym z))
+      from (found slot looks) f z =
+          let k = found_row i (record { big = big; bytes = s; is = e }) x slot looks f in
+          subst (λ (m : ℕ). (0 < m) × (m ≤ i.units)) (pass_inj z) (k.counted, k.within)
 
   -- the row where a search ends is one of the rows
   pub row_listed : (r : ℕ) → row_of i (probe i x) ≡ pass r → has (row_numbers i.units) r ≡ true

@@ -2,13 +2,14 @@
 -- Assumes nothing.
 use mathlib.Core.Path.{◌≡◌, refl, sym, ap, ◌∙◌}
 use mathlib.Core.Logic.{◌⊎◌, inl, inr, ⊎_elim}
-use Prim.Native.Nat.{ℕ, zero, suc, ◌+◌, ◌*◌, ◌-◌, ◌/◌, ◌%◌, ◌^◌, ◌<◌, ◌≤◌}
-use native.Mathlib.Nat.{one-mul, mul-one, mul_assoc, mul_left_comm, mul-le-mul_right, pow-succ', not-suc-le-zero, le_of_suc-le-suc}
+use Prim.Native.Nat.{ℕ, zero, suc, ◌+◌, ◌*◌, ◌-◌, ◌/◌, ◌%◌, ◌^◌, min, max, ◌<◌, ◌≤◌}
+use native.Mathlib.Nat.{pow-le-pow_right, one-mul, mul-one, mul_assoc, mul_left_comm, mul-le-mul_right, pow-succ', not-suc-le-zero, le_of_suc-le-suc}
 use native.Mathlib.Omega.{arith}
 use native.Mathlib.Decide.{dec_le, dec_lt}
 use lib.Bits.{bit_and}
 use lib.Pow.{pow_pos}
 use borrow.Author.Tests.{le-leb, lt-leb, lt-ltb, le-ltb}
+use Rattle.std.specs.Int.{IsPowerOfTwo}
 use Rattle.index.specs.Index.{power_from, least_power}
 use Rattle.index.specs.Probing.{stride, slots_for}
 use Rattle.index.specs.Held.{PowerOfTwo}
@@ -97,6 +98,51 @@ unfolding least_power
 least_power_twice n =
     let d = doublings 32 1 n in
     ap (power_from 32 1) d.is ∙ kept 32 d.times 1 d.within (omega arith) ∙ sym d.is
+
+-- no power of two lies between
+powers_apart : (a b m : ℕ) → a < b → m ≤ 2 ^ a → 2 ^ b / 2 < max 1 m → ⊥
+powers_apart a b m h l g =
+    let up = pow-le-pow_right {n = 2} (omega arith) {i = suc a} {j = b} h in
+    omega (arith, up, pow-succ' 2 a, pow_pos a)
+
+full : (k p n : ℕ) → 0 < p → 2 ^ k * p ≤ n → power_from k p n ≡ 2 ^ k * p
+unfolding power_from
+full zero p n h g = sym (one-mul p)
+full (suc k) p n h g =
+    let more : p < n = omega (arith, doubled k p, mul-le-mul_right (2 * p) (pow_pos k), one-mul (2 * p)) in
+    power_on k p n more ∙ full k (2 * p) n (omega arith) (rw (sym (doubled k p)) at g) ∙ doubled k p
+
+-- the library's next power of two is the least one
+record Next (m p : ℕ) : Type 0 where
+  above : m ≤ p
+  close : p / 2 < max 1 m
+
+next_power : (n : ℕ) → Next (min n (2 ^ 32)) (least_power n)
+unfolding least_power
+next_power n =
+    elim (dec_le n (2 ^ 32)) [
+      | yes h ↦ record { above = omega (arith, least_power_ge n h); close = half h }
+      | no h ↦ let e = full 32 1 n (omega arith) (omega arith) in record { above = omega (arith, e); close = omega (arith, e) }
+    ]
+  where
+    half : n ≤ 2 ^ 32 → least_power n / 2 < max 1 (min n (2 ^ 32))
+    half h =
+        elim (dec_lt 1 n) [
+          | yes g ↦ omega (arith, least_power_le n g)
+          | no g ↦ let e = power_here 31 1 n (omega arith) in omega (arith, e)
+        ]
+
+pub next_power_is : (n p : ℕ) → IsPowerOfTwo p → min n (2 ^ 32) ≤ p → p / 2 < max 1 (min n (2 ^ 32)) → p ≡ least_power n
+next_power_is n p power above close =
+    let q = least_power_law n in
+    let r = next_power n in
+    elim (dec_lt power.0 q.power) [
+      | yes h ↦ absurd (powers_apart power.0 q.power (min n (2 ^ 32)) h (rw power.1 at above) (rw q.is at r.close))
+      | no h ↦ elim (dec_lt q.power power.0) [
+        | yes g ↦ absurd (powers_apart q.power power.0 (min n (2 ^ 32)) g (rw q.is at r.above) (rw power.1 at close))
+        | no g ↦ let e : power.0 ≡ q.power = omega arith in power.1 ∙ ap (λ (k : ℕ). 2 ^ k) e ∙ sym q.is
+      ]
+    ]
 
 -- ---- slots
 -- the double of the slots exceeds 3n

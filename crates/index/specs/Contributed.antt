@@ -5,35 +5,37 @@ use Rattle.std.proofs.Math.Option.{Option, none}
 use Rattle.numbers.specs.Sections.{str_offsets_code, section_codes}
 use Rattle.octets.specs.Checked.{Check, pass, refuse}
 use Rattle.octets.specs.Lists.{has}
+use Rattle.std.specs.Prelude as std
+use Rattle.std.specs.Prelude.{Some, None, Result, Ok, Err}
+use Rattle.numbers.specs.Refused.{number_of}
+use Rattle.numbers.specs.declared.refusals.Refusal.{Refusal}
 use Rattle.index.specs.Index.{Index, Contribution}
 use Rattle.index.specs.Rows.{BySection, needed_codes, is_some, row_contributions}
 use Rattle.index.specs.Written.{offset_of, size_of}
-use Rattle.index.specs.declared.cells.Cell.{Cell}
-use Rattle.index.specs.declared.cells.Cell.TheVariants.{Is, Missing}
+use Rattle.index.specs.declared.cells.Contribution as code
 use Rattle.index.specs.declared.judging.Contributions.{Contributions}
 use Rattle.index.specs.declared.judging.Measures.{Measures}
 use Rattle.index.specs.declared.judging.OwnUnit.{OwnUnit}
-use Rattle.index.specs.declared.judging.RowJudged.{RowJudged}
 
 -- numbers in an array, by section code
 unfoldable pub by_code : List ℕ → BySection ℕ
 by_code ns c = get_or ns c 0
 
--- ---- tests of a cell
-unfoldable pub is_cell : Cell → Bool
-is_cell (Is o z) = true
-is_cell Missing = false
+-- a cell as the code has it
+abbrev pub Cell : Type 0
+Cell = std.Option code.Contribution
 
+-- ---- tests of a cell
 unfoldable pub own_cell : ℕ → ℕ → Cell → Bool
-own_cell at size (Is o z) = eqb o at && eqb z size
-own_cell at size Missing = false
+own_cell at size (Some c) = eqb c.offset at && eqb c.size size
+own_cell at size None = false
 
 unfoldable pub whole_entries : ℕ → ℕ → ℕ → ℕ → Bool
 whole_entries width section o z = not (eqb section str_offsets_code) || (eqb (o % width) 0 && eqb (z % width) 0)
 
 unfoldable pub good_cell : ℕ → ℕ → ℕ → Cell → Bool
-good_cell width n section (Is o z) = leb (o + z) n && whole_entries width section o z
-good_cell width n section Missing = false
+good_cell width n section (Some c) = leb (c.offset + c.size) n && whole_entries width section c.offset c.size
+good_cell width n section None = false
 
 -- ---- contributions in arrays
 pub record Whole (k : Contributions) : Type 0 where
@@ -49,33 +51,27 @@ pub record ContributionsAre (k : Contributions) (f : BySection (Option Contribut
 
 -- the cell of a section among them
 unfoldable pub cell_held : Contributions → ℕ → Cell
-cell_held k c = elim (get_or k.has c false) [ true ↦ Is (get_or k.offset c 0) (get_or k.size c 0) | false ↦ Missing ]
+cell_held k c = elim (get_or k.has c false) [ true ↦ Some (record { offset = get_or k.offset c 0; size = get_or k.size c 0 }) | false ↦ None ]
 
 unfoldable pub good_held : ℕ → BySection ℕ → Contributions → ℕ → Bool
 good_held width lengths k c = good_cell width (lengths c) c (cell_held k c)
 
 unfoldable pub with_cell : Contributions → ℕ → ℕ → Cell → Contributions
-with_cell k c n Missing = k
-with_cell k c n (Is o z) =
-    elim (eqb n 0) [ true ↦ k | false ↦ record { has = set k.has c true; offset = set k.offset c o; size = set k.size c z } ]
+with_cell k c n None = k
+with_cell k c n (Some v) =
+    elim (eqb n 0) [ true ↦ k | false ↦ record { has = set k.has c true; offset = set k.offset c v.offset; size = set k.size c v.size } ]
 
 -- a contribution for each shared section that is not empty
 unfoldable pub chosen : BySection ℕ → BySection (Option Contribution) → BySection (Option Contribution)
 chosen lengths f s = elim (has (needed_codes lengths) s) [ true ↦ f s | false ↦ none ]
 
--- ---- an answer's number and values: a refusal has nothing
-unfoldable pub code_given : {A : Type 0} → Check A → ℕ
-code_given (pass f) = 0
-code_given (refuse n) = n
-
-unfoldable pub contributions_given : Check (BySection (Option Contribution)) → BySection (Option Contribution)
-contributions_given (pass f) = f
-contributions_given (refuse n) = λ c. none
-
 -- the row of a unit by value
 unfoldable pub judged_row : Index → Measures → OwnUnit → Check (BySection (Option Contribution))
 judged_row i m u = row_contributions i m.width (by_code m.lengths) u.identity u.home u.at u.size
 
-pub record Answers (r : RowJudged) (m : Check (BySection (Option Contribution))) : Type 0 where
-  pub code : r.code ≡ code_given m
-  pub contributions : ContributionsAre r.contributions (contributions_given m)
+-- an answer of the code's is that of a check
+unfoldable pub Answers : Result Contributions Refusal → Check (BySection (Option Contribution)) → Type 0
+Answers (Ok k) (pass f) = ContributionsAre k f
+Answers (Err r) (refuse n) = number_of r ≡ n
+Answers (Ok k) (refuse n) = ⊥
+Answers (Err r) (pass f) = ⊥

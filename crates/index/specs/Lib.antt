@@ -7,6 +7,5 @@ pub mod Rows
 pub mod Tiles
 pub mod Written
 pub mod Held
-pub mod Answered
 pub mod Cells
 pub mod Contributed

@@ -1,5 +1,5 @@
 // A kept unit's row judged: 15 before 16, over all columns that are needed. Lengths of sections are by their code.
-ghost use Rattle.std.specs.Prelude.{◌≡◌, false, ◌||◌, ◌<◌, ◌≤◌, eqb, get_or};
+ghost use Rattle.std.specs.Prelude.{Some, ◌≡◌, false, ◌||◌, ◌<◌, ◌≤◌, eqb, get_or};
 ghost use Rattle.std.proofs.Math.Option.{none};
 ghost use Rattle.numbers.specs.Sections.{section_codes};
 ghost use Rattle.octets.specs.Lists.{all};
@@ -8,10 +8,9 @@ ghost use Rattle.index.specs.Rows.{
   needed_codes,
   whole_contributions,
 };
-ghost use Rattle.index.specs.Held.{Sized, ReadWell, index_in};
+ghost use Rattle.index.specs.Held.{Well};
 ghost use Rattle.index.specs.Contributed.{
   by_code,
-  is_cell,
   own_cell,
   whole_entries,
   good_cell,
@@ -25,10 +24,9 @@ ghost use Rattle.index.specs.Contributed.{
   judged_row,
 };
 
-use crate::cells::Cell;
-use crate::probing::Probed;
-use crate::reading::IndexHead;
-use numbers::refusals::{BAD_ROW, NO_ROW};
+use crate::cells::Contribution;
+use crate::reading::Index;
+use numbers::refusals::Refusal;
 use numbers::sections::{CODES, FIRST_SHARED, LAST_SHARED, STR_OFFSETS};
 
 // One more than the last shared section's code.
@@ -40,13 +38,6 @@ pub struct Contributions {
     pub has: [bool; CODES],
     pub offset: [usize; CODES],
     pub size: [usize; CODES],
-}
-
-// 0, or the refusal's number and nothing.
-#[derive(Clone, Copy)]
-pub struct RowJudged {
-    pub code: u32,
-    pub contributions: Contributions,
 }
 
 // What a row is judged by: the width of offsets, 4 or 8, and the lengths of the object's sections by their code.
@@ -66,205 +57,158 @@ pub struct OwnUnit {
 }
 
 // ---- one cell
-// Whether a cell is there, where the section asks for one.
-fn cell_needed(length: usize, there: bool) -> bool
-    ensures { result ≡ (eqb length 0 || there) }
-{
-    if length == 0 {
-        return true;
-    }
-    there
-}
-
-// The cell of a section among contributions.
-fn cell_in(k: Contributions, c: usize) -> Cell
-    requires { (Whole k) × (c < section_codes) }
-    ensures { result ≡ cell_held k c }
-{
-    if k.has[c] {
-        return Cell::Is(k.offset[c], k.size[c]);
-    }
-    Cell::Missing
-}
-
 // Whether a cell names the unit's own place.
-fn own_place(at: usize, size: usize, cell: Cell) -> bool
-    ensures { result ≡ own_cell at size cell }
+#[tactic(auto, unfolding(crate::specs::Contributed::own_cell))]
+fn own_place(at: usize, size: usize, cell: Contribution) -> bool
+    ensures { result ≡ own_cell at size (Some cell) }
 {
-    let Cell::Is(o, z) = cell else {
-        return false;
-    };
-    if o != at {
-        return false;
-    }
-    z == size
+    cell.offset == at && cell.size == size
 }
 
 // Whether both are multiples of the width, which only str_offsets asks. The width is 4 or 8.
-fn multiples(width: usize, section: usize, offset: usize, size: usize) -> bool
+#[tactic(auto, unfolding(crate::specs::Contributed::whole_entries))]
+fn multiples(width: usize, section: usize, cell: Contribution) -> bool
     requires { 0 < width }
-    ensures { result ≡ whole_entries width section offset size }
+    ensures { result ≡ whole_entries width section cell.offset cell.size }
 {
-    if section != STR_OFFSETS {
-        return true;
-    }
-    if offset % width != 0 {
-        return false;
-    }
-    size % width == 0
+    section != STR_OFFSETS || cell.offset % width == 0 && cell.size % width == 0
 }
 
 // Whether a part ends in its section, where the section asks for one. It may start anywhere: rows may share parts.
-fn part_needed(width: usize, length: usize, section: usize, cell: Cell) -> bool
+#[tactic(auto, unfolding(crate::specs::Contributed::good_cell))]
+fn part_needed(width: usize, length: usize, section: usize, cell: Option<Contribution>) -> bool
     requires { 0 < width }
-    ensures { result ≡ (eqb length 0 || good_cell width length section cell) }
+    ensures { result ≡ (eqb «length» 0 || good_cell width «length» section cell) }
 {
     if length == 0 {
         return true;
     }
-    let Cell::Is(o, z) = cell else {
+    let Some(part) = cell else {
         return false;
     };
-    if o > length {
-        return false;
-    }
-    if z > length - o {
-        return false;
-    }
-    multiples(width, section, o, z)
+    part.offset <= length && part.size <= length - part.offset && multiples(width, section, part)
 }
 
-fn no_contributions() -> Contributions
-    ensures { ContributionsAre result (λ c. none) }
-{
-    Contributions {
-        has: [false; CODES],
-        offset: [0; CODES],
-        size: [0; CODES],
-    }
-}
-
-// The contributions with one more, where the section is not empty and the cell is there.
-fn with_cell(k: Contributions, c: usize, length: usize, cell: Cell) -> Contributions
-    requires { (Whole k) × (c < section_codes) }
-    ensures { result ≡ with_cell k c length cell }
-{
-    if length == 0 {
-        return k;
-    }
-    let Cell::Is(o, z) = cell else {
-        return k;
-    };
-    let mut more = k;
-    more.has[c] = true;
-    more.offset[c] = o;
-    more.size[c] = z;
-    more
-}
-
-// ---- the shared sections. Callers have the row from a slot of a well formed index.
-// Whether each section that isn't empty has a cell.
-fn columns_there(lengths: [usize; CODES], k: Contributions) -> bool
-    requires { Whole k }
-    ensures { result ≡ all (λ c. get_or k.has c false) (needed_codes (by_code lengths)) }
-{
-    let mut c = FIRST_SHARED;
-    while c < SHARED_END {
-        if !cell_needed(lengths[c], k.has[c]) {
-            return false;
+impl Contributions {
+    #[tactic(auto, using(crate::proofs::Filled::nothing_held))]
+    fn none() -> Contributions
+        ensures { ContributionsAre result (λ c. none) }
+    {
+        Contributions {
+            has: [false; CODES],
+            offset: [0; CODES],
+            size: [0; CODES],
         }
-        c += 1;
     }
-    true
-}
 
-// Whether each section that isn't empty has a part that ends in it.
-fn parts_good(m: Measures, k: Contributions) -> bool
-    requires { (Whole k) × (0 < m.width) }
-    ensures { result ≡ all (good_held m.width (by_code m.lengths) k) (needed_codes (by_code m.lengths)) }
-{
-    let mut c = FIRST_SHARED;
-    while c < SHARED_END {
-        let cell = cell_in(k, c);
-        if !part_needed(m.width, m.lengths[c], c, cell) {
-            return false;
+    // The cell of a section.
+    #[tactic(auto, unfolding(crate::specs::Contributed::cell_held))]
+    fn cell(&self, c: usize) -> Option<Contribution>
+        requires { (Whole self.now) × (c < section_codes) }
+        ensures { result ≡ cell_held self.now c }
+    {
+        if !self.has[c] {
+            return None;
         }
-        c += 1;
+        Some(Contribution {
+            offset: self.offset[c],
+            size: self.size[c],
+        })
     }
-    true
-}
 
-// The cells of a row, each read once, of the sections that aren't empty.
-fn row_cells(
-    big: bool,
-    s: &[u8],
-    head: IndexHead,
-    row: usize,
-    lengths: [usize; CODES],
-) -> Contributions
-    requires { (Sized s.now head) × (0 < row) × (row ≤ head.units) }
-    ensures { ContributionsAre result (chosen (by_code lengths) (cell_of (index_in big s.now head) row)) }
-{
-    let mut k = no_contributions();
-    let mut c = FIRST_SHARED;
-    while c < SHARED_END {
-        let cell = crate::cells::cell_of(big, s, head, row, c);
-        k = with_cell(k, c, lengths[c], cell);
-        c += 1;
+    // One more, where the section is not empty and the cell is there.
+    #[tactic(auto, unfolding(crate::specs::Contributed::with_cell))]
+    fn take(&mut self, c: usize, length: usize, cell: Option<Contribution>)
+        requires { (Whole self.old) × (c < section_codes) }
+        ensures { self.new ≡ with_cell self.old c «length» cell }
+    {
+        let Some(part) = cell else {
+            return;
+        };
+        if length != 0 {
+            self.has[c] = true;
+            self.offset[c] = part.offset;
+            self.size[c] = part.size;
+        }
     }
-    k
+
+    // ---- the shared sections. Callers have the row from a slot of a well formed index.
+    // Whether each section that isn't empty has a cell.
+    #[tactic(auto, using(crate::proofs::Columned::code_turns))]
+    fn all_there(&self, lengths: &[usize; CODES]) -> bool
+        requires { Whole self.now }
+        ensures { result ≡ all (λ c. get_or self.now.has c false) (needed_codes (by_code lengths.now)) }
+    {
+        for c in FIRST_SHARED..SHARED_END {
+            if lengths[c] != 0 && !self.has[c] {
+                return false;
+            }
+        }
+        true
+    }
+
+    // Whether each section that isn't empty has a part that ends in it.
+    #[tactic(auto, using(crate::proofs::Columned::code_turns))]
+    fn all_good(&self, m: &Measures) -> bool
+        requires { (Whole self.now) × (0 < m.now.width) }
+        ensures { result ≡ all (good_held m.now.width (by_code m.now.lengths) self.now) (needed_codes (by_code m.now.lengths)) }
+    {
+        for c in FIRST_SHARED..SHARED_END {
+            if !part_needed(m.width, m.lengths[c], c, self.cell(c)) {
+                return false;
+            }
+        }
+        true
+    }
 }
 
 // Without an index for its table, a unit contributes its object's whole sections.
 pub fn whole_contributions(lengths: [usize; CODES]) -> Contributions
     ensures { ContributionsAre result (whole_contributions (by_code lengths)) }
 {
-    let mut k = no_contributions();
-    let mut c = FIRST_SHARED;
-    while c < SHARED_END {
-        let n = lengths[c];
-        k = with_cell(k, c, n, Cell::Is(0, n));
-        c += 1;
+    let mut k = Contributions::none();
+    for c in FIRST_SHARED..SHARED_END {
+        let whole = Contribution {
+            offset: 0,
+            size: lengths[c],
+        };
+        k.take(c, lengths[c], Some(whole));
     }
     k
 }
 
-fn refused(code: u32) -> RowJudged
-    ensures { (result.code ≡ code) × (ContributionsAre result.contributions (λ c. none)) }
-{
-    let contributions = no_contributions();
-    RowJudged {
-        code,
-        contributions,
+impl<'a> Index<'a> {
+    // The cells of a row, each read once, of the sections that aren't empty.
+    fn row_cells(&self, row: usize, lengths: &[usize; CODES]) -> Contributions
+        requires { (0 < row) × (row ≤ self.now.units) }
+        ensures { ContributionsAre result (chosen (by_code lengths.now) (cell_of self.now row)) }
+    {
+        let mut k = Contributions::none();
+        for c in FIRST_SHARED..SHARED_END {
+            k.take(c, lengths[c], self.cell_of(row, c));
+        }
+        k
     }
-}
 
-// The row of a unit. Callers have read the index well.
-pub fn judge_row(big: bool, s: &[u8], head: IndexHead, m: Measures, u: OwnUnit) -> RowJudged
-    requires { (ReadWell big s.now head) × (0 < m.width) }
-    ensures { Answers result (judged_row (index_in big s.now head) m u) }
-{
-    let Probed::Found(slot, _) = crate::probing::find(big, s, head, u.identity) else {
-        return refused(NO_ROW);
-    };
-    let row = crate::reading::row_at(big, s, head, slot);
-    let own = crate::cells::cell_of(big, s, head, row, u.home);
-    if let Cell::Missing = own {
-        return refused(NO_ROW);
-    }
-    let lengths = m.lengths;
-    let cells = row_cells(big, s, head, row, lengths);
-    if !columns_there(lengths, cells) {
-        return refused(NO_ROW);
-    }
-    if !own_place(u.at, u.size, own) {
-        return refused(BAD_ROW);
-    }
-    if !parts_good(m, cells) {
-        return refused(BAD_ROW);
-    }
-    RowJudged {
-        code: 0,
-        contributions: cells,
+    // The row of a unit. Callers have read the index well.
+    pub fn judge_row(&self, m: Measures, u: OwnUnit) -> Result<Contributions, Refusal>
+        requires { (Well self.now) × (0 < m.width) }
+        ensures { Answers result (judged_row self.now m u) }
+    {
+        let Some(slot) = self.find(u.identity).slot else {
+            return Err(Refusal::NoRow);
+        };
+        let row = self.row_at(slot);
+        let Some(own) = self.cell_of(row, u.home) else {
+            return Err(Refusal::NoRow);
+        };
+        let cells = self.row_cells(row, &m.lengths);
+        if !cells.all_there(&m.lengths) {
+            return Err(Refusal::NoRow);
+        }
+        if !own_place(u.at, u.size, own) || !cells.all_good(&m) {
+            return Err(Refusal::BadRow);
+        }
+        Ok(cells)
     }
 }

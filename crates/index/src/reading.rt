@@ -1,22 +1,28 @@
-// An index read: well formed or not, and the numbers that it holds. Its arrays are not copied: callers keep the section's bytes beside the head.
-ghost use Rattle.std.specs.Prelude.{◌≡◌, ◌+◌, ◌*◌, ◌^◌, ◌<◌, ◌≤◌, length, drop, get_or};
+// An index read: well formed or not, and the numbers that it holds. Its arrays are not copied: they are read from the section's bytes where they are wanted.
+ghost use Rattle.std.specs.Prelude.{Some, ◌≡◌, ◌+◌, ◌*◌, ◌^◌, ◌<◌, ◌≤◌, length, drop, get_or};
+ghost use Rattle.std.proofs.Math.Option.{some};
+ghost use Rattle.numbers.specs.Refused.{told};
 ghost use Rattle.octets.specs.Lists.{all, has, distinct, zero_together};
-ghost use Rattle.index.specs.Index.{
-  version_of,
-  columns_most,
-  code_good,
-  least_power,
-  slots_good,
-};
-ghost use Rattle.index.specs.Answered.{index_for};
-ghost use Rattle.index.specs.Held.{Sized, stated, head_good, index_in};
+ghost use Rattle.index.specs.Columns.{columns_of};
+ghost use Rattle.index.specs.Index.{cell_at, code_good, least_power, slots_good, index_of};
+ghost use Rattle.index.specs.Cells.{cell_found};
+ghost use Rattle.index.specs.Held.{Sized, head_good, head_of, index_in, version_named, head_named};
 
-use numbers::tables::{COLUMNS_2, COLUMNS_5, INDEX_2, INDEX_5, LAST_COLUMN, TYPES_COLUMN};
+use crate::cells::{Contribution, columns};
+use numbers::refusals::Refusal;
+use numbers::tables::{INDEX_2, INDEX_5, LAST_COLUMN, TYPES_COLUMN};
+use std::marker::Model;
 
 // What an index of version 5 starts with.
 const START_5: u16 = numbers::tables::INDEX_5 as u16;
 
-#[derive(Clone, Copy)]
+// The bytes before the identities.
+const FRONT: usize = 16;
+
+// The greatest power of two that a number of slots is compared with.
+const MOST_SLOTS: usize = 0x1_0000_0000;
+
+#[derive(Clone, Copy, Debug, PartialEq, Eq)]
 pub struct IndexHead {
     // 2 or 5
     pub version: u32,
@@ -25,202 +31,182 @@ pub struct IndexHead {
     pub slots: usize,
 }
 
-#[derive(Clone, Copy)]
-pub enum IndexRead {
-    Good(IndexHead),
-    // refusal 10 in packing, 21 in a lookup
-    Bad,
+// An index that a section's bytes hold, as long as its head states. Clauses see the index of the definitions.
+#[derive(Drop)]
+pub struct Index<'a> {
+    big: bool,
+    bytes: &'a [u8],
+    head: IndexHead,
 }
 
-// ---- the numbers that it holds. Callers have judged the section's length.
-pub fn identity_at(big: bool, s: &[u8], head: IndexHead, k: usize) -> u64
-    requires { (Sized s.now head) × (k < head.slots) }
-    ensures { result ≡ get_or (index_in big s.now head).identities k 0 }
-{
-    octets::u64_at(big, s, 16 + 8 * k)
+impl<'a> Model for Index<'a> {
+    ghost use Rattle.index.specs.Index.{Index};
+
+    ghost Value = { Index };
+
+    ghost use Rattle.index.specs.Held.{Sized, index_in};
+
+    ghost view = { λ i. index_in i.big i.bytes.now i.head };
+
+    ghost invariant = { λ i. Sized i.bytes.now i.head };
 }
 
-pub fn row_at(big: bool, s: &[u8], head: IndexHead, k: usize) -> usize
-    requires { (Sized s.now head) × (k < head.slots) }
-    ensures { result ≡ get_or (index_in big s.now head).rows k 0 }
-{
-    octets::wide(octets::u32_at(big, s, 16 + 8 * head.slots + 4 * k))
+impl<'a> Index<'a> {
+    // The index of a head that was read from these bytes before.
+    pub fn of(big: bool, bytes: &'a [u8], head: IndexHead) -> Index<'a>
+        requires { Sized bytes.now head }
+        ensures { result ≡ index_in big bytes.now head }
+    {
+        Self { big, bytes, head }
+    }
+
+    // Refusal 10 in packing, 21 in a lookup.
+    #[tactic(auto, using(crate::proofs::WellFormed::index_cases))]
+    pub fn read(big: bool, bytes: &'a [u8]) -> Result<Index<'a>, Refusal>
+        ensures { told result ≡ index_of big bytes.now }
+    {
+        let head = head_at(big, bytes).ok_or(Refusal::BadIndex)?;
+        let index = Index { big, bytes, head };
+        if index.codes_good() && index.codes_distinct() && index.slots_good() {
+            Ok(index)
+        } else {
+            Err(Refusal::BadIndex)
+        }
+    }
+
+    pub fn head(&self) -> IndexHead
+        ensures { result ≡ head_of self.now }
+    {
+        self.head
+    }
+
+    // ---- the numbers that it holds
+    pub fn identity_at(&self, k: usize) -> u64
+        requires { k < length self.now.identities }
+        ensures { result ≡ get_or self.now.identities k 0 }
+    {
+        octets::u64_at(self.big, self.bytes, FRONT + 8 * k)
+    }
+
+    pub fn row_at(&self, k: usize) -> usize
+        requires { k < length self.now.rows }
+        ensures { result ≡ get_or self.now.rows k 0 }
+    {
+        octets::u32_at(self.big, self.bytes, FRONT + 8 * self.head.slots + 4 * k) as usize
+    }
+
+    pub fn code_at(&self, k: usize) -> usize
+        requires { k < length self.now.codes }
+        ensures { result ≡ get_or self.now.codes k 0 }
+    {
+        octets::u32_at(self.big, self.bytes, FRONT + 12 * self.head.slots + 4 * k) as usize
+    }
+
+    // Number k of the offsets, and of the sizes, row by row.
+    pub fn offset_at(&self, k: usize) -> usize
+        requires { k < length self.now.offsets }
+        ensures { result ≡ get_or self.now.offsets k 0 }
+    {
+        let offsets = FRONT + 12 * self.head.slots + 4 * self.head.columns;
+        octets::u32_at(self.big, self.bytes, offsets + 4 * k) as usize
+    }
+
+    pub fn size_at(&self, k: usize) -> usize
+        requires { k < length self.now.sizes }
+        ensures { result ≡ get_or self.now.sizes k 0 }
+    {
+        let cells = self.head.units * self.head.columns;
+        let offsets = FRONT + 12 * self.head.slots + 4 * self.head.columns;
+        octets::u32_at(self.big, self.bytes, offsets + 4 * cells + 4 * k) as usize
+    }
+
+    // The cell of a row, counted from 1, in column k.
+    pub fn cell_at(&self, row: usize, k: usize) -> Contribution
+        requires { (0 < row) × (row ≤ self.now.units) × (k < length self.now.codes) }
+        ensures { Some result ≡ cell_found (cell_at self.now row (some k)) }
+    {
+        let n = (row - 1) * self.head.columns + k;
+        Contribution {
+            offset: self.offset_at(n),
+            size: self.size_at(n),
+        }
+    }
+
+    // ---- well formed or not
+    fn codes_good(&self) -> bool
+        ensures { result ≡ all (code_good self.now.version) self.now.codes }
+    {
+        let head = self.head();
+        (0..head.columns).all(|k| code_good(head.version, self.code_at(k)))
+    }
+
+    // Whether one of the codes from a place on is c.
+    fn has_code(&self, from: usize, c: usize) -> bool
+        requires { «from» ≤ length self.now.codes }
+        ensures { result ≡ has (drop «from» self.now.codes) c }
+    {
+        (from..self.head().columns).any(|k| c == self.code_at(k))
+    }
+
+    #[tactic(auto, using(crate::proofs::Codes::distinct_turn, crate::proofs::Codes::distinct_fails, crate::proofs::Codes::distinct_end))]
+    fn codes_distinct(&self) -> bool
+        ensures { result ≡ distinct self.now.codes }
+    {
+        for k in 0..self.head().columns {
+            if self.has_code(k + 1, self.code_at(k)) {
+                return false;
+            }
+        }
+        true
+    }
+
+    fn slots_good(&self) -> bool
+        ensures { result ≡ slots_good self.now.units self.now.identities self.now.rows }
+    {
+        for k in 0..self.head.slots {
+            let row = self.row_at(k);
+            if row > self.head.units || !zero_together(row, self.identity_at(k)) {
+                return false;
+            }
+        }
+        true
+    }
 }
 
-pub fn code_at(big: bool, s: &[u8], head: IndexHead, k: usize) -> usize
-    requires { (Sized s.now head) × (k < head.columns) }
-    ensures { result ≡ get_or (index_in big s.now head).codes k 0 }
-{
-    octets::wide(octets::u32_at(big, s, 16 + 12 * head.slots + 4 * k))
-}
-
-// Number k of the offsets, and of the sizes, row by row.
-pub fn offset_at(big: bool, s: &[u8], head: IndexHead, k: usize) -> usize
-    requires { (Sized s.now head) × (k < head.units * head.columns) }
-    ensures { result ≡ get_or (index_in big s.now head).offsets k 0 }
-{
-    octets::wide(octets::u32_at(big, s, 16 + 12 * head.slots + 4 * head.columns + 4 * k))
-}
-
-pub fn size_at(big: bool, s: &[u8], head: IndexHead, k: usize) -> usize
-    requires { (Sized s.now head) × (k < head.units * head.columns) }
-    ensures { result ≡ get_or (index_in big s.now head).sizes k 0 }
-{
-    let cells = head.units * head.columns;
-    octets::wide(octets::u32_at(
-        big,
-        s,
-        16 + 12 * head.slots + 4 * head.columns + 4 * cells + 4 * k,
-    ))
-}
-
-// ---- well formed or not
 // The least power of two not below n, for an n of 32 bits.
 pub fn least_power(n: usize) -> usize
     ensures { result ≡ least_power n }
 {
-    let mut p: usize = 1;
-    let mut left: usize = 32;
-    while 0 < left {
-        if n <= p {
-            return p;
-        }
-        p = 2 * p;
-        left -= 1;
-    }
-    p
+    n.min(MOST_SLOTS).next_power_of_two()
 }
 
-// 0 where the start names neither form. The caller has tested that there is a start.
-fn version_of(big: bool, s: &[u8]) -> u32
-    requires { 4 ≤ length s.now }
-    ensures { result ≡ version_of big s.now }
-{
-    if octets::u32_at(big, s, 0) == INDEX_2 {
-        return INDEX_2;
-    }
-    if octets::u16_at(big, s, 0) != START_5 {
-        return 0;
-    }
-    if octets::u16_at(big, s, 2) != 0 {
-        return 0;
-    }
-    INDEX_5
-}
-
-fn columns_most(version: u32) -> usize
-    ensures { result ≡ columns_most version }
-{
-    if version == INDEX_5 {
-        return COLUMNS_5;
-    }
-    COLUMNS_2
-}
-
+#[tactic(auto, unfolding(crate::specs::Index::code_good))]
 fn code_good(version: u32, c: usize) -> bool
     ensures { result ≡ code_good version c }
 {
-    if c < 1 {
-        return false;
-    }
-    if c == TYPES_COLUMN {
-        return version != INDEX_5;
-    }
-    c <= LAST_COLUMN
+    1 <= c && c <= LAST_COLUMN && !(version == INDEX_5 && c == TYPES_COLUMN)
 }
 
-fn codes_good(big: bool, s: &[u8], head: IndexHead) -> bool
-    requires { Sized s.now head }
-    ensures { result ≡ all (code_good head.version) (index_in big s.now head).codes }
-{
-    let version = head.version;
-    let columns = head.columns;
-    let mut i = 0;
-    while i < columns {
-        if !code_good(version, code_at(big, s, head, i)) {
-            return false;
-        }
-        i += 1;
-    }
-    true
-}
-
-// Whether one of the codes from a place on is c.
-fn has_code(big: bool, s: &[u8], head: IndexHead, from: usize, c: usize) -> bool
-    requires { (Sized s.now head) × (from ≤ head.columns) }
-    ensures { result ≡ has (drop «from» (index_in big s.now head).codes) c }
-{
-    let columns = head.columns;
-    let mut i = from;
-    while i < columns {
-        if c == code_at(big, s, head, i) {
-            return true;
-        }
-        i += 1;
-    }
-    false
-}
-
-fn codes_distinct(big: bool, s: &[u8], head: IndexHead) -> bool
-    requires { Sized s.now head }
-    ensures { result ≡ distinct (index_in big s.now head).codes }
-{
-    let columns = head.columns;
-    let mut i = 0;
-    while i < columns {
-        let c = code_at(big, s, head, i);
-        i += 1;
-        if has_code(big, s, head, i, c) {
-            return false;
-        }
-    }
-    true
-}
-
+#[tactic(auto, unfolding(octets::specs::Lists::zero_together))]
 fn zero_together(row: usize, identity: u64) -> bool
     ensures { result ≡ zero_together row identity }
 {
-    if row == 0 {
-        return identity == 0;
-    }
-    identity != 0
+    (row == 0) == (identity == 0)
 }
 
-fn slots_good(big: bool, s: &[u8], head: IndexHead) -> bool
-    requires { Sized s.now head }
-    ensures { result ≡ slots_good head.units (index_in big s.now head).identities (index_in big s.now head).rows }
+// ---- the front
+// The caller has tested that there is a start.
+#[tactic(auto, unfolding(crate::specs::Held::version_named, crate::specs::Index::version_of))]
+fn version_of(big: bool, s: &[u8]) -> Option<u32>
+    requires { 4 ≤ length s.now }
+    ensures { result ≡ version_named big s.now }
 {
-    let units = head.units;
-    let slots = head.slots;
-    let mut i = 0;
-    while i < slots {
-        let row = row_at(big, s, head, i);
-        if row > units {
-            return false;
-        }
-        if !zero_together(row, identity_at(big, s, head, i)) {
-            return false;
-        }
-        i += 1;
-    }
-    true
-}
-
-// The numbers at the front. The caller has tested that they are there.
-fn stated_head(big: bool, s: &[u8]) -> IndexHead
-    requires { 16 ≤ length s.now }
-    ensures value { result ≡ stated big s.now }
-    ensures units_bound { (result.units < 2 ^ 32) × (result.slots < 2 ^ 32) }
-{
-    let version = version_of(big, s);
-    let columns = octets::wide(octets::u32_at(big, s, 4));
-    let units = octets::wide(octets::u32_at(big, s, 8));
-    let slots = octets::wide(octets::u32_at(big, s, 12));
-    IndexHead {
-        version,
-        columns,
-        units,
-        slots,
+    if octets::u32_at(big, s, 0) == INDEX_2 {
+        Some(INDEX_2)
+    } else if octets::u16_at(big, s, 0) == START_5 && octets::u16_at(big, s, 2) == 0 {
+        Some(INDEX_5)
+    } else {
+        None
     }
 }
 
@@ -229,51 +215,36 @@ pub fn section_length(columns: usize, units: usize, slots: usize) -> usize
     requires { (columns ≤ 8) × (units < 2 ^ 32) × (slots < 2 ^ 32) }
     ensures { result ≡ 16 + 12 * slots + 4 * columns + 8 * (units * columns) }
 {
-    16 + 12 * slots + 4 * columns + 8 * (units * columns)
+    FRONT + 12 * slots + 4 * columns + 8 * (units * columns)
 }
 
-// Whether the front is that of an index, and the section as long as it states.
-fn head_good(s: &[u8], head: IndexHead) -> bool
-    requires { (head.units < 2 ^ 32) × (head.slots < 2 ^ 32) }
-    ensures { result ≡ head_good (length s.now) head }
-{
-    let version = head.version;
-    let columns = head.columns;
-    let units = head.units;
-    let slots = head.slots;
-    if version == 0 {
-        return false;
+impl IndexHead {
+    // Whether the numbers are those of an index, and a section is as long as they state.
+    #[tactic(auto, using(crate::proofs::WellFormed::columns_counted, crate::proofs::WellFormed::columns_eight), unfolding(crate::specs::Held::head_good))]
+    fn good(&self, length: usize) -> bool
+        requires { (self.now.units < 2 ^ 32) × (self.now.slots < 2 ^ 32) }
+        ensures { result ≡ head_good «length» self.now }
+    {
+        self.columns <= columns(self.version).len()
+            && self.units < self.slots
+            && least_power(self.slots) == self.slots
+            && length == section_length(self.columns, self.units, self.slots)
     }
-    if columns > columns_most(version) {
-        return false;
-    }
-    if slots <= units {
-        return false;
-    }
-    if least_power(slots) != slots {
-        return false;
-    }
-    s.len() == section_length(columns, units, slots)
 }
 
-pub fn read_index(big: bool, s: &[u8]) -> IndexRead
-    ensures { result ≡ (index_for big s.now).answer }
+// What the front of a section states, where it is that of an index, and the section as long as it states.
+#[tactic(auto, using(crate::proofs::WellFormed::front_cases))]
+fn head_at(big: bool, s: &[u8]) -> Option<IndexHead>
+    ensures { result ≡ head_named big s.now }
 {
-    if s.len() < 16 {
-        return IndexRead::Bad;
+    if s.len() < FRONT {
+        return None;
     }
-    let head = stated_head(big, s);
-    if !head_good(s, head) {
-        return IndexRead::Bad;
-    }
-    if !codes_good(big, s, head) {
-        return IndexRead::Bad;
-    }
-    if !codes_distinct(big, s, head) {
-        return IndexRead::Bad;
-    }
-    if !slots_good(big, s, head) {
-        return IndexRead::Bad;
-    }
-    IndexRead::Good(head)
+    let head = IndexHead {
+        version: version_of(big, s)?,
+        columns: octets::u32_at(big, s, 4) as usize,
+        units: octets::u32_at(big, s, 8) as usize,
+        slots: octets::u32_at(big, s, 12) as usize,
+    };
+    if head.good(s.len()) { Some(head) } else { None }
 }

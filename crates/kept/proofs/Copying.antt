@@ -3,7 +3,7 @@
 use mathlib.Core.Path.{◌≡◌, refl, sym, ap, ap₂, ◌∙◌}
 use mathlib.Core.Bool.{Bool}
 use mathlib.Core.List.{List, [], ◌∷◌, ◌++◌, map, append-nil}
-use Prim.Native.Nat.{ℕ, zero, suc, ◌+◌, ◌-◌, ◌/◌, ◌%◌, ◌^◌, ◌<◌, ◌≤◌}
+use Prim.Native.Nat.{ℕ, zero, suc, ◌+◌, ◌*◌, ◌-◌, ◌/◌, ◌%◌, ◌^◌, ◌<◌, ◌≤◌}
 use native.Mathlib.Numerals.{add-one}
 use native.Mathlib.Omega.{arith}
 use lib.ListN.{length, take, drop, get_or, length-append}
@@ -19,10 +19,20 @@ use Rattle.kept.specs.Regions.{record_words}
 use Rattle.index.specs.declared.judging.Contributions.{Contributions}
 use Rattle.kept.specs.Columns.{section_at}
 use Rattle.kept.specs.declared.records.Unit.{Unit as UnitHead}
-use Rattle.kept.specs.Records.{cells_place, cell_words, words_of, cells_left, cells_of, unit_of, UnitFits, KeptUnit, record_at, records_from, in_home, bytes_of, bytes_from}
+use Rattle.kept.specs.Records.{cells_place, cell_words, words_of, cells_left, cells_of, unit_of, UnitFits, KeptUnit, record_at, records_from, in_home, bytes_of, bytes_from, UnitsInside}
 use Rattle.kept.proofs.Recording.{records_turn, records_end, cells_many}
 
 -- ---- record i
+-- its unit lies in the bundle, as its words say
+module _ (b w : List ℕ) (i : ℕ) where
+  pub unit_inside : UnitsInside b w (i + 1) → get_or w (record_words * i + 5) 0 + get_or w (record_words * i + 6) 0 ≤ length b
+  unfolding record_at
+  unit_inside u = u.is i (omega arith)
+
+  pub unit_bytes : bytes_of b (record_at w i) ≡ part b (get_or w (record_words * i + 5) 0) (get_or w (record_words * i + 6) 0)
+  unfolding record_at bytes_of
+  unit_bytes = refl
+
 module _ (b w : List ℕ) (home i : ℕ) where
   pub bytes_other : ((record_at w i).home ≡ home → ⊥) → bytes_from b w home i 1 ≡ []
   unfolding bytes_from records_from in_home those joined
@@ -32,6 +42,15 @@ module _ (b w : List ℕ) (home i : ℕ) where
   unfolding bytes_from records_from in_home those joined bytes_of
   bytes_own e =
       ap (λ (l : List KeptUnit). joined (map (bytes_of b) l)) (those_keeps (in_home home) (record_at w i) [] (eq-eqb _ _ e)) ∙ append-nil (bytes_of b (record_at w i))
+
+  -- by the words that are read
+  pub words_other : (get_or w (record_words * i + 4) 0 ≡ home → ⊥) → bytes_from b w home i 1 ≡ []
+  unfolding record_at
+  words_other e = bytes_other e
+
+  pub words_own : get_or w (record_words * i + 4) 0 ≡ home → bytes_from b w home i 1 ≡ part b (get_or w (record_words * i + 5) 0) (get_or w (record_words * i + 6) 0)
+  unfolding record_at
+  words_own e = bytes_own e
 
   pub bytes_turn : (n : ℕ) → i < n → bytes_from b w home i (n - i) ≡ bytes_from b w home i 1 ++ bytes_from b w home (i + 1) (n - (i + 1))
   unfolding bytes_from records_from joined

@@ -15,7 +15,7 @@ use Rattle.package.proofs.Kept.{under_own}
 use Rattle.kept.specs.Records.{KeptUnit, record_at, records_from, bytes_of, identity_for}
 use Rattle.kept.specs.Slots.{free_for, sought_as, sought_in}
 use Rattle.kept.specs.Held.{RecordIs, RecordsAre, no_record, one_record, OneOrTwo, UnitsHeld}
-use Rattle.kept.specs.declared.slots.Sought.TheVariants.{Known}
+use Rattle.std.specs.Prelude.{Ok}
 use Rattle.kept.specs.declared.Units.{Units}
 use Rattle.kept.proofs.Recording.{identity_none, identity_some}
 use Rattle.kept.proofs.Seen.{map_at}
@@ -44,11 +44,11 @@ pub record Named (w slots : List ℕ) (x number : ℕ) : Type 0 where
   pub used : number ≡ 0 → ⊥
   pub identity : (record_at w (number - 1)).identity ≡ x
 
-pub sought_names : (w slots : List ℕ) (x number : ℕ) → Known number ≡ sought_in w slots x → Named w slots x number
+pub sought_names : (w slots : List ℕ) (x number : ℕ) → Ok number ≡ sought_in w slots x → Named w slots x number
 unfolding sought_in sought_as
 sought_names w slots x number e = go (search slots (map (identity_for w) slots) x) refl e
   where
-    go : (z : Probe) → search slots (map (identity_for w) slots) x ≡ z → Known number ≡ sought_as slots z (free_for slots x) → Named w slots x number
+    go : (z : Probe) → search slots (map (identity_for w) slots) x ≡ z → Ok number ≡ sought_as slots z (free_for slots x) → Named w slots x number
     go (found at m) q f =
         let r = search_ends slots (map (identity_for w) slots) x at m q in
         let y : number ≡ get_or slots at 0 = cc in
@@ -97,7 +97,7 @@ pub record KnownUnit (b w : List ℕ) (us : List Filed) (count t x number : ℕ)
   pub bytes : bytes_of b (record_at w (number - 1)) ≡ unit.bytes
 
 pub known_unit : {five : Bool} {b w : List ℕ} {slots : ℕ → List ℕ} {u : Units} {us : List Filed} → UnitsHeld five b w slots u us → (t : ℕ) → OneOrTwo t
-    → (x number : ℕ) → Known number ≡ sought_in w (slots t) x → KnownUnit b w us u.count t x number
+    → (x number : ℕ) → Ok number ≡ sought_in w (slots t) x → KnownUnit b w us u.count t x number
 known_unit {five} {b} {w} {slots} {u} {us} h t o x number e =
     let d = sought_names w (slots t) x number e in
     let l : number ≤ u.count = omega (arith, d.there, (h.tables t o).seen.within.within d.slot) in

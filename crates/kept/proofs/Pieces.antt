@@ -21,8 +21,10 @@ use Rattle.index.specs.Written.{start_bytes}
 use Rattle.index.proofs.LawBytes.{length_start}
 use Rattle.kept.specs.Columns.{version_for, columns_for, code_at, numbers_if, cells_from, codes_from, codes_in}
 use Rattle.kept.specs.Records.{KeptUnit, record_at, records_from, in_table, cells_place, cell_words, of_table}
-use Rattle.kept.specs.Indexed.{index_size, numbers_in, grid_from, slot_number, slot_width, front_in, index_in}
+use Rattle.kept.specs.Indexed.{index_size, numbers_in, grid_from, slot_number, slot_width, front_in, index_in, place_of}
 use Rattle.kept.specs.declared.writing.IndexForm.{IndexForm}
+use Rattle.kept.specs.declared.writing.Figures.{Figures}
+use Rattle.kept.specs.declared.writing.Figures.TheVariants as figures
 use Rattle.kept.specs.Regions.{record_words}
 use Rattle.kept.proofs.Columning.{columns_are}
 use Rattle.kept.proofs.Recording.{records_turn, records_end}
@@ -37,6 +39,10 @@ module _ (there : Bool) (n : ℕ) where
   pub if_there : there ≡ true → length (numbers_if there n) ≡ 1
   unfolding numbers_if
   if_there e = rw e
+
+  pub if_missing : there ≡ false → length (numbers_if there n) ≡ 0
+  unfolding numbers_if
+  if_missing e = rw e refl
 
   pub put_there : (big : Bool) (d v : List ℕ) (at m : ℕ) → there ≡ true → m ≡ n → v ≡ placed d at (bytes_of big 4 m)
       → (v ≡ placed d at (numbers_of big 4 (numbers_if there n))) × (at + 4 ≡ at + 4 * length (numbers_if there n))
@@ -174,6 +180,11 @@ module _ (f : IndexForm) (w : List ℕ) (which i : ℕ) where
   pub grid_end : (n : ℕ) → n ≤ i → grid_from f w which i (n - i) ≡ []
   unfolding grid_from those joined
   grid_end n h = ap (λ (l : List KeptUnit). joined (map (numbers_in f which) (those (in_table f.table) l))) (records_end w i n h)
+
+-- how far the numbers stand behind the first
+pub place_few : (which : Figures) → place_of which ≤ 1
+place_few figures.Offsets = omega arith
+place_few figures.Sizes = omega arith
 
 -- ---- columns counted and marked
 module _ (five : Bool) (has : List Bool) (k n : ℕ) where

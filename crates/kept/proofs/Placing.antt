@@ -7,6 +7,7 @@ use Prim.Native.Nat.{ℕ, zero, suc, ◌+◌, ◌*◌, ◌-◌, ◌<◌, ◌≤�
 use native.Mathlib.Omega.{arith}
 use native.Mathlib.Decide.{ℕ_discrete}
 use lib.ListN.{length, take, drop, set, length-append}
+use lib.Seq.{take-take}
 use borrow.Rule.Slice.PartMut.{put_mid}
 use Rattle.octets.specs.Octets.{part, placed, zeros}
 use Rattle.octets.specs.Lists.{any, has, those, distinct}
@@ -22,7 +23,7 @@ use Rattle.kept.proofs.RegionStores.{part_stored, region_room, region_fits, leng
 use Rattle.numbers.specs.Limits.{work_for_word}
 use Rattle.kept.specs.Records.{KeptUnit, cell_words, words_of, record_at, of_table, identities_in, records_from}
 use Rattle.kept.specs.Slots.{Within, sought_in, SeenHeld, slots_in, Placeable, Seekable, SlotsLeft, Fitting, Placed, PlacedAll, Keepable, kept_in}
-use Rattle.kept.specs.declared.slots.Sought.TheVariants.{Known, Free}
+use Rattle.std.specs.Prelude.{Ok, Err}
 use Rattle.kept.proofs.Recording.{words_long, identities_snoc, identities_other, identities_many}
 use Rattle.kept.proofs.Seeking.{sought_inside}
 use Rattle.kept.proofs.Seen.{seen_none, seen_later, seen_more, sought_known, sought_free}
@@ -42,20 +43,17 @@ module _ (words : ℕ) (w : List ℕ) (table n count : ℕ) (can : Placeable wor
   pub records_long : length (region w words records_region) ≡ records_region.words * words
   records_long = length_region records_region records_within words w can.enough
 
-  -- parts as code cuts them
-  pub lent_records : (first size : ℕ) → first ≡ records_region.start * words → size ≡ records_region.words * words → take (first + size - first) (drop first w) ≡ region w words records_region
-  unfolding region
-  lent_records first size e f = rw (← e, ← f) (part_cut w first size)
+  -- the slots are the front of their region
+  pub lent_slots : (s : List ℕ) → s ≡ region w words (slots_region table) → take count s ≡ slots_in w words table count
+  unfolding region slots_in part
+  lent_slots s e =
+      ap (take count) e ∙ take-take count ((slots_region table).words * words) (drop ((slots_region table).start * words) w) (omega (arith, one_word table words, can.fits))
 
-  pub lent_slots : (from : ℕ) → from ≡ (slots_region table).start * words → take (from + count - from) (drop from w) ≡ slots_in w words table count
-  unfolding slots_in
-  lent_slots from e = rw (← e) (part_cut w from count)
+  pub lent_count : (s : List ℕ) → s ≡ region w words (slots_region table) → count ≡ length (take count s)
+  lent_count s e = sym (ap length (lent_slots s e) ∙ slots_long)
 
   pub slots_end : (from : ℕ) → from ≡ (slots_region table).start * words → from + count ≤ length w
   slots_end from e = omega (arith, slots_fit)
-
-  pub records_end : (first size : ℕ) → first ≡ records_region.start * words → size ≡ records_region.words * words → first + size ≤ length w
-  records_end first size e f = omega (arith, region_fits records_region records_within words w can.enough)
 
   pub seek_asks : (r s : List ℕ) → r ≡ region w words records_region → s ≡ slots_in w words table count → Within (slots_in w words table count) n
       → PowerOfTwo (length s) × Within s n × (record_words * n ≤ length r)
@@ -75,6 +73,10 @@ module _ (words : ℕ) (w : List ℕ) (table n count : ℕ) (can : Placeable wor
     pub slot_set : slots_in (placed w ((slots_region table).start * words + at) (number ∷ [])) words table count ≡ set (slots_in w words table count) at number
     unfolding slots_in
     slot_set = part_stored w ((slots_region table).start * words) count at (number ∷ []) slots_fit (omega arith) ∙ sym (placed_byte (part w ((slots_region table).start * words) count) at number (omega (arith, slots_long)))
+
+-- where the slots of a table start
+pub slots_start : (words start table : ℕ) (r : Layout) → r ≡ slots_region table → start ≡ r.start * words → start ≡ (slots_region table).start * words
+slots_start words start table r e f = f ∙ ap (λ (z : Layout). z.start * words) e
 
 -- ---- identities, one record more
 distinct_front : (xs ys : List ℕ) → distinct (xs ++ ys) ≡ true → distinct xs ≡ true
@@ -147,17 +149,17 @@ module _ (words table i count : ℕ) (w : List ℕ) (s : Seekable words w table 
       new : has xs x ≡ false
       new = snoc_new xs x (ap distinct (sym more) ∙ fit.different)
 
-      never_known : (number : ℕ) → Known number ≡ sought_in R S x → ⊥
+      never_known : (number : ℕ) → Ok number ≡ sought_in R S x → ⊥
       never_known number e = true_false (sought_known seen (slots_power words w table i count s.can) few different x number e) new
 
     -- identities are different, so that this is never so
-    pub placed_known : (number : ℕ) → Known number ≡ sought_in R S x → Placed words table i count w w
+    pub placed_known : (number : ℕ) → Ok number ≡ sought_in R S x → Placed words table i count w w
     placed_known number e = record {
       left = record { same = refl; within = record { within = λ k. let g = s.within.within k in omega arith }; others = λ z a. refl };
       placed = λ fit seen. absurd (never_known fit seen number e);
     }
 
-    module _ (at : ℕ) (e : Free at ≡ sought_in R S x) where
+    module _ (at : ℕ) (e : Err at ≡ sought_in R S x) where
       pub free_inside : at < count
       free_inside = omega (arith, sought_inside R S x at (slots_power words w table i count s.can) e, slots_long words w table i count s.can)
 

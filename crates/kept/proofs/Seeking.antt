@@ -15,7 +15,7 @@ use Rattle.index.proofs.Placing.{free_here, free_on, free_inside}
 use Rattle.kept.specs.Regions.{record_words}
 use Rattle.kept.specs.Records.{identity_for}
 use Rattle.kept.specs.Slots.{Within, free_for, sought_as, sought_in}
-use Rattle.kept.specs.declared.slots.Sought.TheVariants.{Known, Free}
+use Rattle.std.specs.Prelude.{Ok, Err}
 
 -- the looks that are left, as the definition counts them
 one : (n looks : ℕ) → looks < n → n - looks ≡ suc (n - (looks + 1))
@@ -43,7 +43,7 @@ module _ {w slots : List ℕ} {x at by looks : ℕ} (s : Seeking w slots x at by
   ended e f = ap₂ (sought_as slots) e f
 
   -- after as many looks as slots
-  pub seek_last : length slots ≤ looks → Free at ≡ sought_in w slots x
+  pub seek_last : length slots ≤ looks → Err at ≡ sought_in w slots x
   unfolding look free_from sought_as
   seek_last h =
       let z : length slots - looks ≡ 0 = omega arith in
@@ -56,7 +56,7 @@ module _ {w slots : List ℕ} {x at by looks : ℕ} (s : Seeking w slots x at by
     free_left : free_from (suc (length slots - (looks + 1))) slots at by ≡ free_for slots x
     free_left = rw (one (length slots) looks h) at s.free
 
-    pub seek_free : number ≡ 0 → Free at ≡ sought_in w slots x
+    pub seek_free : number ≡ 0 → Err at ≡ sought_in w slots x
     unfolding sought_as
     seek_free z =
         ended (look_unused slots (map (identity_for w) slots) x at by looks (length slots - (looks + 1)) (sym r ∙ z) ∙ search_left)
@@ -66,10 +66,10 @@ module _ {w slots : List ℕ} {x at by looks : ℕ} (s : Seeking w slots x at by
       there : y ≡ get_or (map (identity_for w) slots) at 0
       there = i ∙ ap (identity_for w) r ∙ sym (identities_at w slots at s.inside)
 
-      pub seek_known : y ≡ x → Known number ≡ sought_in w slots x
+      pub seek_known : y ≡ x → Ok number ≡ sought_in w slots x
       unfolding sought_as
       seek_known z =
-          ap Known r ∙ ended {o = free_for slots x} (look_found slots (map (identity_for w) slots) x at by looks (length slots - (looks + 1)) (λ u. used (r ∙ u)) (sym there ∙ z) ∙ search_left) refl
+          ap Ok r ∙ ended {o = free_for slots x} (look_found slots (map (identity_for w) slots) x at by looks (length slots - (looks + 1)) (λ u. used (r ∙ u)) (sym there ∙ z) ∙ search_left) refl
 
       pub seek_on : {next : ℕ} → (y ≡ x → ⊥) → next ≡ (at + by) % length slots → Seeking w slots x next by (looks + 1)
       seek_on {next} z e =
@@ -86,13 +86,13 @@ pub number_fits : {slots : List ℕ} {n number : ℕ} (at room : ℕ) → Within
 number_fits {slots} {n} {number} at room i h e = let g = i.within at in omega arith
 
 -- ---- a free slot is one of the slots
-pub sought_inside : (w slots : List ℕ) (x at : ℕ) → PowerOfTwo (length slots) → Free at ≡ sought_in w slots x → at < length slots
+pub sought_inside : (w slots : List ℕ) (x at : ℕ) → PowerOfTwo (length slots) → Err at ≡ sought_in w slots x → at < length slots
 unfolding sought_in sought_as free_for
 sought_inside w slots x at p e = go (search slots (map (identity_for w) slots) x) e
   where
     inside : free_for slots x < length slots
     inside = free_inside (length slots) slots (first_slot x (length slots)) (stride x (length slots)) (first_slot_lt x (length slots) p)
 
-    go : (z : Probe) → Free at ≡ sought_as slots z (free_for slots x) → at < length slots
+    go : (z : Probe) → Err at ≡ sought_as slots z (free_for slots x) → at < length slots
     go (found k m) f = absurd (let y : ◌≡◌ {A = ℕ} 0 1 = cc in omega arith)
     go (absent m) f = let y : at ≡ free_for slots x = cc in rw y inside

@@ -22,7 +22,7 @@ use Rattle.index.proofs.LawMore.{place_all_append, placed_by, below_set}
 use Rattle.index.proofs.Renamed.{Renamed, free_renamed, search_renamed}
 use Rattle.kept.specs.Records.{record_at, identity_for, row_for}
 use Rattle.kept.specs.Slots.{free_for, sought_as, sought_in, SeenHeld}
-use Rattle.kept.specs.declared.slots.Sought.TheVariants.{Known, Free}
+use Rattle.std.specs.Prelude.{Ok, Err}
 use Rattle.kept.proofs.Recording.{identity_none, identity_some, row_none, row_some}
 use Rattle.kept.proofs.Moved.{get_d_past}
 
@@ -178,21 +178,21 @@ module _ {w slots : List ℕ} {n : ℕ} {xs : List ℕ} (s : SeenHeld w slots n 
       unfolding sought_in
       sought_is = ap (λ (z : Probe). sought_as slots z (free_for slots x)) told.ends
 
-      pub sought_known : (number : ℕ) → Known number ≡ sought_in w slots x → has xs x ≡ true
+      pub sought_known : (number : ℕ) → Ok number ≡ sought_in w slots x → has xs x ≡ true
       unfolding sought_as
       sought_known number e = go told.probe refl (e ∙ sought_is)
         where
-          go : (z : Probe) → told.probe ≡ z → Known number ≡ sought_as slots told.probe (free_for slots x) → has xs x ≡ true
+          go : (z : Probe) → told.probe ≡ z → Ok number ≡ sought_as slots told.probe (free_for slots x) → has xs x ≡ true
           go (found at m) q f = told.found_is_law at m q
-          go (absent m) q f = absurd (let g : Known number ≡ Free (free_for slots x) = f ∙ ap (λ (y : Probe). sought_as slots y (free_for slots x)) q in let y : ◌≡◌ {A = ℕ} 0 1 = cc in omega arith)
+          go (absent m) q f = absurd (let g : Ok number ≡ Err (free_for slots x) = f ∙ ap (λ (y : Probe). sought_as slots y (free_for slots x)) q in let y : ◌≡◌ {A = ℕ} 0 1 = cc in omega arith)
 
-      pub sought_free : (at : ℕ) → Free at ≡ sought_in w slots x → (has xs x ≡ false) × (free_for slots x ≡ at)
+      pub sought_free : (at : ℕ) → Err at ≡ sought_in w slots x → (has xs x ≡ false) × (free_for slots x ≡ at)
       unfolding sought_as
       sought_free at e = go told.probe refl (e ∙ sought_is)
         where
-          go : (z : Probe) → told.probe ≡ z → Free at ≡ sought_as slots told.probe (free_for slots x) → (has xs x ≡ false) × (free_for slots x ≡ at)
-          go (found k m) q f = absurd (let g : Free at ≡ Known (get_or slots k 0) = f ∙ ap (λ (y : Probe). sought_as slots y (free_for slots x)) q in let y : ◌≡◌ {A = ℕ} 0 1 = cc in omega arith)
+          go : (z : Probe) → told.probe ≡ z → Err at ≡ sought_as slots told.probe (free_for slots x) → (has xs x ≡ false) × (free_for slots x ≡ at)
+          go (found k m) q f = absurd (let g : Err at ≡ Ok (get_or slots k 0) = f ∙ ap (λ (y : Probe). sought_as slots y (free_for slots x)) q in let y : ◌≡◌ {A = ℕ} 0 1 = cc in omega arith)
           go (absent m) q f =
-              let g : Free at ≡ Free (free_for slots x) = f ∙ ap (λ (y : Probe). sought_as slots y (free_for slots x)) q in
+              let g : Err at ≡ Err (free_for slots x) = f ∙ ap (λ (y : Probe). sought_as slots y (free_for slots x)) q in
               let y : at ≡ free_for slots x = cc in
               (told.absent_is m q, sym y)

@@ -7,6 +7,8 @@ use Rattle.index.specs.Written.{start_bytes}
 use Rattle.kept.specs.Columns.{version_for, columns_for, codes_in, cells_from}
 use Rattle.kept.specs.Records.{KeptUnit, records_from, in_table, identity_for, row_for}
 use Rattle.kept.specs.declared.writing.IndexForm.{IndexForm}
+use Rattle.kept.specs.declared.writing.Figures.{Figures}
+use Rattle.kept.specs.declared.writing.Figures.TheVariants.{Offsets, Sizes}
 
 -- the bytes of an index, by its numbers of columns, rows and slots
 unfoldable pub index_size : ℕ → ℕ → ℕ → ℕ
@@ -15,6 +17,11 @@ index_size columns n slots = 16 + 12 * slots + 4 * columns + 8 * (n * columns)
 -- a record's numbers of the columns that are there: 0 are offsets, 1 sizes
 unfoldable pub numbers_in : IndexForm → ℕ → KeptUnit → List ℕ
 numbers_in f which k = cells_from f.has k.cells which 0 (length (columns_for f.five))
+
+-- how far they stand behind the first
+abbrev pub place_of : Figures → ℕ
+place_of Offsets = 0
+place_of Sizes = 1
 
 -- those of the records of the table, among n from record i on
 unfoldable pub grid_from : IndexForm → List ℕ → ℕ → ℕ → ℕ → List ℕ

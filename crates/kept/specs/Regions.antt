@@ -8,10 +8,11 @@ use Rattle.std.specs.Prelude.{◌≡◌, true, false, ◌⊎◌, List, ℕ, ◌+
 use Rattle.numbers.specs.Limits.{string_words}
 use Rattle.octets.specs.Octets.{part}
 use Rattle.numbers.specs.Tables.{compilation_table}
+use Rattle.kept.specs.declared.regions.Share.{Share}
 
-pub record Layout : Type 0 where
-  pub start : ℕ
-  pub words : ℕ
+-- where a region starts, and how many words it has
+abbrev pub Layout : Type 0
+Layout = Share
 
 abbrev pub records_region : Layout
 records_region = record { start = 0; words = 5 }

@@ -1,6 +1,6 @@
 -- Slots of record numbers, and the definition's slots of row numbers.
 -- Assumes nothing.
-use Rattle.std.specs.Prelude.{◌≡◌, true, List, [], ◌∷◌, map, ℕ, ◌+◌, ◌*◌, ◌/◌, ◌<◌, ◌≤◌, length, get_or}
+use Rattle.std.specs.Prelude.{◌≡◌, true, List, [], ◌∷◌, map, ℕ, ◌+◌, ◌*◌, ◌/◌, ◌<◌, ◌≤◌, length, get_or, Result, Ok, Err}
 use Rattle.octets.specs.Octets.{part, placed}
 use Rattle.octets.specs.Lists.{distinct}
 use Rattle.numbers.specs.Limits.{bundle_limit, work_for_word}
@@ -8,8 +8,6 @@ use Rattle.index.specs.Probing.{Probe, found, absent, first_slot, stride, free_f
 use Rattle.index.specs.Held.{PowerOfTwo}
 use Rattle.kept.specs.Regions.{Layout, records_region, slots_region, record_words, least_unit, region, Apart}
 use Rattle.kept.specs.Records.{KeptUnit, words_of, record_at, of_table, identities_in, identity_for, row_for, UnitsInside}
-use Rattle.kept.specs.declared.slots.Sought.{Sought}
-use Rattle.kept.specs.declared.slots.Sought.TheVariants.{Known, Free}
 
 -- the slots for identities seen: a unit takes at least 5 words of the bundle
 unfoldable pub seen_slots : ℕ → ℕ
@@ -23,12 +21,13 @@ pub record Within (slots : List ℕ) (n : ℕ) : Type 0 where
 unfoldable pub free_for : List ℕ → ℕ → ℕ
 free_for slots x = free_from (length slots) slots (first_slot x (length slots)) (stride x (length slots))
 
-unfoldable pub sought_as : List ℕ → Probe → ℕ → Sought
-sought_as slots (found at n) free = Known (get_or slots at 0)
-sought_as slots (absent n) free = Free free
+-- where a walk ends: at the number of a record of the identity, or else at a free slot
+unfoldable pub sought_as : List ℕ → Probe → ℕ → Result ℕ ℕ
+sought_as slots (found at n) free = Ok (get_or slots at 0)
+sought_as slots (absent n) free = Err free
 
 -- w are the records, and the identity of a slot is that of its record
-unfoldable pub sought_in : List ℕ → List ℕ → ℕ → Sought
+unfoldable pub sought_in : List ℕ → List ℕ → ℕ → Result ℕ ℕ
 sought_in w slots x = sought_as slots (search slots (map (identity_for w) slots) x) (free_for slots x)
 
 -- ---- what slots hold

@@ -7,26 +7,14 @@ ghost use Rattle.kept.specs.Cells.{moved_by, CellsRoom, CellsMoved, Summed};
 use index::judging::Contributions;
 use numbers::sections::CODES;
 
-fn moved(has: bool, base: usize, offset: usize) -> usize
-    requires { base + offset < 2 ^ 32 }
-    ensures { result ≡ moved_by has base offset }
-{
-    if has {
-        return base + offset;
-    }
-    0
-}
-
 // The offsets in the package's sections, of an object whose sections begin at the bases.
 fn moved_offsets(k: Contributions, bases: [usize; CODES]) -> [usize; CODES]
     requires { (c : ℕ) → c < section_codes → get_or bases c 0 + get_or k.offset c 0 < 2 ^ 32 }
     ensures { (c : ℕ) → c < section_codes → get_or result c 0 ≡ moved_by (get_or k.has c false) (get_or bases c 0) (get_or k.offset c 0) }
 {
     let mut offset = [0; CODES];
-    let mut c = 0;
-    while c < CODES {
-        offset[c] = moved(k.has[c], bases[c], k.offset[c]);
-        c += 1;
+    for c in 0..CODES {
+        offset[c] = if k.has[c] { bases[c] + k.offset[c] } else { 0 };
     }
     offset
 }
@@ -43,17 +31,14 @@ pub fn cells_of(
     ensures cells { CellsMoved k bases home place size result }
     ensures fit { CellsFit result }
 {
-    let mut has = k.has;
-    let mut offset = moved_offsets(k, bases);
-    let mut sizes = k.size;
-    has[home] = true;
-    offset[home] = place;
-    sizes[home] = size;
-    Contributions {
-        has,
-        offset,
-        size: sizes,
-    }
+    let mut cells = Contributions {
+        offset: moved_offsets(k, bases),
+        ..k
+    };
+    cells.has[home] = true;
+    cells.offset[home] = place;
+    cells.size[home] = size;
+    cells
 }
 
 // The bases with one object more, whose sections have these sizes.
@@ -62,10 +47,8 @@ pub fn grown(bases: [usize; CODES], size: [usize; CODES]) -> [usize; CODES]
     ensures { Summed bases size result section_codes }
 {
     let mut more = bases;
-    let mut c = 0;
-    while c < CODES {
+    for c in 0..CODES {
         more[c] = bases[c] + size[c];
-        c += 1;
     }
     more
 }

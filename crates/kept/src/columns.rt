@@ -1,5 +1,5 @@
 // The columns of a version in order: a section's code, and the code of its column.
-ghost use Rattle.std.specs.Prelude.{◌≡◌, ◌||◌, ℕ, ◌<◌, ◌^◌, length};
+ghost use Rattle.std.specs.Prelude.{◌≡◌, ◌||◌, ℕ, ◌<◌, ◌≤◌, ◌^◌, length};
 ghost use Rattle.kept.specs.Columns.{
   version_for,
   columns_for,
@@ -16,17 +16,16 @@ use index::judging::Contributions;
 use numbers::tables::{DWARF_4, DWARF_5};
 
 // The DWARF version that a flag names.
+#[tactic(auto, unfolding(crate::specs::Columns::version_for))]
 fn version_for(five: bool) -> u32
     ensures { result ≡ version_for five }
 {
-    if five {
-        return DWARF_5;
-    }
-    DWARF_4
+    if five { DWARF_5 } else { DWARF_4 }
 }
 
 pub fn column_count(five: bool) -> usize
-    ensures { result ≡ length (columns_for five) }
+    ensures is { result ≡ length (columns_for five) }
+    ensures most { result ≤ 8 }
 {
     index::cells::columns_count(version_for(five))
 }
@@ -35,63 +34,36 @@ pub fn column_count(five: bool) -> usize
 pub fn section_at(five: bool, k: usize) -> usize
     ensures { result ≡ section_at five k }
 {
-    let column = index::cells::column_at(version_for(five), k);
-    column.section
+    index::cells::column_at(version_for(five), k).section
 }
 
 pub fn code_at(five: bool, k: usize) -> usize
     ensures { result ≡ code_at five k }
 {
-    let column = index::cells::column_at(version_for(five), k);
-    column.column
+    index::cells::column_at(version_for(five), k).column
 }
 
 // ---- the columns that are there
-fn either(a: bool, b: bool) -> bool
-    ensures { result ≡ (a || b) }
-{
-    if a {
-        return true;
-    }
-    b
-}
-
 // The columns that were there, and those of one row more.
 pub fn mark_columns(five: bool, has: [bool; COLUMNS], cells: Contributions) -> [bool; COLUMNS]
     ensures { Marked five has result cells (length (columns_for five)) }
 {
-    let n = column_count(five);
     let mut marked = has;
-    let mut k = 0;
-    while k < n {
-        let s = section_at(five, k);
-        let old = marked[k];
-        let new = cells.has[s];
-        marked[k] = either(old, new);
-        k += 1;
+    for k in 0..column_count(five) {
+        marked[k] |= cells.has[section_at(five, k)];
     }
     marked
-}
-
-fn one_if(there: bool) -> usize
-    ensures { (x : ℕ) → result ≡ length (numbers_if there x) }
-{
-    if there {
-        return 1;
-    }
-    0
 }
 
 // How many columns are there.
 pub fn columns_present(five: bool, has: [bool; COLUMNS]) -> usize
     ensures { result ≡ length (codes_in five has) }
 {
-    let n = column_count(five);
     let mut count = 0;
-    let mut k = 0;
-    while k < n {
-        count += one_if(has[k]);
-        k += 1;
+    for k in 0..column_count(five) {
+        if has[k] {
+            count += 1;
+        }
     }
     count
 }
@@ -101,6 +73,5 @@ pub fn index_length(five: bool, has: [bool; COLUMNS], n: usize, slots: usize) ->
     requires { (n < 2 ^ 32) × (slots < 2 ^ 32) }
     ensures { result ≡ index_size (length (codes_in five has)) n slots }
 {
-    let columns = columns_present(five, has);
-    index::reading::section_length(columns, n, slots)
+    index::reading::section_length(columns_present(five, has), n, slots)
 }

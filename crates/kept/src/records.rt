@@ -50,31 +50,15 @@ pub struct Unit {
 }
 
 // ---- stored. Callers keep room, and numbers of 32 bits.
-fn store_words(words: &mut [u32], at: usize, numbers: &[usize])
-    requires { (at + length numbers.now ≤ length words.old) × ((i : ℕ) → get_or numbers.now i 0 < 2 ^ 32) }
-    ensures { words.new ≡ placed words.old at numbers.now }
-{
-    let mut i = 0;
-    while i < numbers.len() {
-        let n = numbers[i];
-        octets::set_word(words, at + i, n);
-        i += 1;
-    }
-}
-
 // Offset and size for each column.
 fn store_cells(five: bool, words: &mut [u32], at: usize, cells: Contributions)
     requires { (at + cell_words ≤ length words.old) × CellsFit cells }
     ensures { words.new ≡ placed words.old at (cells_of five cells) }
 {
-    let mut k = 0;
-    while k < COLUMNS {
+    for k in 0..COLUMNS {
         let s = crate::columns::section_at(five, k);
-        let offset = cells.offset[s];
-        let size = cells.size[s];
-        octets::set_word(words, at + 2 * k, offset);
-        octets::set_word(words, at + 2 * k + 1, size);
-        k += 1;
+        octets::set_word(words, at + 2 * k, cells.offset[s]);
+        octets::set_word(words, at + 2 * k + 1, cells.size[s]);
     }
 }
 
@@ -83,28 +67,34 @@ pub fn store_unit(words: &mut [u32], at: usize, unit: Unit, five: bool, cells: C
     requires { (at + record_words ≤ length words.old) × UnitFits unit × CellsFit cells }
     ensures { words.new ≡ placed words.old at (words_of (unit_of unit five cells)) }
 {
-    let low = octets::size(unit.identity % WORD);
-    let high = octets::size(unit.identity / WORD);
     let head = [
-        unit.table, unit.row, low, high, unit.home, unit.start, unit.size,
+        unit.table as u32,
+        unit.row as u32,
+        (unit.identity % WORD) as u32,
+        (unit.identity / WORD) as u32,
+        unit.home as u32,
+        unit.start as u32,
+        unit.size as u32,
     ];
-    store_words(words, at, &head);
+    words[at..at + CELLS].copy_from_slice(&head);
     store_cells(five, words, at + CELLS, cells);
 }
 
 // ---- read. Callers have stored record i.
+#[tactic(auto, unfolding(crate::specs::Records::record_at))]
 pub fn table_at(records: &[u32], i: usize) -> usize
     requires { record_words * i + record_words ≤ length records.now }
     ensures { result ≡ (record_at records.now i).table }
 {
-    octets::word(records, RECORD * i + TABLE)
+    records[RECORD * i + TABLE] as usize
 }
 
+#[tactic(auto, unfolding(crate::specs::Records::record_at))]
 pub fn identity_at(records: &[u32], i: usize) -> u64
     requires { record_words * i + record_words ≤ length records.now }
     ensures { result ≡ (record_at records.now i).identity }
 {
-    octets::wide64(records[RECORD * i + LOW]) + WORD * octets::wide64(records[RECORD * i + HIGH])
+    u64::from(records[RECORD * i + LOW]) + WORD * u64::from(records[RECORD * i + HIGH])
 }
 
 // The identity and the row number that a slot names by the number of a record, from 1; an unused slot names none.
@@ -113,9 +103,10 @@ pub fn identity_for(records: &[u32], number: usize) -> u64
     ensures { result ≡ identity_for records.now number }
 {
     if number == 0 {
-        return 0;
+        0
+    } else {
+        identity_at(records, number - 1)
     }
-    identity_at(records, number - 1)
 }
 
 pub fn row_for(records: &[u32], number: usize) -> usize
@@ -123,7 +114,8 @@ pub fn row_for(records: &[u32], number: usize) -> usize
     ensures { result ≡ row_for records.now number }
 {
     if number == 0 {
-        return 0;
+        0
+    } else {
+        records[RECORD * (number - 1) + ROW] as usize
     }
-    octets::word(records, RECORD * (number - 1) + ROW)
 }

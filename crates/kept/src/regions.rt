@@ -1,144 +1,101 @@
 // The regions of lent work, in words for each word of the bundle. No other file knows where a region starts.
-ghost use Rattle.std.specs.Prelude.{◌≡◌, ◌+◌, ◌*◌, ◌<◌, ◌^◌};
-ghost use Rattle.kept.specs.Regions.{
-  records_region,
-  strings_region,
-  roots_region,
-  slots_region,
-  rows_region,
-  codes_region,
-  store_region,
-};
+ghost use Rattle.std.specs.Prelude.{◌≡◌, ◌+◌, ◌*◌, ◌≤◌, ◌<◌, ◌^◌, length};
+ghost use Rattle.numbers.specs.Limits.{work_for_word};
+ghost use Rattle.kept.specs.Regions.{slots_region, region};
+
+use numbers::limits::STRING_WORDS;
 
 // One record of so many words for each kept unit. A unit takes at least five words of the bundle, so that 23 for each five fit.
 pub const RECORD: usize = 23;
 
 pub const LEAST_UNIT: usize = 5;
 
-// The first table, by its number.
+// The first table, by its number. A table and a section stay numbers: they stand so in the words of a record, from which they are read and compared.
 pub const COMPILATION: usize = numbers::tables::COMPILATION as usize;
 
-// Sizes, and the places that follow from them.
-const RECORDS: usize = 5;
+// Where a region starts, and how many words it has, for each word of the bundle.
+#[derive(Clone, Copy)]
+pub struct Share {
+    pub start: usize,
+    pub words: usize,
+}
 
-const SLOTS: usize = 1;
+pub const RECORDS: Share = Share { start: 0, words: 5 };
 
-const STRINGS: usize = numbers::limits::STRING_WORDS;
+const COMPILATION_SLOTS: Share = Share { start: 5, words: 1 };
 
-const ROOTS: usize = 1;
+const TYPE_SLOTS: Share = Share { start: 6, words: 1 };
 
-const CODES: usize = 4;
+pub const STRINGS: Share = Share {
+    start: 7,
+    words: STRING_WORDS,
+};
 
-const STORE: usize = STRINGS + CODES;
+// The roots of the strings' index, the last words of the strings.
+pub const ROOTS: Share = Share {
+    start: 13,
+    words: 1,
+};
 
-const ROWS: usize = 2;
+// The codes of an object's abbreviation tables; what stands there counts for that object alone.
+pub const CODES: Share = Share {
+    start: 14,
+    words: 4,
+};
 
-const COMPILATION_START: usize = RECORDS;
+// The strings, and behind them what is remembered of an object's str by a string's start, a word for each byte. The memory stands
+// where the codes do: these count while units are filed, the memory while strings are put or written.
+pub const STORE: Share = Share {
+    start: 7,
+    words: 11,
+};
 
-const TYPE_START: usize = COMPILATION_START + SLOTS;
+// The rows of an object's index by the place of their unit: a word for each word of a section, and one for each row. What stands there counts for that
+// object alone.
+pub const ROWS_BY_PLACE: Share = Share {
+    start: 18,
+    words: 2,
+};
 
-const STRINGS_START: usize = TYPE_START + SLOTS;
+// The slots of a table.
+#[tactic(auto, unfolding(crate::specs::Regions::slots_region))]
+pub fn slots(table: usize) -> Share
+    ensures is { result ≡ slots_region table }
+    ensures within { result.start + result.words ≤ work_for_word }
+{
+    if table == COMPILATION {
+        COMPILATION_SLOTS
+    } else {
+        TYPE_SLOTS
+    }
+}
 
-const ROOTS_START: usize = STRINGS_START + STRINGS - ROOTS;
-
-const CODES_START: usize = STRINGS_START + STRINGS;
-
-const ROWS_START: usize = CODES_START + CODES;
-
-// Where a region starts, and how many words it has.
+// Where a region starts in work, and how many words it has there.
 #[derive(Clone, Copy)]
 pub struct Region {
     pub start: usize,
     pub size: usize,
 }
 
-// Each for a bundle of n words. Callers have a bundle of fewer than 2 to the power 32.
-pub fn records(n: usize) -> Region
-    requires { n < 2 ^ 32 }
-    ensures start { result.start ≡ records_region.start * n }
-    ensures size { result.size ≡ records_region.words * n }
-{
-    Region {
-        start: 0,
-        size: RECORDS * n,
+impl Share {
+    // For a bundle of n words. Callers have a bundle of fewer than 2 to the power 32.
+    pub fn of(self, n: usize) -> Region
+        requires { (self.start + self.words ≤ work_for_word) × (n < 2 ^ 32) }
+        ensures start { result.start ≡ self.start * n }
+        ensures size { result.size ≡ self.words * n }
+    {
+        Region {
+            start: self.start * n,
+            size: self.words * n,
+        }
     }
-}
 
-pub fn strings(n: usize) -> Region
-    requires { n < 2 ^ 32 }
-    ensures start { result.start ≡ strings_region.start * n }
-    ensures size { result.size ≡ strings_region.words * n }
-{
-    Region {
-        start: STRINGS_START * n,
-        size: STRINGS * n,
-    }
-}
-
-// The roots of the strings' index, the last words of the strings.
-pub fn roots(n: usize) -> Region
-    requires { n < 2 ^ 32 }
-    ensures start { result.start ≡ roots_region.start * n }
-    ensures size { result.size ≡ roots_region.words * n }
-{
-    Region {
-        start: ROOTS_START * n,
-        size: ROOTS * n,
-    }
-}
-
-// The slots of a table.
-pub fn slots(n: usize, table: usize) -> Region
-    requires { n < 2 ^ 32 }
-    ensures start { result.start ≡ (slots_region table).start * n }
-    ensures size { result.size ≡ (slots_region table).words * n }
-{
-    if table == COMPILATION {
-        return Region {
-            start: COMPILATION_START * n,
-            size: SLOTS * n,
-        };
-    }
-    Region {
-        start: TYPE_START * n,
-        size: SLOTS * n,
-    }
-}
-
-// The rows of an object's index by the place of their unit: a word for each word of a section, and one for each row. What stands there counts for that
-// object alone.
-pub fn rows_by_place(n: usize) -> Region
-    requires { n < 2 ^ 32 }
-    ensures start { result.start ≡ rows_region.start * n }
-    ensures size { result.size ≡ rows_region.words * n }
-{
-    Region {
-        start: ROWS_START * n,
-        size: ROWS * n,
-    }
-}
-
-// The codes of an object's abbreviation tables; what stands there counts for that object alone.
-pub fn codes(n: usize) -> Region
-    requires { n < 2 ^ 32 }
-    ensures start { result.start ≡ codes_region.start * n }
-    ensures size { result.size ≡ codes_region.words * n }
-{
-    Region {
-        start: CODES_START * n,
-        size: CODES * n,
-    }
-}
-
-// The strings, and behind them what is remembered of an object's str by a string's start, a word for each byte. The memory stands
-// where the codes do: these count while units are filed, the memory while strings are put or written.
-pub fn store(n: usize) -> Region
-    requires { n < 2 ^ 32 }
-    ensures start { result.start ≡ store_region.start * n }
-    ensures size { result.size ≡ store_region.words * n }
-{
-    Region {
-        start: STRINGS_START * n,
-        size: STORE * n,
+    // The words of a region in work.
+    pub fn part(self, work: &[u32], n: usize) -> &[u32]
+        requires { (self.start + self.words ≤ work_for_word) × (n < 2 ^ 32) × (work_for_word * n ≤ length work.now) }
+        ensures { result.now ≡ region work.now n self }
+    {
+        let region = self.of(n);
+        &work[region.start..region.start + region.size]
     }
 }

@@ -20,37 +20,28 @@ ghost use Rattle.kept.specs.Slots.{
 };
 
 use crate::records::Unit;
-use crate::regions::RECORD;
+use crate::regions::{RECORD, RECORDS};
 use index::judging::Contributions;
 
-// Where a walk ends: at a record of the identity, or at a free slot.
-#[derive(Clone, Copy)]
-pub enum Sought {
-    Known(usize),
-    Free(usize),
-}
-
-// Callers have slots of records that are stored.
-pub fn seek(records: &[u32], slots: &[u32], n: usize, x: u64) -> Sought
+// Where a walk ends: at the number of a record of the identity, or else at a free slot. Callers have slots of records that are stored.
+pub fn seek(records: &[u32], slots: &[u32], n: usize, x: u64) -> Result<usize, usize>
     requires { PowerOfTwo (length slots.now) × Within slots.now n × (record_words * n ≤ length records.now) }
     ensures { result ≡ sought_in records.now slots.now x }
 {
     let count = slots.len();
     let by = index::probing::stride(x, count);
     let mut at = index::probing::first_slot(x, count);
-    let mut looks = 0;
-    while looks < count {
-        let number = octets::word(slots, at);
+    for _looks in 0..count {
+        let number = slots[at] as usize;
         if number == 0 {
-            return Sought::Free(at);
+            return Err(at);
         }
         if crate::records::identity_for(records, number) == x {
-            return Sought::Known(number);
+            return Ok(number);
         }
         at = index::probing::next_slot(at, by, count);
-        looks += 1;
     }
-    Sought::Free(at)
+    Err(at)
 }
 
 // The slots of an index of n rows.
@@ -59,12 +50,14 @@ pub fn slots_for(n: usize) -> usize
     ensures { result ≡ slots_for n }
 {
     if n < 2 {
-        return 2;
+        2
+    } else {
+        index::reading::least_power(3 * n / 2 + 1)
     }
-    index::reading::least_power(3 * n / 2 + 1)
 }
 
 // The slots of identities seen, for a bundle of so many words.
+#[tactic(auto, unfolding(crate::specs::Slots::seen_slots))]
 pub fn seen_slots(words: usize) -> usize
     requires { words < 2 ^ 31 }
     ensures { result ≡ seen_slots words }
@@ -73,17 +66,20 @@ pub fn seen_slots(words: usize) -> usize
 }
 
 // The same walk in work, for a bundle of so many words; count slots of the table are at hand, and n records.
-pub fn seek_in(work: &[u32], words: usize, table: usize, n: usize, count: usize, x: u64) -> Sought
+// Work and words stay parameters here and in the following: a struct of both would hold lent work, and callers lend other parts of it between two calls.
+pub fn seek_in(
+    work: &[u32],
+    words: usize,
+    table: usize,
+    n: usize,
+    count: usize,
+    x: u64,
+) -> Result<usize, usize>
     requires { Seekable words work.now table n count }
     ensures { result ≡ sought_in (region work.now words records_region) (part work.now ((slots_region table).start * words) count) x }
 {
-    let records = crate::regions::records(words);
-    let slots = crate::regions::slots(words, table);
-    let first = records.start;
-    let last = first + records.size;
-    let from = slots.start;
-    let to = from + count;
-    seek(&work[first..last], &work[from..to], n, x)
+    let slots = crate::regions::slots(table).part(work, words);
+    seek(RECORDS.part(work, words), &slots[..count], n, x)
 }
 
 // Places record i where it is one of the table.
@@ -91,19 +87,14 @@ fn place_unit(work: &mut [u32], words: usize, table: usize, i: usize, count: usi
     requires { Seekable words work.old table i count × (record_words * i + record_words ≤ records_region.words * words) }
     ensures { Placed words table i count work.old work.new }
 {
-    let records = crate::regions::records(words);
-    let first = records.start;
-    let last = first + records.size;
-    if crate::records::table_at(&work[first..last], i) != table {
+    let records = RECORDS.part(work, words);
+    if crate::records::table_at(records, i) != table {
         return;
     }
-    let x = crate::records::identity_at(&work[first..last], i);
-    match seek_in(work, words, table, i, count, x) {
-        Sought::Known(_) => {}
-        Sought::Free(at) => {
-            let slots = crate::regions::slots(words, table);
-            octets::set_word(work, slots.start + at, i + 1);
-        }
+    let x = crate::records::identity_at(records, i);
+    if let Err(at) = seek_in(work, words, table, i, count, x) {
+        let slots = crate::regions::slots(table).of(words);
+        octets::set_word(work, slots.start + at, i + 1);
     }
 }
 
@@ -112,10 +103,8 @@ fn place_all(work: &mut [u32], words: usize, table: usize, n: usize, count: usiz
     requires { Placeable words (length work.old) table n count × (slots_in work.old words table count ≡ zeros count) }
     ensures { PlacedAll words table n count work.old work.new }
 {
-    let mut i = 0;
-    while i < n {
+    for i in 0..n {
         place_unit(work, words, table, i, count);
-        i += 1;
     }
 }
 
@@ -124,10 +113,10 @@ pub fn place_units(work: &mut [u32], words: usize, table: usize, n: usize, count
     requires { Placeable words (length work.old) table n count }
     ensures { PlacedAll words table n count work.old work.new }
 {
-    let slots = crate::regions::slots(words, table);
+    let slots = crate::regions::slots(table).of(words);
     let from = slots.start;
     let to = from + count;
-    octets::clear_words(&mut work[from..to]);
+    work[from..to].fill(0);
     place_all(work, words, table, n, count);
 }
 
@@ -144,8 +133,8 @@ pub fn keep(
     requires { Keepable words (length work.old) count slot × UnitFits unit × CellsFit cells }
     ensures { work.new ≡ kept_in work.old words count slot (unit_of unit five cells) }
 {
-    let records = crate::regions::records(words);
+    let records = RECORDS.of(words);
     crate::records::store_unit(work, records.start + RECORD * count, unit, five, cells);
-    let slots = crate::regions::slots(words, unit.table);
+    let slots = crate::regions::slots(unit.table).of(words);
     octets::set_word(work, slots.start + slot, count + 1);
 }

@@ -22,38 +22,25 @@ pub struct InProgress {
     pub skipped: Skipped,
 }
 
-fn count_one(before: Skipped, agrees: bool) -> Skipped
-    requires { (before.repeats < 2 ^ 32) × (before.namesakes < 2 ^ 32) }
-    ensures { result ≡ counted_one before agrees }
-{
-    if agrees {
-        let more = before.repeats + 1;
-        return Skipped {
-            repeats: more,
-            namesakes: before.namesakes,
-        };
-    }
-    let more = before.namesakes + 1;
-    Skipped {
-        repeats: before.repeats,
-        namesakes: more,
+impl Skipped {
+    fn count_one(&mut self, agrees: bool)
+        requires { (self.old.repeats < 2 ^ 32) × (self.old.namesakes < 2 ^ 32) }
+        ensures { self.new ≡ counted_one self.old agrees }
+    {
+        if agrees {
+            self.repeats += 1;
+        } else {
+            self.namesakes += 1;
+        }
     }
 }
 
-// One unit more is skipped. Callers have few units.
-pub fn skip_one(st: InProgress, agrees: bool) -> InProgress
-    requires { (st.skipped.repeats < 2 ^ 32) × (st.skipped.namesakes < 2 ^ 32) }
-    ensures { result ≡ skipped_one st agrees }
-{
-    let units = st.units;
-    let bases = st.bases;
-    let strings = st.strings;
-    let before = st.skipped;
-    let skipped = count_one(before, agrees);
-    InProgress {
-        units,
-        bases,
-        strings,
-        skipped,
+impl InProgress {
+    // One unit more is skipped. Callers have few units.
+    pub fn skip_one(&mut self, agrees: bool)
+        requires { (self.old.skipped.repeats < 2 ^ 32) × (self.old.skipped.namesakes < 2 ^ 32) }
+        ensures { self.new ≡ skipped_one self.old agrees }
+    {
+        self.skipped.count_one(agrees);
     }
 }

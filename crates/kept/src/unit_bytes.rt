@@ -7,7 +7,7 @@ ghost use Rattle.kept.specs.Records.{record_at, bytes_of, bytes_from, UnitsInsid
 ghost use Rattle.kept.specs.Slots.{SameAsked};
 
 use crate::records::{HOME, SIZE, START};
-use crate::regions::RECORD;
+use crate::regions::{RECORD, RECORDS};
 
 // The bytes of record i, where it is a unit of the section home; the place behind them.
 fn copy_unit(b: &[u8], records: &[u32], i: usize, home: usize, out: &mut [u8], at: usize) -> usize
@@ -16,11 +16,11 @@ fn copy_unit(b: &[u8], records: &[u32], i: usize, home: usize, out: &mut [u8], a
     ensures next { result ≡ at + length (bytes_from b.now records.now home i 1) }
 {
     let record = RECORD * i;
-    if octets::word(records, record + HOME) != home {
+    if records[record + HOME] as usize != home {
         return at;
     }
-    let start = octets::word(records, record + START);
-    let size = octets::word(records, record + SIZE);
+    let start = records[record + START] as usize;
+    let size = records[record + SIZE] as usize;
     let end = start + size;
     octets::put_bytes(out, at, &b[start..end]);
     at + size
@@ -32,10 +32,8 @@ pub fn copy_units(b: &[u8], records: &[u32], n: usize, home: usize, out: &mut [u
     ensures { out.new ≡ placed out.old at (bytes_from b.now records.now home 0 n) }
 {
     let mut o = at;
-    let mut i = 0;
-    while i < n {
+    for i in 0..n {
         o = copy_unit(b, records, i, home, out, o);
-        i += 1;
     }
 }
 
@@ -45,8 +43,8 @@ fn same_unit(b: &[u8], records: &[u32], i: usize, at: usize, size: usize) -> boo
     ensures { result ≡ same (part b.now at size) (bytes_of b.now (record_at records.now i)) }
 {
     let record = RECORD * i;
-    let start = octets::word(records, record + START);
-    let kept = octets::word(records, record + SIZE);
+    let start = records[record + START] as usize;
+    let kept = records[record + SIZE] as usize;
     let end = start + kept;
     let last = at + size;
     octets::same_bytes(&b[at..last], &b[start..end])
@@ -57,8 +55,6 @@ pub fn same_as_kept(b: &[u8], work: &[u32], number: usize, at: usize, size: usiz
     requires { SameAsked b.now work.now number at size }
     ensures { result ≡ same (part b.now at size) (bytes_of b.now (record_at (region work.now (length b.now / 4) records_region) (number - 1))) }
 {
-    let records = crate::regions::records(b.len() / 4);
-    let first = records.start;
-    let last = first + records.size;
-    same_unit(b, &work[first..last], number - 1, at, size)
+    let records = RECORDS.part(work, b.len() / 4);
+    same_unit(b, records, number - 1, at, size)
 }

@@ -5,7 +5,7 @@ ghost use Rattle.index.specs.Written.{start_bytes};
 ghost use Rattle.kept.specs.Regions.{record_words};
 ghost use Rattle.kept.specs.Columns.{version_for, columns_for, numbers_if, cells_from, codes_in};
 ghost use Rattle.kept.specs.Slots.{Within};
-ghost use Rattle.kept.specs.Indexed.{grid_from, slot_number, slot_width, front_in, index_in};
+ghost use Rattle.kept.specs.Indexed.{grid_from, place_of, slot_number, slot_width, front_in, index_in};
 
 use crate::records::CELLS;
 use crate::regions::RECORD;
@@ -25,83 +25,52 @@ pub struct IndexForm {
     pub has: [bool; COLUMNS],
 }
 
-// ---- the head
-fn put_start(big: bool, five: bool, out: &mut [u8], at: usize)
-    requires { at + 4 ≤ length out.old }
-    ensures { out.new ≡ placed out.old at (start_bytes big (version_for five)) }
-{
-    if five {
-        octets::put_u16(big, START_5, out, at);
-        octets::put_u16(big, 0, out, at + 2);
-        return;
-    }
-    octets::put_u32(big, INDEX_2, out, at);
+// Which numbers of a unit's cells a grid has: they stand so far behind the first.
+#[derive(Clone, Copy)]
+enum Figures {
+    Offsets = 0,
+    Sizes = 1,
 }
 
+impl Figures {
+    fn place(self) -> usize
+        ensures { result ≡ place_of self }
+    {
+        self as usize
+    }
+}
+
+// ---- pieces of it
 fn put_three(big: bool, first: usize, second: usize, third: usize, out: &mut [u8], at: usize)
     requires { at + 12 ≤ length out.old }
     ensures { out.new ≡ placed out.old at (numbers_of big 4 (first ∷ second ∷ third ∷ [])) }
 {
-    octets::put_number(big, 4, octets::long(first), out, at);
-    octets::put_number(big, 4, octets::long(second), out, at + 4);
-    octets::put_number(big, 4, octets::long(third), out, at + 8);
+    octets::put_number(big, 4, first as u64, out, at);
+    octets::put_number(big, 4, second as u64, out, at + 4);
+    octets::put_number(big, 4, third as u64, out, at + 8);
 }
 
-fn put_head(f: IndexForm, columns: usize, slots: usize, out: &mut [u8], at: usize)
-    requires { at + 16 ≤ length out.old }
-    ensures { out.new ≡ placed out.old at (start_bytes f.big (version_for f.five) ++ numbers_of f.big 4 (columns ∷ f.rows ∷ slots ∷ [])) }
-{
-    put_start(f.big, f.five, out, at);
-    put_three(f.big, columns, f.rows, slots, out, at + 4);
-}
-
-// ---- slots
 // The identity or the row number that a slot names, 0 where it is unused.
+#[tactic(auto, unfolding(crate::specs::Indexed::slot_number))]
 fn slot_number(identities: bool, records: &[u32], number: usize) -> u64
     requires { record_words * number ≤ length records.now }
     ensures { result ≡ slot_number identities records.now number }
 {
     if identities {
-        return crate::records::identity_for(records, number);
+        crate::records::identity_for(records, number)
+    } else {
+        crate::records::row_for(records, number) as u64
     }
-    octets::long(crate::records::row_for(records, number))
 }
 
 // How many bytes it takes.
+#[tactic(auto, unfolding(crate::specs::Indexed::slot_width))]
 fn slot_width(identities: bool) -> usize
     ensures { (result ≡ slot_width identities) × (result ≤ 8) }
 {
-    if identities {
-        return 8;
-    }
-    4
+    if identities { 8 } else { 4 }
 }
 
-// One number for each slot. The caller has slots of n records that are stored.
-fn put_slots(
-    identities: bool,
-    f: IndexForm,
-    records: &[u32],
-    n: usize,
-    slots: &[u32],
-    out: &mut [u8],
-    at: usize,
-)
-    requires { Within slots.now n × (record_words * n ≤ length records.now) × (at + slot_width identities * length slots.now ≤ length out.old) }
-    ensures { out.new ≡ placed out.old at (numbers_of f.big (slot_width identities) (map (slot_number identities records.now) slots.now)) }
-{
-    let width = slot_width(identities);
-    let mut o = at;
-    let mut i = 0;
-    while i < slots.len() {
-        let x = slot_number(identities, records, octets::word(slots, i));
-        octets::put_number(f.big, width, x, out, o);
-        o += width;
-        i += 1;
-    }
-}
-
-// ---- columns
 // Stores a number where its column is there; the place behind it.
 fn put_if(there: bool, big: bool, n: usize, out: &mut [u8], at: usize) -> usize
     requires { at + 4 * length (numbers_if there n) ≤ length out.old }
@@ -109,126 +78,143 @@ fn put_if(there: bool, big: bool, n: usize, out: &mut [u8], at: usize) -> usize
     ensures next { result ≡ at + 4 * length (numbers_if there n) }
 {
     if there {
-        octets::put_number(big, 4, octets::long(n), out, at);
+        octets::put_number(big, 4, n as u64, out, at);
         return at + 4;
     }
     at
 }
 
-// The codes of the columns that are there; the place behind them.
-fn put_codes(big: bool, five: bool, has: [bool; COLUMNS], out: &mut [u8], at: usize) -> usize
-    requires { at + 4 * length (codes_in five has) ≤ length out.old }
-    ensures out { out.new ≡ placed out.old at (numbers_of big 4 (codes_in five has)) }
-    ensures next { result ≡ at + 4 * length (codes_in five has) }
-{
-    let n = crate::columns::column_count(five);
-    let mut o = at;
-    let mut k = 0;
-    while k < n {
-        let code = crate::columns::code_at(five, k);
-        o = put_if(has[k], big, code, out, o);
-        k += 1;
+// Out and a place in it stay two parameters, as octets has them for whatever is put: a struct of both would be made anew for each piece.
+impl IndexForm {
+    // ---- the head
+    fn put_start(self, out: &mut [u8], at: usize)
+        requires { at + 4 ≤ length out.old }
+        ensures { out.new ≡ placed out.old at (start_bytes self.big (version_for self.five)) }
+    {
+        if self.five {
+            octets::put_u16(self.big, START_5, out, at);
+            octets::put_u16(self.big, 0, out, at + 2);
+        } else {
+            octets::put_u32(self.big, INDEX_2, out, at);
+        }
     }
-    o
-}
 
-// ---- a number for each row and column
-// One record: the words from a place on, two apart. The place behind them.
-fn put_cells(f: IndexForm, records: &[u32], first: usize, out: &mut [u8], at: usize) -> usize
-    requires { (first + 15 ≤ length records.now) × (at + 4 * length (cells_from f.has records.now first 0 (length (columns_for f.five))) ≤ length out.old) }
-    ensures out { out.new ≡ placed out.old at (numbers_of f.big 4 (cells_from f.has records.now first 0 (length (columns_for f.five)))) }
-    ensures next { result ≡ at + 4 * length (cells_from f.has records.now first 0 (length (columns_for f.five))) }
-{
-    let n = crate::columns::column_count(f.five);
-    let mut o = at;
-    let mut k = 0;
-    while k < n {
-        let number = octets::word(records, first + 2 * k);
-        o = put_if(f.has[k], f.big, number, out, o);
-        k += 1;
+    fn put_head(self, columns: usize, slots: usize, out: &mut [u8], at: usize)
+        requires { at + 16 ≤ length out.old }
+        ensures { out.new ≡ placed out.old at (start_bytes self.big (version_for self.five) ++ numbers_of self.big 4 (columns ∷ self.rows ∷ slots ∷ [])) }
+    {
+        self.put_start(out, at);
+        put_three(self.big, columns, self.rows, slots, out, at + 4);
     }
-    o
-}
 
-// Record i, where it is one of the table: its offsets where which is 0, its sizes where it is 1.
-fn put_row(
-    f: IndexForm,
-    records: &[u32],
-    i: usize,
-    which: usize,
-    out: &mut [u8],
-    at: usize,
-) -> usize
-    requires { (record_words * i + record_words ≤ length records.now) × (which ≤ 1) × (at + 4 * length (grid_from f records.now which i 1) ≤ length out.old) }
-    ensures out { out.new ≡ placed out.old at (numbers_of f.big 4 (grid_from f records.now which i 1)) }
-    ensures next { result ≡ at + 4 * length (grid_from f records.now which i 1) }
-{
-    if crate::records::table_at(records, i) != f.table {
-        return at;
+    // ---- slots
+    // One number for each slot. The caller has slots of n records that are stored.
+    fn put_slots(
+        self,
+        identities: bool,
+        records: &[u32],
+        n: usize,
+        slots: &[u32],
+        out: &mut [u8],
+        at: usize,
+    )
+        requires { Within slots.now n × (record_words * n ≤ length records.now) × (at + slot_width identities * length slots.now ≤ length out.old) }
+        ensures { out.new ≡ placed out.old at (numbers_of self.big (slot_width identities) (map (slot_number identities records.now) slots.now)) }
+    {
+        let width = slot_width(identities);
+        let mut o = at;
+        for slot in slots {
+            let x = slot_number(identities, records, *slot as usize);
+            octets::put_number(self.big, width, x, out, o);
+            o += width;
+        }
     }
-    put_cells(f, records, RECORD * i + CELLS + which, out, at)
-}
 
-// All n records.
-fn put_grid(
-    f: IndexForm,
-    records: &[u32],
-    n: usize,
-    which: usize,
-    out: &mut [u8],
-    at: usize,
-) -> usize
-    requires { (record_words * n ≤ length records.now) × (which ≤ 1) × (at + 4 * length (grid_from f records.now which 0 n) ≤ length out.old) }
-    ensures out { out.new ≡ placed out.old at (numbers_of f.big 4 (grid_from f records.now which 0 n)) }
-    ensures next { result ≡ at + 4 * length (grid_from f records.now which 0 n) }
-{
-    let mut o = at;
-    let mut i = 0;
-    while i < n {
-        o = put_row(f, records, i, which, out, o);
-        i += 1;
+    // ---- columns
+    // The codes of the columns that are there; the place behind them.
+    fn put_codes(self, out: &mut [u8], at: usize) -> usize
+        requires { at + 4 * length (codes_in self.five self.has) ≤ length out.old }
+        ensures out { out.new ≡ placed out.old at (numbers_of self.big 4 (codes_in self.five self.has)) }
+        ensures next { result ≡ at + 4 * length (codes_in self.five self.has) }
+    {
+        let mut o = at;
+        for k in 0..crate::columns::column_count(self.five) {
+            let code = crate::columns::code_at(self.five, k);
+            o = put_if(self.has[k], self.big, code, out, o);
+        }
+        o
     }
-    o
-}
 
-// ---- the index
-// Head and slots.
-fn put_front(
-    f: IndexForm,
-    columns: usize,
-    records: &[u32],
-    n: usize,
-    slots: &[u32],
-    out: &mut [u8],
-    at: usize,
-)
-    requires { Within slots.now n × (record_words * n ≤ length records.now) × (at + 16 + 12 * length slots.now ≤ length out.old) }
-    ensures { out.new ≡ placed out.old at (front_in f columns records.now slots.now) }
-{
-    let rows = at + 16 + 8 * slots.len();
-    put_head(f, columns, slots.len(), out, at);
-    put_slots(true, f, records, n, slots, out, at + 16);
-    put_slots(false, f, records, n, slots, out, rows);
-}
+    // ---- a number for each row and column
+    // One record: the words from a place on, two apart. The place behind them.
+    fn put_cells(self, records: &[u32], first: usize, out: &mut [u8], at: usize) -> usize
+        requires { (first + 15 ≤ length records.now) × (at + 4 * length (cells_from self.has records.now first 0 (length (columns_for self.five))) ≤ length out.old) }
+        ensures out { out.new ≡ placed out.old at (numbers_of self.big 4 (cells_from self.has records.now first 0 (length (columns_for self.five)))) }
+        ensures next { result ≡ at + 4 * length (cells_from self.has records.now first 0 (length (columns_for self.five))) }
+    {
+        let mut o = at;
+        for k in 0..crate::columns::column_count(self.five) {
+            let number = records[first + 2 * k] as usize;
+            o = put_if(self.has[k], self.big, number, out, o);
+        }
+        o
+    }
 
-// The caller keeps room for it, and has placed the records of the table, among n that are stored.
-pub fn write_index(
-    f: IndexForm,
-    records: &[u32],
-    n: usize,
-    slots: &[u32],
-    out: &mut [u8],
-    at: usize,
-)
-    requires { Within slots.now n × (record_words * n ≤ length records.now) × (at + length (index_in f records.now n slots.now) ≤ length out.old) }
-    ensures { out.new ≡ placed out.old at (index_in f records.now n slots.now) }
-{
-    let five = f.five;
-    let has = f.has;
-    let columns = crate::columns::columns_present(five, has);
-    let codes = at + 16 + 12 * slots.len();
-    put_front(f, columns, records, n, slots, out, at);
-    let offsets = put_codes(f.big, five, has, out, codes);
-    let sizes = put_grid(f, records, n, 0, out, offsets);
-    put_grid(f, records, n, 1, out, sizes);
+    // Record i, where it is one of the table. The place behind it.
+    fn put_row(self, records: &[u32], i: usize, which: Figures, out: &mut [u8], at: usize) -> usize
+        requires { (record_words * i + record_words ≤ length records.now) × (at + 4 * length (grid_from self records.now (place_of which) i 1) ≤ length out.old) }
+        ensures out { out.new ≡ placed out.old at (numbers_of self.big 4 (grid_from self records.now (place_of which) i 1)) }
+        ensures next { result ≡ at + 4 * length (grid_from self records.now (place_of which) i 1) }
+    {
+        if crate::records::table_at(records, i) != self.table {
+            return at;
+        }
+        self.put_cells(records, RECORD * i + CELLS + which.place(), out, at)
+    }
+
+    // All n records.
+    fn put_grid(self, records: &[u32], n: usize, which: Figures, out: &mut [u8], at: usize) -> usize
+        requires { (record_words * n ≤ length records.now) × (at + 4 * length (grid_from self records.now (place_of which) 0 n) ≤ length out.old) }
+        ensures out { out.new ≡ placed out.old at (numbers_of self.big 4 (grid_from self records.now (place_of which) 0 n)) }
+        ensures next { result ≡ at + 4 * length (grid_from self records.now (place_of which) 0 n) }
+    {
+        let mut o = at;
+        for i in 0..n {
+            o = self.put_row(records, i, which, out, o);
+        }
+        o
+    }
+
+    // ---- the index
+    // Head and slots.
+    fn put_front(
+        self,
+        columns: usize,
+        records: &[u32],
+        n: usize,
+        slots: &[u32],
+        out: &mut [u8],
+        at: usize,
+    )
+        requires { Within slots.now n × (record_words * n ≤ length records.now) × (at + 16 + 12 * length slots.now ≤ length out.old) }
+        ensures { out.new ≡ placed out.old at (front_in self columns records.now slots.now) }
+    {
+        let rows = at + 16 + 8 * slots.len();
+        self.put_head(columns, slots.len(), out, at);
+        self.put_slots(true, records, n, slots, out, at + 16);
+        self.put_slots(false, records, n, slots, out, rows);
+    }
+
+    // The caller keeps room for it, and has placed the records of the table, among n that are stored.
+    pub fn write_index(self, records: &[u32], n: usize, slots: &[u32], out: &mut [u8], at: usize)
+        requires { Within slots.now n × (record_words * n ≤ length records.now) × (at + length (index_in self records.now n slots.now) ≤ length out.old) }
+        ensures { out.new ≡ placed out.old at (index_in self records.now n slots.now) }
+    {
+        let columns = crate::columns::columns_present(self.five, self.has);
+        let codes = at + 16 + 12 * slots.len();
+        self.put_front(columns, records, n, slots, out, at);
+        let offsets = self.put_codes(out, codes);
+        let sizes = self.put_grid(records, n, Figures::Offsets, out, offsets);
+        self.put_grid(records, n, Figures::Sizes, out, sizes);
+    }
 }

@@ -35,12 +35,7 @@ module _ (k : ℕ) (s : List ℕ) where
   unfolding followed groups ◌>>=◌
   groups_open v e = groups_by k k 0 s (omega arith) ∙ rw e
 
--- ---- no byte, and a first or a second byte that is the last
-groups_none : (k : ℕ) (s : List ℕ) → length s ≡ 0 → groups (suc k) s ≡ refuse 12
-unfolding groups
-groups_none k [] h = refl
-groups_none k (b ∷ s) h = absurd (omega arith)
-
+-- ---- a first or a second byte that is the last
 groups_one : (k : ℕ) (s : List ℕ) (b : ℕ) → (length s ≡ 0 → ⊥) → b ≡ get_or s 0 0 → b < 128 → groups (suc k) s ≡ pass (b, 1)
 groups_one k [] b h e g = absurd (h refl)
 groups_one k (c ∷ s) b h e g = rw e (groups_last k c s (rw e at g))
@@ -52,10 +47,6 @@ groups_two k (c ∷ d ∷ s) a b h e f g l = rw (e, f) (groups_more (suc k) c (d
 
 -- ---- a tag, a name or a form
 module _ (s : List ℕ) where
-  pub short_none : length s ≡ 0 → refuse 12 ≡ short s
-  unfolding short
-  short_none h = sym (then_refuse _ _ _ (groups_none 2 s h))
-
   pub short_one : (b : ℕ) → (length s ≡ 0 → ⊥) → b ≡ get_or s 0 0 → b < 128 → pass (b, 1) ≡ short s
   unfolding short
   short_one b h e g = sym (then_pass _ _ _ (groups_one 2 s b h e g) ∙ passes _ _ _ (le-leb b 65535 (omega arith)))

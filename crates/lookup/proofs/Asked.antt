@@ -23,7 +23,7 @@ use Rattle.lookup.specs.Answers.{indexed, head_in, index_has, version_by, table_
 
 -- ---- 22
 pub has_indexed : (v : ℕ) (o : Option Index) → index_has v (indexed o) ≡ has_version v o
-unfolding indexed has_version head_of
+unfolding indexed has_version
 has_indexed v (some i) = refl
 has_indexed v none = refl
 

@@ -17,8 +17,7 @@ use Rattle.strings.specs.Strings.{string_at}
 use Rattle.strings.proofs.Ends.{string_at_is}
 use Rattle.index.specs.Index.{Index}
 use Rattle.index.specs.Probing.{Probe, probe, found as at, absent as nowhere}
-use Rattle.index.specs.Held.{head_of, index_in, index_read, ReadWell, probed_of}
-use Rattle.index.proofs.Heads.{read_is}
+use Rattle.index.specs.Held.{Well}
 use Rattle.index.proofs.Ends.{found_row, absent_looks}
 use Rattle.lookup.specs.Lookup.{Found, refused, absent, part, Package, package_of, index_for, Place, part_place, at_row, in_table, answered, part_judged, looked_up, start_of, string_place, string_judged, string_found}
 use Rattle.lookup.specs.Answers.{index_code, numbered, bytes_in, beside}
@@ -28,24 +27,14 @@ use Rattle.lookup.proofs.Known.{within_package, index_known, answered_part, part
 
 -- ---- looks
 module _ (p : List ℕ) (k : Package) (e : package_of p ≡ pass k) (table : ℕ) (i : Index) (f : index_for k table ≡ some i) (x : ℕ) where
-  well : ReadWell k.encoding.big (body p k.parts (index_code table)) (head_of i)
-  unfolding index_read
-  well = record { is = sym (ap index_read (index_known p k e table i f)) }
-
-  same : index_in k.encoding.big (body p k.parts (index_code table)) (head_of i) ≡ i
-  same = pass_inj (sym (read_is k.encoding.big (body p k.parts (index_code table)) (head_of i) well) ∙ index_known p k e table i f)
+  well : Well i
+  well = record { big = k.encoding.big; bytes = body p k.parts (index_code table); is = index_known p k e table i f }
 
   pub looks_found : (slot looks : ℕ) → probe i x ≡ at slot looks → looks ≤ length i.rows
-  unfolding probed_of head_of
-  looks_found slot looks h =
-      (found_row k.encoding.big (body p k.parts (index_code table)) (head_of i) well x slot looks
-      (sym (ap (λ (j : Index). probed_of (probe j x)) same ∙ ap probed_of h))).few
+  looks_found slot looks h = (found_row i well x slot looks h).few
 
   pub looks_absent : (looks : ℕ) → probe i x ≡ nowhere looks → looks ≤ length i.rows
-  unfolding probed_of head_of
-  looks_absent looks h =
-      absent_looks k.encoding.big (body p k.parts (index_code table)) (head_of i) well x looks
-      (sym (ap (λ (j : Index). probed_of (probe j x)) same ∙ ap probed_of h))
+  looks_absent looks h = absent_looks i well x looks h
 
 -- ---- what is known of an answer that names a part: the package, the index, the slot where the search ended, and the place of the row
 pub record Named (p : List ℕ) (table x a n looks : ℕ) (answer : Package → Index → ℕ → Check Place) : Type 0 where

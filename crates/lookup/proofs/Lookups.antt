@@ -56,16 +56,16 @@ table_is n table e = go (eqb n 1) (eqb n 2) refl refl e
     go false false f g h = absurd (let z : ◌≡◌ {A = ℕ} 0 1 = cc in omega arith)
 
 -- ---- 21
-module _ (p : List ℕ) (n : ℕ) (e : refuse n ≡ opened (package_of p)) (version table x : ℕ) where
-  closed : package_of p ≡ refuse n
+module _ (p : List ℕ) (n : ℕ) (e : refuse n ≡ opened (package_of p)) where
+  pub closed : package_of p ≡ refuse n
   unfolding opened
   closed = of_refuse head_in (package_of p) n e
 
-  pub looked_closed : (code : ℕ) → refused n ≡ looked_up p version table x code
-  looked_closed code = sym (A.part_closed p version table x n closed code)
+  pub looked_closed : (version table x code : ℕ) → refused n ≡ looked_up p version table x code
+  looked_closed version table x code = sym (A.part_closed p version table x n closed code)
 
-  pub strung_closed : (entry : ℕ) → refused n ≡ string_found p version table x entry
-  strung_closed entry = sym (A.string_closed p version table x n closed entry)
+  pub strung_closed : (version table x entry : ℕ) → refused n ≡ string_found p version table x entry
+  strung_closed version table x entry = sym (A.string_closed p version table x n closed entry)
 
 module _ (p : List ℕ) (h : PackageHead) (o : Opened p h) (version table x : ℕ) where
   by : (t : Bool) → version_by h version ≡ t → version_good (package_in p) version ≡ t

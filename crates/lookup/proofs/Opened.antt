@@ -25,9 +25,8 @@ use Rattle.bundle.proofs.Encodings.{word_good, word_bad, coded_again}
 use Rattle.bundle.proofs.Sections.{body_part, none_counted, counted_none}
 use Rattle.bundle.proofs.Scanned.{by_code_at}
 use Rattle.index.specs.Index.{Index, index_of}
-use Rattle.index.specs.Held.{head_of, index_read}
+use Rattle.index.specs.Held.{head_of}
 use Rattle.index.specs.declared.reading.IndexHead.{IndexHead}
-use Rattle.index.specs.declared.reading.IndexRead.TheVariants.{Good, Bad}
 use Rattle.lookup.specs.Lookup.{codes, package_index, object_judged, package_of}
 use Rattle.lookup.specs.Answers.{coded, indexed, head_in, opened, single, index_by, Alone}
 use Rattle.lookup.specs.declared.opening.PackageHead.{PackageHead}
@@ -42,21 +41,13 @@ module _ (n : ℕ) (m : Check Index) where
   index_none e = rw (index_by, eq-eqb n 0 e)
 
   module _ (f : n ≡ 0 → ⊥) where
-    pub index_is : (h : IndexHead) → Good h ≡ index_read m → pass (Some h) ≡ index_by n m
-    unfolding index_by index_read mapped renumbered
-    index_is h e = rw (index_by, ne_eqb n 0 f) (go m e)
-      where
-        go : (m : Check Index) → Good h ≡ index_read m → pass (Some h) ≡ mapped (λ i. Some (head_of i)) (renumbered 21 m)
-        go (pass i) g = cc
-        go (refuse j) g = absurd (let z : ◌≡◌ {A = ℕ} 0 1 = cc in omega arith)
+    pub index_is : (i : Index) → pass i ≡ m → pass (Some (head_of i)) ≡ index_by n m
+    unfolding index_by mapped renumbered
+    index_is i e = rw (index_by, ne_eqb n 0 f, ← e)
 
-    pub index_not : Bad ≡ index_read m → refuse 21 ≡ index_by n m
-    unfolding index_by index_read mapped renumbered
-    index_not e = rw (index_by, ne_eqb n 0 f) (go m e)
-      where
-        go : (m : Check Index) → Bad ≡ index_read m → refuse 21 ≡ mapped (λ i. Some (head_of i)) (renumbered 21 m)
-        go (pass i) g = absurd (let z : ◌≡◌ {A = ℕ} 0 1 = cc in omega arith)
-        go (refuse j) g = refl
+    pub index_not : (k : ℕ) → refuse k ≡ m → refuse 21 ≡ index_by n m
+    unfolding index_by mapped renumbered
+    index_not k e = rw (index_by, ne_eqb n 0 f, ← e)
 
 -- as the definition judges it
 module _ (big : Bool) (p : List ℕ) (ps : List Part) (c : ℕ) where

@@ -7,7 +7,8 @@ use mathlib.Core.Option.{Option, some, none}
 use Prim.Native.Nat.{ℕ, ◌+◌, ◌-◌, ◌≤◌, ◌<◌}
 use native.Mathlib.Omega.{arith}
 use lib.ListN.{length, take, drop, get_or}
-use Rattle.octets.specs.Checked.{pass, refuse, ◌>>=◌}
+use Rattle.octets.specs.Checked.{pass, refuse, ◌>>=◌, mapped}
+use Rattle.octets.specs.Options.{found}
 use Rattle.octets.proofs.Checks.{pass_inj}
 use Rattle.octets.proofs.Parts.{part_cut}
 use Rattle.std.specs.Prelude.{Some, None, Result, Ok, Err}
@@ -20,16 +21,15 @@ use Rattle.bundle.specs.Scan.{start_of, size_of, scan_of}
 use Rattle.bundle.proofs.Sections.{body_part}
 use Rattle.index.specs.Index.{Index, Contribution, index_of, cell_of}
 use Rattle.index.specs.Cells.{cell_found}
-use Rattle.index.specs.Held.{head_of, index_read, index_in, ReadWell, probed_of}
-use Rattle.index.specs.Probing.{Probe, probe, found as at, absent as nowhere}
-use Rattle.index.specs.declared.cells.Cell.TheVariants.{Is, Missing as NoCell}
-use Rattle.index.specs.declared.probing.Probed.TheVariants.{Found as AtSlot, Absent as NoSlot}
+use Rattle.index.specs.Held.{head_of, index_in, Sized, Well, ReadWell, probed_of}
+use Rattle.index.specs.Probing.{probe}
+use Rattle.index.specs.declared.cells.Contribution.{Contribution as Cell}
+use Rattle.index.specs.declared.probing.Probed.{Probed}
 use Rattle.index.specs.declared.reading.IndexHead.{IndexHead}
-use Rattle.index.specs.declared.reading.IndexRead.TheVariants.{Good}
 use Rattle.index.proofs.Heads.{read_is, read_sized}
-use Rattle.index.proofs.Ends.{found_row}
+use Rattle.index.proofs.Ends.{FoundRow, found_row, probed_found, probed_absent}
 use Rattle.lookup.specs.Lookup.{absent, part, Package, package_of, index_for, place_in, part_place}
-use Rattle.lookup.specs.Answers.{coded, indexed, head_in, opened, package_in, Opened, table_index, index_code, RowHere, row_place, part_in}
+use Rattle.lookup.specs.Answers.{coded, indexed, head_in, opened, package_in, Opened, table_index, index_code, part_in}
 use Rattle.lookup.specs.declared.opening.PackageHead.{PackageHead}
 use Rattle.lookup.proofs.Packages.{package_refused}
 use Rattle.lookup.proofs.Told.{of_pass, of_refuse}
@@ -96,93 +96,99 @@ module _ (p : List ℕ) (h : PackageHead) (o : Opened p h) where
     table_is : table_index h t ≡ indexed (index_for (package_in p) (table_number t))
     table_is = ap (λ (z : PackageHead). table_index z t) o.head ∙ table_by t (package_in p)
 
-    pub table_none : None ≡ table_index h t → index_for (package_in p) (table_number t) ≡ none
+    pub table_none : None ≡ table_index h t → None ≡ found (index_for (package_in p) (table_number t))
     unfolding indexed
     table_none e = go (index_for (package_in p) (table_number t)) (e ∙ table_is)
       where
-        go : (i : Option Index) → None ≡ indexed i → i ≡ none
+        go : (i : Option Index) → None ≡ indexed i → None ≡ found i
         go (some i) f = absurd (let z : ◌≡◌ {A = ℕ} 0 1 = cc in omega arith)
         go none f = refl
 
-    pub part_none : (x section : ℕ) → None ≡ table_index h t → pass (absent 0) ≡ part_in (package_in p) (table_number t) x section
-    unfolding part_in
-    part_none x section e = sym (table_missing x _ _ (table_none e))
-
-    module _ (i : IndexHead) (e : Some i ≡ table_index h t) where
-      table_some : (j : Index) × (index_for (package_in p) (table_number t) ≡ some j) × (i ≡ head_of j)
+    -- s is the bytes of the index whose head is there
+    module _ (i : IndexHead) (e : Some i ≡ table_index h t) (s : List ℕ) (code : ℕ) (c : code ≡ index_code (table_number t)) (b : s ≡ body p (package_in p).parts code) where
+      read : (j : Index) × (index_for (package_in p) (table_number t) ≡ some j) × (index_of h.encoding.big s ≡ pass j) × (i ≡ head_of j)
       unfolding indexed
-      table_some = go (index_for (package_in p) (table_number t)) refl (e ∙ table_is)
+      read = go (index_for (package_in p) (table_number t)) refl (e ∙ table_is)
         where
+          known : (j : Index) → index_for (package_in p) (table_number t) ≡ some j → index_of h.encoding.big s ≡ pass j
+          known j f =
+              ap (λ (z : Bool). index_of z s) big_is
+              ∙ ap (index_of (package_in p).encoding.big) (b ∙ ap (body p (package_in p).parts) c)
+              ∙ index_known p (package_in p) o.is (table_number t) j f
+
           go : (m : Option Index) → index_for (package_in p) (table_number t) ≡ m → Some i ≡ indexed m
-              → (j : Index) × (index_for (package_in p) (table_number t) ≡ some j) × (i ≡ head_of j)
-          go (some j) f g = (j, f, cc)
+              → (j : Index) × (index_for (package_in p) (table_number t) ≡ some j) × (index_of h.encoding.big s ≡ pass j) × (i ≡ head_of j)
+          go (some j) f g = (j, f, known j f, cc)
           go none f g = absurd (let z : ◌≡◌ {A = ℕ} 0 1 = cc in omega arith)
 
-      -- s is the index's bytes
-      module _ (s : List ℕ) (code : ℕ) (c : code ≡ index_code (table_number t)) (b : s ≡ body p (package_in p).parts code) where
-        read : index_of h.encoding.big s ≡ pass table_some.0
-        read =
-            ap (λ (z : Bool). index_of z s) big_is
-            ∙ ap (index_of (package_in p).encoding.big) (b ∙ ap (body p (package_in p).parts) c)
-            ∙ index_known p (package_in p) o.is (table_number t) table_some.0 table_some.1
+      well : ReadWell h.encoding.big s i
+      unfolding mapped
+      well = record { is = ap (mapped head_of) read.2 ∙ ap pass (sym read.3) }
 
-        pub search_well : ReadWell h.encoding.big s i
-        unfolding index_read
-        search_well = record { is = ap Good table_some.2 ∙ sym (ap index_read read) }
+      pub table_sized : Sized s i
+      table_sized = read_sized h.encoding.big s i well
 
-        pub search_in : index_for (package_in p) (table_number t) ≡ some (index_in h.encoding.big s i)
-        search_in =
-            let same : table_some.0 ≡ index_in h.encoding.big s i = pass_inj (sym read ∙ read_is h.encoding.big s i search_well) in
-            table_some.1 ∙ ap some same
+      pub table_some : Some (index_in h.encoding.big s i) ≡ found (index_for (package_in p) (table_number t))
+      table_some =
+          let same : index_in h.encoding.big s i ≡ read.0 = pass_inj (sym (read_is h.encoding.big s i well) ∙ read.2) in
+          ap Some same ∙ sym (ap found read.1)
 
-        module _ (x slot looks : ℕ) (f : AtSlot slot looks ≡ probed_of (probe (index_in h.encoding.big s i) x)) where
-          pub search_row : RowHere h.encoding.big s i slot
-          search_row =
-              let r = found_row h.encoding.big s i search_well x slot looks f in
-              record { sized = read_sized h.encoding.big s i search_well; inside = r.inside; counted = r.counted; within = r.within }
-
-          pub search_found : (section : ℕ) → (row_place p h.encoding.big s i slot section >>= λ q. pass (part q.start q.size looks)) ≡ part_in (package_in p) (table_number t) x section
-          unfolding part_in row_place probed_of
-          search_found section =
-              sym (row_found x (λ j row. part_place (package_in p) j row section) (index_for (package_in p) (table_number t)) (index_in h.encoding.big s i) search_in slot looks (slot_of (probe (index_in h.encoding.big s i) x) f))
-            where
-              slot_of : (r : Probe) → AtSlot slot looks ≡ probed_of r → r ≡ at slot looks
-              slot_of (at a l) g = cc
-              slot_of (nowhere l) g = absurd (let z : ◌≡◌ {A = ℕ} 0 1 = cc in omega arith)
-
-        pub search_absent : (x looks : ℕ) → NoSlot looks ≡ probed_of (probe (index_in h.encoding.big s i) x) → (section : ℕ)
-            → pass (absent looks) ≡ part_in (package_in p) (table_number t) x section
-        unfolding part_in probed_of
-        search_absent x looks f section =
-            sym (row_absent x (λ j row. part_place (package_in p) j row section) (index_for (package_in p) (table_number t)) (index_in h.encoding.big s i) search_in looks (none_of (probe (index_in h.encoding.big s i) x) f))
-          where
-            none_of : (r : Probe) → NoSlot looks ≡ probed_of r → r ≡ nowhere looks
-            none_of (at a l) g = absurd (let z : ◌≡◌ {A = ℕ} 0 1 = cc in omega arith)
-            none_of (nowhere l) g = cc
-
-  -- ---- the cell of a row
-  module _ (s : List ℕ) (i : IndexHead) (slot section row : ℕ) (r : row ≡ get_or (index_in h.encoding.big s i).rows slot 0) where
-    pub row_missing : NoCell ≡ cell_found (cell_of (index_in h.encoding.big s i) row section)
-        → pass (record { start = 0; size = 0 }) ≡ row_place p h.encoding.big s i slot section
-    unfolding row_place cell_found
-    row_missing e = sym (column_missing (package_in p) (index_in h.encoding.big s i) _ section (go (cell_of (index_in h.encoding.big s i) row section) refl e))
+    -- ---- the index that is there
+    pub absent_in : (x section : ℕ) → None ≡ found (index_for (package_in p) (table_number t)) → pass (absent 0) ≡ part_in (package_in p) (table_number t) x section
+    unfolding part_in
+    absent_in x section e = sym (table_missing x _ _ (go (index_for (package_in p) (table_number t)) e))
       where
-        go : (m : Option Contribution) → cell_of (index_in h.encoding.big s i) row section ≡ m → NoCell ≡ cell_found m
-            → cell_of (index_in h.encoding.big s i) (get_or (index_in h.encoding.big s i).rows slot 0) section ≡ none
-        go (some c) f g = absurd (let z : ◌≡◌ {A = ℕ} 0 1 = cc in omega arith)
-        go none f g = rw r at f
+        go : (i : Option Index) → None ≡ found i → i ≡ none
+        go (some i) f = absurd (let z : ◌≡◌ {A = ℕ} 0 1 = cc in omega arith)
+        go none f = refl
 
-    pub row_placed : (offset size : ℕ) → Is offset size ≡ cell_found (cell_of (index_in h.encoding.big s i) row section)
-        → place_in (first_part (package_in p).parts section) (record { offset = offset; size = size }) ≡ row_place p h.encoding.big s i slot section
-    unfolding row_place cell_found
-    row_placed offset size e = go (cell_of (index_in h.encoding.big s i) row section) refl e
-      where
-        go : (m : Option Contribution) → cell_of (index_in h.encoding.big s i) row section ≡ m → Is offset size ≡ cell_found m
-            → place_in (first_part (package_in p).parts section) (record { offset = offset; size = size })
-            ≡ part_place (package_in p) (index_in h.encoding.big s i) (get_or (index_in h.encoding.big s i).rows slot 0) section
-        go (some c) f g =
-            let a : offset ≡ c.offset = cc in
-            let n : size ≡ c.size = cc in
-            ap (place_in (first_part (package_in p).parts section)) (λ i. record { offset = a i; size = n i })
-            ∙ sym (column_present (package_in p) (index_in h.encoding.big s i) _ section c (rw r at f))
-        go none f g = absurd (let z : ◌≡◌ {A = ℕ} 0 1 = cc in omega arith)
+    module _ (i : Index) (e : Some i ≡ found (index_for (package_in p) (table_number t))) where
+      there : index_for (package_in p) (table_number t) ≡ some i
+      there = go (index_for (package_in p) (table_number t)) e
+        where
+          go : (m : Option Index) → Some i ≡ found m → m ≡ some i
+          go (some j) f = cc
+          go none f = absurd (let z : ◌≡◌ {A = ℕ} 0 1 = cc in omega arith)
+
+      pub index_well : Well i
+      index_well = record {
+        big = (package_in p).encoding.big;
+        bytes = body p (package_in p).parts (index_code (table_number t));
+        is = index_known p (package_in p) o.is (table_number t) i there;
+      }
+
+      module _ (x : ℕ) (q : Probed) (f : q ≡ probed_of (probe i x)) where
+        pub search_absent : q.slot ≡ None → (section : ℕ) → pass (absent q.looks) ≡ part_in (package_in p) (table_number t) x section
+        unfolding part_in
+        search_absent g section = sym (row_absent x (λ j row. part_place (package_in p) j row section) _ i there q.looks (probed_absent q (probe i x) f g))
+
+        module _ (slot : ℕ) (g : q.slot ≡ Some slot) where
+          pub search_row : FoundRow i slot q.looks
+          search_row = found_row i index_well x slot q.looks (probed_found q (probe i x) f slot g)
+
+          pub search_found : (section : ℕ) → (part_place (package_in p) i (get_or i.rows slot 0) section >>= λ s. pass (part s.start s.size q.looks)) ≡ part_in (package_in p) (table_number t) x section
+          unfolding part_in
+          search_found section = sym (row_found x (λ j row. part_place (package_in p) j row section) _ i there slot q.looks (probed_found q (probe i x) f slot g))
+
+-- ---- the cell of a row
+module _ (k : Package) (i : Index) (row section : ℕ) where
+  pub row_missing : None ≡ cell_found (cell_of i row section) → pass (record { start = 0; size = 0 }) ≡ part_place k i row section
+  unfolding cell_found
+  row_missing e = sym (column_missing k i row section (go (cell_of i row section) e))
+    where
+      go : (m : Option Contribution) → None ≡ cell_found m → m ≡ none
+      go (some c) g = absurd (let z : ◌≡◌ {A = ℕ} 0 1 = cc in omega arith)
+      go none g = refl
+
+  pub row_placed : (v : Cell) → Some v ≡ cell_found (cell_of i row section)
+      → place_in (first_part k.parts section) (record { offset = v.offset; size = v.size }) ≡ part_place k i row section
+  unfolding cell_found
+  row_placed v e = go (cell_of i row section) refl e
+    where
+      go : (m : Option Contribution) → cell_of i row section ≡ m → Some v ≡ cell_found m
+          → place_in (first_part k.parts section) (record { offset = v.offset; size = v.size }) ≡ part_place k i row section
+      go (some c) f g =
+          let same : v ≡ record { offset = c.offset; size = c.size } = cc in
+          ap (λ (z : Cell). place_in (first_part k.parts section) (record { offset = z.offset; size = z.size })) same
+          ∙ sym (column_present k i row section c f)
+      go none f g = absurd (let z : ◌≡◌ {A = ℕ} 0 1 = cc in omega arith)

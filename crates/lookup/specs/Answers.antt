@@ -99,18 +99,7 @@ table_index h «Type» = h.tu
 unfoldable pub index_code : ℕ → ℕ
 index_code table = elim (eqb table compilation_table) [ true ↦ cu_index_code | false ↦ tu_index_code ]
 
--- the slot of an index holds a row
-pub record RowHere (big : Bool) (s : List ℕ) (h : IndexHead) (slot : ℕ) : Type 0 where
-  pub sized : Sized s h
-  pub inside : slot < h.slots
-  pub counted : 0 < get_or (index_in big s h).rows slot 0
-  pub within : get_or (index_in big s h).rows slot 0 ≤ h.units
-
 -- ---- the parts of the definitions
--- the part of the row in a slot of an index
-unfoldable pub row_place : List ℕ → Bool → List ℕ → IndexHead → ℕ → ℕ → Check Place
-row_place p big s h slot section = part_place (package_in p) (index_in big s h) (get_or (index_in big s h).rows slot 0) section
-
 abbrev pub entries_from : ℕ → ℕ → ℕ
 entries_from version width = elim (eqb version index5) [ true ↦ width + width | false ↦ 0 ]
 

@@ -9,7 +9,7 @@ ghost use Rattle.lookup.specs.Answers.{empty, opened, single, index_by, Alone, E
 
 use bundle::encoding::ObjectEncoding;
 use bundle::{Item, Scan};
-use index::reading::{IndexHead, IndexRead};
+use index::reading::{Index, IndexHead};
 use numbers::limits::PACKAGE_LIMIT;
 use numbers::refusals::Refusal;
 use numbers::sections::{CU_INDEX, TU_INDEX};
@@ -63,9 +63,9 @@ fn read_index(
     }
     let start = sections.start[code];
     let end = start + sections.size[code];
-    match index::reading::read_index(big, &package[start..end]) {
-        IndexRead::Good(head) => Ok(Some(head)),
-        IndexRead::Bad => Err(Refusal::BadPackage),
+    match Index::read(big, &package[start..end]) {
+        Ok(index) => Ok(Some(index.head())),
+        Err(_) => Err(Refusal::BadPackage),
     }
 }
 

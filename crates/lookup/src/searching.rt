@@ -1,14 +1,21 @@
 // Both lookups: where a part or a string lies in a package, or absent, or refused, with the number of slots looked at.
-ghost use Rattle.std.specs.Prelude.{◌≡◌, true, ◌+◌, ◌≤◌, ◌<◌, ◌^◌, length};
+ghost use Rattle.std.specs.Prelude.{◌≡◌, true, ◌+◌, ◌≤◌, ◌<◌, length};
 ghost use Rattle.numbers.specs.Refused.{told};
 ghost use Rattle.numbers.specs.Sections.{section_codes};
 ghost use Rattle.numbers.specs.Tabled.{table_number};
 ghost use Rattle.octets.specs.Checked.{mapped};
+ghost use Rattle.octets.specs.Options.{found};
 ghost use Rattle.bundle.specs.Bundle.{body, first_part};
 ghost use Rattle.bundle.specs.Encoding.{encoding_good};
-ghost use Rattle.lookup.specs.Lookup.{looked_up, place_in, string_found, string_place};
+ghost use Rattle.lookup.specs.Lookup.{
+  index_for,
+  looked_up,
+  part_place,
+  place_in,
+  string_found,
+  string_place,
+};
 ghost use Rattle.lookup.specs.Answers.{
-  RowHere,
   entries_from,
   found_as,
   found_in,
@@ -16,7 +23,6 @@ ghost use Rattle.lookup.specs.Answers.{
   package_in,
   part_in,
   placed,
-  row_place,
   table_index,
   text_place,
   version_by,
@@ -24,9 +30,9 @@ ghost use Rattle.lookup.specs.Answers.{
 
 use crate::opening::PackageHead;
 use crate::package::Package;
-use index::cells::Cell;
+use index::cells::Contribution;
 use index::probing::Probed;
-use index::reading::IndexHead;
+use index::reading::{Index, IndexHead};
 use numbers::refusals::Refusal;
 use numbers::sections::{CU_INDEX, STR, TU_INDEX};
 use numbers::tables::{INDEX_2, INDEX_5, Table};
@@ -64,7 +70,7 @@ impl PackageHead {
             && self.tu.is_none_or(|i| i.version == version)
     }
 
-    pub fn index_for(&self, table: Table) -> Option<IndexHead>
+    fn index_for(&self, table: Table) -> Option<IndexHead>
         ensures { result ≡ table_index self.now table }
     {
         match table {
@@ -74,8 +80,9 @@ impl PackageHead {
     }
 }
 
+// The section that the index of a table lies in.
 #[tactic(auto, unfolding(crate::specs::Answers::index_code))]
-pub fn index_code(table: Table) -> usize
+fn index_code(table: Table) -> usize
     ensures { result ≡ index_code (table_number table) }
 {
     match table {
@@ -96,37 +103,39 @@ impl<'a> Package<'a> {
         &self.bytes[start..end]
     }
 
-    // 24: a contribution to a section. Its numbers have 32 bits.
-    fn place_in(&self, section: usize, offset: usize, size: usize) -> Result<Place, Refusal>
-        requires { (section < section_codes) × (offset < 2 ^ 32) × (size < 2 ^ 32) }
-        ensures { mapped placed (told result) ≡ place_in (first_part (package_in self.now.bytes.now).parts section) (record { offset = «offset»; size = «size» }) }
+    // The index of a table, if it is there.
+    pub fn index(&self, table: Table) -> Option<Index<'a>>
+        ensures { result ≡ found (index_for (package_in self.now.bytes.now) (table_number table)) }
+    {
+        let head = self.head.index_for(table)?;
+        let bytes = self.section_bytes(index_code(table));
+        Some(Index::of(self.head.encoding.big, bytes, head))
+    }
+
+    // 24: a contribution to a section.
+    fn place_in(&self, section: usize, cell: Contribution) -> Result<Place, Refusal>
+        requires { section < section_codes }
+        ensures { mapped placed (told result) ≡ place_in (first_part (package_in self.now.bytes.now).parts section) (record { offset = cell.offset; size = cell.size }) }
     {
         let sections = &self.head.sections;
-        if sections.count[section] == 0 || sections.size[section] < offset + size {
+        let size = sections.size[section];
+        if sections.count[section] == 0 || size < cell.offset || size - cell.offset < cell.size {
             return Err(Refusal::PartOutside);
         }
         Ok(Place {
-            start: sections.start[section] + offset,
-            size,
+            start: sections.start[section] + cell.offset,
+            size: cell.size,
         })
     }
 
-    // The part of a row's section. The caller has found the row in the slot, in the index whose bytes are s.
-    fn row_part(
-        &self,
-        s: &[u8],
-        index: IndexHead,
-        slot: usize,
-        section: usize,
-    ) -> Result<Place, Refusal>
-        requires { (section < section_codes) × (RowHere self.now.head.encoding.big s.now index slot) }
-        ensures { mapped placed (told result) ≡ row_place self.now.bytes.now self.now.head.encoding.big s.now index slot section }
+    // The part of a section in a row of an index.
+    fn row_part(&self, index: &Index, row: usize, section: usize) -> Result<Place, Refusal>
+        requires { (section < section_codes) × (0 < row) × (row ≤ index.now.units) }
+        ensures { mapped placed (told result) ≡ part_place (package_in self.now.bytes.now) index.now row section }
     {
-        let big = self.head.encoding.big;
-        let row = index::reading::row_at(big, s, index, slot);
-        match index::cells::cell_of(big, s, index, row, section) {
-            Cell::Is(offset, size) => self.place_in(section, offset, size),
-            Cell::Missing => Ok(Place { start: 0, size: 0 }),
+        match index.cell_of(row, section) {
+            Some(cell) => self.place_in(section, cell),
+            None => Ok(Place { start: 0, size: 0 }),
         }
     }
 
@@ -135,23 +144,21 @@ impl<'a> Package<'a> {
         requires { section < section_codes }
         ensures { mapped found_in (told result) ≡ part_in (package_in self.now.bytes.now) (table_number table) identity section }
     {
-        let Some(index) = self.head.index_for(table) else {
+        let Some(index) = self.index(table) else {
             return Ok(Located {
                 place: None,
                 looks: 0,
             });
         };
-        let s = self.section_bytes(index_code(table));
-        match index::probing::find(self.head.encoding.big, s, index, identity) {
-            Probed::Found(slot, looks) => {
-                let place = self.row_part(s, index, slot, section)?;
-                Ok(Located {
-                    place: Some(place),
-                    looks,
-                })
-            }
-            Probed::Absent(looks) => Ok(Located { place: None, looks }),
-        }
+        let Probed { slot, looks } = index.find(identity);
+        let Some(slot) = slot else {
+            return Ok(Located { place: None, looks });
+        };
+        let place = self.row_part(&index, index.row_at(slot), section)?;
+        Ok(Located {
+            place: Some(place),
+            looks,
+        })
     }
 
     // The part of a section, code 1 to 10, that a unit contributes. Where its column is missing the part is empty, and its place, which is free, is 0.

@@ -12,7 +12,6 @@ ghost use Rattle.octets.specs.Octets.{
   bytes_of,
   numbers_of,
   placed,
-  zeros,
   zero_marks,
 };
 ghost use Rattle.octets.specs.Lists.{all, same, FirstZero};
@@ -27,46 +26,6 @@ const EIGHT: usize = 8;
 const BITS: u32 = 8;
 
 const LOW_BITS: u64 = 0x7F7F_7F7F_7F7F_7F7F;
-
-// ---- casts. That of an element asks a proof that the element fits; that of a parameter asks none.
-pub fn wide(x: u32) -> usize
-    ensures { result ≡ x }
-{
-    x as usize
-}
-
-pub fn wide64(x: u32) -> u64
-    ensures { result ≡ x }
-{
-    x as u64
-}
-
-pub fn wide_byte(x: u8) -> u64
-    ensures { result ≡ x }
-{
-    x as u64
-}
-
-// A length or an offset as 64 bits, and back.
-pub fn long(x: usize) -> u64
-    ensures { result ≡ x }
-{
-    x as u64
-}
-
-pub fn size(x: u64) -> usize
-    ensures { result ≡ x }
-{
-    x as usize
-}
-
-// The caller keeps x below 2 to the power 32.
-pub fn narrow(x: usize) -> u32
-    requires { x < 2 ^ 32 }
-    ensures { result ≡ x }
-{
-    x as u32
-}
 
 // ---- numbers of two, four and eight bytes
 pub trait Number {
@@ -339,20 +298,6 @@ pub fn put_bytes(d: &mut [u8], at: usize, s: &[u8])
     ensures { d.new ≡ placed d.old at s.now }
 {
     d[at..at + s.len()].copy_from_slice(s);
-}
-
-#[tactic(auto, unfolding(crate::specs::Octets::zeros))]
-pub fn clear_bytes(s: &mut [u8])
-    ensures { s.new ≡ zeros (length s.old) }
-{
-    s.fill(0);
-}
-
-#[tactic(auto, unfolding(crate::specs::Octets::zeros))]
-pub fn clear_words(s: &mut [u32])
-    ensures { s.new ≡ zeros (length s.old) }
-{
-    s.fill(0);
 }
 
 // ---- bytes compared

@@ -1,4 +1,4 @@
--- The package, and the three kinds of answer.
+-- The package, and the answer: one of the three kinds of `answers/specs/Answers.antt`.
 -- Assumes nothing.
 use Rattle.std.specs.Prelude.{Bool, true, false, List, [], ◌∷◌, ◌++◌, map, ℕ, ◌+◌, ◌*◌, ◌/◌, ◌%◌, eqb, leb, length}
 use Rattle.std.proofs.Math.Option.{Option, some, none}
@@ -8,6 +8,8 @@ use Rattle.numbers.specs.Refusals.{bad_length, work_short, section_too_long}
 use Rattle.numbers.specs.Limits.{work_for_word, bundle_limit, section_limit}
 use Rattle.octets.specs.Lists.{joined, those, all}
 use Rattle.octets.specs.Checked.{Check, pass, refuse, ◌>>=◌, require}
+pub use Rattle.answers.specs.Answers.{Answer, refused, short, made}
+unfoldable pub use Rattle.answers.specs.Answers.{answered}
 use Rattle.bundle.specs.Bundle.{Object, bundle_of, length_good}
 use Rattle.bundle.specs.Written.{Section, Sections, written}
 use Rattle.strings.specs.Strings.{first_uses, str_of}
@@ -103,16 +105,6 @@ judged b w = do
   let ss = package_sections k.big (first_word k.objects % 256) f
   _ ← require (all (λ s. leb (length s.bytes) section_limit) ss) section_too_long
   pass (written k.big (package_objects k.objects ss))
-
-pub data Answer : Type 0 where
-  refused : ℕ → Answer
-  -- 18, with the length needed
-  short : ℕ → Answer
-  made : List ℕ → Answer
-
-unfoldable pub answered : Check (List ℕ) → ℕ → Answer
-answered (refuse n) o = refused n
-answered (pass p) o = elim (leb (length p) o) [ true ↦ made p | false ↦ short (length p) ]
 
 -- a bundle, with w words of work and an output of o bytes
 unfoldable pub packed : List ℕ → ℕ → ℕ → Answer

@@ -7,7 +7,9 @@ use Prim.Native.Nat.{ℕ, ◌+◌, ◌*◌, ◌≤◌}
 use native.Mathlib.Omega.{arith}
 use lib.ListN.{length, drop, length-append}
 use Rattle.octets.specs.Lists.{joined}
-use Rattle.octets.specs.Checked.{Check, pass, refuse}
+use Rattle.std.specs.Prelude.{Result, Ok, Err}
+use Rattle.numbers.specs.declared.refusals.Refusal.{Refusal}
+use Rattle.octets.specs.Checked.{pass, ◌>>=◌}
 use Rattle.octets.proofs.Parts.{length_part}
 use Rattle.bundle.specs.Bundle.{Part, Item, Object, items, leading, body}
 use Rattle.bundle.specs.Encoding.{Encoding, encoding_of}
@@ -31,20 +33,20 @@ use Rattle.package.specs.Pack.{all_used}
 use Rattle.package.proofs.Each.{each_head, each_tail}
 use Rattle.package.proofs.Pieces.{PieceFacts, PiecesFacts, bytes_of}
 use Rattle.package.proofs.Inputs.{opened_parts, pieced, opened_of, input_parts}
-use Rattle.package.proofs.OverObjects.{input_numbered}
 use Rattle.kept.specs.State.{Held}
 use Rattle.kept.specs.declared.state.InProgress.{InProgress}
 use Rattle.filing.specs.Judged.{InputIs}
-use Rattle.filing.specs.declared.objects.InputFiled.{InputFiled}
-use Rattle.filing.specs.State.{words_in, with_strings, StringsKept, OnlyStore}
-use Rattle.filing.specs.Answers.{AtUnit}
+use Rattle.filing.specs.declared.input.InputObject.{InputObject}
+use Rattle.strings.specs.declared.table.StringTable.{StringTable}
+use Rattle.filing.specs.Tells.{Tells}
+use Rattle.filing.specs.State.{words_in, with_strings, OnlyStore}
 use Rattle.filing.specs.ByObject.{StringsIn, AtObject, InputRoom, InputRead, InputAsked, InputAnswered}
 use Rattle.filing.proofs.Growing.{input_room}
 use Rattle.filing.proofs.Entering.{five_is, object_enter}
 use Rattle.filing.proofs.Snoc.{used_snoc, strings_stay}
-use Rattle.packer.specs.declared.objects.UnitsAdded.{UnitsAdded}
-use Rattle.packer.specs.declared.objects.ObjectFiled.{ObjectFiled}
-use Rattle.packer.specs.Objects.{sections_from, behind_from, Ahead, InputReady, UnitsAddedIs, UnitsAnswered, UnitsThen, ObjectIs}
+use Rattle.packer.specs.declared.objects.ObjectHead.{ObjectHead}
+use Rattle.filing.proofs.Telling.{tells_pass, tells_first, tells_then}
+use Rattle.packer.specs.Objects.{sections_from, behind_from, Ahead, InputReady, UnitsAdded, UnitsAnswered, object_units, ObjectFiled}
 
 -- ---- an object that passed
 pub record ObjectParts (b : List ℕ) (e : Encoding) (ps : List Part) (i : Input) : Type 0 where
@@ -124,7 +126,7 @@ module _ (b : List ℕ) (from : ℕ) (h : Ahead b from) where
     next_is = scan_next scan from (sections_from b from) scan_is
 
     module _ (big : Bool) (first : ℕ) (w : List ℕ) (st : InProgress) where
-      pub read_requires : (bases : BySection ℕ) (is : List Input) (us : List Filed) → AtObject b big first from w st bases is us → InputAsked b scan st w
+      pub read_requires : (bases : BySection ℕ) (is : List Input) (us : List Filed) → AtObject b big first from w st bases is us → InputAsked b scan st.strings w
       read_requires bases is us a = record {
         at = from;
         parts = sections_from b from;
@@ -134,77 +136,73 @@ module _ (b : List ℕ) (from : ℕ) (h : Ahead b from) where
         kept = a.strings;
       }
 
-      module _ (word : ℕ) (v : List ℕ) (r : InputFiled) (read : InputAnswered b big first word scan st w v r) (frame : OnlyStore (words_in b) w v)
-          (bases : BySection ℕ) (is : List Input) (us : List Filed) (a : AtObject b big first from w st bases is us) where
-        abbrev checked : Check Input
-        checked = input_of b big first (record { word = word; parts = sections_from b from })
+      module _ (word : ℕ) (v : List ℕ) (t : StringTable) (frame : OnlyStore (words_in b) w v) (bases : BySection ℕ) (is : List Input) (us : List Filed) (a : AtObject b big first from w st bases is us) where
+        abbrev object : Object
+        object = record { word = word; parts = sections_from b from }
 
-        answered : InputRead b v st (all_used is) checked r
-        answered = read from (sections_from b from) (all_used is) scan_is (object_room big first w st bases is us a) a.strings
+        abbrev head : ObjectHead
+        head = record { big = big; first = first; word = word; from = from }
+
+        -- what is held with the strings
+        abbrev read_st : InProgress
+        read_st = with_strings st t
+
+        answered : (r : Result InputObject Refusal) → InputAnswered b big first word scan st.strings t w v r → InputRead b v (all_used is) t (input_of b big first object) r
+        answered r read = read from (sections_from b from) (all_used is) scan_is (object_room big first w st bases is us a) a.strings
 
         -- the object is refused
-        pub object_refused : (r.code ≡ 0 → ⊥) → (u : ObjectFiled) → u.code ≡ r.code → (v' : List ℕ) → ObjectIs b big first v' bases is us checked u
-        unfolding InputRead ObjectIs
-        object_refused z u q v' = go checked answered
-          where
-            go : (m : Check Input) → InputRead b v st (all_used is) m r → ObjectIs b big first v' bases is us m u
-            go (pass i) f = absurd (z f.0)
-            go (refuse m) f = q ∙ f
+        pub object_refused : (r : Refusal) → InputAnswered b big first word scan st.strings t w v (Err r) → (v' : List ℕ) (next : InProgress)
+            → Tells (ObjectFiled b head v' next bases is us) (object_units b big first bases us object) (Err r)
+        object_refused r read v' next = tells_first _ r (answered (Err r) read)
 
         -- it is read
-        pub record ObjectRead : Type 0 where
-          pub i : Input
-          pub is_checked : checked ≡ pass i
-          pub parts : ObjectParts b (encoding_of big first) (sections_from b from) i
-          pub input : InputIs b r.input i
-          pub strings : StringsIn b v r.st.strings (all_used is ++ used_in i.pieces)
-          pub ready : InputReady b r.input i from v r.st bases us
+        module _ (x : InputObject) (read : InputAnswered b big first word scan st.strings t w v (Ok x)) where
+          pub record ObjectRead (i : Input) : Type 0 where
+            pub is_checked : input_of b big first object ≡ pass i
+            pub parts : ObjectParts b (encoding_of big first) (sections_from b from) i
+            pub input : InputIs b x i
+            pub strings : StringsIn b v t (all_used is ++ used_in i.pieces)
+            pub ready : InputReady b x i from v read_st bases us
 
-        pub object_read : r.code ≡ 0 → ObjectRead
-        unfolding InputRead
-        object_read z = go checked refl answered
-          where
-            go : (m : Check Input) → checked ≡ m → InputRead b v st (all_used is) m r → ObjectRead
-            go (pass i) e f =
-                let p = object_parts b big first (record { word = word; parts = sections_from b from }) i e in
-                let at : AtUnit b r.input i from v (with_strings st r.st.strings) bases us [] =
-                object_enter b big first from w v st r.st.strings bases is us r.input i from a frame f.1 (f.1.encoding ∙ p.encoding) (omega arith) h.within in
-                record {
-                  i = i;
-                  is_checked = e;
-                  parts = p;
-                  input = f.1;
-                  strings = f.3;
-                  ready = record {
-                    at_unit = subst (λ (s : InProgress). AtUnit b r.input i from v s bases us []) (sym f.2) at;
-                    units = p.units;
-                    sizes = λ c. subst (λ (s : List ℕ). from + length s ≤ behind_from b from) (sym (p.bytes c)) (sizes_behind c);
-                  };
-                }
-            go (refuse m) e f = absurd (let g = (input_numbered b big first (record { word = word; parts = sections_from b from })).is m e in let y : m ≡ 0 = sym f ∙ z in omega arith)
+          read_as : (i : Input) → input_of b big first object ≡ pass i → InputIs b x i × StringsIn b v t (all_used is ++ used_in i.pieces) → ObjectRead i
+          read_as i e f =
+              let p = object_parts b big first object i e in
+              record {
+                is_checked = e;
+                parts = p;
+                input = f.0;
+                strings = f.1;
+                ready = record {
+                  at_unit = object_enter b big first from w v st t bases is us x i from a frame f.0 (f.0.encoding ∙ p.encoding) (omega arith) h.within;
+                  units = p.units;
+                  sizes = λ c. subst (λ (s : List ℕ). from + length s ≤ behind_from b from) (sym (p.bytes c)) (sizes_behind c);
+                };
+              }
 
-        -- behind its units
-        module _ (z : r.code ≡ 0) (v' : List ℕ) (q : UnitsAdded) (added : UnitsAnswered b r.input from r.st v v' q) where
-          at_next : (d : ObjectRead) (us' : List Filed) → Held r.input.encoding.five b (words_in b) (behind_from b from) v' q.st (grown bases d.i) us' → StringsKept (words_in b) v v' r.st q.st
-              → AtObject b big first scan.next v' q.st (grown bases d.i) (is ++ (d.i ∷ [])) us'
-          at_next d us' k s =
-              let x = r.input.encoding in
-              subst (λ (place : ℕ). AtObject b big first place v' q.st (grown bases d.i) (is ++ (d.i ∷ [])) us') (sym next_is)
-              (record {
-                held = subst (λ (f : Bool). Held f b (words_in b) (behind_from b from) v' q.st (grown bases d.i) us') (five_is x (encoding_of big first) (d.input.encoding ∙ d.parts.encoding)) k;
-                strings = strings_stay b v v' r.st q.st is d.i d.strings s;
-                used = used_behind (encoding_is x) (sound x) (d.i.bytes 6) (d.i.bytes 11) is d.i from _
-                    (subst (λ (e : Encoding). PiecesFacts e (d.i.bytes 6) (d.i.bytes 11) d.i.pieces) (sym (d.input.encoding ∙ d.parts.encoding)) d.parts.pieces)
-                    a.used (d.ready.sizes 6);
-              })
+          pub object_read : (i : Input) × ObjectRead i
+          object_read = let p = (answered (Ok x) read).passes x refl in (p.0, read_as p.0 p.1 p.2)
 
-          pub object_filed : ObjectIs b big first v' bases is us checked (record { code = q.code; next = scan.next; st = q.st })
-          unfolding ObjectIs UnitsThen UnitsAddedIs
-          object_filed =
-              let d = object_read z in
-              rw d.is_checked (go d (units_in d.i bases us [] d.i.units) (added d.i bases us d.ready))
-            where
-              go : (d : ObjectRead) (m : Check (List Filed)) → UnitsAddedIs b r.input d.i (behind_from b from) v v' r.st bases us m q
-                  → UnitsThen b big first v' bases is us d.i m (record { code = q.code; next = scan.next; st = q.st })
-              go d (pass hs) f = (f.0, at_next d (us ++ hs) f.1 f.2)
-              go d (refuse m) f = f
+          -- behind its units
+          module _ (v' : List ℕ) (next : InProgress) where
+            at_next : (i : Input) → ObjectRead i → (here : List Filed) → UnitsAdded b x i (behind_from b from) v v' read_st next bases us here
+                → AtObject b big first scan.next v' next (grown bases i) (is ++ (i ∷ [])) (us ++ here)
+            at_next i d here k =
+                subst (λ (place : ℕ). AtObject b big first place v' next (grown bases i) (is ++ (i ∷ [])) (us ++ here)) (sym next_is)
+                (record {
+                  held = subst (λ (f : Bool). Held f b (words_in b) (behind_from b from) v' next (grown bases i) (us ++ here)) (five_is x.encoding (encoding_of big first) (d.input.encoding ∙ d.parts.encoding)) k.held;
+                  strings = strings_stay b v v' read_st next is i d.strings k.strings;
+                  used = used_behind (encoding_is x.encoding) (sound x.encoding) (i.bytes 6) (i.bytes 11) is i from _
+                      (subst (λ (e : Encoding). PiecesFacts e (i.bytes 6) (i.bytes 11) i.pieces) (sym (d.input.encoding ∙ d.parts.encoding)) d.parts.pieces)
+                      a.used (d.ready.sizes 6);
+                })
+
+            -- a unit is refused
+            pub units_unfiled : (r : Refusal) (after : InProgress) → UnitsAnswered b x from read_st next v v' (Err r) → Tells (ObjectFiled b head v' after bases is us) (object_units b big first bases us object) (Err r)
+            units_unfiled r after added =
+                tells_then _ x (Err r) (answered (Ok x) read) (λ i e f. let d = read_as i e f in tells_first _ r (added i bases us d.ready))
+
+            pub object_filed : UnitsAnswered b x from read_st next v v' (Ok tt) → Tells (ObjectFiled b head v' next bases is us) (object_units b big first bases us object) (Ok scan.next)
+            object_filed added =
+                tells_then _ x (Ok scan.next) (answered (Ok x) read)
+                (λ i e f. let d = read_as i e f in tells_then _ (tt {0}) (Ok scan.next) (added i bases us d.ready)
+                (λ here q k. tells_pass scan.next (i, here) refl (record { place_is = next_is; held = at_next i d here k })))

@@ -10,24 +10,21 @@ use lib.ListN.{length}
 use borrow.Author.Tests.{le-leb, lt-leb, leb-true, eqb-true}
 use Rattle.numbers.specs.Limits.{work_for_word}
 use Rattle.octets.specs.Octets.{zeros}
-use Rattle.octets.specs.Checked.{Check, pass, refuse, mapped}
+use Rattle.octets.specs.Checked.{pass, refuse, mapped}
 use Rattle.octets.proofs.Checks.{fails, passes, then_pass, then_refuse, and_left, and_right}
 use Rattle.bundle.specs.Bundle.{Bundle, bundle_of, length_good}
 use Rattle.bundle.proofs.WordsAnswered.{words_broken}
-use Rattle.package.specs.Filing.{Filing, filing_of}
+use Rattle.package.specs.Filing.{filing_of}
 use Rattle.package.specs.Pack.{Answer, judged, packed, answered}
-use Rattle.package.proofs.OverObjects.{filing_numbered}
 use Rattle.finish.specs.Finish.{finished_of, output_of, package_in, AllFiled}
 use Rattle.finish.specs.declared.whole.Finished.{Finished}
 use Rattle.finish.specs.declared.whole.Finished.TheVariants.{Refused}
 use Rattle.finish.proofs.Answers.{refused_answer, refused_output}
 use Rattle.finish.proofs.Judging.{judged_is, packed_is}
 use Rattle.kept.specs.declared.state.InProgress.{InProgress}
-use Rattle.packer.specs.Objects.{ObjectsAre}
 use Rattle.packer.specs.Counted.{packing_for, packing_of}
 use Rattle.packer.specs.declared.Packing.{Packing}
 use Rattle.packer.proofs.Counted.{packing_refused, packing_is, repeats_filed, namesakes_filed}
-use Rattle.packer.specs.declared.objects.ObjectsFiled.{ObjectsFiled}
 
 -- ---- the length
 module _ (limit : ℕ) (b : List ℕ) (e : length_good limit b ≡ true) where
@@ -42,24 +39,6 @@ module _ (limit : ℕ) (b : List ℕ) (e : length_good limit b ≡ true) where
   pub length_whole : length b % 4 ≡ 0
   unfolding length_good
   length_whole = eqb-true (length b % 4) 0 (and_right (leb 8 (length b) && leb (length b) limit) _ e)
-
--- ---- all objects, with the number that code tests
-module _ (big : Bool) (b v : List ℕ) (k : Bundle) (r : ObjectsFiled) (e : ObjectsAre big b v (filing_of b k) r) where
-  pub filing_refused : (r.code ≡ 0 → ⊥) → filing_of b k ≡ refuse r.code
-  unfolding ObjectsAre
-  filing_refused h = go (filing_of b k) refl e
-    where
-      go : (m : Check Filing) → filing_of b k ≡ m → ObjectsAre big b v m r → filing_of b k ≡ refuse r.code
-      go (pass f) q g = absurd (h g.0)
-      go (refuse n) q g = q ∙ ap refuse (sym g)
-
-  pub filing_passed : r.code ≡ 0 → AllFiled big b r.st v
-  unfolding ObjectsAre
-  filing_passed h = go (filing_of b k) refl e
-    where
-      go : (m : Check Filing) → filing_of b k ≡ m → ObjectsAre big b v m r → AllFiled big b r.st v
-      go (pass f) q g = g.1
-      go (refuse n) q g = absurd (let p : 1 ≤ n = (filing_numbered b k).is n q in let z : n ≡ 0 = sym g ∙ h in omega (arith, p, z))
 
 -- ---- the answers, with an output of o bytes that is d behind the packer
 module _ (b : List ℕ) (w o : ℕ) (d : List ℕ) where

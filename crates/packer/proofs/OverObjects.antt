@@ -1,6 +1,7 @@
 -- The walk over the objects of a bundle: the first word, and what the loop keeps.
 -- Assumes nothing.
 use mathlib.Core.Path.{◌≡◌, refl, sym, ap, ◌∙◌, subst}
+use mathlib.Core.Logic.{⊎_elim}
 use mathlib.Core.Bool.{Bool}
 use mathlib.Core.List.{List, [], ◌∷◌, ◌++◌, map, map-append, append-nil, append_assoc}
 use Prim.Native.Nat.{ℕ, ◌+◌, ◌%◌, ◌<◌, ◌≤◌}
@@ -8,8 +9,11 @@ use native.Mathlib.Omega.{arith}
 use lib.Dec.{eqb}
 use lib.ListN.{length, drop, length-append}
 use Rattle.octets.specs.Lists.{joined}
+use Rattle.std.specs.Prelude.{Result, Ok, Err}
+use Rattle.numbers.specs.Refused.{number_of}
+use Rattle.numbers.specs.declared.refusals.Refusal.{Refusal}
 use Rattle.octets.specs.Checked.{Check, pass, refuse}
-use Rattle.octets.proofs.Checks.{pass_inj}
+use Rattle.octets.proofs.Checks.{pass_inj, pass_refuse, bind_pass, bind_refuse}
 use Rattle.octets.proofs.Joined.{joined_snoc}
 use Rattle.bundle.specs.Bundle.{Part, Item, Object, Bundle, step_at, leading, objects_of, bundle_of}
 use Rattle.bundle.specs.Next.{next_of}
@@ -26,21 +30,21 @@ use Rattle.bundle.proofs.Objects.{Objects, Entered, objects_none, objects_object
 use Rattle.index.specs.Rows.{BySection}
 use Rattle.package.specs.Input.{Input, input_of}
 use Rattle.package.specs.Filing.{Filed, units_in, grown, filing_from, first_word, filing_of}
-use Rattle.package.proofs.OverObjects.{ObjectsAhead, ahead_all, ahead_end, ahead_input_refused, ahead_unit_refused, ahead_more, input_numbered}
-use Rattle.package.proofs.NumberedWalks.{sections_numbered}
+use Rattle.package.proofs.OverObjects.{ObjectsAhead, ahead_all, ahead_end, ahead_input_refused, ahead_unit_refused, ahead_more}
 use Rattle.kept.specs.State.{Held}
 use Rattle.kept.specs.declared.state.InProgress.{InProgress}
 use Rattle.filing.specs.State.{words_in}
 use Rattle.filing.specs.ByObject.{AtObject}
 use Rattle.filing.proofs.OverSections.{held_later}
-use Rattle.packer.specs.Objects.{sections_from, behind_from, Ahead, UnitsThen, ObjectIs, HeadAsked, HeadAnswered, none_filed, Cleared, ObjectsAre}
-use Rattle.packer.specs.declared.objects.ObjectFiled.{ObjectFiled}
-use Rattle.packer.specs.declared.objects.ObjectsFiled.{ObjectsFiled}
+use Rattle.packer.specs.Objects.{sections_from, behind_from, Ahead, object_units, ObjectFiled, HeadAsked, HeadAnswered, none_filed, Cleared, ObjectsAre}
+use Rattle.packer.specs.declared.objects.ObjectHead.{ObjectHead}
+use Rattle.filing.specs.Tells.{Tells}
+use Rattle.filing.proofs.Telling.{tells_pass, tells_refuse, tells_same}
 use Rattle.packer.proofs.Start.{at_start}
 
 -- ---- the first word
 module _ (b : List ℕ) (k : Bundle) (e : bundle_of b ≡ pass k) where
-  pub first_none : [] ≡ k.objects → 0 ≡ first_word k.objects
+  first_none : [] ≡ k.objects → 0 ≡ first_word k.objects
   unfolding first_word
   first_none h = ap first_word h
 
@@ -117,32 +121,29 @@ module _ {b : List ℕ} {big : Bool} {first at : ℕ} {w₀ w : List ℕ} {st : 
       rw (z, s.order, s.word)
 
   -- at the end
-  far_end : s.done ≡ s.bundle.objects → (k : Bundle) → bundle_of b ≡ pass k → ObjectsAre big b w (filing_of b k) (record { code = 0; st = st })
-  unfolding ObjectsAre encoding_of
+  far_end : s.done ≡ s.bundle.objects → (k : Bundle) → bundle_of b ≡ pass k → ObjectsAre big b w (filing_of b k) (Ok st)
+  unfolding encoding_of
   far_end over k e =
       let whole = ahead_end b big first s.inputs s.units s.bases s.bundle.objects (s.ahead [] (append-nil s.done ∙ over)) in
       let v : eqb (first % 256) 5 ≡ eqb (first_word s.bundle.objects % 256) 5 = ap (λ (n : ℕ). eqb (n % 256) 5) s.word in
-      rw (filing_is k e ∙ whole) (
-        refl,
-        record {
-          bundle = s.bundle;
-          reads = s.reads;
-          order = s.order;
-          filing = record { inputs = s.inputs; units = s.units };
-          filed = filing_is s.bundle s.reads ∙ whole;
-          bases = s.bases;
-          based = λ c l g. s.based c;
-          held = subst (λ (five : Bool). Held five b (words_in b) (length b) w st s.bases s.units) v (held_later at (length b) s.held.held s.held.held.within (omega arith));
-          strings = s.held.strings;
-        },
-      )
+      tells_pass st _ (filing_is k e ∙ whole) (record {
+        bundle = s.bundle;
+        reads = s.reads;
+        order = s.order;
+        filing = record { inputs = s.inputs; units = s.units };
+        filed = filing_is s.bundle s.reads ∙ whole;
+        bases = s.bases;
+        based = λ c l g. s.based c;
+        held = subst (λ (five : Bool). Held five b (words_in b) (length b) w st s.bases s.units) v (held_later at (length b) s.held.held s.held.held.within (omega arith));
+        strings = s.held.strings;
+      })
 
   pub far_other : (x : Answered) → (tag_of the_type x ≡ 0 → ⊥) → pass x ≡ next_of at (step_at at (drop at b))
-      → (k : Bundle) → bundle_of b ≡ pass k → ObjectsAre big b w (filing_of b k) (record { code = 0; st = st })
+      → (k : Bundle) → bundle_of b ≡ pass k → ObjectsAre big b w (filing_of b k) (Ok st)
   far_other x f h = far_end (objects_other b at s.done s.bundle.objects s.passed x f h)
 
   pub far_refusal : (n : ℕ) → refuse n ≡ next_of at (step_at at (drop at b))
-      → (k : Bundle) → bundle_of b ≡ pass k → ObjectsAre big b w (filing_of b k) (record { code = 0; st = st })
+      → (k : Bundle) → bundle_of b ≡ pass k → ObjectsAre big b w (filing_of b k) (Ok st)
   far_refusal n h = far_end (objects_refused b at s.done s.bundle.objects s.passed n h)
 
   -- one object more
@@ -171,63 +172,62 @@ module _ {b : List ℕ} {big : Bool} {first at : ℕ} {w₀ w : List ℕ} {st : 
     abbrev one : Object
     one = record { word = word; parts = leading entered.ahead }
 
-    -- the answer of `add_input_object` for it
-    module _ (v : List ℕ) (r : ObjectFiled) (same : length v ≡ length w) (behind : r.next ≡ behind_from b next)
-        (filed : HeadAnswered b (record { big = big; first = first; word = word; from = next }) st w v r) where
-      sections : sections_from b next ≡ leading entered.ahead
-      sections = sections_are b next entered.ahead entered.left
+    abbrev head : ObjectHead
+    head = record { big = big; first = first; word = word; from = next }
 
-      next_is : place_behind next (leading entered.ahead) ≡ r.next
-      next_is = ap (place_behind next) (sym sections) ∙ sym behind
+    -- what `add_input_object` answers of it
+    module _ (v : List ℕ) (after : InProgress) (same : length v ≡ length w) where
+      abbrev answer : Check (Input × List Filed)
+      answer = object_units b big first s.bases s.units one
 
-      pub word_further : (at < r.next) × (r.next ≤ length b)
-      word_further = (omega (arith, next_is, behind_word, entered.further), omega (arith, next_is, entered.within))
-
-      answered : ObjectIs b big first v s.bases s.inputs s.units (input_of b big first one) r
-      answered = subst (λ (ps : List Part). ObjectIs b big first v s.bases s.inputs s.units (input_of b big first (record { word = word; parts = ps })) r) sections
+      answered : (r : Result ℕ Refusal) → HeadAnswered b head st after w v r → Tells (ObjectFiled b head v after s.bases s.inputs s.units) answer r
+      answered r filed =
+          tells_same (ap (λ (ps : List Part). object_units b big first s.bases s.units (record { word = word; parts = ps })) (sections_are b next entered.ahead entered.left))
           (filed s.bases s.inputs s.units word_held)
 
-      pub far_more : r.code ≡ 0 → SoFar b big first r.next w₀ v r.st
-      unfolding ObjectIs UnitsThen
-      far_more z = go _ refl answered
-        where
-          go : (m : Check Input) → input_of b big first one ≡ m → ObjectIs b big first v s.bases s.inputs s.units m r → SoFar b big first r.next w₀ v r.st
-          go (refuse m) q f = absurd (let g = (input_numbered b big first one).is m q in let y : m ≡ 0 = sym f ∙ z in omega arith)
-          go (pass i) q f = on _ refl f
-            where
-              on : (m : Check (List Filed)) → units_in i s.bases s.units [] i.units ≡ m → UnitsThen b big first v s.bases s.inputs s.units i m r
-                  → SoFar b big first r.next w₀ v r.st
-              on (refuse m) u g = absurd (let h = (sections_numbered i s.bases s.units [] i.units).is m u in let y : m ≡ 0 = sym g ∙ z in omega arith)
-              on (pass us) u g = record {
-                same = same ∙ s.same;
-                bundle = s.bundle;
-                reads = s.reads;
-                order = s.order;
-                word = s.word;
-                done = s.done ++ (one ∷ []);
-                passed = rw (← next_is) entered.more;
-                inputs = s.inputs ++ (i ∷ []);
-                units = s.units ++ us;
-                bases = grown s.bases i;
-                held = g.1;
-                ahead = λ rest h. ahead_more b big first s.inputs s.units s.bases s.bundle.objects one rest (s.ahead (one ∷ rest) (sym (append_assoc s.done (one ∷ []) rest) ∙ h)) i us q u;
-                based = grown_is s.bases s.inputs i s.based;
-              }
+      module _ (place : ℕ) (filed : HeadAnswered b head st after w v (Ok place)) where
+        done : (p : Input × List Filed) × (answer ≡ pass p) × ObjectFiled b head v after s.bases s.inputs s.units place p
+        done = (answered (Ok place) filed).passes place refl
 
-      pub far_refused : (r.code ≡ 0 → ⊥) → (k : Bundle) → bundle_of b ≡ pass k → (u : ObjectsFiled) → u.code ≡ r.code → ObjectsAre big b v (filing_of b k) u
-      unfolding ObjectIs UnitsThen ObjectsAre
-      far_refused z k p u h = go _ refl answered
-        where
-          behind_it : List Object
-          behind_it = objects_of entered.more.rest
+        place_is : place_behind next (leading entered.ahead) ≡ place
+        place_is = ap (place_behind next) (sym (sections_are b next entered.ahead entered.left)) ∙ sym done.2.place_is
 
-          left : ObjectsAhead b big first s.inputs s.units s.bases (one ∷ behind_it) s.bundle.objects
-          left = s.ahead (one ∷ behind_it) (sym (append_assoc s.done (one ∷ []) behind_it) ∙ entered.more.is)
+        pub word_further : (at < place) × (place ≤ length b)
+        word_further = (omega (arith, place_is, behind_word, entered.further), omega (arith, place_is, entered.within))
 
-          go : (m : Check Input) → input_of b big first one ≡ m → ObjectIs b big first v s.bases s.inputs s.units m r → ObjectsAre big b v (filing_of b k) u
-          go (refuse m) q f = rw (filing_is k p ∙ ahead_input_refused b big first s.inputs s.units s.bases s.bundle.objects one behind_it left m q) (h ∙ f)
-          go (pass i) q f = on _ refl f
-            where
-              on : (m : Check (List Filed)) → units_in i s.bases s.units [] i.units ≡ m → UnitsThen b big first v s.bases s.inputs s.units i m r → ObjectsAre big b v (filing_of b k) u
-              on (refuse m) y g = rw (filing_is k p ∙ ahead_unit_refused b big first s.inputs s.units s.bases s.bundle.objects one behind_it left i m q y) (h ∙ g)
-              on (pass us) y g = absurd (z g.0)
+        pub far_more : SoFar b big first place w₀ v after
+        far_more =
+            let d = done in
+            let p = bind_pass (input_of b big first one) _ d.0 d.1 in
+            let q = bind_pass (units_in p.0 s.bases s.units [] p.0.units) _ d.0 p.2 in
+            let e : (p.0, q.0) ≡ d.0 = pass_inj q.2 in
+            on d.0 p.0 q.0 e p.1 q.1 d.2.held
+          where
+            on : (z : Input × List Filed) (i : Input) (us : List Filed) → (i, us) ≡ z → input_of b big first one ≡ pass i → units_in i s.bases s.units [] i.units ≡ pass us
+                → AtObject b big first place v after (grown s.bases z.0) (s.inputs ++ (z.0 ∷ [])) (s.units ++ z.1) → SoFar b big first place w₀ v after
+            on z i us e q u held = record {
+              same = same ∙ s.same;
+              bundle = s.bundle;
+              reads = s.reads;
+              order = s.order;
+              word = s.word;
+              done = s.done ++ (one ∷ []);
+              passed = rw (← place_is) entered.more;
+              inputs = s.inputs ++ (i ∷ []);
+              units = s.units ++ us;
+              bases = grown s.bases i;
+              held = subst (λ (y : Input × List Filed). AtObject b big first place v after (grown s.bases y.0) (s.inputs ++ (y.0 ∷ [])) (s.units ++ y.1)) (sym e) held;
+              ahead = λ rest h. ahead_more b big first s.inputs s.units s.bases s.bundle.objects one rest (s.ahead (one ∷ rest) (sym (append_assoc s.done (one ∷ []) rest) ∙ h)) i us q u;
+              based = grown_is s.bases s.inputs i s.based;
+            }
+
+      pub far_refused : (r : Refusal) → HeadAnswered b head st after w v (Err r) → (k : Bundle) → bundle_of b ≡ pass k → ObjectsAre big b v (filing_of b k) (Err r)
+      far_refused r filed k p =
+          let behind_it : List Object = objects_of entered.more.rest in
+          let left : ObjectsAhead b big first s.inputs s.units s.bases (one ∷ behind_it) s.bundle.objects = s.ahead (one ∷ behind_it) (sym (append_assoc s.done (one ∷ []) behind_it) ∙ entered.more.is) in
+          tells_refuse r
+          (filing_is k p
+          ∙ ⊎_elim (λ q. ahead_input_refused b big first s.inputs s.units s.bases s.bundle.objects one behind_it left (number_of r) q)
+          (λ q. ⊎_elim (λ u. ahead_unit_refused b big first s.inputs s.units s.bases s.bundle.objects one behind_it left q.0 (number_of r) q.1 u) (λ u. absurd (pass_refuse _ _ u.2))
+          (bind_refuse (units_in q.0 s.bases s.units [] q.0.units) _ (number_of r) q.2))
+          (bind_refuse (input_of b big first one) _ (number_of r) ((answered (Err r) filed).refuses r refl)))

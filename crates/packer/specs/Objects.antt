@@ -1,10 +1,11 @@
 -- What the functions that file the objects of a bundle require and answer, from the definitions. Nothing here need be believed.
 -- Assumes nothing.
-use Rattle.std.specs.Prelude.{◌≡◌, Bool, false, List, [], ◌∷◌, ◌++◌, ℕ, ◌+◌, ◌*◌, ◌%◌, ◌≤◌, length, drop}
+use Rattle.std.specs.Prelude.{◌≡◌, Bool, false, List, [], ◌∷◌, ◌++◌, ℕ, ◌+◌, ◌*◌, ◌%◌, ◌≤◌, length, drop, Result}
 use Rattle.numbers.specs.Limits.{bundle_limit, work_for_word}
 use Rattle.octets.specs.Octets.{zeros}
-use Rattle.octets.specs.Checked.{Check, pass, refuse}
-use Rattle.bundle.specs.Bundle.{Part, Bundle, items, bundle_of}
+use Rattle.numbers.specs.declared.refusals.Refusal.{Refusal}
+use Rattle.octets.specs.Checked.{Check, pass, ◌>>=◌}
+use Rattle.bundle.specs.Bundle.{Part, Object, Bundle, items, bundle_of}
 use Rattle.bundle.specs.Scan.{Reaches, sections_of, place_behind}
 use Rattle.index.specs.Rows.{BySection}
 use Rattle.kept.specs.Regions.{roots_region, region, Only}
@@ -16,13 +17,11 @@ use Rattle.kept.specs.State.{Held}
 use Rattle.kept.specs.declared.state.InProgress.{InProgress}
 use Rattle.filing.specs.declared.input.InputObject.{InputObject}
 use Rattle.filing.specs.State.{words_in, StringsKept}
+use Rattle.filing.specs.Tells.{Tells}
 use Rattle.filing.specs.Answers.{AtUnit}
 use Rattle.filing.specs.ByObject.{AtObject}
 use Rattle.finish.specs.Finish.{AllFiled}
 use Rattle.packer.specs.declared.objects.ObjectHead.{ObjectHead}
-use Rattle.packer.specs.declared.objects.UnitsAdded.{UnitsAdded}
-use Rattle.packer.specs.declared.objects.ObjectFiled.{ObjectFiled}
-use Rattle.packer.specs.declared.objects.ObjectsFiled.{ObjectsFiled}
 
 -- ---- the units of one object
 -- the sections of an object that start at a place
@@ -56,26 +55,25 @@ pub record UnitsAsked (b : List ℕ) (x : InputObject) (from : ℕ) (st : InProg
   pub units : List Filed
   pub ready : InputReady b x input from w st bases units
 
--- its units: the refusal, or that all are filed, and the bases are those behind the object; w is work before, v behind
-unfoldable pub UnitsAddedIs : List ℕ → InputObject → Input → ℕ → List ℕ → List ℕ → InProgress → BySection ℕ → List Filed → Check (List Filed) → UnitsAdded → Type 0
-UnitsAddedIs b x i next w v st bases us (refuse m) r = r.code ≡ m
-UnitsAddedIs b x i next w v st bases us (pass here) r =
-    (r.code ≡ 0) × Held x.encoding.five b (words_in b) next v r.st (grown bases i) (us ++ here) × StringsKept (words_in b) w v st r.st
+-- its units are filed, and the bases are those behind the object; w is work before and st what is held, v and next those behind
+pub record UnitsAdded (b : List ℕ) (x : InputObject) (i : Input) (place : ℕ) (w v : List ℕ) (st next : InProgress) (bases : BySection ℕ) (us here : List Filed) : Type 0 where
+  pub held : Held x.encoding.five b (words_in b) place v next (grown bases i) (us ++ here)
+  pub strings : StringsKept (words_in b) w v st next
 
-abbrev pub UnitsAnswered : List ℕ → InputObject → ℕ → InProgress → List ℕ → List ℕ → UnitsAdded → Type 0
-UnitsAnswered b x from st w v r =
+abbrev pub UnitsAnswered : List ℕ → InputObject → ℕ → InProgress → InProgress → List ℕ → List ℕ → Result (Unit {0}) Refusal → Type 0
+UnitsAnswered b x from st next w v r =
     (i : Input) (bases : BySection ℕ) (us : List Filed) → InputReady b x i from w st bases us
-    → UnitsAddedIs b x i (behind_from b from) w v st bases us (units_in i bases us [] i.units) r
+    → Tells (λ _ here. UnitsAdded b x i (behind_from b from) w v st next bases us here) (units_in i bases us [] i.units) r
 
 -- ---- one object
--- the refusal, or that it is filed up to the place behind it
-unfoldable pub UnitsThen : List ℕ → Bool → ℕ → List ℕ → BySection ℕ → List Input → List Filed → Input → Check (List Filed) → ObjectFiled → Type 0
-UnitsThen b big first v bases is us i (refuse m) r = r.code ≡ m
-UnitsThen b big first v bases is us i (pass here) r = (r.code ≡ 0) × AtObject b big first r.next v r.st (grown bases i) (is ++ (i ∷ [])) (us ++ here)
+-- an object and its units, the first refusal first
+abbrev pub object_units : List ℕ → Bool → ℕ → BySection ℕ → List Filed → Object → Check (Input × List Filed)
+object_units b big first bases us o = input_of b big first o >>= λ i. (units_in i bases us [] i.units >>= λ here. pass (i, here))
 
-unfoldable pub ObjectIs : List ℕ → Bool → ℕ → List ℕ → BySection ℕ → List Input → List Filed → Check Input → ObjectFiled → Type 0
-ObjectIs b big first v bases is us (refuse m) r = r.code ≡ m
-ObjectIs b big first v bases is us (pass i) r = UnitsThen b big first v bases is us i (units_in i bases us [] i.units) r
+-- it is filed up to the place behind it; v is work behind, next what is held
+pub record ObjectFiled (b : List ℕ) (o : ObjectHead) (v : List ℕ) (next : InProgress) (bases : BySection ℕ) (is : List Input) (us : List Filed) (place : ℕ) (p : Input × List Filed) : Type 0 where
+  pub place_is : place ≡ behind_from b o.from
+  pub held : AtObject b o.big o.first place v next (grown bases p.0) (is ++ (p.0 ∷ [])) (us ++ p.1)
 
 -- what is filed before it
 abbrev pub HeadAt : List ℕ → ObjectHead → List ℕ → InProgress → BySection ℕ → List Input → List Filed → Type 0
@@ -88,10 +86,10 @@ pub record HeadAsked (b : List ℕ) (o : ObjectHead) (st : InProgress) (w : List
   pub units : List Filed
   pub held : HeadAt b o w st bases inputs units
 
-abbrev pub HeadAnswered : List ℕ → ObjectHead → InProgress → List ℕ → List ℕ → ObjectFiled → Type 0
-HeadAnswered b o st w v r =
+abbrev pub HeadAnswered : List ℕ → ObjectHead → InProgress → InProgress → List ℕ → List ℕ → Result ℕ Refusal → Type 0
+HeadAnswered b o st next w v r =
     (bases : BySection ℕ) (is : List Input) (us : List Filed) → HeadAt b o w st bases is us
-    → ObjectIs b o.big o.first v bases is us (input_of b o.big o.first (record { word = o.word; parts = sections_from b o.from })) r
+    → Tells (ObjectFiled b o v next bases is us) (object_units b o.big o.first bases us (record { word = o.word; parts = sections_from b o.from })) r
 
 -- ---- all objects
 -- before the first one
@@ -142,9 +140,8 @@ pub record Cleared (big : Bool) (b w : List ℕ) : Type 0 where
   pub none : NoneHeld (words_in b) w
 
 -- the refusal, or that all is filed
-unfoldable pub ObjectsAre : Bool → List ℕ → List ℕ → Check Filing → ObjectsFiled → Type 0
-ObjectsAre big b v (refuse m) r = r.code ≡ m
-ObjectsAre big b v (pass f) r = (r.code ≡ 0) × AllFiled big b r.st v
+abbrev pub ObjectsAre : Bool → List ℕ → List ℕ → Check Filing → Result InProgress Refusal → Type 0
+ObjectsAre big b v c r = Tells (λ st _. AllFiled big b st v) c r
 
-abbrev pub ObjectsAnswered : Bool → List ℕ → List ℕ → ObjectsFiled → Type 0
+abbrev pub ObjectsAnswered : Bool → List ℕ → List ℕ → Result InProgress Refusal → Type 0
 ObjectsAnswered big b v r = (k : Bundle) → bundle_of b ≡ pass k → ObjectsAre big b v (filing_of b k) r

@@ -76,19 +76,18 @@ fn pack_cleared(b: &[u8], work: &mut [u32], out: &mut [u8]) -> Packing
         };
     };
     clear::clear_slots(b.len() / 4, work);
-    let filed = objects::add_input_objects(b, big, work);
-    let code = filed.code;
-    if code != 0 {
-        return Packing {
-            finished: Finished::Refused(code),
-            repeats: 0,
-            namesakes: 0,
-        };
-    }
-    let st = filed.st;
-    let skipped = st.skipped;
+    let st = match objects::add_input_objects(b, big, work) {
+        Ok(st) => st,
+        Err(refusal) => {
+            return Packing {
+                finished: Finished::Refused(refusal.number()),
+                repeats: 0,
+                namesakes: 0,
+            };
+        }
+    };
     let finished = finish::whole::finish(b, big, st, work, out);
-    with_counts(finished, skipped)
+    with_counts(finished, st.skipped)
 }
 
 // Whatever the three hold: the package, 18 with the length needed, or a refusal; behind it the output is the package and zeros, or

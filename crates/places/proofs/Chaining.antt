@@ -1,12 +1,13 @@
 -- Chains: none at the start, one row more, and the rows of one place.
 -- Assumes nothing.
 use mathlib.Core.Path.{◌≡◌, refl, sym, ap, ◌∙◌}
-use mathlib.Core.Bool.{Bool, true, false}
+use mathlib.Core.Bool.{Bool, true, false, ◌&&◌}
 use mathlib.Core.Logic.{⊎_elim}
 use mathlib.Core.List.{List, [], ◌∷◌, ◌++◌, append-nil, append_assoc}
 use mathlib.Core.Option.{Option, some, none}
 use Prim.Native.Nat.{ℕ, zero, suc, ◌+◌, ◌-◌, ◌/◌, ◌<◌, ◌≤◌}
 use native.Mathlib.Omega.{arith}
+use native.Mathlib.Numerals.{add-one}
 use native.Mathlib.Decide.{ℕ_discrete, dec_lt}
 use lib.Dec.{eqb}
 use lib.ListN.{length, take, drop, get_or, set, length-set, length-append, length-drop, get_or-append}
@@ -18,15 +19,18 @@ use Rattle.octets.proofs.Checks.{known, and_left, true_false}
 use Rattle.octets.proofs.Placed.{length_zeros, get_d_zeros}
 use Rattle.octets.proofs.Lists.{those_keeps, those_skips, length_those}
 use Rattle.numbers.specs.Sections.{info_code}
-use Rattle.index.specs.Index.{Index, Contribution, cell_of, layout}
-use Rattle.index.specs.Held.{index_in}
-use Rattle.index.specs.declared.reading.IndexHead.{IndexHead}
+use Rattle.index.specs.Index.{Index, Contribution, cell_of}
 use Rattle.index.specs.Rows.{row_numbers, naming, the_one, cell_is, own_place}
 use Rattle.index.specs.Cells.{cell_found}
-use Rattle.index.specs.declared.cells.Cell.{Cell}
-use Rattle.index.specs.declared.cells.Cell.TheVariants.{Is, Missing}
-use Rattle.places.specs.declared.by_place.Told.TheVariants.{On, Several}
-use Rattle.places.specs.Chains.{in_word, word_rows, Chain, ChainedTo, Chained, with_row, with_cell, row_told, told}
+use Rattle.std.specs.Prelude as std
+use Rattle.std.specs.Prelude.{Some, None, Ok, Err}
+use Rattle.std.specs.Option.{ok_or, is_some as option_is_some}
+use Rattle.octets.specs.Checked.{Check, refuse}
+use Rattle.numbers.specs.Refused.{told}
+use Rattle.numbers.specs.declared.refusals.Refusal.TheVariants.{NoRow}
+use Rattle.index.specs.Contributed.{Cell}
+use Rattle.index.specs.declared.cells.Contribution as code
+use Rattle.places.specs.Chains.{in_word, word_rows, Chain, ChainedTo, Chained, with_row, with_cell}
 
 -- ---- a chain stays where its words stay
 pub chain_kept : (w v : List ℕ) (heads j k : ℕ) → j ≤ k → ((x : ℕ) → 0 < x → x ≤ j → get_or v (heads + x - 1) 0 ≡ get_or w (heads + x - 1) 0)
@@ -157,62 +161,73 @@ length_rows zero = refl
 length_rows (suc n) = ap suc (length_rows n)
 
 -- ---- a walk through a chain: what is found so far, and the rows that are left
--- 0 where no row names the place, else the one that does
-unfoldable pub found_is : ℕ → List ℕ → Type 0
-found_is found [] = found ≡ 0
-found_is found (r ∷ []) = (found ≡ r) × (0 < r)
-found_is found (r ∷ q ∷ rs) = ⊥
+-- nothing where no row names the place, else the one that does
+unfoldable pub found_is : std.Option ℕ → List ℕ → Type 0
+found_is o [] = o ≡ None
+found_is o (r ∷ []) = o ≡ Some r
+found_is o (r ∷ q ∷ rs) = ⊥
 
-pub record Walking (i : Index) (heads : ℕ) (w : List ℕ) (at size found row left : ℕ) : Type 0 where
+pub record Walking (i : Index) (heads : ℕ) (w : List ℕ) (at size : ℕ) (o : std.Option ℕ) (row steps : ℕ) : Type 0 where
   pub passed : List ℕ
   pub ahead : List ℕ
-  pub found_is_law : found_is found passed
+  pub found_is_law : found_is o passed
   pub chain : Chain w heads i.units row ahead
   pub all : passed ++ those (Named i at size) ahead ≡ naming i at size
-  pub bound : length ahead ≤ left
+  pub bound : length ahead + steps ≤ i.units
 
-pub walk_starts : (i : Index) (heads : ℕ) (w : List ℕ) (at size row left : ℕ) → Chained i info_code heads w → at / 4 < heads → row ≡ get_or w (at / 4) 0 → left ≡ i.units
-    → Walking i heads w at size 0 row left
+pub walk_starts : (i : Index) (heads : ℕ) (w : List ℕ) (at size row : ℕ) → Chained i info_code heads w → at / 4 < heads → row ≡ get_or w (at / 4) 0
+    → Walking i heads w at size None row 0
 unfolding naming word_rows found_is
-walk_starts i heads w at size row left c l e u =
+walk_starts i heads w at size row c l e =
     record {
       passed = [];
       ahead = word_rows i info_code i.units (at / 4);
       found_is_law = refl;
       chain = rw e (c.chains (at / 4) l);
       all = named_in i at size (row_numbers i.units);
-      bound = omega (arith, u, length_those (λ r. in_word (at / 4) (cell_of i r info_code)) (row_numbers i.units), length_rows i.units);
+      bound = omega (arith, length_those (λ r. in_word (at / 4) (cell_of i r info_code)) (row_numbers i.units), length_rows i.units);
     }
 
+pub is_none : (o : std.Option ℕ) → false ≡ option_is_some o → o ≡ None
+is_none None e = refl
+is_none (Some r) e = absurd (true_false refl (sym e))
+
+pub is_there : (o : std.Option ℕ) → true ≡ option_is_some o → o ≡ None → ⊥
+is_there None e z = true_false refl e
+is_there (Some r) e z = let v : ◌≡◌ {A = ℕ} 0 1 = cc in omega arith
+
 -- what was found is the answer for the rows passed
-found_told : (found : ℕ) (rs : List ℕ) → found_is found rs → found ≡ row_told (the_one rs)
-unfolding found_is the_one row_told
-found_told found [] e = e
-found_told found (r ∷ []) e = e.0
-found_told found (r ∷ q ∷ rs) e = absurd e
+abbrev pub Answer : std.Option ℕ → Check ℕ
+Answer o = told (ok_or o NoRow)
+
+found_told : (o : std.Option ℕ) (rs : List ℕ) → found_is o rs → Answer o ≡ the_one rs
+unfolding found_is the_one
+found_told o [] e = rw e
+found_told o (r ∷ []) e = rw e
+found_told o (r ∷ q ∷ rs) e = absurd e
 
 -- a second one makes it none
-several_told : (found : ℕ) (rs : List ℕ) (r : ℕ) (more : List ℕ) → found_is found rs → (found ≡ 0 → ⊥) → 0 ≡ row_told (the_one (rs ++ (r ∷ more)))
-unfolding found_is the_one row_told
-several_told found [] r more e f = absurd (f e)
-several_told found (q ∷ []) r more e f = refl
-several_told found (q ∷ p ∷ rs) r more e f = absurd e
+several_told : (o : std.Option ℕ) (rs : List ℕ) (r : ℕ) (more : List ℕ) → found_is o rs → (o ≡ None → ⊥) → refuse 15 ≡ the_one (rs ++ (r ∷ more))
+unfolding found_is the_one
+several_told o [] r more e f = absurd (f e)
+several_told o (q ∷ []) r more e f = refl
+several_told o (q ∷ p ∷ rs) r more e f = absurd e
 
-first_found : (found : ℕ) (rs : List ℕ) (r : ℕ) → found_is found rs → found ≡ 0 → 0 < r → found_is r (rs ++ (r ∷ []))
+first_found : (o : std.Option ℕ) (rs : List ℕ) (r : ℕ) → found_is o rs → o ≡ None → found_is (Some r) (rs ++ (r ∷ []))
 unfolding found_is
-first_found found [] r e z p = (refl, p)
-first_found found (q ∷ []) r e z p = absurd (omega (arith, e.0, e.1))
-first_found found (q ∷ s ∷ rs) r e z p = absurd e
+first_found o [] r e z = refl
+first_found o (q ∷ []) r e z = absurd (let t = sym z ∙ e in let v : ◌≡◌ {A = ℕ} 0 1 = cc t in omega arith)
+first_found o (q ∷ s ∷ rs) r e z = absurd e
 
-module _ (i : Index) (heads : ℕ) (w : List ℕ) (at size found row left : ℕ) where
+module _ (i : Index) (heads : ℕ) (w : List ℕ) (at size : ℕ) (o : std.Option ℕ) (row steps : ℕ) where
   -- the chain has ended
-  ended : (passed ahead : List ℕ) → found_is found passed → Chain w heads i.units row ahead → passed ++ those (Named i at size) ahead ≡ naming i at size → row ≡ 0
-      → found ≡ row_told (the_one (naming i at size))
+  ended : (passed ahead : List ℕ) → found_is o passed → Chain w heads i.units row ahead → passed ++ those (Named i at size) ahead ≡ naming i at size → row ≡ 0
+      → Answer o ≡ the_one (naming i at size)
   unfolding Chain those
-  ended passed [] f c a e = found_told found passed f ∙ ap (λ (rs : List ℕ). row_told (the_one rs)) (sym (append-nil passed) ∙ a)
+  ended passed [] f c a e = found_told o passed f ∙ ap the_one (sym (append-nil passed) ∙ a)
   ended passed (x ∷ xs) f c a e = absurd (omega (arith, c.0, c.1))
 
-  pub walk_ended : Walking i heads w at size found row left → row ≡ 0 → found ≡ row_told (the_one (naming i at size))
+  pub walk_ended : Walking i heads w at size o row steps → row ≡ 0 → Answer o ≡ the_one (naming i at size)
   walk_ended h e = ended h.passed h.ahead h.found_is_law h.chain h.all e
 
   -- no step is left, so no row is
@@ -221,7 +236,7 @@ module _ (i : Index) (heads : ℕ) (w : List ℕ) (at size found row left : ℕ)
   over [] c l = c
   over (x ∷ xs) c l = absurd (omega arith)
 
-  pub walk_over : Walking i heads w at size found row left → left ≤ 0 → found ≡ row_told (the_one (naming i at size))
+  pub walk_over : Walking i heads w at size o row steps → i.units ≤ steps → Answer o ≡ the_one (naming i at size)
   walk_over h l = walk_ended h (over h.ahead h.chain (omega (arith, h.bound)))
 
   -- the chain goes on at a row
@@ -230,13 +245,13 @@ module _ (i : Index) (heads : ℕ) (w : List ℕ) (at size found row left : ℕ)
     pub high : row ≤ i.units
     pub passed : List ℕ
     pub rest : List ℕ
-    pub found_is_law : found_is found passed
+    pub found_is_law : found_is o passed
     pub chain : Chain w heads i.units (get_or w (heads + row - 1) 0) rest
     pub all : passed ++ those (Named i at size) (row ∷ rest) ≡ naming i at size
-    pub bound : length rest + 1 ≤ left
+    pub bound : length rest + 1 + steps ≤ i.units
 
-  step : (passed ahead : List ℕ) → found_is found passed → Chain w heads i.units row ahead → passed ++ those (Named i at size) ahead ≡ naming i at size
-      → length ahead ≤ left → (row ≡ 0 → ⊥) → Step
+  step : (passed ahead : List ℕ) → found_is o passed → Chain w heads i.units row ahead → passed ++ those (Named i at size) ahead ≡ naming i at size
+      → length ahead + steps ≤ i.units → (row ≡ 0 → ⊥) → Step
   unfolding Chain
   step passed [] f c a l n = absurd (n c)
   step passed (x ∷ xs) f c a l n =
@@ -251,109 +266,69 @@ module _ (i : Index) (heads : ℕ) (w : List ℕ) (at size found row left : ℕ)
         bound = omega arith;
       }
 
-  pub walk_step : Walking i heads w at size found row left → (row ≡ 0 → ⊥) → Step
+  pub walk_step : Walking i heads w at size o row steps → (row ≡ 0 → ⊥) → Step
   walk_step h n = step h.passed h.ahead h.found_is_law h.chain h.all h.bound n
 
   module _ (s : Step) where
     -- a second row names the place
-    pub walk_second : Named i at size row ≡ true → (found ≡ 0 → ⊥) → 0 ≡ row_told (the_one (naming i at size))
+    pub walk_second : true ≡ Named i at size row → (o ≡ None → ⊥) → refuse 15 ≡ the_one (naming i at size)
     walk_second e n =
-        several_told found s.passed row (those (Named i at size) s.rest) s.found_is_law n
-        ∙ ap (λ (rs : List ℕ). row_told (the_one (s.passed ++ rs))) (sym (those_keeps (Named i at size) row s.rest e))
-        ∙ ap (λ (rs : List ℕ). row_told (the_one rs)) s.all
+        several_told o s.passed row (those (Named i at size) s.rest) s.found_is_law n
+        ∙ ap (λ (rs : List ℕ). the_one (s.passed ++ rs)) (sym (those_keeps (Named i at size) row s.rest (sym e)))
+        ∙ ap the_one s.all
 
-    pub walk_first : Named i at size row ≡ true → found ≡ 0 → Walking i heads w at size row (get_or w (heads + row - 1) 0) (left - 1)
+    pub walk_first : true ≡ Named i at size row → o ≡ None → Walking i heads w at size (Some row) (get_or w (heads + row - 1) 0) (steps + 1)
     walk_first e z =
         record {
           passed = s.passed ++ (row ∷ []);
           ahead = s.rest;
-          found_is_law = first_found found s.passed row s.found_is_law z s.low;
+          found_is_law = first_found o s.passed row s.found_is_law z;
           chain = s.chain;
           all = append_assoc s.passed (row ∷ []) (those (Named i at size) s.rest)
-              ∙ ap (λ (rs : List ℕ). s.passed ++ rs) (sym (those_keeps (Named i at size) row s.rest e))
+              ∙ ap (λ (rs : List ℕ). s.passed ++ rs) (sym (those_keeps (Named i at size) row s.rest (sym e)))
               ∙ s.all;
           bound = omega (arith, s.bound);
         }
 
-    pub walk_on : Named i at size row ≡ false → Walking i heads w at size found (get_or w (heads + row - 1) 0) (left - 1)
+    pub walk_on : false ≡ Named i at size row → Walking i heads w at size o (get_or w (heads + row - 1) 0) (steps + 1)
     walk_on e =
         record {
           passed = s.passed;
           ahead = s.rest;
           found_is_law = s.found_is_law;
           chain = s.chain;
-          all = ap (λ (rs : List ℕ). s.passed ++ rs) (sym (those_skips (Named i at size) row s.rest e)) ∙ s.all;
+          all = ap (λ (rs : List ℕ). s.passed ++ rs) (sym (those_skips (Named i at size) row s.rest (sym e))) ∙ s.all;
           bound = omega (arith, s.bound);
         }
 
 -- ---- a cell as code has it
-pub names_missing : (at size : ℕ) (o : Option Contribution) → Missing ≡ cell_found o → false ≡ cell_is (own_place at size) o
+pub names_none : (at size : ℕ) (o : Option Contribution) → None ≡ cell_found o → false ≡ cell_is (own_place at size) o
 unfolding cell_found cell_is
-names_missing at size none e = refl
-names_missing at size (some c) e = absurd (let z : ◌≡◌ {A = ℕ} 0 1 = cc in omega arith)
+names_none at size none e = refl
+names_none at size (some c) e = absurd (let z : ◌≡◌ {A = ℕ} 0 1 = cc in omega arith)
 
-module _ (at size : ℕ) (o z : ℕ) where
-  pub names_apart : (c : Option Contribution) → Is o z ≡ cell_found c → (o ≡ at → ⊥) → false ≡ cell_is (own_place at size) c
+module _ (at size : ℕ) (v : code.Contribution) where
+  pub names_some : (c : Option Contribution) → Some v ≡ cell_found c → (eqb v.offset at && eqb v.size size) ≡ cell_is (own_place at size) c
   unfolding cell_found cell_is own_place
-  names_apart (some c) e n = let q : o ≡ c.offset = cc in rw (ne_eqb c.offset at (λ p. n (q ∙ p)))
-  names_apart none e n = absurd (let z : ◌≡◌ {A = ℕ} 0 1 = cc in omega arith)
-
-  pub names_sized : (c : Option Contribution) → Is o z ≡ cell_found c → o ≡ at → eqb z size ≡ cell_is (own_place at size) c
-  unfolding cell_found cell_is own_place
-  names_sized (some c) e n = let q : o ≡ c.offset = cc in let r : z ≡ c.size = cc in rw (eq-eqb c.offset at (sym q ∙ n), r)
-  names_sized none e n = absurd (let z : ◌≡◌ {A = ℕ} 0 1 = cc in omega arith)
-
--- ---- what is told
-pub told_unnamed : (named : Bool) (row found : ℕ) → named ≡ false → On found ≡ told named row found
-unfolding told
-told_unnamed named row found e = rw e
-
-pub told_first : (named : Bool) (row found : ℕ) → named ≡ true → found ≡ 0 → On row ≡ told named row found
-unfolding told
-told_first named row found e z = rw (e, told, eq-eqb found 0 z)
-
-pub told_second : (named : Bool) (row found : ℕ) → named ≡ true → (found ≡ 0 → ⊥) → Several ≡ told named row found
-unfolding told
-told_second named row found e z = rw (e, told, ne_eqb found 0 z)
-
-module _ (i : Index) (heads : ℕ) (w : List ℕ) (at size found row left : ℕ) (s : Step i heads w at size found row left) where
-  pub walk_next : (named : Bool) → named ≡ Named i at size row → (next : ℕ) → On next ≡ told named row found → Walking i heads w at size next (get_or w (heads + row - 1) 0) (left - 1)
-  unfolding told
-  walk_next false e next t = let q : next ≡ found = cc in rw q (walk_on i heads w at size found row left s (sym e))
-  walk_next true e next t = elim (ℕ_discrete found 0) [
-    | yes z ↦ let u : On next ≡ On row = t ∙ sym (told_first true row found refl z) in let q : next ≡ row = cc in rw q (walk_first i heads w at size found row left s (sym e) z)
-    | no z ↦ let u : On next ≡ Several = t ∙ sym (told_second true row found refl z) in absurd (let v : ◌≡◌ {A = ℕ} 0 1 = cc in omega arith)
-  ]
-
-  pub walk_several : (named : Bool) → named ≡ Named i at size row → Several ≡ told named row found → 0 ≡ row_told (the_one (naming i at size))
-  unfolding told
-  walk_several false e t = absurd (let v : ◌≡◌ {A = ℕ} 0 1 = cc in omega arith)
-  walk_several true e t = elim (ℕ_discrete found 0) [
-    | yes z ↦ let u : Several ≡ On row = t ∙ sym (told_first true row found refl z) in absurd (let v : ◌≡◌ {A = ℕ} 0 1 = cc in omega arith)
-    | no z ↦ walk_second i heads w at size found row left s (sym e) z
-  ]
+  names_some (some c) e = let q : v ≡ record { offset = c.offset; size = c.size } = cc in rw q
+  names_some none e = absurd (let z : ◌≡◌ {A = ℕ} 0 1 = cc in omega arith)
 
 -- ---- a row put into its chain
-pub put_missing : (w : List ℕ) (heads row : ℕ) (cell : Cell) → cell ≡ Missing → w ≡ with_cell w heads row cell
+pub put_none : (w : List ℕ) (heads row : ℕ) (cell : Cell) → cell ≡ None → w ≡ with_cell w heads row cell
 unfolding with_cell
-put_missing w heads row cell e = rw e
+put_none w heads row cell e = rw e
 
-module _ (w : List ℕ) (heads row : ℕ) (cell : Cell) (o z : ℕ) (e : cell ≡ Is o z) where
+module _ (w : List ℕ) (heads row : ℕ) (cell : Cell) (v : code.Contribution) (e : cell ≡ Some v) where
+  abbrev o : ℕ
+  o = v.offset
+
   pub put_outside : heads ≤ o / 4 → w ≡ with_cell w heads row cell
   unfolding with_cell with_row
   put_outside l = rw (e, with_row, le-ltb (o / 4) heads l)
 
-  pub put_inside : (r : ℕ) → r ≡ row → o / 4 < heads → set (set w (heads + row - 1) (get_or w (o / 4) 0)) (o / 4) r ≡ with_cell w heads row cell
+  pub put_inside : o / 4 < heads → set (set w (heads + row - 1) (get_or w (o / 4) 0)) (o / 4) row ≡ with_cell w heads row cell
   unfolding with_cell with_row
-  put_inside r q l = rw (e, with_row, lt-ltb (o / 4) heads l, q)
-
-pub length_cell : (w : List ℕ) (heads row : ℕ) (cell : Cell) → length (with_cell w heads row cell) ≡ length w
-unfolding with_cell with_row
-length_cell w heads row Missing = refl
-length_cell w heads row (Is o z) = elim (dec_lt (o / 4) heads) [
-  | yes l ↦ rw (with_row, lt-ltb (o / 4) heads l) (length-set (set w (heads + row - 1) (get_or w (o / 4) 0)) (o / 4) row ∙ length-set w (heads + row - 1) (get_or w (o / 4) 0))
-  | no l ↦ rw (with_row, le-ltb (o / 4) heads (omega arith))
-]
+  put_inside l = rw (e, with_row, lt-ltb (o / 4) heads l)
 
 -- ---- the heads cleared
 pub heads_cleared : (w x : List ℕ) (heads : ℕ) → heads ≤ length w → x ≡ zeros (length (take heads w)) → (h : ℕ) → h < heads → get_or (x ++ drop heads w) h 0 ≡ 0
@@ -367,22 +342,13 @@ length_cleared w x heads l e =
     length-append x (drop heads w)
     ∙ omega (arith, ap length e ∙ length_zeros (length (take heads w)), length-take-le heads w l, length-drop heads w)
 
--- ---- over an index in a section
-pub units_are : (big : Bool) (s : List ℕ) (head : IndexHead) → (index_in big s head).units ≡ head.units
-unfolding index_in layout
-units_are big s head = refl
-
-module _ (big : Bool) (s : List ℕ) (head : IndexHead) (section heads : ℕ) where
-  pub rows_start : (w x : List ℕ) → heads + head.units ≤ length w → x ≡ zeros (length (take heads w)) → ChainedTo (index_in big s head) section heads (x ++ drop heads w) 0
+-- ---- row by row
+module _ (i : Index) (section heads : ℕ) where
+  pub rows_start : (w x : List ℕ) → heads + i.units ≤ length w → x ≡ zeros (length (take heads w)) → ChainedTo i section heads (x ++ drop heads w) 0
   rows_start w x r e =
       let l : heads ≤ length w = omega arith in
-      chained_none (index_in big s head) section heads (x ++ drop heads w) (omega (arith, units_are big s head, length_cleared w x heads l e)) (heads_cleared w x heads l e)
+      chained_none i section heads (x ++ drop heads w) (omega (arith, length_cleared w x heads l e)) (heads_cleared w x heads l e)
 
-  pub rows_on : (w v : List ℕ) (k row : ℕ) (cell : Cell) → ChainedTo (index_in big s head) section heads w k → row ≡ k + 1 → k < head.units
-      → cell ≡ cell_found (cell_of (index_in big s head) row section) → v ≡ with_cell w heads row cell → ChainedTo (index_in big s head) section heads v row
-  rows_on w v k row cell c n l is e =
-      let q : row ≡ suc k = omega arith in
-      rw (e, q) (chained_more (index_in big s head) section heads k w c (omega (arith, units_are big s head)) cell (rw q at is))
-
-  pub rows_end : (w : List ℕ) (k : ℕ) → ChainedTo (index_in big s head) section heads w k → k ≤ head.units → head.units ≤ k → Chained (index_in big s head) section heads w
-  rows_end w k c l g = let q : k ≡ (index_in big s head).units = omega (arith, units_are big s head) in rw q at c
+  pub rows_on : (w v : List ℕ) (k : ℕ) (cell : Cell) → ChainedTo i section heads w k → k < i.units
+      → cell ≡ cell_found (cell_of i (k + 1) section) → v ≡ with_cell w heads (k + 1) cell → ChainedTo i section heads v (k + 1)
+  rows_on w v k cell c l is e = rw (e, add-one) (chained_more i section heads k w c l cell (rw add-one at is))

@@ -16,14 +16,13 @@ use Rattle.octets.proofs.Checks.{known, true_false}
 use Rattle.octets.proofs.Placed.{get_d_zeros, length_placed}
 use Rattle.octets.proofs.Regions.{get_d_placed, get_d_before, get_d_behind}
 use Rattle.numbers.specs.Sections.{str_offsets_code}
-use Rattle.index.specs.Index.{Index, Contribution, cell_of, layout}
-use Rattle.index.specs.Held.{index_in}
+use Rattle.index.specs.Index.{Index, Contribution, cell_of}
 use Rattle.index.specs.Rows.{row_numbers}
 use Rattle.index.specs.Cells.{cell_found}
 use Rattle.index.specs.Tiles.{not_empty, named_in, named_by, named}
-use Rattle.index.specs.declared.reading.IndexHead.{IndexHead}
-use Rattle.index.specs.declared.cells.Cell.{Cell}
-use Rattle.index.specs.declared.cells.Cell.TheVariants.{Is, Missing}
+use Rattle.std.specs.Prelude.{Some, None}
+use Rattle.index.specs.Contributed.{Cell}
+use Rattle.index.specs.declared.cells.Contribution as code
 use Rattle.index.proofs.Tiles.{is_one, one_here, one_later, one_cases, one_none, one_left, one_right, one_either}
 use Rattle.places.specs.Marks.{parts_in, Marks, Clash, Marked}
 
@@ -37,13 +36,13 @@ marks_none n ms e = record {
 }
 
 -- ---- the part of a cell
-parts_empty : (o z : ℕ) → z ≡ 0 → parts_in (Is o z) ≡ []
+parts_empty : (v : code.Contribution) → v.size ≡ 0 → parts_in (Some v) ≡ []
 unfolding parts_in named_in not_empty
-parts_empty o z e = rw (parts_in, named_in, not_empty, e)
+parts_empty v e = rw (parts_in, named_in, not_empty, e)
 
-parts_some : (o z : ℕ) → (z ≡ 0 → ⊥) → parts_in (Is o z) ≡ record { offset = o; size = z } ∷ []
+parts_some : (v : code.Contribution) → (v.size ≡ 0 → ⊥) → parts_in (Some v) ≡ record { offset = v.offset; size = v.size } ∷ []
 unfolding parts_in named_in not_empty
-parts_some o z n = rw (parts_in, named_in, not_empty, le-leb 1 z (omega arith))
+parts_some v n = rw (parts_in, named_in, not_empty, le-leb 1 v.size (omega arith))
 
 pub parts_found : (o : Option Contribution) → parts_in (cell_found o) ≡ named_in o
 unfolding parts_in cell_found named_in
@@ -105,27 +104,33 @@ marks_again cs ms it m sized fits e = record {
 
 -- ---- what marking the part of a cell answers
 module _ (cs : List Contribution) (ms : List ℕ) (m : Marks cs ms) (cell : Cell) where
-  pub none_marked : cell ≡ Missing → Marked (parts_in cell ++ cs) ms ms true
+  pub none_marked : cell ≡ None → Marked (parts_in cell ++ cs) ms ms true
   none_marked e = record {
     good = λ _. subst (λ (l : List Contribution). Marks (l ++ cs) ms) (none_there ∙ ap parts_in (sym e)) m;
     bad = λ z. absurd (true_false refl z);
   }
     where
-      none_there : [] ≡ parts_in Missing
+      none_there : [] ≡ parts_in None
       none_there = unfold parts_in in refl
 
-  pub empty_marked : (o z : ℕ) → cell ≡ Is o z → z ≡ 0 → Marked (parts_in cell ++ cs) ms ms true
-  empty_marked o z e n = record {
-    good = λ _. subst (λ (l : List Contribution). Marks (l ++ cs) ms) (sym (parts_empty o z n) ∙ ap parts_in (sym e)) m;
+  pub empty_marked : (v : code.Contribution) → cell ≡ Some v → v.size ≡ 0 → Marked (parts_in cell ++ cs) ms ms true
+  empty_marked v e n = record {
+    good = λ _. subst (λ (l : List Contribution). Marks (l ++ cs) ms) (sym (parts_empty v n) ∙ ap parts_in (sym e)) m;
     bad = λ y. absurd (true_false refl y);
   }
 
-  module _ (o z : ℕ) (e : cell ≡ Is o z) (some : z ≡ 0 → ⊥) where
+  module _ (v : code.Contribution) (e : cell ≡ Some v) (some : v.size ≡ 0 → ⊥) where
+    abbrev o : ℕ
+    o = v.offset
+
+    abbrev z : ℕ
+    z = v.size
+
     abbrev it : Contribution
     it = record { offset = o; size = z }
 
     parts_are : it ∷ cs ≡ parts_in cell ++ cs
-    parts_are = sym (ap (λ (l : List Contribution). l ++ cs) (ap parts_in e ∙ parts_some o z some))
+    parts_are = sym (ap (λ (l : List Contribution). l ++ cs) (ap parts_in e ∙ parts_some v some))
 
     pub outside_marked : length ms < o + z → Marked (parts_in cell ++ cs) ms ms false
     outside_marked h = record {
@@ -205,7 +210,3 @@ unfolding named
 rows_all i k cs ms ns l g m =
     let q : k ≡ i.units = omega arith in
     record { good = λ _. subst (λ (n : ℕ). Marks (rows_named i n ++ cs) ns) q m; bad = λ y. absurd (true_false refl y) }
-
-pub units_are : (big : Bool) (s : List ℕ) (head : IndexHead) → (index_in big s head).units ≡ head.units
-unfolding index_in layout
-units_are big s head = refl

@@ -4,6 +4,7 @@ use mathlib.Core.Path.{◌≡◌, refl, sym, ap, ◌∙◌, subst}
 use mathlib.Core.Logic.{◌⊎◌, inl, inr, ⊎_elim}
 use mathlib.Core.Bool.{true, false}
 use mathlib.Core.List.{List, [], ◌∷◌}
+use mathlib.Core.Option.{Option, some, none}
 use Prim.Native.Nat.{ℕ, suc, ◌+◌, ◌-◌, ◌<◌, ◌≤◌}
 use native.Mathlib.Omega.{arith}
 use native.Mathlib.Decide.{ℕ_discrete}
@@ -12,6 +13,8 @@ use lib.Dec.{eqb}
 use lib.ListN.{length, drop, get_or, drop_of_length-le}
 use lib.Seq.{drop-cons}
 use borrow.Author.Tests.{eqb-true, eq-eqb, ne_eqb}
+use Rattle.std.specs.Prelude.{Some, None}
+use Rattle.octets.specs.Options.{found}
 use Rattle.octets.specs.Checked.{pass, refuse}
 use Rattle.octets.proofs.Checks.{true_false}
 use Rattle.octets.proofs.Refusals.{only_refuses}
@@ -19,30 +22,29 @@ use Rattle.index.specs.Index.{Contribution}
 use Rattle.index.specs.Tiles.{tiles}
 use Rattle.index.proofs.Tiles.{is_one, one_here, one_later, one_cases, one_none, Tiling, Tiles, Tiled, tiles_tiled, tiled_tiles, facts_tiled, tiles_only}
 use Rattle.places.specs.Marks.{Marks, Clash, turned, marks_good}
-use Rattle.places.specs.declared.tiles.Turn.TheVariants.{Left, Broken}
 
 -- ---- turns
-pub turned_start : (left n : ℕ) → left ≡ 0 → (n ≡ 0 → ⊥) → turned left n ≡ Left (n - 1)
+pub turned_start : (left n : ℕ) → left ≡ 0 → (n ≡ 0 → ⊥) → turned left n ≡ some (n - 1)
 unfolding turned
 turned_start left n e f = rw (turned, eq-eqb left 0 e, ne_eqb n 0 f)
 
-pub turned_on : (left n : ℕ) → (left ≡ 0 → ⊥) → n ≡ 0 → turned left n ≡ Left (left - 1)
+pub turned_on : (left n : ℕ) → (left ≡ 0 → ⊥) → n ≡ 0 → turned left n ≡ some (left - 1)
 unfolding turned
 turned_on left n e f = rw (turned, ne_eqb left 0 e, eq-eqb n 0 f)
 
-pub turned_none : (left n : ℕ) → left ≡ 0 → n ≡ 0 → turned left n ≡ Broken
+pub turned_none : (left n : ℕ) → left ≡ 0 → n ≡ 0 → turned left n ≡ none
 unfolding turned
 turned_none left n e f = rw (turned, eq-eqb left 0 e, eq-eqb n 0 f)
 
-pub turned_inside : (left n : ℕ) → (left ≡ 0 → ⊥) → (n ≡ 0 → ⊥) → turned left n ≡ Broken
+pub turned_inside : (left n : ℕ) → (left ≡ 0 → ⊥) → (n ≡ 0 → ⊥) → turned left n ≡ none
 unfolding turned
 turned_inside left n e f = rw (turned, ne_eqb left 0 e, ne_eqb n 0 f)
 
-good_on : (left n more : ℕ) (ms : List ℕ) → turned left n ≡ Left more → marks_good left (n ∷ ms) ≡ marks_good more ms
+good_on : (left n more : ℕ) (ms : List ℕ) → turned left n ≡ some more → marks_good left (n ∷ ms) ≡ marks_good more ms
 unfolding marks_good
 good_on left n more ms e = rw (marks_good, e)
 
-good_stops : (left n : ℕ) (ms : List ℕ) → turned left n ≡ Broken → marks_good left (n ∷ ms) ≡ false
+good_stops : (left n : ℕ) (ms : List ℕ) → turned left n ≡ none → marks_good left (n ∷ ms) ≡ false
 unfolding marks_good
 good_stops left n ms e = rw (marks_good, e)
 
@@ -50,19 +52,27 @@ good_end : (left : ℕ) → marks_good left [] ≡ eqb left 0
 unfolding marks_good
 good_end left = refl
 
--- of the loop
-pub walk_on : (ms : List ℕ) (i left n more : ℕ) → i < length ms → n ≡ get_or ms i 0 → Left more ≡ turned left n → marks_good left (drop i ms) ≡ marks_good more (drop (i + 1) ms)
-walk_on ms i left n more h e t = rw (add-one, drop-cons ms i 0 h) (good_on left (get_or ms i 0) more (drop (suc i) ms) (ap (turned left) (sym e) ∙ sym t))
+found_some : (o : Option ℕ) (k : ℕ) → Some k ≡ found o → o ≡ some k
+found_some (some n) k e = let q : k ≡ n = cc in rw q
+found_some none k e = absurd (let z : ◌≡◌ {A = ℕ} 0 1 = cc in omega arith)
 
-pub walk_stops : (ms : List ℕ) (i left n : ℕ) → i < length ms → n ≡ get_or ms i 0 → Broken ≡ turned left n → marks_good left (drop i ms) ≡ false
-walk_stops ms i left n h e t = rw (drop-cons ms i 0 h) (good_stops left (get_or ms i 0) (drop (suc i) ms) (ap (turned left) (sym e) ∙ sym t))
+found_none : (o : Option ℕ) → None ≡ found o → o ≡ none
+found_none none e = refl
+found_none (some n) e = absurd (let z : ◌≡◌ {A = ℕ} 0 1 = cc in omega arith)
+
+-- of the loop
+pub walk_on : (ms : List ℕ) (i left n more : ℕ) → i < length ms → n ≡ get_or ms i 0 → Some more ≡ found (turned left n) → marks_good left (drop i ms) ≡ marks_good more (drop (i + 1) ms)
+walk_on ms i left n more h e t = rw (add-one, drop-cons ms i 0 h) (good_on left (get_or ms i 0) more (drop (suc i) ms) (ap (turned left) (sym e) ∙ found_some (turned left n) more t))
+
+pub walk_stops : (ms : List ℕ) (i left n : ℕ) → i < length ms → n ≡ get_or ms i 0 → None ≡ found (turned left n) → marks_good left (drop i ms) ≡ false
+walk_stops ms i left n h e t = rw (drop-cons ms i 0 h) (good_stops left (get_or ms i 0) (drop (suc i) ms) (ap (turned left) (sym e) ∙ found_none (turned left n) t))
 
 pub walk_end : (ms : List ℕ) (i left : ℕ) → length ms ≤ i → marks_good left (drop i ms) ≡ eqb left 0
 walk_end ms i left h = rw (drop_of_length-le ms h) (good_end left)
 
 -- ---- a turn that passed
 turned_cases : (left n : ℕ)
-    → ((left ≡ 0) × (n ≡ 0 → ⊥) × (turned left n ≡ Left (n - 1))) ⊎ ((left ≡ 0 → ⊥) × (n ≡ 0) × (turned left n ≡ Left (left - 1))) ⊎ (turned left n ≡ Broken)
+    → ((left ≡ 0) × (n ≡ 0 → ⊥) × (turned left n ≡ some (n - 1))) ⊎ ((left ≡ 0 → ⊥) × (n ≡ 0) × (turned left n ≡ some (left - 1))) ⊎ (turned left n ≡ none)
 turned_cases left n = elim (ℕ_discrete left 0) [
   | yes l ↦ elim (ℕ_discrete n 0) [ yes z ↦ inr (inr (turned_none left n l z)) | no z ↦ inl (l, z, turned_start left n l z) ]
   | no l ↦ elim (ℕ_discrete n 0) [ yes z ↦ inr (inl (l, z, turned_on left n l z)) | no z ↦ inr (inr (turned_inside left n l z)) ]
@@ -204,7 +214,7 @@ module _ (cs : List Contribution) (ms : List ℕ) (m : Marks cs ms) where
 
 -- parts that clash don't tile
 pub clash_refused : (cs : List Contribution) (s : List ℕ) → ((c : Contribution) → is_one cs c ≡ true → 1 ≤ c.size) → Clash cs (length s) → tiles cs s ≡ refuse 34
-clash_refused cs s some k = only_refuses 34 (tiles cs s) (tiles_only cs s) (λ ts q. never (tiles_tiled cs some s ts q))
+clash_refused cs s sized k = only_refuses 34 (tiles cs s) (tiles_only cs s) (λ ts q. never (tiles_tiled cs sized s ts q))
   where
     never : Tiled cs (length s) → ⊥
     never t = ⊎_elim
@@ -212,8 +222,8 @@ clash_refused cs s some k = only_refuses 34 (tiles cs s) (tiles_only cs s) (λ t
         (λ h. ⊎_elim
         (λ (q : k.first ≡ k.second). h.1 (ap (λ (c : Contribution). c.size) q))
         (λ w. ⊎_elim
-        (λ l. let x = some k.first k.first_is in omega (arith, l, h.0))
-        (λ l. let x = some k.second k.second_is in omega (arith, l, h.0))
+        (λ l. let x = sized k.first k.first_is in omega (arith, l, h.0))
+        (λ l. let x = sized k.second k.second_is in omega (arith, l, h.0))
         w)
         (t.apart k.first k.second k.first_is k.second_is))
         k.clash

@@ -1,15 +1,11 @@
 -- Chains of rows: the rows that name a place in one word of a section, the last one first.
 -- Assumes nothing.
-use Rattle.std.specs.Prelude.{◌≡◌, Bool, true, false, List, [], ◌∷◌, ℕ, ◌+◌, ◌-◌, ◌/◌, ◌<◌, ◌≤◌, eqb, ltb, length, get_or, set}
+use Rattle.std.specs.Prelude.{◌≡◌, Some, None, Bool, true, false, List, [], ◌∷◌, ℕ, ◌+◌, ◌-◌, ◌/◌, ◌<◌, ◌≤◌, eqb, ltb, length, get_or, set}
 use Rattle.std.proofs.Math.Option.{Option, some, none}
 use Rattle.octets.specs.Lists.{those}
-use Rattle.octets.specs.Checked.{Check, pass, refuse}
 use Rattle.index.specs.Index.{Index, Contribution, cell_of}
 use Rattle.index.specs.Rows.{row_numbers}
-use Rattle.places.specs.declared.by_place.Told.{Told}
-use Rattle.places.specs.declared.by_place.Told.TheVariants.{On, Several}
-use Rattle.index.specs.declared.cells.Cell.{Cell}
-use Rattle.index.specs.declared.cells.Cell.TheVariants.{Is, Missing}
+use Rattle.index.specs.Contributed.{Cell}
 
 -- a row names a place in that word of the section
 unfoldable pub in_word : ℕ → Option Contribution → Bool
@@ -39,15 +35,5 @@ unfoldable pub with_row : List ℕ → ℕ → ℕ → ℕ → List ℕ
 with_row w heads row word = elim (ltb word heads) [ true ↦ set (set w (heads + row - 1) (get_or w word 0)) word row | false ↦ w ]
 
 unfoldable pub with_cell : List ℕ → ℕ → ℕ → Cell → List ℕ
-with_cell w heads row (Is offset size) = with_row w heads row (offset / 4)
-with_cell w heads row Missing = w
-
--- the one row, 0 where 15 is the answer
-unfoldable pub row_told : Check ℕ → ℕ
-row_told (pass r) = r
-row_told (refuse n) = 0
-
--- what is found once a row is passed
-unfoldable pub told : Bool → ℕ → ℕ → Told
-told false row found = On found
-told true row found = elim (eqb found 0) [ true ↦ On row | false ↦ Several ]
+with_cell w heads row (Some c) = with_row w heads row (c.offset / 4)
+with_cell w heads row None = w

@@ -1,22 +1,24 @@
 -- Marks: for each byte of a section the size of the part that starts there, 0 where none does.
 -- Assumes nothing.
 use Rattle.std.specs.Prelude.{◌≡◌, ◌⊎◌, Bool, true, false, List, [], ◌∷◌, ℕ, ◌+◌, ◌-◌, ◌<◌, ◌≤◌, eqb, length, get_or}
-use Rattle.std.proofs.Math.Option.{some}
+use Rattle.std.specs.Prelude.{Some, None}
+use Rattle.std.proofs.Math.Option.{Option, some, none}
 use Rattle.octets.specs.Checked.{pass, refuse}
 use Rattle.bundle.specs.Encoding.{Encoding}
 use Rattle.strings.specs.Strings.{entries_of}
 use Rattle.index.specs.Index.{Contribution}
 use Rattle.index.specs.Tiles.{named_in}
-use Rattle.index.specs.declared.cells.Cell.{Cell}
-use Rattle.index.specs.declared.cells.Cell.TheVariants.{Is, Missing}
+use Rattle.index.specs.Contributed.{Cell}
 use Rattle.index.proofs.Tiles.{is_one, Tiling, part_of}
-use Rattle.places.specs.declared.tiles.Turn.{Turn}
-use Rattle.places.specs.declared.tiles.Turn.TheVariants.{Left, Broken}
+
+-- a part of the section
+abbrev pub Part : Type 0
+Part = Contribution
 
 -- the part that a cell names, where it is not empty
 unfoldable pub parts_in : Cell → List Contribution
-parts_in (Is offset size) = named_in (some (record { offset = offset; size = size }))
-parts_in Missing = []
+parts_in (Some c) = named_in (some (record { offset = c.offset; size = c.size }))
+parts_in None = []
 
 -- these parts, none of them empty, are marked, and nothing else is
 pub record Marks (cs : List Contribution) (ms : List ℕ) : Type 0 where
@@ -38,18 +40,18 @@ pub record Marked (cs : List Contribution) (ms ns : List ℕ) (r : Bool) : Type 
   pub good : r ≡ true → Marks cs ns
   pub bad : r ≡ false → Clash cs (length ms)
 
--- a place passed
-unfoldable pub turned : ℕ → ℕ → Turn
+-- a place passed: how many bytes are left of the part at hand, where a part starts where one must and nowhere else
+unfoldable pub turned : ℕ → ℕ → Option ℕ
 turned left n =
     elim (eqb left 0) [
-      | true ↦ elim (eqb n 0) [ true ↦ Broken | false ↦ Left (n - 1) ]
-      | false ↦ elim (eqb n 0) [ true ↦ Left (left - 1) | false ↦ Broken ]
+      | true ↦ elim (eqb n 0) [ true ↦ none | false ↦ some (n - 1) ]
+      | false ↦ elim (eqb n 0) [ true ↦ some (left - 1) | false ↦ none ]
     ]
 
 -- from a place on, where so many bytes are left of the part at hand: parts start where one ends, and nowhere else, and the last one ends with the section
 unfoldable pub marks_good : ℕ → List ℕ → Bool
 marks_good left [] = eqb left 0
-marks_good left (n ∷ ms) = elim (turned left n) [ Left more ↦ marks_good more ms | Broken ↦ false ]
+marks_good left (n ∷ ms) = elim (turned left n) [ some more ↦ marks_good more ms | none ↦ false ]
 
 -- parts that tile the section, one behind the other, each of the size that is marked at its place
 pub record TiledBy (ms : List ℕ) (ts : List Contribution) : Type 0 where

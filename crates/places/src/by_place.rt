@@ -1,115 +1,83 @@
 // The rows of an index by the place that they name in a section: a chain of rows for each word of the section, so that the rows of one place are found without a
 // walk over all of them. In lent words: first the heads of the chains, one for each word of the section, then for each row the next one of its chain; 0 ends it.
 ghost use Rattle.std.specs.Prelude.{◌≡◌, ℕ, ◌+◌, ◌/◌, ◌<◌, ◌≤◌, ◌^◌, length};
-ghost use Rattle.index.specs.Held.{Sized, index_in};
+ghost use Rattle.numbers.specs.Refused.{told};
+ghost use Rattle.numbers.specs.Sections.{info_code};
 ghost use Rattle.index.specs.Index.{cell_of};
 ghost use Rattle.index.specs.Rows.{naming, the_one, cell_is, own_place};
-ghost use Rattle.numbers.specs.Sections.{info_code};
-ghost use Rattle.places.specs.Chains.{Chained, row_told, told, with_cell};
+ghost use Rattle.places.specs.Chains.{Chained, with_cell};
 
-use index::cells::Cell;
-use index::reading::IndexHead;
+use index::cells::Contribution;
+use index::reading::Index;
+use numbers::refusals::Refusal;
 use numbers::sections::INFO;
 
+// The lender has one region for heads and rows alike, so how many of the words are heads stands beside them.
 // Puts a row before those of its word. One that names no place of the section is in no chain.
-fn chain_row(words: &mut [u32], heads: usize, row: usize, cell: Cell)
+#[tactic(auto, using(crate::proofs::Chaining::put_none, crate::proofs::Chaining::put_outside, crate::proofs::Chaining::put_inside))]
+fn chain_row(words: &mut [u32], heads: usize, row: usize, cell: Option<Contribution>)
     requires { (0 < row) × (row < 2 ^ 32) × (heads + row ≤ length words.old) }
     ensures { words.new ≡ with_cell words.old heads row cell }
 {
-    let Cell::Is(offset, _) = cell else {
+    let Some(place) = cell else {
         return;
     };
-    let word = offset / 4;
-    if heads <= word {
-        return;
+    let word = place.offset / 4;
+    if word < heads {
+        words[heads + row - 1] = words[word];
+        words[word] = row as u32;
     }
-    let next = heads + row - 1;
-    words[next] = words[word];
-    words[word] = octets::narrow(row);
 }
 
-// Chains all rows of an index by the places that they name in a section. The caller has read the index well, and lends a word for each head and each row.
-pub fn chain_rows(
-    big: bool,
-    s: &[u8],
-    head: IndexHead,
-    section: usize,
-    heads: usize,
-    words: &mut [u32],
-)
-    requires { Sized s.now head × (head.units < 2 ^ 32) × (heads + head.units ≤ length words.old) }
-    ensures { Chained (index_in big s.now head) section heads words.new }
+// Chains all rows of an index by the places that they name in a section. The caller lends a word for each head and each row.
+pub fn chain_rows(index: &Index, section: usize, heads: usize, words: &mut [u32])
+    requires { (index.now.units < 2 ^ 32) × (heads + index.now.units ≤ length words.old) }
+    ensures { Chained index.now section heads words.new }
 {
-    octets::clear_words(&mut words[..heads]);
-    let units = head.units;
-    let mut row = 0;
-    while row < units {
-        row += 1;
-        let cell = index::cells::cell_of(big, s, head, row, section);
+    words[..heads].fill(0);
+    for passed in 0..index.head().units {
+        let row = passed + 1;
+        let cell = index.cell_of(row, section);
         chain_row(words, heads, row, cell);
     }
 }
 
 // Whether a row names a place of info.
-fn names(big: bool, s: &[u8], head: IndexHead, row: usize, at: usize, size: usize) -> bool
-    requires { Sized s.now head × (0 < row) × (row ≤ head.units) }
-    ensures { result ≡ cell_is (own_place at size) (cell_of (index_in big s.now head) row info_code) }
+#[tactic(auto, using(crate::proofs::Chaining::names_none, crate::proofs::Chaining::names_some))]
+fn names(index: &Index, row: usize, at: usize, size: usize) -> bool
+    requires { (0 < row) × (row ≤ index.now.units) }
+    ensures { result ≡ cell_is (own_place at size) (cell_of index.now row info_code) }
 {
-    let Cell::Is(offset, length) = index::cells::cell_of(big, s, head, row, INFO) else {
-        return false;
-    };
-    if offset != at {
-        return false;
+    match index.cell_of(row, INFO) {
+        Some(place) => place.offset == at && place.size == size,
+        None => false,
     }
-    length == size
 }
 
-// What was found so far, once a row is passed: 0 while no row names the place.
-#[derive(Clone, Copy)]
-pub enum Told {
-    On(usize),
-    Several,
-}
-
-fn tell(named: bool, row: usize, found: usize) -> Told
-    ensures { result ≡ told named row found }
-{
-    if !named {
-        return Told::On(found);
-    }
-    if found == 0 {
-        return Told::On(row);
-    }
-    Told::Several
-}
-
-// The one row that names a place of info, 0 where there is none or several. The caller has chained the rows by info, and the place lies in it.
+// The one row that names a place of info; 15 where there is none or several. The caller has chained the rows by info, and the place lies in it.
 pub fn row_at(
-    big: bool,
-    s: &[u8],
-    head: IndexHead,
+    index: &Index,
     heads: usize,
     words: &[u32],
     at: usize,
     size: usize,
-) -> usize
-    requires { Sized s.now head × (at / 4 < heads) × Chained (index_in big s.now head) info_code heads words.now }
-    ensures { result ≡ row_told (the_one (naming (index_in big s.now head) at size)) }
+) -> Result<usize, Refusal>
+    requires { (at / 4 < heads) × Chained index.now info_code heads words.now }
+    ensures { told result ≡ the_one (naming index.now at size) }
 {
-    let mut found = 0;
-    let mut row = octets::word(words, at / 4);
-    let mut left = head.units;
-    while 0 < left {
+    let mut found = None;
+    let mut row = words[at / 4] as usize;
+    for passed in 0..index.head().units {
         if row == 0 {
-            return found;
+            break;
         }
-        let named = names(big, s, head, row, at, size);
-        let Told::On(next) = tell(named, row, found) else {
-            return 0;
-        };
-        found = next;
-        row = octets::word(words, heads + row - 1);
-        left -= 1;
+        if names(index, row, at, size) {
+            if found.is_some() {
+                return Err(Refusal::NoRow);
+            }
+            found = Some(row);
+        }
+        row = words[heads + row - 1] as usize;
     }
-    found
+    found.ok_or(Refusal::NoRow)
 }

@@ -58,7 +58,7 @@ present_is (some i) = refl
 present_is none = refl
 
 row_is : (o : Option Index) → row_in (indexed o) ≡ has_row o
-unfolding indexed has_row head_of
+unfolding indexed has_row
 row_is (some i) = refl
 row_is none = refl
 

@@ -8,7 +8,7 @@ use native.Mathlib.Decide.{dec_le}
 use lib.ListN.{length, set, length-append}
 use borrow.Author.Tests.{lt-ltb, le-ltb}
 use Rattle.octets.specs.Octets.{placed}
-use Rattle.octets.proofs.Placed.{placed_back, placed_placed, placed_three}
+use Rattle.octets.proofs.Placed.{placed_back, placed_placed}
 use Rattle.sheet.specs.Sheet.{digit, hex, decimal, line, space, newline}
 
 -- ---- digits
@@ -41,11 +41,6 @@ pub placed_next : (d e x y : List ℕ) (at n : ℕ) → e ≡ placed d at x → 
 placed_next d e x y at n p l h =
     let g : at + length x ≤ length d = omega arith in
     ap (λ (z : List ℕ). placed z (at + n) y) p ∙ ap (λ (k : ℕ). placed (placed d at x) (at + k) y) (sym l) ∙ placed_placed d at x y g
-
-pub section_placed : (d : List ℕ) (at n a b : ℕ) → at + 3 ≤ length d → a ≡ digit (n / 10) → b ≡ digit (n % 10)
-    → set (set (set d at a) (at + 1) b) (at + 2) space ≡ placed d at (decimal n ++ (space ∷ []))
-unfolding decimal
-section_placed d at n a b h p q = placed_three d at a b space h ∙ rw (p, q)
 
 -- ---- the line
 fields : (letter x c o z : ℕ) → List ℕ
@@ -82,15 +77,15 @@ module _ (letter x c o z : ℕ) where
       ∙ length-append ((((letter ∷ space ∷ []) ++ (hex 16 x ++ (space ∷ []))) ++ (decimal c ++ (space ∷ []))) ++ (hex 8 o ++ (space ∷ []))) (hex 8 z ++ (newline ∷ []))
       ∙ rw (four, length_field 8 z newline) (omega arith)
 
-  -- as the fields are stored one behind the other, the offset and the size as numbers of 64 bits
-  pub line_placed : (d d₁ d₂ d₃ d₄ d₅ : List ℕ) (at o' z' : ℕ) → at + 40 ≤ length d → o' ≡ o → z' ≡ z → d₁ ≡ placed d at (letter ∷ space ∷ [])
+  -- as the fields are stored one behind the other
+  pub line_placed : (d d₁ d₂ d₃ d₄ d₅ : List ℕ) (at : ℕ) → at + 40 ≤ length d → d₁ ≡ placed d at (letter ∷ space ∷ [])
       → d₂ ≡ placed d₁ (at + 2) (hex 16 x ++ (space ∷ [])) → d₃ ≡ placed d₂ (at + 19) (decimal c ++ (space ∷ []))
-      → d₄ ≡ placed d₃ (at + 22) (hex 8 o' ++ (space ∷ [])) → d₅ ≡ placed d₄ (at + 31) (hex 8 z' ++ (newline ∷ []))
+      → d₄ ≡ placed d₃ (at + 22) (hex 8 o ++ (space ∷ [])) → d₅ ≡ placed d₄ (at + 31) (hex 8 z ++ (newline ∷ []))
       → d₅ ≡ placed d at (line letter x c o z)
   unfolding fields
-  line_placed d d₁ d₂ d₃ d₄ d₅ at o' z' h eo ez e₁ e₂ e₃ e₄ e₅ =
+  line_placed d d₁ d₂ d₃ d₄ d₅ at h e₁ e₂ e₃ e₄ e₅ =
       let p₂ = e₂ ∙ placed_next d d₁ (letter ∷ space ∷ []) (hex 16 x ++ (space ∷ [])) at 2 e₁ refl (omega arith) in
       let p₃ = e₃ ∙ placed_next d d₂ _ (decimal c ++ (space ∷ [])) at 19 p₂ two (omega arith) in
-      let p₄ = (rw eo at e₄) ∙ placed_next d d₃ _ (hex 8 o ++ (space ∷ [])) at 22 p₃ three (omega arith) in
-      let p₅ = (rw ez at e₅) ∙ placed_next d d₄ _ (hex 8 z ++ (newline ∷ [])) at 31 p₄ four (omega arith) in
+      let p₄ = e₄ ∙ placed_next d d₃ _ (hex 8 o ++ (space ∷ [])) at 22 p₃ three (omega arith) in
+      let p₅ = e₅ ∙ placed_next d d₄ _ (hex 8 z ++ (newline ∷ [])) at 31 p₄ four (omega arith) in
       p₅ ∙ ap (placed d at) (line_fields letter x c o z)

@@ -1,9 +1,11 @@
 -- Laws of marks: one that was set stands, the others are as they were.
 -- Assumes nothing.
 use mathlib.Core.Path.{◌≡◌, refl, sym, ap, ◌∙◌}
-use mathlib.Core.Bool.{true, false}
+use mathlib.Core.Bool.{Bool, true, false, ◌&&◌}
+use native.Mathlib.Numerals.{add-one}
+use Rattle.std.specs.List.{list_all, range_with_len}
 use mathlib.Core.List.{List}
-use Prim.Native.Nat.{ℕ, zero, suc, ◌+◌, ◌*◌, ◌-◌, ◌/◌, ◌%◌, ◌^◌, ◌≤◌, ◌<◌}
+use Prim.Native.Nat.{ℕ, zero, suc, ◌+◌, ◌*◌, ◌-◌, ◌/◌, ◌%◌, ◌^◌, ◌<◌}
 use native.Mathlib.Omega.{arith}
 use native.Mathlib.Nat.{one-mul, zero-div, div-eq_of_lt}
 use native.Mathlib.Decide.{ℕ_discrete, dec_le}
@@ -74,19 +76,13 @@ pub length_with_mark : (words : List ℕ) (n : ℕ) → length (with_mark words 
 unfolding with_mark
 length_with_mark words n = simp length-set
 
--- ---- rows marked one after the other, up to n
-module _ (words : List ℕ) (row n : ℕ) where
-  left : row < n → n - row ≡ suc (n - (row + 1))
-  left h = omega arith
-
-  pub all_on : row < n → marked words (row + 1) ≡ true → all_marked words (row + 1) (n - row) ≡ all_marked words (row + 1 + 1) (n - (row + 1))
-  unfolding all_marked
-  all_on h e = rw (left h, all_marked, e) (let z : suc (row + 1) ≡ row + 1 + 1 = omega arith in rw z)
-
-  pub all_stops : row < n → marked words (row + 1) ≡ false → all_marked words (row + 1) (n - row) ≡ false
-  unfolding all_marked
-  all_stops h e = rw (left h, all_marked, e)
-
-  pub all_end : n ≤ row → all_marked words (row + 1) (n - row) ≡ true
-  unfolding all_marked
-  all_end h = let z : n - row ≡ 0 = omega arith in rw z
+-- ---- rows marked one after the other
+pub all_from : (words : List ℕ) (row n : ℕ) → list_all (marked words) (range_with_len row n) ≡ all_marked words row n
+unfolding all_marked
+all_from words row zero = refl
+all_from words row (suc n) = go (marked words row) (all_from words (row + 1) n ∙ ap (λ (r : ℕ). all_marked words r n) (add-one row))
+  where
+    go : (t : Bool) → list_all (marked words) (range_with_len (row + 1) n) ≡ all_marked words (suc row) n
+        → (t && list_all (marked words) (range_with_len (row + 1) n)) ≡ elim t [ true ↦ all_marked words (suc row) n | false ↦ false ]
+    go true e = e
+    go false e = refl

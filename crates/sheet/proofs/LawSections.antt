@@ -2,7 +2,8 @@
 -- Assumes nothing.
 use mathlib.Core.Path.{◌≡◌, refl, ◌∙◌}
 use mathlib.Core.Bool.{Bool, true, false}
-use mathlib.Core.List.{List, [], ◌∷◌}
+use mathlib.Core.List.{List, [], ◌∷◌, map}
+use mathlib.Core.Logic.{⊎_elim}
 use Prim.Native.Nat.{ℕ, ◌+◌, ◌≤◌, ◌<◌}
 use native.Mathlib.Nat.{not-suc-le-zero}
 use native.Mathlib.Decide.{ℕ_discrete}
@@ -12,29 +13,23 @@ use lib.Dec.{eqb, leb}
 use lib.ListN.{length, drop, get_or, set, drop_of_length-le, length-set}
 use lib.Seq.{drop-cons, get_or-set_same, get_or-set_other}
 use borrow.Author.Tests.{eq-eqb, ne_eqb, leb-true}
+use Rattle.std.specs.Prelude.{find}
+use Rattle.std.specs.Option.{option_map_or}
 use Rattle.octets.specs.Lists.{all}
+use Rattle.octets.proofs.Checks.{known}
+use Rattle.index.specs.Cells.{column_place}
 use Rattle.octets.proofs.Lists.{all_head, all_tail}
 use Rattle.index.specs.Columns.{Column, columns_of, columns_four, columns_five}
 use Rattle.index.specs.Index.{Index}
 use Rattle.sheet.specs.Sheet.{section_in}
 use Rattle.sheet.specs.Held.{Sections}
 
-abbrev nothing : Column
-nothing = record { section = 0; column = 0 }
-
--- ---- a loop over the columns
-module _ (cs : List Column) (k code : ℕ) where
-  pub section_here : (section : ℕ) → k < length cs → section ≡ (get_or cs k nothing).section → (get_or cs k nothing).column ≡ code → section ≡ section_in (drop k cs) code
-  unfolding section_in
-  section_here section h s e = s ∙ rw (drop-cons cs k nothing h, section_in, eq-eqb (get_or cs k nothing).column code e)
-
-  pub section_on : k < length cs → ((get_or cs k nothing).column ≡ code → ⊥) → section_in (drop (k + 1) cs) code ≡ section_in (drop k cs) code
-  unfolding section_in
-  section_on h e = rw (add-one, drop-cons cs k nothing h, section_in, ne_eqb (get_or cs k nothing).column code e)
-
-  pub section_none : length cs ≤ k → 0 ≡ section_in (drop k cs) code
-  unfolding section_in
-  section_none h = rw (drop_of_length-le cs h)
+-- ---- a search for the column of a code
+pub section_finds : (cs : List Column) (code : ℕ)
+    → option_map_or (λ c. c.section) (find (λ c. eqb c.column code) (map column_place cs)) 0 ≡ section_in cs code
+unfolding section_in column_place
+section_finds [] code = refl
+section_finds (c ∷ cs) code = ⊎_elim (λ (p : eqb c.column code ≡ true). rw (section_in, p)) (λ (p : eqb c.column code ≡ false). rw (section_in, p) (section_finds cs code)) (known (eqb c.column code))
 
 -- ---- codes of sections have two digits
 below : (cs : List Column) → all (λ c. leb c.section 99) cs ≡ true → (code : ℕ) → section_in cs code < 100

@@ -12,8 +12,8 @@ use borrow.Author.Tests.{le-leb, lt-leb}
 use borrow.Rule.Slice.PartMut.{put_mid}
 use Rattle.numbers.specs.Refusals.{bad_package, page_short}
 use Rattle.octets.specs.Octets.{zeros, padded}
-use Rattle.octets.specs.Checked.{Check, pass, refuse, mapped}
-use Rattle.octets.proofs.Checks.{then_pass, then_refuse, pass_refuse, pass_inj, refuse_inj, known}
+use Rattle.octets.specs.Checked.{Check, pass, refuse}
+use Rattle.octets.proofs.Checks.{then_pass, then_refuse, pass_refuse, known}
 use Rattle.octets.proofs.Placed.{length_zeros, length_padded, padded_step, padded_full}
 use Rattle.octets.proofs.Parts.{cut_rest}
 use Rattle.octets.proofs.Regions.{placed_whole}
@@ -27,17 +27,6 @@ use Rattle.sheet.specs.Held.{single}
 use Rattle.sheet.specs.Laid.{letter_of, table_of, both_of, lines_of, TableFits, BothFit}
 use Rattle.sheet.proofs.LawSlots.{single_lines, not_single_lines}
 
--- ---- what a measure says
-pub measured_bad : (m : Check (List ℕ)) (n : ℕ) → refuse n ≡ mapped length m → m ≡ refuse n
-unfolding mapped
-measured_bad (pass l) n e = absurd (pass_refuse _ _ (sym e))
-measured_bad (refuse k) n e = ap refuse (refuse_inj {A = ℕ} (sym e))
-
-pub measured_good : (m : Check (List ℕ)) (n : ℕ) → pass n ≡ mapped length m → (l : List ℕ) × (m ≡ pass l) × (length l ≡ n)
-unfolding mapped
-measured_good (pass l) n e = (l, refl, sym (pass_inj e))
-measured_good (refuse k) n e = absurd (pass_refuse _ _ e)
-
 -- ---- a refusal
 pub refused_page : (a : Answer) (o n : ℕ) → a ≡ refused n → zeros o ≡ output_of a o
 unfolding output_of
@@ -48,35 +37,28 @@ unfolding written_of
 refused_told a n e = sym (ap written_of e)
 
 -- ---- the lines of both tables
-table_refused : (letter : ℕ) (m : Option Index) (n : ℕ) → table_lines letter m ≡ refuse n → table_lines letter m ≡ refuse bad_package
-unfolding table_lines
-table_refused letter none n e = absurd (pass_refuse _ _ e)
-table_refused letter (some i) n e =
-    ⊎_elim (λ t. absurd (pass_refuse _ _ (sym (single_lines letter i 1 i.units t) ∙ e))) (λ t. not_single_lines letter i 1 i.units t)
-    (known (single i.rows i.identities 1 i.units))
-
 pub both_are : (p a b : List ℕ) → table_of p 1 ≡ pass a → table_of p 2 ≡ pass b → both_of p ≡ pass (a ++ b)
 unfolding both_of
 both_are p a b ea eb = then_pass _ _ a ea ∙ then_pass _ _ b eb
 
 module _ (p : List ℕ) (o : ℕ) where
-  pub sheet_closed : package_of p ≡ refuse bad_package → sheet_of p o ≡ refused bad_package
+  pub sheet_closed : (n : ℕ) → package_of p ≡ refuse n → sheet_of p o ≡ refused n
   unfolding sheet_of sheet_lines on_page
-  sheet_closed e = ap (λ (m : Check (List ℕ)). on_page m o) (then_refuse _ _ bad_package e)
+  sheet_closed n e = ap (λ (m : Check (List ℕ)). on_page m o) (then_refuse _ _ n e)
 
   module _ (is : package_of p ≡ pass (package_in p)) where
     opened : sheet_lines p ≡ both_of p
     unfolding sheet_lines both_of table_of letter_of index_for
     opened = then_pass _ _ _ is
 
-    pub sheet_compilations : (n : ℕ) → table_of p 1 ≡ refuse n → sheet_of p o ≡ refused bad_package
-    unfolding sheet_of on_page table_of both_of
-    sheet_compilations n e = ap (λ (m : Check (List ℕ)). on_page m o) (opened ∙ then_refuse _ _ bad_package (table_refused _ _ n e))
+    pub sheet_compilations : (n : ℕ) → table_of p 1 ≡ refuse n → sheet_of p o ≡ refused n
+    unfolding sheet_of on_page both_of
+    sheet_compilations n e = ap (λ (m : Check (List ℕ)). on_page m o) (opened ∙ then_refuse _ _ n e)
 
     module _ (a : List ℕ) (ea : table_of p 1 ≡ pass a) where
-      pub sheet_types : (n : ℕ) → table_of p 2 ≡ refuse n → sheet_of p o ≡ refused bad_package
-      unfolding sheet_of on_page table_of both_of
-      sheet_types n e = ap (λ (m : Check (List ℕ)). on_page m o) (opened ∙ then_pass _ _ a ea ∙ then_refuse _ _ bad_package (table_refused _ _ n e))
+      pub sheet_types : (n : ℕ) → table_of p 2 ≡ refuse n → sheet_of p o ≡ refused n
+      unfolding sheet_of on_page both_of
+      sheet_types n e = ap (λ (m : Check (List ℕ)). on_page m o) (opened ∙ then_pass _ _ a ea ∙ then_refuse _ _ n e)
 
       module _ (b : List ℕ) (eb : table_of p 2 ≡ pass b) where
         lines : sheet_lines p ≡ pass (a ++ b)

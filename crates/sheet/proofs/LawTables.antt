@@ -7,15 +7,14 @@ use mathlib.Core.Option.{Option, some, none}
 use mathlib.Core.Logic.{⊎_elim}
 use Prim.Native.Nat.{ℕ, ◌+◌, ◌*◌, ◌≤◌, ◌<◌}
 use native.Mathlib.Omega.{arith}
-use native.Mathlib.Nat.{sub-zero, mul-le-mul_right}
+use native.Mathlib.Nat.{sub-zero}
 use native.Mathlib.Decide.{ℕ_discrete}
 use lib.ListN.{length}
 use borrow.Author.Tests.{eq-eqb, ne_eqb}
+use Rattle.std.specs.Prelude.{Some}
 use Rattle.octets.specs.Octets.{zeros, padded, part}
-use Rattle.std.specs.Prelude.{Some, None}
+use Rattle.octets.specs.Options.{found}
 use Rattle.octets.specs.Checked.{Check, pass, refuse, mapped}
-use Rattle.numbers.specs.Tabled.{table_number}
-use Rattle.numbers.specs.declared.tables.Table.{Table}
 use Rattle.octets.proofs.Checks.{pass_inj, pass_refuse}
 use Rattle.octets.proofs.Parts.{length_part_le}
 use Rattle.octets.proofs.Placed.{padded_none}
@@ -24,18 +23,15 @@ use Rattle.bundle.proofs.Passed.{here, step_here, left_cons}
 use Rattle.bundle.proofs.Next.{section_step}
 use Rattle.bundle.proofs.Sections.{first_same, first_other}
 use Rattle.bundle.proofs.Within.{First}
-use Rattle.index.specs.Index.{layout}
-use Rattle.index.specs.Held.{index_in}
-use Rattle.index.specs.declared.reading.IndexHead.{IndexHead}
-use Rattle.index.proofs.Heads.{codes_length}
-use Rattle.lookup.specs.Lookup.{Package, package_of}
-use Rattle.lookup.specs.Answers.{package_in, Opened, table_index, index_code}
+use Rattle.index.specs.Index.{Index}
+use Rattle.lookup.specs.Lookup.{Package, package_of, index_for}
+use Rattle.lookup.specs.Answers.{package_in, Opened, index_code}
 use Rattle.lookup.specs.declared.opening.PackageHead.{PackageHead}
-use Rattle.lookup.proofs.Known.{package_objects}
-use Rattle.lookup.proofs.Searches.{search_well, search_in, table_none}
+use Rattle.lookup.proofs.Known.{package_objects, index_known}
 use Rattle.sheet.specs.Sheet.{letter_c, letter_t, rows_from, table_lines}
 use Rattle.sheet.specs.Held.{IndexHere, single, blocks, laid_out}
 use Rattle.sheet.specs.Laid.{letter_of, table_of, lines_of, TableFits}
+use Rattle.sheet.proofs.LawIndex.{index_here}
 use Rattle.sheet.proofs.LawSlots.{single_lines, not_single_lines}
 use Rattle.sheet.proofs.LawBlocks.{length_blocks}
 
@@ -72,64 +68,64 @@ section_short p k e c = ⊎_elim
     holding o f q = rw (sym q) (at o f (first_part o.parts c) refl)
 
 -- ---- the index of a table
-module _ (p : List ℕ) (h : PackageHead) (o : Opened p h) (t : Table) where
-  pub table_missing : None ≡ table_index h t → table_of p (table_number t) ≡ pass []
+pub there : {A : Type 0} (o : Option A) (a : A) → Some a ≡ found o → o ≡ some a
+there (some b) a e = cc
+there none a e = absurd (let z : ◌≡◌ {A = ℕ} 0 1 = cc in omega arith)
+
+pub table_here : (p : List ℕ) (h : PackageHead) → Opened p h → (table : ℕ) (i : Index) → index_for (package_in p) table ≡ some i → IndexHere i
+table_here p h o table i e =
+    index_here (package_in p).encoding.big (body p (package_in p).parts (index_code table)) i (index_known p (package_in p) o.is table i e)
+    (section_short p (package_in p) o.is (index_code table))
+
+-- ---- a table with an index
+module _ (p : List ℕ) (table : ℕ) (i : Index) (e : index_for (package_in p) table ≡ some i) where
+  is_rows : table_of p table ≡ rows_from (letter_of table) i 1 i.units
   unfolding table_of table_lines
-  table_missing e = ap (table_lines (letter_of (table_number t))) (table_none p h o t e)
+  is_rows = ap (table_lines (letter_of table)) e
 
-  module _ (i : IndexHead) (e : Some i ≡ table_index h t) (s : List ℕ) (code : ℕ) (c : code ≡ index_code (table_number t)) (b : s ≡ body p (package_in p).parts code) where
-    pub table_here : IndexHere h.encoding.big s i
-    table_here = record { well = search_well p h o t i e s code c b; short = omega (arith, ap length b, section_short p (package_in p) o.is code) }
+  pub table_bad : single i.rows i.identities 1 i.units ≡ false → refuse 21 ≡ mapped length (table_of p table)
+  unfolding mapped
+  table_bad f = sym (ap (mapped length) (is_rows ∙ not_single_lines (letter_of table) i 1 i.units f))
 
-    is_rows : table_of p (table_number t) ≡ rows_from (letter_of (table_number t)) (index_in h.encoding.big s i) 1 i.units
-    unfolding table_of table_lines index_in layout
-    is_rows = ap (table_lines (letter_of (table_number t))) (search_in p h o t i e s code c b)
+  abbrev Blocks : List ℕ
+  Blocks = blocks (letter_of table) i i.rows i.identities 1 i.units
 
-    pub table_bad : single (index_in h.encoding.big s i).rows (index_in h.encoding.big s i).identities 1 i.units ≡ false → refuse 21 ≡ mapped length (table_of p (table_number t))
-    unfolding mapped
-    table_bad f = sym (ap (mapped length) (is_rows ∙ not_single_lines (letter_of (table_number t)) (index_in h.encoding.big s i) 1 i.units f))
+  length_is : length Blocks ≡ 40 * length i.codes * i.units
+  length_is = length_blocks (letter_of table) i _ _ 1 i.units
 
-    abbrev Blocks : List ℕ
-    Blocks = blocks (letter_of (table_number t)) (index_in h.encoding.big s i) (index_in h.encoding.big s i).rows (index_in h.encoding.big s i).identities 1 i.units
+  pub table_measured : single i.rows i.identities 1 i.units ≡ true → pass (40 * length i.codes * i.units) ≡ mapped length (table_of p table)
+  unfolding mapped
+  table_measured f = sym (ap (mapped length) (is_rows ∙ single_lines (letter_of table) i 1 i.units f) ∙ ap pass length_is)
 
-    length_is : length Blocks ≡ 40 * i.columns * i.units
-    length_is = length_blocks (letter_of (table_number t)) (index_in h.encoding.big s i) _ _ 1 i.units ∙ ap (λ (z : ℕ). 40 * z * i.units) (codes_length h.encoding.big s i)
+  -- ---- its lines
+  module _ (page : List ℕ) (f : TableFits p table page) where
+    all_single : single i.rows i.identities 1 i.units ≡ true
+    all_single = go (single i.rows i.identities 1 i.units) refl
+      where
+        go : (t : Bool) → single i.rows i.identities 1 i.units ≡ t → single i.rows i.identities 1 i.units ≡ true
+        go true g = g
+        go false g = absurd (pass_refuse _ _ (sym f.are ∙ is_rows ∙ not_single_lines (letter_of table) i 1 i.units g))
 
-    pub table_measured : single (index_in h.encoding.big s i).rows (index_in h.encoding.big s i).identities 1 i.units ≡ true → pass (40 * i.columns * i.units) ≡ mapped length (table_of p (table_number t))
-    unfolding mapped
-    table_measured f = sym (ap (mapped length) (is_rows ∙ single_lines (letter_of (table_number t)) (index_in h.encoding.big s i) 1 i.units f) ∙ ap pass length_is)
+    lines_are : table_of p table ≡ pass Blocks
+    lines_are = is_rows ∙ single_lines (letter_of table) i 1 i.units all_single
 
-    -- ---- its lines
-    module _ (page : List ℕ) (f : TableFits p (table_number t) page) where
-      all_single : single (index_in h.encoding.big s i).rows (index_in h.encoding.big s i).identities 1 i.units ≡ true
-      all_single = go (single (index_in h.encoding.big s i).rows (index_in h.encoding.big s i).identities 1 i.units) refl
-        where
-          go : (u : Bool) → single (index_in h.encoding.big s i).rows (index_in h.encoding.big s i).identities 1 i.units ≡ u
-              → single (index_in h.encoding.big s i).rows (index_in h.encoding.big s i).identities 1 i.units ≡ true
-          go true g = g
-          go false g = absurd (pass_refuse _ _ (sym f.are ∙ is_rows ∙ not_single_lines (letter_of (table_number t)) (index_in h.encoding.big s i) 1 i.units g))
+    pub table_room : 40 * length i.codes * i.units ≤ length page
+    table_room = let same : f.lines ≡ Blocks = pass_inj (sym f.are ∙ lines_are) in omega (arith, f.room, ap length same, length_is)
 
-      lines_are : table_of p (table_number t) ≡ pass Blocks
-      lines_are = is_rows ∙ single_lines (letter_of (table_number t)) (index_in h.encoding.big s i) 1 i.units all_single
-
-      pub table_room : 40 * i.columns * i.units ≤ length page
-      table_room = let same : f.lines ≡ Blocks = pass_inj (sym f.are ∙ lines_are) in omega (arith, f.room, ap length same, length_is)
-
-      pub table_laid : (letter o : ℕ) → letter ≡ letter_of (table_number t) → laid_out letter (index_in h.encoding.big s i) o ≡ lines_of (table_of p (table_number t)) o
-      unfolding laid_out lines_of index_in layout
-      table_laid letter o l = ap (λ (z : ℕ). laid_out z (index_in h.encoding.big s i) o) l ∙ sym (ap (λ (m : Check (List ℕ)). lines_of m o) lines_are)
+    pub table_laid : (letter o : ℕ) → letter ≡ letter_of table → laid_out letter i o ≡ lines_of (table_of p table) o
+    unfolding laid_out lines_of
+    table_laid letter o l = ap (λ (z : ℕ). laid_out z i o) l ∙ sym (ap (λ (m : Check (List ℕ)). lines_of m o) lines_are)
 
 -- ---- a table without an index
-pub missing_measured : (m : Check (List ℕ)) → m ≡ pass [] → pass 0 ≡ mapped length m
-unfolding mapped
-missing_measured m e = sym (ap (mapped length) e)
+module _ (p : List ℕ) (table : ℕ) (e : index_for (package_in p) table ≡ none) where
+  none_are : table_of p table ≡ pass []
+  unfolding table_of table_lines
+  none_are = ap (table_lines (letter_of table)) e
 
-pub missing_lines : (m : Check (List ℕ)) (page : List ℕ) → m ≡ pass [] → page ≡ zeros (length page) → page ≡ lines_of m (length page)
-unfolding lines_of
-missing_lines m page e b = b ∙ sym (ap (λ (z : Check (List ℕ)). lines_of z (length page)) e ∙ ap (padded []) (sub-zero (length page)) ∙ padded_none (length page))
+  pub missing_measured : pass 0 ≡ mapped length (table_of p table)
+  unfolding mapped
+  missing_measured = sym (ap (mapped length) none_are)
 
--- ---- the measure in 64 bits
-pub table_small : (columns units : ℕ) → columns ≤ 8 → units ≤ 524_288 → 40 * columns * units ≤ 167_772_160
-table_small columns units h g =
-    let c : 40 * columns ≤ 320 = omega arith in
-    omega (arith, mul-le-mul_right units c)
+  pub missing_lines : (page : List ℕ) → page ≡ zeros (length page) → page ≡ lines_of (table_of p table) (length page)
+  unfolding lines_of
+  missing_lines page b = b ∙ sym (ap (λ (z : Check (List ℕ)). lines_of z (length page)) none_are ∙ ap (padded []) (sub-zero (length page)) ∙ padded_none (length page))

@@ -2,18 +2,23 @@
 -- Assumes nothing.
 use Rattle.std.specs.Prelude.{◌≡◌, Bool, true, false, List, [], ◌∷◌, ◌++◌, ℕ, zero, suc, ◌*◌, ◌-◌, ◌/◌, ◌%◌, ◌^◌, ◌≤◌, ◌<◌, eqb, length, get_or, set}
 use Rattle.std.specs.Int.Bits.{bit_or}
-use Rattle.numbers.specs.Limits.{section_limit}
+use Rattle.numbers.specs.Tables.{columns2}
 use Rattle.octets.specs.Octets.{zeros, padded}
 use Rattle.octets.specs.Lists.{has}
 use Rattle.octets.specs.Checked.{pass, refuse}
 use Rattle.index.specs.Columns.{columns_of}
 use Rattle.index.specs.Index.{Index}
-use Rattle.index.specs.Held.{ReadWell}
-use Rattle.index.specs.declared.reading.IndexHead.{IndexHead}
 use Rattle.sheet.specs.Sheet.{section_in, row_lines, identities_in, only, line_bytes}
 use Rattle.sheet.specs.declared.lines.Line.{Line}
 
 -- ---- marks
+-- as many as an index that is shorter than a section may be has slots, and the words that hold them
+abbrev pub most_slots : ℕ
+most_slots = 524_288
+
+abbrev pub mark_words : ℕ
+mark_words = 16_384
+
 unfoldable pub marked : List ℕ → ℕ → Bool
 marked words n = eqb (get_or words (n / 32) 0 / 2 ^ (n % 32) % 2) 1
 
@@ -41,9 +46,13 @@ pub record Marked (words rows : List ℕ) : Type 0 where
   pub is : (row : ℕ) → 0 < row → marked words row ≡ has rows row
 
 -- ---- an index that was read from a section of a package
-pub record IndexHere (big : Bool) (s : List ℕ) (h : IndexHead) : Type 0 where
-  pub well : ReadWell big s h
-  pub short : length s ≤ section_limit
+-- the section is short, so the slots are few
+pub record IndexHere (i : Index) : Type 0 where
+  pub slots : length i.rows ≤ most_slots
+  pub above : i.units < length i.rows
+  pub columns : length i.codes ≤ columns2
+  pub identities : length i.identities ≡ length i.rows
+  pub rows : (k : ℕ) → k < length i.rows → get_or i.rows k 0 ≤ i.units
 
 -- ---- lines
 -- the first n of these are our codes of the index's first n columns

@@ -3,7 +3,7 @@ ghost use Rattle.std.specs.Prelude.{◌≡◌, [], ◌∷◌, ◌++◌, ◌+◌,
 ghost use Rattle.octets.specs.Octets.{placed};
 ghost use Rattle.sheet.specs.Sheet.{line_bytes, digit, hex, decimal, space, line};
 
-#[derive(Clone, Copy)]
+#[derive(Clone, Copy, Debug, PartialEq, Eq)]
 pub struct Line {
     // C or T
     pub letter: u8,
@@ -21,6 +21,7 @@ const NEWLINE: u8 = 10;
 pub const LINE: usize = 40;
 
 // From 10 on 39 is added, which is how far a lies behind the byte that follows 9. No branch, since digits are not foreseen.
+#[tactic(auto, using(crate::proofs::LawLines::digit_is))]
 fn digit(n: u64) -> u8
     requires { n < 16 }
     ensures { result ≡ digit n }
@@ -34,12 +35,9 @@ fn put_hex(w: usize, n: u64, d: &mut [u8], at: usize)
     ensures { d.new ≡ placed d.old at (hex w n) }
 {
     let mut m = n;
-    let mut left = w;
-    while 0 < left {
-        left -= 1;
-        let i = at + left;
-        d[i] = digit(m % 16);
-        m = m / 16;
+    for i in (0..w).rev() {
+        d[at + i] = digit(m % 16);
+        m /= 16;
     }
 }
 
@@ -52,33 +50,25 @@ fn put_field(w: usize, n: u64, end: u8, d: &mut [u8], at: usize)
     octets::put_byte(d, at + w, end);
 }
 
-// A letter and a space.
-fn put_letter(letter: u8, d: &mut [u8], at: usize)
-    requires { at + 2 ≤ length d.old }
-    ensures { d.new ≡ placed d.old at (letter ∷ space ∷ []) }
-{
-    d[at] = letter;
-    d[at + 1] = SPACE;
-}
-
 // Two decimal digits and a space.
+#[tactic(auto, unfolding(crate::specs::Sheet::decimal))]
 fn put_section(n: usize, d: &mut [u8], at: usize)
     requires { (n < 100) × (at + 3 ≤ length d.old) }
     ensures { d.new ≡ placed d.old at (decimal n ++ (space ∷ [])) }
 {
-    let m = octets::long(n);
-    d[at] = digit(m / 10);
-    d[at + 1] = digit(m % 10);
-    d[at + 2] = SPACE;
+    let m = n as u64;
+    octets::put_bytes(d, at, &[digit(m / 10), digit(m % 10), SPACE]);
 }
 
-pub fn put_line(l: Line, d: &mut [u8], at: usize)
-    requires { (l.section < 100) × (at + line_bytes ≤ length d.old) }
-    ensures { d.new ≡ placed d.old at (line l.letter l.identity l.section l.offset l.size) }
-{
-    put_letter(l.letter, d, at);
-    put_field(16, l.identity, SPACE, d, at + 2);
-    put_section(l.section, d, at + 19);
-    put_field(8, octets::long(l.offset), SPACE, d, at + 22);
-    put_field(8, octets::long(l.size), NEWLINE, d, at + 31);
+impl Line {
+    pub fn put(self, d: &mut [u8], at: usize)
+        requires { (self.section < 100) × (at + line_bytes ≤ length d.old) }
+        ensures { d.new ≡ placed d.old at (line self.letter self.identity self.section self.offset self.size) }
+    {
+        octets::put_bytes(d, at, &[self.letter, SPACE]);
+        put_field(16, self.identity, SPACE, d, at + 2);
+        put_section(self.section, d, at + 19);
+        put_field(8, self.offset as u64, SPACE, d, at + 22);
+        put_field(8, self.size as u64, NEWLINE, d, at + 31);
+    }
 }

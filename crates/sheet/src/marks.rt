@@ -1,21 +1,36 @@
 // A mark for each row number, one bit in a word of 32.
-ghost use Rattle.std.specs.Prelude.{◌≡◌, ◌/◌, ◌<◌, length};
-ghost use Rattle.sheet.specs.Held.{marked, with_mark};
+ghost use Rattle.std.specs.Prelude.{◌≡◌, ◌<◌};
+ghost use Rattle.octets.specs.Octets.{zeros};
+ghost use Rattle.sheet.specs.Held.{marked, with_mark, most_slots, mark_words};
 
-pub fn is_marked(marks: &[u32], n: usize) -> bool
-    requires { n / 32 < length marks.now }
-    ensures { result ≡ marked marks.now n }
-{
-    let i = n / 32;
-    let word = octets::word(marks, i);
-    (word >> (n % 32)) % 2 == 1
+// An index section has at most 524,288 slots: it is shorter than 8,388,608 bytes, a slot takes 12, and their number is a power of two.
+const WORDS: usize = 16_384;
+
+#[derive(Drop)]
+pub struct Marks {
+    words: [u32; WORDS],
 }
 
-pub fn mark(marks: &mut [u32], n: usize)
-    requires { n / 32 < length marks.old }
-    ensures { marks.new ≡ with_mark marks.old n }
-{
-    let i = n / 32;
-    let word = marks[i];
-    marks[i] = word | (1 << (n % 32));
+impl Marks {
+    #[tactic(auto, unfolding(octets::specs::Octets::zeros))]
+    pub fn new() -> Self
+        ensures { result.words ≡ zeros mark_words }
+    {
+        Self { words: [0; WORDS] }
+    }
+
+    #[tactic(auto, unfolding(crate::specs::Held::marked))]
+    pub fn has(&self, n: usize) -> bool
+        requires { n < most_slots }
+        ensures { result ≡ marked self.now.words n }
+    {
+        (self.words[n / 32] >> (n % 32)) % 2 == 1
+    }
+
+    pub fn set(&mut self, n: usize)
+        requires { n < most_slots }
+        ensures { self.new.words ≡ with_mark self.old.words n }
+    {
+        self.words[n / 32] |= 1 << (n % 32);
+    }
 }

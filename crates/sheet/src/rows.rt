@@ -2,7 +2,6 @@
 ghost use Rattle.std.specs.Prelude.{◌≡◌, true, ℕ, ◌+◌, ◌*◌, ◌-◌, ◌<◌, ◌≤◌, length};
 ghost use Rattle.octets.specs.Octets.{placed, zeros};
 ghost use Rattle.index.specs.Columns.{columns_of};
-ghost use Rattle.index.specs.Held.{index_in};
 ghost use Rattle.sheet.specs.Sheet.{line_bytes, section_in, row_lines};
 ghost use Rattle.sheet.specs.Held.{
   IndexHere,
@@ -13,174 +12,128 @@ ghost use Rattle.sheet.specs.Held.{
   all_marked,
   single,
   laid_out,
+  mark_words,
+  most_slots,
 };
 
 use crate::lines::{LINE, Line};
+use crate::marks::Marks;
 use index::cells::COLUMNS;
-use index::reading::IndexHead;
+use index::reading::Index;
 
-// An index beside its bytes: the letter of its table, and its byte order.
-#[derive(Clone, Copy)]
-pub struct IndexTable {
+// The index of a table: the letter of its lines, and our codes of the sections of its columns, which are worked out once and not for each line.
+#[derive(Drop)]
+pub struct IndexTable<'a> {
     pub letter: u8,
-    pub big: bool,
-    pub head: IndexHead,
+    pub index: Index<'a>,
+    pub sections: [usize; COLUMNS],
+    pub ghost here: { IndexHere index },
+    pub ghost coded: { Sections index sections (length index.codes) },
 }
 
-// ---- one slot for each row
-// Whether no row stands in two slots; then each row in a slot is marked. From the last slot to the first.
-fn mark_rows(big: bool, s: &[u8], head: IndexHead, marks: &mut [u32]) -> bool
-    requires { (IndexHere big s.now head) × (head.slots ≤ 32 * length marks.old) × (marks.old ≡ zeros (length marks.old)) }
-    ensures once { result ≡ none_twice (index_in big s.now head).rows }
-    ensures marks { result ≡ true → Marked marks.new (index_in big s.now head).rows }
-    ensures kept { length marks.new ≡ length marks.old }
-{
-    let mut k = head.slots;
-    while 0 < k {
-        k -= 1;
-        let row = index::reading::row_at(big, s, head, k);
-        if row != 0 {
-            if crate::marks::is_marked(marks, row) {
-                return false;
-            }
-            crate::marks::mark(marks, row);
-        }
-    }
-    true
-}
-
-// Whether the rows 1 to n are marked.
-fn all_marked(marks: &[u32], n: usize) -> bool
-    requires { n < 32 * length marks.now }
-    ensures { result ≡ all_marked marks.now 1 n }
-{
-    let mut row = 0;
-    while row < n {
-        row += 1;
-        if !crate::marks::is_marked(marks, row) {
-            return false;
-        }
-    }
-    true
-}
-
-// An index section has at most 524,288 slots: it is shorter than 8,388,608 bytes, a slot takes 12, and their number is a power of two.
-pub fn rows_single(big: bool, s: &[u8], head: IndexHead) -> bool
-    requires { IndexHere big s.now head }
-    ensures { result ≡ single (index_in big s.now head).rows (index_in big s.now head).identities 1 head.units }
-{
-    let mut marks = [0u32; 16384];
-    if !mark_rows(big, s, head, &mut marks) {
-        return false;
-    }
-    all_marked(&marks, head.units)
-}
-
-// ---- lines
+// ---- columns
 // Our code of the section whose column has a code, 0 where there is none.
 fn section_of(version: u32, code: usize) -> usize
     ensures { result ≡ section_in (columns_of version) code }
 {
-    let n = index::cells::columns_count(version);
-    let mut k = 0;
-    while k < n {
-        let c = index::cells::column_at(version, k);
-        if c.column == code {
-            return c.section;
-        }
-        k += 1;
-    }
-    0
+    let place = index::cells::columns(version).iter().find(|c| c.column == code);
+    place.map_or(0, |c| c.section)
 }
 
-// Our codes of an index's columns: worked out once and not for each line, since each look into the table of columns stores all of it anew.
-fn sections_of(big: bool, s: &[u8], head: IndexHead) -> [usize; COLUMNS]
-    requires { IndexHere big s.now head }
-    ensures { Sections (index_in big s.now head) result head.columns }
+// Our codes of an index's columns.
+pub fn sections_of(index: &Index) -> [usize; COLUMNS]
+    requires { IndexHere index.now }
+    ensures { Sections index.now result (length index.now.codes) }
 {
-    let columns = head.columns;
-    let mut sections = [0usize; COLUMNS];
-    let mut k = 0;
-    while k < columns {
-        let code = index::reading::code_at(big, s, head, k);
-        sections[k] = section_of(head.version, code);
-        k += 1;
+    let head = index.head();
+    let mut sections = [0; COLUMNS];
+    for k in 0..head.columns {
+        sections[k] = section_of(head.version, index.code_at(k));
     }
     sections
 }
 
-// The line of a row's column k, whose cell has number n.
-fn line_of(t: IndexTable, s: &[u8], sections: &[usize], identity: u64, k: usize, n: usize) -> Line
-    requires index { IndexHere t.big s.now t.head }
-    requires sections { Sections (index_in t.big s.now t.head) sections.now t.head.columns }
-    requires cell { (k < t.head.columns) × (n < t.head.units * t.head.columns) }
-    ensures { CellLine t.letter (index_in t.big s.now t.head) identity k n result }
+// Whether the rows 1 to n are marked.
+fn all_marked(marks: &Marks, n: usize) -> bool
+    requires { n < most_slots }
+    ensures { result ≡ all_marked marks.now.words 1 n }
 {
-    let head = t.head;
-    let big = t.big;
-    let section = sections[k];
-    let offset = index::reading::offset_at(big, s, head, n);
-    let size = index::reading::size_at(big, s, head, n);
-    Line {
-        letter: t.letter,
-        identity,
-        section,
-        offset,
-        size,
-    }
+    (1..n + 1).all(|row| marks.has(row))
 }
 
-// Stores the lines of a row, counted from 1.
-fn put_row(
-    t: IndexTable,
-    s: &[u8],
-    sections: &[usize],
-    row: usize,
-    identity: u64,
-    d: &mut [u8],
-    at: usize,
-)
-    requires index { IndexHere t.big s.now t.head }
-    requires sections { Sections (index_in t.big s.now t.head) sections.now t.head.columns }
-    requires room { (0 < row) × (row ≤ t.head.units) × (at + line_bytes * t.head.columns ≤ length d.old) }
-    ensures { d.new ≡ placed d.old at (row_lines t.letter (index_in t.big s.now t.head) row identity) }
-{
-    let head = t.head;
-    let columns = head.columns;
-    let first = (row - 1) * columns;
-    let mut k = 0;
-    while k < columns {
-        let l = line_of(t, s, sections, identity, k, first + k);
-        crate::lines::put_line(l, d, at + LINE * k);
-        k += 1;
+impl<'a> IndexTable<'a> {
+    // ---- one slot for each row
+    // Whether no row stands in two slots; then each row in a slot is marked. From the last slot to the first.
+    fn mark_rows(&self, marks: &mut Marks) -> bool
+        requires { marks.old.words ≡ zeros mark_words }
+        ensures once { result ≡ none_twice self.now.index.rows }
+        ensures marks { result ≡ true → Marked marks.new.words self.now.index.rows }
+    {
+        for k in (0..self.index.head().slots).rev() {
+            let row = self.index.row_at(k);
+            if row != 0 {
+                if marks.has(row) {
+                    return false;
+                }
+                marks.set(row);
+            }
+        }
+        true
     }
-}
 
-// Stores the lines of all rows, each where its slot is met, over zeros. From the last slot to the first.
-fn put_slots(t: IndexTable, s: &[u8], sections: &[usize], d: &mut [u8])
-    requires index { IndexHere t.big s.now t.head }
-    requires sections { Sections (index_in t.big s.now t.head) sections.now t.head.columns }
-    requires page { (line_bytes * t.head.columns * t.head.units ≤ length d.old) × (d.old ≡ zeros (length d.old)) }
-    ensures { d.new ≡ laid_out t.letter (index_in t.big s.now t.head) (length d.old) }
-{
-    let head = t.head;
-    let big = t.big;
-    let block = LINE * head.columns;
-    let mut k = head.slots;
-    while 0 < k {
-        k -= 1;
-        let row = index::reading::row_at(big, s, head, k);
-        if row != 0 {
-            let identity = index::reading::identity_at(big, s, head, k);
-            put_row(t, s, sections, row, identity, d, block * (row - 1));
+    pub fn is_single(&self) -> bool
+        ensures { result ≡ single self.now.index.rows self.now.index.identities 1 self.now.index.units }
+    {
+        let mut marks = Marks::new();
+        self.mark_rows(&mut marks) && all_marked(&marks, self.index.head().units)
+    }
+
+    // ---- lines
+    // The bytes that they take.
+    pub fn size(&self) -> usize
+        ensures { result ≡ line_bytes * length self.now.index.codes * self.now.index.units }
+    {
+        let head = self.index.head();
+        LINE * head.columns * head.units
+    }
+
+    // The line of a row, counted from 1, in column k.
+    fn line_of(&self, row: usize, identity: u64, k: usize) -> Line
+        requires { (0 < row) × (row ≤ self.now.index.units) × (k < length self.now.index.codes) }
+        ensures { CellLine self.now.letter self.now.index identity k ((row - 1) * length self.now.index.codes + k) result }
+    {
+        let cell = self.index.cell_at(row, k);
+        Line {
+            letter: self.letter,
+            identity,
+            section: self.sections[k],
+            offset: cell.offset,
+            size: cell.size,
         }
     }
-}
 
-pub fn put_rows(t: IndexTable, s: &[u8], d: &mut [u8])
-    requires { (IndexHere t.big s.now t.head) × (line_bytes * t.head.columns * t.head.units ≤ length d.old) × (d.old ≡ zeros (length d.old)) }
-    ensures { d.new ≡ laid_out t.letter (index_in t.big s.now t.head) (length d.old) }
-{
-    let sections = sections_of(t.big, s, t.head);
-    put_slots(t, s, &sections, d);
+    // Stores the lines of a row.
+    fn put_row(&self, row: usize, identity: u64, d: &mut [u8], at: usize)
+        requires { (0 < row) × (row ≤ self.now.index.units) × (at + line_bytes * length self.now.index.codes ≤ length d.old) }
+        ensures { d.new ≡ placed d.old at (row_lines self.now.letter self.now.index row identity) }
+    {
+        for k in 0..self.index.head().columns {
+            self.line_of(row, identity, k).put(d, at + LINE * k);
+        }
+    }
+
+    // Stores the lines of all rows, each where its slot is met, over zeros. From the last slot to the first.
+    pub fn put_rows(&self, d: &mut [u8])
+        requires { (line_bytes * length self.now.index.codes * self.now.index.units ≤ length d.old) × (d.old ≡ zeros (length d.old)) }
+        ensures { d.new ≡ laid_out self.now.letter self.now.index (length d.old) }
+    {
+        let head = self.index.head();
+        let block = LINE * head.columns;
+        for k in (0..head.slots).rev() {
+            let row = self.index.row_at(k);
+            if row != 0 {
+                self.put_row(row, self.index.identity_at(k), d, block * (row - 1));
+            }
+        }
+    }
 }

@@ -1,16 +1,15 @@
 // A table of a package that was opened: the bytes that its lines take, and the lines.
-ghost use Rattle.std.specs.Prelude.{◌≡◌, length, Some};
+ghost use Rattle.std.specs.Prelude.{◌≡◌, MatchOption, length};
+ghost use Rattle.std.proofs.Math.Option.{some, none};
 ghost use Rattle.numbers.specs.Refused.{told};
 ghost use Rattle.numbers.specs.Tabled.{table_number};
 ghost use Rattle.octets.specs.Checked.{mapped};
-ghost use Rattle.lookup.specs.Answers.{table_index};
+ghost use Rattle.lookup.specs.Lookup.{index_for};
+ghost use Rattle.lookup.specs.Answers.{package_in};
 ghost use Rattle.sheet.specs.Laid.{letter_of, table_of, both_of, lines_of, TableFits, BothFit};
 
-use crate::lines::LINE;
 use crate::rows::IndexTable;
-use index::reading::IndexHead;
 use lookup::package::Package;
-use lookup::searching::index_code;
 use numbers::refusals::Refusal;
 use numbers::tables::Table;
 
@@ -24,47 +23,39 @@ fn letter_of(table: Table) -> u8
     }
 }
 
-// The bytes that the lines of a table's index take. Refused is a table with a row that has not exactly one slot. The caller has found the table's index.
-fn measure_index(package: &Package, table: Table, head: IndexHead) -> Result<usize, Refusal>
-    requires { Some head ≡ table_index «package».now.head table }
-    ensures { told result ≡ mapped length (table_of «package».now.bytes.now (table_number table)) }
+// The index of a table, if it is there.
+fn index_of<'a>(package: &Package<'a>, table: Table) -> Option<IndexTable<'a>>
+    ensures { MatchOption result
+        (index_for (package_in «package».now.bytes.now) (table_number table) ≡ none)
+        (λ t. (index_for (package_in «package».now.bytes.now) (table_number table) ≡ some t.index) × (t.letter ≡ letter_of (table_number table))) }
 {
-    let s = package.section_bytes(index_code(table));
-    if !crate::rows::rows_single(package.head.encoding.big, s, head) {
-        return Err(Refusal::BadPackage);
-    }
-    Ok(LINE * head.columns * head.units)
+    let index = package.index(table)?;
+    let sections = crate::rows::sections_of(&index);
+    Some(IndexTable {
+        letter: letter_of(table),
+        index,
+        sections,
+    })
 }
 
+// Refused is a table with a row that has not exactly one slot.
 pub fn measure_table(package: &Package, table: Table) -> Result<usize, Refusal>
     ensures { told result ≡ mapped length (table_of «package».now.bytes.now (table_number table)) }
 {
-    match package.head.index_for(table) {
-        Some(head) => measure_index(package, table, head),
+    match index_of(package, table) {
+        Some(t) if t.is_single() => Ok(t.size()),
+        Some(_) => Err(Refusal::BadPackage),
         None => Ok(0),
     }
 }
 
-// Stores the lines of a table's index at the front of a page of zeros. The caller has measured them.
-fn write_index(package: &Package, table: Table, head: IndexHead, page: &mut [u8])
-    requires { (Some head ≡ table_index «package».now.head table) × TableFits «package».now.bytes.now (table_number table) page.old }
-    ensures { page.new ≡ lines_of (table_of «package».now.bytes.now (table_number table)) (length page.old) }
-{
-    let s = package.section_bytes(index_code(table));
-    let t = IndexTable {
-        letter: letter_of(table),
-        big: package.head.encoding.big,
-        head,
-    };
-    crate::rows::put_rows(t, s, page);
-}
-
+// Stores the lines of a table at the front of a page of zeros. The caller has measured them.
 fn write_table(package: &Package, table: Table, page: &mut [u8])
     requires { TableFits «package».now.bytes.now (table_number table) page.old }
     ensures { page.new ≡ lines_of (table_of «package».now.bytes.now (table_number table)) (length page.old) }
 {
-    if let Some(head) = package.head.index_for(table) {
-        write_index(package, table, head, page);
+    if let Some(t) = index_of(package, table) {
+        t.put_rows(page);
     }
 }
 

@@ -16,17 +16,11 @@ fn put_sheet(package: &[u8], page: &mut [u8]) -> Result<usize, Unwritten>
     ensures answer { written_as result ≡ written_of (sheet_of «package».now (length page.old)) }
     ensures page { page.new ≡ output_of (sheet_of «package».now (length page.old)) (length page.old) }
 {
-    let Ok(package) = Package::open(package) else {
-        return Err(Unwritten::Refused(Refusal::BadPackage));
-    };
-    let Ok(compilations) = crate::tables::measure_table(&package, Table::Compilation) else {
-        return Err(Unwritten::Refused(Refusal::BadPackage));
-    };
-    let Ok(types) = crate::tables::measure_table(&package, Table::Type) else {
-        return Err(Unwritten::Refused(Refusal::BadPackage));
-    };
+    let package = Package::open(package)?;
+    let compilations = crate::tables::measure_table(&package, Table::Compilation)?;
+    let types = crate::tables::measure_table(&package, Table::Type)?;
     if page.len() < compilations || page.len() - compilations < types {
-        return Err(Unwritten::Refused(Refusal::PageShort));
+        return Err(Unwritten::from(Refusal::PageShort));
     }
     crate::tables::write_tables(&package, compilations, page);
     Ok(compilations + types)
@@ -36,6 +30,6 @@ pub fn write_sheet(package: &[u8], page: &mut [u8]) -> Written
     ensures answer { result ≡ written_of (sheet_of «package».now (length page.old)) }
     ensures page { page.new ≡ output_of (sheet_of «package».now (length page.old)) (length page.old) }
 {
-    octets::clear_bytes(page);
+    page.fill(0);
     Written::from(put_sheet(package, page))
 }

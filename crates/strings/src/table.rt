@@ -271,5 +271,5 @@ pub fn forget(memory: &mut [u32], n: usize)
     requires { n ≤ length memory.old }
     ensures { memory.new ≡ placed memory.old 0 (zeros n) }
 {
-    octets::clear_words(&mut memory[..n]);
+    memory[..n].fill(0);
 }

@@ -60,7 +60,7 @@ fn remap_entries(
 ) -> Result<(usize, usize), Failure>
     requires { (words ≤ length store.old) × AllAddable b.now o words (length store.old - words) none × (entries_of (encoding_is o.encoding) (bytes_at b.now o.offsets) ≡ pass (entries_at o b.now)) }
 {
-    octets::clear_words(store);
+    store.fill(0);
     let mut kept = StringTable {
         count: 0,
         size: 0,

@@ -1,7 +1,7 @@
 -- One attribute of an abbreviation table, and all of a declaration's.
 -- Assumes nothing.
 use mathlib.Core.Path.{◌≡◌, refl, sym, ap, ◌∙◌}
-use mathlib.Core.Bool.{true, false, not}
+use mathlib.Core.Bool.{Bool, true, false, not, beq}
 use mathlib.Core.List.{List, [], ◌∷◌}
 use Prim.Native.Nat.{ℕ, zero, suc, ◌+◌, ◌≤◌}
 use native.Mathlib.Omega.{arith}
@@ -12,7 +12,7 @@ use lib.Seq.{drop-drop}
 use borrow.Author.Tests.{eq-eqb, ne_eqb}
 use Rattle.octets.specs.Lists.{zero_together}
 use Rattle.octets.specs.Checked.{Check, pass, refuse, ◌>>=◌, require}
-use Rattle.octets.proofs.Checks.{pass_refuse, pass_inj, bind_pass, bind_same, then_pass, then_refuse, passes, fails, require_pass}
+use Rattle.octets.proofs.Checks.{pass_refuse, pass_inj, bind_pass, bind_same, then_pass, then_refuse, require_pass}
 use Rattle.octets.proofs.Refusals.{Only, only_pass, only_refuse, only_require, only_bind}
 use Rattle.leb128.specs.Leb128.{groups, short}
 use Rattle.leb128.proofs.Taken.{short_taken, only_short}
@@ -21,45 +21,30 @@ use Rattle.unit.specs.Tables.{attributes_size}
 use Rattle.unit.proofs.Sizes.{further, further_none}
 
 -- ---- one attribute
-module _ (s : List ℕ) where
-  pub attribute_none : short s ≡ refuse 12 → refuse 12 ≡ attribute_at s
-  unfolding attribute_at
-  attribute_none e = sym (then_refuse _ _ 12 e)
-
-  module _ (name n : ℕ) (p : short s ≡ pass (name, n)) where
-    pub attribute_formless : short (drop n s) ≡ refuse 12 → refuse 12 ≡ attribute_at s
-    unfolding attribute_at
-    attribute_formless e = sym (then_pass _ _ _ p ∙ then_refuse _ _ 12 e)
-
-    module _ (form m : ℕ) (q : short (drop n s) ≡ pass (form, m)) where
-      pub attribute_half : zero_together name form ≡ false → refuse 12 ≡ attribute_at s
-      unfolding attribute_at
-      attribute_half h = sym (then_pass _ _ _ p ∙ then_pass _ _ _ q ∙ fails _ _ _ h)
-
-      pub attribute_implicit : zero_together name form ≡ true → form ≡ 0x21 → refuse 12 ≡ attribute_at s
-      unfolding attribute_at
-      attribute_implicit h g = sym (then_pass _ _ _ p ∙ then_pass _ _ _ q ∙ passes _ _ _ h ∙ fails _ _ _ (ap not (eq-eqb form 0x21 g)))
-
-      pub attribute_is : zero_together name form ≡ true → (form ≡ 0x21 → ⊥) → pass (record { name = name; form = form }, n + m) ≡ attribute_at s
-      unfolding attribute_at
-      attribute_is h g = sym (then_pass _ _ _ p ∙ then_pass _ _ _ q ∙ passes _ _ _ h ∙ passes _ _ _ (ap not (ne_eqb form 0x21 g)))
-
 module _ (a b : ℕ) where
-  pub both_zero : a ≡ 0 → b ≡ 0 → zero_together a b ≡ true
+  pub together : not (beq (eqb a 0) (eqb b 0)) ≡ false → zero_together a b ≡ true
   unfolding zero_together
-  both_zero h g = rw (h, g)
+  together = go (eqb a 0) (eqb b 0)
+    where
+      go : (p q : Bool) → not (beq p q) ≡ false → elim p [ true ↦ q | false ↦ not q ] ≡ true
+      go true true h = refl
+      go true false h = sym h
+      go false true h = sym h
+      go false false h = refl
+
+  pub apart : not (beq (eqb a 0) (eqb b 0)) ≡ true → zero_together a b ≡ false
+  unfolding zero_together
+  apart = go (eqb a 0) (eqb b 0)
+    where
+      go : (p q : Bool) → not (beq p q) ≡ true → elim p [ true ↦ q | false ↦ not q ] ≡ false
+      go true true h = sym h
+      go true false h = refl
+      go false true h = refl
+      go false false h = sym h
 
   pub neither_zero : (a ≡ 0 → ⊥) → (b ≡ 0 → ⊥) → zero_together a b ≡ true
   unfolding zero_together
   neither_zero h g = rw (zero_together, ne_eqb a 0 h, ne_eqb b 0 g)
-
-  pub first_zero : a ≡ 0 → (b ≡ 0 → ⊥) → zero_together a b ≡ false
-  unfolding zero_together
-  first_zero h g = rw (zero_together, eq-eqb a 0 h, ne_eqb b 0 g)
-
-  pub second_zero : (a ≡ 0 → ⊥) → b ≡ 0 → zero_together a b ≡ false
-  unfolding zero_together
-  second_zero h g = rw (zero_together, ne_eqb a 0 h, eq-eqb b 0 g)
 
 -- it takes at least two bytes, and ends in s
 pub attribute_at_taken : (s : List ℕ) (r : Attribute × ℕ) → attribute_at s ≡ pass r → (2 ≤ r.1) × (r.1 ≤ length s)

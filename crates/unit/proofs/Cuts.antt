@@ -7,19 +7,14 @@ use native.Mathlib.Omega.{arith}
 use lib.ListN.{length, take, drop, length-drop}
 use lib.Seq.{drop-drop, take-take, length-take-le}
 use Rattle.octets.specs.Octets.{part}
-use Rattle.octets.specs.Checked.{Check, pass, refuse}
+use Rattle.octets.specs.Checked.{Check, pass, refuse, ◌>>=◌}
 use Rattle.octets.proofs.Parts.{drop_take, length_part, part_cut}
 use Rattle.bundle.specs.Encoding.{Encoding}
 use Rattle.unit.specs.TableTrees.{between}
 use Rattle.unit.specs.UnitRead.{Identity, common_size, unit_of}
-use Rattle.unit.specs.Headers.{kind_of, header_size, identity_by, identity_check, head_of, non_zero, identity_good, identity_answer, with_size, unit_answer}
+use Rattle.unit.specs.Headers.{kind_of, header_size, identity_by, head_of, non_zero, identity_good}
 use Rattle.unit.specs.declared.header.Kind.{Kind}
-use Rattle.unit.specs.declared.header.Identity as code
-use Rattle.unit.specs.declared.header.IdentityAnswer.{IdentityAnswer}
-use Rattle.unit.specs.declared.header.IdentityAnswer.TheVariants as answer
-use Rattle.unit.specs.declared.header.UnitAnswer.{UnitAnswer}
-use Rattle.unit.specs.declared.header.UnitAnswer.TheVariants as whole
-use Rattle.unit.proofs.Heads.{good_short, good_whole, head_within, unit_headless, unit_headed, answer_sized}
+use Rattle.unit.proofs.Heads.{good_short, good_whole, head_within, unit_with, unit_headless, unit_headed}
 
 -- ---- parts
 pub between_length : (b : List ℕ) (first last : ℕ) → first ≤ last → last ≤ length b → length (between b first last) ≡ last - first
@@ -35,7 +30,7 @@ module _ (e : Encoding) (home : ℕ) (a b : List ℕ) (at size : ℕ) (h : at + 
   abbrev own : List ℕ
   own = part b at size
 
-  abbrev cut : List ℕ
+  abbrev pub cut : List ℕ
   cut = take (at + size - at) (drop at b)
 
   pub cut_length : length cut ≡ size
@@ -45,32 +40,25 @@ module _ (e : Encoding) (home : ℕ) (a b : List ℕ) (at size : ℕ) (h : at + 
     kind_own : header_size e k ≡ header_size e (kind_of e home own)
     kind_own = ap (header_size e) (i ∙ ap (kind_of e home) (part_cut b at size))
 
-    pub answer_short : common_size e ≤ size → size < n → answer.Refused 11 ≡ identity_answer (identity_good e home a own)
-    unfolding identity_answer
+    pub answer_short : common_size e ≤ size → size < n → refuse 11 ≡ identity_good e home a own
     answer_short c g =
         let l = length_part b at size h in
-        sym (ap identity_answer (good_short e home a own (omega (arith, l)) (omega (arith, l, m, kind_own))))
+        sym (good_short e home a own (omega (arith, l)) (omega (arith, l, m, kind_own)))
 
-    pub answer_whole : n ≤ size → header_size e k ≤ length cut
-    answer_whole g = omega (arith, cut_length, m)
+    pub answer_good : n ≤ size → (r : Check Identity) → r ≡ identity_by e k a cut → non_zero r ≡ identity_good e home a own
+    answer_good g r c =
+        ap non_zero (c ∙ ap₂ (λ (q : Kind) (u : List ℕ). identity_by e q a u) (i ∙ ap (kind_of e home) (part_cut b at size)) (part_cut b at size))
+        ∙ sym (good_whole e home a own (omega (arith, length_part b at size h, m, kind_own)))
 
-    pub answer_good : n ≤ size → (r : code.Identity) (x : IdentityAnswer) → identity_check r ≡ identity_by e k a cut → x ≡ identity_answer (non_zero (identity_check r))
-        → x ≡ identity_answer (identity_good e home a own)
-    answer_good g r x c y =
-        y ∙ ap (λ (z : Check Identity). identity_answer (non_zero z)) (c ∙ ap₂ (λ (q : Kind) (u : List ℕ). identity_by e q a u) (i ∙ ap (kind_of e home) (part_cut b at size)) (part_cut b at size))
-        ∙ sym (ap identity_answer (good_whole e home a own (omega (arith, length_part b at size h, m, kind_own))))
-
-  pub unit_none : head_of e cut ≡ refuse 11 → whole.Refused 11 ≡ unit_answer (unit_of e home a own)
-  unfolding unit_answer
-  unit_none g = sym (ap unit_answer (unit_headless e home a own 11 (ap (head_of e) (sym (part_cut b at size)) ∙ g)))
+  pub unit_none : (k : ℕ) → refuse k ≡ head_of e cut → refuse k ≡ unit_of e home a own
+  unit_none k g = sym (unit_headless e home a own k (ap (head_of e) (sym (part_cut b at size)) ∙ sym g))
 
   module _ (n : ℕ) (g : head_of e cut ≡ pass n) where
     pub own_within : (n ≤ size) × (common_size e ≤ n)
     own_within = let w = head_within e cut n g in (omega (arith, cut_length, w.0), w.1)
 
-    pub unit_whole : (x : IdentityAnswer) (y : UnitAnswer) → x ≡ identity_answer (identity_good e home a (part b at n)) → y ≡ with_size n x → y ≡ unit_answer (unit_of e home a own)
+    pub unit_whole : (identity_good e home a (part b at n) >>= unit_with n) ≡ unit_of e home a own
     unfolding part
-    unit_whole x y c d =
-        d ∙ ap (with_size n) (c ∙ ap (λ (u : List ℕ). identity_answer (identity_good e home a u)) (sym (take-take n size (drop at b) own_within.0)))
-        ∙ answer_sized n (identity_good e home a (take n own))
-        ∙ sym (ap unit_answer (unit_headed e home a own n (ap (head_of e) (sym (part_cut b at size)) ∙ g)))
+    unit_whole =
+        ap (λ (u : List ℕ). identity_good e home a u >>= unit_with n) (sym (take-take n size (drop at b) own_within.0))
+        ∙ sym (unit_headed e home a own n (ap (head_of e) (sym (part_cut b at size)) ∙ g))

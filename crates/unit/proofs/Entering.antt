@@ -14,8 +14,9 @@ use Rattle.octets.specs.Octets.{placed}
 use Rattle.octets.proofs.Checks.{true_false}
 use Rattle.octets.proofs.Placed.{length_placed, take_placed}
 use Rattle.octets.proofs.Regions.{placed_whole, get_d_placed, get_d_before, get_d_behind}
-use Rattle.unit.specs.Trees.{carried_at, Rising, Tree, Grown, Added}
-use Rattle.unit.specs.TableTrees.{TableHeld, between, Held, directory_size, directory, key_of, table_from, Stored, Tables, Remembers, Fresh, Enters, Knows, Lent}
+use Rattle.unit.specs.Trees.{carried_at, Tree, Grown, Added}
+use Rattle.unit.specs.TableTrees.{TableHeld, between, Held, directory_size, directory, key_of, table_from, Stored, Tables, Remembers, Fresh, Enters, Enterable, Knows, Lent}
+use Rattle.unit.specs.declared.judged.Table.{Table}
 use Rattle.unit.specs.declared.judged.Judged.{Judged}
 use Rattle.unit.proofs.Finding.{held_rising}
 use Rattle.unit.proofs.Holding.{held_kept, held_in, stored_kept, key_at, key_end, tables_rising, tables_kept, remembers_tables}
@@ -51,14 +52,11 @@ module _ (w u : List ℕ) (size start count : ℕ) (ui : u ≡ placed w start (c
   pub counted_size : size ≡ length (take size u)
   counted_size = sym (length-take-le size u (omega (arith, counted_length)))
 
-  pub counted_rising : (n : ℕ) → Rising (take size w) n → Rising (take size u) n
-  counted_rising n r = rw counted_front r
-
 -- y is what the directory is left as
-module _ (b w u y : List ℕ) (size at end start count : ℕ) (j : Judged) (e : Enters b w size at end start count j) (ui : u ≡ placed w start (count ∷ [])) (h : start < length w) (d : size ≤ start)
-    (ly : length y ≡ length (take size u)) (small : at < 2 ^ 32) where
+module _ (b w u y : List ℕ) (size start : ℕ) (t : Table) (j : Judged) (e : Enters b w size start t j) (f : t.from ≡ start + 1) (ui : u ≡ placed w start (t.count ∷ [])) (h : start < length w) (d : size ≤ start)
+    (ly : length y ≡ length (take size u)) (small : t.at < 2 ^ 32) where
   abbrev key : ℕ
-  key = key_of at end
+  key = key_of t.at t.end
 
   abbrev v : List ℕ
   v = y ++ drop size u
@@ -67,10 +65,10 @@ module _ (b w u y : List ℕ) (size at end start count : ℕ) (j : Judged) (e : 
   keys = e.tables.keys
 
   y_length : length y ≡ size
-  y_length = ly ∙ sym (counted_size w u size start count ui h d)
+  y_length = ly ∙ sym (counted_size w u size start t.count ui h d)
 
   front : take size u ≡ directory b w
-  front = counted_front w u size start count ui h d ∙ ap (λ (n : ℕ). take n w) e.size_is
+  front = counted_front w u size start t.count ui h d ∙ ap (λ (n : ℕ). take n w) e.size_is
 
   tree_u : Tree (take size u) keys
   tree_u = rw front e.tables.tree
@@ -79,7 +77,7 @@ module _ (b w u y : List ℕ) (size at end start count : ℕ) (j : Judged) (e : 
   v_front = ap (λ (n : ℕ). take n v) (sym e.size_is) ∙ take_at y (drop size u) size y_length
 
   v_length : length v ≡ length w
-  v_length = omega (arith, length-append y (drop size u), length-drop size u, counted_length w u size start count ui h d, y_length)
+  v_length = omega (arith, length-append y (drop size u), length-drop size u, counted_length w u size start t.count ui h d, y_length)
 
   v_behind : (i : ℕ) → size ≤ i → get_or v i 0 ≡ get_or u i 0
   v_behind i g =
@@ -89,24 +87,24 @@ module _ (b w u y : List ℕ) (size at end start count : ℕ) (j : Judged) (e : 
 
   kept : (i : ℕ) → size ≤ i → (i ≡ start → ⊥) → get_or v i 0 ≡ get_or w i 0
   kept i g z = v_behind i g ∙ ap (λ (x : List ℕ). get_or x i 0) ui ∙ elim (dec_le start i) [
-    | yes m ↦ get_d_behind w start (count ∷ []) i (omega arith) (omega arith)
-    | no m ↦ get_d_before w start (count ∷ []) i (omega arith) (omega arith)
+    | yes m ↦ get_d_behind w start (t.count ∷ []) i (omega arith) (omega arith)
+    | no m ↦ get_d_before w start (t.count ∷ []) i (omega arith) (omega arith)
   ]
 
-  at_start : get_or v start 0 ≡ count
+  at_start : get_or v start 0 ≡ t.count
   at_start =
       let z : start + 0 ≡ start = omega arith in
-      v_behind start d ∙ ap₂ (λ (x : List ℕ) (n : ℕ). get_or x n 0) ui (sym z) ∙ get_d_placed w start (count ∷ []) 0 (omega arith) (omega arith)
+      v_behind start d ∙ ap₂ (λ (x : List ℕ) (n : ℕ). get_or x n 0) ui (sym z) ∙ get_d_placed w start (t.count ∷ []) 0 (omega arith) (omega arith)
 
-  new_held : Held b v (record { at = at; end = end; from = start + 1; count = count })
-  new_held = held_kept b w v (record { at = at; end = end; from = start + 1; count = count }) v_length (λ i g l. kept i (omega arith) (λ z. absurd (omega arith))) e.held
+  new_held : Held b v t
+  new_held = held_kept b w v t v_length (λ i g l. kept i (omega arith) (λ z. absurd (omega arith))) e.held
 
-  new_stored : Stored b v (start + 1 + 5 * count) start key
+  new_stored : Stored b v (t.from + 5 * t.count) start key
   unfolding table_from
   new_stored = record {
     behind = omega (arith, e.size_is);
     before = omega (arith, at_start);
-    held = rw (at_start, key_at at end small, key_end at end small) new_held;
+    held = rw (at_start, key_at t.at t.end small, key_end t.at t.end small, ← f) new_held;
   }
 
   module _ (code : ℕ) (added : Bool) (c : code ≡ key) (a : (cs : List ℕ) → length cs ≡ j.tables → Tree (take size u) cs → Added (take size u) y cs start code added) where
@@ -118,19 +116,19 @@ module _ (b w u y : List ℕ) (size at end start count : ℕ) (j : Judged) (e : 
         go true g = g
         go false g = absurd (true_false g (e.fresh keys e.tables.counted e.tables.tree))
 
-    old_stored : (k : ℕ) → k < j.tables → Stored b v (start + 1 + 5 * count) (carried_at (directory b v) k) (get_or (keys ++ (key ∷ [])) k 0)
+    old_stored : (k : ℕ) → k < j.tables → Stored b v (t.from + 5 * t.count) (carried_at (directory b v) k) (get_or (keys ++ (key ∷ [])) k 0)
     old_stored k l =
         let m : k < length keys = omega (arith, e.tables.counted) in
         let c : carried_at (directory b v) k ≡ carried_at (directory b w) k = ap (λ (x : List ℕ). carried_at x k) v_front ∙ grown.others k m ∙ ap (λ (x : List ℕ). carried_at x k) front in
         rw (c, get_or-append keys (key ∷ []) 0 k m)
-        (stored_kept b w v j.free (start + 1 + 5 * count) _ _ v_length (omega (arith, e.free_is)) (λ i g n. kept i (omega (arith, e.size_is)) (λ z. absurd (omega (arith, e.free_is)))) (e.tables.stored k l))
+        (stored_kept b w v j.free (t.from + 5 * t.count) _ _ v_length (omega (arith, e.free_is)) (λ i g n. kept i (omega (arith, e.size_is)) (λ z. absurd (omega (arith, e.free_is)))) (e.tables.stored k l))
 
-    last_stored : (k : ℕ) → k ≡ length keys → Stored b v (start + 1 + 5 * count) (carried_at (directory b v) k) (get_or (keys ++ (key ∷ [])) k 0)
+    last_stored : (k : ℕ) → k ≡ length keys → Stored b v (t.from + 5 * t.count) (carried_at (directory b v) k) (get_or (keys ++ (key ∷ [])) k 0)
     last_stored k i =
         let c : carried_at (directory b v) k ≡ start = ap₂ carried_at v_front i ∙ grown.carries in
         rw (c, i, get_or-append_seam keys key [] 0) new_stored
 
-    v_tables : Tables b v (j.tables + 1) (start + 1 + 5 * count)
+    v_tables : Tables b v (j.tables + 1) (t.from + 5 * t.count)
     v_tables = record {
       keys = keys ++ (key ∷ []);
       counted = length-append keys (key ∷ []) ∙ ap (λ (n : ℕ). n + 1) e.tables.counted;
@@ -141,13 +139,13 @@ module _ (b w u y : List ℕ) (size at end start count : ℕ) (j : Judged) (e : 
       ];
     }
 
-    pub entered : Knows b v at end (record { last = record { at = at; end = end; from = start + 1; count = count }; tables = j.tables + 1; free = start + 1 + 5 * count })
+    pub entered : Knows b v t.at t.end (record { last = t; tables = j.tables + 1; free = t.from + 5 * t.count })
     unfolding Knows Remembers
     entered = ((inr new_held, v_tables), new_held)
 
 -- ---- behind the other tables: x is what the words behind the new one's count are left as
 module _ (b w x : List ℕ) (j : Judged) (start at end count : ℕ) (m : Lent b w j) (g : start < length b)
-    (s : start < length b → (j.free ≤ start) × (length b / 5 ≤ start) × (5 * j.tables + 5 ≤ length b / 5))
+    (s : (j.free ≤ start) × (length b / 5 ≤ start) × (5 * j.tables + 5 ≤ length b / 5))
     (lx : length x ≡ length (mid_of (start + 1) (length b - (start + 1)) w)) (o : at ≤ end) (i : end ≤ length b) (t : TableHeld (between b at end) x count) where
   abbrev n : ℕ
   n = length b - (start + 1)
@@ -158,24 +156,26 @@ module _ (b w x : List ℕ) (j : Judged) (start at end count : ℕ) (m : Lent b 
   room : start + 1 + n ≤ length w
   room = omega (arith, m.room)
 
-  new : Held b (put_mid (start + 1) n w x) (record { at = at; end = end; from = start + 1; count = count })
+  abbrev table : Table
+  table = record { at = at; end = end; from = start + 1; count = count }
+
+  new : Held b (put_mid (start + 1) n w x) table
   new = left_held b w x (start + 1) n x_length room at end count t
 
   others : Tables b (put_mid (start + 1) n w x) j.tables j.free
-  others = left_tables b w x (start + 1) n x_length room j.tables j.free (omega (arith, s g)) (omega (arith, s g)) (remembers_tables b w j m.memory)
+  others = left_tables b w x (start + 1) n x_length room j.tables j.free (omega (arith, s)) (omega (arith, s)) (remembers_tables b w j m.memory)
 
-  pub behind_enters : Fresh (directory b w) j.tables (key_of at end) → Enters b (put_mid (start + 1) n w x) (length b / 5) at end start count j
+  pub behind_enters : Fresh (directory b w) j.tables (key_of at end) → Enters b (put_mid (start + 1) n w x) (length b / 5) start table j
   behind_enters f = record {
     size_is = refl;
-    free_is = (s g).0;
-    fresh = subst (λ (d : List ℕ). Fresh d j.tables (key_of at end)) (sym (left_front b w x (start + 1) n x_length room (directory_size b) (omega (arith, s g)))) f;
+    free_is = s.0;
+    fresh = subst (λ (d : List ℕ). Fresh d j.tables (key_of at end)) (sym (left_front b w x (start + 1) n x_length room (directory_size b) (omega (arith, s)))) f;
     tables = others;
     held = new;
   }
 
-  pub behind_requires : (at < 2 ^ 32) × (end < 2 ^ 32) × (count < 2 ^ 32) × (start < 2 ^ 32) × (length b / 5 ≤ start) × (start + 1 + 5 * count ≤ length (put_mid (start + 1) n w x))
-      × (5 * j.tables + 5 ≤ length b / 5) × Rising (take (length b / 5) (put_mid (start + 1) n w x)) j.tables
+  pub behind_requires : Enterable (put_mid (start + 1) n w x) (length b / 5) start table j
   behind_requires =
       let r : 5 * count ≤ length x = (held_rising (between b at end) x count 0 t).room in
       let small = m.small in
-      (omega arith, omega arith, omega (arith, x_length), omega arith, (s g).1, new.inside, (s g).2, tables_rising b (put_mid (start + 1) n w x) j.tables j.free others)
+      (omega arith, omega arith, omega (arith, x_length), omega arith, refl, s.1, new.inside, s.2, tables_rising b (put_mid (start + 1) n w x) j.tables j.free others)

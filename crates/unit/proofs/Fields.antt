@@ -8,8 +8,7 @@ use Prim.Native.Nat.{ℕ, ◌+◌, ◌≤◌, ◌<◌}
 use native.Mathlib.Omega.{arith}
 use lib.Dec.{eqb, leb, ltb}
 use lib.ListN.{length, take, get_or}
-use borrow.Author.Tests.{eq-eqb, ne_eqb, le-leb, lt-leb}
-use Rattle.octets.specs.Octets.{number_at}
+use borrow.Author.Tests.{ne_eqb, le-leb, lt-leb}
 use Rattle.octets.specs.Checked.{pass, refuse, ◌>>=◌, require}
 use Rattle.octets.proofs.Checks.{passes, fails, known, require_pass, pass_inj}
 use Rattle.bundle.specs.Encoding.{Encoding}
@@ -17,7 +16,7 @@ use Rattle.bundle.specs.Encoded.{four, encoding_is}
 use Rattle.bundle.specs.declared.encoding.ObjectEncoding.{ObjectEncoding}
 use Rattle.bundle.specs.InitialLength.{marked, length_field, length_stated}
 use Rattle.unit.specs.UnitRead.{length_good, unit_size, is_five, address_place, common_size}
-use Rattle.unit.specs.Headers.{fits, unit_inside, common_good, five_kind, kind_of}
+use Rattle.unit.specs.Headers.{fits, unit_inside, five_kind, kind_of}
 use Rattle.bundle.proofs.InitialLengths.{field_least, marked_same, stated_same}
 use Rattle.unit.specs.declared.header.Kind.TheVariants.{Compilation, Signature, Root, Other}
 
@@ -156,21 +155,6 @@ module _ (e : Encoding) (n : ℕ) (s t : List ℕ) (same : take n s ≡ take n t
       ∙ passes _ _ _ (sym good_same ∙ size_good e s m q)
       ∙ ap (λ (k : ℕ). pass (length_field e + k)) (sym (stated_same n s t same e there))
       ∙ ap pass (size_is e s m q)
-
--- ---- the common fields
-module _ (e : Encoding) (u : List ℕ) where
-  pub common_short : length u < common_size e → false ≡ common_good e u
-  unfolding common_good
-  common_short h = rw (common_good, lt-leb (common_size e) (length u) h)
-
-  module _ (h : common_size e ≤ length u) where
-    pub common_version : (number_at e.big 2 u (length_field e) ≡ e.version → ⊥) → false ≡ common_good e u
-    unfolding common_good
-    common_version g = rw (common_good, le-leb (common_size e) (length u) h, ne_eqb (number_at e.big 2 u (length_field e)) e.version g)
-
-    pub common_address : number_at e.big 2 u (length_field e) ≡ e.version → eqb (get_or u (address_place e) 0) e.address ≡ common_good e u
-    unfolding common_good
-    common_address g = rw (common_good, le-leb (common_size e) (length u) h, eq-eqb (number_at e.big 2 u (length_field e)) e.version g)
 
 -- ---- where the identity stands
 module _ (t : ℕ) where

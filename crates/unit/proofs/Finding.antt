@@ -4,10 +4,12 @@ use mathlib.Core.Path.{◌≡◌, refl, sym, ap, ◌∙◌}
 use mathlib.Core.Bool.{true, false}
 use mathlib.Core.List.{List, [], ◌∷◌}
 use mathlib.Core.Option.{some, none}
+use Rattle.std.specs.Prelude.{Option, Some, None, Result, Ok, Err}
 use Prim.Native.Nat.{ℕ, zero, suc, ◌+◌, ◌*◌, ◌<◌, ◌≤◌}
 use native.Mathlib.Nat.{not-suc-le-zero, le_of_suc-le-suc}
 use native.Mathlib.Omega.{arith}
 use lib.ListN.{length, drop, get_or, length-map}
+use Rattle.std.proofs.lemmas.Option.{none-some, same_Some}
 use borrow.Author.Tests.{eq-eqb, ne_eqb}
 use Rattle.octets.specs.Lists.{has, any, distinct}
 use Rattle.octets.specs.Checked.{pass}
@@ -17,10 +19,7 @@ use Rattle.unit.specs.Abbreviations.{Declaration, declarations_of, declaration_o
 use Rattle.unit.specs.Tables.{declared_at, declarations, Headed, Located}
 use Rattle.unit.specs.Trees.{code_at, carried_at, Rising, Ends}
 use Rattle.unit.specs.TableTrees.{codes_of, no_declaration, Declares, TableHeld}
-use Rattle.unit.specs.declared.tree.Walked.{Walked}
-use Rattle.unit.specs.declared.tree.Walked.TheVariants as walked
-use Rattle.unit.specs.declared.abbreviations.Found.{Found}
-use Rattle.unit.specs.declared.abbreviations.Found.TheVariants.{At, Nothing}
+use Rattle.unit.specs.declared.abbreviations.Heading.{Heading}
 use Rattle.unit.proofs.Trees.{free_not}
 
 -- ---- the first declaration of a code, where codes differ
@@ -65,25 +64,25 @@ module _ (s : List ℕ) (at place : ℕ) (d : Declaration) (h : Declares s place
   pub declares_within : at ≤ length s
   declares_within = omega (arith, h.inside, e)
 
-  module _ (r : Found) (f : Headed (drop at s) r) where
-    heading : r ≡ At h.coded.place.tag h.coded.place.start
+  module _ (r : Option Heading) (f : Headed (drop at s) r) where
+    heading : r ≡ Some (record { tag = h.coded.place.tag; start = h.coded.place.start })
     unfolding Headed
     heading = f h.coded (ap (λ (x : ℕ). declared_at (drop x s)) e ∙ h.is)
 
-    pub declares_some : r ≡ Nothing → ⊥
-    declares_some g = let z : ◌≡◌ {A = ℕ} 0 1 = same (sym heading ∙ g) in omega arith
-      where
-        same : At h.coded.place.tag h.coded.place.start ≡ Nothing → ◌≡◌ {A = ℕ} 0 1
-        same q = cc
+    pub declares_some : r ≡ None → ⊥
+    declares_some g = none-some _ (sym g ∙ heading)
 
-    module _ (tag start : ℕ) (i : r ≡ At tag start) where
-      declares_tag : h.coded.place.tag ≡ tag
-      declares_tag = let g : At h.coded.place.tag h.coded.place.start ≡ At tag start = sym heading ∙ i in cc
+    module _ (g : Heading) (i : r ≡ Some g) where
+      same_heading : record { tag = h.coded.place.tag; start = h.coded.place.start } ≡ g
+      same_heading = same_Some _ _ (sym heading ∙ i)
 
-      declares_start : h.coded.place.start ≡ start
-      declares_start = let g : At h.coded.place.tag h.coded.place.start ≡ At tag start = sym heading ∙ i in cc
+      declares_tag : h.coded.place.tag ≡ g.tag
+      declares_tag = ap (λ (x : Heading). x.tag) same_heading
 
-      pub declares_inside : at + start ≤ length s
+      declares_start : h.coded.place.start ≡ g.start
+      declares_start = ap (λ (x : Heading). x.start) same_heading
+
+      pub declares_inside : at + g.start ≤ length s
       declares_inside = omega (arith, h.inside, e, declares_start)
 
 -- ---- in the tree
@@ -98,11 +97,11 @@ module _ (s w : List ℕ) (n code : ℕ) (t : TableHeld s w n) where
     same : ds ≡ t.declared
     same = pass_inj (sym e ∙ t.read)
 
-    located_not : has (codes_of t.declared) code ≡ false → Located s ds code Nothing
+    located_not : has (codes_of t.declared) code ≡ false → Located s ds code None
     unfolding Located
     located_not h = ap (λ (x : List Declaration). declaration_of x code) same ∙ no_declaration_law t.declared code h
 
-    pub located_none : n ≡ 0 → Located s ds code Nothing
+    pub located_none : n ≡ 0 → Located s ds code None
     unfolding has any
     located_none z = located_not (none (codes_of t.declared) (codes_count ∙ z))
       where
@@ -110,12 +109,12 @@ module _ (s w : List ℕ) (n code : ℕ) (t : TableHeld s w n) where
         none [] l = refl
         none (c ∷ cs) l = absurd (omega arith)
 
-    pub located_free : (link : ℕ) (r : Walked) → r ≡ walked.Free link → Ends w n code r → Located s ds code Nothing
+    pub located_free : (link : ℕ) (r : Result ℕ ℕ) → r ≡ Err link → Ends w n code r → Located s ds code None
     unfolding Ends
     located_free link r i f = located_not (free_not w (codes_of t.declared) t.held.tree code link (rw (i, ← codes_count) at f))
 
   -- a node that was found
-  module _ (k : ℕ) (r : Walked) (i : r ≡ walked.At k) (f : Ends w n code r) where
+  module _ (k : ℕ) (r : Result ℕ ℕ) (i : r ≡ Ok k) (f : Ends w n code r) where
     ends_at : (k < n) × (code_at w k ≡ code)
     unfolding Ends
     ends_at = rw i at f
@@ -129,14 +128,14 @@ module _ (s w : List ℕ) (n code : ℕ) (t : TableHeld s w n) where
     pub node_declares : Declares s (carried_at w k) (get_or t.declared k no_declaration)
     node_declares = t.held.declares k inside
 
-    pub located_at : (ds : List Declaration) → declarations_of s ≡ pass ds → (at : ℕ) → at ≡ carried_at w k → (o : Found) → Headed (drop at s) o → (tag start : ℕ) → o ≡ At tag start
-        → Located s ds code (At tag (at + start))
+    pub located_at : (ds : List Declaration) → declarations_of s ≡ pass ds → (at : ℕ) → at ≡ carried_at w k → (o : Option Heading) → Headed (drop at s) o → (g : Heading) → o ≡ Some g
+        → Located s ds code (Some (record { tag = g.tag; start = at + g.start }))
     unfolding Located
-    located_at ds e at a o g tag start j =
+    located_at ds e at a o f g j =
         let h = node_declares in
         let its : (get_or t.declared k no_declaration).code ≡ code =
         sym (code_at_law t.declared k inside) ∙ sym (t.held.tree.codes k (rw (codes_count) ends_at.0)) ∙ ends_at.1 in
-        rw (a, ← declares_tag s at (carried_at w k) _ h a o g tag start j, ← declares_start s at (carried_at w k) _ h a o g tag start j) (
+        rw (a, ← declares_tag s at (carried_at w k) _ h a o f g j, ← declares_start s at (carried_at w k) _ h a o f g j) (
           get_or t.declared k no_declaration,
           ap (λ (x : List Declaration). declaration_of x code) (same ds e) ∙ the_declaration t.declared k code (read_distinct s t.declared t.read) inside its,
           h.tag,

@@ -9,20 +9,19 @@ use native.Mathlib.Decide.{ℕ_discrete}
 use lib.Dec.{eqb, leb}
 use lib.ListN.{length, take, get_or}
 use lib.Seq.{get_or-take, length-take-le}
-use borrow.Author.Tests.{eq-eqb, eqb-true, le-leb, lt-leb, leb-true}
+use borrow.Author.Tests.{eq-eqb, le-leb, lt-leb, leb-true}
 use Rattle.octets.specs.Octets.{number_at}
 use Rattle.octets.specs.Checked.{Check, pass, refuse}
-use Rattle.octets.proofs.Checks.{true_false, and_left, and_right}
-use Rattle.octets.proofs.Refusals.{Only, only_pass, only_refuse, only_bind}
+use Rattle.octets.proofs.Checks.{true_false, and_left}
+use Rattle.octets.proofs.Refusals.{Only, only_pass, only_refuse, only_require, only_bind}
 use Rattle.bundle.specs.Encoding.{Encoding}
 use Rattle.bundle.specs.InitialLength.{length_field, length_stated}
 use Rattle.unit.specs.UnitRead.{Identity, length_good, unit_size, is_five, address_place, common_size, unit_of, not_eleven, header_passes}
-use Rattle.unit.specs.Headers.{unit_inside, common_good, fields_good, kind_of, header_size, identity_by, with_address, stated_address, address_of}
+use Rattle.unit.specs.Headers.{fits, unit_inside, common_good, fields_good, kind_of, header_size, identity_by, with_address, stated_address, address_of}
 use Rattle.unit.specs.declared.header.Kind.{Kind}
 use Rattle.unit.specs.declared.header.Kind.TheVariants.{Compilation, Signature, Root, Other}
-use Rattle.unit.specs.declared.header.AddressSize.TheVariants.{Is as Stated, Refused as Unstated}
 use Rattle.unit.proofs.Rooted.{only_root_identity}
-use Rattle.unit.proofs.Fields.{place_lt, common_address}
+use Rattle.unit.proofs.Fields.{place_lt}
 use Rattle.unit.proofs.Units.{unit_none, unit_common, unit_header, unit_unreadable, unit_zero, unit_read, inside_le}
 
 only_identity_by : (e : Encoding) (k : Kind) (a u : List ℕ) → Only 12 (identity_by e k a u)
@@ -31,6 +30,11 @@ only_identity_by e Compilation a u = only_pass 12 _
 only_identity_by e Signature a u = only_pass 12 _
 only_identity_by e Root a u = only_bind 12 _ _ (only_root_identity e _ _) (λ x. only_pass 12 _)
 only_identity_by e Other a u = only_refuse 12
+
+fields_bad : (p q r : Bool) → (p && q) ≡ false → (p && (q && r)) ≡ false
+fields_bad true true r h = absurd (true_false refl h)
+fields_bad true false r h = refl
+fields_bad false q r h = refl
 
 -- ---- the common fields but for the address size
 module _ (e : Encoding) (u : List ℕ) where
@@ -42,45 +46,60 @@ module _ (e : Encoding) (u : List ℕ) where
   unfolding fields_good
   fields_whole h = rw (fields_good, le-leb (common_size e) (length u) h)
 
-fields_bad : (p q r : Bool) → (p && q) ≡ false → (p && (q && r)) ≡ false
-fields_bad true true r h = absurd (true_false refl h)
-fields_bad true false r h = refl
-fields_bad false q r h = refl
+  -- and the address size besides
+  pub fields_common : fields_good e u ≡ true → common_size e ≤ length u
+  unfolding fields_good
+  fields_common h = leb-true (common_size e) (length u) (and_left _ _ h)
+
+  pub good_fields : fields_good e u ≡ true → eqb (get_or u (address_place e) 0) e.address ≡ common_good e u
+  unfolding fields_good common_good
+  good_fields h = go (leb (common_size e) (length u)) (eqb (number_at e.big 2 u (length_field e)) e.version) h
+    where
+      go : (p q : Bool) → (p && q) ≡ true → eqb (get_or u (address_place e) 0) e.address ≡ (p && (q && eqb (get_or u (address_place e) 0) e.address))
+      go true true g = refl
+      go true false g = absurd (true_false g refl)
+      go false q g = absurd (true_false g refl)
+
+  pub bad_fields : fields_good e u ≡ false → false ≡ common_good e u
+  unfolding fields_good common_good
+  bad_fields h = sym (fields_bad (leb (common_size e) (length u)) _ _ h)
 
 module _ (e : Encoding) (s : List ℕ) where
   -- the encoding that is judged
   abbrev own : Encoding
   own = with_address e (stated_address e s)
 
-  not_eleven_law : unit_of own 1 [] s ≡ refuse 11 → Unstated ≡ address_of e s
+  not_eleven_law : unit_of own 1 [] s ≡ refuse 11 → refuse 11 ≡ address_of e s
   unfolding address_of header_passes not_eleven
   not_eleven_law h = rw (address_of, header_passes, h, not_eleven)
 
-  pub alone_none : unit_inside e s ≡ refuse 11 → Unstated ≡ address_of e s
+  only_inside : Only 11 (unit_inside e s)
+  unfolding unit_inside unit_size fits
+  only_inside = only_bind 11 _ _ (only_bind 11 _ _ (only_require _ 11) (λ _. only_bind 11 _ _ (only_require _ 11) (λ _. only_pass 11 _))) (λ n. only_bind 11 _ _ (only_require _ 11) (λ _. only_pass 11 _))
+
+  pub alone_none : unit_inside e s ≡ refuse 11 → refuse 11 ≡ address_of e s
   unfolding unit_inside unit_size length_good length_field length_stated with_address
   alone_none h = not_eleven_law (unit_none own 1 [] s h)
+
+  pub alone_not : (k : ℕ) → refuse k ≡ unit_inside e s → refuse k ≡ address_of e s
+  alone_not k h = let same = only_inside.is k (sym h) in rw same (alone_none (sym h ∙ ap refuse same))
 
   module _ (n : ℕ) (h : unit_inside e s ≡ pass n) where
     inside_own : unit_inside own s ≡ pass n
     unfolding unit_inside unit_size length_good length_field length_stated with_address
     inside_own = h
 
-    pub alone_fields : fields_good e (take n s) ≡ false → Unstated ≡ address_of e s
+    pub alone_fields : fields_good e (take n s) ≡ false → refuse 11 ≡ address_of e s
     unfolding fields_good common_good common_size length_field is_five with_address
     alone_fields g = not_eleven_law (unit_common own 1 [] s n inside_own (take n s) refl (fields_bad (leb (common_size e) (length (take n s))) _ _ g))
 
     module _ (good : fields_good e (take n s) ≡ true) where
       pub fields_there : common_size e ≤ length (take n s)
-      unfolding fields_good
-      fields_there = leb-true (common_size e) (length (take n s)) (and_left _ _ good)
+      fields_there = fields_common e (take n s) good
 
-      common_own : common_size own ≤ length (take n s)
-      unfolding common_size length_field is_five with_address
-      common_own = fields_there
-
-      v : number_at e.big 2 (take n s) (length_field e) ≡ e.version
-      unfolding fields_good
-      v = eqb-true _ _ (and_right (leb (common_size e) (length (take n s))) _ good)
+      fields_own : fields_good own (take n s) ≡ true
+      unfolding fields_good common_size length_field is_five with_address
+      fields_own = good
 
       -- the address size is what it states
       pub address_there : get_or (take n s) (address_place e) 0 ≡ stated_address e s
@@ -89,16 +108,12 @@ module _ (e : Encoding) (s : List ℕ) where
           let l : address_place e < n = omega (arith, place_lt e, fields_there, length-take-le n s (inside_le e s n h)) in
           get_or-take n s (address_place e) 0 l
 
-      version_own : number_at own.big 2 (take n s) (length_field own) ≡ own.version
-      unfolding length_field with_address
-      version_own = v
-
       address_own : eqb (get_or (take n s) (address_place own) 0) own.address ≡ true
       unfolding address_place length_field is_five with_address
       address_own = eq-eqb (get_or (take n s) (address_place e) 0) (stated_address e s) address_there
 
       good_own : common_good own (take n s) ≡ true
-      good_own = sym (common_address own (take n s) common_own version_own) ∙ address_own
+      good_own = sym (good_fields own (take n s) fields_own) ∙ address_own
 
       kind_own : kind_of own 1 (take n s) ≡ kind_of e 1 (take n s)
       unfolding kind_of length_field is_five with_address
@@ -114,7 +129,7 @@ module _ (e : Encoding) (s : List ℕ) where
       header_own : header_size own (kind_of own 1 (take n s)) ≡ header_size e (kind_of e 1 (take n s))
       header_own = size_own (kind_of own 1 (take n s)) ∙ ap (header_size e) kind_own
 
-      pub alone_header : length (take n s) < header_size e (kind_of e 1 (take n s)) → Unstated ≡ address_of e s
+      pub alone_header : length (take n s) < header_size e (kind_of e 1 (take n s)) → refuse 11 ≡ address_of e s
       alone_header f = not_eleven_law (unit_header own 1 [] s n inside_own (take n s) refl good_own (omega (arith, header_own)))
 
       module _ (f : header_size e (kind_of e 1 (take n s)) ≤ length (take n s)) where
@@ -132,6 +147,6 @@ module _ (e : Encoding) (s : List ℕ) where
           | no z ↦ ap not_eleven (unit_read own 1 [] s n inside_own (take n s) refl good_own whole_own i q z)
         ]
 
-        pub alone_whole : Stated (stated_address e s) ≡ address_of e s
+        pub alone_whole : pass (stated_address e s) ≡ address_of e s
         unfolding address_of header_passes
         alone_whole = rw (address_of, header_passes, read _ refl)

@@ -15,7 +15,7 @@ use Rattle.octets.proofs.Checks.{passes, fails, then_pass, then_refuse, bind_sam
 use Rattle.bundle.specs.Encoding.{Encoding}
 use Rattle.bundle.specs.InitialLength.{length_field}
 use Rattle.unit.specs.UnitRead.{Identity, UnitRead, unit_size, address_place, common_size, identity_of, unit_by, unit_of}
-use Rattle.unit.specs.Headers.{unit_inside, common_good, kind_of, header_size, identity_by, head_of, non_zero, identity_good, identity_answer, with_size, unit_answer}
+use Rattle.unit.specs.Headers.{unit_inside, common_good, kind_of, header_size, identity_by, head_of, non_zero, identity_good}
 use Rattle.unit.proofs.Units.{kinds, kind_short, kind_whole, sized, three, inside_le}
 
 -- ---- the head
@@ -109,8 +109,3 @@ module _ (e : Encoding) (home : ℕ) (a s : List ℕ) where
   pub unit_headed : (n : ℕ) → head_of e s ≡ pass n → unit_of e home a s ≡ (identity_good e home a (take n s) >>= unit_with n)
   unfolding unit_of ◌>>=◌
   unit_headed n h = unit_parts e home (λ size. pass a) s ∙ then_pass _ _ _ h
-
-pub answer_sized : (n : ℕ) (m : Check Identity) → with_size n (identity_answer m) ≡ unit_answer (m >>= unit_with n)
-unfolding with_size identity_answer unit_answer ◌>>=◌
-answer_sized n (pass i) = refl
-answer_sized n (refuse k) = refl

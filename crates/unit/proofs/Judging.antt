@@ -4,6 +4,7 @@ use mathlib.Core.Path.{◌≡◌, refl, sym, subst, ap, ◌∙◌}
 use mathlib.Core.Bool.{Bool, true, false}
 use mathlib.Core.List.{List, [], ◌∷◌, ◌++◌, append-nil, append_assoc}
 use mathlib.Core.Option.{some, none}
+use Rattle.std.specs.Prelude.{Ok, Err}
 use Prim.Native.Nat.{ℕ, ◌+◌, ◌*◌, ◌<◌, ◌≤◌}
 use native.Mathlib.Omega.{arith}
 use native.Mathlib.Decide.{dec_le}
@@ -16,9 +17,9 @@ use Rattle.octets.proofs.Joined.{map-append}
 use Rattle.octets.proofs.Elements.{distinct_snoc, distinct_repeats}
 use Rattle.unit.specs.Abbreviations.{Declaration, attributes_of, declarations_of}
 use Rattle.unit.specs.Tables.{Coded, declared_at, declarations, passed, table_good}
-use Rattle.unit.specs.Trees.{carried_at, Rising, Tree, Grown, Added}
+use Rattle.unit.specs.Trees.{carried_at, Tree, Grown, Added}
 use Rattle.unit.specs.TableTrees.{codes_of, no_declaration, Declares, TableTree, Judges}
-use Rattle.unit.specs.declared.abbreviations.TableRead.TheVariants.{Good, Bad}
+use Rattle.unit.specs.declared.abbreviations.Unheld.TheVariants.{Bad}
 use Rattle.unit.proofs.Walks.{declared, before, table_end, table_more, table_not, walk_within}
 
 -- ---- the declarations before a place
@@ -131,16 +132,13 @@ module _ (s w : List ℕ) (at count : ℕ) (j : Judging s w at count) where
   codes_count : length (codes_of j.ds) ≡ count
   codes_count = length-map j.ds (λ d. d.code) ∙ j.counted
 
-  pub judging_rising : Rising w count
-  judging_rising = rw (← codes_count) j.held.tree.rising
-
-  pub judging_end : declared_at (drop at s) ≡ pass none → Judges s w (Good count)
+  pub judging_end : declared_at (drop at s) ≡ pass none → Judges s w (Ok count)
   unfolding Judges
   judging_end e =
       let r = all_read s j.ds (met_end s at j.ds j.met e) j.differ in
       (table_good_law s j.ds r, record { declared = j.ds; read = r; counted = j.counted; held = j.held })
 
-  pub judging_not : (k : ℕ) → declared_at (drop at s) ≡ refuse k → Judges s w Bad
+  pub judging_not : (k : ℕ) → declared_at (drop at s) ≡ refuse k → Judges s w (Err Bad)
   unfolding Judges
   judging_not k e = table_refused s 12 (met_not s at j.ds j.met k e)
 
@@ -149,7 +147,7 @@ module _ (s w : List ℕ) (at count : ℕ) (j : Judging s w at count) where
     added : (b : Bool) → r ≡ b → Added w v (codes_of j.ds) at d.code b
     added b i = subst (λ (x : Bool). Added w v (codes_of j.ds) at d.code x) i (a (codes_of j.ds) codes_count j.held.tree)
 
-    pub judging_stops : r ≡ false → Judges s v Bad
+    pub judging_stops : r ≡ false → Judges s v (Err Bad)
     unfolding Judges Added
     judging_stops i = table_repeats s j.ds _ _ (added false i) (met_more s at j.ds j.met d e)
 

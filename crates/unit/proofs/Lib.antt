@@ -1,6 +1,6 @@
 -- Laws of units, and the proofs of their readers.
 -- Assumes nothing.
-pub mod Entries
+pub mod Steps
 pub mod Sizes
 pub mod Fields
 pub mod AtLeast

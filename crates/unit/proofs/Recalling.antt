@@ -11,36 +11,30 @@ use Rattle.octets.specs.Lists.{has, any}
 use Rattle.octets.proofs.Parts.{part_cut}
 use Rattle.unit.specs.Tables.{table_good}
 use Rattle.unit.specs.Trees.{code_at, carried_at, Rising, Ends}
-use Rattle.unit.specs.TableTrees.{TableHeld, Judges, between, Held, directory, key_of, table_from, Stored, Tables, Remembers, Fresh, Seeks, Knows, Recalls}
+use Rattle.unit.specs.TableTrees.{TableHeld, Judges, between, Held, directory, key_of, table_from, Stored, Tables, Remembers, Fresh, Seeks, Knows}
 use Rattle.unit.specs.declared.judged.Table.{Table}
 use Rattle.unit.specs.declared.judged.Judged.{Judged}
-use Rattle.unit.specs.declared.judged.Sought.{Sought}
-use Rattle.unit.specs.declared.judged.Sought.TheVariants as sought
-use Rattle.unit.specs.declared.judged.Recalled.{Recalled}
-use Rattle.unit.specs.declared.judged.Recalled.TheVariants.{Known, Wrong}
-use Rattle.unit.specs.declared.abbreviations.TableRead.{TableRead}
-use Rattle.unit.specs.declared.abbreviations.TableRead.TheVariants.{Good, Bad, Full}
-use Rattle.unit.specs.declared.tree.Walked.{Walked}
-use Rattle.unit.specs.declared.tree.Walked.TheVariants as walked
+use Rattle.std.specs.Prelude.{Option, Some, None, Result, Ok, Err}
+use Rattle.unit.specs.declared.abbreviations.Unheld.{Unheld}
+use Rattle.unit.specs.declared.abbreviations.Unheld.TheVariants.{Bad, Full}
 use Rattle.unit.proofs.Trees.{free_not}
 use Rattle.unit.proofs.Holding.{key_at, key_end}
 
 -- ---- what is recalled
 -- a table that the words hold becomes the last one
-pub recalled : (b w : List ℕ) (at end from count n free : ℕ) → Held b w (record { at = at; end = end; from = from; count = count }) → Tables b w n free
-    → Recalls b w at end (Known (record { last = record { at = at; end = end; from = from; count = count }; tables = n; free = free }))
-unfolding Recalls Knows Remembers
-recalled b w at end from count n free h t = ((inr h, t), h)
+pub recalled : (b w : List ℕ) (t : Table) (n free : ℕ) → Held b w t → Tables b w n free → Knows b w t.at t.end (record { last = t; tables = n; free = free })
+unfolding Knows Remembers
+recalled b w t n free h d = ((inr h, d), h)
 
-pub recalled_last : (b w : List ℕ) (j : Judged) (at end : ℕ) → at ≤ end → j.last.at ≡ at → j.last.end ≡ end → Remembers b w j → Recalls b w at end (Known j)
-unfolding Recalls Knows Remembers
+pub recalled_last : (b w : List ℕ) (j : Judged) (at end : ℕ) → at ≤ end → j.last.at ≡ at → j.last.end ≡ end → Remembers b w j → Knows b w at end j
+unfolding Knows Remembers
 recalled_last b w j at end g e f m = (m, ⊎_elim (λ z. absurd (omega arith)) (λ h. moved h) m.0)
   where
     moved : Held b w j.last → Held b w (record { at = at; end = end; from = j.last.from; count = j.last.count })
     moved h = subst (λ (t : Table). Held b w t) (ap₂ (λ (x y : ℕ). record { at = x; end = y; from = j.last.from; count = j.last.count }) e f) h
 
 -- the table that a search finds
-pub found_stored : (b w : List ℕ) (n free key start : ℕ) (r : Sought) → r ≡ sought.At start → Seeks (directory b w) n key r → Tables b w n free → Stored b w free start key
+pub found_stored : (b w : List ℕ) (n free key start : ℕ) (r : Option ℕ) → r ≡ Some start → Seeks (directory b w) n key r → Tables b w n free → Stored b w free start key
 unfolding Seeks
 found_stored b w n free key start r i s t =
     let f : (k : ℕ) × (k < n) × (code_at (directory b w) k ≡ key) × (carried_at (directory b w) k ≡ start) = rw i at s in
@@ -59,13 +53,13 @@ stored_held b w free at end start count h s e =
     (ap₂ (λ (x y : ℕ). record { at = x; end = y; from = start + 1; count = get_or w start 0 }) (key_at at end h) (key_end at end h)
     ∙ ap (λ (n : ℕ). record { at = at; end = end; from = start + 1; count = n }) (sym e)) s.held
 
-pub not_found : (b w : List ℕ) (n key : ℕ) (r : Sought) → r ≡ sought.New → Seeks (directory b w) n key r → Fresh (directory b w) n key
+pub not_found : (b w : List ℕ) (n key : ℕ) (r : Option ℕ) → r ≡ None → Seeks (directory b w) n key r → Fresh (directory b w) n key
 unfolding Seeks
 not_found b w n key r i s = rw i at s
 
 -- ---- the search
 module _ (d : List ℕ) (n key : ℕ) where
-  pub seeks_none : n ≡ 0 → Seeks d n key sought.New
+  pub seeks_none : n ≡ 0 → Seeks d n key None
   unfolding Seeks Fresh has any
   seeks_none z = λ cs l t. none cs (l ∙ z)
     where
@@ -73,11 +67,11 @@ module _ (d : List ℕ) (n key : ℕ) where
       none [] l = refl
       none (c ∷ cs) l = absurd (omega arith)
 
-  pub seeks_free : (code link : ℕ) (r : Walked) → code ≡ key → r ≡ walked.Free link → Ends d n code r → Seeks d n key sought.New
+  pub seeks_free : (code link : ℕ) (r : Result ℕ ℕ) → code ≡ key → r ≡ Err link → Ends d n code r → Seeks d n key None
   unfolding Seeks Fresh Ends
   seeks_free code link r c i e = λ cs l t. free_not d cs t key link (rw (i, c, ← l) at e)
 
-  module _ (code k : ℕ) (r : Walked) (i : r ≡ walked.At k) (e : Ends d n code r) where
+  module _ (code k : ℕ) (r : Result ℕ ℕ) (i : r ≡ Ok k) (e : Ends d n code r) where
     ends_at : (k < n) × (code_at d k ≡ code)
     unfolding Ends
     ends_at = rw i at e
@@ -85,53 +79,39 @@ module _ (d : List ℕ) (n key : ℕ) where
     pub seeks_within : Rising d n → 5 * k + 5 ≤ length d
     seeks_within r = omega (arith, ends_at.0, r.room)
 
-    pub seeks_at : (start : ℕ) → code ≡ key → start ≡ carried_at d k → Seeks d n key (sought.At start)
+    pub seeks_at : (start : ℕ) → code ≡ key → start ≡ carried_at d k → Seeks d n key (Some start)
     unfolding Seeks
     seeks_at start c s = (k, ends_at.0, ends_at.1 ∙ c, sym s)
 
 -- ---- a table that was judged
-module _ (s w : List ℕ) (r : TableRead) (j : Judges s w r) where
-  pub judged_good : (n : ℕ) → r ≡ Good n → TableHeld s w n
+module _ (s w : List ℕ) (r : Result ℕ Unheld) (j : Judges s w r) where
+  pub judged_good : (n : ℕ) → r ≡ Ok n → TableHeld s w n
   unfolding Judges
   judged_good n e = let g : (table_good s ≡ true) × TableHeld s w n = rw e at j in g.1
 
-  pub judged_bad : r ≡ Bad → table_good s ≡ false
+  pub judged_bad : r ≡ Err Bad → table_good s ≡ false
   unfolding Judges
   judged_bad e = rw e at j
 
-  pub judged_full : r ≡ Full → length w < length s
-  unfolding Judges
-  judged_full e = rw e at j
+-- a table that is not held is bad, where the words suffice
+pub unheld_bad : (s w : List ℕ) (u : Unheld) → length s ≤ length w → Judges s w (Err u) → table_good s ≡ false
+unfolding Judges
+unheld_bad s w Bad h j = j
+unheld_bad s w Full h j = absurd (omega arith)
 
-pub recalls_known : (b w : List ℕ) (at end : ℕ) (j : Judged) → Knows b w at end j → Recalls b w at end (Known j)
-unfolding Recalls
-recalls_known b w at end j k = k
+-- ---- the last table of the memory
+module _ (b w : List ℕ) (at end : ℕ) (j : Judged) (k : Knows b w at end j) where
+  pub known_memory : Remembers b w j
+  unfolding Knows
+  known_memory = k.0
 
-pub recalls_not : (b w : List ℕ) (at end : ℕ) → table_good (between b at end) ≡ false → Recalls b w at end Wrong
-unfolding Recalls
-recalls_not b w at end h = h
+  held : Held b w (record { at = at; end = end; from = j.last.from; count = j.last.count })
+  unfolding Knows
+  held = k.1
 
-module _ (b w : List ℕ) (at end : ℕ) (r : Recalled) (k : Recalls b w at end r) where
-  pub recalls_bad : r ≡ Wrong → table_good (between b at end) ≡ false
-  unfolding Recalls
-  recalls_bad e = rw e at k
+  pub known_within : j.last.from + 5 * j.last.count ≤ length w
+  known_within = held.inside
 
-  module _ (j : Judged) (e : r ≡ Known j) where
-    knows : Knows b w at end j
-    unfolding Recalls
-    knows = rw e at k
-
-    pub recalls_memory : Remembers b w j
-    unfolding Knows
-    recalls_memory = knows.0
-
-    held : Held b w (record { at = at; end = end; from = j.last.from; count = j.last.count })
-    unfolding Knows
-    held = knows.1
-
-    pub recalls_within : j.last.from + 5 * j.last.count ≤ length w
-    recalls_within = held.inside
-
-    -- in the part that the code lends
-    pub recalls_held : TableHeld (between b at end) (take (j.last.from + 5 * j.last.count - j.last.from) (drop j.last.from w)) j.last.count
-    recalls_held = rw (part_cut w j.last.from (5 * j.last.count)) held.is
+  -- in the part that the code lends
+  pub known_held : TableHeld (between b at end) (take (j.last.from + 5 * j.last.count - j.last.from) (drop j.last.from w)) j.last.count
+  known_held = rw (part_cut w j.last.from (5 * j.last.count)) held.is

@@ -4,6 +4,7 @@ use mathlib.Core.Path.{◌≡◌, refl, sym, ap, ◌∙◌}
 use mathlib.Core.Bool.{true, false}
 use mathlib.Core.List.{List}
 use mathlib.Core.Option.{none}
+use Rattle.std.specs.Prelude.{Some, None}
 use Prim.Native.Nat.{ℕ, ◌+◌, ◌≤◌, ◌<◌}
 use native.Mathlib.Omega.{arith}
 use lib.ListN.{length, drop, drop_of_length-le}
@@ -20,7 +21,7 @@ use Rattle.octets.specs.Octets.{number_at}
 use Rattle.bundle.specs.InitialLength.{length_field}
 use Rattle.unit.specs.Headers.{table_at}
 use Rattle.unit.specs.Roots.{identity_from}
-use Rattle.unit.specs.declared.abbreviations.Found.TheVariants.{At, Nothing}
+use Rattle.unit.specs.declared.abbreviations.Heading.{Heading}
 use Rattle.unit.proofs.Declarations.{only_declarations_of}
 use Rattle.unit.proofs.Values.{only_needed}
 use Rattle.unit.proofs.Stepping.{only_identity_in}
@@ -45,25 +46,25 @@ module _ (e : Encoding) (table s : List ℕ) where
   root_table h = sym (then_refuse _ _ 12 (bad_table table h))
 
   module _ (ds : List Declaration) (g : declarations_of table ≡ pass ds) where
-    pub root_code : unsigned s ≡ refuse 12 → refuse 12 ≡ root_identity e table s
+    pub root_code : (k : ℕ) → refuse k ≡ unsigned s → refuse k ≡ root_identity e table s
     unfolding root_identity
-    root_code h = sym (then_pass _ _ _ g ∙ then_refuse _ _ 12 h)
+    root_code k h = sym (then_pass _ _ _ g ∙ then_refuse _ _ k (sym h))
 
     module _ (code n : ℕ) (c : unsigned s ≡ pass (code, n)) where
-      pub root_missing : Located table ds code Nothing → refuse 12 ≡ root_identity e table s
+      pub root_missing : Located table ds code None → refuse 12 ≡ root_identity e table s
       unfolding root_identity needed Located
       root_missing h = sym (then_pass _ _ _ g ∙ then_pass _ _ _ c ∙ then_refuse _ _ 12 (ap needed h))
 
-      module _ (tag start : ℕ) (l : Located table ds code (At tag start)) where
-        pub found_within : start ≤ length table
+      module _ (f : Heading) (l : Located table ds code (Some f)) where
+        pub found_within : f.start ≤ length table
         unfolding Located
         found_within = l.3
 
-        pub root_tag_law : root_tag tag ≡ false → refuse 12 ≡ root_identity e table s
+        pub root_tag_law : root_tag f.tag ≡ false → refuse 12 ≡ root_identity e table s
         unfolding root_identity needed Located
         root_tag_law h = sym (then_pass _ _ _ g ∙ then_pass _ _ _ c ∙ then_pass _ _ _ (ap needed l.1) ∙ fails _ _ _ (ap root_tag l.2 ∙ h))
 
-        pub root_is : root_tag tag ≡ true → root_identity e table s ≡ identity_from e (drop start table) (drop n s) none
+        pub root_is : root_tag f.tag ≡ true → root_identity e table s ≡ identity_from e (drop f.start table) (drop n s) none
         unfolding root_identity needed Located identity_from
         root_is h =
             then_pass _ _ _ g ∙ then_pass _ _ _ c ∙ then_pass _ _ _ (ap needed l.1) ∙ passes _ _ _ (ap root_tag l.2 ∙ h)

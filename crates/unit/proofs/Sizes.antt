@@ -1,21 +1,22 @@
 -- Sizes of values: those that end in the bytes at hand, and strings.
 -- Assumes nothing.
 use mathlib.Core.Path.{◌≡◌, refl, sym, ap, ◌∙◌}
-use mathlib.Core.Bool.{Bool}
+use mathlib.Core.Bool.{cond}
 use mathlib.Core.List.{List, [], ◌∷◌}
+use Rattle.std.specs.Prelude.{Option, Some, None}
+use Rattle.std.specs.List.{position_or_len}
 use Prim.Native.Nat.{ℕ, suc, ◌+◌, ◌-◌, ◌≤◌, ◌<◌}
 use native.Mathlib.Omega.{arith}
-use native.Mathlib.Numerals.{add-one}
-use native.Mathlib.Decide.{ℕ_discrete}
-use lib.ListN.{length, get_or, take, drop, drop_of_length-le, length-drop}
-use lib.Seq.{drop-cons, take_all}
-use borrow.Author.Tests.{eq-eqb, ne_eqb, le-leb, lt-leb}
-use Rattle.octets.specs.Octets.{number_at}
+use native.Mathlib.Decide.{ℕ_discrete, dec_le}
+use lib.Dec.{eqb, ltb}
+use lib.ListN.{length, take, drop, length-drop}
+use lib.Seq.{take_all}
+use borrow.Author.Tests.{eq-eqb, ne_eqb, le-leb, lt-leb, le-ltb, lt-ltb}
 use Rattle.octets.specs.Checked.{Check, pass, refuse, ◌>>=◌}
-use Rattle.octets.proofs.Checks.{pass_refuse, pass_inj, bind_pass, then_pass, then_refuse, passes, fails}
+use Rattle.octets.proofs.Checks.{pass_refuse, pass_inj, bind_pass, passes, fails}
 use Rattle.octets.proofs.Refusals.{Only, only_pass, only_refuse, only_require, only_bind}
-use Rattle.leb128.specs.Leb128.{unsigned, signed_size}
-use Rattle.leb128.proofs.Taken.{unsigned_taken, signed_size_taken, only_unsigned, only_signed_size}
+use Rattle.leb128.specs.Leb128.{signed_size}
+use Rattle.leb128.proofs.Taken.{signed_size_taken, only_unsigned, only_signed_size}
 use Rattle.bundle.specs.Encoding.{Encoding}
 use Rattle.unit.specs.Forms.{Width, fixed, address, offset, uleb, sleb, string, indirect, block, uleb_block, zero_ended, value_size}
 use Rattle.unit.specs.Widths.{ends, size_within, block_within, uleb_within, uleb_block_within}
@@ -68,7 +69,30 @@ zero_ended_within (b ∷ s) n e =
           omega (arith, zero_ended_within s p.0 p.1, pass_inj p.2)
     ]
 
--- a walk that looks for the zero byte: what is left, behind i bytes
+-- the first place of a zero byte, as a search answers it
+abbrev pub ended_at : Option ℕ → Check ℕ
+ended_at (Some i) = pass (i + 1)
+ended_at None = refuse 12
+
+abbrev pub first_zero : List ℕ → Option ℕ
+first_zero s = cond (ltb (position_or_len (λ b. eqb b 0) s) (length s)) (Some (position_or_len (λ b. eqb b 0) s)) None
+
+first_later : (p l : ℕ) → ended_at (cond (ltb (1 + p) (suc l)) (Some (1 + p)) None) ≡ (ended_at (cond (ltb p l) (Some p) None) >>= λ n. pass (suc n))
+unfolding ◌>>=◌
+first_later p l = elim (dec_le l p) [
+  | yes h ↦ rw (le-ltb p l h, le-ltb (1 + p) (suc l) (omega arith))
+  | no h ↦ rw (lt-ltb p l (omega arith), lt-ltb (1 + p) (suc l) (omega arith)) (ap pass (omega arith))
+]
+
+pub zero_first : (s : List ℕ) → ended_at (first_zero s) ≡ zero_ended s
+unfolding zero_ended
+zero_first [] = refl
+zero_first (b ∷ s) = elim (ℕ_discrete b 0) [
+  | yes e ↦ rw (zero_front b s e, eq-eqb b 0 e, lt-ltb 0 (length (b ∷ s)) (omega arith))
+  | no e ↦ rw (zero_more b s e, ne_eqb b 0 e, ← zero_first s) (first_later (position_or_len (λ x. eqb x 0) s) (length s))
+]
+
+-- a walk over bytes: what is left, behind i of them
 unfoldable pub further : ℕ → Check ℕ → Check ℕ
 further i m = m >>= λ n. pass (i + n)
 
@@ -76,65 +100,6 @@ pub further_none : (m : Check ℕ) → further 0 m ≡ m
 unfolding further ◌>>=◌
 further_none (pass n) = ap pass (omega arith)
 further_none (refuse k) = refl
-
-further_suc : (i : ℕ) (m : Check ℕ) → further (i + 1) m ≡ further i (m >>= λ n. pass (suc n))
-unfolding further ◌>>=◌
-further_suc i (pass n) = ap pass (omega arith)
-further_suc i (refuse k) = refl
-
-module _ (s : List ℕ) (i : ℕ) where
-  pub zero_none : length s ≤ i → further i (zero_ended (drop i s)) ≡ refuse 12
-  unfolding further zero_ended ◌>>=◌
-  zero_none h = rw (drop_of_length-le s h)
-
-  module _ (h : i < length s) where
-    pub zero_here : get_or s i 0 ≡ 0 → further i (zero_ended (drop i s)) ≡ pass (i + 1)
-    unfolding further
-    zero_here e = then_pass _ _ _ (ap zero_ended (drop-cons s i 0 h) ∙ zero_front (get_or s i 0) _ e)
-
-    pub zero_on : (get_or s i 0 ≡ 0 → ⊥) → further (i + 1) (zero_ended (drop (i + 1) s)) ≡ further i (zero_ended (drop i s))
-    zero_on e = further_suc i _ ∙ ap (further i) (rw add-one (sym (zero_more (get_or s i 0) _ e)) ∙ sym (ap zero_ended (drop-cons s i 0 h)))
-
--- ---- a count, and as many bytes behind it
-module _ (big : Bool) (n : ℕ) (s : List ℕ) where
-  pub block_none : length s < n → refuse 12 ≡ block_within big n s
-  unfolding block_within
-  block_none h = sym (then_refuse _ _ 12 (fails _ _ _ (lt-leb n (length s) h)))
-
-  module _ (h : n ≤ length s) (count : ℕ) (e : count ≡ number_at big n s 0) where
-    block_counted : block_within big n s ≡ ends s (n + count)
-    unfolding block_within
-    block_counted = then_pass _ _ _ (passes _ _ _ (le-leb n (length s) h)) ∙ ap (λ (k : ℕ). ends s (n + k)) (sym e)
-
-    pub block_long : length s < n + count → refuse 12 ≡ block_within big n s
-    block_long g = sym (block_counted ∙ ends_out s (n + count) g)
-
-    pub block_in : n + count ≤ length s → pass (n + count) ≡ block_within big n s
-    block_in g = sym (block_counted ∙ ends_in s (n + count) g)
-
-module _ (s : List ℕ) where
-  pub uleb_none : unsigned s ≡ refuse 12 → refuse 12 ≡ uleb_block_within s
-  unfolding uleb_block_within
-  uleb_none e = sym (then_refuse _ _ 12 (then_refuse _ _ 12 e))
-
-  pub uleb_not : unsigned s ≡ refuse 12 → refuse 12 ≡ uleb_within s
-  unfolding uleb_within
-  uleb_not e = sym (then_refuse _ _ 12 (then_refuse _ _ 12 e))
-
-  module _ (count n : ℕ) (e : unsigned s ≡ pass (count, n)) where
-    pub uleb_in : pass n ≡ uleb_within s
-    unfolding uleb_within
-    uleb_in = sym (then_pass _ _ _ (then_pass _ _ _ e) ∙ ends_in s n (unsigned_taken s (count, n) e).within)
-
-    counted : uleb_block_within s ≡ ends s (n + count)
-    unfolding uleb_block_within
-    counted = then_pass _ _ _ (then_pass _ _ _ e)
-
-    pub uleb_block_long : length s < n + count → refuse 12 ≡ uleb_block_within s
-    uleb_block_long g = sym (counted ∙ ends_out s (n + count) g)
-
-    pub uleb_block_in : n + count ≤ length s → pass (n + count) ≡ uleb_block_within s
-    uleb_block_in g = sym (counted ∙ ends_in s (n + count) g)
 
 -- ---- the size of a value of each width
 module _ (e : Encoding) (s : List ℕ) where

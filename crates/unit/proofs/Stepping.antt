@@ -23,7 +23,8 @@ use Rattle.unit.specs.Abbreviations.{Attribute, attribute_at, attributes_of}
 use Rattle.unit.specs.Root.{needed, Value, value_of, identity_at, identity_in}
 use Rattle.unit.specs.Roots.{Move, attribute_step, identity_from, Skips}
 use Rattle.unit.proofs.Sizes.{rest}
-use Rattle.unit.proofs.Attributes.{before, attribute_is, neither_zero, attribute_at_taken, attributes_is, attributes_end, attributes_more, only_attributes_from}
+use Rattle.unit.proofs.Steps.{goes, goes_past}
+use Rattle.unit.proofs.Attributes.{before, neither_zero, attribute_at_taken, only_attribute_at, attributes_is, attributes_end, attributes_more, only_attributes_from}
 use Rattle.unit.proofs.Values.{value_within, value_flag, only_value_of, only_needed}
 
 -- ---- what an attribute states
@@ -88,6 +89,13 @@ module _ (e : Encoding) (t s : List ℕ) (seen : Option ℕ) where
         pub step_on : (x : Option ℕ) → identity_at e a.name v s seen ≡ pass x
             → attribute_step e t s seen ≡ pass (some (record { taken = n; passed = v.start + v.size; seen = x }))
         step_on x f = valued ∙ then_pass _ _ _ q ∙ then_pass _ _ _ f
+
+  pub only_step : Only 12 (attribute_step e t s seen)
+  unfolding attribute_step
+  only_step = only_bind 12 _ _ (only_attribute_at t) (λ r. elim (ℕ_discrete r.0.name 0) [
+    | yes z ↦ rw (eq-eqb r.0.name 0 z) (only_pass 12 _)
+    | no z ↦ rw (ne_eqb r.0.name 0 z) (only_bind 12 _ _ (only_value_of e _ s) (λ v. only_bind 12 _ _ (only_identity_at e _ v s seen) (λ x. only_pass 12 _)))
+  ])
 
 -- ---- the walk
 -- what a step that goes on has read
@@ -219,7 +227,8 @@ module _ (t : List ℕ) where
     form_read = rw (drop-drop 1 i t) (sym (short_one (drop (i + 1) t) 0x19 (λ h. omega (arith, h, length-drop (i + 1) t)) (rw (get_or-drop, add-zero (i + 1), f)) (omega arith)))
 
     flag_read : attribute_at (drop i t) ≡ pass (record { name = get_or t i 0; form = 0x19 }, 2)
-    flag_read = sym (attribute_is (drop i t) (get_or t i 0) 1 name_read 0x19 1 form_read (neither_zero _ _ z (λ h. omega (arith, h))) (λ h. omega (arith, h)))
+    unfolding attribute_at
+    flag_read = sym (goes _ (sym name_read) (goes _ (sym form_read) (goes_past _ _ (neither_zero (get_or t i 0) 0x19 z (λ h. omega (arith, h))) (goes_past _ _ refl refl))))
 
     flag_step : (e : Encoding) (s : List ℕ) (seen : Option ℕ) → attribute_step e (drop i t) s seen ≡ pass (some (record { taken = 2; passed = 0; seen = seen }))
     flag_step e s seen = step_on e (drop i t) s seen _ 2 flag_read z _ (value_flag e 0x19 s refl) seen (identity_same e _ _ s seen (λ h. omega (arith, h, o)))

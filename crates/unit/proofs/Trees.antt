@@ -15,8 +15,7 @@ use Rattle.octets.proofs.Placed.{length_placed}
 use Rattle.octets.proofs.Regions.{get_d_placed, get_d_before, get_d_behind}
 use Rattle.octets.proofs.Elements.{has_at, not_has}
 use Rattle.unit.specs.Trees.{code_at, carried_at, next_at, node_of, Reaches, Reached, Rising, Linked, Tree, EndsFree, Ends, Grown, Added}
-use Rattle.unit.specs.declared.tree.Walked.{Walked}
-use Rattle.unit.specs.declared.tree.Walked.TheVariants.{At, Free}
+use Rattle.std.specs.Prelude.{Result, Ok, Err}
 
 -- ---- walks
 -- where links stay, so do walks
@@ -34,15 +33,8 @@ pub record Walking (w : List ℕ) (n code rest node : ℕ) : Type 0 where
   pub ahead : (k : ℕ) → code_at w k ≡ code → Reached w code k → (m : ℕ) × Reaches m w rest node k
   pub behind : (v : List ℕ) (m k : ℕ) → Linked n w v → Reaches m v rest node k → Reached v code k
 
-pub walking_start : (w : List ℕ) (n code : ℕ) → 0 < n → Walking w n code code 0
-walking_start w n code h = record {
-  inside = h;
-  ahead = λ k e r. (r.steps, r.is);
-  behind = λ v m k l r. record { steps = m; is = r };
-}
-
 module _ {w : List ℕ} {n code rest node : ℕ} (s : Walking w n code rest node) where
-  pub walking_at : code_at w node ≡ code → Ends w n code (At node)
+  pub walking_at : code_at w node ≡ code → Ends w n code (Ok node)
   unfolding Ends
   walking_at e = (s.inside, e)
 
@@ -61,9 +53,6 @@ module _ {w : List ℕ} {n code rest node : ℕ} (s : Walking w n code rest node
       unfolding next_at
       step = i ∙ ap (λ (x : ℕ). get_or w (5 * node + x) 0) b
 
-      pub walking_later : Rising w n → (next ≡ 0 → ⊥) → (node < next) × (next < n)
-      walking_later r f = rw i (r.later node side s.inside (omega arith) (λ x. f (i ∙ x)), r.among node side s.inside (omega arith))
-
       pub walking_on : Rising w n → (next ≡ 0 → ⊥) → Walking w n code (rest / 2) next
       unfolding next_at Reaches
       walking_on r f = rw step (record {
@@ -74,7 +63,7 @@ module _ {w : List ℕ} {n code rest node : ℕ} (s : Walking w n code rest node
             s.behind v (suc m) k l (subst (λ (x : ℕ). (x ≡ 0 → ⊥) × Reaches m v (rest / 2) x k) (sym e) ((λ x. f (step ∙ x)), q));
       })
 
-      pub walking_free : next ≡ 0 → Ends w n code (Free (5 * node + side))
+      pub walking_free : next ≡ 0 → Ends w n code (Err (5 * node + side))
       unfolding Ends next_at Reaches
       walking_free f = rw b (record {
         node = node;
@@ -89,7 +78,7 @@ module _ {w : List ℕ} {n code rest node : ℕ} (s : Walking w n code rest node
 
 -- ---- what the walk says of the codes
 module _ (w cs : List ℕ) (t : Tree w cs) (code : ℕ) where
-  pub found_has : (k : ℕ) → Ends w (length cs) code (At k) → has cs code ≡ true
+  pub found_has : (k : ℕ) → Ends w (length cs) code (Ok k) → has cs code ≡ true
   unfolding Ends
   found_has k e = has_at cs code k e.0 (sym (t.codes k e.0) ∙ e.1)
 
@@ -261,7 +250,7 @@ module _ (w cs : List ℕ) (t : Tree w cs) (carried code link : ℕ) (e : EndsFr
       kept_carried k l = kept k 2 l (omega arith) (omega arith)
 
 -- ---- as the code adds it
-module _ (w : List ℕ) (n code link : ℕ) (r : Walked) (i : r ≡ Free link) (e : Ends w n code r) where
+module _ (w : List ℕ) (n code link : ℕ) (r : Result ℕ ℕ) (i : r ≡ Err link) (e : Ends w n code r) where
   ends_free : EndsFree w n code link
   unfolding Ends
   ends_free = rw i at e
@@ -274,11 +263,11 @@ module _ (w v cs : List ℕ) (n carried code : ℕ) (l : length cs ≡ n) (h : 5
   unfolding Added
   added_first z e = rw e (tree_first w cs carried code (l ∙ z) (omega arith))
 
-  pub added_not : (k : ℕ) (r : Walked) → r ≡ At k → Ends w n code r → Added w v cs carried code false
+  pub added_not : (k : ℕ) (r : Result ℕ ℕ) → r ≡ Ok k → Ends w n code r → Added w v cs carried code false
   unfolding Added
   added_not k r i e = found_has w cs t code k (rw (i, ← l) at e)
 
-  pub added_more : (link : ℕ) (r : Walked) → r ≡ Free link → Ends w n code r → v ≡ placed (placed w link (n ∷ [])) (5 * n) (node_of carried code) → Added w v cs carried code true
+  pub added_more : (link : ℕ) (r : Result ℕ ℕ) → r ≡ Err link → Ends w n code r → v ≡ placed (placed w link (n ∷ [])) (5 * n) (node_of carried code) → Added w v cs carried code true
   unfolding Added
   added_more link r i e d =
       rw d (subst (λ (m : ℕ). Grown w (placed (placed w link (m ∷ [])) (5 * m) (node_of carried code)) cs carried code) l

@@ -1,4 +1,4 @@
--- The parts of reading a unit, and what the code's answers are by the definition.
+-- The parts of reading a unit, and what the code's values are by the definition.
 -- Assumes nothing.
 use Rattle.std.specs.Prelude.{Bool, true, false, not, ◌&&◌, ◌||◌, List, ℕ, ◌+◌, eqb, leb, length, take, drop, get_or}
 use Rattle.numbers.specs.Tables.{type_table, type_unit, skeleton_unit, split_unit, split_type_unit, compilation_table}
@@ -13,13 +13,7 @@ use Rattle.unit.specs.UnitRead.{Identity, UnitRead, unit_size, is_five, address_
 use Rattle.unit.specs.declared.header.Kind.{Kind}
 use Rattle.unit.specs.declared.header.Kind.TheVariants.{Compilation, Signature, Root, Other}
 use Rattle.unit.specs.declared.header.Identity as code
-use Rattle.unit.specs.declared.header.Identity.TheVariants.{Is, Unreadable}
-use Rattle.unit.specs.declared.header.IdentityAnswer.{IdentityAnswer}
-use Rattle.unit.specs.declared.header.IdentityAnswer.TheVariants as answer
-use Rattle.unit.specs.declared.header.UnitAnswer.{UnitAnswer}
-use Rattle.unit.specs.declared.header.UnitAnswer.TheVariants.{Read, Refused}
-use Rattle.unit.specs.declared.header.AddressSize.{AddressSize}
-use Rattle.unit.specs.declared.header.AddressSize.TheVariants.{Is as Stated, Refused as Unstated}
+use Rattle.unit.specs.declared.header.UnitRead as read
 
 -- ---- the size: a unit that ends in s
 unfoldable pub fits : List ℕ → ℕ → Check ℕ
@@ -64,19 +58,14 @@ table_at e abbreviations u = drop (number_at e.big e.width u (length_field e + 2
 abbrev pub root_stated : Encoding → List ℕ → List ℕ → Check ℕ
 root_stated e abbreviations u = root_identity e (table_at e abbreviations u) (drop (common_size e) u)
 
-abbrev pub for_compilation : Check ℕ → Check Identity
-for_compilation m = m >>= λ x. pass (record { table = compilation_table; identity = x })
-
 unfoldable pub identity_by : Encoding → Kind → List ℕ → List ℕ → Check Identity
 identity_by e Compilation abbreviations u = pass (record { table = compilation_table; identity = signature_at e u })
 identity_by e Signature abbreviations u = pass (record { table = type_table; identity = signature_at e u })
 identity_by e Root abbreviations u = root_identity e (table_at e abbreviations u) (drop (common_size e) u) >>= λ x. pass (record { table = compilation_table; identity = x })
 identity_by e Other abbreviations u = refuse no_identity
 
--- the number and the values of each answer
-abbrev pub identity_check : code.Identity → Check Identity
-identity_check (Is table identity) = pass (record { table = table; identity = identity })
-identity_check Unreadable = refuse no_identity
+abbrev pub identity_is : code.Identity → Identity
+identity_is i = record { table = i.table; identity = i.identity }
 
 -- ---- a unit in two parts. `unit_by` reads the one, then its abbreviations, then the other
 -- 11: the size of a unit whose common fields are good
@@ -98,17 +87,8 @@ non_zero m = m >>= λ i. (require (not (eqb i.identity 0)) identity_zero >>= λ 
 unfoldable pub identity_good : Encoding → ℕ → List ℕ → List ℕ → Check Identity
 identity_good e home abbreviations u = non_zero (identity_of e home abbreviations u)
 
-unfoldable pub identity_answer : Check Identity → IdentityAnswer
-identity_answer (pass i) = answer.Is i.table i.identity
-identity_answer (refuse n) = answer.Refused n
-
-unfoldable pub with_size : ℕ → IdentityAnswer → UnitAnswer
-with_size size (answer.Is table identity) = Read size table identity
-with_size size (answer.Refused n) = Refused n
-
-unfoldable pub unit_answer : Check UnitRead → UnitAnswer
-unit_answer (pass u) = Read u.size u.table u.identity
-unit_answer (refuse n) = Refused n
+abbrev pub unit_is : read.UnitRead → UnitRead
+unit_is u = record { size = u.size; table = u.table; identity = u.identity }
 
 -- ---- the address size that a header in info states, where the header passes 11 with it
 unfoldable pub with_address : Encoding → ℕ → Encoding
@@ -117,5 +97,5 @@ with_address e a = record { big = e.big; version = e.version; width = e.width; a
 unfoldable pub stated_address : Encoding → List ℕ → ℕ
 stated_address e s = get_or s (address_place e) 0
 
-unfoldable pub address_of : Encoding → List ℕ → AddressSize
-address_of e s = elim (header_passes (with_address e (stated_address e s)) 1 s) [ true ↦ Stated (stated_address e s) | false ↦ Unstated ]
+unfoldable pub address_of : Encoding → List ℕ → Check ℕ
+address_of e s = elim (header_passes (with_address e (stated_address e s)) 1 s) [ true ↦ pass (stated_address e s) | false ↦ refuse bad_header ]

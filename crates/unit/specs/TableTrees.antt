@@ -1,7 +1,7 @@
 -- A table that was judged: its declarations in a tree of their codes, whose nodes carry where in the table they stand. What was judged is remembered.
 -- These relations say what the code keeps: no definition of reading units rests on them.
 -- Assumes nothing.
-use Rattle.std.specs.Prelude.{◌≡◌, ◌⊎◌, true, false, List, [], map, ℕ, ◌+◌, ◌-◌, ◌*◌, ◌/◌, ◌%◌, ◌^◌, ◌<◌, ◌≤◌, length, take, drop, get_or}
+use Rattle.std.specs.Prelude.{Option, Some, None, Result, Ok, Err, ◌≡◌, ◌⊎◌, true, false, List, [], map, ℕ, ◌+◌, ◌-◌, ◌*◌, ◌/◌, ◌%◌, ◌^◌, ◌<◌, ◌≤◌, length, take, drop, get_or}
 use Rattle.std.proofs.Math.Option.{some}
 use Rattle.octets.specs.Octets.{part}
 use Rattle.octets.specs.Lists.{has}
@@ -11,13 +11,11 @@ use Rattle.unit.specs.Tables.{Coded, declared_at, table_good}
 use Rattle.unit.specs.Trees.{node_words, code_at, carried_at, Rising, Tree}
 use Rattle.unit.specs.declared.judged.Table.{Table}
 use Rattle.unit.specs.declared.judged.Judged.{Judged}
-use Rattle.unit.specs.declared.judged.Sought.{Sought}
-use Rattle.unit.specs.declared.judged.Sought.TheVariants.{At, New}
-use Rattle.unit.specs.declared.judged.Recalled.{Recalled}
-use Rattle.unit.specs.declared.judged.Recalled.TheVariants.{Known, Wrong}
 use Rattle.unit.specs.declared.header.UnitPlace.{UnitPlace}
-use Rattle.unit.specs.declared.abbreviations.TableRead.{TableRead}
-use Rattle.unit.specs.declared.abbreviations.TableRead.TheVariants.{Good, Bad, Full}
+use Rattle.unit.specs.declared.abbreviations.Unheld.{Unheld}
+use Rattle.unit.specs.declared.abbreviations.Unheld.TheVariants.{Bad, Full}
+use Rattle.numbers.specs.declared.refusals.Refusal.{Refusal}
+use Rattle.numbers.specs.declared.refusals.Refusal.TheVariants.{NoIdentity}
 
 abbrev pub codes_of : List Declaration → List ℕ
 codes_of ds = map (λ d. d.code) ds
@@ -47,10 +45,10 @@ pub record TableHeld (s w : List ℕ) (count : ℕ) : Type 0 where
   pub held : TableTree s w declared
 
 -- judged into the words w: they do not suffice only where they are fewer than the bytes
-unfoldable pub Judges : List ℕ → List ℕ → TableRead → Type 0
-Judges s w (Good count) = (table_good s ≡ true) × TableHeld s w count
-Judges s w Bad = table_good s ≡ false
-Judges s w Full = length w < length s
+unfoldable pub Judges : List ℕ → List ℕ → Result ℕ Unheld → Type 0
+Judges s w (Ok count) = (table_good s ≡ true) × TableHeld s w count
+Judges s w (Err Bad) = table_good s ≡ false
+Judges s w (Err Full) = length w < length s
 
 -- ---- the tables that were judged
 -- the bytes of a bundle from a place to another
@@ -101,33 +99,33 @@ unfoldable pub Fresh : List ℕ → ℕ → ℕ → Type 0
 Fresh d n key = (cs : List ℕ) → length cs ≡ n → Tree d cs → has cs key ≡ false
 
 -- a table's tree stands behind the word start, and the directory does not have it yet
-pub record Enters (b w : List ℕ) (size at end start count : ℕ) (j : Judged) : Type 0 where
+pub record Enters (b w : List ℕ) (size start : ℕ) (t : Table) (j : Judged) : Type 0 where
   pub size_is : size ≡ directory_size b
   pub free_is : j.free ≤ start
-  pub fresh : Fresh (directory b w) j.tables (key_of at end)
+  pub fresh : Fresh (directory b w) j.tables (key_of t.at t.end)
   pub tables : Tables b w j.tables j.free
-  pub held : Held b w (record { at = at; end = end; from = start + 1; count = count })
+  pub held : Held b w t
 
 -- its numbers fit into words, and the words suffice: the directory's for one node more, the others for the count and the tree
-abbrev pub Enterable : List ℕ → ℕ → ℕ → ℕ → ℕ → ℕ → Judged → Type 0
-Enterable w size at end start count j =
-    (at < 2 ^ 32) × (end < 2 ^ 32) × (count < 2 ^ 32) × (start < 2 ^ 32)
-    × (size ≤ start) × (start + 1 + node_words * count ≤ length w)
+abbrev pub Enterable : List ℕ → ℕ → ℕ → Table → Judged → Type 0
+Enterable w size start t j =
+    (t.at < 2 ^ 32) × (t.end < 2 ^ 32) × (t.count < 2 ^ 32) × (start < 2 ^ 32)
+    × (t.from ≡ start + 1) × (size ≤ start) × (t.from + node_words * t.count ≤ length w)
     × (node_words * j.tables + node_words ≤ size) × Rising (take size w) j.tables
 
 -- what a search in such a directory says
-unfoldable pub Seeks : List ℕ → ℕ → ℕ → Sought → Type 0
-Seeks d n key (At start) = (k : ℕ) × (k < n) × (code_at d k ≡ key) × (carried_at d k ≡ start)
-Seeks d n key New = Fresh d n key
+unfoldable pub Seeks : List ℕ → ℕ → ℕ → Option ℕ → Type 0
+Seeks d n key (Some start) = (k : ℕ) × (k < n) × (code_at d k ≡ key) × (carried_at d k ≡ start)
+Seeks d n key None = Fresh d n key
 
 -- the table from at to end is the last one of the memory
 unfoldable pub Knows : List ℕ → List ℕ → ℕ → ℕ → Judged → Type 0
 Knows b w at end j = Remembers b w j × Held b w (record { at = at; end = end; from = j.last.from; count = j.last.count })
 
--- or it is bad
-unfoldable pub Recalls : List ℕ → List ℕ → ℕ → ℕ → Recalled → Type 0
-Recalls b w at end (Known j) = Knows b w at end j
-Recalls b w at end Wrong = table_good (between b at end) ≡ false
+-- or it is bad, and what is remembered is remembered rightly
+unfoldable pub Recalls : List ℕ → List ℕ → ℕ → ℕ → Judged → Result (Unit {0}) Refusal → Type 0
+Recalls b w at end j (Ok done) = Knows b w at end j
+Recalls b w at end j (Err r) = (r ≡ NoIdentity) × Remembers b w j × (table_good (between b at end) ≡ false)
 
 -- words lent for the tables of a bundle, with what was judged before: one for each byte
 pub record Lent (b w : List ℕ) (j : Judged) : Type 0 where

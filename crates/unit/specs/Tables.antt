@@ -1,24 +1,20 @@
--- An abbreviation table as code reads it: where a declaration's attributes lie, and what the answers are by the definition.
+-- An abbreviation table as code reads it: where a declaration's attributes lie, and what the code's values are by the definition.
 -- Assumes nothing.
-use Rattle.std.specs.Prelude.{◌≡◌, Bool, true, false, not, ◌&&◌, List, ℕ, ◌+◌, ◌≤◌, eqb, leb, length, drop, get_or}
-use Rattle.std.proofs.Math.Option.{Option, some, none}
+use Rattle.std.specs.Prelude.{Option, Some, None, ◌≡◌, Bool, true, false, not, ◌&&◌, List, ℕ, ◌+◌, ◌≤◌, eqb, leb, length, drop, get_or}
+use Rattle.std.proofs.Math.Option.{some, none}
+use Rattle.std.proofs.Math.Option as math
 use Rattle.octets.specs.Checked.{Check, pass, refuse, ◌>>=◌, require}
 use Rattle.numbers.specs.Refusals.{no_identity}
 use Rattle.leb128.specs.Leb128.{short, unsigned}
 use Rattle.unit.specs.Abbreviations.{Attribute, Declaration, attributes_of, declarations_from, declarations_of, declaration_of}
-use Rattle.unit.specs.declared.abbreviations.AttributeRead.{AttributeRead}
-use Rattle.unit.specs.declared.abbreviations.AttributeRead.TheVariants as attribute
-use Rattle.unit.specs.declared.abbreviations.PlaceRead.{PlaceRead}
-use Rattle.unit.specs.declared.abbreviations.PlaceRead.TheVariants as place
-use Rattle.unit.specs.declared.abbreviations.Declared.{Declared}
-use Rattle.unit.specs.declared.abbreviations.Declared.TheVariants as declared
-use Rattle.unit.specs.declared.abbreviations.Found.{Found}
-use Rattle.unit.specs.declared.abbreviations.Found.TheVariants.{At, Nothing}
+use Rattle.unit.specs.declared.abbreviations.Attribute as read
+use Rattle.unit.specs.declared.abbreviations.Place as placed
+use Rattle.unit.specs.declared.abbreviations.Declaration as declared
+use Rattle.unit.specs.declared.abbreviations.Heading.{Heading}
 
--- ---- the number and the values of each answer
-abbrev pub attribute_check : AttributeRead → Check (Attribute × ℕ)
-attribute_check (attribute.Is name form n) = pass (record { name = name; form = form }, n)
-attribute_check attribute.Refused = refuse no_identity
+-- an attribute, and the bytes that it takes
+abbrev pub attribute_is : read.Attribute → Attribute × ℕ
+attribute_is a = (record { name = a.name; form = a.form }, a.size)
 
 -- the bytes of a declaration's attributes
 unfoldable pub attributes_size : List ℕ → Check ℕ
@@ -39,29 +35,27 @@ place_at s = do
   size ← attributes_size (drop 1 (drop tag.1 s))
   pass (record { tag = tag.0; start = tag.1 + 1; end = tag.1 + 1 + size })
 
-abbrev pub place_check : PlaceRead → Check Place
-place_check (place.Is tag start end) = pass (record { tag = tag; start = start; end = end })
-place_check place.Refused = refuse no_identity
+abbrev pub place_is : placed.Place → Place
+place_is p = record { tag = p.tag; start = p.start; end = p.end }
 
 pub record Coded : Type 0 where
   pub code : ℕ
   pub place : Place
 
 -- the declaration at the front of s, or none at the zero code
-unfoldable pub declared_at : List ℕ → Check (Option Coded)
+unfoldable pub declared_at : List ℕ → Check (math.Option Coded)
 declared_at s = unsigned s >>= λ c. elim (eqb c.0 0) [
   | true ↦ pass none
   | false ↦ place_at (drop c.1 s) >>= λ p. pass (some (record { code = c.0; place = record { tag = p.tag; start = c.1 + p.start; end = c.1 + p.end } }))
 ]
 
-abbrev pub declared_check : Declared → Check (Option Coded)
-declared_check (declared.Is code tag start end) = pass (some (record { code = code; place = record { tag = tag; start = start; end = end } }))
-declared_check declared.End = pass none
-declared_check declared.Refused = refuse no_identity
+abbrev pub declared_is : Option declared.Declaration → math.Option Coded
+declared_is (Some d) = some (record { code = d.code; place = record { tag = d.tag; start = d.start; end = d.end } })
+declared_is None = none
 
 -- what the front of a declaration says that is read to its end: its tag, and where its attributes start
-unfoldable pub Headed : List ℕ → Found → Type 0
-Headed s r = (d : Coded) → declared_at s ≡ pass (some d) → r ≡ At d.place.tag d.place.start
+unfoldable pub Headed : List ℕ → Option Heading → Type 0
+Headed s r = (d : Coded) → declared_at s ≡ pass (some d) → r ≡ Some (record { tag = d.place.tag; start = d.place.start })
 
 -- all declarations up to the zero code, repeated codes and all
 unfoldable pub declarations : List ℕ → Check (List Declaration)
@@ -75,8 +69,8 @@ unfoldable pub table_good : List ℕ → Bool
 table_good s = passed (declarations_of s)
 
 -- what a search for a code in a table says: the declaration's tag, and where its attributes start
-unfoldable pub Located : List ℕ → List Declaration → ℕ → Found → Type 0
-Located s ds code (At tag start) =
-    (d : Declaration) × (declaration_of ds code ≡ some d) × (d.tag ≡ tag) × (start ≤ length s)
-    × ((n : ℕ) × (attributes_of (drop start s) ≡ pass (d.attributes, n)))
-Located s ds code Nothing = declaration_of ds code ≡ none
+unfoldable pub Located : List ℕ → List Declaration → ℕ → Option Heading → Type 0
+Located s ds code (Some h) =
+    (d : Declaration) × (declaration_of ds code ≡ some d) × (d.tag ≡ h.tag) × (h.start ≤ length s)
+    × ((n : ℕ) × (attributes_of (drop h.start s) ≡ pass (d.attributes, n)))
+Located s ds code None = declaration_of ds code ≡ none

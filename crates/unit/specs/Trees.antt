@@ -2,10 +2,8 @@
 -- and high word. Node 0 is the root, which no link names. At each step the lowest bit that is left of a code says where it goes on.
 -- These relations say what the code keeps: no definition of reading units rests on them.
 -- Assumes nothing.
-use Rattle.std.specs.Prelude.{◌≡◌, Bool, true, false, List, [], ◌∷◌, ◌++◌, ℕ, zero, suc, ◌+◌, ◌*◌, ◌/◌, ◌%◌, ◌^◌, ◌<◌, ◌≤◌, length, get_or}
+use Rattle.std.specs.Prelude.{◌≡◌, Bool, true, false, List, [], ◌∷◌, ◌++◌, ℕ, zero, suc, ◌+◌, ◌*◌, ◌/◌, ◌%◌, ◌^◌, ◌<◌, ◌≤◌, length, get_or, Result, Ok, Err}
 use Rattle.octets.specs.Lists.{has}
-use Rattle.unit.specs.declared.tree.Walked.{Walked}
-use Rattle.unit.specs.declared.tree.Walked.TheVariants.{At, Free}
 
 abbrev pub node_words : ℕ
 node_words = 5
@@ -62,9 +60,9 @@ pub record EndsFree (w : List ℕ) (n code link : ℕ) : Type 0 where
   pub none : (k : ℕ) → code_at w k ≡ code → Reached w code k → ⊥
   pub hangs : (v : List ℕ) → Linked n w v → (get_or v link 0 ≡ 0 → ⊥) → Reached v code (get_or v link 0)
 
-unfoldable pub Ends : List ℕ → ℕ → ℕ → Walked → Type 0
-Ends w n code (At k) = (k < n) × (code_at w k ≡ code)
-Ends w n code (Free link) = EndsFree w n code link
+unfoldable pub Ends : List ℕ → ℕ → ℕ → Result ℕ ℕ → Type 0
+Ends w n code (Ok k) = (k < n) × (code_at w k ≡ code)
+Ends w n code (Err link) = EndsFree w n code link
 
 -- ---- one code more
 pub record Grown (w v cs : List ℕ) (carried code : ℕ) : Type 0 where

@@ -1,7 +1,6 @@
 -- The code's form of a width, and the size of a value that ends in the bytes at hand.
 -- Assumes nothing.
 use Rattle.std.specs.Prelude.{Bool, List, ℕ, ◌+◌, leb, length}
-use Rattle.std.proofs.Math.Option.{Option, some, none}
 use Rattle.numbers.specs.Refusals.{no_identity}
 use Rattle.octets.specs.Octets.{number_at}
 use Rattle.octets.specs.Checked.{Check, pass, ◌>>=◌, require}
@@ -11,8 +10,6 @@ use Rattle.unit.specs.Forms.{Width, fixed, address, offset, uleb, sleb, string, 
 use Rattle.unit.specs.declared.forms.Width as code
 use Rattle.unit.specs.declared.forms.Width.TheVariants as the
 use Rattle.unit.specs.declared.forms.Form as row
-use Rattle.unit.specs.declared.forms.FormWidth.{FormWidth}
-use Rattle.unit.specs.declared.forms.FormWidth.TheVariants.{Is, Unknown}
 
 unfoldable pub width_is : code.Width → Width
 width_is (the.Fixed n) = fixed n
@@ -29,14 +26,6 @@ width_is the.UlebBlock = uleb_block
 
 unfoldable pub form_is : row.Form → Form
 form_is f = record { form = f.form; width = width_is f.width }
-
--- what stands behind the end of the table, and is never read
-unfoldable pub no_form : Form
-no_form = record { form = 0; width = fixed 0 }
-
-unfoldable pub width_found : FormWidth → Option Width
-width_found (Is w) = some (width_is w)
-width_found Unknown = none
 
 -- so many bytes, which are there
 unfoldable pub ends : List ℕ → ℕ → Check ℕ

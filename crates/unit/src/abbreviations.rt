@@ -1,229 +1,212 @@
 // The abbreviation table at the front of lent bytes, read to its zero code. Every fault gives 12.
 ghost use Rattle.std.specs.Prelude.{◌≡◌, true, List, ◌≤◌, ◌<◌, ◌^◌, length};
-ghost use Rattle.octets.specs.Checked.{pass};
-ghost use Rattle.numbers.specs.Refusals.{no_identity};
-ghost use Rattle.leb128.specs.Answers.{size_check};
-ghost use Rattle.unit.specs.Abbreviations.{attribute_at, Declaration, declarations_of};
+ghost use Rattle.octets.specs.Checked.{pass, mapped};
+ghost use Rattle.numbers.specs.Refused.{told};
+ghost use Rattle.numbers.specs.declared.refusals.Refusal.TheVariants.{NoIdentity};
+ghost use Rattle.unit.specs.Abbreviations.{attribute_at, declarations_of};
+ghost use Rattle.unit.specs.Abbreviations as table;
+ghost use Rattle.unit.specs.declared.abbreviations.Unheld.TheVariants.{Bad};
 ghost use Rattle.unit.specs.Tables.{
-  attribute_check,
+  attribute_is,
   attributes_size,
   place_at,
-  place_check,
+  place_is,
   declared_at,
-  declared_check,
+  declared_is,
   Headed,
   Located,
 };
 ghost use Rattle.unit.specs.TableTrees.{TableHeld, Judges};
 
-use crate::tree::{NODE, Walked};
-use leb128::{Number, Size};
+use crate::tree::NODE;
+use numbers::refusals::Refusal;
 
 // A name, a form, and the bytes that they take.
 #[derive(Clone, Copy)]
-pub enum AttributeRead {
-    Is(u64, u64, usize),
-    Refused,
+pub struct Attribute {
+    pub name: u64,
+    pub form: u64,
+    pub size: usize,
 }
 
 // What stands behind a declaration's code: the tag, where the attributes start, and where they end.
 #[derive(Clone, Copy)]
-pub enum PlaceRead {
-    Is(u64, usize, usize),
-    Refused,
+struct Place {
+    tag: u64,
+    start: usize,
+    end: usize,
 }
 
-// A declaration: its code, its tag, where its attributes start, and where they end. Or the zero code that ends the table.
+// A declaration: its code, its tag, where its attributes start, and where they end.
 #[derive(Clone, Copy)]
-pub enum Declared {
-    Is(u64, u64, usize, usize),
-    End,
-    Refused,
+struct Declaration {
+    code: u64,
+    tag: u64,
+    start: usize,
+    end: usize,
 }
 
 // A declaration's tag, and where its attributes start.
 #[derive(Clone, Copy)]
-pub enum Found {
-    At(u64, usize),
-    Nothing,
+pub struct Heading {
+    pub tag: u64,
+    pub start: usize,
 }
 
-// A table of so many declarations that is good, or one that is not; or the words do not suffice.
+// Why a table is not held: it is bad, or the words do not suffice.
 #[derive(Clone, Copy)]
-pub enum TableRead {
-    Good(usize),
+pub enum Unheld {
     Bad,
     Full,
 }
 
+impl From<Refusal> for Unheld {
+    ghost from_gives = { λ _ e. e ≡ Bad };
+
+    fn from(_r: Refusal) -> Unheld {
+        Unheld::Bad
+    }
+}
+
+impl From<Unheld> for Refusal {
+    ghost from_gives = { λ _ e. e ≡ NoIdentity };
+
+    fn from(_u: Unheld) -> Refusal {
+        Refusal::NoIdentity
+    }
+}
+
 // A name and a form, zero together; form 21 hexadecimal is refused.
-pub fn attribute_at(s: &[u8]) -> AttributeRead
-    ensures { attribute_check result ≡ attribute_at s.now }
+pub fn attribute_at(s: &[u8]) -> Result<Attribute, Refusal>
+    ensures { mapped attribute_is (told result) ≡ attribute_at s.now }
 {
-    let Number::Is(name, n) = leb128::read_short(s) else {
-        return AttributeRead::Refused;
-    };
-    let Number::Is(form, m) = leb128::read_short(&s[n..]) else {
-        return AttributeRead::Refused;
-    };
-    if name == 0 {
-        if form != 0 {
-            return AttributeRead::Refused;
-        }
-        return AttributeRead::Is(name, form, n + m);
+    let (name, n) = leb128::read_short(s)?;
+    let (form, m) = leb128::read_short(&s[n..])?;
+    if (name == 0) != (form == 0) || form == 0x21 {
+        return Err(Refusal::NoIdentity);
     }
-    if form == 0 {
-        return AttributeRead::Refused;
-    }
-    if form == 0x21 {
-        return AttributeRead::Refused;
-    }
-    AttributeRead::Is(name, form, n + m)
+    Ok(Attribute {
+        name,
+        form,
+        size: n + m,
+    })
 }
 
 // Whether the pair of zeros that ends attributes is in front.
 fn has_none(s: &[u8]) -> bool
     ensures { result ≡ true → attributes_size s.now ≡ pass 2 }
 {
-    if s.len() < 2 {
-        return false;
-    }
-    if s[0] != 0 {
-        return false;
-    }
-    s[1] == 0
+    s.len() >= 2 && s[0] == 0 && s[1] == 0
 }
 
-// The bytes of a declaration's attributes, with the pair of zeros that ends them.
-fn walk_attributes(s: &[u8]) -> Size
-    ensures { size_check no_identity result ≡ attributes_size s.now }
+// The bytes of a declaration's attributes, with the pair of zeros that ends them. A loop, since each attribute says where the next starts.
+fn walk_attributes(s: &[u8]) -> Result<usize, Refusal>
+    ensures { told result ≡ attributes_size s.now }
 {
     let mut at = 0;
     loop {
-        match attribute_at(&s[at..]) {
-            AttributeRead::Is(name, _, n) => {
-                at += n;
-                if name == 0 {
-                    return Size::Is(at);
-                }
-            }
-            AttributeRead::Refused => {
-                return Size::Refused;
-            }
+        let attribute = attribute_at(&s[at..])?;
+        at += attribute.size;
+        if attribute.name == 0 {
+            return Ok(at);
         }
     }
 }
 
 // The same. Most declarations of a table made to take long have none, so that this is asked first.
-fn attributes_size(s: &[u8]) -> Size
-    ensures { size_check no_identity result ≡ attributes_size s.now }
+fn attributes_size(s: &[u8]) -> Result<usize, Refusal>
+    ensures { told result ≡ attributes_size s.now }
 {
     if has_none(s) {
-        return Size::Is(2);
+        Ok(2)
+    } else {
+        walk_attributes(s)
     }
-    walk_attributes(s)
 }
 
-fn place_at(s: &[u8]) -> PlaceRead
-    ensures { place_check result ≡ place_at s.now }
+fn place_at(s: &[u8]) -> Result<Place, Refusal>
+    ensures { mapped place_is (told result) ≡ place_at s.now }
 {
-    let Number::Is(tag, n) = leb128::read_short(s) else {
-        return PlaceRead::Refused;
-    };
-    if tag == 0 {
-        return PlaceRead::Refused;
-    }
-    if s.len() <= n {
-        return PlaceRead::Refused;
-    }
-    if 1 < s[n] {
-        return PlaceRead::Refused;
+    let (tag, n) = leb128::read_short(s)?;
+    if tag == 0 || s.len() <= n || s[n] > 1 {
+        return Err(Refusal::NoIdentity);
     }
     let start = n + 1;
-    let Size::Is(m) = attributes_size(&s[start..]) else {
-        return PlaceRead::Refused;
-    };
-    PlaceRead::Is(tag, start, start + m)
+    let size = attributes_size(&s[start..])?;
+    Ok(Place {
+        tag,
+        start,
+        end: start + size,
+    })
 }
 
-// The declaration at the front of s.
-fn declared_at(s: &[u8]) -> Declared
-    ensures { declared_check result ≡ declared_at s.now }
+// The declaration at the front of s, or none where the zero code ends the table.
+fn declared_at(s: &[u8]) -> Result<Option<Declaration>, Refusal>
+    ensures { mapped declared_is (told result) ≡ declared_at s.now }
 {
-    let Number::Is(code, n) = leb128::read_unsigned(s) else {
-        return Declared::Refused;
-    };
+    let (code, n) = leb128::read_unsigned(s)?;
     if code == 0 {
-        return Declared::End;
+        return Ok(None);
     }
-    let PlaceRead::Is(tag, start, end) = place_at(&s[n..]) else {
-        return Declared::Refused;
-    };
-    Declared::Is(code, tag, n + start, n + end)
+    let place = place_at(&s[n..])?;
+    Ok(Some(Declaration {
+        code,
+        tag: place.tag,
+        start: n + place.start,
+        end: n + place.end,
+    }))
 }
 
-// The table ends, and no code repeats: then codes hold its declarations, by where they stand. A word for each byte suffices: a declaration takes at
-// least five bytes, and a node five words. The bytes are read once, and each declaration takes one walk in the tree.
-pub fn judge_table(s: &[u8], codes: &mut [u32]) -> TableRead
+// How many declarations the table has that ends, where no code repeats: then codes hold them, by where they stand. A word for each byte suffices: a
+// declaration takes at least five bytes, and a node five words. The bytes are read once, and each declaration takes one walk in the tree.
+// A loop, since each declaration says where the next starts.
+pub fn judge_table(s: &[u8], codes: &mut [u32]) -> Result<usize, Unheld>
     requires { length s.now < 2 ^ 32 }
     ensures { Judges s.now codes.new result }
 {
     let mut at = 0;
     let mut count = 0;
     loop {
-        match declared_at(&s[at..]) {
-            Declared::Is(code, _, _, n) => {
-                if codes.len() < NODE * count + NODE {
-                    return TableRead::Full;
-                }
-                if !crate::tree::add_code(codes, count, at, code) {
-                    return TableRead::Bad;
-                }
-                at += n;
-                count += 1;
-            }
-            Declared::End => {
-                return TableRead::Good(count);
-            }
-            Declared::Refused => {
-                return TableRead::Bad;
-            }
+        let Some(declaration) = declared_at(&s[at..])? else {
+            return Ok(count);
+        };
+        if codes.len() < NODE * count + NODE {
+            return Err(Unheld::Full);
         }
+        if !crate::tree::add_code(codes, count, at, declaration.code) {
+            return Err(Unheld::Bad);
+        }
+        at += declaration.end;
+        count += 1;
     }
 }
 
 // The tag of the declaration at the front of s, and where its attributes start behind the children byte. They were read as the table was judged,
 // and may be very many, so that they are not read here.
-fn heading_at(s: &[u8]) -> Found
+fn heading_at(s: &[u8]) -> Option<Heading>
     ensures { Headed s.now result }
 {
-    let Number::Is(_, n) = leb128::read_unsigned(s) else {
-        return Found::Nothing;
-    };
-    let Number::Is(tag, m) = leb128::read_short(&s[n..]) else {
-        return Found::Nothing;
-    };
-    Found::At(tag, n + m + 1)
+    let (_, n) = leb128::read_unsigned(s).ok()?;
+    let (tag, m) = leb128::read_short(&s[n..]).ok()?;
+    Some(Heading {
+        tag,
+        start: n + m + 1,
+    })
 }
 
 // The declaration of a code, in a table that was judged.
-pub fn find_in(s: &[u8], codes: &[u32], count: usize, code: u64) -> Found
+pub fn find_in(s: &[u8], codes: &[u32], count: usize, code: u64) -> Option<Heading>
     requires { TableHeld s.now codes.now count }
-    ensures { (ds : List Declaration) → declarations_of s.now ≡ pass ds → Located s.now ds code result }
+    ensures { (ds : List table.Declaration) → declarations_of s.now ≡ pass ds → Located s.now ds code result }
 {
     if count == 0 {
-        return Found::Nothing;
+        return None;
     }
-    let Walked::At(node) = crate::tree::walk(codes, count, code) else {
-        return Found::Nothing;
-    };
+    let node = crate::tree::walk(codes, count, code).ok()?;
     let at = crate::tree::carried_at(codes, node);
-    match heading_at(&s[at..]) {
-        Found::At(tag, start) => {
-            return Found::At(tag, at + start);
-        }
-        Found::Nothing => {
-            return Found::Nothing;
-        }
-    }
+    let heading = heading_at(&s[at..])?;
+    Some(Heading {
+        tag: heading.tag,
+        start: at + heading.start,
+    })
 }

@@ -1,13 +1,12 @@
 // The widths of forms, as one table, and the sizes of the values that have them.
-ghost use Rattle.std.specs.Prelude.{◌≡◌, map, ◌≤◌, length};
+ghost use Rattle.std.specs.Prelude.{◌≡◌, map, ◌+◌, ◌≤◌, length, option_map};
+ghost use Rattle.octets.specs.Options.{found};
 ghost use Rattle.bundle.specs.Encoded.{encoding_is};
-ghost use Rattle.numbers.specs.Refusals.{no_identity};
-ghost use Rattle.leb128.specs.Answers.{size_check};
+ghost use Rattle.numbers.specs.Refused.{told};
 ghost use Rattle.unit.specs.Forms.{forms, width_in, zero_ended};
 ghost use Rattle.unit.specs.Widths.{
   form_is,
   width_is,
-  width_found,
   ends,
   size_within,
   uleb_within,
@@ -16,7 +15,7 @@ ghost use Rattle.unit.specs.Widths.{
 };
 
 use bundle::encoding::ObjectEncoding;
-use leb128::{Number, Size};
+use numbers::refusals::Refusal;
 
 // How the size of a value is found.
 #[derive(Clone, Copy)]
@@ -29,7 +28,7 @@ pub enum Width {
     String,
     // another form stands in front of the value
     Indirect,
-    // a count of so many bytes, and as many bytes as it says
+    // a count of so many bytes, and as many bytes as it says; one case with any size would ask every caller that it is at most 8
     Block1,
     Block2,
     Block4,
@@ -40,12 +39,6 @@ pub enum Width {
 pub struct Form {
     pub form: u64,
     pub width: Width,
-}
-
-#[derive(Clone, Copy)]
-pub enum FormWidth {
-    Is(Width),
-    Unknown,
 }
 
 // The forms of DWARF 4, and the two of split DWARF before version 5.
@@ -167,88 +160,75 @@ fn all_forms() -> [Form; 27]
     FORMS
 }
 
-pub fn width_of(form: u64) -> FormWidth
-    ensures { width_found result ≡ width_in forms form }
+pub fn width_of(form: u64) -> Option<Width>
+    ensures { option_map width_is result ≡ found (width_in forms form) }
 {
     let table = all_forms();
-    let mut i = 0;
-    while i < 27 {
-        let f = table[i];
-        if f.form == form {
-            let width = f.width;
-            return FormWidth::Is(width);
-        }
-        i += 1;
-    }
-    FormWidth::Unknown
+    table.iter().find(|f| f.form == form).map(|f| f.width)
 }
 
 // The bytes up to and with the first zero byte.
-fn zero_ended(s: &[u8]) -> Size
-    ensures { size_check no_identity result ≡ zero_ended s.now }
+fn zero_ended(s: &[u8]) -> Result<usize, Refusal>
+    ensures { told result ≡ zero_ended s.now }
 {
-    let mut i = 0;
-    while i < s.len() {
-        if s[i] == 0 {
-            return Size::Is(i + 1);
-        }
-        i += 1;
+    match s.iter().position(|b| *b == 0) {
+        Some(i) => Ok(i + 1),
+        None => Err(Refusal::NoIdentity),
     }
-    Size::Refused
 }
 
 // So many bytes, where they are there.
-fn within(n: usize, s: &[u8]) -> Size
-    ensures { size_check no_identity result ≡ ends s.now n }
+fn within(n: usize, s: &[u8]) -> Result<usize, Refusal>
+    ensures { told result ≡ ends s.now n }
 {
-    if s.len() < n {
-        return Size::Refused;
+    if n <= s.len() {
+        Ok(n)
+    } else {
+        Err(Refusal::NoIdentity)
     }
-    Size::Is(n)
 }
 
-// A count of n bytes, and as many bytes behind it as it says. The widths of the table keep n at most 4.
-fn block_size(big_endian: bool, n: usize, s: &[u8]) -> Size
+// A count's n bytes, and as many bytes behind them as it says.
+fn counted(n: usize, count: u64, s: &[u8]) -> Result<usize, Refusal>
+    requires { n ≤ length s.now }
+    ensures { told result ≡ ends s.now (n + count) }
+{
+    if count <= (s.len() - n) as u64 {
+        Ok(n + count as usize)
+    } else {
+        Err(Refusal::NoIdentity)
+    }
+}
+
+// A block with a count of n bytes. The widths of the table keep n at most 4.
+fn block_size(big_endian: bool, n: usize, s: &[u8]) -> Result<usize, Refusal>
     requires { n ≤ 8 }
-    ensures { size_check no_identity result ≡ block_within big_endian n s.now }
+    ensures { told result ≡ block_within big_endian n s.now }
 {
     if s.len() < n {
-        return Size::Refused;
+        return Err(Refusal::NoIdentity);
     }
-    let count = octets::number_at(big_endian, n, s, 0);
-    let left = octets::long(s.len() - n);
-    if left < count {
-        return Size::Refused;
-    }
-    Size::Is(n + octets::size(count))
+    counted(n, octets::number_at(big_endian, n, s, 0), s)
 }
 
 // The same with a count in ULEB128.
-fn uleb_block_size(s: &[u8]) -> Size
-    ensures { size_check no_identity result ≡ uleb_block_within s.now }
+fn uleb_block_size(s: &[u8]) -> Result<usize, Refusal>
+    ensures { told result ≡ uleb_block_within s.now }
 {
-    let Number::Is(count, n) = leb128::read_unsigned(s) else {
-        return Size::Refused;
-    };
-    let left = octets::long(s.len() - n);
-    if left < count {
-        return Size::Refused;
-    }
-    Size::Is(n + octets::size(count))
+    let (count, n) = leb128::read_unsigned(s)?;
+    counted(n, count, s)
 }
 
-fn uleb_size(s: &[u8]) -> Size
-    ensures { size_check no_identity result ≡ uleb_within s.now }
+fn uleb_size(s: &[u8]) -> Result<usize, Refusal>
+    ensures { told result ≡ uleb_within s.now }
 {
-    let Number::Is(_, n) = leb128::read_unsigned(s) else {
-        return Size::Refused;
-    };
-    Size::Is(n)
+    let (_, n) = leb128::read_unsigned(s)?;
+    Ok(n)
 }
 
 // How many bytes a value takes that ends in s.
-pub fn value_size(e: ObjectEncoding, w: Width, s: &[u8]) -> Size
-    ensures { size_check no_identity result ≡ size_within (encoding_is e) (width_is w) s.now }
+pub fn value_size(e: ObjectEncoding, w: Width, s: &[u8]) -> Result<usize, Refusal>
+    ensures { told result ≡ size_within (encoding_is e) (width_is w) s.now }
 {
     match w {
         Width::Fixed(n) => within(n, s),
@@ -257,7 +237,7 @@ pub fn value_size(e: ObjectEncoding, w: Width, s: &[u8]) -> Size
         Width::Uleb => uleb_size(s),
         Width::Sleb => leb128::read_signed_size(s),
         Width::String => zero_ended(s),
-        Width::Indirect => Size::Refused,
+        Width::Indirect => Err(Refusal::NoIdentity),
         Width::Block1 => block_size(e.big, 1, s),
         Width::Block2 => block_size(e.big, 2, s),
         Width::Block4 => block_size(e.big, 4, s),

@@ -1,9 +1,8 @@
 // The header of a unit, and the unit read whole.
 ghost use Rattle.std.specs.Prelude.{◌≡◌, ◌+◌, ◌≤◌, length};
-ghost use Rattle.unit.specs.Roots.{root_check};
+ghost use Rattle.octets.specs.Checked.{mapped};
 ghost use Rattle.bundle.specs.Encoded.{encoding_is};
-ghost use Rattle.numbers.specs.Refusals.{bad_header};
-ghost use Rattle.leb128.specs.Answers.{size_check};
+ghost use Rattle.numbers.specs.Refused.{told};
 ghost use Rattle.bundle.specs.InitialLength.{length_stated};
 ghost use Rattle.unit.specs.UnitRead.{length_good, unit_of, address_place, common_size};
 ghost use Rattle.unit.specs.Headers.{
@@ -16,14 +15,10 @@ ghost use Rattle.unit.specs.Headers.{
   signature_at,
   head_of,
   root_stated,
-  for_compilation,
-  identity_check,
+  identity_is,
   identity_by,
-  non_zero,
   identity_good,
-  identity_answer,
-  with_size,
-  unit_answer,
+  unit_is,
   address_of,
 };
 ghost use Rattle.unit.specs.TableTrees.{
@@ -35,11 +30,9 @@ ghost use Rattle.unit.specs.TableTrees.{
 };
 
 use crate::judged::Judged;
-use crate::root::{RootIdentity, RootRead};
 use bundle::encoding::ObjectEncoding;
 use bundle::initial_length;
-use leb128::Size;
-use numbers::refusals::{BAD_HEADER, IDENTITY_ZERO, NO_IDENTITY};
+use numbers::refusals::Refusal;
 use numbers::tables::{COMPILATION, SKELETON_UNIT, SPLIT_TYPE_UNIT, SPLIT_UNIT, TYPE, TYPE_UNIT};
 
 // The least number of 4 bytes that is no length.
@@ -59,31 +52,11 @@ pub enum Kind {
     Other,
 }
 
-// The table that a unit is handed in for, 1 compilation or 2 type, and its identity.
+// The table that a unit is handed in for, 1 compilation or 2 type, and its identity. A number, since the words of work hold it as one.
 #[derive(Clone, Copy)]
-pub enum Identity {
-    Is(u32, u64),
-    Unreadable,
-}
-
-// The same, with the tables that were judged.
-#[derive(Clone, Copy)]
-pub struct IdentityRead {
-    pub identity: Identity,
-    pub judged: Judged,
-}
-
-// The table and the identity, or the number by which the unit is refused.
-#[derive(Clone, Copy)]
-pub enum IdentityAnswer {
-    Is(u32, u64),
-    Refused(u32),
-}
-
-#[derive(Clone, Copy)]
-pub struct Identified {
-    pub answer: IdentityAnswer,
-    pub judged: Judged,
+pub struct Identity {
+    pub table: u32,
+    pub identity: u64,
 }
 
 // Where a unit lies in the bundle, and from where to where the abbreviations that it is read with.
@@ -97,283 +70,235 @@ pub struct UnitPlace {
 
 // A unit's size, its table and its identity.
 #[derive(Clone, Copy)]
-pub enum UnitAnswer {
-    Read(usize, u32, u64),
-    Refused(u32),
-}
-
-#[derive(Clone, Copy)]
 pub struct UnitRead {
-    pub answer: UnitAnswer,
-    pub judged: Judged,
+    pub size: usize,
+    pub table: u32,
+    pub identity: u64,
 }
 
-// The address size that a header states.
+// The bytes of a unit, or of its section from the unit on, with the object's encoding.
 #[derive(Clone, Copy)]
-pub enum AddressSize {
-    Is(u8),
-    // refusal 11
-    Refused,
-}
-
-fn address_place(e: ObjectEncoding) -> usize
-    ensures { result ≡ address_place (encoding_is e) }
-{
-    let field = e.field_size();
-    if e.five {
-        return field + 3;
-    }
-    field + 2 + e.width()
-}
-
-// The header fields that all types have.
-fn common_size(e: ObjectEncoding) -> usize
-    ensures { result ≡ common_size (encoding_is e) }
-{
-    let field = e.field_size();
-    let width = e.width();
-    if e.five {
-        return field + 4 + width;
-    }
-    field + 3 + width
-}
-
-// Whether a length starts as the width wants it. It states this number.
-fn length_good(e: ObjectEncoding, s: &[u8], stated: u64) -> bool
-    requires { stated ≡ length_stated (encoding_is e) s.now }
-    ensures { result ≡ length_good (encoding_is e) s.now }
-{
-    if e.wide {
-        return initial_length::is_marked(e.big, s);
-    }
-    stated < FIRST_RESERVED
-}
-
-// The size of a unit that ends in s.
-fn unit_size(e: ObjectEncoding, s: &[u8]) -> Size
-    ensures { size_check bad_header result ≡ unit_inside (encoding_is e) s.now }
-{
-    let field = e.field_size();
-    if s.len() < field {
-        return Size::Refused;
-    }
-    let stated = e.stated_length(s);
-    if !length_good(e, s, stated) {
-        return Size::Refused;
-    }
-    let rest = octets::size(stated);
-    if s.len() - field < rest {
-        return Size::Refused;
-    }
-    Size::Is(field + rest)
-}
-
-// The common fields are there, and version and address size are the object's.
-fn common_good(e: ObjectEncoding, u: &[u8]) -> bool
-    ensures { result ≡ common_good (encoding_is e) u.now }
-{
-    if u.len() < common_size(e) {
-        return false;
-    }
-    let version = octets::u16_at(e.big, u, e.field_size());
-    if version as u32 != e.version() {
-        return false;
-    }
-    let place = address_place(e);
-    octets::size(octets::wide_byte(u[place])) == e.address()
+struct Unit<'a> {
+    e: ObjectEncoding,
+    bytes: &'a [u8],
 }
 
 fn five_kind(unit_type: u8) -> Kind
     ensures { result ≡ five_kind unit_type }
 {
-    if unit_type == SKELETON_UNIT {
-        return Kind::Compilation;
-    }
-    if unit_type == SPLIT_UNIT {
-        return Kind::Compilation;
-    }
-    if unit_type == TYPE_UNIT {
-        return Kind::Signature;
-    }
-    if unit_type == SPLIT_TYPE_UNIT {
-        return Kind::Signature;
-    }
-    Kind::Other
-}
-
-// Home is the code of the unit's section. The common fields are there: `unit_head` has tested it.
-fn kind_of(e: ObjectEncoding, home: u32, u: &[u8]) -> Kind
-    requires { common_size (encoding_is e) ≤ length u.now }
-    ensures { result ≡ kind_of (encoding_is e) home u.now }
-{
-    if e.five {
-        let at = e.field_size() + 2;
-        return five_kind(u[at]);
-    }
-    if home == INFO {
-        return Kind::Root;
-    }
-    Kind::Signature
-}
-
-fn header_size(e: ObjectEncoding, kind: Kind) -> usize
-    ensures { result ≡ header_size (encoding_is e) kind }
-{
-    let common = common_size(e);
-    match kind {
-        Kind::Compilation => common + 8,
-        Kind::Signature => common + (8 + e.width()),
-        Kind::Root => common,
-        Kind::Other => common,
+    match unit_type {
+        SKELETON_UNIT | SPLIT_UNIT => Kind::Compilation,
+        TYPE_UNIT | SPLIT_TYPE_UNIT => Kind::Signature,
+        _ => Kind::Other,
     }
 }
 
-// The number of 8 bytes behind the common fields. Its kind's header is there.
-fn signature(e: ObjectEncoding, u: &[u8]) -> u64
-    requires { common_size (encoding_is e) + 8 ≤ length u.now }
-    ensures { result ≡ signature_at (encoding_is e) u.now }
-{
-    octets::u64_at(e.big, u, common_size(e))
-}
+impl<'a> Unit<'a> {
+    fn address_place(self) -> usize
+        ensures { result ≡ address_place (encoding_is self.entry.e) }
+    {
+        let field = self.e.field_size();
+        if self.e.five {
+            field + 3
+        } else {
+            field + 2 + self.e.width()
+        }
+    }
 
-// What the root of the unit u states. The common fields are there.
-fn identity_of_root(
-    e: ObjectEncoding,
-    b: &[u8],
-    place: UnitPlace,
-    u: &[u8],
-    codes: &mut [u32],
-    judged: Judged,
-) -> RootRead
-    requires { (common_size (encoding_is e) ≤ length u.now) × Inside b.now place × Lent b.now codes.old judged }
-    ensures is { root_check result.identity ≡ root_stated (encoding_is e) (abbreviations_bytes b.now place) u.now }
-    ensures memory { Remembers b.now codes.new result.judged }
-{
-    let field = e.field_size() + 2;
-    let offset = octets::size(octets::number_at(e.big, e.width(), u, field));
-    let first = place.first;
-    let last = place.last;
-    if last - first < offset {
-        return RootRead {
-            identity: RootIdentity::Unreadable,
+    // The header fields that all types have.
+    fn common_size(self) -> usize
+        ensures { result ≡ common_size (encoding_is self.entry.e) }
+    {
+        let fields = if self.e.five { 4 } else { 3 };
+        self.e.field_size() + fields + self.e.width()
+    }
+
+    // Whether a length starts as the width wants it. It states this number.
+    fn length_good(self, stated: u64) -> bool
+        requires { stated ≡ length_stated (encoding_is self.e) self.bytes.now }
+        ensures { result ≡ length_good (encoding_is self.entry.e) self.entry.bytes.now }
+    {
+        if self.e.wide {
+            initial_length::is_marked(self.e.big, self.bytes)
+        } else {
+            stated < FIRST_RESERVED
+        }
+    }
+
+    // The size of a unit that ends in the bytes.
+    fn size(self) -> Result<usize, Refusal>
+        ensures { told result ≡ unit_inside (encoding_is self.entry.e) self.entry.bytes.now }
+    {
+        let field = self.e.field_size();
+        if self.bytes.len() < field {
+            return Err(Refusal::BadHeader);
+        }
+        let stated = self.e.stated_length(self.bytes);
+        if !self.length_good(stated) {
+            return Err(Refusal::BadHeader);
+        }
+        let rest = stated as usize;
+        if self.bytes.len() - field < rest {
+            return Err(Refusal::BadHeader);
+        }
+        Ok(field + rest)
+    }
+
+    // The common fields are there, and the version is the object's.
+    fn fields_good(self) -> bool
+        ensures { result ≡ fields_good (encoding_is self.entry.e) self.entry.bytes.now }
+    {
+        if self.bytes.len() < self.common_size() {
+            return false;
+        }
+        let version = octets::u16_at(self.e.big, self.bytes, self.e.field_size());
+        u32::from(version) == self.e.version()
+    }
+
+    // And the address size is the object's too.
+    fn common_good(self) -> bool
+        ensures { result ≡ common_good (encoding_is self.entry.e) self.entry.bytes.now }
+    {
+        self.fields_good() && self.bytes[self.address_place()] as usize == self.e.address()
+    }
+
+    // Home is the code of the unit's section. The common fields are there: `unit_head` has tested it.
+    fn kind(self, home: u32) -> Kind
+        requires { common_size (encoding_is self.e) ≤ length self.bytes.now }
+        ensures { result ≡ kind_of (encoding_is self.entry.e) home self.entry.bytes.now }
+    {
+        if self.e.five {
+            five_kind(self.bytes[self.e.field_size() + 2])
+        } else if home == INFO {
+            Kind::Root
+        } else {
+            Kind::Signature
+        }
+    }
+
+    fn header_size(self, kind: Kind) -> usize
+        ensures { result ≡ header_size (encoding_is self.entry.e) kind }
+    {
+        let common = self.common_size();
+        match kind {
+            Kind::Compilation => common + 8,
+            Kind::Signature => common + (8 + self.e.width()),
+            Kind::Root | Kind::Other => common,
+        }
+    }
+
+    // The number of 8 bytes behind the common fields. Its kind's header is there.
+    fn signature(self) -> u64
+        requires { common_size (encoding_is self.e) + 8 ≤ length self.bytes.now }
+        ensures { result ≡ signature_at (encoding_is self.entry.e) self.entry.bytes.now }
+    {
+        octets::u64_at(self.e.big, self.bytes, self.common_size())
+    }
+
+    // What the root states. The common fields are there.
+    fn root_stated(
+        self,
+        b: &[u8],
+        place: UnitPlace,
+        codes: &mut [u32],
+        judged: &mut Judged,
+    ) -> Result<u64, Refusal>
+        requires { (common_size (encoding_is self.e) ≤ length self.bytes.now) × Inside b.now place × Lent b.now codes.old judged.old }
+        ensures is { told result ≡ root_stated (encoding_is self.entry.e) (abbreviations_bytes b.now place) self.entry.bytes.now }
+        ensures memory { Remembers b.now codes.new judged.new }
+    {
+        let field = self.e.field_size() + 2;
+        let offset = octets::number_at(self.e.big, self.e.width(), self.bytes, field) as usize;
+        if place.last - place.first < offset {
+            return Err(Refusal::NoIdentity);
+        }
+        let first = place.first + offset;
+        let common = self.common_size();
+        crate::root::root_identity(
+            self.e,
+            b,
+            first,
+            place.last,
+            &self.bytes[common..],
+            codes,
             judged,
-        };
+        )
     }
-    let common = common_size(e);
-    crate::root::root_identity(e, b, first + offset, last, &u[common..], codes, judged)
-}
 
-// The identity of a unit u whose kind's header is there.
-fn identity_of(
-    e: ObjectEncoding,
-    kind: Kind,
-    b: &[u8],
-    place: UnitPlace,
-    u: &[u8],
-    codes: &mut [u32],
-    judged: Judged,
-) -> IdentityRead
-    requires { (header_size (encoding_is e) kind ≤ length u.now) × Inside b.now place × Lent b.now codes.old judged }
-    ensures is { identity_check result.identity ≡ identity_by (encoding_is e) kind (abbreviations_bytes b.now place) u.now }
-    ensures memory { Remembers b.now codes.new result.judged }
-{
-    match kind {
-        Kind::Compilation => {
-            return IdentityRead {
-                identity: Identity::Is(COMPILATION, signature(e, u)),
-                judged,
-            };
+    // The identity, of a unit whose kind's header is there. A unit with a root is handed in for the compilation table.
+    fn identity(
+        self,
+        kind: Kind,
+        b: &[u8],
+        place: UnitPlace,
+        codes: &mut [u32],
+        judged: &mut Judged,
+    ) -> Result<Identity, Refusal>
+        requires { (header_size (encoding_is self.e) kind ≤ length self.bytes.now) × Inside b.now place × Lent b.now codes.old judged.old }
+        ensures is { mapped identity_is (told result) ≡ identity_by (encoding_is self.entry.e) kind (abbreviations_bytes b.now place) self.entry.bytes.now }
+        ensures memory { Remembers b.now codes.new judged.new }
+    {
+        match kind {
+            Kind::Compilation => Ok(Identity {
+                table: COMPILATION,
+                identity: self.signature(),
+            }),
+            Kind::Signature => Ok(Identity {
+                table: TYPE,
+                identity: self.signature(),
+            }),
+            Kind::Root => Ok(Identity {
+                table: COMPILATION,
+                identity: self.root_stated(b, place, codes, judged)?,
+            }),
+            Kind::Other => Err(Refusal::NoIdentity),
         }
-        Kind::Signature => {
-            return IdentityRead {
-                identity: Identity::Is(TYPE, signature(e, u)),
-                judged,
-            };
-        }
-        Kind::Root => {
-            let root = identity_of_root(e, b, place, u, codes, judged);
-            let stated = root.identity;
-            let memory = root.judged;
-            return IdentityRead {
-                identity: of_root(stated),
-                judged: memory,
-            };
-        }
-        Kind::Other => {
-            return IdentityRead {
-                identity: Identity::Unreadable,
-                judged,
-            };
-        }
-    }
-}
-
-// A unit with a root is handed in for the compilation table.
-fn of_root(root: RootIdentity) -> Identity
-    ensures { identity_check result ≡ for_compilation (root_check root) }
-{
-    match root {
-        RootIdentity::Is(x) => Identity::Is(COMPILATION, x),
-        RootIdentity::Unreadable => Identity::Unreadable,
     }
 }
 
 // The size of the unit at the front of s, whose common fields are good.
-pub fn unit_head(e: ObjectEncoding, s: &[u8]) -> Size
-    ensures { size_check bad_header result ≡ head_of (encoding_is e) s.now }
+pub fn unit_head(e: ObjectEncoding, s: &[u8]) -> Result<usize, Refusal>
+    ensures { told result ≡ head_of (encoding_is e) s.now }
 {
-    let Size::Is(size) = unit_size(e, s) else {
-        return Size::Refused;
+    let size = Unit { e, bytes: s }.size()?;
+    let unit = Unit {
+        e,
+        bytes: &s[..size],
     };
-    if !common_good(e, &s[..size]) {
-        return Size::Refused;
+    if unit.common_good() {
+        Ok(size)
+    } else {
+        Err(Refusal::BadHeader)
     }
-    Size::Is(size)
 }
 
-// The identity of a unit whose head was read, and the table that it is handed in for. Home is the section's code, 1 info or 2 types.
+// The identity of a unit whose head was read, and the table that it is handed in for. Home is the section's code, 1 info or 2 types. An identity of 0 is refused.
+// Bundle, words and memory of the tables stay parameters: a clause speaks of all three, and the words are lent for one call, out of a larger slice.
 pub fn unit_identity(
     e: ObjectEncoding,
     home: u32,
     b: &[u8],
     place: UnitPlace,
     codes: &mut [u32],
-    judged: Judged,
-) -> Identified
-    requires { (common_size (encoding_is e) ≤ place.size) × Inside b.now place × Lent b.now codes.old judged }
-    ensures is { result.answer ≡ identity_answer (identity_good (encoding_is e) home (abbreviations_bytes b.now place) (unit_bytes b.now place)) }
-    ensures memory { Remembers b.now codes.new result.judged }
+    judged: &mut Judged,
+) -> Result<Identity, Refusal>
+    requires { (common_size (encoding_is e) ≤ place.size) × Inside b.now place × Lent b.now codes.old judged.old }
+    ensures is { mapped identity_is (told result) ≡ identity_good (encoding_is e) home (abbreviations_bytes b.now place) (unit_bytes b.now place) }
+    ensures memory { Remembers b.now codes.new judged.new }
 {
-    let at = place.at;
-    let end = at + place.size;
-    let u = &b[at..end];
-    let kind = kind_of(e, home, u);
-    if place.size < header_size(e, kind) {
-        return Identified {
-            answer: IdentityAnswer::Refused(BAD_HEADER),
-            judged,
-        };
-    }
-    let read = identity_of(e, kind, b, place, u, codes, judged);
-    let identity = read.identity;
-    let memory = read.judged;
-    Identified {
-        answer: answer_of(identity),
-        judged: memory,
-    }
-}
-
-// An identity of 0 is refused.
-fn answer_of(read: Identity) -> IdentityAnswer
-    ensures { result ≡ identity_answer (non_zero (identity_check read)) }
-{
-    let Identity::Is(table, identity) = read else {
-        return IdentityAnswer::Refused(NO_IDENTITY);
+    let unit = Unit {
+        e,
+        bytes: &b[place.at..place.at + place.size],
     };
-    if identity == 0 {
-        return IdentityAnswer::Refused(IDENTITY_ZERO);
+    let kind = unit.kind(home);
+    if place.size < unit.header_size(kind) {
+        return Err(Refusal::BadHeader);
     }
-    IdentityAnswer::Is(table, identity)
+    let identity = unit.identity(kind, b, place, codes, judged)?;
+    if identity.identity == 0 {
+        return Err(Refusal::IdentityZero);
+    }
+    Ok(identity)
 }
 
 // A whole unit, whose section goes on to the end of the place's bytes.
@@ -383,71 +308,34 @@ pub fn read_unit(
     b: &[u8],
     place: UnitPlace,
     codes: &mut [u32],
-    judged: Judged,
-) -> UnitRead
-    requires { Inside b.now place × Lent b.now codes.old judged }
-    ensures is { result.answer ≡ unit_answer (unit_of (encoding_is e) home (abbreviations_bytes b.now place) (unit_bytes b.now place)) }
-    ensures memory { Remembers b.now codes.new result.judged }
+    judged: &mut Judged,
+) -> Result<UnitRead, Refusal>
+    requires { Inside b.now place × Lent b.now codes.old judged.old }
+    ensures is { mapped unit_is (told result) ≡ unit_of (encoding_is e) home (abbreviations_bytes b.now place) (unit_bytes b.now place) }
+    ensures memory { Remembers b.now codes.new judged.new }
 {
-    let at = place.at;
-    let end = at + place.size;
-    let Size::Is(size) = unit_head(e, &b[at..end]) else {
-        return UnitRead {
-            answer: UnitAnswer::Refused(BAD_HEADER),
-            judged,
-        };
-    };
-    let own = UnitPlace {
-        at,
+    let size = unit_head(e, &b[place.at..place.at + place.size])?;
+    let own = UnitPlace { size, ..place };
+    let unit = unit_identity(e, home, b, own, codes, judged)?;
+    Ok(UnitRead {
         size,
-        first: place.first,
-        last: place.last,
-    };
-    let read = unit_identity(e, home, b, own, codes, judged);
-    let answer = read.answer;
-    let memory = read.judged;
-    UnitRead {
-        answer: with_size(size, answer),
-        judged: memory,
-    }
-}
-
-pub fn with_size(size: usize, answer: IdentityAnswer) -> UnitAnswer
-    ensures { result ≡ with_size size answer }
-{
-    match answer {
-        IdentityAnswer::Is(table, identity) => UnitAnswer::Read(size, table, identity),
-        IdentityAnswer::Refused(number) => UnitAnswer::Refused(number),
-    }
-}
-
-// The common fields are there, and the version is the object's.
-fn fields_good(e: ObjectEncoding, u: &[u8]) -> bool
-    ensures { result ≡ fields_good (encoding_is e) u.now }
-{
-    if u.len() < common_size(e) {
-        return false;
-    }
-    let version = octets::u16_at(e.big, u, e.field_size());
-    version as u32 == e.version()
+        table: unit.table,
+        identity: unit.identity,
+    })
 }
 
 // The address size that the header of a unit in info states, whatever it is, where the header passes 11 otherwise. Of e it takes the byte order,
 // the version and the width.
-pub fn stated_address(e: ObjectEncoding, s: &[u8]) -> AddressSize
-    ensures { result ≡ address_of (encoding_is e) s.now }
+pub fn stated_address(e: ObjectEncoding, s: &[u8]) -> Result<u8, Refusal>
+    ensures { told result ≡ address_of (encoding_is e) s.now }
 {
-    let Size::Is(size) = unit_size(e, s) else {
-        return AddressSize::Refused;
+    let size = Unit { e, bytes: s }.size()?;
+    let unit = Unit {
+        e,
+        bytes: &s[..size],
     };
-    let u = &s[..size];
-    if !fields_good(e, u) {
-        return AddressSize::Refused;
+    if !unit.fields_good() || size < unit.header_size(unit.kind(INFO)) {
+        return Err(Refusal::BadHeader);
     }
-    let kind = kind_of(e, 1, u);
-    if u.len() < header_size(e, kind) {
-        return AddressSize::Refused;
-    }
-    let place = address_place(e);
-    AddressSize::Is(u[place])
+    Ok(unit.bytes[unit.address_place()])
 }

@@ -1,25 +1,24 @@
 // The root of a unit of version 4 in info: its attributes are walked to their end, and the first 2131 hexadecimal states the identity.
-ghost use Rattle.std.specs.Prelude.{◌≡◌, ◌≤◌, length};
+ghost use Rattle.std.specs.Prelude.{◌≡◌, ◌+◌, ◌≤◌, length};
 ghost use Rattle.std.proofs.Math.Option.{none};
+ghost use Rattle.octets.specs.Checked.{mapped};
 ghost use Rattle.bundle.specs.Encoded.{encoding_is};
-ghost use Rattle.unit.specs.Root.{needed, plain_value, value_of, root_tag, root_identity};
+ghost use Rattle.numbers.specs.Refused.{told};
+ghost use Rattle.unit.specs.Root.{plain_value, value_of, identity_at, root_tag, root_identity};
 ghost use Rattle.unit.specs.TableTrees.{between, TableHeld, Remembers, Lent};
 ghost use Rattle.unit.specs.Roots.{
-  value_check,
+  value_is,
   seen_is,
   attribute_step,
-  moved_check,
+  moved_is,
   identity_from,
   Skips,
-  root_check,
 };
 
-use crate::abbreviations::{AttributeRead, Found};
-use crate::forms::FormWidth;
-use crate::judged::{Judged, Recalled};
+use crate::judged::Judged;
 use crate::tree::NODE;
 use bundle::encoding::ObjectEncoding;
-use leb128::{Number, Size};
+use numbers::refusals::Refusal;
 
 // The form of a flag that is there without a value.
 const FLAG_PRESENT: u64 = 0x19;
@@ -32,107 +31,98 @@ const ONE_BYTE: u8 = 0x7f;
 
 // An attribute's value: its form, where it starts behind an indirect form, and the bytes that it takes.
 #[derive(Clone, Copy)]
-pub enum Value {
-    Is(u64, usize, usize),
-    Refused,
-}
-
-// What the attributes so far state.
-#[derive(Clone, Copy)]
-pub enum Seen {
-    Stated(u64),
-    Nothing,
+struct Value {
+    form: u64,
+    start: usize,
+    size: usize,
 }
 
 // Past one attribute: its bytes in the table, those of its value, and what is stated then.
 #[derive(Clone, Copy)]
-pub enum Moved {
-    On(usize, usize, Seen),
-    End,
-    Refused,
-}
-
-#[derive(Clone, Copy)]
-pub enum RootIdentity {
-    Is(u64),
-    Unreadable,
-}
-
-// With the tables that were judged.
-#[derive(Clone, Copy)]
-pub struct RootRead {
-    pub identity: RootIdentity,
-    pub judged: Judged,
+struct Move {
+    taken: usize,
+    passed: usize,
+    seen: Option<u64>,
 }
 
 // A value that ends in s, of a form that is not indirect.
-fn plain_value(e: ObjectEncoding, form: u64, s: &[u8]) -> Value
-    ensures { value_check result ≡ plain_value (encoding_is e) form s.now }
+fn plain_value(e: ObjectEncoding, form: u64, s: &[u8]) -> Result<Value, Refusal>
+    ensures { mapped value_is (told result) ≡ plain_value (encoding_is e) form s.now }
 {
-    let FormWidth::Is(width) = crate::forms::width_of(form) else {
-        return Value::Refused;
-    };
-    let Size::Is(size) = crate::forms::value_size(e, width, s) else {
-        return Value::Refused;
-    };
-    Value::Is(form, 0, size)
+    let width = crate::forms::width_of(form).ok_or(Refusal::NoIdentity)?;
+    let size = crate::forms::value_size(e, width, s)?;
+    Ok(Value {
+        form,
+        start: 0,
+        size,
+    })
 }
 
 // Indirect, 16 hexadecimal, only once.
-fn value_of(e: ObjectEncoding, form: u64, s: &[u8]) -> Value
-    ensures { value_check result ≡ value_of (encoding_is e) form s.now }
+fn value_of(e: ObjectEncoding, form: u64, s: &[u8]) -> Result<Value, Refusal>
+    ensures { mapped value_is (told result) ≡ value_of (encoding_is e) form s.now }
 {
     if form != 0x16 {
         return plain_value(e, form, s);
     }
-    let Number::Is(real, n) = leb128::read_short(s) else {
-        return Value::Refused;
-    };
-    let Value::Is(same, _, size) = plain_value(e, real, &s[n..]) else {
-        return Value::Refused;
-    };
-    Value::Is(same, n, size)
+    let (real, n) = leb128::read_short(s)?;
+    let value = plain_value(e, real, &s[n..])?;
+    Ok(Value { start: n, ..value })
 }
 
 // A flag that is present takes no bytes. A root may have very many of them, so that they are answered first.
-fn attribute_value(e: ObjectEncoding, form: u64, s: &[u8]) -> Value
-    ensures { value_check result ≡ value_of (encoding_is e) form s.now }
+fn attribute_value(e: ObjectEncoding, form: u64, s: &[u8]) -> Result<Value, Refusal>
+    ensures { mapped value_is (told result) ≡ value_of (encoding_is e) form s.now }
 {
     if form == FLAG_PRESENT {
-        return Value::Is(form, 0, 0);
+        return Ok(Value {
+            form,
+            start: 0,
+            size: 0,
+        });
     }
     value_of(e, form, s)
 }
 
-// One attribute: t is the table from it on, and s the unit from its value on.
-fn attribute_step(e: ObjectEncoding, t: &[u8], s: &[u8], seen: Seen) -> Moved
-    ensures { moved_check result ≡ attribute_step (encoding_is e) t.now s.now (seen_is seen) }
+// What is stated once an attribute is passed: only the first 2131 hexadecimal states it, and its form is data8.
+fn identity_at(
+    e: ObjectEncoding,
+    name: u64,
+    value: Value,
+    s: &[u8],
+    seen: Option<u64>,
+) -> Result<Option<u64>, Refusal>
+    requires { value.form ≡ 7 → value.start + 8 ≤ length s.now }
+    ensures { mapped seen_is (told result) ≡ identity_at (encoding_is e) name (value_is value) s.now (seen_is seen) }
 {
-    let AttributeRead::Is(name, form, n) = crate::abbreviations::attribute_at(t) else {
-        return Moved::Refused;
-    };
-    if name == 0 {
-        return Moved::End;
-    }
-    let Value::Is(real, start, size) = attribute_value(e, form, s) else {
-        return Moved::Refused;
-    };
-    let m = start + size;
     match seen {
-        Seen::Stated(x) => {
-            return Moved::On(n, m, Seen::Stated(x));
-        }
-        Seen::Nothing => {
-            if name != 0x2131 {
-                return Moved::On(n, m, Seen::Nothing);
-            }
-            if real != 7 {
-                return Moved::Refused;
-            }
-            let identity = octets::u64_at(e.big, s, start);
-            return Moved::On(n, m, Seen::Stated(identity));
-        }
+        Some(x) => Ok(Some(x)),
+        None if name != 0x2131 => Ok(None),
+        None if value.form != 7 => Err(Refusal::NoIdentity),
+        None => Ok(Some(octets::u64_at(e.big, s, value.start))),
     }
+}
+
+// One attribute: t is the table from it on, and s the unit from its value on. None at the pair of zeros that ends attributes.
+fn attribute_step(
+    e: ObjectEncoding,
+    t: &[u8],
+    s: &[u8],
+    seen: Option<u64>,
+) -> Result<Option<Move>, Refusal>
+    ensures { mapped moved_is (told result) ≡ attribute_step (encoding_is e) t.now s.now (seen_is seen) }
+{
+    let attribute = crate::abbreviations::attribute_at(t)?;
+    if attribute.name == 0 {
+        return Ok(None);
+    }
+    let value = attribute_value(e, attribute.form, s)?;
+    let next = identity_at(e, attribute.name, value, s, seen)?;
+    Ok(Some(Move {
+        taken: attribute.size,
+        passed: value.start + value.size,
+        seen: next,
+    }))
 }
 
 // How many bytes at the front of t are flags that are present, of one byte for the name and one for the form. One byte can't name 2131 hexadecimal,
@@ -140,53 +130,31 @@ fn attribute_step(e: ObjectEncoding, t: &[u8], s: &[u8], seen: Seen) -> Moved
 fn skip_flags(t: &[u8]) -> usize
     ensures { Skips t.now result }
 {
-    let mut i = 0;
-    while i + 1 < t.len() {
-        if t[i + 1] != FLAG_BYTE {
-            return i;
+    let pairs = t.len() / 2;
+    for i in 0..pairs {
+        let name = t[2 * i];
+        if name == 0 || name > ONE_BYTE || t[2 * i + 1] != FLAG_BYTE {
+            return 2 * i;
         }
-        if t[i] == 0 {
-            return i;
-        }
-        if ONE_BYTE < t[i] {
-            return i;
-        }
-        i += 2;
     }
-    i
+    2 * pairs
 }
 
-// The identity that the attributes at the front of t state, whose values stand at the front of s.
-fn identity_in(e: ObjectEncoding, t: &[u8], s: &[u8]) -> RootIdentity
-    ensures { root_check result ≡ identity_from (encoding_is e) t.now s.now none }
+// The identity that the attributes at the front of t state, whose values stand at the front of s. A loop, since each attribute says where the next starts.
+fn identity_in(e: ObjectEncoding, t: &[u8], s: &[u8]) -> Result<u64, Refusal>
+    ensures { told result ≡ identity_from (encoding_is e) t.now s.now none }
 {
     let mut a = 0;
     let mut at = 0;
-    let mut seen = Seen::Nothing;
+    let mut seen = None;
     loop {
         a += skip_flags(&t[a..]);
-        match attribute_step(e, &t[a..], &s[at..], seen) {
-            Moved::On(n, m, next) => {
-                a += n;
-                at += m;
-                seen = next;
-            }
-            Moved::End => {
-                return stated(seen);
-            }
-            Moved::Refused => {
-                return RootIdentity::Unreadable;
-            }
-        }
-    }
-}
-
-fn stated(seen: Seen) -> RootIdentity
-    ensures { root_check result ≡ needed (seen_is seen) }
-{
-    match seen {
-        Seen::Stated(x) => RootIdentity::Is(x),
-        Seen::Nothing => RootIdentity::Unreadable,
+        let Some(step) = attribute_step(e, &t[a..], &s[at..], seen)? else {
+            return seen.ok_or(Refusal::NoIdentity);
+        };
+        a += step.taken;
+        at += step.passed;
+        seen = step.seen;
     }
 }
 
@@ -194,27 +162,25 @@ fn stated(seen: Seen) -> RootIdentity
 fn root_tag(tag: u64) -> bool
     ensures { result ≡ root_tag tag }
 {
-    if tag == 0x11 {
-        return true;
-    }
-    tag == 0x41
+    tag == 0x11 || tag == 0x41
 }
 
 // In a table that was judged, whose declarations codes hold. s is the unit behind its header.
-fn root_in(e: ObjectEncoding, table: &[u8], codes: &[u32], count: usize, s: &[u8]) -> RootIdentity
+fn root_in(
+    e: ObjectEncoding,
+    table: &[u8],
+    codes: &[u32],
+    count: usize,
+    s: &[u8],
+) -> Result<u64, Refusal>
     requires { TableHeld table.now codes.now count }
-    ensures { root_check result ≡ root_identity (encoding_is e) table.now s.now }
+    ensures { told result ≡ root_identity (encoding_is e) table.now s.now }
 {
-    let Number::Is(code, n) = leb128::read_unsigned(s) else {
-        return RootIdentity::Unreadable;
-    };
-    let Found::At(tag, start) = crate::abbreviations::find_in(table, codes, count, code) else {
-        return RootIdentity::Unreadable;
-    };
-    if !root_tag(tag) {
-        return RootIdentity::Unreadable;
+    let (code, n) = leb128::read_unsigned(s)?;
+    match crate::abbreviations::find_in(table, codes, count, code) {
+        Some(root) if root_tag(root.tag) => identity_in(e, &table[root.start..], &s[n..]),
+        _ => Err(Refusal::NoIdentity),
     }
-    identity_in(e, &table[start..], &s[n..])
 }
 
 // The table is what stands in abbrev from the header's offset on: from at to end in the bundle. s is the unit behind its header.
@@ -225,24 +191,14 @@ pub fn root_identity(
     end: usize,
     s: &[u8],
     codes: &mut [u32],
-    judged: Judged,
-) -> RootRead
-    requires { (at ≤ end) × (end ≤ length b.now) × Lent b.now codes.old judged }
-    ensures is { root_check result.identity ≡ root_identity (encoding_is e) (between b.now at end) s.now }
-    ensures memory { Remembers b.now codes.new result.judged }
+    judged: &mut Judged,
+) -> Result<u64, Refusal>
+    requires { (at ≤ end) × (end ≤ length b.now) × Lent b.now codes.old judged.old }
+    ensures is { told result ≡ root_identity (encoding_is e) (between b.now at end) s.now }
+    ensures memory { Remembers b.now codes.new judged.new }
 {
-    let Recalled::Known(known) = crate::judged::recall(b, at, end, codes, judged) else {
-        return RootRead {
-            identity: RootIdentity::Unreadable,
-            judged: crate::judged::nothing(),
-        };
-    };
-    let from = known.last.from;
-    let count = known.last.count;
-    let to = from + NODE * count;
-    let identity = root_in(e, &b[at..end], &codes[from..to], count, s);
-    RootRead {
-        identity,
-        judged: known,
-    }
+    judged.recall(b, at, end, codes)?;
+    let table = judged.last;
+    let to = table.from + NODE * table.count;
+    root_in(e, &b[at..end], &codes[table.from..to], table.count, s)
 }

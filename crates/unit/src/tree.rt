@@ -14,10 +14,8 @@ ghost use Rattle.unit.specs.Trees.{
   Added,
 };
 
-// The words of a node: the nodes on its left and on its right, what it carries, and its code.
+// The words of a node: the nodes on its left and on its right, what it carries, and its code. No structs, since memory is lent as words and there is no heap.
 pub const NODE: usize = 5;
-
-const RIGHT: usize = 1;
 
 const CARRIED: usize = 2;
 
@@ -27,28 +25,23 @@ const HIGH: usize = 4;
 
 const WORD: u64 = 0x1_0000_0000;
 
-// Where the walk of a code ends: at its node, or at the word of the empty link that its node would hang from.
-#[derive(Clone, Copy)]
-pub enum Walked {
-    At(usize),
-    Free(usize),
-}
-
 fn code_at(codes: &[u32], node: usize) -> u64
     requires { node_words * node + node_words ≤ length codes.now }
     ensures { result ≡ code_at codes.now node }
 {
-    octets::wide64(codes[NODE * node + LOW]) + WORD * octets::wide64(codes[NODE * node + HIGH])
+    u64::from(codes[NODE * node + LOW]) + WORD * u64::from(codes[NODE * node + HIGH])
 }
 
 pub fn carried_at(codes: &[u32], node: usize) -> usize
     requires { node_words * node + node_words ≤ length codes.now }
     ensures { result ≡ carried_at codes.now node }
 {
-    octets::word(codes, NODE * node + CARRIED)
+    codes[NODE * node + CARRIED] as usize
 }
 
-pub fn walk(codes: &[u32], count: usize, code: u64) -> Walked
+// Where the walk of a code ends, answered as a search of a sorted slice is: its node; or else the word of the empty link that its node would hang from.
+// A loop, since it follows links and has no index.
+pub fn walk(codes: &[u32], count: usize, code: u64) -> Result<usize, usize>
     requires { (0 < count) × Rising codes.now count }
     ensures { Ends codes.now count code result }
 {
@@ -56,15 +49,15 @@ pub fn walk(codes: &[u32], count: usize, code: u64) -> Walked
     let mut rest = code;
     loop {
         if code_at(codes, node) == code {
-            return Walked::At(node);
+            return Ok(node);
         }
-        let link = NODE * node + octets::size(rest % 2);
-        let next = octets::word(codes, link);
+        let link = NODE * node + (rest % 2) as usize;
+        let next = codes[link] as usize;
         if next == 0 {
-            return Walked::Free(link);
+            return Err(link);
         }
         node = next;
-        rest = rest / 2;
+        rest /= 2;
     }
 }
 
@@ -74,11 +67,14 @@ fn store_node(codes: &mut [u32], node: usize, carried: usize, code: u64)
     ensures { codes.new ≡ placed codes.old (node_words * node) (node_of carried code) }
 {
     let at = NODE * node;
-    codes[at] = 0;
-    codes[at + RIGHT] = 0;
-    codes[at + CARRIED] = carried as u32;
-    codes[at + LOW] = (code % WORD) as u32;
-    codes[at + HIGH] = (code / WORD) as u32;
+    let words = [
+        0,
+        0,
+        carried as u32,
+        (code % WORD) as u32,
+        (code / WORD) as u32,
+    ];
+    codes[at..at + NODE].copy_from_slice(&words);
 }
 
 // One code more behind count others, or false where it is one of them. Callers keep room for a node.
@@ -90,10 +86,10 @@ pub fn add_code(codes: &mut [u32], count: usize, carried: usize, code: u64) -> b
         store_node(codes, 0, carried, code);
         return true;
     }
-    let Walked::Free(link) = walk(codes, count, code) else {
+    let Err(link) = walk(codes, count, code) else {
         return false;
     };
-    octets::set_word(codes, link, count);
+    codes[link] = count as u32;
     store_node(codes, count, carried, code);
     true
 }

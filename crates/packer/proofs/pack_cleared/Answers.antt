@@ -1,15 +1,15 @@
 -- Each way out is the definition's answer (`Outcomes`).
 -- Assumes nothing.
-use mathlib.Core.Path.{◌≡◌, sym, ◌∙◌}
+use mathlib.Core.Path.{◌≡◌, refl, sym, ap, ◌∙◌}
 use mathlib.Core.Bool.{true}
 use Prim.Native.Nat.{◌/◌}
 use native.Mathlib.Omega.{arith}
 use lib.ListN.{length}
-use Rattle.octets.specs.Checked.{pass}
+use Rattle.octets.specs.Checked.{pass, refuse}
 use Rattle.bundle.specs.Bundle.{Bundle, bundle_of, length_good}
 use Rattle.packer.specs.Objects.{Clearable}
 use Rattle.bundle.proofs.WordsAnswered.{words_readable}
-use Rattle.packer.proofs.Outcomes.{length_within, length_some, length_whole, filing_refused, filing_passed, answers_length, answers_work, answers_words, answers_filing, answers_finish}
+use Rattle.packer.proofs.Outcomes.{length_within, length_some, length_whole, answers_length, answers_work, answers_words, answers_filing, answers_finish}
 use Rattle.packer.proofs.pack_cleared.Goals as goal
 use Rattle.packer.proofs.pack_cleared.Goals.{Else-not-length_good, In-Ok}
 
@@ -46,32 +46,34 @@ returns-in_default c = record { answer = (answers_words _ _ _ _ c.requires (good
 pub clear_slots-requires : goal.clear_slots-requires
 clear_slots-requires c = can (goal.at.clear_slots-requires c).In-Ok
 
-pub add_input_objects-filed-requires : goal.add_input_objects-filed-requires
-add_input_objects-filed-requires c =
-    let k = read (goal.at.add_input_objects-filed-requires c).In-Ok in
-    let h = can (goal.at.add_input_objects-filed-requires c).In-Ok in
+pub add_input_objects-requires : goal.add_input_objects-requires
+add_input_objects-requires c =
+    let k = read (goal.at.add_input_objects-requires c).In-Ok in
+    let h = can (goal.at.add_input_objects-requires c).In-Ok in
     record {
       bundle = k.0;
       reads = k.1;
       order = k.2;
-      whole = length_whole _ _ (good (goal.at.add_input_objects-filed-requires c).Else-not-length_good);
+      whole = length_whole _ _ (good (goal.at.add_input_objects-requires c).Else-not-length_good);
       can = rw c.clear_slots.auto.work h;
       none = c.clear_slots.ensures;
     }
 
-pub returns-then-code-ne0 : goal.returns-then-code-ne0
-returns-then-code-ne0 c =
-    let k = read (goal.at.returns-then-code-ne0 c).In-Ok in
-    let f = filing_refused _ _ _ k.0 _ (c.add_input_objects-filed.ensures k.0 k.1) c.if-code-ne0.true in
-    record { answer = (answers_filing _ _ _ _ c.requires (good (goal.at.returns-then-code-ne0 c).Else-not-length_good) c.if-work-b.false k.0 _ k.1 f).0; output = (answers_filing _ _ _ _ c.requires (good (goal.at.returns-then-code-ne0 c).Else-not-length_good) c.if-work-b.false k.0 _ k.1 f).1 }
+pub returns-in-Err : goal.returns-in-Err
+returns-in-Err c =
+    let g = goal.at.returns-in-Err c in
+    let k = read g.In-Ok in
+    let f = (c.in-Err.ensures k.0 k.1).refuses _ refl ∙ ap refuse (sym c.number.ensures) in
+    let z = answers_filing _ _ _ _ c.requires (good g.Else-not-length_good) c.if-work-b.false k.0 _ k.1 f in
+    record { answer = z.0; output = z.1 }
 
 pub finish-finished-requires : goal.finish-finished-requires
 finish-finished-requires c =
     let k = read (goal.at.finish-finished-requires c).In-Ok in
-    (filing_passed _ _ _ k.0 _ (c.add_input_objects-filed.ensures k.0 k.1) c.if-code-ne0.false, c.requires)
+    (((c.in-Ok.ensures k.0 k.1).passes _ refl).2, c.requires)
 
 pub returns : goal.returns
 returns c =
     let k = read (goal.at.returns c).In-Ok in
-    let all = filing_passed _ _ _ k.0 _ (c.add_input_objects-filed.ensures k.0 k.1) c.if-code-ne0.false in
+    let all = ((c.in-Ok.ensures k.0 k.1).passes _ refl).2 in
     record { answer = (answers_finish _ _ _ _ (good (goal.at.returns c).Else-not-length_good) c.if-work-b.false _ c.finish-finished.ensures.answer c.finish-finished.ensures.output _ _ _ all _ c.with_counts.ensures).0; output = (answers_finish _ _ _ _ (good (goal.at.returns c).Else-not-length_good) c.if-work-b.false _ c.finish-finished.ensures.answer c.finish-finished.ensures.output _ _ _ all _ c.with_counts.ensures).1 }

@@ -6,10 +6,10 @@ use Rattle.bundle.specs.Encoded.{encoding_is}
 use Rattle.elf.specs.Held.{word_with}
 use Rattle.elf.proofs.stating.word_stated.Goals as goal
 
-pub returns-in-Is : goal.returns-in-Is
+pub returns-in-Ok : goal.returns-in-Ok
 unfolding word_with
-returns-in-Is c = ap pass c.word_of.ensures ∙ ap (word_with (encoding_is c.args.e)) c.in-Is.ensures
+returns-in-Ok c = ap pass c.word_of.ensures ∙ ap (word_with (encoding_is c.args.e)) c.in-Ok.ensures
 
-pub returns-in-Refused : goal.returns-in-Refused
+pub returns-in-Err : goal.returns-in-Err
 unfolding word_with
-returns-in-Refused c = ap (word_with (encoding_is c.args.e)) c.in-Refused.ensures
+returns-in-Err c = ap (word_with (encoding_is c.args.e)) c.in-Err.ensures

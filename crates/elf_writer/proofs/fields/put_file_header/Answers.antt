@@ -4,4 +4,4 @@ use Rattle.elf_writer.proofs.Headers.{file_put}
 use Rattle.elf_writer.proofs.fields.put_file_header.Goals as goal
 
 pub returns : goal.returns
-returns c = file_put c.args.big c.args.machine c.args.at c.args.n _ _ c.args.d.now _ _ _ _ _ _ c.requires.3 c.narrow-place.ensures c.narrow-count.ensures c.put_identification.ensures c.put_numbers.ensures c.put_u32.ensures c.put_numbers-2.ensures c.put_u32-2.ensures c.put_numbers-3.ensures
+returns c = file_put c.args.big c.args.machine c.args.at c.args.n c.args.d.now _ _ _ _ _ _ c.requires.3 c.put_identification.ensures c.put_numbers.ensures c.put_u32.ensures c.put_numbers-2.ensures c.put_u32-2.ensures c.put_numbers-3.ensures

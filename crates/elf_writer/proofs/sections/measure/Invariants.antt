@@ -1,11 +1,7 @@
 -- `elf_writer::sections::measure` meets its contract.
 -- Assumes nothing.
-use Prim.Native.Nat.{◌-◌}
 use Rattle.elf_writer.proofs.Loops.{Measuring}
 use Rattle.elf_writer.proofs.sections.measure.Given as goal
 
 abbrev pub invariant-loop-code : goal.invariant-loop-code
 invariant-loop-code l = Measuring l.s l.e l.code
-
-abbrev pub decreases-loop-code : goal.decreases-loop-code
-decreases-loop-code l = 14 - l.code

@@ -1,12 +1,8 @@
 -- `elf_writer::sections::put_bodies` meets its contract.
 -- Assumes nothing.
-use Prim.Native.Nat.{◌-◌}
 use Rattle.elf_writer.specs.Held.{body_at}
 use Rattle.elf_writer.proofs.Loops.{Putting}
 use Rattle.elf_writer.proofs.sections.put_bodies.Given as goal
 
 abbrev pub invariant-loop-code : goal.invariant-loop-code
 invariant-loop-code l = Putting (body_at l.package) l.initial.d 64 l.d l.at l.code
-
-abbrev pub decreases-loop-code : goal.decreases-loop-code
-decreases-loop-code l = 14 - l.code

@@ -1,64 +1,9 @@
 -- `elf_writer::writing::write_elf` meets its contract.
 -- Assumes nothing.
-use mathlib.Core.Bool.{true}
-use mathlib.Core.Path.{◌≡◌, sym, ap, ◌∙◌}
-use Prim.Native.Nat.{ℕ, ◌-◌}
-use native.Mathlib.Omega.{arith}
-use lib.ListN.{length}
-use Rattle.elf_writer.specs.Held.{file_of}
-use Rattle.octets.specs.Octets.{zeros, padded}
-use Rattle.octets.proofs.Placed.{length_zeros}
-use Rattle.lookup.specs.Answers.{Opened}
-use Rattle.lookup.proofs.Searches.{opened_else, opened_good}
-use Rattle.elf.specs.Writer.{machine_good}
-use Rattle.elf_writer.proofs.Matched.{bounded}
-use Rattle.elf_writer.proofs.Whole.{file_length}
-use Rattle.elf_writer.proofs.Answering.{refused_output, refused_written, made_output, made_written, written_machine, written_bad, written_short, written_made}
+use Rattle.std.proofs.Common.{◌∙◌, sym, ap}
+use Rattle.octets.specs.Octets.{zeros}
 use Rattle.elf_writer.proofs.writing.write_elf.Goals as goal
-use Rattle.elf_writer.proofs.writing.write_elf.Goals.{After-clear_bytes, In-Ok, Else-not-machine_good}
 
-good : (e : Else-not-machine_good) → machine_good e.args.machine ≡ true
-good e = sym e.machine_good.ensures ∙ e.if-not-machine_good.false
-
-long : (n : After-clear_bytes) → length n.clear_bytes.new.s ≡ length n.args.out.now
-long n = ap length n.clear_bytes.ensures ∙ length_zeros _
-
-is_open : (e : In-Ok) → Opened e.args.package.now e.in-Ok.head
-is_open e = opened_good _ _ e.in-Ok.ensures
-
-pub returns-then-not-machine_good : goal.returns-then-not-machine_good
-returns-then-not-machine_good c =
-    let e = written_machine c.args.package.now c.args.machine (length c.args.out.now) (sym c.machine_good.ensures ∙ c.if-not-machine_good.true) in
-    record { answer = refused_written _ _ e _ c.refused.ensures.0 c.refused.ensures.1; output = c.clear_bytes.ensures ∙ refused_output _ _ _ e }
-
-pub returns-in_default : goal.returns-in_default
-returns-in_default c =
-    let e = written_bad c.args.package.now c.args.machine (length c.args.out.now) (good (goal.at.returns-in_default c).Else-not-machine_good) (opened_else _ _ c.open_package.ensures c.in_default.not-Ok) in
-    record { answer = refused_written _ _ e _ c.refused-in_default.ensures.0 c.refused-in_default.ensures.1; output = c.clear_bytes.ensures ∙ refused_output _ _ _ e }
-
-pub measure-e-requires : goal.measure-e-requires
-measure-e-requires c = bounded _ _ (is_open (goal.at.measure-e-requires c).In-Ok)
-
-pub file_size-length-requires : goal.file_size-length-requires
-file_size-length-requires c = c.measure-e.ensures.within
-
-pub returns-then-out-length : goal.returns-then-out-length
-returns-then-out-length c =
-    let l = file_length c.args.package.now _ (is_open (goal.at.returns-then-out-length c).In-Ok) _ c.measure-e.ensures c.args.machine in
-    let e = written_short c.args.package.now c.args.machine (length c.args.out.now) (good (goal.at.returns-then-out-length c).Else-not-machine_good) (is_open (goal.at.returns-then-out-length c).In-Ok).is (omega (arith, l, c.file_size-length.ensures, c.if-out-length.true, long (goal.at.returns-then-out-length c).After-clear_bytes)) in
-    record { answer = refused_written _ _ e _ c.refused-then-out-length.ensures.0 c.refused-then-out-length.ensures.1; output = c.clear_bytes.ensures ∙ refused_output _ _ _ e }
-
-pub put_file-requires : goal.put_file-requires
-put_file-requires c =
-    record {
-      opened = is_open (goal.at.put_file-requires c).In-Ok;
-      measured = c.measure-e.ensures;
-      blank = c.clear_bytes.ensures ∙ ap zeros (sym (long (goal.at.put_file-requires c).After-clear_bytes));
-      room = omega (arith, c.file_size-length.ensures, c.if-out-length.false);
-    }
-
-pub returns : goal.returns
-returns c =
-    let l = file_length c.args.package.now _ (is_open (goal.at.returns c).In-Ok) _ c.measure-e.ensures c.args.machine in
-    let e = written_made c.args.package.now c.args.machine (length c.args.out.now) (good (goal.at.returns c).Else-not-machine_good) (is_open (goal.at.returns c).In-Ok).is (omega (arith, l, c.file_size-length.ensures, c.if-out-length.false, long (goal.at.returns c).After-clear_bytes)) in
-    record { answer = made_written _ _ _ e (c.file_size-length.ensures ∙ sym l); output = c.put_file.ensures ∙ ap (λ (n : ℕ). padded (file_of c.args.package.now c.args.machine) (n - length (file_of c.args.package.now c.args.machine))) (long (goal.at.returns c).After-clear_bytes) ∙ made_output _ _ _ e }
+pub write_into-requires : goal.write_into-requires
+unfolding zeros
+write_into-requires c = c.fill.ensures.after (λ y e. e) ∙ ap zeros (sym c.fill.ensures.len)

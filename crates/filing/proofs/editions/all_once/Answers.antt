@@ -1,15 +1,10 @@
 -- `all_once` meets its contract.
 -- Assumes nothing.
-use mathlib.Core.Path.{refl}
-use Rattle.octets.specs.Lists.{all}
+use Rattle.std.proofs.Common.{◌∙◌}
 use Rattle.package.specs.Input.{only_once}
-use Rattle.filing.proofs.Counts.{all_below}
+use Rattle.filing.proofs.Counts.{none_listed}
 use Rattle.filing.proofs.editions.all_once.Goals as goal
-
-pub none_reaches-requires : goal.none_reaches-requires
-unfolding all only_once
-none_reaches-requires c = all_below only_once refl
 
 pub returns : goal.returns
 unfolding only_once
-returns c = c.none_reaches.ensures
+returns c = c.none_reaches.ensures ∙ none_listed _ _ _

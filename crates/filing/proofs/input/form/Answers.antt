@@ -6,5 +6,5 @@ use Rattle.filing.proofs.input.form.Goals as goal
 pub returns-then-e : goal.returns-then-e
 returns-then-e c = form_five c.args.e c.if-e.true
 
-pub returns : goal.returns
-returns c = form_four c.args.e c.if-e.false
+pub returns-else-e : goal.returns-else-e
+returns-else-e c = form_four c.args.e c.if-e.false

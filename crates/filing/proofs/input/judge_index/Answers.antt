@@ -1,29 +1,21 @@
 -- `judge_index` meets its contract.
 -- Assumes nothing.
-use mathlib.Core.Path.{refl, sym, ap, ◌∙◌}
-use mathlib.Core.List.{List}
-use Prim.Native.Nat.{ℕ}
-use borrow.Author.Tests.{lt-leb, le-leb}
-use Rattle.octets.proofs.Parts.{part_cut}
-use Rattle.index.specs.Index.{index_of}
-use Rattle.index.specs.Held.{index_read}
+use mathlib.Core.Path.{ap}
+use native.Mathlib.Omega.{arith}
+use lib.Dec.{leb}
+use borrow.Author.Tests.{le-leb}
+use Rattle.filing.proofs.Telling.{tells_exit}
 use Rattle.filing.proofs.Judging.{index_none, index_bad, index_other, index_good_law}
 use Rattle.filing.proofs.input.judge_index.Goals as goal
 
-pub returns-then-count-lt1 : goal.returns-then-count-lt1
-returns-then-count-lt1 c = index_none _ _ _ _ _ (lt-leb _ _ c.if-count-lt1.true) refl refl
+pub returns-then-count-eq0 : goal.returns-then-count-eq0
+returns-then-count-eq0 c = index_none _ _ _ _ (ap (leb 1) c.if-count-eq0.true)
 
-pub returns-in_default : goal.returns-in_default
-returns-in_default c =
-    let a = c.args in
-    index_bad _ _ _ _ _ (le-leb _ _ c.if-count-lt1.false) (sym c.in_default.is ∙ c.read_index.ensures ∙ ap (λ (s : List ℕ). index_read (index_of a.e.big s)) (part_cut a.b.now a.start a.size)) refl
+pub returns-in_err-index : goal.returns-in_err-index
+returns-in_err-index c = tells_exit _ _ c.from_residual.ensures.1 (index_bad _ _ _ _ (le-leb _ _ (omega arith)) _ c.in_err-index.ensures)
 
-pub returns-then-head-version : goal.returns-then-head-version
-returns-then-head-version c =
-    let a = c.args in
-    index_other _ _ _ _ _ (le-leb _ _ c.if-count-lt1.false) _ (sym c.in-Good.is ∙ c.read_index.ensures ∙ ap (λ (s : List ℕ). index_read (index_of a.e.big s)) (part_cut a.b.now a.start a.size)) _ c.form-version.ensures c.if-head-version.true refl
+pub returns-then-head-form : goal.returns-then-head-form
+returns-then-head-form c = index_other _ _ _ _ (le-leb _ _ (omega arith)) _ c.in_ok-index.ensures _ c.head-head.ensures _ c.form.ensures c.if-head-form.true
 
 pub returns : goal.returns
-returns c =
-    let a = c.args in
-    index_good_law _ _ _ _ _ (le-leb _ _ c.if-count-lt1.false) _ (sym c.in-Good.is ∙ c.read_index.ensures ∙ ap (λ (s : List ℕ). index_read (index_of a.e.big s)) (part_cut a.b.now a.start a.size)) _ c.form-version.ensures c.if-head-version.false refl refl
+returns c = index_good_law _ _ _ _ (le-leb _ _ (omega arith)) _ c.in_ok-index.ensures _ c.head-head.ensures _ c.form.ensures c.if-head-form.false

@@ -17,11 +17,11 @@ keep-requires c = let p = c.requires in (keepable p.held p.new, unit_fits p.held
 pub overflow_add-place : goal.overflow_add-place
 overflow_add-place c = let p = c.requires in omega (arith, bytes_fit p.held p.new _ c.bytes_of-place.ensures)
 
-pub with_unit-more-requires : goal.with_unit-more-requires
-with_unit-more-requires c = let p = c.requires in few_units p.held p.new
+pub with_unit-st-requires : goal.with_unit-st-requires
+with_unit-st-requires c = let p = c.requires in few_units p.held p.new
 
 pub returns : goal.returns
 returns c =
     let p = c.requires in
     let a = c.args in
-    let marked = subst (λ (t : Table). Marked a.five t.has c.mark_columns-has.result c.cells_of-cells.result (length (columns_for a.five))) c.table_of-old.ensures c.mark_columns-has.ensures in record { held = λ b bases us y h x. unit_held h x _ c.bytes_of-place.ensures _ c.cells_of-cells.ensures.cells _ marked _ c.keep.ensures _ c.with_unit-more.ensures; strings = strings_kept p.held p.new _ c.bytes_of-place.ensures _ c.cells_of-cells.ensures.cells _ marked _ c.keep.ensures _; transient = transient_kept p.held p.new _ c.bytes_of-place.ensures _ c.cells_of-cells.ensures.cells _ marked _ c.keep.ensures }
+    let marked = subst (λ (t : Table). Marked a.five t.has c.mark_columns.result c.cells_of-cells.result (length (columns_for a.five))) c.table_of-old.ensures c.mark_columns.ensures in record { held = λ b bases us y h x. unit_held h x _ c.bytes_of-place.ensures _ c.cells_of-cells.ensures.cells _ marked _ c.keep.ensures _ c.with_unit-st.ensures; strings = strings_kept p.held p.new _ c.bytes_of-place.ensures _ c.cells_of-cells.ensures.cells _ marked _ c.keep.ensures _; transient = transient_kept p.held p.new _ c.bytes_of-place.ensures _ c.cells_of-cells.ensures.cells _ marked _ c.keep.ensures }

@@ -7,6 +7,7 @@ use Rattle.kept.proofs.RegionStores.{store_within}
 use Rattle.kept.proofs.RegionLending.{only_lent}
 use Rattle.kept.proofs.Storing.{store_kept, store_memory}
 use Rattle.filing.specs.State.{words_in}
+use Rattle.filing.proofs.Telling.{tells_exit}
 use Rattle.filing.proofs.Tiling.{before_parts, good_headed, good_addable, parts_missing, parts_ill, parts_put}
 use Rattle.filing.proofs.parts.add_parts.Goals as goal
 
@@ -17,7 +18,7 @@ add_pieces-requires c =
     let y = c.offsets_before-before in
     let memory = store_memory (words_in a.b.now) c.store-store.result.start c.store-store.result.size c.strings-table.result.size a.work.now p.room c.store-store.ensures.start c.store-store.ensures.size c.strings-table.ensures.size a.o.strings.size (omega (arith, p.strings_inside, p.whole)) in (
       omega (arith, memory),
-      good_addable a.b.now a.o p.offsets_inside a.good p.parts p.up_to y.result y.ensures c.strings-table.result.size _ a.t
+      good_addable a.b.now a.o p.offsets_inside a.good p.parts p.up_to y.result y.ensures c.strings-table.result.size _ a.t.now
           (omega (arith, p.limit))
           p.strings_inside
           memory
@@ -27,25 +28,26 @@ add_pieces-requires c =
       (before_parts a.b.now a.o p.offsets_inside a.good p.parts p.up_to, good_headed a.b.now a.o p.offsets_inside a.good p.parts p.up_to y.result y.ensures),
     )
 
-pub returns-in_default : goal.returns-in_default
-returns-in_default c =
+pub returns-in_err-add_pieces : goal.returns-in_err-add_pieces
+returns-in_err-add_pieces c =
     let a = c.args in
     let p = c.requires in
     let y = c.offsets_before-before in
     record {
-      put = λ ts ps q u. parts_missing a.b.now a.o p.offsets_inside a.good ps u y.result y.ensures (words_in a.b.now) c.store-store.result.start c.store-store.result.size c.strings-table.result.size a.work.now p.room c.store-store.ensures.start c.store-store.ensures.size c.strings-table.ensures.size c.add_pieces.new.store _ c.add_pieces.auto.store refl refl ts c.add_pieces.new.self
-          _ (c.in_default.ensures ts (before_parts a.b.now a.o p.offsets_inside a.good ps u) (store_kept (words_in a.b.now) c.store-store.result.start c.store-store.result.size c.strings-table.result.size a.work.now p.room c.store-store.ensures.start c.store-store.ensures.size c.strings-table.ensures.size _ _ _ q) (good_headed a.b.now a.o p.offsets_inside a.good ps u y.result y.ensures)) _;
+      put = λ ts ps q u. tells_exit _ _ c.from_residual.ensures.1
+          (parts_missing a.b.now a.o p.offsets_inside a.good ps u y.result y.ensures (words_in a.b.now) c.store-store.result.start c.store-store.result.size c.strings-table.result.size a.work.now p.room c.store-store.ensures.start c.store-store.ensures.size c.strings-table.ensures.size c.add_pieces.new.store _ c.add_pieces.auto.store refl refl ts _ _
+          (c.in_err-add_pieces.ensures ts (before_parts a.b.now a.o p.offsets_inside a.good ps u) (store_kept (words_in a.b.now) c.store-store.result.start c.store-store.result.size c.strings-table.result.size a.work.now p.room c.store-store.ensures.start c.store-store.ensures.size c.strings-table.ensures.size _ _ _ q) (good_headed a.b.now a.o p.offsets_inside a.good ps u y.result y.ensures)));
       frame = only_lent store_region store_within (words_in a.b.now) c.store-store.result.start c.store-store.result.size a.work.now p.room c.store-store.ensures.start c.store-store.ensures.size c.add_pieces.new.store _ c.add_pieces.auto.store refl;
     }
 
-pub returns-then-good-whole : goal.returns-then-good-whole
-returns-then-good-whole c =
+pub returns-then-good-o : goal.returns-then-good-o
+returns-then-good-o c =
     let a = c.args in
     let p = c.requires in
     let y = c.offsets_before-before in
     record {
-      put = λ ts ps q u. parts_ill a.b.now a.o p.offsets_inside a.good ps u y.result y.ensures (words_in a.b.now) c.store-store.result.start c.store-store.result.size c.strings-table.result.size a.work.now p.room c.store-store.ensures.start c.store-store.ensures.size c.strings-table.ensures.size c.add_pieces.new.store _ c.add_pieces.auto.store refl refl ts c.add_pieces.new.self
-          (c.in-Ok.ensures ts (before_parts a.b.now a.o p.offsets_inside a.good ps u) (store_kept (words_in a.b.now) c.store-store.result.start c.store-store.result.size c.strings-table.result.size a.work.now p.room c.store-store.ensures.start c.store-store.ensures.size c.strings-table.ensures.size _ _ _ q) (good_headed a.b.now a.o p.offsets_inside a.good ps u y.result y.ensures)) c.if-good-whole.true _;
+      put = λ ts ps q u. parts_ill a.b.now a.o p.offsets_inside a.good ps u y.result y.ensures (words_in a.b.now) c.store-store.result.start c.store-store.result.size c.strings-table.result.size a.work.now p.room c.store-store.ensures.start c.store-store.ensures.size c.strings-table.ensures.size c.add_pieces.new.store _ c.add_pieces.auto.store refl refl ts _
+          (c.in_ok-add_pieces.ensures ts (before_parts a.b.now a.o p.offsets_inside a.good ps u) (store_kept (words_in a.b.now) c.store-store.result.start c.store-store.result.size c.strings-table.result.size a.work.now p.room c.store-store.ensures.start c.store-store.ensures.size c.strings-table.ensures.size _ _ _ q) (good_headed a.b.now a.o p.offsets_inside a.good ps u y.result y.ensures)) c.if-good-o.true;
       frame = only_lent store_region store_within (words_in a.b.now) c.store-store.result.start c.store-store.result.size a.work.now p.room c.store-store.ensures.start c.store-store.ensures.size c.add_pieces.new.store _ c.add_pieces.auto.store refl;
     }
 
@@ -55,7 +57,7 @@ returns c =
     let p = c.requires in
     let y = c.offsets_before-before in
     record {
-      put = λ ts ps q u. parts_put a.b.now a.o p.offsets_inside a.good ps u y.result y.ensures (words_in a.b.now) c.store-store.result.start c.store-store.result.size c.strings-table.result.size a.work.now p.room c.store-store.ensures.start c.store-store.ensures.size c.strings-table.ensures.size c.add_pieces.new.store _ c.add_pieces.auto.store refl refl ts c.add_pieces.new.self
-          (c.in-Ok.ensures ts (before_parts a.b.now a.o p.offsets_inside a.good ps u) (store_kept (words_in a.b.now) c.store-store.result.start c.store-store.result.size c.strings-table.result.size a.work.now p.room c.store-store.ensures.start c.store-store.ensures.size c.strings-table.ensures.size _ _ _ q) (good_headed a.b.now a.o p.offsets_inside a.good ps u y.result y.ensures)) c.if-good-whole.false;
+      put = λ ts ps q u. parts_put a.b.now a.o p.offsets_inside a.good ps u y.result y.ensures (words_in a.b.now) c.store-store.result.start c.store-store.result.size c.strings-table.result.size a.work.now p.room c.store-store.ensures.start c.store-store.ensures.size c.strings-table.ensures.size c.add_pieces.new.store _ c.add_pieces.auto.store refl refl ts _
+          (c.in_ok-add_pieces.ensures ts (before_parts a.b.now a.o p.offsets_inside a.good ps u) (store_kept (words_in a.b.now) c.store-store.result.start c.store-store.result.size c.strings-table.result.size a.work.now p.room c.store-store.ensures.start c.store-store.ensures.size c.strings-table.ensures.size _ _ _ q) (good_headed a.b.now a.o p.offsets_inside a.good ps u y.result y.ensures)) c.if-good-o.false;
       frame = only_lent store_region store_within (words_in a.b.now) c.store-store.result.start c.store-store.result.size a.work.now p.room c.store-store.ensures.start c.store-store.ensures.size c.add_pieces.new.store _ c.add_pieces.auto.store refl;
     }

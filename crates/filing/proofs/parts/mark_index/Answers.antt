@@ -1,37 +1,11 @@
 -- `mark_index` meets its contract.
 -- Assumes nothing.
-use mathlib.Core.Path.{sym, subst}
-use mathlib.Core.List.{List}
-use Prim.Native.Nat.{ℕ}
-use native.Mathlib.Omega.{arith}
-use Rattle.octets.proofs.Parts.{part_cut}
-use Rattle.index.specs.Held.{ReadWell}
-use Rattle.index.proofs.Heads.{read_sized}
-use Rattle.strings.specs.Kept.{bytes_at}
-use Rattle.filing.proofs.Stringing.{inside_is}
-use Rattle.filing.proofs.Contributing.{index_well}
-use Rattle.filing.proofs.Tiling.{marked_none, marked_at}
+use mathlib.Core.Path.{sym, ◌∙◌}
+use Rattle.filing.proofs.Tiling.{marked_none, marked_some}
 use Rattle.filing.proofs.parts.mark_index.Goals as goal
 
-pub returns-in_default : goal.returns-in_default
-returns-in_default c = λ o cs h m. marked_none _ _ _ o h cs _ m c.in_default.is
+pub returns-in-Some : goal.returns-in-Some
+returns-in-Some c = λ o cs e m. marked_some o cs _ _ (sym c.in-Some.is ∙ e) _ _ (c.mark_rows.ensures cs m)
 
-pub overflow_add-end : goal.overflow_add-end
-overflow_add-end c = omega (arith, inside_is _ c.args.place c.requires.0)
-
-pub slice_bounds-mark_rows-end : goal.slice_bounds-mark_rows-end
-slice_bounds-mark_rows-end c = omega (arith, inside_is _ c.args.place c.requires.0)
-
-pub mark_rows-requires : goal.mark_rows-requires
-unfolding bytes_at
-mark_rows-requires c =
-    let a = c.args in
-    let p = c.requires in
-    let w = index_well _ _ _ _ p.2.1 _ c.in-At.is in
-    (read_sized _ _ _ (subst (λ (l : List ℕ). ReadWell a.big l c.in-At.head) (sym (part_cut a.b.now a.place.start a.place.size)) w.0), p.1)
-
-pub returns : goal.returns
-unfolding bytes_at
-returns c =
-    let a = c.args in
-    λ o cs h m. marked_at _ _ _ o h cs _ _ _ _ _ c.in-At.is (part_cut a.b.now a.place.start a.place.size) (c.mark_rows.ensures cs m)
+pub returns-in-None : goal.returns-in-None
+returns-in-None c = λ o cs e m. marked_none o cs _ (sym c.in-None.is ∙ e) m

@@ -1,7 +1,6 @@
 -- `chain_section` meets its contract.
 -- Assumes nothing.
 use mathlib.Core.Path.{refl, sym, ◌∙◌}
-use native.Mathlib.Omega.{arith}
 use Rattle.kept.specs.Regions.{rows_region}
 use Rattle.kept.proofs.RegionStores.{rows_within}
 use Rattle.filing.specs.State.{words_in}
@@ -10,16 +9,15 @@ use Rattle.filing.proofs.ByPlace.{chained_nowhere, chain_asks, chains_left}
 use Rattle.filing.proofs.reading.chain_section.Goals as goal
 
 pub returns-in_default : goal.returns-in_default
-returns-in_default c = record { chained = chained_nowhere _ _ _ _ (sym c.in_default.is ∙ c.index_by_place-indexed.ensures); frame = only_same rows_region _ _ }
-
-pub overflow_add-end : goal.overflow_add-end
-overflow_add-end c = let p = c.requires in omega (arith, p.is.within 12, p.work.limit)
-
-pub slice_bounds-chain_rows-end : goal.slice_bounds-chain_rows-end
-slice_bounds-chain_rows-end c = omega (arith, c.requires.is.within 12)
+returns-in_default c = record { chained = chained_nowhere _ _ _ _ (λ i is. sym c.in_default.is ∙ c.index_by_place.ensures i is); frame = only_same rows_region _ _ }
 
 pub chain_rows-requires : goal.chain_rows-requires
-chain_rows-requires c = chain_asks c.requires c.in-At.head (sym c.in-At.is ∙ c.index_by_place-indexed.ensures) c.rows_by_place-region.result.start c.rows_by_place-region.result.size c.rows_by_place-region.ensures.start c.rows_by_place-region.ensures.size _ c.heads_for-heads.ensures
+chain_rows-requires c =
+    let k = chain_asks c.requires c.in-Some.index (λ i is. sym c.in-Some.is ∙ c.index_by_place.ensures i is) c.rows_by_place-region.result.start c.rows_by_place-region.result.size c.rows_by_place-region.ensures.start c.rows_by_place-region.ensures.size in
+    rw c.heads.ensures k
 
 pub returns : goal.returns
-returns c = record { chained = chains_left c.requires c.in-At.head (sym c.in-At.is ∙ c.index_by_place-indexed.ensures) c.rows_by_place-region.result.start c.rows_by_place-region.result.size c.rows_by_place-region.ensures.start c.rows_by_place-region.ensures.size _ c.heads_for-heads.ensures _ _ c.chain_rows.auto.words refl c.chain_rows.ensures; frame = only_lent rows_region rows_within (words_in c.args.b.now) c.rows_by_place-region.result.start c.rows_by_place-region.result.size c.args.work.now c.requires.work.room c.rows_by_place-region.ensures.start c.rows_by_place-region.ensures.size c.chain_rows.new.words _ c.chain_rows.auto.words refl }
+returns c = record {
+  chained = chains_left c.requires c.in-Some.index (λ i is. sym c.in-Some.is ∙ c.index_by_place.ensures i is) c.rows_by_place-region.result.start c.rows_by_place-region.result.size c.rows_by_place-region.ensures.start c.rows_by_place-region.ensures.size _ _ c.chain_rows.auto.words refl (rw c.heads.ensures at c.chain_rows.ensures);
+  frame = only_lent rows_region rows_within (words_in c.args.b.now) c.rows_by_place-region.result.start c.rows_by_place-region.result.size c.args.work.now c.requires.work.room c.rows_by_place-region.ensures.start c.rows_by_place-region.ensures.size c.chain_rows.new.words _ c.chain_rows.auto.words refl;
+}

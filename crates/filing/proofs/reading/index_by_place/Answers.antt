@@ -1,13 +1,23 @@
 -- `index_by_place` meets its contract.
 -- Assumes nothing.
-use Rattle.filing.proofs.ByPlace.{by_place_five, by_place_other, by_place_cu}
+use mathlib.Core.Path.{ap}
+use borrow.Author.Tests.{eq-eqb, ne_eqb}
+use lib.Dec.{eqb}
+use mathlib.Core.Path.{sym, ◌∙◌}
+use mathlib.Core.Bool.{Bool, not, ◌&&◌}
+use Rattle.octets.specs.Options.{found}
+use Rattle.filing.proofs.ByPlace.{by_place_cu, by_place_none}
 use Rattle.filing.proofs.reading.index_by_place.Goals as goal
+use Rattle.filing.proofs.reading.index_by_place.Goals.{else-not-x-via-then-not-x+else-home-eq-INFO, else-not-x-via-else-not-x}
 
-pub returns-then-e : goal.returns-then-e
-returns-then-e c = by_place_five _ _ c.if-e.true
+pub returns-then-home-eq-INFO : goal.returns-then-home-eq-INFO
+returns-then-home-eq-INFO c = λ i is.
+    c.held.ensures.is i.cu_index (rw c.section.ensures is.cu_index) ∙ ap found (sym (by_place_cu _ _ i is _ (rw (c.if-not-x.true, eq-eqb _ _ c.if-home-eq-INFO.true))))
 
-pub returns-then-home-ne-INFO : goal.returns-then-home-ne-INFO
-returns-then-home-ne-INFO c = by_place_other _ _ c.if-e.false c.if-home-ne-INFO.true
-
-pub returns : goal.returns
-returns c = by_place_cu _ _ c.if-e.false c.if-home-ne-INFO.false
+pub returns-else-not-x : goal.returns-else-not-x
+returns-else-not-x c = λ i is.
+    ap found (sym (by_place_none _ _ i is _
+    (elim c.else-not-x.branch [
+      | else-not-x-via-then-not-x+else-home-eq-INFO w ↦ rw (w.if-not-x.true, ne_eqb _ _ w.if-home-eq-INFO.false)
+      | else-not-x-via-else-not-x w ↦ rw w.if-not-x.false
+    ])))

@@ -1,39 +1,44 @@
 -- `read_at` meets its contract.
 -- Assumes nothing.
-use mathlib.Core.Path.{sym, ap, ◌∙◌}
-use mathlib.Core.Logic.{⊎_elim}
-use native.Mathlib.Omega.{arith}
-use Rattle.leb128.specs.Answers.{size_check}
+use mathlib.Core.Path.{refl, sym}
 use Rattle.kept.specs.Regions.{codes_region}
 use Rattle.kept.proofs.RegionLending.{only_same}
+use Rattle.filing.proofs.Telling.{told_exit}
 use Rattle.filing.proofs.Transients.{transient_coded}
-use Rattle.filing.proofs.Abbreviated.{read_headless, size_within, given_inside, read_unabbreviated, read_whole}
+use Rattle.filing.proofs.Abbreviated.{read_headless, size_within, read_unabbreviated, read_unidentified, read_whole}
 use Rattle.filing.proofs.reading.read_at.Goals as goal
 
-pub returns-in_default : goal.returns-in_default
-returns-in_default c =
+pub returns-in_err-size : goal.returns-in_err-size
+returns-in_err-size c =
     let p = c.requires in
-    record { read = λ i is. read_headless p.0 i is (sym c.unit_head.ensures ∙ ap (size_check 11) c.in_default.is); transient = p.1; frame = only_same codes_region _ _ }
+    record { read = λ i is. told_exit _ _ _ _ c.from_residual.ensures.1 (read_headless p.0 _ i is c.in_err-size.ensures); transient = p.1; frame = only_same codes_region _ _ }
 
-pub returns-then-code-ne0 : goal.returns-then-code-ne0
-returns-then-code-ne0 c =
+pub returns-in_err-theirs : goal.returns-in_err-theirs
+returns-in_err-theirs c =
     let p = c.requires in
-    let told = sym c.unit_head.ensures ∙ ap (size_check 11) c.in-Is.is in
-    record { read = λ i is. read_unabbreviated p.0 _ told _ i is (c.abbreviations_for-theirs.ensures i is) c.if-code-ne0.true; transient = p.1; frame = only_same codes_region _ _ }
-
-pub narrow-home-requires : goal.narrow-home-requires
-narrow-home-requires c = ⊎_elim (λ e. omega arith) (λ e. omega arith) c.requires.0.homes
+    record { read = λ i is. told_exit _ _ _ _ c.from_residual-in_err-theirs.ensures.1 (read_unabbreviated p.0 _ (sym c.in_ok-size.ensures) _ i is (c.in_err-theirs.ensures i is)); transient = p.1; frame = only_same codes_region _ _ }
 
 pub identity_in-requires : goal.identity_in-requires
 identity_in-requires c =
     let p = c.requires.0 in
-    let told = sym c.unit_head.ensures ∙ ap (size_check 11) c.in-Is.is in
-    let q = size_within p _ told in
-    let k = given_inside _ _ _ (c.abbreviations_for-theirs.ensures p.input p.is) c.if-code-ne0.false in
-    (q.2, record { unit = q.0; order = k.1; abbreviations = k.2 }, p.work, c.requires.1.memory)
+    let q = size_within p _ (sym c.in_ok-size.ensures) in
+    let k = ((c.in_ok-theirs.ensures p.input p.is).passes _ refl).2 in
+    (q.2, record { unit = q.0; order = k.order; abbreviations = k.within }, p.work, c.requires.1.memory)
+
+pub returns-in_err-read : goal.returns-in_err-read
+returns-in_err-read c =
+    let p = c.requires in
+    record {
+      read = λ i is. told_exit _ _ _ _ c.from_residual-in_err-read.ensures.1 (read_unidentified p.0 _ (sym c.in_ok-size.ensures) _ i is (c.in_ok-theirs.ensures i is) _ refl _ c.in_err-read.ensures.is);
+      transient = transient_coded _ _ _ _ _ _ c.identity_in.ensures.frame p.1.chained c.identity_in.ensures.memory;
+      frame = c.identity_in.ensures.frame;
+    }
 
 pub returns : goal.returns
 returns c =
     let p = c.requires in
-    let told = sym c.unit_head.ensures ∙ ap (size_check 11) c.in-Is.is in
-    record { read = λ i is. read_whole p.0 _ told _ i is (c.abbreviations_for-theirs.ensures i is) c.if-code-ne0.false _ c.narrow-home.ensures _ c.identity_in.ensures.is; transient = transient_coded _ _ _ _ _ _ c.identity_in.ensures.frame p.1.chained c.identity_in.ensures.memory; frame = c.identity_in.ensures.frame }
+    record {
+      read = λ i is. read_whole p.0 _ (sym c.in_ok-size.ensures) _ i is (c.in_ok-theirs.ensures i is) _ refl _ c.in_ok-read.ensures.is;
+      transient = transient_coded _ _ _ _ _ _ c.identity_in.ensures.frame p.1.chained c.identity_in.ensures.memory;
+      frame = c.identity_in.ensures.frame;
+    }

@@ -2,6 +2,7 @@
 -- Assumes nothing.
 use mathlib.Core.Path.{sym, ◌∙◌}
 use native.Mathlib.Omega.{arith}
+use Rattle.filing.proofs.Telling.{tells_exit}
 use Rattle.filing.proofs.Kept.{seek_asks, sought_is, known_is, free_is, rows_held}
 use Rattle.filing.proofs.Answering.{known_asks, answer_known, answer_bad, keep_requires, answer_filed}
 use Rattle.filing.proofs.Transients.{transient_none}
@@ -21,16 +22,16 @@ pub returns-in-Known : goal.returns-in-Known
 returns-in-Known c =
     let p = c.requires in record {
       filed = λ i bases earlier here s a r y.
-          answer_known a r p.fits p.homes y _ (known_is a.held _ r.least p.fits _ _ r.tables _ (sym c.in-Known.is ∙ sought_is a.held _ r.least p.fits _ _ r.tables _ c.seen_slots-count.ensures _ c.seek_in.ensures)) _ c.file_known.ensures;
+          answer_known a r p.fits p.homes y _ (known_is a.held _ r.least p.fits _ _ r.tables _ (sym c.in-Known.is ∙ sought_is a.held _ r.least p.fits _ _ r.tables _ c.seen_slots-count.ensures _ c.seek_in.ensures)) _ _ c.file_known.ensures;
       transient = transient_none _ _;
     }
 
-pub returns-then-code-ne0 : goal.returns-then-code-ne0
-returns-then-code-ne0 c =
+pub returns-in_err-k : goal.returns-in_err-k
+returns-in_err-k c =
     let p = c.requires in record {
       filed = λ i bases earlier here s a r y.
           let f = free_is a.held _ r.least p.fits _ _ r.tables _ (sym c.in-Free.is ∙ sought_is a.held _ r.least p.fits _ _ r.tables _ c.seen_slots-count.ensures _ c.seek_in.ensures) in
-          answer_bad a r p.fits p.homes y _ (c.contributions_of-judged.ensures i a.input) f.0 _ _ c.if-code-ne0.true c.refused.ensures;
+          tells_exit _ _ c.from_residual.ensures.1 (answer_bad a r p.fits p.homes y f.0 _ _ _ (c.in_err-k.ensures i a.input));
       transient = transient_none _ _;
     }
 
@@ -40,13 +41,13 @@ unit_for-unit-requires c =
     let h = p.ready.at_unit.held in
     omega (arith, rows_held h c.args.read.table p.read.tables, h.spent, h.within, h.limit)
 
-pub keep_unit-next-requires : goal.keep_unit-next-requires
-keep_unit-next-requires c =
+pub keep_unit-requires : goal.keep_unit-requires
+keep_unit-requires c =
     let p = c.requires in
     let a = p.ready.at_unit in
     let r = p.read in
     let f = free_is a.held _ r.least p.fits _ _ r.tables _ (sym c.in-Free.is ∙ sought_is a.held _ r.least p.fits _ _ r.tables _ c.seen_slots-count.ensures _ c.seek_in.ensures) in
-    keep_requires a r p.fits p.homes p.same _ (c.contributions_of-judged.ensures p.ready.input a.input) f.0 c.if-code-ne0.false _ f.1 f.2 _ c.unit_for-unit.ensures
+    keep_requires a r p.fits p.homes p.same f.0 _ (c.in_ok-k.ensures p.ready.input a.input) _ f.1 f.2 _ c.unit_for-unit.ensures
 
 pub returns : goal.returns
 returns c =
@@ -54,6 +55,6 @@ returns c =
     record {
       filed = λ i bases earlier here s a r y.
           let f = free_is a.held _ r.least p.fits _ _ r.tables _ (sym c.in-Free.is ∙ sought_is a.held _ r.least p.fits _ _ r.tables _ c.seen_slots-count.ensures _ c.seek_in.ensures) in
-          answer_filed a r p.fits p.homes y _ (c.contributions_of-judged.ensures i a.input) f.0 c.if-code-ne0.false _ f.1 f.2 _ c.unit_for-unit.ensures _ _ c.keep_unit-next.ensures.held c.keep_unit-next.ensures.strings;
-      transient = c.keep_unit-next.ensures.transient;
+          answer_filed a r p.fits p.homes y f.0 _ (c.in_ok-k.ensures i a.input) _ f.1 f.2 _ c.unit_for-unit.ensures _ _ c.keep_unit.ensures.held c.keep_unit.ensures.strings;
+      transient = c.keep_unit.ensures.transient;
     }

@@ -3,62 +3,55 @@
 use mathlib.Core.Path.{refl, sym, ◌∙◌}
 use native.Mathlib.Omega.{arith}
 use Rattle.bundle.proofs.Units.{found_some, found_none}
+use Rattle.filing.proofs.Telling.{tells_exit}
 use Rattle.filing.proofs.OverSections.{sectioned_none, sections_reach, section_lies, at_later, sectioned_more, sectioned_refused, sectioned_end}
 use Rattle.filing.proofs.walks.add_sections.Goals as goal
 
-pub loop-number-init : goal.loop-number-init
-loop-number-init c = let pre = c.requires in (sectioned_none _ _ _ _ _ pre.reaches pre.within, c.nothing-judged.ensures _ _)
+pub loop-found-init : goal.loop-found-init
+loop-found-init c = let pre = c.requires in (sectioned_none _ _ _ _ _ pre.reaches pre.within, c.nothing-judged.ensures _ _)
 
 pub next_unit_section-requires : goal.next_unit_section-requires
-next_unit_section-requires c = sections_reach c.loop-number.invariant.0
+next_unit_section-requires c = sections_reach c.loop-found.invariant.0
 
-pub overflow_add-stop : goal.overflow_add-stop
-overflow_add-stop c =
-    let e = found_some _ _ (sym c.in-Some.is ∙ c.next_unit_section.ensures) in
-    let h = section_lies c.loop-number.invariant.0 _ e in
+pub overflow_add-section : goal.overflow_add-section
+overflow_add-section c =
+    let f = c.in-Some in
+    let h = section_lies c.loop-found.invariant.0 _ (found_some _ _ (sym f.is ∙ c.next_unit_section.ensures)) in
     omega (arith, h.inside, h.within)
 
-pub add_units-r-requires : goal.add_units-r-requires
-add_units-r-requires c =
-    let e = found_some _ _ (sym c.in-Some.is ∙ c.next_unit_section.ensures) in
-    let pre = c.requires in
-    let h = section_lies c.loop-number.invariant.0 _ e in
-    let r = pre.ready in
-    let o = c.loop-number.invariant.0.goes r.input r.bases r.earlier r.here r.at_unit in (
+pub add_units-requires : goal.add_units-requires
+add_units-requires c =
+    let f = c.in-Some in
+    let h = section_lies c.loop-found.invariant.0 _ (found_some _ _ (sym f.is ∙ c.next_unit_section.ensures)) in
+    let r = c.requires.ready in
+    let o = c.loop-found.invariant.0.goes r.input r.bases r.earlier r.here r.at_unit in (
       record {
         from = omega arith;
         within = omega (arith, h.inside, h.within);
-        homes = rw c.wide-home.ensures h.home;
+        homes = h.home;
         ready = record { input = r.input; bases = r.bases; earlier = r.earlier; here = o.filed; at_unit = at_later _ _ o.at_unit h.low (omega (arith, h.inside, h.within)) };
       },
-      c.loop-number.invariant.1,
+      c.loop-found.invariant.1,
     )
 
-pub shape_of-work-then-code-ne0 : goal.shape_of-work-then-code-ne0
-shape_of-work-then-code-ne0 c = c.add_units-r.auto.work ∙ c.loop-number.invariant.0.same
+pub returns-in_err-add_units : goal.returns-in_err-add_units
+returns-in_err-add_units c =
+    let f = c.in-Some in
+    λ i bases earlier here a. tells_exit _ _ c.from_residual.ensures.1
+    (sectioned_refused c.loop-found.invariant.0 _ (found_some _ _ (sym f.is ∙ c.next_unit_section.ensures)) _ _ refl refl _ _ c.add_units.auto.work _ c.in_err-add_units.ensures.filed i bases earlier here a)
 
-pub returns-then-code-ne0 : goal.returns-then-code-ne0
-returns-then-code-ne0 c =
-    let e = found_some _ _ (sym c.in-Some.is ∙ c.next_unit_section.ensures) in
-    λ i bases earlier here a. sectioned_refused c.loop-number.invariant.0 _ e _ _ c.wide-home.ensures refl _ c.add_units-r.result.filed c.add_units-r.auto.work c.add_units-r.ensures.filed
-    c.if-code-ne0.true i bases earlier here a _ refl
-
-pub loop-number-smaller : goal.loop-number-smaller
-loop-number-smaller c =
-    let e = found_some _ _ (sym c.in-Some.is ∙ c.next_unit_section.ensures) in
-    let h = section_lies c.loop-number.invariant.0 _ e in
+pub loop-found-smaller : goal.loop-found-smaller
+loop-found-smaller c =
+    let f = c.in-Some in
+    let h = section_lies c.loop-found.invariant.0 _ (found_some _ _ (sym f.is ∙ c.next_unit_section.ensures)) in
     omega (arith, h.further, h.within)
 
-pub loop-number-preserved : goal.loop-number-preserved
-loop-number-preserved c =
-    let e = found_some _ _ (sym c.in-Some.is ∙ c.next_unit_section.ensures) in (
-      sectioned_more c.loop-number.invariant.0 _ e _ _ c.wide-home.ensures refl _ c.add_units-r.result.filed c.add_units-r.auto.work c.add_units-r.ensures.filed
-          c.if-code-ne0.false,
-      c.add_units-r.ensures.memory,
+pub loop-found-preserved : goal.loop-found-preserved
+loop-found-preserved c =
+    let f = c.in-Some in (
+      sectioned_more c.loop-found.invariant.0 _ (found_some _ _ (sym f.is ∙ c.next_unit_section.ensures)) _ _ refl refl _ _ c.add_units.auto.work c.in_ok-add_units.ensures.filed,
+      c.add_units.ensures.memory,
     )
 
-pub shape_of-work-in-None : goal.shape_of-work-in-None
-shape_of-work-in-None c = c.loop-number.invariant.0.same
-
-pub returns-in-None : goal.returns-in-None
-returns-in-None c = λ i bases earlier here a. sectioned_end c.loop-number.invariant.0 (found_none _ (sym c.in-None.is ∙ c.next_unit_section.ensures)) i bases earlier here a
+pub returns : goal.returns
+returns c = λ i bases earlier here a. sectioned_end c.loop-found.invariant.0 (found_none _ (sym c.in_default.is ∙ c.next_unit_section.ensures)) i bases earlier here a

@@ -6,8 +6,8 @@ use Rattle.filing.specs.State.{Remembered}
 use Rattle.filing.proofs.OverSections.{Sectioned}
 use Rattle.filing.proofs.walks.add_sections.Given as goal
 
-abbrev pub invariant-loop-number : goal.invariant-loop-number
-invariant-loop-number l = Sectioned l.b l.x l.from l.at l.initial.work l.work l.initial.known l.known × Remembered l.b l.work l.judged
+abbrev pub invariant-loop-found : goal.invariant-loop-found
+invariant-loop-found l = Sectioned l.b l.x l.from l.at l.initial.work l.work l.initial.st l.st × Remembered l.b l.work l.judged
 
-abbrev pub decreases-loop-number : goal.decreases-loop-number
-decreases-loop-number l = length l.b - l.at
+abbrev pub decreases-loop-found : goal.decreases-loop-found
+decreases-loop-found l = length l.b - l.at

@@ -59,8 +59,8 @@ scan_object-scan-requires c =
     let j = c.loop-next.invariant.1 pre.bundle pre.reads in
     object_reaches _ _ _ _ j.passed _ _ (sym (ap pass c.in-Ok-Object.field-0-is) ∙ c.in-Ok-Object.ensures)
 
-pub overflow_add-end : goal.overflow_add-end
-overflow_add-end c = omega (arith, within (goal.at.overflow_add-end c).After-scan_object-scan)
+pub overflow_add-start : goal.overflow_add-start
+overflow_add-start c = omega (arith, within (goal.at.overflow_add-start c).After-scan_object-scan)
 
 pub slice_bounds-put_bytes-start : goal.slice_bounds-put_bytes-start
 slice_bounds-put_bytes-start c = omega (arith, within (goal.at.slice_bounds-put_bytes-start c).After-scan_object-scan)

@@ -60,8 +60,8 @@ scan_object-scan-requires c =
     let j = (c.loop-next.invariant.1 c.requires).joining in
     object_reaches _ _ _ _ j.passed _ _ (sym (ap pass c.in-Ok-Object.field-0-is) ∙ c.in-Ok-Object.ensures)
 
-pub overflow_add-end : goal.overflow_add-end
-overflow_add-end c = omega (arith, inside (goal.at.overflow_add-end c).After-scan_object-scan)
+pub overflow_add-section : goal.overflow_add-section
+overflow_add-section c = omega (arith, inside (goal.at.overflow_add-section c).After-scan_object-scan)
 
 pub slice_bounds-section-end : goal.slice_bounds-section-end
 slice_bounds-section-end c = inside (goal.at.slice_bounds-section-end c).After-scan_object-scan

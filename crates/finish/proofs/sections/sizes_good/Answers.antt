@@ -1,27 +1,18 @@
--- The sizes passed are within the limit.
+-- Each size is within the limit.
 -- Assumes nothing.
-use mathlib.Core.Path.{refl, sym, ◌∙◌}
-use native.Mathlib.Omega.{arith}
-use borrow.Author.Tests.{le-leb, lt-leb}
-use lib.Dec.{leb}
-use Rattle.octets.proofs.Elements.{all_turn, all_end, not_all}
+use Rattle.std.proofs.Common.{◌≡◌, ◌∙◌, ℕ, leb, rules}
+use borrow.Author.Tests.{tests}
+use Rattle.std.specs.List.{list_all}
+use Rattle.std.proofs.lemmas.Iterator.{YieldsList-from_slice}
+use Rattle.std.proofs.lemmas.Iterator.Search.{all_from_yields_List}
 use Rattle.finish.specs.Sections.{sizes_good}
+use Rattle.finish.proofs.SectionSizes.{all_listed}
 use Rattle.finish.proofs.sections.sizes_good.Goals as goal
 
-pub loop-c-init : goal.loop-c-init
-unfolding sizes_good
-loop-c-init c = (omega arith, refl)
-
-pub returns-then-sizes-c-gt-SECTION_LIMIT : goal.returns-then-sizes-c-gt-SECTION_LIMIT
-unfolding sizes_good
-returns-then-sizes-c-gt-SECTION_LIMIT c =
-    let sizes = c.args.sizes in
-    sym (not_all (λ n. leb n 8_388_607) 0 sizes c.loop-c.c (omega arith) (lt-leb _ _ c.if-sizes-c-gt-SECTION_LIMIT.true))
-
-pub loop-c-preserved : goal.loop-c-preserved
-loop-c-preserved c =
-    let sizes = c.args.sizes in
-    (omega arith, sym (all_turn (λ n. leb n 8_388_607) 0 sizes c.loop-c.c (omega arith) (le-leb _ _ c.if-sizes-c-gt-SECTION_LIMIT.false)) ∙ c.loop-c.invariant.1)
-
 pub returns : goal.returns
-returns c = sym (all_end (λ n. leb n 8_388_607) c.args.sizes c.loop-c.c (omega arith)) ∙ c.loop-c.invariant.1
+unfolding sizes_good
+returns c =
+    let sizes = c.args.sizes.now in
+    let test = λ (n : ℕ). leb n 8_388_607 in
+    let told : c.all.result ≡ list_all test sizes = all_from_yields_List test _ _ c.all.result c.all.ensures.ran (YieldsList-from_slice sizes cc) (λ x b q k. search (rules, tests)) in
+    told ∙ all_listed test sizes

@@ -1,26 +1,29 @@
 -- `index::cells::column_of` meets its contract.
 -- Assumes nothing.
-use mathlib.Core.Path.{refl, ap, ◌∙◌}
-use native.Mathlib.Omega.{arith}
-use Rattle.index.specs.Cells.{place_found}
+use mathlib.Core.Path.{◌≡◌, refl, ◌∙◌, ap}
+use mathlib.Core.List.{map}
+use borrow.Author.Tests.{tests}
+use lib.Dec.{eqb}
+use Rattle.std.proofs.Common.{rules}
+use Rattle.std.specs.Prelude.{Option, Some, None}
+use Rattle.std.specs.Borrow.{Bor}
+use Rattle.std.specs.Option.{option_map}
+use Rattle.std.proofs.lemmas.Iterator.{YieldsList-from_slice}
+use Rattle.std.proofs.lemmas.Iterator.Search.{find_from_yields_List}
+use Rattle.index.specs.Cells.{column_place}
 use Rattle.index.specs.Columns.{columns_of}
-use Rattle.index.proofs.Places.{column_section, column_code, column_found, column_on, column_none}
+use Rattle.index.specs.declared.cells.ColumnPlace.{ColumnPlace}
+use Rattle.index.proofs.Places.{column_finds}
 use Rattle.index.proofs.cells.column_of.Goals as goal
 
-pub loop-k-init : goal.loop-k-init
-loop-k-init c = (omega arith, refl)
-
-pub returns-then-c-section : goal.returns-then-c-section
-returns-then-c-section c =
-    let cs = columns_of c.args.version in
-    let k = c.loop-k.k in
-    column_found cs k _ _ _ (rw c.columns_count-n.ensures at c.loop-k-test.true) (column_section cs k _ c.column_at-c.ensures) (column_code cs k _ c.column_at-c.ensures) c.if-c-section.true ∙ ap place_found c.loop-k.invariant.1
-
-pub loop-k-preserved : goal.loop-k-preserved
-loop-k-preserved c =
-    let cs = columns_of c.args.version in
-    let k = c.loop-k.k in
-    (omega arith, column_on cs k _ (rw c.columns_count-n.ensures at c.loop-k-test.true) (λ z. c.if-c-section.false (column_section cs k _ c.column_at-c.ensures ∙ z)) ∙ c.loop-k.invariant.1)
+twice : (o : Option (Bor ColumnPlace)) → option_map (λ r. r.now.column) o ≡ option_map (λ (z : ColumnPlace). z.column) (option_map (λ r. r.now) o)
+twice (Some r) = refl
+twice None = refl
 
 pub returns : goal.returns
-returns c = column_none _ _ _ (rw c.columns_count-n.ensures at c.loop-k-test.false) ∙ ap place_found c.loop-k.invariant.1
+returns c =
+    let cs = map column_place (columns_of c.args.version) in
+    let m : c.map.result ≡ option_map (λ r. r.now.column) c.find-place.result = search rules in
+    let chain = YieldsList-from_slice cs (c.iter.ensures.rest ∙ c.columns.ensures) in
+    let e = find_from_yields_List (λ (z : ColumnPlace). eqb z.section c.args.section) _ _ c.find-place.result c.find-place.ensures.ran chain (λ x b q k. search (rules, tests)) in
+    m ∙ twice c.find-place.result ∙ ap (option_map (λ (z : ColumnPlace). z.column)) e ∙ column_finds (columns_of c.args.version) c.args.section

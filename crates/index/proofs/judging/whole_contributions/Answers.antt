@@ -6,13 +6,10 @@ use Rattle.index.proofs.Columned.{whole_turn, whole_end}
 use Rattle.index.proofs.judging.whole_contributions.Goals as goal
 
 pub loop-c-init : goal.loop-c-init
-loop-c-init c = (omega arith, fill_start _ _ _ c.no_contributions-k.ensures)
-
-pub with_cell-k-requires : goal.with_cell-k-requires
-with_cell-k-requires c = (c.loop-c.invariant.1.whole, omega arith)
+loop-c-init c = fill_start _ _ _ c.none-k.ensures
 
 pub loop-c-preserved : goal.loop-c-preserved
-loop-c-preserved c = (omega arith, whole_turn _ _ c.loop-c.invariant.0 c.loop-c-test.true _ _ c.loop-c.invariant.1 c.with_cell-k.ensures)
+loop-c-preserved c = whole_turn _ _ (omega arith) c.loop-c-test.true _ _ c.loop-c.invariant c.take.ensures
 
 pub returns : goal.returns
-returns c = whole_end _ _ _ c.loop-c-test.false c.loop-c.invariant.1
+returns c = whole_end _ _ _ c.loop-c-test.false c.loop-c.invariant

@@ -1,11 +1,7 @@
 -- `moved_offsets` meets its contract.
 -- Assumes nothing.
 use Rattle.kept.proofs.Moved.{Moving}
-use Prim.Native.Nat.{◌-◌}
 use Rattle.kept.proofs.cells.moved_offsets.Given as goal
 
 abbrev pub invariant-loop-c : goal.invariant-loop-c
 invariant-loop-c l = Moving l.k l.bases l.offset l.c
-
-abbrev pub decreases-loop-c : goal.decreases-loop-c
-decreases-loop-c l = 14 - l.c

@@ -1,27 +1,25 @@
--- `rows::columns::columns_present` meets its contract: the count so far, and the codes that are left.
+-- `kept::columns::columns_present` meets its contract: the count so far, and the codes that are left.
 -- Assumes nothing.
-use Rattle.kept.proofs.Pieces.{count_turn}
-use Rattle.kept.proofs.Numbering.{codes_all, codes_end, if_le}
-use Rattle.kept.proofs.Columning.{columns_are}
-use Rattle.kept.specs.Columns.{code_at}
 use mathlib.Core.Path.{ap}
-use mathlib.Core.Bool.{false}
-use lib.ListN.{length, get_or}
 use native.Mathlib.Omega.{arith}
+use lib.ListN.{length}
+use Rattle.kept.proofs.Pieces.{count_turn, if_there, if_missing}
+use Rattle.kept.proofs.Numbering.{codes_all, codes_end}
+use Rattle.kept.specs.Columns.{code_at}
 use Rattle.kept.proofs.columns.columns_present.Goals as goal
+use Rattle.kept.proofs.columns.columns_present.Goals.{then-has-k, else-has-k}
 
 pub loop-k-init : goal.loop-k-init
-loop-k-init c = (omega (arith, c.column_count-n.ensures, columns_are c.args.five), omega arith, omega arith, omega (arith, ap length (codes_all c.args.five c.args.has _ c.column_count-n.ensures)))
-
-pub overflow_add-count : goal.overflow_add-count
-overflow_add-count c =
-    let x = code_at c.args.five c.loop-k.k in
-    omega (arith, c.one_if-count.ensures x, if_le (get_or c.args.has c.loop-k.k false) x)
+loop-k-init c = (omega arith, omega (arith, ap length (codes_all c.args.five c.args.has _ c.column_count-k-end.ensures.is)))
 
 pub loop-k-preserved : goal.loop-k-preserved
 loop-k-preserved c =
-    let x = code_at c.args.five c.loop-k.k in
-    omega (arith, c.one_if-count.ensures x, if_le (get_or c.args.has c.loop-k.k false) x, count_turn c.args.five c.args.has c.loop-k.k _ c.loop-k-test.true)
+    let turn = count_turn c.args.five c.args.has c.loop-k.k _ c.loop-k-test.true in
+    let code = code_at c.args.five c.loop-k.k in
+    elim c.if-has-k.branch [
+      | then-has-k w ↦ (omega arith, omega (arith, turn, if_there _ code w.if-has-k.true))
+      | else-has-k w ↦ (omega arith, omega (arith, turn, if_missing _ code w.if-has-k.false))
+    ]
 
 pub returns : goal.returns
-returns c = omega (arith, c.loop-k.invariant.3, ap length (codes_end c.args.five c.args.has c.loop-k.k _ c.loop-k-test.false))
+returns c = omega (arith, c.loop-k.invariant.1, ap length (codes_end c.args.five c.args.has c.loop-k.k _ c.loop-k-test.false))

@@ -5,8 +5,8 @@ use Rattle.kept.proofs.Pieces.{codes_le}
 use Rattle.kept.proofs.columns.index_length.Goals as goal
 
 pub section_length-requires : goal.section_length-requires
-section_length-requires c = (rw c.columns_present-columns.ensures (codes_le _ _), c.requires.0, c.requires.1)
+section_length-requires c = (rw c.columns_present.ensures (codes_le _ _), c.requires.0, c.requires.1)
 
 pub returns : goal.returns
 unfolding index_size
-returns c = rw (← c.columns_present-columns.ensures) c.section_length.ensures
+returns c = rw (← c.columns_present.ensures) c.section_length.ensures

@@ -4,4 +4,4 @@ use Rattle.kept.proofs.Columning.{section_read}
 use Rattle.kept.proofs.columns.section_at.Goals as goal
 
 pub returns : goal.returns
-returns c = section_read _ _ _ _ c.version_for.ensures c.column_at-column.ensures
+returns c = section_read _ _ _ _ c.version_for.ensures c.column_at.ensures

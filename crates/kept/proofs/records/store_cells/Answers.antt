@@ -16,7 +16,7 @@ section-fits c = rw c.section_at-s.ensures (section_lt _ _ (omega arith))
 
 pub loop-k-init : goal.loop-k-init
 unfolding cells_of
-loop-k-init c = (omega arith, copying_start _ _ _ _ _ (omega arith) refl)
+loop-k-init c = copying_start _ _ _ _ _ (omega arith) refl
 
 pub offset_bounds-cells-s : goal.offset_bounds-cells-s
 offset_bounds-cells-s c = omega (arith, section-fits (goal.at.offset_bounds-cells-s c).After-section_at-s)
@@ -31,25 +31,22 @@ pub bounds-cells-s-in-loop-k : goal.bounds-cells-s-in-loop-k
 bounds-cells-s-in-loop-k c = section-fits (goal.at.bounds-cells-s-in-loop-k c).After-section_at-s
 
 pub overflow_add-at : goal.overflow_add-at
-overflow_add-at c = omega (arith, c.loop-k.invariant.1.same, c.requires.0)
+overflow_add-at c = omega (arith, c.loop-k.invariant.same, c.requires.0)
 
 pub set_word-requires : goal.set_word-requires
-set_word-requires c = (omega (arith, c.loop-k.invariant.1.same, c.requires.0), c.requires.1.offset _)
+set_word-requires c = (omega (arith, c.loop-k.invariant.same, c.requires.0), c.requires.1.offset _)
 
 pub overflow_add-at-in-loop-k : goal.overflow_add-at-in-loop-k
-overflow_add-at-in-loop-k c = omega (arith, c.loop-k.invariant.1.same, c.requires.0)
+overflow_add-at-in-loop-k c = omega (arith, c.loop-k.invariant.same, c.requires.0)
 
 pub overflow_add-at-in-loop-k-2 : goal.overflow_add-at-in-loop-k-2
-overflow_add-at-in-loop-k-2 c = omega (arith, c.loop-k.invariant.1.same, c.requires.0)
+overflow_add-at-in-loop-k-2 c = omega (arith, c.loop-k.invariant.same, c.requires.0)
 
 pub set_word-requires-in-loop-k : goal.set_word-requires-in-loop-k
-set_word-requires-in-loop-k c = (omega (arith, c.loop-k.invariant.1.same, c.requires.0), c.requires.1.size _)
+set_word-requires-in-loop-k c = (omega (arith, c.loop-k.invariant.same, c.requires.0), c.requires.1.size _)
 
 pub loop-k-preserved : goal.loop-k-preserved
-loop-k-preserved c = (omega arith, copying_more c.loop-k.invariant.1 (cells_room _ _ _ _ c.requires.0) _ _ (cells_one _ _ _ _ _ _ c.loop-k-test.true c.section_at-s.ensures refl refl) _ _ (two_words _ _ _ _ _ _ (omega (arith, c.loop-k.invariant.1.same, c.requires.0)) c.set_word.ensures refl c.set_word-in-loop-k.ensures) (omega arith))
-
-pub shape_of-words : goal.shape_of-words
-shape_of-words c = c.loop-k.invariant.1.same
+loop-k-preserved c = copying_more c.loop-k.invariant (cells_room _ _ _ _ c.requires.0) _ _ (cells_one _ _ _ _ _ _ c.loop-k-test.true c.section_at-s.ensures refl refl) _ _ (two_words _ _ _ _ _ _ (omega (arith, c.loop-k.invariant.same, c.requires.0)) c.set_word.ensures refl c.set_word-in-loop-k.ensures) (omega arith)
 
 pub returns : goal.returns
-returns c = copying_end c.loop-k.invariant.1 (cells_room _ _ _ _ c.requires.0) (cells_none _ _ _ c.loop-k-test.false)
+returns c = copying_end c.loop-k.invariant (cells_room _ _ _ _ c.requires.0) (cells_none _ _ _ c.loop-k-test.false)

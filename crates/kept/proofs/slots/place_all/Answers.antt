@@ -13,8 +13,5 @@ place_unit-requires c = (placing_seekable c.requires.0 c.loop-i.invariant (omega
 pub loop-i-preserved : goal.loop-i-preserved
 loop-i-preserved c = placing_more c.requires.0 c.loop-i.invariant c.loop-i-test.true _ c.place_unit.ensures
 
-pub shape_of-work : goal.shape_of-work
-shape_of-work c = c.loop-i.invariant.left.same
-
 pub returns : goal.returns
 returns c = placing_end c.requires.0 c.loop-i.invariant c.loop-i-test.false

@@ -1,11 +1,7 @@
 -- `kept::slots::place_all` meets its contract: records that are left are still to be placed.
 -- Assumes nothing.
-use Prim.Native.Nat.{◌-◌}
 use Rattle.kept.proofs.Placing.{Placing}
 use Rattle.kept.proofs.slots.place_all.Given as goal
 
 abbrev pub invariant-loop-i : goal.invariant-loop-i
 invariant-loop-i l = Placing l.words l.table l.n l.count l.initial.work l.work l.i
-
-abbrev pub decreases-loop-i : goal.decreases-loop-i
-decreases-loop-i l = l.n - l.i

@@ -1,27 +1,21 @@
 -- `kept::slots::place_units` meets its contract.
 -- Assumes nothing.
-use mathlib.Core.Path.{refl, ◌∙◌}
+use mathlib.Core.Path.{refl}
 use native.Mathlib.Omega.{arith}
-use Rattle.kept.proofs.Placing.{slots_end, cleared_slots, placed_over}
+use Rattle.kept.proofs.Placing.{slots_start, slots_end, cleared_slots, placed_over}
 use Rattle.kept.proofs.slots.place_units.Goals as goal
 
-pub slots-slots-requires : goal.slots-slots-requires
-slots-slots-requires c = omega (arith, c.requires.limit)
-
 pub overflow_add-to : goal.overflow_add-to
-overflow_add-to c = omega (arith, slots_end _ c.args.work.now _ _ _ c.requires _ c.slots-slots.ensures.start, c.ranges, c.well_formed)
+overflow_add-to c = omega (arith, slots_end _ c.args.work.now _ _ _ c.requires _ (slots_start _ _ _ _ c.slots.ensures.is c.of-slots.ensures.start), c.ranges, c.well_formed)
 
 pub offset_bounds-work-from : goal.offset_bounds-work-from
-offset_bounds-work-from c = omega (arith, slots_end _ c.args.work.now _ _ _ c.requires _ c.slots-slots.ensures.start)
+offset_bounds-work-from c = omega (arith, slots_end _ c.args.work.now _ _ _ c.requires _ (slots_start _ _ _ _ c.slots.ensures.is c.of-slots.ensures.start))
 
 pub slice_bounds-clear_words-end : goal.slice_bounds-clear_words-end
-slice_bounds-clear_words-end c = slots_end _ c.args.work.now _ _ _ c.requires _ c.slots-slots.ensures.start
+slice_bounds-clear_words-end c = slots_end _ c.args.work.now _ _ _ c.requires _ (slots_start _ _ _ _ c.slots.ensures.is c.of-slots.ensures.start)
 
 pub place_all-requires : goal.place_all-requires
-place_all-requires c = let z = cleared_slots _ _ _ _ c.args.work.now c.requires _ _ _ c.slots-slots.ensures.start c.clear_words.ensures refl in (record { power = c.requires.power; fits = c.requires.fits; enough = rw z.1.same c.requires.enough; limit = c.requires.limit; units = c.requires.units }, z.0)
-
-pub shape_of-work : goal.shape_of-work
-shape_of-work c = let z = cleared_slots _ _ _ _ c.args.work.now c.requires _ _ _ c.slots-slots.ensures.start c.clear_words.ensures refl in c.place_all.ensures.left.same ∙ z.1.same
+place_all-requires c = let z = cleared_slots _ _ _ _ c.args.work.now c.requires _ _ _ (slots_start _ _ _ _ c.slots.ensures.is c.of-slots.ensures.start) c.clear_words.ensures refl in (record { power = c.requires.power; fits = c.requires.fits; enough = rw z.1.same c.requires.enough; limit = c.requires.limit; units = c.requires.units }, z.0)
 
 pub returns : goal.returns
-returns c = let z = cleared_slots _ _ _ _ c.args.work.now c.requires _ _ _ c.slots-slots.ensures.start c.clear_words.ensures refl in placed_over z.1 c.place_all.ensures
+returns c = let z = cleared_slots _ _ _ _ c.args.work.now c.requires _ _ _ (slots_start _ _ _ _ c.slots.ensures.is c.of-slots.ensures.start) c.clear_words.ensures refl in placed_over z.1 c.place_all.ensures

@@ -1,5 +1,6 @@
 -- `kept::slots::seek` meets its contract: the looks that are left decide the walk.
 -- Assumes nothing.
+use mathlib.Core.Path.{refl}
 use native.Mathlib.Omega.{arith}
 use Rattle.index.proofs.Masks.{stride_le}
 use Rattle.kept.proofs.Seeking.{seek_start, seek_last, seek_free, seek_known, seek_on, number_fits}
@@ -14,23 +15,23 @@ first_slot-at-requires c = c.requires.0
 pub loop-looks-init : goal.loop-looks-init
 loop-looks-init c = seek_start _ _ _ _ _ c.requires.0 c.first_slot-at.ensures c.stride-by.ensures
 
-pub word-number-requires : goal.word-number-requires
-word-number-requires c = c.loop-looks.invariant.inside
+pub bounds-slots-at : goal.bounds-slots-at
+bounds-slots-at c = c.loop-looks.invariant.inside
 
 pub returns-then-number-eq0 : goal.returns-then-number-eq0
-returns-then-number-eq0 c = seek_free c.loop-looks.invariant c.loop-looks-test.true c.word-number.ensures c.if-number-eq0.true
+returns-then-number-eq0 c = seek_free c.loop-looks.invariant c.loop-looks-test.true refl c.if-number-eq0.true
 
 pub identity_for-requires : goal.identity_for-requires
-identity_for-requires c = number_fits _ _ c.requires.1 c.requires.2 c.word-number.ensures
+identity_for-requires c = number_fits _ _ c.requires.1 c.requires.2 refl
 
 pub returns-then-identity_for-x : goal.returns-then-identity_for-x
-returns-then-identity_for-x c = seek_known c.loop-looks.invariant c.loop-looks-test.true c.word-number.ensures c.if-number-eq0.false c.identity_for.ensures c.if-identity_for-x.true
+returns-then-identity_for-x c = seek_known c.loop-looks.invariant c.loop-looks-test.true refl c.if-number-eq0.false c.identity_for.ensures c.if-identity_for-x.true
 
 pub next_slot-at-requires : goal.next_slot-at-requires
 next_slot-at-requires c = (c.requires.0, omega (arith, c.stride-by.ensures, stride_le c.args.x _ c.requires.0))
 
 pub loop-looks-preserved : goal.loop-looks-preserved
-loop-looks-preserved c = seek_on c.loop-looks.invariant c.loop-looks-test.true c.word-number.ensures c.if-number-eq0.false c.identity_for.ensures c.if-identity_for-x.false c.next_slot-at.ensures
+loop-looks-preserved c = seek_on c.loop-looks.invariant c.loop-looks-test.true refl c.if-number-eq0.false c.identity_for.ensures c.if-identity_for-x.false c.next_slot-at.ensures
 
 pub returns : goal.returns
 returns c = seek_last c.loop-looks.invariant c.loop-looks-test.false

@@ -7,5 +7,5 @@ use Rattle.kept.proofs.slots.slots_for.Goals as goal
 pub returns-then-n-lt2 : goal.returns-then-n-lt2
 returns-then-n-lt2 c = sym (slots_for_few _ c.if-n-lt2.true)
 
-pub returns : goal.returns
-returns c = c.least_power.ensures ∙ sym (slots_for_many _ c.if-n-lt2.false)
+pub returns-else-n-lt2 : goal.returns-else-n-lt2
+returns-else-n-lt2 c = c.least_power.ensures ∙ sym (slots_for_many _ c.if-n-lt2.false)

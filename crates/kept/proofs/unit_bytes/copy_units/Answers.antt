@@ -7,16 +7,13 @@ use Rattle.kept.proofs.Copying.{copying_start, copying_end, bytes_room, bytes_mo
 use Rattle.kept.proofs.unit_bytes.copy_units.Goals as goal
 
 pub loop-i-init : goal.loop-i-init
-loop-i-init c = (omega arith, copying_start _ _ _ _ _ refl (rw sub-zero))
+loop-i-init c = copying_start _ _ _ _ _ refl (rw sub-zero)
 
 pub copy_unit-o-requires : goal.copy_unit-o-requires
-copy_unit-o-requires c = (omega (arith, c.requires.0), record { is = λ j h. c.requires.1.is j (omega arith) }, bytes_room _ _ _ _ _ c.loop-i.invariant.1 c.requires.2 c.loop-i-test.true)
+copy_unit-o-requires c = (omega (arith, c.requires.0), record { is = λ j h. c.requires.1.is j (omega arith) }, bytes_room _ _ _ _ _ c.loop-i.invariant c.requires.2 c.loop-i-test.true)
 
 pub loop-i-preserved : goal.loop-i-preserved
-loop-i-preserved c = (omega arith, bytes_more _ _ _ _ _ c.loop-i.invariant.1 c.requires.2 c.loop-i-test.true c.copy_unit-o.ensures.out c.copy_unit-o.ensures.next)
-
-pub shape_of-out : goal.shape_of-out
-shape_of-out c = c.loop-i.invariant.1.same
+loop-i-preserved c = bytes_more _ _ _ _ _ c.loop-i.invariant c.requires.2 c.loop-i-test.true c.copy_unit-o.ensures.out c.copy_unit-o.ensures.next
 
 pub returns : goal.returns
-returns c = copying_end c.loop-i.invariant.1 c.requires.2 (bytes_end _ _ _ _ _ c.loop-i-test.false)
+returns c = copying_end c.loop-i.invariant c.requires.2 (bytes_end _ _ _ _ _ c.loop-i-test.false)

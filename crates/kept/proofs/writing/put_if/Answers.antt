@@ -1,5 +1,6 @@
 -- `rows::writing::put_if` meets its contract: a number, or nothing.
 -- Assumes nothing.
+use mathlib.Core.Path.{refl}
 use Rattle.kept.proofs.Pieces.{if_there, put_there, put_missing}
 use native.Mathlib.Omega.{arith}
 use Rattle.kept.proofs.writing.put_if.Goals as goal
@@ -8,7 +9,7 @@ pub put_number-requires : goal.put_number-requires
 put_number-requires c = omega (arith, if_there _ c.args.n c.if-there.true, c.requires)
 
 pub returns-then-there : goal.returns-then-there
-returns-then-there c = record { out = (put_there _ _ _ _ _ _ _ c.if-there.true c.long.ensures c.put_number.ensures).0; next = (put_there _ _ _ _ _ _ _ c.if-there.true c.long.ensures c.put_number.ensures).1 }
+returns-then-there c = record { out = (put_there _ _ _ _ _ _ _ c.if-there.true refl c.put_number.ensures).0; next = (put_there _ _ _ _ _ _ _ c.if-there.true refl c.put_number.ensures).1 }
 
 pub returns : goal.returns
 returns c =

@@ -1,24 +1,26 @@
 -- `lookup::opening::read_index` meets its contract.
 -- Assumes nothing.
 use Rattle.lookup.proofs.Opened.{index_none, index_is, index_not}
-use Rattle.index.specs.Held.{index_read}
 use Rattle.index.specs.Index.{index_of}
 use Rattle.octets.proofs.Parts.{part_cut}
+use Rattle.octets.specs.Checked.{pass}
+use Rattle.std.specs.Prelude.{Some}
 use lib.ListN.{get_or}
-use Prim.Native.Nat.{ℕ}
 use mathlib.Core.List.{List}
-use mathlib.Core.Path.{ap, sym, ◌∙◌}
+use mathlib.Core.Path.{ap, ◌∙◌}
+use Prim.Native.Nat.{ℕ}
 use Rattle.lookup.proofs.opening.read_index.Goals as goal
 
 pub returns-then-sections-code-eq0 : goal.returns-then-sections-code-eq0
 returns-then-sections-code-eq0 c = index_none _ _ c.if-sections-code-eq0.true
 
-pub returns-in-Good : goal.returns-in-Good
-returns-in-Good c =
+pub returns-in-Ok : goal.returns-in-Ok
+returns-in-Ok c =
     let a = c.args in
-    index_is _ _ c.if-sections-code-eq0.false _ (sym c.in-Good.is ∙ c.read_index.ensures ∙ ap (λ (s : List ℕ). index_read (index_of a.big s)) (part_cut a.«package».now (get_or a.sections.now.start a.code 0) (get_or a.sections.now.size a.code 0)))
+    rw c.head.ensures
+    (index_is _ _ c.if-sections-code-eq0.false _ (c.in-Ok.ensures ∙ ap (index_of a.big) (part_cut a.«package».now (get_or a.sections.now.start a.code 0) (get_or a.sections.now.size a.code 0))))
 
-pub returns-in-Bad : goal.returns-in-Bad
-returns-in-Bad c =
+pub returns-in-Err : goal.returns-in-Err
+returns-in-Err c =
     let a = c.args in
-    index_not _ _ c.if-sections-code-eq0.false (sym c.in-Bad.is ∙ c.read_index.ensures ∙ ap (λ (s : List ℕ). index_read (index_of a.big s)) (part_cut a.«package».now (get_or a.sections.now.start a.code 0) (get_or a.sections.now.size a.code 0)))
+    index_not _ _ c.if-sections-code-eq0.false _ (c.in-Err.ensures ∙ ap (index_of a.big) (part_cut a.«package».now (get_or a.sections.now.start a.code 0) (get_or a.sections.now.size a.code 0)))

@@ -1,29 +1,30 @@
 -- `add_input_object` meets its contract.
 -- Assumes nothing.
-use mathlib.Core.Path.{refl}
-use Rattle.packer.proofs.OneObject.{read_requires, next_is, object_refused, object_read, object_filed}
+use Rattle.filing.proofs.Telling.{tells_exit}
+use Rattle.packer.proofs.OneObject.{read_requires, object_refused, object_read, units_unfiled, object_filed}
 use Rattle.packer.proofs.objects.add_input_object.Goals as goal
 
-pub read_input-read-requires : goal.read_input-read-requires
-read_input-read-requires c =
+pub read_input-requires : goal.read_input-requires
+read_input-requires c =
     let p = c.requires in
     read_requires _ _ p.ahead _ c.scan_object-scan.ensures _ _ _ _ p.bases p.inputs p.units p.held
 
-pub returns-then-code-ne0 : goal.returns-then-code-ne0
-returns-then-code-ne0 c =
-    let p = c.requires in
-    let s = c.scan_object-scan.ensures in
-    record { next = next_is _ _ p.ahead _ s; filed = λ bases is us a. object_refused _ _ p.ahead _ s _ _ _ _ _ _ c.read_input-read.result c.read_input-read.ensures.read c.read_input-read.ensures.frame bases is us a c.if-code-ne0.true _ refl _ }
+pub returns-in_err-x : goal.returns-in_err-x
+returns-in_err-x c bases is us a =
+    tells_exit _ _ c.from_residual.ensures.1
+    (object_refused _ _ c.requires.ahead _ c.scan_object-scan.ensures _ _ _ _ _ _ _ c.read_input.ensures.frame bases is us a _ c.in_err-x.ensures.read _ _)
 
-pub add_object_units-added-requires : goal.add_object_units-added-requires
-add_object_units-added-requires c =
+pub add_object_units-requires : goal.add_object_units-requires
+add_object_units-requires c =
     let p = c.requires in
-    let s = c.scan_object-scan.ensures in
-    let d = object_read _ _ p.ahead _ s _ _ _ _ _ _ c.read_input-read.result c.read_input-read.ensures.read c.read_input-read.ensures.frame p.bases p.inputs p.units p.held c.if-code-ne0.false in
-    record { ahead = p.ahead; input = d.i; bases = p.bases; units = p.units; ready = d.ready }
+    let d = object_read _ _ p.ahead _ c.scan_object-scan.ensures _ _ _ _ _ _ _ c.read_input.ensures.frame p.bases p.inputs p.units p.held _ c.in_ok-x.ensures.read in
+    record { ahead = p.ahead; input = d.0; bases = p.bases; units = p.units; ready = d.1.ready }
+
+pub returns-in_err-add_object_units : goal.returns-in_err-add_object_units
+returns-in_err-add_object_units c bases is us a =
+    tells_exit _ _ c.from_residual-in_err-add_object_units.ensures.1
+    (units_unfiled _ _ c.requires.ahead _ c.scan_object-scan.ensures _ _ _ _ _ _ _ c.read_input.ensures.frame bases is us a _ c.in_ok-x.ensures.read _ _ _ _ c.in_err-add_object_units.ensures)
 
 pub returns : goal.returns
-returns c =
-    let p = c.requires in
-    let s = c.scan_object-scan.ensures in
-    let u = c.add_object_units-added in record { next = next_is _ _ p.ahead _ s; filed = λ bases is us a. object_filed _ _ p.ahead _ s _ _ _ _ _ _ c.read_input-read.result c.read_input-read.ensures.read c.read_input-read.ensures.frame bases is us a c.if-code-ne0.false _ u.result u.ensures }
+returns c bases is us a =
+    object_filed _ _ c.requires.ahead _ c.scan_object-scan.ensures _ _ _ _ _ _ _ c.read_input.ensures.frame bases is us a _ c.in_ok-x.ensures.read _ _ c.in_ok-add_object_units.ensures

@@ -1,24 +1,17 @@
 -- `add_object_units` meets its contract.
 -- Assumes nothing.
-use mathlib.Core.Path.{refl}
+use Rattle.filing.proofs.Telling.{tells_exit}
 use Rattle.packer.proofs.ObjectUnits.{sections_asked, units_refused, bases_fit, units_added}
 use Rattle.packer.proofs.objects.add_object_units.Goals as goal
 
-pub add_sections-filed-requires : goal.add_sections-filed-requires
-add_sections-filed-requires c = sections_asked _ _ _ _ _ c.requires
+pub add_sections-requires : goal.add_sections-requires
+add_sections-requires c = sections_asked _ _ _ _ _ c.requires
 
-pub returns-then-code-ne0 : goal.returns-then-code-ne0
-returns-then-code-ne0 c i bases us k =
-    let a = c.add_sections-filed in
-    units_refused _ _ _ _ _ _ a.result a.ensures i bases us k c.if-code-ne0.true _ refl
+pub returns-in_err-add_sections : goal.returns-in_err-add_sections
+returns-in_err-add_sections c i bases us k = tells_exit _ _ c.from_residual.ensures.1 (units_refused _ _ _ _ _ _ _ i bases us k _ _ c.in_err-add_sections.ensures)
 
-pub grown-more-requires : goal.grown-more-requires
-grown-more-requires c =
-    let p = c.requires in
-    let a = c.add_sections-filed in
-    bases_fit _ _ _ _ _ _ a.result a.ensures p.input p.bases p.units p.ready c.if-code-ne0.false
+pub grown-st-requires : goal.grown-st-requires
+grown-st-requires c = let p = c.requires in bases_fit _ _ _ _ _ _ _ p.input p.bases p.units p.ready c.in_ok-add_sections.ensures
 
 pub returns : goal.returns
-returns c i bases us k =
-    let a = c.add_sections-filed in
-    units_added _ _ _ _ _ _ a.result a.ensures i bases us k c.if-code-ne0.false _ c.grown-more.ensures _ refl c.with_bases-behind.ensures
+returns c i bases us k = units_added _ _ _ _ _ _ _ i bases us k c.in_ok-add_sections.ensures _ c.grown-st.ensures

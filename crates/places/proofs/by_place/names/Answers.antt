@@ -1,14 +1,11 @@
 -- `places::by_place::names` meets its contract: a cell that is there, its offset, its size.
 -- Assumes nothing.
-use mathlib.Core.Path.{sym, ◌∙◌}
-use Rattle.places.proofs.Chaining.{names_missing, names_apart, names_sized}
+use borrow.Author.Tests.{eq-eqb, ne_eqb}
+use Rattle.places.proofs.Chaining.{names_some}
 use Rattle.places.proofs.by_place.names.Goals as goal
 
-pub returns-in_default : goal.returns-in_default
-returns-in_default c = names_missing _ _ _ (sym c.in_default.is ∙ c.cell_of.ensures)
+pub returns-then-place-at : goal.returns-then-place-at
+returns-then-place-at c = let n = names_some c.args.at c.args.size c.in-Some.place _ c.in-Some.ensures in rw (eq-eqb _ _ c.if-place-at.true) at n
 
-pub returns-then-offset-at : goal.returns-then-offset-at
-returns-then-offset-at c = names_apart _ _ _ _ _ (sym c.in-Is.is ∙ c.cell_of.ensures) c.if-offset-at.true
-
-pub returns : goal.returns
-returns c = names_sized _ _ _ _ _ (sym c.in-Is.is ∙ c.cell_of.ensures) c.if-offset-at.false
+pub returns-else-place-at : goal.returns-else-place-at
+returns-else-place-at c = let n = names_some c.args.at c.args.size c.in-Some.place _ c.in-Some.ensures in let e = ne_eqb _ _ c.if-place-at.false in rw e (rw e at n)

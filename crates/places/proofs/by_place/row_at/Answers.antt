@@ -1,46 +1,45 @@
 -- `places::by_place::row_at` meets its contract: what was found so far, and the rows of the chain that are left.
 -- Assumes nothing.
-use mathlib.Core.Path.{sym, ◌∙◌}
+use mathlib.Core.Path.{refl, ap, ◌∙◌}
 use native.Mathlib.Omega.{arith}
-use Rattle.places.proofs.Chaining.{units_are, walk_starts, walk_ended, walk_over, walk_step, walk_next, walk_several}
+use Rattle.numbers.specs.Refused.{told}
+use Rattle.index.specs.declared.reading.IndexHead.{IndexHead}
+use Rattle.places.proofs.Chaining.{walk_starts, walk_ended, walk_over, walk_step, walk_second, walk_first, walk_on, is_none, is_there}
 use Rattle.places.proofs.by_place.row_at.Goals as goal
+use Rattle.places.proofs.by_place.row_at.Goals.{then-names+else-is_some, else-names, else-loop-passed-test, then-loop-passed-test+then-row-eq0}
 
-pub word-row-requires : goal.word-row-requires
-word-row-requires c = omega (arith, c.requires.1, c.requires.2.room)
+pub loop-passed-init : goal.loop-passed-init
+loop-passed-init c = walk_starts _ _ _ _ _ _ c.requires.1 c.requires.0 refl
 
-pub loop-left-init : goal.loop-left-init
-loop-left-init c = walk_starts _ _ _ _ _ _ _ c.requires.2 c.requires.1 c.word-row.ensures (sym (units_are _ _ _))
+pub names-requires : goal.names-requires
+names-requires c = let t = walk_step _ _ _ _ _ _ _ _ c.loop-passed.invariant c.if-row-eq0.false in (t.low, t.high)
 
-pub returns-then-row-eq0 : goal.returns-then-row-eq0
-returns-then-row-eq0 c = walk_ended _ _ _ _ _ _ _ _ c.loop-left.invariant c.if-row-eq0.true
+pub returns-then-is_some : goal.returns-then-is_some
+returns-then-is_some c =
+    let t = walk_step _ _ _ _ _ _ _ _ c.loop-passed.invariant c.if-row-eq0.false in
+    walk_second _ _ _ _ _ _ _ _ t c.if-names.ensures (is_there _ c.if-is_some.ensures)
 
-pub names-named-requires : goal.names-named-requires
-names-named-requires c =
-    let t = walk_step _ _ _ _ _ _ _ _ c.loop-left.invariant c.if-row-eq0.false in
-    (c.requires.0, t.low, omega (arith, t.high, units_are c.args.big c.args.s.now c.args.head))
+pub overflow_add-row : goal.overflow_add-row
+overflow_add-row c = let t = walk_step _ _ _ _ _ _ _ _ c.loop-passed.invariant c.if-row-eq0.false in omega (arith, t.low, t.high, c.requires.1.room)
 
-pub returns-in_default : goal.returns-in_default
-returns-in_default c = walk_several _ _ _ _ _ _ _ _ (walk_step _ _ _ _ _ _ _ _ c.loop-left.invariant c.if-row-eq0.false) _ c.names-named.ensures (sym c.in_default.is ∙ c.tell.ensures)
+pub offset_bounds-words-heads : goal.offset_bounds-words-heads
+offset_bounds-words-heads c = let t = walk_step _ _ _ _ _ _ _ _ c.loop-passed.invariant c.if-row-eq0.false in omega (arith, t.low, t.high, c.requires.1.room)
 
-pub overflow_add-heads : goal.overflow_add-heads
-overflow_add-heads c =
-    let t = walk_step _ _ _ _ _ _ _ _ c.loop-left.invariant c.if-row-eq0.false in
-    omega (arith, t.low, t.high, c.requires.2.room)
+pub bounds-words-heads : goal.bounds-words-heads
+bounds-words-heads c = let t = walk_step _ _ _ _ _ _ _ _ c.loop-passed.invariant c.if-row-eq0.false in omega (arith, t.low, t.high, c.requires.1.room)
 
-pub overflow_sub-heads : goal.overflow_sub-heads
-overflow_sub-heads c =
-    let t = walk_step _ _ _ _ _ _ _ _ c.loop-left.invariant c.if-row-eq0.false in
-    omega (arith, t.low, t.high, c.requires.2.room)
-
-pub word-row-requires-in-loop-left : goal.word-row-requires-in-loop-left
-word-row-requires-in-loop-left c =
-    let t = walk_step _ _ _ _ _ _ _ _ c.loop-left.invariant c.if-row-eq0.false in
-    omega (arith, t.low, t.high, c.requires.2.room)
-
-pub loop-left-preserved : goal.loop-left-preserved
-loop-left-preserved c =
-    rw c.word-row-in-loop-left.ensures
-    (walk_next _ _ _ _ _ _ _ _ (walk_step _ _ _ _ _ _ _ _ c.loop-left.invariant c.if-row-eq0.false) _ c.names-named.ensures _ (sym c.in-On.is ∙ c.tell.ensures))
+pub loop-passed-preserved : goal.loop-passed-preserved
+loop-passed-preserved c =
+    let t = walk_step _ _ _ _ _ _ _ _ c.loop-passed.invariant c.if-row-eq0.false in
+    elim c.if-names.branch [
+      | then-names+else-is_some w ↦ rw w.found-is (walk_first _ _ _ _ _ _ _ _ t w.if-names.ensures (is_none _ w.if-is_some.ensures))
+      | else-names w ↦ rw w.found-is (walk_on _ _ _ _ _ _ _ _ t w.if-names.ensures)
+    ]
 
 pub returns : goal.returns
-returns c = walk_over _ _ _ _ _ _ _ _ c.loop-left.invariant c.loop-left-test.false
+returns c =
+    let u = ap (λ (h : IndexHead). h.units) c.head-passed-end.ensures in
+    ap told c.ok_or.ensures.value ∙ elim c.loop-passed-test.branch [
+      | else-loop-passed-test w ↦ walk_over _ _ _ _ _ _ _ _ c.loop-passed.invariant (omega (arith, w.loop-passed-test.false))
+      | then-loop-passed-test+then-row-eq0 w ↦ walk_ended _ _ _ _ _ _ _ _ c.loop-passed.invariant w.if-row-eq0.true
+    ]

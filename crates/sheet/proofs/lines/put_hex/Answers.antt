@@ -1,6 +1,6 @@
 -- `sheet::lines::put_hex` meets its contract.
 -- Assumes nothing.
-use mathlib.Core.Path.{◌≡◌, refl, sym, ◌∙◌}
+use mathlib.Core.Path.{◌≡◌, sym, ◌∙◌}
 use native.Mathlib.Omega.{arith}
 use lib.ListN.{length-set}
 use Rattle.octets.proofs.Placed.{placed_none}
@@ -8,14 +8,11 @@ use Rattle.sheet.specs.Sheet.{hex}
 use Rattle.sheet.proofs.LawLines.{hex_store}
 use Rattle.sheet.proofs.lines.put_hex.Goals as goal
 
-pub loop-left-init : goal.loop-left-init
-loop-left-init c = (omega arith, refl, refl)
-
-pub loop-left-preserved : goal.loop-left-preserved
-loop-left-preserved c = (simp length-set (omega arith), simp length-set (omega arith), hex_store _ _ _ _ _ c.loop-left-test.true c.loop-left.invariant.0 c.digit.ensures ∙ c.loop-left.invariant.2)
+pub loop-i-preserved : goal.loop-i-preserved
+loop-i-preserved c = (simp length-set (omega arith), simp length-set (omega arith), hex_store _ _ _ _ _ c.loop-i-test.true c.loop-i.invariant.0 c.digit.ensures ∙ c.loop-i.invariant.2)
 
 pub returns : goal.returns
 unfolding hex
 returns c =
-    let none : c.loop-left.left ≡ 0 = omega arith in
-    sym (placed_none _ _) ∙ (rw none at c.loop-left.invariant.2)
+    let none : c.loop-i.i ≡ 0 = omega arith in
+    sym (placed_none _ _) ∙ (rw none at c.loop-i.invariant.2)

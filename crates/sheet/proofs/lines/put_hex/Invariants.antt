@@ -7,8 +7,5 @@ use Rattle.octets.specs.Octets.{placed}
 use Rattle.sheet.specs.Sheet.{hex}
 use Rattle.sheet.proofs.lines.put_hex.Given as goal
 
-abbrev pub invariant-loop-left : goal.invariant-loop-left
-invariant-loop-left l = (l.at + l.left ≤ length l.d) × (length l.d ≡ length l.initial.d) × (placed l.d l.at (hex l.left l.m) ≡ placed l.initial.d l.at (hex l.w l.n))
-
-abbrev pub decreases-loop-left : goal.decreases-loop-left
-decreases-loop-left l = l.left
+abbrev pub invariant-loop-i : goal.invariant-loop-i
+invariant-loop-i l = (l.at + l.i ≤ length l.d) × (length l.d ≡ length l.initial.d) × (placed l.d l.at (hex l.i l.m) ≡ placed l.initial.d l.at (hex l.w l.n))

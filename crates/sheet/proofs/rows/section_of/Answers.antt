@@ -1,28 +1,29 @@
 -- `sheet::rows::section_of` meets its contract.
 -- Assumes nothing.
-use mathlib.Core.Path.{refl, sym, ◌∙◌}
-use native.Mathlib.Omega.{arith}
+use mathlib.Core.Path.{◌≡◌, refl, ◌∙◌, ap}
+use mathlib.Core.List.{map}
+use borrow.Author.Tests.{tests}
+use lib.Dec.{eqb}
+use Rattle.std.proofs.Common.{rules}
+use Rattle.std.specs.Prelude.{Option, Some, None}
+use Rattle.std.specs.Borrow.{Bor}
+use Rattle.std.specs.Option.{option_map, option_map_or}
+use Rattle.std.proofs.lemmas.Iterator.{YieldsList-from_slice}
+use Rattle.std.proofs.lemmas.Iterator.Search.{find_from_yields_List}
+use Rattle.index.specs.Cells.{column_place}
 use Rattle.index.specs.Columns.{columns_of}
-use Rattle.index.proofs.Places.{column_section, column_code}
-use Rattle.sheet.proofs.LawSections.{section_here, section_on, section_none}
+use Rattle.index.specs.declared.cells.ColumnPlace.{ColumnPlace}
+use Rattle.sheet.proofs.LawSections.{section_finds}
 use Rattle.sheet.proofs.rows.section_of.Goals as goal
 
-pub loop-k-init : goal.loop-k-init
-loop-k-init c = (omega arith, refl)
-
-pub returns-then-c-code : goal.returns-then-c-code
-returns-then-c-code c =
-    let e = c.column_at-c.ensures in
-    let cs = columns_of c.args.version in
-    let k = c.loop-k.k in
-    section_here cs k _ _ (rw c.columns_count-n.ensures at c.loop-k-test.true) (column_section cs k _ e) (sym (column_code cs k _ e) ∙ c.if-c-code.true) ∙ c.loop-k.invariant.1
-
-pub loop-k-preserved : goal.loop-k-preserved
-loop-k-preserved c =
-    let e = c.column_at-c.ensures in
-    let cs = columns_of c.args.version in
-    let k = c.loop-k.k in
-    (omega arith, section_on cs k _ (rw c.columns_count-n.ensures at c.loop-k-test.true) (λ z. c.if-c-code.false (column_code cs k _ e ∙ z)) ∙ c.loop-k.invariant.1)
+twice : (o : Option (Bor ColumnPlace)) → option_map_or (λ r. r.now.section) o 0 ≡ option_map_or (λ (z : ColumnPlace). z.section) (option_map (λ r. r.now) o) 0
+twice (Some r) = refl
+twice None = refl
 
 pub returns : goal.returns
-returns c = section_none _ _ _ (rw c.columns_count-n.ensures at c.loop-k-test.false) ∙ c.loop-k.invariant.1
+returns c =
+    let cs = map column_place (columns_of c.args.version) in
+    let m : c.map_or.result ≡ option_map_or (λ r. r.now.section) c.find-place.result 0 = search rules in
+    let chain = YieldsList-from_slice cs (c.iter.ensures.rest ∙ c.columns.ensures) in
+    let e = find_from_yields_List (λ (z : ColumnPlace). eqb z.column c.args.code) _ _ c.find-place.result c.find-place.ensures.ran chain (λ x b q k. search (rules, tests)) in
+    m ∙ twice c.find-place.result ∙ ap (λ z. option_map_or (λ (z : ColumnPlace). z.section) z 0) e ∙ section_finds (columns_of c.args.version) c.args.code

@@ -1,105 +1,103 @@
 -- `sheet::writing::put_sheet` meets its contract.
 -- Assumes nothing.
-use mathlib.Core.Path.{◌≡◌, sym, ap, ◌∙◌}
-use mathlib.Core.List.{List}
-use Prim.Native.Nat.{ℕ, ◌+◌, ◌<◌, ◌≤◌}
+use mathlib.Core.Path.{◌≡◌, sym, ◌∙◌}
+use Prim.Native.Nat.{◌+◌, ◌<◌}
 use native.Mathlib.Omega.{arith}
 use lib.ListN.{length}
-use Rattle.octets.specs.Checked.{pass, refuse, mapped}
-use Rattle.octets.specs.Octets.{zeros}
-use Rattle.answers.specs.Answers.{Answer, refused, made, written_of, output_of}
-use Rattle.lookup.specs.Lookup.{package_of}
-use Rattle.lookup.specs.Answers.{package_in}
-use Rattle.lookup.proofs.Searches.{opened_not}
+use Rattle.std.proofs.lemmas.Result.{err_from_is_err_and}
+use Rattle.numbers.specs.Refusals.{page_short}
+use Rattle.octets.specs.Checked.{mapped}
+use Rattle.answers.specs.Answers.{refused}
+use Rattle.lookup.proofs.Lookups.{closed}
+use Rattle.lookup.proofs.Told.{of_pass, of_refuse}
 use Rattle.sheet.specs.Sheet.{sheet_of}
-use Rattle.sheet.specs.Laid.{table_of, both_of, lines_of}
-use Rattle.sheet.proofs.LawSheet.{measured_bad, measured_good, refused_page, refused_told, sheet_closed, sheet_compilations, sheet_types, sheet_short, sheet_made, made_told, made_page}
+use Rattle.sheet.proofs.LawSheet.{refused_page, refused_told, sheet_closed, sheet_compilations, sheet_types, sheet_short, sheet_made, made_told, made_page}
 use Rattle.sheet.proofs.writing.put_sheet.Goals as goal
-use Rattle.sheet.proofs.writing.put_sheet.Goals.{In_default, In-Ok, In-Ok-measure_table, In-Ok-measure_table-2}
+use Rattle.sheet.proofs.writing.put_sheet.Goals.{After-from, then-page-compilations-via-then-page-compilations, then-page-compilations-via-else-page-compilations+then-page-compilations-2}
 
--- the tables were measured
-record Measured (p : List ℕ) (table n : ℕ) : Type 0 where
-  lines : List ℕ
-  are : table_of p table ≡ pass lines
-  long : length lines ≡ n
-
-first : (k : In-Ok-measure_table) → Measured k.in-Ok.package.bytes.now 1 k.in-Ok-measure_table.compilations
-first k = let m = measured_good _ _ k.in-Ok-measure_table.ensures in record { lines = m.0; are = m.1; long = m.2 }
-
-second : (k : In-Ok-measure_table-2) → Measured k.in-Ok.package.bytes.now 2 k.in-Ok-measure_table-2.types
-second k = let m = measured_good _ _ k.in-Ok-measure_table-2.ensures in record { lines = m.0; are = m.1; long = m.2 }
-
--- what is said of the opened bytes holds of the package
-of : (k : In-Ok) (a : Answer) → sheet_of k.in-Ok.package.bytes.now (length k.args.page.now) ≡ a → sheet_of k.args.package.now (length k.args.page.now) ≡ a
-of k a e = sym (ap (λ (p : List ℕ). sheet_of p (length k.args.page.now)) k.in-Ok.ensures.bytes) ∙ e
-
--- it is no package
-closed : (k : In_default) → sheet_of k.args.package.now (length k.args.page.now) ≡ refused 21
+-- ---- an ill-formed package
+pub returns-in_err-package-clause-answer : goal.returns-in_err-package-clause-answer
 unfolding mapped
-closed k = sheet_closed _ _ (opened_not _ _ k.in_default.ensures.head)
+returns-in_err-package-clause-answer c =
+    let p = err_from_is_err_and c.from_residual.result c.from_residual.ensures.1 in
+    rw (p.1, p.2) (refused_told _ _ (sheet_closed _ _ _ (closed _ _ c.in_err-package.ensures.head)))
 
-pub returns-in_default-clause-answer : goal.returns-in_default-clause-answer
-returns-in_default-clause-answer c = refused_told _ _ (closed c)
+pub returns-in_err-package-clause-page : goal.returns-in_err-package-clause-page
+unfolding mapped
+returns-in_err-package-clause-page c = c.requires ∙ refused_page _ _ _ (sheet_closed _ _ _ (closed _ _ c.in_err-package.ensures.head))
 
-pub returns-in_default-clause-page : goal.returns-in_default-clause-page
-returns-in_default-clause-page c = c.requires ∙ refused_page _ _ _ (closed c)
+-- ---- a row of compilations that has not exactly one slot
+pub returns-in_err-compilations-clause-answer : goal.returns-in_err-compilations-clause-answer
+returns-in_err-compilations-clause-answer c =
+    let p = err_from_is_err_and c.from_residual-in_err-compilations.result c.from_residual-in_err-compilations.ensures.1 in
+    let k = c.in_ok-package.package in
+    rw (p.1, p.2, sym c.in_ok-package.ensures.bytes) (refused_told _ _ (sheet_compilations _ _ k.opened.is _ (of_refuse _ _ _ c.in_err-compilations.ensures)))
 
-pub returns-in_default-measure_table-clause-answer : goal.returns-in_default-measure_table-clause-answer
-returns-in_default-measure_table-clause-answer c =
-    refused_told _ _ (of (goal.at.returns-in_default-measure_table-clause-answer c).In-Ok _ (sheet_compilations _ _ c.in-Ok.package.opened.is _ (measured_bad _ _ c.in_default-measure_table.ensures)))
+pub returns-in_err-compilations-clause-page : goal.returns-in_err-compilations-clause-page
+returns-in_err-compilations-clause-page c =
+    let k = c.in_ok-package.package in
+    c.requires ∙ rw (sym c.in_ok-package.ensures.bytes) (refused_page _ _ _ (sheet_compilations _ _ k.opened.is _ (of_refuse _ _ _ c.in_err-compilations.ensures)))
 
-pub returns-in_default-measure_table-clause-page : goal.returns-in_default-measure_table-clause-page
-returns-in_default-measure_table-clause-page c =
-    c.requires ∙ refused_page _ _ _ (of (goal.at.returns-in_default-measure_table-clause-page c).In-Ok _ (sheet_compilations _ _ c.in-Ok.package.opened.is _ (measured_bad _ _ c.in_default-measure_table.ensures)))
+-- ---- the same of types
+pub returns-in_err-types-clause-answer : goal.returns-in_err-types-clause-answer
+returns-in_err-types-clause-answer c =
+    let p = err_from_is_err_and c.from_residual-in_err-types.result c.from_residual-in_err-types.ensures.1 in
+    let k = c.in_ok-package.package in
+    let a = of_pass _ _ _ c.in_ok-compilations.ensures in
+    rw (p.1, p.2, sym c.in_ok-package.ensures.bytes) (refused_told _ _ (sheet_types _ _ k.opened.is _ a.1 _ (of_refuse _ _ _ c.in_err-types.ensures)))
 
-pub returns-in_default-measure_table-2-clause-answer : goal.returns-in_default-measure_table-2-clause-answer
-returns-in_default-measure_table-2-clause-answer c =
-    let a = first (goal.at.returns-in_default-measure_table-2-clause-answer c).In-Ok-measure_table in
-    refused_told _ _ (of (goal.at.returns-in_default-measure_table-2-clause-answer c).In-Ok _ (sheet_types _ _ c.in-Ok.package.opened.is _ a.are _ (measured_bad _ _ c.in_default-measure_table-2.ensures)))
+pub returns-in_err-types-clause-page : goal.returns-in_err-types-clause-page
+returns-in_err-types-clause-page c =
+    let k = c.in_ok-package.package in
+    let a = of_pass _ _ _ c.in_ok-compilations.ensures in
+    c.requires ∙ rw (sym c.in_ok-package.ensures.bytes) (refused_page _ _ _ (sheet_types _ _ k.opened.is _ a.1 _ (of_refuse _ _ _ c.in_err-types.ensures)))
 
-pub returns-in_default-measure_table-2-clause-page : goal.returns-in_default-measure_table-2-clause-page
-returns-in_default-measure_table-2-clause-page c =
-    let a = first (goal.at.returns-in_default-measure_table-2-clause-page c).In-Ok-measure_table in
-    c.requires ∙ refused_page _ _ _ (of (goal.at.returns-in_default-measure_table-2-clause-page c).In-Ok _ (sheet_types _ _ c.in-Ok.package.opened.is _ a.are _ (measured_bad _ _ c.in_default-measure_table-2.ensures)))
+-- ---- a page that is too short
+is-short : (c : After-from) → length c.args.page.now < c.in_ok-compilations.compilations + c.in_ok-types.types
+is-short c = elim c.then-page-compilations.branch [
+  | then-page-compilations-via-then-page-compilations w ↦ omega (arith, w.if-page-compilations.true)
+  | then-page-compilations-via-else-page-compilations+then-page-compilations-2 w ↦ omega (arith, w.if-page-compilations-2.true)
+]
+
+refused-short : (c : After-from) → sheet_of c.in_ok-package.package.bytes.now (length c.args.page.now) ≡ refused page_short
+refused-short c =
+    let a = of_pass _ _ _ c.in_ok-compilations.ensures in
+    let b = of_pass _ _ _ c.in_ok-types.ensures in
+    sheet_short _ _ c.in_ok-package.package.opened.is _ a.1 _ b.1 (omega (arith, a.2, b.2, is-short c))
 
 pub returns-then-page-compilations-clause-answer : goal.returns-then-page-compilations-clause-answer
-returns-then-page-compilations-clause-answer c =
-    let a = first (goal.at.returns-then-page-compilations-clause-answer c).In-Ok-measure_table in
-    let b = second (goal.at.returns-then-page-compilations-clause-answer c).In-Ok-measure_table-2 in
-    let h : length c.args.page.now < length a.lines + length b.lines = omega (arith, a.long, b.long) in
-    refused_told _ _ (of (goal.at.returns-then-page-compilations-clause-answer c).In-Ok _ (sheet_short _ _ c.in-Ok.package.opened.is _ a.are _ b.are h))
+returns-then-page-compilations-clause-answer c = rw (c.from.ensures, sym c.in_ok-package.ensures.bytes) (refused_told _ _ (refused-short (goal.at.returns-then-page-compilations-clause-answer c).After-from))
 
 pub returns-then-page-compilations-clause-page : goal.returns-then-page-compilations-clause-page
-returns-then-page-compilations-clause-page c =
-    let a = first (goal.at.returns-then-page-compilations-clause-page c).In-Ok-measure_table in
-    let b = second (goal.at.returns-then-page-compilations-clause-page c).In-Ok-measure_table-2 in
-    let h : length c.args.page.now < length a.lines + length b.lines = omega (arith, a.long, b.long) in
-    c.requires ∙ refused_page _ _ _ (of (goal.at.returns-then-page-compilations-clause-page c).In-Ok _ (sheet_short _ _ c.in-Ok.package.opened.is _ a.are _ b.are h))
+returns-then-page-compilations-clause-page c = c.requires ∙ rw (sym c.in_ok-package.ensures.bytes) (refused_page _ _ _ (refused-short (goal.at.returns-then-page-compilations-clause-page c).After-from))
 
+-- ---- both tables
 pub write_tables-requires : goal.write_tables-requires
 write_tables-requires c =
-    let a = first (goal.at.write_tables-requires c).In-Ok-measure_table in
-    let b = second (goal.at.write_tables-requires c).In-Ok-measure_table-2 in
+    let a = of_pass _ _ _ c.in_ok-compilations.ensures in
+    let b = of_pass _ _ _ c.in_ok-types.ensures in
     record {
-      first = a.lines;
-      second = b.lines;
-      first_are = a.are;
-      second_are = b.are;
-      long = a.long;
-      room = omega (arith, b.long, c.if-page-compilations.false, c.if-page-compilations-2.false);
+      first = a.0;
+      second = b.0;
+      first_are = a.1;
+      second_are = b.1;
+      long = sym a.2;
+      room = omega (arith, b.2, c.if-page-compilations.false, c.if-page-compilations-2.false);
       blank = c.requires;
     }
 
 pub returns-clause-answer : goal.returns-clause-answer
 returns-clause-answer c =
-    let a = first (goal.at.returns-clause-answer c).In-Ok-measure_table in
-    let b = second (goal.at.returns-clause-answer c).In-Ok-measure_table-2 in
-    let h : length a.lines + length b.lines ≤ length c.args.page.now = omega (arith, c.if-page-compilations.false, c.if-page-compilations-2.false, a.long, b.long) in
-    made_told _ a.lines b.lines _ _ (of (goal.at.returns-clause-answer c).In-Ok _ (sheet_made _ _ c.in-Ok.package.opened.is _ a.are _ b.are h)) a.long b.long
+    let k = c.in_ok-package.package in
+    let a = of_pass _ _ _ c.in_ok-compilations.ensures in
+    let b = of_pass _ _ _ c.in_ok-types.ensures in
+    let s = sheet_made _ (length c.args.page.now) k.opened.is _ a.1 _ b.1 (omega (arith, a.2, b.2, c.if-page-compilations.false, c.if-page-compilations-2.false)) in
+    rw (sym c.in_ok-package.ensures.bytes) (made_told _ a.0 b.0 _ _ s (sym a.2) (sym b.2))
 
 pub returns-clause-page : goal.returns-clause-page
 returns-clause-page c =
-    let a = first (goal.at.returns-clause-page c).In-Ok-measure_table in
-    let b = second (goal.at.returns-clause-page c).In-Ok-measure_table-2 in
-    let h : length a.lines + length b.lines ≤ length c.args.page.now = omega (arith, c.if-page-compilations.false, c.if-page-compilations-2.false, a.long, b.long) in
-    c.write_tables.ensures ∙ made_page _ _ _ _ _ a.are b.are (of (goal.at.returns-clause-page c).In-Ok _ (sheet_made _ _ c.in-Ok.package.opened.is _ a.are _ b.are h))
+    let k = c.in_ok-package.package in
+    let a = of_pass _ _ _ c.in_ok-compilations.ensures in
+    let b = of_pass _ _ _ c.in_ok-types.ensures in
+    let s = sheet_made _ (length c.args.page.now) k.opened.is _ a.1 _ b.1 (omega (arith, a.2, b.2, c.if-page-compilations.false, c.if-page-compilations-2.false)) in
+    c.write_tables.ensures ∙ rw (sym c.in_ok-package.ensures.bytes) (made_page _ _ _ _ _ a.1 b.1 s)

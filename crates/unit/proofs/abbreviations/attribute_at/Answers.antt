@@ -1,61 +1,62 @@
 -- `unit::abbreviations::attribute_at` meets its contract.
 -- Assumes nothing.
-use mathlib.Core.Path.{◌≡◌, sym, ap, ◌∙◌}
-use Prim.Native.Nat.{ℕ}
+use mathlib.Core.Path.{◌≡◌, refl, sym, ap, ◌∙◌}
+use mathlib.Core.Bool.{not}
 use native.Mathlib.Omega.{arith}
-use Rattle.leb128.specs.Answers.{number_check}
+use borrow.Author.Tests.{eq-eqb, ne_eqb}
 use lib.ListN.{drop}
-use Rattle.octets.specs.Checked.{pass}
+use Rattle.octets.specs.Checked.{pass, mapped}
 use Rattle.leb128.specs.Leb128.{short}
 use Rattle.leb128.proofs.Taken.{short_taken}
+use Rattle.unit.specs.Abbreviations.{attribute_at}
 use Rattle.unit.proofs.Sizes.{rest}
-use Rattle.unit.proofs.Attributes.{attribute_none, attribute_formless, attribute_half, attribute_implicit, attribute_is, both_zero, neither_zero, first_zero, second_zero}
+use Rattle.unit.proofs.Attributes.{together, apart}
+use Rattle.unit.proofs.Steps.{stops, goes, stops_at, goes_past, leaves_as}
 use Rattle.unit.proofs.abbreviations.attribute_at.Goals as goal
-use Rattle.unit.proofs.abbreviations.attribute_at.Goals.{In-Is, In-Is-read_short}
+use Rattle.unit.proofs.abbreviations.attribute_at.Goals.{In_ok-name, In_ok-form}
+use Rattle.unit.proofs.abbreviations.attribute_at.Goals.{then-name-form-via-then-name-form, then-name-form-via-else-name-form+then-form-eq33}
 
-zero-not : {n : ℕ} → n ≡ 0 → n ≡ 0x21 → ⊥
-zero-not h g = omega arith
+named : (c : In_ok-name) → pass (c.in_ok-name.name, c.in_ok-name.n) ≡ short c.args.s.now
+named c = c.in_ok-name.ensures
 
-told : (c : In-Is)
-    → short c.args.s.now ≡ pass (c.in-Is.name, c.in-Is.n)
-told c = sym c.read_short.ensures ∙ ap number_check c.in-Is.is
+formed : (c : In_ok-form) → pass (c.in_ok-form.form, c.in_ok-form.m) ≡ short (drop c.in_ok-name.n c.args.s.now)
+formed c = c.in_ok-form.ensures ∙ ap short (rest c.in_ok-name.n c.args.s.now)
 
-told2 : (c : In-Is-read_short)
-    → short (drop c.in-Is.n c.args.s.now) ≡ pass (c.in-Is-read_short.form, c.in-Is-read_short.m)
-told2 c =
-    ap short (sym (rest c.in-Is.n c.args.s.now)) ∙ sym c.read_short-2.ensures ∙ ap number_check c.in-Is-read_short.is
-
-pub returns-in_default : goal.returns-in_default
-returns-in_default c = let k = sym c.read_short.ensures ∙ ap number_check c.in_default.is in attribute_none _ k
+pub returns-in_err-name : goal.returns-in_err-name
+unfolding attribute_at
+returns-in_err-name c = leaves_as _ c.from_residual.result _ c.from_residual.ensures.1 (stops _ c.in_err-name.ensures)
 
 pub slice_bounds-read_short-count : goal.slice_bounds-read_short-count
-slice_bounds-read_short-count c = (short_taken _ _ (told (goal.at.slice_bounds-read_short-count c).In-Is)).within
+slice_bounds-read_short-count c = (short_taken _ _ (sym c.in_ok-name.ensures)).within
 
 pub slice_bounds-read_short-start : goal.slice_bounds-read_short-start
-slice_bounds-read_short-start c = (short_taken _ _ (told (goal.at.slice_bounds-read_short-start c).In-Is)).within
+slice_bounds-read_short-start c = (short_taken _ _ (sym c.in_ok-name.ensures)).within
 
-pub returns-in_default-read_short : goal.returns-in_default-read_short
-returns-in_default-read_short c =
-    let k = sym c.read_short-2.ensures ∙ ap number_check c.in_default-read_short.is in
-    attribute_formless _ _ _ (told (goal.at.returns-in_default-read_short c).In-Is) (ap short (sym (rest c.in-Is.n c.args.s.now)) ∙ k)
+pub returns-in_err-form : goal.returns-in_err-form
+unfolding attribute_at
+returns-in_err-form c =
+    leaves_as _ c.from_residual-in_err-form.result _ c.from_residual-in_err-form.ensures.1
+    (goes _ c.in_ok-name.ensures (stops _ (c.in_err-form.ensures ∙ ap short (rest c.in_ok-name.n c.args.s.now))))
 
-pub returns-then-form-ne0 : goal.returns-then-form-ne0
-returns-then-form-ne0 c = attribute_half _ _ _ (told (goal.at.returns-then-form-ne0 c).In-Is) _ _ (told2 (goal.at.returns-then-form-ne0 c).In-Is-read_short) (first_zero _ _ c.if-name-eq0.true c.if-form-ne0.true)
+pub returns-then-name-form : goal.returns-then-name-form
+unfolding attribute_at mapped
+returns-then-name-form c =
+    let f = formed (goal.at.returns-then-name-form c).In_ok-form in
+    elim c.then-name-form.branch [
+      | then-name-form-via-then-name-form w ↦ goes _ c.in_ok-name.ensures (goes _ f (stops_at _ _ (apart _ _ w.if-name-form.true)))
+      | then-name-form-via-else-name-form+then-form-eq33 w ↦
+          goes _ c.in_ok-name.ensures (goes _ f (goes_past _ _ (together _ _ w.if-name-form.false) (stops_at _ _ (ap not (eq-eqb _ 0x21 w.if-form-eq33.true)))))
+    ]
 
 pub overflow_add-result : goal.overflow_add-result
-overflow_add-result c = let n = short_taken _ _ (told (goal.at.overflow_add-result c).In-Is) in let m = short_taken _ _ (told2 (goal.at.overflow_add-result c).In-Is-read_short) in omega (arith, n.most, m.most)
-
-pub returns-then-name-eq0 : goal.returns-then-name-eq0
-returns-then-name-eq0 c = attribute_is _ _ _ (told (goal.at.returns-then-name-eq0 c).In-Is) _ _ (told2 (goal.at.returns-then-name-eq0 c).In-Is-read_short) (both_zero _ _ c.if-name-eq0.true c.if-form-ne0.false) (λ z. zero-not c.if-form-ne0.false z)
-
-pub returns-then-form-eq0 : goal.returns-then-form-eq0
-returns-then-form-eq0 c = attribute_half _ _ _ (told (goal.at.returns-then-form-eq0 c).In-Is) _ _ (told2 (goal.at.returns-then-form-eq0 c).In-Is-read_short) (second_zero _ _ c.if-name-eq0.false c.if-form-eq0.true)
-
-pub returns-then-form-eq33 : goal.returns-then-form-eq33
-returns-then-form-eq33 c = attribute_implicit _ _ _ (told (goal.at.returns-then-form-eq33 c).In-Is) _ _ (told2 (goal.at.returns-then-form-eq33 c).In-Is-read_short) (neither_zero _ _ c.if-name-eq0.false c.if-form-eq0.false) c.if-form-eq33.true
-
-pub overflow_add-result-2 : goal.overflow_add-result-2
-overflow_add-result-2 c = let n = short_taken _ _ (told (goal.at.overflow_add-result-2 c).In-Is) in let m = short_taken _ _ (told2 (goal.at.overflow_add-result-2 c).In-Is-read_short) in omega (arith, n.most, m.most)
+overflow_add-result c =
+    let n = short_taken _ _ (sym (named (goal.at.overflow_add-result c).In_ok-name)) in
+    let m = short_taken _ _ (sym (formed (goal.at.overflow_add-result c).In_ok-form)) in
+    omega (arith, n.most, m.most)
 
 pub returns : goal.returns
-returns c = attribute_is _ _ _ (told (goal.at.returns c).In-Is) _ _ (told2 (goal.at.returns c).In-Is-read_short) (neither_zero _ _ c.if-name-eq0.false c.if-form-eq0.false) c.if-form-eq33.false
+unfolding attribute_at mapped
+returns c =
+    goes _ c.in_ok-name.ensures
+    (goes _ (formed (goal.at.returns c).In_ok-form)
+    (goes_past _ _ (together _ _ c.if-name-form.false) (goes_past _ _ (ap not (ne_eqb _ 0x21 c.if-form-eq33.false)) refl)))

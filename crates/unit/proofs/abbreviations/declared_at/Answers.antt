@@ -1,66 +1,57 @@
 -- `unit::abbreviations::declared_at` meets its contract.
 -- Assumes nothing.
-use mathlib.Core.Path.{◌≡◌, sym, ap, ◌∙◌}
+use mathlib.Core.Path.{◌≡◌, refl, sym, ap, ◌∙◌}
 use Prim.Native.Nat.{◌+◌, ◌≤◌}
 use native.Mathlib.Omega.{arith}
-use Rattle.leb128.specs.Answers.{number_check}
 use lib.ListN.{length, drop, length-drop}
-use Rattle.octets.specs.Checked.{pass}
-use Rattle.leb128.specs.Leb128.{unsigned}
+use Rattle.octets.specs.Checked.{pass, mapped}
 use Rattle.leb128.proofs.Taken.{unsigned_taken}
-use Rattle.unit.proofs.Sizes.{rest}
-use Rattle.unit.specs.Tables.{place_at, place_check}
+use Rattle.unit.specs.Tables.{place_at, place_is, declared_at}
 use Rattle.unit.proofs.Declarations.{place_stands}
-use Rattle.unit.proofs.Places.{declared_none, declared_end, declared_broken, declared_is}
+use Rattle.unit.proofs.Places.{end_is, coded}
+use Rattle.unit.proofs.Sizes.{rest}
+use Rattle.unit.proofs.Steps.{stops, goes, leaves_as}
 use Rattle.unit.proofs.abbreviations.declared_at.Goals as goal
-use Rattle.unit.proofs.abbreviations.declared_at.Goals.{In-Is, In-Is-place_at}
+use Rattle.unit.proofs.abbreviations.declared_at.Goals.{In_ok-place}
 
-told : (c : In-Is)
-    → unsigned c.args.s.now ≡ pass (c.in-Is.code, c.in-Is.n)
-told c = sym c.read_unsigned.ensures ∙ ap number_check c.in-Is.is
+placed : (c : In_ok-place) → pass (place_is c.in_ok-place.place) ≡ place_at (drop c.in_ok-code.n c.args.s.now)
+unfolding mapped
+placed c = c.in_ok-place.ensures ∙ ap place_at (rest c.in_ok-code.n c.args.s.now)
 
-placed : (c : In-Is-place_at)
-    → place_at (drop c.in-Is.n c.args.s.now)
-    ≡ pass (record { tag = c.in-Is-place_at.tag; start = c.in-Is-place_at.start; end = c.in-Is-place_at.end })
-placed c =
-    ap place_at (sym (rest c.in-Is.n c.args.s.now))
-    ∙ sym c.place_at.ensures ∙ ap place_check c.in-Is-place_at.is
-
-told_at_In_Is_place_at : (c : In-Is-place_at)
-    → unsigned c.args.s.now ≡ pass (c.in-Is.code, c.in-Is.n)
-told_at_In_Is_place_at c = sym c.read_unsigned.ensures ∙ ap number_check c.in-Is.is
-
-room : (c : In-Is-place_at)
-    → (c.in-Is.n + c.in-Is-place_at.start ≤ length c.args.s.now)
-    × (c.in-Is.n + c.in-Is-place_at.end ≤ length c.args.s.now)
+room : (c : In_ok-place)
+    → (c.in_ok-code.n + c.in_ok-place.place.start ≤ length c.args.s.now) × (c.in_ok-code.n + c.in_ok-place.place.end ≤ length c.args.s.now)
 room c =
-    let st = place_stands _ _ (placed c) in
-    let u = unsigned_taken _ _ (told_at_In_Is_place_at c) in
-    let d = length-drop c.in-Is.n c.args.s.now in
+    let st = place_stands _ _ (sym (placed c)) in
+    let u = unsigned_taken _ _ (sym c.in_ok-code.ensures) in
+    let d = length-drop c.in_ok-code.n c.args.s.now in
     (omega (arith, st.order, st.within, u.within, d), omega (arith, st.within, u.within, d))
 
-pub returns-in_default : goal.returns-in_default
-returns-in_default c = let k = sym c.read_unsigned.ensures ∙ ap number_check c.in_default.is in declared_none _ k
+pub returns-in_err-code : goal.returns-in_err-code
+unfolding declared_at
+returns-in_err-code c = leaves_as _ c.from_residual.result _ c.from_residual.ensures.1 (stops _ c.in_err-code.ensures)
 
 pub returns-then-code-eq0 : goal.returns-then-code-eq0
-returns-then-code-eq0 c = declared_end _ _ _ (told (goal.at.returns-then-code-eq0 c).In-Is) c.if-code-eq0.true
+unfolding mapped
+returns-then-code-eq0 c = sym (end_is _ _ _ (sym c.in_ok-code.ensures) c.if-code-eq0.true)
 
 pub slice_bounds-place_at-count : goal.slice_bounds-place_at-count
-slice_bounds-place_at-count c = (unsigned_taken _ _ (told (goal.at.slice_bounds-place_at-count c).In-Is)).within
+slice_bounds-place_at-count c = (unsigned_taken _ _ (sym c.in_ok-code.ensures)).within
 
 pub slice_bounds-place_at-start : goal.slice_bounds-place_at-start
-slice_bounds-place_at-start c = (unsigned_taken _ _ (told (goal.at.slice_bounds-place_at-start c).In-Is)).within
+slice_bounds-place_at-start c = (unsigned_taken _ _ (sym c.in_ok-code.ensures)).within
 
-pub returns-in_default-place_at : goal.returns-in_default-place_at
-returns-in_default-place_at c =
-    let k = sym c.place_at.ensures ∙ ap place_check c.in_default-place_at.is in
-    declared_broken _ _ _ (told (goal.at.returns-in_default-place_at c).In-Is) c.if-code-eq0.false (ap place_at (sym (rest c.in-Is.n c.args.s.now)) ∙ k)
+pub returns-in_err-place : goal.returns-in_err-place
+unfolding mapped
+returns-in_err-place c =
+    leaves_as _ c.from_residual-in_err-place.result _ c.from_residual-in_err-place.ensures.1
+    (stops _ (c.in_err-place.ensures ∙ ap place_at (rest c.in_ok-code.n c.args.s.now)) ∙ sym (coded _ _ _ (sym c.in_ok-code.ensures) c.if-code-eq0.false))
 
 pub overflow_add-result : goal.overflow_add-result
-overflow_add-result c = omega (arith, (room (goal.at.overflow_add-result c).In-Is-place_at).0)
+overflow_add-result c = omega (arith, (room (goal.at.overflow_add-result c).In_ok-place).0)
 
 pub overflow_add-result-2 : goal.overflow_add-result-2
-overflow_add-result-2 c = omega (arith, (room (goal.at.overflow_add-result-2 c).In-Is-place_at).1)
+overflow_add-result-2 c = omega (arith, (room (goal.at.overflow_add-result-2 c).In_ok-place).1)
 
 pub returns : goal.returns
-returns c = declared_is _ _ _ (told (goal.at.returns c).In-Is) c.if-code-eq0.false _ (placed (goal.at.returns c).In-Is-place_at)
+unfolding mapped
+returns c = goes _ (placed (goal.at.returns c).In_ok-place) refl ∙ sym (coded _ _ _ (sym c.in_ok-code.ensures) c.if-code-eq0.false)

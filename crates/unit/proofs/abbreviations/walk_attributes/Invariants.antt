@@ -7,8 +7,8 @@ use Rattle.unit.specs.Tables.{attributes_size}
 use Rattle.unit.proofs.Sizes.{further}
 use Rattle.unit.proofs.abbreviations.walk_attributes.Given as goal
 
-abbrev pub invariant-loop-name : goal.invariant-loop-name
-invariant-loop-name l = (l.at ≤ length l.s) × (further l.at (attributes_size (drop l.at l.s)) ≡ attributes_size l.s)
+abbrev pub invariant-loop-attribute : goal.invariant-loop-attribute
+invariant-loop-attribute l = (l.at ≤ length l.s) × (further l.at (attributes_size (drop l.at l.s)) ≡ attributes_size l.s)
 
-abbrev pub decreases-loop-name : goal.decreases-loop-name
-decreases-loop-name l = length l.s - l.at
+abbrev pub decreases-loop-attribute : goal.decreases-loop-attribute
+decreases-loop-attribute l = length l.s - l.at

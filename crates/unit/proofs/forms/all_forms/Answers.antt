@@ -2,7 +2,7 @@
 -- Assumes nothing.
 use mathlib.Core.Path.{refl}
 use Rattle.unit.specs.Forms.{forms}
-use Rattle.unit.specs.Widths.{width_is, form_is}
+use Rattle.unit.specs.Widths.{form_is, width_is}
 use Rattle.unit.proofs.forms.all_forms.Goals as goal
 
 pub returns : goal.returns

@@ -1,20 +1,18 @@
 -- `unit::forms::block_size` meets its contract.
 -- Assumes nothing.
-use mathlib.Core.Path.{ap, ◌∙◌}
+use mathlib.Core.Path.{refl, ap, ◌∙◌}
 use Prim.Native.Nat.{ℕ, ◌+◌}
-use native.Mathlib.Omega.{arith}
-use Rattle.leb128.specs.Answers.{size_check}
-use Rattle.leb128.specs.declared.Size.TheVariants.{Is}
-use Rattle.unit.proofs.Sizes.{block_none, block_long, block_in}
+use borrow.Author.Tests.{le-leb, lt-leb}
+use Rattle.unit.specs.Widths.{ends, block_within}
+use Rattle.unit.proofs.Steps.{stops, goes, stops_at, goes_past}
 use Rattle.unit.proofs.forms.block_size.Goals as goal
 
 pub returns-then-s-n : goal.returns-then-s-n
-returns-then-s-n c = block_none _ _ _ c.if-s-n.true
-
-pub returns-then-left-count : goal.returns-then-left-count
-returns-then-left-count c = block_long _ _ _ c.if-s-n.false _ c.number_at-count.ensures (omega (arith, c.long-left.ensures))
+unfolding block_within
+returns-then-s-n c = stops _ (stops_at _ _ (lt-leb _ _ c.if-s-n.true))
 
 pub returns : goal.returns
+unfolding block_within
 returns c =
     let a = c.args in
-    ap (λ (k : ℕ). size_check 12 (Is (a.n + k))) c.size.ensures ∙ block_in _ _ _ c.if-s-n.false _ c.number_at-count.ensures (omega (arith, c.long-left.ensures))
+    goes _ (goes_past _ _ (le-leb _ _ c.if-s-n.false) refl) (c.counted.ensures ∙ ap (λ (k : ℕ). ends a.s.now (a.n + k)) c.number_at.ensures)

@@ -1,38 +1,45 @@
--- `unit::forms::width_of` meets its contract.
+-- `unit::forms::width_of` meets its contract: the first form of the table that is asked for, and its width.
 -- Assumes nothing.
-use mathlib.Core.Path.{◌≡◌, refl, sym, ap, ◌∙◌}
-use mathlib.Core.Option.{some}
-use native.Mathlib.Omega.{arith}
-use lib.ListN.{get_or}
-use Rattle.unit.specs.Forms.{Form, forms}
-use Rattle.unit.specs.Widths.{form_is, no_form, width_found}
-use Rattle.unit.specs.declared.forms.Width.TheVariants.{Fixed}
-use Rattle.unit.proofs.Entries.{width_here, width_on, width_none, in_forms, past_forms, read_at}
+use mathlib.Core.Path.{◌≡◌, refl, ap, ◌∙◌}
+use mathlib.Core.List.{List, [], ◌∷◌, map}
+use Prim.Native.Nat.{ℕ}
+use native.Mathlib.Decide.{ℕ_discrete}
+use lib.Dec.{eqb}
+use borrow.Author.Tests.{tests, eq-eqb, ne_eqb}
+use Rattle.std.specs.Prelude.{Option, Some, None, option_map, MatchOption}
+use Rattle.std.specs.Option.{IsSomeAnd}
+use Rattle.std.specs.List.{find}
+use Rattle.std.proofs.Common.{rules, Bor}
+use Rattle.std.proofs.lemmas.Iterator.{YieldsList-from_slice}
+use Rattle.std.proofs.lemmas.Iterator.Search.{find_from_yields_List}
+use Rattle.octets.specs.Options.{found}
+use Rattle.unit.specs.Forms.{width_in}
+use Rattle.unit.specs.Widths.{width_is, form_is}
+use Rattle.unit.specs.declared.forms.Form.{Form}
+use Rattle.unit.specs.declared.forms.Width.{Width}
 use Rattle.unit.proofs.forms.width_of.Goals as goal
-use Rattle.unit.proofs.forms.width_of.Goals.{In-loop-i}
 
--- the entry that a turn reads
-read : (c : In-loop-i)
-    → form_is (get_or c.all_forms-table.result c.loop-i.i (record { form = 0; width = Fixed 0 })) ≡ get_or forms c.loop-i.i no_form
-read c = read_at c.all_forms-table.result c.loop-i.i c.all_forms-table.ensures
+-- the first row of a form, and its width
+first : (fs : List Form) (f : ℕ) → option_map (λ (x : Form). width_is x.width) (find (λ x. eqb x.form f) fs) ≡ found (width_in (map form_is fs) f)
+unfolding form_is width_in
+first [] f = refl
+first (x ∷ fs) f = elim (ℕ_discrete x.form f) [
+  | yes e ↦ rw (width_in, eq-eqb x.form f e)
+  | no e ↦ rw (width_in, ne_eqb x.form f e) (first fs f)
+]
 
-pub loop-i-init : goal.loop-i-init
-loop-i-init c = (omega arith, refl)
-
-pub returns-then-f-form : goal.returns-then-f-form
-unfolding form_is width_found
-returns-then-f-form c =
-    let l = c.loop-i in
-    ap (λ (z : Form). some z.width) (read (goal.at.returns-then-f-form c).In-loop-i)
-    ∙ width_here forms l.i _ (in_forms c.loop-i-test.true) (ap (λ (z : Form). z.form) (sym (read (goal.at.returns-then-f-form c).In-loop-i)) ∙ c.if-f-form.true)
-    ∙ l.invariant.1
-
-pub loop-i-preserved : goal.loop-i-preserved
-unfolding form_is
-loop-i-preserved c =
-    let l = c.loop-i in
-    (omega arith, width_on forms l.i _ (in_forms c.loop-i-test.true) (λ e. c.if-f-form.false (ap (λ (z : Form). z.form) (read (goal.at.loop-i-preserved c).In-loop-i) ∙ e)) ∙ l.invariant.1)
+width : (o : Option (Bor Form)) (r : Option Width) {L : Bor Form → Width → Type 0} → MatchOption o (r ≡ None) (λ x. IsSomeAnd r (L x))
+    → ((x : Bor Form) (w : Width) → L x w → w ≡ x.now.width) → option_map width_is r ≡ option_map (λ (x : Form). width_is x.width) (option_map (λ x. x.now) o)
+width None r h k = ap (option_map width_is) h
+width (Some x) None h k = elim h [ ]
+width (Some x) (Some w) h k = ap (λ (v : Width). Some (width_is v)) (k x w h)
 
 pub returns : goal.returns
-unfolding width_found
-returns c = width_none forms _ _ (past_forms c.loop-i-test.false) ∙ c.loop-i.invariant.1
+returns c =
+    let test = λ (x : Form). eqb x.form c.args.form in
+    let f : option_map (λ x. x.now) c.find.result ≡ find test c.all_forms-table.result =
+    find_from_yields_List test _ _ c.find.result c.find.ensures.ran (YieldsList-from_slice _ c.iter.ensures.rest) (λ x b q k. search (rules, tests)) in
+    width c.find.result c.map.result c.map.ensures.cases (λ x w k. search rules)
+    ∙ ap (option_map (λ (x : Form). width_is x.width)) f
+    ∙ first c.all_forms-table.result c.args.form
+    ∙ ap (λ t. found (width_in t c.args.form)) c.all_forms-table.ensures

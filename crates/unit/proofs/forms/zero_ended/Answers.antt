@@ -1,18 +1,20 @@
 -- `unit::forms::zero_ended` meets its contract.
 -- Assumes nothing.
-use mathlib.Core.Path.{sym, ◌∙◌}
-use native.Mathlib.Omega.{arith}
-use Rattle.unit.proofs.Sizes.{further_none, zero_none, zero_here, zero_on}
+use mathlib.Core.Path.{◌≡◌, sym, ap, ◌∙◌}
+use lib.Dec.{eqb}
+use borrow.Author.Tests.{tests}
+use Rattle.std.proofs.Common.{rules}
+use Rattle.std.proofs.lemmas.Iterator.{YieldsList-from_slice}
+use Rattle.std.proofs.lemmas.Iterator.Search.{position_from_yields_List}
+use Rattle.unit.proofs.Sizes.{ended_at, first_zero, zero_first}
 use Rattle.unit.proofs.forms.zero_ended.Goals as goal
+use Rattle.unit.proofs.forms.zero_ended.Goals.{After-position}
 
-pub loop-i-init : goal.loop-i-init
-loop-i-init c = (omega arith, further_none _)
+searched : (c : After-position) → c.position.result ≡ first_zero c.args.s.now
+searched c = position_from_yields_List (λ b. eqb b 0) _ _ c.position.result c.position.ensures.ran (YieldsList-from_slice c.args.s.now c.iter.ensures.rest) (λ x b q k. search (rules, tests))
 
-pub returns-then-s-i-eq0 : goal.returns-then-s-i-eq0
-returns-then-s-i-eq0 c = sym (zero_here _ _ c.loop-i-test.true c.if-s-i-eq0.true) ∙ c.loop-i.invariant.1
+pub returns-in-Some : goal.returns-in-Some
+returns-in-Some c = ap ended_at (sym c.in-Some.is ∙ searched (goal.at.returns-in-Some c).After-position) ∙ zero_first c.args.s.now
 
-pub loop-i-preserved : goal.loop-i-preserved
-loop-i-preserved c = (omega arith, zero_on _ _ c.loop-i-test.true c.if-s-i-eq0.false ∙ c.loop-i.invariant.1)
-
-pub returns : goal.returns
-returns c = sym (zero_none _ _ c.loop-i-test.false) ∙ c.loop-i.invariant.1
+pub returns-in-None : goal.returns-in-None
+returns-in-None c = ap ended_at (sym c.in-None.is ∙ searched (goal.at.returns-in-None c).After-position) ∙ zero_first c.args.s.now

@@ -1,20 +1,17 @@
 -- `unit::header::five_kind` meets its contract.
 -- Assumes nothing.
-use mathlib.Core.Logic.{inl, inr}
+use Rattle.std.proofs.Common.{rules}
 use Rattle.unit.proofs.Fields.{kind_compilation, kind_signature, kind_other}
 use Rattle.unit.proofs.header.five_kind.Goals as goal
 
-pub returns-then-unit_type-eq-SKELETON_UNIT : goal.returns-then-unit_type-eq-SKELETON_UNIT
-returns-then-unit_type-eq-SKELETON_UNIT c = kind_compilation _ (inl c.if-unit_type-eq-SKELETON_UNIT.true)
+pub returns-in-2 : goal.returns-in-2
+returns-in-2 c = kind_signature _ c.in-2.is
 
-pub returns-then-unit_type-eq-SPLIT_UNIT : goal.returns-then-unit_type-eq-SPLIT_UNIT
-returns-then-unit_type-eq-SPLIT_UNIT c = kind_compilation _ (inr c.if-unit_type-eq-SPLIT_UNIT.true)
+pub returns-in-4 : goal.returns-in-4
+returns-in-4 c = kind_compilation _ (search rules)
 
-pub returns-then-unit_type-eq-TYPE_UNIT : goal.returns-then-unit_type-eq-TYPE_UNIT
-returns-then-unit_type-eq-TYPE_UNIT c = kind_signature _ (inl c.if-unit_type-eq-TYPE_UNIT.true)
+pub returns-in_default : goal.returns-in_default
+returns-in_default c = kind_other _ (search rules) (search rules) (search rules) (search rules)
 
-pub returns-then-unit_type-eq-SPLIT_TYPE_UNIT : goal.returns-then-unit_type-eq-SPLIT_TYPE_UNIT
-returns-then-unit_type-eq-SPLIT_TYPE_UNIT c = kind_signature _ (inr c.if-unit_type-eq-SPLIT_TYPE_UNIT.true)
-
-pub returns : goal.returns
-returns c = kind_other _ c.if-unit_type-eq-SKELETON_UNIT.false c.if-unit_type-eq-SPLIT_UNIT.false c.if-unit_type-eq-TYPE_UNIT.false c.if-unit_type-eq-SPLIT_TYPE_UNIT.false
+pub returns-in_default-2 : goal.returns-in_default-2
+returns-in_default-2 c = kind_other _ (search rules) (search rules) (search rules) (search rules)

@@ -5,69 +5,57 @@ use mathlib.Core.Bool.{true}
 use mathlib.Core.List.{List}
 use Prim.Native.Nat.{ℕ}
 use native.Mathlib.Omega.{arith}
+use lib.ListN.{length, take, get_or}
 use lib.Seq.{length-take-le}
-use lib.ListN.{take, get_or}
 use Rattle.octets.specs.Checked.{pass}
 use Rattle.bundle.specs.Encoded.{encoding_is}
-use Rattle.leb128.specs.Answers.{size_check}
-use Rattle.unit.specs.Headers.{unit_inside, fields_good, kind_of, header_size}
-use Rattle.unit.specs.declared.header.AddressSize.TheVariants.{Is}
+use Rattle.unit.specs.Headers.{fields_good, header_size}
+use Rattle.unit.proofs.HeaderAlone.{alone_not, alone_fields, fields_there, alone_header, alone_whole, address_there}
 use Rattle.unit.proofs.Fields.{place_lt}
+use Rattle.unit.proofs.Steps.{leaves}
 use Rattle.unit.proofs.Units.{inside_le}
-use Rattle.unit.proofs.HeaderAlone.{alone_none, alone_fields, fields_there, alone_header, alone_whole, address_there}
 use Rattle.unit.proofs.header.stated_address.Goals as goal
-use Rattle.unit.proofs.header.stated_address.Goals.{After-header_size, Else-not-fields_good, In-Is}
-
-told : (c : In-Is) → unit_inside (encoding_is c.args.e) c.args.s.now ≡ pass c.in-Is.size
-told c = sym c.unit_size.ensures ∙ ap (size_check 11) c.in-Is.is
+use Rattle.unit.proofs.header.stated_address.Goals.{In_ok-size, then-not-fields_good-via-then-not-fields_good, then-not-fields_good-via-else-not-fields_good+then-size-header_size}
 
 -- the unit's own bytes
-abbrev own : (c : In-Is) → List ℕ
-own c = take c.in-Is.size c.args.s.now
+abbrev own : (c : In_ok-size) → List ℕ
+own c = take c.in_ok-size.size c.args.s.now
 
--- the unit's own bytes
-abbrev own_at_Else_not_fields_good : (c : Else-not-fields_good) → List ℕ
-own_at_Else_not_fields_good c = take c.in-Is.size c.args.s.now
+own_size : (c : In_ok-size) → length (own c) ≡ c.in_ok-size.size
+own_size c = length-take-le c.in_ok-size.size c.args.s.now (inside_le _ _ _ (sym c.in_ok-size.ensures))
 
-judged : (c : Else-not-fields_good) → fields_good (encoding_is c.args.e) (own_at_Else_not_fields_good c) ≡ true
-judged c = sym c.fields_good.ensures ∙ c.if-not-fields_good.false
+pub returns-in_err-size : goal.returns-in_err-size
+returns-in_err-size c = leaves c.from_residual.result _ c.from_residual.ensures.1 (alone_not _ _ _ c.in_err-size.ensures)
 
--- the unit's own bytes
-abbrev own_at_After_header_size : (c : After-header_size) → List ℕ
-own_at_After_header_size c = take c.in-Is.size c.args.s.now
+pub slice_bounds-unit-end : goal.slice_bounds-unit-end
+slice_bounds-unit-end c = sym (own_size (goal.at.slice_bounds-unit-end c).In_ok-size)
 
-header : (c : After-header_size)
-    → c.header_size.result ≡ header_size (encoding_is c.args.e) (kind_of (encoding_is c.args.e) 1 (own_at_After_header_size c))
-header c = c.header_size.ensures ∙ ap (header_size (encoding_is c.args.e)) c.kind_of-kind.ensures
-
-pub returns-in_default : goal.returns-in_default
-returns-in_default c = alone_none _ _ (sym c.unit_size.ensures ∙ ap (size_check 11) c.in_default.is)
-
-pub slice_bounds-u-end : goal.slice_bounds-u-end
-slice_bounds-u-end c =
-    let a = c.args in
-    sym (length-take-le c.in-Is.size a.s.now (inside_le _ _ _ (told (goal.at.slice_bounds-u-end c).In-Is)))
+pub kind-requires : goal.kind-requires
+kind-requires c = fields_there (encoding_is c.args.e) c.args.s.now _ (sym c.in_ok-size.ensures) (sym c.fields_good.ensures ∙ c.if-not-fields_good.false)
 
 pub returns-then-not-fields_good : goal.returns-then-not-fields_good
-returns-then-not-fields_good c = alone_fields _ _ _ (told (goal.at.returns-then-not-fields_good c).In-Is) (sym c.fields_good.ensures ∙ c.if-not-fields_good.true)
+returns-then-not-fields_good c =
+    let i = sym c.in_ok-size.ensures in
+    let l = own_size (goal.at.returns-then-not-fields_good c).In_ok-size in
+    elim c.then-not-fields_good.branch [
+      | then-not-fields_good-via-then-not-fields_good w ↦ alone_fields _ _ _ i (sym c.fields_good.ensures ∙ w.if-not-fields_good.true)
+      | then-not-fields_good-via-else-not-fields_good+then-size-header_size w ↦
+          let h = w.header_size.ensures ∙ ap (header_size (encoding_is c.args.e)) w.kind.ensures in
+          alone_header _ _ _ i (sym c.fields_good.ensures ∙ w.if-not-fields_good.false) (omega (arith, l, h, w.if-size-header_size.true))
+    ]
 
-pub kind_of-kind-requires : goal.kind_of-kind-requires
-kind_of-kind-requires c =
-    let a = c.args in
-    fields_there (encoding_is a.e) a.s.now _ (told (goal.at.kind_of-kind-requires c).In-Is) (judged (goal.at.kind_of-kind-requires c).Else-not-fields_good)
-
-pub returns-then-u-header_size : goal.returns-then-u-header_size
-returns-then-u-header_size c = alone_header _ _ _ (told (goal.at.returns-then-u-header_size c).In-Is) (judged (goal.at.returns-then-u-header_size c).Else-not-fields_good) (rw (header (goal.at.returns-then-u-header_size c).After-header_size) at c.if-u-header_size.true)
-
-pub bounds-u-place : goal.bounds-u-place
-bounds-u-place c =
-    let a = c.args in
-    omega (arith, c.address_place-place.ensures, fields_there (encoding_is a.e) a.s.now _ (told (goal.at.bounds-u-place c).In-Is) (judged (goal.at.bounds-u-place c).Else-not-fields_good), place_lt (encoding_is a.e))
+pub bounds-unit-address_place : goal.bounds-unit-address_place
+bounds-unit-address_place c =
+    let e = encoding_is c.args.e in
+    omega (arith, c.address_place.ensures, fields_there e c.args.s.now _ (sym c.in_ok-size.ensures) (sym c.fields_good.ensures ∙ c.if-not-fields_good.false), place_lt e)
 
 pub returns : goal.returns
 returns c =
-    let a = c.args in
-    let e = encoding_is a.e in
-    let s = a.s.now in
-    ap Is (ap (λ (n : ℕ). get_or (own (goal.at.returns c).In-Is) n 0) c.address_place-place.ensures ∙ address_there e s _ (told (goal.at.returns c).In-Is) (judged (goal.at.returns c).Else-not-fields_good))
-    ∙ alone_whole e s _ (told (goal.at.returns c).In-Is) (judged (goal.at.returns c).Else-not-fields_good) (rw (header (goal.at.returns c).After-header_size) at c.if-u-header_size.false)
+    let e = encoding_is c.args.e in
+    let s = c.args.s.now in
+    let i = sym c.in_ok-size.ensures in
+    let g : fields_good e (own (goal.at.returns c).In_ok-size) ≡ true = sym c.fields_good.ensures ∙ c.if-not-fields_good.false in
+    let l = own_size (goal.at.returns c).In_ok-size in
+    let h = c.header_size.ensures ∙ ap (header_size e) c.kind.ensures in
+    ap (λ (n : ℕ). pass n) (ap (λ (n : ℕ). get_or (own (goal.at.returns c).In_ok-size) n 0) c.address_place.ensures ∙ address_there e s _ i g)
+    ∙ alone_whole e s _ i g (omega (arith, l, h, c.if-size-header_size.false))

@@ -1,25 +1,43 @@
 -- `unit::header::unit_identity` meets its contract.
 -- Assumes nothing.
+use mathlib.Core.Path.{◌≡◌, refl, sym, ◌∙◌}
 use mathlib.Core.List.{[]}
-use native.Mathlib.Omega.{arith}
+use Rattle.octets.specs.Checked.{Check, mapped, ◌>>=◌}
 use Rattle.bundle.specs.Encoded.{encoding_is}
-use Rattle.unit.proofs.Cuts.{cut_length, answer_short, answer_whole, answer_good}
+use Rattle.unit.specs.UnitRead.{Identity}
+use Rattle.unit.specs.Headers.{identity_by, non_zero, identity_good}
+use Rattle.unit.specs.TableTrees.{abbreviations_bytes, unit_bytes}
+use Rattle.unit.proofs.Cuts.{cut, answer_short, answer_good}
+use Rattle.unit.proofs.Heads.{zero_refused, zero_not}
+use Rattle.unit.proofs.Steps.{leaves_as}
 use Rattle.unit.proofs.header.unit_identity.Goals as goal
+use Rattle.unit.proofs.header.unit_identity.Goals.{Else-place-header_size}
 
-pub kind_of-kind-requires : goal.kind_of-kind-requires
-kind_of-kind-requires c = omega (arith, c.requires.0, cut_length (encoding_is c.args.e) 0 [] c.args.b.now c.args.place.at c.args.place.size c.requires.1.unit)
-
-pub returns-then-place-header_size : goal.returns-then-place-header_size
-returns-then-place-header_size c =
+-- what is read of the identity, where the kind's header is there
+good : (c : Else-place-header_size) (m : Check Identity)
+    → m ≡ identity_by (encoding_is c.args.e) c.kind-kind.result (abbreviations_bytes c.args.b.now c.args.place) (cut (encoding_is c.args.e) c.args.home [] c.args.b.now c.args.place.at c.args.place.size c.requires.1.unit)
+    → non_zero m ≡ identity_good (encoding_is c.args.e) c.args.home (abbreviations_bytes c.args.b.now c.args.place) (unit_bytes c.args.b.now c.args.place)
+good c m =
     let a = c.args in
-    record { is = answer_short (encoding_is a.e) a.home _ a.b.now a.place.at a.place.size c.requires.1.unit _ _ c.kind_of-kind.ensures c.header_size.ensures c.requires.0 c.if-place-header_size.true; memory = c.requires.2.memory }
+    answer_good (encoding_is a.e) a.home _ a.b.now a.place.at a.place.size c.requires.1.unit _ _ c.kind-kind.ensures c.header_size.ensures c.if-place-header_size.false m
 
-pub identity_of-read-requires : goal.identity_of-read-requires
-identity_of-read-requires c =
+pub returns-then-place-header_size-clause-is : goal.returns-then-place-header_size-clause-is
+unfolding mapped
+returns-then-place-header_size-clause-is c =
     let a = c.args in
-    (answer_whole (encoding_is a.e) a.home [] a.b.now a.place.at a.place.size c.requires.1.unit _ _ c.kind_of-kind.ensures c.header_size.ensures c.if-place-header_size.false, c.requires.1, c.requires.2)
+    answer_short (encoding_is a.e) a.home _ a.b.now a.place.at a.place.size c.requires.1.unit _ _ c.kind-kind.ensures c.header_size.ensures c.requires.0 c.if-place-header_size.true
 
-pub returns : goal.returns
-returns c =
-    let a = c.args in
-    record { is = answer_good (encoding_is a.e) a.home _ a.b.now a.place.at a.place.size c.requires.1.unit _ _ c.kind_of-kind.ensures c.header_size.ensures c.if-place-header_size.false c.identity_of-read.result.identity _ c.identity_of-read.ensures.is c.answer_of.ensures; memory = c.identity_of-read.ensures.memory }
+pub returns-in_err-identity-clause-is : goal.returns-in_err-identity-clause-is
+unfolding mapped non_zero ◌>>=◌
+returns-in_err-identity-clause-is c =
+    leaves_as _ c.from_residual.result _ c.from_residual.ensures.1 (good (goal.at.returns-in_err-identity-clause-is c).Else-place-header_size _ c.in_err-identity.ensures.is)
+
+pub returns-then-identity-eq0-clause-is : goal.returns-then-identity-eq0-clause-is
+unfolding mapped
+returns-then-identity-eq0-clause-is c =
+    sym (zero_refused _ _ refl c.if-identity-eq0.true) ∙ good (goal.at.returns-then-identity-eq0-clause-is c).Else-place-header_size _ c.in_ok-identity.ensures.is
+
+pub returns-clause-is : goal.returns-clause-is
+unfolding mapped
+returns-clause-is c =
+    sym (zero_not _ _ refl c.if-identity-eq0.false) ∙ good (goal.at.returns-clause-is c).Else-place-header_size _ c.in_ok-identity.ensures.is

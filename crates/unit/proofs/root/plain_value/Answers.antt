@@ -2,25 +2,34 @@
 -- Assumes nothing.
 use mathlib.Core.Path.{◌≡◌, sym, ap, ◌∙◌}
 use mathlib.Core.Option.{some}
-use Rattle.leb128.specs.Answers.{size_check}
+use Rattle.std.specs.Prelude.{Some, option_map}
+use Rattle.std.proofs.Common.{arith}
+use Rattle.octets.specs.Checked.{refuse, mapped}
+use Rattle.numbers.specs.Refused.{number_of}
+use Rattle.numbers.specs.declared.refusals.Refusal.{Refusal}
 use Rattle.unit.specs.Forms.{forms, width_in}
-use Rattle.unit.specs.Widths.{width_is, width_found}
+use Rattle.unit.specs.Widths.{width_is}
+use Rattle.unit.proofs.Steps.{leaves_as, found_some, found_none, ok_or_none}
 use Rattle.unit.proofs.Values.{plain_unknown, plain_not, plain_is}
 use Rattle.unit.proofs.root.plain_value.Goals as goal
-use Rattle.unit.proofs.root.plain_value.Goals.{In-Is}
+use Rattle.unit.proofs.root.plain_value.Goals.{In_ok-width}
 
-told : (c : In-Is) → width_in forms c.args.form ≡ some (width_is c.in-Is.width)
-unfolding width_found
-told c = sym c.width_of.ensures ∙ ap width_found c.in-Is.is
+known : (c : In_ok-width) → width_in forms c.args.form ≡ some (width_is c.in_ok-width.width)
+known c =
+    let w : c.width_of.result ≡ Some c.in_ok-width.width = grind arith in
+    found_some _ _ (sym c.width_of.ensures ∙ ap (option_map width_is) w)
 
-pub returns-in_default : goal.returns-in_default
-unfolding width_found
-returns-in_default c = sym (plain_unknown _ _ _ (sym c.width_of.ensures ∙ ap width_found c.in_default.is))
+pub returns-in_err-width : goal.returns-in_err-width
+returns-in_err-width c =
+    let p = ok_or_none c.width_of.result _ _ c.in_err-width.ensures.value in
+    leaves_as _ c.from_residual.result _ c.from_residual.ensures.1
+    (ap (λ (r : Refusal). refuse (number_of r)) p.1 ∙ sym (plain_unknown _ _ _ (found_none _ (sym c.width_of.ensures ∙ ap (option_map width_is) p.0))))
 
-pub returns-in_default-value_size : goal.returns-in_default-value_size
-returns-in_default-value_size c =
-    let k = sym c.value_size.ensures ∙ ap (size_check 12) c.in_default-value_size.is in
-    sym (plain_not _ _ _ _ (told (goal.at.returns-in_default-value_size c).In-Is) 12 k)
+pub returns-in_err-size : goal.returns-in_err-size
+returns-in_err-size c =
+    leaves_as _ c.from_residual-in_err-size.result _ c.from_residual-in_err-size.ensures.1
+    (sym (plain_not _ _ _ _ (known (goal.at.returns-in_err-size c).In_ok-width) _ (sym c.in_err-size.ensures)))
 
 pub returns : goal.returns
-returns c = sym (plain_is _ _ _ _ (told (goal.at.returns c).In-Is) _ (sym c.value_size.ensures ∙ ap (size_check 12) c.in-Is-value_size.is))
+unfolding mapped
+returns c = sym (plain_is _ _ _ _ (known (goal.at.returns c).In_ok-width) _ (sym c.in_ok-size.ensures))

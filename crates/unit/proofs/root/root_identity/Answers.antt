@@ -1,33 +1,45 @@
 -- `unit::root::root_identity` meets its contract.
 -- Assumes nothing.
+use mathlib.Core.Path.{ap, ◌∙◌}
 use native.Mathlib.Omega.{arith}
+use Rattle.octets.specs.Checked.{refuse}
+use Rattle.numbers.specs.Refused.{number_of}
+use Rattle.numbers.specs.declared.refusals.Refusal.{Refusal}
+use Rattle.unit.specs.TableTrees.{Knows, Recalls}
+use Rattle.unit.proofs.Steps.{leaves}
 use Rattle.unit.proofs.Rooted.{root_table}
-use Rattle.unit.proofs.Recalling.{recalls_bad, recalls_memory, recalls_within, recalls_held}
+use Rattle.unit.proofs.Recalling.{known_memory, known_within, known_held}
 use Rattle.unit.proofs.root.root_identity.Goals as goal
+use Rattle.unit.proofs.root.root_identity.Goals.{In_ok-recall}
 
-pub returns-in_default : goal.returns-in_default
-returns-in_default c = record { is = root_table _ _ _ (recalls_bad _ _ _ _ _ c.recall.ensures c.in_default.is); memory = c.nothing.ensures _ _ }
+known : (c : In_ok-recall) → Knows c.args.b.now c.recall.new.codes c.args.at c.args.end c.recall.new.self
+unfolding Recalls
+known c = c.in_ok-recall.ensures
+
+pub returns-in_err-recall-clause-is : goal.returns-in_err-recall-clause-is
+unfolding Recalls
+returns-in_err-recall-clause-is c =
+    leaves c.from_residual.result _ c.from_residual.ensures.1
+    (ap (λ (r : Refusal). refuse (number_of r)) c.in_err-recall.ensures.0 ∙ root_table _ _ _ c.in_err-recall.ensures.2)
+
+pub returns-in_err-recall-clause-memory : goal.returns-in_err-recall-clause-memory
+unfolding Recalls
+returns-in_err-recall-clause-memory c = c.in_err-recall.ensures.1
 
 pub overflow_mul-to : goal.overflow_mul-to
-overflow_mul-to c = omega (arith, recalls_within _ _ _ _ _ c.recall.ensures _ c.in-Known.is)
+overflow_mul-to c = omega (arith, known_within _ _ _ _ _ (known (goal.at.overflow_mul-to c).In_ok-recall))
 
 pub overflow_add-to : goal.overflow_add-to
-overflow_add-to c = omega (arith, recalls_within _ _ _ _ _ c.recall.ensures _ c.in-Known.is)
+overflow_add-to c = omega (arith, known_within _ _ _ _ _ (known (goal.at.overflow_add-to c).In_ok-recall))
 
-pub offset_bounds-codes-from : goal.offset_bounds-codes-from
-offset_bounds-codes-from c = omega (arith, recalls_within _ _ _ _ _ c.recall.ensures _ c.in-Known.is)
-
-pub slice_bounds-root_in-count-2 : goal.slice_bounds-root_in-count-2
-slice_bounds-root_in-count-2 c = omega (arith, recalls_within _ _ _ _ _ c.recall.ensures _ c.in-Known.is)
-
-pub slice_bounds-root_in-start-2 : goal.slice_bounds-root_in-start-2
-slice_bounds-root_in-start-2 c = omega (arith, recalls_within _ _ _ _ _ c.recall.ensures _ c.in-Known.is)
+pub offset_bounds-codes-table : goal.offset_bounds-codes-table
+offset_bounds-codes-table c = omega (arith, known_within _ _ _ _ _ (known (goal.at.offset_bounds-codes-table c).In_ok-recall))
 
 pub slice_bounds-root_in-end-2 : goal.slice_bounds-root_in-end-2
-slice_bounds-root_in-end-2 c = omega (arith, recalls_within _ _ _ _ _ c.recall.ensures _ c.in-Known.is)
+slice_bounds-root_in-end-2 c = omega (arith, known_within _ _ _ _ _ (known (goal.at.slice_bounds-root_in-end-2 c).In_ok-recall))
 
-pub root_in-identity-requires : goal.root_in-identity-requires
-root_in-identity-requires c = recalls_held _ _ _ _ _ c.recall.ensures _ c.in-Known.is
+pub root_in-requires : goal.root_in-requires
+root_in-requires c = known_held _ _ _ _ _ (known (goal.at.root_in-requires c).In_ok-recall)
 
-pub returns : goal.returns
-returns c = record { is = c.root_in-identity.ensures; memory = recalls_memory _ _ _ _ _ c.recall.ensures _ c.in-Known.is }
+pub returns-clause-memory : goal.returns-clause-memory
+returns-clause-memory c = known_memory _ _ _ _ _ (known (goal.at.returns-clause-memory c).In_ok-recall)

@@ -1,12 +1,8 @@
--- `unit::root::skip_flags` meets its contract.
+-- `unit::root::skip_flags`: the pairs before the one at hand are flags.
 -- Assumes nothing.
-use Prim.Native.Nat.{◌-◌, ◌≤◌}
-use lib.ListN.{length}
+use Prim.Native.Nat.{◌*◌}
 use Rattle.unit.specs.Roots.{Skips}
 use Rattle.unit.proofs.root.skip_flags.Given as goal
 
 abbrev pub invariant-loop-i : goal.invariant-loop-i
-invariant-loop-i l = (l.i ≤ length l.t) × Skips l.t l.i
-
-abbrev pub decreases-loop-i : goal.decreases-loop-i
-decreases-loop-i l = length l.t - l.i
+invariant-loop-i l = Skips l.t (2 * l.i)

@@ -1,22 +1,13 @@
 -- `lookup::package::Package::row_part` meets its contract.
 -- Assumes nothing.
-use Rattle.index.proofs.Ends.{cell_small}
+use mathlib.Core.Path.{◌∙◌}
 use Rattle.octets.specs.Checked.{mapped}
-use Rattle.lookup.proofs.Searches as searches
-use mathlib.Core.Path.{sym, ◌∙◌}
+use Rattle.lookup.proofs.Searches.{row_placed, row_missing}
 use Rattle.lookup.proofs.package.Package.row_part.Goals as goal
 
-pub place_in-requires : goal.place_in-requires
-place_in-requires c =
-    let r = c.requires.1 in
-    let row = c.row_at-row.ensures in
-    let e = sym c.in-Is.is ∙ c.cell_of.ensures in
-    let small = cell_small c.args.self.now.head.encoding.big c.args.s.now _ _ c.args.section c.in-Is.offset c.in-Is.size (λ i. (c.type_inv.s i).fits) (rw row r.counted) (rw row r.within) e in
-    (c.requires.0, small.0, small.1)
+pub returns-in-Some : goal.returns-in-Some
+returns-in-Some c = c.place_in.ensures ∙ row_placed _ _ _ _ _ c.in-Some.ensures
 
-pub returns-in-Is : goal.returns-in-Is
-returns-in-Is c = c.place_in.ensures ∙ searches.row_placed _ _ c.args.self.now.opened _ _ c.args.slot _ _ c.row_at-row.ensures _ _ (sym c.in-Is.is ∙ c.cell_of.ensures)
-
-pub returns-in-Missing : goal.returns-in-Missing
+pub returns-in-None : goal.returns-in-None
 unfolding mapped
-returns-in-Missing c = searches.row_missing _ _ c.args.self.now.opened _ _ c.args.slot _ _ c.row_at-row.ensures (sym c.in-Missing.is ∙ c.cell_of.ensures)
+returns-in-None c = row_missing _ _ _ _ c.in-None.ensures

@@ -3,38 +3,39 @@
 use Rattle.octets.specs.Checked.{Check, pass, ◌>>=◌, mapped}
 use Rattle.lookup.specs.Lookup.{Place, part}
 use Rattle.std.proofs.lemmas.Result.{err_from_is_err_and}
-use Rattle.lookup.proofs.Asked.{code_lt}
-use Rattle.lookup.proofs.Searches as searches
-use mathlib.Core.Path.{ap, sym, ◌∙◌}
+use Rattle.lookup.proofs.Searches.{absent_in, index_well, search_absent, search_row, search_found}
+use mathlib.Core.Path.{ap, ◌∙◌}
 use Rattle.lookup.proofs.package.Package.search.Goals as goal
 
 pub returns-in_default : goal.returns-in_default
 unfolding mapped
-returns-in_default c = searches.part_none _ _ c.args.self.now.opened _ _ _ (sym c.in_default.is ∙ c.index_for.ensures)
+returns-in_default c = absent_in _ _ c.args.self.now.opened _ _ _ c.in_default.ensures
 
-pub section_bytes-s-requires : goal.section_bytes-s-requires
-section_bytes-s-requires c = rw c.index_code.ensures (code_lt _)
+pub find-slot-requires : goal.find-slot-requires
+find-slot-requires c = index_well _ _ c.args.self.now.opened _ _ c.in-Some.ensures
 
-pub find-requires : goal.find-requires
-find-requires c = searches.search_well _ _ c.args.self.now.opened _ _ (sym c.in-Some.is ∙ c.index_for.ensures) _ _ c.index_code.ensures c.section_bytes-s.ensures
+pub returns-in_default-slot : goal.returns-in_default-slot
+unfolding mapped
+returns-in_default-slot c = search_absent _ _ c.args.self.now.opened _ _ c.in-Some.ensures _ _ c.find-slot.ensures c.in_default-slot.is _
+
+pub row_at-requires : goal.row_at-requires
+row_at-requires c = (search_row _ _ c.args.self.now.opened _ _ c.in-Some.ensures _ _ c.find-slot.ensures _ c.in-Some-slot.is).inside
 
 pub row_part-requires : goal.row_part-requires
-row_part-requires c = (c.requires, searches.search_row _ _ c.args.self.now.opened _ _ (sym c.in-Some.is ∙ c.index_for.ensures) _ _ c.index_code.ensures c.section_bytes-s.ensures _ _ _ (sym c.in-Found.is ∙ c.find.ensures))
+row_part-requires c =
+    let r = search_row _ _ c.args.self.now.opened _ _ c.in-Some.ensures _ _ c.find-slot.ensures _ c.in-Some-slot.is in
+    (c.requires, rw c.row_at.ensures r.counted, rw c.row_at.ensures r.within)
 
-pub returns-in_err-place-in-Found : goal.returns-in_err-place-in-Found
+pub returns-in_err-place : goal.returns-in_err-place
 unfolding mapped ◌>>=◌
-returns-in_err-place-in-Found c =
+returns-in_err-place c =
     let p = err_from_is_err_and c.from_residual.result c.from_residual.ensures.1 in
     rw (p.1, p.2)
-    (ap (λ (m : Check Place). m >>= λ q. pass (part q.start q.size c.in-Found.looks)) c.in_err-place-in-Found.ensures
-    ∙ searches.search_found _ _ c.args.self.now.opened _ _ (sym c.in-Some.is ∙ c.index_for.ensures) _ _ c.index_code.ensures c.section_bytes-s.ensures _ _ _ (sym c.in-Found.is ∙ c.find.ensures) _)
+    (ap (λ (m : Check Place). m >>= λ s. pass (part s.start s.size c.find-slot.result.looks)) (rw c.row_at.ensures at c.in_err-place.ensures)
+    ∙ search_found _ _ c.args.self.now.opened _ _ c.in-Some.ensures _ _ c.find-slot.ensures _ c.in-Some-slot.is _)
 
-pub returns-in_ok-place-in-Found : goal.returns-in_ok-place-in-Found
+pub returns : goal.returns
 unfolding mapped ◌>>=◌
-returns-in_ok-place-in-Found c =
-    ap (λ (m : Check Place). m >>= λ q. pass (part q.start q.size c.in-Found.looks)) c.in_ok-place-in-Found.ensures
-    ∙ searches.search_found _ _ c.args.self.now.opened _ _ (sym c.in-Some.is ∙ c.index_for.ensures) _ _ c.index_code.ensures c.section_bytes-s.ensures _ _ _ (sym c.in-Found.is ∙ c.find.ensures) _
-
-pub returns-in-Absent : goal.returns-in-Absent
-unfolding mapped
-returns-in-Absent c = searches.search_absent _ _ c.args.self.now.opened _ _ (sym c.in-Some.is ∙ c.index_for.ensures) _ _ c.index_code.ensures c.section_bytes-s.ensures _ _ (sym c.in-Absent.is ∙ c.find.ensures) _
+returns c =
+    ap (λ (m : Check Place). m >>= λ s. pass (part s.start s.size c.find-slot.result.looks)) (rw c.row_at.ensures at c.in_ok-place.ensures)
+    ∙ search_found _ _ c.args.self.now.opened _ _ c.in-Some.ensures _ _ c.find-slot.ensures _ c.in-Some-slot.is _

@@ -1,0 +1,9 @@
+-- `index::reading::Index::codes_distinct` meets its contract.
+-- Assumes nothing.
+use mathlib.Core.Path.{◌≡◌}
+use lib.ListN.{drop}
+use Rattle.octets.specs.Lists.{distinct}
+use Rattle.index.proofs.reading.Index.codes_distinct.Given as goal
+
+abbrev pub invariant-loop-k : goal.invariant-loop-k
+invariant-loop-k l = distinct (drop l.k l.self.codes) ≡ distinct l.self.codes

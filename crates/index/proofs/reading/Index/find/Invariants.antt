@@ -1,0 +1,9 @@
+-- `index::reading::Index::find` meets its contract.
+-- Assumes nothing.
+use mathlib.Core.Path.{◌≡◌}
+use Prim.Native.Nat.{◌-◌, ◌<◌}
+use Rattle.index.specs.Probing.{look, probe}
+use Rattle.index.proofs.reading.Index.find.Given as goal
+
+abbrev pub invariant-loop-passed : goal.invariant-loop-passed
+invariant-loop-passed l = (l.at < l.slots) × (look (l.slots - l.passed) l.self.rows l.self.identities l.x l.at l.by l.passed ≡ probe l.self l.x)

@@ -1,0 +1,11 @@
+-- `kept::writing::put_slots` meets its contract: numbers that are left are still to be put.
+-- Assumes nothing.
+use mathlib.Core.Path.{◌≡◌}
+use mathlib.Core.List.{map}
+use lib.ListN.{drop}
+use Rattle.kept.specs.Indexed.{slot_number, slot_width}
+use Rattle.kept.proofs.Numbering.{Writing}
+use Rattle.kept.proofs.writing.IndexForm.put_slots.Given as goal
+
+abbrev pub invariant-loop-slot : goal.invariant-loop-slot
+invariant-loop-slot l = (l.width ≡ slot_width l.identities) × Writing l.self.big (slot_width l.identities) l.initial.out l.out l.at l.o (map (slot_number l.identities l.records) (drop l.slot-index l.slots)) (map (slot_number l.identities l.records) l.slots)

@@ -1,0 +1,13 @@
+-- `sheet::rows::IndexTable::put_row` meets its contract.
+-- Assumes nothing.
+use mathlib.Core.Path.{◌≡◌}
+use Prim.Native.Nat.{◌+◌, ◌*◌, ◌-◌}
+use lib.ListN.{length, drop}
+use Rattle.octets.specs.Octets.{placed}
+use Rattle.sheet.specs.Sheet.{cell_lines, row_lines}
+use Rattle.sheet.proofs.rows.IndexTable.put_row.Given as goal
+
+abbrev pub invariant-loop-k : goal.invariant-loop-k
+invariant-loop-k l = (length l.d ≡ length l.initial.d)
+    × (placed l.d (l.at + 40 * l.k) (cell_lines l.self.letter l.self.index l.identity ((l.row - 1) * length l.self.index.codes + l.k) (drop l.k l.self.index.codes))
+    ≡ placed l.initial.d l.at (row_lines l.self.letter l.self.index l.row l.identity))
