@@ -18,24 +18,24 @@ front_cleared b words n x e h =
 pub add_strings-requires : goal.add_strings-requires
 add_strings-requires c =
     let p = c.requires.1 in (
-      omega (arith, c.requires.0, c.clear_words.auto.s),
+      omega (arith, c.requires.0, c.fill.auto.s),
       record {
         limit = p.limit;
         offsets_inside = p.offsets_inside;
         strings_inside = p.strings_inside;
-        enough = omega (arith, p.enough, c.clear_words.auto.s);
+        enough = omega (arith, p.enough, c.fill.auto.s);
         room = p.room;
         small = p.small;
       },
-      ([], front_cleared _ _ _ _ c.clear_words.ensures c.requires.0),
+      ([], front_cleared _ _ _ _ c.fill.ensures c.requires.0),
     )
 
 pub write_sections-requires : goal.write_sections-requires
 unfolding places_from table_in
 write_sections-requires c =
     let p = c.requires.1 in
-    let d = c.in-Ok.ensures [] (front_cleared _ _ _ _ c.clear_words.ensures c.requires.0) in
-    let l = length-take-le c.args.words c.add_strings.new.store (omega (arith, c.requires.0, c.add_strings.auto.store, c.clear_words.auto.s)) in
+    let d = c.in-Ok.ensures [] (front_cleared _ _ _ _ c.fill.ensures c.requires.0) in
+    let l = length-take-le c.args.words c.add_strings.new.store (omega (arith, c.requires.0, c.add_strings.auto.store, c.fill.auto.s)) in
     record {
       inside = p.offsets_inside;
       entries = c.requires.2;
