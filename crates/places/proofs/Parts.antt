@@ -7,12 +7,10 @@ use Prim.Native.Nat.{ℕ, ◌+◌, ◌-◌, ◌<◌, ◌≤◌}
 use native.Mathlib.Omega.{arith}
 use lib.ListN.{length, take, drop, get_or}
 use Rattle.octets.specs.Octets.{part}
-use Rattle.octets.specs.Checked.{Check, pass, refuse}
+use Rattle.octets.specs.Checked.{Check, pass, refuse, mapped}
 use Rattle.octets.proofs.Parts.{part_cut}
 use Rattle.bundle.specs.Encoding.{Encoding}
 use Rattle.strings.specs.Strings.{entries_of}
-use Rattle.strings.specs.Answers.{entries_read}
-use Rattle.strings.specs.declared.entries.Entries.TheVariants.{Count}
 use Rattle.index.specs.Index.{Contribution}
 use Rattle.index.proofs.Tiles.{is_one, one_here, one_later, Tiling, tiling_end, part_of, Tiles}
 use Rattle.places.specs.Marks.{Marks, TiledBy, good_end}
@@ -83,10 +81,10 @@ parts_end e s ms ts at p l h = from p.ahead p.tiling p.same
     from (c ∷ cs) t g = absurd (omega (arith, t.1, tiling_end (at + c.size) (length ms) cs t.2))
 
 -- ---- what the code is told of a part that it cuts
-pub read_count : (m : Check (List ℕ)) (n : ℕ) → Count n ≡ entries_read m → (ns : List ℕ) × (m ≡ pass ns)
-unfolding entries_read
+pub read_count : (m : Check (List ℕ)) (n : ℕ) → pass n ≡ mapped length m → (ns : List ℕ) × (m ≡ pass ns)
+unfolding mapped
 read_count (pass ns) n q = (ns, refl)
-read_count (refuse k) n q = absurd (let z : ◌≡◌ {A = ℕ} 0 1 = cc in omega arith)
+read_count (refuse k) n q = cc
 
 pub cut_part : (s : List ℕ) (at n end : ℕ) → end ≡ at + n → take (end - at) (drop at s) ≡ part s at n
 cut_part s at n end e = ap (λ (k : ℕ). take (k - at) (drop at s)) e ∙ part_cut s at n

@@ -20,7 +20,7 @@ use bundle::encoding::ObjectEncoding;
 use index::cells::Contribution;
 use index::reading::Index;
 use numbers::sections::STR_OFFSETS;
-use strings::entries::Entries;
+use strings::entries::Section;
 
 // Marks the part that a cell names, where it is not empty. False where it ends outside, or where a part of another size starts at its place.
 fn mark_part(marks: &mut [u32], cell: Option<Contribution>) -> bool
@@ -96,7 +96,11 @@ pub fn good_parts(e: ObjectEncoding, s: &[u8], marks: &[u32]) -> usize
     let mut at = 0;
     while at < s.len() {
         let end = at + marks[at] as usize;
-        let Entries::Count(_) = strings::entries::check_entries(e, &s[at..end]) else {
+        let part = Section {
+            encoding: e,
+            bytes: &s[at..end],
+        };
+        let Ok(_) = part.check_entries() else {
             return at;
         };
         at = end;

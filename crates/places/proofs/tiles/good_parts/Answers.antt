@@ -29,20 +29,20 @@ within c = omega (arith, (known c).within, c.requires.0)
 pub loop-at-init : goal.loop-at-init
 loop-at-init c = (omega arith, λ ts t. parts_all _ _ _ ts t)
 
-pub slice_bounds-check_entries-end : goal.slice_bounds-check_entries-end
-slice_bounds-check_entries-end c = within (goal.at.slice_bounds-check_entries-end c).In-loop-at
+pub slice_bounds-part-end : goal.slice_bounds-part-end
+slice_bounds-part-end c = within (goal.at.slice_bounds-part-end c).In-loop-at
 
 pub returns-in_default : goal.returns-in_default
 returns-in_default c =
-    let k = read_ill _ c.in_default.ensures in
-    λ ts t. (here (goal.at.returns-in_default c).In-loop-at ts t).stops k.0 (ap (entries_of _) (sym (cut_part _ _ _ _ refl)) ∙ k.1)
+    let k = read_ill _ _ c.in_default.ensures in
+    λ ts t. (here (goal.at.returns-in_default c).In-loop-at ts t).stops _ (ap (entries_of _) (sym (cut_part _ _ _ _ refl)) ∙ k)
 
 pub loop-at-smaller : goal.loop-at-smaller
 loop-at-smaller c = omega (arith, within (goal.at.loop-at-smaller c).In-loop-at, (known (goal.at.loop-at-smaller c).In-loop-at).some)
 
 pub loop-at-preserved : goal.loop-at-preserved
 loop-at-preserved c =
-    let k = read_count _ _ c.in-Count.ensures in (
+    let k = read_count _ _ c.in-Ok.ensures in (
       within (goal.at.loop-at-preserved c).In-loop-at,
       λ ts t. (here (goal.at.loop-at-preserved c).In-loop-at ts t).on k.0 (ap (entries_of _) (sym (cut_part _ _ _ _ refl)) ∙ k.1),
     )

@@ -6,4 +6,4 @@ use Rattle.strings.proofs.table.forget.Goals as goal
 
 pub returns : goal.returns
 unfolding zeros
-returns c = cleared c.args.memory.now _ c.args.n c.requires c.fill.ensures
+returns c = cleared c.args.memory.now _ c.args.n c.requires (c.fill.ensures.after (λ y e. e))
