@@ -15,9 +15,9 @@ use Rattle.octets.proofs.Lists.{all_cons, all_stops}
 use Rattle.octets.proofs.Elements.{has_cons, has_skips}
 use Rattle.index.specs.Index.{Index, Contribution, cell_of}
 use Rattle.index.specs.Rows.{BySection, needed_codes, is_some, cell_is, part_good, whole_contributions}
+use Rattle.std.specs.Option.{is_some as there}
 use Rattle.index.specs.Cells.{cell_found}
-use Rattle.index.specs.Contributed.{Cell, by_code, good_cell, with_cell, chosen, ContributionsAre, cell_held, good_held}
-use Rattle.index.specs.Written.{offset_of, size_of}
+use Rattle.index.specs.Contributed.{Cell, by_code, good_cell, with_cell, chosen, ContributionsAre, cell_held, has_cell, good_held}
 use Rattle.std.specs.Prelude.{Some, None}
 use Rattle.index.specs.declared.judging.Contributions.{Contributions}
 use Rattle.index.proofs.Judgements.{ahead, ahead_start, ahead_on, ahead_stops, ahead_end, good_cell_law}
@@ -48,12 +48,6 @@ module _ (k : Contributions) (c : ℕ) where
   unfolding good_held by_code
   good_held_law width lengths cell e q = q ∙ ap (λ (z : Cell). eqb (get_or lengths c 0) 0 || good_cell width (get_or lengths c 0) c z) e
 
-held_as : (k : Contributions) (c : ℕ) (o : Option Contribution) → get_or k.has c false ≡ is_some o → get_or k.offset c 0 ≡ offset_of o → get_or k.size c 0 ≡ size_of o
-    → cell_held k c ≡ cell_found o
-unfolding cell_held cell_found is_some offset_of size_of
-held_as k c (some x) h p q = rw (cell_held, h, p, q)
-held_as k c none h p q = rw (cell_held, h)
-
 pub codes_start : (f : ℕ → Bool) (lengths : List ℕ) → all f (ahead (by_code lengths) 3) ≡ all f (needed_codes (by_code lengths))
 codes_start f lengths = ap (all f) (ahead_start (by_code lengths))
 
@@ -69,17 +63,22 @@ module _ (f : ℕ → Bool) (lengths : List ℕ) (c : ℕ) (low : 3 ≤ c) (high
   unfolding by_code
   codes_stop e = ahead_stops f (by_code lengths) c low high e
 
+pub has_cell_is : (k : Contributions) (c : ℕ) (o : Option Contribution) → cell_held k c ≡ cell_found o → has_cell k c ≡ is_some o
+unfolding cell_found is_some
+has_cell_is k c (some x) e = ap there e
+has_cell_is k c none e = ap there e
+
 -- ---- the cells that were read are the row's
 module _ (i : Index) (row : ℕ) (lengths : List ℕ) (k : Contributions) (h : ContributionsAre k (chosen (by_code lengths) (cell_of i row))) where
   chosen_is : (c : ℕ) → has (needed_codes (by_code lengths)) c ≡ true → chosen (by_code lengths) (cell_of i row) c ≡ cell_of i row c
   unfolding chosen
   chosen_is c e = rw (chosen, e)
 
-  pub there_held : all (λ c. get_or k.has c false) (needed_codes (by_code lengths)) ≡ all (There i row) (needed_codes (by_code lengths))
-  there_held = all_same (λ c. get_or k.has c false) (There i row) (needed_codes (by_code lengths)) (λ c e. h.has c ∙ ap is_some (chosen_is c e))
-
   held_is : (c : ℕ) → has (needed_codes (by_code lengths)) c ≡ true → cell_held k c ≡ cell_found (cell_of i row c)
-  held_is c e = let q = chosen_is c e in held_as k c (cell_of i row c) (h.has c ∙ ap is_some q) (h.offset c ∙ ap offset_of q) (h.size c ∙ ap size_of q)
+  held_is c e = h.cell c ∙ ap cell_found (chosen_is c e)
+
+  pub there_held : all (has_cell k) (needed_codes (by_code lengths)) ≡ all (There i row) (needed_codes (by_code lengths))
+  there_held = all_same (has_cell k) (There i row) (needed_codes (by_code lengths)) (λ c e. has_cell_is k c (cell_of i row c) (held_is c e))
 
   pub parts_held : (width : ℕ) → all (good_held width (by_code lengths) k) (needed_codes (by_code lengths)) ≡ all (Good width lengths i row) (needed_codes (by_code lengths))
   unfolding good_held

@@ -18,11 +18,10 @@ use Rattle.octets.proofs.Checks.{known, not_left, not_right}
 use Rattle.octets.proofs.Lists.{those_keeps, those_skips}
 use Rattle.octets.proofs.Elements.{has_at, not_has, has_cons, has_skips}
 use Rattle.index.specs.Index.{Contribution}
-use Rattle.index.specs.Rows.{BySection, shared, needed_codes, is_some, whole_contributions}
-use Rattle.index.specs.Written.{offset_of, size_of}
+use Rattle.index.specs.Rows.{BySection, shared, needed_codes, whole_contributions}
 use Rattle.index.specs.Cells.{cell_found}
 use Rattle.index.specs.Contributed.{Cell, ContributionsAre, with_cell, chosen}
-use Rattle.std.specs.Prelude.{Some, None}
+use Rattle.std.specs.Prelude.{None}
 use Rattle.index.specs.declared.cells.Contribution as code
 use Rattle.index.specs.declared.judging.Contributions.{Contributions}
 use Rattle.index.proofs.Judgements.{shared_at}
@@ -61,29 +60,26 @@ needed_out lengths c f =
     has_those (λ s. not (eqb (lengths s) 0)) shared c ∙ not_left (has shared c) (not (eqb (lengths c) 0)) e
 
 -- ---- nothing
-get_d_same : {A : Type 0} (n c : ℕ) (d : A) → get_or (replicate n d) c d ≡ d
-get_d_same zero c d = refl
-get_d_same (suc n) zero d = refl
-get_d_same (suc n) (suc c) d = get_d_same n c d
+abbrev none_there : Cell
+none_there = None
 
-pub nothing_held : ContributionsAre (record { has = replicate 14 false; offset = replicate 14 0; size = replicate 14 0 }) (λ c. none)
-unfolding is_some offset_of size_of
-nothing_held = record { has = λ c. get_d_same 14 c false; offset = λ c. get_d_same 14 c 0; size = λ c. get_d_same 14 c 0; whole = record { has = refl; offset = refl; size = refl } }
+nothing_at : (n c : ℕ) → get_or (replicate n none_there) c none_there ≡ none_there
+nothing_at zero c = refl
+nothing_at (suc n) zero = refl
+nothing_at (suc n) (suc c) = nothing_at n c
+
+pub nothing_held : ContributionsAre (record { cells = replicate 14 none_there }) (λ c. none)
+unfolding cell_found
+nothing_held = record { cell = λ c. nothing_at 14 c; whole = refl }
 
 -- ---- the cases of one more
 pub with_empty : (k : Contributions) (c n : ℕ) (cell : Cell) → n ≡ 0 → k ≡ with_cell k c n cell
 unfolding with_cell
-with_empty k c n None e = refl
-with_empty k c n (Some v) e = rw (with_cell, eq-eqb n 0 e)
+with_empty k c n cell e = rw (with_cell, eq-eqb n 0 e)
 
-pub with_none : (k : Contributions) (c n : ℕ) (cell : Cell) → cell ≡ None → k ≡ with_cell k c n cell
+pub with_full : (k : Contributions) (c n : ℕ) (cell : Cell) → (n ≡ 0 → ⊥) → ◌≡◌ {A = Contributions} (record { cells = set k.cells c cell }) (with_cell k c n cell)
 unfolding with_cell
-with_none k c n cell e = rw e
-
-pub with_some : (k : Contributions) (c n : ℕ) (cell : Cell) (v : code.Contribution) → (n ≡ 0 → ⊥) → cell ≡ Some v
-    → ◌≡◌ {A = Contributions} (record { has = set k.has c true; offset = set k.offset c v.offset; size = set k.size c v.size }) (with_cell k c n cell)
-unfolding with_cell
-with_some k c n cell v h e = rw (e, with_cell, ne_eqb n 0 h)
+with_full k c n cell h = rw (with_cell, ne_eqb n 0 h)
 
 -- ---- filled up to a code
 unfoldable pub up_to : ℕ → BySection (Option Contribution) → BySection (Option Contribution)
@@ -110,12 +106,7 @@ up_to_other c f d h =
 -- the same contributions under another function with the same values
 pub same_held : (k : Contributions) (f g : BySection (Option Contribution)) → ((c : ℕ) → f c ≡ g c) → ContributionsAre k f → ContributionsAre k g
 same_held k f g e h =
-    record {
-      has = λ c. h.has c ∙ ap is_some (e c);
-      offset = λ c. h.offset c ∙ ap offset_of (e c);
-      size = λ c. h.size c ∙ ap size_of (e c);
-      whole = h.whole;
-    }
+    record { cell = λ c. h.cell c ∙ ap cell_found (e c); whole = h.whole }
 
 -- ---- what is chosen at a code
 module _ (lengths : BySection ℕ) (f : BySection (Option Contribution)) (c : ℕ) where
@@ -165,39 +156,23 @@ module _ (lengths : BySection ℕ) (f : BySection (Option Contribution)) (k : Co
               | no q ↦ sym (up_to_other c (chosen lengths f) d q)
             ]
 
-    stored : (v : Contribution) → chosen lengths f c ≡ some v
-        → ContributionsAre (record { has = set k.has c true; offset = set k.offset c v.offset; size = set k.size c v.size }) (up_to (c + 1) (chosen lengths f))
-    unfolding is_some offset_of size_of
-    stored v e =
-        let w = h.whole in
-        let at : up_to (c + 1) (chosen lengths f) c ≡ some v = up_to_below (c + 1) (chosen lengths f) c (omega arith) ∙ e in
+    stored : chosen lengths f c ≡ f c → ContributionsAre (record { cells = set k.cells c (cell_found (f c)) }) (up_to (c + 1) (chosen lengths f))
+    stored e =
+        let at : up_to (c + 1) (chosen lengths f) c ≡ f c = up_to_below (c + 1) (chosen lengths f) c (omega arith) ∙ e in
         record {
-          has = λ d. elim (ℕ_discrete d c) [
-            | yes q ↦ rw q (get_or-set_same k.has c true false (omega arith) ∙ sym (ap is_some at))
-            | no q ↦ get_or-set_other k.has c d true false q ∙ h.has d ∙ sym (ap is_some (up_to_other c (chosen lengths f) d q))
+          cell = λ d. elim (ℕ_discrete d c) [
+            | yes q ↦ rw q (get_or-set_same k.cells c (cell_found (f c)) None (omega (arith, h.whole)) ∙ sym (ap cell_found at))
+            | no q ↦ get_or-set_other k.cells c d (cell_found (f c)) None q ∙ h.cell d ∙ sym (ap cell_found (up_to_other c (chosen lengths f) d q))
           ];
-          offset = λ d. elim (ℕ_discrete d c) [
-            | yes q ↦ rw q (get_or-set_same k.offset c v.offset 0 (omega arith) ∙ sym (ap offset_of at))
-            | no q ↦ get_or-set_other k.offset c d v.offset 0 q ∙ h.offset d ∙ sym (ap offset_of (up_to_other c (chosen lengths f) d q))
-          ];
-          size = λ d. elim (ℕ_discrete d c) [
-            | yes q ↦ rw q (get_or-set_same k.size c v.size 0 (omega arith) ∙ sym (ap size_of at))
-            | no q ↦ get_or-set_other k.size c d v.size 0 q ∙ h.size d ∙ sym (ap size_of (up_to_other c (chosen lengths f) d q))
-          ];
-          whole = record { has = length-set k.has c true ∙ w.has; offset = length-set k.offset c v.offset ∙ w.offset; size = length-set k.size c v.size ∙ w.size };
+          whole = length-set k.cells c (cell_found (f c)) ∙ h.whole;
         }
 
     pub fill_turn : ContributionsAre (with_cell k c (lengths c) (cell_found (f c))) (up_to (c + 1) (chosen lengths f))
-    unfolding cell_found
-    fill_turn = elim (ℕ_discrete (lengths c) 0) [ yes q ↦ empty q | no q ↦ full q (f c) refl ]
-      where
-        empty : lengths c ≡ 0 → ContributionsAre (with_cell k c (lengths c) (cell_found (f c))) (up_to (c + 1) (chosen lengths f))
-        empty q = rw (sym (with_empty k c (lengths c) (cell_found (f c)) q)) (idle (chosen_empty lengths f c low high q))
-
-        full : (lengths c ≡ 0 → ⊥) → (o : Option Contribution) → f c ≡ o → ContributionsAre (with_cell k c (lengths c) (cell_found (f c))) (up_to (c + 1) (chosen lengths f))
-        full q none e = rw (sym (with_none k c (lengths c) (cell_found (f c)) (ap cell_found e))) (idle (chosen_in lengths f c low high q ∙ e))
-        full q (some v) e =
-            rw (sym (with_some k c (lengths c) (cell_found (f c)) _ q (ap cell_found e))) (stored v (chosen_in lengths f c low high q ∙ e))
+    fill_turn =
+        elim (ℕ_discrete (lengths c) 0) [
+          | yes q ↦ rw (sym (with_empty k c (lengths c) (cell_found (f c)) q)) (idle (chosen_empty lengths f c low high q))
+          | no q ↦ rw (sym (with_full k c (lengths c) (cell_found (f c)) q)) (stored (chosen_in lengths f c low high q))
+        ]
 
 pub whole_chosen : (lengths : BySection ℕ) (s : ℕ) → chosen lengths (λ c. some (record { offset = 0; size = lengths c })) s ≡ whole_contributions lengths s
 unfolding chosen whole_contributions

@@ -1,4 +1,4 @@
--- Contributions as the code holds them, by section code in arrays.
+-- Contributions as the code holds them, by section code in an array.
 -- Assumes nothing.
 use Rattle.std.specs.Prelude.{◌≡◌, Bool, true, false, not, ◌&&◌, ◌||◌, List, ℕ, ◌+◌, ◌%◌, eqb, leb, length, get_or, set}
 use Rattle.std.proofs.Math.Option.{Option, none}
@@ -10,8 +10,9 @@ use Rattle.std.specs.Prelude.{Some, None, Result, Ok, Err}
 use Rattle.numbers.specs.Refused.{number_of}
 use Rattle.numbers.specs.declared.refusals.Refusal.{Refusal}
 use Rattle.index.specs.Index.{Index, Contribution}
-use Rattle.index.specs.Rows.{BySection, needed_codes, is_some, row_contributions}
-use Rattle.index.specs.Written.{offset_of, size_of}
+use Rattle.std.specs.Option.{is_some}
+use Rattle.index.specs.Rows.{BySection, needed_codes, row_contributions}
+use Rattle.index.specs.Cells.{cell_found}
 use Rattle.index.specs.declared.cells.Contribution as code
 use Rattle.index.specs.declared.judging.Contributions.{Contributions}
 use Rattle.index.specs.declared.judging.Measures.{Measures}
@@ -37,29 +38,27 @@ unfoldable pub good_cell : ℕ → ℕ → ℕ → Cell → Bool
 good_cell width n section (Some c) = leb (c.offset + c.size) n && whole_entries width section c.offset c.size
 good_cell width n section None = false
 
--- ---- contributions in arrays
-pub record Whole (k : Contributions) : Type 0 where
-  pub has : length k.has ≡ section_codes
-  pub offset : length k.offset ≡ section_codes
-  pub size : length k.size ≡ section_codes
-
-pub record ContributionsAre (k : Contributions) (f : BySection (Option Contribution)) : Type 0 where
-  pub has : (c : ℕ) → get_or k.has c false ≡ is_some (f c)
-  pub offset : (c : ℕ) → get_or k.offset c 0 ≡ offset_of (f c)
-  pub size : (c : ℕ) → get_or k.size c 0 ≡ size_of (f c)
-  pub whole : Whole k
+-- ---- contributions in an array
+abbrev pub Whole : Contributions → Type 0
+Whole k = length k.cells ≡ section_codes
 
 -- the cell of a section among them
-unfoldable pub cell_held : Contributions → ℕ → Cell
-cell_held k c = elim (get_or k.has c false) [ true ↦ Some (record { offset = get_or k.offset c 0; size = get_or k.size c 0 }) | false ↦ None ]
+abbrev pub cell_held : Contributions → ℕ → Cell
+cell_held k c = get_or k.cells c None
+
+abbrev pub has_cell : Contributions → ℕ → Bool
+has_cell k c = is_some (cell_held k c)
+
+pub record ContributionsAre (k : Contributions) (f : BySection (Option Contribution)) : Type 0 where
+  pub cell : (c : ℕ) → cell_held k c ≡ cell_found (f c)
+  pub whole : Whole k
 
 unfoldable pub good_held : ℕ → BySection ℕ → Contributions → ℕ → Bool
 good_held width lengths k c = good_cell width (lengths c) c (cell_held k c)
 
+-- one more, where the section is not empty
 unfoldable pub with_cell : Contributions → ℕ → ℕ → Cell → Contributions
-with_cell k c n None = k
-with_cell k c n (Some v) =
-    elim (eqb n 0) [ true ↦ k | false ↦ record { has = set k.has c true; offset = set k.offset c v.offset; size = set k.size c v.size } ]
+with_cell k c n cell = elim (eqb n 0) [ true ↦ k | false ↦ record { cells = set k.cells c cell } ]
 
 -- a contribution for each shared section that is not empty
 unfoldable pub chosen : BySection ℕ → BySection (Option Contribution) → BySection (Option Contribution)

@@ -1,5 +1,5 @@
 // A kept unit's row judged: 15 before 16, over all columns that are needed. Lengths of sections are by their code.
-ghost use Rattle.std.specs.Prelude.{Some, ◌≡◌, false, ◌||◌, ◌<◌, ◌≤◌, eqb, get_or};
+ghost use Rattle.std.specs.Prelude.{Some, ◌≡◌, ◌||◌, ◌<◌, ◌≤◌, eqb};
 ghost use Rattle.std.proofs.Math.Option.{none};
 ghost use Rattle.numbers.specs.Sections.{section_codes};
 ghost use Rattle.octets.specs.Lists.{all};
@@ -18,7 +18,7 @@ ghost use Rattle.index.specs.Contributed.{
   Whole,
   chosen,
   ContributionsAre,
-  cell_held,
+  has_cell,
   good_held,
   Answers,
   judged_row,
@@ -32,12 +32,10 @@ use numbers::sections::{CODES, FIRST_SHARED, LAST_SHARED, STR_OFFSETS};
 // One more than the last shared section's code.
 const SHARED_END: usize = LAST_SHARED + 1;
 
-// What a unit contributes of each section, by section code: 0 and 0 where it has nothing.
+// What a unit contributes of each section, by section code.
 #[derive(Clone, Copy)]
 pub struct Contributions {
-    pub has: [bool; CODES],
-    pub offset: [usize; CODES],
-    pub size: [usize; CODES],
+    pub cells: [Option<Contribution>; CODES],
 }
 
 // What a row is judged by: the width of offsets, 4 or 8, and the lengths of the object's sections by their code.
@@ -95,40 +93,18 @@ impl Contributions {
         ensures { ContributionsAre result (λ c. none) }
     {
         Contributions {
-            has: [false; CODES],
-            offset: [0; CODES],
-            size: [0; CODES],
+            cells: [None; CODES],
         }
     }
 
-    // The cell of a section.
-    #[tactic(auto, unfolding(crate::specs::Contributed::cell_held))]
-    fn cell(&self, c: usize) -> Option<Contribution>
-        requires { (Whole self.now) × (c < section_codes) }
-        ensures { result ≡ cell_held self.now c }
-    {
-        if !self.has[c] {
-            return None;
-        }
-        Some(Contribution {
-            offset: self.offset[c],
-            size: self.size[c],
-        })
-    }
-
-    // One more, where the section is not empty and the cell is there.
+    // One more, where the section is not empty.
     #[tactic(auto, unfolding(crate::specs::Contributed::with_cell))]
     fn take(&mut self, c: usize, length: usize, cell: Option<Contribution>)
         requires { (Whole self.old) × (c < section_codes) }
         ensures { self.new ≡ with_cell self.old c «length» cell }
     {
-        let Some(part) = cell else {
-            return;
-        };
         if length != 0 {
-            self.has[c] = true;
-            self.offset[c] = part.offset;
-            self.size[c] = part.size;
+            self.cells[c] = cell;
         }
     }
 
@@ -137,10 +113,10 @@ impl Contributions {
     #[tactic(auto, using(crate::proofs::Columned::code_turns))]
     fn all_there(&self, lengths: &[usize; CODES]) -> bool
         requires { Whole self.now }
-        ensures { result ≡ all (λ c. get_or self.now.has c false) (needed_codes (by_code lengths.now)) }
+        ensures { result ≡ all (has_cell self.now) (needed_codes (by_code lengths.now)) }
     {
         for c in FIRST_SHARED..SHARED_END {
-            if lengths[c] != 0 && !self.has[c] {
+            if lengths[c] != 0 && self.cells[c].is_none() {
                 return false;
             }
         }
@@ -154,7 +130,7 @@ impl Contributions {
         ensures { result ≡ all (good_held m.now.width (by_code m.now.lengths) self.now) (needed_codes (by_code m.now.lengths)) }
     {
         for c in FIRST_SHARED..SHARED_END {
-            if !part_needed(m.width, m.lengths[c], c, self.cell(c)) {
+            if !part_needed(m.width, m.lengths[c], c, self.cells[c]) {
                 return false;
             }
         }
