@@ -2,6 +2,7 @@
 -- Assumes nothing.
 use mathlib.Core.Path.{refl}
 use native.Mathlib.Omega.{arith}
+use Rattle.octets.specs.Octets.{zeros}
 use Rattle.kept.proofs.Placing.{slots_start, slots_end, cleared_slots, placed_over}
 use Rattle.kept.proofs.slots.place_units.Goals as goal
 
@@ -11,11 +12,13 @@ overflow_add-to c = omega (arith, slots_end _ c.args.work.now _ _ _ c.requires _
 pub offset_bounds-work-from : goal.offset_bounds-work-from
 offset_bounds-work-from c = omega (arith, slots_end _ c.args.work.now _ _ _ c.requires _ (slots_start _ _ _ _ c.slots.ensures.is c.of-slots.ensures.start))
 
-pub slice_bounds-clear_words-end : goal.slice_bounds-clear_words-end
-slice_bounds-clear_words-end c = slots_end _ c.args.work.now _ _ _ c.requires _ (slots_start _ _ _ _ c.slots.ensures.is c.of-slots.ensures.start)
+pub slice_bounds-fill-end : goal.slice_bounds-fill-end
+slice_bounds-fill-end c = slots_end _ c.args.work.now _ _ _ c.requires _ (slots_start _ _ _ _ c.slots.ensures.is c.of-slots.ensures.start)
 
 pub place_all-requires : goal.place_all-requires
-place_all-requires c = let z = cleared_slots _ _ _ _ c.args.work.now c.requires _ _ _ (slots_start _ _ _ _ c.slots.ensures.is c.of-slots.ensures.start) c.clear_words.ensures refl in (record { power = c.requires.power; fits = c.requires.fits; enough = rw z.1.same c.requires.enough; limit = c.requires.limit; units = c.requires.units }, z.0)
+unfolding zeros
+place_all-requires c = let z = cleared_slots _ _ _ _ c.args.work.now c.requires _ _ _ (slots_start _ _ _ _ c.slots.ensures.is c.of-slots.ensures.start) (c.fill.ensures.after (λ y e. e)) refl in (record { power = c.requires.power; fits = c.requires.fits; enough = rw z.1.same c.requires.enough; limit = c.requires.limit; units = c.requires.units }, z.0)
 
 pub returns : goal.returns
-returns c = let z = cleared_slots _ _ _ _ c.args.work.now c.requires _ _ _ (slots_start _ _ _ _ c.slots.ensures.is c.of-slots.ensures.start) c.clear_words.ensures refl in placed_over z.1 c.place_all.ensures
+unfolding zeros
+returns c = let z = cleared_slots _ _ _ _ c.args.work.now c.requires _ _ _ (slots_start _ _ _ _ c.slots.ensures.is c.of-slots.ensures.start) (c.fill.ensures.after (λ y e. e)) refl in placed_over z.1 c.place_all.ensures
