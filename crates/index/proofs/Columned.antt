@@ -20,6 +20,7 @@ use Rattle.index.specs.Cells.{cell_found}
 use Rattle.index.specs.Contributed.{Cell, by_code, good_cell, with_cell, chosen, ContributionsAre, cell_held, has_cell, good_held}
 use Rattle.std.specs.Prelude.{Some, None}
 use Rattle.index.specs.declared.judging.Contributions.{Contributions}
+use Rattle.index.proofs.CellsHeld.{there_found}
 use Rattle.index.proofs.Judgements.{ahead, ahead_start, ahead_on, ahead_stops, ahead_end, good_cell_law}
 use Rattle.index.proofs.Filled.{up_to, fill_turn, fill_end, same_held, whole_chosen}
 
@@ -63,11 +64,6 @@ module _ (f : ℕ → Bool) (lengths : List ℕ) (c : ℕ) (low : 3 ≤ c) (high
   unfolding by_code
   codes_stop e = ahead_stops f (by_code lengths) c low high e
 
-pub has_cell_is : (k : Contributions) (c : ℕ) (o : Option Contribution) → cell_held k c ≡ cell_found o → has_cell k c ≡ is_some o
-unfolding cell_found is_some
-has_cell_is k c (some x) e = ap there e
-has_cell_is k c none e = ap there e
-
 -- ---- the cells that were read are the row's
 module _ (i : Index) (row : ℕ) (lengths : List ℕ) (k : Contributions) (h : ContributionsAre k (chosen (by_code lengths) (cell_of i row))) where
   chosen_is : (c : ℕ) → has (needed_codes (by_code lengths)) c ≡ true → chosen (by_code lengths) (cell_of i row) c ≡ cell_of i row c
@@ -78,7 +74,7 @@ module _ (i : Index) (row : ℕ) (lengths : List ℕ) (k : Contributions) (h : C
   held_is c e = h.cell c ∙ ap cell_found (chosen_is c e)
 
   pub there_held : all (has_cell k) (needed_codes (by_code lengths)) ≡ all (There i row) (needed_codes (by_code lengths))
-  there_held = all_same (has_cell k) (There i row) (needed_codes (by_code lengths)) (λ c e. has_cell_is k c (cell_of i row c) (held_is c e))
+  there_held = all_same (has_cell k) (There i row) (needed_codes (by_code lengths)) (λ c e. ap there (held_is c e) ∙ there_found (cell_of i row c))
 
   pub parts_held : (width : ℕ) → all (good_held width (by_code lengths) k) (needed_codes (by_code lengths)) ≡ all (Good width lengths i row) (needed_codes (by_code lengths))
   unfolding good_held

@@ -10,7 +10,7 @@ use Rattle.std.specs.Prelude.{Some, None, Result, Ok, Err}
 use Rattle.numbers.specs.Refused.{number_of}
 use Rattle.numbers.specs.declared.refusals.Refusal.{Refusal}
 use Rattle.index.specs.Index.{Index, Contribution}
-use Rattle.std.specs.Option.{is_some}
+use Rattle.std.specs.Option.{is_some, unwrap_or}
 use Rattle.index.specs.Rows.{BySection, needed_codes, row_contributions}
 use Rattle.index.specs.Cells.{cell_found}
 use Rattle.index.specs.declared.cells.Contribution as code
@@ -48,6 +48,10 @@ cell_held k c = get_or k.cells c None
 
 abbrev pub has_cell : Contributions → ℕ → Bool
 has_cell k c = is_some (cell_held k c)
+
+-- the same as an index has it: 0 and 0 where there is none
+abbrev pub stated : Cell → code.Contribution
+stated cell = unwrap_or cell (record { offset = 0; size = 0 })
 
 pub record ContributionsAre (k : Contributions) (f : BySection (Option Contribution)) : Type 0 where
   pub cell : (c : ℕ) → cell_held k c ≡ cell_found (f c)

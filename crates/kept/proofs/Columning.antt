@@ -13,7 +13,8 @@ use Rattle.octets.specs.Lists.{any}
 use Rattle.octets.proofs.Lists.{any_append}
 use Rattle.index.specs.Cells.{column_place, no_column}
 use Rattle.index.specs.Columns.{Column, columns_of, columns_four, columns_five}
-use Rattle.index.specs.Contributed.{ContributionsAre}
+use Rattle.index.specs.Contributed.{ContributionsAre, has_cell}
+use Rattle.index.proofs.CellsHeld.{has_is}
 use Rattle.index.specs.Rows.{is_some}
 use Rattle.index.specs.Written.{Row}
 use Rattle.index.specs.declared.cells.ColumnPlace.{ColumnPlace}
@@ -83,7 +84,7 @@ pub marking_none : (five : Bool) (has : List Bool) (cells : Contributions) → M
 marking_none five has cells = record { same = refl; done = record { column = λ j h. absurd (not-suc-le-zero h) }; rest = λ j h. refl }
 
 pub marking_more : (five : Bool) (has marked : List Bool) (cells : Contributions) (k s : ℕ) (r : Bool) → Marking five has marked cells k → k < length marked → s ≡ section_at five k
-    → r ≡ (get_or marked k false || get_or cells.has s false) → Marking five has (set marked k r) cells (k + 1)
+    → r ≡ (get_or marked k false || has_cell cells s) → Marking five has (set marked k r) cells (k + 1)
 marking_more five has marked cells k s r m h q e =
     record {
       same = length-set marked k r ∙ m.same;
@@ -91,7 +92,7 @@ marking_more five has marked cells k s r m h q e =
           record {
             column =
                 λ j g. elim (ℕ_discrete j k) [
-                  | yes z ↦ rw z (get_or-set_same marked k r false h ∙ e ∙ ap₂ (λ (a b : Bool). a || b) (m.rest k (omega arith)) (ap (λ (i : ℕ). get_or cells.has i false) q))
+                  | yes z ↦ rw z (get_or-set_same marked k r false h ∙ e ∙ ap₂ (λ (a b : Bool). a || b) (m.rest k (omega arith)) (ap (has_cell cells) q))
                   | no z ↦ get_or-set_other marked k j r false z ∙ m.done.column j (omega arith)
                 ];
           };
@@ -121,6 +122,6 @@ columns_more five has more rs r cells a c e =
       there =
           λ k h.
           e.column k h
-          ∙ ap₂ (λ (p q : Bool). p || q) (a.there k h) (c.has (section_at five k) ∙ sym (any_one (λ (q : Row). is_some (q.cells (section_at five k))) r))
+          ∙ ap₂ (λ (p q : Bool). p || q) (a.there k h) (has_is cells r.cells c (section_at five k) ∙ sym (any_one (λ (q : Row). is_some (q.cells (section_at five k))) r))
           ∙ sym (any_append (λ (q : Row). is_some (q.cells (section_at five k))) rs (r ∷ []));
     }

@@ -16,6 +16,7 @@ use Rattle.octets.proofs.Joined.{map-append, joined_append}
 use Rattle.octets.proofs.Parts.{length_part, part_cut}
 use Rattle.octets.proofs.Placed.{placed_placed, placed_none, length_placed}
 use Rattle.kept.specs.Regions.{record_words}
+use Rattle.index.specs.Contributed.{cell_held, stated}
 use Rattle.index.specs.declared.judging.Contributions.{Contributions}
 use Rattle.kept.specs.Columns.{section_at}
 use Rattle.kept.specs.declared.records.Unit.{Unit as UnitHead}
@@ -108,7 +109,7 @@ unit_some b d v at start size x e h p = (p ∙ ap (placed d at) (part_cut b star
 pub drop_one : (ns : List ℕ) (i x : ℕ) → i < length ns → x ≡ get_or ns i 0 → drop i ns ≡ (x ∷ []) ++ drop (i + 1) ns
 drop_one ns i x h e = rw (e, add-one i, drop-cons ns i 0)
 
-pub cells_one : (five : Bool) (cells : Contributions) (k o z s : ℕ) → k < 8 → s ≡ section_at five k → o ≡ get_or cells.offset s 0 → z ≡ get_or cells.size s 0
+pub cells_one : (five : Bool) (cells : Contributions) (k o z s : ℕ) → k < 8 → s ≡ section_at five k → o ≡ (stated (cell_held cells s)).offset → z ≡ (stated (cell_held cells s)).size
     → cells_left five cells k (8 - k) ≡ (o ∷ z ∷ []) ++ cells_left five cells (k + 1) (8 - (k + 1))
 unfolding cells_left
 cells_one five cells k o z s h e p q =

@@ -18,7 +18,8 @@ use Rattle.octets.proofs.Joined.{map-append}
 use Rattle.index.specs.Index.{Contribution}
 use Rattle.index.specs.Rows.{BySection}
 use Rattle.index.specs.Written.{Row}
-use Rattle.index.specs.Contributed.{ContributionsAre}
+use Rattle.index.specs.Contributed.{ContributionsAre, cell_held, stated}
+use Rattle.index.proofs.CellsHeld.{offset_is, size_is}
 use Rattle.index.specs.Held.{PowerOfTwo}
 use Rattle.index.specs.declared.judging.Contributions.{Contributions}
 use Rattle.kept.specs.Regions.{record_words}
@@ -101,7 +102,7 @@ each_snoc b (x ∷ ks) (y ∷ us) k u (one_record a m) h = one_record a (each_sn
 
 -- cells by value are those of the record
 cell_at : (five : Bool) (cells : Contributions) (k m c : ℕ) → c < m
-    → (get_or (cells_left five cells k m) (2 * c) 0 ≡ get_or cells.offset (section_at five (k + c)) 0) × (get_or (cells_left five cells k m) (2 * c + 1) 0 ≡ get_or cells.size (section_at five (k + c)) 0)
+    → (get_or (cells_left five cells k m) (2 * c) 0 ≡ (stated (cell_held cells (section_at five (k + c)))).offset) × (get_or (cells_left five cells k m) (2 * c + 1) 0 ≡ (stated (cell_held cells (section_at five (k + c)))).size)
 unfolding cells_left
 cell_at five cells k zero c h = absurd (not-suc-le-zero h)
 cell_at five cells k (suc m) zero h = let e : k + 0 ≡ k = omega arith in rw e (refl, refl)
@@ -116,8 +117,8 @@ pub unit_row : (five : Bool) (u : UnitHead) (cells : Contributions) (f : BySecti
 unfolding unit_of cells_of
 unit_row five u cells f a = record {
   identity = refl;
-  offset = λ c h. let z : 0 + c ≡ c = omega arith in let q = (cell_at five cells 0 8 c (omega (arith, columns_are five))).0 in rw z at q ∙ a.offset (section_at five c);
-  size = λ c h. let z : 0 + c ≡ c = omega arith in let q = (cell_at five cells 0 8 c (omega (arith, columns_are five))).1 in rw z at q ∙ a.size (section_at five c);
+  offset = λ c h. let z : 0 + c ≡ c = omega arith in let q = (cell_at five cells 0 8 c (omega (arith, columns_are five))).0 in rw z at q ∙ offset_is cells f a (section_at five c);
+  size = λ c h. let z : 0 + c ≡ c = omega arith in let q = (cell_at five cells 0 8 c (omega (arith, columns_are five))).1 in rw z at q ∙ size_is cells f a (section_at five c);
 }
 
 -- ---- a table with one record more behind n

@@ -1,36 +1,24 @@
 -- The cells of a unit, and bases, one section after the other.
 -- Assumes nothing.
-use mathlib.Core.Path.{◌≡◌, refl, sym, ap, ◌∙◌}
-use mathlib.Core.Bool.{Bool, true, false}
+use mathlib.Core.Path.{◌≡◌, refl, sym, ap, ap₂, ◌∙◌}
 use mathlib.Core.List.{List, [], ◌∷◌}
 use mathlib.Core.Option.{Option, some, none}
 use Prim.Native.Nat.{ℕ, zero, suc, ◌+◌, ◌^◌, ◌<◌, ◌≤◌}
 use native.Mathlib.Omega.{arith}
 use native.Mathlib.Decide.{ℕ_discrete, dec_lt}
-use native.Mathlib.Nat.{lt_of_le_of_lt, not-suc-le-zero, le_of_suc-le-suc}
+use native.Mathlib.Nat.{not-suc-le-zero, le_of_suc-le-suc}
 use lib.ListN.{length, get_or, set, length-set}
 use lib.Seq.{get_or-set_same, get_or-set_other}
 use borrow.Author.Tests.{eq-eqb, ne_eqb}
 use Rattle.index.specs.Index.{Contribution}
-use Rattle.index.specs.Rows.{BySection, is_some}
-use Rattle.index.specs.Written.{offset_of, size_of}
-use Rattle.index.specs.Contributed.{ContributionsAre}
+use Rattle.index.specs.Rows.{BySection}
+use Rattle.index.specs.Cells.{cell_found}
+use Rattle.index.specs.Contributed.{Cell, Whole, ContributionsAre, cell_held, stated}
+use Rattle.index.specs.declared.cells.Contribution as code
+use Rattle.std.specs.Prelude.{Some, None}
 use Rattle.index.specs.declared.judging.Contributions.{Contributions}
 use Rattle.kept.specs.Columns.{CellsFit}
-use Rattle.kept.specs.Cells.{cells_by, moved_by, CellsRoom, Summed}
-
-pub moved_there : (b : Bool) (base offset : ℕ) → b ≡ true → base + offset ≡ moved_by b base offset
-unfolding moved_by
-moved_there b base offset e = rw (e, moved_by)
-
-pub moved_none : (b : Bool) (base offset : ℕ) → b ≡ false → 0 ≡ moved_by b base offset
-unfolding moved_by
-moved_none b base offset e = rw (e, moved_by)
-
-moved_le : (b : Bool) (base offset : ℕ) → moved_by b base offset ≤ base + offset
-unfolding moved_by
-moved_le true base offset = omega arith
-moved_le false base offset = omega arith
+use Rattle.kept.specs.Cells.{cells_by, moved_by, CellsAfter, CellsRoom, Summed}
 
 pub get_d_past : {A : Type 0} (l : List A) (d : A) (c : ℕ) → length l ≤ c → get_or l c d ≡ d
 get_d_past [] d c h = refl
@@ -38,25 +26,43 @@ get_d_past (x ∷ l) d zero h = absurd (not-suc-le-zero h)
 get_d_past (x ∷ l) d (suc c) h = get_d_past l d c (le_of_suc-le-suc h)
 
 -- ---- one more of an array
-pub record Moving (k : Contributions) (bases offset : List ℕ) (m : ℕ) : Type 0 where
-  pub same : length offset ≡ 14
+pub record Moving (k : Contributions) (bases : List ℕ) (r : Contributions) (m : ℕ) : Type 0 where
+  pub whole : Whole r
   pub within : m ≤ 14
-  pub is : (c : ℕ) → c < m → get_or offset c 0 ≡ moved_by (get_or k.has c false) (get_or bases c 0) (get_or k.offset c 0)
+  pub is : (c : ℕ) → c < m → cell_held r c ≡ moved_by (get_or bases c 0) (cell_held k c)
+  pub rest : (c : ℕ) → m ≤ c → cell_held r c ≡ cell_held k c
 
-pub moving_none : (k : Contributions) (bases offset : List ℕ) → length offset ≡ 14 → Moving k bases offset 0
-moving_none k bases offset l = record { same = l; within = omega arith; is = λ c h. absurd (not-suc-le-zero h) }
+pub moving_none : (k : Contributions) (bases : List ℕ) → Whole k → Moving k bases k 0
+moving_none k bases l = record { whole = l; within = omega arith; is = λ c h. absurd (not-suc-le-zero h); rest = λ c h. refl }
 
-pub moving_more : (k : Contributions) (bases offset : List ℕ) (m v : ℕ) → Moving k bases offset m → m < 14
-    → v ≡ moved_by (get_or k.has m false) (get_or bases m 0) (get_or k.offset m 0) → Moving k bases (set offset m v) (m + 1)
-moving_more k bases offset m v a h e =
+pub moving_some : (k : Contributions) (bases : List ℕ) (r : Contributions) (m : ℕ) (v : code.Contribution) → Moving k bases r m → m < 14 → cell_held k m ≡ Some v
+    → Moving k bases (record { cells = set r.cells m (Some (record { offset = get_or bases m 0 + v.offset; size = v.size })) }) (m + 1)
+unfolding moved_by
+moving_some k bases r m v a h e =
+    let w : Cell = Some (record { offset = get_or bases m 0 + v.offset; size = v.size }) in
     record {
-      same = length-set offset m v ∙ a.same;
+      whole = length-set r.cells m w ∙ a.whole;
       within = omega arith;
       is =
           λ c g. elim (ℕ_discrete c m) [
-            | yes q ↦ rw q (get_or-set_same offset m v 0 (omega (arith, a.same)) ∙ e)
-            | no q ↦ get_or-set_other offset m c v 0 q ∙ a.is c (omega arith)
+            | yes q ↦ rw q (get_or-set_same r.cells m w None (omega (arith, a.whole)) ∙ sym (ap (moved_by (get_or bases m 0)) e))
+            | no q ↦ get_or-set_other r.cells m c w None q ∙ a.is c (omega arith)
           ];
+      rest = λ c g. get_or-set_other r.cells m c w None (λ q. omega arith) ∙ a.rest c (omega arith);
+    }
+
+pub moving_nothing : (k : Contributions) (bases : List ℕ) (r : Contributions) (m : ℕ) → Moving k bases r m → m < 14 → cell_held k m ≡ None → Moving k bases r (m + 1)
+unfolding moved_by
+moving_nothing k bases r m a h e =
+    record {
+      whole = a.whole;
+      within = omega arith;
+      is =
+          λ c g. elim (ℕ_discrete c m) [
+            | yes q ↦ rw q (a.rest m (omega arith) ∙ e ∙ sym (ap (moved_by (get_or bases m 0)) e))
+            | no q ↦ a.is c (omega arith)
+          ];
+      rest = λ c g. a.rest c (omega arith);
     }
 
 pub record Growing (bases size more : List ℕ) (m : ℕ) : Type 0 where
@@ -84,90 +90,70 @@ growing_more bases size more m v l a h e =
 
 -- ---- the cells
 module _ (f : BySection (Option Contribution)) (base : BySection ℕ) (home at size : ℕ) where
-  pub cell_own : (c : ℕ) → c ≡ home → cells_by f base home at size c ≡ some (record { offset = at; size = size })
+  cell_own : (c : ℕ) → c ≡ home → cells_by f base home at size c ≡ some (record { offset = at; size = size })
   unfolding cells_by
   cell_own c e = rw (cells_by, eq-eqb c home e)
 
-  pub cell_has : (c : ℕ) → (c ≡ home → ⊥) → is_some (f c) ≡ is_some (cells_by f base home at size c)
-  unfolding cells_by is_some
-  cell_has c e = go (f c) refl
+  cell_moved : (c : ℕ) → (c ≡ home → ⊥) → moved_by (base c) (cell_found (f c)) ≡ cell_found (cells_by f base home at size c)
+  unfolding cells_by moved_by cell_found
+  cell_moved c e = go (f c) refl
     where
-      go : (o : Option Contribution) → f c ≡ o → is_some (f c) ≡ is_some (cells_by f base home at size c)
+      go : (o : Option Contribution) → f c ≡ o → moved_by (base c) (cell_found (f c)) ≡ cell_found (cells_by f base home at size c)
       go (some k) q = rw (cells_by, ne_eqb c home e, q)
       go none q = rw (cells_by, ne_eqb c home e, q)
 
-  pub cell_offset : (c : ℕ) → (c ≡ home → ⊥) → moved_by (is_some (f c)) (base c) (offset_of (f c)) ≡ offset_of (cells_by f base home at size c)
-  unfolding cells_by is_some offset_of moved_by
-  cell_offset c e = go (f c) refl
-    where
-      go : (o : Option Contribution) → f c ≡ o → moved_by (is_some (f c)) (base c) (offset_of (f c)) ≡ offset_of (cells_by f base home at size c)
-      go (some k) q = rw (cells_by, ne_eqb c home e, q)
-      go none q = rw (cells_by, ne_eqb c home e, q)
+module _ (k : Contributions) (bases : List ℕ) (r : Contributions) (home place size : ℕ) (room : CellsRoom k bases home place size) (after : CellsAfter k bases r) where
+  abbrev own : Cell
+  own = Some (record { offset = place; size = size })
 
-  pub cell_size : (c : ℕ) → (c ≡ home → ⊥) → size_of (f c) ≡ size_of (cells_by f base home at size c)
-  unfolding cells_by size_of
-  cell_size c e = go (f c) refl
-    where
-      go : (o : Option Contribution) → f c ≡ o → size_of (f c) ≡ size_of (cells_by f base home at size c)
-      go (some k) q = rw (cells_by, ne_eqb c home e, q)
-      go none q = rw (cells_by, ne_eqb c home e, q)
-
-module _ (k : Contributions) (bases offset : List ℕ) (home place size : ℕ) (room : CellsRoom k bases home place size) (many : length offset ≡ 14)
-    (is : (c : ℕ) → c < 14 → get_or offset c 0 ≡ moved_by (get_or k.has c false) (get_or bases c 0) (get_or k.offset c 0)) where
   abbrev made : Contributions
-  made = record { has = set k.has home true; offset = set offset home place; size = set k.size home size }
+  made = record { cells = set r.cells home own }
+
+  own_is : cell_held made home ≡ own
+  own_is = get_or-set_same r.cells home own None (omega (arith, after.whole, room.home_in))
+
+  other_is : (c : ℕ) → (c ≡ home → ⊥) → cell_held made c ≡ cell_held r c
+  other_is c q = get_or-set_other r.cells home c own None q
 
   -- of a code that is none there is nothing
-  past : (f : BySection (Option Contribution)) (base : BySection ℕ) → ContributionsAre k f → (c : ℕ) → (c ≡ home → ⊥) → 14 ≤ c → 0 ≡ offset_of (cells_by f base home place size c)
-  unfolding moved_by
-  past f base a c q h =
-      let e : is_some (f c) ≡ false = sym (a.has c) ∙ get_d_past k.has false c (omega (arith, room.whole.has)) in
-      ap (λ (z : Bool). moved_by z (base c) (offset_of (f c))) (sym e) ∙ cell_offset f base home place size c q
+  past : (q : Contributions) → Whole q → (c : ℕ) → 14 ≤ c → cell_held q c ≡ None
+  past q w c h = get_d_past q.cells None c (omega (arith, w))
 
   pub cells_are : (f : BySection (Option Contribution)) (base : BySection ℕ) → ContributionsAre k f → ((c : ℕ) → c < 14 → get_or bases c 0 ≡ base c)
       → ContributionsAre made (cells_by f base home place size)
-  unfolding is_some offset_of size_of
+  unfolding cell_found moved_by
   cells_are f base a b =
       record {
-        has =
+        cell =
             λ c. elim (ℕ_discrete c home) [
-              | yes q ↦ rw (cell_own f base home place size c q) (rw q (get_or-set_same k.has home true false (omega (arith, a.whole.has, room.home_in))))
-              | no q ↦ get_or-set_other k.has home c true false q ∙ a.has c ∙ cell_has f base home place size c q
-            ];
-        offset =
-            λ c. elim (ℕ_discrete c home) [
-              | yes q ↦ rw (cell_own f base home place size c q) (rw q (get_or-set_same offset home place 0 (omega (arith, many, room.home_in))))
-              | no q ↦ get_or-set_other offset home c place 0 q ∙ (elim (dec_lt c 14) [
-                | yes h ↦ is c h ∙ (rw (a.has c, b c h, a.offset c) (cell_offset f base home place size c q))
-                | no h ↦ get_d_past offset 0 c (omega (arith, many)) ∙ past f base a c q (omega arith)
+              | yes q ↦ rw (cell_own f base home place size c q) (rw q own_is)
+              | no q ↦ other_is c q ∙ (elim (dec_lt c 14) [
+                | yes h ↦ after.is c h ∙ ap₂ moved_by (b c h) (a.cell c) ∙ cell_moved f base home place size c q
+                | no h ↦ past r after.whole c (omega arith) ∙ ap (moved_by (base c)) (sym (past k room.whole c (omega arith)) ∙ a.cell c) ∙ cell_moved f base home place size c q
               ])
             ];
-        size =
-            λ c. elim (ℕ_discrete c home) [
-              | yes q ↦ rw (cell_own f base home place size c q) (rw q (get_or-set_same k.size home size 0 (omega (arith, a.whole.size, room.home_in))))
-              | no q ↦ get_or-set_other k.size home c size 0 q ∙ a.size c ∙ cell_size f base home place size c q
-            ];
-        whole = record { has = length-set k.has home true ∙ a.whole.has; offset = length-set offset home place ∙ many; size = length-set k.size home size ∙ a.whole.size };
+        whole = length-set r.cells home own ∙ after.whole;
       }
+
+  offset_low : (base : ℕ) (x : Cell) → base + (stated x).offset < 2 ^ 32 → (stated (moved_by base x)).offset < 2 ^ 32
+  unfolding moved_by
+  offset_low base (Some v) h = h
+  offset_low base None h = omega arith
+
+  size_low : (base : ℕ) (x : Cell) → (stated x).size < 2 ^ 32 → (stated (moved_by base x)).size < 2 ^ 32
+  unfolding moved_by
+  size_low base (Some v) h = h
+  size_low base None h = omega arith
 
   pub cells_fit : CellsFit made
   cells_fit =
       record {
-        offset =
-            λ c. elim (ℕ_discrete c home) [
-              | yes q ↦ rw q (rw (get_or-set_same offset home place 0 (omega (arith, many, room.home_in))) room.place_fits)
-              | no q ↦ rw (get_or-set_other offset home c place 0 q) (low c)
-            ];
-        size =
-            λ c. elim (ℕ_discrete c home) [
-              | yes q ↦ rw q (rw (get_or-set_same k.size home size 0 (omega (arith, room.whole.size, room.home_in))) room.size_fits)
-              | no q ↦ rw (get_or-set_other k.size home c size 0 q) (room.sizes c)
-            ];
+        offset = λ c. elim (ℕ_discrete c home) [ yes q ↦ rw q (rw own_is room.place_fits) | no q ↦ rw (other_is c q) (elim (dec_lt c 14) [
+          | yes h ↦ rw (after.is c h) (offset_low (get_or bases c 0) (cell_held k c) (room.offsets c h))
+          | no h ↦ rw (past r after.whole c (omega arith)) (omega arith)
+        ]) ];
+        size = λ c. elim (ℕ_discrete c home) [ yes q ↦ rw q (rw own_is room.size_fits) | no q ↦ rw (other_is c q) (elim (dec_lt c 14) [
+          | yes h ↦ rw (after.is c h) (size_low (get_or bases c 0) (cell_held k c) (room.sizes c))
+          | no h ↦ rw (past r after.whole c (omega arith)) (omega arith)
+        ]) ];
       }
-    where
-      low : (c : ℕ) → get_or offset c 0 < 2 ^ 32
-      low c =
-          elim (dec_lt c 14) [
-            | yes h ↦ rw (is c h) (lt_of_le_of_lt (moved_le (get_or k.has c false) (get_or bases c 0) (get_or k.offset c 0)) (room.offsets c h))
-            | no h ↦ rw (get_d_past offset 0 c (omega (arith, many))) (omega arith)
-          ]

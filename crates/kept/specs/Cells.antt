@@ -1,11 +1,11 @@
 -- The cells of a unit by what it contributes, and the bases with one object more.
 -- Assumes nothing.
-use Rattle.std.specs.Prelude.{◌≡◌, Bool, true, false, List, ℕ, ◌+◌, ◌^◌, ◌<◌, eqb, get_or}
+use Rattle.std.specs.Prelude.{◌≡◌, true, false, List, ℕ, ◌+◌, ◌^◌, ◌<◌, eqb, get_or, Some, None}
 use Rattle.std.proofs.Math.Option.{Option, some, none}
 use Rattle.numbers.specs.Sections.{section_codes}
 use Rattle.index.specs.Index.{Contribution}
 use Rattle.index.specs.Rows.{BySection}
-use Rattle.index.specs.Contributed.{Whole, ContributionsAre}
+use Rattle.index.specs.Contributed.{Cell, Whole, ContributionsAre, cell_held, stated}
 use Rattle.index.specs.declared.judging.Contributions.{Contributions}
 
 -- as `cells` of `package`
@@ -16,9 +16,15 @@ cells_by f bases home at size c =
       | false ↦ elim (f c) [ some k ↦ some (record { offset = bases c + k.offset; size = k.size }) | none ↦ none ]
     ]
 
-unfoldable pub moved_by : Bool → ℕ → ℕ → ℕ
-moved_by true base offset = base + offset
-moved_by false base offset = 0
+-- one cell, where its section of the object begins at a base
+unfoldable pub moved_by : ℕ → Cell → Cell
+moved_by base (Some k) = Some (record { offset = base + k.offset; size = k.size })
+moved_by base None = None
+
+-- all cells of a unit
+pub record CellsAfter (k : Contributions) (bases : List ℕ) (r : Contributions) : Type 0 where
+  pub is : (c : ℕ) → c < section_codes → cell_held r c ≡ moved_by (get_or bases c 0) (cell_held k c)
+  pub whole : Whole r
 
 -- all cells fit 32 bits
 pub record CellsRoom (k : Contributions) (bases : List ℕ) (home place size : ℕ) : Type 0 where
@@ -26,8 +32,8 @@ pub record CellsRoom (k : Contributions) (bases : List ℕ) (home place size : �
   pub home_in : home < section_codes
   pub place_fits : place < 2 ^ 32
   pub size_fits : size < 2 ^ 32
-  pub offsets : (c : ℕ) → c < section_codes → get_or bases c 0 + get_or k.offset c 0 < 2 ^ 32
-  pub sizes : (c : ℕ) → get_or k.size c 0 < 2 ^ 32
+  pub offsets : (c : ℕ) → c < section_codes → get_or bases c 0 + (stated (cell_held k c)).offset < 2 ^ 32
+  pub sizes : (c : ℕ) → (stated (cell_held k c)).size < 2 ^ 32
 
 -- the first m bases have grown
 pub record Summed (bases size more : List ℕ) (m : ℕ) : Type 0 where

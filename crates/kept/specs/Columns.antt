@@ -6,6 +6,7 @@ use Rattle.numbers.specs.Tables.{dwarf4, dwarf5}
 use Rattle.index.specs.Columns.{Column, columns_of}
 use Rattle.index.specs.Rows.{is_some}
 use Rattle.index.specs.Written.{Row}
+use Rattle.index.specs.Contributed.{cell_held, has_cell, stated}
 use Rattle.index.specs.declared.judging.Contributions.{Contributions}
 
 -- the DWARF version that a flag names
@@ -25,8 +26,8 @@ code_at five k = get_or (map (λ c. c.column) (columns_for five)) k 0
 
 -- cells that words can hold
 pub record CellsFit (cells : Contributions) : Type 0 where
-  pub offset : (c : ℕ) → get_or cells.offset c 0 < 2 ^ 32
-  pub size : (c : ℕ) → get_or cells.size c 0 < 2 ^ 32
+  pub offset : (c : ℕ) → (stated (cell_held cells c)).offset < 2 ^ 32
+  pub size : (c : ℕ) → (stated (cell_held cells c)).size < 2 ^ 32
 
 -- ---- the columns that are there
 -- a number where its column is there
@@ -52,4 +53,4 @@ pub record ColumnsHeld (five : Bool) (has : List Bool) (rs : List Row) : Type 0 
 
 -- the first m columns marked, where they were or where a row has them
 pub record Marked (five : Bool) (has more : List Bool) (cells : Contributions) (m : ℕ) : Type 0 where
-  pub column : (k : ℕ) → k < m → get_or more k false ≡ (get_or has k false || get_or cells.has (section_at five k) false)
+  pub column : (k : ℕ) → k < m → get_or more k false ≡ (get_or has k false || has_cell cells (section_at five k))

@@ -4,6 +4,7 @@ use Rattle.std.specs.Prelude.{Bool, true, false, List, [], ◌∷◌, map, ℕ, 
 use Rattle.numbers.specs.Tables.{columns2}
 use Rattle.octets.specs.Octets.{part}
 use Rattle.octets.specs.Lists.{joined, those}
+use Rattle.index.specs.Contributed.{cell_held, stated}
 use Rattle.index.specs.declared.judging.Contributions.{Contributions}
 use Rattle.kept.specs.Regions.{record_words}
 use Rattle.kept.specs.Columns.{section_at}
@@ -33,7 +34,7 @@ words_of k = k.table ∷ k.row ∷ (k.identity % 2 ^ 32) ∷ (k.identity / 2 ^ 3
 -- the cells of so many columns from column k on
 unfoldable pub cells_left : Bool → Contributions → ℕ → ℕ → List ℕ
 cells_left five cells k zero = []
-cells_left five cells k (suc m) = get_or cells.offset (section_at five k) 0 ∷ get_or cells.size (section_at five k) 0 ∷ cells_left five cells (k + 1) m
+cells_left five cells k (suc m) = (stated (cell_held cells (section_at five k))).offset ∷ (stated (cell_held cells (section_at five k))).size ∷ cells_left five cells (k + 1) m
 
 unfoldable pub cells_of : Bool → Contributions → List ℕ
 cells_of five cells = cells_left five cells 0 columns2

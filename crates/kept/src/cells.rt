@@ -1,22 +1,29 @@
 // What a unit has of each section: where it lies in the package's sections. And the bases there, which grow with each object.
-ghost use Rattle.std.specs.Prelude.{◌≡◌, false, ℕ, ◌+◌, ◌<◌, ◌^◌, length, get_or};
+ghost use Rattle.std.specs.Prelude.{◌≡◌, ℕ, ◌+◌, ◌<◌, ◌^◌, length, get_or};
 ghost use Rattle.numbers.specs.Sections.{section_codes};
+ghost use Rattle.index.specs.Contributed.{cell_held, stated};
 ghost use Rattle.kept.specs.Columns.{CellsFit};
-ghost use Rattle.kept.specs.Cells.{moved_by, CellsRoom, CellsMoved, Summed};
+ghost use Rattle.kept.specs.Cells.{CellsAfter, CellsRoom, CellsMoved, Summed};
 
+use index::cells::Contribution;
 use index::judging::Contributions;
 use numbers::sections::CODES;
 
-// The offsets in the package's sections, of an object whose sections begin at the bases.
-fn moved_offsets(k: Contributions, bases: [usize; CODES]) -> [usize; CODES]
-    requires { (c : ℕ) → c < section_codes → get_or bases c 0 + get_or k.offset c 0 < 2 ^ 32 }
-    ensures { (c : ℕ) → c < section_codes → get_or result c 0 ≡ moved_by (get_or k.has c false) (get_or bases c 0) (get_or k.offset c 0) }
+// The same cells in the package's sections, where the sections of the unit's object begin at the bases.
+fn moved(k: Contributions, bases: [usize; CODES]) -> Contributions
+    requires { (c : ℕ) → c < section_codes → get_or bases c 0 + (stated (cell_held k c)).offset < 2 ^ 32 }
+    ensures { CellsAfter k bases result }
 {
-    let mut offset = [0; CODES];
+    let mut cells = k;
     for c in 0..CODES {
-        offset[c] = if k.has[c] { bases[c] + k.offset[c] } else { 0 };
+        if let Some(part) = k.cells[c] {
+            cells.cells[c] = Some(Contribution {
+                offset: bases[c] + part.offset,
+                ..part
+            });
+        }
     }
-    offset
+    cells
 }
 
 // The cells of a unit of so many bytes of the section home, which lie at a place of the package's.
@@ -31,13 +38,11 @@ pub fn cells_of(
     ensures cells { CellsMoved k bases home place size result }
     ensures fit { CellsFit result }
 {
-    let mut cells = Contributions {
-        offset: moved_offsets(k, bases),
-        ..k
-    };
-    cells.has[home] = true;
-    cells.offset[home] = place;
-    cells.size[home] = size;
+    let mut cells = moved(k, bases);
+    cells.cells[home] = Some(Contribution {
+        offset: place,
+        size,
+    });
     cells
 }
 

@@ -50,7 +50,7 @@ pub fn mark_columns(five: bool, has: [bool; COLUMNS], cells: Contributions) -> [
 {
     let mut marked = has;
     for k in 0..column_count(five) {
-        marked[k] |= cells.has[section_at(five, k)];
+        marked[k] |= cells.cells[section_at(five, k)].is_some();
     }
     marked
 }

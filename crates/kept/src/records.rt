@@ -17,6 +17,7 @@ ghost use Rattle.kept.specs.Records.{
 
 use crate::regions::RECORD;
 use index::cells::COLUMNS;
+use index::cells::Contribution;
 use index::judging::Contributions;
 
 // The places of a record's words.
@@ -49,6 +50,9 @@ pub struct Unit {
     pub size: usize,
 }
 
+// What an index has where a unit has nothing of a section.
+const NOTHING: Contribution = Contribution { offset: 0, size: 0 };
+
 // ---- stored. Callers keep room, and numbers of 32 bits.
 // Offset and size for each column.
 fn store_cells(five: bool, words: &mut [u32], at: usize, cells: Contributions)
@@ -56,9 +60,9 @@ fn store_cells(five: bool, words: &mut [u32], at: usize, cells: Contributions)
     ensures { words.new ≡ placed words.old at (cells_of five cells) }
 {
     for k in 0..COLUMNS {
-        let s = crate::columns::section_at(five, k);
-        octets::set_word(words, at + 2 * k, cells.offset[s]);
-        octets::set_word(words, at + 2 * k + 1, cells.size[s]);
+        let part = cells.cells[crate::columns::section_at(five, k)].unwrap_or(NOTHING);
+        octets::set_word(words, at + 2 * k, part.offset);
+        octets::set_word(words, at + 2 * k + 1, part.size);
     }
 }
 

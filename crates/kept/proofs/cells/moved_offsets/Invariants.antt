@@ -1,7 +1,0 @@
--- `moved_offsets` meets its contract.
--- Assumes nothing.
-use Rattle.kept.proofs.Moved.{Moving}
-use Rattle.kept.proofs.cells.moved_offsets.Given as goal
-
-abbrev pub invariant-loop-c : goal.invariant-loop-c
-invariant-loop-c l = Moving l.k l.bases l.offset l.c
