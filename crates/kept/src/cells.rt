@@ -8,6 +8,7 @@ use index::judging::Contributions;
 use numbers::sections::CODES;
 
 // The offsets in the package's sections, of an object whose sections begin at the bases.
+#[tactic(auto, unfolding(crate::specs::Cells::moved_by))]
 fn moved_offsets(k: Contributions, bases: [usize; CODES]) -> [usize; CODES]
     requires { (c : ℕ) → c < section_codes → get_or bases c 0 + get_or k.offset c 0 < 2 ^ 32 }
     ensures { (c : ℕ) → c < section_codes → get_or result c 0 ≡ moved_by (get_or k.has c false) (get_or bases c 0) (get_or k.offset c 0) }
@@ -42,13 +43,12 @@ pub fn cells_of(
 }
 
 // The bases with one object more, whose sections have these sizes.
-pub fn grown(bases: [usize; CODES], size: [usize; CODES]) -> [usize; CODES]
+pub fn grown(mut bases: [usize; CODES], size: [usize; CODES]) -> [usize; CODES]
     requires { (c : ℕ) → c < section_codes → get_or bases c 0 + get_or size c 0 < 2 ^ 64 }
     ensures { Summed bases size result section_codes }
 {
-    let mut more = bases;
     for c in 0..CODES {
-        more[c] = bases[c] + size[c];
+        bases[c] += size[c];
     }
-    more
+    bases
 }

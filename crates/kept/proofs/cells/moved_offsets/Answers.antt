@@ -1,22 +1,20 @@
--- `moved_offsets` meets its contract.
--- Assumes nothing.
-use mathlib.Core.Path.{◌∙◌}
-use native.Mathlib.Omega.{arith}
-use borrow.Author.Rules.{rules}
-use Rattle.kept.proofs.Moved.{moved_there, moved_none, moving_none, moving_more}
+-- The offset at c has moved, and those before it stand.
+use Rattle.std.proofs.Common.{◌<◌, ◌≢◌, ◌∙◌, length, arith, get_or-set_other, get_or-set_same, length-set, below_more}
+use Rattle.kept.proofs.Moved.{moved_there, moved_none}
 use Rattle.kept.proofs.cells.moved_offsets.Goals as goal
 use Rattle.kept.proofs.cells.moved_offsets.Goals.{then-k-c, else-k-c}
 
-pub loop-c-init : goal.loop-c-init
-loop-c-init c = moving_none _ _ _ (search rules)
-
 pub loop-c-preserved : goal.loop-c-preserved
 loop-c-preserved c =
-    moving_more _ _ _ _ _ c.loop-c.invariant c.loop-c-test.true
-    (elim c.if-k-c.branch [
-      | then-k-c w ↦ w.offset-is ∙ moved_there _ _ _ w.if-k-c.true
-      | else-k-c w ↦ w.offset-is ∙ moved_none _ _ _ w.if-k-c.false
-    ])
-
-pub returns : goal.returns
-returns c = λ d h. c.loop-c.invariant.is d (omega arith)
+    let i = c.loop-c.invariant in
+    let inside : c.loop-c.c < length c.loop-c.offset = omega arith in
+    record {
+      same = rw length-set i.same;
+      done =
+          below_more _ _
+          (λ d h. let ne : d ≢ c.loop-c.c = omega arith in rw get_or-set_other (i.done d h))
+          (rw get_or-set_same (elim c.if-k-c.branch [
+            | then-k-c w ↦ w.offset-is ∙ moved_there _ _ _ w.if-k-c.true
+            | else-k-c w ↦ w.offset-is ∙ moved_none _ _ _ w.if-k-c.false
+          ]));
+    }

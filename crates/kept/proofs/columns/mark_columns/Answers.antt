@@ -16,7 +16,7 @@ bounds-cells-section_at c = rw c.section_at.ensures (section_lt _ _ (omega (arit
 
 pub loop-k-preserved : goal.loop-k-preserved
 loop-k-preserved c =
-    let many : c.loop-k.k < length c.loop-k.marked = search rules in
+    let many : c.loop-k.k < length c.loop-k.has = search rules in
     marking_more _ _ _ _ _ _ _ c.loop-k.invariant many c.section_at.ensures refl
 
 pub returns : goal.returns
