@@ -21,13 +21,12 @@ pub lent_kept : (w : List ℕ) (n first size : ℕ) → first ≡ records_region
 unfolding region
 lent_kept w n first size e f = rw (← e, ← f) (part_cut w first size)
 
-pub same_asks : (b w : List ℕ) (number at size : ℕ) → SameAsked b w number at size → (r : List ℕ) → r ≡ region w (length b / 4) records_region
-    → (record_words * (number - 1) + record_words ≤ length r) × UnitsInside b r (number - 1 + 1) × (at + size ≤ length b)
-same_asks b w number at size a r e =
+pub same_asks : (b w : List ℕ) (number : ℕ) {at size : ℕ} → SameAsked b w number at size → (r : List ℕ) → r ≡ region w (length b / 4) records_region
+    → (record_words * (number - 1) + record_words ≤ length r) × UnitsInside b r (number - 1 + 1)
+same_asks b w number a r e =
     let z : number - 1 + 1 ≡ number = omega (arith, a.some) in (
       omega (arith, ap length e, length_region records_region records_within (length b / 4) w a.enough, a.stored, a.some),
       subst (λ (l : List ℕ). UnitsInside b l (number - 1 + 1)) (sym e) (subst (UnitsInside b (region w (length b / 4) records_region)) (sym z) a.inside),
-      a.fits,
     )
 
 -- ---- one unit more is skipped

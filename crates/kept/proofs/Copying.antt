@@ -49,8 +49,8 @@ module _ (b w : List ℕ) (home i : ℕ) where
   unfolding record_at
   words_other e = bytes_other e
 
-  pub words_own : get_or w (record_words * i + 4) 0 ≡ home → bytes_from b w home i 1 ≡ part b (get_or w (record_words * i + 5) 0) (get_or w (record_words * i + 6) 0)
-  unfolding record_at
+  pub words_own : get_or w (record_words * i + 4) 0 ≡ home → bytes_from b w home i 1 ≡ bytes_of b (record_at w i)
+  unfolding record_at bytes_of
   words_own e = bytes_own e
 
   pub bytes_turn : (n : ℕ) → i < n → bytes_from b w home i (n - i) ≡ bytes_from b w home i 1 ++ bytes_from b w home (i + 1) (n - (i + 1))

@@ -148,12 +148,18 @@ module _ (k : Contributions) (bases : List ℕ) (r : Contributions) (home place 
   pub cells_fit : CellsFit made
   cells_fit =
       record {
-        offset = λ c. elim (ℕ_discrete c home) [ yes q ↦ rw q (rw own_is room.place_fits) | no q ↦ rw (other_is c q) (elim (dec_lt c 14) [
-          | yes h ↦ rw (after.is c h) (offset_low (get_or bases c 0) (cell_held k c) (room.offsets c h))
-          | no h ↦ rw (past r after.whole c (omega arith)) (omega arith)
-        ]) ];
-        size = λ c. elim (ℕ_discrete c home) [ yes q ↦ rw q (rw own_is room.size_fits) | no q ↦ rw (other_is c q) (elim (dec_lt c 14) [
-          | yes h ↦ rw (after.is c h) (size_low (get_or bases c 0) (cell_held k c) (room.sizes c))
-          | no h ↦ rw (past r after.whole c (omega arith)) (omega arith)
-        ]) ];
+        offset = λ c. elim (ℕ_discrete c home) [
+          | yes q ↦ rw q (rw own_is room.place_fits)
+          | no q ↦ rw (other_is c q) (elim (dec_lt c 14) [
+            | yes h ↦ rw (after.is c h) (offset_low (get_or bases c 0) (cell_held k c) (room.offsets c h))
+            | no h ↦ rw (past r after.whole c (omega arith)) (omega arith)
+          ])
+        ];
+        size = λ c. elim (ℕ_discrete c home) [
+          | yes q ↦ rw q (rw own_is room.size_fits)
+          | no q ↦ rw (other_is c q) (elim (dec_lt c 14) [
+            | yes h ↦ rw (after.is c h) (size_low (get_or bases c 0) (cell_held k c) (room.sizes c))
+            | no h ↦ rw (past r after.whole c (omega arith)) (omega arith)
+          ])
+        ];
       }

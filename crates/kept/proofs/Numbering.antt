@@ -1,14 +1,16 @@
 -- Loops that write numbers one behind the other, some of them only where a column is there.
 -- Assumes nothing.
 use mathlib.Core.Path.{◌≡◌, refl, sym, ap, ap₂, ◌∙◌}
-use mathlib.Core.Bool.{Bool, true, false}
+use mathlib.Core.Bool.{Bool, true, false, cond}
 use mathlib.Core.List.{List, [], ◌∷◌, ◌++◌, map}
-use Prim.Native.Nat.{ℕ, suc, ◌+◌, ◌*◌, ◌-◌, ◌≤◌, ◌<◌}
+use Prim.Native.Nat.{ℕ, zero, suc, ◌+◌, ◌*◌, ◌-◌, ◌≤◌, ◌<◌}
 use native.Mathlib.Nat.{mul-add, mul-zero, mul-one}
 use native.Mathlib.Numerals.{add-one}
 use native.Mathlib.Omega.{arith}
-use lib.ListN.{length, get_or, drop, length-append, drop_of_length-le}
+use lib.ListN.{length, get_or, take, drop, length-append, drop_of_length-le}
 use lib.Seq.{drop-cons}
+use Rattle.std.specs.Prelude.{count_by}
+use Rattle.std.proofs.lemmas.List.Sums.{sum_by-cons}
 use Rattle.octets.specs.Octets.{bytes_of, numbers_of, placed}
 use Rattle.octets.proofs.Placed.{length_placed, placed_placed, placed_none}
 use Rattle.octets.proofs.Tables.{length_numbers_of, numbers_of_append, numbers_of_one}
@@ -87,6 +89,25 @@ module _ (five : Bool) (has : List Bool) where
   pub codes_all : (n : ℕ) → n ≡ length (columns_for five) → codes_from five has 0 (n - 0) ≡ codes_in five has
   unfolding codes_in
   codes_all n e = let z : n - 0 ≡ length (columns_for five) = omega arith in rw z
+
+  -- as many codes as columns are there
+  if_many : (there : Bool) (n : ℕ) → length (numbers_if there n) ≡ cond there 1 0
+  unfolding numbers_if
+  if_many true n = refl
+  if_many false n = refl
+
+  codes_many : (m k : ℕ) → k + m ≤ length has → length (codes_from five has k m) ≡ count_by (λ there. there) (take m (drop k has))
+  unfolding codes_from
+  codes_many zero k h = refl
+  codes_many (suc m) k h =
+      let here = get_or has k false in
+      let left = drop (k + 1) has in
+      rw (codes_suc k m, length-append (numbers_if here (code_at five k)) (codes_from five has (k + 1) m), if_many here (code_at five k), codes_many m (k + 1) (omega arith))
+      (rw (drop-cons has k false (omega arith), ← add-one k) (sym (sum_by-cons (λ there. cond there 1 0) here (take m left))))
+
+  pub codes_counted : (n : ℕ) → n ≡ length (columns_for five) → n ≤ length has → count_by (λ there. there) (take n has) ≡ length (codes_in five has)
+  unfolding codes_in
+  codes_counted n e h = rw (← e) (sym (codes_many n 0 (omega arith)))
 
 module _ (has : List Bool) (w : List ℕ) (first : ℕ) where
   pub cells_suc : (k m : ℕ) → cells_from has w first k (suc m) ≡ numbers_if (get_or has k false) (get_or w (first + 2 * k) 0) ++ cells_from has w first (k + 1) m

@@ -47,13 +47,12 @@ pub fn cells_of(
 }
 
 // The bases with one object more, whose sections have these sizes.
-pub fn grown(bases: [usize; CODES], size: [usize; CODES]) -> [usize; CODES]
+pub fn grown(mut bases: [usize; CODES], size: [usize; CODES]) -> [usize; CODES]
     requires { (c : ℕ) → c < section_codes → get_or bases c 0 + get_or size c 0 < 2 ^ 64 }
     ensures { Summed bases size result section_codes }
 {
-    let mut more = bases;
     for c in 0..CODES {
-        more[c] = bases[c] + size[c];
+        bases[c] += size[c];
     }
-    more
+    bases
 }

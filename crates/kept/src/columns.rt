@@ -45,27 +45,24 @@ pub fn code_at(five: bool, k: usize) -> usize
 
 // ---- the columns that are there
 // The columns that were there, and those of one row more.
-pub fn mark_columns(five: bool, has: [bool; COLUMNS], cells: Contributions) -> [bool; COLUMNS]
+pub fn mark_columns(five: bool, mut has: [bool; COLUMNS], cells: Contributions) -> [bool; COLUMNS]
     ensures { Marked five has result cells (length (columns_for five)) }
 {
-    let mut marked = has;
     for k in 0..column_count(five) {
-        marked[k] |= cells.cells[section_at(five, k)].is_some();
+        has[k] |= cells.cells[section_at(five, k)].is_some();
     }
-    marked
+    has
 }
 
 // How many columns are there.
+#[tactic(auto, using(crate::proofs::Numbering::codes_counted))]
 pub fn columns_present(five: bool, has: [bool; COLUMNS]) -> usize
     ensures { result ≡ length (codes_in five has) }
 {
-    let mut count = 0;
-    for k in 0..column_count(five) {
-        if has[k] {
-            count += 1;
-        }
-    }
-    count
+    has[..column_count(five)]
+        .iter()
+        .filter(|there| **there)
+        .count()
 }
 
 // The bytes of an index of n rows. Callers keep both numbers small.

@@ -16,8 +16,7 @@ ghost use Rattle.kept.specs.Records.{
 };
 
 use crate::regions::RECORD;
-use index::cells::COLUMNS;
-use index::cells::Contribution;
+use index::cells::{COLUMNS, Contribution};
 use index::judging::Contributions;
 
 // The places of a record's words.
@@ -102,24 +101,20 @@ pub fn identity_at(records: &[u32], i: usize) -> u64
 }
 
 // The identity and the row number that a slot names by the number of a record, from 1; an unused slot names none.
+#[tactic(auto, unfolding(crate::specs::Records::identity_for))]
 pub fn identity_for(records: &[u32], number: usize) -> u64
     requires { record_words * number ≤ length records.now }
     ensures { result ≡ identity_for records.now number }
 {
-    if number == 0 {
-        0
-    } else {
-        identity_at(records, number - 1)
-    }
+    number.checked_sub(1).map_or(0, |i| identity_at(records, i))
 }
 
+#[tactic(auto, unfolding(crate::specs::Records::row_for, crate::specs::Records::record_at))]
 pub fn row_for(records: &[u32], number: usize) -> usize
     requires { record_words * number ≤ length records.now }
     ensures { result ≡ row_for records.now number }
 {
-    if number == 0 {
-        0
-    } else {
-        records[RECORD * (number - 1) + ROW] as usize
-    }
+    number
+        .checked_sub(1)
+        .map_or(0, |i| records[RECORD * i + ROW] as usize)
 }

@@ -9,21 +9,30 @@ ghost use Rattle.kept.specs.Slots.{SameAsked};
 use crate::records::{HOME, SIZE, START};
 use crate::regions::{RECORD, RECORDS};
 
-// The bytes of record i, where it is a unit of the section home; the place behind them.
+// The bytes of record i's unit.
+#[tactic(auto, using(octets::proofs::Parts::part_cut, crate::proofs::Copying::unit_inside), unfolding(crate::specs::Records::record_at, crate::specs::Records::bytes_of))]
+fn unit_bytes<'a>(b: &'a [u8], records: &[u32], i: usize) -> &'a [u8]
+    requires { (record_words * i + record_words ≤ length records.now) × UnitsInside b.now records.now (i + 1) }
+    ensures { result.now ≡ bytes_of b.now (record_at records.now i) }
+{
+    let start = records[RECORD * i + START] as usize;
+    let size = records[RECORD * i + SIZE] as usize;
+    &b[start..start + size]
+}
+
+// The same put, where it is a unit of the section home; the place behind it.
+#[tactic(auto, using(crate::proofs::Copying::words_own, crate::proofs::Copying::words_other, octets::proofs::Placed::placed_none))]
 fn copy_unit(b: &[u8], records: &[u32], i: usize, home: usize, out: &mut [u8], at: usize) -> usize
     requires { (record_words * i + record_words ≤ length records.now) × UnitsInside b.now records.now (i + 1) × (at + length (bytes_from b.now records.now home i 1) ≤ length out.old) }
     ensures out { out.new ≡ placed out.old at (bytes_from b.now records.now home i 1) }
     ensures next { result ≡ at + length (bytes_from b.now records.now home i 1) }
 {
-    let record = RECORD * i;
-    if records[record + HOME] as usize != home {
+    if records[RECORD * i + HOME] as usize != home {
         return at;
     }
-    let start = records[record + START] as usize;
-    let size = records[record + SIZE] as usize;
-    let end = start + size;
-    octets::put_bytes(out, at, &b[start..end]);
-    at + size
+    let bytes = unit_bytes(b, records, i);
+    octets::put_bytes(out, at, bytes);
+    at + bytes.len()
 }
 
 // Of all n records. The caller has filed them, and has room for all.
@@ -37,24 +46,13 @@ pub fn copy_units(b: &[u8], records: &[u32], n: usize, home: usize, out: &mut [u
     }
 }
 
-// Whether so many bytes of the bundle at a place are those of record i. Lengths are compared first, so that it costs no more than the unit at the place.
-fn same_unit(b: &[u8], records: &[u32], i: usize, at: usize, size: usize) -> bool
-    requires { (record_words * i + record_words ≤ length records.now) × UnitsInside b.now records.now (i + 1) × (at + size ≤ length b.now) }
-    ensures { result ≡ same (part b.now at size) (bytes_of b.now (record_at records.now i)) }
-{
-    let record = RECORD * i;
-    let start = records[record + START] as usize;
-    let kept = records[record + SIZE] as usize;
-    let end = start + kept;
-    let last = at + size;
-    octets::same_bytes(&b[at..last], &b[start..end])
-}
-
-// The same in work, by the number that a slot holds.
+// Whether so many bytes of the bundle at a place are those of a record's unit, by the number that a slot holds. Lengths are compared first, so that it costs
+// no more than the unit at the place.
+#[tactic(auto, using(octets::proofs::Parts::part_cut))]
 pub fn same_as_kept(b: &[u8], work: &[u32], number: usize, at: usize, size: usize) -> bool
     requires { SameAsked b.now work.now number at size }
     ensures { result ≡ same (part b.now at size) (bytes_of b.now (record_at (region work.now (length b.now / 4) records_region) (number - 1))) }
 {
     let records = RECORDS.part(work, b.len() / 4);
-    same_unit(b, records, number - 1, at, size)
+    octets::same_bytes(&b[at..at + size], unit_bytes(b, records, number - 1))
 }

@@ -1,19 +1,16 @@
--- `grown` meets its contract.
--- Assumes nothing.
-use Rattle.kept.proofs.Moved.{growing_none, growing_more}
-use mathlib.Core.Path.{refl}
-use native.Mathlib.Omega.{arith}
-use borrow.Author.Rules.{rules}
+-- The base at c has grown, and the others are as they were.
+use Rattle.std.proofs.Common.{◌<◌, ◌≢◌, length, arith, get_or-set_other, get_or-set_same, length-set, below_more}
 use Rattle.kept.proofs.cells.grown.Goals as goal
 
-pub loop-c-init : goal.loop-c-init
-loop-c-init c = growing_none _ _
-
-pub overflow_add-more : goal.overflow_add-more
-overflow_add-more c = omega (arith, c.requires c.loop-c.c c.loop-c-test.true)
-
 pub loop-c-preserved : goal.loop-c-preserved
-loop-c-preserved c = growing_more _ _ _ _ _ (search rules) c.loop-c.invariant c.loop-c-test.true refl
-
-pub returns : goal.returns
-returns c = record { is = λ d h. c.loop-c.invariant.done.is d (omega arith) }
+loop-c-preserved c =
+    let i = c.loop-c.invariant in
+    let inside : c.loop-c.c < length c.loop-c.bases = omega arith in
+    record {
+      same = rw length-set i.same;
+      done =
+          below_more _ _
+          (λ k h. let ne : k ≢ c.loop-c.c = omega arith in rw get_or-set_other (i.done k h))
+          (let r = i.rest c.loop-c.c (omega arith) in rw get_or-set_same (omega arith));
+      rest = λ k h. let ne : k ≢ c.loop-c.c = omega arith in rw get_or-set_other (i.rest k (omega arith));
+    }

@@ -20,8 +20,8 @@ offset_bounds-cells-section_at c = let h : c.section_at.result < 14 = rw c.secti
 
 pub loop-k-preserved : goal.loop-k-preserved
 loop-k-preserved c =
-    let many : c.loop-k.k < length c.loop-k.marked = search rules in
-    marking_more _ _ _ _ _ _ _ c.loop-k.invariant many c.section_at.ensures (ap (λ (z : Bool). get_or c.loop-k.marked c.loop-k.k false || z) c.is_some.ensures)
+    let many : c.loop-k.k < length c.loop-k.has = search rules in
+    marking_more _ _ _ _ _ _ _ c.loop-k.invariant many c.section_at.ensures (ap (λ (z : Bool). get_or c.loop-k.has c.loop-k.k false || z) c.is_some.ensures)
 
 pub returns : goal.returns
 returns c = marking_all _ _ _ _ _ _ c.loop-k.invariant (omega (arith, c.column_count-k-end.ensures.is))

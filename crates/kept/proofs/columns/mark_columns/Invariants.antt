@@ -4,4 +4,4 @@ use Rattle.kept.proofs.Columning.{Marking}
 use Rattle.kept.proofs.columns.mark_columns.Given as goal
 
 abbrev pub invariant-loop-k : goal.invariant-loop-k
-invariant-loop-k l = Marking l.five l.initial.marked l.marked l.cells l.k
+invariant-loop-k l = Marking l.five l.initial.has l.has l.cells l.k
