@@ -22,7 +22,7 @@ impl From<Refusal> for Unwritten {
     }
 }
 
-// The same in numbers. Code 0: so many bytes are written, and zeros follow them. 18: the output is too short, with the length needed. Else the refusal,
+// The same in numbers, as C callers read it. Code 0: so many bytes are written, and zeros follow them. 18: the output is too short, with the length needed. Else the refusal,
 // with 0.
 #[repr(C)]
 #[derive(Clone, Copy)]

@@ -48,7 +48,8 @@ pub enum Item {
     End,
 }
 
-// An object's sections by code: how many there are and where the first lies, 0 and 0 where there is none; and the place behind the last one.
+// An object's sections by code: how many there are and where the first lies, 0 and 0 where there is none; and the place behind the last one. Three arrays:
+// the counts, and the sizes as lengths, are each handed on whole to what judges an object.
 #[derive(Clone, Copy)]
 pub struct Scan {
     pub count: [usize; CODES],

@@ -1,4 +1,4 @@
-// The codes of an object's sections.
+// The codes of an object's sections. Numbers, and no enum: arrays are indexed by them, and the words of bundles and of work hold them.
 pub const INFO: usize = 1;
 
 pub const TYPES: usize = 2;

@@ -4,6 +4,7 @@ ghost use Rattle.numbers.specs.Tabled.{table_named};
 
 use crate::refusals::Refusal;
 
+// The two tables as numbers, as questions and the words of work hold them.
 pub const COMPILATION: u32 = 1;
 
 pub const TYPE: u32 = 2;

@@ -324,7 +324,8 @@ fn zero_marks(x: u64) -> u64
     u64::MAX - filled
 }
 
-// The place of the first zero byte from a place on, or the length where there is none: eight bytes at a time, and the last ones singly.
+// The place of the first zero byte from a place on, or the length where there is none: eight bytes at a time, and the last ones singly. The place is counted
+// by hand: over chunks it would have to be put together again from the number of a chunk.
 pub fn first_zero(s: &[u8], from: usize) -> usize
     requires { from ≤ length s.now }
     ensures { FirstZero s.now from result }
