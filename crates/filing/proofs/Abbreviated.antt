@@ -1,6 +1,6 @@
 -- The abbreviations that a unit is read with, and the answer of a unit read with them.
 -- Assumes nothing.
-use mathlib.Core.Path.{◌≡◌, refl, sym, ap, ap₂, ◌∙◌, subst}
+use mathlib.Core.Path.{◌≡◌, refl, sym, ap, ◌∙◌, subst}
 use mathlib.Core.List.{List, [], ◌∷◌}
 use mathlib.Core.Option.{Option, some, none}
 use Prim.Native.Nat.{ℕ, ◌+◌, ◌*◌, ◌-◌, ◌<◌, ◌≤◌}
@@ -41,6 +41,7 @@ use Rattle.numbers.specs.declared.refusals.Refusal.TheVariants.{NoRow, BadRow}
 use Rattle.filing.proofs.Telling.{tells_pass, tells_refuse, tells_same}
 use Rattle.filing.specs.declared.reading.Abbreviations.{Abbreviations}
 use Rattle.filing.specs.declared.units.HomeSection.{HomeSection}
+use Rattle.filing.specs.declared.units.Reading.{Reading}
 use Rattle.filing.specs.Judged.{section_of, InputIs}
 use Rattle.filing.specs.State.{words_in, Remembered}
 use Rattle.filing.specs.ByPlace.{WorkFor, AbbreviationsAre}
@@ -131,7 +132,16 @@ module _ (b : List ℕ) (x : InputObject) (i : Input) (is : InputIs b x i) (home
     given_part row z r k = tells_same (sym (by_row ∙ then_pass _ _ row (sym z) ∙ ap (abbrev_part idx row) (is.bytes 3 (omega arith)))) k
 
 -- ---- a unit at a place; its section's bytes from there as code cuts them
-module _ {b : List ℕ} {x : InputObject} {h : HomeSection} {at : ℕ} {w : List ℕ} (p : PlaceAsked b x h at w) where
+module _ {r : Reading} {at : ℕ} {w : List ℕ} (p : PlaceAsked r at w) where
+  abbrev b : List ℕ
+  b = r.bundle.now
+
+  abbrev x : InputObject
+  x = r.object.now
+
+  abbrev h : HomeSection
+  h = r.section
+
   abbrev pub rest : List ℕ
   rest = take (h.stop - at) (drop at b)
 
@@ -139,7 +149,7 @@ module _ {b : List ℕ} {x : InputObject} {h : HomeSection} {at : ℕ} {w : List
   checked i = unit_by i.encoding h.home (abbreviations_for i h.home (at - h.start)) (part b at (h.stop - at))
 
   abbrev Refuses : Input → Refusal → Type 0
-  Refuses i r = refuse (number_of r) ≡ checked i
+  Refuses i e = refuse (number_of e) ≡ checked i
 
   parts_are : (i : Input) → InputIs b x i
       → unit_by i.encoding h.home (abbreviations_for i h.home (at - h.start)) (part b at (h.stop - at))
@@ -149,24 +159,24 @@ module _ {b : List ℕ} {x : InputObject} {h : HomeSection} {at : ℕ} {w : List
       ap (λ (e : Encoding). unit_by e h.home (abbreviations_for i h.home (at - h.start)) rest) (sym is.encoding)
       ∙ unit_parts (encoding_is x.encoding) h.home (abbreviations_for i h.home (at - h.start)) rest
 
-  pub read_headless : (r : Refusal) (i : Input) → InputIs b x i → refuse (number_of r) ≡ head_of (encoding_is x.encoding) rest → Refuses i r
-  read_headless r i is e = sym (parts_are i is ∙ then_refuse _ _ (number_of r) (sym e))
+  pub read_headless : (n : Refusal) (i : Input) → InputIs b x i → refuse (number_of n) ≡ head_of (encoding_is x.encoding) rest → Refuses i n
+  read_headless n i is e = sym (parts_are i is ∙ then_refuse _ _ (number_of n) (sym e))
 
   module _ (size : ℕ) (e : head_of (encoding_is x.encoding) rest ≡ pass size) where
     pub size_within : (at + size ≤ length b) × (size ≤ h.stop - at) × (common_size (encoding_is x.encoding) ≤ size)
     unfolding part
     size_within =
         let q = head_within (encoding_is x.encoding) rest size e in
-        let l = length_part b at (h.stop - at) (omega (arith, p.low, p.within)) in
-        (omega (arith, q.0, l, p.low, p.within), omega (arith, q.0, l), q.1)
+        let l = length_part b at (h.stop - at) (omega (arith, p.low, r.within)) in
+        (omega (arith, q.0, l, p.low, r.within), omega (arith, q.0, l), q.1)
 
-    pub read_unabbreviated : (r : Refusal) (i : Input) → InputIs b x i → AbbreviationsAre b (abbreviations_for i h.home (at - h.start) size) (Err r) → Refuses i r
-    read_unabbreviated r i is k = sym (parts_are i is ∙ then_pass _ _ size e ∙ then_refuse _ _ (number_of r) (k.refuses r refl))
+    pub read_unabbreviated : (n : Refusal) (i : Input) → InputIs b x i → AbbreviationsAre b (abbreviations_for i h.home (at - h.start) size) (Err n) → Refuses i n
+    read_unabbreviated n i is k = sym (parts_are i is ∙ then_pass _ _ size e ∙ then_refuse _ _ (number_of n) (k.refuses n refl))
 
     module _ (a : Abbreviations) (i : Input) (is : InputIs b x i) (k : AbbreviationsAre b (abbreviations_for i h.home (at - h.start) size) (Ok a)) (u : UnitPlace) (eu : u ≡ record { at = at; size = size; first = a.first; last = a.last }) where
       -- its identity, and the definition's
       abbrev Identified : Result code.Identity Refusal → Type 0
-      Identified r = mapped identity_is (told r) ≡ identity_good (encoding_is x.encoding) h.home (abbreviations_bytes b u) (unit_bytes b u)
+      Identified z = mapped identity_is (told z) ≡ identity_good (encoding_is x.encoding) h.home (abbreviations_bytes b u) (unit_bytes b u)
 
       read_on : checked i
           ≡ (identity_good (encoding_is x.encoding) h.home (abbreviations_bytes b u) (unit_bytes b u) >>= unit_with size)
@@ -176,9 +186,9 @@ module _ {b : List ℕ} {x : InputObject} {h : HomeSection} {at : ℕ} {w : List
           parts_are i is ∙ then_pass _ _ size e ∙ then_pass _ _ (between b a.first a.last) (l.1 ∙ ap pass (sym l.2.is))
           ∙ rw (eu, take-take size (h.stop - at) (drop at b) size_within.1)
 
-      pub read_unidentified : (r : Refusal) → Identified (Err r) → Refuses i r
+      pub read_unidentified : (n : Refusal) → Identified (Err n) → Refuses i n
       unfolding mapped
-      read_unidentified r t = sym (read_on ∙ then_refuse _ _ (number_of r) (sym t))
+      read_unidentified n t = sym (read_on ∙ then_refuse _ _ (number_of n) (sym t))
 
       pub read_whole : (d : code.Identity) → Identified (Ok d) → mapped unit_is (told (Ok (record { size = size; table = d.table; identity = d.identity }))) ≡ checked i
       unfolding mapped

@@ -11,7 +11,7 @@ use lib.Dec.{eqb}
 use lib.ListN.{length, take, drop, get_or}
 use borrow.Rule.Slice.PartMut.{put_mid}
 use Rattle.octets.specs.Lists.{those}
-use Rattle.octets.specs.Checked.{Check, pass, refuse}
+use Rattle.octets.specs.Checked.{pass, refuse}
 use Rattle.octets.proofs.Checks.{known, pass_inj, refuse_inj, pass_refuse}
 use Rattle.octets.proofs.Lists.{those_keeps, those_skips}
 use Rattle.octets.proofs.Parts.{length_part}
@@ -31,11 +31,11 @@ use Rattle.filing.specs.declared.input.InputObject.{InputObject}
 use Rattle.std.specs.Prelude.{Some, None}
 use Rattle.octets.specs.Options.{found}
 use Rattle.bundle.proofs.Units.{found_some, found_none}
-use Rattle.filing.specs.declared.units.HomeSection.{HomeSection}
+use Rattle.filing.specs.declared.units.Reading.{Reading}
 use Rattle.filing.specs.Judged.{section_of, Indexed, IndexedIs, InputIs}
 use Rattle.filing.specs.State.{words_in}
-use Rattle.filing.specs.ByPlace.{heads_for, ChainsHeld, RowsChained}
-use Rattle.filing.specs.Asked.{ChainAsked, PlaceAsked}
+use Rattle.filing.specs.ByPlace.{heads_for, ChainsHeld}
+use Rattle.filing.specs.Asked.{RowsChained, ChainAsked, PlaceAsked}
 use Rattle.filing.proofs.Entering.{five_is}
 use Rattle.kept.proofs.RegionLending.{lent_is, lent_length, lent_left}
 
@@ -98,35 +98,41 @@ module _ (b : List ℕ) (x : InputObject) (i : Input) (is : InputIs b x i) (home
         omega (arith, w.sized, w.above, ap (λ (y : Index). y.units) h.2, units_are x.encoding.big (section_of b x 12) h.0, length_part b (get_or x.start 12 0) (get_or x.size 12 0) (is.within 12), is.within 12)
 
 -- ---- their chains
-pub chained_nowhere : (b : List ℕ) (x : InputObject) (h : HomeSection) (w : List ℕ) → ((i : Input) → InputIs b x i → None ≡ found (index_by_place i h.home)) → RowsChained b x h w
+pub chained_nowhere : (r : Reading) (w : List ℕ) → ((i : Input) → InputIs r.bundle.now r.object.now i → None ≡ found (index_by_place i r.section.home)) → RowsChained r w
 unfolding ChainsHeld
-chained_nowhere b x h w e i is = rw (← found_none (index_by_place i h.home) (e i is)) tt
+chained_nowhere r w e i is = rw (← found_none (index_by_place i r.section.home) (e i is)) tt
 
-module _ {b : List ℕ} {x : InputObject} {h : HomeSection} {w : List ℕ} (p : ChainAsked b x h w) (idx : Index) (e : (i : Input) → InputIs b x i → Some idx ≡ found (index_by_place i h.home))
-    (from many : ℕ) (ef : from ≡ rows_region.start * words_in b) (em : many ≡ rows_region.words * words_in b) where
-  pub chain_asks : (idx.units < 2 ^ 32) × (heads_for h + idx.units ≤ length (take (from + many - from) (drop from w)))
+module _ {r : Reading} {w : List ℕ} (p : ChainAsked r w) (idx : Index) (e : (i : Input) → InputIs r.bundle.now r.object.now i → Some idx ≡ found (index_by_place i r.section.home))
+    (from many : ℕ) (ef : from ≡ rows_region.start * words_in r.bundle.now) (em : many ≡ rows_region.words * words_in r.bundle.now) where
+  abbrev n : ℕ
+  n = words_in r.bundle.now
+
+  abbrev heads : ℕ
+  heads = heads_for r.section
+
+  pub chain_asks : (idx.units < 2 ^ 32) × (heads + idx.units ≤ length (take (from + many - from) (drop from w)))
   unfolding heads_for
   chain_asks =
-      let few = few_rows b x p.input p.is h.home idx (sym (found_some idx _ (e p.input p.is))) in
-      (omega (arith, few, p.work.limit), omega (arith, few, p.from, p.within, p.work.words, lent_length rows_region rows_within (words_in b) from many w p.work.room ef em))
+      let few = few_rows r.bundle.now r.object.now p.input p.is r.section.home idx (sym (found_some idx _ (e p.input p.is))) in
+      (omega (arith, few, p.work.limit), omega (arith, few, r.order, r.within, p.work.words, lent_length rows_region rows_within n from many w p.work.room ef em))
 
   pub chains_left : (words v : List ℕ) → length words ≡ length (take (from + many - from) (drop from w)) → v ≡ put_mid from (from + many - from) w words
-      → Chained idx info_code (heads_for h) words → RowsChained b x h v
+      → Chained idx info_code heads words → RowsChained r v
   unfolding ChainsHeld
   chains_left words v same is c i k =
       rw (← found_some idx _ (e i k))
-      (subst (λ (l : List ℕ). Chained idx info_code (heads_for h) l) (sym (lent_left rows_region rows_within (words_in b) from many w p.work.room ef em words v same is)) c)
+      (subst (λ (l : List ℕ). Chained idx info_code heads l) (sym (lent_left rows_region rows_within n from many w p.work.room ef em words v same is)) c)
 
 -- ---- a place in them
-module _ {b : List ℕ} {x : InputObject} {h : HomeSection} {at : ℕ} {w : List ℕ} (p : PlaceAsked b x h at w) (c : RowsChained b x h w) (idx : Index) (e : Some idx ≡ found (index_by_place p.input h.home))
-    (from many : ℕ) (ef : from ≡ rows_region.start * words_in b) (em : many ≡ rows_region.words * words_in b) where
-  chained_here : Chained idx info_code (heads_for h) (region w (words_in b) rows_region)
+module _ {r : Reading} {at : ℕ} {w : List ℕ} (p : PlaceAsked r at w) (c : RowsChained r w) (idx : Index) (e : Some idx ≡ found (index_by_place p.input r.section.home))
+    (from many : ℕ) (ef : from ≡ rows_region.start * words_in r.bundle.now) (em : many ≡ rows_region.words * words_in r.bundle.now) where
+  chained_here : Chained idx info_code (heads_for r.section) (region w (words_in r.bundle.now) rows_region)
   unfolding ChainsHeld
-  chained_here = subst (ChainsHeld (heads_for h) (region w (words_in b) rows_region)) (sym (found_some idx _ e)) (c p.input p.is)
+  chained_here = subst (ChainsHeld (heads_for r.section) (region w (words_in r.bundle.now) rows_region)) (sym (found_some idx _ e)) (c p.input p.is)
 
-  pub row_asks : ((at - h.start) / 4 < heads_for h) × Chained idx info_code (heads_for h) (take (from + many - from) (drop from w))
+  pub row_asks : ((at - r.section.start) / 4 < heads_for r.section) × Chained idx info_code (heads_for r.section) (take (from + many - from) (drop from w))
   unfolding heads_for
   row_asks = (
     omega (arith, p.from, p.low),
-    subst (λ (l : List ℕ). Chained idx info_code (heads_for h) l) (sym (lent_is rows_region rows_within (words_in b) from many w p.work.room ef em)) chained_here,
+    subst (λ (l : List ℕ). Chained idx info_code (heads_for r.section) l) (sym (lent_is rows_region rows_within (words_in r.bundle.now) from many w p.work.room ef em)) chained_here,
   )

@@ -15,7 +15,7 @@ use Rattle.std.specs.Prelude.{Result, Ok, Err}
 use Rattle.numbers.specs.declared.refusals.Refusal.{Refusal}
 use Rattle.numbers.specs.declared.refusals.Refusal.TheVariants.{NoRow}
 use Rattle.octets.specs.Checked.{Check, pass, refuse, ◌>>=◌, require}
-use Rattle.octets.proofs.Checks.{pass_refuse, refuse_inj, bind_refuse, true_false}
+use Rattle.octets.proofs.Checks.{true_false}
 use Rattle.octets.proofs.Lists.{any_cases, any_stops, any_more, all_head, all_tail, those_keeps, those_skips}
 use Rattle.octets.proofs.Parts.{length_part}
 use Rattle.bundle.specs.Encoded.{four, encoding_is}

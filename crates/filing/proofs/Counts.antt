@@ -3,15 +3,13 @@
 use mathlib.Core.Path.{◌≡◌, refl}
 use mathlib.Core.Bool.{Bool, true, false, not, ◌&&◌, ◌||◌}
 use mathlib.Core.List.{List, [], ◌∷◌}
-use Prim.Native.Nat.{ℕ, zero, suc, ◌<◌, ◌≤◌}
+use Prim.Native.Nat.{ℕ}
 use native.Mathlib.Omega.{arith}
 use lib.Dec.{leb, ltb}
 use lib.ListN.{get_or}
 use Rattle.std.specs.List.{list_all}
 use Rattle.std.proofs.lemmas.Bool.Decides.{nat_tests}
-use borrow.Author.Tests.{ltb-true, le-leb}
 use Rattle.octets.specs.Lists.{all}
-use Rattle.octets.proofs.Lists.{all_head, all_tail}
 use Rattle.bundle.specs.Bundle.{Part, count}
 use Rattle.bundle.specs.Encoded.{four, encoding_is}
 use Rattle.bundle.specs.Scan.{by_code, numbered}

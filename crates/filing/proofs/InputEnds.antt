@@ -1,6 +1,6 @@
 -- The answers of opening an object, each from those of its checks.
 -- Assumes nothing.
-use mathlib.Core.Path.{◌≡◌, refl, sym, ap, ap₂, ◌∙◌, subst}
+use mathlib.Core.Path.{◌≡◌, refl, sym, ap₂, ◌∙◌, subst}
 use mathlib.Core.Logic.{⊎_elim}
 use mathlib.Core.Bool.{Bool}
 use mathlib.Core.List.{List, ◌++◌}
@@ -12,8 +12,8 @@ use lib.ListN.{get_or}
 use Rattle.std.specs.Prelude.{Result, Ok, Err}
 use Rattle.numbers.specs.Refused.{number_of}
 use Rattle.numbers.specs.declared.refusals.Refusal.{Refusal}
-use Rattle.octets.specs.Checked.{Check, pass, refuse, ◌>>=◌}
-use Rattle.octets.proofs.Checks.{then_pass, then_refuse, bind_pass, bind_refuse, pass_inj, pass_refuse}
+use Rattle.octets.specs.Checked.{Check, pass, ◌>>=◌}
+use Rattle.octets.proofs.Checks.{bind_pass, bind_refuse, pass_inj, pass_refuse}
 use Rattle.bundle.specs.Bundle.{Part, Object, body}
 use Rattle.bundle.specs.Encoding.{Encoding}
 use Rattle.bundle.specs.Encoded.{encoding_is}
@@ -25,7 +25,7 @@ use Rattle.strings.specs.declared.table.StrOffsets.{StrOffsets}
 use Rattle.strings.specs.declared.table.StringTable.{StringTable}
 use Rattle.index.specs.Index.{Index}
 use Rattle.package.specs.Pieces.{Piece, used_in}
-use Rattle.package.specs.Input.{Input, input_index, whole_pieces, Opened, opened_whole, opened, input_of}
+use Rattle.package.specs.Input.{input_index, whole_pieces, Opened, opened_whole, opened, input_of}
 use Rattle.filing.specs.Tells.{Tells}
 use Rattle.filing.specs.Judged.{object_check, JudgedIs}
 use Rattle.filing.specs.declared.input.InputObject.{InputObject}

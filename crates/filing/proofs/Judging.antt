@@ -7,7 +7,6 @@ use mathlib.Core.Option.{some, none}
 use Rattle.std.specs.Prelude.{Some, None, Ok, Err}
 use Rattle.numbers.specs.declared.refusals.Refusal.TheVariants.{OtherEncoding, WrongEdition, SectionMissing, BadIndex}
 use Prim.Native.Nat.{ℕ}
-use native.Mathlib.Omega.{arith}
 use lib.Dec.{eqb}
 use borrow.Author.Tests.{eq-eqb, ne_eqb}
 use Rattle.numbers.specs.Refused.{number_of, told}

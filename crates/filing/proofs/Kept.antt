@@ -5,6 +5,7 @@ use mathlib.Core.Bool.{Bool, true, false}
 use mathlib.Core.Logic.{⊎_elim}
 use mathlib.Core.List.{List, [], ◌∷◌, ◌++◌}
 use mathlib.Core.Option.{Option}
+use Rattle.std.specs.Prelude.{Result, Ok, Err}
 use Prim.Native.Nat.{ℕ, ◌+◌, ◌*◌, ◌^◌, ◌<◌, ◌≤◌}
 use native.Mathlib.Omega.{arith}
 use native.Mathlib.Decide.{ℕ_discrete}
@@ -32,8 +33,6 @@ use Rattle.kept.specs.Held.{identities_of, pick, with_unit, OneOrTwo, UnitsHeld}
 use Rattle.kept.specs.State.{UnitGood, Held, skipped_one}
 use Rattle.kept.specs.declared.Units.{Units}
 use Rattle.kept.specs.declared.records.Unit.{Unit as UnitHead}
-use Rattle.kept.specs.declared.slots.Sought.{Sought}
-use Rattle.kept.specs.declared.slots.Sought.TheVariants.{Known, Free}
 use Rattle.kept.specs.declared.state.InProgress.{InProgress}
 use Rattle.kept.proofs.Recording.{cells_many}
 use Rattle.kept.proofs.Seeking.{sought_inside}
@@ -92,10 +91,10 @@ module _ {five : Bool} {b : List ℕ} {n place : ℕ} {w : List ℕ} {st : InPro
     few : length xs < length S
     few = omega (arith, few_rows, length_identities (rows_of (kept us) table))
 
-    pub known_is : (number : ℕ) → Known number ≡ sought_in R S identity → KnownUnit b R (kept us) st.units.count table identity number
+    pub known_is : (number : ℕ) → Ok number ≡ sought_in R S identity → KnownUnit b R (kept us) st.units.count table identity number
     known_is number e = known_unit h.held table o identity number e
 
-    pub free_is : (at : ℕ) → Free at ≡ sought_in R S identity → (any (is_under table identity) us ≡ false) × (free_for S identity ≡ at) × (at < seen_slots n)
+    pub free_is : (at : ℕ) → Err at ≡ sought_in R S identity → (any (is_under table identity) us ≡ false) × (free_for S identity ≡ at) × (at < seen_slots n)
     free_is at e =
         let f = sought_free seen power few (rows_distinct us table) identity at e in
         (sym (rows_known us table identity) ∙ f.0, f.1, omega (arith, sought_inside R S identity at power e, long))
@@ -105,7 +104,7 @@ module _ {five : Bool} {b : List ℕ} {n place : ℕ} {w : List ℕ} {st : InPro
       pub seek_asks : Seekable n w table st.units.count m
       seek_asks = rw e seekable
 
-      pub sought_is : (z : Sought) → z ≡ sought_in R (part w ((slots_region table).start * n) m) identity → z ≡ sought_in R S identity
+      pub sought_is : (z : Result ℕ ℕ) → z ≡ sought_in R (part w ((slots_region table).start * n) m) identity → z ≡ sought_in R S identity
       unfolding slots_in
       sought_is z q = q ∙ ap (λ (k : ℕ). sought_in R (part w ((slots_region table).start * n) k) identity) e
 

@@ -10,8 +10,8 @@ use native.Mathlib.Omega.{arith}
 use lib.ListN.{length}
 use Rattle.std.specs.Prelude.{Result, Ok, Err}
 use Rattle.numbers.specs.declared.refusals.Refusal.{Refusal}
-use Rattle.octets.specs.Checked.{Check, pass, refuse, ◌>>=◌}
-use Rattle.octets.proofs.Checks.{then_pass, then_refuse}
+use Rattle.octets.specs.Checked.{Check, pass, ◌>>=◌}
+use Rattle.octets.proofs.Checks.{then_pass}
 use Rattle.bundle.specs.Bundle.{Part, body}
 use Rattle.bundle.specs.Encoding.{Encoding}
 use Rattle.bundle.specs.Encoded.{encoding_is}
@@ -19,7 +19,7 @@ use Rattle.bundle.specs.Scan.{scan_of}
 use Rattle.bundle.specs.declared.Scan.{Scan}
 use Rattle.bundle.specs.declared.encoding.ObjectEncoding.{ObjectEncoding}
 use Rattle.bundle.proofs.ScanFacts.{scan_body, scan_size}
-use Rattle.strings.specs.Kept.{Kept, Inside, bytes_at}
+use Rattle.strings.specs.Kept.{Kept, bytes_at}
 use Rattle.strings.specs.declared.table.StrOffsets.{StrOffsets}
 use Rattle.strings.specs.declared.table.StringTable.{StringTable}
 use Rattle.strings.proofs.Headers.{is_five_law}
@@ -29,9 +29,9 @@ use Rattle.index.proofs.Tiles.{Tiling, tiles_facts, both_some}
 use Rattle.places.specs.Marks.{good_end}
 use Rattle.kept.specs.Regions.{Layout, strings_region, store_region, codes_region, Apart, Only}
 use Rattle.package.specs.Pieces.{Piece, pieces_of, used_in}
-use Rattle.package.specs.Input.{input_index, tiled_pieces, opened_tiled}
+use Rattle.package.specs.Input.{tiled_pieces, opened_tiled}
 use Rattle.filing.specs.declared.input.InputObject.{InputObject}
-use Rattle.filing.specs.Judged.{section_of, IndexedIs}
+use Rattle.filing.specs.Judged.{section_of}
 use Rattle.filing.specs.State.{words_in}
 use Rattle.filing.specs.Tells.{Tells}
 use Rattle.filing.specs.ByPlace.{WorkFor}

@@ -3,7 +3,7 @@
 use mathlib.Core.Path.{◌≡◌, refl, sym, ap, ◌∙◌, subst}
 use mathlib.Core.Bool.{Bool, true, false}
 use mathlib.Core.List.{List, [], ◌++◌, map, append-nil}
-use mathlib.Core.Option.{Option, some, none}
+use mathlib.Core.Option.{Option, some}
 use Prim.Native.Nat.{ℕ, ◌+◌, ◌*◌, ◌-◌, ◌/◌, ◌^◌, ◌<◌, ◌≤◌}
 use native.Mathlib.Omega.{arith}
 use native.Mathlib.Decide.{dec_lt}
@@ -32,10 +32,9 @@ use Rattle.places.proofs.Parts.{tiles_marked}
 use Rattle.kept.specs.Regions.{strings_region, store_region}
 use Rattle.kept.proofs.Storing.{store_left}
 use Rattle.package.specs.Pieces.{used_in, pieces_of}
-use Rattle.filing.specs.Judged.{Indexed}
 use Rattle.std.specs.Prelude.{Some, None}
 use Rattle.filing.specs.declared.input.InputObject.{InputObject}
-use Rattle.filing.specs.Judged.{section_of, IndexedIs}
+use Rattle.filing.specs.Judged.{section_of}
 use Rattle.filing.specs.State.{words_in}
 use Rattle.filing.specs.ByObject.{StringsAre}
 use Rattle.std.specs.Prelude.{Result, Ok, Err}

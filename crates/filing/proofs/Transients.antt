@@ -17,11 +17,11 @@ use Rattle.package.specs.Input.{Input}
 use Rattle.package.specs.Filing.{Filed, index_by_place}
 use Rattle.kept.specs.declared.state.InProgress.{InProgress}
 use Rattle.filing.specs.declared.input.InputObject.{InputObject}
-use Rattle.filing.specs.declared.units.HomeSection.{HomeSection}
+use Rattle.filing.specs.declared.units.Reading.{Reading}
 use Rattle.filing.specs.State.{words_in, StringsKept, TransientStay, Remembered}
 use Rattle.filing.specs.Answers.{AtUnit, UnitIs, UnitsAre}
-use Rattle.filing.specs.ByPlace.{heads_for, ChainsHeld, RowsChained}
-use Rattle.filing.specs.Asked.{Transient}
+use Rattle.filing.specs.ByPlace.{heads_for, ChainsHeld}
+use Rattle.filing.specs.Asked.{RowsChained, Transient}
 use Rattle.filing.proofs.Lending.{Beside, held_stays}
 use Rattle.filing.proofs.Telling.{tells_more}
 use Rattle.filing.proofs.Walking.{kept_more}
@@ -63,21 +63,24 @@ rows_codes = inr (omega arith)
 pub remembered_stays : (b w v : List ℕ) (j : Judged) → region v (words_in b) codes_region ≡ region w (words_in b) codes_region → Remembered b w j → Remembered b v j
 remembered_stays b w v j e m = subst (λ (l : List ℕ). Remembers b l j) (sym e) m
 
-pub chains_stay : (b : List ℕ) (x : InputObject) (h : HomeSection) (w v : List ℕ) → region v (words_in b) rows_region ≡ region w (words_in b) rows_region → RowsChained b x h w → RowsChained b x h v
-chains_stay b x h w v e c i is = subst (λ (l : List ℕ). ChainsHeld (heads_for h) l (index_by_place i h.home)) (sym e) (c i is)
+pub chains_stay : (r : Reading) (w v : List ℕ) → region v (words_in r.bundle.now) rows_region ≡ region w (words_in r.bundle.now) rows_region → RowsChained r w → RowsChained r v
+chains_stay r w v e c i is = subst (λ (l : List ℕ). ChainsHeld (heads_for r.section) l (index_by_place i r.section.home)) (sym e) (c i is)
 
-module _ (b : List ℕ) (x : InputObject) (h : HomeSection) (j : Judged) (w v : List ℕ) where
+module _ (r : Reading) (j : Judged) (w v : List ℕ) where
+  abbrev b : List ℕ
+  b = r.bundle.now
+
   -- rows are chained
-  pub transient_chained : Only rows_region (words_in b) w v → RowsChained b x h v → Remembered b w j → Transient b x h j v
+  pub transient_chained : Only rows_region (words_in b) w v → RowsChained r v → Remembered b w j → Transient r j v
   transient_chained o c m = record { chained = c; memory = remembered_stays b w v j (o.others codes_region rows_codes) m }
 
   -- codes are written
-  pub transient_coded : Only codes_region (words_in b) w v → RowsChained b x h w → Remembered b v j → Transient b x h j v
-  transient_coded o c m = record { chained = chains_stay b x h w v (o.others rows_region codes_rows) c; memory = m }
+  pub transient_coded : Only codes_region (words_in b) w v → RowsChained r w → Remembered b v j → Transient r j v
+  transient_coded o c m = record { chained = chains_stay r w v (o.others rows_region codes_rows) c; memory = m }
 
   -- a unit is filed
-  pub transient_stays : TransientStay (words_in b) w v → Transient b x h j w → Transient b x h j v
-  transient_stays t k = record { chained = chains_stay b x h w v t.rows k.chained; memory = remembered_stays b w v j t.codes k.memory }
+  pub transient_stays : TransientStay (words_in b) w v → Transient r j w → Transient r j v
+  transient_stays t k = record { chained = chains_stay r w v t.rows k.chained; memory = remembered_stays b w v j t.codes k.memory }
 
 pub transient_none : (n : ℕ) (w : List ℕ) → TransientStay n w w
 transient_none n w = record { rows = refl; codes = refl }

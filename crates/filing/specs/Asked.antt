@@ -78,8 +78,6 @@ abbrev pub RowsChained : Reading → List ℕ → Type 0
 RowsChained r w = (i : Input) → InputIs r.bundle.now r.object.now i → ChainsHeld (heads_for r.section) (region w (words_in r.bundle.now) rows_region) (index_by_place i r.section.home)
 
 pub record ChainAsked (r : Reading) (w : List ℕ) : Type 0 where
-  pub from : r.section.start ≤ r.section.stop
-  pub within : r.section.stop ≤ length r.bundle.now
   pub input : Input
   pub is : InputIs r.bundle.now r.object.now input
   pub work : WorkFor r.bundle.now w
@@ -92,7 +90,6 @@ pub record Transient (r : Reading) (j : Judged) (w : List ℕ) : Type 0 where
 pub record PlaceAsked (r : Reading) (at : ℕ) (w : List ℕ) : Type 0 where
   pub from : r.section.start ≤ at
   pub low : at < r.section.stop
-  pub within : r.section.stop ≤ length r.bundle.now
   pub homes : OneOrTwo r.section.home
   pub input : Input
   pub is : InputIs r.bundle.now r.object.now input
@@ -123,7 +120,6 @@ PlaceRead r at z =
 pub record UnitAsked (r : Reading) (at : ℕ) (st : InProgress) (w : List ℕ) : Type 0 where
   pub from : r.section.start ≤ at
   pub low : at < r.section.stop
-  pub within : r.section.stop ≤ length r.bundle.now
   pub homes : OneOrTwo r.section.home
   pub ready : Ready r.bundle.now r.object.now at w st
 
@@ -135,8 +131,6 @@ UnitAnswered r at st next w v z =
 
 -- ---- all units of a section
 pub record SectionAsked (r : Reading) (st : InProgress) (w : List ℕ) : Type 0 where
-  pub from : r.section.start ≤ r.section.stop
-  pub within : r.section.stop ≤ length r.bundle.now
   pub homes : OneOrTwo r.section.home
   pub ready : Ready r.bundle.now r.object.now r.section.start w st
 

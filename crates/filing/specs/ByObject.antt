@@ -1,6 +1,6 @@
 -- What the functions that file whole objects answer, from the definitions.
 -- Assumes nothing.
-use Rattle.std.specs.Prelude.{◌≡◌, Bool, true, false, List, [], ◌++◌, ℕ, ◌+◌, ◌*◌, ◌/◌, ◌<◌, ◌≤◌, eqb, leb, length, get_or, Result}
+use Rattle.std.specs.Prelude.{◌≡◌, Bool, true, false, List, [], ◌++◌, ℕ, ◌+◌, ◌*◌, ◌/◌, ◌≤◌, eqb, leb, length, get_or, Result}
 use Rattle.std.proofs.Math.Option.{Option}
 use Rattle.numbers.specs.Tables.{dwarf5}
 use Rattle.numbers.specs.Sections.{str_offsets_code, str_code, cu_index_code, tu_index_code}

@@ -27,6 +27,7 @@ use numbers::sections::CODES;
 use numbers::tables::{INDEX_2, INDEX_5};
 
 // An object that passed: where the first section of each code lies in the bundle, 0 and 0 where there is none.
+// Two arrays and none of pairs: a scan hands over both whole, and the sizes alone are measured by and added to the bases.
 #[derive(Clone, Copy)]
 pub struct InputObject {
     pub encoding: ObjectEncoding,

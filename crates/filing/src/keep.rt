@@ -23,13 +23,15 @@ pub fn keep_unit(
     ensures strings { StringsKept n work.old work.new st.old st.new }
     ensures transient { TransientStay n work.old work.new }
 {
-    let place = kept::by_number::bytes_of(st.units, unit.home);
+    let place = st.units.bytes_of(unit.home);
     let cells = kept::cells::cells_of(k, st.bases, unit.home, place, unit.size);
     kept::slots::keep(work, n, st.units.count, slot, unit, five, cells);
-    let old = kept::by_number::table_of(st.units, unit.table);
+    let old = st.units.table_of(unit.table);
     let t = Table {
         rows: unit.row,
         has: kept::columns::mark_columns(five, old.has, cells),
     };
-    st.units = kept::by_number::with_unit(st.units, unit.table, t, unit.home, place + unit.size);
+    st.units = st
+        .units
+        .with_unit(unit.table, t, unit.home, place + unit.size);
 }

@@ -38,8 +38,8 @@ pub fn add_object_strings(
     }
     o.section(b).check_entries()?;
     let n = b.len() / 4;
-    let table = kept::regions::strings(n);
-    let store = kept::regions::store(n);
+    let table = kept::regions::STRINGS.of(n);
+    let store = kept::regions::STORE.of(n);
     let from = store.start;
     let to = from + store.size;
     t.add_strings(o, b, &mut work[from..to], table.size)

@@ -46,7 +46,7 @@ fn tile_parts(b: &[u8], x: &InputObject, marks: &mut [u32]) -> Result<usize, Ref
     requires { PartsAsked b.now x.now × (length marks.old ≡ get_or x.now.size str_offsets_code 0) }
     ensures { PartsAnswered b.now x.now result }
 {
-    octets::clear_words(marks);
+    marks.fill(0);
     if !mark_indexes(b, x, marks) || !places::tiles::tiled(marks) {
         return Err(Refusal::BadParts);
     }
@@ -60,7 +60,7 @@ pub fn judge_parts(b: &[u8], x: &InputObject, work: &mut [u32]) -> Result<usize,
     ensures parts_answered { PartsAnswered b.now x.now result }
     ensures frame { Only codes_region (words_in b.now) work.old work.new }
 {
-    let from = kept::regions::codes(b.len() / 4).start;
+    let from = kept::regions::CODES.of(b.len() / 4).start;
     let to = from + x.size[STR_OFFSETS];
     tile_parts(b, x, &mut work[from..to])
 }
@@ -89,8 +89,8 @@ pub fn add_parts(
     ensures frame { OnlyStore (words_in b.now) work.old work.new }
 {
     let n = b.len() / 4;
-    let table = kept::regions::strings(n);
-    let store = kept::regions::store(n);
+    let table = kept::regions::STRINGS.of(n);
+    let store = kept::regions::STORE.of(n);
     let from = store.start;
     let to = from + store.size;
     let before = offsets_before(o, good);

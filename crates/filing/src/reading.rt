@@ -88,7 +88,7 @@ impl<'a> Reading<'a> {
         let Some(index) = self.index_by_place() else {
             return;
         };
-        let region = kept::regions::rows_by_place(self.bundle.len() / 4);
+        let region = kept::regions::ROWS_BY_PLACE.of(self.bundle.len() / 4);
         let from = region.start;
         let to = from + region.size;
         places::by_place::chain_rows(&index, INFO, self.section.heads(), &mut work[from..to]);
@@ -108,7 +108,7 @@ impl<'a> Reading<'a> {
             });
         };
         let heads = self.section.heads();
-        let region = kept::regions::rows_by_place(self.bundle.len() / 4);
+        let region = kept::regions::ROWS_BY_PLACE.of(self.bundle.len() / 4);
         let from = region.start;
         let to = from + region.size;
         let place = at - self.section.start;
@@ -130,7 +130,7 @@ impl<'a> Reading<'a> {
     {
         let e = self.object.encoding;
         let home = self.section.home as u32;
-        let region = kept::regions::codes(self.bundle.len() / 4);
+        let region = kept::regions::CODES.of(self.bundle.len() / 4);
         let from = region.start;
         let to = from + region.size;
         unit::header::unit_identity(e, home, self.bundle, place, &mut work[from..to], judged)

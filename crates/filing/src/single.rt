@@ -14,7 +14,6 @@ ghost use Rattle.filing.specs.Asked.{
 use crate::units::Reading;
 use kept::Units;
 use kept::records::Unit;
-use kept::slots::Sought;
 use kept::state::InProgress;
 use numbers::refusals::Refusal;
 use numbers::tables::COMPILATION;
@@ -37,7 +36,7 @@ fn file_known(
         return Err(Refusal::IdentitySeen);
     }
     let agrees = kept::unit_bytes::same_as_kept(b, work, number, at, read.size);
-    *st = kept::state::skip_one(*st, agrees);
+    st.skip_one(agrees);
     Ok(read.size)
 }
 
@@ -49,7 +48,7 @@ fn unit_for(units: Units, home: usize, at: usize, read: UnitRead) -> Unit
     let table = read.table as usize;
     Unit {
         table,
-        row: kept::by_number::table_of(units, table).rows + 1,
+        row: units.table_of(table).rows + 1,
         identity: read.identity,
         home,
         start: at,
@@ -78,8 +77,8 @@ impl<'a> Reading<'a> {
         let count = st.units.count;
         let slots = kept::slots::seen_slots(n);
         let slot = match kept::slots::seek_in(work, n, table, count, slots, read.identity) {
-            Sought::Known(number) => return file_known(b, number, at, read, st, work),
-            Sought::Free(slot) => slot,
+            Ok(number) => return file_known(b, number, at, read, st, work),
+            Err(slot) => slot,
         };
         let k = crate::contributions::contributions_of(b, x, home, at - self.section.start, read)?;
         let unit = unit_for(st.units, home, at, read);

@@ -1,6 +1,5 @@
 // What is read while the units of an object are filed.
-ghost use Rattle.std.specs.Prelude.{◌≡◌, ◌<◌, ◌≤◌, ◌^◌};
-ghost use Rattle.filing.specs.ByPlace.{heads_for};
+ghost use Rattle.std.specs.Prelude.{◌≡◌, ℕ, ◌<◌, ◌≤◌, ◌^◌, length, get_or};
 
 use crate::input::InputObject;
 
@@ -13,6 +12,8 @@ pub struct HomeSection {
 }
 
 impl HomeSection {
+    ghost use Rattle.filing.specs.ByPlace.{heads_for};
+
     // A chain for each word of the section.
     #[tactic(auto, unfolding(crate::specs::ByPlace::heads_for))]
     pub fn heads(self) -> usize
@@ -23,10 +24,14 @@ impl HomeSection {
     }
 }
 
-// The bundle, the object and the section at hand.
+// The bundle, the object and the section at hand, which lies in the bundle.
 #[derive(Clone, Copy)]
 pub struct Reading<'a> {
     pub bundle: &'a [u8],
     pub object: &'a InputObject,
     pub section: HomeSection,
+    ghost order: { section.start ≤ section.stop },
+    ghost within: { section.stop ≤ length bundle.now },
+    // As its type says. It is here for a unit's identity, which is read of the bundle by one function and kept by another.
+    ghost bytes: { (i : ℕ) → get_or bundle.now i 0 < 256 },
 }

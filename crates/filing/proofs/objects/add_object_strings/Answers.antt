@@ -26,25 +26,25 @@ pub add_strings-requires : goal.add_strings-requires
 add_strings-requires c =
     let a = c.args in
     let p = c.requires in
-    let memory = store_memory (words_in a.b.now) c.store-store.result.start c.store-store.result.size c.strings-table.result.size a.work.now p.room.room c.store-store.ensures.start c.store-store.ensures.size c.strings-table.ensures.size a.o.strings.size (omega (arith, p.room.strings_inside, p.room.whole)) in (
+    let memory = store_memory (words_in a.b.now) c.of-store.result.start c.of-store.result.size c.of-table.result.size a.work.now p.room.room c.of-store.ensures.start c.of-store.ensures.size c.of-table.ensures.size a.o.strings.size (omega (arith, p.room.strings_inside, p.room.whole)) in (
       omega (arith, memory),
       record {
         limit = omega (arith, p.room.limit);
         offsets_inside = p.room.offsets_inside;
         strings_inside = p.room.strings_inside;
         enough = omega (arith, memory);
-        room = omega (arith, p.room.fits, c.strings-table.ensures.size);
-        small = omega (arith, p.room.limit, p.room.whole, c.strings-table.ensures.size);
+        room = omega (arith, p.room.fits, c.of-table.ensures.size);
+        small = omega (arith, p.room.limit, p.room.whole, c.of-table.ensures.size);
       },
-      (p.strings, store_kept (words_in a.b.now) c.store-store.result.start c.store-store.result.size c.strings-table.result.size a.work.now p.room.room c.store-store.ensures.start c.store-store.ensures.size c.strings-table.ensures.size _ _ _ p.kept),
+      (p.strings, store_kept (words_in a.b.now) c.of-store.result.start c.of-store.result.size c.of-table.result.size a.work.now p.room.room c.of-store.ensures.start c.of-store.ensures.size c.of-table.ensures.size _ _ _ p.kept),
     )
 
 pub returns : goal.returns
 returns c =
     let a = c.args in
     let p = c.requires in record {
-      put = λ ts k. strings_put (words_in a.b.now) c.store-store.result.start c.store-store.result.size c.strings-table.result.size a.work.now p.room.room c.store-store.ensures.start c.store-store.ensures.size c.strings-table.ensures.size _ _ c.add_strings.auto.store refl _ refl _ _ _ _ (le-leb 1 a.count (omega arith))
+      put = λ ts k. strings_put (words_in a.b.now) c.of-store.result.start c.of-store.result.size c.of-table.result.size a.work.now p.room.room c.of-store.ensures.start c.of-store.ensures.size c.of-table.ensures.size _ _ c.add_strings.auto.store refl _ refl _ _ _ _ (le-leb 1 a.count (omega arith))
           (section_counted a.o _ _ _ c.section.ensures.encoding c.section.ensures.bytes _ c.in_ok-check_entries.ensures).1 ts _ _
-          (c.add_strings.ensures ts (store_kept (words_in a.b.now) c.store-store.result.start c.store-store.result.size c.strings-table.result.size a.work.now p.room.room c.store-store.ensures.start c.store-store.ensures.size c.strings-table.ensures.size _ _ _ k));
-      frame = only_lent store_region store_within (words_in a.b.now) c.store-store.result.start c.store-store.result.size a.work.now p.room.room c.store-store.ensures.start c.store-store.ensures.size c.add_strings.new.store _ c.add_strings.auto.store refl;
+          (c.add_strings.ensures ts (store_kept (words_in a.b.now) c.of-store.result.start c.of-store.result.size c.of-table.result.size a.work.now p.room.room c.of-store.ensures.start c.of-store.ensures.size c.of-table.ensures.size _ _ _ k));
+      frame = only_lent store_region store_within (words_in a.b.now) c.of-store.result.start c.of-store.result.size a.work.now p.room.room c.of-store.ensures.start c.of-store.ensures.size c.add_strings.new.store _ c.add_strings.auto.store refl;
     }

@@ -1,6 +1,6 @@
 -- `open_tiled` meets its contract.
 -- Assumes nothing.
-use mathlib.Core.Path.{refl, ◌∙◌}
+use mathlib.Core.Path.{refl}
 use Rattle.kept.proofs.RegionLending.{only_same}
 use Rattle.filing.proofs.Telling.{tells_exit}
 use Rattle.filing.proofs.InputLaws.{scan_within}

@@ -16,15 +16,15 @@ add_pieces-requires c =
     let a = c.args in
     let p = c.requires in
     let y = c.offsets_before-before in
-    let memory = store_memory (words_in a.b.now) c.store-store.result.start c.store-store.result.size c.strings-table.result.size a.work.now p.room c.store-store.ensures.start c.store-store.ensures.size c.strings-table.ensures.size a.o.strings.size (omega (arith, p.strings_inside, p.whole)) in (
+    let memory = store_memory (words_in a.b.now) c.of-store.result.start c.of-store.result.size c.of-table.result.size a.work.now p.room c.of-store.ensures.start c.of-store.ensures.size c.of-table.ensures.size a.o.strings.size (omega (arith, p.strings_inside, p.whole)) in (
       omega (arith, memory),
-      good_addable a.b.now a.o p.offsets_inside a.good p.parts p.up_to y.result y.ensures c.strings-table.result.size _ a.t.now
+      good_addable a.b.now a.o p.offsets_inside a.good p.parts p.up_to y.result y.ensures c.of-table.result.size _ a.t.now
           (omega (arith, p.limit))
           p.strings_inside
           memory
-          (omega (arith, p.fits, c.strings-table.ensures.size))
-          (omega (arith, p.limit, p.whole, c.strings-table.ensures.size)),
-      (p.strings, store_kept (words_in a.b.now) c.store-store.result.start c.store-store.result.size c.strings-table.result.size a.work.now p.room c.store-store.ensures.start c.store-store.ensures.size c.strings-table.ensures.size _ _ _ p.kept),
+          (omega (arith, p.fits, c.of-table.ensures.size))
+          (omega (arith, p.limit, p.whole, c.of-table.ensures.size)),
+      (p.strings, store_kept (words_in a.b.now) c.of-store.result.start c.of-store.result.size c.of-table.result.size a.work.now p.room c.of-store.ensures.start c.of-store.ensures.size c.of-table.ensures.size _ _ _ p.kept),
       (before_parts a.b.now a.o p.offsets_inside a.good p.parts p.up_to, good_headed a.b.now a.o p.offsets_inside a.good p.parts p.up_to y.result y.ensures),
     )
 
@@ -35,9 +35,9 @@ returns-in_err-add_pieces c =
     let y = c.offsets_before-before in
     record {
       put = λ ts ps q u. tells_exit _ _ c.from_residual.ensures.1
-          (parts_missing a.b.now a.o p.offsets_inside a.good ps u y.result y.ensures (words_in a.b.now) c.store-store.result.start c.store-store.result.size c.strings-table.result.size a.work.now p.room c.store-store.ensures.start c.store-store.ensures.size c.strings-table.ensures.size c.add_pieces.new.store _ c.add_pieces.auto.store refl refl ts _ _
-          (c.in_err-add_pieces.ensures ts (before_parts a.b.now a.o p.offsets_inside a.good ps u) (store_kept (words_in a.b.now) c.store-store.result.start c.store-store.result.size c.strings-table.result.size a.work.now p.room c.store-store.ensures.start c.store-store.ensures.size c.strings-table.ensures.size _ _ _ q) (good_headed a.b.now a.o p.offsets_inside a.good ps u y.result y.ensures)));
-      frame = only_lent store_region store_within (words_in a.b.now) c.store-store.result.start c.store-store.result.size a.work.now p.room c.store-store.ensures.start c.store-store.ensures.size c.add_pieces.new.store _ c.add_pieces.auto.store refl;
+          (parts_missing a.b.now a.o p.offsets_inside a.good ps u y.result y.ensures (words_in a.b.now) c.of-store.result.start c.of-store.result.size c.of-table.result.size a.work.now p.room c.of-store.ensures.start c.of-store.ensures.size c.of-table.ensures.size c.add_pieces.new.store _ c.add_pieces.auto.store refl refl ts _ _
+          (c.in_err-add_pieces.ensures ts (before_parts a.b.now a.o p.offsets_inside a.good ps u) (store_kept (words_in a.b.now) c.of-store.result.start c.of-store.result.size c.of-table.result.size a.work.now p.room c.of-store.ensures.start c.of-store.ensures.size c.of-table.ensures.size _ _ _ q) (good_headed a.b.now a.o p.offsets_inside a.good ps u y.result y.ensures)));
+      frame = only_lent store_region store_within (words_in a.b.now) c.of-store.result.start c.of-store.result.size a.work.now p.room c.of-store.ensures.start c.of-store.ensures.size c.add_pieces.new.store _ c.add_pieces.auto.store refl;
     }
 
 pub returns-then-good-o : goal.returns-then-good-o
@@ -46,9 +46,9 @@ returns-then-good-o c =
     let p = c.requires in
     let y = c.offsets_before-before in
     record {
-      put = λ ts ps q u. parts_ill a.b.now a.o p.offsets_inside a.good ps u y.result y.ensures (words_in a.b.now) c.store-store.result.start c.store-store.result.size c.strings-table.result.size a.work.now p.room c.store-store.ensures.start c.store-store.ensures.size c.strings-table.ensures.size c.add_pieces.new.store _ c.add_pieces.auto.store refl refl ts _
-          (c.in_ok-add_pieces.ensures ts (before_parts a.b.now a.o p.offsets_inside a.good ps u) (store_kept (words_in a.b.now) c.store-store.result.start c.store-store.result.size c.strings-table.result.size a.work.now p.room c.store-store.ensures.start c.store-store.ensures.size c.strings-table.ensures.size _ _ _ q) (good_headed a.b.now a.o p.offsets_inside a.good ps u y.result y.ensures)) c.if-good-o.true;
-      frame = only_lent store_region store_within (words_in a.b.now) c.store-store.result.start c.store-store.result.size a.work.now p.room c.store-store.ensures.start c.store-store.ensures.size c.add_pieces.new.store _ c.add_pieces.auto.store refl;
+      put = λ ts ps q u. parts_ill a.b.now a.o p.offsets_inside a.good ps u y.result y.ensures (words_in a.b.now) c.of-store.result.start c.of-store.result.size c.of-table.result.size a.work.now p.room c.of-store.ensures.start c.of-store.ensures.size c.of-table.ensures.size c.add_pieces.new.store _ c.add_pieces.auto.store refl refl ts _
+          (c.in_ok-add_pieces.ensures ts (before_parts a.b.now a.o p.offsets_inside a.good ps u) (store_kept (words_in a.b.now) c.of-store.result.start c.of-store.result.size c.of-table.result.size a.work.now p.room c.of-store.ensures.start c.of-store.ensures.size c.of-table.ensures.size _ _ _ q) (good_headed a.b.now a.o p.offsets_inside a.good ps u y.result y.ensures)) c.if-good-o.true;
+      frame = only_lent store_region store_within (words_in a.b.now) c.of-store.result.start c.of-store.result.size a.work.now p.room c.of-store.ensures.start c.of-store.ensures.size c.add_pieces.new.store _ c.add_pieces.auto.store refl;
     }
 
 pub returns : goal.returns
@@ -57,7 +57,7 @@ returns c =
     let p = c.requires in
     let y = c.offsets_before-before in
     record {
-      put = λ ts ps q u. parts_put a.b.now a.o p.offsets_inside a.good ps u y.result y.ensures (words_in a.b.now) c.store-store.result.start c.store-store.result.size c.strings-table.result.size a.work.now p.room c.store-store.ensures.start c.store-store.ensures.size c.strings-table.ensures.size c.add_pieces.new.store _ c.add_pieces.auto.store refl refl ts _
-          (c.in_ok-add_pieces.ensures ts (before_parts a.b.now a.o p.offsets_inside a.good ps u) (store_kept (words_in a.b.now) c.store-store.result.start c.store-store.result.size c.strings-table.result.size a.work.now p.room c.store-store.ensures.start c.store-store.ensures.size c.strings-table.ensures.size _ _ _ q) (good_headed a.b.now a.o p.offsets_inside a.good ps u y.result y.ensures)) c.if-good-o.false;
-      frame = only_lent store_region store_within (words_in a.b.now) c.store-store.result.start c.store-store.result.size a.work.now p.room c.store-store.ensures.start c.store-store.ensures.size c.add_pieces.new.store _ c.add_pieces.auto.store refl;
+      put = λ ts ps q u. parts_put a.b.now a.o p.offsets_inside a.good ps u y.result y.ensures (words_in a.b.now) c.of-store.result.start c.of-store.result.size c.of-table.result.size a.work.now p.room c.of-store.ensures.start c.of-store.ensures.size c.of-table.ensures.size c.add_pieces.new.store _ c.add_pieces.auto.store refl refl ts _
+          (c.in_ok-add_pieces.ensures ts (before_parts a.b.now a.o p.offsets_inside a.good ps u) (store_kept (words_in a.b.now) c.of-store.result.start c.of-store.result.size c.of-table.result.size a.work.now p.room c.of-store.ensures.start c.of-store.ensures.size c.of-table.ensures.size _ _ _ q) (good_headed a.b.now a.o p.offsets_inside a.good ps u y.result y.ensures)) c.if-good-o.false;
+      frame = only_lent store_region store_within (words_in a.b.now) c.of-store.result.start c.of-store.result.size a.work.now p.room c.of-store.ensures.start c.of-store.ensures.size c.add_pieces.new.store _ c.add_pieces.auto.store refl;
     }

@@ -10,12 +10,12 @@ use Rattle.filing.specs.State.{words_in}
 use Rattle.filing.proofs.parts.judge_parts.Goals as goal
 
 pub overflow_add-to : goal.overflow_add-to
-overflow_add-to c = let p = c.requires in omega (arith, p.0.within 6, p.1.limit, c.codes-from.ensures.start)
+overflow_add-to c = let p = c.requires in omega (arith, p.0.within 6, p.1.limit, c.of-from.ensures.start)
 
 pub slice_bounds-tile_parts-end : goal.slice_bounds-tile_parts-end
-slice_bounds-tile_parts-end c = let p = c.requires in omega (arith, p.0.within 6, p.1.room, p.1.words, c.codes-from.ensures.start)
+slice_bounds-tile_parts-end c = let p = c.requires in omega (arith, p.0.within 6, p.1.room, p.1.words, c.of-from.ensures.start)
 
 pub returns : goal.returns
 returns c =
     let a = c.args in
-    record { parts_answered = c.tile_parts.ensures; frame = only_front codes_region codes_within (words_in a.b.now) c.codes-from.result.start (get_or a.x.now.size 6 0) a.work.now c.requires.1.room c.codes-from.ensures.start (omega (arith, c.requires.0.within 6, c.requires.1.words)) c.tile_parts.new.marks _ c.tile_parts.auto.marks refl }
+    record { parts_answered = c.tile_parts.ensures; frame = only_front codes_region codes_within (words_in a.b.now) c.of-from.result.start (get_or a.x.now.size 6 0) a.work.now c.requires.1.room c.of-from.ensures.start (omega (arith, c.requires.0.within 6, c.requires.1.words)) c.tile_parts.new.marks _ c.tile_parts.auto.marks refl }

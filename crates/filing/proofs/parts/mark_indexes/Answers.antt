@@ -1,7 +1,6 @@
 -- `mark_indexes` meets its contract.
 -- Assumes nothing.
 use mathlib.Core.Path.{◌∙◌}
-use native.Mathlib.Omega.{arith}
 use Rattle.index.specs.Tiles.{named}
 use Rattle.filing.proofs.Tiling.{both_first, both_second}
 use Rattle.filing.proofs.parts.mark_indexes.Goals as goal

@@ -19,6 +19,12 @@ overflow_add-section c =
     let h = section_lies c.loop-found.invariant.0 _ (found_some _ _ (sym f.is ∙ c.next_unit_section.ensures)) in
     omega (arith, h.inside, h.within)
 
+pub invariant_of-reading : goal.invariant_of-reading
+invariant_of-reading c =
+    let f = c.in-Some in
+    let h = section_lies c.loop-found.invariant.0 _ (found_some _ _ (sym f.is ∙ c.next_unit_section.ensures)) in
+    record { order = omega arith; within = omega (arith, h.inside, h.within); bytes = λ i. (c.type_inv.b i).fits }
+
 pub add_units-requires : goal.add_units-requires
 add_units-requires c =
     let f = c.in-Some in
@@ -26,8 +32,6 @@ add_units-requires c =
     let r = c.requires.ready in
     let o = c.loop-found.invariant.0.goes r.input r.bases r.earlier r.here r.at_unit in (
       record {
-        from = omega arith;
-        within = omega (arith, h.inside, h.within);
         homes = h.home;
         ready = record { input = r.input; bases = r.bases; earlier = r.earlier; here = o.filed; at_unit = at_later _ _ o.at_unit h.low (omega (arith, h.inside, h.within)) };
       },

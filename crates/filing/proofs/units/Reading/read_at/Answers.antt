@@ -6,7 +6,7 @@ use Rattle.kept.proofs.RegionLending.{only_same}
 use Rattle.filing.proofs.Telling.{told_exit}
 use Rattle.filing.proofs.Transients.{transient_coded}
 use Rattle.filing.proofs.Abbreviated.{read_headless, size_within, read_unabbreviated, read_unidentified, read_whole}
-use Rattle.filing.proofs.reading.read_at.Goals as goal
+use Rattle.filing.proofs.units.Reading.read_at.Goals as goal
 
 pub returns-in_err-size : goal.returns-in_err-size
 returns-in_err-size c =
@@ -18,20 +18,20 @@ returns-in_err-theirs c =
     let p = c.requires in
     record { read = λ i is. told_exit _ _ _ _ c.from_residual-in_err-theirs.ensures.1 (read_unabbreviated p.0 _ (sym c.in_ok-size.ensures) _ i is (c.in_err-theirs.ensures i is)); transient = p.1; frame = only_same codes_region _ _ }
 
-pub identity_in-requires : goal.identity_in-requires
-identity_in-requires c =
+pub identity-requires : goal.identity-requires
+identity-requires c =
     let p = c.requires.0 in
     let q = size_within p _ (sym c.in_ok-size.ensures) in
     let k = ((c.in_ok-theirs.ensures p.input p.is).passes _ refl).2 in
-    (q.2, record { unit = q.0; order = k.order; abbreviations = k.within }, p.work, c.requires.1.memory)
+    record { headed = q.2; inside = record { unit = q.0; order = k.order; abbreviations = k.within }; homes = p.homes; work = p.work; memory = c.requires.1.memory }
 
 pub returns-in_err-read : goal.returns-in_err-read
 returns-in_err-read c =
     let p = c.requires in
     record {
       read = λ i is. told_exit _ _ _ _ c.from_residual-in_err-read.ensures.1 (read_unidentified p.0 _ (sym c.in_ok-size.ensures) _ i is (c.in_ok-theirs.ensures i is) _ refl _ c.in_err-read.ensures.is);
-      transient = transient_coded _ _ _ _ _ _ c.identity_in.ensures.frame p.1.chained c.identity_in.ensures.memory;
-      frame = c.identity_in.ensures.frame;
+      transient = transient_coded _ _ _ _ c.identity.ensures.frame p.1.chained c.identity.ensures.memory;
+      frame = c.identity.ensures.frame;
     }
 
 pub returns : goal.returns
@@ -39,6 +39,6 @@ returns c =
     let p = c.requires in
     record {
       read = λ i is. read_whole p.0 _ (sym c.in_ok-size.ensures) _ i is (c.in_ok-theirs.ensures i is) _ refl _ c.in_ok-read.ensures.is;
-      transient = transient_coded _ _ _ _ _ _ c.identity_in.ensures.frame p.1.chained c.identity_in.ensures.memory;
-      frame = c.identity_in.ensures.frame;
+      transient = transient_coded _ _ _ _ c.identity.ensures.frame p.1.chained c.identity.ensures.memory;
+      frame = c.identity.ensures.frame;
     }

@@ -1,11 +1,11 @@
--- `abbreviations_for` meets its contract.
+-- `abbreviations` meets its contract.
 -- Assumes nothing.
 use mathlib.Core.Path.{sym, ◌∙◌}
 use native.Mathlib.Omega.{arith}
 use Rattle.filing.proofs.Telling.{tells_exit}
 use Rattle.filing.proofs.ByPlace.{row_asks, row_counted}
 use Rattle.filing.proofs.Abbreviated.{given_whole, given_none, given_part}
-use Rattle.filing.proofs.reading.abbreviations_for.Goals as goal
+use Rattle.filing.proofs.units.Reading.abbreviations.Goals as goal
 
 pub overflow_add-result : goal.overflow_add-result
 overflow_add-result c = let p = c.requires.0 in omega (arith, p.is.within 3, p.work.limit)
@@ -16,7 +16,7 @@ returns-in_default c = λ i is. given_whole _ _ i is _ _ _ (sym c.in_default.is 
 pub row_at-requires : goal.row_at-requires
 row_at-requires c =
     let p = c.requires.0 in
-    rw c.heads-heads.ensures (row_asks p c.requires.1 c.in-Some.index (sym c.in-Some.is ∙ c.index_by_place.ensures p.input p.is) c.rows_by_place-region.result.start c.rows_by_place-region.result.size c.rows_by_place-region.ensures.start c.rows_by_place-region.ensures.size)
+    rw c.heads-heads.ensures (row_asks p c.requires.1 c.in-Some.index (sym c.in-Some.is ∙ c.index_by_place.ensures p.input p.is) c.of-region.result.start c.of-region.result.size c.of-region.ensures.start c.of-region.ensures.size)
 
 pub returns-in_err-row : goal.returns-in_err-row
 returns-in_err-row c = λ i is. tells_exit _ _ c.from_residual.ensures.1 (given_none _ _ i is _ _ _ _ (sym c.in-Some.is ∙ c.index_by_place.ensures i is) _ c.in_err-row.ensures)

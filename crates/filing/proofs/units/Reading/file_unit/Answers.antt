@@ -2,17 +2,16 @@
 -- Assumes nothing.
 use Prim.Native.Nat.{◌-◌}
 use Rattle.octets.specs.Octets.{part}
-use Rattle.octets.proofs.Numbers.{Bytes}
 use Rattle.filing.proofs.Telling.{tells_exit}
 use Rattle.filing.proofs.ReadAnswers.{answer_refused, read_at, read_fits, read_bytes}
 use Rattle.filing.proofs.Transients.{codes_pass, at_lent, unit_lent, transient_stays}
-use Rattle.filing.proofs.single.file_unit.Goals as goal
+use Rattle.filing.proofs.units.Reading.file_unit.Goals as goal
 
 pub read_at-requires : goal.read_at-requires
 read_at-requires c =
     let p = c.requires.0 in
     let h = p.ready.at_unit.held in (
-      record { from = p.from; low = p.low; within = p.within; homes = p.homes; input = p.ready.input; is = p.ready.at_unit.input; work = record { room = h.room; words = h.words; limit = h.limit } },
+      record { from = p.from; low = p.low; homes = p.homes; input = p.ready.input; is = p.ready.at_unit.input; work = record { room = h.room; words = h.words; limit = h.limit } },
       c.requires.1,
     )
 
@@ -20,7 +19,7 @@ pub returns-in_err-read : goal.returns-in_err-read
 returns-in_err-read c =
     let p = c.requires.0 in
     record {
-      filed = λ i bases earlier here a. tells_exit _ _ c.from_residual.ensures.1 (answer_refused _ _ _ a.input _ _ _ _ p.low p.within bases earlier here _ _ _ _ _ _ (c.in_err-read.ensures.read i a.input));
+      filed = λ i bases earlier here a. tells_exit _ _ c.from_residual.ensures.1 (answer_refused _ _ _ a.input _ _ _ _ p.low c.args.self.now.within bases earlier here _ _ _ _ _ _ (c.in_err-read.ensures.read i a.input));
       transient = c.read_at.ensures.transient;
     }
 
@@ -30,25 +29,25 @@ file_read-requires c =
     let p = c.requires.0 in
     let a = p.ready.at_unit in
     let e = c.in_ok-read.ensures.read p.ready.input a.input in
-    let y : Bytes s.b.now = λ j. (c.type_inv.b j).fits in
+    let y = s.self.now.bytes in
     record {
       from = p.from;
       homes = p.homes;
-      fits = read_fits _ _ _ a.input _ _ _ _ p.low p.within _ e y;
+      fits = read_fits _ _ _ a.input _ _ _ _ p.low c.args.self.now.within _ e y;
       ready = record { input = p.ready.input; bases = p.ready.bases; earlier = p.ready.earlier; here = p.ready.here; at_unit = at_lent codes_pass _ c.read_at.ensures.frame a };
-      bytes = part s.b.now s.at (s.section.stop - s.at);
-      read = read_at _ _ _ a.input _ _ _ _ p.low p.within _ e y;
-      same = read_bytes _ _ _ a.input _ _ _ _ p.low p.within _ e y;
+      bytes = part s.self.now.bundle.now s.at (s.self.now.section.stop - s.at);
+      read = read_at _ _ _ a.input _ _ _ _ p.low c.args.self.now.within _ e y;
+      same = read_bytes _ _ _ a.input _ _ _ _ p.low c.args.self.now.within _ e y;
     }
 
 pub returns : goal.returns
 returns c =
     let s = c.args in
     let p = c.requires.0 in
-    let y : Bytes s.b.now = λ j. (c.type_inv.b j).fits in record {
+    let y = s.self.now.bytes in record {
       filed = λ i bases earlier here a.
           let e = c.in_ok-read.ensures.read i a.input in
           unit_lent codes_pass _ c.read_at.ensures.frame
-          (c.file_read.ensures.filed i bases earlier here _ (at_lent codes_pass _ c.read_at.ensures.frame a) (read_at _ _ _ a.input _ _ _ _ p.low p.within _ e y) (read_bytes _ _ _ a.input _ _ _ _ p.low p.within _ e y));
-      transient = transient_stays _ _ _ _ _ _ c.file_read.ensures.transient c.read_at.ensures.transient;
+          (c.file_read.ensures.filed i bases earlier here _ (at_lent codes_pass _ c.read_at.ensures.frame a) (read_at _ _ _ a.input _ _ _ _ p.low c.args.self.now.within _ e y) (read_bytes _ _ _ a.input _ _ _ _ p.low c.args.self.now.within _ e y));
+      transient = transient_stays _ _ _ _ c.file_read.ensures.transient c.read_at.ensures.transient;
     }
