@@ -26,6 +26,7 @@ use Rattle.package.specs.Pack.{rows_of, unit_bytes}
 use Rattle.package.proofs.Kept.{First, kept_le}
 use Rattle.package.proofs.Counting.{count_new, count_known}
 use Rattle.kept.specs.Columns.{columns_for, Marked}
+use Rattle.index.proofs.CellsHeld.{offset_is, size_is}
 use Rattle.kept.specs.Cells.{cells_by, CellsRoom}
 use Rattle.kept.specs.Records.{cell_words, unit_of, UnitFits}
 use Rattle.kept.specs.Slots.{seen_slots, slots_in, sought_in, free_for, SeenHeld, Placeable, Seekable, Keepable, kept_in}
@@ -180,8 +181,8 @@ module _ {five : Bool} {b : List ℕ} {n slot : ℕ} {u : UnitHead} {k : Contrib
           home_in = ⊎_elim (λ e. omega arith) (λ e. omega arith) homes;
           place_fits = omega (arith, bytes_fit);
           size_fits = omega (arith, bytes_fit);
-          offsets = λ c g. omega (arith, x.contributes.offset c, x.bounded c, h.based c g, h.low c, h.limit, h.within);
-          sizes = λ c. omega (arith, x.contributes.size c, x.bounded c);
+          offsets = λ c g. omega (arith, offset_is k y.contributions x.contributes c, x.bounded c, h.based c g, h.low c, h.limit, h.within);
+          sizes = λ c. omega (arith, size_is k y.contributions x.contributes c, x.bounded c);
         }
 
     -- ---- its record is stored, its slot is set, and its columns are marked
