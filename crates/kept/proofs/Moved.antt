@@ -17,15 +17,7 @@ use Rattle.index.specs.Written.{offset_of, size_of}
 use Rattle.index.specs.Contributed.{ContributionsAre}
 use Rattle.index.specs.declared.judging.Contributions.{Contributions}
 use Rattle.kept.specs.Columns.{CellsFit}
-use Rattle.kept.specs.Cells.{cells_by, moved_by, CellsRoom, Summed}
-
-pub moved_there : (b : Bool) (base offset : ℕ) → b ≡ true → base + offset ≡ moved_by b base offset
-unfolding moved_by
-moved_there b base offset e = rw (e, moved_by)
-
-pub moved_none : (b : Bool) (base offset : ℕ) → b ≡ false → 0 ≡ moved_by b base offset
-unfolding moved_by
-moved_none b base offset e = rw (e, moved_by)
+use Rattle.kept.specs.Cells.{cells_by, moved_by, CellsRoom}
 
 moved_le : (b : Bool) (base offset : ℕ) → moved_by b base offset ≤ base + offset
 unfolding moved_by
@@ -36,51 +28,6 @@ pub get_d_past : {A : Type 0} (l : List A) (d : A) (c : ℕ) → length l ≤ c 
 get_d_past [] d c h = refl
 get_d_past (x ∷ l) d zero h = absurd (not-suc-le-zero h)
 get_d_past (x ∷ l) d (suc c) h = get_d_past l d c (le_of_suc-le-suc h)
-
--- ---- one more of an array
-pub record Moving (k : Contributions) (bases offset : List ℕ) (m : ℕ) : Type 0 where
-  pub same : length offset ≡ 14
-  pub within : m ≤ 14
-  pub is : (c : ℕ) → c < m → get_or offset c 0 ≡ moved_by (get_or k.has c false) (get_or bases c 0) (get_or k.offset c 0)
-
-pub moving_none : (k : Contributions) (bases offset : List ℕ) → length offset ≡ 14 → Moving k bases offset 0
-moving_none k bases offset l = record { same = l; within = omega arith; is = λ c h. absurd (not-suc-le-zero h) }
-
-pub moving_more : (k : Contributions) (bases offset : List ℕ) (m v : ℕ) → Moving k bases offset m → m < 14
-    → v ≡ moved_by (get_or k.has m false) (get_or bases m 0) (get_or k.offset m 0) → Moving k bases (set offset m v) (m + 1)
-moving_more k bases offset m v a h e =
-    record {
-      same = length-set offset m v ∙ a.same;
-      within = omega arith;
-      is =
-          λ c g. elim (ℕ_discrete c m) [
-            | yes q ↦ rw q (get_or-set_same offset m v 0 (omega (arith, a.same)) ∙ e)
-            | no q ↦ get_or-set_other offset m c v 0 q ∙ a.is c (omega arith)
-          ];
-    }
-
-pub record Growing (bases size more : List ℕ) (m : ℕ) : Type 0 where
-  pub same : length more ≡ length bases
-  pub within : m ≤ 14
-  pub done : Summed bases size more m
-
-pub growing_none : (bases size : List ℕ) → Growing bases size bases 0
-growing_none bases size = record { same = refl; within = omega arith; done = record { is = λ c h. absurd (not-suc-le-zero h) } }
-
-pub growing_more : (bases size more : List ℕ) (m v : ℕ) → length bases ≡ 14 → Growing bases size more m → m < 14
-    → v ≡ get_or bases m 0 + get_or size m 0 → Growing bases size (set more m v) (m + 1)
-growing_more bases size more m v l a h e =
-    record {
-      same = length-set more m v ∙ a.same;
-      within = omega arith;
-      done = record {
-        is =
-            λ c g. elim (ℕ_discrete c m) [
-              | yes q ↦ rw q (get_or-set_same more m v 0 (omega (arith, a.same)) ∙ e)
-              | no q ↦ get_or-set_other more m c v 0 q ∙ a.done.is c (omega arith)
-            ];
-      };
-    }
 
 -- ---- the cells
 module _ (f : BySection (Option Contribution)) (base : BySection ℕ) (home at size : ℕ) where

@@ -51,6 +51,7 @@ pub struct Unit {
 
 // ---- stored. Callers keep room, and numbers of 32 bits.
 // Offset and size for each column.
+#[tactic(auto, using(crate::proofs::Columning::section_lt))]
 fn store_cells(five: bool, words: &mut [u32], at: usize, cells: Contributions)
     requires { (at + cell_words ≤ length words.old) × CellsFit cells }
     ensures { words.new ≡ placed words.old at (cells_of five cells) }
@@ -111,5 +112,7 @@ pub fn row_for(records: &[u32], number: usize) -> usize
     requires { record_words * number ≤ length records.now }
     ensures { result ≡ row_for records.now number }
 {
-    number.checked_sub(1).map_or(0, |i| records[RECORD * i + ROW] as usize)
+    number
+        .checked_sub(1)
+        .map_or(0, |i| records[RECORD * i + ROW] as usize)
 }
