@@ -1,20 +1,18 @@
 -- Laws of the tests that an index is well formed, one for each turn of a loop.
 -- Assumes nothing.
-use mathlib.Core.Path.{◌≡◌, refl, sym}
-use mathlib.Core.Bool.{Bool, true, false, not, ◌&&◌}
+use mathlib.Core.Path.{◌≡◌, sym}
+use mathlib.Core.Bool.{true, false, ◌&&◌}
 use mathlib.Core.List.{List}
 use Prim.Native.Nat.{ℕ, suc, ◌+◌, ◌<◌, ◌≤◌}
-use native.Mathlib.Omega.{arith}
 use native.Mathlib.Numerals.{add-one}
-use lib.Dec.{eqb, leb}
+use lib.Dec.{leb}
 use lib.ListN.{length, drop, get_or, drop_of_length-le}
 use lib.Seq.{drop-cons}
-use borrow.Author.Tests.{le-leb, lt-leb, eq-eqb, ne_eqb}
-use Rattle.octets.specs.Octets.{number_at}
+use borrow.Author.Tests.{le-leb, lt-leb}
 use Rattle.octets.specs.Lists.{has, distinct, zero_together}
 use Rattle.octets.proofs.Checks.{not_right}
 use Rattle.octets.proofs.Elements.{distinct_cons, distinct_stops}
-use Rattle.index.specs.Index.{version_of, columns_most, code_good, slots_good}
+use Rattle.index.specs.Index.{slots_good}
 
 -- ---- distinct codes
 module _ (ns : List ℕ) (i : ℕ) where

@@ -4,7 +4,7 @@ use mathlib.Core.Path.{◌≡◌, refl, sym, ap, ◌∙◌}
 use mathlib.Core.Bool.{Bool, true, false, ◌||◌}
 use mathlib.Core.List.{List, [], ◌∷◌}
 use mathlib.Core.Logic.{⊎_elim}
-use mathlib.Core.Option.{Option, some, none}
+use mathlib.Core.Option.{Option, some}
 use Prim.Native.Nat.{ℕ, ◌+◌, ◌<◌, ◌≤◌}
 use native.Mathlib.Decide.{ℕ_discrete}
 use lib.Dec.{eqb}
@@ -18,7 +18,7 @@ use Rattle.index.specs.Rows.{BySection, needed_codes, is_some, cell_is, part_goo
 use Rattle.std.specs.Option.{is_some as there}
 use Rattle.index.specs.Cells.{cell_found}
 use Rattle.index.specs.Contributed.{Cell, by_code, good_cell, with_cell, chosen, ContributionsAre, cell_held, has_cell, good_held}
-use Rattle.std.specs.Prelude.{Some, None}
+use Rattle.std.specs.Prelude.{Some}
 use Rattle.index.specs.declared.judging.Contributions.{Contributions}
 use Rattle.index.proofs.CellsHeld.{there_found}
 use Rattle.index.proofs.Judgements.{ahead, ahead_start, ahead_on, ahead_stops, ahead_end, good_cell_law}

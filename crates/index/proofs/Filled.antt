@@ -22,7 +22,6 @@ use Rattle.index.specs.Rows.{BySection, shared, needed_codes, whole_contribution
 use Rattle.index.specs.Cells.{cell_found}
 use Rattle.index.specs.Contributed.{Cell, ContributionsAre, with_cell, chosen}
 use Rattle.std.specs.Prelude.{None}
-use Rattle.index.specs.declared.cells.Contribution as code
 use Rattle.index.specs.declared.judging.Contributions.{Contributions}
 use Rattle.index.proofs.Judgements.{shared_at}
 

@@ -11,7 +11,6 @@ use native.Mathlib.Omega.{arith}
 use lib.Dec.{eqb}
 use lib.ListN.{length, get_or, drop, drop_of_length-le}
 use lib.Seq.{drop-cons}
-use borrow.Author.Tests.{eq-eqb, ne_eqb}
 use Rattle.octets.specs.Lists.{all, those}
 use Rattle.octets.proofs.Checks.{known, true_false}
 use Rattle.octets.proofs.Lists.{all_cons, all_stops, those_keeps, those_skips}

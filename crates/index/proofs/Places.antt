@@ -11,9 +11,8 @@ use native.Mathlib.Nat.{mul-suc, mul_comm, mul-le-mul_right}
 use native.Mathlib.Omega.{arith}
 use lib.Dec.{eqb}
 use lib.ListN.{length, get_or}
-use borrow.Author.Tests.{eq-eqb, ne_eqb}
 use Rattle.octets.proofs.Checks.{known}
-use Rattle.index.specs.Columns.{Column, columns_four, columns_five, columns_of, column_in}
+use Rattle.index.specs.Columns.{Column, columns_of, column_in}
 use Rattle.index.specs.Index.{Index, place_of, cell_at, cell_of}
 use Rattle.std.specs.Prelude.{Some, None, find}
 use Rattle.std.specs.Option.{option_map}

@@ -4,16 +4,13 @@ use mathlib.Core.Path.{◌≡◌, refl, sym, ap, ap₂, ◌∙◌}
 use mathlib.Core.Bool.{Bool}
 use mathlib.Core.List.{List, [], ◌∷◌, ◌++◌, map, append-nil}
 use Prim.Native.Nat.{ℕ, zero, suc, ◌+◌, ◌*◌, ◌-◌, ◌/◌, ◌%◌, ◌^◌, ◌<◌, ◌≤◌}
-use native.Mathlib.Numerals.{add-one}
 use native.Mathlib.Omega.{arith}
-use lib.ListN.{length, take, drop, get_or, length-append}
-use lib.Seq.{drop-cons}
+use lib.ListN.{length, get_or, length-append}
 use borrow.Author.Tests.{eq-eqb, ne_eqb}
 use Rattle.octets.specs.Octets.{part, placed}
 use Rattle.octets.specs.Lists.{joined, those}
 use Rattle.octets.proofs.Lists.{those_append, those_keeps, those_skips}
 use Rattle.octets.proofs.Joined.{map-append, joined_append}
-use Rattle.octets.proofs.Parts.{length_part, part_cut}
 use Rattle.octets.proofs.Placed.{placed_placed, placed_none, length_placed}
 use Rattle.kept.specs.Regions.{record_words}
 use Rattle.index.specs.Contributed.{cell_held, stated}
@@ -97,18 +94,7 @@ module _ (b w : List ℕ) (home i n : ℕ) {d₀ d : List ℕ} {at o : ℕ} {all
   pub bytes_more : {v : List ℕ} {next : ℕ} → v ≡ placed d o (bytes_from b w home i 1) → next ≡ o + length (bytes_from b w home i 1) → Copying d₀ v at next (bytes_from b w home (i + 1) (n - (i + 1))) all
   bytes_more p q = copying_more c room (bytes_from b w home i 1) (bytes_from b w home (i + 1) (n - (i + 1))) (bytes_turn b w home i n h) _ _ p q
 
--- the bytes of record i, where it is a unit of another section or of this one
-pub unit_none : (d : List ℕ) (at : ℕ) (x : List ℕ) → x ≡ [] → (d ≡ placed d at x) × (at ≡ at + length x)
-unit_none d at x e = rw e (sym (placed_none d at), omega arith)
-
-pub unit_some : (b d v : List ℕ) (at start size : ℕ) (x : List ℕ) → x ≡ part b start size → start + size ≤ length b → v ≡ placed d at (take (start + size - start) (drop start b))
-    → (v ≡ placed d at x) × (at + size ≡ at + length x)
-unit_some b d v at start size x e h p = (p ∙ ap (placed d at) (part_cut b start size ∙ sym e), omega (arith, ap length e, length_part b start size h))
-
 -- ---- numbers stored one by one
-pub drop_one : (ns : List ℕ) (i x : ℕ) → i < length ns → x ≡ get_or ns i 0 → drop i ns ≡ (x ∷ []) ++ drop (i + 1) ns
-drop_one ns i x h e = rw (e, add-one i, drop-cons ns i 0)
-
 pub cells_one : (five : Bool) (cells : Contributions) (k o z s : ℕ) → k < 8 → s ≡ section_at five k → o ≡ (stated (cell_held cells s)).offset → z ≡ (stated (cell_held cells s)).size
     → cells_left five cells k (8 - k) ≡ (o ∷ z ∷ []) ++ cells_left five cells (k + 1) (8 - (k + 1))
 unfolding cells_left

@@ -14,79 +14,15 @@ use Rattle.index.specs.Index.{Contribution}
 use Rattle.index.specs.Rows.{BySection}
 use Rattle.index.specs.Cells.{cell_found}
 use Rattle.index.specs.Contributed.{Cell, Whole, ContributionsAre, cell_held, stated}
-use Rattle.index.specs.declared.cells.Contribution as code
 use Rattle.std.specs.Prelude.{Some, None}
 use Rattle.index.specs.declared.judging.Contributions.{Contributions}
 use Rattle.kept.specs.Columns.{CellsFit}
-use Rattle.kept.specs.Cells.{cells_by, moved_by, CellsAfter, CellsRoom, Summed}
+use Rattle.kept.specs.Cells.{cells_by, moved_by, CellsAfter, CellsRoom}
 
 pub get_d_past : {A : Type 0} (l : List A) (d : A) (c : ℕ) → length l ≤ c → get_or l c d ≡ d
 get_d_past [] d c h = refl
 get_d_past (x ∷ l) d zero h = absurd (not-suc-le-zero h)
 get_d_past (x ∷ l) d (suc c) h = get_d_past l d c (le_of_suc-le-suc h)
-
--- ---- one more of an array
-pub record Moving (k : Contributions) (bases : List ℕ) (r : Contributions) (m : ℕ) : Type 0 where
-  pub whole : Whole r
-  pub within : m ≤ 14
-  pub is : (c : ℕ) → c < m → cell_held r c ≡ moved_by (get_or bases c 0) (cell_held k c)
-  pub rest : (c : ℕ) → m ≤ c → cell_held r c ≡ cell_held k c
-
-pub moving_none : (k : Contributions) (bases : List ℕ) → Whole k → Moving k bases k 0
-moving_none k bases l = record { whole = l; within = omega arith; is = λ c h. absurd (not-suc-le-zero h); rest = λ c h. refl }
-
-pub moving_some : (k : Contributions) (bases : List ℕ) (r : Contributions) (m : ℕ) (v : code.Contribution) → Moving k bases r m → m < 14 → cell_held k m ≡ Some v
-    → Moving k bases (record { cells = set r.cells m (Some (record { offset = get_or bases m 0 + v.offset; size = v.size })) }) (m + 1)
-unfolding moved_by
-moving_some k bases r m v a h e =
-    let w : Cell = Some (record { offset = get_or bases m 0 + v.offset; size = v.size }) in
-    record {
-      whole = length-set r.cells m w ∙ a.whole;
-      within = omega arith;
-      is =
-          λ c g. elim (ℕ_discrete c m) [
-            | yes q ↦ rw q (get_or-set_same r.cells m w None (omega (arith, a.whole)) ∙ sym (ap (moved_by (get_or bases m 0)) e))
-            | no q ↦ get_or-set_other r.cells m c w None q ∙ a.is c (omega arith)
-          ];
-      rest = λ c g. get_or-set_other r.cells m c w None (λ q. omega arith) ∙ a.rest c (omega arith);
-    }
-
-pub moving_nothing : (k : Contributions) (bases : List ℕ) (r : Contributions) (m : ℕ) → Moving k bases r m → m < 14 → cell_held k m ≡ None → Moving k bases r (m + 1)
-unfolding moved_by
-moving_nothing k bases r m a h e =
-    record {
-      whole = a.whole;
-      within = omega arith;
-      is =
-          λ c g. elim (ℕ_discrete c m) [
-            | yes q ↦ rw q (a.rest m (omega arith) ∙ e ∙ sym (ap (moved_by (get_or bases m 0)) e))
-            | no q ↦ a.is c (omega arith)
-          ];
-      rest = λ c g. a.rest c (omega arith);
-    }
-
-pub record Growing (bases size more : List ℕ) (m : ℕ) : Type 0 where
-  pub same : length more ≡ length bases
-  pub within : m ≤ 14
-  pub done : Summed bases size more m
-
-pub growing_none : (bases size : List ℕ) → Growing bases size bases 0
-growing_none bases size = record { same = refl; within = omega arith; done = record { is = λ c h. absurd (not-suc-le-zero h) } }
-
-pub growing_more : (bases size more : List ℕ) (m v : ℕ) → length bases ≡ 14 → Growing bases size more m → m < 14
-    → v ≡ get_or bases m 0 + get_or size m 0 → Growing bases size (set more m v) (m + 1)
-growing_more bases size more m v l a h e =
-    record {
-      same = length-set more m v ∙ a.same;
-      within = omega arith;
-      done = record {
-        is =
-            λ c g. elim (ℕ_discrete c m) [
-              | yes q ↦ rw q (get_or-set_same more m v 0 (omega (arith, a.same)) ∙ e)
-              | no q ↦ get_or-set_other more m c v 0 q ∙ a.done.is c (omega arith)
-            ];
-      };
-    }
 
 -- ---- the cells
 module _ (f : BySection (Option Contribution)) (base : BySection ℕ) (home at size : ℕ) where

@@ -126,9 +126,6 @@ module _ (has : List Bool) (w : List ℕ) (first : ℕ) where
   unfolding cells_from
   cells_end k n h = rw (none_left n k h)
 
-  pub cells_from_law : (n m : ℕ) → n ≡ m → cells_from has w first 0 (n - 0) ≡ cells_from has w first 0 m
-  cells_from_law n m e = let z : n - 0 ≡ m = omega arith in rw z
-
 -- ---- numbers by a list
 module _ (f : ℕ → ℕ) (slots : List ℕ) where
   map_turn : (i : ℕ) {x : ℕ} → i < length slots → x ≡ f (get_or slots i 0) → map f (drop i slots) ≡ (x ∷ []) ++ map f (drop (i + 1) slots)
@@ -138,9 +135,6 @@ module _ (f : ℕ → ℕ) (slots : List ℕ) where
   map_end i h = rw (drop_of_length-le slots h)
 
   module _ (i x : ℕ) {big : Bool} {w : ℕ} {d₀ d : List ℕ} {at o : ℕ} {all : List ℕ} (a : Writing big w d₀ d at o (map f (drop i slots)) all) (h : i < length slots) (e : x ≡ f (get_or slots i 0)) where
-    pub map_room : o + w ≤ length d
-    map_room = let r = writing_room a (x ∷ []) (map f (drop (i + 1) slots)) (map_turn i h e) in omega (arith, mul-one w)
-
     pub map_more : {v : List ℕ} {n : ℕ} → v ≡ placed d o (bytes_of big w x) → n ≡ o + w → Writing big w d₀ v at n (map f (drop (i + 1) slots)) all
     map_more {v} {n} p q =
         writing_more a (x ∷ []) (map f (drop (i + 1) slots)) (map_turn i h e) (p ∙ ap (placed d o) (sym (numbers_of_one big w x))) (omega (arith, mul-one w))

@@ -16,7 +16,7 @@ use Rattle.octets.proofs.Joined.{map-append, joined_append}
 use Rattle.octets.proofs.Parts.{get_d_part}
 use Rattle.octets.proofs.Numbers.{length_bytes_of}
 use Rattle.octets.proofs.Placed.{placed_placed, placed_none}
-use Rattle.octets.proofs.Tables.{length_numbers_of, numbers_of_one}
+use Rattle.octets.proofs.Tables.{length_numbers_of}
 use Rattle.index.specs.Written.{start_bytes}
 use Rattle.index.proofs.LawBytes.{length_start}
 use Rattle.kept.specs.Columns.{version_for, columns_for, code_at, numbers_if, cells_from, codes_from, codes_in}
@@ -25,33 +25,16 @@ use Rattle.kept.specs.Indexed.{index_size, numbers_in, grid_from, slot_number, s
 use Rattle.kept.specs.declared.writing.IndexForm.{IndexForm}
 use Rattle.kept.specs.declared.writing.Figures.{Figures}
 use Rattle.kept.specs.declared.writing.Figures.TheVariants as figures
+use Rattle.kept.specs.declared.writing.SlotNumbers.{SlotNumbers}
+use Rattle.kept.specs.declared.writing.SlotNumbers.TheVariants.{Identities, Rows}
 use Rattle.kept.specs.Regions.{record_words}
 use Rattle.kept.proofs.Columning.{columns_are}
 use Rattle.kept.proofs.Recording.{records_turn, records_end}
-use Rattle.kept.proofs.Numbering.{Writing, writing_room, writing_more, codes_suc, codes_turn, cells_suc, if_le}
+use Rattle.kept.proofs.Numbering.{Writing, writing_room, writing_more, codes_suc, cells_suc, if_le}
 
 -- one piece behind another
 pub placed_then : (d x y : List ℕ) (at o : ℕ) {u v : List ℕ} → at + length x ≤ length d → o ≡ at + length x → u ≡ placed d at x → v ≡ placed u o y → v ≡ placed d at (x ++ y)
 placed_then d x y at o {u} {v} h q e f = f ∙ ap₂ (λ (l : List ℕ) (k : ℕ). placed l k y) e q ∙ placed_placed d at x y h
-
--- ---- a number where its column is there
-module _ (there : Bool) (n : ℕ) where
-  pub if_there : there ≡ true → length (numbers_if there n) ≡ 1
-  unfolding numbers_if
-  if_there e = rw e
-
-  pub if_missing : there ≡ false → length (numbers_if there n) ≡ 0
-  unfolding numbers_if
-  if_missing e = rw e refl
-
-  pub put_there : (big : Bool) (d v : List ℕ) (at m : ℕ) → there ≡ true → m ≡ n → v ≡ placed d at (bytes_of big 4 m)
-      → (v ≡ placed d at (numbers_of big 4 (numbers_if there n))) × (at + 4 ≡ at + 4 * length (numbers_if there n))
-  unfolding numbers_if
-  put_there big d v at m e q p = rw e (p ∙ ap (placed d at) (ap (bytes_of big 4) q ∙ sym (numbers_of_one big 4 n)), omega arith)
-
-  pub put_missing : (big : Bool) (d : List ℕ) (at : ℕ) → there ≡ false → (d ≡ placed d at (numbers_of big 4 (numbers_if there n))) × (at ≡ at + 4 * length (numbers_if there n))
-  unfolding numbers_if numbers_of
-  put_missing big d at e = rw e (sym (placed_none d at), omega arith)
 
 -- ---- the head
 pub start_five : (big five : Bool) (d u v : List ℕ) (at : ℕ) → at + 4 ≤ length d → five ≡ true → u ≡ placed d at (bytes_of big 2 5) → v ≡ placed u (at + 2) (bytes_of big 2 0)
@@ -186,15 +169,10 @@ pub place_few : (which : Figures) → place_of which ≤ 1
 place_few figures.Offsets = omega arith
 place_few figures.Sizes = omega arith
 
--- ---- columns counted and marked
-module _ (five : Bool) (has : List Bool) (k n : ℕ) where
-  pub count_turn : k < n → length (codes_from five has k (n - k)) ≡ length (numbers_if (get_or has k false) (code_at five k)) + length (codes_from five has (k + 1) (n - (k + 1)))
-  count_turn h = ap length (codes_turn five has k n h refl) ∙ length-append (numbers_if (get_or has k false) (code_at five k)) (codes_from five has (k + 1) (n - (k + 1)))
-
 -- ---- the whole
-pub length_slots : (identities : Bool) (big : Bool) (w slots : List ℕ) → length (numbers_of big (slot_width identities) (map (slot_number identities w) slots)) ≡ slot_width identities * length slots
-length_slots identities big w slots =
-    length_numbers_of big (slot_width identities) (map (slot_number identities w) slots) ∙ ap (λ (n : ℕ). slot_width identities * n) (length-map slots (slot_number identities w))
+pub length_slots : (numbers : SlotNumbers) (big : Bool) (w slots : List ℕ) → length (numbers_of big (slot_width numbers) (map (slot_number numbers w) slots)) ≡ slot_width numbers * length slots
+length_slots numbers big w slots =
+    length_numbers_of big (slot_width numbers) (map (slot_number numbers w) slots) ∙ ap (λ (n : ℕ). slot_width numbers * n) (length-map slots (slot_number numbers w))
 
 pub index_length : (f : IndexForm) (w : List ℕ) (n : ℕ) (slots : List ℕ) → length (of_table w n f.table) ≡ f.rows
     → length (index_in f w n slots) ≡ index_size (length (codes_in f.five f.has)) f.rows (length slots)
@@ -203,8 +181,8 @@ index_length f w n slots e =
     let big = f.big in
     let c = length (codes_in f.five f.has) in
     let head = length_head big f.five (c ∷ f.rows ∷ length slots ∷ []) refl in
-    let ids = length_slots true big w slots in
-    let rows = length_slots false big w slots in
+    let ids = length_slots Identities big w slots in
+    let rows = length_slots Rows big w slots in
     let codes = length_numbers_of big 4 (codes_in f.five f.has) in
     let offsets = length_numbers_of big 4 (grid_from f w 0 0 n) in
     let sizes = length_numbers_of big 4 (grid_from f w 1 0 n) in
@@ -215,8 +193,8 @@ module _ (f : IndexForm) (w : List ℕ) (n : ℕ) (slots : List ℕ) (columns : 
   abbrev H : List ℕ
   H = start_bytes f.big (version_for f.five) ++ numbers_of f.big 4 (columns ∷ f.rows ∷ length slots ∷ [])
 
-  abbrev S : Bool → List ℕ
-  S identities = numbers_of f.big (slot_width identities) (map (slot_number identities w) slots)
+  abbrev S : SlotNumbers → List ℕ
+  S numbers = numbers_of f.big (slot_width numbers) (map (slot_number numbers w) slots)
 
   abbrev C : List ℕ
   C = numbers_of f.big 4 (codes_in f.five f.has)
@@ -227,11 +205,10 @@ module _ (f : IndexForm) (w : List ℕ) (n : ℕ) (slots : List ℕ) (columns : 
   -- how much there is of each piece
   pub record Sizes : Type 0 where
     pub head_many : length H ≡ 16
-    pub ids_many : length (S true) ≡ 8 * length slots
-    pub nums_many : length (S false) ≡ 4 * length slots
+    pub ids_many : length (S Identities) ≡ 8 * length slots
+    pub nums_many : length (S Rows) ≡ 4 * length slots
     pub codes_many : length C ≡ 4 * length (codes_in f.five f.has)
     pub offsets_many : length (G 0) ≡ 4 * length (grid_from f w 0 0 n)
-    pub sizes_many : length (G 1) ≡ 4 * length (grid_from f w 1 0 n)
     pub all_many : length (index_in f w n slots) ≡ 16 + 12 * length slots + 4 * length (codes_in f.five f.has) + 4 * length (grid_from f w 0 0 n) + 4 * length (grid_from f w 1 0 n)
 
   pub pieces : Sizes
@@ -239,8 +216,8 @@ module _ (f : IndexForm) (w : List ℕ) (n : ℕ) (slots : List ℕ) (columns : 
   pieces =
       let head = length_head f.big f.five (columns ∷ f.rows ∷ length slots ∷ []) refl in
       let front = length_head f.big f.five (length (codes_in f.five f.has) ∷ f.rows ∷ length slots ∷ []) refl in
-      let ids = length_slots true f.big w slots in
-      let nums = length_slots false f.big w slots in
+      let ids = length_slots Identities f.big w slots in
+      let nums = length_slots Rows f.big w slots in
       let codes = length_numbers_of f.big 4 (codes_in f.five f.has) in
       let offsets = length_numbers_of f.big 4 (grid_from f w 0 0 n) in
       let sizes = length_numbers_of f.big 4 (grid_from f w 1 0 n) in
@@ -250,24 +227,23 @@ module _ (f : IndexForm) (w : List ℕ) (n : ℕ) (slots : List ℕ) (columns : 
         nums_many = nums;
         codes_many = codes;
         offsets_many = offsets;
-        sizes_many = sizes;
         all_many = simp length-append (omega (arith, simp length-append at front));
       }
 
   pub front_written : (d : List ℕ) (at : ℕ) {a b c : List ℕ} {rows : ℕ} → rows ≡ at + 16 + 8 * length slots → at + 16 + 12 * length slots ≤ length d
-      → a ≡ placed d at H → b ≡ placed a (at + 16) (S true) → c ≡ placed b rows (S false) → c ≡ placed d at (front_in f columns w slots)
+      → a ≡ placed d at H → b ≡ placed a (at + 16) (S Identities) → c ≡ placed b rows (S Rows) → c ≡ placed d at (front_in f columns w slots)
   unfolding front_in
   front_written d at {rows = rows} o room p₁ p₂ p₃ =
       let z = pieces in
-      let l₂ : length (H ++ S true) ≡ 16 + 8 * length slots = length-append H (S true) ∙ omega (arith, z.head_many, z.ids_many) in
-      let s₂ = placed_then d H (S true) at (at + 16) (omega (arith, z.head_many)) (omega (arith, z.head_many)) p₁ p₂ in
-      placed_then d (H ++ S true) (S false) at rows (omega arith) (omega arith) s₂ p₃
+      let l₂ : length (H ++ S Identities) ≡ 16 + 8 * length slots = length-append H (S Identities) ∙ omega (arith, z.head_many, z.ids_many) in
+      let s₂ = placed_then d H (S Identities) at (at + 16) (omega (arith, z.head_many)) (omega (arith, z.head_many)) p₁ p₂ in
+      placed_then d (H ++ S Identities) (S Rows) at rows (omega arith) (omega arith) s₂ p₃
 
   length_front : length (front_in f columns w slots) ≡ 16 + 12 * length slots
   unfolding front_in
   length_front =
       let z = pieces in
-      length-append (H ++ S true) (S false) ∙ omega (arith, length-append H (S true), z.head_many, z.ids_many, z.nums_many)
+      length-append (H ++ S Identities) (S Rows) ∙ omega (arith, length-append H (S Identities), z.head_many, z.ids_many, z.nums_many)
 
   pub index_written : (d : List ℕ) (at : ℕ) {c e g h : List ℕ} {codes offsets sizes : ℕ} → columns ≡ length (codes_in f.five f.has) → codes ≡ at + 16 + 12 * length slots
       → at + length (index_in f w n slots) ≤ length d → c ≡ placed d at (front_in f columns w slots)

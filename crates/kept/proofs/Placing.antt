@@ -229,22 +229,8 @@ placed_over {words} {table} {n} {count} {w₀} {w} {v} l p = record {
 }
 
 module _ {words table n count : ℕ} {w₀ w : List ℕ} {i : ℕ} (can : Placeable words (length w₀) table n count) (p : Placing words table n count w₀ w i) where
-  pub placing_seekable : i ≤ n → Seekable words w table i count
-  placing_seekable h = record {
-    can = record { power = can.power; fits = can.fits; enough = rw p.left.same can.enough; limit = can.limit; units = omega (arith, can.units) };
-    within = p.left.within;
-  }
-
   records_same : region w words records_region ≡ region w₀ words records_region
   records_same = p.left.others records_region (slots_records table)
-
-  pub placing_end : n ≤ i → PlacedAll words table n count w₀ w
-  placing_end h =
-      let e : i ≡ n = omega (arith, p.most) in
-      record {
-        left = subst (λ (k : ℕ). SlotsLeft words table k count w₀ w) e p.left;
-        placed = λ fit. subst (λ (k : ℕ). SeenHeld (region w₀ words records_region) (slots_in w words table count) k (identities_in (region w₀ words records_region) k table)) e (p.seen fit);
-      }
 
   module _ (h : i < n) (v : List ℕ) (q : Placed words table i count w v) where
     left_more : SlotsLeft words table (i + 1) count w₀ v

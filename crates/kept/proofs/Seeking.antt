@@ -2,7 +2,7 @@
 -- Assumes nothing.
 use mathlib.Core.Path.{◌≡◌, refl, sym, ap, ap₂, ◌∙◌}
 use mathlib.Core.List.{List, map}
-use Prim.Native.Nat.{ℕ, suc, ◌+◌, ◌*◌, ◌-◌, ◌%◌, ◌≤◌, ◌<◌}
+use Prim.Native.Nat.{ℕ, suc, ◌+◌, ◌-◌, ◌%◌, ◌≤◌, ◌<◌}
 use native.Mathlib.Nat.{sub-zero, mod-lt}
 use native.Mathlib.Omega.{arith}
 use lib.ListN.{length, get_or}
@@ -12,9 +12,8 @@ use Rattle.index.proofs.Masks.{first_slot_lt}
 use Rattle.index.proofs.LawGrid.{get_d_map}
 use Rattle.index.proofs.LawLooks.{look_unused, look_found, look_on}
 use Rattle.index.proofs.Placing.{free_here, free_on, free_inside}
-use Rattle.kept.specs.Regions.{record_words}
 use Rattle.kept.specs.Records.{identity_for}
-use Rattle.kept.specs.Slots.{Within, free_for, sought_as, sought_in}
+use Rattle.kept.specs.Slots.{free_for, sought_as, sought_in}
 use Rattle.std.specs.Prelude.{Ok, Err}
 
 -- the looks that are left, as the definition counts them
@@ -82,9 +81,6 @@ module _ {w slots : List ℕ} {x at by looks : ℕ} (s : Seeking w slots x at by
           })
 
 -- a number in the slots is that of a record that is stored
-pub number_fits : {slots : List ℕ} {n number : ℕ} (at room : ℕ) → Within slots n → record_words * n ≤ room → number ≡ get_or slots at 0 → record_words * number ≤ room
-number_fits {slots} {n} {number} at room i h e = let g = i.within at in omega arith
-
 -- ---- a free slot is one of the slots
 pub sought_inside : (w slots : List ℕ) (x at : ℕ) → PowerOfTwo (length slots) → Err at ≡ sought_in w slots x → at < length slots
 unfolding sought_in sought_as free_for

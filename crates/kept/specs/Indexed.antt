@@ -1,6 +1,6 @@
 -- The index that records and slots state.
 -- Assumes nothing.
-use Rattle.std.specs.Prelude.{Bool, true, false, List, [], ◌∷◌, ◌++◌, map, ℕ, ◌+◌, ◌*◌, length}
+use Rattle.std.specs.Prelude.{List, [], ◌∷◌, ◌++◌, map, ℕ, ◌+◌, ◌*◌, length}
 use Rattle.octets.specs.Octets.{numbers_of}
 use Rattle.octets.specs.Lists.{joined, those}
 use Rattle.index.specs.Written.{start_bytes}
@@ -9,6 +9,8 @@ use Rattle.kept.specs.Records.{KeptUnit, records_from, in_table, identity_for, r
 use Rattle.kept.specs.declared.writing.IndexForm.{IndexForm}
 use Rattle.kept.specs.declared.writing.Figures.{Figures}
 use Rattle.kept.specs.declared.writing.Figures.TheVariants.{Offsets, Sizes}
+use Rattle.kept.specs.declared.writing.SlotNumbers.{SlotNumbers}
+use Rattle.kept.specs.declared.writing.SlotNumbers.TheVariants.{Identities, Rows}
 
 -- the bytes of an index, by its numbers of columns, rows and slots
 unfoldable pub index_size : ℕ → ℕ → ℕ → ℕ
@@ -28,21 +30,21 @@ unfoldable pub grid_from : IndexForm → List ℕ → ℕ → ℕ → ℕ → Li
 grid_from f w which i n = joined (map (numbers_in f which) (those (in_table f.table) (records_from w i n)))
 
 -- a number for each slot: the identity, of 8 bytes, or the row number, of 4
-unfoldable pub slot_number : Bool → List ℕ → ℕ → ℕ
-slot_number true w number = identity_for w number
-slot_number false w number = row_for w number
+unfoldable pub slot_number : SlotNumbers → List ℕ → ℕ → ℕ
+slot_number Identities w number = identity_for w number
+slot_number Rows w number = row_for w number
 
-unfoldable pub slot_width : Bool → ℕ
-slot_width true = 8
-slot_width false = 4
+unfoldable pub slot_width : SlotNumbers → ℕ
+slot_width Identities = 8
+slot_width Rows = 4
 
 -- head and slots
 unfoldable pub front_in : IndexForm → ℕ → List ℕ → List ℕ → List ℕ
 front_in f columns w slots =
     start_bytes f.big (version_for f.five)
     ++ numbers_of f.big 4 (columns ∷ f.rows ∷ length slots ∷ [])
-    ++ numbers_of f.big (slot_width true) (map (slot_number true w) slots)
-    ++ numbers_of f.big (slot_width false) (map (slot_number false w) slots)
+    ++ numbers_of f.big (slot_width Identities) (map (slot_number Identities w) slots)
+    ++ numbers_of f.big (slot_width Rows) (map (slot_number Rows w) slots)
 
 unfoldable pub index_in : IndexForm → List ℕ → ℕ → List ℕ → List ℕ
 index_in f w n slots =

@@ -10,6 +10,7 @@ use index::judging::Contributions;
 use numbers::sections::CODES;
 
 // The same cells in the package's sections, where the sections of the unit's object begin at the bases.
+#[tactic(auto, unfolding(crate::specs::Cells::moved_by))]
 fn moved(k: Contributions, bases: [usize; CODES]) -> Contributions
     requires { (c : ℕ) → c < section_codes → get_or bases c 0 + (stated (cell_held k c)).offset < 2 ^ 32 }
     ensures { CellsAfter k bases result }

@@ -23,6 +23,7 @@ fn version_for(five: bool) -> u32
     if five { DWARF_5 } else { DWARF_4 }
 }
 
+#[tactic(auto, using(crate::proofs::Columning::columns_are), unfolding(crate::specs::Columns::columns_for))]
 pub fn column_count(five: bool) -> usize
     ensures is { result ≡ length (columns_for five) }
     ensures most { result ≤ 8 }
@@ -31,12 +32,14 @@ pub fn column_count(five: bool) -> usize
 }
 
 // 0 where there is no column k.
+#[tactic(auto, using(crate::proofs::Columning::section_of), unfolding(crate::specs::Columns::section_at, crate::specs::Columns::columns_for))]
 pub fn section_at(five: bool, k: usize) -> usize
     ensures { result ≡ section_at five k }
 {
     index::cells::column_at(version_for(five), k).section
 }
 
+#[tactic(auto, using(crate::proofs::Columning::code_of), unfolding(crate::specs::Columns::code_at, crate::specs::Columns::columns_for))]
 pub fn code_at(five: bool, k: usize) -> usize
     ensures { result ≡ code_at five k }
 {
@@ -45,6 +48,7 @@ pub fn code_at(five: bool, k: usize) -> usize
 
 // ---- the columns that are there
 // The columns that were there, and those of one row more.
+#[tactic(auto, using(crate::proofs::Columning::section_lt))]
 pub fn mark_columns(five: bool, mut has: [bool; COLUMNS], cells: Contributions) -> [bool; COLUMNS]
     ensures { Marked five has result cells (length (columns_for five)) }
 {
@@ -66,6 +70,7 @@ pub fn columns_present(five: bool, has: [bool; COLUMNS]) -> usize
 }
 
 // The bytes of an index of n rows. Callers keep both numbers small.
+#[tactic(auto, using(crate::proofs::Pieces::codes_le), unfolding(crate::specs::Indexed::index_size))]
 pub fn index_length(five: bool, has: [bool; COLUMNS], n: usize, slots: usize) -> usize
     requires { (n < 2 ^ 32) × (slots < 2 ^ 32) }
     ensures { result ≡ index_size (length (codes_in five has)) n slots }

@@ -54,6 +54,7 @@ const NOTHING: Contribution = Contribution { offset: 0, size: 0 };
 
 // ---- stored. Callers keep room, and numbers of 32 bits.
 // Offset and size for each column.
+#[tactic(auto, using(crate::proofs::Columning::section_lt))]
 fn store_cells(five: bool, words: &mut [u32], at: usize, cells: Contributions)
     requires { (at + cell_words ≤ length words.old) × CellsFit cells }
     ensures { words.new ≡ placed words.old at (cells_of five cells) }

@@ -91,6 +91,7 @@ impl Share {
     }
 
     // The words of a region in work.
+    #[tactic(auto, using(octets::proofs::Parts::part_cut), unfolding(crate::specs::Regions::region))]
     pub fn part(self, work: &[u32], n: usize) -> &[u32]
         requires { (self.start + self.words ≤ work_for_word) × (n < 2 ^ 32) × (work_for_word * n ≤ length work.now) }
         ensures { result.now ≡ region work.now n self }

@@ -45,6 +45,7 @@ pub fn seek(records: &[u32], slots: &[u32], n: usize, x: u64) -> Result<usize, u
 }
 
 // The slots of an index of n rows.
+#[tactic(auto, unfolding(index::specs::Probing::slots_for))]
 pub fn slots_for(n: usize) -> usize
     requires { n < 2 ^ 31 }
     ensures { result ≡ slots_for n }

@@ -23,6 +23,7 @@ pub struct InProgress {
 }
 
 impl Skipped {
+    #[tactic(auto, unfolding(package::specs::Filing::of_kind))]
     fn count_one(&mut self, agrees: bool)
         requires { (self.old.repeats < 2 ^ 32) × (self.old.namesakes < 2 ^ 32) }
         ensures { self.new ≡ counted_one self.old agrees }

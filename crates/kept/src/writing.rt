@@ -40,7 +40,40 @@ impl Figures {
     }
 }
 
+// Which numbers the slots of an index have: the identities of all, and behind them their row numbers.
+#[derive(Clone, Copy)]
+enum SlotNumbers {
+    Identities,
+    Rows,
+}
+
+impl SlotNumbers {
+    // The one that a slot names by the number of a record, 0 where it is unused.
+    #[tactic(auto, unfolding(crate::specs::Indexed::slot_number))]
+    fn of(self, records: &[u32], number: usize) -> u64
+        requires { record_words * number ≤ length records.now }
+        ensures { result ≡ slot_number self records.now number }
+    {
+        match self {
+            SlotNumbers::Identities => crate::records::identity_for(records, number),
+            SlotNumbers::Rows => crate::records::row_for(records, number) as u64,
+        }
+    }
+
+    // How many bytes it takes.
+    #[tactic(auto, unfolding(crate::specs::Indexed::slot_width))]
+    fn width(self) -> usize
+        ensures { (result ≡ slot_width self) × (result ≤ 8) }
+    {
+        match self {
+            SlotNumbers::Identities => 8,
+            SlotNumbers::Rows => 4,
+        }
+    }
+}
+
 // ---- pieces of it
+#[tactic(auto, using(crate::proofs::Pieces::three_written))]
 fn put_three(big: bool, first: usize, second: usize, third: usize, out: &mut [u8], at: usize)
     requires { at + 12 ≤ length out.old }
     ensures { out.new ≡ placed out.old at (numbers_of big 4 (first ∷ second ∷ third ∷ [])) }
@@ -50,28 +83,8 @@ fn put_three(big: bool, first: usize, second: usize, third: usize, out: &mut [u8
     octets::put_number(big, 4, third as u64, out, at + 8);
 }
 
-// The identity or the row number that a slot names, 0 where it is unused.
-#[tactic(auto, unfolding(crate::specs::Indexed::slot_number))]
-fn slot_number(identities: bool, records: &[u32], number: usize) -> u64
-    requires { record_words * number ≤ length records.now }
-    ensures { result ≡ slot_number identities records.now number }
-{
-    if identities {
-        crate::records::identity_for(records, number)
-    } else {
-        crate::records::row_for(records, number) as u64
-    }
-}
-
-// How many bytes it takes.
-#[tactic(auto, unfolding(crate::specs::Indexed::slot_width))]
-fn slot_width(identities: bool) -> usize
-    ensures { (result ≡ slot_width identities) × (result ≤ 8) }
-{
-    if identities { 8 } else { 4 }
-}
-
 // Stores a number where its column is there; the place behind it.
+#[tactic(auto, using(octets::proofs::Tables::numbers_of_one, octets::proofs::Placed::placed_none), unfolding(crate::specs::Columns::numbers_if, octets::specs::Octets::numbers_of))]
 fn put_if(there: bool, big: bool, n: usize, out: &mut [u8], at: usize) -> usize
     requires { at + 4 * length (numbers_if there n) ≤ length out.old }
     ensures out { out.new ≡ placed out.old at (numbers_of big 4 (numbers_if there n)) }
@@ -87,6 +100,7 @@ fn put_if(there: bool, big: bool, n: usize, out: &mut [u8], at: usize) -> usize
 // Out and a place in it stay two parameters, as octets has them for whatever is put: a struct of both would be made anew for each piece.
 impl IndexForm {
     // ---- the head
+    #[tactic(auto, using(crate::proofs::Pieces::start_five, crate::proofs::Pieces::start_four))]
     fn put_start(self, out: &mut [u8], at: usize)
         requires { at + 4 ≤ length out.old }
         ensures { out.new ≡ placed out.old at (start_bytes self.big (version_for self.five)) }
@@ -111,20 +125,20 @@ impl IndexForm {
     // One number for each slot. The caller has slots of n records that are stored.
     fn put_slots(
         self,
-        identities: bool,
+        numbers: SlotNumbers,
         records: &[u32],
         n: usize,
         slots: &[u32],
         out: &mut [u8],
         at: usize,
     )
-        requires { Within slots.now n × (record_words * n ≤ length records.now) × (at + slot_width identities * length slots.now ≤ length out.old) }
-        ensures { out.new ≡ placed out.old at (numbers_of self.big (slot_width identities) (map (slot_number identities records.now) slots.now)) }
+        requires { Within slots.now n × (record_words * n ≤ length records.now) × (at + slot_width numbers * length slots.now ≤ length out.old) }
+        ensures { out.new ≡ placed out.old at (numbers_of self.big (slot_width numbers) (map (slot_number numbers records.now) slots.now)) }
     {
-        let width = slot_width(identities);
+        let width = numbers.width();
         let mut o = at;
         for slot in slots {
-            let x = slot_number(identities, records, *slot as usize);
+            let x = numbers.of(records, *slot as usize);
             octets::put_number(self.big, width, x, out, o);
             o += width;
         }
@@ -201,8 +215,8 @@ impl IndexForm {
     {
         let rows = at + 16 + 8 * slots.len();
         self.put_head(columns, slots.len(), out, at);
-        self.put_slots(true, records, n, slots, out, at + 16);
-        self.put_slots(false, records, n, slots, out, rows);
+        self.put_slots(SlotNumbers::Identities, records, n, slots, out, at + 16);
+        self.put_slots(SlotNumbers::Rows, records, n, slots, out, rows);
     }
 
     // The caller keeps room for it, and has placed the records of the table, among n that are stored.

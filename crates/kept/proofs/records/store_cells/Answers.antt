@@ -1,11 +1,9 @@
 -- `kept::records::store_cells` meets its contract: what is left is still to be stored.
 -- Assumes nothing.
 use mathlib.Core.Path.{refl, ap}
-use Prim.Native.Nat.{◌<◌}
 use native.Mathlib.Omega.{arith}
 use Rattle.index.specs.declared.cells.Contribution.{Contribution}
 use Rattle.kept.specs.Records.{cells_of}
-use Rattle.kept.proofs.Columning.{section_lt}
 use Rattle.kept.proofs.Recording.{cells_room}
 use Rattle.kept.proofs.Copying.{copying_start, copying_end, copying_more, cells_one, cells_none, two_words}
 use Rattle.kept.proofs.records.store_cells.Goals as goal
@@ -13,27 +11,6 @@ use Rattle.kept.proofs.records.store_cells.Goals as goal
 pub loop-k-init : goal.loop-k-init
 unfolding cells_of
 loop-k-init c = copying_start _ _ _ _ _ (omega arith) refl
-
-pub bounds-cells-section_at : goal.bounds-cells-section_at
-bounds-cells-section_at c = rw c.section_at.ensures (section_lt _ _ (omega arith))
-
-pub offset_bounds-cells-section_at : goal.offset_bounds-cells-section_at
-offset_bounds-cells-section_at c = let h : c.section_at.result < 14 = rw c.section_at.ensures (section_lt _ _ (omega arith)) in omega (arith, h)
-
-pub overflow_add-at : goal.overflow_add-at
-overflow_add-at c = omega (arith, c.loop-k.invariant.same, c.requires.0)
-
-pub set_word-requires : goal.set_word-requires
-set_word-requires c = (omega (arith, c.loop-k.invariant.same, c.requires.0), rw c.unwrap_or-part.ensures (c.requires.1.offset _))
-
-pub overflow_add-at-in-loop-k : goal.overflow_add-at-in-loop-k
-overflow_add-at-in-loop-k c = omega (arith, c.loop-k.invariant.same, c.requires.0)
-
-pub overflow_add-at-in-loop-k-2 : goal.overflow_add-at-in-loop-k-2
-overflow_add-at-in-loop-k-2 c = omega (arith, c.loop-k.invariant.same, c.requires.0)
-
-pub set_word-requires-in-loop-k : goal.set_word-requires-in-loop-k
-set_word-requires-in-loop-k c = (omega (arith, c.loop-k.invariant.same, c.requires.0), rw c.unwrap_or-part.ensures (c.requires.1.size _))
 
 pub loop-k-preserved : goal.loop-k-preserved
 loop-k-preserved c = copying_more c.loop-k.invariant (cells_room _ _ _ _ c.requires.0) _ _ (cells_one _ _ _ _ _ _ c.loop-k-test.true c.section_at.ensures (ap (λ (z : Contribution). z.offset) c.unwrap_or-part.ensures) (ap (λ (z : Contribution). z.size) c.unwrap_or-part.ensures)) _ _ (two_words _ _ _ _ _ _ (omega (arith, c.loop-k.invariant.same, c.requires.0)) c.set_word.ensures refl c.set_word-in-loop-k.ensures) (omega arith)

@@ -1,16 +1,9 @@
 -- `kept::slots::place_units` meets its contract.
 -- Assumes nothing.
 use mathlib.Core.Path.{refl}
-use native.Mathlib.Omega.{arith}
 use Rattle.octets.specs.Octets.{zeros}
 use Rattle.kept.proofs.Placing.{slots_start, slots_end, cleared_slots, placed_over}
 use Rattle.kept.proofs.slots.place_units.Goals as goal
-
-pub overflow_add-to : goal.overflow_add-to
-overflow_add-to c = omega (arith, slots_end _ c.args.work.now _ _ _ c.requires _ (slots_start _ _ _ _ c.slots.ensures.is c.of-slots.ensures.start), c.ranges, c.well_formed)
-
-pub offset_bounds-work-from : goal.offset_bounds-work-from
-offset_bounds-work-from c = omega (arith, slots_end _ c.args.work.now _ _ _ c.requires _ (slots_start _ _ _ _ c.slots.ensures.is c.of-slots.ensures.start))
 
 pub slice_bounds-fill-end : goal.slice_bounds-fill-end
 slice_bounds-fill-end c = slots_end _ c.args.work.now _ _ _ c.requires _ (slots_start _ _ _ _ c.slots.ensures.is c.of-slots.ensures.start)

@@ -3,26 +3,14 @@
 use mathlib.Core.Path.{refl}
 use native.Mathlib.Omega.{arith}
 use Rattle.index.proofs.Masks.{stride_le}
-use Rattle.kept.proofs.Seeking.{seek_start, seek_last, seek_free, seek_known, seek_on, number_fits}
+use Rattle.kept.proofs.Seeking.{seek_start, seek_last, seek_free, seek_known, seek_on}
 use Rattle.kept.proofs.slots.seek.Goals as goal
-
-pub stride-by-requires : goal.stride-by-requires
-stride-by-requires c = c.requires.0
-
-pub first_slot-at-requires : goal.first_slot-at-requires
-first_slot-at-requires c = c.requires.0
 
 pub loop-looks-init : goal.loop-looks-init
 loop-looks-init c = seek_start _ _ _ _ _ c.requires.0 c.first_slot-at.ensures c.stride-by.ensures
 
-pub bounds-slots-at : goal.bounds-slots-at
-bounds-slots-at c = c.loop-looks.invariant.inside
-
 pub returns-then-number-eq0 : goal.returns-then-number-eq0
 returns-then-number-eq0 c = seek_free c.loop-looks.invariant c.loop-looks-test.true refl c.if-number-eq0.true
-
-pub identity_for-requires : goal.identity_for-requires
-identity_for-requires c = number_fits _ _ c.requires.1 c.requires.2 refl
 
 pub returns-then-identity_for-x : goal.returns-then-identity_for-x
 returns-then-identity_for-x c = seek_known c.loop-looks.invariant c.loop-looks-test.true refl c.if-number-eq0.false c.identity_for.ensures c.if-identity_for-x.true

@@ -1,13 +1,8 @@
 -- `kept::unit_bytes::copy_units` meets its contract: records that are left are still to be copied.
 -- Assumes nothing.
-use mathlib.Core.Path.{refl}
 use native.Mathlib.Omega.{arith}
-use native.Mathlib.Nat.{sub-zero}
-use Rattle.kept.proofs.Copying.{copying_start, copying_end, bytes_room, bytes_more, bytes_end}
+use Rattle.kept.proofs.Copying.{copying_end, bytes_room, bytes_more, bytes_end}
 use Rattle.kept.proofs.unit_bytes.copy_units.Goals as goal
-
-pub loop-i-init : goal.loop-i-init
-loop-i-init c = copying_start _ _ _ _ _ refl (rw sub-zero)
 
 pub copy_unit-o-requires : goal.copy_unit-o-requires
 copy_unit-o-requires c = (omega (arith, c.requires.0), record { is = λ j h. c.requires.1.is j (omega arith) }, bytes_room _ _ _ _ _ c.loop-i.invariant c.requires.2 c.loop-i-test.true)

@@ -1,11 +1,8 @@
 -- `kept::writing::put_cells` meets its contract: numbers that are left are still to be put.
 -- Assumes nothing.
 use mathlib.Core.Path.{refl}
-use Rattle.kept.proofs.Numbering.{writing_start, writing_end, cells_from_law, cells_end, cells_room, cells_more}
+use Rattle.kept.proofs.Numbering.{writing_end, cells_end, cells_room, cells_more}
 use Rattle.kept.proofs.writing.IndexForm.put_cells.Goals as goal
-
-pub loop-k-init : goal.loop-k-init
-loop-k-init c = writing_start _ _ _ _ (cells_from_law _ _ _ _ _ c.column_count-k-end.ensures.is) c.requires.1
 
 pub put_if-o-requires : goal.put_if-o-requires
 put_if-o-requires c = cells_room _ _ _ _ _ _ c.loop-k.invariant c.loop-k-test.true refl

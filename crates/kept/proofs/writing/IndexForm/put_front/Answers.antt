@@ -6,21 +6,6 @@ use Rattle.kept.specs.Indexed.{slot_width}
 use Rattle.kept.proofs.Pieces.{front_written}
 use Rattle.kept.proofs.writing.IndexForm.put_front.Goals as goal
 
-pub overflow_add-rows : goal.overflow_add-rows
-overflow_add-rows c = omega (arith, c.requires.2, c.ranges, c.well_formed)
-
-pub overflow_mul-rows : goal.overflow_mul-rows
-overflow_mul-rows c = omega (arith, c.requires.2, c.ranges, c.well_formed)
-
-pub overflow_add-rows-2 : goal.overflow_add-rows-2
-overflow_add-rows-2 c = omega (arith, c.requires.2, c.ranges, c.well_formed)
-
-pub put_head-requires : goal.put_head-requires
-put_head-requires c = omega (arith, c.requires.2)
-
-pub overflow_add-at : goal.overflow_add-at
-overflow_add-at c = omega (arith, c.requires.2, c.ranges, c.well_formed)
-
 pub put_slots-requires : goal.put_slots-requires
 unfolding slot_width
 put_slots-requires c = (c.requires.0, c.requires.1, omega (arith, c.requires.2))

@@ -1,13 +1,9 @@
 -- `kept::writing::put_grid` meets its contract: records that are left are still to be put.
 -- Assumes nothing.
 use native.Mathlib.Omega.{arith}
-use native.Mathlib.Nat.{sub-zero}
-use Rattle.kept.proofs.Numbering.{writing_start, writing_end}
+use Rattle.kept.proofs.Numbering.{writing_end}
 use Rattle.kept.proofs.Pieces.{grid_room, grid_more, grid_end}
 use Rattle.kept.proofs.writing.IndexForm.put_grid.Goals as goal
-
-pub loop-i-init : goal.loop-i-init
-loop-i-init c = writing_start _ _ _ _ (rw sub-zero) c.requires.1
 
 pub put_row-o-requires : goal.put_row-o-requires
 put_row-o-requires c = (omega (arith, c.requires.0), grid_room _ _ _ _ _ c.loop-i.invariant c.loop-i-test.true)

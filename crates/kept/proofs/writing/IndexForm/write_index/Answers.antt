@@ -15,9 +15,6 @@ room : (a : Start)
     + 4 * length (grid_from a.args.self a.args.records.now 1 0 a.args.n) ≤ length a.args.out.now
 room a = piece_room a.args.self a.args.records.now a.args.n a.args.slots.now 0 a.args.at (length a.args.out.now) a.requires.2
 
-pub overflow_add-codes : goal.overflow_add-codes
-overflow_add-codes c = omega (arith, room (goal.at.overflow_add-codes c).Start, c.ranges, c.well_formed)
-
 pub overflow_mul-codes : goal.overflow_mul-codes
 overflow_mul-codes c = omega (arith, room (goal.at.overflow_mul-codes c).Start, c.ranges, c.well_formed)
 
