@@ -7,7 +7,6 @@ use Prim.Native.Nat.{ℕ}
 use Rattle.std.specs.Prelude.{Result, Err}
 use lib.ListN.{length}
 use Rattle.numbers.specs.Limits.{small_work}
-use Rattle.numbers.specs.Refused.{number_of}
 use Rattle.numbers.specs.declared.refusals.Refusal.TheVariants.{BadLength}
 use Rattle.octets.specs.Octets.{zeros}
 use Rattle.octets.proofs.Placed.{length_zeros}

@@ -1,6 +1,6 @@
 -- Each way out is the definition's answer (`Outcomes`).
 -- Assumes nothing.
-use mathlib.Core.Path.{◌≡◌, refl, sym, ap, ◌∙◌}
+use mathlib.Core.Path.{◌≡◌, refl, sym, ◌∙◌}
 use mathlib.Core.Bool.{true}
 use Prim.Native.Nat.{◌/◌}
 use native.Mathlib.Omega.{arith}

@@ -1,6 +1,5 @@
 -- The answer without the counts.
 -- Assumes nothing.
-use mathlib.Core.Path.{◌∙◌, ap}
 use Rattle.packer.proofs.Counted.{made_alone, none_exit}
 use Rattle.packer.proofs.pack_small.Goals as goal
 

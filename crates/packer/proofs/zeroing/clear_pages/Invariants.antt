@@ -1,6 +1,5 @@
 -- `clear_pages` meets its contract. Invariant: the pages that were passed are zero.
 -- Assumes nothing.
-use mathlib.Core.Path.{◌≡◌}
 use Prim.Native.Nat.{◌*◌}
 use Rattle.packer.specs.Zeros.{ZeroFrom}
 use Rattle.packer.proofs.zeroing.clear_pages.Given as goal
