@@ -4,17 +4,21 @@ use mathlib.Core.Path.{◌≡◌, sym, ap, ◌∙◌}
 use mathlib.Core.Bool.{true, false}
 use mathlib.Core.List.{List}
 use Prim.Native.Nat.{ℕ}
+use Rattle.std.specs.Prelude.{Result, Err}
 use lib.ListN.{length}
 use Rattle.numbers.specs.Limits.{small_work}
+use Rattle.numbers.specs.declared.refusals.Refusal.TheVariants.{BadLength}
 use Rattle.octets.specs.Octets.{zeros}
 use Rattle.octets.proofs.Placed.{length_zeros}
 use Rattle.bundle.specs.Bundle.{length_good}
 use Rattle.package.specs.Pack.{Answer, refused, packed, counted}
-use Rattle.finish.specs.Finish.{finished_of, output_of}
-use Rattle.finish.specs.declared.whole.Finished.TheVariants.{Refused}
+use Rattle.answers.specs.Answers.{output_of}
+use Rattle.answers.specs.Outcome.{outcome_of}
+use Rattle.answers.specs.declared.Unwritten.{Unwritten}
+use Rattle.answers.specs.declared.Unwritten.TheVariants.{Refused}
 use Rattle.packer.specs.Small.{packed_small}
-use Rattle.packer.specs.Counted.{packing_of}
-use Rattle.packer.specs.declared.Packing.{Packing}
+use Rattle.packer.specs.Counted.{packing_of, packing_as}
+use Rattle.packer.specs.declared.Made.{Made}
 
 -- what is cleared is as long as it was
 pub cleared_length : (n : ℕ) (v : List ℕ) → v ≡ zeros n → length v ≡ n
@@ -24,9 +28,9 @@ pub cleared_again : (n : ℕ) (v : List ℕ) → v ≡ zeros n → v ≡ zeros (
 cleared_again n v e = e ∙ sym (ap zeros (cleared_length n v e))
 
 -- the answers are those for the length of the output before
-pub over_cleared : (b : List ℕ) (w o : ℕ) (d e : List ℕ) (r : Packing) → d ≡ zeros o
-    → r ≡ packing_of b (packed b w (length d)) → e ≡ output_of (packed b w (length d)) (length d)
-    → (r ≡ packing_of b (packed b w o)) × (e ≡ output_of (packed b w o) o)
+pub over_cleared : (b : List ℕ) (w o : ℕ) (d e : List ℕ) (r : Result Made Unwritten) → d ≡ zeros o
+    → packing_as r ≡ packing_of b (packed b w (length d)) → e ≡ output_of (packed b w (length d)) (length d)
+    → (packing_as r ≡ packing_of b (packed b w o)) × (e ≡ output_of (packed b w o) o)
 over_cleared b w o d e r g h k = (rw (cleared_length o d g) at h, rw (cleared_length o d g) at k)
 
 -- ---- the small packer
@@ -40,10 +44,10 @@ module _ (b : List ℕ) (o : ℕ) where
   small_is_packed e = rw (packed_small, e)
 
   module _ (d : List ℕ) where
-    pub small_refused : length_good 1_024 b ≡ false → d ≡ zeros o → (record { finished = Refused 1; repeats = 0; namesakes = 0 } ≡ packing_of b (packed_small b o)) × (d ≡ output_of (packed_small b o) o)
-    unfolding packing_of finished_of counted output_of
+    pub small_refused : length_good 1_024 b ≡ false → d ≡ zeros o → (packing_as (Err (Refused BadLength)) ≡ packing_of b (packed_small b o)) × (d ≡ output_of (packed_small b o) o)
+    unfolding packing_of outcome_of counted output_of
     small_refused e z = let p = sym (small_is_refused e) in (ap (packing_of b) p, z ∙ ap (λ (a : Answer). output_of a o) p)
 
-    pub small_packed : length_good 1_024 b ≡ true → (r : Packing) → r ≡ packing_of b (packed b small_work o) → d ≡ output_of (packed b small_work o) o
-        → (r ≡ packing_of b (packed_small b o)) × (d ≡ output_of (packed_small b o) o)
+    pub small_packed : length_good 1_024 b ≡ true → (r : Result Made Unwritten) → packing_as r ≡ packing_of b (packed b small_work o) → d ≡ output_of (packed b small_work o) o
+        → (packing_as r ≡ packing_of b (packed_small b o)) × (d ≡ output_of (packed_small b o) o)
     small_packed e r f g = let p = sym (small_is_packed e) in (f ∙ ap (packing_of b) p, g ∙ ap (λ (a : Answer). output_of a o) p)

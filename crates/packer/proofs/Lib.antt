@@ -8,5 +8,5 @@ pub mod Slots
 pub mod Start
 pub mod OverObjects
 pub mod Clearing
-pub mod Made
+pub mod Answered
 pub mod Zeros

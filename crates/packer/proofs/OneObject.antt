@@ -9,7 +9,7 @@ use lib.ListN.{length, drop, length-append}
 use Rattle.octets.specs.Lists.{joined}
 use Rattle.std.specs.Prelude.{Result, Ok, Err}
 use Rattle.numbers.specs.declared.refusals.Refusal.{Refusal}
-use Rattle.octets.specs.Checked.{pass, ◌>>=◌}
+use Rattle.octets.specs.Checked.{pass}
 use Rattle.octets.proofs.Parts.{length_part}
 use Rattle.bundle.specs.Bundle.{Part, Item, Object, items, leading, body}
 use Rattle.bundle.specs.Encoding.{Encoding, encoding_of}
@@ -28,7 +28,7 @@ use Rattle.strings.proofs.Ends.{length_strings_at}
 use Rattle.index.specs.Rows.{BySection}
 use Rattle.package.specs.Pieces.{Piece, used_in}
 use Rattle.package.specs.Input.{Input, unit_sections, input_of}
-use Rattle.package.specs.Filing.{Filed, units_in, grown}
+use Rattle.package.specs.Filing.{Filed, grown}
 use Rattle.package.specs.Pack.{all_used}
 use Rattle.package.proofs.Each.{each_head, each_tail}
 use Rattle.package.proofs.Pieces.{PieceFacts, PiecesFacts, bytes_of}

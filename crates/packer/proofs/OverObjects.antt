@@ -36,7 +36,7 @@ use Rattle.kept.specs.declared.state.InProgress.{InProgress}
 use Rattle.filing.specs.State.{words_in}
 use Rattle.filing.specs.ByObject.{AtObject}
 use Rattle.filing.proofs.OverSections.{held_later}
-use Rattle.packer.specs.Objects.{sections_from, behind_from, Ahead, object_units, ObjectFiled, HeadAsked, HeadAnswered, none_filed, Cleared, ObjectsAre}
+use Rattle.packer.specs.Objects.{sections_from, Ahead, object_units, ObjectFiled, HeadAsked, HeadAnswered, none_filed, Cleared, ObjectsAre}
 use Rattle.packer.specs.declared.objects.ObjectHead.{ObjectHead}
 use Rattle.filing.specs.Tells.{Tells}
 use Rattle.filing.proofs.Telling.{tells_pass, tells_refuse, tells_same}

@@ -2,12 +2,13 @@
 -- Assumes nothing.
 use mathlib.Core.Path.{◌≡◌, sym, ap, ◌∙◌}
 use mathlib.Core.List.{List}
-use Prim.Native.Nat.{ℕ, ◌+◌, ◌-◌, ◌≤◌}
+use Prim.Native.Nat.{ℕ, suc, ◌+◌, ◌-◌, ◌≤◌, ◌<◌}
 use native.Mathlib.Omega.{arith}
 use native.Mathlib.Decide.{dec_le}
 use lib.Bits.{bit_or, or_add_and, and_le_l, and_le_r}
 use lib.ListN.{length, get_or, take, drop, length-drop}
 use lib.Seq.{ext_get_or, length-take-le}
+use Rattle.std.proofs.lemmas.List.{get_or_past}
 use borrow.Rule.Slice.PartMut.{put_mid}
 use Rattle.octets.specs.Octets.{placed, zeros}
 use Rattle.octets.proofs.Placed.{length_placed, length_zeros, get_d_zeros}
@@ -36,6 +37,11 @@ zero_one s n all z e j h g =
 pub zero_all : (s : List ℕ) (n : ℕ) → n ≡ length s → ZeroFrom s 0 n → s ≡ zeros (length s)
 unfolding ZeroFrom
 zero_all s n e z = ext_get_or 0 s (zeros (length s)) (sym (length_zeros (length s))) (λ i h. z i (omega arith) (omega arith) ∙ sym (get_d_zeros (length s) i))
+
+-- fewer, or more where the words end before
+pub zero_up_to : (s : List ℕ) (n m : ℕ) → (n < m → length s ≤ n) → ZeroFrom s 0 n → ZeroFrom s 0 m
+unfolding ZeroFrom
+zero_up_to s n m past z j h g = elim (dec_le (suc j) n) [ yes l ↦ z j h (omega arith) | no l ↦ get_or_past s j 0 (omega (arith, past (omega arith))) ]
 
 -- a page that was lent and cleared, behind what is zero
 module _ (s : List ℕ) (at end : ℕ) (h : at ≤ end) (g : end ≤ length s) (x : List ℕ) (is : x ≡ zeros (length (take (end - at) (drop at s)))) where

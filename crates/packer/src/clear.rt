@@ -17,7 +17,7 @@ fn clear_table(n: usize, table: usize, work: &mut [u32])
     ensures { SlotsCleared n table work.old work.new }
 {
     let count = kept::slots::seen_slots(n);
-    let slots = kept::regions::slots(n, table);
+    let slots = kept::regions::slots(table).of(n);
     let from = slots.start;
     let to = from + count;
     crate::zeroing::clear_lent(&mut work[from..to]);
@@ -28,7 +28,7 @@ fn clear_roots(n: usize, work: &mut [u32])
     requires { Clearable n (length work.old) }
     ensures { RootsCleared n work.old work.new }
 {
-    let roots = kept::regions::roots(n);
+    let roots = kept::regions::ROOTS.of(n);
     let first = roots.start;
     let last = first + roots.size;
     crate::zeroing::clear_lent(&mut work[first..last]);

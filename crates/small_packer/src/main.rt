@@ -5,21 +5,25 @@
 ghost use Rattle.std.specs.Prelude.{◌≡◌, ◌<◌};
 ghost use Rattle.small_packer.specs.Lines.{digit_of, line_of};
 
-use finish::whole::Finished;
+use answers::Unwritten;
+use numbers::refusals::Refusal;
 use std::io;
 
 // The character of a digit, which callers have below 16.
+#[tactic(auto, unfolding(crate::specs::Lines::digit_of))]
 fn digit(d: u32) -> u8
     requires { d < 16 }
     ensures { result ≡ digit_of d }
 {
     if d < 10 {
-        return 48 + (d as u8);
+        b'0' + d as u8
+    } else {
+        b'A' - 10 + d as u8
     }
-    55 + (d as u8)
 }
 
-// A word as a line.
+// A word as a line. Its digits are made here, since its clause says which they are, and no clause says what `{:08X}` writes.
+#[tactic(auto, unfolding(crate::specs::Lines::line_of))]
 fn line(word: u32) -> [u8; 9]
     ensures { result ≡ line_of word }
 {
@@ -45,8 +49,8 @@ fn tell_package(rt: &impl Print, p: &[u8]) -> io::Result<()> {
     Ok(())
 }
 
-fn tell_refused(rt: &impl Print, number: u32) -> io::Result<()> {
-    println!(rt; "refused {number}")
+fn tell_refused(rt: &impl Print, refusal: Refusal) -> io::Result<()> {
+    println!(rt; "refused {}", refusal.number())
 }
 
 // One byte more than a bundle may have is enough to see that it has too many.
@@ -55,8 +59,8 @@ fn main(rt: HostRuntime) -> io::Result<()> {
     let got = terminal::read_full(&mut rt.stdin(), &mut input)?;
     let mut output = [0u8; 65536];
     match packer::pack_small(&input[..got], &mut output) {
-        Finished::Made(length) => tell_package(&rt, &output[..length]),
-        Finished::Short(_) => tell_refused(&rt, 18),
-        Finished::Refused(number) => tell_refused(&rt, number),
+        Ok(length) => tell_package(&rt, &output[..length]),
+        Err(Unwritten::Short(_)) => tell_refused(&rt, Refusal::OutputShort),
+        Err(Unwritten::Refused(refusal)) => tell_refused(&rt, refusal),
     }
 }

@@ -9,15 +9,20 @@
 // Of the last six host/kit/src/reference, which shares no code with this program, makes packages of these lengths, and the definitions give the same bytes.
 #![tactic(auto)]
 
-use finish::whole::Finished;
+use answers::Unwritten;
+use numbers::refusals::Refusal;
 use std::io;
+
+fn tell_refused(rt: &impl Print, refusal: Refusal) -> io::Result<()> {
+    println!(rt; "refused {}", refusal.number())
+}
 
 fn tell_bundle(rt: &impl Print, b: &[u8]) -> io::Result<()> {
     let mut output = [0u8; 65536];
     match packer::pack_small(b, &mut output) {
-        Finished::Made(length) => println!(rt; "packed {length}"),
-        Finished::Short(_) => println!(rt; "refused 18"),
-        Finished::Refused(number) => println!(rt; "refused {number}"),
+        Ok(length) => println!(rt; "packed {length}"),
+        Err(Unwritten::Short(_)) => tell_refused(rt, Refusal::OutputShort),
+        Err(Unwritten::Refused(refusal)) => tell_refused(rt, refusal),
     }
 }
 

@@ -31,3 +31,8 @@ loop-word-preserved c =
     let o = c.in-Ok-Object in
     far_more c.loop-word.invariant o.word o.from (sym (ap pass o.field-0-is) ∙ o.ensures) _ _ c.add_input_object.auto.work _ c.in_ok-at.ensures
 
+pub returns-in_default : goal.returns-in_default
+returns-in_default c k e = far_other c.loop-word.invariant _ (λ z. omega arith) c.in_default.ensures k e
+
+pub returns-in_default-2 : goal.returns-in_default-2
+returns-in_default-2 c k e = far_refusal c.loop-word.invariant _ (rw c.in_default.is at c.next_item.ensures) k e

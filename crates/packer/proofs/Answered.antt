@@ -8,30 +8,31 @@ use lib.ListN.{length, take, length-append}
 use lib.Seq.{take-append_seam}
 use Rattle.octets.specs.Octets.{padded, zeros}
 use Rattle.package.specs.Pack.{Answer, refused, short, made}
-use Rattle.finish.specs.Finish.{finished_of, output_of}
-use Rattle.finish.specs.declared.whole.Finished.TheVariants.{Refused, Short, Made}
+use Rattle.answers.specs.Answers.{output_of}
+use Rattle.answers.specs.Outcome as told
+use Rattle.answers.specs.Outcome.{outcome_of}
 
 -- ---- the three answers of packing
-pub made_is : (a : Answer) (n : ℕ) → Made n ≡ finished_of a → (p : List ℕ) × (a ≡ made p) × (n ≡ length p)
-unfolding finished_of
-made_is (refused m) n e = absurd (let z : ◌≡◌ {A = ℕ} 0 1 = cc in omega arith)
-made_is (short m) n e = absurd (let z : ◌≡◌ {A = ℕ} 0 1 = cc in omega arith)
+pub made_is : (a : Answer) (n : ℕ) → told.made n ≡ outcome_of a → (p : List ℕ) × (a ≡ made p) × (n ≡ length p)
+unfolding outcome_of
+made_is (refused m) n e = absurd (cc)
+made_is (short m) n e = absurd (cc)
 made_is (made p) n e = (p, refl, cc)
 
-pub short_is : (a : Answer) (n : ℕ) → Short n ≡ finished_of a → a ≡ short n
-unfolding finished_of
-short_is (refused m) n e = absurd (let z : ◌≡◌ {A = ℕ} 0 1 = cc in omega arith)
+pub short_is : (a : Answer) (n : ℕ) → told.short n ≡ outcome_of a → a ≡ short n
+unfolding outcome_of
+short_is (refused m) n e = absurd (cc)
 short_is (short m) n e = cc
-short_is (made p) n e = absurd (let z : ◌≡◌ {A = ℕ} 0 1 = cc in omega arith)
+short_is (made p) n e = absurd (cc)
 
-pub refused_is : (a : Answer) (n : ℕ) → Refused n ≡ finished_of a → a ≡ refused n
-unfolding finished_of
+pub refused_is : (a : Answer) (n : ℕ) → told.refused n ≡ outcome_of a → a ≡ refused n
+unfolding outcome_of
 refused_is (refused m) n e = cc
-refused_is (short m) n e = absurd (let z : ◌≡◌ {A = ℕ} 0 1 = cc in omega arith)
-refused_is (made p) n e = absurd (let z : ◌≡◌ {A = ℕ} 0 1 = cc in omega arith)
+refused_is (short m) n e = absurd (cc)
+refused_is (made p) n e = absurd (cc)
 
 -- ---- a package was made: the output starts with it
-module _ (a : Answer) (n o : ℕ) (out : List ℕ) (e : Made n ≡ finished_of a) (f : out ≡ output_of a o) where
+module _ (a : Answer) (n o : ℕ) (out : List ℕ) (e : told.made n ≡ outcome_of a) (f : out ≡ output_of a o) where
   abbrev pub it : (p : List ℕ) × (a ≡ made p) × (n ≡ length p)
   it = made_is a n e
 

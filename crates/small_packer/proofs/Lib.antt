@@ -1,3 +1,0 @@
--- The small packer's program.
--- Assumes nothing.
-pub mod Digits
