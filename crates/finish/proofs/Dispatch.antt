@@ -21,8 +21,9 @@ use Rattle.kept.proofs.RegionStores.{length_region, records_within}
 use Rattle.kept.specs.Records.{bytes_from, UnitsInside}
 use Rattle.kept.specs.Held.{OneOrTwo}
 use Rattle.kept.specs.declared.state.InProgress.{InProgress}
-use Rattle.finish.specs.Joining.{sections_joined, offsets_joined, Joinable, OffsetsJoinable, OffsetsPut}
-use Rattle.finish.proofs.Remapping.{length_offsets}
+use Rattle.finish.specs.Joining.{sections_joined}
+use Rattle.finish.proofs.JoinedObjects.{read_once}
+use Rattle.finish.proofs.Remapping.{Sharable, shared_long}
 use Rattle.finish.specs.Ready.{form_of, words_of, IndexHeld, IndexWritable, Ready, SectionWritable}
 use Rattle.finish.specs.declared.writing.Package.{Package}
 
@@ -53,17 +54,6 @@ module _ (code : ℕ) (p : Package) (n at : ℕ) (r : SectionWritable code p n a
     omega (arith, r.room, ap length (r.ready.units_are code (first_codes code r.least z))),
   )
 
-  pub offsets_asks : (cut : List ℕ) → cut ≡ region w (length b / 4) strings_region → code ≡ 6 → OffsetsJoinable (encoding_is p.encoding) b cut n at
-  unfolding offsets_joined
-  offsets_asks cut q z = record {
-    bundle = r.ready.bundle;
-    reads = r.ready.reads;
-    used = r.ready.used;
-    good = r.ready.good;
-    places = rw q (r.ready.kept.places r.ready.small);
-    room = omega (arith, fits 6 z, ap length r.ready.offsets_is, length_offsets (encoding_is p.encoding) (first_uses r.ready.used) b (sound p.encoding) r.ready.bundle.objects r.ready.used r.ready.good);
-  }
-
   pub str_asks : (cut : List ℕ) → cut ≡ region w (length b / 4) strings_region → code ≡ 11
       → (ts : List (List ℕ)) × kept.Held b cut p.state.strings.count ts × (at + length (str_of ts) ≤ n)
   str_asks cut q z = (first_uses r.ready.used, rw q (r.ready.kept.held r.ready.small), omega (arith, fits 11 z, ap length r.ready.str_is))
@@ -74,28 +64,12 @@ module _ (code : ℕ) (p : Package) (n at : ℕ) (r : SectionWritable code p n a
   pub tu_asks : code ≡ 13 → IndexWritable (form_of p.encoding type_table p.state.units.tu) (length b / 4) p.state.units.count w n at
   tu_asks z = record { bytes = r.sections 13; held = r.ready.tu; room = fits 13 z }
 
-  module _ (n2 : 2 < code) (n6 : code ≡ 6 → ⊥) (low : code ≤ 10) where
-    pub shared_asks : Joinable b code n at
-    shared_asks = record {
-      bundle = r.ready.bundle;
-      reads = r.ready.reads;
-      known = r.most;
-      room = omega (arith, r.room, ap length (r.ready.shared code (omega arith) low n6));
-    }
-
-    pub shared_leaves : (s : ℕ → List ℕ) → Ready p.encoding b p.state w s → (d x : List ℕ)
-        → ((k : Bundle) → bundle_of b ≡ pass k → x ≡ placed d at (sections_joined b k.objects code)) → x ≡ placed d at (s code)
-    shared_leaves s y d x f = f y.bundle y.reads ∙ ap (placed d at) (sym (y.shared code (omega arith) low n6))
-
 -- ---- what each one leaves, for any sections that are ready
 module _ (e : ObjectEncoding) (b : List ℕ) (st : InProgress) (w : List ℕ) (s : ℕ → List ℕ) (r : Ready e b st w s) (code : ℕ) (d x : List ℕ) (at : ℕ) where
   pub units_leaves : (cut : List ℕ) → cut ≡ region w (length b / 4) records_region → 1 ≤ code → code ≤ 2
       → x ≡ placed d at (bytes_from b cut code 0 st.units.count) → x ≡ placed d at (s code)
   units_leaves cut q l z f =
       f ∙ ap (placed d at) (ap (λ (y : List ℕ). bytes_from b y code 0 st.units.count) q ∙ sym (r.units_are code (first_codes code l z)))
-
-  pub offsets_leaves : (cut : List ℕ) → cut ≡ region w (length b / 4) strings_region → code ≡ 6 → OffsetsPut (encoding_is e) b cut at d x → x ≡ placed d at (s code)
-  offsets_leaves cut q z f = f r.bundle r.used r.reads r.good (rw q (r.kept.places r.small)) ∙ ap (placed d at) (sym r.offsets_is ∙ ap s (sym z))
 
   pub str_leaves : (cut : List ℕ) → cut ≡ region w (length b / 4) strings_region → code ≡ 11
       → ((ts : List (List ℕ)) → kept.Held b cut st.strings.count ts → x ≡ placed d at (str_of ts)) → x ≡ placed d at (s code)
@@ -106,3 +80,23 @@ module _ (e : ObjectEncoding) (b : List ℕ) (st : InProgress) (w : List ℕ) (s
 
   pub tu_leaves : code ≡ 13 → ((y : List ℕ) → IndexHeld (form_of e type_table st.units.tu) (length b / 4) st.units.count w y → x ≡ placed d at y) → x ≡ placed d at (s code)
   tu_leaves z g = g (s 13) r.tu ∙ ap (placed d at) (ap s (sym z))
+
+-- ---- the shared sections: those of ready sections can be written in any way that they are ready
+module _ (e : ObjectEncoding) (b : List ℕ) (st : InProgress) (w : List ℕ) (s : ℕ → List ℕ) (r : Ready e b st w s) (code : ℕ) (least : 3 ≤ code) (most : code ≤ 10) where
+  abbrev pub shared_sharable : (cut : List ℕ) → cut ≡ region w (length b / 4) strings_region → (n at : ℕ) → at + length (s code) ≤ n → Sharable (encoding_is e) b cut code n at
+  shared_sharable cut q n at room = record {
+    bundle = r.bundle;
+    reads = r.reads;
+    used = r.used;
+    good = r.good;
+    places = rw q (r.kept.places r.small);
+    known = omega arith;
+    room = omega (arith, ap length (r.shared code least most), shared_long (encoding_is e) (first_uses r.used) b code (sound e) r.bundle.objects r.used r.good);
+  }
+
+  -- as long in each of them
+  pub shared_same : (t : ℕ → List ℕ) → Ready e b st w t → length (s code) ≡ length (t code)
+  shared_same t y =
+      let objects = ap (λ (k : Bundle). length (sections_joined b k.objects code)) (read_once b y.bundle r.bundle y.reads r.reads) in
+      ap length (r.shared code least most) ∙ shared_long (encoding_is e) (first_uses r.used) b code (sound e) r.bundle.objects r.used r.good ∙ objects
+      ∙ sym (ap length (y.shared code least most) ∙ shared_long (encoding_is e) (first_uses y.used) b code (sound e) y.bundle.objects y.used y.good)

@@ -6,6 +6,7 @@ use mathlib.Core.Bool.{Bool, true, false}
 use mathlib.Core.List.{List, [], ◌∷◌, ◌++◌, map}
 use Prim.Native.Nat.{ℕ, ◌*◌, ◌/◌, ◌%◌, ◌<◌, ◌≤◌}
 use native.Mathlib.Omega.{arith}
+use native.Mathlib.Decide.{ℕ_discrete}
 use lib.Dec.{eqb, leb}
 use lib.ListN.{length}
 use borrow.Author.Tests.{ne_eqb, eq-eqb, ltb-true}
@@ -28,7 +29,8 @@ use Rattle.package.proofs.Filing.{FilingFacts, filing_facts}
 use Rattle.package.proofs.Kept.{distinct_kept, kept_le}
 use Rattle.package.proofs.Tables.{rows_named}
 use Rattle.package.proofs.UnitStrings.{good_versions}
-use Rattle.finish.specs.Joining.{sections_joined, offsets_joined, remapped_in, EntriesGood, UsedBy}
+use Rattle.finish.specs.Joining.{sections_joined, shared_joined, given, remapped_in, EntriesGood, UsedBy}
+use Rattle.finish.proofs.Remapping.{shared_copied}
 use Rattle.finish.proofs.Cutting.{input_good, input_remapped}
 use Rattle.finish.specs.Sections.{sections_from, sections_by, not_empty}
 use Rattle.numbers.specs.Tables.{compilation_table, type_table}
@@ -89,8 +91,8 @@ matched_used b e (o ∷ os) (i ∷ is) (more p m) =
     (used_in i.pieces, all_used is, refl, good, matched_used b e os is m)
 
 matched_offsets : (b : List ℕ) (e : Encoding) (table : List (List ℕ)) (os : List Object) (is : List Input) → Matched b e os is
-    → shared_bytes table is 6 ≡ offsets_joined e table b os
-unfolding shared_bytes offsets_joined joined
+    → shared_bytes table is 6 ≡ shared_joined e table b os 6
+unfolding shared_bytes shared_joined given joined
 matched_offsets b e table [] (i ∷ is) x'' = elim x'' [ ]
 matched_offsets b e table (o ∷ os) [] x3 = elim x3 [ ]
 matched_offsets b e table [] [] none = refl
@@ -98,6 +100,14 @@ matched_offsets b e table (o ∷ os) (i ∷ is) (more p m) =
     let one : remapped_all i.encoding table i.pieces ≡ remapped_in e table (body b o.parts 6) (body b o.parts 11) =
     ap (λ (d : Encoding). remapped_all d table i.pieces) p.facts.encoded ∙ input_remapped e table i p.facts ∙ ap₂ (remapped_in e table) (p.bytes 6) (p.bytes 11) in
     ap₂ (λ (x y : List ℕ). x ++ y) one (matched_offsets b e table os is m)
+
+matched_shared : (b : List ℕ) (e : Encoding) (table : List (List ℕ)) (os : List Object) (is : List Input) → Matched b e os is → (c : ℕ)
+    → shared_bytes table is c ≡ shared_joined e table b os c
+unfolding sections_joined
+matched_shared b e table os is m c = elim (ℕ_discrete c 6) [
+  | yes z ↦ rw z (matched_offsets b e table os is m)
+  | no f ↦ shared_other table is c f ∙ matched_joined b e os is m c ∙ sym (shared_copied e table b c f os)
+]
 
 -- ---- rows
 rows_distinct : (us : List Filed) (t : ℕ) → distinct (identities_of (rows_of (kept us) t)) ≡ true
@@ -242,13 +252,12 @@ module _ (big : Bool) (b : List ℕ) (st : InProgress) (w : List ℕ) (a : AllFi
           info_many = held.many 1 (inl refl);
           types_many = held.many 2 (inr refl);
           based = λ c h g. a.held.based c (omega arith) ∙ a.based c h g ∙ ap length (matched_joined b E a.bundle.objects a.filing.inputs matched c);
-          shared = λ c h g f. shared_section a.filing cu tu c h g ∙ shared_other (string_table a.filing.inputs) a.filing.inputs c f ∙ matched_joined b E a.bundle.objects a.filing.inputs matched c;
+          shared = λ c h g. shared_section a.filing cu tu c h g ∙ rw encoding (matched_shared b E (string_table a.filing.inputs) a.bundle.objects a.filing.inputs matched c);
           used = all_used a.filing.inputs;
           kept = rw (p.others strings_region (slots_strings compilation_table) (slots_strings type_table)) a.strings;
           small = small;
           str_is = refl;
           good = rw encoding (matched_used b E a.bundle.objects a.filing.inputs matched);
-          offsets_is = rw encoding (matched_offsets b E (string_table a.filing.inputs) a.bundle.objects a.filing.inputs matched);
           cu = cu_held;
           tu = tu_held;
         }

@@ -14,8 +14,6 @@ use Rattle.octets.proofs.Parts.{length_part, part_cut}
 use Rattle.bundle.specs.Bundle.{Object, Bundle, bundle_of, objects_of, body}
 use Rattle.bundle.specs.declared.Scan.{Scan}
 use Rattle.bundle.proofs.Objects.{Objects, objects_none}
-use Rattle.finish.specs.Joining.{sections_joined, Joinable}
-use Rattle.finish.proofs.Entering.{AtObject, scanned_body}
 
 -- f says what an object gives
 pub record Joining (f : Object → List ℕ) (b : List ℕ) (all : List Object) (d₀ d : List ℕ) (at o place : ℕ) : Type 0 where
@@ -73,29 +71,3 @@ module _ (f : Object → List ℕ) (b : List ℕ) (all : List Object) (d₀ d : 
 -- a bundle is read in one way
 pub read_once : (b : List ℕ) (u k : Bundle) → bundle_of b ≡ pass u → bundle_of b ≡ pass k → k ≡ u
 read_once b u k e f = cc
-
--- a turn of a loop that copies the sections of a code
-module _ (b : List ℕ) (code at : ℕ) (d₀ d : List ℕ) (o place next : ℕ) (scan : Scan) (a : Joinable b code (length d₀) at)
-    (j : Joining (λ x. body b x.parts code) b a.bundle.objects d₀ d at o place) (s : AtObject b place next scan j.done a.bundle.objects) where
-  size_is : length (body b s.one.parts code) ≡ get_or scan.size code 0
-  size_is =
-      let h = a.known in
-      let l : get_or scan.start code 0 + get_or scan.size code 0 ≤ length b = omega (arith, s.start code h, s.size code h, s.lies code) in
-      ap length (sym (scanned_body b place next scan j.done a.bundle.objects s code h)) ∙ length_part b (get_or scan.start code 0) (get_or scan.size code 0) l
-
-  pub section_within : get_or scan.start code 0 + get_or scan.size code 0 ≤ length b
-  section_within = omega (arith, s.start code a.known, s.size code a.known, s.lies code)
-
-  pub section_room : o + get_or scan.size code 0 ≤ length d
-  unfolding sections_joined
-  section_room =
-      omega (arith, size_is, joining_room (λ x. body b x.parts code) b a.bundle.objects d₀ d at o place j a.room scan.next s.one s.more)
-
-  pub section_joined : (x : List ℕ)
-      → x ≡ placed d o (take (get_or scan.start code 0 + get_or scan.size code 0 - get_or scan.start code 0) (drop (get_or scan.start code 0) b))
-      → Joining (λ x. body b x.parts code) b a.bundle.objects d₀ x at (o + get_or scan.size code 0) scan.next
-  unfolding sections_joined
-  section_joined x e =
-      joining_more (λ x. body b x.parts code) b a.bundle.objects d₀ d at o place j a.room scan.next s.one s.more x (get_or scan.size code 0)
-      (e ∙ ap (placed d o) (part_cut b (get_or scan.start code 0) (get_or scan.size code 0) ∙ scanned_body b place next scan j.done a.bundle.objects s code a.known))
-      (sym size_is)

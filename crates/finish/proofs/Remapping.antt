@@ -1,9 +1,11 @@
--- str_offsets sections with the places of their strings, one behind the other: those of an object stand behind those of the objects before it.
+-- The shared sections of objects, one behind the other. Of str_offsets the places of the strings of an object stand behind those of the objects before it.
 -- Assumes nothing.
 use mathlib.Core.Path.{◌≡◌, refl, sym, ap, ap₂, ◌∙◌, subst}
 use mathlib.Core.List.{List, [], ◌∷◌, ◌++◌, map, append_assoc}
-use Prim.Native.Nat.{ℕ, ◌+◌, ◌-◌, ◌≤◌}
+use Prim.Native.Nat.{ℕ, ◌+◌, ◌-◌, ◌<◌, ◌≤◌}
 use native.Mathlib.Omega.{arith}
+use native.Mathlib.Decide.{ℕ_discrete}
+use borrow.Author.Tests.{eq-eqb, ne_eqb}
 use lib.ListN.{length, take, drop, get_or, length-append, length-drop}
 use Rattle.octets.specs.Octets.{placed}
 use Rattle.octets.specs.Lists.{joined}
@@ -15,11 +17,11 @@ use Rattle.bundle.specs.Encoded.{encoding_is}
 use Rattle.bundle.specs.declared.encoding.ObjectEncoding.{ObjectEncoding}
 use Rattle.bundle.specs.declared.Scan.{Scan}
 use Rattle.strings.specs.Strings.{first_uses, offset_in}
-use Rattle.strings.specs.Kept.{places_from}
+use Rattle.strings.specs.Kept.{places_from, places_in, places_of}
 use Rattle.strings.specs.Headed.{Headed, entries_all, pieces_with, PiecesWritable, PiecesWritten}
 use Rattle.strings.proofs.StrOffsets.{Sound, sound}
 use Rattle.strings.proofs.HeadedWriting.{entries_all_used, pieces_with_more, places_within, places_behind}
-use Rattle.finish.specs.Joining.{sections_joined, cut, remapped_in, offsets_joined, EntriesGood, UsedBy, OffsetsJoinable}
+use Rattle.finish.specs.Joining.{sections_joined, shared_joined, given, cut, remapped_in, EntriesGood, UsedBy, Givable, GivenPut}
 use Rattle.finish.proofs.Cutting.{remapped_length}
 use Rattle.finish.proofs.Entering.{AtObject, scanned_body}
 use Rattle.finish.proofs.JoinedObjects.{Joining, joining_none, joining_none_done, joining_room, joining_more, joining_more_done, joining_end, read_once}
@@ -58,121 +60,157 @@ among e b (x ∷ done) one rest used g =
       good = k.good;
     }
 
+-- ---- what an object gives
+given_offsets : (e : Encoding) (ts : List (List ℕ)) (b : List ℕ) (c : ℕ) (o : Object) → c ≡ 6 → given e ts b c o ≡ remapped_in e ts (body b o.parts 6) (body b o.parts 11)
+unfolding given
+given_offsets e ts b c o z = rw (given, eq-eqb c 6 z)
+
+given_other : (e : Encoding) (ts : List (List ℕ)) (b : List ℕ) (c : ℕ) (o : Object) → (c ≡ 6 → ⊥) → given e ts b c o ≡ body b o.parts c
+unfolding given
+given_other e ts b c o f = rw (given, ne_eqb c 6 f)
+
+-- as much as its section
+given_long : (e : Encoding) (ts : List (List ℕ)) (b : List ℕ) (c : ℕ) → Sound e → (o : Object) (used : List (List ℕ)) → EntriesGood e (body b o.parts 6) (body b o.parts 11) used
+    → length (given e ts b c o) ≡ length (body b o.parts c)
+given_long e ts b c ok o used g = elim (ℕ_discrete c 6) [
+  | yes z ↦
+      ap length (given_offsets e ts b c o z) ∙ remapped_length e ts (body b o.parts 6) (body b o.parts 11) used ok g
+      ∙ ap (λ (k : ℕ). length (body b o.parts k)) (sym z)
+  | no f ↦ ap length (given_other e ts b c o f)
+]
+
 -- ---- over the objects
-pub length_offsets : (e : Encoding) (ts : List (List ℕ)) (b : List ℕ) → Sound e → (os : List Object) (used : List (List ℕ)) → UsedBy e b os used
-    → length (joined (map (λ o. remapped_in e ts (body b o.parts 6) (body b o.parts 11)) os)) ≡ length (sections_joined b os 6)
-unfolding sections_joined joined UsedBy
-length_offsets e ts b ok [] used g = refl
-length_offsets e ts b ok (o ∷ os) used g =
-    let one = remapped_in e ts (body b o.parts 6) (body b o.parts 11) in
-    length-append one (joined (map (λ o. remapped_in e ts (body b o.parts 6) (body b o.parts 11)) os))
-    ∙ ap₂ (λ (x y : ℕ). x + y) (remapped_length e ts (body b o.parts 6) (body b o.parts 11) g.0 ok g.3) (length_offsets e ts b ok os g.1 g.4)
-    ∙ sym (length-append (body b o.parts 6) (joined (map (λ o. body b o.parts 6) os)))
+pub shared_long : (e : Encoding) (ts : List (List ℕ)) (b : List ℕ) (c : ℕ) → Sound e → (os : List Object) (used : List (List ℕ)) → UsedBy e b os used
+    → length (shared_joined e ts b os c) ≡ length (sections_joined b os c)
+unfolding sections_joined shared_joined joined UsedBy
+shared_long e ts b c ok [] used g = refl
+shared_long e ts b c ok (o ∷ os) used g =
+    length-append (given e ts b c o) (shared_joined e ts b os c) ∙ ap₂ (λ (x y : ℕ). x + y) (given_long e ts b c ok o g.0 g.3) (shared_long e ts b c ok os g.1 g.4)
+    ∙ sym (length-append (body b o.parts c) (sections_joined b os c))
 
--- what an object gives
-abbrev pub remapped_of : Encoding → List (List ℕ) → List ℕ → Object → List ℕ
-remapped_of e used b x = remapped_in e (first_uses used) (body b x.parts 6) (body b x.parts 11)
+pub shared_copied : (e : Encoding) (ts : List (List ℕ)) (b : List ℕ) (c : ℕ) → (c ≡ 6 → ⊥) → (os : List Object) → shared_joined e ts b os c ≡ sections_joined b os c
+unfolding sections_joined shared_joined joined
+shared_copied e ts b c f [] = refl
+shared_copied e ts b c f (o ∷ os) = ap₂ (λ (x y : List ℕ). x ++ y) (given_other e ts b c o f) (shared_copied e ts b c f os)
 
--- there is room for the one bundle that is read
-pub room_again : (e : Encoding) (b table : List ℕ) (n at : ℕ) → OffsetsJoinable e b table n at → (k : Bundle) → bundle_of b ≡ pass k → at + length (sections_joined b k.objects 6) ≤ n
-room_again e b table n at a k q = rw (read_once b a.bundle k a.reads q) a.room
+-- ---- the loop over them
+-- a bundle that can be read, the places of all strings used in a table, and room for the section at a place of n bytes
+pub record Sharable (e : Encoding) (b table : List ℕ) (code n at : ℕ) : Type 0 where
+  pub bundle : Bundle
+  pub reads : bundle_of b ≡ pass bundle
+  pub used : List (List ℕ)
+  pub good : UsedBy e b bundle.objects used
+  pub places : places_in table (length used) ≡ places_of used
+  pub known : code < 14
+  pub room : at + length (sections_joined b bundle.objects code) ≤ n
 
 -- what the objects before a place give is put, and their entries are counted
-pub record OffsetsJoining (c : ObjectEncoding) (b table : List ℕ) (at : ℕ) (d₀ : List ℕ) (a : OffsetsJoinable (encoding_is c) b table (length d₀) at) (d : List ℕ) (o place first : ℕ) : Type 0 where
-  pub joining : Joining (remapped_of (encoding_is c) a.used b) b a.bundle.objects d₀ d at o place
-  pub count : first ≡ places_from (length table) + counted (encoding_is c) b joining.done
+pub record Sharing (c : ObjectEncoding) (b table : List ℕ) (code at : ℕ) (d₀ : List ℕ) (a : Sharable (encoding_is c) b table code (length d₀) at) (d : List ℕ) (o place first : ℕ) : Type 0 where
+  pub joining : Joining (given (encoding_is c) (first_uses a.used) b code) b a.bundle.objects d₀ d at o place
+  pub count : code ≡ 6 → first ≡ places_from (length table) + counted (encoding_is c) b joining.done
+  pub within : first ≤ length table
 
-module _ (c : ObjectEncoding) (b table : List ℕ) (at : ℕ) (d₀ : List ℕ) (a : OffsetsJoinable (encoding_is c) b table (length d₀) at) where
+module _ (c : ObjectEncoding) (b table : List ℕ) (code at : ℕ) (d₀ : List ℕ) (a : Sharable (encoding_is c) b table code (length d₀) at) where
   abbrev e : Encoding
   e = encoding_is c
 
   abbrev f : Object → List ℕ
-  f = remapped_of e a.used b
+  f = given e (first_uses a.used) b code
 
   room : at + length (joined (map f a.bundle.objects)) ≤ length d₀
-  room = omega (arith, length_offsets e (first_uses a.used) b (sound c) a.bundle.objects a.used a.good, a.room)
+  unfolding shared_joined
+  room = omega (arith, shared_long e (first_uses a.used) b code (sound c) a.bundle.objects a.used a.good, a.room)
 
-  pub offsets_none : (first : ℕ) → first ≡ places_from (length table) → OffsetsJoining c b table at d₀ a d₀ at 4 first
+  pub sharing_none : (first : ℕ) → first ≡ places_from (length table) → Sharing c b table code at d₀ a d₀ at 4 first
   unfolding counted
-  offsets_none first q = record { joining = joining_none f b a.bundle d₀ at a.reads; count = omega (arith, ap (counted e b) (joining_none_done f b a.bundle d₀ at a.reads)) }
+  sharing_none first q = record {
+    joining = joining_none f b a.bundle d₀ at a.reads;
+    count = λ z. omega (arith, ap (counted e b) (joining_none_done f b a.bundle d₀ at a.reads));
+    within = omega (arith, places_within table a.used a.places);
+  }
 
-  module _ (d : List ℕ) (o place first : ℕ) (j : OffsetsJoining c b table at d₀ a d o place first) where
-    pub offsets_end : j.joining.done ≡ a.bundle.objects → d ≡ placed d₀ at (offsets_joined e (first_uses a.used) b a.bundle.objects)
-    unfolding offsets_joined
-    offsets_end q = joining_end f b a.bundle.objects d₀ d at o place j.joining room q
+  module _ (d : List ℕ) (o place first : ℕ) (j : Sharing c b table code at d₀ a d o place first) where
+    pub sharing_end : j.joining.done ≡ a.bundle.objects → d ≡ placed d₀ at (shared_joined e (first_uses a.used) b a.bundle.objects code)
+    unfolding shared_joined
+    sharing_end q = joining_end f b a.bundle.objects d₀ d at o place j.joining room q
 
     module _ (next : ℕ) (scan : Scan) (s : AtObject b place next scan j.joining.done a.bundle.objects) where
-      pub offsets_inside : get_or scan.start 6 0 + get_or scan.size 6 0 ≤ length b
-      offsets_inside = omega (arith, s.start 6 (omega arith), s.size 6 (omega arith), s.lies 6)
-
-      abbrev pieces : List (List ℕ)
-      pieces = cut e (body b s.one.parts 6)
+      pub sharing_inside : get_or scan.start code 0 + get_or scan.size code 0 ≤ length b
+      sharing_inside = omega (arith, s.start code a.known, s.size code a.known, s.lies code)
 
       -- its section and the places, as the code cuts them
       abbrev section : List ℕ
-      section = take (get_or scan.start 6 0 + get_or scan.size 6 0 - get_or scan.start 6 0) (drop (get_or scan.start 6 0) b)
+      section = take (get_or scan.start code 0 + get_or scan.size code 0 - get_or scan.start code 0) (drop (get_or scan.start code 0) b)
 
       abbrev numbers : List ℕ
       numbers = take (length table - first) (drop first table)
 
-      section_is : section ≡ body b s.one.parts 6
-      section_is = part_cut b (get_or scan.start 6 0) (get_or scan.size 6 0) ∙ scanned_body b place next scan j.joining.done a.bundle.objects s 6 (omega arith)
-
-      section_long : length section ≡ get_or scan.size 6 0
-      section_long = ap length (part_cut b (get_or scan.start 6 0) (get_or scan.size 6 0)) ∙ length_part b (get_or scan.start 6 0) (get_or scan.size 6 0) offsets_inside
+      section_is : section ≡ body b s.one.parts code
+      section_is = part_cut b (get_or scan.start code 0) (get_or scan.size code 0) ∙ scanned_body b place next scan j.joining.done a.bundle.objects s code a.known
 
       strings : Among e b j.joining.done s.one a.used
       strings = among e b j.joining.done s.one (objects_of s.more.rest) a.used (rw s.more.is a.good)
 
-      entries : entries_all e pieces ≡ length strings.own
-      entries = entries_all_used e (body b s.one.parts 11) pieces strings.own strings.good.strings
+      long : length (f s.one) ≡ length section
+      long = given_long e (first_uses a.used) b code (sound c) s.one strings.own strings.good ∙ ap length (sym section_is)
 
-      -- there is a place for each
-      enough : first + entries_all e pieces ≤ length table
-      enough =
-          let l = ap length strings.is ∙ length-append strings.before (strings.own ++ strings.later) in
-          omega (arith, places_within table a.used a.places, j.count, strings.count, l, length-append strings.own strings.later, entries)
+      pub sharing_fits : o + length section ≤ length d
+      sharing_fits = omega (arith, long, joining_room f b a.bundle.objects d₀ d at o place j.joining room scan.next s.one s.more)
 
-      pub offsets_first : first ≤ length table
-      offsets_first = omega (arith, enough)
+      abbrev pieces : List (List ℕ)
+      pieces = cut e (body b s.one.parts 6)
 
-      numbers_are : numbers ≡ map (offset_in (first_uses a.used)) (strings.own ++ strings.later) ++ drop (places_from (length table) + length a.used) table
-      numbers_are =
-          let q : first ≡ places_from (length table) + length strings.before = omega (arith, j.count, strings.count) in
-          cut_rest table first ∙ places_behind table a.used a.places strings.before (strings.own ++ strings.later) first strings.is q
+      module _ (z : code ≡ 6) where
+        headed : Headed e section pieces
+        headed = subst (λ (l : List ℕ). Headed e l pieces) (sym (section_is ∙ ap (λ (k : ℕ). body b s.one.parts k) z)) strings.good.headed
 
-      long : length (f s.one) ≡ get_or scan.size 6 0
-      long = remapped_length e (first_uses a.used) (body b s.one.parts 6) (body b s.one.parts 11) strings.own (sound c) strings.good ∙ ap length (sym section_is) ∙ section_long
+        -- there is a place for each
+        enough : first + entries_all e pieces ≤ length table
+        enough =
+            let entries = entries_all_used e (body b s.one.parts 11) pieces strings.own strings.good.strings in
+            let l = ap length strings.is ∙ length-append strings.before (strings.own ++ strings.later) in
+            omega (arith, places_within table a.used a.places, j.count z, strings.count, l, length-append strings.own strings.later, entries)
 
-      pub offsets_fit : o + get_or scan.size 6 0 ≤ length d
-      offsets_fit = omega (arith, long, joining_room f b a.bundle.objects d₀ d at o place j.joining room scan.next s.one s.more)
+        numbers_are : numbers ≡ map (offset_in (first_uses a.used)) (strings.own ++ strings.later) ++ drop (places_from (length table) + length a.used) table
+        numbers_are =
+            let q : first ≡ places_from (length table) + length strings.before = omega (arith, j.count z, strings.count) in
+            cut_rest table first ∙ places_behind table a.used a.places strings.before (strings.own ++ strings.later) first strings.is q
 
-      headed : Headed e section pieces
-      headed = subst (λ (l : List ℕ). Headed e l pieces) (sym section_is) strings.good.headed
+        writable : PiecesWritable e section numbers (length d) o
+        writable = record {
+          pieces = pieces;
+          headed = headed;
+          enough = omega (arith, ap length (cut_rest table first), length-drop first table, enough);
+          room = sharing_fits;
+        }
 
-      pub offsets_writable : PiecesWritable e section numbers (length d) o
-      offsets_writable = record {
-        pieces = pieces;
-        headed = headed;
-        enough = omega (arith, ap length (cut_rest table first), length-drop first table, enough);
-        room = omega (arith, section_long, offsets_fit);
-      }
+      pub sharing_asks : Givable e code section numbers (length d) o
+      sharing_asks = record { pieces = writable; room = sharing_fits }
 
-      module _ (x : List ℕ) (r : ℕ) (w : PiecesWritten e section numbers o d x r) where
-        pub offsets_count : first + r ≤ length table
-        offsets_count = omega (arith, enough, w.count pieces headed)
+      module _ (x : List ℕ) (r : ℕ) (w : GivenPut e code section numbers o d x r) where
+        pub sharing_count : first + r ≤ length table
+        sharing_count = elim (ℕ_discrete code 6) [
+          | yes z ↦ omega (arith, enough z, (w.pieces z).count pieces (headed z))
+          | no g ↦ omega (arith, j.within, (w.bytes g).1)
+        ]
 
         put : x ≡ placed d o (f s.one)
         unfolding remapped_in
-        put = w.put pieces headed
-            ∙ ap (placed d o)
-            (ap (pieces_with e pieces) numbers_are
-            ∙ pieces_with_more e (first_uses a.used) (body b s.one.parts 11) pieces strings.own strings.later (drop (places_from (length table) + length a.used) table) strings.good.strings)
+        put = elim (ℕ_discrete code 6) [
+          | yes z ↦
+              (w.pieces z).put pieces (headed z)
+              ∙ ap (placed d o)
+              (ap (pieces_with e pieces) (numbers_are z)
+              ∙ pieces_with_more e (first_uses a.used) (body b s.one.parts 11) pieces strings.own strings.later (drop (places_from (length table) + length a.used) table) strings.good.strings
+              ∙ sym (given_offsets e (first_uses a.used) b code s.one z))
+          | no g ↦ (w.bytes g).0 ∙ ap (placed d o) (section_is ∙ sym (given_other e (first_uses a.used) b code s.one g))
+        ]
 
-        pub offsets_more : OffsetsJoining c b table at d₀ a x (o + get_or scan.size 6 0) scan.next (first + r)
-        offsets_more =
-            let done = joining_more_done f b a.bundle.objects d₀ d at o place j.joining room scan.next s.one s.more x (get_or scan.size 6 0) put (sym long) in
+        pub sharing_more : Sharing c b table code at d₀ a x (o + length section) scan.next (first + r)
+        sharing_more =
+            let done = joining_more_done f b a.bundle.objects d₀ d at o place j.joining room scan.next s.one s.more x (length section) put (sym long) in
             record {
-              joining = joining_more f b a.bundle.objects d₀ d at o place j.joining room scan.next s.one s.more x (get_or scan.size 6 0) put (sym long);
-              count = omega (arith, j.count, w.count pieces headed, ap (counted e b) done, counted_snoc e b j.joining.done s.one);
+              joining = joining_more f b a.bundle.objects d₀ d at o place j.joining room scan.next s.one s.more x (length section) put (sym long);
+              count = λ z. omega (arith, j.count z, (w.pieces z).count pieces (headed z), ap (counted e b) done, counted_snoc e b j.joining.done s.one);
+              within = sharing_count;
             }

@@ -21,8 +21,8 @@ use Rattle.kept.specs.Indexed.{index_size}
 use Rattle.kept.proofs.Pieces.{index_length}
 use Rattle.kept.proofs.Placing.{slots_long}
 use Rattle.numbers.specs.Tables.{compilation_table, type_table}
-use Rattle.finish.specs.Joining.{offsets_joined, sections_joined}
-use Rattle.finish.proofs.Remapping.{length_offsets}
+use Rattle.finish.specs.Joining.{sections_joined}
+use Rattle.finish.proofs.Remapping.{shared_long}
 use Rattle.finish.specs.Sections.{Sized}
 use Rattle.kept.specs.declared.Table.{Table}
 use Rattle.kept.specs.declared.state.InProgress.{InProgress}
@@ -131,11 +131,7 @@ module _ (e : ObjectEncoding) (b : List ℕ) (st : InProgress) (w : List ℕ) (s
   between c h g = off_1 c (omega arith) (λ z. omega arith) (λ z. omega arith) ∙ get_or-set_other st.bases 0 c 0 0 (λ z. omega arith)
 
   shared_size : (c : ℕ) → 3 ≤ c → c ≤ 10 → length (sections_joined b r.bundle.objects c) ≡ length (s c)
-  unfolding offsets_joined
-  shared_size c h g = elim (ℕ_discrete c 6) [
-    | yes z ↦ rw z (sym (length_offsets (encoding_is e) (first_uses r.used) b (sound e) r.bundle.objects r.used r.good) ∙ sym (ap length r.offsets_is))
-    | no f ↦ sym (ap length (r.shared c h g f))
-  ]
+  shared_size c h g = sym (ap length (r.shared c h g) ∙ shared_long (encoding_is e) (first_uses r.used) b c (sound e) r.bundle.objects r.used r.good)
 
   sizes_are : (c : ℕ) → 1 ≤ c → c < 14 → get_or (sizes_of five st) c 0 ≡ length (s c)
   unfolding five

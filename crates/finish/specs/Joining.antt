@@ -1,26 +1,17 @@
--- The bytes of a section over all objects, and that there is room for them.
+-- The bytes of a shared section over all objects.
 -- Assumes nothing.
-use Rattle.std.specs.Prelude.{◌≡◌, List, [], ◌∷◌, ◌++◌, map, ℕ, zero, suc, ◌+◌, ◌<◌, ◌≤◌, length, take, drop}
-use Rattle.numbers.specs.Sections.{str_offsets_code, str_code, section_codes}
+use Rattle.std.specs.Prelude.{◌≡◌, true, false, List, [], ◌∷◌, ◌++◌, map, ℕ, zero, suc, ◌+◌, ◌≤◌, eqb, length, take, drop}
+use Rattle.numbers.specs.Sections.{str_offsets_code, str_code}
 use Rattle.octets.specs.Lists.{joined}
 use Rattle.octets.specs.Octets.{placed}
 use Rattle.octets.specs.Checked.{pass}
-use Rattle.bundle.specs.Bundle.{Object, Bundle, bundle_of, body}
+use Rattle.bundle.specs.Bundle.{Object, body}
 use Rattle.bundle.specs.Encoding.{Encoding}
-use Rattle.strings.specs.Strings.{first_uses}
-use Rattle.strings.specs.Kept.{places_in, places_of}
-use Rattle.strings.specs.Headed.{piece_size, Headed, strings_of_all, remapped_pieces}
+use Rattle.strings.specs.Headed.{piece_size, Headed, strings_of_all, remapped_pieces, PiecesWritable, PiecesWritten}
 
 -- each object's first section of a code, one behind the other
 unfoldable pub sections_joined : List ℕ → List Object → ℕ → List ℕ
 sections_joined b os c = joined (map (λ o. body b o.parts c) os)
-
--- a bundle that can be read, and room for the section at a place of n bytes
-pub record Joinable (b : List ℕ) (code n at : ℕ) : Type 0 where
-  pub bundle : Bundle
-  pub reads : bundle_of b ≡ pass bundle
-  pub known : code < section_codes
-  pub room : at + length (sections_joined b bundle.objects code) ≤ n
 
 -- ---- str_offsets
 -- a section cut into pieces, each as long as its header states; at most k of them
@@ -37,10 +28,17 @@ cut e s = cut_from (length s) e s
 unfoldable pub remapped_in : Encoding → List (List ℕ) → List ℕ → List ℕ → List ℕ
 remapped_in e table offsets str = remapped_pieces e table str (cut e offsets)
 
--- each object's, one behind the other
-unfoldable pub offsets_joined : Encoding → List (List ℕ) → List ℕ → List Object → List ℕ
-offsets_joined e table b os = joined (map (λ o. remapped_in e table (body b o.parts str_offsets_code) (body b o.parts str_code)) os)
+-- ---- any shared section
+-- what an object gives of it: its first section of the code, of str_offsets by the table
+unfoldable pub given : Encoding → List (List ℕ) → List ℕ → ℕ → Object → List ℕ
+given e table b c o =
+    elim (eqb c str_offsets_code) [ true ↦ remapped_in e table (body b o.parts str_offsets_code) (body b o.parts str_code) | false ↦ body b o.parts c ]
 
+-- each object's, one behind the other
+unfoldable pub shared_joined : Encoding → List (List ℕ) → List ℕ → List Object → ℕ → List ℕ
+shared_joined e table b os c = joined (map (given e table b c) os)
+
+-- ---- strings
 -- 8 and 9 let each piece of a str_offsets pass, and its entries name these strings; there is no piece of an empty one
 pub record EntriesGood (e : Encoding) (offsets str : List ℕ) (used : List (List ℕ)) : Type 0 where
   pub headed : Headed e offsets (cut e offsets)
@@ -52,17 +50,12 @@ UsedBy e b [] used = used ≡ []
 UsedBy e b (o ∷ os) used =
     (us : List (List ℕ)) × (vs : List (List ℕ)) × (used ≡ us ++ vs) × EntriesGood e (body b o.parts str_offsets_code) (body b o.parts str_code) us × UsedBy e b os vs
 
--- a bundle that can be read, the places of all strings used in a table, and room for the section at a place of n bytes
-pub record OffsetsJoinable (e : Encoding) (b table : List ℕ) (n at : ℕ) : Type 0 where
-  pub bundle : Bundle
-  pub reads : bundle_of b ≡ pass bundle
-  pub used : List (List ℕ)
-  pub good : UsedBy e b bundle.objects used
-  pub places : places_in table (length used) ≡ places_of used
-  pub room : at + length (sections_joined b bundle.objects str_offsets_code) ≤ n
+-- ---- one object's section s put at a place of an output of n bytes, with numbers ns for its entries where it has any
+pub record Givable (e : Encoding) (code : ℕ) (s ns : List ℕ) (n at : ℕ) : Type 0 where
+  pub pieces : code ≡ str_offsets_code → PiecesWritable e s ns n at
+  pub room : at + length s ≤ n
 
--- and it is put there, whatever these strings are; d is the output before, x behind
-abbrev pub OffsetsPut : (e : Encoding) (b table : List ℕ) (at : ℕ) (d x : List ℕ) → Type 0
-OffsetsPut e b table at d x =
-    (k : Bundle) (used : List (List ℕ)) → bundle_of b ≡ pass k → UsedBy e b k.objects used → places_in table (length used) ≡ places_of used
-    → x ≡ placed d at (offsets_joined e (first_uses used) b k.objects)
+-- it is put there, and so many of the numbers are used; d is the output before, x behind
+pub record GivenPut (e : Encoding) (code : ℕ) (s ns : List ℕ) (at : ℕ) (d x : List ℕ) (r : ℕ) : Type 0 where
+  pub pieces : code ≡ str_offsets_code → PiecesWritten e s ns at d x r
+  pub bytes : (code ≡ str_offsets_code → ⊥) → (x ≡ placed d at s) × (r ≡ 0)

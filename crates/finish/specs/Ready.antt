@@ -1,7 +1,7 @@
 -- What the packer has when all objects are filed and both tables are placed, towards the sections of the package by code.
 -- Assumes nothing.
 use Rattle.std.specs.Prelude.{◌≡◌, Bool, true, false, List, [], ◌∷◌, ◌++◌, ℕ, ◌+◌, ◌*◌, ◌-◌, ◌/◌, ◌<◌, ◌≤◌, eqb, length, get_or, set}
-use Rattle.numbers.specs.Sections.{info_code, types_code, str_offsets_code, str_code, cu_index_code, tu_index_code, section_codes, first_shared, last_shared}
+use Rattle.numbers.specs.Sections.{info_code, types_code, str_code, cu_index_code, tu_index_code, section_codes, first_shared, last_shared}
 use Rattle.octets.specs.Octets.{placed, padded, zeros}
 use Rattle.octets.specs.Checked.{pass}
 use Rattle.numbers.specs.Limits.{bundle_limit, work_for_word, section_limit}
@@ -23,7 +23,7 @@ use Rattle.kept.specs.declared.Table.{Table}
 use Rattle.kept.specs.declared.Units.{Units}
 use Rattle.kept.specs.declared.state.InProgress.{InProgress}
 use Rattle.kept.specs.declared.writing.IndexForm.{IndexForm}
-use Rattle.finish.specs.Joining.{sections_joined, offsets_joined, UsedBy}
+use Rattle.finish.specs.Joining.{sections_joined, shared_joined, UsedBy}
 use Rattle.finish.specs.Sections.{Sized, sections_by, sizes_good, framed_size, length_of}
 use Rattle.finish.specs.Writing.{Writing}
 use Rattle.finish.specs.declared.writing.Package.{Package}
@@ -101,16 +101,15 @@ pub record Ready (e : ObjectEncoding) (b : List ℕ) (st : InProgress) (w : List
   pub units_are : (c : ℕ) → OneOrTwo c → s c ≡ bytes_from b (region w (length b / 4) records_region) c 0 st.units.count
   pub info_many : st.units.info ≡ length (s info_code)
   pub types_many : st.units.types ≡ length (s types_code)
-  -- shared sections
-  pub based : (c : ℕ) → first_shared ≤ c → c ≤ last_shared → get_or st.bases c 0 ≡ length (sections_joined b bundle.objects c)
-  pub shared : (c : ℕ) → first_shared ≤ c → c ≤ last_shared → (c ≡ str_offsets_code → ⊥) → s c ≡ sections_joined b bundle.objects c
   -- strings
   pub used : List (List ℕ)
   pub kept : Kept b (region w (length b / 4) strings_region) st.strings used
   pub small : st.strings.over ≡ false
   pub str_is : s str_code ≡ str_of (first_uses used)
   pub good : UsedBy (encoding_is e) b bundle.objects used
-  pub offsets_is : s str_offsets_code ≡ offsets_joined (encoding_is e) (first_uses used) b bundle.objects
+  -- shared sections
+  pub based : (c : ℕ) → first_shared ≤ c → c ≤ last_shared → get_or st.bases c 0 ≡ length (sections_joined b bundle.objects c)
+  pub shared : (c : ℕ) → first_shared ≤ c → c ≤ last_shared → s c ≡ shared_joined (encoding_is e) (first_uses used) b bundle.objects c
   -- indexes
   pub cu : IndexHeld (form_of e compilation_table st.units.cu) (length b / 4) st.units.count w (s cu_index_code)
   pub tu : IndexHeld (form_of e type_table st.units.tu) (length b / 4) st.units.count w (s tu_index_code)

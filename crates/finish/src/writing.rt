@@ -2,14 +2,13 @@
 ghost use Rattle.std.specs.Prelude.{◌≡◌, ◌*◌, ◌/◌, ◌≤◌, length};
 ghost use Rattle.numbers.specs.Limits.{bundle_limit, work_for_word};
 
-use crate::joining;
 use crate::tables::TYPE;
 use bundle::encoding::ObjectEncoding;
 use kept::Table;
 use kept::regions::{COMPILATION, RECORDS, STRINGS};
 use kept::state::InProgress;
 use kept::writing::IndexForm;
-use numbers::sections::{CODES, CU_INDEX, INFO, STR, STR_OFFSETS, TU_INDEX, TYPES};
+use numbers::sections::{CODES, CU_INDEX, INFO, STR, TU_INDEX, TYPES};
 
 // The bytes of a word.
 const WORD: usize = 4;
@@ -55,7 +54,7 @@ impl Package<'_> {
     }
 
     // The words that hold the strings.
-    fn strings(&self) -> &[u32]
+    pub fn strings(&self) -> &[u32]
         ensures { result.now ≡ region self.now.work.now (words_of self.now) strings_region }
     {
         STRINGS.part(self.work, self.bundle.len() / WORD)
@@ -99,22 +98,13 @@ impl Package<'_> {
                 let records = self.records();
                 kept::unit_bytes::copy_units(self.bundle, records, units.count, code, out, at);
             }
-            STR_OFFSETS => {
-                joining::copy_str_offsets(self.encoding, self.bundle, self.strings(), out, at);
-            }
             STR => {
-                let strings = self.strings();
-                strings::sections::write_strings(
-                    self.bundle,
-                    strings,
-                    self.state.strings.count,
-                    out,
-                    at,
-                );
+                let count = self.state.strings.count;
+                strings::sections::write_strings(self.bundle, self.strings(), count, out, at);
             }
             CU_INDEX => self.write_index(COMPILATION, units.cu, out, at),
             TU_INDEX => self.write_index(TYPE, units.tu, out, at),
-            _ => joining::copy_sections(self.bundle, code, out, at),
+            _ => self.write_shared(code, out, at),
         }
     }
 

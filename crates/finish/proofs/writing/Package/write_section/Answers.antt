@@ -1,7 +1,7 @@
 -- The section of each code by its own function.
 -- Assumes nothing.
 use Rattle.std.proofs.Common.{arith}
-use Rattle.finish.proofs.Dispatch.{units_asks, offsets_asks, str_asks, cu_asks, tu_asks, shared_asks, units_leaves, offsets_leaves, str_leaves, cu_leaves, tu_leaves, shared_leaves}
+use Rattle.finish.proofs.Dispatch.{units_asks, str_asks, cu_asks, tu_asks, units_leaves, str_leaves, cu_leaves, tu_leaves}
 use Rattle.finish.proofs.writing.Package.write_section.Goals as goal
 
 pub copy_units-requires : goal.copy_units-requires
@@ -10,17 +10,11 @@ copy_units-requires c = units_asks _ _ _ _ c.requires _ c.records-records.ensure
 pub returns-in-1 : goal.returns-in-1
 returns-in-1 c s r = units_leaves _ _ _ _ s r _ _ _ _ _ c.records-records.ensures c.requires.least (omega arith) c.copy_units.ensures
 
-pub copy_str_offsets-requires : goal.copy_str_offsets-requires
-copy_str_offsets-requires c = offsets_asks _ _ _ _ c.requires _ c.strings.ensures c.in-6.is
-
-pub returns-in-6 : goal.returns-in-6
-returns-in-6 c s r = offsets_leaves _ _ _ _ s r _ _ _ _ _ c.strings.ensures c.in-6.is c.copy_str_offsets.ensures
-
 pub write_strings-requires : goal.write_strings-requires
-write_strings-requires c = str_asks _ _ _ _ c.requires _ c.strings-strings.ensures c.in-11.is
+write_strings-requires c = str_asks _ _ _ _ c.requires _ c.strings.ensures c.in-11.is
 
 pub returns-in-11 : goal.returns-in-11
-returns-in-11 c s r = str_leaves _ _ _ _ s r _ _ _ _ _ c.strings-strings.ensures c.in-11.is c.write_strings.ensures
+returns-in-11 c s r = str_leaves _ _ _ _ s r _ _ _ _ _ c.strings.ensures c.in-11.is c.write_strings.ensures
 
 pub write_index-requires : goal.write_index-requires
 write_index-requires c = cu_asks _ _ _ _ c.requires c.in-12.is
@@ -34,8 +28,3 @@ write_index-requires-in-13 c = tu_asks _ _ _ _ c.requires c.in-13.is
 pub returns-in-13 : goal.returns-in-13
 returns-in-13 c s r = tu_leaves _ _ _ _ s r _ _ _ _ c.in-13.is c.write_index-in-13.ensures
 
-pub copy_sections-requires : goal.copy_sections-requires
-copy_sections-requires c = shared_asks _ _ _ _ c.requires (omega arith) (λ z. omega arith) (omega arith)
-
-pub returns-in_default : goal.returns-in_default
-returns-in_default c s r = shared_leaves _ _ _ _ c.requires (omega arith) (λ z. omega arith) (omega arith) s r _ _ c.copy_sections.ensures
