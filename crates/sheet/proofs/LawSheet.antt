@@ -1,31 +1,26 @@
 -- The answer of the sheet and its page, case by case.
 -- Assumes nothing.
-use mathlib.Core.Path.{◌≡◌, refl, sym, ap, ◌∙◌}
+use mathlib.Core.Path.{◌≡◌, sym, ap, ◌∙◌}
 use mathlib.Core.List.{List, ◌++◌, append_assoc}
-use mathlib.Core.Option.{Option, some, none}
-use mathlib.Core.Logic.{⊎_elim}
 use Prim.Native.Nat.{ℕ, ◌+◌, ◌-◌, ◌≤◌, ◌<◌}
 use native.Mathlib.Omega.{arith}
 use lib.ListN.{length, take, drop, length-append}
 use lib.Seq.{drop_at}
 use borrow.Author.Tests.{le-leb, lt-leb}
 use borrow.Rule.Slice.PartMut.{put_mid}
-use Rattle.numbers.specs.Refusals.{bad_package, page_short}
+use Rattle.numbers.specs.Refusals.{page_short}
 use Rattle.octets.specs.Octets.{zeros, padded}
 use Rattle.octets.specs.Checked.{Check, pass, refuse}
-use Rattle.octets.proofs.Checks.{then_pass, then_refuse, pass_refuse, known}
+use Rattle.octets.proofs.Checks.{then_pass, then_refuse}
 use Rattle.octets.proofs.Placed.{length_zeros, length_padded, padded_step, padded_full}
 use Rattle.octets.proofs.Parts.{cut_rest}
 use Rattle.octets.proofs.Regions.{placed_whole}
 use Rattle.answers.specs.Answers.{Answer, refused, made, output_of, written_of}
 use Rattle.answers.specs.declared.Written.{Written}
-use Rattle.index.specs.Index.{Index}
 use Rattle.lookup.specs.Lookup.{package_of, index_for}
 use Rattle.lookup.specs.Answers.{package_in}
-use Rattle.sheet.specs.Sheet.{table_lines, sheet_lines, on_page, sheet_of}
-use Rattle.sheet.specs.Held.{single}
+use Rattle.sheet.specs.Sheet.{sheet_lines, on_page, sheet_of}
 use Rattle.sheet.specs.Laid.{letter_of, table_of, both_of, lines_of, TableFits, BothFit}
-use Rattle.sheet.proofs.LawSlots.{single_lines, not_single_lines}
 
 -- ---- a refusal
 pub refused_page : (a : Answer) (o n : ℕ) → a ≡ refused n → zeros o ≡ output_of a o
