@@ -7,6 +7,7 @@ ghost use Rattle.archive.specs.Question.{unpacked, PartAnswered, StringAnswered}
 
 use finish::whole::Finished;
 use lookup::answering::Answer;
+use lookup::searching::UnitAsked;
 use numbers::refusals::OUTPUT_SHORT;
 
 // Where no package was made: neither found nor absent, and no refusal of a lookup.
@@ -60,18 +61,16 @@ pub fn pack_and_look_up(
     b: &[u8],
     work: &mut [u32],
     out: &mut [u8],
-    version: u32,
-    table: u32,
-    identity: u64,
+    unit: UnitAsked,
     section: u32,
 ) -> FromBundle
-    ensures answer { PartAnswered b.now (length work.old) (length out.old) version table identity section result }
+    ensures answer { PartAnswered b.now (length work.old) (length out.old) unit.version unit.table unit.identity section result }
     ensures output { out.new ≡ output_of (packed b.now (length work.old) (length out.old)) (length out.old) }
     ensures work { work.new ≡ zeros (length work.old) }
 {
     match packer::pack(b, work, out) {
         Finished::Made(n) => {
-            let a = lookup::answering::answer_part(&out[..n], version, table, identity, section);
+            let a = lookup::answering::answer_part(&out[..n], unit, section);
             answered(n, a)
         }
         Finished::Short(n) => not_packed(OUTPUT_SHORT, n),
@@ -84,18 +83,16 @@ pub fn pack_and_look_up_string(
     b: &[u8],
     work: &mut [u32],
     out: &mut [u8],
-    version: u32,
-    table: u32,
-    identity: u64,
+    unit: UnitAsked,
     entry: u64,
 ) -> FromBundle
-    ensures answer { StringAnswered b.now (length work.old) (length out.old) version table identity entry result }
+    ensures answer { StringAnswered b.now (length work.old) (length out.old) unit.version unit.table unit.identity entry result }
     ensures output { out.new ≡ output_of (packed b.now (length work.old) (length out.old)) (length out.old) }
     ensures work { work.new ≡ zeros (length work.old) }
 {
     match packer::pack(b, work, out) {
         Finished::Made(n) => {
-            let a = lookup::answering::answer_string(&out[..n], version, table, identity, entry);
+            let a = lookup::answering::answer_string(&out[..n], unit, entry);
             answered(n, a)
         }
         Finished::Short(n) => not_packed(OUTPUT_SHORT, n),

@@ -21,6 +21,7 @@ ghost use Rattle.archive.specs.Question.{PartAnswered, StringAnswered};
 
 use asking::FromBundle;
 use lookup::answering::Answer;
+use lookup::searching::UnitAsked;
 use packer::answering::Packed;
 
 // Code 0: the package, of that length, and zeros behind it, and how many type units were skipped as repeats and as namesakes. 18: the length that the
@@ -55,7 +56,12 @@ pub extern "C" fn barthovin_lookup(
 ) -> Answer
     ensures { result ≡ numbered (looked_up «package».now version table identity section) }
 {
-    lookup::answering::answer_part(package, version, table, identity, section)
+    let unit = UnitAsked {
+        version,
+        table,
+        identity,
+    };
+    lookup::answering::answer_part(package, unit, section)
 }
 
 // The same for the string of an entry, without its zero.
@@ -69,7 +75,12 @@ pub extern "C" fn barthovin_lookup_string(
 ) -> Answer
     ensures { result ≡ numbered (string_found «package».now version table identity entry) }
 {
-    lookup::answering::answer_string(package, version, table, identity, entry)
+    let unit = UnitAsked {
+        version,
+        table,
+        identity,
+    };
+    lookup::answering::answer_string(package, unit, entry)
 }
 
 // A bundle packed and the part of a section looked up in its package; the answer is demand 3 for that question.
@@ -87,7 +98,12 @@ pub extern "C" fn barthovin_pack_and_look_up(
     ensures output { output.new ≡ output_of (packed bundle.now (length work.old) (length output.old)) (length output.old) }
     ensures work { work.new ≡ zeros (length work.old) }
 {
-    asking::pack_and_look_up(bundle, work, output, version, table, identity, section)
+    let unit = UnitAsked {
+        version,
+        table,
+        identity,
+    };
+    asking::pack_and_look_up(bundle, work, output, unit, section)
 }
 
 // The same for the string of an entry.
@@ -105,5 +121,10 @@ pub extern "C" fn barthovin_pack_and_look_up_string(
     ensures output { output.new ≡ output_of (packed bundle.now (length work.old) (length output.old)) (length output.old) }
     ensures work { work.new ≡ zeros (length work.old) }
 {
-    asking::pack_and_look_up_string(bundle, work, output, version, table, identity, entry)
+    let unit = UnitAsked {
+        version,
+        table,
+        identity,
+    };
+    asking::pack_and_look_up_string(bundle, work, output, unit, entry)
 }

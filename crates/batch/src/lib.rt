@@ -18,7 +18,7 @@ ghost use Rattle.batch.specs.Ties.{
 use answers::{Unwritten, Written};
 use lookup::answering::Answer;
 use lookup::package::Package;
-use lookup::searching::Question;
+use lookup::searching::UnitAsked;
 use numbers::limits::QUESTIONS_LIMIT;
 use numbers::refusals::Refusal;
 
@@ -54,14 +54,13 @@ fn ask(package: &[u8], opened: &Result<Package, Refusal>, version: u32, words: &
     requires { (OpenedAs «package».now opened.now) × (length words.now ≡ 3) }
     ensures { result ≡ numbered (asked «package».now version (question (get_or words.now 0 0) (get_or words.now 1 0) (get_or words.now 2 0))) }
 {
-    let question = Question {
+    let unit = UnitAsked {
         version,
         table: words[0] % 16,
         identity: u64::from(words[1]) + 0x1_0000_0000 * u64::from(words[2]),
-        section: words[0] / 16 % 16,
     };
     let located = match opened {
-        Ok(package) => package.locate(question),
+        Ok(package) => package.locate(unit, words[0] / 16 % 16),
         Err(refusal) => Err(*refusal),
     };
     Answer::from(located)

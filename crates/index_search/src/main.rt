@@ -4,11 +4,10 @@
 #![tactic(auto)]
 
 ghost use Rattle.std.specs.Prelude.{◌<◌, ◌≤◌};
-ghost use Rattle.index.specs.Held.{Sized};
 
-use index::cells::Cell;
+use index::cells::Contribution;
 use index::probing::Probed;
-use index::reading::{IndexHead, IndexRead};
+use index::reading::Index;
 use std::io;
 
 // The longest section that is read.
@@ -31,42 +30,43 @@ fn read_bytes<'a>(digits: &[u8], room: &'a mut [u8]) -> &'a [u8] {
     }
 }
 
-fn write_cell(rt: &impl Print, cell: Cell) -> io::Result<()> {
+fn write_cell(rt: &impl Print, cell: Option<Contribution>) -> io::Result<()> {
     match cell {
-        Cell::Is(offset, size) => print!(rt; " {offset}+{size}"),
-        Cell::Missing => print!(rt; " -"),
+        Some(Contribution { offset, size }) => print!(rt; " {offset}+{size}"),
+        None => print!(rt; " -"),
     }
 }
 
-fn write_cells(rt: &impl Print, big: bool, s: &[u8], head: IndexHead, row: usize) -> io::Result<()>
-    requires { (Sized s.now head) × (0 < row) × (row ≤ head.units) }
+fn write_cells(rt: &impl Print, index: &Index, row: usize) -> io::Result<()>
+    requires { (0 < row) × (row ≤ index.now.units) }
 {
     for section in 1..11 {
-        let cell = index::cells::cell_of(big, s, head, row, section);
-        write_cell(rt, cell)?;
+        write_cell(rt, index.cell_of(row, section))?;
     }
     Ok(())
 }
 
 fn answer_search(rt: &impl Print, big: bool, s: &[u8], x: u64) -> io::Result<()> {
-    let IndexRead::Good(head) = index::reading::read_index(big, s) else {
+    let Ok(index) = Index::read(big, s) else {
         return println!(rt; "bad");
     };
-    match index::probing::find(big, s, head, x) {
-        Probed::Found(slot, looks) => {
-            let row = index::reading::row_at(big, s, head, slot);
+    let Probed { slot, looks } = index.find(x);
+    match slot {
+        Some(slot) => {
+            let row = index.row_at(slot);
             print!(rt; "row {row} {looks}")?;
-            write_cells(rt, big, s, head, row)?;
+            write_cells(rt, &index, row)?;
         }
-        Probed::Absent(looks) => print!(rt; "absent {looks}")?,
+        None => print!(rt; "absent {looks}")?,
     }
     println!(rt)
 }
 
 fn answer_index(rt: &impl Print, big: bool, s: &[u8]) -> io::Result<()> {
-    let IndexRead::Good(head) = index::reading::read_index(big, s) else {
+    let Ok(index) = Index::read(big, s) else {
         return println!(rt; "bad");
     };
+    let head = index.head();
     println!(rt;
         "index {} {} {} {}",
         head.version, head.columns, head.units, head.slots

@@ -17,7 +17,6 @@ use Rattle.bundle.specs.Bundle.{Part as BundlePart, count, first_part}
 use Rattle.bundle.specs.Scan.{start_in, size_in, start_of, size_of}
 use Rattle.bundle.proofs.Sections.{none_counted, counted_none}
 use Rattle.index.specs.Index.{Index, Contribution}
-use Rattle.index.specs.Held.{head_of}
 use Rattle.lookup.specs.Lookup.{Package, has_version, version_good, index_for, place_in}
 use Rattle.lookup.specs.Answers.{indexed, head_in, index_has, version_by, table_index, index_code}
 

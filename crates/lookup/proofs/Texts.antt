@@ -1,17 +1,16 @@
 -- 25 and 26, by what the code holds: the entry of a part of str_offsets, and the string that it names.
 -- Assumes nothing.
 use mathlib.Core.Path.{◌≡◌, refl, ap, sym, ◌∙◌}
-use mathlib.Core.Bool.{true, ◌&&◌, ◌||◌}
+use mathlib.Core.Bool.{true}
 use mathlib.Core.List.{List}
 use mathlib.Core.Logic.{◌⊎◌, inl, inr, ⊎_elim}
 use mathlib.Core.Option.{Option, some, none}
 use Prim.Native.Nat.{ℕ, ◌+◌, ◌*◌, ◌-◌, ◌/◌, ◌≤◌, ◌<◌}
 use native.Mathlib.Omega.{arith}
-use lib.Dec.{eqb}
 use lib.ListN.{length, get_or}
 use Rattle.octets.specs.Octets.{number_at}
 use Rattle.octets.specs.Checked.{Check, pass, refuse, mapped, ◌>>=◌}
-use Rattle.octets.proofs.Checks.{and_left, and_right, then_pass, then_refuse}
+use Rattle.octets.proofs.Checks.{then_pass, then_refuse}
 use Rattle.octets.proofs.Parts.{length_part_le}
 use Rattle.bundle.specs.Bundle.{Part as BundlePart, first_part, body}
 use Rattle.bundle.specs.Encoding.{Encoding, encoding_good}

@@ -22,7 +22,7 @@ use Rattle.bundle.specs.declared.Scan.{Scan}
 use Rattle.bundle.specs.declared.Item.TheVariants.{Object}
 use Rattle.bundle.specs.declared.encoding.ObjectEncoding.{ObjectEncoding}
 use Rattle.index.specs.Index.{Index}
-use Rattle.index.specs.Held.{head_of, index_in, Sized}
+use Rattle.index.specs.Held.{head_of}
 use Rattle.index.specs.declared.reading.IndexHead.{IndexHead}
 use Rattle.strings.specs.Strings.{string_at}
 use Rattle.lookup.specs.Lookup.{Found, refused, absent, part, Package, object_judged, package_of, index_for, Place, part_place, in_table, string_place}

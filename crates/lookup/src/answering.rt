@@ -3,7 +3,7 @@ ghost use Rattle.std.specs.Prelude.{◌≡◌, ◌+◌, ◌≤◌, length};
 ghost use Rattle.lookup.specs.Lookup.{looked_up, string_found};
 ghost use Rattle.lookup.specs.Answers.{beside, bytes_in, found_as, numbered};
 
-use crate::searching::{Located, Question};
+use crate::searching::{Located, UnitAsked};
 use numbers::refusals::Refusal;
 use strings::table::Place;
 
@@ -51,22 +51,16 @@ impl From<Result<Located, Refusal>> for Answer {
     }
 }
 
-pub fn answer_part(package: &[u8], version: u32, table: u32, identity: u64, section: u32) -> Answer
-    ensures { result ≡ numbered (looked_up «package».now version table identity section) }
+pub fn answer_part(package: &[u8], unit: UnitAsked, section: u32) -> Answer
+    ensures { result ≡ numbered (looked_up «package».now unit.version unit.table unit.identity section) }
 {
-    let question = Question {
-        version,
-        table,
-        identity,
-        section,
-    };
-    Answer::from(crate::searching::locate(package, question))
+    Answer::from(crate::searching::locate(package, unit, section))
 }
 
-pub fn answer_string(package: &[u8], version: u32, table: u32, identity: u64, entry: u64) -> Answer
-    ensures { result ≡ numbered (string_found «package».now version table identity entry) }
+pub fn answer_string(package: &[u8], unit: UnitAsked, entry: u64) -> Answer
+    ensures { result ≡ numbered (string_found «package».now unit.version unit.table unit.identity entry) }
 {
-    Answer::from(crate::searching::locate_string(package, version, table, identity, entry))
+    Answer::from(crate::searching::locate_string(package, unit, entry))
 }
 
 // The bytes that an answer names, and its numbers beside them. The caller has found them in the package.
@@ -90,16 +84,14 @@ fn hand_out<'a, 'b>(package: &'a [u8], answer: Answer, told: &'b mut [u64; 4]) -
 #[tactic(auto, using(crate::proofs::Bounds::part_fits))]
 pub fn look_up<'a, 'b>(
     package: &'a [u8],
-    version: u32,
-    table: u32,
-    identity: u64,
+    unit: UnitAsked,
     section: u32,
     told: &'b mut [u64; 4],
 ) -> &'a [u8]
-    ensures result_value { result.now ≡ bytes_in «package».now (numbered (looked_up «package».now version table identity section)) }
-    ensures told_after { told.new ≡ beside (numbered (looked_up «package».now version table identity section)) }
+    ensures result_value { result.now ≡ bytes_in «package».now (numbered (looked_up «package».now unit.version unit.table unit.identity section)) }
+    ensures told_after { told.new ≡ beside (numbered (looked_up «package».now unit.version unit.table unit.identity section)) }
 {
-    let answer = answer_part(package, version, table, identity, section);
+    let answer = answer_part(package, unit, section);
     hand_out(package, answer, told)
 }
 
@@ -107,15 +99,13 @@ pub fn look_up<'a, 'b>(
 #[tactic(auto, using(crate::proofs::Bounds::string_fits))]
 pub fn look_up_string<'a, 'b>(
     package: &'a [u8],
-    version: u32,
-    table: u32,
-    identity: u64,
+    unit: UnitAsked,
     entry: u64,
     told: &'b mut [u64; 4],
 ) -> &'a [u8]
-    ensures result_value { result.now ≡ bytes_in «package».now (numbered (string_found «package».now version table identity entry)) }
-    ensures told_after { told.new ≡ beside (numbered (string_found «package».now version table identity entry)) }
+    ensures result_value { result.now ≡ bytes_in «package».now (numbered (string_found «package».now unit.version unit.table unit.identity entry)) }
+    ensures told_after { told.new ≡ beside (numbered (string_found «package».now unit.version unit.table unit.identity entry)) }
 {
-    let answer = answer_string(package, version, table, identity, entry);
+    let answer = answer_string(package, unit, entry);
     hand_out(package, answer, told)
 }

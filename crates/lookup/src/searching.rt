@@ -43,13 +43,12 @@ const LAST_SHARED: u32 = numbers::sections::LAST_SHARED as u32;
 
 const STR_OFFSETS: u32 = numbers::sections::STR_OFFSETS as u32;
 
-// The part of a section that a unit contributes: the version of the indexes, the unit's table and identity, and the section's code.
+// The unit that is asked for, as callers name it: the version of the indexes, its table and its identity.
 #[derive(Clone, Copy, Debug, PartialEq, Eq)]
-pub struct Question {
+pub struct UnitAsked {
     pub version: u32,
     pub table: u32,
     pub identity: u64,
-    pub section: u32,
 }
 
 // The place in the package, or none where the identity is absent; and the looks.
@@ -162,25 +161,25 @@ impl<'a> Package<'a> {
     }
 
     // The part of a section, code 1 to 10, that a unit contributes. Where its column is missing the part is empty, and its place, which is free, is 0.
-    pub fn locate(&self, q: Question) -> Result<Located, Refusal>
-        ensures { found_as result ≡ looked_up self.now.bytes.now q.version q.table q.identity q.section }
+    pub fn locate(&self, unit: UnitAsked, section: u32) -> Result<Located, Refusal>
+        ensures { found_as result ≡ looked_up self.now.bytes.now unit.version unit.table unit.identity section }
     {
-        if !self.head.has_version(q.version) {
+        if !self.head.has_version(unit.version) {
             return Err(Refusal::OtherVersion);
         }
-        let table = Table::try_from(q.table)?;
-        if !matches!(q.section, 1..=LAST_SHARED) {
+        let table = Table::try_from(unit.table)?;
+        if !matches!(section, 1..=LAST_SHARED) {
             return Err(Refusal::BadQuestion);
         }
-        self.search(table, q.identity, q.section as usize)
+        self.search(table, unit.identity, section as usize)
     }
 }
 
 // The same for one question.
-pub fn locate(package: &[u8], q: Question) -> Result<Located, Refusal>
-    ensures { found_as result ≡ looked_up «package».now q.version q.table q.identity q.section }
+pub fn locate(package: &[u8], unit: UnitAsked, section: u32) -> Result<Located, Refusal>
+    ensures { found_as result ≡ looked_up «package».now unit.version unit.table unit.identity section }
 {
-    Package::open(package)?.locate(q)
+    Package::open(package)?.locate(unit, section)
 }
 
 // ---- strings
@@ -224,25 +223,14 @@ impl<'a> Package<'a> {
     }
 
     // The string that entry number `entry` of a unit's part of str_offsets names, without its zero.
-    pub fn locate_string(
-        &self,
-        version: u32,
-        table: u32,
-        identity: u64,
-        entry: u64,
-    ) -> Result<Located, Refusal>
-        ensures { found_as result ≡ string_found self.now.bytes.now version table identity entry }
+    pub fn locate_string(&self, unit: UnitAsked, entry: u64) -> Result<Located, Refusal>
+        ensures { found_as result ≡ string_found self.now.bytes.now unit.version unit.table unit.identity entry }
     {
-        let located = self.locate(Question {
-            version,
-            table,
-            identity,
-            section: STR_OFFSETS,
-        })?;
+        let located = self.locate(unit, STR_OFFSETS)?;
         let Some(part) = located.place else {
             return Ok(located);
         };
-        let place = self.entry_text(version, entry, part)?;
+        let place = self.entry_text(unit.version, entry, part)?;
         Ok(Located {
             place: Some(place),
             looks: located.looks,
@@ -251,14 +239,8 @@ impl<'a> Package<'a> {
 }
 
 // The same for one question.
-pub fn locate_string(
-    package: &[u8],
-    version: u32,
-    table: u32,
-    identity: u64,
-    entry: u64,
-) -> Result<Located, Refusal>
-    ensures { found_as result ≡ string_found «package».now version table identity entry }
+pub fn locate_string(package: &[u8], unit: UnitAsked, entry: u64) -> Result<Located, Refusal>
+    ensures { found_as result ≡ string_found «package».now unit.version unit.table unit.identity entry }
 {
-    Package::open(package)?.locate_string(version, table, identity, entry)
+    Package::open(package)?.locate_string(unit, entry)
 }

@@ -2,6 +2,7 @@
 // 0 to 2, and identity 2. For each question a line: code, start, length, looks, and the bytes of the part that the lookup hands out.
 #![tactic(auto)]
 
+use lookup::searching::UnitAsked;
 use std::io;
 
 fn write_hexadecimal(rt: &impl Print, s: &[u8]) -> io::Result<()> {
@@ -18,15 +19,23 @@ fn write_answer(rt: &impl Print, told: [u64; 4], part: &[u8]) -> io::Result<()> 
     println!(rt)
 }
 
+fn unit(identity: u64) -> UnitAsked {
+    UnitAsked {
+        version: 5,
+        table: 1,
+        identity,
+    }
+}
+
 fn ask_part(rt: &impl Print, package: &[u8], identity: u64, section: u32) -> io::Result<()> {
     let mut told = [0u64; 4];
-    let part = lookup::answering::look_up(package, 5, 1, identity, section, &mut told);
+    let part = lookup::answering::look_up(package, unit(identity), section, &mut told);
     write_answer(rt, told, part)
 }
 
 fn ask_string(rt: &impl Print, package: &[u8], entry: u64) -> io::Result<()> {
     let mut told = [0u64; 4];
-    let part = lookup::answering::look_up_string(package, 5, 1, 1, entry, &mut told);
+    let part = lookup::answering::look_up_string(package, unit(1), entry, &mut told);
     write_answer(rt, told, part)
 }
 

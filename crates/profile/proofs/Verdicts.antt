@@ -16,7 +16,6 @@ use Rattle.octets.proofs.Checks.{and_left, and_right}
 use Rattle.bundle.specs.Encoding.{Encoding, encoding_good}
 use Rattle.bundle.specs.Scan.{scan_of, by_code, numbered}
 use Rattle.index.specs.Index.{Index}
-use Rattle.index.specs.Held.{head_of}
 use Rattle.lookup.specs.Lookup.{Package, package_of}
 use Rattle.lookup.specs.Answers.{coded, indexed, head_in, opened, package_in}
 use Rattle.lookup.specs.declared.opening.PackageHead.{PackageHead}

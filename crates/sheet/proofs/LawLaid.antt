@@ -18,12 +18,6 @@ use Rattle.sheet.proofs.LawBlocks.{placed_in_front, length_row, length_blocks, b
 unfoldable pub laid_from : ℕ → Index → ℕ → ℕ → List ℕ
 laid_from letter i k o = padded (blocks letter i (drop k i.rows) (drop k i.identities) 1 i.units) (o - 40 * length i.codes * i.units)
 
--- there is room for a row where there is for all
-pub room_row : (w units row n m : ℕ) → w * units ≤ n → m ≡ n → row ≤ units → 0 < row → w * (row - 1) + w ≤ m
-room_row w units row n m h e g p =
-    let s : suc (row - 1) ≤ units = omega arith in
-    omega (arith, mul-suc w (row - 1), mul-le-mul_left w s)
-
 module _ (letter : ℕ) (i : Index) where
   pub laid_none : (k o : ℕ) (d : List ℕ) → length i.rows ≤ k → length i.identities ≤ k → d ≡ zeros o → 40 * length i.codes * i.units ≤ o → d ≡ laid_from letter i k o
   unfolding laid_from padded

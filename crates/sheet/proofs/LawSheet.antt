@@ -1,31 +1,29 @@
 -- The answer of the sheet and its page, case by case.
 -- Assumes nothing.
-use mathlib.Core.Path.{◌≡◌, refl, sym, ap, ◌∙◌}
+use mathlib.Core.Path.{◌≡◌, sym, ap, ◌∙◌}
+use mathlib.Core.Bool.{true, false}
 use mathlib.Core.List.{List, ◌++◌, append_assoc}
-use mathlib.Core.Option.{Option, some, none}
 use mathlib.Core.Logic.{⊎_elim}
 use Prim.Native.Nat.{ℕ, ◌+◌, ◌-◌, ◌≤◌, ◌<◌}
 use native.Mathlib.Omega.{arith}
+use lib.Dec.{leb}
 use lib.ListN.{length, take, drop, length-append}
 use lib.Seq.{drop_at}
-use borrow.Author.Tests.{le-leb, lt-leb}
+use borrow.Author.Tests.{le-leb, lt-leb, leb-true}
 use borrow.Rule.Slice.PartMut.{put_mid}
-use Rattle.numbers.specs.Refusals.{bad_package, page_short}
+use Rattle.numbers.specs.Refusals.{page_short}
 use Rattle.octets.specs.Octets.{zeros, padded}
 use Rattle.octets.specs.Checked.{Check, pass, refuse}
-use Rattle.octets.proofs.Checks.{then_pass, then_refuse, pass_refuse, known}
+use Rattle.octets.proofs.Checks.{then_pass, then_refuse, known}
 use Rattle.octets.proofs.Placed.{length_zeros, length_padded, padded_step, padded_full}
 use Rattle.octets.proofs.Parts.{cut_rest}
 use Rattle.octets.proofs.Regions.{placed_whole}
 use Rattle.answers.specs.Answers.{Answer, refused, made, output_of, written_of}
 use Rattle.answers.specs.declared.Written.{Written}
-use Rattle.index.specs.Index.{Index}
 use Rattle.lookup.specs.Lookup.{package_of, index_for}
 use Rattle.lookup.specs.Answers.{package_in}
-use Rattle.sheet.specs.Sheet.{table_lines, sheet_lines, on_page, sheet_of}
-use Rattle.sheet.specs.Held.{single}
+use Rattle.sheet.specs.Sheet.{sheet_lines, on_page, sheet_of}
 use Rattle.sheet.specs.Laid.{letter_of, table_of, both_of, lines_of, TableFits, BothFit}
-use Rattle.sheet.proofs.LawSlots.{single_lines, not_single_lines}
 
 -- ---- a refusal
 pub refused_page : (a : Answer) (o n : ℕ) → a ≡ refused n → zeros o ≡ output_of a o
@@ -86,6 +84,17 @@ made_told s a b n m e la lb =
 pub made_page : (p a b : List ℕ) (s : Answer) (o : ℕ) → table_of p 1 ≡ pass a → table_of p 2 ≡ pass b → s ≡ made (a ++ b) → lines_of (both_of p) o ≡ output_of s o
 unfolding output_of lines_of
 made_page p a b s o ea eb e = ap (λ (m : Check (List ℕ)). lines_of m o) (both_are p a b ea eb) ∙ sym (ap (λ (z : Answer). output_of z o) e)
+
+-- what is written fits on the page, and nothing is written where it is refused
+pub told_fits : (p : List ℕ) (o : ℕ) (w : Written) → w ≡ written_of (sheet_of p o) → w.length ≤ o
+unfolding sheet_of on_page written_of
+told_fits p o w e = rw e (go (sheet_lines p))
+  where
+    go : (m : Check (List ℕ)) → (written_of (on_page m o)).length ≤ o
+    go (refuse n) = omega arith
+    go (pass l) = ⊎_elim
+      (λ (t : leb (length l) o ≡ true). rw (on_page, written_of, t) (leb-true (length l) o t)) (λ (t : leb (length l) o ≡ false). rw (on_page, written_of, t) (omega arith))
+      (known (leb (length l) o))
 
 -- ---- one table behind the other
 joined_padded : (x y : List ℕ) (k : ℕ) → x ++ padded y k ≡ padded (x ++ y) k

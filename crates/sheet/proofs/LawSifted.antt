@@ -56,6 +56,3 @@ module _ (words rows : List ℕ) (j k r : ℕ) (s : Sifted words rows k) (e : k 
           | yes q ↦ ap (marked (with_mark words r)) q ∙ marked_same words r l ∙ sym (ap (λ (z : List ℕ). has z row) split ∙ has_cons row r (drop k rows) q)
           | no q ↦ marked_other words r l row q ∙ s.marks.is row p ∙ sym (ap (λ (z : List ℕ). has z row) split ∙ has_skips row r (drop k rows) q)
         ]
-
-pub sifted_all : (words rows : List ℕ) (k : ℕ) → k ≡ 0 → Sifted words rows k → Sifted words rows 0
-sifted_all words rows k e s = rw e at s

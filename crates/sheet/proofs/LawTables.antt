@@ -10,7 +10,6 @@ use native.Mathlib.Omega.{arith}
 use native.Mathlib.Nat.{sub-zero}
 use native.Mathlib.Decide.{ℕ_discrete}
 use lib.ListN.{length}
-use borrow.Author.Tests.{eq-eqb, ne_eqb}
 use Rattle.std.specs.Prelude.{Some}
 use Rattle.octets.specs.Octets.{zeros, padded, part}
 use Rattle.octets.specs.Options.{found}
@@ -28,7 +27,7 @@ use Rattle.lookup.specs.Lookup.{Package, package_of, index_for}
 use Rattle.lookup.specs.Answers.{package_in, Opened, index_code}
 use Rattle.lookup.specs.declared.opening.PackageHead.{PackageHead}
 use Rattle.lookup.proofs.Known.{package_objects, index_known}
-use Rattle.sheet.specs.Sheet.{letter_c, letter_t, rows_from, table_lines}
+use Rattle.sheet.specs.Sheet.{rows_from, table_lines}
 use Rattle.sheet.specs.Held.{IndexHere, single, blocks, laid_out}
 use Rattle.sheet.specs.Laid.{letter_of, table_of, lines_of, TableFits}
 use Rattle.sheet.proofs.LawIndex.{index_here}

@@ -20,7 +20,7 @@ const NEWLINE: u8 = 10;
 
 pub const LINE: usize = 40;
 
-// From 10 on 39 is added, which is how far a lies behind the byte that follows 9. No branch, since digits are not foreseen.
+// From 10 on 39 is added, which is how far a stands from the byte that follows 9. No branch, since digits are not foreseen.
 #[tactic(auto, using(crate::proofs::LawLines::digit_is))]
 fn digit(n: u64) -> u8
     requires { n < 16 }
@@ -29,7 +29,8 @@ fn digit(n: u64) -> u8
     (48 + n + (n + 6) / 16 * 39) as u8
 }
 
-// Stores the low w hexadecimal digits of n.
+// Stores the low w hexadecimal digits of n. The library's `hex::encode_to_slice` would be no plainer: it takes bytes, so a cell's numbers would first be proved to
+// have 32 bits and be cut into them, and the static library would stand on more than `std`.
 fn put_hex(w: usize, n: u64, d: &mut [u8], at: usize)
     requires { at + w ≤ length d.old }
     ensures { d.new ≡ placed d.old at (hex w n) }
@@ -41,7 +42,7 @@ fn put_hex(w: usize, n: u64, d: &mut [u8], at: usize)
     }
 }
 
-// The same, and a byte behind them.
+// The same, and a byte following them.
 fn put_field(w: usize, n: u64, end: u8, d: &mut [u8], at: usize)
     requires { at + w + 1 ≤ length d.old }
     ensures { d.new ≡ placed d.old at (hex w n ++ (end ∷ [])) }

@@ -36,7 +36,9 @@ pub struct IndexTable<'a> {
 fn section_of(version: u32, code: usize) -> usize
     ensures { result ≡ section_in (columns_of version) code }
 {
-    let place = index::cells::columns(version).iter().find(|c| c.column == code);
+    let place = index::cells::columns(version)
+        .iter()
+        .find(|c| c.column == code);
     place.map_or(0, |c| c.section)
 }
 

@@ -59,7 +59,7 @@ fn write_table(package: &Package, table: Table, page: &mut [u8])
     }
 }
 
-// Stores both tables, the second behind the first, whose length the caller gives.
+// Stores both tables, one following the other. The caller gives the length of the first.
 pub fn write_tables(package: &Package, compilations: usize, page: &mut [u8])
     requires { BothFit «package».now.bytes.now compilations page.old }
     ensures { page.new ≡ lines_of (both_of «package».now.bytes.now) (length page.old) }

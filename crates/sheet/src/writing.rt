@@ -1,4 +1,4 @@
-// The sheet on a page that is lent. All of the page is written: behind the lines, and after a refusal, it is zero.
+// The sheet on a page that is lent. All of the page is written: following the lines, and after a refusal, it is zero.
 ghost use Rattle.std.specs.Prelude.{◌≡◌, length};
 ghost use Rattle.octets.specs.Octets.{zeros};
 ghost use Rattle.answers.specs.Answers.{output_of, written_of};

@@ -2,25 +2,15 @@
 // The stored input is the package of document 01's example, the stored output its sheet in document 02.
 #![tactic(auto)]
 
+use answers::Written;
 use std::io;
 
-fn tell_refused(rt: &impl Print, number: u32) -> io::Result<()> {
-    println!(rt; "refused {number}")
-}
-
-fn tell_lines(rt: &impl Print, page: &[u8], length: usize) -> io::Result<()> {
-    if length <= page.len() {
-        rt.write_all(&page[..length])?;
-    }
-    Ok(())
-}
-
 fn tell_sheet(rt: &impl Print, package: &[u8], page: &mut [u8]) -> io::Result<()> {
-    let answer = sheet::writing::write_sheet(package, page);
-    if answer.code != 0 {
-        return tell_refused(rt, answer.code);
+    let Written { code, length } = sheet::writing::write_sheet(package, page);
+    if code != 0 {
+        return println!(rt; "refused {code}");
     }
-    tell_lines(rt, page, answer.length)
+    rt.write_all(&page[..length])
 }
 
 fn main(rt: HostRuntime) -> io::Result<()> {

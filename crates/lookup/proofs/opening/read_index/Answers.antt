@@ -3,12 +3,8 @@
 use Rattle.lookup.proofs.Opened.{index_none, index_is, index_not}
 use Rattle.index.specs.Index.{index_of}
 use Rattle.octets.proofs.Parts.{part_cut}
-use Rattle.octets.specs.Checked.{pass}
-use Rattle.std.specs.Prelude.{Some}
 use lib.ListN.{get_or}
-use mathlib.Core.List.{List}
 use mathlib.Core.Path.{ap, ◌∙◌}
-use Prim.Native.Nat.{ℕ}
 use Rattle.lookup.proofs.opening.read_index.Goals as goal
 
 pub returns-then-sections-code-eq0 : goal.returns-then-sections-code-eq0

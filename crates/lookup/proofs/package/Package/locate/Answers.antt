@@ -11,7 +11,7 @@ use Rattle.lookup.proofs.package.Package.locate.Goals as goal
 use Rattle.lookup.proofs.package.Package.locate.Goals.{Else-not-has_version}
 
 -- the version has passed
-version-good : (c : Else-not-has_version) → version_by c.args.self.now.head c.args.q.version ≡ true
+version-good : (c : Else-not-has_version) → version_by c.args.self.now.head c.args.unit.version ≡ true
 version-good c = sym c.has_version.ensures ∙ c.if-not-has_version.false
 
 pub returns-then-not-has_version : goal.returns-then-not-has_version

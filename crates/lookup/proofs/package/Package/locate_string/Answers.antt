@@ -17,8 +17,8 @@ returns-in_default c = strung_absent _ _ _ _ _ c.in_ok-located.located c.in_ok-l
 pub entry_text-requires : goal.entry_text-requires
 entry_text-requires c =
     let a = c.args in (
-      strung_within a.self.now.bytes.now a.version a.table a.identity a.entry c.in_ok-located.located c.in_ok-located.ensures _ c.in-Some.is,
-      strung_encoding a.self.now.bytes.now a.version a.table a.identity a.entry c.in_ok-located.located c.in_ok-located.ensures _ c.in-Some.is,
+      strung_within a.self.now.bytes.now a.unit.version a.unit.table a.unit.identity a.entry c.in_ok-located.located c.in_ok-located.ensures _ c.in-Some.is,
+      strung_encoding a.self.now.bytes.now a.unit.version a.unit.table a.unit.identity a.entry c.in_ok-located.located c.in_ok-located.ensures _ c.in-Some.is,
     )
 
 pub returns-in_err-place : goal.returns-in_err-place

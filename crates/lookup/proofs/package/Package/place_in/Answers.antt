@@ -1,6 +1,6 @@
 -- `lookup::package::Package::place_in` meets its contract.
 -- Assumes nothing.
-use Prim.Native.Nat.{◌+◌, ◌≤◌, ◌<◌}
+use Prim.Native.Nat.{◌+◌, ◌≤◌}
 use native.Mathlib.Omega.{arith}
 use Rattle.octets.specs.Checked.{mapped}
 use Rattle.bundle.specs.Scan.{size_of}

@@ -1,13 +1,13 @@
 -- `sheet::rows::IndexTable::mark_rows` meets its contract.
 -- Assumes nothing.
 use mathlib.Core.Path.{◌≡◌, sym, ap, ◌∙◌}
-use Prim.Native.Nat.{ℕ, suc, ◌-◌, ◌/◌, ◌≤◌, ◌<◌}
+use Prim.Native.Nat.{suc, ◌-◌, ◌/◌, ◌<◌}
 use native.Mathlib.Omega.{arith}
-use lib.ListN.{length, get_or}
+use lib.ListN.{length}
 use Rattle.octets.proofs.Placed.{length_zeros}
 use Rattle.sheet.specs.Held.{mark_words}
 use Rattle.sheet.proofs.LawMarks.{length_with_mark}
-use Rattle.sheet.proofs.LawSifted.{sifted_none, sifted_free, sifted_twice, sifted_more, sifted_all}
+use Rattle.sheet.proofs.LawSifted.{sifted_none, sifted_free, sifted_twice, sifted_more}
 use Rattle.sheet.proofs.rows.IndexTable.mark_rows.Goals as goal
 use Rattle.sheet.proofs.rows.IndexTable.mark_rows.Goals.{After-row_at-row}
 
