@@ -11,8 +11,8 @@ use Rattle.elf_writer.proofs.Loops.{putting_none, putting_room, putting_more, pu
 use Rattle.elf_writer.proofs.sections.put_bodies.Goals as goal
 use Rattle.elf_writer.proofs.sections.put_bodies.Goals.{In-loop-code}
 
-room : (i : In-loop-code) → i.loop-code.at + length (body_at i.args.package.now i.loop-code.code) ≤ length i.loop-code.d
-room i = putting_room (body_at i.args.package.now) i.args.d.now 64 i.requires.1 _ _ _ i.loop-code.invariant i.loop-code-test.true
+room : (i : In-loop-code) → i.loop-code.at + length (body_at i.args.package.now.bytes.now i.loop-code.code) ≤ length i.loop-code.d
+room i = putting_room (body_at i.args.package.now.bytes.now) i.args.d.now 64 i.requires _ _ _ i.loop-code.invariant i.loop-code-test.true
 
 pub loop-code-init : goal.loop-code-init
 loop-code-init c = putting_none _ _ _
@@ -32,10 +32,10 @@ pub loop-code-preserved : goal.loop-code-preserved
 unfolding body_at
 loop-code-preserved c =
     let b = c.section_bytes-s.ensures in
-    putting_more (body_at c.args.package.now) c.args.d.now 64 c.requires.1 _ _ _ c.loop-code.invariant c.loop-code-test.true _ _ (c.put_bytes.ensures ∙ ap (placed c.loop-code.d c.loop-code.at) b) (ap (λ (z : List ℕ). c.loop-code.at + length z) b)
+    putting_more (body_at c.args.package.now.bytes.now) c.args.d.now 64 c.requires _ _ _ c.loop-code.invariant c.loop-code-test.true _ _ (c.put_bytes.ensures ∙ ap (placed c.loop-code.d c.loop-code.at) b) (ap (λ (z : List ℕ). c.loop-code.at + length z) b)
 
 pub shape_of-d : goal.shape_of-d
 shape_of-d c = c.loop-code.invariant.same
 
 pub returns : goal.returns
-returns c = putting_end (body_at c.args.package.now) c.args.d.now 64 c.requires.1 _ _ _ c.loop-code.invariant c.loop-code-test.false
+returns c = putting_end (body_at c.args.package.now.bytes.now) c.args.d.now 64 c.requires _ _ _ c.loop-code.invariant c.loop-code-test.false
