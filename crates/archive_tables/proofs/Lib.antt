@@ -1,5 +1,4 @@
 -- The agreement of the tables with their rules, and what the program's proofs cite.
 -- Assumes nothing.
 pub mod Agreement
-pub mod Keys
 pub mod Named

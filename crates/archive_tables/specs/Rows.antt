@@ -1,10 +1,9 @@
--- What the program holds of the sections in a place. Nothing here need be believed.
+-- What the program prints by, of the rules. Nothing here need be believed.
 -- Assumes nothing.
-use Rattle.std.specs.Prelude.{List, [], ◌∷◌, ℕ}
-use Rattle.archive_tables.specs.declared.columns.InPlace.{InPlace}
-use Rattle.archive_tables.specs.declared.columns.InPlace.TheVariants.{Gone, One, Two}
+use Rattle.std.specs.Prelude.{true, false, List, [], ◌∷◌, ℕ, eqb}
+use Rattle.numbers.specs.Tables.{index5}
+use Rattle.archive_tables.specs.ColumnRule.{in_its_place}
 
-abbrev pub standing : InPlace → List ℕ
-standing Gone = []
-standing (One s) = s ∷ []
-standing (Two s t) = s ∷ t ∷ []
+-- the sections that a version has in the place of one of version 2
+unfoldable pub standing : ℕ → ℕ → List ℕ
+standing version s = elim (eqb version index5) [ true ↦ in_its_place s | false ↦ s ∷ [] ]

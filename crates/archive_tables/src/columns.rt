@@ -1,80 +1,55 @@
 // The columns of an index by its version, in order.
 ghost use Rattle.std.specs.Prelude.{◌≡◌};
-ghost use Rattle.archive_tables.specs.ColumnRule.{in_its_place, column_five};
+ghost use Rattle.archive_tables.specs.ColumnRule.{column_by_rule};
 ghost use Rattle.archive_tables.specs.Rows.{standing};
 
 use numbers::sections::{INFO, LOC, LOCLISTS, MACINFO, MACRO, RNGLISTS, TYPES};
 use numbers::tables::{INDEX_2, INDEX_5};
-use std::io;
-
-// The sections that version 5 has in the place of one of version 2.
-#[derive(Clone, Copy)]
-enum InPlace {
-    Gone,
-    One(usize),
-    Two(usize, usize),
-}
+use std::{io, slice};
 
 // One more than the last section with a column in version 2.
 const SECTIONS_END: usize = 9;
 
-#[tactic(auto, unfolding(crate::specs::ColumnRule::in_its_place))]
-fn in_its_place(section: usize) -> InPlace
-    ensures { standing result ≡ in_its_place section }
+// The sections that a version has in the place of one of version 2.
+#[tactic(auto, unfolding(crate::specs::Rows::standing, crate::specs::ColumnRule::in_its_place))]
+fn in_its_place(version: u32, section: &usize) -> &[usize]
+    ensures { result.now ≡ standing version section.now }
 {
-    match section {
-        TYPES | MACINFO => InPlace::Gone,
-        LOC => InPlace::Two(LOCLISTS, RNGLISTS),
-        _ => InPlace::One(section),
+    match (version, *section) {
+        (INDEX_5, TYPES | MACINFO) => &[],
+        (INDEX_5, LOC) => &[LOCLISTS, RNGLISTS],
+        _ => slice::from_ref(section),
     }
 }
 
-#[tactic(auto, unfolding(crate::specs::ColumnRule::column_five))]
-fn column_five(section: usize) -> usize
-    ensures { result ≡ column_five section }
+#[tactic(auto, unfolding(crate::specs::ColumnRule::column_by_rule, crate::specs::ColumnRule::column_five))]
+fn column_by_rule(version: u32, section: usize) -> usize
+    ensures { result ≡ column_by_rule version section }
 {
-    match section {
-        LOCLISTS => LOC,
-        MACRO => MACINFO,
-        RNGLISTS => MACRO,
+    match (version, section) {
+        (INDEX_5, LOCLISTS) => LOC,
+        (INDEX_5, MACRO) => MACINFO,
+        (INDEX_5, RNGLISTS) => MACRO,
         _ => section,
     }
 }
 
-fn print_column(rt: &impl Print, version: u32, section: usize, column: usize) -> io::Result<()> {
-    println!(rt; "{version} {section} {column}")
-}
-
-fn print_five(rt: &impl Print, section: usize) -> io::Result<()> {
-    print_column(rt, INDEX_5, section, column_five(section))
-}
-
-fn print_in_place(rt: &impl Print, section: usize) -> io::Result<()> {
-    match in_its_place(section) {
-        InPlace::Gone => Ok(()),
-        InPlace::One(s) => print_five(rt, s),
-        InPlace::Two(s, t) => {
-            print_five(rt, s)?;
-            print_five(rt, t)
-        }
-    }
-}
-
-fn print_two(rt: &impl Print) -> io::Result<()> {
-    for section in INFO..SECTIONS_END {
-        print_column(rt, INDEX_2, section, section)?;
+fn print_each(rt: &impl Print, version: u32, sections: &[usize]) -> io::Result<()> {
+    for section in sections {
+        let column = column_by_rule(version, *section);
+        println!(rt; "{version} {section} {column}")?;
     }
     Ok(())
 }
 
-fn print_five_all(rt: &impl Print) -> io::Result<()> {
+fn print_version(rt: &impl Print, version: u32) -> io::Result<()> {
     for section in INFO..SECTIONS_END {
-        print_in_place(rt, section)?;
+        print_each(rt, version, in_its_place(version, &section))?;
     }
     Ok(())
 }
 
 pub fn print_columns(rt: &impl Print) -> io::Result<()> {
-    print_two(rt)?;
-    print_five_all(rt)
+    print_version(rt, INDEX_2)?;
+    print_version(rt, INDEX_5)
 }

@@ -1,51 +1,53 @@
 // Forms and their widths, rising.
-ghost use Rattle.std.specs.Prelude.{◌≡◌};
-ghost use Rattle.unit.specs.Widths.{width_found};
+ghost use Rattle.std.specs.Prelude.{◌≡◌, option_map};
+ghost use Rattle.octets.specs.Options.{found};
+ghost use Rattle.unit.specs.Widths.{width_is};
 ghost use Rattle.archive_tables.specs.FormRule.{width_by_rule};
 
 use std::io;
-use unit::forms::{FormWidth, Width};
+use unit::forms::Width;
 
 // One more than the greatest form.
 const FORM_LIMIT: u64 = 0x1F03;
 
 // Each width with its forms, by their names.
-fn width_by_rule(form: u64) -> FormWidth
-    ensures { width_found result ≡ width_by_rule form }
+#[tactic(auto, unfolding(octets::specs::Lists::has, octets::specs::Lists::any, unit::specs::Widths::width_is, crate::specs::FormRule::classes, crate::specs::FormRule::width_among, crate::specs::FormRule::width_by_rule))]
+fn width_by_rule(form: u64) -> Option<Width>
+    ensures { option_map width_is result ≡ found (width_by_rule form) }
 {
     match form {
         // flag_present
-        0x19 => FormWidth::Is(Width::Fixed(0)),
+        0x19 => Some(Width::Fixed(0)),
         // data1; flag and ref1
-        0x0B => FormWidth::Is(Width::Fixed(1)),
-        0x0C | 0x11 => FormWidth::Is(Width::Fixed(1)),
+        0x0B => Some(Width::Fixed(1)),
+        0x0C | 0x11 => Some(Width::Fixed(1)),
         // data2, ref2
-        0x05 | 0x12 => FormWidth::Is(Width::Fixed(2)),
+        0x05 | 0x12 => Some(Width::Fixed(2)),
         // data4, ref4
-        0x06 | 0x13 => FormWidth::Is(Width::Fixed(4)),
+        0x06 | 0x13 => Some(Width::Fixed(4)),
         // data8, ref8, ref_sig8
-        0x07 | 0x14 | 0x20 => FormWidth::Is(Width::Fixed(8)),
+        0x07 | 0x14 | 0x20 => Some(Width::Fixed(8)),
         // addr
-        0x01 => FormWidth::Is(Width::Address),
+        0x01 => Some(Width::Address),
         // strp, ref_addr, sec_offset
-        0x0E | 0x10 | 0x17 => FormWidth::Is(Width::Offset),
+        0x0E | 0x10 | 0x17 => Some(Width::Offset),
         // udata and ref_udata; GNU_addr_index; GNU_str_index
-        0x0F | 0x15 => FormWidth::Is(Width::Uleb),
-        0x1F01 => FormWidth::Is(Width::Uleb),
-        0x1F02 => FormWidth::Is(Width::Uleb),
+        0x0F | 0x15 => Some(Width::Uleb),
+        0x1F01 => Some(Width::Uleb),
+        0x1F02 => Some(Width::Uleb),
         // sdata
-        0x0D => FormWidth::Is(Width::Sleb),
+        0x0D => Some(Width::Sleb),
         // string
-        0x08 => FormWidth::Is(Width::String),
+        0x08 => Some(Width::String),
         // indirect
-        0x16 => FormWidth::Is(Width::Indirect),
+        0x16 => Some(Width::Indirect),
         // block1, block2, block4
-        0x0A => FormWidth::Is(Width::Block1),
-        0x03 => FormWidth::Is(Width::Block2),
-        0x04 => FormWidth::Is(Width::Block4),
+        0x0A => Some(Width::Block1),
+        0x03 => Some(Width::Block2),
+        0x04 => Some(Width::Block4),
         // block, exprloc
-        0x09 | 0x18 => FormWidth::Is(Width::UlebBlock),
-        _ => FormWidth::Unknown,
+        0x09 | 0x18 => Some(Width::UlebBlock),
+        _ => None,
     }
 }
 
@@ -67,7 +69,7 @@ fn print_width(rt: &impl Print, width: Width) -> io::Result<()> {
 
 // A line, where the number is a form.
 fn print_number(rt: &impl Print, form: u64) -> io::Result<()> {
-    let FormWidth::Is(width) = width_by_rule(form) else {
+    let Some(width) = width_by_rule(form) else {
         return Ok(());
     };
     print!(rt; "{form:04X} ")?;

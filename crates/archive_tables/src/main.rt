@@ -11,6 +11,7 @@ ghost use Rattle.archive_tables.specs.Agreement.{TablesAgree};
 use std::io;
 
 // The tables of the source are, entry for entry, what these rules work out.
+#[tactic(auto, using(crate::proofs::Agreement::tables_agree))]
 fn agree()
     ensures { TablesAgree }
 {}

@@ -28,12 +28,14 @@ const WORDS: [&[u8]; 13] = [
 const NAME_LIMIT: usize = 22;
 
 // The one place that reads the words.
+#[tactic(auto, unfolding(numbers::specs::Names::dwo_words, numbers::specs::Names::index_words))]
 fn words() -> [&'static [u8]; 13]
     ensures { map (λ word. word.now) result ≡ dwo_words ++ index_words }
 {
     WORDS
 }
 
+#[tactic(auto, using(numbers::proofs::NameTable::bytes_at), unfolding(crate::specs::NameRule::word_of))]
 fn word_of(code: usize) -> &'static [u8]
     requires { (0 < code) × (code < section_codes) }
     ensures { result.now ≡ word_of code }

@@ -64,10 +64,6 @@ abbrev pub header_readable : File → Header → Bool
 header_readable e h = not (relocates_wanted e h) && (not (is_wanted e.names h) || (not (compressed h) && not (unstored h)))
 
 -- ---- the first unit
--- a header's bytes, where it is an info
-unfoldable pub info_of : List ℕ → List ℕ → Header → List ℕ
-info_of f names h = elim (eqb (code_of names h) info_code) [ true ↦ body_of f h | false ↦ [] ]
-
 -- the word of a version and width, with the address size stated
 unfoldable pub word_with : Encoding → Check ℕ → Check ℕ
 word_with e (pass a) = pass (object_word (with_address e a))

@@ -6,14 +6,15 @@ use mathlib.Core.List.{List}
 use Prim.Native.Nat.{ℕ, ◌-◌, ◌≤◌, ◌<◌}
 use lib.ListN.{length}
 use borrow.Author.Tests.{le-leb, lt-leb}
-use Rattle.numbers.specs.Refusals.{bad_package, other_machine, file_short}
+use Rattle.numbers.specs.Refusals.{other_machine, file_short}
 use Rattle.octets.specs.Octets.{zeros, padded}
 use Rattle.octets.specs.Checked.{Check, pass, refuse}
 use Rattle.octets.proofs.Checks.{passes, fails, then_pass, then_refuse}
 use Rattle.answers.specs.Answers.{Answer, refused, made, output_of, written_of}
 use Rattle.answers.specs.declared.Written.{Written}
 use Rattle.lookup.specs.Lookup.{package_of}
-use Rattle.lookup.specs.Answers.{package_in}
+use Rattle.lookup.specs.Answers.{head_in, opened, package_in}
+use Rattle.lookup.proofs.Told.{of_refuse}
 use Rattle.elf.specs.Writer.{machine_good, file_judged, in_output, elf_written}
 use Rattle.elf_writer.specs.Held.{file_of}
 
@@ -41,9 +42,9 @@ module _ (p : List ℕ) (machine o : ℕ) where
   written_machine e = ap (λ (c : Check (List ℕ)). in_output c o) (fails _ _ _ e)
 
   module _ (g : machine_good machine ≡ true) where
-    pub written_bad : package_of p ≡ refuse bad_package → elf_written p machine o ≡ refused bad_package
-    unfolding elf_written file_judged in_output
-    written_bad e = ap (λ (c : Check (List ℕ)). in_output c o) (passes _ _ _ g ∙ then_refuse _ _ bad_package e)
+    pub written_bad : (n : ℕ) → refuse n ≡ opened (package_of p) → elf_written p machine o ≡ refused n
+    unfolding elf_written file_judged in_output opened
+    written_bad n e = ap (λ (c : Check (List ℕ)). in_output c o) (passes _ _ _ g ∙ then_refuse _ _ n (of_refuse head_in (package_of p) n e))
 
     module _ (is : package_of p ≡ pass (package_in p)) where
       judged : file_judged p machine ≡ pass (file_of p machine)

@@ -11,7 +11,7 @@ use Rattle.octets.specs.Octets.{placed}
 use Rattle.octets.proofs.Placed.{placed_placed, length_placed}
 use Rattle.bundle.specs.declared.Scan.{Scan}
 use Rattle.elf.specs.Writer.{section_header, string_table}
-use Rattle.elf_writer.specs.Held.{counted, header_at, place_after, sum_from, headers_of, headers_from, first_header, Bounded}
+use Rattle.elf_writer.specs.Held.{counted, header_at, place_after, sum_from, headers_of, headers_from, first_header, size_at}
 use Rattle.elf_writer.specs.declared.sections.HeaderPlace.{HeaderPlace}
 use Rattle.elf_writer.proofs.Codes.{codes_turn, codes_end, sum_turn}
 use Rattle.elf_writer.proofs.Cases.{after_at, after_counted, after_name, after_offset}
@@ -52,7 +52,7 @@ module _ (big : Bool) (table : ℕ) (s : Scan) (d₀ : List ℕ) (from : ℕ) wh
     pub heading_room : h.at + 64 ≤ length d
     heading_room = omega (arith, p.room, p.same)
 
-    pub heading_more : Bounded s → code < 14 → (x : List ℕ) (n : HeaderPlace) → n ≡ place_after s code h → x ≡ placed d h.at (header_at big s code h)
+    pub heading_more : size_at s code ≤ 117_440_512 → code < 14 → (x : List ℕ) (n : HeaderPlace) → n ≡ place_after s code h → x ≡ placed d h.at (header_at big s code h)
         → Heading big table s d₀ from x n (code + 1)
     heading_more b g x n en ex =
         let a = ap (λ (z : HeaderPlace). z.at) en in
@@ -65,7 +65,7 @@ module _ (big : Bool) (table : ℕ) (s : Scan) (d₀ : List ℕ) (from : ℕ) wh
           same = ap length ex ∙ length_placed d h.at (header_at big s code h) long ∙ p.same;
           room = omega (arith, a, after_counted s code h, p.room, ap (λ (k : ℕ). 64 * k) t, m);
           name = omega (arith, p.name, ap (λ (z : HeaderPlace). z.name) en, after_name s code g h);
-          offset = omega (arith, p.offset, ap (λ (z : HeaderPlace). z.offset) en, after_offset s code h, b.is code g);
+          offset = omega (arith, p.offset, ap (λ (z : HeaderPlace). z.offset) en, after_offset s code h, b);
           holds = ap₂ (λ (z : List ℕ) (y : HeaderPlace). placed z y.at (headers_from big table s y (code + 1))) ex en
               ∙ ap (λ (k : ℕ). placed (placed d h.at (header_at big s code h)) k (headers_from big table s (place_after s code h) (code + 1))) (after_at s code big h)
               ∙ placed_placed d h.at (header_at big s code h) (headers_from big table s (place_after s code h) (code + 1)) long

@@ -9,7 +9,7 @@ use Rattle.octets.specs.Octets.{placed}
 use Rattle.octets.proofs.Placed.{placed_placed, placed_none, length_placed}
 use Rattle.bundle.specs.declared.Scan.{Scan}
 use Rattle.elf.specs.Writer.{ended_name, table_name}
-use Rattle.elf_writer.specs.Held.{size_at, counted, name_at, joined_from, sum_from, name_table_of, Measured, Bounded}
+use Rattle.elf_writer.specs.Held.{size_at, counted, name_at, joined_from, sum_from, name_table_of, Measured}
 use Rattle.elf_writer.specs.declared.sections.Extent.{Extent}
 use Rattle.elf_writer.proofs.Codes.{joined_turn, joined_end, sum_turn, sum_end}
 use Rattle.elf_writer.proofs.Cases.{counted_most, name_most}
@@ -38,7 +38,7 @@ measuring_none s = record {
 }
 
 module _ (s : Scan) (e : Extent) (code : ℕ) (m : Measuring s e code) where
-  pub measuring_more : Bounded s → code < 14 → (r : Extent) → r.count ≡ e.count + counted s code → r.bodies ≡ e.bodies + size_at s code
+  pub measuring_more : size_at s code ≤ 117_440_512 → code < 14 → (r : Extent) → r.count ≡ e.count + counted s code → r.bodies ≡ e.bodies + size_at s code
       → r.names ≡ e.names + length (name_at s code) → Measuring s r (code + 1)
   measuring_more b h r ec eb en =
       record {
@@ -48,7 +48,7 @@ module _ (s : Scan) (e : Extent) (code : ℕ) (m : Measuring s e code) where
         bodies = omega (arith, m.bodies, sum_turn (size_at s) code m.first h);
         names = omega (arith, m.names, ap length (joined_turn (name_at s) code m.first h), length-append (name_at s code) (joined_from (name_at s) (code + 1)));
         few = omega (arith, m.few, counted_most s code);
-        short = omega (arith, m.short, b.is code h);
+        short = omega (arith, m.short, b);
         brief = omega (arith, m.brief, name_most s code h);
       }
 

@@ -9,11 +9,12 @@ ghost use Rattle.strings.specs.Strings.{entries_of};
 ghost use Rattle.strings.specs.Kept.{none, Inside, bytes_at};
 ghost use Rattle.strings.specs.Objects.{entries_at, AllAddable};
 ghost use Rattle.strings_remap.specs.Strung.{Strung};
+ghost use Rattle.strings_remap.specs.declared.Failure.TheVariants.{Refused};
 
 use bundle::encoding::ObjectEncoding;
+use numbers::limits::STRING_WORDS;
 use numbers::refusals::Refusal;
 use std::io;
-use strings::entries::Section;
 use strings::table::{Place, StrOffsets, StringTable};
 
 // Why there are no new sections.
@@ -22,6 +23,14 @@ enum Failure {
     Refused(Refusal),
     // the table or the output of this program is too short for the case
     Short,
+}
+
+impl From<Refusal> for Failure {
+    ghost from_gives = { λ r f. f ≡ Refused r };
+
+    fn from(refusal: Refusal) -> Failure {
+        Failure::Refused(refusal)
+    }
 }
 
 // The new str_offsets from the front of the output, and the new str behind it: where str starts, and where it ends.
@@ -35,11 +44,8 @@ fn write_sections(
     requires { Strung b.now o table.now t }
 {
     let at = o.offsets.size;
-    if output.len() < at {
-        return Err(Failure::Short);
-    }
     let size = t.size;
-    if output.len() - at < size {
+    if output.len() < at || output.len() - at < size {
         return Err(Failure::Short);
     }
     let first = strings::table::places_from(table.len());
@@ -67,9 +73,7 @@ fn remap_entries(
         entries: 0,
         over: false,
     };
-    let Ok(()) = kept.add_strings(o, b, store, words) else {
-        return Err(Failure::Refused(Refusal::NoString));
-    };
+    kept.add_strings(o, b, store, words)?;
     if kept.over {
         return Err(Failure::Refused(Refusal::SectionTooLong));
     }
@@ -86,15 +90,8 @@ fn remap(
 ) -> Result<(usize, usize), Failure>
     requires { (length b.now < 2 ^ 32) × Inside b.now o.offsets × Inside b.now o.strings × (words ≤ length store.old) × (words < 2 ^ 32) }
 {
-    let text = o.strings;
-    let section = o.section(b);
-    let Ok(n) = section.check_entries() else {
-        return Err(Failure::Refused(Refusal::BadStrOffsets));
-    };
-    if words / 7 < n {
-        return Err(Failure::Short);
-    }
-    if store.len() - words < text.size {
+    let n = o.section(b).check_entries()?;
+    if words / STRING_WORDS < n || store.len() - words < o.strings.size {
         return Err(Failure::Short);
     }
     remap_entries(o, b, store, words, output)

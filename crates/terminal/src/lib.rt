@@ -15,6 +15,7 @@ pub fn read_full<R: Read>(reader: &mut R, buffer: &mut [u8]) -> io::Result<usize
     ensures end { IfOk result (λ n. n < length buffer.new → IsAtEnd (R.remaining reader.new)) }
 {
     let mut done = 0;
+    // What a read gives is not known before it. The library's `read_exact` fails where the input is shorter, and `read_to_end` needs a heap.
     while done < buffer.len() {
         let n = reader.read(&mut buffer[done..])?;
         if n == 0 {

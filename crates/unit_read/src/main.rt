@@ -4,8 +4,10 @@
 ghost use Rattle.std.specs.Prelude.{◌≤◌, ◌<◌, ◌^◌, length, IfOk, IfSome};
 
 use bundle::encoding::ObjectEncoding;
+use numbers::refusals::Refusal;
 use std::io;
-use unit::header::{UnitAnswer, UnitPlace};
+use unit::header::{UnitPlace, UnitRead};
+use unit::judged::Judged;
 
 // Bit 0 is big-endian data, bit 1 version 5, bit 2 offsets and bit 3 addresses of 8 bytes.
 fn encoding(flags: u8) -> ObjectEncoding {
@@ -17,12 +19,16 @@ fn encoding(flags: u8) -> ObjectEncoding {
     }
 }
 
-fn write_answer(rt: &impl Print, answer: UnitAnswer) -> io::Result<()> {
+fn write_answer(rt: &impl Print, answer: Result<UnitRead, Refusal>) -> io::Result<()> {
     match answer {
-        UnitAnswer::Read(size, table, identity) => {
-            println!(rt; "{size} {table} {identity:016x}")
-        }
-        UnitAnswer::Refused(number) => println!(rt; "refused {number}"),
+        Ok(
+            UnitRead {
+                size,
+                table,
+                identity,
+            },
+        ) => println!(rt; "{size} {table} {identity:016x}"),
+        Err(refusal) => println!(rt; "refused {}", refusal.number()),
     }
 }
 
@@ -46,15 +52,8 @@ fn run_case<'a>(rt: &impl Print, s: &'a [u8], codes: &mut [u32]) -> io::Result<O
         first: 4,
         last: mid,
     };
-    let read = unit::header::read_unit(
-        e,
-        u32::from(*code),
-        s,
-        place,
-        codes,
-        unit::judged::nothing(),
-    );
-    let answer = read.answer;
+    let mut judged = Judged::nothing();
+    let answer = unit::header::read_unit(e, u32::from(*code), s, place, codes, &mut judged);
     write_answer(rt, answer)?;
     Ok(Some(&s[end..]))
 }

@@ -6,8 +6,8 @@ use Rattle.strings_remap.proofs.remap.Goals as goal
 pub remap_entries-requires : goal.remap_entries-requires
 remap_entries-requires c =
     let a = c.requires in
-    let s = c.section-section.ensures in
-    let n = section_counted c.args.o c.args.b.now _ _ s.encoding s.bytes _ c.in-Ok.ensures in (
+    let s = c.section.ensures in
+    let n = section_counted c.args.o c.args.b.now _ _ s.encoding s.bytes _ c.in_ok-n.ensures in (
       a.3,
       record {
         limit = a.0;

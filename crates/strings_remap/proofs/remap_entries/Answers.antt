@@ -16,26 +16,27 @@ front_cleared b words n x e h =
     kept_cleared b (take words x) (q ∙ sym (ap zeros (ap length q ∙ length_zeros words)))
 
 pub add_strings-requires : goal.add_strings-requires
+unfolding zeros
 add_strings-requires c =
     let p = c.requires.1 in (
-      omega (arith, c.requires.0, c.fill.auto.s),
+      omega (arith, c.requires.0, c.fill.ensures.len),
       record {
         limit = p.limit;
         offsets_inside = p.offsets_inside;
         strings_inside = p.strings_inside;
-        enough = omega (arith, p.enough, c.fill.auto.s);
+        enough = omega (arith, p.enough, c.fill.ensures.len);
         room = p.room;
         small = p.small;
       },
-      ([], front_cleared _ _ _ _ c.fill.ensures c.requires.0),
+      ([], front_cleared _ _ _ _ (c.fill.ensures.after (λ y e. e)) c.requires.0),
     )
 
 pub write_sections-requires : goal.write_sections-requires
-unfolding places_from table_in
+unfolding zeros places_from table_in
 write_sections-requires c =
     let p = c.requires.1 in
-    let d = c.in-Ok.ensures [] (front_cleared _ _ _ _ c.fill.ensures c.requires.0) in
-    let l = length-take-le c.args.words c.add_strings.new.store (omega (arith, c.requires.0, c.add_strings.auto.store, c.fill.auto.s)) in
+    let d = c.in_ok-add_strings.ensures [] (front_cleared _ _ _ _ (c.fill.ensures.after (λ y e. e)) c.requires.0) in
+    let l = length-take-le c.args.words c.add_strings.new.store (omega (arith, c.requires.0, c.add_strings.auto.store, c.fill.ensures.len)) in
     record {
       inside = p.offsets_inside;
       entries = c.requires.2;
