@@ -6,25 +6,26 @@ use Prim.Native.Nat.{ℕ}
 use lib.ListN.{take}
 use Rattle.octets.proofs.Numbers.{Bytes}
 use Rattle.package.specs.Pack.{Answer, packed}
-use Rattle.finish.specs.Finish.{finished_of, output_of}
-use Rattle.finish.specs.declared.whole.Finished.TheVariants.{Refused, Short, Made}
+use Rattle.std.specs.Prelude.{Ok, Err}
+use Rattle.answers.specs.Answers.{output_of}
+use Rattle.answers.specs.Outcome.{outcome_of, outcome_as}
+use Rattle.answers.specs.Written.{written_as}
+use Rattle.answers.specs.declared.Unwritten.{Unwritten}
+use Rattle.answers.specs.declared.Unwritten.TheVariants.{Refused, Short}
 use Rattle.lookup.specs.Lookup.{Found, looked_up, string_found}
 use Rattle.lookup.specs.Answers.{numbered}
 use Rattle.lookup.specs.declared.answering.Answer.{Answer as Numbers}
-use Rattle.packer.proofs.Made.{short_is, refused_is, it, starts}
+use Rattle.packer.proofs.Answered.{short_is, refused_is, it, starts}
 use Rattle.archive.specs.Question.{Looked, PartTold, StringTold, unpacked, AnsweredFrom}
 use Rattle.archive.specs.declared.asking.FromBundle.{FromBundle}
 use Rattle.archive.proofs.Demand3.{demand3}
 use Rattle.archive.proofs.Telling.{part_told, string_told}
 
-module _ (told : List ℕ → FromBundle → Type 0) (a : Answer) (n : ℕ) (r : FromBundle) where
-  pub short_told : Short n ≡ finished_of a → r ≡ unpacked 18 n → AnsweredFrom told a r
+module _ (told : List ℕ → FromBundle → Type 0) (a : Answer) (r : FromBundle) where
+  pub unpacked_told : (u : Unwritten) → outcome_as (Err u) ≡ outcome_of a → r ≡ unpacked (written_as (Err u)).code (written_as (Err u)).length → AnsweredFrom told a r
   unfolding AnsweredFrom
-  short_told e q = rw (short_is a n e) q
-
-  pub refused_told : Refused n ≡ finished_of a → r ≡ unpacked n 0 → AnsweredFrom told a r
-  unfolding AnsweredFrom
-  refused_told e q = rw (refused_is a n e) q
+  unpacked_told (Refused n) e q = rw (refused_is a _ e) q
+  unpacked_told (Short n) e q = rw (short_is a n e) q
 
 -- the answer that the code puts together
 abbrev together : ℕ → Numbers → FromBundle
@@ -33,7 +34,7 @@ together n x = record { packing = 0; packed = n; code = x.code; start = x.start;
 looked : (n : ℕ) (x : Numbers) (f : Found) → x ≡ numbered f → Looked (together n x) f
 looked n x f e = record { code = ap (λ (y : Numbers). y.code) e; start = ap (λ (y : Numbers). y.start) e; many = ap (λ (y : Numbers). y.length) e; looked = ap (λ (y : Numbers). y.looks) e }
 
-module _ (b : List ℕ) (w o n : ℕ) (out : List ℕ) (e : Made n ≡ finished_of (packed b w o)) (f : out ≡ output_of (packed b w o) o) (h : Bytes b) (v table x : ℕ) (y : Numbers) (r : FromBundle) (q : r ≡ together n y) where
+module _ (b : List ℕ) (w o n : ℕ) (out : List ℕ) (e : outcome_as (Ok n) ≡ outcome_of (packed b w o)) (f : out ≡ output_of (packed b w o) o) (h : Bytes b) (v table x : ℕ) (y : Numbers) (r : FromBundle) (q : r ≡ together n y) where
   answered : (told : List ℕ → FromBundle → Type 0) → told (it (packed b w o) n o out e f).0 (together n y) → AnsweredFrom told (packed b w o) r
   unfolding AnsweredFrom
   answered told t = rw ((it (packed b w o) n o out e f).1, q) (refl, (it (packed b w o) n o out e f).2, t)

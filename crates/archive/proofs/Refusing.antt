@@ -12,7 +12,7 @@ use Rattle.bundle.specs.Bundle.{length_good}
 use Rattle.package.specs.Pack.{Answer, refused, short, made, packed}
 use Rattle.package.proofs.Refusing.{Refusal, packed_refuses}
 use Rattle.packer.specs.Small.{packed_small}
-use Rattle.finish.specs.Finish.{finished_of}
+use Rattle.answers.specs.Outcome.{outcome_of}
 use Rattle.packer.specs.Told.{told_of, numbered as told}
 use Rattle.lookup.specs.Lookup.{Found, refused as refusal, absent, part, looked_up, string_found}
 use Rattle.lookup.specs.Answers.{numbered}
@@ -20,7 +20,7 @@ use Rattle.lookup.proofs.Refusing.{part_refuses, string_refuses}
 use Rattle.archive.specs.Refusing.{PackingCode, LookupCode, RefusesByNumber}
 
 packing_code : (b : List ℕ) (a : Answer) → ((n : ℕ) → a ≡ refused n → Refusal n) → PackingCode (told b a).code
-unfolding told told_of finished_of
+unfolding told told_of outcome_of
 packing_code b (refused n) h = ⊎_elim (λ r. inr (inl r)) (λ r. inr (inr (inr r))) (h n refl)
 packing_code b (short n) h = inr (inr (inl refl))
 packing_code b (made p) h = inl refl
@@ -35,7 +35,7 @@ packs : (b : List ℕ) (w o : ℕ) → PackingCode (told b (packed b w o)).code
 packs b w o = packing_code b (packed b w o) (packed_refuses b w o)
 
 packs_small : (b : List ℕ) (o : ℕ) → PackingCode (told b (packed_small b o)).code
-unfolding packed_small told told_of finished_of
+unfolding packed_small told told_of outcome_of
 packs_small b o = ⊎_elim
     (λ (t : length_good 1_024 b ≡ true). rw (packed_small, t) (packs b small_work o))
     (λ (t : length_good 1_024 b ≡ false). rw (packed_small, t) (inr (inl (omega arith, omega arith))))

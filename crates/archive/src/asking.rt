@@ -1,20 +1,20 @@
 // A bundle packed, and one question put to its package: demand 3 of what runs.
-ghost use Rattle.std.specs.Prelude.{◌≡◌, length};
+ghost use Rattle.std.specs.Prelude.{◌≡◌, Err, length};
 ghost use Rattle.octets.specs.Octets.{zeros};
 ghost use Rattle.package.specs.Pack.{packed};
-ghost use Rattle.finish.specs.Finish.{output_of};
+ghost use Rattle.answers.specs.Answers.{output_of};
+ghost use Rattle.answers.specs.Written.{written_as};
 ghost use Rattle.archive.specs.Question.{unpacked, PartAnswered, StringAnswered};
 
-use finish::whole::Finished;
+use answers::{Unwritten, Written};
 use lookup::answering::Answer;
 use lookup::searching::UnitAsked;
-use numbers::refusals::OUTPUT_SHORT;
 
 // Where no package was made: neither found nor absent, and no refusal of a lookup.
 const NOT_LOOKED_UP: u32 = 2;
 
 // Packing's answer: 0 and the package's length, 18 and the length needed, else the refusal and 0. Where it is 0, the lookup's answer,
-// else `NOT_LOOKED_UP` and zeros.
+// else `NOT_LOOKED_UP` and zeros. Numbers, since C callers read it.
 #[repr(C)]
 #[derive(Clone, Copy)]
 pub struct FromBundle {
@@ -26,26 +26,32 @@ pub struct FromBundle {
     pub looks: usize,
 }
 
-fn not_packed(number: u32, needed: usize) -> FromBundle
-    ensures { result ≡ unpacked number needed }
-{
-    FromBundle {
-        packing: number,
-        packed: needed,
-        code: NOT_LOOKED_UP,
-        start: 0,
-        length: 0,
-        looks: 0,
+impl From<Unwritten> for FromBundle {
+    ghost from_gives = { λ u r. r ≡ unpacked (written_as (Err u)).code (written_as (Err u)).length };
+
+    #[tactic(auto, unfolding(crate::specs::Question::unpacked))]
+    fn from(unwritten: Unwritten) -> FromBundle {
+        let packing = Written::from(Err(unwritten));
+        FromBundle {
+            packing: packing.code,
+            packed: packing.length,
+            code: NOT_LOOKED_UP,
+            start: 0,
+            length: 0,
+            looks: 0,
+        }
     }
 }
 
-fn answered(packed: usize, a: Answer) -> FromBundle
-    ensures { result ≡ record { packing = 0; packed = «packed»; code = a.code; start = a.start; length = a.length; looks = a.looks } }
+fn answered(packed: usize, answer: Answer) -> FromBundle
+    ensures { result ≡ record { packing = 0; packed = «packed»; code = answer.code; start = answer.start; length = answer.length; looks = answer.looks } }
 {
-    let code = a.code;
-    let start = a.start;
-    let length = a.length;
-    let looks = a.looks;
+    let Answer {
+        code,
+        start,
+        length,
+        looks,
+    } = answer;
     FromBundle {
         packing: 0,
         packed,
@@ -69,12 +75,11 @@ pub fn pack_and_look_up(
     ensures work { work.new ≡ zeros (length work.old) }
 {
     match packer::pack(b, work, out) {
-        Finished::Made(n) => {
-            let a = lookup::answering::answer_part(&out[..n], unit, section);
-            answered(n, a)
+        Ok(n) => {
+            let answer = lookup::answering::answer_part(&out[..n], unit, section);
+            answered(n, answer)
         }
-        Finished::Short(n) => not_packed(OUTPUT_SHORT, n),
-        Finished::Refused(number) => not_packed(number, 0),
+        Err(unwritten) => FromBundle::from(unwritten),
     }
 }
 
@@ -91,11 +96,10 @@ pub fn pack_and_look_up_string(
     ensures work { work.new ≡ zeros (length work.old) }
 {
     match packer::pack(b, work, out) {
-        Finished::Made(n) => {
-            let a = lookup::answering::answer_string(&out[..n], unit, entry);
-            answered(n, a)
+        Ok(n) => {
+            let answer = lookup::answering::answer_string(&out[..n], unit, entry);
+            answered(n, answer)
         }
-        Finished::Short(n) => not_packed(OUTPUT_SHORT, n),
-        Finished::Refused(number) => not_packed(number, 0),
+        Err(unwritten) => FromBundle::from(unwritten),
     }
 }

@@ -12,7 +12,7 @@ pub mod profiling;
 ghost use Rattle.std.specs.Prelude.{◌≡◌, length};
 ghost use Rattle.octets.specs.Octets.{zeros};
 ghost use Rattle.package.specs.Pack.{packed};
-ghost use Rattle.finish.specs.Finish.{output_of};
+ghost use Rattle.answers.specs.Answers.{output_of};
 ghost use Rattle.packer.specs.Small.{packed_small};
 ghost use Rattle.packer.specs.Told.{numbered as told};
 ghost use Rattle.lookup.specs.Lookup.{looked_up, string_found};

@@ -1,22 +1,20 @@
 -- `pack_and_look_up` meets its contract: by those of packing and of looking up, and the theorem.
 -- Assumes nothing.
-use mathlib.Core.Path.{sym, ◌∙◌}
+use mathlib.Core.Path.{sym, ap, ◌∙◌}
+use Rattle.answers.specs.Outcome.{outcome_as}
 use lib.Seq.{length-take-le}
-use Rattle.packer.proofs.Made.{package_fits}
-use Rattle.archive.proofs.Packaged.{part_answered, short_told, refused_told}
+use Rattle.packer.proofs.Answered.{package_fits}
+use Rattle.archive.proofs.Packaged.{part_answered, unpacked_told}
 use Rattle.archive.proofs.asking.pack_and_look_up.Goals as goal
 
 pub slice_bounds-answer_part-end : goal.slice_bounds-answer_part-end
-slice_bounds-answer_part-end c = package_fits _ _ _ _ (sym c.in-Made.is ∙ c.pack.ensures.answer) c.pack.ensures.output
+slice_bounds-answer_part-end c = package_fits _ _ _ _ (ap outcome_as (sym c.in-Ok.is) ∙ c.pack.ensures.answer) c.pack.ensures.output
 
-pub slice_bounds-answer_part-end-in-Made : goal.slice_bounds-answer_part-end-in-Made
-slice_bounds-answer_part-end-in-Made c = sym (length-take-le _ _ (package_fits _ _ _ _ (sym c.in-Made.is ∙ c.pack.ensures.answer) c.pack.ensures.output))
+pub slice_bounds-answer_part-end-in-Ok : goal.slice_bounds-answer_part-end-in-Ok
+slice_bounds-answer_part-end-in-Ok c = sym (length-take-le _ _ (package_fits _ _ _ _ (ap outcome_as (sym c.in-Ok.is) ∙ c.pack.ensures.answer) c.pack.ensures.output))
 
-pub returns-in-Made : goal.returns-in-Made
-returns-in-Made c = record { answer = part_answered _ _ _ _ _ (sym c.in-Made.is ∙ c.pack.ensures.answer) c.pack.ensures.output (λ i. (c.type_inv.b i).fits) _ _ _ _ _ c.answered.ensures _ c.answer_part-a.ensures; output = c.pack.ensures.output; work = c.pack.ensures.work }
+pub returns-in-Ok : goal.returns-in-Ok
+returns-in-Ok c = record { answer = part_answered _ _ _ _ _ (ap outcome_as (sym c.in-Ok.is) ∙ c.pack.ensures.answer) c.pack.ensures.output (λ i. (c.type_inv.b i).fits) _ _ _ _ _ c.answered.ensures _ c.answer_part-answer.ensures; output = c.pack.ensures.output; work = c.pack.ensures.work }
 
-pub returns-in-Short : goal.returns-in-Short
-returns-in-Short c = record { answer = short_told _ _ _ _ (sym c.in-Short.is ∙ c.pack.ensures.answer) c.not_packed.ensures; output = c.pack.ensures.output; work = c.pack.ensures.work }
-
-pub returns-in-Refused : goal.returns-in-Refused
-returns-in-Refused c = record { answer = refused_told _ _ _ _ (sym c.in-Refused.is ∙ c.pack.ensures.answer) c.not_packed-in-Refused.ensures; output = c.pack.ensures.output; work = c.pack.ensures.work }
+pub returns-in-Err : goal.returns-in-Err
+returns-in-Err c = record { answer = unpacked_told _ _ _ _ (ap outcome_as (sym c.in-Err.is) ∙ c.pack.ensures.answer) c.from.ensures; output = c.pack.ensures.output; work = c.pack.ensures.work }
