@@ -2,17 +2,15 @@
 -- Assumes nothing.
 use mathlib.Core.Path.{◌≡◌, refl, sym, ap, ◌∙◌}
 use mathlib.Core.List.{List, [], ◌∷◌, ◌++◌, map}
-use Prim.Native.Nat.{ℕ, ◌+◌, ◌-◌, ◌≤◌}
+use Prim.Native.Nat.{ℕ, ◌+◌, ◌≤◌}
 use native.Mathlib.Omega.{arith}
-use lib.ListN.{length, take, drop, get_or, length-append}
+use lib.ListN.{length, length-append}
 use Rattle.octets.specs.Octets.{placed}
 use Rattle.octets.specs.Lists.{joined}
 use Rattle.octets.specs.Checked.{pass}
 use Rattle.octets.proofs.Joined.{joined_append, joined_snoc, map-append}
 use Rattle.octets.proofs.Placed.{placed_placed, placed_none, length_placed}
-use Rattle.octets.proofs.Parts.{length_part, part_cut}
-use Rattle.bundle.specs.Bundle.{Object, Bundle, bundle_of, objects_of, body}
-use Rattle.bundle.specs.declared.Scan.{Scan}
+use Rattle.bundle.specs.Bundle.{Object, Bundle, bundle_of, objects_of}
 use Rattle.bundle.proofs.Objects.{Objects, objects_none}
 
 -- f says what an object gives

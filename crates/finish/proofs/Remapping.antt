@@ -9,7 +9,7 @@ use borrow.Author.Tests.{eq-eqb, ne_eqb}
 use lib.ListN.{length, take, drop, get_or, length-append, length-drop}
 use Rattle.octets.specs.Octets.{placed}
 use Rattle.octets.specs.Lists.{joined}
-use Rattle.octets.proofs.Parts.{length_part, part_cut, cut_rest}
+use Rattle.octets.proofs.Parts.{part_cut, cut_rest}
 use Rattle.octets.specs.Checked.{pass}
 use Rattle.bundle.specs.Bundle.{Object, Bundle, bundle_of, body, objects_of}
 use Rattle.bundle.specs.Encoding.{Encoding}
@@ -18,13 +18,13 @@ use Rattle.bundle.specs.declared.encoding.ObjectEncoding.{ObjectEncoding}
 use Rattle.bundle.specs.declared.Scan.{Scan}
 use Rattle.strings.specs.Strings.{first_uses, offset_in}
 use Rattle.strings.specs.Kept.{places_from, places_in, places_of}
-use Rattle.strings.specs.Headed.{Headed, entries_all, pieces_with, PiecesWritable, PiecesWritten}
+use Rattle.strings.specs.Headed.{Headed, entries_all, pieces_with, PiecesWritable}
 use Rattle.strings.proofs.StrOffsets.{Sound, sound}
 use Rattle.strings.proofs.HeadedWriting.{entries_all_used, pieces_with_more, places_within, places_behind}
 use Rattle.finish.specs.Joining.{sections_joined, shared_joined, given, cut, remapped_in, EntriesGood, UsedBy, Givable, GivenPut}
 use Rattle.finish.proofs.Cutting.{remapped_length}
 use Rattle.finish.proofs.Entering.{AtObject, scanned_body}
-use Rattle.finish.proofs.JoinedObjects.{Joining, joining_none, joining_none_done, joining_room, joining_more, joining_more_done, joining_end, read_once}
+use Rattle.finish.proofs.JoinedObjects.{Joining, joining_none, joining_none_done, joining_room, joining_more, joining_more_done, joining_end}
 
 -- ---- the strings of one object among those of all
 -- how many entries the objects have

@@ -9,10 +9,7 @@ use native.Mathlib.Decide.{ℕ_discrete}
 use lib.ListN.{length, get_or, set, length-set}
 use lib.Seq.{get_or-set_same, get_or-set_other}
 use borrow.Author.Tests.{eq-eqb, ne_eqb}
-use Rattle.bundle.specs.Encoded.{encoding_is}
 use Rattle.bundle.specs.declared.encoding.ObjectEncoding.{ObjectEncoding}
-use Rattle.strings.specs.Strings.{first_uses}
-use Rattle.strings.proofs.StrOffsets.{sound}
 use Rattle.index.specs.Probing.{slots_for}
 use Rattle.kept.specs.Regions.{records_region, region}
 use Rattle.kept.specs.Columns.{codes_in}
@@ -21,8 +18,7 @@ use Rattle.kept.specs.Indexed.{index_size}
 use Rattle.kept.proofs.Pieces.{index_length}
 use Rattle.kept.proofs.Placing.{slots_long}
 use Rattle.numbers.specs.Tables.{compilation_table, type_table}
-use Rattle.finish.specs.Joining.{sections_joined}
-use Rattle.finish.proofs.Remapping.{shared_long}
+use Rattle.finish.proofs.Dispatch.{ready_long}
 use Rattle.finish.specs.Sections.{Sized}
 use Rattle.kept.specs.declared.Table.{Table}
 use Rattle.kept.specs.declared.state.InProgress.{InProgress}
@@ -130,9 +126,6 @@ module _ (e : ObjectEncoding) (b : List ℕ) (st : InProgress) (w : List ℕ) (s
   unfolding s0
   between c h g = off_1 c (omega arith) (λ z. omega arith) (λ z. omega arith) ∙ get_or-set_other st.bases 0 c 0 0 (λ z. omega arith)
 
-  shared_size : (c : ℕ) → 3 ≤ c → c ≤ 10 → length (sections_joined b r.bundle.objects c) ≡ length (s c)
-  shared_size c h g = sym (ap length (r.shared c h g) ∙ shared_long (encoding_is e) (first_uses r.used) b c (sound e) r.bundle.objects r.used r.good)
-
   sizes_are : (c : ℕ) → 1 ≤ c → c < 14 → get_or (sizes_of five st) c 0 ≡ length (s c)
   unfolding five
   sizes_are c h g = elim (ℕ_discrete c 1) [
@@ -145,7 +138,7 @@ module _ (e : ObjectEncoding) (b : List ℕ) (st : InProgress) (w : List ℕ) (s
           | yes z ↦ rw z (at_12 ∙ index_size_is e compilation_table st.units.cu _ _ w (s 12) r.cu)
           | no n12 ↦ elim (ℕ_discrete c 13) [
             | yes z ↦ rw z (at_13 ∙ index_size_is e type_table st.units.tu _ _ w (s 13) r.tu)
-            | no n13 ↦ between c (omega arith) (omega arith) ∙ r.based c (omega arith) (omega arith) ∙ shared_size c (omega arith) (omega arith)
+            | no n13 ↦ between c (omega arith) (omega arith) ∙ r.based c (omega arith) (omega arith) ∙ sym (ready_long e b st w s r c (omega arith) (omega arith))
           ]
         ]
       ]

@@ -33,7 +33,7 @@ impl Package<'_> {
     }
 
     // Of each object its first section of a code, where it has one. The places of all strings stand in the order of the objects.
-    pub fn write_shared(&self, code: usize, out: &mut [u8], at: usize)
+    pub(crate) fn write_shared(&self, code: usize, out: &mut [u8], at: usize)
         requires { SectionWritable code self.now (length out.old) at × (first_shared ≤ code) × (code ≤ last_shared) }
         ensures { SectionPut code self.now at out.old out.new }
     {

@@ -17,6 +17,7 @@ pub fn sizes_good(sizes: &[usize; CODES]) -> bool
 }
 
 // What a section of this size takes with its word, filled up to whole words; nothing where it is empty.
+#[tactic(auto, using(bundle::proofs::Next::filled_up_most), unfolding(crate::specs::Sections::framed_size))]
 fn framed_size(size: usize) -> usize
     requires { size ≤ section_limit }
     ensures { result ≡ framed_size size }

@@ -8,6 +8,7 @@ use kept::state::InProgress;
 use numbers::sections::{CODES, CU_INDEX, INFO, STR, TU_INDEX, TYPES};
 
 // The bytes of a table's index, 0 without rows.
+#[tactic(auto, using(index::proofs::Slots::slots_for_fits), unfolding(crate::specs::Ready::index_size_of))]
 fn index_size(five: bool, t: Table) -> usize
     requires { t.rows ≤ words_limit }
     ensures { result ≡ index_size_of five t }
@@ -19,6 +20,7 @@ fn index_size(five: bool, t: Table) -> usize
 }
 
 // By section code. The caller has filed all objects.
+#[tactic(auto, unfolding(crate::specs::Ready::sizes_of))]
 pub fn section_sizes(five: bool, st: InProgress) -> [usize; CODES]
     requires { (st.units.cu.rows ≤ words_limit) × (st.units.tu.rows ≤ words_limit) }
     ensures { result ≡ sizes_of five st }

@@ -54,7 +54,7 @@ impl Package<'_> {
     }
 
     // The words that hold the strings.
-    pub fn strings(&self) -> &[u32]
+    pub(crate) fn strings(&self) -> &[u32]
         ensures { result.now ≡ region self.now.work.now (words_of self.now) strings_region }
     {
         STRINGS.part(self.work, self.bundle.len() / WORD)

@@ -10,9 +10,6 @@ returns-then-not-sizes_good c =
     let bad = sym c.sizes_good.ensures ∙ c.if-not-sizes_good.true in
     record { answer = λ s r z. refused_answer _ _ 19 (sized_bad big c.args.word s _ z bad); output = λ s r z. refused_output _ _ 19 (sized_bad big c.args.word s _ z bad) _ c.requires.zero }
 
-pub package_length-length-requires : goal.package_length-length-requires
-package_length-length-requires c = sym c.sizes_good.ensures ∙ c.if-not-sizes_good.false
-
 pub returns-then-out-length : goal.returns-then-out-length
 returns-then-out-length c =
     let big = c.args.package.now.encoding.big in
@@ -20,17 +17,6 @@ returns-then-out-length c =
     let l = c.package_length-length.ensures in record {
       answer = λ s r z. short_answer _ _ _ (sized_good big c.args.word s _ z good) _ (sized_length big c.args.word s _ z _ l) c.if-out-length.true;
       output = λ s r z. short_output _ _ _ (sized_good big c.args.word s _ z good) _ (sized_length big c.args.word s _ z _ l) c.if-out-length.true _ c.requires.zero;
-    }
-
-pub write-requires : goal.write-requires
-write-requires c =
-    record {
-      sections = c.requires.sections;
-      ready = c.requires.ready;
-      sized = c.requires.sized;
-      good = sym c.sizes_good.ensures ∙ c.if-not-sizes_good.false;
-      zero = c.requires.zero;
-      room = rw (← c.package_length-length.ensures) c.if-out-length.false;
     }
 
 pub returns : goal.returns

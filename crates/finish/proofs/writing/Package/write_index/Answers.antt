@@ -7,7 +7,6 @@ use Rattle.kept.specs.Regions.{region, slots_region}
 use Rattle.kept.specs.Slots.{Placeable}
 use Rattle.kept.proofs.Placing.{lent_slots, lent_count}
 use Rattle.finish.specs.Ready.{words_of}
-use Rattle.finish.proofs.Dispatch.{words_fit}
 use Rattle.finish.proofs.Steps.{no_index, index_few, index_asks, index_leaves}
 use Rattle.finish.proofs.writing.Package.write_index.Goals as goal
 use Rattle.finish.proofs.writing.Package.write_index.Goals.{After-slots_for-count, After-part-slots}
@@ -22,9 +21,6 @@ returns-then-t-eq0 c s h = no_index _ _ _ _ s _ _ h c.if-t-eq0.true
 
 pub slots_for-count-requires : goal.slots_for-count-requires
 slots_for-count-requires c = omega (arith, index_few _ _ _ c.args.self.now.work.now _ c.requires.held)
-
-pub part-slots-requires : goal.part-slots-requires
-part-slots-requires c = (c.slots.ensures.within, words_fit c.args.self.now, c.args.self.now.room)
 
 slots : (c : After-part-slots) → c.part-slots.result.now ≡ region c.args.self.now.work.now (words_of c.args.self.now) (slots_region c.args.table)
 slots c = c.part-slots.ensures ∙ ap (region c.args.self.now.work.now (words_of c.args.self.now)) c.slots.ensures.is

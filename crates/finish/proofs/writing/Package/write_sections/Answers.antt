@@ -1,13 +1,10 @@
 -- The sections before a code are written: `Writing` is what the loop keeps, for any sections that are ready.
 -- Assumes nothing.
-use mathlib.Core.Path.{◌≡◌, refl, ◌∙◌}
+use mathlib.Core.Path.{◌∙◌}
 use native.Mathlib.Omega.{arith}
 use Rattle.finish.proofs.Frames.{frame_turn}
 use Rattle.finish.proofs.Steps.{frame_writable}
 use Rattle.finish.proofs.writing.Package.write_sections.Goals as goal
-
-pub loop-code-init : goal.loop-code-init
-loop-code-init c = (refl, λ front s r z w. w)
 
 pub write_framed-at-requires : goal.write_framed-at-requires
 write_framed-at-requires c =
@@ -21,11 +18,3 @@ loop-code-preserved c =
       c.write_framed-at.auto.out ∙ v.0,
       λ front s r z w. frame_turn front s _ _ _ _ _ _ (v.1 front s r z w) t (z.are _ (omega arith) t) (c.write_framed-at.ensures.output s r (z.are _ (omega arith) t)) c.write_framed-at.ensures.next,
     )
-
-pub shape_of-out : goal.shape_of-out
-shape_of-out c = c.loop-code.invariant.0
-
-pub returns : goal.returns
-returns c front s r z w =
-    let e : c.loop-code.code ≡ 14 = omega arith in
-    rw e at (c.loop-code.invariant.1 front s r z w)
