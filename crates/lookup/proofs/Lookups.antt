@@ -156,3 +156,7 @@ module _ (p : List ℕ) (version table x entry : ℕ) where
       strung_in r g =
           ap (λ (m : Check Held). answered (m >>= λ s. pass (part s.start s.size l.looks))) g
           ∙ by_part (part q.start q.size l.looks) (sym found)
+
+pub ruleset looked_cases = (looked_version, looked_table, looked_out, looked_in)
+
+pub ruleset strung_cases = (strung_refused, strung_absent, strung_within, strung_encoding, strung_in)

@@ -35,7 +35,7 @@ use Rattle.lookup.proofs.Packages.{package_refused}
 use Rattle.lookup.proofs.Told.{of_pass, of_refuse}
 use Rattle.lookup.proofs.Opened.{scan_count, scan_start, scan_size}
 use Rattle.lookup.proofs.Places.{column_missing, column_present}
-use Rattle.lookup.proofs.Asked.{table_by}
+use Rattle.lookup.proofs.Asked.{code_lt, table_by, place_none, place_outside, place_inside}
 use Rattle.lookup.proofs.Known.{within_package, index_known}
 use Rattle.lookup.proofs.Answered.{table_missing, row_absent, row_found}
 
@@ -192,3 +192,9 @@ module _ (k : Package) (i : Index) (row section : ℕ) where
           ap (λ (z : Cell). place_in (first_part k.parts section) (record { offset = z.offset; size = z.size })) same
           ∙ sym (column_present k i row section c f)
       go none f g = absurd (let z : ◌≡◌ {A = ℕ} 0 1 = cc in omega arith)
+
+pub ruleset table_cases = (table_none, table_sized, table_some, code_lt)
+
+pub ruleset place_cases = (section_fits, count_is, start_is, size_is, place_none, place_outside, place_inside)
+
+pub ruleset search_cases = (absent_in, index_well, search_absent, search_row, search_found)

@@ -3,28 +3,12 @@
 use Rattle.octets.specs.Checked.{Check, pass, ◌>>=◌, mapped}
 use Rattle.lookup.specs.Lookup.{Place, part}
 use Rattle.std.proofs.lemmas.Result.{err_from_is_err_and}
-use Rattle.lookup.proofs.Searches.{absent_in, index_well, search_absent, search_row, search_found}
+use Rattle.lookup.proofs.Searches.{search_row, search_found}
 use mathlib.Core.Path.{ap, ◌∙◌}
 use Rattle.lookup.proofs.package.Package.search.Goals as goal
 
-pub returns-in_default : goal.returns-in_default
-unfolding mapped
-returns-in_default c = absent_in _ _ c.args.self.now.opened _ _ _ c.in_default.ensures
-
-pub find-slot-requires : goal.find-slot-requires
-find-slot-requires c = index_well _ _ c.args.self.now.opened _ _ c.in-Some.ensures
-
-pub returns-in_default-slot : goal.returns-in_default-slot
-unfolding mapped
-returns-in_default-slot c = search_absent _ _ c.args.self.now.opened _ _ c.in-Some.ensures _ _ c.find-slot.ensures c.in_default-slot.is _
-
 pub row_at-requires : goal.row_at-requires
 row_at-requires c = (search_row _ _ c.args.self.now.opened _ _ c.in-Some.ensures _ _ c.find-slot.ensures _ c.in-Some-slot.is).inside
-
-pub row_part-requires : goal.row_part-requires
-row_part-requires c =
-    let r = search_row _ _ c.args.self.now.opened _ _ c.in-Some.ensures _ _ c.find-slot.ensures _ c.in-Some-slot.is in
-    (c.requires, rw c.row_at.ensures r.counted, rw c.row_at.ensures r.within)
 
 pub returns-in_err-place : goal.returns-in_err-place
 unfolding mapped ◌>>=◌
