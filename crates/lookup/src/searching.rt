@@ -232,7 +232,7 @@ impl<'a> Package<'a> {
     }
 
     // The string that entry number `entry` of a unit's part of str_offsets names, without its zero.
-    #[tactic(auto, using(crate::proofs::Lookups::strung_cases))]
+    #[tactic(auto, using(crate::proofs::Lookups::strung_cases), unfolding(octets::specs::Checked::mapped))]
     pub fn locate_string(&self, unit: UnitAsked, entry: u64) -> Result<Located, Refusal>
         ensures { found_as result ≡ string_found self.now.bytes.now unit.version unit.table unit.identity entry }
     {
