@@ -1,15 +1,15 @@
 -- What holds of every answer: a part lies in the package, and no more slots are looked at than there are.
 -- Assumes nothing.
 use mathlib.Core.Path.{◌≡◌, refl, ap, ◌∙◌}
-use mathlib.Core.List.{List, [], ◌∷◌}
+use mathlib.Core.List.{List}
 use mathlib.Core.Logic.{◌⊎◌, inl, inr}
 use mathlib.Core.Option.{Option, some, none}
-use Prim.Native.Nat.{ℕ, ◌+◌, ◌-◌, ◌≤◌}
+use Prim.Native.Nat.{ℕ, ◌+◌, ◌≤◌}
 use native.Mathlib.Omega.{arith}
-use lib.ListN.{length, take, drop, get_or}
+use lib.ListN.{length, get_or}
 use Rattle.octets.specs.Checked.{Check, pass, refuse, ◌>>=◌}
 use Rattle.octets.proofs.Checks.{bind_pass, require_pass, pass_inj}
-use Rattle.octets.proofs.Parts.{length_part_le, part_cut}
+use Rattle.octets.proofs.Parts.{length_part_le}
 use Rattle.bundle.specs.Bundle.{first_part, body}
 use Rattle.bundle.specs.Scan as Scans
 use Rattle.bundle.proofs.Sections.{body_part}
@@ -20,8 +20,7 @@ use Rattle.index.specs.Probing.{Probe, probe, found as at, absent as nowhere}
 use Rattle.index.specs.Held.{Well}
 use Rattle.index.proofs.Ends.{found_row, absent_looks}
 use Rattle.lookup.specs.Lookup.{Found, refused, absent, part, Package, package_of, index_for, Place, part_place, at_row, in_table, answered, part_judged, looked_up, start_of, string_place, string_judged, string_found}
-use Rattle.lookup.specs.Answers.{index_code, numbered, bytes_in, beside}
-use Rattle.lookup.specs.declared.answering.Answer.{Answer}
+use Rattle.lookup.specs.Answers.{index_code, numbered}
 use Rattle.lookup.proofs.Texts.{start_in_law}
 use Rattle.lookup.proofs.Known.{within_package, index_known, answered_part, part_within}
 
@@ -133,16 +132,6 @@ module _ (p : List ℕ) (version table x : ℕ) where
 
   pub string_fits : (entry : ℕ) → (numbered (string_found p version table x entry)).start + (numbered (string_found p version table x entry)).length ≤ length p
   string_fits entry = numbered_inside p (string_found p version table x entry) (λ a n looks e. string_inside p version table x a n looks entry e)
-
--- what stands beside a part, and the part
-pub beside_is : (code start size looks : ℕ) (r a : Answer) → r ≡ a → code ≡ r.code → start ≡ r.start → size ≡ r.length → looks ≡ r.looks
-    → code ∷ start ∷ size ∷ looks ∷ [] ≡ beside a
-unfolding beside
-beside_is code start size looks r a e c s l n = let p : code ∷ start ∷ size ∷ looks ∷ [] ≡ beside r = rw (c, s, l, n) in p ∙ ap beside e
-
-pub bytes_are : (p : List ℕ) (r a : Answer) → r ≡ a → take (r.start + r.length - r.start) (drop r.start p) ≡ bytes_in p a
-unfolding bytes_in
-bytes_are p r a e = part_cut p r.start r.length ∙ ap (bytes_in p) e
 
 -- ---- what is known of an answer that is absent: the index is missing, after 0 looks, or its probing ended so
 pub record Missed (p : List ℕ) (table x looks : ℕ) : Type 0 where

@@ -120,3 +120,5 @@ module _ (p : List ℕ) where
 
       pub words_broken : (n : ℕ) → refuse n ≡ next_of 4 (step_at 4 (drop 4 p)) → refuse 21 ≡ opened (package_of p)
       words_broken n f = absurd (objects_broken p 4 [] bundled.0.objects all n f)
+
+pub ruleset words_cases = (length_refused, words_refused, words_object, words_empty, words_other, words_broken)

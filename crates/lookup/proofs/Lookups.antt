@@ -150,9 +150,21 @@ module _ (p : List ℕ) (version table x entry : ℕ) where
           let m = part_named p version table x q.start q.size l.looks 6 found in
           rw (package_in, m.opened) (encoding_known p m.held m.opened table m.index m.there)
 
-      pub strung_in : (r : Check Held) → r ≡ string_place p (package_in p) version entry (placed q)
+      strung_in : (r : Check Held) → r ≡ string_place p (package_in p) version entry (placed q)
           → answered (r >>= λ s. pass (part s.start s.size l.looks)) ≡ string_found p version table x entry
       unfolding A.followed
       strung_in r g =
           ap (λ (m : Check Held). answered (m >>= λ s. pass (part s.start s.size l.looks))) g
           ∙ by_part (part q.start q.size l.looks) (sym found)
+
+      pub strung_placed : (s : Held) → pass s ≡ string_place p (package_in p) version entry (placed q) → part s.start s.size l.looks ≡ string_found p version table x entry
+      unfolding answered ◌>>=◌
+      strung_placed s g = strung_in (pass s) g
+
+      pub strung_failed : (n : ℕ) → refuse n ≡ string_place p (package_in p) version entry (placed q) → refused n ≡ string_found p version table x entry
+      unfolding answered ◌>>=◌
+      strung_failed n g = strung_in (refuse n) g
+
+pub ruleset looked_cases = (looked_version, looked_table, looked_out, looked_in)
+
+pub ruleset strung_cases = (strung_refused, strung_absent, strung_within, strung_encoding, strung_placed, strung_failed)

@@ -15,6 +15,7 @@ use Rattle.octets.specs.Checked.{Check, pass, refuse, ◌>>=◌, renumbered, map
 use Rattle.std.specs.Prelude.{Option as Opt, Some, None, Ok, Err}
 use Rattle.numbers.specs.Refused.{told}
 use Rattle.numbers.specs.declared.refusals.Refusal.{Refusal}
+use Rattle.octets.proofs.Parts.{part_cut}
 use Rattle.bundle.specs.Bundle.{Part, count, first_part, body}
 use Rattle.bundle.specs.Encoding.{Encoding, encoding_of, encoding_good}
 use Rattle.bundle.specs.Encoded.{encoding_is, encoding_checked}
@@ -134,3 +135,5 @@ module _ (p : List ℕ) (big : Bool) (word : ℕ) (sections : Scan) (a : Alone p
             let es : sections ≡ scan_of 8 a.parts = a.scan in
             (λ i. pass (record { encoding = ew i; sections = es i; cu = ec i; tu = et i }))
             ∙ sym (ap opened (a.is ∙ P.object_good big p _ good (sym counted ∙ f) cu_read.0 cu_read.1 tu_read.0 tu_read.1))
+
+pub ruleset index_cases = (index_none, index_is, index_not, part_cut)

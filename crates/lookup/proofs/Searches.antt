@@ -7,7 +7,7 @@ use mathlib.Core.Option.{Option, some, none}
 use Prim.Native.Nat.{ℕ, ◌+◌, ◌-◌, ◌≤◌, ◌<◌}
 use native.Mathlib.Omega.{arith}
 use lib.ListN.{length, take, drop, get_or}
-use Rattle.octets.specs.Checked.{pass, refuse, ◌>>=◌, mapped}
+use Rattle.octets.specs.Checked.{Check, pass, refuse, ◌>>=◌, mapped}
 use Rattle.octets.specs.Options.{found}
 use Rattle.octets.proofs.Checks.{pass_inj}
 use Rattle.octets.proofs.Parts.{part_cut}
@@ -28,14 +28,14 @@ use Rattle.index.specs.declared.probing.Probed.{Probed}
 use Rattle.index.specs.declared.reading.IndexHead.{IndexHead}
 use Rattle.index.proofs.Heads.{read_is, read_sized}
 use Rattle.index.proofs.Ends.{FoundRow, found_row, probed_found, probed_absent}
-use Rattle.lookup.specs.Lookup.{absent, part, Package, package_of, index_for, place_in, part_place}
+use Rattle.lookup.specs.Lookup.{absent, part, Place, Package, package_of, index_for, place_in, part_place}
 use Rattle.lookup.specs.Answers.{coded, indexed, head_in, opened, package_in, Opened, table_index, index_code, part_in}
 use Rattle.lookup.specs.declared.opening.PackageHead.{PackageHead}
 use Rattle.lookup.proofs.Packages.{package_refused}
 use Rattle.lookup.proofs.Told.{of_pass, of_refuse}
 use Rattle.lookup.proofs.Opened.{scan_count, scan_start, scan_size}
 use Rattle.lookup.proofs.Places.{column_missing, column_present}
-use Rattle.lookup.proofs.Asked.{table_by}
+use Rattle.lookup.proofs.Asked.{code_lt, table_by, place_none, place_outside, place_inside}
 use Rattle.lookup.proofs.Known.{within_package, index_known}
 use Rattle.lookup.proofs.Answered.{table_missing, row_absent, row_found}
 
@@ -170,6 +170,18 @@ module _ (p : List ℕ) (h : PackageHead) (o : Opened p h) where
           unfolding part_in
           search_found section = sym (row_found x (λ j row. part_place (package_in p) j row section) _ i there slot q.looks (probed_found q (probe i x) f slot g))
 
+          pub slot_inside : slot < length i.rows
+          slot_inside = search_row.inside
+
+          module _ (row section : ℕ) (r : row ≡ get_or i.rows slot 0) where
+            pub search_placed : (s : Place) → pass s ≡ part_place (package_in p) i row section → pass (part s.start s.size q.looks) ≡ part_in (package_in p) (table_number t) x section
+            unfolding ◌>>=◌
+            search_placed s m = ap (λ (m : Check Place). m >>= λ s. pass (part s.start s.size q.looks)) (rw r at m) ∙ search_found section
+
+            pub search_refused : (n : ℕ) → refuse n ≡ part_place (package_in p) i row section → refuse n ≡ part_in (package_in p) (table_number t) x section
+            unfolding ◌>>=◌
+            search_refused n m = ap (λ (m : Check Place). m >>= λ s. pass (part s.start s.size q.looks)) (rw r at m) ∙ search_found section
+
 -- ---- the cell of a row
 module _ (k : Package) (i : Index) (row section : ℕ) where
   pub row_missing : None ≡ cell_found (cell_of i row section) → pass (record { start = 0; size = 0 }) ≡ part_place k i row section
@@ -192,3 +204,9 @@ module _ (k : Package) (i : Index) (row section : ℕ) where
           ap (λ (z : Cell). place_in (first_part k.parts section) (record { offset = z.offset; size = z.size })) same
           ∙ sym (column_present k i row section c f)
       go none f g = absurd (let z : ◌≡◌ {A = ℕ} 0 1 = cc in omega arith)
+
+pub ruleset table_cases = (table_none, table_sized, table_some, code_lt)
+
+pub ruleset place_cases = (section_fits, count_is, start_is, size_is, place_none, place_outside, place_inside)
+
+pub ruleset search_cases = (absent_in, index_well, search_absent, search_row, slot_inside, search_placed, search_refused)

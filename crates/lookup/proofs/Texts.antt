@@ -135,3 +135,7 @@ module _ (p : List ℕ) (h : PackageHead) (o : Opened p h) where
         where
           offset_is : number_at h.encoding.big width p (s.start + first + entry * width) ≡ entry_offset p (package_in p) version entry s
           offset_is = rw (big_is p h o, width_is, first_is)
+
+pub ruleset text_cases = (text_fits, text_found, text_missing)
+
+pub ruleset entry_cases = (width_cases, entry_short, entry_past, entry_fits, entry_text)

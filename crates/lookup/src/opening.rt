@@ -49,6 +49,7 @@ fn are_single(counts: &[usize]) -> bool
 }
 
 // The index in the section of a code, if it is there. The caller has seen that the section lies in the package.
+#[tactic(auto, using(crate::proofs::Opened::index_cases))]
 fn read_index(
     package: &[u8],
     big: bool,
@@ -107,6 +108,7 @@ fn open_object(package: &[u8], big: bool, word: u32) -> Result<PackageHead, Refu
     }
 }
 
+#[tactic(auto, using(crate::proofs::Entering::words_cases))]
 pub fn open_package(package: &[u8]) -> Result<PackageHead, Refusal>
     ensures { told result ≡ opened (package_of «package».now) }
 {

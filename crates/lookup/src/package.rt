@@ -19,6 +19,7 @@ impl<'a> Package<'a> {
     ghost use Rattle.lookup.specs.Lookup.{package_of};
     ghost use Rattle.lookup.specs.Answers.{opened};
 
+    #[tactic(auto, using(crate::proofs::Searches::opened_good), unfolding(octets::specs::Checked::mapped))]
     pub fn open(bytes: &'a [u8]) -> Result<Package<'a>, Refusal>
         ensures head { mapped (λ k. k.head) (told result) ≡ opened (package_of bytes.now) }
         ensures bytes { IfOk result (λ k. k.bytes.now ≡ bytes.now) }

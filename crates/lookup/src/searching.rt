@@ -93,6 +93,7 @@ fn index_code(table: Table) -> usize
 // ---- parts
 impl<'a> Package<'a> {
     // The bytes of a section, none where it is missing.
+    #[tactic(auto, using(crate::proofs::Searches::section_fits, crate::proofs::Searches::section_is))]
     pub fn section_bytes(&self, code: usize) -> &'a [u8]
         requires { code < section_codes }
         ensures { result.now ≡ body self.now.bytes.now (package_in self.now.bytes.now).parts code }
@@ -103,6 +104,7 @@ impl<'a> Package<'a> {
     }
 
     // The index of a table, if it is there.
+    #[tactic(auto, using(crate::proofs::Searches::table_cases))]
     pub fn index(&self, table: Table) -> Option<Index<'a>>
         ensures { result ≡ found (index_for (package_in self.now.bytes.now) (table_number table)) }
     {
@@ -112,6 +114,7 @@ impl<'a> Package<'a> {
     }
 
     // 24: a contribution to a section.
+    #[tactic(auto, using(crate::proofs::Searches::place_cases), unfolding(octets::specs::Checked::mapped))]
     fn place_in(&self, section: usize, cell: Contribution) -> Result<Place, Refusal>
         requires { section < section_codes }
         ensures { mapped placed (told result) ≡ place_in (first_part (package_in self.now.bytes.now).parts section) (record { offset = cell.offset; size = cell.size }) }
@@ -128,6 +131,7 @@ impl<'a> Package<'a> {
     }
 
     // The part of a section in a row of an index.
+    #[tactic(auto, using(crate::proofs::Searches::row_placed, crate::proofs::Searches::row_missing), unfolding(octets::specs::Checked::mapped))]
     fn row_part(&self, index: &Index, row: usize, section: usize) -> Result<Place, Refusal>
         requires { (section < section_codes) × (0 < row) × (row ≤ index.now.units) }
         ensures { mapped placed (told result) ≡ part_place (package_in self.now.bytes.now) index.now row section }
@@ -139,6 +143,7 @@ impl<'a> Package<'a> {
     }
 
     // The part of a section in the index of a table.
+    #[tactic(auto, using(crate::proofs::Searches::search_cases), unfolding(octets::specs::Checked::mapped))]
     fn search(&self, table: Table, identity: u64, section: usize) -> Result<Located, Refusal>
         requires { section < section_codes }
         ensures { mapped found_in (told result) ≡ part_in (package_in self.now.bytes.now) (table_number table) identity section }
@@ -161,6 +166,7 @@ impl<'a> Package<'a> {
     }
 
     // The part of a section, code 1 to 10, that a unit contributes. Where its column is missing the part is empty, and its place, which is free, is 0.
+    #[tactic(auto, using(crate::proofs::Lookups::looked_cases))]
     pub fn locate(&self, unit: UnitAsked, section: u32) -> Result<Located, Refusal>
         ensures { found_as result ≡ looked_up self.now.bytes.now unit.version unit.table unit.identity section }
     {
@@ -176,6 +182,7 @@ impl<'a> Package<'a> {
 }
 
 // The same for one question.
+#[tactic(auto, using(crate::proofs::Lookups::looked_closed), unfolding(octets::specs::Checked::mapped))]
 pub fn locate(package: &[u8], unit: UnitAsked, section: u32) -> Result<Located, Refusal>
     ensures { found_as result ≡ looked_up «package».now unit.version unit.table unit.identity section }
 {
@@ -192,6 +199,7 @@ fn entries_start(version: u32, width: usize) -> usize
 
 impl<'a> Package<'a> {
     // 26: the string at an offset of str.
+    #[tactic(auto, using(crate::proofs::Texts::text_cases), unfolding(octets::specs::Checked::mapped))]
     fn text_at(&self, offset: u64) -> Result<Place, Refusal>
         ensures { mapped placed (told result) ≡ text_place self.now.bytes.now (package_in self.now.bytes.now) offset }
     {
@@ -205,6 +213,7 @@ impl<'a> Package<'a> {
     }
 
     // 25: the string of an entry in a part of str_offsets. The caller has found the part in the package.
+    #[tactic(auto, using(crate::proofs::Texts::entry_cases), unfolding(octets::specs::Checked::mapped))]
     fn entry_text(&self, version: u32, entry: u64, part: Place) -> Result<Place, Refusal>
         requires { (part.start + part.size ≤ length self.now.bytes.now) × (encoding_good (package_in self.now.bytes.now).encoding ≡ true) }
         ensures { mapped placed (told result) ≡ string_place self.now.bytes.now (package_in self.now.bytes.now) version entry (placed part) }
@@ -223,6 +232,7 @@ impl<'a> Package<'a> {
     }
 
     // The string that entry number `entry` of a unit's part of str_offsets names, without its zero.
+    #[tactic(auto, using(crate::proofs::Lookups::strung_cases), unfolding(octets::specs::Checked::mapped))]
     pub fn locate_string(&self, unit: UnitAsked, entry: u64) -> Result<Located, Refusal>
         ensures { found_as result ≡ string_found self.now.bytes.now unit.version unit.table unit.identity entry }
     {
@@ -239,6 +249,7 @@ impl<'a> Package<'a> {
 }
 
 // The same for one question.
+#[tactic(auto, using(crate::proofs::Lookups::strung_closed), unfolding(octets::specs::Checked::mapped))]
 pub fn locate_string(package: &[u8], unit: UnitAsked, entry: u64) -> Result<Located, Refusal>
     ensures { found_as result ≡ string_found «package».now unit.version unit.table unit.identity entry }
 {

@@ -1,16 +1,12 @@
 -- Laws of the section whose column has a code.
 -- Assumes nothing.
-use mathlib.Core.Path.{◌≡◌, refl, ◌∙◌}
+use mathlib.Core.Path.{◌≡◌, refl}
 use mathlib.Core.Bool.{Bool, true, false}
 use mathlib.Core.List.{List, [], ◌∷◌, map}
 use mathlib.Core.Logic.{⊎_elim}
-use Prim.Native.Nat.{ℕ, ◌+◌, ◌≤◌, ◌<◌}
-use native.Mathlib.Nat.{not-suc-le-zero}
-use native.Mathlib.Decide.{ℕ_discrete}
+use Prim.Native.Nat.{ℕ, ◌≤◌, ◌<◌}
 use native.Mathlib.Omega.{arith}
 use lib.Dec.{eqb, leb}
-use lib.ListN.{length, get_or, set, length-set}
-use lib.Seq.{get_or-set_same, get_or-set_other}
 use borrow.Author.Tests.{leb-true}
 use Rattle.std.specs.Prelude.{find}
 use Rattle.std.specs.Option.{option_map_or}
@@ -19,9 +15,7 @@ use Rattle.octets.proofs.Checks.{known}
 use Rattle.index.specs.Cells.{column_place}
 use Rattle.octets.proofs.Lists.{all_head, all_tail}
 use Rattle.index.specs.Columns.{Column, columns_of, columns_four, columns_five}
-use Rattle.index.specs.Index.{Index}
 use Rattle.sheet.specs.Sheet.{section_in}
-use Rattle.sheet.specs.Held.{Sections}
 
 -- ---- a search for the column of a code
 pub section_finds : (cs : List Column) (code : ℕ)
@@ -48,18 +42,3 @@ section_small version code = go (eqb version 5)
     go : (t : Bool) → section_in (elim t [ true ↦ columns_five | false ↦ columns_four ]) code < 100
     go true = below columns_five refl code
     go false = below columns_four refl code
-
--- ---- the sections of all columns, one by one
-module _ (i : Index) (xs : List ℕ) where
-  pub sections_none : Sections i xs 0
-  sections_none = record { room = omega arith; is = λ k h. absurd (not-suc-le-zero h) }
-
-  pub sections_more : (n section : ℕ) → Sections i xs n → n < length xs → section ≡ section_in (columns_of i.version) (get_or i.codes n 0)
-      → Sections i (set xs n section) (n + 1)
-  sections_more n section h l e = record { room = simp length-set (omega arith); is = here }
-    where
-      here : (k : ℕ) → k < n + 1 → get_or (set xs n section) k 0 ≡ section_in (columns_of i.version) (get_or i.codes k 0)
-      here k g = elim (ℕ_discrete k n) [
-        | yes q ↦ rw q (get_or-set_same xs n section 0 l ∙ e)
-        | no q ↦ get_or-set_other xs n k section 0 q ∙ h.is k (omega (arith, q))
-      ]

@@ -93,8 +93,8 @@ told_fits p o w e = rw e (go (sheet_lines p))
     go : (m : Check (List ℕ)) → (written_of (on_page m o)).length ≤ o
     go (refuse n) = omega arith
     go (pass l) = ⊎_elim
-      (λ (t : leb (length l) o ≡ true). rw (on_page, written_of, t) (leb-true (length l) o t)) (λ (t : leb (length l) o ≡ false). rw (on_page, written_of, t) (omega arith))
-      (known (leb (length l) o))
+        (λ (t : leb (length l) o ≡ true). rw (on_page, written_of, t) (leb-true (length l) o t)) (λ (t : leb (length l) o ≡ false). rw (on_page, written_of, t) (omega arith))
+        (known (leb (length l) o))
 
 -- ---- one table behind the other
 joined_padded : (x y : List ℕ) (k : ℕ) → x ++ padded y k ≡ padded (x ++ y) k
@@ -102,9 +102,6 @@ unfolding padded
 joined_padded x y k = sym (append_assoc x y (zeros k))
 
 module _ (p page : List ℕ) (n : ℕ) (f : BothFit p n page) where
-  pub first_fits : TableFits p 1 page
-  first_fits = record { lines = f.first; are = f.first_are; room = omega (arith, f.room, f.long); blank = f.blank }
-
   -- the page behind the first table
   module _ (d : List ℕ) (e : d ≡ lines_of (table_of p 1) (length page)) where
     laid : d ≡ padded f.first (length page - n)

@@ -43,6 +43,7 @@ fn put_hex(w: usize, n: u64, d: &mut [u8], at: usize)
 }
 
 // The same, and a byte following them.
+#[tactic(auto, using(crate::proofs::LawLines::placed_next, crate::proofs::LawLines::length_hex))]
 fn put_field(w: usize, n: u64, end: u8, d: &mut [u8], at: usize)
     requires { at + w + 1 ≤ length d.old }
     ensures { d.new ≡ placed d.old at (hex w n ++ (end ∷ [])) }
@@ -62,6 +63,7 @@ fn put_section(n: usize, d: &mut [u8], at: usize)
 }
 
 impl Line {
+    #[tactic(auto, using(crate::proofs::LawLines::line_placed))]
     pub fn put(self, d: &mut [u8], at: usize)
         requires { (self.section < 100) × (at + line_bytes ≤ length d.old) }
         ensures { d.new ≡ placed d.old at (line self.letter self.identity self.section self.offset self.size) }

@@ -83,6 +83,7 @@ impl<'a> IndexTable<'a> {
         true
     }
 
+    #[tactic(auto, using(crate::proofs::LawIndex::is_single, crate::proofs::LawIndex::not_single))]
     pub fn is_single(&self) -> bool
         ensures { result ≡ single self.now.index.rows self.now.index.identities 1 self.now.index.units }
     {

@@ -39,6 +39,7 @@ fn index_of<'a>(package: &Package<'a>, table: Table) -> Option<IndexTable<'a>>
 }
 
 // Refused is a table with a row that has not exactly one slot.
+#[tactic(auto, using(crate::proofs::LawTables::table_bad, crate::proofs::LawTables::table_measured, crate::proofs::LawTables::missing_measured))]
 pub fn measure_table(package: &Package, table: Table) -> Result<usize, Refusal>
     ensures { told result ≡ mapped length (table_of «package».now.bytes.now (table_number table)) }
 {
@@ -50,6 +51,7 @@ pub fn measure_table(package: &Package, table: Table) -> Result<usize, Refusal>
 }
 
 // Stores the lines of a table at the front of a page of zeros. The caller has measured them.
+#[tactic(auto, using(crate::proofs::LawTables::table_room, crate::proofs::LawTables::missing_lines))]
 fn write_table(package: &Package, table: Table, page: &mut [u8])
     requires { TableFits «package».now.bytes.now (table_number table) page.old }
     ensures { page.new ≡ lines_of (table_of «package».now.bytes.now (table_number table)) (length page.old) }
@@ -60,6 +62,7 @@ fn write_table(package: &Package, table: Table, page: &mut [u8])
 }
 
 // Stores both tables, one following the other. The caller gives the length of the first.
+#[tactic(auto, using(crate::proofs::LawSheet::both_laid))]
 pub fn write_tables(package: &Package, compilations: usize, page: &mut [u8])
     requires { BothFit «package».now.bytes.now compilations page.old }
     ensures { page.new ≡ lines_of (both_of «package».now.bytes.now) (length page.old) }
