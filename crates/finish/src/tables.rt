@@ -3,11 +3,8 @@ ghost use Rattle.std.specs.Prelude.{length};
 ghost use Rattle.finish.specs.Ready.{TablesPlaceable, TablesPlaced};
 
 use kept::Units;
-use kept::regions::COMPILATION;
+use kept::regions::{COMPILATION, TYPE};
 use kept::slots::{place_units, slots_for};
-
-// The second table, by its number.
-pub const TYPE: usize = numbers::tables::TYPE as usize;
 
 // Places the units of both tables, for a bundle of so many words.
 pub fn place_tables(words: usize, units: Units, work: &mut [u32])

@@ -2,10 +2,9 @@
 ghost use Rattle.std.specs.Prelude.{◌≡◌, ◌*◌, ◌/◌, ◌≤◌, length};
 ghost use Rattle.numbers.specs.Limits.{bundle_limit, work_for_word};
 
-use crate::tables::TYPE;
 use bundle::encoding::ObjectEncoding;
 use kept::Table;
-use kept::regions::{COMPILATION, RECORDS, STRINGS};
+use kept::regions::{COMPILATION, RECORDS, STRINGS, TYPE};
 use kept::state::InProgress;
 use kept::writing::IndexForm;
 use numbers::sections::{CODES, CU_INDEX, INFO, STR, TU_INDEX, TYPES};

@@ -10,8 +10,10 @@ pub const RECORD: usize = 23;
 
 pub const LEAST_UNIT: usize = 5;
 
-// The first table, by its number. A table and a section stay numbers: they stand so in the words of a record, from which they are read and compared.
+// The two tables, by their numbers. A table and a section stay numbers: they stand so in the words of a record, from which they are read and compared.
 pub const COMPILATION: usize = numbers::tables::COMPILATION as usize;
+
+pub const TYPE: usize = numbers::tables::TYPE as usize;
 
 // Where a region starts, and how many words it has, for each word of the bundle.
 #[derive(Clone, Copy)]

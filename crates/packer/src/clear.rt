@@ -8,8 +8,7 @@ ghost use Rattle.packer.specs.Objects.{
   NoneHeld,
 };
 
-use finish::tables::TYPE;
-use kept::regions::COMPILATION;
+use kept::regions::{COMPILATION, TYPE};
 
 // Those of a table, for a bundle of n words.
 fn clear_table(n: usize, table: usize, work: &mut [u32])
