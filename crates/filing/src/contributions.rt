@@ -1,15 +1,17 @@
 // 15 and 16: what a unit that is kept contributes of its object's shared sections.
-ghost use Rattle.std.specs.Prelude.{◌≡◌, ◌<◌, IfSome};
+ghost use Rattle.std.specs.Prelude.{◌≡◌, ◌≤◌, ◌<◌, IfSome};
 ghost use Rattle.octets.specs.Options.{found};
 ghost use Rattle.std.proofs.Math.Option.{Option};
 ghost use Rattle.index.specs.Index.{Index};
 ghost use Rattle.package.specs.Input.{Input};
+ghost use Rattle.package.specs.Filing.{index_for};
 ghost use Rattle.index.specs.Contributed.{by_code};
 ghost use Rattle.index.specs.Held.{Well};
 ghost use Rattle.filing.specs.Judged.{InputIs};
 ghost use Rattle.filing.specs.Contributing.{whole_given, GivenIs, GivenBy, ContributionsGiven};
 
-use crate::input::{InputObject, held};
+use crate::input::held;
+use crate::units::Reading;
 use index::judging::{Contributions, Measures, OwnUnit};
 use index::reading::Index;
 use numbers::refusals::Refusal;
@@ -18,6 +20,7 @@ use numbers::tables::COMPILATION;
 use unit::header::UnitRead;
 
 // Without an index for the unit's table: its object's sections as a whole, but 15 in a package.
+#[tactic(auto, using(crate::proofs::Contributing::whole_fifteen, crate::proofs::Contributing::whole_passes))]
 fn whole_given(packed: bool, lengths: [usize; CODES]) -> Result<Contributions, Refusal>
     ensures { GivenIs (whole_given packed (by_code lengths)) result }
 {
@@ -28,6 +31,7 @@ fn whole_given(packed: bool, lengths: [usize; CODES]) -> Result<Contributions, R
 }
 
 // By the index of the unit's table, where there is one.
+#[tactic(auto, using(crate::proofs::Contributing::given_some, crate::proofs::Contributing::given_none), unfolding(index::specs::Contributed::judged_row))]
 fn indexed_contributions(
     index: Option<Index>,
     packed: bool,
@@ -43,34 +47,38 @@ fn indexed_contributions(
     }
 }
 
-// A unit that was read at a place of the section home.
-pub fn contributions_of(
-    b: &[u8],
-    x: &InputObject,
-    home: usize,
-    at: usize,
-    read: UnitRead,
-) -> Result<Contributions, Refusal>
-    requires { (i : Input) × InputIs b.now x.now i }
-    ensures { ContributionsGiven b.now x.now home at read result }
-{
-    let e = x.encoding;
-    let m = Measures {
-        width: e.width(),
-        lengths: x.size,
-    };
-    let u = OwnUnit {
-        identity: read.identity,
-        home,
-        at,
-        size: read.size,
-    };
-    let packed = x.is_package();
-    if read.table == COMPILATION {
-        let index = held(e.big, x.section(b, CU_INDEX), x.cu);
-        indexed_contributions(index, packed, m, u)
-    } else {
-        let index = held(e.big, x.section(b, TU_INDEX), x.tu);
-        indexed_contributions(index, packed, m, u)
+impl<'a> Reading<'a> {
+    // The index of a table, where the object has it.
+    fn index_for(&self, table: u32) -> Option<Index<'a>>
+        requires { (i : Input) × InputIs self.now.bundle.now self.now.object.now i }
+        ensures is { (i : Input) → InputIs self.now.bundle.now self.now.object.now i → result ≡ found (index_for i table) }
+        ensures well { IfSome result Well }
+    {
+        let x = self.object;
+        let big = x.encoding.big;
+        if table == COMPILATION {
+            held(big, x.section(self.bundle, CU_INDEX), x.cu)
+        } else {
+            held(big, x.section(self.bundle, TU_INDEX), x.tu)
+        }
+    }
+
+    // A unit that was read at a place of the section.
+    pub fn contributions(&self, at: usize, read: UnitRead) -> Result<Contributions, Refusal>
+        requires { (self.now.section.start ≤ at) × ((i : Input) × InputIs self.now.bundle.now self.now.object.now i) }
+        ensures { ContributionsGiven self.now at read result }
+    {
+        let x = self.object;
+        let m = Measures {
+            width: x.encoding.width(),
+            lengths: x.size,
+        };
+        let u = OwnUnit {
+            identity: read.identity,
+            home: self.section.home,
+            at: at - self.section.start,
+            size: read.size,
+        };
+        indexed_contributions(self.index_for(read.table), x.is_package(), m, u)
     }
 }

@@ -39,6 +39,7 @@ pub struct InputObject {
 
 impl InputObject {
     // The first section of a code. Callers know that it lies in the bundle.
+    #[tactic(auto, using(octets::proofs::Parts::part_cut), unfolding(crate::specs::Judged::section_of))]
     pub fn section<'a>(&self, b: &'a [u8], code: usize) -> &'a [u8]
         requires { (code < section_codes) × (get_or self.now.start code 0 + get_or self.now.size code 0 ≤ length b.now) }
         ensures { result.now ≡ section_of b.now self.now code }
@@ -89,6 +90,7 @@ pub fn judge_object(
 }
 
 // The version of an object's indexes.
+#[tactic(auto, using(crate::proofs::Judging::form_five, crate::proofs::Judging::form_four))]
 fn form(e: ObjectEncoding) -> u32
     ensures { result ≡ form_of (encoding_is e) }
 {

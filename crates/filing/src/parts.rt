@@ -21,6 +21,7 @@ use numbers::sections::{CU_INDEX, STR_OFFSETS, TU_INDEX};
 use strings::table::{Place, StrOffsets, StringTable};
 
 // Marks the parts that the rows of an index name, where there is one. False where they clash.
+#[tactic(auto, using(crate::proofs::Tiling::marked_some, crate::proofs::Tiling::marked_none))]
 fn mark_index(index: Option<Index>, marks: &mut [u32]) -> bool
     requires { length marks.old < 2 ^ 32 }
     ensures { IndexMarked index.entry marks.old marks.new result }

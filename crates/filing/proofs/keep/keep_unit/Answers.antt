@@ -1,21 +1,14 @@
 -- `keep_unit` meets its contract.
 -- Assumes nothing.
 use mathlib.Core.Path.{subst}
-use native.Mathlib.Omega.{arith}
 use lib.ListN.{length}
 use Rattle.kept.specs.Columns.{columns_for, Marked}
 use Rattle.kept.specs.declared.Table.{Table}
-use Rattle.filing.proofs.Kept.{cells_room, keepable, unit_fits, bytes_fit, few_units, unit_held, strings_kept, transient_kept}
+use Rattle.filing.proofs.Kept.{keepable, unit_fits, few_units, unit_held, strings_kept, transient_kept}
 use Rattle.filing.proofs.keep.keep_unit.Goals as goal
-
-pub cells_of-cells-requires : goal.cells_of-cells-requires
-cells_of-cells-requires c = let p = c.requires in cells_room p.held p.new _ c.bytes_of-place.ensures
 
 pub keep-requires : goal.keep-requires
 keep-requires c = let p = c.requires in (keepable p.held p.new, unit_fits p.held p.new, c.cells_of-cells.ensures.fit)
-
-pub overflow_add-place : goal.overflow_add-place
-overflow_add-place c = let p = c.requires in omega (arith, bytes_fit p.held p.new _ c.bytes_of-place.ensures)
 
 pub with_unit-st-requires : goal.with_unit-st-requires
 with_unit-st-requires c = let p = c.requires in few_units p.held p.new

@@ -9,12 +9,6 @@ use Rattle.kept.proofs.RegionLending.{only_front}
 use Rattle.filing.specs.State.{words_in}
 use Rattle.filing.proofs.parts.judge_parts.Goals as goal
 
-pub overflow_add-to : goal.overflow_add-to
-overflow_add-to c = let p = c.requires in omega (arith, p.0.within 6, p.1.limit, c.of-from.ensures.start)
-
-pub slice_bounds-tile_parts-end : goal.slice_bounds-tile_parts-end
-slice_bounds-tile_parts-end c = let p = c.requires in omega (arith, p.0.within 6, p.1.room, p.1.words, c.of-from.ensures.start)
-
 pub returns : goal.returns
 returns c =
     let a = c.args in

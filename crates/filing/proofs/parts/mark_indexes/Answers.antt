@@ -5,12 +5,6 @@ use Rattle.index.specs.Tiles.{named}
 use Rattle.filing.proofs.Tiling.{both_first, both_second}
 use Rattle.filing.proofs.parts.mark_indexes.Goals as goal
 
-pub held-requires : goal.held-requires
-held-requires c = let p = c.requires.0 in (p.tu, rw c.section.ensures p.tu_is)
-
-pub held-requires-then-mark_index : goal.held-requires-then-mark_index
-held-requires-then-mark_index c = let p = c.requires.0 in (p.cu, rw c.section-then-mark_index.ensures p.cu_is)
-
 pub returns-then-mark_index : goal.returns-then-mark_index
 returns-then-mark_index c =
     let k = c.mark_index.auto.marks in

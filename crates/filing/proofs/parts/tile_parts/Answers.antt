@@ -3,7 +3,6 @@
 use mathlib.Core.Path.{sym, ap, ◌∙◌}
 use mathlib.Core.List.{List}
 use Prim.Native.Nat.{ℕ}
-use native.Mathlib.Omega.{arith}
 use lib.ListN.{length}
 use Rattle.octets.specs.Octets.{zeros}
 use Rattle.bundle.specs.Encoded.{encoding_is}
@@ -11,9 +10,6 @@ use Rattle.places.specs.Marks.{good_end}
 use Rattle.filing.proofs.Tiling.{tile_clash, tile_untiled, tile_long, tile_some, tile_good}
 use Rattle.filing.proofs.parts.tile_parts.Goals as goal
 use Rattle.filing.proofs.parts.tile_parts.Goals.{then-not-mark_indexes-via-then-not-mark_indexes, then-not-mark_indexes-via-else-not-mark_indexes+then-not-tiled}
-
-pub mark_indexes-requires : goal.mark_indexes-requires
-mark_indexes-requires c = let p = c.requires in (p.0, omega (arith, c.fill.auto.self, p.1, p.0.within 6, p.0.limit))
 
 pub returns-then-not-mark_indexes : goal.returns-then-not-mark_indexes
 unfolding zeros

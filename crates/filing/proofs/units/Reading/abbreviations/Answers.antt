@@ -7,9 +7,6 @@ use Rattle.filing.proofs.ByPlace.{row_asks, row_counted}
 use Rattle.filing.proofs.Abbreviated.{given_whole, given_none, given_part}
 use Rattle.filing.proofs.units.Reading.abbreviations.Goals as goal
 
-pub overflow_add-result : goal.overflow_add-result
-overflow_add-result c = let p = c.requires.0 in omega (arith, p.is.within 3, p.work.limit)
-
 pub returns-in_default : goal.returns-in_default
 returns-in_default c = λ i is. given_whole _ _ i is _ _ _ (sym c.in_default.is ∙ c.index_by_place.ensures i is)
 

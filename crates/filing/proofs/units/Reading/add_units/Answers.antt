@@ -6,12 +6,6 @@ use Rattle.filing.proofs.Walking.{walking_none, place_behind, walking_more, walk
 use Rattle.filing.proofs.Transients.{rows_pass, at_lent, units_lent, transient_chained}
 use Rattle.filing.proofs.units.Reading.add_units.Goals as goal
 
-pub chain_rows-requires : goal.chain_rows-requires
-chain_rows-requires c =
-    let p = c.requires.0 in
-    let a = p.ready.at_unit in
-    record { input = p.ready.input; is = a.input; work = record { room = a.held.room; words = a.held.words; limit = a.held.limit } }
-
 pub loop-at-init : goal.loop-at-init
 loop-at-init c = let p = c.requires in (walking_none _ _ _ _ _ _ _ c.args.self.now.order, transient_chained _ _ _ _ c.chain_rows.ensures.frame c.chain_rows.ensures.chained p.1)
 

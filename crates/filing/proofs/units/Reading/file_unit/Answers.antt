@@ -7,14 +7,6 @@ use Rattle.filing.proofs.ReadAnswers.{answer_refused, read_at, read_fits, read_b
 use Rattle.filing.proofs.Transients.{codes_pass, at_lent, unit_lent, transient_stays}
 use Rattle.filing.proofs.units.Reading.file_unit.Goals as goal
 
-pub read_at-requires : goal.read_at-requires
-read_at-requires c =
-    let p = c.requires.0 in
-    let h = p.ready.at_unit.held in (
-      record { from = p.from; low = p.low; homes = p.homes; input = p.ready.input; is = p.ready.at_unit.input; work = record { room = h.room; words = h.words; limit = h.limit } },
-      c.requires.1,
-    )
-
 pub returns-in_err-read : goal.returns-in_err-read
 returns-in_err-read c =
     let p = c.requires.0 in

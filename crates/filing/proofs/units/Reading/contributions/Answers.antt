@@ -1,0 +1,14 @@
+-- `contributions` meets its contract.
+-- Assumes nothing.
+use mathlib.Core.Path.{refl}
+use Rattle.package.specs.Filing.{index_for}
+use Rattle.filing.proofs.Contributing.{given_is, width_some}
+use Rattle.filing.proofs.units.Reading.contributions.Goals as goal
+
+pub indexed_contributions-requires : goal.indexed_contributions-requires
+indexed_contributions-requires c = (rw c.width.ensures (width_some _), c.index_for.ensures.well)
+
+pub returns : goal.returns
+returns c = λ i is.
+    let o = index_for i c.args.read.table in
+    given_is _ _ i is _ _ _ _ _ _ o refl _ c.width.ensures _ c.is_package.ensures (c.indexed_contributions.ensures o (c.index_for.ensures.is i is))
