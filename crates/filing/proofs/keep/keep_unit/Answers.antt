@@ -4,8 +4,11 @@ use mathlib.Core.Path.{subst}
 use lib.ListN.{length}
 use Rattle.kept.specs.Columns.{columns_for, Marked}
 use Rattle.kept.specs.declared.Table.{Table}
-use Rattle.filing.proofs.Kept.{keepable, unit_fits, few_units, unit_held, strings_kept, transient_kept}
+use Rattle.filing.proofs.Kept.{cells_room, keepable, unit_fits, few_units, unit_held, strings_kept, transient_kept}
 use Rattle.filing.proofs.keep.keep_unit.Goals as goal
+
+pub cells_of-cells-requires : goal.cells_of-cells-requires
+cells_of-cells-requires c = let p = c.requires in cells_room p.held p.new _ c.bytes_of-place.ensures
 
 pub keep-requires : goal.keep-requires
 keep-requires c = let p = c.requires in (keepable p.held p.new, unit_fits p.held p.new, c.cells_of-cells.ensures.fit)
