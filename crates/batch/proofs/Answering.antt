@@ -108,7 +108,7 @@ module _ (w : List ℕ) (room : ℕ) where
   count_is : are_questions w ≡ true → length w / 3 ≡ length (questions_in w)
   count_is e = let c = counted w e in omega arith
 
-  pub taken_by : (are_questions w && leb (length w / 3) questions_limit && leb (4 * (length w / 3)) room) ≡ is_taken w room
+  pub taken_by : is_taken w room ≡ (are_questions w && leb (length w / 3) questions_limit && leb (4 * (length w / 3)) room)
   unfolding is_taken
   taken_by = ⊎_elim (λ e. rw (count_is e)) (λ e. rw e) (known (are_questions w))
 
@@ -173,3 +173,5 @@ module _ (p : List ℕ) (version : ℕ) (w : List ℕ) (room : ℕ) where
       (λ (t : is_taken w room ≡ true). let q = sym (batch_made t) ∙ e in (cc, count_is w room (taken_ready w room t).good))
       (λ (t : is_taken w room ≡ false). absurd (let q = sym (batch_refused t) ∙ e in let z : ◌≡◌ {A = ℕ} 0 1 = cc in omega arith))
       (known (is_taken w room))
+
+pub ruleset answering_cases = (answering_none, answering_end, answering_room, answering_more)

@@ -108,3 +108,5 @@ are_not (a ∷ b ∷ c ∷ w) e =
       | yes k ↦ read a b c w k ∙ then_refuse _ _ _ (are_not w (sym (are_more a b c w k) ∙ e))
       | no f ↦ fails _ _ _ (ne_eqb (a / 256) question_kind f)
     ]
+
+pub ruleset question_cases = (not_whole, at_end, at_other, at_more)

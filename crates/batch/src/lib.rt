@@ -27,6 +27,7 @@ const QUESTION_KIND: u32 = 0x40_0000;
 
 // ---- 38
 // Each question is three words, the first of them of its kind.
+#[tactic(auto, using(crate::proofs::Questions::question_cases))]
 fn are_questions(words: &[u32]) -> bool
     ensures { result ≡ are_questions words.now }
 {
@@ -41,6 +42,7 @@ fn are_questions(words: &[u32]) -> bool
     true
 }
 
+#[tactic(auto, using(crate::proofs::Answering::taken_by))]
 fn is_taken(words: &[u32], room: usize) -> bool
     ensures { result ≡ is_taken words.now room }
 {
@@ -50,6 +52,7 @@ fn is_taken(words: &[u32], room: usize) -> bool
 
 // ---- the answers
 // One question, of three words. The caller has opened the package, or it was refused.
+#[tactic(auto, using(crate::proofs::Answering::opened_bytes, crate::proofs::Answering::opened_refused, lookup::proofs::Lookups::looked_closed), unfolding(crate::specs::Batch::asked, crate::specs::Batch::question))]
 fn ask(package: &[u8], opened: &Result<Package, Refusal>, version: u32, words: &[u32]) -> Answer
     requires { (OpenedAs «package».now opened.now) × (length words.now ≡ 3) }
     ensures { result ≡ numbered (asked «package».now version (question (get_or words.now 0 0) (get_or words.now 1 0) (get_or words.now 2 0))) }
@@ -81,6 +84,7 @@ fn words_of(answer: Answer) -> [u32; 4]
 }
 
 // All answers, in order, from the front. The caller has judged the questions.
+#[tactic(auto, using(crate::proofs::Answering::answering_cases, crate::proofs::Sizes::asked_narrow))]
 fn put_answers(
     package: &[u8],
     opened: &Result<Package, Refusal>,
@@ -98,6 +102,7 @@ fn put_answers(
 }
 
 // Code 0: so many words of answers, four for each question, and zeros after them. 38: zeros only.
+#[tactic(auto, using(crate::proofs::Answering::taken_ready))]
 pub fn answer_batch(package: &[u8], version: u32, questions: &[u32], answers: &mut [u32]) -> Written
     ensures answer { result ≡ written_of (batch_answered «package».now version questions.now (length answers.old)) }
     ensures output { answers.new ≡ output_of (batch_answered «package».now version questions.now (length answers.old)) (length answers.old) }

