@@ -9,10 +9,11 @@ ghost use Rattle.std.specs.Prelude.{◌≡◌, ℕ, ◌<◌, ◌≤◌, ◌^◌,
 ghost use Rattle.kept.specs.Columns.{CellsFit};
 ghost use Rattle.kept.specs.Slots.{Seekable, Placeable};
 
+use index::cells::COLUMNS;
 use index::judging::Contributions;
-use kept::regions::{COMPILATION, RECORD};
+use kept::regions::{COMPILATION, RECORD, RECORDS};
 use kept::writing::IndexForm;
-use numbers::sections::INFO;
+use numbers::sections::{CODES, INFO};
 use std::io;
 
 // The records of a table and its slots lie in work for a bundle of so many words.
@@ -40,68 +41,42 @@ impl Numbers<'_> {
         }
         n
     }
+
+    // The low half of the next number.
+    fn next_half(&mut self) -> usize
+        ensures { result < 2 ^ 32 }
+    {
+        (self.next() % 0x1_0000_0000) as usize
+    }
 }
 
 // ---- one unit
-// The numbers with the low half of x at a place.
-fn with_number(numbers: [usize; 14], s: usize, x: u64) -> [usize; 14]
-    requires { (s < 14) × ((c : ℕ) → get_or numbers c 0 < 2 ^ 32) }
-    ensures { (c : ℕ) → get_or result c 0 < 2 ^ 32 }
-{
-    let low = (x % 0x1_0000_0000) as usize;
-    let mut more = numbers;
-    more[s] = low;
-    more
-}
-
-// One contribution more; none of a code above 13.
-fn with_cell(cells: Contributions, section: u64, first: u64, count: u64) -> Contributions
-    requires { CellsFit cells }
-    ensures { CellsFit result }
-{
-    if 13 < section {
-        return cells;
-    }
-    let s = section as usize;
-    let mut has = cells.has;
-    let offset = cells.offset;
-    let size = cells.size;
-    has[s] = true;
-    let offsets = with_number(offset, s, first);
-    let sizes = with_number(size, s, count);
-    Contributions {
-        has,
-        offset: offsets,
-        size: sizes,
-    }
-}
-
-fn read_cell(numbers: &mut Numbers<'_>, cells: Contributions) -> Contributions
-    requires { CellsFit cells }
-    ensures { CellsFit result }
+// One contribution more; none of a code that no section has.
+fn read_cell(numbers: &mut Numbers<'_>, cells: &mut Contributions)
+    requires { CellsFit cells.old }
+    ensures { CellsFit cells.new }
 {
     let section = numbers.next();
-    let offset = numbers.next();
-    let size = numbers.next();
-    with_cell(cells, section, offset, size)
-}
-
-fn no_cells() -> Contributions
-    ensures { CellsFit result }
-{
-    Contributions {
-        has: [false; 14],
-        offset: [0; 14],
-        size: [0; 14],
+    let offset = numbers.next_half();
+    let size = numbers.next_half();
+    if section < CODES as u64 {
+        let s = section as usize;
+        cells.has[s] = true;
+        cells.offset[s] = offset;
+        cells.size[s] = size;
     }
 }
 
 fn read_cells(numbers: &mut Numbers<'_>) -> Contributions
     ensures { CellsFit result }
 {
-    let mut cells = no_cells();
+    let mut cells = Contributions {
+        has: [false; CODES],
+        offset: [0; CODES],
+        size: [0; CODES],
+    };
     for _ in 0..numbers.next() {
-        cells = read_cell(numbers, cells);
+        read_cell(numbers, &mut cells);
     }
     cells
 }
@@ -113,8 +88,8 @@ fn read_row(
     numbers: &mut Numbers<'_>,
     work: &mut [u32],
     i: usize,
-    has: [bool; 8],
-) -> [bool; 8]
+    has: [bool; COLUMNS],
+) -> [bool; COLUMNS]
     requires { (i < 16) × (length work.old ≡ 1600) }
     ensures { length work.new ≡ length work.old }
 {
@@ -128,16 +103,16 @@ fn read_row(
         start: 0,
         size: 0,
     };
-    let records = kept::regions::records(WORDS);
+    let records = RECORDS.of(WORDS);
     kept::records::store_unit(work, records.start + RECORD * i, unit, five, cells);
     kept::columns::mark_columns(five, has, cells)
 }
 
-fn read_rows(five: bool, numbers: &mut Numbers<'_>, work: &mut [u32], n: usize) -> [bool; 8]
+fn read_rows(five: bool, numbers: &mut Numbers<'_>, work: &mut [u32], n: usize) -> [bool; COLUMNS]
     requires { (n ≤ 16) × (length work.old ≡ 1600) }
     ensures { length work.new ≡ length work.old }
 {
-    let mut has = [false; 8];
+    let mut has = [false; COLUMNS];
     for i in 0..n {
         let more = read_row(five, numbers, work, i, has);
         has = more;
@@ -166,18 +141,13 @@ fn show_index(rt: &impl Print, f: IndexForm, work: &[u32], count: usize) -> io::
     requires { Seekable 80 work.now 1 f.rows count × (f.rows ≤ 16) × (count ≤ 32) }
 {
     let mut out = [0u8; 2048];
-    let has = f.has;
-    let length = kept::columns::index_length(f.five, has, f.rows, count);
+    let length = kept::columns::index_length(f.five, f.has, f.rows, count);
     if 2048 < length {
         return Ok(());
     }
-    let records = kept::regions::records(WORDS);
-    let slots = kept::regions::slots(WORDS, COMPILATION);
-    let first = records.start;
-    let last = first + records.size;
-    let from = slots.start;
-    let to = from + count;
-    kept::writing::write_index(f, &work[first..last], f.rows, &work[from..to], &mut out, 0);
+    let records = RECORDS.part(work, WORDS);
+    let slots = kept::regions::slots(COMPILATION).part(work, WORDS);
+    f.write_index(records, f.rows, &slots[..count], &mut out, 0);
     write_words(rt, f.big, &out[..length])
 }
 
@@ -188,6 +158,7 @@ fn place(rt: &impl Print, f: IndexForm, work: &mut [u32], count: usize) -> io::R
     show_index(rt, f, work, count)
 }
 
+#[tactic(auto, using(crate::proofs::Laws::can_place))]
 fn show_rows(rt: &impl Print, f: IndexForm, work: &mut [u32]) -> io::Result<()>
     requires { (f.rows ≤ 16) × (length work.old ≡ 1600) }
 {
