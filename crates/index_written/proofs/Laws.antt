@@ -1,45 +1,28 @@
--- Numbers that fit in 32 bits, and the length of an index.
+-- Where slots and records lie, and the length of an index.
 -- Assumes nothing.
 use mathlib.Core.Path.{◌≡◌, sym, ap, ◌∙◌}
 use mathlib.Core.List.{List}
-use Prim.Native.Nat.{ℕ, ◌+◌, ◌*◌, ◌-◌, ◌^◌, ◌<◌, ◌≤◌}
+use Prim.Native.Nat.{ℕ, ◌+◌, ◌*◌, ◌≤◌}
 use native.Mathlib.Nat.{mul-le-mul_right}
 use native.Mathlib.Omega.{arith}
-use lib.ListN.{length, get_or, set, take, length-take}
-use Rattle.octets.specs.Octets.{zeros}
-use Rattle.octets.proofs.Placed.{get_d_zeros}
+use lib.ListN.{length}
 use Rattle.octets.proofs.Lists.{length_those}
 use Rattle.index.specs.Probing.{slots_for}
 use Rattle.index.proofs.Slots.{slots_for_power}
-use Rattle.index.proofs.LawMore.{below_set}
 use Rattle.kept.specs.Regions.{records_region, record_words, region}
 use Rattle.kept.specs.Columns.{codes_in}
 use Rattle.kept.specs.Records.{in_table, records_from, of_table}
-use Rattle.kept.specs.Slots.{Within, slots_in, Placeable, Seekable, SlotsLeft}
+use Rattle.kept.specs.Slots.{Within, slots_in, Placeable, Seekable}
 use Rattle.kept.specs.Indexed.{index_size, index_in}
 use Rattle.kept.specs.declared.writing.IndexForm.{IndexForm}
 use Rattle.kept.proofs.Recording.{records_many}
 use Rattle.kept.proofs.Pieces.{pieces, length_grid}
 use Rattle.kept.proofs.Placing.{slots_long, records_long}
 
--- ---- numbers
-pub set_fits : (l : List ℕ) (s x : ℕ) → ((c : ℕ) → get_or l c 0 < 2 ^ 32) → x < 2 ^ 32 → (c : ℕ) → get_or (set l s x) c 0 < 2 ^ 32
-set_fits l s x h g c = let b = below_set l s x (2 ^ 32 - 1) c (λ j. let k = h j in omega arith) (omega arith) in omega arith
-
-pub zeros_fit : (n c : ℕ) → get_or (zeros n) c 0 < 2 ^ 32
-zeros_fit n c = omega (arith, get_d_zeros n c)
-
-pub prefix : (k : ℕ) (l : List ℕ) → k ≤ length l → k ≡ length (take k l)
-prefix k l h = simp length-take (omega arith)
-
 -- ---- slots
 pub can_place : (room n k : ℕ) → n ≤ 16 → room ≡ 1600 → k ≡ slots_for n → k ≤ 32 → Placeable 80 room 1 n k
 can_place room n k h e q l =
     record { power = rw q (slots_for_power n); fits = omega arith; enough = omega arith; limit = omega arith; units = omega arith }
-
--- behind the placing
-pub placed_slots : (w v : List ℕ) (n k : ℕ) → Placeable 80 (length w) 1 n k → SlotsLeft 80 1 n k w v → Seekable 80 v 1 n k
-placed_slots w v n k c l = record { can = rw l.same c; within = l.within }
 
 -- ---- the index
 index_most : (f : IndexForm) (w : List ℕ) (n : ℕ) (slots : List ℕ) → length (index_in f w n slots) ≤ index_size (length (codes_in f.five f.has)) n (length slots)

@@ -153,6 +153,7 @@ fn place(rt: &impl Print, f: IndexForm, work: &mut [u32], count: usize) -> io::R
     show_index(rt, f, work, count)
 }
 
+#[tactic(auto, using(crate::proofs::Laws::can_place))]
 fn show_rows(rt: &impl Print, f: IndexForm, work: &mut [u32]) -> io::Result<()>
     requires { (f.rows ≤ 16) × (length work.old ≡ 1600) }
 {
