@@ -118,3 +118,5 @@ module _ (letter : ℕ) (i : Index) (x first : ℕ) where
   pub cells_end : (d : List ℕ) (at k : ℕ) → length i.codes ≤ k → placed d (at + 40 * k) (cell_lines letter i x (first + k) (drop k i.codes)) ≡ d
   unfolding cell_lines
   cells_end d at k h = rw (drop_of_length-le i.codes h) (placed_none d (at + 40 * k))
+
+pub ruleset cell_turns = (cells_start, cells_turn, cells_end)

@@ -27,6 +27,7 @@ impl Marks {
         (self.words[n / 32] >> (n % 32)) % 2 == 1
     }
 
+    #[tactic(auto, using(crate::proofs::LawMarks::bit_fits), unfolding(crate::specs::Held::with_mark))]
     pub fn set(&mut self, n: usize)
         requires { n < most_slots }
         ensures { self.new.words ≡ with_mark self.old.words n }

@@ -116,6 +116,7 @@ impl<'a> IndexTable<'a> {
     }
 
     // Stores the lines of a row.
+    #[tactic(auto, using(crate::proofs::LawBlocks::cell_turns))]
     fn put_row(&self, row: usize, identity: u64, d: &mut [u8], at: usize)
         requires { (0 < row) × (row ≤ self.now.index.units) × (at + line_bytes * length self.now.index.codes ≤ length d.old) }
         ensures { d.new ≡ placed d.old at (row_lines self.now.letter self.now.index row identity) }

@@ -27,6 +27,7 @@ fn put_sheet(package: &[u8], page: &mut [u8]) -> Result<usize, Unwritten>
     Ok(compilations + types)
 }
 
+#[tactic(auto, unfolding(octets::specs::Octets::zeros))]
 pub fn write_sheet(package: &[u8], page: &mut [u8]) -> Written
     ensures answer { result ≡ written_of (sheet_of «package».now (length page.old)) }
     ensures page { page.new ≡ output_of (sheet_of «package».now (length page.old)) (length page.old) }
