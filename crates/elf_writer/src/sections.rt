@@ -69,7 +69,6 @@ impl Extent {
 }
 
 // One pass over the codes.
-#[tactic(auto, using(crate::proofs::Loops::measuring_none))]
 pub fn measure(package: &Package) -> Extent
     ensures { Measured «package».now.head.sections result }
 {
@@ -87,7 +86,7 @@ pub fn measure(package: &Package) -> Extent
 
 // ---- bytes
 // The bytes of all sections follow the file's header.
-#[tactic(auto, using(crate::proofs::Loops::putting_none, crate::proofs::Loops::putting_room, crate::proofs::Loops::putting_end), unfolding(crate::specs::Held::body_at))]
+#[tactic(auto, using(crate::proofs::Loops::putting_room, crate::proofs::Loops::putting_end), unfolding(crate::specs::Held::body_at))]
 pub fn put_bodies(package: &Package, d: &mut [u8])
     requires { 64 + length (joined_from (body_at «package».now.bytes.now) 1) ≤ length d.old }
     ensures { d.new ≡ placed d.old 64 (joined_from (body_at «package».now.bytes.now) 1) }
@@ -102,7 +101,7 @@ pub fn put_bodies(package: &Package, d: &mut [u8])
 
 // ---- names
 // The name of a section that is there, with the zero that ends it. Returns the place that follows it.
-#[tactic(auto, using(crate::proofs::Names::name_put, crate::proofs::Cases::name_not, crate::proofs::Cases::length_name_not, crate::proofs::Cases::length_name_here, octets::proofs::Placed::placed_none))]
+#[tactic(auto, using(crate::proofs::Names::name_put, crate::proofs::Cases::name_not, crate::proofs::Cases::length_name_here, octets::proofs::Placed::placed_none))]
 fn put_name(package: &Package, code: usize, d: &mut [u8], at: usize) -> usize
     requires { (code < section_codes) × (at + length (name_at «package».now.head.sections code) ≤ length d.old) }
     ensures next { result ≡ at + length (name_at «package».now.head.sections code) }
@@ -119,7 +118,7 @@ fn put_name(package: &Package, code: usize, d: &mut [u8], at: usize) -> usize
 }
 
 // The names of all sections. Returns the place that follows them.
-#[tactic(auto, using(crate::proofs::Loops::putting_none, crate::proofs::Loops::putting_room, crate::proofs::Loops::putting_end, crate::proofs::Loops::putting_next))]
+#[tactic(auto, using(crate::proofs::Loops::putting_room, crate::proofs::Loops::putting_end, crate::proofs::Loops::putting_next))]
 fn put_names(package: &Package, d: &mut [u8], from: usize) -> usize
     requires { from + length (joined_from (name_at «package».now.head.sections) 1) ≤ length d.old }
     ensures next { result ≡ from + length (joined_from (name_at «package».now.head.sections) 1) }
@@ -170,7 +169,7 @@ impl HeaderPlace {
 }
 
 // The headers of all sections, and that of the name table, which has so many bytes.
-#[tactic(auto, using(crate::proofs::Headings::heading_none, crate::proofs::Headings::heading_room), unfolding(crate::specs::Held::first_header))]
+#[tactic(auto, unfolding(crate::specs::Held::first_header))]
 pub fn put_headers(package: &Package, table: usize, d: &mut [u8], from: usize)
     requires { (table < 2 ^ 32) × (from + 64 * (sum_from (counted «package».now.head.sections) 1 + 1) ≤ length d.old) }
     ensures { d.new ≡ placed d.old from (headers_from «package».now.head.encoding.big table «package».now.head.sections (first_header from) 1) }
