@@ -81,7 +81,7 @@ impl PackageHead {
 
 // The section that the index of a table lies in.
 #[tactic(auto, unfolding(crate::specs::Answers::index_code))]
-fn index_code(table: Table) -> usize
+pub fn index_code(table: Table) -> usize
     ensures { result ≡ index_code (table_number table) }
 {
     match table {
