@@ -12,14 +12,12 @@ use lib.Dec.{eqb, ltb}
 use lib.ListN.{length, take, drop, get_or, length-append, length-take, length-drop, drop_of_length-le}
 use Rattle.std.specs.List.{slice_range}
 use lib.Seq.{drop-cons, take_all, take-suc, take_at, length-take-le, get_or-take, get_or-drop, get_or-append-add}
-use borrow.Author.Tests.{eq-eqb, ne_eqb, eqb-true, lt-ltb, le-ltb}
+use borrow.Author.Tests.{eq-eqb, eqb-true, lt-ltb, le-ltb}
 use Rattle.octets.specs.Lists.{any, same}
 use Rattle.octets.proofs.Checks.{known}
 use Rattle.octets.proofs.Lists.{same_both, eq_same, same_eq, ne_same}
 use Rattle.octets.proofs.Elements.{any_at, at_any}
 use Rattle.numbers.specs.Names.{dwo_words, index_words, name_prefix, name_suffix, dwo_name, index_name, section_names}
-use Rattle.std.proofs.Common.{Some}
-use Rattle.elf.specs.Held.{code_found}
 use Rattle.elf.specs.File.{Header, starts_with, code_among, code_of}
 
 -- ---- s starts with a name and a zero
@@ -63,10 +61,6 @@ module _ (ns : List (List ℕ)) (i : ℕ) (s : List ℕ) where
   pub among_none : length ns ≤ i → 0 ≡ code_among (drop i ns) i s
   unfolding code_among
   among_none h = rw (drop_of_length-le ns h)
-
--- a code that is not 0
-pub found_some : (n : ℕ) → (n ≡ 0 → ⊥) → Some n ≡ code_found n
-found_some n h = rw (code_found, ne_eqb n 0 h)
 
 among_nothing : (ns : List (List ℕ)) (c : ℕ) → code_among ns c [] ≡ 0
 unfolding code_among

@@ -4,10 +4,10 @@ use mathlib.Core.Path.{◌≡◌, refl, sym, ap, ◌∙◌}
 use mathlib.Core.Logic.{⊎_elim}
 use mathlib.Core.Bool.{Bool, true, false, not, ◌&&◌, ◌||◌}
 use mathlib.Core.List.{List}
-use Prim.Native.Nat.{ℕ, ◌≤◌, ◌<◌}
+use Prim.Native.Nat.{ℕ, ◌<◌}
 use lib.Dec.{eqb, ltb}
 use lib.ListN.{length, get_or}
-use borrow.Author.Tests.{eq-eqb, eqb-true, lt-ltb, le-ltb, ltb-true, not-true}
+use borrow.Author.Tests.{eq-eqb, eqb-true, lt-ltb, ltb-true, not-true}
 use Rattle.octets.specs.Lists.{all, any}
 use Rattle.octets.proofs.Checks.{known, true_false, and_both, and_left, and_right, both_ways}
 use Rattle.octets.proofs.Elements.{all_at, at_all, at_any, none_at}
@@ -17,19 +17,12 @@ use Rattle.elf.specs.Held.{is_relocation, target_wanted, relocates_wanted, heade
 use Rattle.elf.proofs.Judged.{all_of_those}
 
 -- ---- 32 of one header
-module _ (e : File) where
-  pub target_absent : (i n : ℕ) → length e.headers ≡ n → n ≤ i → ltb i n ≡ target_wanted e i
-  target_absent i n l h = rw (target_wanted, l, le-ltb i n h)
+module _ (e : File) (h : Header) (r : relocates_wanted e h ≡ false) where
+  pub readable_unwanted : is_wanted e.names h ≡ false → true ≡ header_readable e h
+  readable_unwanted c = rw (header_readable, r, c)
 
-  pub target_there : (i : ℕ) → i < length e.headers → is_wanted e.names (get_or e.headers i no_header) ≡ target_wanted e i
-  target_there i h = rw (lt-ltb i (length e.headers) h)
-
-  module _ (h : Header) (r : relocates_wanted e h ≡ false) where
-    pub readable_unwanted : is_wanted e.names h ≡ false → true ≡ header_readable e h
-    readable_unwanted c = rw (header_readable, r, c)
-
-    pub readable_wanted : is_wanted e.names h ≡ true → (not (compressed h) && not (unstored h)) ≡ header_readable e h
-    readable_wanted c = rw (header_readable, r, c)
+  pub readable_wanted : is_wanted e.names h ≡ true → (not (compressed h) && not (unstored h)) ≡ header_readable e h
+  readable_wanted c = rw (header_readable, r, c)
 
 -- ---- all of them
 -- what is wanted and passes if it is wanted passes

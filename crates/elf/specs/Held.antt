@@ -9,7 +9,6 @@ use Rattle.bundle.specs.Bundle.{filled_up}
 use Rattle.bundle.specs.Written.{Section, section_bytes, written}
 use Rattle.unit.specs.Headers.{with_address}
 use Rattle.numbers.specs.Refusals.{not_elf, unreadable_section, no_unit, section_too_long}
-use Rattle.numbers.specs.Sections.{info_code}
 use Rattle.numbers.specs.Limits.{section_limit, package_limit}
 use Rattle.elf.specs.File.{Header, header_at, headers_at, unstored, body_of, inside, File, no_header, code_of, is_wanted, ended, wanted_of}
 use Rattle.elf.specs.Reader.{compressed, readable, first_info, unit_stated, object_word, sections_read}

@@ -40,6 +40,7 @@ impl<'a> Accepted<'a> {
     }
 
     // The section of a header, if it is wanted.
+    #[tactic(auto, using(crate::proofs::Opened::section_none, crate::proofs::Opened::section_inside, crate::proofs::Opened::section_some))]
     pub fn section(&self, i: usize) -> Option<Section<'a>>
         requires { i < self.now.file.count }
         ensures { sections_found result ≡ header_sections self.now.file i }

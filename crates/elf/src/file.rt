@@ -82,6 +82,7 @@ impl<'a> ElfFile<'a> {
     ghost use Rattle.elf.specs.Held.{header_is, file_is, from_type};
 
     // 31, but for names and wanted sections.
+    #[tactic(auto, using(crate::proofs::Opening::open_short, crate::proofs::Opening::open_other, crate::proofs::Opening::open_type), unfolding(octets::specs::Checked::mapped))]
     pub fn open(f: &'a [u8]) -> Result<ElfFile<'a>, Refusal>
         ensures file { mapped file_is (told result) ≡ file_of f.now }
         ensures bytes { IfOk result (λ e. e.bytes.now ≡ f.now) }
@@ -123,6 +124,7 @@ impl<'a> ElfFile<'a> {
     }
 
     // A header of the file.
+    #[tactic(auto, using(crate::proofs::Headers::header_there))]
     pub fn header(&self, i: usize) -> Header
         requires { i < self.now.count }
         ensures { header_is result ≡ get_or (file_is self.now).headers i no_header }

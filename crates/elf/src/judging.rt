@@ -48,6 +48,7 @@ fn is_relocation(h: Header) -> bool
 }
 
 // Whether a header of this number is there and its section wanted.
+#[tactic(auto, using(crate::proofs::Headers::length_all, crate::proofs::Judged::told_wanted))]
 fn target_wanted(file: &ElfFile, target: usize) -> bool
     ensures { result ≡ target_wanted (file_is file.now) target }
 {

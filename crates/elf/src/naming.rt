@@ -10,20 +10,16 @@ use numbers::names::section_name;
 use numbers::sections::CODES;
 
 // Whether s starts with a name and the zero that ends it.
+#[tactic(auto, using(crate::proofs::Names::starts_short, crate::proofs::Names::starts_other, crate::proofs::Names::starts_same))]
 fn starts_with(s: &[u8], name: &[u8]) -> bool
     ensures { result ≡ starts_with s.now name.now }
 {
     let n = name.len();
-    if s.len() <= n {
-        return false;
-    }
-    if s[n] != 0 {
-        return false;
-    }
-    octets::same_bytes(&s[..n], name)
+    n < s.len() && s[n] == 0 && octets::same_bytes(&s[..n], name)
 }
 
 // The code of the name that s starts with, if it is one's.
+#[tactic(auto, using(crate::proofs::Names::among_here, crate::proofs::Names::among_on, crate::proofs::Names::among_none, crate::proofs::Names::names_fourteen), unfolding(numbers::specs::Names::section_name))]
 fn code_at(s: &[u8]) -> Option<usize>
     ensures { result ≡ code_found (code_among (drop 1 section_names) 1 s.now) }
 {

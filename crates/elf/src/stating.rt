@@ -34,6 +34,7 @@ pub fn first_info<'a>(a: &Accepted<'a>) -> &'a [u8]
 }
 
 // The object word of an encoding with this address size.
+#[tactic(auto, using(unit::proofs::Fields::width_le, crate::proofs::FirstUnit::version_most), unfolding(crate::specs::Reader::object_word, unit::specs::Headers::with_address))]
 fn word_of(e: ObjectEncoding, address: u8) -> u32
     ensures { result ≡ object_word (with_address (encoding_is e) address) }
 {
@@ -41,6 +42,7 @@ fn word_of(e: ObjectEncoding, address: u8) -> u32
 }
 
 // The word that a unit of this version and width states.
+#[tactic(auto, unfolding(crate::specs::Held::word_with))]
 fn word_stated(e: ObjectEncoding, s: &[u8]) -> Result<u32, Refusal>
     ensures { told result ≡ word_with (encoding_is e) (address_of (encoding_is e) s.now) }
 {
@@ -51,6 +53,7 @@ fn word_stated(e: ObjectEncoding, s: &[u8]) -> Result<u32, Refusal>
 }
 
 // 33
+#[tactic(auto, using(bundle::proofs::InitialLengths::field_most, crate::proofs::FirstUnit::no_version, crate::proofs::FirstUnit::field_is, crate::proofs::FirstUnit::stated_four, crate::proofs::FirstUnit::stated_five, crate::proofs::FirstUnit::stated_neither))]
 pub fn first_unit(big: bool, s: &[u8]) -> Result<u32, Refusal>
     ensures { told result ≡ mapped object_word (unit_stated big s.now) }
 {
