@@ -26,7 +26,7 @@ use packer::answering::Packed;
 
 // Code 0: the package, of that length, and zeros behind it, and how many type units were skipped as repeats and as namesakes. 18: the length that the
 // output needs. Else the refusal, with 0. But for code 0 both counts are 0.
-// But for 0 the output is zeros; work is zeros behind every answer.
+// But for 0 the output is zeros; work is zeros after every answer.
 #[unsafe(no_mangle)]
 pub extern "C" fn barthovin_pack(bundle: &[u8], work: &mut [u32], output: &mut [u8]) -> Packed
     ensures answer { result ≡ told bundle.now (packed bundle.now (length work.old) (length output.old)) }

@@ -148,6 +148,7 @@ fn reach_end(b: &[u8], from: usize) -> Result<(), Refusal>
     ensures { told result ≡ ended (items from (drop from b.now)) }
 {
     let mut at = from;
+    // Each item says where the next one is.
     loop {
         at = match next_item(b, at)? {
             Item::Object { next, .. } => next,
@@ -242,7 +243,7 @@ pub fn next_unit_section(b: &[u8], from: usize) -> Option<Section>
     None
 }
 
-// ---- a bundle written, into an output that is zero behind. The caller has measured it, so that each part fits.
+// ---- a bundle written, into an output whose other bytes are zero. The caller has measured it, so that each part fits.
 #[tactic(auto, unfolding(crate::specs::Written::head_bytes, crate::specs::Written::word_bytes))]
 pub fn put_head(big_endian: bool, d: &mut [u8])
     requires { 4 ≤ length d.old }

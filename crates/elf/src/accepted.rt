@@ -47,7 +47,7 @@ impl<'a> Accepted<'a> {
     {
         let h = self.file.header(i);
         let code = self.file.code_of(h)?;
-        let bytes = h.stored(self.file.bytes).unwrap();
+        let bytes = h.stored(self.file.bytes);
         Some(Section { code, bytes })
     }
 }

@@ -56,8 +56,16 @@ impl Header {
         }
     }
 
-    // The bytes of a section, where all of them are in the file.
-    pub fn stored(self, f: &[u8]) -> Option<&[u8]>
+    // The bytes of a section. The caller has seen that they are in the file.
+    pub fn stored(self, f: &[u8]) -> &[u8]
+        requires { inside f.now (header_is self) ≡ true }
+        ensures { result.now ≡ body_of f.now (header_is self) }
+    {
+        self.found_in(f).unwrap()
+    }
+
+    // The same, where all of them are in the file.
+    pub fn found_in(self, f: &[u8]) -> Option<&[u8]>
         ensures { MatchOption result (inside f.now (header_is self) ≡ false) (λ b. (inside f.now (header_is self) ≡ true) × (b.now ≡ body_of f.now (header_is self))) }
     {
         if self.kind == UNSTORED || self.size == 0 {
@@ -113,7 +121,7 @@ impl<'a> ElfFile<'a> {
             return Err(Refusal::NotElf);
         }
         let t = Header::read(big, f, table, at + HEADER * table);
-        let names = t.stored(f).ok_or(Refusal::NotElf)?;
+        let names = t.found_in(f).ok_or(Refusal::NotElf)?;
         Ok(ElfFile {
             bytes: f,
             big,

@@ -30,7 +30,7 @@ fn header_good(file: &ElfFile, last: usize, i: usize) -> bool
     ensures { result ≡ header_good file.now.bytes.now file.now.names.now (get_or (file_is file.now).headers i no_header) }
 {
     let h = file.header(i);
-    h.name < last && (file.code_of(h).is_none() || h.stored(file.bytes).is_some())
+    h.name < last && (file.code_of(h).is_none() || h.found_in(file.bytes).is_some())
 }
 
 // 31: each name ends in the name table, and the wanted bytes are in the file.

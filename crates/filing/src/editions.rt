@@ -55,11 +55,11 @@ fn all_once(count: [usize; CODES]) -> bool
     none_reaches(&ONLY_ONCE, count, 2)
 }
 
-// Whether an object is a package of version 5, by whether it has each index.
-pub fn is_packed(five: bool, cu: bool, tu: bool) -> bool
-    ensures { result ≡ (five && (cu || tu)) }
+// Whether an object is a package of version 5, by how many indexes it has.
+pub fn is_packed(five: bool, cu: usize, tu: usize) -> bool
+    ensures { result ≡ (five && (leb 1 cu || leb 1 tu)) }
 {
-    five && (cu || tu)
+    five && (cu >= 1 || tu >= 1)
 }
 
 // 6. An index allows one info only: that of the compilation units and, in version 5, that of the type units too. That of the type units allows one types only.

@@ -53,7 +53,7 @@ impl InputObject {
     pub fn is_package(&self) -> bool
         ensures { result ≡ packed_by self.now }
     {
-        crate::editions::is_packed(self.encoding.five, self.cu.is_some(), self.tu.is_some())
+        self.encoding.five && (self.cu.is_some() || self.tu.is_some())
     }
 }
 

@@ -130,9 +130,7 @@ pub fn read_input(
     ensures frame { OnlyStore (words_in b.now) work.old work.new }
 {
     let e = crate::input::judge_object(big, first, word, scan)?;
-    let cu = scan.count[CU_INDEX] >= 1;
-    let tu = scan.count[TU_INDEX] >= 1;
-    if crate::editions::is_packed(e.five, cu, tu) {
+    if crate::editions::is_packed(e.five, scan.count[CU_INDEX], scan.count[TU_INDEX]) {
         open_tiled(b, e, scan, t, work)
     } else {
         open_whole(b, e, scan, t, work)

@@ -33,7 +33,7 @@ impl Package<'_> {
     }
 
     // Of each object its first section of a code, where it has one. The places of all strings stand in the order of the objects.
-    pub(crate) fn write_shared(&self, code: usize, out: &mut [u8], at: usize)
+    pub fn write_shared(&self, code: usize, out: &mut [u8], at: usize)
         requires { SectionWritable code self.now (length out.old) at × (first_shared ≤ code) × (code ≤ last_shared) }
         ensures { SectionPut code self.now at out.old out.new }
     {
@@ -41,6 +41,7 @@ impl Package<'_> {
         let mut first = strings::table::places_from(table.len());
         let mut o = at;
         let mut place = 4;
+        // Each object says where the next one starts.
         while let Ok(Item::Object { next, .. }) = bundle::next_item(self.bundle, place) {
             let scan = bundle::scan_object(self.bundle, next);
             let start = scan.start[code];

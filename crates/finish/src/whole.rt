@@ -47,7 +47,7 @@ fn finish_sections(package: &Package, word: u32, out: &mut [u8]) -> Result<usize
     Ok(length)
 }
 
-// The caller has filed all objects, and cleared the output; it clears work behind this, which holds the slots of both indexes then.
+// The caller has filed all objects, and cleared the output; it clears work after this, which holds the slots of both indexes then.
 pub fn finish(
     b: &[u8],
     big: bool,

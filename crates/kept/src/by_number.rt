@@ -29,7 +29,7 @@ impl Units {
         pick(home, self.info, self.types)
     }
 
-    // One unit more: its table is t behind it, and its section has so many bytes. Callers have few units.
+    // With one unit more, after which its table is t and its section has so many bytes. Callers have few units.
     pub fn with_unit(self, table: usize, t: Table, home: usize, bytes: usize) -> Units
         requires { self.count < 2 ^ 32 }
         ensures { result ≡ with_unit self table t home bytes }

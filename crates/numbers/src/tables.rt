@@ -1,6 +1,6 @@
 // The two tables of units, the versions of DWARF and of an index, the columns of an index, and the types of a version 5 unit.
 ghost use Rattle.std.specs.Prelude.{◌≡◌};
-ghost use Rattle.numbers.specs.Tabled.{table_named};
+ghost use Rattle.numbers.specs.Tabled.{table_number, table_named};
 
 use crate::refusals::Refusal;
 
@@ -14,6 +14,19 @@ pub const TYPE: u32 = 2;
 pub enum Table {
     Compilation,
     Type,
+}
+
+impl Table {
+    // The number by which a question names it.
+    #[tactic(auto, unfolding(crate::specs::Tabled::table_number))]
+    pub fn number(self) -> u32
+        ensures { result ≡ table_number self }
+    {
+        match self {
+            Table::Compilation => COMPILATION,
+            Table::Type => TYPE,
+        }
+    }
 }
 
 // The table of a number in a question.

@@ -1,4 +1,4 @@
-// Numbers of any width in lent bytes, in either byte order; bytes copied, cleared and compared.
+// Numbers of any width in lent bytes, in either byte order; bytes copied and compared.
 #![tactic(auto)]
 
 ghost use Rattle.std.specs.Prelude.{◌≡◌, false, List, [], ◌∷◌, ℕ, ◌+◌, ◌*◌, ◌%◌, ◌≤◌, ◌<◌, ◌^◌, length, get_or, eqb};
@@ -169,6 +169,7 @@ pub fn number_at(big_endian: bool, w: usize, s: &[u8], at: usize) -> u64
     }
 }
 
+// The names by which readers ask, one line each over the trait, so that no caller has to name a type.
 pub fn u16_at(big_endian: bool, s: &[u8], at: usize) -> u16
     requires { at + 2 ≤ length s.now }
     ensures { result ≡ number_at big_endian 2 s.now at }
@@ -243,6 +244,7 @@ pub fn put_number(big_endian: bool, w: usize, n: u64, d: &mut [u8], at: usize)
     }
 }
 
+// The same for writers.
 pub fn put_u16(big_endian: bool, n: u16, d: &mut [u8], at: usize)
     requires { at + 2 ≤ length d.old }
     ensures { d.new ≡ placed d.old at (bytes_of big_endian 2 n) }
@@ -354,13 +356,6 @@ fn first_zero_singly(s: &[u8], from: usize) -> usize
 }
 
 // ---- words of a work area
-pub fn word(words: &[u32], i: usize) -> usize
-    requires { i < length words.now }
-    ensures { result ≡ get_or words.now i 0 }
-{
-    words[i] as usize
-}
-
 pub fn set_word(words: &mut [u32], i: usize, n: usize)
     requires { (i < length words.old) × (n < 2 ^ 32) }
     ensures { words.new ≡ placed words.old i (n ∷ []) }

@@ -26,7 +26,7 @@ pub struct Made {
     pub skipped: Skipped,
 }
 
-// Over an output that is cleared; work may hold anything, and is not cleared behind it.
+// Over an output that is cleared; work may hold anything, and is not cleared after it.
 fn pack_cleared(b: &[u8], work: &mut [u32], out: &mut [u8]) -> Result<Made, Unwritten>
     requires { out.old ≡ zeros (length out.old) }
     ensures answer { packing_as result ≡ packing_of b.now (packed b.now (length work.old) (length out.old)) }
@@ -48,7 +48,7 @@ fn pack_cleared(b: &[u8], work: &mut [u32], out: &mut [u8]) -> Result<Made, Unwr
     })
 }
 
-// Whatever the three hold: the package, 18 with the length needed, or a refusal; behind it the output is the package and zeros, or
+// Whatever the three hold: the package, 18 with the length needed, or a refusal; after it the output is the package and zeros, or
 // zeros only, and work is zeros.
 pub fn pack_counted(b: &[u8], work: &mut [u32], out: &mut [u8]) -> Result<Made, Unwritten>
     ensures answer { packing_as result ≡ packing_of b.now (packed b.now (length work.old) (length out.old)) }

@@ -31,7 +31,7 @@ pub struct ObjectHead {
     pub from: usize,
 }
 
-// All units of an object that is read, and the bases behind it.
+// All units of an object that is read, and the bases after it.
 fn add_object_units(
     b: &[u8],
     x: &InputObject,
@@ -106,7 +106,7 @@ fn first_word(b: &[u8]) -> u32
     }
 }
 
-// All objects, into work whose slots are cleared, and what is held behind them. The caller has checked 1 to 3.
+// All objects, into work whose slots are cleared, and what is held after them. The caller has checked 1 to 3.
 // A loop, since each object says where the next starts.
 pub fn add_input_objects(b: &[u8], big: bool, work: &mut [u32]) -> Result<InProgress, Refusal>
     requires { Cleared big b.now work.old }

@@ -58,7 +58,7 @@ pub fn mark_rows(index: &Index, marks: &mut [u32]) -> bool
     true
 }
 
-// A place passed, where the part that starts there has n bytes, and of the one before it so many are left: how many are left behind it. None where no part
+// A place passed, where the part that starts there has n bytes, and of the one before it so many are left: how many are left after it. None where no part
 // starts where one must, or one starts in another.
 #[tactic(auto, unfolding(crate::specs::Marks::turned))]
 fn pass_place(left: usize, n: usize) -> Option<usize>
@@ -94,6 +94,7 @@ pub fn good_parts(e: ObjectEncoding, s: &[u8], marks: &[u32]) -> usize
     ensures { (ts : List Part) → TiledBy marks.now ts → result ≡ good_end (encoding_is e) s.now ts }
 {
     let mut at = 0;
+    // Each part says where the next starts.
     while at < s.len() {
         let end = at + marks[at] as usize;
         let part = Section {

@@ -130,7 +130,7 @@ impl Judged {
         Ok(())
     }
 
-    // Behind the others, or alone where the words that are left do not suffice.
+    // A table that was not judged before: its tree stands behind those of the others, or alone where the words that are left do not suffice.
     fn judge_new(
         &mut self,
         b: &[u8],

@@ -22,7 +22,7 @@ returns-else-is_none c =
     let h = header_is c.header-h.result in
     let some : is_wanted e.names.now h ≡ true = sym (told_wanted e.names.now h _ c.code_of.ensures) ∙ c.is_none.ensures ∙ ap not c.if-is_none.false in
     let good : inside f h ≡ (not (is_wanted e.names.now h) || inside f h) = rw some in
-    c.is_some.ensures ∙ stored_inside f h _ c.stored.ensures ∙ good ∙ good_ended f e.names.now h c.args.last c.requires.1 c.if-h-last.true ∙ ap (header_good f e.names.now) c.header-h.ensures
+    c.is_some.ensures ∙ stored_inside f h _ c.found_in.ensures ∙ good ∙ good_ended f e.names.now h c.args.last c.requires.1 c.if-h-last.true ∙ ap (header_good f e.names.now) c.header-h.ensures
 
 pub returns-else-h-last : goal.returns-else-h-last
 returns-else-h-last c = let e = c.args.file.now in good_unended e.bytes.now e.names.now (header_is c.header-h.result) c.args.last c.requires.1 c.if-h-last.false ∙ ap (header_good e.bytes.now e.names.now) c.header-h.ensures

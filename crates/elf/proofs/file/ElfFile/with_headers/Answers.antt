@@ -45,10 +45,10 @@ returns-in_err-names-clause-file c =
     let n = c.u16_at-count.result in
     let t = header_is c.read-t.result in
     let p = err_from_is_err_and c.from_residual.result c.from_residual.ensures.1 in
-    let none : c.stored.result ≡ None = grind (arith, c.in_err-names.ensures.value) in
+    let none : c.found_in.result ≡ None = grind (arith, c.in_err-names.ensures.value) in
     let e : c.in_err-names.field-0.0 ≡ NotElf = grind (arith, c.in_err-names.ensures.value) in
     rw (p.1, p.2, e)
-    (names_outside f a.big at n t (MatchOption-at_none _ _ none c.stored.ensures)
+    (names_outside f a.big at n t (MatchOption-at_none _ _ none c.found_in.ensures)
     ∙ ap (with_names f a.big at n) c.read-t.ensures
     ∙ table_there f a.big (sym c.u16_at.ensures ∙ c.if-u16_at-ne1.false) (sym c.u16_at-else-u16_at-ne1.ensures ∙ c.if-u16_at-ne64.false) at n c.u16_at-table.result
     c.u64_at-at.ensures c.u16_at-count.ensures (omega arith) c.u16_at-table.ensures c.if-count-table.false)
@@ -61,8 +61,8 @@ returns-clause-file c =
     let at = c.u64_at-at.result in
     let n = c.u16_at-count.result in
     let t = header_is c.read-t.result in
-    let some : c.stored.result ≡ Some c.in_ok-names.names = grind (arith, c.in_ok-names.ensures.value) in
-    let stands = MatchOption-at_some _ _ _ some c.stored.ensures in
+    let some : c.found_in.result ≡ Some c.in_ok-names.names = grind (arith, c.in_ok-names.ensures.value) in
+    let stands = MatchOption-at_some _ _ _ some c.found_in.ensures in
     ap (λ (z : List ℕ). pass (record { big = a.big; headers = headers_at a.big f 0 at n; names = z })) stands.1
     ∙ names_there f a.big at n t stands.0
     ∙ ap (with_names f a.big at n) c.read-t.ensures

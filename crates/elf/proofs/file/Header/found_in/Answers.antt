@@ -1,10 +1,10 @@
--- `elf::file::Header::stored` meets its contract.
+-- `elf::file::Header::found_in` meets its contract.
 -- Assumes nothing.
 use mathlib.Core.Logic.{⊎_elim}
 use Rattle.std.proofs.Common.{◌<◌, length, arith}
 use Rattle.elf.specs.Held.{header_is}
 use Rattle.elf.proofs.Headers.{unstored_is, empty_is, outside_is, taken_is}
-use Rattle.elf.proofs.file.Header.stored.Goals as goal
+use Rattle.elf.proofs.file.Header.found_in.Goals as goal
 
 pub returns-then-self-eq-UNSTORED : goal.returns-then-self-eq-UNSTORED
 returns-then-self-eq-UNSTORED c =
