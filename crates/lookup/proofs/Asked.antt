@@ -39,10 +39,13 @@ code_lt table = go (eqb table 1)
     go true = omega arith
     go false = omega arith
 
-pub table_by : (t : Table) (k : Package) → table_index (head_in k) t ≡ indexed (index_for k (table_number t))
-unfolding index_for head_in
-table_by Compilation k = refl
-table_by «Type» k = refl
+pub table_by : (table : ℕ) (k : Package) → table_index (head_in k) table ≡ indexed (index_for k table)
+unfolding table_index index_for head_in
+table_by table k = go (eqb table 1)
+  where
+    go : (t : Bool) → elim t [ true ↦ indexed k.cu_index | false ↦ indexed k.tu_index ] ≡ indexed (elim t [ true ↦ k.cu_index | false ↦ k.tu_index ])
+    go true = refl
+    go false = refl
 
 -- ---- 24, by what a scan says of a section
 module _ (ps : List BundlePart) (c : ℕ) (x : Contribution) where

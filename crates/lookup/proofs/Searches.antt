@@ -93,10 +93,10 @@ module _ (p : List ℕ) (h : PackageHead) (o : Opened p h) where
 
   -- ---- the index of a table
   module _ (t : Table) where
-    table_is : table_index h t ≡ indexed (index_for (package_in p) (table_number t))
-    table_is = ap (λ (z : PackageHead). table_index z t) o.head ∙ table_by t (package_in p)
+    table_is : table_index h (table_number t) ≡ indexed (index_for (package_in p) (table_number t))
+    table_is = ap (λ (z : PackageHead). table_index z (table_number t)) o.head ∙ table_by (table_number t) (package_in p)
 
-    pub table_none : None ≡ table_index h t → None ≡ found (index_for (package_in p) (table_number t))
+    pub table_none : None ≡ table_index h (table_number t) → None ≡ found (index_for (package_in p) (table_number t))
     unfolding indexed
     table_none e = go (index_for (package_in p) (table_number t)) (e ∙ table_is)
       where
@@ -105,7 +105,7 @@ module _ (p : List ℕ) (h : PackageHead) (o : Opened p h) where
         go none f = refl
 
     -- s is the bytes of the index whose head is there
-    module _ (i : IndexHead) (e : Some i ≡ table_index h t) (s : List ℕ) (code : ℕ) (c : code ≡ index_code (table_number t)) (b : s ≡ body p (package_in p).parts code) where
+    module _ (i : IndexHead) (e : Some i ≡ table_index h (table_number t)) (s : List ℕ) (code : ℕ) (c : code ≡ index_code (table_number t)) (b : s ≡ body p (package_in p).parts code) where
       read : (j : Index) × (index_for (package_in p) (table_number t) ≡ some j) × (index_of h.encoding.big s ≡ pass j) × (i ≡ head_of j)
       unfolding indexed
       read = go (index_for (package_in p) (table_number t)) refl (e ∙ table_is)

@@ -92,9 +92,8 @@ abbrev pub version_by : PackageHead → ℕ → Bool
 version_by h version = (eqb version index2 || eqb version index5) && index_has version h.cu && index_has version h.tu
 
 -- the index of a table, and the section that it lies in
-abbrev pub table_index : PackageHead → Table → code.Option IndexHead
-table_index h Compilation = h.cu
-table_index h «Type» = h.tu
+unfoldable pub table_index : PackageHead → ℕ → code.Option IndexHead
+table_index h table = elim (eqb table compilation_table) [ true ↦ h.cu | false ↦ h.tu ]
 
 unfoldable pub index_code : ℕ → ℕ
 index_code table = elim (eqb table compilation_table) [ true ↦ cu_index_code | false ↦ tu_index_code ]

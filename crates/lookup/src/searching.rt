@@ -35,7 +35,7 @@ use index::probing::Probed;
 use index::reading::{Index, IndexHead};
 use numbers::refusals::Refusal;
 use numbers::sections::{CU_INDEX, STR, TU_INDEX};
-use numbers::tables::{INDEX_2, INDEX_5, Table};
+use numbers::tables::{COMPILATION, INDEX_2, INDEX_5, Table};
 use strings::table::Place;
 
 // Codes of sections as a question has them: the last that can be asked for, and str_offsets.
@@ -69,24 +69,28 @@ impl PackageHead {
             && self.tu.is_none_or(|i| i.version == version)
     }
 
-    fn index_for(&self, table: Table) -> Option<IndexHead>
+    // The index of a table, by its number: 1, or any other for the type units'.
+    #[tactic(auto, unfolding(crate::specs::Answers::table_index))]
+    pub fn index_for(&self, table: u32) -> Option<IndexHead>
         ensures { result ≡ table_index self.now table }
     {
-        match table {
-            Table::Compilation => self.cu,
-            Table::Type => self.tu,
+        if table == COMPILATION {
+            self.cu
+        } else {
+            self.tu
         }
     }
 }
 
-// The section that the index of a table lies in.
+// The section that the index of a table lies in, by the table's number.
 #[tactic(auto, unfolding(crate::specs::Answers::index_code))]
-pub fn index_code(table: Table) -> usize
-    ensures { result ≡ index_code (table_number table) }
+pub fn index_code(table: u32) -> usize
+    ensures { result ≡ index_code table }
 {
-    match table {
-        Table::Compilation => CU_INDEX,
-        Table::Type => TU_INDEX,
+    if table == COMPILATION {
+        CU_INDEX
+    } else {
+        TU_INDEX
     }
 }
 
@@ -108,8 +112,8 @@ impl<'a> Package<'a> {
     pub fn index(&self, table: Table) -> Option<Index<'a>>
         ensures { result ≡ found (index_for (package_in self.now.bytes.now) (table_number table)) }
     {
-        let head = self.head.index_for(table)?;
-        let bytes = self.section_bytes(index_code(table));
+        let head = self.head.index_for(table.number())?;
+        let bytes = self.section_bytes(index_code(table.number()));
         Some(Index::of(self.head.encoding.big, bytes, head))
     }
 
