@@ -10,7 +10,7 @@ use native.Mathlib.Omega.{arith}
 use lib.Dec.{leb}
 use lib.ListN.{length, get_or}
 use borrow.Author.Tests.{leb-true, leb-false}
-use Rattle.octets.proofs.Checks.{known, and_left}
+use Rattle.octets.proofs.Checks.{known}
 use Rattle.bundle.specs.Bundle.{Part, body}
 use Rattle.bundle.specs.Encoding.{Encoding}
 use Rattle.bundle.specs.Encoded.{encoding_is}
@@ -33,9 +33,6 @@ use Rattle.filing.specs.declared.input.InputObject.{InputObject}
 use Rattle.filing.specs.ByObject.{strings_check, StringsRoom, scanned, scanned_index, IndexedObject, ScanInside, InputRoom}
 
 -- ---- a package of version 5, by how many indexes there are
-pub packed_five : (five : Bool) (x y : Bool) → true ≡ (five && (x || y)) → five ≡ true
-packed_five five x y q = and_left five (x || y) (sym q)
-
 pub packed_from : (scan : Scan) (at : ℕ) (ps : List Part) → scan ≡ scan_of at ps → (e : ObjectEncoding) (t : Bool)
     → (e.five && (leb 1 (get_or scan.count 12 0) || leb 1 (get_or scan.count 13 0))) ≡ t → is_packed (encoding_is e) ps ≡ t
 unfolding is_packed present

@@ -27,12 +27,6 @@ cleared_length n v e = ap (λ (x : List ℕ). length x) e ∙ length_zeros n
 pub cleared_again : (n : ℕ) (v : List ℕ) → v ≡ zeros n → v ≡ zeros (length v)
 cleared_again n v e = e ∙ sym (ap zeros (cleared_length n v e))
 
--- the answers are those for the length of the output before
-pub over_cleared : (b : List ℕ) (w o : ℕ) (d e : List ℕ) (r : Result Made Unwritten) → d ≡ zeros o
-    → packing_as r ≡ packing_of b (packed b w (length d)) → e ≡ output_of (packed b w (length d)) (length d)
-    → (packing_as r ≡ packing_of b (packed b w o)) × (e ≡ output_of (packed b w o) o)
-over_cleared b w o d e r g h k = (rw (cleared_length o d g) at h, rw (cleared_length o d g) at k)
-
 -- ---- the small packer
 module _ (b : List ℕ) (o : ℕ) where
   small_is_refused : length_good 1_024 b ≡ false → packed_small b o ≡ refused 1

@@ -21,17 +21,9 @@ use Rattle.filing.specs.State.{words_in}
 use Rattle.filing.specs.Tells.{Tells}
 use Rattle.filing.specs.Answers.{UnitsFiled, UnitsAre}
 use Rattle.filing.proofs.Telling.{tells_pass, tells_refuse, tells_same}
-use Rattle.filing.specs.Asked.{ObjectAsked, ObjectAnswered}
+use Rattle.filing.specs.Asked.{ObjectAnswered}
 use Rattle.filing.proofs.Entering.{held_grown}
-use Rattle.packer.specs.Objects.{sections_from, behind_from, InputReady, UnitsAsked, UnitsAdded}
-
--- what `add_sections` requires
-pub sections_asked : (b : List ℕ) (x : InputObject) (from : ℕ) (st : InProgress) (w : List ℕ) → UnitsAsked b x from st w → ObjectAsked b x from st w
-sections_asked b x from st w u = record {
-  reaches = u.ahead.reaches;
-  within = u.ahead.within;
-  ready = record { input = u.input; bases = u.bases; earlier = u.units; here = []; at_unit = u.ready.at_unit };
-}
+use Rattle.packer.specs.Objects.{sections_from, behind_from, InputReady, UnitsAdded}
 
 -- the sizes by value are those of the object's sections
 size_is : (b : List ℕ) (x : InputObject) (i : Input) → InputIs b x i → (c : ℕ) → c < section_codes → get_or x.size c 0 ≡ length (i.bytes c)

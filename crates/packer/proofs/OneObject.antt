@@ -158,7 +158,6 @@ module _ (b : List ℕ) (from : ℕ) (h : Ahead b from) where
         -- it is read
         module _ (x : InputObject) (read : InputAnswered b big first word scan st.strings t w v (Ok x)) where
           pub record ObjectRead (i : Input) : Type 0 where
-            pub is_checked : input_of b big first object ≡ pass i
             pub parts : ObjectParts b (encoding_of big first) (sections_from b from) i
             pub input : InputIs b x i
             pub strings : StringsIn b v t (all_used is ++ used_in i.pieces)
@@ -168,7 +167,6 @@ module _ (b : List ℕ) (from : ℕ) (h : Ahead b from) where
           read_as i e f =
               let p = object_parts b big first object i e in
               record {
-                is_checked = e;
                 parts = p;
                 input = f.0;
                 strings = f.1;

@@ -3,13 +3,13 @@
 use mathlib.Core.Path.{◌≡◌, ap, ◌∙◌, subst}
 use mathlib.Core.Logic.{⊎_elim}
 use mathlib.Core.List.{List}
-use Prim.Native.Nat.{ℕ, ◌+◌, ◌*◌, ◌-◌, ◌≤◌}
+use Prim.Native.Nat.{ℕ, ◌+◌, ◌*◌, ◌-◌}
 use native.Mathlib.Omega.{arith}
 use lib.ListN.{length, take, drop}
 use borrow.Rule.Slice.PartMut.{put_mid}
 use Rattle.kept.specs.Regions.{roots_region, slots_region}
 use Rattle.kept.proofs.RegionStores.{roots_within, roots_slots, tables_apart}
-use Rattle.kept.proofs.RegionLending.{lent_fits, lent_length, lent_left, only_lent}
+use Rattle.kept.proofs.RegionLending.{lent_length, lent_left, only_lent}
 use Rattle.octets.specs.Octets.{zeros}
 use Rattle.octets.proofs.Placed.{length_zeros}
 use Rattle.kept.specs.Held.{OneOrTwo}
@@ -44,9 +44,6 @@ all_cleared n w u v x k first second third = record {
 
 -- x stands in the place of the roots
 module _ (n from many : ℕ) (w : List ℕ) (k : Clearable n (length w)) (ef : from ≡ roots_region.start * n) (em : many ≡ roots_region.words * n) where
-  pub roots_end : from + many ≤ length w
-  roots_end = lent_fits roots_region roots_within n from many w k.room ef em
-
   pub roots_cleared : (x v : List ℕ) → x ≡ zeros (length (take (from + many - from) (drop from w))) → v ≡ put_mid from (from + many - from) w x → RootsCleared n w v
   roots_cleared x v z p =
       let same : length x ≡ length (take (from + many - from) (drop from w)) = ap length z ∙ length_zeros (length (take (from + many - from) (drop from w))) in

@@ -44,6 +44,7 @@ impl From<Result<Made, Unwritten>> for Packed {
     }
 }
 
+#[tactic(auto, using(crate::proofs::Counted::told_packing))]
 pub fn answer_pack(b: &[u8], work: &mut [u32], out: &mut [u8]) -> Packed
     ensures answer { result ≡ numbered b.now (packed b.now (length work.old) (length out.old)) }
     ensures output { out.new ≡ output_of (packed b.now (length work.old) (length out.old)) (length out.old) }
@@ -52,6 +53,7 @@ pub fn answer_pack(b: &[u8], work: &mut [u32], out: &mut [u8]) -> Packed
     Packed::from(crate::pack_counted(b, work, out))
 }
 
+#[tactic(auto, using(crate::proofs::Counted::told_packing))]
 pub fn answer_pack_small(b: &[u8], out: &mut [u8]) -> Packed
     ensures answer { result ≡ numbered b.now (packed_small b.now (length out.old)) }
     ensures output { out.new ≡ output_of (packed_small b.now (length out.old)) (length out.old) }

@@ -34,6 +34,7 @@ fn clear_roots(n: usize, work: &mut [u32])
 }
 
 // The slots of both tables, and the roots.
+#[tactic(auto, using(crate::proofs::Slots::all_cleared))]
 pub fn clear_slots(n: usize, work: &mut [u32])
     requires { Clearable n (length work.old) }
     ensures { NoneHeld n work.new }

@@ -65,6 +65,7 @@ pub fn add_input_object(
 }
 
 // Before the first object.
+#[tactic(auto, unfolding(crate::specs::Objects::none_filed))]
 fn nothing_filed() -> InProgress
     ensures { result ≡ none_filed }
 {

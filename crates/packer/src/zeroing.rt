@@ -7,6 +7,7 @@ ghost use Rattle.octets.specs.Octets.{zeros};
 const PAGE: usize = 1_024;
 
 // The words of s taken together, bit by bit: zero only where all are. All are read, several at a time, which is faster than to stop at the first one.
+#[tactic(auto, using(crate::proofs::Zeros::zero_none, crate::proofs::Zeros::zero_one, crate::proofs::Zeros::zero_all))]
 fn joined(s: &[u32]) -> u32
     ensures { result ≡ 0 → s.now ≡ zeros (length s.now) }
 {

@@ -9,9 +9,6 @@ use Rattle.packer.proofs.clear.clear_table.Goals as goal
 pub overflow_add-to : goal.overflow_add-to
 overflow_add-to c = omega (arith, slots_end _ c.args.work.now _ _ _ (clearing _ _ _ _ c.seen_slots-count.ensures c.requires) _ (slots_start _ _ _ _ c.slots.ensures.is c.of-slots.ensures.start), c.ranges, c.well_formed)
 
-pub offset_bounds-work-from : goal.offset_bounds-work-from
-offset_bounds-work-from c = omega (arith, slots_end _ c.args.work.now _ _ _ (clearing _ _ _ _ c.seen_slots-count.ensures c.requires) _ (slots_start _ _ _ _ c.slots.ensures.is c.of-slots.ensures.start))
-
 pub slice_bounds-clear_lent-end : goal.slice_bounds-clear_lent-end
 slice_bounds-clear_lent-end c = slots_end _ c.args.work.now _ _ _ (clearing _ _ _ _ c.seen_slots-count.ensures c.requires) _ (slots_start _ _ _ _ c.slots.ensures.is c.of-slots.ensures.start)
 

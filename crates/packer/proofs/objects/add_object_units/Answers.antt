@@ -1,11 +1,8 @@
 -- `add_object_units` meets its contract.
 -- Assumes nothing.
 use Rattle.filing.proofs.Telling.{tells_exit}
-use Rattle.packer.proofs.ObjectUnits.{sections_asked, units_refused, bases_fit, units_added}
+use Rattle.packer.proofs.ObjectUnits.{units_refused, bases_fit, units_added}
 use Rattle.packer.proofs.objects.add_object_units.Goals as goal
-
-pub add_sections-requires : goal.add_sections-requires
-add_sections-requires c = sections_asked _ _ _ _ _ c.requires
 
 pub returns-in_err-add_sections : goal.returns-in_err-add_sections
 returns-in_err-add_sections c i bases us k = tells_exit _ _ c.from_residual.ensures.1 (units_refused _ _ _ _ _ _ _ i bases us k _ _ c.in_err-add_sections.ensures)

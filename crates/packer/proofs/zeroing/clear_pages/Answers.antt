@@ -9,7 +9,7 @@ use Rattle.packer.proofs.Zeros.{zero_none, zero_up_to, zero_all, zero_same, zero
 use Rattle.packer.proofs.zeroing.clear_pages.Goals as goal
 
 pub loop-page-init : goal.loop-page-init
-loop-page-init c = zero_none _ 0
+loop-page-init c = zero_none _
 
 pub loop-page-preserved : goal.loop-page-preserved
 loop-page-preserved c =

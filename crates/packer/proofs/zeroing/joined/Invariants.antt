@@ -1,8 +1,8 @@
 -- `joined` meets its contract. Invariant: where all is zero, so are the words that were passed.
 -- Assumes nothing.
 use mathlib.Core.Path.{◌≡◌}
-use Rattle.packer.specs.Zeros.{ZeroFrom}
+use Rattle.packer.specs.Zeros.{ZeroUpTo}
 use Rattle.packer.proofs.zeroing.joined.Given as goal
 
 abbrev pub invariant-loop-word : goal.invariant-loop-word
-invariant-loop-word l = l.all ≡ 0 → ZeroFrom l.s 0 l.word-index
+invariant-loop-word l = l.all ≡ 0 → ZeroUpTo l.s l.word-index
