@@ -62,7 +62,8 @@ fn answered(packed: usize, answer: Answer) -> FromBundle
     }
 }
 
-// The part of a section.
+// The part of a section. This and the following one are two functions, since each promises a lookup of its own: one over any lookup would take it as a
+// function and state all of this of it.
 pub fn pack_and_look_up(
     b: &[u8],
     work: &mut [u32],

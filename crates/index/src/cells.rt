@@ -135,7 +135,7 @@ impl<'a> Index<'a> {
         (0..self.head().columns).position(|k| self.code_at(k) == code)
     }
 
-    // Of a row counted from 1, which callers have from a slot of a well formed index.
+    // Of a row, which callers count from 1 to the number of units.
     #[tactic(auto, using(crate::proofs::Places::cell_cases))]
     pub fn cell_of(&self, row: usize, section: usize) -> Option<Contribution>
         requires { (0 < row) × (row ≤ self.now.units) }

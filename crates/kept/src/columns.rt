@@ -39,6 +39,7 @@ pub fn section_at(five: bool, k: usize) -> usize
     index::cells::column_at(version_for(five), k).section
 }
 
+// Its column's code. Each caller wants one of the two alone.
 #[tactic(auto, using(crate::proofs::Columning::code_of), unfolding(crate::specs::Columns::code_at, crate::specs::Columns::columns_for))]
 pub fn code_at(five: bool, k: usize) -> usize
     ensures { result ≡ code_at five k }

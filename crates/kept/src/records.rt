@@ -101,7 +101,7 @@ pub fn identity_at(records: &[u32], i: usize) -> u64
     u64::from(records[RECORD * i + LOW]) + WORD * u64::from(records[RECORD * i + HIGH])
 }
 
-// The identity and the row number that a slot names by the number of a record, from 1; an unused slot names none.
+// The identity that a slot names by the number of a record, from 1, and 0 for a slot that names none.
 #[tactic(auto, unfolding(crate::specs::Records::identity_for))]
 pub fn identity_for(records: &[u32], number: usize) -> u64
     requires { record_words * number ≤ length records.now }
@@ -110,6 +110,7 @@ pub fn identity_for(records: &[u32], number: usize) -> u64
     number.checked_sub(1).map_or(0, |i| identity_at(records, i))
 }
 
+// The same for its row number.
 #[tactic(auto, unfolding(crate::specs::Records::row_for, crate::specs::Records::record_at))]
 pub fn row_for(records: &[u32], number: usize) -> usize
     requires { record_words * number ≤ length records.now }

@@ -87,6 +87,7 @@ impl StringTable {
 
     // Puts the strings that the entries of all pieces name, each of which check_entries let pass. What is remembered of str serves all of them. The store holds the
     // table in its first words, with a row for each entry, and behind them a word of memory for each byte of str; what the memory holds after the call is not promised.
+    // Beside `add_strings`, and not one with it: what is read between, and so what is asked and promised, is another.
     pub fn add_pieces(
         &mut self,
         o: StrOffsets,

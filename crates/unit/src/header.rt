@@ -68,7 +68,7 @@ pub struct UnitPlace {
     pub last: usize,
 }
 
-// A unit's size, its table and its identity.
+// A unit's size, its table, as `Identity` has it, and its identity.
 #[derive(Clone, Copy)]
 pub struct UnitRead {
     pub size: usize,
