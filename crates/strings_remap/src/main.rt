@@ -34,6 +34,7 @@ impl From<Refusal> for Failure {
 }
 
 // The new str_offsets from the front of the output, and the new str behind it: where str starts, and where it ends.
+#[tactic(auto, using(octets::proofs::Parts::part_cut, octets::proofs::Parts::length_part, strings::proofs::Ends::length_strings_at, strings::proofs::StrOffsets::sound, strings::proofs::StrOffsets::entries_whole, strings::proofs::StrOffsets::header_within, strings::proofs::StrOffsets::whole_length, strings::proofs::Places::length_bytes_at))]
 fn write_sections(
     o: StrOffsets,
     b: &[u8],
@@ -134,6 +135,7 @@ fn tell(rt: &impl Print, o: StrOffsets, b: &[u8]) -> io::Result<()>
 }
 
 // An object of a header, entries and str, each as they are.
+#[tactic(auto, using(strings::proofs::StrOffsets::sound))]
 fn show(
     rt: &impl Print,
     name: &str,
