@@ -153,19 +153,24 @@ module _ (p : List ℕ) (version : ℕ) (w : List ℕ) (room : ℕ) where
       ∙ passes _ _ _ (and_right (are_questions w && leb (length (questions_in w)) questions_limit) _ e) in
       rw (batch_answered, j)
 
-  -- the numbers and the output, over an output d that was cleared
-  module _ (d : List ℕ) (z : d ≡ zeros room) where
-    pub call_refused : is_taken w room ≡ false
-        → (◌≡◌ {A = Written} (record { code = bad_questions; length = 0 }) (written_of (batch_answered p version w room))) × (d ≡ output_of (batch_answered p version w room) room)
-    unfolding written_of output_of
-    call_refused e = rw (batch_refused e) (refl, z)
+  -- the numbers, and the output, which was cleared before
+  pub refused_told : is_taken w room ≡ false → ◌≡◌ {A = Written} (record { code = bad_questions; length = 0 }) (written_of (batch_answered p version w room))
+  unfolding written_of
+  refused_told e = rw (batch_refused e)
 
-    pub call_made : is_taken w room ≡ true → (x : List ℕ) → x ≡ placed d 0 (answers_to p version (questions_in w))
-        → (◌≡◌ {A = Written} (record { code = 0; length = 4 * (length w / 3) }) (written_of (batch_answered p version w room))) × (x ≡ output_of (batch_answered p version w room) room)
-    unfolding written_of output_of
-    call_made e x h =
-        let n : 4 * (length w / 3) ≡ length (answers_to p version (questions_in w)) = ap (λ (k : ℕ). 4 * k) (count_is w room (taken_ready w room e).good) ∙ sym (answers_length p version (questions_in w)) in
-        rw (batch_made e) (ap (λ (k : ℕ). record { code = 0; length = k }) n, h ∙ padded_step d [] (answers_to p version (questions_in w)) 0 room (z ∙ sym (padded_none room)) refl)
+  pub refused_zeros : (d : List ℕ) → d ≡ zeros room → is_taken w room ≡ false → d ≡ output_of (batch_answered p version w room) room
+  unfolding output_of
+  refused_zeros d z e = rw (batch_refused e) z
+
+  pub made_told : is_taken w room ≡ true → ◌≡◌ {A = Written} (record { code = 0; length = 4 * (length w / 3) }) (written_of (batch_answered p version w room))
+  unfolding written_of
+  made_told e =
+      let n : 4 * (length w / 3) ≡ length (answers_to p version (questions_in w)) = ap (λ (k : ℕ). 4 * k) (count_is w room (taken_ready w room e).good) ∙ sym (answers_length p version (questions_in w)) in
+      rw (batch_made e) (ap (λ (k : ℕ). record { code = 0; length = k }) n)
+
+  pub made_put : (d x : List ℕ) → d ≡ zeros room → is_taken w room ≡ true → x ≡ placed d 0 (answers_to p version (questions_in w)) → x ≡ output_of (batch_answered p version w room) room
+  unfolding output_of
+  made_put d x z e h = rw (batch_made e) (h ∙ padded_step d [] (answers_to p version (questions_in w)) 0 room (z ∙ sym (padded_none room)) refl)
 
   -- what was answered, and to how many questions
   pub batch_is : (answers : List ℕ) → batch_answered p version w room ≡ made answers → (answers ≡ answers_to p version (questions_in w)) × (length w / 3 ≡ length (questions_in w))
@@ -175,3 +180,5 @@ module _ (p : List ℕ) (version : ℕ) (w : List ℕ) (room : ℕ) where
       (known (is_taken w room))
 
 pub ruleset answering_cases = (answering_none, answering_end, answering_room, answering_more)
+
+pub ruleset call_cases = (taken_ready, refused_told, refused_zeros, made_told, made_put)

@@ -102,7 +102,7 @@ fn put_answers(
 }
 
 // Code 0: so many words of answers, four for each question, and zeros after them. 38: zeros only.
-#[tactic(auto, using(crate::proofs::Answering::taken_ready))]
+#[tactic(auto, using(crate::proofs::Answering::call_cases), unfolding(octets::specs::Octets::zeros))]
 pub fn answer_batch(package: &[u8], version: u32, questions: &[u32], answers: &mut [u32]) -> Written
     ensures answer { result ≡ written_of (batch_answered «package».now version questions.now (length answers.old)) }
     ensures output { answers.new ≡ output_of (batch_answered «package».now version questions.now (length answers.old)) (length answers.old) }
