@@ -4,7 +4,7 @@ use mathlib.Core.Path.{◌≡◌, refl, sym, ap, ap₂, ◌∙◌}
 use mathlib.Core.Bool.{Bool, true, false, ◌&&◌}
 use mathlib.Core.List.{List, [], ◌∷◌, ◌++◌, map}
 use mathlib.Core.Logic.{⊎_elim}
-use Prim.Native.Nat.{ℕ, ◌+◌, ◌%◌, ◌<◌, ◌≤◌}
+use Prim.Native.Nat.{ℕ, ◌+◌, ◌%◌, ◌<◌}
 use native.Mathlib.Omega.{arith}
 use lib.Dec.{leb, ltb, eqb}
 use lib.ListN.{length, length-append}
@@ -22,12 +22,11 @@ use Rattle.bundle.proofs.Sections.{none_counted, body_part}
 use Rattle.lookup.specs.Lookup.{codes}
 use Rattle.lookup.specs.Answers.{package_in, Opened}
 use Rattle.lookup.specs.declared.opening.PackageHead.{PackageHead}
-use Rattle.lookup.specs.declared.package.Package.{Package}
 use Rattle.lookup.proofs.Packages.{package_passed}
 use Rattle.lookup.proofs.Known.{within_package}
 use Rattle.lookup.proofs.Searches.{count_is, size_is, section_fits}
 use Rattle.elf.specs.Writer as w
-use Rattle.elf_writer.specs.Held.{here, size_at, counted, name_at, body_at, codes_from, joined_from, sum_from, headers_of, headers_from, name_table_of, first_header}
+use Rattle.elf_writer.specs.Held.{here, size_at, counted, name_at, body_at, codes_from, joined_from, sum_from, headers_of, headers_from, name_table_of, first_header, Bounded}
 use Rattle.elf_writer.specs.declared.sections.HeaderPlace.{HeaderPlace}
 use Rattle.elf_writer.proofs.Codes.{codes_all}
 use Rattle.elf_writer.proofs.Cases.{counted_here, counted_not, name_here, name_not, header_here, header_not, after_here, after_not}
@@ -165,11 +164,10 @@ module _ (p : List ℕ) (h : PackageHead) (o : Opened p h) where
   unfolding headers_from first_header
   headers_are big table at = headers_of_law big table (codes_from 1) all_good (first_header at) ∙ ap (w.headers_from big table 1 w.header_size) all_sections
 
--- no section is longer than a package
-pub bounded : (k : Package) (c : ℕ) → c < 14 → size_at k.head.sections c ≤ 117_440_512
-unfolding size_at length_good
-bounded k c l =
-    let p = k.bytes.now in
-    let g = (package_passed p (package_in p) k.opened.is).0 in
-    let n = leb-true (length p) 117_440_512 (and_right (leb 8 (length p)) (leb (length p) 117_440_512) (and_left (leb 8 (length p) && leb (length p) 117_440_512) (eqb (length p % 4) 0) g)) in
-    omega (arith, section_fits p k.head k.opened c l, n)
+  -- ---- what is lent is small
+  pub bounded : Bounded s
+  unfolding size_at length_good
+  bounded =
+      let g = (package_passed p (package_in p) o.is).0 in
+      let n = leb-true (length p) 117_440_512 (and_right (leb 8 (length p)) (leb (length p) 117_440_512) (and_left (leb 8 (length p) && leb (length p) 117_440_512) (eqb (length p % 4) 0) g)) in
+      record { is = λ c l. omega (arith, section_fits p h o c l, n) }

@@ -12,10 +12,9 @@ use Rattle.numbers.specs.Names.{section_name}
 use Rattle.bundle.specs.Written.{Section}
 use Rattle.lookup.specs.Answers.{package_in, Opened}
 use Rattle.lookup.specs.declared.opening.PackageHead.{PackageHead}
-use Rattle.lookup.specs.declared.package.Package.{Package}
 use Rattle.lookup.proofs.Searches.{big_is}
 use Rattle.elf.specs.Writer as w
-use Rattle.elf_writer.specs.Held.{body_at, joined_from, headers_from, name_table_of, first_header, Within, Measured, headers_place, file_size, file_of, Ready}
+use Rattle.elf_writer.specs.Held.{body_at, joined_from, headers_from, name_table_of, first_header, Within, Measured, headers_place, file_size, file_of}
 use Rattle.elf_writer.specs.declared.sections.Extent.{Extent}
 use Rattle.elf_writer.proofs.Headers.{length_section, length_file_header}
 use Rattle.elf_writer.proofs.Matched.{bodies_are, names_are, counts_are, sizes_are, headers_are}
@@ -35,14 +34,6 @@ place_small e m = omega (arith, place_most e, m.short, m.brief)
 pub size_is : (e : Extent) → file_size e ≡ headers_place e + 64 * (e.count + 2)
 unfolding file_size
 size_is e = refl
-
--- ---- an output that is ready has room for each part
-module _ (k : Package) (e : Extent) (out : List ℕ) (r : Ready k e out) where
-  pub room : headers_place e + 64 * (e.count + 2) ≤ length out
-  room = omega (arith, size_is e, r.room)
-
-  pub bodies_fill : length (joined_from (body_at k.bytes.now) 1) ≡ e.bodies
-  bodies_fill = sym (r.measured.bodies ∙ sizes_are k.bytes.now k.head k.opened)
 
 -- ---- headers
 pub length_headers : (big : Bool) (table name at : ℕ) (ss : List Section) → length (w.headers_from big table name at ss) ≡ 64 * length ss + 64

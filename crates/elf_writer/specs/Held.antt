@@ -1,6 +1,7 @@
 -- The parts of a file by section codes, as the code measures and writes them: what a section that is missing adds is empty. Nothing here need be believed.
 -- Assumes nothing.
-use Rattle.std.specs.Prelude.{◌≡◌, Bool, true, false, List, [], ◌∷◌, ◌++◌, map, ℕ, ◌+◌, ◌*◌, ◌-◌, ◌≤◌, leb, length, drop, get_or}
+use Rattle.std.specs.Prelude.{◌≡◌, Bool, true, false, List, [], ◌∷◌, ◌++◌, map, ℕ, ◌+◌, ◌*◌, ◌-◌, ◌≤◌, ◌<◌, leb, length, drop, get_or}
+use Rattle.numbers.specs.Sections.{section_codes}
 use Rattle.numbers.specs.Names.{section_name}
 use Rattle.numbers.specs.Limits.{package_limit}
 use Rattle.octets.specs.Octets.{zeros}
@@ -79,6 +80,10 @@ pub record Measured (s : Scan) (e : Extent) : Type 0 where
   pub bodies : e.bodies ≡ sum_from (size_at s) 1
   pub names : e.names ≡ length (name_table_of s)
   pub within : Within e
+
+-- no section is longer than a package
+pub record Bounded (s : Scan) : Type 0 where
+  pub is : (c : ℕ) → c < section_codes → size_at s c ≤ package_limit
 
 unfoldable pub headers_place : Extent → ℕ
 headers_place e = aligned (header_size + e.bodies + e.names)

@@ -20,7 +20,6 @@ pub fn machine_good(machine: u32) -> bool
     matches!(machine, AMD64 | AARCH64 | RISCV)
 }
 
-#[tactic(auto, unfolding(elf::specs::Writer::order_code))]
 fn order_code(big: bool) -> u8
     ensures { result ≡ order_code big }
 {
@@ -28,7 +27,6 @@ fn order_code(big: bool) -> u8
 }
 
 // Class 2 is 64 bits; then the byte order and version 1.
-#[tactic(auto, using(crate::proofs::Headers::identification_is))]
 fn put_identification(big: bool, d: &mut [u8])
     requires { 16 ≤ length d.old }
     ensures { d.new ≡ placed d.old 0 (identification big) }
@@ -41,7 +39,6 @@ fn put_identification(big: bool, d: &mut [u8])
 }
 
 // The file's header, where n section headers stand at a place.
-#[tactic(auto, using(crate::proofs::Headers::file_put))]
 pub fn put_file_header(big: bool, machine: u32, at: usize, n: usize, d: &mut [u8])
     requires { (at < 2 ^ 32) × (n < 2 ^ 16) × (0 < n) × (64 ≤ length d.old) }
     ensures { d.new ≡ placed d.old 0 (file_header big machine at n) }
@@ -68,7 +65,6 @@ pub struct SectionHeader {
     pub size: usize,
 }
 
-#[tactic(auto, using(crate::proofs::Headers::section_put))]
 pub fn put_section_header(big: bool, h: SectionHeader, d: &mut [u8], at: usize)
     requires { (h.name < 2 ^ 32) × (h.offset < 2 ^ 32) × (h.size < 2 ^ 32) × (at + 64 ≤ length d.old) }
     ensures { d.new ≡ placed d.old at (section_header big h.name h.kind h.offset h.size) }

@@ -16,9 +16,11 @@ ghost use Rattle.elf_writer.specs.Held.{
   name_table_of,
   first_header,
   Measured,
+  Bounded,
 };
 
 use crate::fields::{HEADER, SectionHeader};
+use bundle::Scan;
 use lookup::package::Package;
 use numbers::names::section_name;
 use numbers::sections::CODES;
@@ -43,34 +45,40 @@ pub struct HeaderPlace {
     pub offset: usize,
 }
 
-#[tactic(auto, unfolding(crate::specs::Held::here))]
-fn is_here(package: &Package, code: usize) -> bool
+fn is_here(s: Scan, code: usize) -> bool
     requires { code < section_codes }
-    ensures { result ≡ here «package».now.head.sections code }
+    ensures { result ≡ here s code }
 {
-    0 < package.head.sections.count[code]
+    0 < s.count[code]
 }
 
-impl Extent {
-    // Adds one section, if it is there.
-    #[tactic(auto, using(crate::proofs::Cases::counted_here, crate::proofs::Cases::counted_not, crate::proofs::Cases::length_name_here, crate::proofs::Cases::length_name_not, crate::proofs::Matched::bounded), unfolding(crate::specs::Held::size_at))]
-    fn add(&mut self, package: &Package, code: usize)
-        requires { (code < section_codes) × (self.old.count < 2 ^ 32) × (self.old.bodies < 2 ^ 32) × (self.old.names < 2 ^ 32) }
-        ensures count { self.new.count ≡ self.old.count + counted «package».now.head.sections code }
-        ensures bodies { self.new.bodies ≡ self.old.bodies + size_at «package».now.head.sections code }
-        ensures names { self.new.names ≡ self.old.names + length (name_at «package».now.head.sections code) }
-    {
-        self.bodies += package.head.sections.size[code];
-        if is_here(package, code) {
-            self.count += 1;
-            self.names += section_name(code).len() + 1;
-        }
+// With one section more, if it is there.
+fn extended(e: Extent, s: Scan, code: usize) -> Extent
+    requires { (code < section_codes) × Bounded s × (e.count < 2 ^ 32) × (e.bodies < 2 ^ 32) × (e.names < 2 ^ 32) }
+    ensures count { result.count ≡ e.count + counted s code }
+    ensures bodies { result.bodies ≡ e.bodies + size_at s code }
+    ensures names { result.names ≡ e.names + length (name_at s code) }
+{
+    let bodies = e.bodies + s.size[code];
+    if !is_here(s, code) {
+        return Extent {
+            count: e.count,
+            bodies,
+            names: e.names,
+        };
+    }
+    let name = section_name(code);
+    Extent {
+        count: e.count + 1,
+        bodies,
+        names: e.names + name.len() + 1,
     }
 }
 
 // One pass over the codes.
-pub fn measure(package: &Package) -> Extent
-    ensures { Measured «package».now.head.sections result }
+pub fn measure(s: Scan) -> Extent
+    requires { Bounded s }
+    ensures { Measured s result }
 {
     // a zero byte, and `.shstrtab` with its own
     let mut e = Extent {
@@ -79,14 +87,13 @@ pub fn measure(package: &Package) -> Extent
         names: 11,
     };
     for code in 1..CODES {
-        e.add(package, code);
+        e = extended(e, s, code);
     }
     e
 }
 
 // ---- bytes
 // The bytes of all sections follow the file's header.
-#[tactic(auto, using(crate::proofs::Loops::putting_room, crate::proofs::Loops::putting_end), unfolding(crate::specs::Held::body_at))]
 pub fn put_bodies(package: &Package, d: &mut [u8])
     requires { 64 + length (joined_from (body_at «package».now.bytes.now) 1) ≤ length d.old }
     ensures { d.new ≡ placed d.old 64 (joined_from (body_at «package».now.bytes.now) 1) }
@@ -100,14 +107,13 @@ pub fn put_bodies(package: &Package, d: &mut [u8])
 }
 
 // ---- names
-// The name of a section that is there, with the zero that ends it. Returns the place that follows it.
-#[tactic(auto, using(crate::proofs::Names::name_put, crate::proofs::Cases::name_not, crate::proofs::Cases::length_name_here, octets::proofs::Placed::placed_none))]
-fn put_name(package: &Package, code: usize, d: &mut [u8], at: usize) -> usize
-    requires { (code < section_codes) × (at + length (name_at «package».now.head.sections code) ≤ length d.old) }
-    ensures next { result ≡ at + length (name_at «package».now.head.sections code) }
-    ensures output { d.new ≡ placed d.old at (name_at «package».now.head.sections code) }
+// The name of a section that is there, with the zero that ends it. Returns the place behind it.
+fn put_name(s: Scan, code: usize, d: &mut [u8], at: usize) -> usize
+    requires { (code < section_codes) × (at + length (name_at s code) ≤ length d.old) }
+    ensures next { result ≡ at + length (name_at s code) }
+    ensures output { d.new ≡ placed d.old at (name_at s code) }
 {
-    if !is_here(package, code) {
+    if !is_here(s, code) {
         return at;
     }
     let name = section_name(code);
@@ -117,62 +123,59 @@ fn put_name(package: &Package, code: usize, d: &mut [u8], at: usize) -> usize
     at + n + 1
 }
 
-// The names of all sections. Returns the place that follows them.
-#[tactic(auto, using(crate::proofs::Loops::putting_room, crate::proofs::Loops::putting_end, crate::proofs::Loops::putting_next))]
-fn put_names(package: &Package, d: &mut [u8], from: usize) -> usize
-    requires { from + length (joined_from (name_at «package».now.head.sections) 1) ≤ length d.old }
-    ensures next { result ≡ from + length (joined_from (name_at «package».now.head.sections) 1) }
-    ensures output { d.new ≡ placed d.old from (joined_from (name_at «package».now.head.sections) 1) }
+// The names of all sections. Returns the place behind them.
+fn put_names(s: Scan, d: &mut [u8], from: usize) -> usize
+    requires { from + length (joined_from (name_at s) 1) ≤ length d.old }
+    ensures next { result ≡ from + length (joined_from (name_at s) 1) }
+    ensures output { d.new ≡ placed d.old from (joined_from (name_at s) 1) }
 {
     let mut at = from;
     for code in 1..CODES {
-        at = put_name(package, code, d, at);
+        at = put_name(s, code, d, at);
     }
     at
 }
 
 // A zero byte, the sections' names, and the name of the name table itself.
-#[tactic(auto, using(crate::proofs::Names::length_table, crate::proofs::Names::table_put))]
-pub fn put_name_table(package: &Package, d: &mut [u8], at: usize)
-    requires { at + length (name_table_of «package».now.head.sections) ≤ length d.old }
-    ensures { d.new ≡ placed d.old at (name_table_of «package».now.head.sections) }
+pub fn put_name_table(s: Scan, d: &mut [u8], at: usize)
+    requires { at + length (name_table_of s) ≤ length d.old }
+    ensures { d.new ≡ placed d.old at (name_table_of s) }
 {
     octets::put_byte(d, at, 0);
-    let end = put_names(package, d, at + 1);
+    let end = put_names(s, d, at + 1);
     octets::put_bytes(d, end, b".shstrtab\0");
 }
 
 // ---- headers
-impl HeaderPlace {
-    // Puts the header of a section that is there, and goes on to the next one.
-    #[tactic(auto, using(crate::proofs::Cases::header_here, crate::proofs::Cases::header_not, crate::proofs::Cases::after_here, crate::proofs::Cases::after_not, crate::proofs::Matched::bounded, octets::proofs::Placed::placed_none), unfolding(crate::specs::Held::size_at))]
-    fn put(&mut self, package: &Package, code: usize, d: &mut [u8])
-        requires { (code < section_codes) × (self.old.name < 2 ^ 31) × (self.old.offset < 2 ^ 31) × (self.old.at + 64 ≤ length d.old) }
-        ensures next { self.new ≡ place_after «package».now.head.sections code self.old }
-        ensures output { d.new ≡ placed d.old self.old.at (header_at «package».now.head.encoding.big «package».now.head.sections code self.old) }
-    {
-        if !is_here(package, code) {
-            return;
-        }
-        let size = package.head.sections.size[code];
-        let header = SectionHeader {
-            name: self.name,
-            kind: PROGRAM_BITS,
-            offset: self.offset,
-            size,
-        };
-        crate::fields::put_section_header(package.head.encoding.big, header, d, self.at);
-        self.at += HEADER;
-        self.name += section_name(code).len() + 1;
-        self.offset += size;
+// The header of a section that is there. Returns where the next one stands.
+fn put_header(big: bool, s: Scan, code: usize, h: HeaderPlace, d: &mut [u8]) -> HeaderPlace
+    requires { (code < section_codes) × Bounded s × (h.name < 2 ^ 31) × (h.offset < 2 ^ 31) × (h.at + 64 ≤ length d.old) }
+    ensures next { result ≡ place_after s code h }
+    ensures output { d.new ≡ placed d.old h.at (header_at big s code h) }
+{
+    if !is_here(s, code) {
+        return h;
+    }
+    let size = s.size[code];
+    let name = section_name(code);
+    let header = SectionHeader {
+        name: h.name,
+        kind: PROGRAM_BITS,
+        offset: h.offset,
+        size,
+    };
+    crate::fields::put_section_header(big, header, d, h.at);
+    HeaderPlace {
+        at: h.at + HEADER,
+        name: h.name + name.len() + 1,
+        offset: h.offset + size,
     }
 }
 
 // The headers of all sections, and that of the name table, which has so many bytes.
-#[tactic(auto, unfolding(crate::specs::Held::first_header))]
-pub fn put_headers(package: &Package, table: usize, d: &mut [u8], from: usize)
-    requires { (table < 2 ^ 32) × (from + 64 * (sum_from (counted «package».now.head.sections) 1 + 1) ≤ length d.old) }
-    ensures { d.new ≡ placed d.old from (headers_from «package».now.head.encoding.big table «package».now.head.sections (first_header from) 1) }
+pub fn put_headers(big: bool, s: Scan, table: usize, d: &mut [u8], from: usize)
+    requires { Bounded s × (table < 2 ^ 32) × (from + 64 * (sum_from (counted s) 1 + 1) ≤ length d.old) }
+    ensures { d.new ≡ placed d.old from (headers_from big table s (first_header from) 1) }
 {
     let mut h = HeaderPlace {
         at: from,
@@ -180,7 +183,7 @@ pub fn put_headers(package: &Package, table: usize, d: &mut [u8], from: usize)
         offset: HEADER,
     };
     for code in 1..CODES {
-        h.put(package, code, d);
+        h = put_header(big, s, code, h, d);
     }
     let header = SectionHeader {
         name: h.name,
@@ -188,5 +191,5 @@ pub fn put_headers(package: &Package, table: usize, d: &mut [u8], from: usize)
         offset: h.offset,
         size: table,
     };
-    crate::fields::put_section_header(package.head.encoding.big, header, d, h.at);
+    crate::fields::put_section_header(big, header, d, h.at);
 }

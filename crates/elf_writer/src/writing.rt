@@ -18,7 +18,6 @@ const ALIGNMENT: usize = 8;
 
 impl Extent {
     // Where the section headers stand.
-    #[tactic(auto, unfolding(elf::specs::Writer::aligned, crate::specs::Held::headers_place))]
     fn headers_place(self) -> usize
         requires { Within self }
         ensures { result ≡ headers_place self }
@@ -26,7 +25,6 @@ impl Extent {
         (HEADER + self.bodies + self.names).next_multiple_of(ALIGNMENT)
     }
 
-    #[tactic(auto, using(crate::proofs::Whole::place_small), unfolding(crate::specs::Held::file_size))]
     fn file_size(self) -> usize
         requires { Within self }
         ensures { result ≡ file_size self }
@@ -36,21 +34,20 @@ impl Extent {
 }
 
 // The file, into an output that is zero, so that the zeros in front of the headers and the null header stand there.
-#[tactic(auto, using(crate::proofs::Whole::place_small, crate::proofs::Whole::place_behind, crate::proofs::Whole::room, crate::proofs::Whole::bodies_fill))]
 fn put_file(package: &Package, machine: u32, e: Extent, out: &mut [u8])
     requires { Ready «package».now e out.old }
     ensures { out.new ≡ padded (file_of «package».now.bytes.now machine) (length out.old - length (file_of «package».now.bytes.now machine)) }
 {
-    let big = package.head.encoding.big;
+    let head = package.head;
+    let big = head.encoding.big;
     let at = e.headers_place();
     crate::fields::put_file_header(big, machine, at, e.count + 2, out);
     sections::put_bodies(package, out);
-    sections::put_name_table(package, out, HEADER + e.bodies);
-    sections::put_headers(package, e.names, out, at + HEADER);
+    sections::put_name_table(head.sections, out, HEADER + e.bodies);
+    sections::put_headers(big, head.sections, e.names, out, at + HEADER);
 }
 
 // The same, or a refusal.
-#[tactic(auto, using(crate::proofs::Answering::refused_output, crate::proofs::Answering::refused_written, crate::proofs::Answering::written_machine))]
 fn write_into(package: &[u8], machine: u32, out: &mut [u8]) -> Result<usize, Unwritten>
     requires { out.old ≡ zeros (length out.old) }
     ensures answer { written_as result ≡ written_of (elf_written «package».now machine (length out.old)) }
@@ -60,7 +57,7 @@ fn write_into(package: &[u8], machine: u32, out: &mut [u8]) -> Result<usize, Unw
         return Err(Unwritten::Refused(Refusal::OtherMachine));
     }
     let opened = Package::open(package)?;
-    let e = sections::measure(&opened);
+    let e = sections::measure(opened.head.sections);
     let length = e.file_size();
     if out.len() < length {
         return Err(Unwritten::Refused(Refusal::FileShort));
@@ -70,7 +67,6 @@ fn write_into(package: &[u8], machine: u32, out: &mut [u8]) -> Result<usize, Unw
 }
 
 // Whatever the package holds: the file and zeros, or a refusal; then the output is zeros only.
-#[tactic(auto, unfolding(octets::specs::Octets::zeros))]
 pub fn write_elf(package: &[u8], machine: u32, out: &mut [u8]) -> Written
     ensures answer { result ≡ written_of (elf_written «package».now machine (length out.old)) }
     ensures output { out.new ≡ output_of (elf_written «package».now machine (length out.old)) (length out.old) }

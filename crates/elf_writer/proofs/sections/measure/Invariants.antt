@@ -4,4 +4,4 @@ use Rattle.elf_writer.proofs.Loops.{Measuring}
 use Rattle.elf_writer.proofs.sections.measure.Given as goal
 
 abbrev pub invariant-loop-code : goal.invariant-loop-code
-invariant-loop-code l = Measuring l.package.head.sections l.e l.code
+invariant-loop-code l = Measuring l.s l.e l.code
