@@ -1,6 +1,6 @@
 -- 15 and 16 by an index or none.
 -- Assumes nothing.
-use Rattle.std.specs.Prelude.{Bool, not, ℕ, ◌-◌, Result}
+use Rattle.std.specs.Prelude.{Bool, not, List, ℕ, Result}
 use Rattle.std.proofs.Math.Option.{Option, some, none}
 use Rattle.numbers.specs.Refusals.{no_row}
 use Rattle.numbers.specs.declared.refusals.Refusal.{Refusal}
@@ -13,7 +13,7 @@ use Rattle.index.specs.declared.judging.Measures.{Measures}
 use Rattle.index.specs.declared.judging.OwnUnit.{OwnUnit}
 use Rattle.package.specs.Input.{Input}
 use Rattle.package.specs.Filing.{contributions_of}
-use Rattle.filing.specs.declared.units.Reading.{Reading}
+use Rattle.filing.specs.declared.input.InputObject.{InputObject}
 use Rattle.unit.specs.declared.header.UnitRead.{UnitRead}
 use Rattle.filing.specs.Tells.{Tells}
 use Rattle.filing.specs.Judged.{InputIs}
@@ -35,7 +35,6 @@ abbrev pub GivenBy : Bool → Option Index → Measures → OwnUnit → Result C
 GivenBy packed o m u r = GivenIs (contributions_by packed o m.width (by_code m.lengths) u.identity u.home u.at u.size) r
 
 -- of a unit that was read, for any object
-abbrev pub ContributionsGiven : Reading → ℕ → UnitRead → Result Contributions Refusal → Type 0
-ContributionsGiven r at u z =
-    (i : Input) → InputIs r.bundle.now r.object.now i
-    → GivenIs (contributions_of i r.section.home (at - r.section.start) (record { size = u.size; table = u.table; identity = u.identity })) z
+abbrev pub ContributionsGiven : List ℕ → InputObject → ℕ → ℕ → UnitRead → Result Contributions Refusal → Type 0
+ContributionsGiven b x home at u r =
+    (i : Input) → InputIs b x i → GivenIs (contributions_of i home at (record { size = u.size; table = u.table; identity = u.identity })) r

@@ -1,5 +1,5 @@
 // 15 and 16: what a unit that is kept contributes of its object's shared sections.
-ghost use Rattle.std.specs.Prelude.{◌≡◌, ◌≤◌, ◌<◌, IfSome};
+ghost use Rattle.std.specs.Prelude.{◌≡◌, ◌<◌, IfSome};
 ghost use Rattle.octets.specs.Options.{found};
 ghost use Rattle.std.proofs.Math.Option.{Option};
 ghost use Rattle.index.specs.Index.{Index};
@@ -10,8 +10,7 @@ ghost use Rattle.index.specs.Held.{Well};
 ghost use Rattle.filing.specs.Judged.{InputIs};
 ghost use Rattle.filing.specs.Contributing.{whole_given, GivenIs, GivenBy, ContributionsGiven};
 
-use crate::input::held;
-use crate::units::Reading;
+use crate::input::{InputObject, held};
 use index::judging::{Contributions, Measures, OwnUnit};
 use index::reading::Index;
 use numbers::refusals::Refusal;
@@ -47,38 +46,42 @@ fn indexed_contributions(
     }
 }
 
-impl<'a> Reading<'a> {
+impl InputObject {
     // The index of a table, where the object has it.
-    fn index_for(&self, table: u32) -> Option<Index<'a>>
-        requires { (i : Input) × InputIs self.now.bundle.now self.now.object.now i }
-        ensures is { (i : Input) → InputIs self.now.bundle.now self.now.object.now i → result ≡ found (index_for i table) }
+    fn index_for<'a>(&self, b: &'a [u8], table: u32) -> Option<Index<'a>>
+        requires { (i : Input) × InputIs b.now self.now i }
+        ensures is { (i : Input) → InputIs b.now self.now i → result ≡ found (index_for i table) }
         ensures well { IfSome result Well }
     {
-        let x = self.object;
-        let big = x.encoding.big;
+        let big = self.encoding.big;
         if table == COMPILATION {
-            held(big, x.section(self.bundle, CU_INDEX), x.cu)
+            held(big, self.section(b, CU_INDEX), self.cu)
         } else {
-            held(big, x.section(self.bundle, TU_INDEX), x.tu)
+            held(big, self.section(b, TU_INDEX), self.tu)
         }
     }
 
-    // A unit that was read at a place of the section.
-    pub fn contributions(&self, at: usize, read: UnitRead) -> Result<Contributions, Refusal>
-        requires { (self.now.section.start ≤ at) × ((i : Input) × InputIs self.now.bundle.now self.now.object.now i) }
-        ensures { ContributionsGiven self.now at read result }
+    // A unit that was read at a place of the section home.
+    pub fn contributions(
+        &self,
+        b: &[u8],
+        home: usize,
+        at: usize,
+        read: UnitRead,
+    ) -> Result<Contributions, Refusal>
+        requires { (i : Input) × InputIs b.now self.now i }
+        ensures { ContributionsGiven b.now self.now home at read result }
     {
-        let x = self.object;
         let m = Measures {
-            width: x.encoding.width(),
-            lengths: x.size,
+            width: self.encoding.width(),
+            lengths: self.size,
         };
         let u = OwnUnit {
             identity: read.identity,
-            home: self.section.home,
-            at: at - self.section.start,
+            home,
+            at,
             size: read.size,
         };
-        indexed_contributions(self.index_for(read.table), x.is_package(), m, u)
+        indexed_contributions(self.index_for(b, read.table), self.is_package(), m, u)
     }
 }

@@ -80,7 +80,7 @@ impl<'a> Reading<'a> {
             Ok(number) => return file_known(b, number, at, read, st, work),
             Err(slot) => slot,
         };
-        let k = self.contributions(at, read)?;
+        let k = x.contributions(b, home, at - self.section.start, read)?;
         let unit = unit_for(st.units, home, at, read);
         crate::keep::keep_unit(x.encoding.five, n, slot, unit, k, st, work);
         Ok(read.size)

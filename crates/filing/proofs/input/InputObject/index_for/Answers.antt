@@ -3,7 +3,7 @@
 use mathlib.Core.Path.{sym, ap, ◌∙◌}
 use Rattle.octets.specs.Options.{found}
 use Rattle.filing.proofs.Contributing.{index_first, index_second}
-use Rattle.filing.proofs.units.Reading.index_for.Goals as goal
+use Rattle.filing.proofs.input.InputObject.index_for.Goals as goal
 
 pub returns-then-table-eq-COMPILATION : goal.returns-then-table-eq-COMPILATION
 returns-then-table-eq-COMPILATION c = record {

@@ -3,7 +3,7 @@
 use mathlib.Core.Path.{refl}
 use Rattle.package.specs.Filing.{index_for}
 use Rattle.filing.proofs.Contributing.{given_is, width_some}
-use Rattle.filing.proofs.units.Reading.contributions.Goals as goal
+use Rattle.filing.proofs.input.InputObject.contributions.Goals as goal
 
 pub indexed_contributions-requires : goal.indexed_contributions-requires
 indexed_contributions-requires c = (rw c.width.ensures (width_some _), c.index_for.ensures.well)
