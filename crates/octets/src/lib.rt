@@ -1,7 +1,7 @@
 // Numbers of any width in lent bytes, in either byte order; bytes copied and compared.
 #![tactic(auto)]
 
-ghost use Rattle.std.specs.Prelude.{◌≡◌, false, List, [], ◌∷◌, ℕ, ◌+◌, ◌*◌, ◌%◌, ◌≤◌, ◌<◌, ◌^◌, length, get_or, eqb};
+ghost use Rattle.std.specs.Prelude.{◌≡◌, false, List, [], ◌∷◌, ℕ, ◌+◌, ◌*◌, ◌/◌, ◌%◌, ◌≤◌, ◌<◌, ◌^◌, length, get_or, eqb};
 ghost use Rattle.octets.specs.Octets.{
   part,
   little,
@@ -327,7 +327,7 @@ fn zero_marks(x: u64) -> u64
 }
 
 // The place of the first zero byte from a place on, or the length where there is none: eight bytes at a time, and the last ones singly. The place is counted
-// by hand: over chunks it would have to be put together again from the number of a chunk.
+// by hand: `as_chunks` is no plainer, since it gives the number of a chunk, from which the place would have to be made, and the rest apart.
 pub fn first_zero(s: &[u8], from: usize) -> usize
     requires { from ≤ length s.now }
     ensures { FirstZero s.now from result }
@@ -356,6 +356,20 @@ fn first_zero_singly(s: &[u8], from: usize) -> usize
 }
 
 // ---- words of a work area
+// A number of 64 bits that two words hold, the low one first.
+pub fn number_of(low: u32, high: u32) -> u64
+    ensures { result ≡ low + 2 ^ 32 * high }
+{
+    u64::from(low) + WORD * u64::from(high)
+}
+
+// The two words that hold it.
+pub fn words_of(n: u64) -> [u32; 2]
+    ensures { result ≡ (n % 2 ^ 32) ∷ (n / 2 ^ 32) ∷ [] }
+{
+    [(n % WORD) as u32, (n / WORD) as u32]
+}
+
 pub fn set_word(words: &mut [u32], i: usize, n: usize)
     requires { (i < length words.old) × (n < 2 ^ 32) }
     ensures { words.new ≡ placed words.old i (n ∷ []) }
