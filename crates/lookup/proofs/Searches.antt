@@ -14,7 +14,6 @@ use Rattle.octets.proofs.Parts.{part_cut}
 use Rattle.std.specs.Prelude.{Some, None, Result, Ok, Err}
 use Rattle.numbers.specs.Refused.{told, number_of}
 use Rattle.numbers.specs.declared.refusals.Refusal.{Refusal}
-use Rattle.numbers.specs.Tabled.{table_number}
 use Rattle.numbers.specs.declared.tables.Table.{Table}
 use Rattle.bundle.specs.Bundle.{count, first_part, body}
 use Rattle.bundle.specs.Scan.{start_of, size_of, scan_of}
@@ -92,32 +91,32 @@ module _ (p : List ℕ) (h : PackageHead) (o : Opened p h) where
   big_is = ap (λ (z : PackageHead). z.encoding.big) o.head
 
   -- ---- the index of a table
-  module _ (t : Table) where
-    table_is : table_index h (table_number t) ≡ indexed (index_for (package_in p) (table_number t))
-    table_is = ap (λ (z : PackageHead). table_index z (table_number t)) o.head ∙ table_by (table_number t) (package_in p)
+  module _ (t : ℕ) where
+    table_is : table_index h t ≡ indexed (index_for (package_in p) t)
+    table_is = ap (λ (z : PackageHead). table_index z t) o.head ∙ table_by t (package_in p)
 
-    pub table_none : None ≡ table_index h (table_number t) → None ≡ found (index_for (package_in p) (table_number t))
+    pub table_none : None ≡ table_index h t → None ≡ found (index_for (package_in p) t)
     unfolding indexed
-    table_none e = go (index_for (package_in p) (table_number t)) (e ∙ table_is)
+    table_none e = go (index_for (package_in p) t) (e ∙ table_is)
       where
         go : (i : Option Index) → None ≡ indexed i → None ≡ found i
         go (some i) f = absurd (let z : ◌≡◌ {A = ℕ} 0 1 = cc in omega arith)
         go none f = refl
 
     -- s is the bytes of the index whose head is there
-    module _ (i : IndexHead) (e : Some i ≡ table_index h (table_number t)) (s : List ℕ) (code : ℕ) (c : code ≡ index_code (table_number t)) (b : s ≡ body p (package_in p).parts code) where
-      read : (j : Index) × (index_for (package_in p) (table_number t) ≡ some j) × (index_of h.encoding.big s ≡ pass j) × (i ≡ head_of j)
+    module _ (i : IndexHead) (e : Some i ≡ table_index h t) (s : List ℕ) (code : ℕ) (c : code ≡ index_code t) (b : s ≡ body p (package_in p).parts code) where
+      read : (j : Index) × (index_for (package_in p) t ≡ some j) × (index_of h.encoding.big s ≡ pass j) × (i ≡ head_of j)
       unfolding indexed
-      read = go (index_for (package_in p) (table_number t)) refl (e ∙ table_is)
+      read = go (index_for (package_in p) t) refl (e ∙ table_is)
         where
-          known : (j : Index) → index_for (package_in p) (table_number t) ≡ some j → index_of h.encoding.big s ≡ pass j
+          known : (j : Index) → index_for (package_in p) t ≡ some j → index_of h.encoding.big s ≡ pass j
           known j f =
               ap (λ (z : Bool). index_of z s) big_is
               ∙ ap (index_of (package_in p).encoding.big) (b ∙ ap (body p (package_in p).parts) c)
-              ∙ index_known p (package_in p) o.is (table_number t) j f
+              ∙ index_known p (package_in p) o.is t j f
 
-          go : (m : Option Index) → index_for (package_in p) (table_number t) ≡ m → Some i ≡ indexed m
-              → (j : Index) × (index_for (package_in p) (table_number t) ≡ some j) × (index_of h.encoding.big s ≡ pass j) × (i ≡ head_of j)
+          go : (m : Option Index) → index_for (package_in p) t ≡ m → Some i ≡ indexed m
+              → (j : Index) × (index_for (package_in p) t ≡ some j) × (index_of h.encoding.big s ≡ pass j) × (i ≡ head_of j)
           go (some j) f g = (j, f, known j f, cc)
           go none f g = absurd (let z : ◌≡◌ {A = ℕ} 0 1 = cc in omega arith)
 
@@ -128,23 +127,23 @@ module _ (p : List ℕ) (h : PackageHead) (o : Opened p h) where
       pub table_sized : Sized s i
       table_sized = read_sized h.encoding.big s i well
 
-      pub table_some : Some (index_in h.encoding.big s i) ≡ found (index_for (package_in p) (table_number t))
+      pub table_some : Some (index_in h.encoding.big s i) ≡ found (index_for (package_in p) t)
       table_some =
           let same : index_in h.encoding.big s i ≡ read.0 = pass_inj (sym (read_is h.encoding.big s i well) ∙ read.2) in
           ap Some same ∙ sym (ap found read.1)
 
     -- ---- the index that is there
-    pub absent_in : (x section : ℕ) → None ≡ found (index_for (package_in p) (table_number t)) → pass (absent 0) ≡ part_in (package_in p) (table_number t) x section
+    pub absent_in : (x section : ℕ) → None ≡ found (index_for (package_in p) t) → pass (absent 0) ≡ part_in (package_in p) t x section
     unfolding part_in
-    absent_in x section e = sym (table_missing x _ _ (go (index_for (package_in p) (table_number t)) e))
+    absent_in x section e = sym (table_missing x _ _ (go (index_for (package_in p) t) e))
       where
         go : (i : Option Index) → None ≡ found i → i ≡ none
         go (some i) f = absurd (let z : ◌≡◌ {A = ℕ} 0 1 = cc in omega arith)
         go none f = refl
 
-    module _ (i : Index) (e : Some i ≡ found (index_for (package_in p) (table_number t))) where
-      there : index_for (package_in p) (table_number t) ≡ some i
-      there = go (index_for (package_in p) (table_number t)) e
+    module _ (i : Index) (e : Some i ≡ found (index_for (package_in p) t)) where
+      there : index_for (package_in p) t ≡ some i
+      there = go (index_for (package_in p) t) e
         where
           go : (m : Option Index) → Some i ≡ found m → m ≡ some i
           go (some j) f = cc
@@ -153,12 +152,12 @@ module _ (p : List ℕ) (h : PackageHead) (o : Opened p h) where
       pub index_well : Well i
       index_well = record {
         big = (package_in p).encoding.big;
-        bytes = body p (package_in p).parts (index_code (table_number t));
-        is = index_known p (package_in p) o.is (table_number t) i there;
+        bytes = body p (package_in p).parts (index_code t);
+        is = index_known p (package_in p) o.is t i there;
       }
 
       module _ (x : ℕ) (q : Probed) (f : q ≡ probed_of (probe i x)) where
-        pub search_absent : q.slot ≡ None → (section : ℕ) → pass (absent q.looks) ≡ part_in (package_in p) (table_number t) x section
+        pub search_absent : q.slot ≡ None → (section : ℕ) → pass (absent q.looks) ≡ part_in (package_in p) t x section
         unfolding part_in
         search_absent g section = sym (row_absent x (λ j row. part_place (package_in p) j row section) _ i there q.looks (probed_absent q (probe i x) f g))
 
@@ -166,7 +165,7 @@ module _ (p : List ℕ) (h : PackageHead) (o : Opened p h) where
           pub search_row : FoundRow i slot q.looks
           search_row = found_row i index_well x slot q.looks (probed_found q (probe i x) f slot g)
 
-          pub search_found : (section : ℕ) → (part_place (package_in p) i (get_or i.rows slot 0) section >>= λ s. pass (part s.start s.size q.looks)) ≡ part_in (package_in p) (table_number t) x section
+          pub search_found : (section : ℕ) → (part_place (package_in p) i (get_or i.rows slot 0) section >>= λ s. pass (part s.start s.size q.looks)) ≡ part_in (package_in p) t x section
           unfolding part_in
           search_found section = sym (row_found x (λ j row. part_place (package_in p) j row section) _ i there slot q.looks (probed_found q (probe i x) f slot g))
 
@@ -174,11 +173,11 @@ module _ (p : List ℕ) (h : PackageHead) (o : Opened p h) where
           slot_inside = search_row.inside
 
           module _ (row section : ℕ) (r : row ≡ get_or i.rows slot 0) where
-            pub search_placed : (s : Place) → pass s ≡ part_place (package_in p) i row section → pass (part s.start s.size q.looks) ≡ part_in (package_in p) (table_number t) x section
+            pub search_placed : (s : Place) → pass s ≡ part_place (package_in p) i row section → pass (part s.start s.size q.looks) ≡ part_in (package_in p) t x section
             unfolding ◌>>=◌
             search_placed s m = ap (λ (m : Check Place). m >>= λ s. pass (part s.start s.size q.looks)) (rw r at m) ∙ search_found section
 
-            pub search_refused : (n : ℕ) → refuse n ≡ part_place (package_in p) i row section → refuse n ≡ part_in (package_in p) (table_number t) x section
+            pub search_refused : (n : ℕ) → refuse n ≡ part_place (package_in p) i row section → refuse n ≡ part_in (package_in p) t x section
             unfolding ◌>>=◌
             search_refused n m = ap (λ (m : Check Place). m >>= λ s. pass (part s.start s.size q.looks)) (rw r at m) ∙ search_found section
 

@@ -107,13 +107,13 @@ impl<'a> Package<'a> {
         &self.bytes[start..end]
     }
 
-    // The index of a table, if it is there.
+    // The index of a table, if it is there, by the table's number: 1, or any other for the type units'.
     #[tactic(auto, using(crate::proofs::Searches::table_cases))]
-    pub fn index(&self, table: Table) -> Option<Index<'a>>
-        ensures { result ≡ found (index_for (package_in self.now.bytes.now) (table_number table)) }
+    pub fn index(&self, table: u32) -> Option<Index<'a>>
+        ensures { result ≡ found (index_for (package_in self.now.bytes.now) table) }
     {
-        let head = self.head.index_for(table.number())?;
-        let bytes = self.section_bytes(index_code(table.number()));
+        let head = self.head.index_for(table)?;
+        let bytes = self.section_bytes(index_code(table));
         Some(Index::of(self.head.encoding.big, bytes, head))
     }
 
@@ -152,7 +152,7 @@ impl<'a> Package<'a> {
         requires { section < section_codes }
         ensures { mapped found_in (told result) ≡ part_in (package_in self.now.bytes.now) (table_number table) identity section }
     {
-        let Some(index) = self.index(table) else {
+        let Some(index) = self.index(table.number()) else {
             return Ok(Located {
                 place: None,
                 looks: 0,

@@ -12,12 +12,9 @@ use Rattle.sheet.specs.Sheet.{section_in, row_lines, identities_in, only, line_b
 use Rattle.sheet.specs.declared.lines.Line.{Line}
 
 -- ---- marks
--- as many as an index that is shorter than a section may be has slots, and the words that hold them
+-- as many as an index that is shorter than a section may be has slots
 abbrev pub most_slots : ℕ
 most_slots = 524_288
-
-abbrev pub mark_words : ℕ
-mark_words = 16_384
 
 unfoldable pub marked : List ℕ → ℕ → Bool
 marked words n = eqb (get_or words (n / 32) 0 / 2 ^ (n % 32) % 2) 1

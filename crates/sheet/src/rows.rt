@@ -1,5 +1,5 @@
 // The rows of an index: whether each has exactly one slot, and their lines.
-ghost use Rattle.std.specs.Prelude.{◌≡◌, true, ℕ, ◌+◌, ◌*◌, ◌-◌, ◌<◌, ◌≤◌, length};
+ghost use Rattle.std.specs.Prelude.{◌≡◌, true, unwrap_or, ℕ, ◌+◌, ◌*◌, ◌-◌, ◌<◌, ◌≤◌, length};
 ghost use Rattle.octets.specs.Octets.{placed, zeros};
 ghost use Rattle.index.specs.Columns.{columns_of};
 ghost use Rattle.sheet.specs.Sheet.{line_bytes, section_in, row_lines};
@@ -12,7 +12,6 @@ ghost use Rattle.sheet.specs.Held.{
   all_marked,
   single,
   laid_out,
-  mark_words,
   most_slots,
 };
 
@@ -20,6 +19,9 @@ use crate::lines::{LINE, Line};
 use crate::marks::Marks;
 use index::cells::COLUMNS;
 use index::reading::Index;
+
+// An index section has at most 524,288 slots: it is shorter than 8,388,608 bytes, a slot takes 12, and their number is a power of two.
+const MARK_WORDS: usize = 16_384;
 
 // The index of a table: the letter of its lines, and our codes of the sections of its columns, which are worked out once and not for each line.
 #[derive(Drop)]
@@ -31,34 +33,37 @@ pub struct IndexTable<'a> {
     pub ghost coded: { Sections index sections (length index.codes) },
 }
 
+// A line's number for a column of no section. An index that was read has none such.
+const NO_SECTION: usize = 0;
+
 // ---- columns
-// Our code of the section whose column has a code, 0 where there is none.
-fn section_of(version: u32, code: usize) -> usize
-    ensures { result ≡ section_in (columns_of version) code }
+// Our code of the section whose column has a code.
+fn section_of(version: u32, code: usize) -> Option<usize>
+    ensures { unwrap_or result 0 ≡ section_in (columns_of version) code }
 {
     let place = index::cells::columns(version)
         .iter()
         .find(|c| c.column == code);
-    place.map_or(0, |c| c.section)
+    place.map(|c| c.section)
 }
 
 // Our codes of an index's columns.
-pub fn sections_of(index: &Index) -> [usize; COLUMNS]
+pub(crate) fn sections_of(index: &Index) -> [usize; COLUMNS]
     requires { IndexHere index.now }
     ensures { Sections index.now result (length index.now.codes) }
 {
     let head = index.head();
     let mut sections = [0; COLUMNS];
     for k in 0..head.columns {
-        sections[k] = section_of(head.version, index.code_at(k));
+        sections[k] = section_of(head.version, index.code_at(k)).unwrap_or(NO_SECTION);
     }
     sections
 }
 
 // Whether the rows 1 to n are marked.
 fn all_marked(marks: &Marks, n: usize) -> bool
-    requires { n < most_slots }
-    ensures { result ≡ all_marked marks.now.words 1 n }
+    requires { (n < most_slots) × (n < 32 * length marks.now.words.now) }
+    ensures { result ≡ all_marked marks.now.words.now 1 n }
 {
     (1..n + 1).all(|row| marks.has(row))
 }
@@ -67,9 +72,10 @@ impl<'a> IndexTable<'a> {
     // ---- one slot for each row
     // Whether no row stands in two slots; then each row in a slot is marked. From the last slot to the first.
     fn mark_rows(&self, marks: &mut Marks) -> bool
-        requires { marks.old.words ≡ zeros mark_words }
+        requires { (length self.now.index.rows ≤ 32 * length marks.old.words.now) × (marks.old.words.now ≡ zeros (length marks.old.words.now)) }
         ensures once { result ≡ none_twice self.now.index.rows }
-        ensures marks { result ≡ true → Marked marks.new.words self.now.index.rows }
+        ensures marks { result ≡ true → Marked marks.new.words.now self.now.index.rows }
+        ensures kept { length marks.new.words.now ≡ length marks.old.words.now }
     {
         for k in (0..self.index.head().slots).rev() {
             let row = self.index.row_at(k);
@@ -83,11 +89,12 @@ impl<'a> IndexTable<'a> {
         true
     }
 
-    #[tactic(auto, using(crate::proofs::LawIndex::is_single, crate::proofs::LawIndex::not_single))]
+    #[tactic(auto, using(crate::proofs::LawIndex::is_single, crate::proofs::LawIndex::not_single), unfolding(octets::specs::Octets::zeros))]
     pub fn is_single(&self) -> bool
         ensures { result ≡ single self.now.index.rows self.now.index.identities 1 self.now.index.units }
     {
-        let mut marks = Marks::new();
+        let mut words = [0; MARK_WORDS];
+        let mut marks = Marks { words: &mut words };
         self.mark_rows(&mut marks) && all_marked(&marks, self.index.head().units)
     }
 

@@ -2,7 +2,6 @@
 ghost use Rattle.std.specs.Prelude.{◌≡◌, MatchOption, length};
 ghost use Rattle.std.proofs.Math.Option.{some, none};
 ghost use Rattle.numbers.specs.Refused.{told};
-ghost use Rattle.numbers.specs.Tabled.{table_number};
 ghost use Rattle.octets.specs.Checked.{mapped};
 ghost use Rattle.lookup.specs.Lookup.{index_for};
 ghost use Rattle.lookup.specs.Answers.{package_in};
@@ -11,23 +10,21 @@ ghost use Rattle.sheet.specs.Laid.{letter_of, table_of, both_of, lines_of, Table
 use crate::rows::IndexTable;
 use lookup::package::Package;
 use numbers::refusals::Refusal;
-use numbers::tables::Table;
+use numbers::tables::{COMPILATION, TYPE};
 
+// A table is named by its number here, 1, or any other for the type units': `measure_table` takes any, and a type of two would ask more of callers.
 #[tactic(auto, unfolding(crate::specs::Laid::letter_of))]
-fn letter_of(table: Table) -> u8
-    ensures { result ≡ letter_of (table_number table) }
+fn letter_of(table: u32) -> u8
+    ensures { result ≡ letter_of table }
 {
-    match table {
-        Table::Compilation => b'C',
-        Table::Type => b'T',
-    }
+    if table == COMPILATION { b'C' } else { b'T' }
 }
 
 // The index of a table, if it is there.
-fn index_of<'a>(package: &Package<'a>, table: Table) -> Option<IndexTable<'a>>
+fn index_of<'a>(package: &Package<'a>, table: u32) -> Option<IndexTable<'a>>
     ensures { MatchOption result
-        (index_for (package_in «package».now.bytes.now) (table_number table) ≡ none)
-        (λ t. (index_for (package_in «package».now.bytes.now) (table_number table) ≡ some t.index) × (t.letter ≡ letter_of (table_number table))) }
+        (index_for (package_in «package».now.bytes.now) table ≡ none)
+        (λ t. (index_for (package_in «package».now.bytes.now) table ≡ some t.index) × (t.letter ≡ letter_of table)) }
 {
     let index = package.index(table)?;
     let sections = crate::rows::sections_of(&index);
@@ -40,8 +37,8 @@ fn index_of<'a>(package: &Package<'a>, table: Table) -> Option<IndexTable<'a>>
 
 // Refused is a table with a row that has not exactly one slot.
 #[tactic(auto, using(crate::proofs::LawTables::table_bad, crate::proofs::LawTables::table_measured, crate::proofs::LawTables::missing_measured))]
-pub fn measure_table(package: &Package, table: Table) -> Result<usize, Refusal>
-    ensures { told result ≡ mapped length (table_of «package».now.bytes.now (table_number table)) }
+pub fn measure_table(package: &Package, table: u32) -> Result<usize, Refusal>
+    ensures { told result ≡ mapped length (table_of «package».now.bytes.now table) }
 {
     match index_of(package, table) {
         Some(t) if t.is_single() => Ok(t.size()),
@@ -52,9 +49,9 @@ pub fn measure_table(package: &Package, table: Table) -> Result<usize, Refusal>
 
 // Stores the lines of a table at the front of a page of zeros. The caller has measured them.
 #[tactic(auto, using(crate::proofs::LawTables::table_room, crate::proofs::LawTables::missing_lines))]
-fn write_table(package: &Package, table: Table, page: &mut [u8])
-    requires { TableFits «package».now.bytes.now (table_number table) page.old }
-    ensures { page.new ≡ lines_of (table_of «package».now.bytes.now (table_number table)) (length page.old) }
+fn write_table(package: &Package, table: u32, page: &mut [u8])
+    requires { TableFits «package».now.bytes.now table page.old }
+    ensures { page.new ≡ lines_of (table_of «package».now.bytes.now table) (length page.old) }
 {
     if let Some(t) = index_of(package, table) {
         t.put_rows(page);
@@ -67,6 +64,6 @@ pub fn write_tables(package: &Package, compilations: usize, page: &mut [u8])
     requires { BothFit «package».now.bytes.now compilations page.old }
     ensures { page.new ≡ lines_of (both_of «package».now.bytes.now) (length page.old) }
 {
-    write_table(package, Table::Compilation, page);
-    write_table(package, Table::Type, &mut page[compilations..]);
+    write_table(package, COMPILATION, page);
+    write_table(package, TYPE, &mut page[compilations..]);
 }

@@ -8,7 +8,7 @@ ghost use Rattle.sheet.specs.Sheet.{sheet_of};
 use answers::{Unwritten, Written};
 use lookup::package::Package;
 use numbers::refusals::Refusal;
-use numbers::tables::Table;
+use numbers::tables::{COMPILATION, TYPE};
 
 // Stores the sheet on a page of zeros, and says how long it is.
 #[tactic(auto, using(crate::proofs::LawSheet::sheet_cases), unfolding(octets::specs::Checked::mapped))]
@@ -18,8 +18,8 @@ fn put_sheet(package: &[u8], page: &mut [u8]) -> Result<usize, Unwritten>
     ensures page { page.new ≡ output_of (sheet_of «package».now (length page.old)) (length page.old) }
 {
     let package = Package::open(package)?;
-    let compilations = crate::tables::measure_table(&package, Table::Compilation)?;
-    let types = crate::tables::measure_table(&package, Table::Type)?;
+    let compilations = crate::tables::measure_table(&package, COMPILATION)?;
+    let types = crate::tables::measure_table(&package, TYPE)?;
     if page.len() < compilations || page.len() - compilations < types {
         return Err(Unwritten::from(Refusal::PageShort));
     }

@@ -1,18 +1,16 @@
 -- `sheet::rows::IndexTable::mark_rows` meets its contract.
 -- Assumes nothing.
-use mathlib.Core.Path.{◌≡◌, sym, ap, ◌∙◌}
+use mathlib.Core.Path.{◌≡◌, refl, sym, ap, ◌∙◌}
 use Prim.Native.Nat.{suc, ◌-◌, ◌/◌, ◌<◌}
 use native.Mathlib.Omega.{arith}
 use lib.ListN.{length}
-use Rattle.octets.proofs.Placed.{length_zeros}
-use Rattle.sheet.specs.Held.{mark_words}
 use Rattle.sheet.proofs.LawMarks.{length_with_mark}
 use Rattle.sheet.proofs.LawSifted.{sifted_none, sifted_free, sifted_twice, sifted_more}
 use Rattle.sheet.proofs.rows.IndexTable.mark_rows.Goals as goal
 use Rattle.sheet.proofs.rows.IndexTable.mark_rows.Goals.{After-row_at-row}
 
 pub loop-k-init : goal.loop-k-init
-loop-k-init c = (ap length c.requires ∙ length_zeros mark_words, sifted_none _ _ _ _ c.requires (omega (arith, ap (λ z. z.slots) c.head-k.ensures)))
+loop-k-init c = (refl, sifted_none _ _ _ _ c.requires.1 (omega (arith, ap (λ z. z.slots) c.head-k.ensures)))
 
 -- in a turn: the slot is there, and its row has a mark
 next : (r : After-row_at-row) → r.loop-k.k ≡ suc (r.loop-k.k - 1)
@@ -21,8 +19,8 @@ next r = omega (arith, r.loop-k-test.true)
 inside : (r : After-row_at-row) → r.loop-k.k - 1 < length r.args.self.now.index.rows
 inside r = omega (arith, r.loop-k.auto.k, r.loop-k-test.true, ap (λ z. z.slots) r.head-k.ensures)
 
-row_fits : (r : After-row_at-row) → r.row_at-row.result / 32 < length r.loop-k.marks.words
-row_fits r = omega (arith, r.loop-k.invariant.0, r.args.self.now.here.rows _ (inside r), r.args.self.now.here.above, r.args.self.now.here.slots, r.row_at-row.ensures)
+row_fits : (r : After-row_at-row) → r.row_at-row.result / 32 < length r.loop-k.marks.words.now
+row_fits r = omega (arith, r.loop-k.invariant.0, r.args.self.now.here.rows _ (inside r), r.args.self.now.here.above, r.requires.0, r.row_at-row.ensures)
 
 pub returns-then-has-clause-once : goal.returns-then-has-clause-once
 returns-then-has-clause-once c =
