@@ -3,24 +3,24 @@
 use mathlib.Core.Path.{◌≡◌, sym, ap, ◌∙◌}
 use mathlib.Core.Logic.{inl, inr}
 use mathlib.Core.List.{List}
-use Prim.Native.Nat.{ℕ, ◌+◌, ◌*◌, ◌/◌, ◌≤◌}
+use Prim.Native.Nat.{ℕ, ◌+◌, ◌*◌, ◌≤◌}
 use native.Mathlib.Omega.{arith}
 use native.Mathlib.Decide.{ℕ_discrete}
 use lib.ListN.{length}
-use Rattle.bundle.specs.Bundle.{Bundle}
+use Rattle.octets.specs.Octets.{placed}
 use Rattle.bundle.specs.Encoded.{encoding_is}
 use Rattle.bundle.specs.declared.encoding.ObjectEncoding.{ObjectEncoding}
 use Rattle.strings.specs.Strings.{first_uses}
 use Rattle.strings.proofs.StrOffsets.{sound}
-use Rattle.kept.specs.Regions.{records_region, strings_region, record_words, region}
+use Rattle.kept.specs.Regions.{records_region, record_words, region}
 use Rattle.kept.proofs.RegionStores.{length_region, records_within}
 use Rattle.kept.specs.Records.{bytes_from, UnitsInside}
 use Rattle.kept.specs.Held.{OneOrTwo}
 use Rattle.kept.specs.declared.state.InProgress.{InProgress}
-use Rattle.finish.specs.Joining.{sections_joined}
-use Rattle.finish.proofs.JoinedObjects.{read_once}
-use Rattle.finish.proofs.Remapping.{Sharable, shared_long}
-use Rattle.finish.specs.Ready.{words_of, Ready, SectionWritable}
+use Rattle.finish.specs.Joining.{sections_joined, shared_joined, StringsPlaced, SharedJoinable, SharedPut}
+use Rattle.finish.proofs.Remapping.{shared_long}
+use Rattle.finish.specs.Ready.{words_of, Ready, ReadyFor, SharedOf, SectionWritable, SectionPut}
+use Rattle.finish.specs.declared.joining.SharedSections.{SharedSections}
 use Rattle.finish.specs.declared.writing.Package.{Package}
 
 -- ---- the units of info and of types
@@ -39,25 +39,39 @@ units_asks code p n at r cut q z = rw q (
 )
 
 -- ---- the shared sections
-module _ (e : ObjectEncoding) (b : List ℕ) (st : InProgress) (w : List ℕ) (s : ℕ → List ℕ) (r : Ready e b st w s) (code : ℕ) (least : 3 ≤ code) (most : code ≤ 10) where
-  pub ready_long : length (s code) ≡ length (sections_joined b r.bundle.objects code)
-  ready_long = ap length (r.shared code least most) ∙ shared_long (encoding_is e) (first_uses r.used) b code (sound e) r.bundle.objects r.used r.good
+pub ready_long : (e : ObjectEncoding) (b : List ℕ) (st : InProgress) (w : List ℕ) (s : ℕ → List ℕ) (r : Ready e b st w s) (code : ℕ) → 3 ≤ code → code ≤ 10
+    → length (s code) ≡ length (sections_joined b r.bundle.objects code)
+ready_long e b st w s r code least most =
+    ap length (r.shared code least most) ∙ shared_long (encoding_is e) (first_uses r.used) b code (sound e) r.bundle.objects r.used (λ _. r.good)
 
-  -- what is ready can be written
-  abbrev pub shared_sharable : (cut : List ℕ) → cut ≡ region w (length b / 4) strings_region → (n at : ℕ) → at + length (s code) ≤ n → Sharable (encoding_is e) b cut code n at
-  shared_sharable cut q n at room = record {
-    bundle = r.bundle;
-    reads = r.reads;
-    used = r.used;
-    good = r.good;
-    places = rw q (r.kept.places r.small);
-    known = omega arith;
-    room = omega (arith, ready_long);
-  }
+module _ (code : ℕ) (p : Package) (n at : ℕ) (r : SectionWritable code p n at) (least : 3 ≤ code) (most : code ≤ 10) (h : SharedSections) (q : SharedOf p h) where
+  module _ (s : ℕ → List ℕ) (y : ReadyFor p s) where
+    same_encoding : encoding_is h.encoding ≡ encoding_is p.encoding
+    same_encoding = ap encoding_is q.encoding
 
--- whatever is ready is as long
-pub shared_same : (e : ObjectEncoding) (b : List ℕ) (st : InProgress) (w : List ℕ) (s : ℕ → List ℕ) (r : Ready e b st w s) (code : ℕ) → 3 ≤ code → code ≤ 10
-    → (t : ℕ → List ℕ) → Ready e b st w t → length (s code) ≡ length (t code)
-shared_same e b st w s r code least most t y =
-    let objects = ap (λ (k : Bundle). length (sections_joined b k.objects code)) (read_once b y.bundle r.bundle y.reads r.reads) in
-    ready_long e b st w s r code least most ∙ objects ∙ sym (ready_long e b st w t y code least most)
+    placed_strings : StringsPlaced (encoding_is h.encoding) h.bundle.now h.table.now y.bundle.objects y.used
+    placed_strings = record {
+      good = rw (same_encoding, q.bundle) y.good;
+      places = rw q.table (y.kept.places y.small);
+    }
+
+    ready_is : s code ≡ shared_joined (encoding_is h.encoding) (first_uses y.used) h.bundle.now y.bundle.objects code
+    ready_is = rw (same_encoding, q.bundle) (y.shared code least most)
+
+  -- what is ready can be joined
+  pub shared_asks : SharedJoinable (encoding_is h.encoding) h.bundle.now h.table.now code n at
+  shared_asks =
+      let y = r.ready in
+      let long = ready_long p.encoding p.bundle.now p.state p.work.now r.sections y code least most in
+      record {
+        bundle = y.bundle;
+        reads = rw q.bundle y.reads;
+        known = omega arith;
+        room = rw q.bundle (omega (arith, r.room, long));
+        used = y.used;
+        strings = λ _. placed_strings r.sections y;
+      }
+
+  -- and it is what is ready
+  pub shared_put : (d x : List ℕ) → SharedPut (encoding_is h.encoding) h.bundle.now h.table.now code at d x → SectionPut code p at d x
+  shared_put d x f s y = f y.bundle y.used (rw q.bundle y.reads) (λ _. placed_strings s y) ∙ ap (placed d at) (sym (ready_is s y))

@@ -2,7 +2,7 @@
 -- Assumes nothing.
 use mathlib.Core.Path.{◌≡◌, refl, sym, ap, ap₂, ◌∙◌, subst}
 use mathlib.Core.List.{List, [], ◌∷◌, ◌++◌, map, append_assoc}
-use Prim.Native.Nat.{ℕ, ◌+◌, ◌-◌, ◌<◌, ◌≤◌}
+use Prim.Native.Nat.{ℕ, ◌+◌, ◌-◌, ◌≤◌}
 use native.Mathlib.Omega.{arith}
 use native.Mathlib.Decide.{ℕ_discrete}
 use borrow.Author.Tests.{eq-eqb, ne_eqb}
@@ -10,18 +10,17 @@ use lib.ListN.{length, take, drop, get_or, length-append, length-drop}
 use Rattle.octets.specs.Octets.{placed}
 use Rattle.octets.specs.Lists.{joined}
 use Rattle.octets.proofs.Parts.{part_cut, cut_rest}
-use Rattle.octets.specs.Checked.{pass}
-use Rattle.bundle.specs.Bundle.{Object, Bundle, bundle_of, body, objects_of}
+use Rattle.bundle.specs.Bundle.{Object, body, objects_of}
 use Rattle.bundle.specs.Encoding.{Encoding}
 use Rattle.bundle.specs.Encoded.{encoding_is}
 use Rattle.bundle.specs.declared.encoding.ObjectEncoding.{ObjectEncoding}
 use Rattle.bundle.specs.declared.Scan.{Scan}
 use Rattle.strings.specs.Strings.{first_uses, offset_in}
-use Rattle.strings.specs.Kept.{places_from, places_in, places_of}
+use Rattle.strings.specs.Kept.{places_from}
 use Rattle.strings.specs.Headed.{Headed, entries_all, pieces_with, PiecesWritable}
 use Rattle.strings.proofs.StrOffsets.{Sound, sound}
 use Rattle.strings.proofs.HeadedWriting.{entries_all_used, pieces_with_more, places_within, places_behind}
-use Rattle.finish.specs.Joining.{sections_joined, shared_joined, given, cut, remapped_in, EntriesGood, UsedBy, Givable, GivenPut}
+use Rattle.finish.specs.Joining.{sections_joined, shared_joined, given, cut, remapped_in, EntriesGood, UsedBy, SharedJoinable, Givable, GivenPut}
 use Rattle.finish.proofs.Cutting.{remapped_length}
 use Rattle.finish.proofs.Entering.{AtObject, scanned_body}
 use Rattle.finish.proofs.JoinedObjects.{Joining, joining_none, joining_none_done, joining_room, joining_more, joining_more_done, joining_end}
@@ -70,22 +69,23 @@ unfolding given
 given_other e ts b c o f = rw (given, ne_eqb c 6 f)
 
 -- as much as its section
-given_long : (e : Encoding) (ts : List (List ℕ)) (b : List ℕ) (c : ℕ) → Sound e → (o : Object) (used : List (List ℕ)) → EntriesGood e (body b o.parts 6) (body b o.parts 11) used
+given_long : (e : Encoding) (ts : List (List ℕ)) (b : List ℕ) (c : ℕ) → Sound e → (o : Object)
+    → (c ≡ 6 → (used : List (List ℕ)) × EntriesGood e (body b o.parts 6) (body b o.parts 11) used)
     → length (given e ts b c o) ≡ length (body b o.parts c)
-given_long e ts b c ok o used g = elim (ℕ_discrete c 6) [
+given_long e ts b c ok o g = elim (ℕ_discrete c 6) [
   | yes z ↦
-      ap length (given_offsets e ts b c o z) ∙ remapped_length e ts (body b o.parts 6) (body b o.parts 11) used ok g
+      ap length (given_offsets e ts b c o z) ∙ remapped_length e ts (body b o.parts 6) (body b o.parts 11) (g z).0 ok (g z).1
       ∙ ap (λ (k : ℕ). length (body b o.parts k)) (sym z)
   | no f ↦ ap length (given_other e ts b c o f)
 ]
 
 -- ---- over the objects
-pub shared_long : (e : Encoding) (ts : List (List ℕ)) (b : List ℕ) (c : ℕ) → Sound e → (os : List Object) (used : List (List ℕ)) → UsedBy e b os used
+used_long : (e : Encoding) (ts : List (List ℕ)) (b : List ℕ) (c : ℕ) → Sound e → (os : List Object) (used : List (List ℕ)) → UsedBy e b os used
     → length (shared_joined e ts b os c) ≡ length (sections_joined b os c)
 unfolding sections_joined shared_joined joined UsedBy
-shared_long e ts b c ok [] used g = refl
-shared_long e ts b c ok (o ∷ os) used g =
-    length-append (given e ts b c o) (shared_joined e ts b os c) ∙ ap₂ (λ (x y : ℕ). x + y) (given_long e ts b c ok o g.0 g.3) (shared_long e ts b c ok os g.1 g.4)
+used_long e ts b c ok [] used g = refl
+used_long e ts b c ok (o ∷ os) used g =
+    length-append (given e ts b c o) (shared_joined e ts b os c) ∙ ap₂ (λ (x y : ℕ). x + y) (given_long e ts b c ok o (λ _. (g.0, g.3))) (used_long e ts b c ok os g.1 g.4)
     ∙ sym (length-append (body b o.parts c) (sections_joined b os c))
 
 pub shared_copied : (e : Encoding) (ts : List (List ℕ)) (b : List ℕ) (c : ℕ) → (c ≡ 6 → ⊥) → (os : List Object) → shared_joined e ts b os c ≡ sections_joined b os c
@@ -93,24 +93,23 @@ unfolding sections_joined shared_joined joined
 shared_copied e ts b c f [] = refl
 shared_copied e ts b c f (o ∷ os) = ap₂ (λ (x y : List ℕ). x ++ y) (given_other e ts b c o f) (shared_copied e ts b c f os)
 
+pub shared_long : (e : Encoding) (ts : List (List ℕ)) (b : List ℕ) (c : ℕ) → Sound e → (os : List Object) (used : List (List ℕ)) → (c ≡ 6 → UsedBy e b os used)
+    → length (shared_joined e ts b os c) ≡ length (sections_joined b os c)
+shared_long e ts b c ok os used g = elim (ℕ_discrete c 6) [ yes z ↦ used_long e ts b c ok os used (g z) | no f ↦ ap length (shared_copied e ts b c f os) ]
+
 -- ---- the loop over them
--- a bundle that can be read, the places of all strings used in a table, and room for the section at a place of n bytes
-pub record Sharable (e : Encoding) (b table : List ℕ) (code n at : ℕ) : Type 0 where
-  pub bundle : Bundle
-  pub reads : bundle_of b ≡ pass bundle
-  pub used : List (List ℕ)
-  pub good : UsedBy e b bundle.objects used
-  pub places : places_in table (length used) ≡ places_of used
-  pub known : code < 14
-  pub room : at + length (sections_joined b bundle.objects code) ≤ n
+-- the places start in the table
+places_from_le : (n : ℕ) → places_from n ≤ n
+unfolding places_from
+places_from_le n = omega arith
 
 -- what the objects before a place give is put, and their entries are counted
-pub record Sharing (c : ObjectEncoding) (b table : List ℕ) (code at : ℕ) (d₀ : List ℕ) (a : Sharable (encoding_is c) b table code (length d₀) at) (d : List ℕ) (o place first : ℕ) : Type 0 where
+pub record Sharing (c : ObjectEncoding) (b table : List ℕ) (code at : ℕ) (d₀ : List ℕ) (a : SharedJoinable (encoding_is c) b table code (length d₀) at) (d : List ℕ) (o place first : ℕ) : Type 0 where
   pub joining : Joining (given (encoding_is c) (first_uses a.used) b code) b a.bundle.objects d₀ d at o place
   pub count : code ≡ 6 → first ≡ places_from (length table) + counted (encoding_is c) b joining.done
   pub within : first ≤ length table
 
-module _ (c : ObjectEncoding) (b table : List ℕ) (code at : ℕ) (d₀ : List ℕ) (a : Sharable (encoding_is c) b table code (length d₀) at) where
+module _ (c : ObjectEncoding) (b table : List ℕ) (code at : ℕ) (d₀ : List ℕ) (a : SharedJoinable (encoding_is c) b table code (length d₀) at) where
   abbrev e : Encoding
   e = encoding_is c
 
@@ -119,14 +118,14 @@ module _ (c : ObjectEncoding) (b table : List ℕ) (code at : ℕ) (d₀ : List 
 
   room : at + length (joined (map f a.bundle.objects)) ≤ length d₀
   unfolding shared_joined
-  room = omega (arith, shared_long e (first_uses a.used) b code (sound c) a.bundle.objects a.used a.good, a.room)
+  room = omega (arith, shared_long e (first_uses a.used) b code (sound c) a.bundle.objects a.used (λ z. (a.strings z).good), a.room)
 
   pub sharing_none : (first : ℕ) → first ≡ places_from (length table) → Sharing c b table code at d₀ a d₀ at 4 first
   unfolding counted
   sharing_none first q = record {
     joining = joining_none f b a.bundle d₀ at a.reads;
     count = λ z. omega (arith, ap (counted e b) (joining_none_done f b a.bundle d₀ at a.reads));
-    within = omega (arith, places_within table a.used a.places);
+    within = rw q (omega (arith, places_from_le (length table)));
   }
 
   module _ (d : List ℕ) (o place first : ℕ) (j : Sharing c b table code at d₀ a d o place first) where
@@ -148,11 +147,11 @@ module _ (c : ObjectEncoding) (b table : List ℕ) (code at : ℕ) (d₀ : List 
       section_is : section ≡ body b s.one.parts code
       section_is = part_cut b (get_or scan.start code 0) (get_or scan.size code 0) ∙ scanned_body b place next scan j.joining.done a.bundle.objects s code a.known
 
-      strings : Among e b j.joining.done s.one a.used
-      strings = among e b j.joining.done s.one (objects_of s.more.rest) a.used (rw s.more.is a.good)
+      strings : code ≡ 6 → Among e b j.joining.done s.one a.used
+      strings z = among e b j.joining.done s.one (objects_of s.more.rest) a.used (rw s.more.is (a.strings z).good)
 
       long : length (f s.one) ≡ length section
-      long = given_long e (first_uses a.used) b code (sound c) s.one strings.own strings.good ∙ ap length (sym section_is)
+      long = given_long e (first_uses a.used) b code (sound c) s.one (λ z. ((strings z).own, (strings z).good)) ∙ ap length (sym section_is)
 
       pub sharing_fits : o + length section ≤ length d
       sharing_fits = omega (arith, long, joining_room f b a.bundle.objects d₀ d at o place j.joining room scan.next s.one s.more)
@@ -161,20 +160,23 @@ module _ (c : ObjectEncoding) (b table : List ℕ) (code at : ℕ) (d₀ : List 
       pieces = cut e (body b s.one.parts 6)
 
       module _ (z : code ≡ 6) where
+        abbrev here : Among e b j.joining.done s.one a.used
+        here = strings z
+
         headed : Headed e section pieces
-        headed = subst (λ (l : List ℕ). Headed e l pieces) (sym (section_is ∙ ap (λ (k : ℕ). body b s.one.parts k) z)) strings.good.headed
+        headed = subst (λ (l : List ℕ). Headed e l pieces) (sym (section_is ∙ ap (λ (k : ℕ). body b s.one.parts k) z)) here.good.headed
 
         -- there is a place for each
         enough : first + entries_all e pieces ≤ length table
         enough =
-            let entries = entries_all_used e (body b s.one.parts 11) pieces strings.own strings.good.strings in
-            let l = ap length strings.is ∙ length-append strings.before (strings.own ++ strings.later) in
-            omega (arith, places_within table a.used a.places, j.count z, strings.count, l, length-append strings.own strings.later, entries)
+            let entries = entries_all_used e (body b s.one.parts 11) pieces here.own here.good.strings in
+            let l = ap length here.is ∙ length-append here.before (here.own ++ here.later) in
+            omega (arith, places_within table a.used (a.strings z).places, j.count z, here.count, l, length-append here.own here.later, entries)
 
-        numbers_are : numbers ≡ map (offset_in (first_uses a.used)) (strings.own ++ strings.later) ++ drop (places_from (length table) + length a.used) table
+        numbers_are : numbers ≡ map (offset_in (first_uses a.used)) (here.own ++ here.later) ++ drop (places_from (length table) + length a.used) table
         numbers_are =
-            let q : first ≡ places_from (length table) + length strings.before = omega (arith, j.count z, strings.count) in
-            cut_rest table first ∙ places_behind table a.used a.places strings.before (strings.own ++ strings.later) first strings.is q
+            let q : first ≡ places_from (length table) + length here.before = omega (arith, j.count z, here.count) in
+            cut_rest table first ∙ places_behind table a.used (a.strings z).places here.before (here.own ++ here.later) first here.is q
 
         writable : PiecesWritable e section numbers (length d) o
         writable = record {
@@ -201,7 +203,7 @@ module _ (c : ObjectEncoding) (b table : List ℕ) (code at : ℕ) (d₀ : List 
               (w.pieces z).put pieces (headed z)
               ∙ ap (placed d o)
               (ap (pieces_with e pieces) (numbers_are z)
-              ∙ pieces_with_more e (first_uses a.used) (body b s.one.parts 11) pieces strings.own strings.later (drop (places_from (length table) + length a.used) table) strings.good.strings
+              ∙ pieces_with_more e (first_uses a.used) (body b s.one.parts 11) pieces (strings z).own (strings z).later (drop (places_from (length table) + length a.used) table) (strings z).good.strings
               ∙ sym (given_offsets e (first_uses a.used) b code s.one z))
           | no g ↦ (w.bytes g).0 ∙ ap (placed d o) (section_is ∙ sym (given_other e (first_uses a.used) b code s.one g))
         ]

@@ -1,12 +1,14 @@
 -- The bytes of a shared section over all objects.
 -- Assumes nothing.
-use Rattle.std.specs.Prelude.{◌≡◌, true, false, List, [], ◌∷◌, ◌++◌, map, ℕ, zero, suc, ◌+◌, ◌≤◌, eqb, length, take, drop}
-use Rattle.numbers.specs.Sections.{str_offsets_code, str_code}
+use Rattle.std.specs.Prelude.{◌≡◌, true, false, List, [], ◌∷◌, ◌++◌, map, ℕ, zero, suc, ◌+◌, ◌<◌, ◌≤◌, eqb, length, take, drop}
+use Rattle.numbers.specs.Sections.{str_offsets_code, str_code, section_codes}
 use Rattle.octets.specs.Lists.{joined}
 use Rattle.octets.specs.Octets.{placed}
 use Rattle.octets.specs.Checked.{pass}
-use Rattle.bundle.specs.Bundle.{Object, body}
+use Rattle.bundle.specs.Bundle.{Object, Bundle, bundle_of, body}
 use Rattle.bundle.specs.Encoding.{Encoding}
+use Rattle.strings.specs.Strings.{first_uses}
+use Rattle.strings.specs.Kept.{places_in, places_of}
 use Rattle.strings.specs.Headed.{piece_size, Headed, strings_of_all, remapped_pieces, PiecesWritable, PiecesWritten}
 
 -- each object's first section of a code, one behind the other
@@ -49,6 +51,27 @@ unfoldable pub UsedBy : Encoding → List ℕ → List Object → List (List ℕ
 UsedBy e b [] used = used ≡ []
 UsedBy e b (o ∷ os) used =
     (us : List (List ℕ)) × (vs : List (List ℕ)) × (used ≡ us ++ vs) × EntriesGood e (body b o.parts str_offsets_code) (body b o.parts str_code) us × UsedBy e b os vs
+
+-- the places of these strings, which the entries of all objects name, stand in a table
+pub record StringsPlaced (e : Encoding) (b table : List ℕ) (os : List Object) (used : List (List ℕ)) : Type 0 where
+  pub good : UsedBy e b os used
+  pub places : places_in table (length used) ≡ places_of used
+
+-- ---- a section of all objects
+-- a bundle that can be read, and room for the section at a place of n bytes; of str_offsets the strings' places too
+pub record SharedJoinable (e : Encoding) (b table : List ℕ) (code n at : ℕ) : Type 0 where
+  pub bundle : Bundle
+  pub reads : bundle_of b ≡ pass bundle
+  pub known : code < section_codes
+  pub room : at + length (sections_joined b bundle.objects code) ≤ n
+  pub used : List (List ℕ)
+  pub strings : code ≡ str_offsets_code → StringsPlaced e b table bundle.objects used
+
+-- it is put there, whatever these strings are; d is the output before, x after
+abbrev pub SharedPut : (e : Encoding) (b table : List ℕ) (code at : ℕ) (d x : List ℕ) → Type 0
+SharedPut e b table code at d x =
+    (k : Bundle) (used : List (List ℕ)) → bundle_of b ≡ pass k → (code ≡ str_offsets_code → StringsPlaced e b table k.objects used)
+    → x ≡ placed d at (shared_joined e (first_uses used) b k.objects code)
 
 -- ---- one object's section s put at a place of an output of n bytes, with numbers ns for its entries where it has any
 pub record Givable (e : Encoding) (code : ℕ) (s ns : List ℕ) (n at : ℕ) : Type 0 where

@@ -26,6 +26,7 @@ use Rattle.kept.specs.declared.writing.IndexForm.{IndexForm}
 use Rattle.finish.specs.Joining.{sections_joined, shared_joined, UsedBy}
 use Rattle.finish.specs.Sections.{Sized, sections_by, sizes_good, framed_size, length_of}
 use Rattle.finish.specs.Writing.{Writing}
+use Rattle.finish.specs.declared.joining.SharedSections.{SharedSections}
 use Rattle.finish.specs.declared.writing.Package.{Package}
 
 -- ---- sizes
@@ -121,6 +122,12 @@ ReadyFor p s = Ready p.encoding p.bundle.now p.state p.work.now s
 -- the words of its bundle
 abbrev pub words_of : Package → ℕ
 words_of p = length p.bundle.now / 4
+
+-- what is joined of all objects of a package
+pub record SharedOf (p : Package) (s : SharedSections) : Type 0 where
+  pub encoding : s.encoding ≡ p.encoding
+  pub bundle : s.bundle.now ≡ p.bundle.now
+  pub table : s.table.now ≡ region p.work.now (words_of p) strings_region
 
 -- one section fits at a place of n bytes
 pub record SectionWritable (code : ℕ) (p : Package) (n at : ℕ) : Type 0 where

@@ -1,15 +1,21 @@
 // The shared sections of a package: what each object gives of a section, one behind the other.
-use crate::writing::Package;
 use bundle::Item;
+use bundle::encoding::ObjectEncoding;
 use numbers::sections::STR_OFFSETS;
 use strings::entries::Section;
 
-impl Package<'_> {
-    ghost use Rattle.std.specs.Prelude.{◌≤◌, length};
-    ghost use Rattle.numbers.specs.Sections.{first_shared, last_shared};
+// What is joined: the objects of a bundle, which have one encoding, and the table that holds where their strings stand in the package.
+#[derive(Clone, Copy)]
+pub struct SharedSections<'a> {
+    pub encoding: ObjectEncoding,
+    pub bundle: &'a [u8],
+    pub table: &'a [u32],
+}
+
+impl SharedSections<'_> {
+    ghost use Rattle.std.specs.Prelude.{length};
     ghost use Rattle.bundle.specs.Encoded.{encoding_is};
-    ghost use Rattle.finish.specs.Joining.{Givable, GivenPut};
-    ghost use Rattle.finish.specs.Ready.{SectionWritable, SectionPut};
+    ghost use Rattle.finish.specs.Joining.{Givable, GivenPut, SharedJoinable, SharedPut};
 
     // What an object gives of a section: its bytes, but of a str_offsets section with these places for its entries. Says how many places it took.
     fn put_given(
@@ -33,12 +39,11 @@ impl Package<'_> {
     }
 
     // Of each object its first section of a code, where it has one. The places of all strings stand in the order of the objects.
-    pub fn write_shared(&self, code: usize, out: &mut [u8], at: usize)
-        requires { SectionWritable code self.now (length out.old) at × (first_shared ≤ code) × (code ≤ last_shared) }
-        ensures { SectionPut code self.now at out.old out.new }
+    pub fn write(&self, code: usize, out: &mut [u8], at: usize)
+        requires { SharedJoinable (encoding_is self.now.encoding) self.now.bundle.now self.now.table.now code (length out.old) at }
+        ensures { SharedPut (encoding_is self.now.encoding) self.now.bundle.now self.now.table.now code at out.old out.new }
     {
-        let table = self.strings();
-        let mut first = strings::table::places_from(table.len());
+        let mut first = strings::table::places_from(self.table.len());
         let mut o = at;
         let mut place = 4;
         // Each object says where the next one starts.
@@ -46,7 +51,7 @@ impl Package<'_> {
             let scan = bundle::scan_object(self.bundle, next);
             let start = scan.start[code];
             let bytes = &self.bundle[start..start + scan.size[code]];
-            let count = self.put_given(code, bytes, &table[first..], out, o);
+            let count = self.put_given(code, bytes, &self.table[first..], out, o);
             first += count;
             o += bytes.len();
             place = scan.next;

@@ -2,9 +2,10 @@
 ghost use Rattle.std.specs.Prelude.{◌≡◌, ◌*◌, ◌/◌, ◌≤◌, length};
 ghost use Rattle.numbers.specs.Limits.{bundle_limit, work_for_word};
 
+use crate::joining::SharedSections;
 use bundle::encoding::ObjectEncoding;
 use kept::Table;
-use kept::regions::{COMPILATION, RECORDS, STRINGS, TYPE};
+use kept::regions::{COMPILATION, RECORDS, STRINGS, Share, TYPE};
 use kept::state::InProgress;
 use kept::writing::IndexForm;
 use numbers::sections::{CODES, CU_INDEX, INFO, STR, TU_INDEX, TYPES};
@@ -28,7 +29,7 @@ pub struct Package<'a> {
 impl Package<'_> {
     ghost use Rattle.std.specs.Prelude.{◌+◌, get_or, List, ℕ};
     ghost use Rattle.octets.specs.Octets.{placed};
-    ghost use Rattle.kept.specs.Regions.{region, records_region, strings_region};
+    ghost use Rattle.kept.specs.Regions.{region};
     ghost use Rattle.finish.specs.Sections.{framed_size};
     ghost use Rattle.finish.specs.Ready.{
       form_of,
@@ -37,6 +38,7 @@ impl Package<'_> {
       IndexWritable,
       SectionWritable,
       SectionPut,
+      SharedOf,
       FrameWritable,
       FramePut,
       SectionsWritable,
@@ -45,18 +47,12 @@ impl Package<'_> {
       PackagePut,
     };
 
-    // The words that hold the kept units.
-    fn records(&self) -> &[u32]
-        ensures { result.now ≡ region self.now.work.now (words_of self.now) records_region }
+    // The words of a region of work.
+    fn region(&self, share: Share) -> &[u32]
+        requires { share.start + share.words ≤ work_for_word }
+        ensures { result.now ≡ region self.now.work.now (words_of self.now) share }
     {
-        RECORDS.part(self.work, self.bundle.len() / WORD)
-    }
-
-    // The words that hold the strings.
-    pub(crate) fn strings(&self) -> &[u32]
-        ensures { result.now ≡ region self.now.work.now (words_of self.now) strings_region }
-    {
-        STRINGS.part(self.work, self.bundle.len() / WORD)
+        share.part(self.work, self.bundle.len() / WORD)
     }
 
     // A table's index, nothing without rows.
@@ -76,14 +72,25 @@ impl Package<'_> {
             has,
         };
         let count = kept::slots::slots_for(t.rows);
-        let slots = kept::regions::slots(table).part(self.work, self.bundle.len() / WORD);
+        let slots = self.region(kept::regions::slots(table));
         form.write_index(
-            self.records(),
+            self.region(RECORDS),
             self.state.units.count,
             &slots[..count],
             out,
             at,
         );
+    }
+
+    // What is joined of all objects.
+    fn shared(&self) -> SharedSections<'_>
+        ensures { SharedOf self.now result }
+    {
+        SharedSections {
+            encoding: self.encoding,
+            bundle: self.bundle,
+            table: self.region(STRINGS),
+        }
     }
 
     // The bytes of one section of the package, by its code.
@@ -94,16 +101,16 @@ impl Package<'_> {
         let units = self.state.units;
         match code {
             INFO | TYPES => {
-                let records = self.records();
+                let records = self.region(RECORDS);
                 kept::unit_bytes::copy_units(self.bundle, records, units.count, code, out, at);
             }
             STR => {
                 let count = self.state.strings.count;
-                strings::sections::write_strings(self.bundle, self.strings(), count, out, at);
+                strings::sections::write_strings(self.bundle, self.region(STRINGS), count, out, at);
             }
             CU_INDEX => self.write_index(COMPILATION, units.cu, out, at),
             TU_INDEX => self.write_index(TYPE, units.tu, out, at),
-            _ => self.write_shared(code, out, at),
+            _ => self.shared().write(code, out, at),
         }
     }
 

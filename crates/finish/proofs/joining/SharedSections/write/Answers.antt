@@ -1,38 +1,38 @@
 -- Each object's section is put behind those before it: `Sharing` is what the loop keeps.
 -- Assumes nothing.
-use mathlib.Core.Path.{refl, sym, ap, ◌∙◌}
+use mathlib.Core.Path.{◌≡◌, refl, sym, ap, ◌∙◌}
 use mathlib.Core.List.{List}
 use Prim.Native.Nat.{ℕ}
 use native.Mathlib.Omega.{arith}
 use lib.ListN.{length}
-use Rattle.octets.specs.Octets.{placed}
+use Rattle.bundle.specs.Bundle.{Bundle, bundle_of}
 use Rattle.octets.specs.Checked.{pass}
 use Rattle.bundle.specs.Encoded.{encoding_is}
 use Rattle.bundle.proofs.Objects.{objects_other, objects_refused}
-use Rattle.finish.specs.Ready.{ReadyFor}
-use Rattle.finish.proofs.Dispatch.{shared_sharable, shared_same}
+use Rattle.finish.specs.Joining.{sections_joined, StringsPlaced, SharedJoinable}
+use Rattle.finish.proofs.JoinedObjects.{read_once}
 use Rattle.finish.proofs.Entering.{AtObject, object_reaches, object_scanned}
-use Rattle.finish.proofs.Remapping.{Sharable, sharing_none, sharing_end, sharing_inside, sharing_fits, sharing_asks, sharing_count, sharing_more}
-use Rattle.finish.proofs.writing.Package.write_shared.Goals as goal
-use Rattle.finish.proofs.writing.Package.write_shared.Goals.{At-loop-next, After-scan_object-scan}
+use Rattle.finish.proofs.Remapping.{sharing_none, sharing_end, sharing_inside, sharing_fits, sharing_asks, sharing_count, sharing_more}
+use Rattle.finish.proofs.joining.SharedSections.write.Goals as goal
+use Rattle.finish.proofs.joining.SharedSections.write.Goals.{At-loop-next, After-scan_object-scan}
 
--- the sections are those that are asked for, and any that are ready
-asked : (c : At-loop-next)
-    → Sharable (encoding_is c.args.self.now.encoding) c.args.self.now.bundle.now c.strings-table.result.now c.args.code (length c.args.out.now) c.args.at
-asked c =
-    let p = c.requires.0 in
-    shared_sharable _ _ _ _ p.sections p.ready c.args.code c.requires.1 c.requires.2 _ c.strings-table.ensures _ _ p.room
-
-abbrev any : (c : At-loop-next) (s : ℕ → List ℕ) → ReadyFor c.args.self.now s
-    → Sharable (encoding_is c.args.self.now.encoding) c.args.self.now.bundle.now c.strings-table.result.now c.args.code (length c.args.out.now) c.args.at
-any c s r =
-    let p = c.requires.0 in
-    shared_sharable _ _ _ _ s r c.args.code c.requires.1 c.requires.2 _ c.strings-table.ensures _ _
-    (omega (arith, p.room, shared_same _ _ _ _ p.sections p.ready c.args.code c.requires.1 c.requires.2 s r))
+-- these strings, or any others
+abbrev any : (c : At-loop-next) (k : Bundle) (used : List (List ℕ)) → bundle_of c.args.self.now.bundle.now ≡ pass k
+    → (c.args.code ≡ 6 → StringsPlaced (encoding_is c.args.self.now.encoding) c.args.self.now.bundle.now c.args.self.now.table.now k.objects used)
+    → SharedJoinable (encoding_is c.args.self.now.encoding) c.args.self.now.bundle.now c.args.self.now.table.now c.args.code (length c.args.out.now) c.args.at
+any c k used e f = record {
+  bundle = k;
+  reads = e;
+  known = c.requires.known;
+  room = let same = ap (λ (z : Bundle). length (sections_joined c.args.self.now.bundle.now z.objects c.args.code)) (read_once c.args.self.now.bundle.now c.requires.bundle k c.requires.reads e) in
+      omega (arith, c.requires.room, same);
+  used = used;
+  strings = f;
+}
 
 -- the object whose sections are scanned
 at-object : (x : After-scan_object-scan)
-    (a : Sharable (encoding_is x.args.self.now.encoding) x.args.self.now.bundle.now x.strings-table.result.now x.args.code (length x.args.out.now) x.args.at)
+    (a : SharedJoinable (encoding_is x.args.self.now.encoding) x.args.self.now.bundle.now x.args.self.now.table.now x.args.code (length x.args.out.now) x.args.at)
     → AtObject x.args.self.now.bundle.now x.loop-next.place x.in-Ok-Object.next x.scan_object-scan.result (x.loop-next.invariant.1 a).joining.done a.bundle.objects
 at-object x a =
     let j = (x.loop-next.invariant.1 a).joining in
@@ -43,52 +43,52 @@ loop-next-init c = (refl, λ a. sharing_none _ _ _ _ _ _ a _ c.places_from-first
 
 pub scan_object-scan-requires : goal.scan_object-scan-requires
 scan_object-scan-requires c =
-    let j = (c.loop-next.invariant.1 (asked (goal.at.scan_object-scan-requires c).At-loop-next)).joining in
+    let j = (c.loop-next.invariant.1 c.requires).joining in
     object_reaches _ _ _ _ j.passed _ _ (sym (ap pass c.in-Ok-Object.field-0-is) ∙ c.in-Ok-Object.ensures)
 
 pub slice_bounds-bytes-end : goal.slice_bounds-bytes-end
 slice_bounds-bytes-end c =
     let g = goal.at.slice_bounds-bytes-end c in
-    let a = asked g.At-loop-next in
+    let a = c.requires in
     sharing_inside _ _ _ _ _ _ a _ _ _ _ (c.loop-next.invariant.1 a) _ _ (at-object g.After-scan_object-scan a)
 
 pub overflow_add-bytes : goal.overflow_add-bytes
 overflow_add-bytes c =
     let g = goal.at.overflow_add-bytes c in
-    let a = asked g.At-loop-next in
+    let a = c.requires in
     omega (arith, sharing_inside _ _ _ _ _ _ a _ _ _ _ (c.loop-next.invariant.1 a) _ _ (at-object g.After-scan_object-scan a))
 
-pub offset_bounds-table-first : goal.offset_bounds-table-first
-offset_bounds-table-first c = omega (arith, (c.loop-next.invariant.1 (asked (goal.at.offset_bounds-table-first c).At-loop-next)).within)
+pub offset_bounds-self-first : goal.offset_bounds-self-first
+offset_bounds-self-first c = omega (arith, (c.loop-next.invariant.1 c.requires).within)
 
 pub slice_bounds-put_given-count : goal.slice_bounds-put_given-count
-slice_bounds-put_given-count c = (c.loop-next.invariant.1 (asked (goal.at.slice_bounds-put_given-count c).At-loop-next)).within
+slice_bounds-put_given-count c = (c.loop-next.invariant.1 c.requires).within
 
 pub slice_bounds-put_given-start : goal.slice_bounds-put_given-start
-slice_bounds-put_given-start c = (c.loop-next.invariant.1 (asked (goal.at.slice_bounds-put_given-start c).At-loop-next)).within
+slice_bounds-put_given-start c = (c.loop-next.invariant.1 c.requires).within
 
 pub put_given-count-requires : goal.put_given-count-requires
 put_given-count-requires c =
     let g = goal.at.put_given-count-requires c in
-    let a = asked g.At-loop-next in
+    let a = c.requires in
     sharing_asks _ _ _ _ _ _ a _ _ _ _ (c.loop-next.invariant.1 a) _ _ (at-object g.After-scan_object-scan a)
 
 pub overflow_add-first : goal.overflow_add-first
 overflow_add-first c =
     let g = goal.at.overflow_add-first c in
-    let a = asked g.At-loop-next in
+    let a = c.requires in
     omega (arith, sharing_count _ _ _ _ _ _ a _ _ _ _ (c.loop-next.invariant.1 a) _ _ (at-object g.After-scan_object-scan a) _ _ c.put_given-count.ensures, c.well_formed)
 
 pub overflow_add-o : goal.overflow_add-o
 overflow_add-o c =
     let g = goal.at.overflow_add-o c in
-    let a = asked g.At-loop-next in
+    let a = c.requires in
     omega (arith, sharing_fits _ _ _ _ _ _ a _ _ _ _ (c.loop-next.invariant.1 a) _ _ (at-object g.After-scan_object-scan a), c.loop-next.invariant.0, c.well_formed)
 
 pub loop-next-smaller : goal.loop-next-smaller
 loop-next-smaller c =
     let g = goal.at.loop-next-smaller c in
-    let s = at-object g.After-scan_object-scan (asked g.At-loop-next) in
+    let s = at-object g.After-scan_object-scan c.requires in
     omega (arith, s.onward, s.within)
 
 pub loop-next-preserved : goal.loop-next-preserved
@@ -99,15 +99,15 @@ loop-next-preserved c =
     )
 
 pub returns-in_default : goal.returns-in_default
-returns-in_default c s r =
-    let a = any (goal.at.returns-in_default c).At-loop-next s r in
+returns-in_default c k used e f =
+    let a = any (goal.at.returns-in_default c).At-loop-next k used e f in
     let j = c.loop-next.invariant.1 a in
     let over = objects_other _ _ _ _ j.joining.passed _ (λ z. omega arith) c.in_default.ensures in
-    sharing_end _ _ _ _ _ _ a _ _ _ _ j over ∙ ap (placed c.args.out.now c.args.at) (sym (r.shared c.args.code c.requires.1 c.requires.2))
+    sharing_end _ _ _ _ _ _ a _ _ _ _ j over
 
 pub returns-in_default-2 : goal.returns-in_default-2
-returns-in_default-2 c s r =
-    let a = any (goal.at.returns-in_default-2 c).At-loop-next s r in
+returns-in_default-2 c k used e f =
+    let a = any (goal.at.returns-in_default-2 c).At-loop-next k used e f in
     let j = c.loop-next.invariant.1 a in
     let over = objects_refused _ _ _ _ j.joining.passed _ (rw c.in_default.is at c.next_item.ensures) in
-    sharing_end _ _ _ _ _ _ a _ _ _ _ j over ∙ ap (placed c.args.out.now c.args.at) (sym (r.shared c.args.code c.requires.1 c.requires.2))
+    sharing_end _ _ _ _ _ _ a _ _ _ _ j over

@@ -2,13 +2,14 @@
 -- Assumes nothing.
 use Rattle.std.proofs.Common.{◌≡◌, ◌-◌, length}
 use Rattle.bundle.specs.Encoded.{encoding_is}
-use Rattle.finish.proofs.Remapping.{Sharable, Sharing}
-use Rattle.finish.proofs.writing.Package.write_shared.Given as goal
+use Rattle.finish.specs.Joining.{SharedJoinable}
+use Rattle.finish.proofs.Remapping.{Sharing}
+use Rattle.finish.proofs.joining.SharedSections.write.Given as goal
 
 abbrev pub invariant-loop-next : goal.invariant-loop-next
 invariant-loop-next l =
     (length l.out ≡ length l.initial.out)
-    × ((a : Sharable (encoding_is l.self.encoding) l.self.bundle.now l.table l.code (length l.initial.out) l.at) → Sharing l.self.encoding l.self.bundle.now l.table l.code l.at l.initial.out a l.out l.o l.place l.first)
+    × ((a : SharedJoinable (encoding_is l.self.encoding) l.self.bundle.now l.self.table.now l.code (length l.initial.out) l.at) → Sharing l.self.encoding l.self.bundle.now l.self.table.now l.code l.at l.initial.out a l.out l.o l.place l.first)
 
 abbrev pub decreases-loop-next : goal.decreases-loop-next
 decreases-loop-next l = length l.self.bundle.now - l.place
