@@ -152,7 +152,7 @@ module _ (b : List ℕ) (from : ℕ) (h : Ahead b from) where
 
         -- the object is refused
         pub object_refused : (r : Refusal) → InputAnswered b big first word scan st.strings t w v (Err r) → (v' : List ℕ) (next : InProgress)
-            → Tells (ObjectFiled b head v' next bases is us) (object_units b big first bases us object) (Err r)
+            → Tells {A = Unit {0}} (λ _ p. ObjectFiled b head v' next bases is us p) (object_units b big first bases us object) (Err r)
         object_refused r read v' next = tells_first _ r (answered (Err r) read)
 
         -- it is read
@@ -194,13 +194,11 @@ module _ (b : List ℕ) (from : ℕ) (h : Ahead b from) where
                       a.used (d.ready.sizes 6);
                 })
 
-            -- a unit is refused
-            pub units_unfiled : (r : Refusal) (after : InProgress) → UnitsAnswered b x from read_st next v v' (Err r) → Tells (ObjectFiled b head v' after bases is us) (object_units b big first bases us object) (Err r)
-            units_unfiled r after added =
-                tells_then _ x (Err r) (answered (Ok x) read) (λ i e f. let d = read_as i e f in tells_first _ r (added i bases us d.ready))
-
-            pub object_filed : UnitsAnswered b x from read_st next v v' (Ok tt) → Tells (ObjectFiled b head v' next bases is us) (object_units b big first bases us object) (Ok scan.next)
-            object_filed added =
-                tells_then _ x (Ok scan.next) (answered (Ok x) read)
-                (λ i e f. let d = read_as i e f in tells_then _ (tt {0}) (Ok scan.next) (added i bases us d.ready)
-                (λ here q k. tells_pass scan.next (i, here) refl (record { place_is = next_is; held = at_next i d here k })))
+            -- whether a unit is refused or all are filed
+            pub units_answered : (r : Result (Unit {0}) Refusal) → UnitsAnswered b x from read_st next v v' r
+                → Tells {A = Unit {0}} (λ _ p. ObjectFiled b head v' next bases is us p) (object_units b big first bases us object) r
+            units_answered (Err e) added = tells_then _ x (Err e) (answered (Ok x) read) (λ i q f. let d = read_as i q f in tells_first _ e (added i bases us d.ready))
+            units_answered (Ok u) added =
+                tells_then _ x (Ok u) (answered (Ok x) read)
+                (λ i e f. let d = read_as i e f in tells_then _ u (Ok u) (added i bases us d.ready)
+                (λ here q k. tells_pass u (i, here) refl (subst (λ (place : ℕ). AtObject b big first place v' next (grown bases i) (is ++ (i ∷ [])) (us ++ here)) next_is (at_next i d here k))))

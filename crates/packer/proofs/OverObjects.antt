@@ -36,7 +36,7 @@ use Rattle.kept.specs.declared.state.InProgress.{InProgress}
 use Rattle.filing.specs.State.{words_in}
 use Rattle.filing.specs.ByObject.{AtObject}
 use Rattle.filing.proofs.OverSections.{held_later}
-use Rattle.packer.specs.Objects.{sections_from, Ahead, object_units, ObjectFiled, HeadAsked, HeadAnswered, none_filed, Cleared, ObjectsAre}
+use Rattle.packer.specs.Objects.{sections_from, behind_from, Ahead, object_units, ObjectFiled, HeadAsked, HeadAnswered, none_filed, Cleared, ObjectsAre}
 use Rattle.packer.specs.declared.objects.ObjectHead.{ObjectHead}
 use Rattle.filing.specs.Tells.{Tells}
 use Rattle.filing.proofs.Telling.{tells_pass, tells_refuse, tells_same}
@@ -180,17 +180,17 @@ module _ {b : List ℕ} {big : Bool} {first at : ℕ} {w₀ w : List ℕ} {st : 
       abbrev answer : Check (Input × List Filed)
       answer = object_units b big first s.bases s.units one
 
-      answered : (r : Result ℕ Refusal) → HeadAnswered b head st after w v r → Tells (ObjectFiled b head v after s.bases s.inputs s.units) answer r
+      answered : (r : Result (Unit {0}) Refusal) → HeadAnswered b head st after w v r → Tells {A = Unit {0}} (λ _ p. ObjectFiled b head v after s.bases s.inputs s.units p) answer r
       answered r filed =
           tells_same (ap (λ (ps : List Part). object_units b big first s.bases s.units (record { word = word; parts = ps })) (sections_are b next entered.ahead entered.left))
           (filed s.bases s.inputs s.units word_held)
 
-      module _ (place : ℕ) (filed : HeadAnswered b head st after w v (Ok place)) where
-        done : (p : Input × List Filed) × (answer ≡ pass p) × ObjectFiled b head v after s.bases s.inputs s.units place p
-        done = (answered (Ok place) filed).passes place refl
+      module _ (place : ℕ) (behind : place ≡ behind_from b next) (filed : HeadAnswered b head st after w v (Ok (tt {0}))) where
+        done : (p : Input × List Filed) × (answer ≡ pass p) × ObjectFiled b head v after s.bases s.inputs s.units p
+        done = (answered (Ok (tt {0})) filed).passes (tt {0}) refl
 
         place_is : place_behind next (leading entered.ahead) ≡ place
-        place_is = ap (place_behind next) (sym (sections_are b next entered.ahead entered.left)) ∙ sym done.2.place_is
+        place_is = ap (place_behind next) (sym (sections_are b next entered.ahead entered.left)) ∙ sym behind
 
         pub word_further : (at < place) × (place ≤ length b)
         word_further = (omega (arith, place_is, behind_word, entered.further), omega (arith, place_is, entered.within))
@@ -201,7 +201,7 @@ module _ {b : List ℕ} {big : Bool} {first at : ℕ} {w₀ w : List ℕ} {st : 
             let p = bind_pass (input_of b big first one) _ d.0 d.1 in
             let q = bind_pass (units_in p.0 s.bases s.units [] p.0.units) _ d.0 p.2 in
             let e : (p.0, q.0) ≡ d.0 = pass_inj q.2 in
-            on d.0 p.0 q.0 e p.1 q.1 d.2.held
+            on d.0 p.0 q.0 e p.1 q.1 (subst (λ (m : ℕ). AtObject b big first m v after (grown s.bases d.0.0) (s.inputs ++ (d.0.0 ∷ [])) (s.units ++ d.0.1)) (sym behind) d.2)
           where
             on : (z : Input × List Filed) (i : Input) (us : List Filed) → (i, us) ≡ z → input_of b big first one ≡ pass i → units_in i s.bases s.units [] i.units ≡ pass us
                 → AtObject b big first place v after (grown s.bases z.0) (s.inputs ++ (z.0 ∷ [])) (s.units ++ z.1) → SoFar b big first place w₀ v after

@@ -6,7 +6,8 @@ use Rattle.octets.specs.Octets.{zeros}
 use Rattle.numbers.specs.declared.refusals.Refusal.{Refusal}
 use Rattle.octets.specs.Checked.{Check, pass, ◌>>=◌}
 use Rattle.bundle.specs.Bundle.{Part, Object, Bundle, items, bundle_of}
-use Rattle.bundle.specs.Scan.{Reaches, sections_of, place_behind}
+use Rattle.bundle.specs.Scan.{Reaches, sections_of, place_behind, scan_of}
+use Rattle.bundle.specs.declared.Scan.{Scan}
 use Rattle.index.specs.Rows.{BySection}
 use Rattle.kept.specs.Regions.{roots_region, region, Only}
 use Rattle.package.specs.Input.{Input, unit_sections, input_of}
@@ -70,10 +71,13 @@ UnitsAnswered b x from st next w v r =
 abbrev pub object_units : List ℕ → Bool → ℕ → BySection ℕ → List Filed → Object → Check (Input × List Filed)
 object_units b big first bases us o = input_of b big first o >>= λ i. (units_in i bases us [] i.units >>= λ here. pass (i, here))
 
+-- its sections as a scan has them
+abbrev pub ScannedFrom : List ℕ → ℕ → Scan → Type 0
+ScannedFrom b from scan = scan ≡ scan_of from (sections_of (items from (drop from b)))
+
 -- it is filed up to the place behind it; v is work behind, next what is held
-pub record ObjectFiled (b : List ℕ) (o : ObjectHead) (v : List ℕ) (next : InProgress) (bases : BySection ℕ) (is : List Input) (us : List Filed) (place : ℕ) (p : Input × List Filed) : Type 0 where
-  pub place_is : place ≡ behind_from b o.from
-  pub held : AtObject b o.big o.first place v next (grown bases p.0) (is ++ (p.0 ∷ [])) (us ++ p.1)
+abbrev pub ObjectFiled : List ℕ → ObjectHead → List ℕ → InProgress → BySection ℕ → List Input → List Filed → Input × List Filed → Type 0
+ObjectFiled b o v next bases is us p = AtObject b o.big o.first (behind_from b o.from) v next (grown bases p.0) (is ++ (p.0 ∷ [])) (us ++ p.1)
 
 -- what is filed before it
 abbrev pub HeadAt : List ℕ → ObjectHead → List ℕ → InProgress → BySection ℕ → List Input → List Filed → Type 0
@@ -86,10 +90,10 @@ pub record HeadAsked (b : List ℕ) (o : ObjectHead) (st : InProgress) (w : List
   pub units : List Filed
   pub held : HeadAt b o w st bases inputs units
 
-abbrev pub HeadAnswered : List ℕ → ObjectHead → InProgress → InProgress → List ℕ → List ℕ → Result ℕ Refusal → Type 0
+abbrev pub HeadAnswered : List ℕ → ObjectHead → InProgress → InProgress → List ℕ → List ℕ → Result (Unit {0}) Refusal → Type 0
 HeadAnswered b o st next w v r =
     (bases : BySection ℕ) (is : List Input) (us : List Filed) → HeadAt b o w st bases is us
-    → Tells (ObjectFiled b o v next bases is us) (object_units b o.big o.first bases us (record { word = o.word; parts = sections_from b o.from })) r
+    → Tells (λ _ p. ObjectFiled b o v next bases is us p) (object_units b o.big o.first bases us (record { word = o.word; parts = sections_from b o.from })) r
 
 -- ---- all objects
 -- before the first one

@@ -1,19 +1,18 @@
 // The objects of a bundle, one behind the other: 4 to 16, and 34.
 ghost use Rattle.std.specs.Prelude.{◌≡◌};
-ghost use Rattle.octets.specs.Checked.{pass};
-ghost use Rattle.bundle.specs.Bundle.{Bundle, bundle_of};
-ghost use Rattle.package.specs.Filing.{first_word};
 ghost use Rattle.packer.specs.Objects.{
   UnitsAsked,
   UnitsAnswered,
   HeadAsked,
   HeadAnswered,
+  ScannedFrom,
+  behind_from,
   none_filed,
   Cleared,
   ObjectsAnswered,
 };
 
-use bundle::Item;
+use bundle::{Item, Scan};
 use filing::input::InputObject;
 use index::cells::COLUMNS;
 use kept::state::{InProgress, Skipped};
@@ -47,21 +46,35 @@ fn add_object_units(
     Ok(())
 }
 
-// One object whole, and the place behind it.
+// The object of a scan, and its units.
+fn add_scanned_object(
+    b: &[u8],
+    head: ObjectHead,
+    scan: &Scan,
+    st: &mut InProgress,
+    work: &mut [u32],
+) -> Result<(), Refusal>
+    requires { HeadAsked b.now head st.old work.old × ScannedFrom b.now head.from scan.now }
+    ensures { HeadAnswered b.now head st.old st.new work.old work.new result }
+{
+    let t = &mut st.strings;
+    let x = filing::objects::read_input(b, head.big, head.first, head.word, scan, t, work)?;
+    add_object_units(b, &x, head.from, st, work)
+}
+
+// One object whole. The place behind it is told whether or not it is refused.
 pub fn add_input_object(
     b: &[u8],
     head: ObjectHead,
     st: &mut InProgress,
     work: &mut [u32],
-) -> Result<usize, Refusal>
+) -> (usize, Result<(), Refusal>)
     requires { HeadAsked b.now head st.old work.old }
-    ensures { HeadAnswered b.now head st.old st.new work.old work.new result }
+    ensures next { result.0 ≡ behind_from b.now head.from }
+    ensures filed { HeadAnswered b.now head st.old st.new work.old work.new result.1 }
 {
     let scan = bundle::scan_object(b, head.from);
-    let t = &mut st.strings;
-    let x = filing::objects::read_input(b, head.big, head.first, head.word, &scan, t, work)?;
-    add_object_units(b, &x, head.from, st, work)?;
-    Ok(scan.next)
+    (scan.next, add_scanned_object(b, head, &scan, st, work))
 }
 
 // Before the first object.
@@ -97,24 +110,16 @@ fn nothing_filed() -> InProgress
     }
 }
 
-// The first object's word, 0 where there is none.
-fn first_word(b: &[u8]) -> u32
-    ensures { (k : Bundle) → bundle_of b.now ≡ pass k → result ≡ first_word k.objects }
-{
-    match bundle::next_item(b, 4) {
-        Ok(Item::Object { word, .. }) => word,
-        _ => 0,
-    }
-}
-
 // All objects, into work whose slots are cleared, and what is held after them. The caller has checked 1 to 3.
 // A loop, since each object says where the next starts.
 pub fn add_input_objects(b: &[u8], big: bool, work: &mut [u32]) -> Result<InProgress, Refusal>
     requires { Cleared big b.now work.old }
     ensures { ObjectsAnswered big b.now work.new result }
 {
-    let first = first_word(b);
     let mut st = nothing_filed();
+    let Ok(Item::Object { word: first, .. }) = bundle::next_item(b, 4) else {
+        return Ok(st);
+    };
     let mut at = 4;
     while let Ok(Item::Object { word, next: from }) = bundle::next_item(b, at) {
         let head = ObjectHead {
@@ -123,7 +128,9 @@ pub fn add_input_objects(b: &[u8], big: bool, work: &mut [u32]) -> Result<InProg
             word,
             from,
         };
-        at = add_input_object(b, head, &mut st, work)?;
+        let (next, added) = add_input_object(b, head, &mut st, work);
+        added?;
+        at = next;
     }
     Ok(st)
 }
