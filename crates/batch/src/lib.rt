@@ -60,7 +60,7 @@ fn ask(package: &[u8], opened: &Result<Package, Refusal>, version: u32, words: &
     let unit = UnitAsked {
         version,
         table: words[0] % 16,
-        identity: u64::from(words[1]) + 0x1_0000_0000 * u64::from(words[2]),
+        identity: octets::number_of(words[1], words[2]),
     };
     let located = match opened {
         Ok(package) => package.locate(unit, words[0] / 16 % 16),

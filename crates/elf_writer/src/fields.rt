@@ -9,9 +9,6 @@ const AARCH64: u32 = 183;
 
 const RISCV: u32 = 243;
 
-// The bytes of the file's header, and of a section's header.
-pub const HEADER: usize = 64;
-
 // 36: the machines that a file can be for.
 #[tactic(auto, unfolding(elf::specs::Writer::machine_good))]
 pub fn machine_good(machine: u32) -> bool

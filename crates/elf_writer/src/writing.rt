@@ -6,7 +6,7 @@ ghost use Rattle.answers.specs.Written.{written_as};
 ghost use Rattle.elf.specs.Writer.{elf_written};
 ghost use Rattle.elf_writer.specs.Held.{Within, Ready, headers_place, file_size, file_of};
 
-use crate::fields::HEADER;
+use elf::file::HEADER;
 use crate::sections;
 use crate::sections::Extent;
 use answers::{Unwritten, Written};

@@ -5,6 +5,7 @@
 use lookup::searching::UnitAsked;
 use std::io;
 
+// Its twin in strings_remap writes capitals. A format is a literal, so that one function of both would choose between two at each byte: no plainer.
 fn write_hexadecimal(rt: &impl Print, s: &[u8]) -> io::Result<()> {
     for b in s {
         print!(rt; "{b:02x}")?;

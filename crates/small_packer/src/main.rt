@@ -5,8 +5,7 @@
 ghost use Rattle.std.specs.Prelude.{◌≡◌, ◌<◌};
 ghost use Rattle.small_packer.specs.Lines.{digit_of, line_of};
 
-use answers::Unwritten;
-use numbers::refusals::Refusal;
+use answers::Written;
 use std::io;
 
 // The character of a digit, which callers have below 16.
@@ -49,10 +48,6 @@ fn tell_package(rt: &impl Print, p: &[u8]) -> io::Result<()> {
     Ok(())
 }
 
-fn tell_refused(rt: &impl Print, refusal: Refusal) -> io::Result<()> {
-    println!(rt; "refused {}", refusal.number())
-}
-
 // One byte more than a bundle may have is enough to see that it has too many.
 fn main(rt: HostRuntime) -> io::Result<()> {
     let mut input = [0u8; 1025];
@@ -60,7 +55,6 @@ fn main(rt: HostRuntime) -> io::Result<()> {
     let mut output = [0u8; 65536];
     match packer::pack_small(&input[..got], &mut output) {
         Ok(length) => tell_package(&rt, &output[..length]),
-        Err(Unwritten::Short(_)) => tell_refused(&rt, Refusal::OutputShort),
-        Err(Unwritten::Refused(refusal)) => tell_refused(&rt, refusal),
+        Err(unwritten) => println!(rt; "refused {}", Written::from(Err(unwritten)).code),
     }
 }

@@ -9,20 +9,14 @@
 // Of the last six host/kit/src/reference, which shares no code with this program, makes packages of these lengths, and the definitions give the same bytes.
 #![tactic(auto)]
 
-use answers::Unwritten;
-use numbers::refusals::Refusal;
+use answers::Written;
 use std::io;
-
-fn tell_refused(rt: &impl Print, refusal: Refusal) -> io::Result<()> {
-    println!(rt; "refused {}", refusal.number())
-}
 
 fn tell_bundle(rt: &impl Print, b: &[u8]) -> io::Result<()> {
     let mut output = [0u8; 65536];
     match packer::pack_small(b, &mut output) {
         Ok(length) => println!(rt; "packed {length}"),
-        Err(Unwritten::Short(_)) => tell_refused(rt, Refusal::OutputShort),
-        Err(Unwritten::Refused(refusal)) => tell_refused(rt, refusal),
+        Err(unwritten) => println!(rt; "refused {}", Written::from(Err(unwritten)).code),
     }
 }
 
