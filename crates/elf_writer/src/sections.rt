@@ -19,8 +19,9 @@ ghost use Rattle.elf_writer.specs.Held.{
   Bounded,
 };
 
-use crate::fields::{HEADER, SectionHeader};
+use crate::fields::SectionHeader;
 use bundle::Scan;
+use elf::file::HEADER;
 use lookup::package::Package;
 use numbers::names::section_name;
 use numbers::sections::CODES;

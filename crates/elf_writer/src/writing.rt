@@ -6,10 +6,10 @@ ghost use Rattle.answers.specs.Written.{written_as};
 ghost use Rattle.elf.specs.Writer.{elf_written};
 ghost use Rattle.elf_writer.specs.Held.{Within, Ready, headers_place, file_size, file_of};
 
-use elf::file::HEADER;
 use crate::sections;
 use crate::sections::Extent;
 use answers::{Unwritten, Written};
+use elf::file::HEADER;
 use lookup::package::Package;
 use numbers::refusals::Refusal;
 
