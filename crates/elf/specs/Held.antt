@@ -1,6 +1,6 @@
 -- What the code's values are by the definitions, and what holds of them. Nothing here need be believed.
 -- Assumes nothing.
-use Rattle.std.specs.Prelude.{◌≡◌, Option, Some, None, Bool, true, false, not, ◌&&◌, ◌||◌, List, [], ◌∷◌, ◌++◌, map, ℕ, ◌+◌, ◌*◌, ◌-◌, ◌≤◌, eqb, leb, ltb, length, get_or}
+use Rattle.std.specs.Prelude.{◌≡◌, ◌≢◌, Option, Some, None, Bool, true, false, not, ◌&&◌, ◌||◌, List, [], ◌∷◌, ◌++◌, map, ℕ, ◌+◌, ◌*◌, ◌-◌, ◌<◌, ◌≤◌, eqb, leb, ltb, length, get_or, slice_index, EachIndex, MatchOption}
 use Rattle.octets.specs.Octets.{number_at, zeros, padded}
 use Rattle.octets.specs.Lists.{all, joined, sum, those}
 use Rattle.octets.specs.Checked.{Check, pass, refuse, ◌>>=◌, require}
@@ -142,3 +142,10 @@ bundle_from f e = do
   _ ← require (all (readable e.headers) (wanted_of e)) unreadable_section
   u ← unit_stated e.big (first_info f e.names (wanted_of e))
   bundle_of_word f e (object_word u)
+
+-- ---- where names end
+-- the place of the last zero byte of the name table, if it has one
+abbrev pub LastZeroAt : List ℕ → Option ℕ → Type 0
+LastZeroAt names r =
+    MatchOption r (EachIndex names (λ k. slice_index names k ≢ 0))
+    (λ i. (i < length names) × (slice_index names i ≡ 0) × ((k : ℕ) → i < k → k < length names → slice_index names k ≢ 0))

@@ -3,7 +3,7 @@ ghost use Rattle.std.specs.Prelude.{◌≡◌, ◌≢◌, ◌<◌, ℕ, eqb, ltb
 ghost use Rattle.octets.specs.Lists.{any};
 ghost use Rattle.numbers.specs.Names.{section_names};
 ghost use Rattle.elf.specs.File.{starts_with, code_among, code_of};
-ghost use Rattle.elf.specs.Held.{header_is, code_found};
+ghost use Rattle.elf.specs.Held.{header_is, code_found, LastZeroAt};
 
 use crate::file::{ElfFile, Header};
 use numbers::names::section_name;
@@ -42,7 +42,7 @@ impl ElfFile<'_> {
 
 // The place of the last zero byte.
 fn last_zero(names: &[u8]) -> Option<usize>
-    ensures { MatchOption result (EachIndex names.now (λ k. slice_index names.now k ≢ 0)) (λ i. i < length names.now × slice_index names.now i ≡ 0 × ((k : ℕ) → i < k → k < length names.now → slice_index names.now k ≢ 0)) }
+    ensures { LastZeroAt names.now result }
 {
     names.iter().rposition(|b| *b == 0)
 }
