@@ -50,7 +50,7 @@ declared_at s = unsigned s >>= λ c. elim (eqb c.0 0) [
 ]
 
 abbrev pub declared_is : Option declared.Declaration → math.Option Coded
-declared_is (Some d) = some (record { code = d.code; place = record { tag = d.tag; start = d.start; end = d.end } })
+declared_is (Some d) = some (record { code = d.code; place = place_is d.place })
 declared_is None = none
 
 -- what the front of a declaration says that is read to its end: its tag, and where its attributes start

@@ -37,16 +37,14 @@ struct Place {
     end: usize,
 }
 
-// A declaration: its code, its tag, where its attributes start, and where they end.
+// A declaration: its code, and what stands behind it, by places that count from the code on.
 #[derive(Clone, Copy)]
 struct Declaration {
     code: u64,
-    tag: u64,
-    start: usize,
-    end: usize,
+    place: Place,
 }
 
-// A declaration's tag, and where its attributes start.
+// A declaration's tag, and where its attributes start. No part of a place: both would be taken apart and put together wherever a start is moved.
 #[derive(Clone, Copy)]
 pub struct Heading {
     pub tag: u64,
@@ -148,13 +146,13 @@ fn declared_at(s: &[u8]) -> Result<Option<Declaration>, Refusal>
     if code == 0 {
         return Ok(None);
     }
-    let place = place_at(&s[n..])?;
-    Ok(Some(Declaration {
-        code,
-        tag: place.tag,
-        start: n + place.start,
-        end: n + place.end,
-    }))
+    let behind = place_at(&s[n..])?;
+    let place = Place {
+        start: n + behind.start,
+        end: n + behind.end,
+        ..behind
+    };
+    Ok(Some(Declaration { code, place }))
 }
 
 // How many declarations the table has that ends, where no code repeats: then codes hold them, by where they stand. A word for each byte suffices: a
@@ -176,7 +174,7 @@ pub fn judge_table(s: &[u8], codes: &mut [u32]) -> Result<usize, Unheld>
         if !crate::tree::add_code(codes, count, at, declaration.code) {
             return Err(Unheld::Bad);
         }
-        at += declaration.end;
+        at += declaration.place.end;
         count += 1;
     }
 }
@@ -206,7 +204,7 @@ pub fn find_in(s: &[u8], codes: &[u32], count: usize, code: u64) -> Option<Headi
     let at = crate::tree::carried_at(codes, node);
     let heading = heading_at(&s[at..])?;
     Some(Heading {
-        tag: heading.tag,
         start: at + heading.start,
+        ..heading
     })
 }

@@ -154,6 +154,7 @@ const FORMS: [Form; 27] = [
 ];
 
 // The one place that reads the constant. Its contract is the statement over the whole table.
+#[tactic(auto, unfolding(crate::specs::Forms::forms, crate::specs::Widths::form_is, crate::specs::Widths::width_is))]
 fn all_forms() -> [Form; 27]
     ensures { map form_is result ≡ forms }
 {

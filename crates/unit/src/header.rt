@@ -29,16 +29,16 @@ ghost use Rattle.unit.specs.TableTrees.{
   Inside,
 };
 
-use crate::judged::Judged;
+use crate::judged::{Judged, Span};
 use bundle::encoding::ObjectEncoding;
 use bundle::initial_length;
 use numbers::refusals::Refusal;
-use numbers::tables::{COMPILATION, SKELETON_UNIT, SPLIT_TYPE_UNIT, SPLIT_UNIT, TYPE, TYPE_UNIT};
+use numbers::tables::{SKELETON_UNIT, SPLIT_TYPE_UNIT, SPLIT_UNIT, TYPE_UNIT, Table};
 
 // The least number of 4 bytes that is no length.
 const FIRST_RESERVED: u64 = 0xFFFF_FFF0;
 
-// The code of info, as a unit's home has it.
+// The code of info, as a unit's home has it. A home is a section's code, and stays a number as those do: numbers/src/sections.rt says why.
 const INFO: u32 = numbers::sections::INFO as u32;
 
 // Where a unit's identity stands.
@@ -52,28 +52,26 @@ pub enum Kind {
     Other,
 }
 
-// The table that a unit is handed in for, 1 compilation or 2 type, and its identity. A number, since the words of work hold it as one.
+// The table that a unit is handed in for, and its identity.
 #[derive(Clone, Copy)]
 pub struct Identity {
-    pub table: u32,
+    pub table: Table,
     pub identity: u64,
 }
 
-// Where a unit lies in the bundle, and from where to where the abbreviations that it is read with.
+// Where a unit lies in the bundle, and where the abbreviations that it is read with.
 #[derive(Clone, Copy)]
 pub struct UnitPlace {
     pub at: usize,
     pub size: usize,
-    pub first: usize,
-    pub last: usize,
+    pub abbreviations: Span,
 }
 
-// A unit's size, its table, as `Identity` has it, and its identity.
+// A unit's size, and what it is handed in for.
 #[derive(Clone, Copy)]
 pub struct UnitRead {
     pub size: usize,
-    pub table: u32,
-    pub identity: u64,
+    pub handed_in: Identity,
 }
 
 // The bytes of a unit, or of its section from the unit on, with the object's encoding.
@@ -209,20 +207,16 @@ impl<'a> Unit<'a> {
     {
         let field = self.e.field_size() + 2;
         let offset = octets::number_at(self.e.big, self.e.width(), self.bytes, field) as usize;
-        if place.last - place.first < offset {
+        let Span { at, end } = place.abbreviations;
+        if end - at < offset {
             return Err(Refusal::NoIdentity);
         }
-        let first = place.first + offset;
+        let table = Span {
+            at: at + offset,
+            end,
+        };
         let common = self.common_size();
-        crate::root::root_identity(
-            self.e,
-            b,
-            first,
-            place.last,
-            &self.bytes[common..],
-            codes,
-            judged,
-        )
+        crate::root::root_identity(self.e, b, table, &self.bytes[common..], codes, judged)
     }
 
     // The identity, of a unit whose kind's header is there. A unit with a root is handed in for the compilation table.
@@ -240,15 +234,15 @@ impl<'a> Unit<'a> {
     {
         match kind {
             Kind::Compilation => Ok(Identity {
-                table: COMPILATION,
+                table: Table::Compilation,
                 identity: self.signature(),
             }),
             Kind::Signature => Ok(Identity {
-                table: TYPE,
+                table: Table::Type,
                 identity: self.signature(),
             }),
             Kind::Root => Ok(Identity {
-                table: COMPILATION,
+                table: Table::Compilation,
                 identity: self.root_stated(b, place, codes, judged)?,
             }),
             Kind::Other => Err(Refusal::NoIdentity),
@@ -272,7 +266,7 @@ pub fn unit_head(e: ObjectEncoding, s: &[u8]) -> Result<usize, Refusal>
     }
 }
 
-// The identity of a unit whose head was read, and the table that it is handed in for. Home is the section's code, 1 info or 2 types. An identity of 0 is refused.
+// The identity of a unit whose head was read, and the table that it is handed in for. Home is the code of its section. An identity of 0 is refused.
 // Bundle, words and memory of the tables stay parameters: a clause speaks of all three, and the words are lent for one call, out of a larger slice.
 pub fn unit_identity(
     e: ObjectEncoding,
@@ -316,12 +310,8 @@ pub fn read_unit(
 {
     let size = unit_head(e, &b[place.at..place.at + place.size])?;
     let own = UnitPlace { size, ..place };
-    let unit = unit_identity(e, home, b, own, codes, judged)?;
-    Ok(UnitRead {
-        size,
-        table: unit.table,
-        identity: unit.identity,
-    })
+    let handed_in = unit_identity(e, home, b, own, codes, judged)?;
+    Ok(UnitRead { size, handed_in })
 }
 
 // The address size that the header of a unit in info states, whatever it is, where the header passes 11 otherwise. Of e it takes the byte order,

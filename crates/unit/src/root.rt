@@ -5,7 +5,7 @@ ghost use Rattle.octets.specs.Checked.{mapped};
 ghost use Rattle.bundle.specs.Encoded.{encoding_is};
 ghost use Rattle.numbers.specs.Refused.{told};
 ghost use Rattle.unit.specs.Root.{plain_value, value_of, identity_at, root_tag, root_identity};
-ghost use Rattle.unit.specs.TableTrees.{between, TableHeld, Remembers, Lent};
+ghost use Rattle.unit.specs.TableTrees.{span_bytes, TableHeld, Lies, Remembers, Lent};
 ghost use Rattle.unit.specs.Roots.{
   value_is,
   seen_is,
@@ -15,7 +15,7 @@ ghost use Rattle.unit.specs.Roots.{
   Skips,
 };
 
-use crate::judged::Judged;
+use crate::judged::{Judged, Span};
 use crate::tree::NODE;
 use bundle::encoding::ObjectEncoding;
 use numbers::refusals::Refusal;
@@ -183,22 +183,26 @@ fn root_in(
     }
 }
 
-// The table is what stands in abbrev from the header's offset on: from at to end in the bundle. s is the unit behind its header.
+// The table is what stands in abbrev from the header's offset on, at a place of the bundle. s is the unit behind its header.
 pub fn root_identity(
     e: ObjectEncoding,
     b: &[u8],
-    at: usize,
-    end: usize,
+    place: Span,
     s: &[u8],
     codes: &mut [u32],
     judged: &mut Judged,
 ) -> Result<u64, Refusal>
-    requires { (at ≤ end) × (end ≤ length b.now) × Lent b.now codes.old judged.old }
-    ensures is { told result ≡ root_identity (encoding_is e) (between b.now at end) s.now }
+    requires { Lies b.now place × Lent b.now codes.old judged.old }
+    ensures is { told result ≡ root_identity (encoding_is e) (span_bytes b.now place) s.now }
     ensures memory { Remembers b.now codes.new judged.new }
 {
-    judged.recall(b, at, end, codes)?;
-    let table = judged.last;
+    let table = judged.recall(b, place, codes)?;
     let to = table.from + NODE * table.count;
-    root_in(e, &b[at..end], &codes[table.from..to], table.count, s)
+    root_in(
+        e,
+        &b[place.at..place.end],
+        &codes[table.from..to],
+        table.count,
+        s,
+    )
 }

@@ -23,15 +23,15 @@ const LOW: usize = 3;
 
 const HIGH: usize = 4;
 
-const WORD: u64 = 0x1_0000_0000;
-
+#[tactic(auto, unfolding(crate::specs::Trees::code_at))]
 fn code_at(codes: &[u32], node: usize) -> u64
     requires { node_words * node + node_words ≤ length codes.now }
     ensures { result ≡ code_at codes.now node }
 {
-    u64::from(codes[NODE * node + LOW]) + WORD * u64::from(codes[NODE * node + HIGH])
+    octets::number_of(codes[NODE * node + LOW], codes[NODE * node + HIGH])
 }
 
+#[tactic(auto, unfolding(crate::specs::Trees::carried_at))]
 pub fn carried_at(codes: &[u32], node: usize) -> usize
     requires { node_words * node + node_words ≤ length codes.now }
     ensures { result ≡ carried_at codes.now node }
@@ -67,14 +67,8 @@ fn store_node(codes: &mut [u32], node: usize, carried: usize, code: u64)
     ensures { codes.new ≡ placed codes.old (node_words * node) (node_of carried code) }
 {
     let at = NODE * node;
-    let words = [
-        0,
-        0,
-        carried as u32,
-        (code % WORD) as u32,
-        (code / WORD) as u32,
-    ];
-    codes[at..at + NODE].copy_from_slice(&words);
+    let [low, high] = octets::words_of(code);
+    codes[at..at + NODE].copy_from_slice(&[0, 0, carried as u32, low, high]);
 }
 
 // One code more behind count others, or false where it is one of them. Callers keep room for a node.

@@ -12,14 +12,14 @@ use Rattle.unit.proofs.Places.{end_is, coded}
 use Rattle.unit.proofs.Sizes.{rest}
 use Rattle.unit.proofs.Steps.{stops, goes, leaves_as}
 use Rattle.unit.proofs.abbreviations.declared_at.Goals as goal
-use Rattle.unit.proofs.abbreviations.declared_at.Goals.{In_ok-place}
+use Rattle.unit.proofs.abbreviations.declared_at.Goals.{In_ok-behind}
 
-placed : (c : In_ok-place) → pass (place_is c.in_ok-place.place) ≡ place_at (drop c.in_ok-code.n c.args.s.now)
+placed : (c : In_ok-behind) → pass (place_is c.in_ok-behind.behind) ≡ place_at (drop c.in_ok-code.n c.args.s.now)
 unfolding mapped
-placed c = c.in_ok-place.ensures ∙ ap place_at (rest c.in_ok-code.n c.args.s.now)
+placed c = c.in_ok-behind.ensures ∙ ap place_at (rest c.in_ok-code.n c.args.s.now)
 
-room : (c : In_ok-place)
-    → (c.in_ok-code.n + c.in_ok-place.place.start ≤ length c.args.s.now) × (c.in_ok-code.n + c.in_ok-place.place.end ≤ length c.args.s.now)
+room : (c : In_ok-behind)
+    → (c.in_ok-code.n + c.in_ok-behind.behind.start ≤ length c.args.s.now) × (c.in_ok-code.n + c.in_ok-behind.behind.end ≤ length c.args.s.now)
 room c =
     let st = place_stands _ _ (sym (placed c)) in
     let u = unsigned_taken _ _ (sym c.in_ok-code.ensures) in
@@ -40,18 +40,18 @@ slice_bounds-place_at-count c = (unsigned_taken _ _ (sym c.in_ok-code.ensures)).
 pub slice_bounds-place_at-start : goal.slice_bounds-place_at-start
 slice_bounds-place_at-start c = (unsigned_taken _ _ (sym c.in_ok-code.ensures)).within
 
-pub returns-in_err-place : goal.returns-in_err-place
+pub returns-in_err-behind : goal.returns-in_err-behind
 unfolding mapped
-returns-in_err-place c =
-    leaves_as _ c.from_residual-in_err-place.result _ c.from_residual-in_err-place.ensures.1
-    (stops _ (c.in_err-place.ensures ∙ ap place_at (rest c.in_ok-code.n c.args.s.now)) ∙ sym (coded _ _ _ (sym c.in_ok-code.ensures) c.if-code-eq0.false))
+returns-in_err-behind c =
+    leaves_as _ c.from_residual-in_err-behind.result _ c.from_residual-in_err-behind.ensures.1
+    (stops _ (c.in_err-behind.ensures ∙ ap place_at (rest c.in_ok-code.n c.args.s.now)) ∙ sym (coded _ _ _ (sym c.in_ok-code.ensures) c.if-code-eq0.false))
 
-pub overflow_add-result : goal.overflow_add-result
-overflow_add-result c = omega (arith, (room (goal.at.overflow_add-result c).In_ok-place).0)
+pub overflow_add-place : goal.overflow_add-place
+overflow_add-place c = omega (arith, (room (goal.at.overflow_add-place c).In_ok-behind).0)
 
-pub overflow_add-result-2 : goal.overflow_add-result-2
-overflow_add-result-2 c = omega (arith, (room (goal.at.overflow_add-result-2 c).In_ok-place).1)
+pub overflow_add-place-2 : goal.overflow_add-place-2
+overflow_add-place-2 c = omega (arith, (room (goal.at.overflow_add-place-2 c).In_ok-behind).1)
 
 pub returns : goal.returns
 unfolding mapped
-returns c = goes _ (placed (goal.at.returns c).In_ok-place) refl ∙ sym (coded _ _ _ (sym c.in_ok-code.ensures) c.if-code-eq0.false)
+returns c = goes _ (placed (goal.at.returns c).In_ok-behind) refl ∙ sym (coded _ _ _ (sym c.in_ok-code.ensures) c.if-code-eq0.false)

@@ -30,15 +30,15 @@ unit_identity-requires c =
     let w = inside (goal.at.unit_identity-requires c).In_ok-size in
     (w.1, record { unit = omega (arith, p.0.unit, w.0); order = p.0.order; abbreviations = p.0.abbreviations }, p.1)
 
-pub returns-in_err-unit-clause-is : goal.returns-in_err-unit-clause-is
+pub returns-in_err-handed_in-clause-is : goal.returns-in_err-handed_in-clause-is
 unfolding mapped
-returns-in_err-unit-clause-is c =
+returns-in_err-handed_in-clause-is c =
     let a = c.args in
-    leaves_as _ c.from_residual-in_err-unit.result _ c.from_residual-in_err-unit.ensures.1
-    (stops _ c.in_err-unit.ensures.is ∙ unit_whole (encoding_is a.e) a.home _ a.b.now a.place.at a.place.size c.requires.0.unit _ (sym c.in_ok-size.ensures))
+    leaves_as _ c.from_residual-in_err-handed_in.result _ c.from_residual-in_err-handed_in.ensures.1
+    (stops _ c.in_err-handed_in.ensures.is ∙ unit_whole (encoding_is a.e) a.home _ a.b.now a.place.at a.place.size c.requires.0.unit _ (sym c.in_ok-size.ensures))
 
 pub returns-clause-is : goal.returns-clause-is
 unfolding mapped
 returns-clause-is c =
     let a = c.args in
-    goes _ c.in_ok-unit.ensures.is refl ∙ unit_whole (encoding_is a.e) a.home _ a.b.now a.place.at a.place.size c.requires.0.unit _ (sym c.in_ok-size.ensures)
+    goes _ c.in_ok-handed_in.ensures.is refl ∙ unit_whole (encoding_is a.e) a.home _ a.b.now a.place.at a.place.size c.requires.0.unit _ (sym c.in_ok-size.ensures)

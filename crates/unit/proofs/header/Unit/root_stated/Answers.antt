@@ -34,13 +34,13 @@ number_at-offset-requires c =
     let e = c.args.self.e in
     (omega (arith, c.width.ensures, width_le e), omega (arith, c.width.ensures, c.field_size-field.ensures, c.requires.0, common_ge (encoding_is e)))
 
-pub returns-then-place-offset-clause-is : goal.returns-then-place-offset-clause-is
-returns-then-place-offset-clause-is c =
+pub returns-then-end-at-clause-is : goal.returns-then-end-at-clause-is
+returns-then-end-at-clause-is c =
     let a = c.args in
     let e = encoding_is a.self.e in
-    let l = between_length a.b.now a.place.first a.place.last c.requires.1.order c.requires.1.abbreviations in
-    root_past e (between a.b.now a.place.first a.place.last) a.self.bytes.now (drop (common_size e) a.self.bytes.now) c.number_at-offset.result
-    (offset (goal.at.returns-then-place-offset-clause-is c).After-number_at-offset) (omega (arith, l, c.if-place-offset.true))
+    let l = between_length a.b.now a.place.abbreviations.at a.place.abbreviations.end c.requires.1.order c.requires.1.abbreviations in
+    root_past e (between a.b.now a.place.abbreviations.at a.place.abbreviations.end) a.self.bytes.now (drop (common_size e) a.self.bytes.now) c.number_at-offset.result
+    (offset (goal.at.returns-then-end-at-clause-is c).After-number_at-offset) (omega (arith, l, c.if-end-at.true))
 
 pub returns-clause-is : goal.returns-clause-is
 unfolding table_at
@@ -49,6 +49,6 @@ returns-clause-is c =
     let u = a.self.bytes.now in
     c.root_identity.ensures.is
     ∙ ap₂ (root_identity (encoding_is a.self.e))
-    (between_drop a.b.now a.place.first a.place.last c.number_at-offset.result
-    ∙ ap (λ (n : ℕ). drop n (between a.b.now a.place.first a.place.last)) (offset (goal.at.returns-clause-is c).After-number_at-offset))
+    (between_drop a.b.now a.place.abbreviations.at a.place.abbreviations.end c.number_at-offset.result
+    ∙ ap (λ (n : ℕ). drop n (between a.b.now a.place.abbreviations.at a.place.abbreviations.end)) (offset (goal.at.returns-clause-is c).After-number_at-offset))
     (rest c.common_size-common.result u ∙ ap (λ (n : ℕ). drop n u) c.common_size-common.ensures)
