@@ -14,8 +14,8 @@ use Rattle.octets.specs.Octets.{placed}
 use Rattle.octets.proofs.Checks.{true_false}
 use Rattle.octets.proofs.Placed.{length_placed, take_placed}
 use Rattle.octets.proofs.Regions.{placed_whole, get_d_placed, get_d_before, get_d_behind}
-use Rattle.unit.specs.Trees.{carried_at, Tree, Grown, Added}
-use Rattle.unit.specs.TableTrees.{TableHeld, span_bytes, Held, directory_size, directory, key_of, table_from, Stored, Tables, Lies, Fresh, Enters, Enterable, Knows, Lent}
+use Rattle.unit.specs.Trees.{carried_at, Tree, Fresh, Grown, Added}
+use Rattle.unit.specs.TableTrees.{TableHeld, span_bytes, Held, directory_size, directory, key_of, table_from, Stored, Tables, Lies, Enters, Enterable, Knows, Lent}
 use Rattle.unit.specs.declared.judged.Span.{Span}
 use Rattle.unit.specs.declared.judged.JudgedTable.{JudgedTable}
 use Rattle.unit.specs.declared.judged.Judged.{Judged}

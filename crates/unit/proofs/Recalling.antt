@@ -2,22 +2,20 @@
 -- Assumes nothing.
 use mathlib.Core.Path.{◌≡◌, refl, sym, subst, ap, ap₂, ◌∙◌}
 use mathlib.Core.Bool.{true, false}
-use mathlib.Core.List.{List, [], ◌∷◌}
+use mathlib.Core.List.{List}
 use Prim.Native.Nat.{ℕ, ◌+◌, ◌-◌, ◌*◌, ◌^◌, ◌<◌, ◌≤◌}
 use native.Mathlib.Omega.{arith}
 use lib.ListN.{length, take, drop, get_or}
-use Rattle.octets.specs.Lists.{has, any}
 use Rattle.octets.proofs.Parts.{part_cut}
 use Rattle.unit.specs.Tables.{table_good}
-use Rattle.unit.specs.Trees.{code_at, carried_at, Rising, Ends}
-use Rattle.unit.specs.TableTrees.{TableHeld, Judges, span_bytes, Held, directory, key_of, table_from, Stored, Tables, Remembers, Fresh, Seeks, Knows}
+use Rattle.unit.specs.Trees.{Sought}
+use Rattle.unit.specs.TableTrees.{TableHeld, Judges, span_bytes, Held, directory, key_of, table_from, Stored, Tables, Remembers, Knows}
 use Rattle.unit.specs.declared.judged.Span.{Span}
 use Rattle.unit.specs.declared.judged.JudgedTable.{JudgedTable}
 use Rattle.unit.specs.declared.judged.Judged.{Judged}
-use Rattle.std.specs.Prelude.{IfSome, Option, Some, None, Result, Ok, Err}
+use Rattle.std.specs.Prelude.{IfSome, Some, Result, Ok, Err}
 use Rattle.unit.specs.declared.abbreviations.Unheld.{Unheld}
 use Rattle.unit.specs.declared.abbreviations.Unheld.TheVariants.{Bad, Full}
-use Rattle.unit.proofs.Trees.{free_not}
 use Rattle.unit.proofs.Holding.{key_at, key_end}
 
 -- ---- what is recalled
@@ -31,12 +29,10 @@ unfolding Remembers
 recalled_last b w j p t e f m = record { memory = m; last = e; place = f; held = let h : IfSome (Some t) (Held b w) = rw e at m.0 in h }
 
 -- the table that a search finds
-pub found_stored : (b w : List ℕ) (n free key start : ℕ) (r : Option ℕ) → r ≡ Some start → Seeks (directory b w) n key r → Tables b w n free → Stored b w free start key
-unfolding Seeks
-found_stored b w n free key start r i s t =
-    let f : (k : ℕ) × (k < n) × (code_at (directory b w) k ≡ key) × (carried_at (directory b w) k ≡ start) = rw i at s in
-    let c : get_or t.keys f.0 0 ≡ key = sym (t.tree.codes f.0 (omega (arith, f.1, t.counted))) ∙ f.2 in
-    subst (λ (x : ℕ). Stored b w free start x) c (subst (λ (x : ℕ). Stored b w free x (get_or t.keys f.0 0)) f.3 (t.stored f.0 f.1))
+pub found_stored : (b w : List ℕ) (n free key start : ℕ) → Sought (directory b w) n key start → Tables b w n free → Stored b w free start key
+found_stored b w n free key start f t =
+    let c : get_or t.keys f.node 0 ≡ key = sym (t.tree.codes f.node (omega (arith, f.inside, t.counted))) ∙ f.is in
+    subst (λ (x : ℕ). Stored b w free start x) c (subst (λ (x : ℕ). Stored b w free x (get_or t.keys f.node 0)) f.carries (t.stored f.node f.inside))
 
 pub stored_within : (b w : List ℕ) (free start key : ℕ) → Stored b w free start key → start < length w
 unfolding table_from
@@ -49,36 +45,6 @@ stored_held b w free p start count h s e =
     subst (λ (t : JudgedTable). Held b w t)
     (ap₂ (λ (x y : ℕ). record { place = record { at = x; end = y }; from = start + 1; count = get_or w start 0 }) (key_at p h) (key_end p h)
     ∙ ap (λ (n : ℕ). record { place = p; from = start + 1; count = n }) (sym e)) s.held
-
-pub not_found : (b w : List ℕ) (n key : ℕ) (r : Option ℕ) → r ≡ None → Seeks (directory b w) n key r → Fresh (directory b w) n key
-unfolding Seeks
-not_found b w n key r i s = rw i at s
-
--- ---- the search
-module _ (d : List ℕ) (n key : ℕ) where
-  pub seeks_none : n ≡ 0 → Seeks d n key None
-  unfolding Seeks Fresh has any
-  seeks_none z = λ cs l t. none cs (l ∙ z)
-    where
-      none : (cs : List ℕ) → length cs ≡ 0 → has cs key ≡ false
-      none [] l = refl
-      none (c ∷ cs) l = absurd (omega arith)
-
-  pub seeks_free : (code link : ℕ) (r : Result ℕ ℕ) → code ≡ key → r ≡ Err link → Ends d n code r → Seeks d n key None
-  unfolding Seeks Fresh Ends
-  seeks_free code link r c i e = λ cs l t. free_not d cs t key link (rw (i, c, ← l) at e)
-
-  module _ (code k : ℕ) (r : Result ℕ ℕ) (i : r ≡ Ok k) (e : Ends d n code r) where
-    ends_at : (k < n) × (code_at d k ≡ code)
-    unfolding Ends
-    ends_at = rw i at e
-
-    pub seeks_within : Rising d n → 5 * k + 5 ≤ length d
-    seeks_within r = omega (arith, ends_at.0, r.room)
-
-    pub seeks_at : (start : ℕ) → code ≡ key → start ≡ carried_at d k → Seeks d n key (Some start)
-    unfolding Seeks
-    seeks_at start c s = (k, ends_at.0, ends_at.1 ∙ c, sym s)
 
 -- ---- a table that was judged
 module _ (s w : List ℕ) (r : Result ℕ Unheld) (j : Judges s w r) where

@@ -1,14 +1,13 @@
 -- A table that was judged: its declarations in a tree of their codes, whose nodes carry where in the table they stand. What was judged is remembered.
 -- These relations say what the code keeps: no definition of reading units rests on them.
 -- Assumes nothing.
-use Rattle.std.specs.Prelude.{Option, Some, None, Result, Ok, Err, IfSome, ◌≡◌, true, false, List, [], map, ℕ, ◌+◌, ◌-◌, ◌*◌, ◌/◌, ◌%◌, ◌^◌, ◌<◌, ◌≤◌, length, take, drop, get_or}
+use Rattle.std.specs.Prelude.{Some, Result, Ok, Err, IfSome, ◌≡◌, true, false, List, [], map, ℕ, ◌+◌, ◌-◌, ◌*◌, ◌/◌, ◌%◌, ◌^◌, ◌<◌, ◌≤◌, length, take, drop, get_or}
 use Rattle.std.proofs.Math.Option.{some}
 use Rattle.octets.specs.Octets.{part}
-use Rattle.octets.specs.Lists.{has}
 use Rattle.octets.specs.Checked.{pass}
 use Rattle.unit.specs.Abbreviations.{Declaration, attributes_of, declarations_of}
 use Rattle.unit.specs.Tables.{Coded, declared_at, table_good}
-use Rattle.unit.specs.Trees.{node_words, code_at, carried_at, Rising, Tree}
+use Rattle.unit.specs.Trees.{node_words, carried_at, Rising, Tree, Fresh}
 use Rattle.unit.specs.declared.judged.Span.{Span}
 use Rattle.unit.specs.declared.judged.JudgedTable.{JudgedTable}
 use Rattle.unit.specs.declared.judged.Judged.{Judged}
@@ -102,10 +101,6 @@ pub record Tables (b w : List ℕ) (n free : ℕ) : Type 0 where
 unfoldable pub Remembers : List ℕ → List ℕ → Judged → Type 0
 Remembers b w j = IfSome j.last (Held b w) × Tables b w j.tables j.free
 
--- a directory d of n tables has none of the key
-unfoldable pub Fresh : List ℕ → ℕ → ℕ → Type 0
-Fresh d n key = (cs : List ℕ) → length cs ≡ n → Tree d cs → has cs key ≡ false
-
 -- a table's tree stands behind the word start, and the directory does not have it yet
 pub record Enters (b w : List ℕ) (size start : ℕ) (t : JudgedTable) (j : Judged) : Type 0 where
   pub size_is : size ≡ directory_size b
@@ -120,11 +115,6 @@ Enterable w size start t j =
     (t.place.at < 2 ^ 32) × (t.place.end < 2 ^ 32) × (t.count < 2 ^ 32) × (start < 2 ^ 32)
     × (t.from ≡ start + 1) × (size ≤ start) × (t.from + node_words * t.count ≤ length w)
     × (node_words * j.tables + node_words ≤ size) × Rising (take size w) j.tables
-
--- what a search in such a directory says
-unfoldable pub Seeks : List ℕ → ℕ → ℕ → Option ℕ → Type 0
-Seeks d n key (Some start) = (k : ℕ) × (k < n) × (code_at d k ≡ key) × (carried_at d k ≡ start)
-Seeks d n key None = Fresh d n key
 
 -- t is the table of a place, and the last one of the memory
 pub record Knows (b w : List ℕ) (p : Span) (j : Judged) (t : JudgedTable) : Type 0 where

@@ -18,7 +18,7 @@ ghost use Rattle.unit.specs.Tables.{
 };
 ghost use Rattle.unit.specs.TableTrees.{TableHeld, Judges};
 
-use crate::tree::NODE;
+use crate::tree::{CodeTree, NODE};
 use numbers::refusals::Refusal;
 
 // A name, a form, and the bytes that they take.
@@ -193,15 +193,11 @@ fn heading_at(s: &[u8]) -> Option<Heading>
 }
 
 // The declaration of a code, in a table that was judged.
-pub fn find_in(s: &[u8], codes: &[u32], count: usize, code: u64) -> Option<Heading>
-    requires { TableHeld s.now codes.now count }
+pub fn find_in(s: &[u8], codes: CodeTree<'_>, code: u64) -> Option<Heading>
+    requires { TableHeld s.now codes.words.now codes.count }
     ensures { (ds : List table.Declaration) → declarations_of s.now ≡ pass ds → Located s.now ds code result }
 {
-    if count == 0 {
-        return None;
-    }
-    let node = crate::tree::walk(codes, count, code).ok()?;
-    let at = crate::tree::carried_at(codes, node);
+    let at = codes.find(code)?;
     let heading = heading_at(&s[at..])?;
     Some(Heading {
         start: at + heading.start,

@@ -3,16 +3,14 @@
 // and a unit that names it take more than 25 bytes, and a node five words. Behind it each table has a word with the number of its declarations, and then
 // their tree. Where the words do not suffice, all tables but the last are forgotten.
 ghost use Rattle.std.specs.Prelude.{◌≡◌, List, ℕ, ◌+◌, ◌*◌, ◌/◌, ◌≤◌, ◌<◌, ◌^◌, length, IfSome};
-ghost use Rattle.unit.specs.Trees.{node_words, Rising};
+ghost use Rattle.unit.specs.Trees.{node_words, Fresh};
 ghost use Rattle.unit.specs.TableTrees.{
   directory_share,
   directory,
   key_of,
   Lies,
-  Fresh,
   Enters,
   Enterable,
-  Seeks,
   Remembers,
   Knows,
   Recalls,
@@ -20,7 +18,7 @@ ghost use Rattle.unit.specs.TableTrees.{
 };
 
 use crate::abbreviations::Unheld;
-use crate::tree::NODE;
+use crate::tree::{CodeTree, NODE};
 use numbers::refusals::Refusal;
 
 // The directory has one of so many words.
@@ -56,18 +54,6 @@ fn key_of(place: Span) -> u64
     ensures { result ≡ key_of place }
 {
     octets::number_of(place.at as u32, place.end as u32)
-}
-
-// The word where a table starts, in a directory of so many.
-fn find_table(words: &[u32], tables: usize, place: Span) -> Option<usize>
-    requires { Rising words.now tables × (place.at < 2 ^ 32) × (place.end < 2 ^ 32) }
-    ensures { Seeks words.now tables (key_of place) result }
-{
-    if tables == 0 {
-        return None;
-    }
-    let node = crate::tree::walk(words, tables, key_of(place)).ok()?;
-    Some(crate::tree::carried_at(words, node))
 }
 
 impl Judged {
@@ -175,8 +161,11 @@ impl Judged {
                 return Ok(last);
             }
         }
-        let size = b.len() / SHARE;
-        let Some(start) = find_table(&codes[..size], self.tables, place) else {
+        let directory = CodeTree {
+            words: &codes[..b.len() / SHARE],
+            count: self.tables,
+        };
+        let Some(start) = directory.find(key_of(place)) else {
             return self.judge_new(b, place, codes);
         };
         let table = JudgedTable {

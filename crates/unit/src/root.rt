@@ -16,7 +16,7 @@ ghost use Rattle.unit.specs.Roots.{
 };
 
 use crate::judged::{Judged, Span};
-use crate::tree::NODE;
+use crate::tree::{CodeTree, NODE};
 use bundle::encoding::ObjectEncoding;
 use numbers::refusals::Refusal;
 
@@ -166,18 +166,12 @@ fn root_tag(tag: u64) -> bool
 }
 
 // In a table that was judged, whose declarations codes hold. s is the unit behind its header.
-fn root_in(
-    e: ObjectEncoding,
-    table: &[u8],
-    codes: &[u32],
-    count: usize,
-    s: &[u8],
-) -> Result<u64, Refusal>
-    requires { TableHeld table.now codes.now count }
+fn root_in(e: ObjectEncoding, table: &[u8], codes: CodeTree<'_>, s: &[u8]) -> Result<u64, Refusal>
+    requires { TableHeld table.now codes.words.now codes.count }
     ensures { told result ≡ root_identity (encoding_is e) table.now s.now }
 {
     let (code, n) = leb128::read_unsigned(s)?;
-    match crate::abbreviations::find_in(table, codes, count, code) {
+    match crate::abbreviations::find_in(table, codes, code) {
         Some(root) if root_tag(root.tag) => identity_in(e, &table[root.start..], &s[n..]),
         _ => Err(Refusal::NoIdentity),
     }
@@ -198,11 +192,9 @@ pub fn root_identity(
 {
     let table = judged.recall(b, place, codes)?;
     let to = table.from + NODE * table.count;
-    root_in(
-        e,
-        &b[place.at..place.end],
-        &codes[table.from..to],
-        table.count,
-        s,
-    )
+    let declarations = CodeTree {
+        words: &codes[table.from..to],
+        count: table.count,
+    };
+    root_in(e, &b[place.at..place.end], declarations, s)
 }

@@ -7,6 +7,7 @@ use Rattle.numbers.specs.Refused.{number_of}
 use Rattle.numbers.specs.declared.refusals.Refusal.{Refusal}
 use Rattle.unit.specs.TableTrees.{Knows, Recalls}
 use Rattle.unit.proofs.Steps.{leaves}
+use Rattle.unit.proofs.Finding.{held_rising}
 use Rattle.unit.proofs.Rooted.{root_table}
 use Rattle.unit.proofs.Recalling.{known_held}
 use Rattle.unit.proofs.root.root_identity.Goals as goal
@@ -35,8 +36,12 @@ overflow_add-to c = omega (arith, (known (goal.at.overflow_add-to c).In_ok-table
 pub offset_bounds-codes-table : goal.offset_bounds-codes-table
 offset_bounds-codes-table c = omega (arith, (known (goal.at.offset_bounds-codes-table c).In_ok-table).held.inside)
 
-pub slice_bounds-root_in-end-2 : goal.slice_bounds-root_in-end-2
-slice_bounds-root_in-end-2 c = omega (arith, (known (goal.at.slice_bounds-root_in-end-2 c).In_ok-table).held.inside)
+pub slice_bounds-declarations-end : goal.slice_bounds-declarations-end
+slice_bounds-declarations-end c = omega (arith, (known (goal.at.slice_bounds-declarations-end c).In_ok-table).held.inside)
+
+pub invariant_of-declarations : goal.invariant_of-declarations
+invariant_of-declarations c =
+    record { rising = held_rising _ _ _ 0 (known_held _ _ _ _ _ (known (goal.at.invariant_of-declarations c).In_ok-table)) }
 
 pub root_in-requires : goal.root_in-requires
 root_in-requires c = known_held _ _ _ _ _ (known (goal.at.root_in-requires c).In_ok-table)
