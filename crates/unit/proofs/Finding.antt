@@ -16,8 +16,8 @@ use Rattle.octets.specs.Checked.{pass}
 use Rattle.octets.proofs.Checks.{pass_inj, bind_pass, require_pass, true_false}
 use Rattle.octets.proofs.Elements.{has_at, has_cons, has_skips, distinct_head, distinct_tail}
 use Rattle.unit.specs.Abbreviations.{Declaration, declarations_of, declaration_of}
-use Rattle.unit.specs.Tables.{declarations, Headed, Located}
-use Rattle.unit.specs.Trees.{Rising, Fresh, Sought}
+use Rattle.unit.specs.Tables.{declarations, Headed, Located, Finds}
+use Rattle.unit.specs.Trees.{Rising, Fresh, Sought, Seeks}
 use Rattle.unit.specs.TableTrees.{codes_of, no_declaration, Declares, TableHeld}
 use Rattle.unit.specs.declared.abbreviations.Heading.{Heading}
 
@@ -85,9 +85,13 @@ module _ (s w : List ℕ) (n code : ℕ) (t : TableHeld s w n) where
     same : ds ≡ t.declared
     same = pass_inj (sym e ∙ t.read)
 
-    pub located_not : Fresh w n code → Located s ds code None
+    located_not : Fresh w n code → Located s ds code None
     unfolding Located Fresh
     located_not f = ap (λ (x : List Declaration). declaration_of x code) same ∙ no_declaration_law t.declared code (f (codes_of t.declared) codes_count t.held.tree)
+
+  pub finds_none : Seeks w n code None → Finds s code None
+  unfolding Finds Seeks
+  finds_none f ds e = located_not ds e f
 
   -- a code that was found
   module _ (at : ℕ) (f : Sought w n code at) where
@@ -100,10 +104,9 @@ module _ (s w : List ℕ) (n code : ℕ) (t : TableHeld s w n) where
     pub found_declares : Declares s at d
     found_declares = subst (λ (x : ℕ). Declares s x d) f.carries (t.held.declares f.node inside)
 
-    pub located_at : (ds : List Declaration) → declarations_of s ≡ pass ds → (o : Option Heading) → Headed (drop at s) o → (g : Heading) → o ≡ Some g
-        → Located s ds code (Some (record { tag = g.tag; start = at + g.start }))
-    unfolding Located
-    located_at ds e o v g j =
+    pub finds_at : (o : Option Heading) → Headed (drop at s) o → (g : Heading) → o ≡ Some g → Finds s code (Some (record { tag = g.tag; start = at + g.start }))
+    unfolding Finds Located
+    finds_at o v g j ds e =
         let h = found_declares in
         let its : d.code ≡ code = sym (code_at_law t.declared f.node inside) ∙ sym (t.held.tree.codes f.node (rw codes_count f.inside)) ∙ f.is in
         rw (← same_heading s at d h o v g j) (

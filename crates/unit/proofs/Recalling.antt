@@ -16,7 +16,7 @@ use Rattle.unit.specs.declared.judged.Judged.{Judged}
 use Rattle.std.specs.Prelude.{IfSome, Some, Result, Ok, Err}
 use Rattle.unit.specs.declared.abbreviations.Unheld.{Unheld}
 use Rattle.unit.specs.declared.abbreviations.Unheld.TheVariants.{Bad, Full}
-use Rattle.unit.proofs.Holding.{key_at, key_end}
+use Rattle.unit.proofs.Holding.{key_at, key_end, held_alone, remembers_tables}
 
 -- ---- what is recalled
 -- a table that the words hold becomes the last one
@@ -61,6 +61,11 @@ pub unheld_bad : (s w : List ℕ) (u : Unheld) → length s ≤ length w → Jud
 unfolding Judges
 unheld_bad s w Bad h j = j
 unheld_bad s w Full h j = absurd (omega arith)
+
+-- with all the words, where the others are forgotten
+pub recalled_alone : (b w : List ℕ) (p : Span) (j : Judged) (r : Result ℕ Unheld) (n : ℕ) → Remembers b w j → Judges (span_bytes b p) w r → r ≡ Ok n
+    → Knows b w p (record { last = Some (record { place = p; from = 0; count = n }); tables = j.tables; free = j.free }) (record { place = p; from = 0; count = n })
+recalled_alone b w p j r n m g i = recalled b w _ j.tables j.free (held_alone b w p n (judged_good _ w r g n i)) (remembers_tables b w j m)
 
 -- ---- the table that was recalled, in the part of the words that the code lends
 pub known_held : (b w : List ℕ) (p : Span) (j : Judged) (t : JudgedTable) → Knows b w p j t → TableHeld (span_bytes b p) (take (t.from + 5 * t.count - t.from) (drop t.from w)) t.count

@@ -74,3 +74,7 @@ Located s ds code (Some h) =
     (d : Declaration) × (declaration_of ds code ≡ some d) × (d.tag ≡ h.tag) × (h.start ≤ length s)
     × ((n : ℕ) × (attributes_of (drop h.start s) ≡ pass (d.attributes, n)))
 Located s ds code None = declaration_of ds code ≡ none
+
+-- in the table s
+unfoldable pub Finds : List ℕ → ℕ → Option Heading → Type 0
+Finds s code r = (ds : List Declaration) → declarations_of s ≡ pass ds → Located s ds code r

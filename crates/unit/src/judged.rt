@@ -97,6 +97,7 @@ impl Judged {
     }
 
     // With all the words for this table, which suffice: the others are forgotten.
+    #[tactic(auto, using(crate::proofs::Recalling::recalled_alone, crate::proofs::Recalling::unheld_bad, crate::proofs::Cuts::between_length), unfolding(crate::specs::TableTrees::Recalls))]
     fn judge_alone(
         &mut self,
         b: &[u8],

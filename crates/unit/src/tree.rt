@@ -54,6 +54,7 @@ impl<'a> CodeTree<'a> {
 
     // Where the walk of a code ends, answered as a search of a sorted slice is: its node; or else the word of the empty link that its node would hang from.
     // A loop, since it follows links and has no index.
+    #[tactic(auto, using(crate::proofs::Trees::walking_at, crate::proofs::Trees::walking_on, crate::proofs::Trees::walking_free))]
     pub fn walk(self, code: u64) -> Result<usize, usize>
         requires { 0 < self.count }
         ensures { Ends self.entry.words.now self.entry.count code result }
@@ -75,6 +76,7 @@ impl<'a> CodeTree<'a> {
     }
 
     // What the node of a code carries.
+    #[tactic(auto, using(crate::proofs::Trees::seeks_none, crate::proofs::Trees::seeks_free, crate::proofs::Trees::ends_room, crate::proofs::Trees::seeks_at))]
     pub fn find(self, code: u64) -> Option<usize>
         ensures { Seeks self.entry.words.now self.entry.count code result }
     {

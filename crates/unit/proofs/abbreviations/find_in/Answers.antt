@@ -6,8 +6,8 @@ use Rattle.unit.specs.Tables.{Headed}
 use Rattle.unit.specs.TableTrees.{no_declaration, Declares}
 use Rattle.unit.specs.Trees.{Sought}
 use Rattle.unit.proofs.Sizes.{rest}
-use Rattle.unit.proofs.Trees.{sought, not_sought}
-use Rattle.unit.proofs.Finding.{located_not, found_declares, located_at, declares_some, declares_inside}
+use Rattle.unit.proofs.Trees.{sought}
+use Rattle.unit.proofs.Finding.{finds_none, found_declares, finds_at, declares_some, declares_inside}
 use Rattle.unit.proofs.abbreviations.find_in.Goals as goal
 use Rattle.unit.proofs.abbreviations.find_in.Goals.{In_ok-at, After-heading_at}
 
@@ -22,7 +22,7 @@ headed : (c : After-heading_at) → Headed (drop c.in_ok-at.at c.args.s.now) c.h
 headed c = rw (rest c.in_ok-at.at c.args.s.now) at c.heading_at.ensures
 
 pub returns-in_err-at : goal.returns-in_err-at
-returns-in_err-at c = rw c.from_residual.ensures (λ ds e. located_not _ _ _ _ c.requires ds e (not_sought _ _ _ _ c.in_err-at.was c.find.ensures))
+returns-in_err-at c = rw c.from_residual.ensures (finds_none _ _ _ _ c.requires (rw c.in_err-at.was at c.find.ensures))
 
 pub slice_bounds-heading_at-count : goal.slice_bounds-heading_at-count
 slice_bounds-heading_at-count c = omega (arith, (stands (goal.at.slice_bounds-heading_at-count c).In_ok-at).inside)
@@ -33,7 +33,7 @@ slice_bounds-heading_at-start c = omega (arith, (stands (goal.at.slice_bounds-he
 pub returns-in_err-heading : goal.returns-in_err-heading
 returns-in_err-heading c =
     let g = goal.at.returns-in_err-heading c in
-    λ ds e. absurd (declares_some _ _ _ (stands g.In_ok-at) _ (headed g.After-heading_at) c.in_err-heading.was)
+    absurd (declares_some _ _ _ (stands g.In_ok-at) _ (headed g.After-heading_at) c.in_err-heading.was)
 
 pub overflow_add-result : goal.overflow_add-result
 overflow_add-result c =
@@ -43,4 +43,4 @@ overflow_add-result c =
 pub returns : goal.returns
 returns c =
     let g = goal.at.returns c in
-    λ ds e. located_at _ _ _ _ c.requires _ (found g.In_ok-at) ds e _ (headed g.After-heading_at) _ c.in_ok-heading.was
+    finds_at _ _ _ _ c.requires _ (found g.In_ok-at) _ (headed g.After-heading_at) _ c.in_ok-heading.was
