@@ -12,7 +12,7 @@ use lib.Seq.{drop-drop}
 use borrow.Author.Tests.{eq-eqb, ne_eqb}
 use Rattle.octets.specs.Lists.{zero_together}
 use Rattle.octets.specs.Checked.{Check, pass, refuse, ◌>>=◌, require}
-use Rattle.octets.proofs.Checks.{pass_refuse, pass_inj, bind_pass, bind_same, then_pass, then_refuse, require_pass}
+use Rattle.octets.proofs.Checks.{pass_refuse, pass_inj, bind_pass, bind_same, then_pass, then_refuse, require_pass, passes, fails}
 use Rattle.octets.proofs.Refusals.{Only, only_pass, only_refuse, only_require, only_bind}
 use Rattle.leb128.specs.Leb128.{groups, short}
 use Rattle.leb128.proofs.Taken.{short_taken, only_short}
@@ -46,6 +46,31 @@ module _ (a b : ℕ) where
   unfolding zero_together
   neither_zero h g = rw (zero_together, ne_eqb a 0 h, ne_eqb b 0 g)
 
+-- ---- as the code reads it
+module _ (s : List ℕ) where
+  pub attribute_none : (k : ℕ) → short s ≡ refuse k → attribute_at s ≡ refuse k
+  unfolding attribute_at
+  attribute_none k h = then_refuse _ _ k h
+
+  module _ (x n : ℕ) (h : short s ≡ pass (x, n)) where
+    pub attribute_half : (k : ℕ) → short (drop n s) ≡ refuse k → attribute_at s ≡ refuse k
+    unfolding attribute_at
+    attribute_half k g = then_pass _ _ _ h ∙ then_refuse _ _ k g
+
+    module _ (y m : ℕ) (g : short (drop n s) ≡ pass (y, m)) where
+      pub attribute_apart : not (beq (eqb x 0) (eqb y 0)) ≡ true → attribute_at s ≡ refuse 12
+      unfolding attribute_at
+      attribute_apart i = then_pass _ _ _ h ∙ then_pass _ _ _ g ∙ fails _ _ _ (apart x y i)
+
+      module _ (i : not (beq (eqb x 0) (eqb y 0)) ≡ false) where
+        pub attribute_bad : y ≡ 0x21 → attribute_at s ≡ refuse 12
+        unfolding attribute_at
+        attribute_bad j = then_pass _ _ _ h ∙ then_pass _ _ _ g ∙ passes _ _ _ (together x y i) ∙ fails _ _ _ (ap not (eq-eqb y 0x21 j))
+
+        pub attribute_good : (y ≡ 0x21 → ⊥) → attribute_at s ≡ pass (record { name = x; form = y }, n + m)
+        unfolding attribute_at
+        attribute_good j = then_pass _ _ _ h ∙ then_pass _ _ _ g ∙ passes _ _ _ (together x y i) ∙ passes _ _ _ (ap not (ne_eqb y 0x21 j))
+
 -- it takes at least two bytes, and ends in s
 pub attribute_at_taken : (s : List ℕ) (r : Attribute × ℕ) → attribute_at s ≡ pass r → (2 ≤ r.1) × (r.1 ≤ length s)
 unfolding attribute_at
@@ -58,6 +83,12 @@ attribute_at_taken s r e =
     let g = short_taken (drop p.0.1 s) q.0 q.1 in
     let n : p.0.1 + q.0.1 ≡ r.1 = ap (λ (x : Attribute × ℕ). x.1) (pass_inj v.1) in
     (omega (arith, h.some, g.some), omega (arith, h.within, g.within, length-drop p.0.1 s))
+
+pub attribute_some : (s : List ℕ) (a : Attribute) (n : ℕ) → attribute_at s ≡ pass (a, n) → 1 ≤ n
+attribute_some s a n e = omega (arith, attribute_at_taken s (a, n) e)
+
+pub attribute_ends : (s : List ℕ) (at : ℕ) (a : Attribute) (n : ℕ) → attribute_at (drop at s) ≡ pass (a, n) → at ≤ length s → at + n ≤ length s
+attribute_ends s at a n e l = omega (arith, attribute_at_taken (drop at s) (a, n) e, length-drop at s)
 
 pub only_attribute_at : (s : List ℕ) → Only 12 (attribute_at s)
 unfolding attribute_at

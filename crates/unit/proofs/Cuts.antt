@@ -7,14 +7,15 @@ use native.Mathlib.Omega.{arith}
 use lib.ListN.{length, take, drop, length-drop}
 use lib.Seq.{drop-drop, take-take, length-take-le}
 use Rattle.octets.specs.Octets.{part}
-use Rattle.octets.specs.Checked.{Check, pass, refuse, ◌>>=◌}
+use Rattle.octets.specs.Checked.{pass, refuse, ◌>>=◌}
+use Rattle.octets.proofs.Checks.{then_pass, then_refuse}
 use Rattle.octets.proofs.Parts.{drop_take, length_part, part_cut}
 use Rattle.bundle.specs.Encoding.{Encoding}
 use Rattle.unit.specs.TableTrees.{between}
-use Rattle.unit.specs.UnitRead.{Identity, common_size, unit_of}
+use Rattle.unit.specs.UnitRead.{common_size, unit_of}
 use Rattle.unit.specs.Headers.{kind_of, header_size, identity_by, head_of, non_zero, identity_good}
 use Rattle.unit.specs.declared.header.Kind.{Kind}
-use Rattle.unit.proofs.Heads.{good_short, good_whole, head_within, unit_with, unit_headless, unit_headed}
+use Rattle.unit.proofs.Heads.{good_short, good_whole, head_within, unit_with, unit_headless, unit_headed, zero_refused, zero_not}
 
 -- ---- parts
 pub between_length : (b : List ℕ) (first last : ℕ) → first ≤ last → last ≤ length b → length (between b first last) ≡ last - first
@@ -40,25 +41,46 @@ module _ (e : Encoding) (home : ℕ) (a b : List ℕ) (at size : ℕ) (h : at + 
     kind_own : header_size e k ≡ header_size e (kind_of e home own)
     kind_own = ap (header_size e) (i ∙ ap (kind_of e home) (part_cut b at size))
 
-    pub answer_short : common_size e ≤ size → size < n → refuse 11 ≡ identity_good e home a own
+    pub answer_short : common_size e ≤ size → size < n → identity_good e home a own ≡ refuse 11
     answer_short c g =
         let l = length_part b at size h in
-        sym (good_short e home a own (omega (arith, l)) (omega (arith, l, m, kind_own)))
+        good_short e home a own (omega (arith, l)) (omega (arith, l, m, kind_own))
 
-    pub answer_good : n ≤ size → (r : Check Identity) → r ≡ identity_by e k a cut → non_zero r ≡ identity_good e home a own
-    answer_good g r c =
-        ap non_zero (c ∙ ap₂ (λ (q : Kind) (u : List ℕ). identity_by e q a u) (i ∙ ap (kind_of e home) (part_cut b at size)) (part_cut b at size))
-        ∙ sym (good_whole e home a own (omega (arith, length_part b at size h, m, kind_own)))
+    module _ (g : n ≤ size) where
+      answer_good : identity_good e home a own ≡ non_zero (identity_by e k a cut)
+      answer_good =
+          good_whole e home a own (omega (arith, length_part b at size h, m, kind_own))
+          ∙ ap non_zero (sym (ap₂ (λ (q : Kind) (u : List ℕ). identity_by e q a u) (i ∙ ap (kind_of e home) (part_cut b at size)) (part_cut b at size)))
 
-  pub unit_none : (k : ℕ) → refuse k ≡ head_of e cut → refuse k ≡ unit_of e home a own
-  unit_none k g = sym (unit_headless e home a own k (ap (head_of e) (sym (part_cut b at size)) ∙ sym g))
+      pub answer_not : (j : ℕ) → identity_by e k a cut ≡ refuse j → identity_good e home a own ≡ refuse j
+      unfolding non_zero
+      answer_not j c = answer_good ∙ then_refuse _ _ j c
+
+      module _ (t x : ℕ) (c : identity_by e k a cut ≡ pass (record { table = t; identity = x })) where
+        pub answer_zero : x ≡ 0 → identity_good e home a own ≡ refuse 13
+        answer_zero z = answer_good ∙ zero_refused _ _ c z
+
+        pub answer_is : (x ≡ 0 → ⊥) → identity_good e home a own ≡ pass (record { table = t; identity = x })
+        answer_is z = answer_good ∙ zero_not _ _ c z
+
+  pub unit_none : (k : ℕ) → head_of e cut ≡ refuse k → unit_of e home a own ≡ refuse k
+  unit_none k g = unit_headless e home a own k (ap (head_of e) (sym (part_cut b at size)) ∙ g)
 
   module _ (n : ℕ) (g : head_of e cut ≡ pass n) where
-    pub own_within : (n ≤ size) × (common_size e ≤ n)
-    own_within = let w = head_within e cut n g in (omega (arith, cut_length, w.0), w.1)
+    pub own_within : n ≤ size
+    own_within = omega (arith, cut_length, head_within e cut n g)
 
-    pub unit_whole : (identity_good e home a (part b at n) >>= unit_with n) ≡ unit_of e home a own
+    pub own_common : common_size e ≤ n
+    own_common = (head_within e cut n g).1
+
+    unit_whole : unit_of e home a own ≡ (identity_good e home a (part b at n) >>= unit_with n)
     unfolding part
     unit_whole =
-        ap (λ (u : List ℕ). identity_good e home a u >>= unit_with n) (sym (take-take n size (drop at b) own_within.0))
-        ∙ sym (unit_headed e home a own n (ap (head_of e) (sym (part_cut b at size)) ∙ g))
+        unit_headed e home a own n (ap (head_of e) (sym (part_cut b at size)) ∙ g)
+        ∙ ap (λ (u : List ℕ). identity_good e home a u >>= unit_with n) (take-take n size (drop at b) own_within)
+
+    pub unit_not : (k : ℕ) → identity_good e home a (part b at n) ≡ refuse k → unit_of e home a own ≡ refuse k
+    unit_not k c = unit_whole ∙ then_refuse _ _ k c
+
+    pub unit_done : (t x : ℕ) → identity_good e home a (part b at n) ≡ pass (record { table = t; identity = x }) → unit_of e home a own ≡ pass (record { size = n; table = t; identity = x })
+    unit_done t x c = unit_whole ∙ then_pass _ _ _ c

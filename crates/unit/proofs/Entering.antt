@@ -1,7 +1,6 @@
 -- A table that is judged into the free words, and becomes one of the directory.
 -- Assumes nothing.
 use mathlib.Core.Path.{◌≡◌, refl, sym, subst, ap, ap₂, ◌∙◌}
-use mathlib.Core.Logic.{inr}
 use mathlib.Core.Bool.{Bool, true, false}
 use mathlib.Core.List.{List, [], ◌∷◌, ◌++◌}
 use Prim.Native.Nat.{ℕ, ◌+◌, ◌-◌, ◌*◌, ◌/◌, ◌^◌, ◌<◌, ◌≤◌}
@@ -10,14 +9,17 @@ use native.Mathlib.Decide.{dec_le}
 use lib.ListN.{length, take, drop, get_or, length-append, length-drop, get_or-append}
 use lib.Seq.{take_at, length-take-le, get_or-drop, get_or-append-add, get_or-append_seam}
 use borrow.Rule.Slice.PartMut.{put_mid, mid_of, mid_len}
+use Rattle.std.specs.Prelude.{Some}
 use Rattle.octets.specs.Octets.{placed}
 use Rattle.octets.proofs.Checks.{true_false}
 use Rattle.octets.proofs.Placed.{length_placed, take_placed}
 use Rattle.octets.proofs.Regions.{placed_whole, get_d_placed, get_d_before, get_d_behind}
-use Rattle.unit.specs.Trees.{carried_at, Tree, Grown, Added}
-use Rattle.unit.specs.TableTrees.{TableHeld, between, Held, directory_size, directory, key_of, table_from, Stored, Tables, Remembers, Fresh, Enters, Enterable, Knows, Lent}
-use Rattle.unit.specs.declared.judged.Table.{Table}
+use Rattle.unit.specs.Trees.{carried_at, Tree, Fresh, Grown, Added}
+use Rattle.unit.specs.TableTrees.{TableHeld, span_bytes, Held, directory_size, directory, key_of, table_from, Stored, Tables, Lies, Enters, Enterable, Knows, Lent}
+use Rattle.unit.specs.declared.judged.Span.{Span}
+use Rattle.unit.specs.declared.judged.JudgedTable.{JudgedTable}
 use Rattle.unit.specs.declared.judged.Judged.{Judged}
+use Rattle.unit.proofs.Recalling.{recalled}
 use Rattle.unit.proofs.Finding.{held_rising}
 use Rattle.unit.proofs.Holding.{held_kept, held_in, stored_kept, key_at, key_end, tables_rising, tables_kept, remembers_tables}
 
@@ -29,9 +31,9 @@ module _ (b w x : List ℕ) (from n : ℕ) (l : length x ≡ n) (h : from + n �
   left_is : left ≡ placed w from x
   left_is = placed_whole w from n x l
 
-  left_held : (at end count : ℕ) → TableHeld (between b at end) x count → Held b left (record { at = at; end = end; from = from; count = count })
-  left_held at end count t =
-      rw left_is (held_in b (placed w from x) x at end from count t (omega (arith, length_placed w from x (omega arith))) (λ q g. get_d_placed w from x q g (omega arith)))
+  left_held : (p : Span) (count : ℕ) → TableHeld (span_bytes b p) x count → Held b left (record { place = p; from = from; count = count })
+  left_held p count t =
+      rw left_is (held_in b (placed w from x) x p from count t (omega (arith, length_placed w from x (omega arith))) (λ q g. get_d_placed w from x q g (omega arith)))
 
   left_front : (m : ℕ) → m ≤ from → take m left ≡ take m w
   left_front m g = rw left_is (take_placed w from x m g (omega arith))
@@ -53,10 +55,10 @@ module _ (w u : List ℕ) (size start count : ℕ) (ui : u ≡ placed w start (c
   counted_size = sym (length-take-le size u (omega (arith, counted_length)))
 
 -- y is what the directory is left as
-module _ (b w u y : List ℕ) (size start : ℕ) (t : Table) (j : Judged) (e : Enters b w size start t j) (f : t.from ≡ start + 1) (ui : u ≡ placed w start (t.count ∷ [])) (h : start < length w) (d : size ≤ start)
-    (ly : length y ≡ length (take size u)) (small : t.at < 2 ^ 32) where
+module _ (b w u y : List ℕ) (size start : ℕ) (t : JudgedTable) (j : Judged) (e : Enters b w size start t j) (f : t.from ≡ start + 1) (ui : u ≡ placed w start (t.count ∷ [])) (h : start < length w) (d : size ≤ start)
+    (ly : length y ≡ length (take size u)) (small : t.place.at < 2 ^ 32) where
   abbrev key : ℕ
-  key = key_of t.at t.end
+  key = key_of t.place
 
   abbrev v : List ℕ
   v = y ++ drop size u
@@ -104,7 +106,7 @@ module _ (b w u y : List ℕ) (size start : ℕ) (t : Table) (j : Judged) (e : E
   new_stored = record {
     behind = omega (arith, e.size_is);
     before = omega (arith, at_start);
-    held = rw (at_start, key_at t.at t.end small, key_end t.at t.end small, ← f) new_held;
+    held = rw (at_start, key_at t.place small, key_end t.place small, ← f) new_held;
   }
 
   module _ (code : ℕ) (added : Bool) (c : code ≡ key) (a : (cs : List ℕ) → length cs ≡ j.tables → Tree (take size u) cs → Added (take size u) y cs start code added) where
@@ -139,14 +141,13 @@ module _ (b w u y : List ℕ) (size start : ℕ) (t : Table) (j : Judged) (e : E
       ];
     }
 
-    pub entered : Knows b v t.at t.end (record { last = t; tables = j.tables + 1; free = t.from + 5 * t.count })
-    unfolding Knows Remembers
-    entered = ((inr new_held, v_tables), new_held)
+    pub entered : Knows b v t.place (record { last = Some t; tables = j.tables + 1; free = t.from + 5 * t.count }) t
+    entered = recalled b v t (j.tables + 1) (t.from + 5 * t.count) new_held v_tables
 
 -- ---- behind the other tables: x is what the words behind the new one's count are left as
-module _ (b w x : List ℕ) (j : Judged) (start at end count : ℕ) (m : Lent b w j) (g : start < length b)
+module _ (b w x : List ℕ) (j : Judged) (start : ℕ) (p : Span) (count : ℕ) (m : Lent b w j) (g : start < length b)
     (s : (j.free ≤ start) × (length b / 5 ≤ start) × (5 * j.tables + 5 ≤ length b / 5))
-    (lx : length x ≡ length (mid_of (start + 1) (length b - (start + 1)) w)) (o : at ≤ end) (i : end ≤ length b) (t : TableHeld (between b at end) x count) where
+    (lx : length x ≡ length (mid_of (start + 1) (length b - (start + 1)) w)) (o : Lies b p) (t : TableHeld (span_bytes b p) x count) where
   abbrev n : ℕ
   n = length b - (start + 1)
 
@@ -156,26 +157,26 @@ module _ (b w x : List ℕ) (j : Judged) (start at end count : ℕ) (m : Lent b 
   room : start + 1 + n ≤ length w
   room = omega (arith, m.room)
 
-  abbrev table : Table
-  table = record { at = at; end = end; from = start + 1; count = count }
+  abbrev table : JudgedTable
+  table = record { place = p; from = start + 1; count = count }
 
   new : Held b (put_mid (start + 1) n w x) table
-  new = left_held b w x (start + 1) n x_length room at end count t
+  new = left_held b w x (start + 1) n x_length room p count t
 
   others : Tables b (put_mid (start + 1) n w x) j.tables j.free
   others = left_tables b w x (start + 1) n x_length room j.tables j.free (omega (arith, s)) (omega (arith, s)) (remembers_tables b w j m.memory)
 
-  pub behind_enters : Fresh (directory b w) j.tables (key_of at end) → Enters b (put_mid (start + 1) n w x) (length b / 5) start table j
+  pub behind_enters : Fresh (directory b w) j.tables (key_of p) → Enters b (put_mid (start + 1) n w x) (length b / 5) start table j
   behind_enters f = record {
     size_is = refl;
     free_is = s.0;
-    fresh = subst (λ (d : List ℕ). Fresh d j.tables (key_of at end)) (sym (left_front b w x (start + 1) n x_length room (directory_size b) (omega (arith, s)))) f;
+    fresh = subst (λ (d : List ℕ). Fresh d j.tables (key_of p)) (sym (left_front b w x (start + 1) n x_length room (directory_size b) (omega (arith, s)))) f;
     tables = others;
     held = new;
   }
 
   pub behind_requires : Enterable (put_mid (start + 1) n w x) (length b / 5) start table j
   behind_requires =
-      let r : 5 * count ≤ length x = (held_rising (between b at end) x count 0 t).room in
+      let r : 5 * count ≤ length x = (held_rising (span_bytes b p) x count 0 t).room in
       let small = m.small in
       (omega arith, omega arith, omega (arith, x_length), omega arith, refl, s.1, new.inside, s.2, tables_rising b (put_mid (start + 1) n w x) j.tables j.free others)

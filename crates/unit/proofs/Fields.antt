@@ -30,6 +30,10 @@ module _ (e : ObjectEncoding) where
       go true = omega arith
       go false = omega arith
 
+  pub big_is : (encoding_is e).big ≡ e.big
+  unfolding encoding_is
+  big_is = refl
+
   pub is_five_law : e.five ≡ true → is_five (encoding_is e) ≡ true
   unfolding is_five encoding_is four
   is_five_law h = rw h

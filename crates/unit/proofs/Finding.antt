@@ -1,26 +1,25 @@
 -- The search for a code in an abbreviation table that is held in a tree.
 -- Assumes nothing.
-use mathlib.Core.Path.{◌≡◌, refl, sym, ap, ◌∙◌}
+use mathlib.Core.Path.{◌≡◌, refl, sym, subst, ap, ◌∙◌}
 use mathlib.Core.Bool.{true, false}
 use mathlib.Core.List.{List, [], ◌∷◌}
 use mathlib.Core.Option.{some, none}
-use Rattle.std.specs.Prelude.{Option, Some, None, Result, Ok, Err}
-use Prim.Native.Nat.{ℕ, zero, suc, ◌+◌, ◌*◌, ◌<◌, ◌≤◌}
+use Rattle.std.specs.Prelude.{Option, Some, None}
+use Prim.Native.Nat.{ℕ, zero, suc, ◌+◌, ◌<◌, ◌≤◌}
 use native.Mathlib.Nat.{not-suc-le-zero, le_of_suc-le-suc}
 use native.Mathlib.Omega.{arith}
 use lib.ListN.{length, drop, get_or, length-map}
 use Rattle.std.proofs.lemmas.Option.{none-some, same_Some}
 use borrow.Author.Tests.{eq-eqb, ne_eqb}
-use Rattle.octets.specs.Lists.{has, any, distinct}
+use Rattle.octets.specs.Lists.{has, distinct}
 use Rattle.octets.specs.Checked.{pass}
 use Rattle.octets.proofs.Checks.{pass_inj, bind_pass, require_pass, true_false}
 use Rattle.octets.proofs.Elements.{has_at, has_cons, has_skips, distinct_head, distinct_tail}
 use Rattle.unit.specs.Abbreviations.{Declaration, declarations_of, declaration_of}
-use Rattle.unit.specs.Tables.{declared_at, declarations, Headed, Located}
-use Rattle.unit.specs.Trees.{code_at, carried_at, Rising, Ends}
+use Rattle.unit.specs.Tables.{declarations, Headed, Located, Finds}
+use Rattle.unit.specs.Trees.{Rising, Fresh, Sought, Seeks}
 use Rattle.unit.specs.TableTrees.{codes_of, no_declaration, Declares, TableHeld}
 use Rattle.unit.specs.declared.abbreviations.Heading.{Heading}
-use Rattle.unit.proofs.Trees.{free_not}
 
 -- ---- the first declaration of a code, where codes differ
 matched : (d : Declaration) (es : List Declaration) (code : ℕ) → d.code ≡ code → declaration_of (d ∷ es) code ≡ some d
@@ -60,30 +59,19 @@ read_distinct s ds e =
     ap (λ (x : List Declaration). distinct (codes_of x)) (sym (pass_inj q.1)) ∙ q.0
 
 -- ---- what stands where a declaration does
-module _ (s : List ℕ) (at place : ℕ) (d : Declaration) (h : Declares s place d) (e : at ≡ place) where
-  pub declares_within : at ≤ length s
-  declares_within = omega (arith, h.inside, e)
+module _ (s : List ℕ) (at : ℕ) (d : Declaration) (h : Declares s at d) (r : Option Heading) (f : Headed (drop at s) r) where
+  heading : r ≡ Some (record { tag = h.coded.place.tag; start = h.coded.place.start })
+  unfolding Headed
+  heading = f h.coded h.is
 
-  module _ (r : Option Heading) (f : Headed (drop at s) r) where
-    heading : r ≡ Some (record { tag = h.coded.place.tag; start = h.coded.place.start })
-    unfolding Headed
-    heading = f h.coded (ap (λ (x : ℕ). declared_at (drop x s)) e ∙ h.is)
+  pub declares_some : r ≡ None → ⊥
+  declares_some g = none-some _ (sym g ∙ heading)
 
-    pub declares_some : r ≡ None → ⊥
-    declares_some g = none-some _ (sym g ∙ heading)
+  pub same_heading : (g : Heading) → r ≡ Some g → record { tag = h.coded.place.tag; start = h.coded.place.start } ≡ g
+  same_heading g i = same_Some _ _ (sym heading ∙ i)
 
-    module _ (g : Heading) (i : r ≡ Some g) where
-      same_heading : record { tag = h.coded.place.tag; start = h.coded.place.start } ≡ g
-      same_heading = same_Some _ _ (sym heading ∙ i)
-
-      declares_tag : h.coded.place.tag ≡ g.tag
-      declares_tag = ap (λ (x : Heading). x.tag) same_heading
-
-      declares_start : h.coded.place.start ≡ g.start
-      declares_start = ap (λ (x : Heading). x.start) same_heading
-
-      pub declares_inside : at + g.start ≤ length s
-      declares_inside = omega (arith, h.inside, e, declares_start)
+  pub declares_inside : (g : Heading) → r ≡ Some g → at + g.start ≤ length s
+  declares_inside g i = omega (arith, h.inside, ap (λ (x : Heading). x.start) (same_heading g i))
 
 -- ---- in the tree
 module _ (s w : List ℕ) (n code : ℕ) (t : TableHeld s w n) where
@@ -97,47 +85,33 @@ module _ (s w : List ℕ) (n code : ℕ) (t : TableHeld s w n) where
     same : ds ≡ t.declared
     same = pass_inj (sym e ∙ t.read)
 
-    located_not : has (codes_of t.declared) code ≡ false → Located s ds code None
-    unfolding Located
-    located_not h = ap (λ (x : List Declaration). declaration_of x code) same ∙ no_declaration_law t.declared code h
+    located_not : Fresh w n code → Located s ds code None
+    unfolding Located Fresh
+    located_not f = ap (λ (x : List Declaration). declaration_of x code) same ∙ no_declaration_law t.declared code (f (codes_of t.declared) codes_count t.held.tree)
 
-    pub located_none : n ≡ 0 → Located s ds code None
-    unfolding has any
-    located_none z = located_not (none (codes_of t.declared) (codes_count ∙ z))
-      where
-        none : (cs : List ℕ) → length cs ≡ 0 → has cs code ≡ false
-        none [] l = refl
-        none (c ∷ cs) l = absurd (omega arith)
+  pub finds_none : Seeks w n code None → Finds s code None
+  unfolding Finds Seeks
+  finds_none f ds e = located_not ds e f
 
-    pub located_free : (link : ℕ) (r : Result ℕ ℕ) → r ≡ Err link → Ends w n code r → Located s ds code None
-    unfolding Ends
-    located_free link r i f = located_not (free_not w (codes_of t.declared) t.held.tree code link (rw (i, ← codes_count) at f))
+  -- a code that was found
+  module _ (at : ℕ) (f : Sought w n code at) where
+    abbrev d : Declaration
+    d = get_or t.declared f.node no_declaration
 
-  -- a node that was found
-  module _ (k : ℕ) (r : Result ℕ ℕ) (i : r ≡ Ok k) (f : Ends w n code r) where
-    ends_at : (k < n) × (code_at w k ≡ code)
-    unfolding Ends
-    ends_at = rw i at f
+    inside : f.node < length t.declared
+    inside = omega (arith, t.counted, f.inside)
 
-    inside : k < length t.declared
-    inside = omega (arith, t.counted, ends_at.0)
+    pub found_declares : Declares s at d
+    found_declares = subst (λ (x : ℕ). Declares s x d) f.carries (t.held.declares f.node inside)
 
-    pub node_within : 5 * k + 5 ≤ length w
-    node_within = omega (arith, ends_at.0, held_rising.room)
-
-    pub node_declares : Declares s (carried_at w k) (get_or t.declared k no_declaration)
-    node_declares = t.held.declares k inside
-
-    pub located_at : (ds : List Declaration) → declarations_of s ≡ pass ds → (at : ℕ) → at ≡ carried_at w k → (o : Option Heading) → Headed (drop at s) o → (g : Heading) → o ≡ Some g
-        → Located s ds code (Some (record { tag = g.tag; start = at + g.start }))
-    unfolding Located
-    located_at ds e at a o f g j =
-        let h = node_declares in
-        let its : (get_or t.declared k no_declaration).code ≡ code =
-        sym (code_at_law t.declared k inside) ∙ sym (t.held.tree.codes k (rw (codes_count) ends_at.0)) ∙ ends_at.1 in
-        rw (a, ← declares_tag s at (carried_at w k) _ h a o f g j, ← declares_start s at (carried_at w k) _ h a o f g j) (
-          get_or t.declared k no_declaration,
-          ap (λ (x : List Declaration). declaration_of x code) (same ds e) ∙ the_declaration t.declared k code (read_distinct s t.declared t.read) inside its,
+    pub finds_at : (o : Option Heading) → Headed (drop at s) o → (g : Heading) → o ≡ Some g → Finds s code (Some (record { tag = g.tag; start = at + g.start }))
+    unfolding Finds Located
+    finds_at o v g j ds e =
+        let h = found_declares in
+        let its : d.code ≡ code = sym (code_at_law t.declared f.node inside) ∙ sym (t.held.tree.codes f.node (rw codes_count f.inside)) ∙ f.is in
+        rw (← same_heading s at d h o v g j) (
+          d,
+          ap (λ (x : List Declaration). declaration_of x code) (same ds e) ∙ the_declaration t.declared f.node code (read_distinct s t.declared t.read) inside its,
           h.tag,
           h.inside,
           (h.size, h.read),

@@ -28,6 +28,9 @@ module _ (e : Encoding) (s : List ℕ) where
   head_none k h = head_is ∙ then_refuse _ _ k h
 
   module _ (n : ℕ) (h : unit_inside e s ≡ pass n) where
+    pub own_length : length (take n s) ≡ n
+    own_length = length-take-le n s (inside_le e s n h)
+
     pub head_common : common_good e (take n s) ≡ false → head_of e s ≡ refuse 11
     head_common g = head_is ∙ then_pass _ _ _ h ∙ fails _ _ _ g
 

@@ -1,22 +1,75 @@
 -- One declaration of an abbreviation table, and where its attributes lie.
 -- Assumes nothing.
 use mathlib.Core.Path.{◌≡◌, sym, ap, ap₂, ◌∙◌}
+use mathlib.Core.Bool.{not}
 use mathlib.Core.List.{List}
 use mathlib.Core.Option.{some, none}
 use Rattle.std.specs.Prelude.{Some, None}
-use Prim.Native.Nat.{ℕ, ◌+◌}
+use Prim.Native.Nat.{ℕ, ◌+◌, ◌≤◌, ◌<◌}
 use native.Mathlib.Omega.{arith}
+use native.Mathlib.Nat.{add-zero}
 use native.Mathlib.Decide.{ℕ_discrete}
-use lib.ListN.{drop}
-use borrow.Author.Tests.{eq-eqb, ne_eqb}
+use lib.Dec.{leb}
+use lib.ListN.{length, drop, get_or, length-drop}
+use lib.Seq.{drop-drop, get_or-drop}
+use borrow.Author.Tests.{eq-eqb, ne_eqb, le-leb, lt-leb}
 use Rattle.octets.specs.Checked.{pass, refuse, ◌>>=◌}
-use Rattle.octets.proofs.Checks.{pass_refuse, pass_inj, bind_pass, require_pass, then_pass, then_refuse}
+use Rattle.octets.proofs.Checks.{pass_refuse, pass_inj, bind_pass, require_pass, then_pass, then_refuse, passes, fails, and_both, not_left, not_right}
 use Rattle.octets.proofs.Options.{some_inj, some_none}
 use Rattle.leb128.specs.Leb128.{short, unsigned}
 use Rattle.unit.specs.Tables.{attributes_size, Place, place_at, Coded, declared_at, Headed}
+use Rattle.unit.proofs.Attributes.{size_within}
+use Rattle.unit.proofs.Declarations.{place_stands}
+use Rattle.unit.proofs.Sizes.{unsigned_within}
+
+-- ---- as the code reads it
+module _ (s : List ℕ) where
+  pub place_untagged : (k : ℕ) → short s ≡ refuse k → place_at s ≡ refuse k
+  unfolding place_at
+  place_untagged k h = then_refuse _ _ k h
+
+  module _ (tag n : ℕ) (h : short s ≡ pass (tag, n)) where
+    pub place_zero : tag ≡ 0 → place_at s ≡ refuse 12
+    unfolding place_at
+    place_zero z = then_pass _ _ _ h ∙ fails _ _ _ (ap not (eq-eqb tag 0 z))
+
+    module _ (t : tag ≡ 0 → ⊥) where
+      pub place_ends : length s ≤ n → place_at s ≡ refuse 12
+      unfolding place_at
+      place_ends l =
+          then_pass _ _ _ h ∙ passes _ _ _ (ap not (ne_eqb tag 0 t))
+          ∙ fails _ _ _ (not_left _ _ (lt-leb 1 (length (drop n s)) (omega (arith, length-drop n s))))
+
+      pub place_bad : 1 < get_or s n 0 → place_at s ≡ refuse 12
+      unfolding place_at
+      place_bad g =
+          then_pass _ _ _ h ∙ passes _ _ _ (ap not (ne_eqb tag 0 t))
+          ∙ fails _ _ _ (not_right (leb 1 (length (drop n s))) _ (lt-leb (get_or (drop n s) 0 0) 1 (rw (get_or-drop, add-zero n) g)))
+
+      module _ (l : n < length s) (g : get_or s n 0 ≤ 1) where
+        sized : place_at s ≡ (attributes_size (drop (n + 1) s) >>= λ size. pass (record { tag = tag; start = n + 1; end = n + 1 + size }))
+        unfolding place_at
+        sized =
+            then_pass _ _ _ h ∙ passes _ _ _ (ap not (ne_eqb tag 0 t))
+            ∙ passes _ _ _ (and_both _ _ (le-leb 1 (length (drop n s)) (omega (arith, length-drop n s))) (le-leb (get_or (drop n s) 0 0) 1 (rw (get_or-drop, add-zero n) g)))
+            ∙ ap (λ (t : List ℕ). attributes_size t >>= λ size. pass (record { tag = tag; start = n + 1; end = n + 1 + size })) (drop-drop 1 n s)
+
+        pub place_not : (k : ℕ) → attributes_size (drop (n + 1) s) ≡ refuse k → place_at s ≡ refuse k
+        place_not k e = sized ∙ then_refuse _ _ k e
+
+        pub place_is : (size : ℕ) → attributes_size (drop (n + 1) s) ≡ pass size → place_at s ≡ pass (record { tag = tag; start = n + 1; end = n + 1 + size })
+        place_is size e = sized ∙ then_pass _ _ _ e
+
+-- attributes behind a place end in s
+pub size_ends : (s : List ℕ) (n size : ℕ) → attributes_size (drop n s) ≡ pass size → n ≤ length s → n + size ≤ length s
+size_ends s n size e l = omega (arith, size_within (drop n s) size e, length-drop n s)
 
 -- ---- with its code
 module _ (s : List ℕ) where
+  pub declared_not : (k : ℕ) → unsigned s ≡ refuse k → declared_at s ≡ refuse k
+  unfolding declared_at
+  declared_not k h = then_refuse _ _ k h
+
   module _ (code n : ℕ) (p : unsigned s ≡ pass (code, n)) where
     pub end_is : code ≡ 0 → declared_at s ≡ pass none
     unfolding declared_at
@@ -27,6 +80,19 @@ module _ (s : List ℕ) where
           ≡ (place_at (drop n s) >>= λ q. pass (some (record { code = code; place = record { tag = q.tag; start = n + q.start; end = n + q.end } })))
       unfolding declared_at
       coded = then_pass _ _ _ p ∙ rw (ne_eqb code 0 h)
+
+      pub unplaced : (k : ℕ) → place_at (drop n s) ≡ refuse k → declared_at s ≡ refuse k
+      unplaced k e = coded ∙ then_refuse _ _ k e
+
+      module _ (q : Place) (e : place_at (drop n s) ≡ pass q) where
+        pub declared_law : declared_at s ≡ pass (some (record { code = code; place = record { tag = q.tag; start = n + q.start; end = n + q.end } }))
+        declared_law = coded ∙ then_pass _ _ _ e
+
+        pub end_within : n + q.end ≤ length s
+        end_within = omega (arith, (place_stands (drop n s) q e).within, unsigned_within s code n p, length-drop n s)
+
+        pub start_within : n + q.start ≤ length s
+        start_within = omega (arith, (place_stands (drop n s) q e).order, end_within)
 
 -- ---- its front alone
 place_front : (s : List ℕ) (p : Place) (tag m : ℕ) → short s ≡ pass (tag, m) → place_at s ≡ pass p → (tag ≡ p.tag) × (m + 1 ≡ p.start)

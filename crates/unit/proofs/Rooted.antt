@@ -15,7 +15,7 @@ use Rattle.leb128.specs.Leb128.{unsigned}
 use Rattle.leb128.proofs.Taken.{only_unsigned}
 use Rattle.bundle.specs.Encoding.{Encoding}
 use Rattle.unit.specs.Abbreviations.{Declaration, declarations_from, declarations_of}
-use Rattle.unit.specs.Tables.{passed, table_good, Located}
+use Rattle.unit.specs.Tables.{passed, table_good, Located, Finds}
 use Rattle.unit.specs.Root.{needed, root_tag, root_identity}
 use Rattle.octets.specs.Octets.{number_at}
 use Rattle.bundle.specs.InitialLength.{length_field}
@@ -51,24 +51,28 @@ module _ (e : Encoding) (table s : List ℕ) where
     root_code k h = sym (then_pass _ _ _ g ∙ then_refuse _ _ k (sym h))
 
     module _ (code n : ℕ) (c : unsigned s ≡ pass (code, n)) where
-      pub root_missing : Located table ds code None → refuse 12 ≡ root_identity e table s
-      unfolding root_identity needed Located
-      root_missing h = sym (then_pass _ _ _ g ∙ then_pass _ _ _ c ∙ then_refuse _ _ 12 (ap needed h))
+      pub root_missing : Finds table code None → refuse 12 ≡ root_identity e table s
+      unfolding root_identity needed Finds Located
+      root_missing h = sym (then_pass _ _ _ g ∙ then_pass _ _ _ c ∙ then_refuse _ _ 12 (ap needed (h ds g)))
 
-      module _ (f : Heading) (l : Located table ds code (Some f)) where
+      module _ (f : Heading) (l : Finds table code (Some f)) where
+        located : Located table ds code (Some f)
+        unfolding Finds
+        located = l ds g
+
         pub found_within : f.start ≤ length table
         unfolding Located
-        found_within = l.3
+        found_within = located.3
 
         pub root_tag_law : root_tag f.tag ≡ false → refuse 12 ≡ root_identity e table s
         unfolding root_identity needed Located
-        root_tag_law h = sym (then_pass _ _ _ g ∙ then_pass _ _ _ c ∙ then_pass _ _ _ (ap needed l.1) ∙ fails _ _ _ (ap root_tag l.2 ∙ h))
+        root_tag_law h = sym (then_pass _ _ _ g ∙ then_pass _ _ _ c ∙ then_pass _ _ _ (ap needed located.1) ∙ fails _ _ _ (ap root_tag located.2 ∙ h))
 
         pub root_is : root_tag f.tag ≡ true → root_identity e table s ≡ identity_from e (drop f.start table) (drop n s) none
         unfolding root_identity needed Located identity_from
         root_is h =
-            then_pass _ _ _ g ∙ then_pass _ _ _ c ∙ then_pass _ _ _ (ap needed l.1) ∙ passes _ _ _ (ap root_tag l.2 ∙ h)
-            ∙ sym (then_pass _ _ _ l.4.1)
+            then_pass _ _ _ g ∙ then_pass _ _ _ c ∙ then_pass _ _ _ (ap needed located.1) ∙ passes _ _ _ (ap root_tag located.2 ∙ h)
+            ∙ sym (then_pass _ _ _ located.4.1)
 
 -- an offset behind the end of abbrev: the table does not end
 pub root_past : (e : Encoding) (abbreviations u s : List ℕ) (at : ℕ) → at ≡ number_at e.big e.width u (length_field e + 2) → length abbreviations < at

@@ -1,7 +1,7 @@
 -- Sizes of values: those that end in the bytes at hand, and strings.
 -- Assumes nothing.
 use mathlib.Core.Path.{◌≡◌, refl, sym, ap, ◌∙◌}
-use mathlib.Core.Bool.{cond}
+use mathlib.Core.Bool.{Bool, cond}
 use mathlib.Core.List.{List, [], ◌∷◌}
 use Rattle.std.specs.Prelude.{Option, Some, None}
 use Rattle.std.specs.List.{position_or_len}
@@ -12,11 +12,12 @@ use lib.Dec.{eqb, ltb}
 use lib.ListN.{length, take, drop, length-drop}
 use lib.Seq.{take_all}
 use borrow.Author.Tests.{eq-eqb, ne_eqb, le-leb, lt-leb, le-ltb, lt-ltb}
+use Rattle.octets.specs.Octets.{number_at}
 use Rattle.octets.specs.Checked.{Check, pass, refuse, ◌>>=◌}
-use Rattle.octets.proofs.Checks.{pass_refuse, pass_inj, bind_pass, passes, fails}
+use Rattle.octets.proofs.Checks.{pass_refuse, pass_inj, bind_pass, passes, fails, then_pass, then_refuse}
 use Rattle.octets.proofs.Refusals.{Only, only_pass, only_refuse, only_require, only_bind}
-use Rattle.leb128.specs.Leb128.{signed_size}
-use Rattle.leb128.proofs.Taken.{signed_size_taken, only_unsigned, only_signed_size}
+use Rattle.leb128.specs.Leb128.{short, unsigned, signed_size}
+use Rattle.leb128.proofs.Taken.{short_taken, unsigned_taken, signed_size_taken, only_unsigned, only_signed_size}
 use Rattle.bundle.specs.Encoding.{Encoding}
 use Rattle.unit.specs.Forms.{Width, fixed, address, offset, uleb, sleb, string, indirect, block, uleb_block, zero_ended, value_size}
 use Rattle.unit.specs.Widths.{ends, size_within, block_within, uleb_within, uleb_block_within}
@@ -100,6 +101,43 @@ pub further_none : (m : Check ℕ) → further 0 m ≡ m
 unfolding further ◌>>=◌
 further_none (pass n) = ap pass (omega arith)
 further_none (refuse k) = refl
+
+-- ---- numbers, as the code reads them
+pub short_within : (s : List ℕ) (x n : ℕ) → short s ≡ pass (x, n) → n ≤ length s
+short_within s x n h = (short_taken s (x, n) h).within
+
+pub short_most : (s : List ℕ) (x n : ℕ) → short s ≡ pass (x, n) → n ≤ 3
+short_most s x n h = (short_taken s (x, n) h).most
+
+pub unsigned_within : (s : List ℕ) (x n : ℕ) → unsigned s ≡ pass (x, n) → n ≤ length s
+unsigned_within s x n h = (unsigned_taken s (x, n) h).within
+
+module _ (s : List ℕ) where
+  pub uleb_not : (k : ℕ) → unsigned s ≡ refuse k → uleb_within s ≡ refuse k
+  unfolding uleb_within
+  uleb_not k h = then_refuse _ _ k (then_refuse _ _ k h)
+
+  pub uleb_block_not : (k : ℕ) → unsigned s ≡ refuse k → uleb_block_within s ≡ refuse k
+  unfolding uleb_block_within
+  uleb_block_not k h = then_refuse _ _ k (then_refuse _ _ k h)
+
+  module _ (x n : ℕ) (h : unsigned s ≡ pass (x, n)) where
+    pub uleb_is : uleb_within s ≡ pass n
+    unfolding uleb_within
+    uleb_is = then_pass _ _ _ (then_pass _ _ _ h) ∙ ends_in s n (unsigned_within s x n h)
+
+    pub uleb_block_is : uleb_block_within s ≡ ends s (n + x)
+    unfolding uleb_block_within
+    uleb_block_is = then_pass _ _ _ (then_pass _ _ _ h)
+
+module _ (big : Bool) (n : ℕ) (s : List ℕ) where
+  pub block_short : length s < n → block_within big n s ≡ refuse 12
+  unfolding block_within
+  block_short h = then_refuse _ _ 12 (fails _ _ _ (lt-leb n (length s) h))
+
+  pub block_there : n ≤ length s → block_within big n s ≡ ends s (n + number_at big n s 0)
+  unfolding block_within
+  block_there h = then_pass _ _ _ (passes _ _ _ (le-leb n (length s) h))
 
 -- ---- the size of a value of each width
 module _ (e : Encoding) (s : List ℕ) where

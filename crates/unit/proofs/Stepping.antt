@@ -68,25 +68,25 @@ module _ (e : Encoding) (t s : List ℕ) (seen : Option ℕ) where
   unfolding attribute_step
   step_none k g = then_refuse _ _ k g
 
-  module _ (a : Attribute) (n : ℕ) (p : attribute_at t ≡ pass (a, n)) where
-    pub step_end : a.name ≡ 0 → attribute_step e t s seen ≡ pass none
+  module _ (name form n : ℕ) (p : attribute_at t ≡ pass (record { name = name; form = form }, n)) where
+    pub step_end : name ≡ 0 → attribute_step e t s seen ≡ pass none
     unfolding attribute_step
-    step_end h = then_pass _ _ _ p ∙ rw (eq-eqb a.name 0 h)
+    step_end h = then_pass _ _ _ p ∙ rw (eq-eqb name 0 h)
 
-    module _ (h : a.name ≡ 0 → ⊥) where
-      pub valued : attribute_step e t s seen
-          ≡ (value_of e a.form s >>= λ v. (identity_at e a.name v s seen >>= λ x. pass (some (record { taken = n; passed = v.start + v.size; seen = x }))))
+    module _ (h : name ≡ 0 → ⊥) where
+      valued : attribute_step e t s seen
+          ≡ (value_of e form s >>= λ v. (identity_at e name v s seen >>= λ x. pass (some (record { taken = n; passed = v.start + v.size; seen = x }))))
       unfolding attribute_step
-      valued = then_pass _ _ _ p ∙ rw (ne_eqb a.name 0 h)
+      valued = then_pass _ _ _ p ∙ rw (ne_eqb name 0 h)
 
-      pub step_value : (k : ℕ) → value_of e a.form s ≡ refuse k → attribute_step e t s seen ≡ refuse k
+      pub step_value : (k : ℕ) → value_of e form s ≡ refuse k → attribute_step e t s seen ≡ refuse k
       step_value k q = valued ∙ then_refuse _ _ k q
 
-      module _ (v : Value) (q : value_of e a.form s ≡ pass v) where
-        pub step_not : (k : ℕ) → identity_at e a.name v s seen ≡ refuse k → attribute_step e t s seen ≡ refuse k
+      module _ (v : Value) (q : value_of e form s ≡ pass v) where
+        pub step_not : (k : ℕ) → identity_at e name v s seen ≡ refuse k → attribute_step e t s seen ≡ refuse k
         step_not k f = valued ∙ then_pass _ _ _ q ∙ then_refuse _ _ k f
 
-        pub step_on : (x : Option ℕ) → identity_at e a.name v s seen ≡ pass x
+        pub step_on : (x : Option ℕ) → identity_at e name v s seen ≡ pass x
             → attribute_step e t s seen ≡ pass (some (record { taken = n; passed = v.start + v.size; seen = x }))
         step_on x f = valued ∙ then_pass _ _ _ q ∙ then_pass _ _ _ f
 
@@ -114,9 +114,9 @@ module _ (e : Encoding) (t s : List ℕ) (seen : Option ℕ) where
   stepped m g =
       let a = bind_pass (attribute_at t) _ (some m) g in
       elim (ℕ_discrete a.0.0.name 0) [
-        | yes z ↦ some_none (pass_inj (sym g ∙ step_end e t s seen a.0.0 a.0.1 a.1 z))
+        | yes z ↦ some_none (pass_inj (sym g ∙ step_end e t s seen a.0.0.name a.0.0.form a.0.1 a.1 z))
         | no z ↦
-            let v = bind_pass (value_of e a.0.0.form s) _ (some m) (sym (valued e t s seen a.0.0 a.0.1 a.1 z) ∙ g) in
+            let v = bind_pass (value_of e a.0.0.form s) _ (some m) (sym (valued e t s seen a.0.0.name a.0.0.form a.0.1 a.1 z) ∙ g) in
             let x = bind_pass (identity_at e a.0.0.name v.0 s seen) _ (some m) v.2 in
             rw (← some_inj (pass_inj x.2))
             (record { attribute = a.0.0; value = v.0; read = a.1; named = z; valued = v.1; stated = x.1; passes = refl })
@@ -136,7 +136,7 @@ module _ (e : Encoding) (t s : List ℕ) (seen : Option ℕ) where
       elim (ℕ_discrete a.0.0.name 0) [
         | yes z ↦ (a.0.1, attributes_end t a.0.0 a.0.1 a.1 z)
         | no z ↦
-            let v = bind_pass (value_of e a.0.0.form s) _ none (sym (valued e t s seen a.0.0 a.0.1 a.1 z) ∙ g) in
+            let v = bind_pass (value_of e a.0.0.form s) _ none (sym (valued e t s seen a.0.0.name a.0.0.form a.0.1 a.1 z) ∙ g) in
             let x = bind_pass (identity_at e a.0.0.name v.0 s seen) _ none v.2 in
             some_none (pass_inj x.2)
       ]
@@ -175,7 +175,7 @@ module _ (e : Encoding) (t s : List ℕ) (seen : Option ℕ) where
   step_front a «as» n y p z h =
       let v = bind_pass (value_of e a.form s) _ y h in
       let x = bind_pass (identity_at e a.name v.0 s seen) _ y v.2 in
-      (some _, step_on e t s seen a n p z v.0 v.1 x.0 x.1)
+      (some _, step_on e t s seen a.name a.form n p z v.0 v.1 x.0 x.1)
 
   step_passes : (x : ℕ) → identity_from e t s seen ≡ pass x → (y : Option Move) × (attribute_step e t s seen ≡ pass y)
   unfolding identity_from
@@ -183,7 +183,7 @@ module _ (e : Encoding) (t s : List ℕ) (seen : Option ℕ) where
       let p = bind_pass (attributes_of t) _ x h in
       let a = bind_pass (attribute_at t) _ p.0 (sym (attributes_is t) ∙ p.1) in
       elim (ℕ_discrete a.0.0.name 0) [
-        | yes z ↦ (none, step_end e t s seen a.0.0 a.0.1 a.1 z)
+        | yes z ↦ (none, step_end e t s seen a.0.0.name a.0.0.form a.0.1 a.1 z)
         | no z ↦
             let r = bind_pass (attributes_of (drop a.0.1 t)) (before a.0.0 a.0.1) p.0 (sym (attributes_more t a.0.0 a.0.1 a.1 z) ∙ p.1) in
             let i = bind_pass (identity_in e p.0.0 s seen) needed x p.2 in
@@ -231,7 +231,7 @@ module _ (t : List ℕ) where
     flag_read = sym (goes _ (sym name_read) (goes _ (sym form_read) (goes_past _ _ (neither_zero (get_or t i 0) 0x19 z (λ h. omega (arith, h))) (goes_past _ _ refl refl))))
 
     flag_step : (e : Encoding) (s : List ℕ) (seen : Option ℕ) → attribute_step e (drop i t) s seen ≡ pass (some (record { taken = 2; passed = 0; seen = seen }))
-    flag_step e s seen = step_on e (drop i t) s seen _ 2 flag_read z _ (value_flag e 0x19 s refl) seen (identity_same e _ _ s seen (λ h. omega (arith, h, o)))
+    flag_step e s seen = step_on e (drop i t) s seen _ 0x19 2 flag_read z _ (value_flag e 0x19 s refl) seen (identity_same e _ _ s seen (λ h. omega (arith, h, o)))
 
     pub skips_more : Skips t i → Skips t (i + 2)
     unfolding Skips

@@ -10,6 +10,8 @@ use native.Mathlib.Decide.{ℕ_discrete}
 use lib.Dec.{leb}
 use lib.ListN.{length, drop, length-drop}
 use borrow.Author.Tests.{eq-eqb, ne_eqb, le-leb, leb-true}
+use Rattle.std.specs.Prelude.{Some, None}
+use Rattle.octets.specs.Options.{found}
 use Rattle.octets.specs.Checked.{Check, pass, refuse, ◌>>=◌, require}
 use Rattle.octets.proofs.Checks.{pass_refuse, pass_inj, bind_pass, then_pass, then_refuse, require_pass}
 use Rattle.octets.proofs.Refusals.{Only, only_pass, only_refuse, only_require, only_bind}
@@ -21,6 +23,7 @@ use Rattle.unit.specs.Forms.{Width, fixed, forms, width_in, value_size}
 use Rattle.unit.specs.Widths.{ends, size_within}
 use Rattle.unit.specs.Root.{needed, Value, plain_value, value_of}
 use Rattle.unit.proofs.Sizes.{only_value_size}
+use Rattle.unit.proofs.Steps.{found_some, found_none}
 
 abbrev plain : ℕ → ℕ → Value
 plain form n = record { form = form; start = 0; size = n }
@@ -37,11 +40,14 @@ ended form s (pass n) = go (leb n (length s))
 ended form s (refuse k) = refl
 
 module _ (e : Encoding) (form : ℕ) (s : List ℕ) where
-  pub plain_unknown : width_in forms form ≡ none → plain_value e form s ≡ refuse 12
+  pub plain_unknown : found (width_in forms form) ≡ None → plain_value e form s ≡ refuse 12
   unfolding plain_value needed
-  plain_unknown h = then_refuse _ _ 12 (ap needed h)
+  plain_unknown h = then_refuse _ _ 12 (ap needed (found_none (width_in forms form) h))
 
-  module _ (w : Width) (h : width_in forms form ≡ some w) where
+  module _ (w : Width) (f : found (width_in forms form) ≡ Some w) where
+    h : width_in forms form ≡ some w
+    h = found_some (width_in forms form) w f
+
     plain_sized : plain_value e form s ≡ (size_within e w s >>= λ n. pass (plain form n))
     unfolding plain_value needed size_within
     plain_sized = then_pass _ _ _ (ap needed h) ∙ ended form s (value_size e w s)
@@ -115,6 +121,12 @@ value_within e form s v h = elim (ℕ_discrete form 0x16) [
       (record { ends = omega (arith, w.1.ends, w.0, (short_taken s r.0 r.1).within, length-drop r.0.1 s); eight = w.1.eight })
   | no z ↦ (plain_within e form s v (sym (value_plain e form s z) ∙ h)).1
 ]
+
+pub value_ends : (e : Encoding) (form : ℕ) (s : List ℕ) (v : Value) → value_of e form s ≡ pass v → v.start + v.size ≤ length s
+value_ends e form s v h = (value_within e form s v h).ends
+
+pub value_eight : (e : Encoding) (form : ℕ) (s : List ℕ) (v : Value) → value_of e form s ≡ pass v → v.form ≡ 7 → v.start + 8 ≤ length s
+value_eight e form s v h f = let w = value_within e form s v h in omega (arith, w.ends, w.eight f)
 
 -- a flag that is present takes no bytes
 pub value_flag : (e : Encoding) (form : ℕ) (s : List ℕ) → form ≡ 0x19 → value_of e form s ≡ pass (record { form = form; start = 0; size = 0 })

@@ -1,6 +1,7 @@
 -- The parts of reading a unit, and what the code's values are by the definition.
 -- Assumes nothing.
 use Rattle.std.specs.Prelude.{Bool, true, false, not, ◌&&◌, ◌||◌, List, ℕ, ◌+◌, eqb, leb, length, take, drop, get_or}
+use Rattle.numbers.specs.Tabled.{table_number}
 use Rattle.numbers.specs.Tables.{type_table, type_unit, skeleton_unit, split_unit, split_type_unit, compilation_table}
 use Rattle.numbers.specs.Sections.{info_code}
 use Rattle.octets.specs.Octets.{number_at}
@@ -65,7 +66,7 @@ identity_by e Root abbreviations u = root_identity e (table_at e abbreviations u
 identity_by e Other abbreviations u = refuse no_identity
 
 abbrev pub identity_is : code.Identity → Identity
-identity_is i = record { table = i.table; identity = i.identity }
+identity_is i = record { table = table_number i.table; identity = i.identity }
 
 -- ---- a unit in two parts. `unit_by` reads the one, then its abbreviations, then the other
 -- 11: the size of a unit whose common fields are good
@@ -88,7 +89,7 @@ unfoldable pub identity_good : Encoding → ℕ → List ℕ → List ℕ → Ch
 identity_good e home abbreviations u = non_zero (identity_of e home abbreviations u)
 
 abbrev pub unit_is : read.UnitRead → UnitRead
-unit_is u = record { size = u.size; table = u.table; identity = u.identity }
+unit_is u = record { size = u.size; table = table_number u.handed_in.table; identity = u.handed_in.identity }
 
 -- ---- the address size that a header in info states, where the header passes 11 with it
 unfoldable pub with_address : Encoding → ℕ → Encoding

@@ -1,15 +1,15 @@
 -- A table that was judged: its declarations in a tree of their codes, whose nodes carry where in the table they stand. What was judged is remembered.
 -- These relations say what the code keeps: no definition of reading units rests on them.
 -- Assumes nothing.
-use Rattle.std.specs.Prelude.{Option, Some, None, Result, Ok, Err, ◌≡◌, ◌⊎◌, true, false, List, [], map, ℕ, ◌+◌, ◌-◌, ◌*◌, ◌/◌, ◌%◌, ◌^◌, ◌<◌, ◌≤◌, length, take, drop, get_or}
+use Rattle.std.specs.Prelude.{Some, Result, Ok, Err, IfSome, ◌≡◌, true, false, List, [], map, ℕ, ◌+◌, ◌-◌, ◌*◌, ◌/◌, ◌%◌, ◌^◌, ◌<◌, ◌≤◌, length, take, drop, get_or}
 use Rattle.std.proofs.Math.Option.{some}
 use Rattle.octets.specs.Octets.{part}
-use Rattle.octets.specs.Lists.{has}
 use Rattle.octets.specs.Checked.{pass}
 use Rattle.unit.specs.Abbreviations.{Declaration, attributes_of, declarations_of}
 use Rattle.unit.specs.Tables.{Coded, declared_at, table_good}
-use Rattle.unit.specs.Trees.{node_words, code_at, carried_at, Rising, Tree}
-use Rattle.unit.specs.declared.judged.Table.{Table}
+use Rattle.unit.specs.Trees.{node_words, carried_at, Rising, Tree, Fresh}
+use Rattle.unit.specs.declared.judged.Span.{Span}
+use Rattle.unit.specs.declared.judged.JudgedTable.{JudgedTable}
 use Rattle.unit.specs.declared.judged.Judged.{Judged}
 use Rattle.unit.specs.declared.header.UnitPlace.{UnitPlace}
 use Rattle.unit.specs.declared.abbreviations.Unheld.{Unheld}
@@ -55,10 +55,17 @@ Judges s w (Err Full) = length w < length s
 abbrev pub between : List ℕ → ℕ → ℕ → List ℕ
 between b at end = take (end - at) (drop at b)
 
+abbrev pub span_bytes : List ℕ → Span → List ℕ
+span_bytes b p = between b p.at p.end
+
+-- it lies in the bundle
+abbrev pub Lies : List ℕ → Span → Type 0
+Lies b p = (p.at ≤ p.end) × (p.end ≤ length b)
+
 -- a table's tree, among the words w
-pub record Held (b w : List ℕ) (t : Table) : Type 0 where
+pub record Held (b w : List ℕ) (t : JudgedTable) : Type 0 where
   pub inside : t.from + node_words * t.count ≤ length w
-  pub is : TableHeld (between b t.at t.end) (part w t.from (node_words * t.count)) t.count
+  pub is : TableHeld (span_bytes b t.place) (part w t.from (node_words * t.count)) t.count
 
 -- the directory: a tree in the first words, by where the tables lie in the bundle
 abbrev pub directory_share : ℕ
@@ -70,12 +77,12 @@ directory_size b = length b / directory_share
 abbrev pub directory : List ℕ → List ℕ → List ℕ
 directory b w = take (directory_size b) w
 
-unfoldable pub key_of : ℕ → ℕ → ℕ
-key_of at end = at + 2 ^ 32 * end
+unfoldable pub key_of : Span → ℕ
+key_of p = p.at + 2 ^ 32 * p.end
 
 -- the table of a key, from a word on that says how many declarations it has; its tree stands behind that word
-unfoldable pub table_from : List ℕ → ℕ → ℕ → Table
-table_from w start key = record { at = key % 2 ^ 32; end = key / 2 ^ 32; from = start + 1; count = get_or w start 0 }
+unfoldable pub table_from : List ℕ → ℕ → ℕ → JudgedTable
+table_from w start key = record { place = record { at = key % 2 ^ 32; end = key / 2 ^ 32 }; from = start + 1; count = get_or w start 0 }
 
 -- it stands behind the directory and before the free words
 pub record Stored (b w : List ℕ) (free start key : ℕ) : Type 0 where
@@ -90,42 +97,36 @@ pub record Tables (b w : List ℕ) (n free : ℕ) : Type 0 where
   pub tree : Tree (directory b w) keys
   pub stored : (k : ℕ) → k < n → Stored b w free (carried_at (directory b w) k) (get_or keys k 0)
 
--- the last table is none, or one that the words hold; and the tables of the directory
+-- the last table, if there is one, is held by the words; and the tables of the directory
 unfoldable pub Remembers : List ℕ → List ℕ → Judged → Type 0
-Remembers b w j = ((j.last.end < j.last.at) ⊎ Held b w j.last) × Tables b w j.tables j.free
-
--- a directory d of n tables has none of the key
-unfoldable pub Fresh : List ℕ → ℕ → ℕ → Type 0
-Fresh d n key = (cs : List ℕ) → length cs ≡ n → Tree d cs → has cs key ≡ false
+Remembers b w j = IfSome j.last (Held b w) × Tables b w j.tables j.free
 
 -- a table's tree stands behind the word start, and the directory does not have it yet
-pub record Enters (b w : List ℕ) (size start : ℕ) (t : Table) (j : Judged) : Type 0 where
+pub record Enters (b w : List ℕ) (size start : ℕ) (t : JudgedTable) (j : Judged) : Type 0 where
   pub size_is : size ≡ directory_size b
   pub free_is : j.free ≤ start
-  pub fresh : Fresh (directory b w) j.tables (key_of t.at t.end)
+  pub fresh : Fresh (directory b w) j.tables (key_of t.place)
   pub tables : Tables b w j.tables j.free
   pub held : Held b w t
 
 -- its numbers fit into words, and the words suffice: the directory's for one node more, the others for the count and the tree
-abbrev pub Enterable : List ℕ → ℕ → ℕ → Table → Judged → Type 0
+abbrev pub Enterable : List ℕ → ℕ → ℕ → JudgedTable → Judged → Type 0
 Enterable w size start t j =
-    (t.at < 2 ^ 32) × (t.end < 2 ^ 32) × (t.count < 2 ^ 32) × (start < 2 ^ 32)
+    (t.place.at < 2 ^ 32) × (t.place.end < 2 ^ 32) × (t.count < 2 ^ 32) × (start < 2 ^ 32)
     × (t.from ≡ start + 1) × (size ≤ start) × (t.from + node_words * t.count ≤ length w)
     × (node_words * j.tables + node_words ≤ size) × Rising (take size w) j.tables
 
--- what a search in such a directory says
-unfoldable pub Seeks : List ℕ → ℕ → ℕ → Option ℕ → Type 0
-Seeks d n key (Some start) = (k : ℕ) × (k < n) × (code_at d k ≡ key) × (carried_at d k ≡ start)
-Seeks d n key None = Fresh d n key
-
--- the table from at to end is the last one of the memory
-unfoldable pub Knows : List ℕ → List ℕ → ℕ → ℕ → Judged → Type 0
-Knows b w at end j = Remembers b w j × Held b w (record { at = at; end = end; from = j.last.from; count = j.last.count })
+-- t is the table of a place, and the last one of the memory
+pub record Knows (b w : List ℕ) (p : Span) (j : Judged) (t : JudgedTable) : Type 0 where
+  pub memory : Remembers b w j
+  pub last : j.last ≡ Some t
+  pub place : t.place ≡ p
+  pub held : Held b w t
 
 -- or it is bad, and what is remembered is remembered rightly
-unfoldable pub Recalls : List ℕ → List ℕ → ℕ → ℕ → Judged → Result (Unit {0}) Refusal → Type 0
-Recalls b w at end j (Ok done) = Knows b w at end j
-Recalls b w at end j (Err r) = (r ≡ NoIdentity) × Remembers b w j × (table_good (between b at end) ≡ false)
+unfoldable pub Recalls : List ℕ → List ℕ → Span → Judged → Result JudgedTable Refusal → Type 0
+Recalls b w p j (Ok t) = Knows b w p j t
+Recalls b w p j (Err r) = (r ≡ NoIdentity) × Remembers b w j × (table_good (span_bytes b p) ≡ false)
 
 -- words lent for the tables of a bundle, with what was judged before: one for each byte
 pub record Lent (b w : List ℕ) (j : Judged) : Type 0 where
@@ -138,9 +139,9 @@ abbrev pub unit_bytes : List ℕ → UnitPlace → List ℕ
 unit_bytes b p = part b p.at p.size
 
 abbrev pub abbreviations_bytes : List ℕ → UnitPlace → List ℕ
-abbreviations_bytes b p = between b p.first p.last
+abbreviations_bytes b p = span_bytes b p.abbreviations
 
 pub record Inside (b : List ℕ) (p : UnitPlace) : Type 0 where
   pub unit : p.at + p.size ≤ length b
-  pub order : p.first ≤ p.last
-  pub abbreviations : p.last ≤ length b
+  pub order : p.abbreviations.at ≤ p.abbreviations.end
+  pub abbreviations : p.abbreviations.end ≤ length b

@@ -50,7 +50,7 @@ declared_at s = unsigned s >>= λ c. elim (eqb c.0 0) [
 ]
 
 abbrev pub declared_is : Option declared.Declaration → math.Option Coded
-declared_is (Some d) = some (record { code = d.code; place = record { tag = d.tag; start = d.start; end = d.end } })
+declared_is (Some d) = some (record { code = d.code; place = place_is d.place })
 declared_is None = none
 
 -- what the front of a declaration says that is read to its end: its tag, and where its attributes start
@@ -74,3 +74,7 @@ Located s ds code (Some h) =
     (d : Declaration) × (declaration_of ds code ≡ some d) × (d.tag ≡ h.tag) × (h.start ≤ length s)
     × ((n : ℕ) × (attributes_of (drop h.start s) ≡ pass (d.attributes, n)))
 Located s ds code None = declaration_of ds code ≡ none
+
+-- in the table s
+unfoldable pub Finds : List ℕ → ℕ → Option Heading → Type 0
+Finds s code r = (ds : List Declaration) → declarations_of s ≡ pass ds → Located s ds code r

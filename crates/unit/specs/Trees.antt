@@ -2,7 +2,7 @@
 -- and high word. Node 0 is the root, which no link names. At each step the lowest bit that is left of a code says where it goes on.
 -- These relations say what the code keeps: no definition of reading units rests on them.
 -- Assumes nothing.
-use Rattle.std.specs.Prelude.{◌≡◌, Bool, true, false, List, [], ◌∷◌, ◌++◌, ℕ, zero, suc, ◌+◌, ◌*◌, ◌/◌, ◌%◌, ◌^◌, ◌<◌, ◌≤◌, length, get_or, Result, Ok, Err}
+use Rattle.std.specs.Prelude.{◌≡◌, Bool, true, false, List, [], ◌∷◌, ◌++◌, ℕ, zero, suc, ◌+◌, ◌*◌, ◌/◌, ◌%◌, ◌^◌, ◌<◌, ◌≤◌, length, get_or, Option, Some, None, Result, Ok, Err}
 use Rattle.octets.specs.Lists.{has}
 
 abbrev pub node_words : ℕ
@@ -63,6 +63,22 @@ pub record EndsFree (w : List ℕ) (n code link : ℕ) : Type 0 where
 unfoldable pub Ends : List ℕ → ℕ → ℕ → Result ℕ ℕ → Type 0
 Ends w n code (Ok k) = (k < n) × (code_at w k ≡ code)
 Ends w n code (Err link) = EndsFree w n code link
+
+-- ---- a search
+-- a tree of n codes does not have the code
+unfoldable pub Fresh : List ℕ → ℕ → ℕ → Type 0
+Fresh w n code = (cs : List ℕ) → length cs ≡ n → Tree w cs → has cs code ≡ false
+
+-- a node of the code, and what it carries
+pub record Sought (w : List ℕ) (n code at : ℕ) : Type 0 where
+  pub node : ℕ
+  pub inside : node < n
+  pub is : code_at w node ≡ code
+  pub carries : carried_at w node ≡ at
+
+unfoldable pub Seeks : List ℕ → ℕ → ℕ → Option ℕ → Type 0
+Seeks w n code (Some at) = Sought w n code at
+Seeks w n code None = Fresh w n code
 
 -- ---- one code more
 pub record Grown (w v cs : List ℕ) (carried code : ℕ) : Type 0 where

@@ -3,8 +3,7 @@ ghost use Rattle.std.specs.Prelude.{◌≡◌, true, List, ◌≤◌, ◌<◌, �
 ghost use Rattle.octets.specs.Checked.{pass, mapped};
 ghost use Rattle.numbers.specs.Refused.{told};
 ghost use Rattle.numbers.specs.declared.refusals.Refusal.TheVariants.{NoIdentity};
-ghost use Rattle.unit.specs.Abbreviations.{attribute_at, declarations_of};
-ghost use Rattle.unit.specs.Abbreviations as table;
+ghost use Rattle.unit.specs.Abbreviations.{attribute_at};
 ghost use Rattle.unit.specs.declared.abbreviations.Unheld.TheVariants.{Bad};
 ghost use Rattle.unit.specs.Tables.{
   attribute_is,
@@ -14,11 +13,11 @@ ghost use Rattle.unit.specs.Tables.{
   declared_at,
   declared_is,
   Headed,
-  Located,
+  Finds,
 };
 ghost use Rattle.unit.specs.TableTrees.{TableHeld, Judges};
 
-use crate::tree::NODE;
+use crate::tree::{CodeTree, NODE};
 use numbers::refusals::Refusal;
 
 // A name, a form, and the bytes that they take.
@@ -37,16 +36,14 @@ struct Place {
     end: usize,
 }
 
-// A declaration: its code, its tag, where its attributes start, and where they end.
+// A declaration: its code, and what stands behind it, by places that count from the code on.
 #[derive(Clone, Copy)]
 struct Declaration {
     code: u64,
-    tag: u64,
-    start: usize,
-    end: usize,
+    place: Place,
 }
 
-// A declaration's tag, and where its attributes start.
+// A declaration's tag, and where its attributes start. No part of a place: both would be taken apart and put together wherever a start is moved.
 #[derive(Clone, Copy)]
 pub struct Heading {
     pub tag: u64,
@@ -77,6 +74,7 @@ impl From<Unheld> for Refusal {
 }
 
 // A name and a form, zero together; form 21 hexadecimal is refused.
+#[tactic(auto, using(crate::proofs::Attributes::attribute_none, crate::proofs::Attributes::attribute_half, crate::proofs::Attributes::attribute_apart, crate::proofs::Attributes::attribute_bad, crate::proofs::Attributes::attribute_good, crate::proofs::Sizes::rest, crate::proofs::Sizes::short_within, crate::proofs::Sizes::short_most), unfolding(octets::specs::Checked::mapped))]
 pub fn attribute_at(s: &[u8]) -> Result<Attribute, Refusal>
     ensures { mapped attribute_is (told result) ≡ attribute_at s.now }
 {
@@ -100,6 +98,7 @@ fn has_none(s: &[u8]) -> bool
 }
 
 // The bytes of a declaration's attributes, with the pair of zeros that ends them. A loop, since each attribute says where the next starts.
+#[tactic(auto, using(crate::proofs::Attributes::attribute_some, crate::proofs::Attributes::attribute_ends, crate::proofs::Attributes::walk_refused, crate::proofs::Attributes::walk_end, crate::proofs::Attributes::walk_on, crate::proofs::Sizes::rest, crate::proofs::Sizes::further_none), unfolding(octets::specs::Checked::mapped))]
 fn walk_attributes(s: &[u8]) -> Result<usize, Refusal>
     ensures { told result ≡ attributes_size s.now }
 {
@@ -124,6 +123,7 @@ fn attributes_size(s: &[u8]) -> Result<usize, Refusal>
     }
 }
 
+#[tactic(auto, using(crate::proofs::Places::place_untagged, crate::proofs::Places::place_zero, crate::proofs::Places::place_ends, crate::proofs::Places::place_bad, crate::proofs::Places::place_not, crate::proofs::Places::place_is, crate::proofs::Places::size_ends, crate::proofs::Sizes::rest, crate::proofs::Sizes::short_within, crate::proofs::Sizes::short_most), unfolding(octets::specs::Checked::mapped))]
 fn place_at(s: &[u8]) -> Result<Place, Refusal>
     ensures { mapped place_is (told result) ≡ place_at s.now }
 {
@@ -141,6 +141,7 @@ fn place_at(s: &[u8]) -> Result<Place, Refusal>
 }
 
 // The declaration at the front of s, or none where the zero code ends the table.
+#[tactic(auto, using(crate::proofs::Places::declared_not, crate::proofs::Places::end_is, crate::proofs::Places::unplaced, crate::proofs::Places::declared_law, crate::proofs::Places::end_within, crate::proofs::Places::start_within, crate::proofs::Sizes::rest, crate::proofs::Sizes::unsigned_within), unfolding(octets::specs::Checked::mapped))]
 fn declared_at(s: &[u8]) -> Result<Option<Declaration>, Refusal>
     ensures { mapped declared_is (told result) ≡ declared_at s.now }
 {
@@ -148,13 +149,13 @@ fn declared_at(s: &[u8]) -> Result<Option<Declaration>, Refusal>
     if code == 0 {
         return Ok(None);
     }
-    let place = place_at(&s[n..])?;
-    Ok(Some(Declaration {
-        code,
-        tag: place.tag,
-        start: n + place.start,
-        end: n + place.end,
-    }))
+    let behind = place_at(&s[n..])?;
+    let place = Place {
+        start: n + behind.start,
+        end: n + behind.end,
+        ..behind
+    };
+    Ok(Some(Declaration { code, place }))
 }
 
 // How many declarations the table has that ends, where no code repeats: then codes hold them, by where they stand. A word for each byte suffices: a
@@ -176,13 +177,14 @@ pub fn judge_table(s: &[u8], codes: &mut [u32]) -> Result<usize, Unheld>
         if !crate::tree::add_code(codes, count, at, declaration.code) {
             return Err(Unheld::Bad);
         }
-        at += declaration.end;
+        at += declaration.place.end;
         count += 1;
     }
 }
 
 // The tag of the declaration at the front of s, and where its attributes start behind the children byte. They were read as the table was judged,
 // and may be very many, so that they are not read here.
+#[tactic(auto, using(crate::proofs::Places::heading_none, crate::proofs::Places::heading_untagged, crate::proofs::Places::heading_is, crate::proofs::Sizes::rest, crate::proofs::Sizes::short_within, crate::proofs::Sizes::unsigned_within))]
 fn heading_at(s: &[u8]) -> Option<Heading>
     ensures { Headed s.now result }
 {
@@ -195,18 +197,14 @@ fn heading_at(s: &[u8]) -> Option<Heading>
 }
 
 // The declaration of a code, in a table that was judged.
-pub fn find_in(s: &[u8], codes: &[u32], count: usize, code: u64) -> Option<Heading>
-    requires { TableHeld s.now codes.now count }
-    ensures { (ds : List table.Declaration) → declarations_of s.now ≡ pass ds → Located s.now ds code result }
+pub fn find_in(s: &[u8], codes: CodeTree<'_>, code: u64) -> Option<Heading>
+    requires { TableHeld s.now codes.words.now codes.count }
+    ensures { Finds s.now code result }
 {
-    if count == 0 {
-        return None;
-    }
-    let node = crate::tree::walk(codes, count, code).ok()?;
-    let at = crate::tree::carried_at(codes, node);
+    let at = codes.find(code)?;
     let heading = heading_at(&s[at..])?;
     Some(Heading {
-        tag: heading.tag,
         start: at + heading.start,
+        ..heading
     })
 }

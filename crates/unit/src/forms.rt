@@ -154,6 +154,7 @@ const FORMS: [Form; 27] = [
 ];
 
 // The one place that reads the constant. Its contract is the statement over the whole table.
+#[tactic(auto, unfolding(crate::specs::Forms::forms, crate::specs::Widths::form_is, crate::specs::Widths::width_is))]
 fn all_forms() -> [Form; 27]
     ensures { map form_is result ≡ forms }
 {
@@ -178,6 +179,7 @@ fn zero_ended(s: &[u8]) -> Result<usize, Refusal>
 }
 
 // So many bytes, where they are there.
+#[tactic(auto, using(crate::proofs::Sizes::ends_in, crate::proofs::Sizes::ends_out))]
 fn within(n: usize, s: &[u8]) -> Result<usize, Refusal>
     ensures { told result ≡ ends s.now n }
 {
@@ -189,6 +191,7 @@ fn within(n: usize, s: &[u8]) -> Result<usize, Refusal>
 }
 
 // A count's n bytes, and as many bytes behind them as it says.
+#[tactic(auto, using(crate::proofs::Sizes::ends_in, crate::proofs::Sizes::ends_out))]
 fn counted(n: usize, count: u64, s: &[u8]) -> Result<usize, Refusal>
     requires { n ≤ length s.now }
     ensures { told result ≡ ends s.now (n + count) }
@@ -201,6 +204,7 @@ fn counted(n: usize, count: u64, s: &[u8]) -> Result<usize, Refusal>
 }
 
 // A block with a count of n bytes. The widths of the table keep n at most 4.
+#[tactic(auto, using(crate::proofs::Sizes::block_short, crate::proofs::Sizes::block_there))]
 fn block_size(big_endian: bool, n: usize, s: &[u8]) -> Result<usize, Refusal>
     requires { n ≤ 8 }
     ensures { told result ≡ block_within big_endian n s.now }
@@ -212,6 +216,7 @@ fn block_size(big_endian: bool, n: usize, s: &[u8]) -> Result<usize, Refusal>
 }
 
 // The same with a count in ULEB128.
+#[tactic(auto, using(crate::proofs::Sizes::uleb_block_not, crate::proofs::Sizes::uleb_block_is, crate::proofs::Sizes::unsigned_within))]
 fn uleb_block_size(s: &[u8]) -> Result<usize, Refusal>
     ensures { told result ≡ uleb_block_within s.now }
 {
@@ -219,6 +224,7 @@ fn uleb_block_size(s: &[u8]) -> Result<usize, Refusal>
     counted(n, count, s)
 }
 
+#[tactic(auto, using(crate::proofs::Sizes::uleb_not, crate::proofs::Sizes::uleb_is))]
 fn uleb_size(s: &[u8]) -> Result<usize, Refusal>
     ensures { told result ≡ uleb_within s.now }
 {
@@ -227,6 +233,7 @@ fn uleb_size(s: &[u8]) -> Result<usize, Refusal>
 }
 
 // How many bytes a value takes that ends in s.
+#[tactic(auto, using(crate::proofs::Sizes::size_fixed, crate::proofs::Sizes::size_address, crate::proofs::Sizes::size_offset, crate::proofs::Sizes::size_uleb, crate::proofs::Sizes::size_sleb, crate::proofs::Sizes::size_string, crate::proofs::Sizes::size_indirect, crate::proofs::Sizes::size_block, crate::proofs::Sizes::size_uleb_block, crate::proofs::Fields::big_is), unfolding(crate::specs::Widths::width_is))]
 pub fn value_size(e: ObjectEncoding, w: Width, s: &[u8]) -> Result<usize, Refusal>
     ensures { told result ≡ size_within (encoding_is e) (width_is w) s.now }
 {

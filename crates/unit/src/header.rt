@@ -29,16 +29,16 @@ ghost use Rattle.unit.specs.TableTrees.{
   Inside,
 };
 
-use crate::judged::Judged;
+use crate::judged::{Judged, Span};
 use bundle::encoding::ObjectEncoding;
 use bundle::initial_length;
 use numbers::refusals::Refusal;
-use numbers::tables::{COMPILATION, SKELETON_UNIT, SPLIT_TYPE_UNIT, SPLIT_UNIT, TYPE, TYPE_UNIT};
+use numbers::tables::{SKELETON_UNIT, SPLIT_TYPE_UNIT, SPLIT_UNIT, TYPE_UNIT, Table};
 
 // The least number of 4 bytes that is no length.
 const FIRST_RESERVED: u64 = 0xFFFF_FFF0;
 
-// The code of info, as a unit's home has it.
+// The code of info, as a unit's home has it. A home is a section's code, and stays a number as those do: numbers/src/sections.rt says why.
 const INFO: u32 = numbers::sections::INFO as u32;
 
 // Where a unit's identity stands.
@@ -52,28 +52,26 @@ pub enum Kind {
     Other,
 }
 
-// The table that a unit is handed in for, 1 compilation or 2 type, and its identity. A number, since the words of work hold it as one.
+// The table that a unit is handed in for, and its identity.
 #[derive(Clone, Copy)]
 pub struct Identity {
-    pub table: u32,
+    pub table: Table,
     pub identity: u64,
 }
 
-// Where a unit lies in the bundle, and from where to where the abbreviations that it is read with.
+// Where a unit lies in the bundle, and where the abbreviations that it is read with.
 #[derive(Clone, Copy)]
 pub struct UnitPlace {
     pub at: usize,
     pub size: usize,
-    pub first: usize,
-    pub last: usize,
+    pub abbreviations: Span,
 }
 
-// A unit's size, its table, as `Identity` has it, and its identity.
+// A unit's size, and what it is handed in for.
 #[derive(Clone, Copy)]
 pub struct UnitRead {
     pub size: usize,
-    pub table: u32,
-    pub identity: u64,
+    pub handed_in: Identity,
 }
 
 // The bytes of a unit, or of its section from the unit on, with the object's encoding.
@@ -83,6 +81,7 @@ struct Unit<'a> {
     bytes: &'a [u8],
 }
 
+#[tactic(auto, using(crate::proofs::Fields::kind_compilation, crate::proofs::Fields::kind_signature, crate::proofs::Fields::kind_other))]
 fn five_kind(unit_type: u8) -> Kind
     ensures { result ≡ five_kind unit_type }
 {
@@ -94,6 +93,7 @@ fn five_kind(unit_type: u8) -> Kind
 }
 
 impl<'a> Unit<'a> {
+    #[tactic(auto, using(crate::proofs::Fields::width_le, crate::proofs::Fields::is_five_law, crate::proofs::Fields::is_four, crate::proofs::Fields::place_five, crate::proofs::Fields::place_four, bundle::proofs::InitialLengths::field_most))]
     fn address_place(self) -> usize
         ensures { result ≡ address_place (encoding_is self.entry.e) }
     {
@@ -106,6 +106,7 @@ impl<'a> Unit<'a> {
     }
 
     // The header fields that all types have.
+    #[tactic(auto, using(crate::proofs::Fields::width_le, crate::proofs::Fields::is_five_law, crate::proofs::Fields::is_four, crate::proofs::Fields::common_five, crate::proofs::Fields::common_four, bundle::proofs::InitialLengths::field_most))]
     fn common_size(self) -> usize
         ensures { result ≡ common_size (encoding_is self.entry.e) }
     {
@@ -114,6 +115,7 @@ impl<'a> Unit<'a> {
     }
 
     // Whether a length starts as the width wants it. It states this number.
+    #[tactic(auto, using(crate::proofs::Fields::good_wide, crate::proofs::Fields::good_narrow, bundle::proofs::InitialLengths::is_wide, bundle::proofs::InitialLengths::is_narrow), unfolding(bundle::specs::Encoded::encoding_is))]
     fn length_good(self, stated: u64) -> bool
         requires { stated ≡ length_stated (encoding_is self.e) self.bytes.now }
         ensures { result ≡ length_good (encoding_is self.entry.e) self.entry.bytes.now }
@@ -126,6 +128,7 @@ impl<'a> Unit<'a> {
     }
 
     // The size of a unit that ends in the bytes.
+    #[tactic(auto, using(crate::proofs::Fields::inside_short, crate::proofs::Fields::inside_bad, crate::proofs::Fields::inside_out, crate::proofs::Fields::inside_in))]
     fn size(self) -> Result<usize, Refusal>
         ensures { told result ≡ unit_inside (encoding_is self.entry.e) self.entry.bytes.now }
     {
@@ -145,6 +148,7 @@ impl<'a> Unit<'a> {
     }
 
     // The common fields are there, and the version is the object's.
+    #[tactic(auto, using(crate::proofs::Fields::common_ge, crate::proofs::HeaderAlone::fields_short, crate::proofs::HeaderAlone::fields_whole, crate::proofs::Fields::big_is))]
     fn fields_good(self) -> bool
         ensures { result ≡ fields_good (encoding_is self.entry.e) self.entry.bytes.now }
     {
@@ -156,6 +160,7 @@ impl<'a> Unit<'a> {
     }
 
     // And the address size is the object's too.
+    #[tactic(auto, using(crate::proofs::Fields::place_lt, crate::proofs::HeaderAlone::fields_common, crate::proofs::HeaderAlone::good_fields, crate::proofs::HeaderAlone::bad_fields))]
     fn common_good(self) -> bool
         ensures { result ≡ common_good (encoding_is self.entry.e) self.entry.bytes.now }
     {
@@ -163,6 +168,7 @@ impl<'a> Unit<'a> {
     }
 
     // Home is the code of the unit's section. The common fields are there: `unit_head` has tested it.
+    #[tactic(auto, using(crate::proofs::Fields::common_ge, crate::proofs::Fields::is_five_law, crate::proofs::Fields::is_four, crate::proofs::Fields::kind_five, crate::proofs::Fields::kind_root, crate::proofs::Fields::kind_types, bundle::proofs::InitialLengths::field_most))]
     fn kind(self, home: u32) -> Kind
         requires { common_size (encoding_is self.e) ≤ length self.bytes.now }
         ensures { result ≡ kind_of (encoding_is self.entry.e) home self.entry.bytes.now }
@@ -176,6 +182,7 @@ impl<'a> Unit<'a> {
         }
     }
 
+    #[tactic(auto, using(crate::proofs::Fields::width_le, crate::proofs::Fields::common_le, bundle::proofs::InitialLengths::field_most), unfolding(crate::specs::Headers::header_size))]
     fn header_size(self, kind: Kind) -> usize
         ensures { result ≡ header_size (encoding_is self.entry.e) kind }
     {
@@ -188,6 +195,7 @@ impl<'a> Unit<'a> {
     }
 
     // The number of 8 bytes behind the common fields. Its kind's header is there.
+    #[tactic(auto, unfolding(crate::specs::Headers::signature_at, bundle::specs::Encoded::encoding_is))]
     fn signature(self) -> u64
         requires { common_size (encoding_is self.e) + 8 ≤ length self.bytes.now }
         ensures { result ≡ signature_at (encoding_is self.entry.e) self.entry.bytes.now }
@@ -196,6 +204,7 @@ impl<'a> Unit<'a> {
     }
 
     // What the root states. The common fields are there.
+    #[tactic(auto, using(crate::proofs::Cuts::between_length, crate::proofs::Cuts::between_drop, crate::proofs::Fields::width_le, crate::proofs::Fields::big_is, crate::proofs::Fields::common_ge, crate::proofs::Rooted::root_past, crate::proofs::Sizes::rest, bundle::proofs::InitialLengths::field_most), unfolding(crate::specs::Headers::table_at))]
     fn root_stated(
         self,
         b: &[u8],
@@ -209,23 +218,20 @@ impl<'a> Unit<'a> {
     {
         let field = self.e.field_size() + 2;
         let offset = octets::number_at(self.e.big, self.e.width(), self.bytes, field) as usize;
-        if place.last - place.first < offset {
+        let Span { at, end } = place.abbreviations;
+        if end - at < offset {
             return Err(Refusal::NoIdentity);
         }
-        let first = place.first + offset;
+        let table = Span {
+            at: at + offset,
+            end,
+        };
         let common = self.common_size();
-        crate::root::root_identity(
-            self.e,
-            b,
-            first,
-            place.last,
-            &self.bytes[common..],
-            codes,
-            judged,
-        )
+        crate::root::root_identity(self.e, b, table, &self.bytes[common..], codes, judged)
     }
 
     // The identity, of a unit whose kind's header is there. A unit with a root is handed in for the compilation table.
+    #[tactic(auto, using(octets::proofs::Checks::then_pass, octets::proofs::Checks::then_refuse), unfolding(crate::specs::Headers::identity_by, crate::specs::Headers::header_size, octets::specs::Checked::mapped))]
     fn identity(
         self,
         kind: Kind,
@@ -240,15 +246,15 @@ impl<'a> Unit<'a> {
     {
         match kind {
             Kind::Compilation => Ok(Identity {
-                table: COMPILATION,
+                table: Table::Compilation,
                 identity: self.signature(),
             }),
             Kind::Signature => Ok(Identity {
-                table: TYPE,
+                table: Table::Type,
                 identity: self.signature(),
             }),
             Kind::Root => Ok(Identity {
-                table: COMPILATION,
+                table: Table::Compilation,
                 identity: self.root_stated(b, place, codes, judged)?,
             }),
             Kind::Other => Err(Refusal::NoIdentity),
@@ -257,6 +263,7 @@ impl<'a> Unit<'a> {
 }
 
 // The size of the unit at the front of s, whose common fields are good.
+#[tactic(auto, using(crate::proofs::Heads::own_length, crate::proofs::Heads::head_none, crate::proofs::Heads::head_common, crate::proofs::Heads::head_good))]
 pub fn unit_head(e: ObjectEncoding, s: &[u8]) -> Result<usize, Refusal>
     ensures { told result ≡ head_of (encoding_is e) s.now }
 {
@@ -272,8 +279,9 @@ pub fn unit_head(e: ObjectEncoding, s: &[u8]) -> Result<usize, Refusal>
     }
 }
 
-// The identity of a unit whose head was read, and the table that it is handed in for. Home is the section's code, 1 info or 2 types. An identity of 0 is refused.
+// The identity of a unit whose head was read, and the table that it is handed in for. Home is the code of its section. An identity of 0 is refused.
 // Bundle, words and memory of the tables stay parameters: a clause speaks of all three, and the words are lent for one call, out of a larger slice.
+#[tactic(auto, using(crate::proofs::Cuts::answer_short, crate::proofs::Cuts::answer_not, crate::proofs::Cuts::answer_zero, crate::proofs::Cuts::answer_is), unfolding(octets::specs::Checked::mapped))]
 pub fn unit_identity(
     e: ObjectEncoding,
     home: u32,
@@ -302,6 +310,7 @@ pub fn unit_identity(
 }
 
 // A whole unit, whose section goes on to the end of the place's bytes.
+#[tactic(auto, using(crate::proofs::Cuts::unit_none, crate::proofs::Cuts::own_within, crate::proofs::Cuts::own_common, crate::proofs::Cuts::unit_not, crate::proofs::Cuts::unit_done), unfolding(octets::specs::Checked::mapped))]
 pub fn read_unit(
     e: ObjectEncoding,
     home: u32,
@@ -316,16 +325,13 @@ pub fn read_unit(
 {
     let size = unit_head(e, &b[place.at..place.at + place.size])?;
     let own = UnitPlace { size, ..place };
-    let unit = unit_identity(e, home, b, own, codes, judged)?;
-    Ok(UnitRead {
-        size,
-        table: unit.table,
-        identity: unit.identity,
-    })
+    let handed_in = unit_identity(e, home, b, own, codes, judged)?;
+    Ok(UnitRead { size, handed_in })
 }
 
 // The address size that the header of a unit in info states, whatever it is, where the header passes 11 otherwise. Of e it takes the byte order,
 // the version and the width.
+#[tactic(auto, using(crate::proofs::Heads::own_length, crate::proofs::HeaderAlone::alone_not, crate::proofs::HeaderAlone::alone_fields, crate::proofs::HeaderAlone::fields_there, crate::proofs::HeaderAlone::alone_header, crate::proofs::HeaderAlone::alone_whole, crate::proofs::HeaderAlone::address_there, crate::proofs::Fields::place_lt))]
 pub fn stated_address(e: ObjectEncoding, s: &[u8]) -> Result<u8, Refusal>
     ensures { told result ≡ address_of (encoding_is e) s.now }
 {

@@ -3,15 +3,14 @@
 // and a unit that names it take more than 25 bytes, and a node five words. Behind it each table has a word with the number of its declarations, and then
 // their tree. Where the words do not suffice, all tables but the last are forgotten.
 ghost use Rattle.std.specs.Prelude.{◌≡◌, List, ℕ, ◌+◌, ◌*◌, ◌/◌, ◌≤◌, ◌<◌, ◌^◌, length, IfSome};
-ghost use Rattle.unit.specs.Trees.{node_words, Rising};
+ghost use Rattle.unit.specs.Trees.{node_words, Fresh};
 ghost use Rattle.unit.specs.TableTrees.{
   directory_share,
   directory,
   key_of,
-  Fresh,
+  Lies,
   Enters,
   Enterable,
-  Seeks,
   Remembers,
   Knows,
   Recalls,
@@ -19,19 +18,23 @@ ghost use Rattle.unit.specs.TableTrees.{
 };
 
 use crate::abbreviations::Unheld;
-use crate::tree::NODE;
+use crate::tree::{CodeTree, NODE};
 use numbers::refusals::Refusal;
 
 // The directory has one of so many words.
 const SHARE: usize = 5;
 
-const WORD: u64 = 0x1_0000_0000;
-
-// It lies from at to end in the bundle, its tree stands from a word on, and it has so many declarations.
-#[derive(Clone, Copy)]
-pub struct Table {
+// A part of the bundle.
+#[derive(Clone, Copy, PartialEq, Eq)]
+pub struct Span {
     pub at: usize,
     pub end: usize,
+}
+
+// Where a table lies in the bundle, the word from which its tree stands, and how many declarations it has.
+#[derive(Clone, Copy)]
+pub struct JudgedTable {
+    pub place: Span,
     pub from: usize,
     pub count: usize,
 }
@@ -39,43 +42,28 @@ pub struct Table {
 // The table that was asked for last, how many tables the directory has, and the first word behind theirs.
 #[derive(Clone, Copy)]
 pub struct Judged {
-    pub last: Table,
+    pub last: Option<JudgedTable>,
     pub tables: usize,
     pub free: usize,
 }
 
-// Both are below 2 ^ 32: tables that differ in either have different keys.
-fn key_of(at: usize, end: usize) -> u64
-    requires { (at < 2 ^ 32) × (end < 2 ^ 32) }
-    ensures { result ≡ key_of at end }
+// Both ends are below 2 ^ 32: tables that differ in either have different keys.
+#[tactic(auto, unfolding(crate::specs::TableTrees::key_of))]
+fn key_of(place: Span) -> u64
+    requires { (place.at < 2 ^ 32) × (place.end < 2 ^ 32) }
+    ensures { result ≡ key_of place }
 {
-    at as u64 + WORD * end as u64
-}
-
-// The word where a table starts, in a directory of so many.
-fn find_table(words: &[u32], tables: usize, at: usize, end: usize) -> Option<usize>
-    requires { Rising words.now tables × (at < 2 ^ 32) × (end < 2 ^ 32) }
-    ensures { Seeks words.now tables (key_of at end) result }
-{
-    if tables == 0 {
-        return None;
-    }
-    let node = crate::tree::walk(words, tables, key_of(at, end)).ok()?;
-    Some(crate::tree::carried_at(words, node))
+    octets::number_of(place.at as u32, place.end as u32)
 }
 
 impl Judged {
-    // Before any table: none ends before it starts.
+    // Before any table.
+    #[tactic(auto, using(crate::proofs::Holding::tables_none), unfolding(crate::specs::TableTrees::Remembers))]
     pub fn nothing() -> Judged
         ensures { (b w : List ℕ) → Remembers b w result }
     {
         Judged {
-            last: Table {
-                at: 1,
-                end: 0,
-                from: 0,
-                count: 0,
-            },
+            last: None,
             tables: 0,
             free: 0,
         }
@@ -96,99 +84,97 @@ impl Judged {
     }
 
     // The directory has a table more, whose tree stands behind the word start already. It is the last.
-    fn enter(&mut self, codes: &mut [u32], size: usize, start: usize, table: Table)
+    fn enter(&mut self, codes: &mut [u32], size: usize, start: usize, table: JudgedTable)
         requires { Enterable codes.old size start table self.old }
-        ensures { (b : List ℕ) → Enters b codes.old size start table self.old → Knows b codes.new table.at table.end self.new }
+        ensures { (b : List ℕ) → Enters b codes.old size start table self.old → Knows b codes.new table.place self.new table }
     {
         codes[start] = table.count as u32;
-        let key = key_of(table.at, table.end);
+        let key = key_of(table.place);
         crate::tree::add_code(&mut codes[..size], self.tables, start, key);
-        self.last = table;
+        self.last = Some(table);
         self.tables += 1;
         self.free = table.from + NODE * table.count;
     }
 
     // With all the words for this table, which suffice: the others are forgotten.
+    #[tactic(auto, using(crate::proofs::Recalling::recalled_alone, crate::proofs::Recalling::unheld_bad, crate::proofs::Cuts::between_length), unfolding(crate::specs::TableTrees::Recalls))]
     fn judge_alone(
         &mut self,
         b: &[u8],
-        at: usize,
-        end: usize,
+        place: Span,
         codes: &mut [u32],
-    ) -> Result<(), Refusal>
-        requires { (at ≤ end) × (end ≤ length b.now) × (length b.now ≤ length codes.old) × (length b.now < 2 ^ 32) }
-        ensures { Recalls b.now codes.new at end self.new result }
+    ) -> Result<JudgedTable, Refusal>
+        requires { Lies b.now place × (length b.now ≤ length codes.old) × (length b.now < 2 ^ 32) }
+        ensures { Recalls b.now codes.new place self.new result }
     {
         *self = Judged::nothing();
-        let count = crate::abbreviations::judge_table(&b[at..end], codes)?;
-        self.last = Table {
-            at,
-            end,
+        let count = crate::abbreviations::judge_table(&b[place.at..place.end], codes)?;
+        let table = JudgedTable {
+            place,
             from: 0,
             count,
         };
-        Ok(())
+        self.last = Some(table);
+        Ok(table)
     }
 
     // A table that was not judged before: its tree stands behind those of the others, or alone where the words that are left do not suffice.
     fn judge_new(
         &mut self,
         b: &[u8],
-        at: usize,
-        end: usize,
+        place: Span,
         codes: &mut [u32],
-    ) -> Result<(), Refusal>
-        requires { (at ≤ end) × (end ≤ length b.now) × Lent b.now codes.old self.old × Fresh (directory b.now codes.old) self.old.tables (key_of at end) }
-        ensures { Recalls b.now codes.new at end self.new result }
+    ) -> Result<JudgedTable, Refusal>
+        requires { Lies b.now place × Lent b.now codes.old self.old × Fresh (directory b.now codes.old) self.old.tables (key_of place) }
+        ensures { Recalls b.now codes.new place self.new result }
     {
         let n = b.len();
         let Some(start) = self.start(n) else {
-            return self.judge_alone(b, at, end, codes);
+            return self.judge_alone(b, place, codes);
         };
         let from = start + 1;
-        match crate::abbreviations::judge_table(&b[at..end], &mut codes[from..n]) {
+        match crate::abbreviations::judge_table(&b[place.at..place.end], &mut codes[from..n]) {
             Ok(count) => {
-                let table = Table {
-                    at,
-                    end,
-                    from,
-                    count,
-                };
+                let table = JudgedTable { place, from, count };
                 self.enter(codes, n / SHARE, start, table);
-                Ok(())
+                Ok(table)
             }
             Err(Unheld::Bad) => {
                 *self = Judged::nothing();
                 Err(Refusal::NoIdentity)
             }
-            Err(Unheld::Full) => self.judge_alone(b, at, end, codes),
+            Err(Unheld::Full) => self.judge_alone(b, place, codes),
         }
     }
 
-    // The table from at to end, judged now or before, is the last one.
+    // The table of a place, judged now or before. It is the last one then.
     pub fn recall(
         &mut self,
         b: &[u8],
-        at: usize,
-        end: usize,
+        place: Span,
         codes: &mut [u32],
-    ) -> Result<(), Refusal>
-        requires { (at ≤ end) × (end ≤ length b.now) × Lent b.now codes.old self.old }
-        ensures { Recalls b.now codes.new at end self.new result }
+    ) -> Result<JudgedTable, Refusal>
+        requires { Lies b.now place × Lent b.now codes.old self.old }
+        ensures { Recalls b.now codes.new place self.new result }
     {
-        if self.last.at == at && self.last.end == end {
-            return Ok(());
+        if let Some(last) = self.last {
+            if last.place == place {
+                return Ok(last);
+            }
         }
-        let size = b.len() / SHARE;
-        let Some(start) = find_table(&codes[..size], self.tables, at, end) else {
-            return self.judge_new(b, at, end, codes);
+        let directory = CodeTree {
+            words: &codes[..b.len() / SHARE],
+            count: self.tables,
         };
-        self.last = Table {
-            at,
-            end,
+        let Some(start) = directory.find(key_of(place)) else {
+            return self.judge_new(b, place, codes);
+        };
+        let table = JudgedTable {
+            place,
             from: start + 1,
             count: codes[start] as usize,
         };
-        Ok(())
+        self.last = Some(table);
+        Ok(table)
     }
 }

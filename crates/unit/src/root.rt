@@ -5,7 +5,7 @@ ghost use Rattle.octets.specs.Checked.{mapped};
 ghost use Rattle.bundle.specs.Encoded.{encoding_is};
 ghost use Rattle.numbers.specs.Refused.{told};
 ghost use Rattle.unit.specs.Root.{plain_value, value_of, identity_at, root_tag, root_identity};
-ghost use Rattle.unit.specs.TableTrees.{between, TableHeld, Remembers, Lent};
+ghost use Rattle.unit.specs.TableTrees.{span_bytes, TableHeld, Lies, Remembers, Lent};
 ghost use Rattle.unit.specs.Roots.{
   value_is,
   seen_is,
@@ -15,8 +15,8 @@ ghost use Rattle.unit.specs.Roots.{
   Skips,
 };
 
-use crate::judged::Judged;
-use crate::tree::NODE;
+use crate::judged::{Judged, Span};
+use crate::tree::{CodeTree, NODE};
 use bundle::encoding::ObjectEncoding;
 use numbers::refusals::Refusal;
 
@@ -46,6 +46,7 @@ struct Move {
 }
 
 // A value that ends in s, of a form that is not indirect.
+#[tactic(auto, using(crate::proofs::Values::plain_unknown, crate::proofs::Values::plain_not, crate::proofs::Values::plain_is, crate::proofs::Steps::ok_or_none), unfolding(octets::specs::Checked::mapped))]
 fn plain_value(e: ObjectEncoding, form: u64, s: &[u8]) -> Result<Value, Refusal>
     ensures { mapped value_is (told result) ≡ plain_value (encoding_is e) form s.now }
 {
@@ -59,6 +60,7 @@ fn plain_value(e: ObjectEncoding, form: u64, s: &[u8]) -> Result<Value, Refusal>
 }
 
 // Indirect, 16 hexadecimal, only once.
+#[tactic(auto, using(crate::proofs::Values::value_plain, crate::proofs::Values::indirect_none, crate::proofs::Values::indirect_not, crate::proofs::Values::indirect_value, crate::proofs::Sizes::rest, crate::proofs::Sizes::short_within), unfolding(octets::specs::Checked::mapped))]
 fn value_of(e: ObjectEncoding, form: u64, s: &[u8]) -> Result<Value, Refusal>
     ensures { mapped value_is (told result) ≡ value_of (encoding_is e) form s.now }
 {
@@ -71,6 +73,7 @@ fn value_of(e: ObjectEncoding, form: u64, s: &[u8]) -> Result<Value, Refusal>
 }
 
 // A flag that is present takes no bytes. A root may have very many of them, so that they are answered first.
+#[tactic(auto, using(crate::proofs::Values::value_flag), unfolding(octets::specs::Checked::mapped))]
 fn attribute_value(e: ObjectEncoding, form: u64, s: &[u8]) -> Result<Value, Refusal>
     ensures { mapped value_is (told result) ≡ value_of (encoding_is e) form s.now }
 {
@@ -85,6 +88,7 @@ fn attribute_value(e: ObjectEncoding, form: u64, s: &[u8]) -> Result<Value, Refu
 }
 
 // What is stated once an attribute is passed: only the first 2131 hexadecimal states it, and its form is data8.
+#[tactic(auto, using(crate::proofs::Stepping::identity_seen, crate::proofs::Stepping::identity_other, crate::proofs::Stepping::identity_form, crate::proofs::Stepping::identity_stated), unfolding(octets::specs::Checked::mapped, bundle::specs::Encoded::encoding_is))]
 fn identity_at(
     e: ObjectEncoding,
     name: u64,
@@ -104,6 +108,7 @@ fn identity_at(
 }
 
 // One attribute: t is the table from it on, and s the unit from its value on. None at the pair of zeros that ends attributes.
+#[tactic(auto, using(crate::proofs::Stepping::step_none, crate::proofs::Stepping::step_end, crate::proofs::Stepping::step_value, crate::proofs::Stepping::step_not, crate::proofs::Stepping::step_on, crate::proofs::Values::value_ends, crate::proofs::Values::value_eight), unfolding(octets::specs::Checked::mapped))]
 fn attribute_step(
     e: ObjectEncoding,
     t: &[u8],
@@ -159,6 +164,7 @@ fn identity_in(e: ObjectEncoding, t: &[u8], s: &[u8]) -> Result<u64, Refusal>
 }
 
 // A compile or a type unit's tag.
+#[tactic(auto, using(std::proofs::lemmas::Bool::Decides::nat_tests), unfolding(crate::specs::Root::root_tag))]
 fn root_tag(tag: u64) -> bool
     ensures { result ≡ root_tag tag }
 {
@@ -166,39 +172,37 @@ fn root_tag(tag: u64) -> bool
 }
 
 // In a table that was judged, whose declarations codes hold. s is the unit behind its header.
-fn root_in(
-    e: ObjectEncoding,
-    table: &[u8],
-    codes: &[u32],
-    count: usize,
-    s: &[u8],
-) -> Result<u64, Refusal>
-    requires { TableHeld table.now codes.now count }
+#[tactic(auto, using(crate::proofs::Rooted::root_code, crate::proofs::Rooted::root_missing, crate::proofs::Rooted::found_within, crate::proofs::Rooted::root_tag_law, crate::proofs::Rooted::root_is, crate::proofs::Sizes::rest, crate::proofs::Sizes::unsigned_within))]
+fn root_in(e: ObjectEncoding, table: &[u8], codes: CodeTree<'_>, s: &[u8]) -> Result<u64, Refusal>
+    requires { TableHeld table.now codes.words.now codes.count }
     ensures { told result ≡ root_identity (encoding_is e) table.now s.now }
 {
     let (code, n) = leb128::read_unsigned(s)?;
-    match crate::abbreviations::find_in(table, codes, count, code) {
+    match crate::abbreviations::find_in(table, codes, code) {
         Some(root) if root_tag(root.tag) => identity_in(e, &table[root.start..], &s[n..]),
         _ => Err(Refusal::NoIdentity),
     }
 }
 
-// The table is what stands in abbrev from the header's offset on: from at to end in the bundle. s is the unit behind its header.
+// The table is what stands in abbrev from the header's offset on, at a place of the bundle. s is the unit behind its header.
+#[tactic(auto, using(crate::proofs::Rooted::root_table, crate::proofs::Recalling::known_held, crate::proofs::Finding::held_rising), unfolding(crate::specs::TableTrees::Recalls))]
 pub fn root_identity(
     e: ObjectEncoding,
     b: &[u8],
-    at: usize,
-    end: usize,
+    place: Span,
     s: &[u8],
     codes: &mut [u32],
     judged: &mut Judged,
 ) -> Result<u64, Refusal>
-    requires { (at ≤ end) × (end ≤ length b.now) × Lent b.now codes.old judged.old }
-    ensures is { told result ≡ root_identity (encoding_is e) (between b.now at end) s.now }
+    requires { Lies b.now place × Lent b.now codes.old judged.old }
+    ensures is { told result ≡ root_identity (encoding_is e) (span_bytes b.now place) s.now }
     ensures memory { Remembers b.now codes.new judged.new }
 {
-    judged.recall(b, at, end, codes)?;
-    let table = judged.last;
+    let table = judged.recall(b, place, codes)?;
     let to = table.from + NODE * table.count;
-    root_in(e, &b[at..end], &codes[table.from..to], table.count, s)
+    let declarations = CodeTree {
+        words: &codes[table.from..to],
+        count: table.count,
+    };
+    root_in(e, &b[place.at..place.end], declarations, s)
 }

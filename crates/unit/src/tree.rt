@@ -11,6 +11,7 @@ ghost use Rattle.unit.specs.Trees.{
   Rising,
   Tree,
   Ends,
+  Seeks,
   Added,
 };
 
@@ -23,41 +24,69 @@ const LOW: usize = 3;
 
 const HIGH: usize = 4;
 
-const WORD: u64 = 0x1_0000_0000;
-
-fn code_at(codes: &[u32], node: usize) -> u64
-    requires { node_words * node + node_words ≤ length codes.now }
-    ensures { result ≡ code_at codes.now node }
-{
-    u64::from(codes[NODE * node + LOW]) + WORD * u64::from(codes[NODE * node + HIGH])
+// So many codes, in the words that hold them. Their links lead to later nodes, so that each walk ends.
+#[derive(Clone, Copy)]
+pub struct CodeTree<'a> {
+    pub words: &'a [u32],
+    pub count: usize,
+    ghost rising: { Rising words.now count },
 }
 
-pub fn carried_at(codes: &[u32], node: usize) -> usize
-    requires { node_words * node + node_words ≤ length codes.now }
-    ensures { result ≡ carried_at codes.now node }
-{
-    codes[NODE * node + CARRIED] as usize
-}
+impl<'a> CodeTree<'a> {
+    #[tactic(auto, unfolding(crate::specs::Trees::code_at))]
+    fn code_at(self, node: usize) -> u64
+        requires { node_words * node + node_words ≤ length self.words.now }
+        ensures { result ≡ code_at self.entry.words.now node }
+    {
+        octets::number_of(
+            self.words[NODE * node + LOW],
+            self.words[NODE * node + HIGH],
+        )
+    }
 
-// Where the walk of a code ends, answered as a search of a sorted slice is: its node; or else the word of the empty link that its node would hang from.
-// A loop, since it follows links and has no index.
-pub fn walk(codes: &[u32], count: usize, code: u64) -> Result<usize, usize>
-    requires { (0 < count) × Rising codes.now count }
-    ensures { Ends codes.now count code result }
-{
-    let mut node = 0;
-    let mut rest = code;
-    loop {
-        if code_at(codes, node) == code {
-            return Ok(node);
+    #[tactic(auto, unfolding(crate::specs::Trees::carried_at))]
+    pub fn carried_at(self, node: usize) -> usize
+        requires { node_words * node + node_words ≤ length self.words.now }
+        ensures { result ≡ carried_at self.entry.words.now node }
+    {
+        self.words[NODE * node + CARRIED] as usize
+    }
+
+    // Where the walk of a code ends, answered as a search of a sorted slice is: its node; or else the word of the empty link that its node would hang from.
+    // A loop, since it follows links and has no index.
+    #[tactic(auto, using(crate::proofs::Trees::walking_at, crate::proofs::Trees::walking_on, crate::proofs::Trees::walking_free))]
+    pub fn walk(self, code: u64) -> Result<usize, usize>
+        requires { 0 < self.count }
+        ensures { Ends self.entry.words.now self.entry.count code result }
+    {
+        let mut node = 0;
+        let mut rest = code;
+        loop {
+            if self.code_at(node) == code {
+                return Ok(node);
+            }
+            let link = NODE * node + (rest % 2) as usize;
+            let next = self.words[link] as usize;
+            if next == 0 {
+                return Err(link);
+            }
+            node = next;
+            rest /= 2;
         }
-        let link = NODE * node + (rest % 2) as usize;
-        let next = codes[link] as usize;
-        if next == 0 {
-            return Err(link);
+    }
+
+    // What the node of a code carries.
+    #[tactic(auto, using(crate::proofs::Trees::seeks_none, crate::proofs::Trees::seeks_free, crate::proofs::Trees::ends_room, crate::proofs::Trees::seeks_at))]
+    pub fn find(self, code: u64) -> Option<usize>
+        ensures { Seeks self.entry.words.now self.entry.count code result }
+    {
+        if self.count == 0 {
+            return None;
         }
-        node = next;
-        rest /= 2;
+        match self.walk(code) {
+            Ok(node) => Some(self.carried_at(node)),
+            Err(_) => None,
+        }
     }
 }
 
@@ -67,14 +96,8 @@ fn store_node(codes: &mut [u32], node: usize, carried: usize, code: u64)
     ensures { codes.new ≡ placed codes.old (node_words * node) (node_of carried code) }
 {
     let at = NODE * node;
-    let words = [
-        0,
-        0,
-        carried as u32,
-        (code % WORD) as u32,
-        (code / WORD) as u32,
-    ];
-    codes[at..at + NODE].copy_from_slice(&words);
+    let [low, high] = octets::words_of(code);
+    codes[at..at + NODE].copy_from_slice(&[0, 0, carried as u32, low, high]);
 }
 
 // One code more behind count others, or false where it is one of them. Callers keep room for a node.
@@ -86,7 +109,11 @@ pub fn add_code(codes: &mut [u32], count: usize, carried: usize, code: u64) -> b
         store_node(codes, 0, carried, code);
         return true;
     }
-    let Err(link) = walk(codes, count, code) else {
+    let tree = CodeTree {
+        words: codes,
+        count,
+    };
+    let Err(link) = tree.walk(code) else {
         return false;
     };
     codes[link] = count as u32;

@@ -7,7 +7,7 @@ use bundle::encoding::ObjectEncoding;
 use numbers::refusals::Refusal;
 use std::io;
 use unit::header::{UnitPlace, UnitRead};
-use unit::judged::Judged;
+use unit::judged::{Judged, Span};
 
 // Bit 0 is big-endian data, bit 1 version 5, bit 2 offsets and bit 3 addresses of 8 bytes.
 fn encoding(flags: u8) -> ObjectEncoding {
@@ -21,13 +21,10 @@ fn encoding(flags: u8) -> ObjectEncoding {
 
 fn write_answer(rt: &impl Print, answer: Result<UnitRead, Refusal>) -> io::Result<()> {
     match answer {
-        Ok(
-            UnitRead {
-                size,
-                table,
-                identity,
-            },
-        ) => println!(rt; "{size} {table} {identity:016x}"),
+        Ok(UnitRead { size, handed_in }) => {
+            let table = handed_in.table.number();
+            println!(rt; "{size} {table} {:016x}", handed_in.identity)
+        }
         Err(refusal) => println!(rt; "refused {}", refusal.number()),
     }
 }
@@ -49,8 +46,7 @@ fn run_case<'a>(rt: &impl Print, s: &'a [u8], codes: &mut [u32]) -> io::Result<O
     let place = UnitPlace {
         at: mid,
         size: end - mid,
-        first: 4,
-        last: mid,
+        abbreviations: Span { at: 4, end: mid },
     };
     let mut judged = Judged::nothing();
     let answer = unit::header::read_unit(e, u32::from(*code), s, place, codes, &mut judged);

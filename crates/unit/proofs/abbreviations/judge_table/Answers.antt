@@ -24,9 +24,9 @@ told c =
     ∙ ap (λ (d : Option Declaration). pass (declared_is d)) c.in-Some.is
 
 within : (c : In-Some)
-    → (5 ≤ c.in-Some.declaration.end)
-    × (c.loop-declaration.at + c.in-Some.declaration.end ≤ length c.args.s.now)
-    × (c.loop-declaration.at + c.in-Some.declaration.start ≤ length c.args.s.now)
+    → (5 ≤ c.in-Some.declaration.place.end)
+    × (c.loop-declaration.at + c.in-Some.declaration.place.end ≤ length c.args.s.now)
+    × (c.loop-declaration.at + c.in-Some.declaration.place.start ≤ length c.args.s.now)
 within c = walk_within c.args.s.now c.loop-declaration.at _ (told c) c.loop-declaration.invariant.0.within
 
 pub loop-declaration-init : goal.loop-declaration-init

@@ -1,9 +1,10 @@
 -- `unit::tree::store_node` meets its contract.
 -- Assumes nothing.
 use mathlib.Core.Path.{ap, ◌∙◌}
-use Prim.Native.Nat.{◌*◌}
+use mathlib.Core.List.{List, [], ◌∷◌}
+use Prim.Native.Nat.{ℕ, ◌*◌}
 use native.Mathlib.Omega.{arith}
-use lib.ListN.{length}
+use lib.ListN.{length, get_or}
 use Rattle.octets.specs.Octets.{placed}
 use Rattle.octets.proofs.Regions.{placed_whole}
 use Rattle.unit.specs.Trees.{node_of}
@@ -12,5 +13,7 @@ use Rattle.unit.proofs.tree.store_node.Goals as goal
 pub returns : goal.returns
 unfolding node_of
 returns c =
+    let a = c.args in
     let e = c.copy_from_slice.ensures.after in
-    placed_whole c.args.codes.now (5 * c.args.node) _ _ (ap length e ∙ omega arith) ∙ ap (placed c.args.codes.now (5 * c.args.node)) e
+    placed_whole a.codes.now (5 * a.node) _ _ (ap length e ∙ omega arith)
+    ∙ ap (placed a.codes.now (5 * a.node)) (e ∙ ap (λ (w : List ℕ). 0 ∷ 0 ∷ a.carried ∷ get_or w 0 0 ∷ get_or w 1 0 ∷ []) c.words_of.ensures)

@@ -9,19 +9,19 @@ use Rattle.unit.proofs.Recalling.{judged_good, judged_bad}
 use Rattle.unit.proofs.judged.Judged.judge_new.Goals as goal
 
 pub start-requires : goal.start-requires
-start-requires c = tables_room _ _ _ _ (remembers_tables _ _ _ c.requires.2.memory)
+start-requires c = tables_room _ _ _ _ (remembers_tables _ _ _ c.requires.1.memory)
 
 pub enter-requires : goal.enter-requires
 enter-requires c =
-    behind_requires _ _ _ _ _ _ _ _ c.requires.2 c.in-Some.ensures.0 (c.in-Some.ensures.1, c.in-Some.ensures.2, c.in-Some.ensures.3) c.judge_table.auto.codes c.requires.0 c.requires.1
+    behind_requires _ _ _ _ _ _ _ c.requires.1 c.in-Some.ensures.0 (c.in-Some.ensures.1, c.in-Some.ensures.2, c.in-Some.ensures.3) c.judge_table.auto.codes c.requires.0
     (judged_good _ _ _ c.judge_table.ensures _ c.in-Ok.is)
 
 pub returns-in-Ok : goal.returns-in-Ok
 unfolding Recalls
 returns-in-Ok c =
     c.enter.ensures _
-    (behind_enters _ _ _ _ _ _ _ _ c.requires.2 c.in-Some.ensures.0 (c.in-Some.ensures.1, c.in-Some.ensures.2, c.in-Some.ensures.3) c.judge_table.auto.codes c.requires.0 c.requires.1
-    (judged_good _ _ _ c.judge_table.ensures _ c.in-Ok.is) c.requires.3)
+    (behind_enters _ _ _ _ _ _ _ c.requires.1 c.in-Some.ensures.0 (c.in-Some.ensures.1, c.in-Some.ensures.2, c.in-Some.ensures.3) c.judge_table.auto.codes c.requires.0
+    (judged_good _ _ _ c.judge_table.ensures _ c.in-Ok.is) c.requires.2)
 
 pub returns-in-Err-Bad : goal.returns-in-Err-Bad
 unfolding Recalls
