@@ -5,6 +5,7 @@ use mathlib.Core.Bool.{true, false}
 use mathlib.Core.List.{List, [], ◌∷◌, ◌++◌, map}
 use Prim.Native.Nat.{ℕ, ◌+◌, ◌*◌, ◌-◌, ◌<◌, ◌≤◌, ◌^◌}
 use native.Mathlib.Omega.{arith}
+use Rattle.std.specs.Prelude.{Option, Some, None}
 use lib.ListN.{length, get_or, length-append}
 use borrow.Author.Tests.{ltb-true, ltb-false, lt-ltb, le-ltb}
 use Rattle.octets.specs.Octets.{part, placed, zeros}
@@ -80,7 +81,7 @@ row_stored region r l m x slot links t p h e er el em ex =
 -- a string whose place is noted, in a region that holds the table with it
 put_noted : (b y x : List ℕ) (u r : StringTable) (used : List (List ℕ)) (s : List ℕ) (v : ℕ) → u.over ≡ false → u.entries ≡ length used → u.entries < room_of y
     → Held b y u.count (put (first_uses used) s) → u.size ≡ length (str_of (put (first_uses used) s)) → u.size ≤ 8388607 → places_in y (length used) ≡ places_of used
-    → v ≡ offset_in (first_uses used) s → r ≡ with_entry u → x ≡ placed y (places_from (length y) + u.entries) (v ∷ []) → PutIs b x used s r v
+    → v ≡ offset_in (first_uses used) s → r ≡ with_entry u → x ≡ placed y (places_from (length y) + u.entries) (v ∷ []) → PutIs b x used s r (Some v)
 put_noted b y x u r used s v f n room k size low places o q e =
     let new = first_uses_snoc used s in
     let count : length (used ++ (s ∷ [])) ≡ length used + 1 = length-append used (s ∷ []) in
@@ -98,7 +99,7 @@ put_noted b y x u r used s v f n room k size low places o q e =
             entries = λ _. omega (arith, count);
             places = λ _. grown;
           };
-      stands = λ _. o ∙ sym (offset_put (first_uses used) s) ∙ ap (λ (z : List (List ℕ)). offset_in z s) (sym new);
+      stands = (ap (λ (z : StringTable). z.over) q ∙ f, o ∙ sym (offset_put (first_uses used) s) ∙ ap (λ (z : List (List ℕ)). offset_in z s) (sym new));
     }
 
 module _ (b region : List ℕ) (t : StringTable) (used : List (List ℕ)) (k : Kept b region t used) where
@@ -135,7 +136,7 @@ module _ (b region : List ℕ) (t : StringTable) (used : List (List ℕ)) (k : K
 
     -- a known string: its place is noted
     pub put_again : (x s : List ℕ) (v : ℕ) (r : StringTable) → is_in (first_uses used) s ≡ true → t.entries < room_of region → v ≡ offset_in (first_uses used) s
-        → r ≡ with_entry t → x ≡ placed region (places_from (length region) + t.entries) (v ∷ []) → PutIs b x used s r v
+        → r ≡ with_entry t → x ≡ placed region (places_from (length region) + t.entries) (v ∷ []) → PutIs b x used s r (Some v)
     put_again x s v r e room o is q =
         let old = put_known (first_uses used) s e in
         put_noted b region x t r used s v f (k.entries f) room (rw old (k.held f)) (rw old (k.size f)) (kept_within f) (k.places f) o is q
@@ -147,7 +148,7 @@ module _ (b region : List ℕ) (t : StringTable) (used : List (List ℕ)) (k : K
           (length_str_of_snoc (first_uses used) (bytes_at b p) ∙ omega (arith, k.size f, length_bytes_at b p fits))
 
       -- a new string that would end above the limit
-      pub put_passes : 8388607 - t.size ≤ p.size → PutIs b region used (bytes_at b p) (record { count = t.count; size = t.size; entries = t.entries; over = true }) 0
+      pub put_passes : 8388607 - t.size ≤ p.size → PutIs b region used (bytes_at b p) (record { count = t.count; size = t.size; entries = t.entries; over = true }) None
       put_passes h =
           let s = bytes_at b p in
           record {
@@ -160,7 +161,7 @@ module _ (b region : List ℕ) (t : StringTable) (used : List (List ℕ)) (k : K
                   entries = λ g. absurd (true_false refl g);
                   places = λ g. absurd (true_false refl g);
                 };
-            stands = λ g. absurd (true_false refl g);
+            stands = refl;
           }
 
       pub new_inside : t.entries < room_of region → slot < length region
@@ -169,7 +170,7 @@ module _ (b region : List ℕ) (t : StringTable) (used : List (List ℕ)) (k : K
       -- a new string: its row behind the others, and its place
       pub put_row : (y x : List ℕ) (r : StringTable) → p.size < 8388607 - t.size → t.entries < room_of region → y ≡ row_added region slot t p → length y ≡ length region
           → r ≡ with_entry (record { count = t.count + 1; size = t.size + (p.size + 1); entries = t.entries; over = t.over }) → x ≡ placed y (places_from (length y) + t.entries) (t.size ∷ [])
-          → PutIs b x used (bytes_at b p) r t.size
+          → PutIs b x used (bytes_at b p) r (Some t.size)
       unfolding room_of
       put_row y x r h room e same is q =
           let s = bytes_at b p in
@@ -189,5 +190,5 @@ module _ (b region : List ℕ) (t : StringTable) (used : List (List ℕ)) (k : K
           q
 
 -- the string put, by its bytes
-pub put_as : (b x : List ℕ) (used : List (List ℕ)) (u s : List ℕ) (r : StringTable) (v : ℕ) → u ≡ s → PutIs b x used u r v → PutIs b x used s r v
+pub put_as : (b x : List ℕ) (used : List (List ℕ)) (u s : List ℕ) (r : StringTable) (v : Option ℕ) → u ≡ s → PutIs b x used u r v → PutIs b x used s r v
 put_as b x used u s r v e p = rw e at p

@@ -8,13 +8,14 @@ use Prim.Native.Nat.{ℕ, zero, suc, ◌+◌, ◌-◌, ◌<◌, ◌≤◌}
 use native.Mathlib.Decide.{dec_le, ℕ_discrete}
 use native.Mathlib.Nat.{not-suc-le-zero, le_of_suc-le-suc}
 use native.Mathlib.Omega.{arith}
+use Rattle.std.specs.Prelude.{Some, None}
 use lib.Dec.{eqb}
 use lib.ListN.{length, take, drop, get_or, length-drop}
 use lib.Seq.{get_or-drop, length-take-le}
 use borrow.Author.Tests.{eqb-true, eqb-false}
 use Rattle.octets.specs.Octets.{placed, zeros}
 use Rattle.octets.specs.Checked.{Check, pass, refuse}
-use Rattle.octets.proofs.Checks.{known, then_pass, pass_inj}
+use Rattle.octets.proofs.Checks.{known, then_pass, pass_inj, true_false}
 use Rattle.octets.proofs.Placed.{length_zeros, get_d_zeros}
 use Rattle.octets.proofs.Regions.{get_d_placed, get_d_before, get_d_behind}
 use Rattle.strings.specs.Strings.{up_to_zero, string_at, put, first_uses, offset_in}
@@ -109,15 +110,19 @@ module _ (b : List ℕ) (strings : Place) (region memo : List ℕ) (t : StringTa
       record { kept = put.kept; memory = λ _. grown }
 
   -- one that was sought: its place is remembered
-  pub put_stored : (x : List ℕ) (r : StringTable) (v : ℕ) → o < length memo → PutIs b y used s r v → x ≡ placed memo o ((v + 1) ∷ []) → Putting b strings y x r (used ++ (s ∷ []))
+  pub put_stored : (x : List ℕ) (r : StringTable) (v : ℕ) → o < length memo → PutIs b y used s r (Some v) → x ≡ placed memo o ((v + 1) ∷ []) → Putting b strings y x r (used ++ (s ∷ []))
   unfolding place_is
   put_stored x r v h put g =
       let table = first_uses (used ++ (s ∷ [])) in
       let has : is_in table s ≡ true = rw (first_uses_snoc used s) (put_has (first_uses used) s) in
       record {
         kept = put.kept;
-        memory = λ z. remembered_more memo x o (v + 1) h g (bytes_at b strings) (place_is table) s grown e (has, ap (λ (n : ℕ). n + 1) (put.stands z));
+        memory = λ _. remembered_more memo x o (v + 1) h g (bytes_at b strings) (place_is table) s grown e (has, ap (λ (n : ℕ). n + 1) put.stands.1);
       }
+
+  -- one that was sought where the section is over: nothing is remembered
+  pub put_over : (r : StringTable) → PutIs b y used s r None → Putting b strings y memo r (used ++ (s ∷ []))
+  put_over r put = record { kept = put.kept; memory = λ g. absurd (true_false put.stands g) }
 
 -- ---- strings start up to the last zero byte, and nowhere behind it
 up_to_has : (n : ℕ) (s : List ℕ) (i : ℕ) → i < length s → get_or s i 0 ≡ 0 → (t : List ℕ) × (up_to_zero n s ≡ pass t)

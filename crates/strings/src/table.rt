@@ -84,6 +84,7 @@ impl StrOffsets {
 
 // How many strings are kept, how long their str section is, how many entries named them, and whether the section would be above 8,388,607
 // bytes (19). From then on nothing is stored: the package is refused, whatever the new offsets are, and the sum of lengths stays within 32 bits.
+// `over` stays a flag: 19 is due only once all objects are read, and until then the other three say what is stored, whether it is set or not.
 #[derive(Clone, Copy)]
 pub struct StringTable {
     pub count: usize,
@@ -159,8 +160,8 @@ impl StringTable {
         self.entries += 1;
     }
 
-    // Puts a string that is not kept yet, where the search for it ended. Answers its place in str; 0 where that is over.
-    fn insert_string(&mut self, b: &[u8], p: Place, slot: usize, table: &mut [u32]) -> usize
+    // Puts a string that is not kept yet, where the search for it ended. Answers its place in str; none where that is over.
+    fn insert_string(&mut self, b: &[u8], p: Place, slot: usize, table: &mut [u32]) -> Option<usize>
         requires { (self.old.over ≡ false) × Insertable b.now p table.old self.old × ((used : List (List ℕ)) × Kept b.now table.old self.old used × NewAt b.now p table.old used slot) }
         ensures puts_new { PutsNew b.now p slot table.old self.old table.new self.new result }
         ensures put_small { PutSmall self.old self.new result }
@@ -168,30 +169,30 @@ impl StringTable {
         let place = self.size;
         if SECTION_LIMIT - place <= p.size {
             self.over = true;
-            return 0;
+            return None;
         }
         self.add_row(table, slot, p);
         self.count += 1;
         self.size += p.size + 1;
         self.note_place(table, place);
-        place
+        Some(place)
     }
 
     // Puts a string of the bundle: where no equal one is kept, its row goes behind the others; and its place is that of one entry more. The caller
-    // has room for both. Answers its place in str; 0 where that is over.
-    pub fn get_or_insert(&mut self, b: &[u8], p: Place, table: &mut [u32]) -> usize
+    // has room for both. Answers its place in str; none where that is over.
+    pub fn get_or_insert(&mut self, b: &[u8], p: Place, table: &mut [u32]) -> Option<usize>
         requires { Insertable b.now p table.old self.old × ((used : List (List ℕ)) × Kept b.now table.old self.old used) }
         ensures by_index { (used : List (List ℕ)) → Kept b.now table.old self.old used → PutIs b.now table.new used (bytes_at b.now p) self.new result }
         ensures put_small { PutSmall self.old self.new result }
     {
         if self.over {
-            return 0;
+            return None;
         }
         match crate::seek::seek_string(b, table, self.count, p) {
             Ok(i) => {
                 let place = table[3 * i + 2] as usize;
                 self.note_place(table, place);
-                place
+                Some(place)
             }
             Err(slot) => self.insert_string(b, p, slot, table),
         }
@@ -218,8 +219,9 @@ impl StringTable {
         if known != 0 {
             self.note_place(table, known - 1);
         } else if let Some(p) = string_in(b, strings, offset) {
-            let place = self.get_or_insert(b, p, table);
-            octets::set_word(memory, offset, place + 1);
+            if let Some(place) = self.get_or_insert(b, p, table) {
+                octets::set_word(memory, offset, place + 1);
+            }
         }
     }
 

@@ -4,7 +4,6 @@ use mathlib.Core.Path.{ap}
 use Prim.Native.Nat.{◌+◌, ◌*◌, ◌≤◌}
 use native.Mathlib.Omega.{arith}
 use lib.ListN.{length}
-use Rattle.octets.proofs.Checks.{true_false}
 use Rattle.strings.specs.declared.table.StringTable.{StringTable}
 use Rattle.strings.proofs.Holding.{sought_known, sought_place, row_room}
 use Rattle.strings.proofs.Keeping.{kept_over, place_small, roomy_places, put_again}
@@ -20,7 +19,7 @@ row c =
 pub returns-then-self-clause-by_index : goal.returns-then-self-clause-by_index
 returns-then-self-clause-by_index c =
     let over = c.if-self.true in
-    λ used k. record { kept = kept_over _ _ _ used k _ _ over; stands = λ g. absurd (true_false over g) }
+    λ used k. record { kept = kept_over _ _ _ used k _ _ over; stands = over }
 
 pub bounds-table-i : goal.bounds-table-i
 bounds-table-i c = omega (arith, row (goal.at.bounds-table-i c).In-Ok)
