@@ -2,13 +2,11 @@
 ghost use Rattle.std.specs.Prelude.{◌≡◌, List, ℕ, ◌-◌, ◌≤◌, length};
 ghost use Rattle.bundle.specs.Encoded.{encoding_is};
 ghost use Rattle.strings.specs.Strings.{header_size};
-ghost use Rattle.strings.specs.Objects.{KeptIn};
 ghost use Rattle.strings.specs.Headed.{
   piece_size,
-  HeadedOf,
-  PiecesAddable,
   PiecesPutAsked,
   PiecesPut,
+  PiecesAsked,
   PiecesKept,
   PiecesWritable,
   PiecesWritten,
@@ -85,20 +83,19 @@ impl StringTable {
         Ok(())
     }
 
-    // Puts the strings that the entries of all pieces name, each of which check_entries let pass. What is remembered of str serves all of them. The store holds the
-    // table in its first words, with a row for each entry, and behind them a word of memory for each byte of str; what the memory holds after the call is not promised.
+    // Puts the strings that the entries of all pieces name, each of which check_entries let pass. What is remembered of str serves all of them. The table has room
+    // for a row for each entry, and the memory a word for each byte of str; what the memory holds after the call is not promised.
     // Beside `add_strings`, and not one with it: what is read between, and so what is asked and promised, is another.
     pub fn add_pieces(
         &mut self,
         o: StrOffsets,
         b: &[u8],
-        store: &mut [u32],
-        words: usize,
+        table: &mut [u32],
+        memory: &mut [u32],
     ) -> Result<(), Refusal>
-        requires { (words ≤ length store.old) × PiecesAddable b.now o words (length store.old - words) self.old × ((used : List (List ℕ)) × KeptIn b.now words store.old self.old used) × ((ps : List (List ℕ)) × HeadedOf o b.now ps) }
-        ensures { PiecesKept b.now o words store.old self.old store.new self.new result }
+        requires { PiecesAsked b.now o table.old memory.old self.old }
+        ensures { PiecesKept b.now o table.old self.old table.new self.new result }
     {
-        let (table, memory) = store.split_at_mut(words);
         let ended = entries::last_zero(o.strings.of(b));
         crate::table::forget(memory, o.strings.size);
         self.put_pieces(o, b, ended, table, memory)

@@ -25,8 +25,6 @@ ghost use Rattle.strings.specs.Kept.{
 };
 ghost use Rattle.strings.specs.Remembered.{LastZero, Putting};
 ghost use Rattle.strings.specs.Objects.{
-  table_in,
-  KeptIn,
   AddedOf,
   Roomy,
   Insertable,
@@ -134,6 +132,7 @@ pub fn string_in(b: &[u8], strings: Place, offset: usize) -> Option<Place>
     })
 }
 
+// The table and the memory stay two parameters: put in a struct, the halves of a `split_at_mut` come back to the caller without what was written.
 impl StringTable {
     // A row behind the others, which leads nowhere yet, and its number in the word where the search for its string ended.
     fn add_row(self, table: &mut [u32], slot: usize, p: Place)
@@ -248,20 +247,18 @@ impl StringTable {
         Ok(())
     }
 
-    // Puts the strings that an object's entries name, whose section check_entries let pass. The store holds the table in its first
-    // words, with a row for each entry, and behind them a word of memory for each byte of str; what the memory holds after the call is
-    // not promised.
+    // Puts the strings that an object's entries name, whose section check_entries let pass. The table has room for a row for each entry, and the memory
+    // a word for each byte of str; what the memory holds after the call is not promised.
     pub fn add_strings(
         &mut self,
         o: StrOffsets,
         b: &[u8],
-        store: &mut [u32],
-        words: usize,
+        table: &mut [u32],
+        memory: &mut [u32],
     ) -> Result<(), Refusal>
-        requires { (words ≤ length store.old) × AllAddable b.now o words (length store.old - words) self.old × ((used : List (List ℕ)) × KeptIn b.now words store.old self.old used) }
-        ensures { (used : List (List ℕ)) → KeptIn b.now words store.old self.old used → AddedOf b.now o (table_in words store.new) used self.new result }
+        requires { AllAddable b.now o (length table.old) (length memory.old) self.old × ((used : List (List ℕ)) × Kept b.now table.old self.old used) }
+        ensures { (used : List (List ℕ)) → Kept b.now table.old self.old used → AddedOf b.now o table.new used self.new result }
     {
-        let (table, memory) = store.split_at_mut(words);
         let ended = entries::last_zero(o.strings.of(b));
         forget(memory, o.strings.size);
         self.add_entries(o, b, ended, table, memory)
