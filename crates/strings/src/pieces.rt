@@ -19,6 +19,7 @@ use numbers::refusals::Refusal;
 
 impl Section<'_> {
     // How long the piece at the front of a section is. The caller knows that its header is true.
+    #[tactic(auto, using(crate::proofs::Headed::sizes))]
     pub fn piece_size(self) -> usize
         requires { (header_size (encoding_is self.encoding) ≤ length self.bytes.now) × (piece_size (encoding_is self.encoding) self.bytes.now ≤ length self.bytes.now) }
         ensures { result ≡ piece_size (encoding_is self.entry.encoding) self.entry.bytes.now }
@@ -32,6 +33,7 @@ impl Section<'_> {
     }
 
     // Writes a section with other numbers for its entries, piece by piece: each header as it was, and the next numbers behind it. Says how many entries the section has.
+    #[tactic(auto, using(crate::proofs::HeadedWriting::pieces_written))]
     pub fn write_pieces(self, numbers: &[u32], d: &mut [u8], at: usize) -> usize
         requires { PiecesWritable (encoding_is self.encoding) self.bytes.now numbers.now (length d.old) at }
         ensures { PiecesWritten (encoding_is self.entry.encoding) self.entry.bytes.now numbers.now at d.old d.new result }
@@ -86,6 +88,7 @@ impl StringTable {
     // Puts the strings that the entries of all pieces name, each of which check_entries let pass. What is remembered of str serves all of them. The table has room
     // for a row for each entry, and the memory a word for each byte of str; what the memory holds after the call is not promised.
     // Beside `add_strings`, and not one with it: what is read between, and so what is asked and promised, is another.
+    #[tactic(auto, using(crate::proofs::Remembering::begun))]
     pub fn add_pieces(
         &mut self,
         o: StrOffsets,

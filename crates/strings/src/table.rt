@@ -102,6 +102,7 @@ pub fn row_place(table: &[u32], i: usize) -> Place
     }
 }
 
+#[tactic(auto, using(octets::proofs::Placed::placed_three))]
 fn set_row(table: &mut [u32], i: usize, p: Place, offset: usize)
     requires { (3 * i + 3 ≤ length table.old) × (p.start < 2 ^ 32) × (p.size < 2 ^ 32) × (offset < 2 ^ 32) }
     ensures { table.new ≡ placed table.old (3 * i) (p.start ∷ p.size ∷ offset ∷ []) }
@@ -135,6 +136,7 @@ pub fn string_in(b: &[u8], strings: Place, offset: usize) -> Option<Place>
 // The table and the memory stay two parameters: put in a struct, the halves of a `split_at_mut` come back to the caller without what was written.
 impl StringTable {
     // A row behind the others, which leads nowhere yet, and its number in the word where the search for its string ended.
+    #[tactic(auto, using(crate::proofs::Keeping::row_stored), unfolding(crate::specs::Indexed::room_of))]
     fn add_row(self, table: &mut [u32], slot: usize, p: Place)
         requires { RowAddable table.old slot self p }
         ensures { table.new ≡ row_added table.old slot self p }
@@ -249,6 +251,7 @@ impl StringTable {
 
     // Puts the strings that an object's entries name, whose section check_entries let pass. The table has room for a row for each entry, and the memory
     // a word for each byte of str; what the memory holds after the call is not promised.
+    #[tactic(auto, using(crate::proofs::Remembering::begun))]
     pub fn add_strings(
         &mut self,
         o: StrOffsets,
@@ -266,6 +269,7 @@ impl StringTable {
 }
 
 // Forgets what was remembered of the first n offsets.
+#[tactic(auto, using(crate::proofs::Remembering::cleared), unfolding(octets::specs::Octets::zeros))]
 pub fn forget(memory: &mut [u32], n: usize)
     requires { n ≤ length memory.old }
     ensures { memory.new ≡ placed memory.old 0 (zeros n) }
