@@ -5,13 +5,15 @@ use mathlib.Core.List.{List, [], ◌∷◌, ◌++◌, append-nil, append_assoc}
 use Prim.Native.Nat.{ℕ, ◌+◌, ◌<◌, ◌≤◌}
 use lib.ListN.{length, take, get_or}
 use lib.Seq.{take_all}
+use Rattle.std.specs.Prelude.{Result, Ok, Err}
 use Rattle.octets.specs.Checked.{pass, refuse}
+use Rattle.numbers.specs.declared.refusals.Refusal.{Refusal}
 use Rattle.bundle.specs.Encoded.{encoding_is}
 use Rattle.bundle.specs.declared.encoding.ObjectEncoding.{ObjectEncoding}
 use Rattle.strings.specs.Strings.{entries_in, string_at, strings_at}
-use Rattle.strings.specs.Kept.{bytes_at}
+use Rattle.strings.specs.Kept.{bytes_at, AddedIs}
 use Rattle.strings.specs.Remembered.{Putting}
-use Rattle.strings.specs.Objects.{entries_at, PutsString}
+use Rattle.strings.specs.Objects.{entries_at, PutsString, AllPut}
 use Rattle.strings.specs.declared.table.Place.{Place}
 use Rattle.strings.specs.declared.table.StrOffsets.{StrOffsets}
 use Rattle.strings.specs.declared.table.StringTable.{StringTable}
@@ -47,3 +49,9 @@ module _ (b : List ℕ) (strings : Place) (region memo : List ℕ) (t : StringTa
 pub adding_missing : (b : List ℕ) (strings : Place) (os : List ℕ) (k o n : ℕ) → k < length os → o ≡ get_or os k 0
     → string_at 9 (bytes_at b strings) o ≡ refuse n → strings_at (bytes_at b strings) os ≡ refuse 9
 adding_missing b strings os k o n h q e = strings_at_fails (bytes_at b strings) os k n h (rw q at e)
+
+-- where no more follow
+pub put_added : (b : List ℕ) (strings : Place) (os : List ℕ) (x m : List ℕ) (t : StringTable) (used : List (List ℕ)) (u : StringTable) (r : Result (Unit {0}) Refusal)
+    → AllPut b strings os x m t used u r → AddedIs b x used (strings_at (bytes_at b strings) os) u r
+put_added b strings os x m t used u (Ok _) a = (a.0.0, a.0.1, a.0.2.kept)
+put_added b strings os x m t used u (Err r) a = a

@@ -60,6 +60,7 @@ impl Section<'_> {
 
 impl StringTable {
     // Puts the strings of all pieces. ended says where the last string of str ends.
+    #[tactic(auto, using(crate::proofs::Headed::pieces_none))]
     fn put_pieces(
         &mut self,
         o: StrOffsets,

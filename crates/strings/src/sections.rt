@@ -34,6 +34,7 @@ fn put_string(b: &[u8], p: Place, d: &mut [u8], at: usize)
 }
 
 // Writes str: the kept strings in order of first use.
+#[tactic(auto, using(crate::proofs::Writing::written_all))]
 pub fn write_strings(b: &[u8], table: &[u32], count: usize, d: &mut [u8], at: usize)
     requires { (ts : List (List ℕ)) × Held b.now table.now count ts × (at + length (str_of ts) ≤ length d.old) }
     ensures { (ts : List (List ℕ)) → Held b.now table.now count ts → d.new ≡ placed d.old at (str_of ts) }

@@ -122,6 +122,7 @@ pub fn places_from(words: usize) -> usize
 }
 
 // The string at an offset of an object's str, by its place in the bundle.
+#[tactic(auto, using(crate::proofs::Places::none_moved, crate::proofs::Places::place_moved))]
 pub fn string_in(b: &[u8], strings: Place, offset: usize) -> Option<Place>
     requires { Inside b.now strings }
     ensures { place_check no_string result ≡ mapped (string_place (strings.start + offset)) (string_at no_string (bytes_at b.now strings) offset) }
@@ -227,6 +228,7 @@ impl StringTable {
     }
 
     // Puts the strings of all entries. ended says where the last string of str ends. What is remembered of str may come from other entries.
+    #[tactic(auto, using(crate::proofs::Adding::section_entries, crate::proofs::Adding::adding_none, crate::proofs::Adding::adding_all))]
     pub fn add_entries(
         &mut self,
         o: StrOffsets,
