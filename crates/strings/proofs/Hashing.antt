@@ -4,7 +4,7 @@ use mathlib.Core.Path.{◌≡◌}
 use mathlib.Core.Bool.{false}
 use mathlib.Core.List.{List}
 use Prim.Native.Nat.{ℕ, suc, ◌+◌, ◌*◌, ◌-◌, ◌/◌, ◌%◌, ◌<◌, ◌≤◌, ◌^◌}
-use native.Mathlib.Nat.{mul-le-mul_right, add-zero, zero-div, mod-lt, mul-lt-mul_of_pos_right, div-lt_iff_lt-mul}
+use native.Mathlib.Nat.{sub-zero, add-zero, zero-div, mod-lt, mul-lt-mul_of_pos_right, div-lt_iff_lt-mul}
 use native.Mathlib.Decide.{dec_le}
 use native.Mathlib.Omega.{arith}
 use lib.ListN.{length, drop, get_or, get_or-eq_default}
@@ -17,14 +17,6 @@ use Rattle.strings.specs.Indexed.{product, mixed, groups_from, hash_of, root_of,
 pub mixed_lt : (h w : ℕ) → mixed h w < 2 ^ 32
 unfolding mixed
 mixed_lt h w = mod-lt (product h w / 2 ^ 32 + product h w) (omega arith)
-
--- the sum of products stays within 64 bits, also with its upper half added
-pub mixed_fits : (h w : ℕ) → h < 2 ^ 32 → w < 2 ^ 64 → product h w / 2 ^ 32 + product h w < 2 ^ 64
-unfolding product
-mixed_fits h w l g = halves ((h + w % 2 ^ 32) * 798746317) (w / 2 ^ 32 * 982451653) (omega arith) (omega arith)
-  where
-    halves : (a b : ℕ) → a < 2 ^ 63 → b < 2 ^ 62 → (a + b) / 2 ^ 32 + (a + b) < 2 ^ 64
-    halves a b l g = omega arith
 
 -- ---- the two cases of the hash
 pub hash_short : (s : List ℕ) → length s < 8 → hash_of s ≡ mixed 0 (number_at false (length s) s 0)
@@ -46,6 +38,10 @@ hash_lt s =
 unfoldable pub left : ℕ → ℕ → ℕ
 left n at = (n - 1 - at) / 8
 
+pub groups_start : (h : ℕ) (s : List ℕ) → groups_from (left (length s) 0) h s ≡ groups_from ((length s - 1) / 8) h s
+unfolding left
+groups_start h s = rw sub-zero
+
 pub groups_turn : (h : ℕ) (s : List ℕ) (at : ℕ) → at < length s - 8
     → groups_from (left (length s) at) h (drop at s) ≡ groups_from (left (length s) (at + 8)) (mixed h (number_at false 8 s at)) (drop (at + 8) s)
 unfolding groups_from left
@@ -57,14 +53,9 @@ pub groups_end : (h : ℕ) (s : List ℕ) (at : ℕ) → length s - 8 ≤ at →
 unfolding groups_from left
 groups_end h s at l = let e : (length s - 1 - at) / 8 ≡ 0 = omega arith in rw e
 
+pub ruleset long_turns = (mixed_lt, hash_long, groups_start, groups_turn, groups_end)
+
 -- ---- where a search starts
--- a part of the room in proportion to a hash
-pub scaled_fits : (h room : ℕ) → h < 2 ^ 32 → room < 2 ^ 31 → h * room < 2 ^ 64
-scaled_fits h room l g = let p : h ≤ 2 ^ 32 = omega arith in omega (arith, mul-le-mul_right room p)
-
-pub scaled_le : (h room : ℕ) → h < 2 ^ 32 → h * room / 2 ^ 32 ≤ room
-scaled_le h room l = let p : h ≤ 2 ^ 32 = omega arith in omega (arith, mul-le-mul_right room p)
-
 pub root_low : (room : ℕ) (s : List ℕ) → 6 * room ≤ root_of room s
 unfolding root_of
 root_low room s = omega arith

@@ -19,6 +19,7 @@ use Rattle.strings.specs.Remembered.{Putting}
 use Rattle.strings.specs.Headed.{piece_size, Headed, strings_of_all}
 use Rattle.strings.specs.declared.table.Place.{Place}
 use Rattle.strings.specs.declared.table.StringTable.{StringTable}
+use Rattle.strings.proofs.Headers.{is_five_law, not_five}
 use Rattle.strings.proofs.StrOffsets.{Sound, entries_whole, header_within, entries_few}
 
 -- ---- the size that a header states
@@ -30,6 +31,8 @@ module _ (e : Encoding) (s : List ℕ) where
   pub size_four : (e.version ≡ 5 → ⊥) → piece_size e s ≡ length s
   unfolding piece_size
   size_four v = rw (piece_size, ne_eqb e.version 5 v)
+
+pub ruleset sizes = (is_five_law, not_five, size_five, size_four)
 
 -- ---- the piece at the front
 pub record Front (e : Encoding) (s : List ℕ) (ps : List (List ℕ)) : Type 0 where

@@ -11,17 +11,17 @@ use Rattle.octets.specs.Lists.{joined}
 use Rattle.octets.specs.Checked.{pass}
 use Rattle.octets.proofs.Checks.{bind_pass, pass_inj}
 use Rattle.octets.proofs.Joined.{map-append}
-use Rattle.octets.proofs.Parts.{part_whole, length_part, drop_part}
+use Rattle.octets.proofs.Parts.{part_cut, part_whole, length_part, drop_part}
 use Rattle.octets.proofs.Placed.{placed_none, placed_placed}
 use Rattle.octets.proofs.Tables.{length_numbers_of}
 use Rattle.bundle.specs.Encoding.{Encoding}
 use Rattle.strings.specs.Strings.{header_size, entries_in, strings_at, first_uses, offset_in, remapped}
 use Rattle.strings.specs.Kept.{places_from, places_in, places_of}
 use Rattle.strings.specs.Headed.{piece_size, Headed, strings_of_all, used_of, remapped_pieces, piece_with, entries_all, pieces_with}
-use Rattle.strings.proofs.StrOffsets.{Sound, Whole, entries_whole, entries_few, header_within, whole_length}
+use Rattle.strings.proofs.StrOffsets.{Sound, sound, Whole, entries_whole, entries_few, header_within, whole_length}
 use Rattle.strings.proofs.Ends.{length_strings_at}
 use Rattle.strings.proofs.Remapped.{length-map}
-use Rattle.strings.proofs.Headed.{Front, walk_front, walk_within, walk_own, walk_on, walk_end}
+use Rattle.strings.proofs.Headed.{Front, walk_front, walk_asks, walk_some, walk_within, walk_own, walk_on, walk_end}
 
 -- ---- one piece
 -- the header, and the numbers behind it
@@ -34,13 +34,6 @@ piece_put e s ns d x y at h w g v within room p q =
     q ∙ ap (λ (n : ℕ). placed x (at + h) (numbers_of e.big n ns)) v
     ∙ ap₂ (λ (z : List ℕ) (n : ℕ). placed z (at + n) (numbers_of e.big e.width ns)) (p ∙ ap (λ (n : ℕ). placed d at (take n s)) g) (g ∙ sym l)
     ∙ placed_placed d at front (numbers_of e.big e.width ns) (omega arith)
-
--- room for it, by the values that the code has
-pub numbers_room : (w v h k at n room len : ℕ) → w ≡ v → h ≡ k → at + k + v * n ≤ room → len ≡ room → at + h + w * n ≤ len
-numbers_room w v h k at n room len e g r l = rw (e, g, l) r
-
-pub piece_room : (w at from h n count size all room len : ℕ) → n ≡ count → h + w * count ≡ size → from + size ≤ all → at + all ≤ room → len ≡ room → at + from + h + w * n ≤ len
-piece_room w at from h n count size all room len e g f r l = rw e (omega arith)
 
 -- as long as the piece that it stands for
 length_piece_with : (e : Encoding) (s ns : List ℕ) → Sound e → Whole e s → length ns ≡ length (entries_in e s) → length (piece_with e s ns) ≡ length s
@@ -131,6 +124,9 @@ module _ (e : Encoding) (ok : Sound e) (s ns : List ℕ) (ps : List (List ℕ)) 
     pub ahead_none : d ≡ placed d₀ at (pieces_with e ps ns)
     unfolding pieces_with
     ahead_none = sym (placed_none d (at + from)) ∙ ap (λ (l : List (List ℕ)). placed d (at + from) (pieces_with e l (drop first ns))) (sym none) ∙ p.left
+
+pub ruleset pieces_written =
+    (part_cut, length_part, sound, walk_asks, walk_some, ahead_all, ahead_header, ahead_size, ahead_count, ahead_more, ahead_counted, ahead_none)
 
 -- ---- the numbers are the places of the strings that the entries name
 pub used_is : (e : Encoding) (str p : List ℕ) (us : List (List ℕ)) → strings_at str (entries_in e p) ≡ pass us → used_of e str p ≡ us

@@ -19,11 +19,12 @@ use Rattle.bundle.specs.Encoding.{Encoding}
 use Rattle.bundle.specs.Encoded.{four, encoding_is}
 use Rattle.bundle.specs.InitialLength.{marked, length_field, length_stated}
 use Rattle.bundle.specs.declared.encoding.ObjectEncoding.{ObjectEncoding}
+use Rattle.bundle.proofs.InitialLengths.{field_most}
 use Rattle.strings.specs.Strings.{header_size, header_true, entries_in, entries_of, up_to_zero, string_at}
 use Rattle.strings.specs.Answers.{string_place}
 use Rattle.strings.specs.declared.table.Place.{Place}
 use Rattle.strings.proofs.Ends.{NoZero, up_to_ended, up_to_never, string_at_beyond}
-use Rattle.strings.proofs.StrOffsets.{true_five, header_five, header_four, whole_entries, entries_false, entries_odd, length_entries_in, Sound, entry_within, entries_in_at}
+use Rattle.strings.proofs.StrOffsets.{sound, header_within, true_four, true_five, header_five, header_four, whole_entries, entries_false, entries_odd, length_entries_in, Sound, entry_within, entries_in_at}
 
 -- ---- what the code holds of an encoding
 module _ (e : ObjectEncoding) where
@@ -63,6 +64,10 @@ module _ (e : ObjectEncoding) where
           let states = eq-eqb (length_stated (encoding_is e) s) (length s - length_field (encoding_is e)) (omega arith) in
           rw p at g ∙ sym (true_five (encoding_is e) s (is_five_law five) ∙ rw (there, m, states))
 
+pub ruleset header_tests = (field_most, true_four, not_five, header_short, header_unmarked, header_rest, header_all)
+
+pub ruleset header_sizes = (sound, size_five, size_four)
+
 -- ---- 8 as the code tests it
 module _ (e : Encoding) (s : List ℕ) where
   pub ill_header : header_true e s ≡ false → refuse 8 ≡ mapped length (entries_of e s)
@@ -92,6 +97,10 @@ module _ (e : Encoding) (s : List ℕ) where
     pub entry_is : (k n : ℕ) → k < length (entries_in e s) → n ≡ number_at e.big w s (h + w * k) → n ≡ get_or (entries_in e s) k 0
     entry_is k n l g = g ∙ rw (p, q) (sym (entries_in_at e s k l))
 
+pub ruleset entry_tests = (sound, header_within, ill_header, ill_rest, well_formed)
+
+pub ruleset entry_reads = (sound, entry_ends, entry_is)
+
 -- ---- a string up to the first zero byte
 pub read_beyond : (n : ℕ) (s : List ℕ) (offset : ℕ) → length s ≤ offset → refuse n ≡ mapped (string_place offset) (string_at n s offset)
 unfolding mapped
@@ -119,6 +128,8 @@ module _ (n : ℕ) (s : List ℕ) (start end : ℕ) (f : FirstZero s start end) 
       let clean : NoZero (drop start s) =
       not_has (drop start s) 0 (λ i g z. f.before (start + i) (omega arith) (omega (arith, length-drop start s)) (sym (get_or-drop start s i 0) ∙ z)) in
       sym (ap (mapped (string_place start)) (up_to_never n (drop start s) clean))
+
+pub ruleset string_reads = (read_beyond, read_found, read_none)
 
 -- ---- what callers read from it
 pub place_found : (p : Place) (at : ℕ) (m : Check (List ℕ)) → pass p ≡ mapped (string_place at) m → (t : List ℕ) × (m ≡ pass t) × (p.start ≡ at) × (p.size ≡ length t)

@@ -17,14 +17,15 @@ use Rattle.octets.proofs.Elements.{any_at}
 use Rattle.octets.proofs.Placed.{length_placed}
 use Rattle.octets.proofs.Regions.{get_d_placed, get_d_before, get_d_behind, part_before, part_behind}
 use Rattle.strings.specs.Strings.{str_of, offset_in}
-use Rattle.strings.specs.Indexed.{room_of, side, link_of, Distinct, EndsFree, SoughtIs}
+use Rattle.strings.specs.Indexed.{room_of, root_of, side, link_of, Distinct, EndsFree, SoughtIs}
 use Rattle.strings.specs.Kept.{bytes_at, Inside, row_place, RowHeld, Held, row_added, places_from, places_in}
 use Rattle.strings.specs.declared.table.Place.{Place}
 use Rattle.strings.specs.declared.table.StringTable.{StringTable}
 use Rattle.strings.proofs.FirstUses.{is_in, distinct_snoc}
 use Rattle.strings.proofs.Offsets.{row_offset}
 use Rattle.strings.proofs.Places.{length_bytes_at}
-use Rattle.strings.proofs.Indexing.{Stands, Passing, indexed_none, indexed_same, number_among, comes_inside, passing_more, passing_stands, passing_rises, passing_free, walk_stands, indexed_more}
+use Rattle.strings.proofs.Hashing.{root_high, side_lt}
+use Rattle.strings.proofs.Indexing.{Stands, Passing, passing_none, indexed_none, indexed_same, number_among, comes_inside, passing_more, passing_stands, passing_rises, passing_free, walk_stands, indexed_more}
 
 -- ---- a search
 -- what the row where it ended says of the string
@@ -37,39 +38,6 @@ module _ (b region : List ℕ) (n : ℕ) (table : List (List ℕ)) (k : Held b r
       let h : i < length table = omega (arith, k.count, f.0) in
       (k.rows i f.0).place ∙ sym (row_offset table i k.distinct h) ∙ ap (offset_in table) f.1
 
--- turns of the search: at a word that is free, at one that holds the string's number, and at another's
-module _ (b region : List ℕ) (n : ℕ) (table : List (List ℕ)) (k : Held b region n table) (s : List ℕ) (steps at : ℕ) (p : Passing (room_of region) region table s steps at) where
-  pub at_inside : 1 ≤ room_of region → at < length region
-  unfolding room_of
-  at_inside some =
-      omega (arith, comes_inside (room_of region) region n table k.index s some k.room steps p.walk.used, p.walk.is)
-
-  module _ (number : ℕ) (e : number ≡ get_or region at 0) where
-    pub ends_free : number ≡ 0 → SoughtIs region n table s (Err at)
-    ends_free z =
-        let free = sym e ∙ z in
-        record { new = passing_free (room_of region) region table s steps at p n k.index k.count free; steps = steps; walk = p.walk; zero = free }
-
-    module _ (used : number ≡ 0 → ⊥) where
-      -- there are no more steps than rows
-      pub few_steps : (steps < number) × (number ≤ n)
-      few_steps =
-          (rw e (passing_rises (room_of region) region table s steps at p n k.index (λ z. used (e ∙ z))), rw e (number_among (room_of region) region n table k.index at (passing_stands (room_of region) region table s steps at p n k.index)))
-
-      pub row_inside : number - 1 < n
-      row_inside = omega (arith, few_steps.1)
-
-      module _ (r : Bool) (q : r ≡ same s (bytes_at b (row_place region (number - 1)))) where
-        row_is : r ≡ same s (get_or table (number - 1) [])
-        row_is = q ∙ ap (same s) (k.rows (number - 1) row_inside).bytes
-
-        pub ends_row : r ≡ true → SoughtIs region n table s (Ok (number - 1))
-        ends_row t = (row_inside, sym (same_eq s (get_or table (number - 1) []) (sym row_is ∙ t)))
-
-        pub goes_on : r ≡ false → (next : ℕ) → next ≡ link_of (room_of region) number (side s steps) → Passing (room_of region) region table s (steps + 1) next
-        goes_on t next l =
-            passing_more (room_of region) region table s steps at p (λ z. used (e ∙ z)) (rw (← e) (sym row_is ∙ t)) next (rw (← e) l)
-
 -- where a row stands, and that its string lies in the bundle
 module _ (b region : List ℕ) (n : ℕ) (table : List (List ℕ)) (k : Held b region n table) (i : ℕ) (h : i < n) where
   pub row_room : 3 * i + 3 ≤ length region
@@ -78,6 +46,60 @@ module _ (b region : List ℕ) (n : ℕ) (table : List (List ℕ)) (k : Held b r
 
   pub row_fits : Inside b (row_place region i)
   row_fits = (k.rows i h).fits
+
+-- the search for s came to a word that says number: in each table that the region may hold, the rows passed are other strings'
+pub record Searching (b region : List ℕ) (n : ℕ) (s : List ℕ) (steps at number : ℕ) : Type 0 where
+  pub says : number ≡ get_or region at 0
+  pub passing : (ts : List (List ℕ)) → Held b region n ts → Passing (room_of region) region ts s steps at
+
+-- it begins
+pub search_none : (b region : List ℕ) (n : ℕ) (s : List ℕ) (at : ℕ) → at ≡ root_of (length region / 7) s → Searching b region n s 0 at (get_or region at 0)
+unfolding room_of
+search_none b region n s at e = record { says = refl; passing = λ ts k. passing_none (room_of region) region ts s at e }
+
+pub root_inside : (region s : List ℕ) (at : ℕ) → 7 ≤ length region → at ≡ root_of (length region / 7) s → at < length region
+root_inside region s at some e = omega (arith, root_high (length region / 7) s (omega arith))
+
+-- turns of it: at a word that is free, at one that holds the string's number, and at another's
+module _ {b region : List ℕ} {n : ℕ} {s : List ℕ} {steps at number : ℕ} (g : Searching b region n s steps at number) where
+  pub search_free : number ≡ 0 → (u : List ℕ) → s ≡ u → (ts : List (List ℕ)) → Held b region n ts → SoughtIs region n ts u (Err at)
+  search_free z u e ts k =
+      let p = g.passing ts k in
+      let free = sym g.says ∙ z in
+      rw (← e) record { new = passing_free (room_of region) region ts s steps at p n k.index k.count free; steps = steps; walk = p.walk; zero = free }
+
+  module _ (used : number ≡ 0 → ⊥) where
+    met : (ts : List (List ℕ)) → Held b region n ts → (steps < number) × (number ≤ n)
+    met ts k =
+        let p = g.passing ts k in
+        (rw g.says (passing_rises (room_of region) region ts s steps at p n k.index (λ z. used (g.says ∙ z))), rw g.says (number_among (room_of region) region n ts k.index at (passing_stands (room_of region) region ts s steps at p n k.index)))
+
+    -- there are no more steps than rows
+    pub few_steps : ((ts : List (List ℕ)) × Held b region n ts) → (steps < n) × (number ≤ length region / 7)
+    unfolding room_of
+    few_steps k = omega (arith, met k.0 k.1, k.1.room)
+
+    pub row_met : ((ts : List (List ℕ)) × Held b region n ts) → (3 * (number - 1) + 3 ≤ length region) × Inside b (row_place region (number - 1))
+    row_met k = let h : number - 1 < n = omega (arith, met k.0 k.1) in (row_room b region n k.0 k.1 (number - 1) h, row_fits b region n k.0 k.1 (number - 1) h)
+
+    pub link_inside : ((ts : List (List ℕ)) × Held b region n ts) → (next : ℕ) (on : ℕ) → on ≡ side s steps → next ≡ link_of (length region / 7) number on → next < length region
+    unfolding link_of
+    link_inside k next on o e = omega (arith, few_steps k, side_lt s steps)
+
+    module _ (r : Bool) (q : r ≡ same s (bytes_at b (row_place region (number - 1)))) where
+      row_is : (ts : List (List ℕ)) → Held b region n ts → r ≡ same s (get_or ts (number - 1) [])
+      row_is ts k = q ∙ ap (same s) (k.rows (number - 1) (omega (arith, met ts k))).bytes
+
+      pub search_found : r ≡ true → (u : List ℕ) → s ≡ u → (ts : List (List ℕ)) → Held b region n ts → SoughtIs region n ts u (Ok (number - 1))
+      search_found t u e ts k = (omega (arith, met ts k), sym (same_eq s (get_or ts (number - 1) []) (sym (row_is ts k) ∙ t)) ∙ e)
+
+      pub search_more : r ≡ false → (next on : ℕ) → on ≡ side s steps → next ≡ link_of (length region / 7) number on → Searching b region n s (steps + 1) next (get_or region next 0)
+      unfolding room_of
+      search_more t next on o l =
+          record {
+            says = refl;
+            passing = λ ts k. passing_more (room_of region) region ts s steps at (g.passing ts k) (λ z. used (g.says ∙ z)) (rw (← g.says) (sym (row_is ts k) ∙ t)) next (rw (← g.says, ← o) l);
+          }
 
 -- parts of other lengths differ
 pub other_row : (b s : List ℕ) (p : Place) → Inside b p → (p.size ≡ length s → ⊥) → false ≡ same s (bytes_at b p)

@@ -3,8 +3,9 @@
 use mathlib.Core.Path.{◌≡◌, refl, sym, ap, ap₂, ◌∙◌}
 use mathlib.Core.Bool.{true, false}
 use mathlib.Core.List.{List, [], ◌∷◌, ◌++◌, map}
-use Prim.Native.Nat.{ℕ, ◌+◌, ◌*◌, ◌-◌, ◌<◌, ◌≤◌, ◌^◌}
+use Prim.Native.Nat.{ℕ, ◌+◌, ◌*◌, ◌-◌, ◌<◌, ◌≤◌}
 use native.Mathlib.Omega.{arith}
+use Rattle.std.specs.Prelude.{Some, None, Ok}
 use lib.ListN.{length, get_or, length-append}
 use borrow.Author.Tests.{ltb-true, ltb-false, lt-ltb, le-ltb}
 use Rattle.octets.specs.Octets.{part, placed, zeros}
@@ -14,15 +15,15 @@ use Rattle.octets.proofs.Parts.{part_none, part_add}
 use Rattle.octets.proofs.Placed.{get_d_zeros, length_placed, placed_placed}
 use Rattle.octets.proofs.Regions.{part_before, part_placed}
 use Rattle.strings.specs.Strings.{put, put_all, first_uses, str_of, offset_in}
-use Rattle.strings.specs.Indexed.{room_of}
-use Rattle.strings.specs.Kept.{none, bytes_at, Inside, Held, Kept, places_from, places_in, places_of, with_entry, row_added, NewAt, PutIs}
-use Rattle.strings.specs.Objects.{Roomy}
+use Rattle.strings.specs.Indexed.{room_of, SoughtIs}
+use Rattle.strings.specs.Kept.{none, bytes_at, Inside, Held, Kept, places_from, places_in, places_of, with_entry, row_added, NewAt, RowAddable, PutSmall, PutIs}
+use Rattle.strings.specs.Objects.{Roomy, Insertable}
 use Rattle.strings.specs.declared.table.Place.{Place}
 use Rattle.strings.specs.declared.table.StringTable.{StringTable}
 use Rattle.strings.proofs.FirstUses.{is_in, put_known, put_new, length_first_uses, first_uses_snoc, used_in_law}
 use Rattle.strings.proofs.Offsets.{str_of_none, length_str_of_snoc, put_longer, str_of_counts, offset_le, offset_absent, offset_put, offsets_keep}
 use Rattle.strings.proofs.Places.{length_bytes_at}
-use Rattle.strings.proofs.Holding.{held_none, held_more, held_noted, row_places, slot_inside}
+use Rattle.strings.proofs.Holding.{sought_known, sought_place, row_room, held_none, held_more, held_noted, row_places, slot_inside}
 
 -- ---- places of entries
 -- one place more in the region
@@ -80,7 +81,7 @@ row_stored region r l m x slot links t p h e er el em ex =
 -- a string whose place is noted, in a region that holds the table with it
 put_noted : (b y x : List ℕ) (u r : StringTable) (used : List (List ℕ)) (s : List ℕ) (v : ℕ) → u.over ≡ false → u.entries ≡ length used → u.entries < room_of y
     → Held b y u.count (put (first_uses used) s) → u.size ≡ length (str_of (put (first_uses used) s)) → u.size ≤ 8388607 → places_in y (length used) ≡ places_of used
-    → v ≡ offset_in (first_uses used) s → r ≡ with_entry u → x ≡ placed y (places_from (length y) + u.entries) (v ∷ []) → PutIs b x used s r v
+    → v ≡ offset_in (first_uses used) s → r ≡ with_entry u → x ≡ placed y (places_from (length y) + u.entries) (v ∷ []) → PutIs b x used s r (Some v)
 put_noted b y x u r used s v f n room k size low places o q e =
     let new = first_uses_snoc used s in
     let count : length (used ++ (s ∷ [])) ≡ length used + 1 = length-append used (s ∷ []) in
@@ -98,12 +99,12 @@ put_noted b y x u r used s v f n room k size low places o q e =
             entries = λ _. omega (arith, count);
             places = λ _. grown;
           };
-      stands = λ _. o ∙ sym (offset_put (first_uses used) s) ∙ ap (λ (z : List (List ℕ)). offset_in z s) (sym new);
+      stands = (ap (λ (z : StringTable). z.over) q ∙ f, o ∙ sym (offset_put (first_uses used) s) ∙ ap (λ (z : List (List ℕ)). offset_in z s) (sym new));
     }
 
 module _ (b region : List ℕ) (t : StringTable) (used : List (List ℕ)) (k : Kept b region t used) where
   -- 19 is not reached: the section is as long as the state says
-  pub kept_within : t.over ≡ false → t.size ≤ 8388607
+  kept_within : t.over ≡ false → t.size ≤ 8388607
   kept_within f = omega (arith, k.size f, ltb-false 8388607 (length (str_of (first_uses used))) (sym k.over ∙ f))
 
   -- behind the limit nothing is stored, whatever the region holds
@@ -120,74 +121,92 @@ module _ (b region : List ℕ) (t : StringTable) (used : List (List ℕ)) (k : K
         places = λ g. absurd (true_false f g);
       }
 
-  module _ (f : t.over ≡ false) where
-    -- the number of a row fits a word
-    pub kept_count : t.count + 1 < 2 ^ 32
-    kept_count = omega (arith, k.size f, kept_within f, str_of_counts (first_uses used), (k.held f).count)
+  -- a known string: its place is noted
+  pub put_again : t.over ≡ false → (x s : List ℕ) (v : ℕ) (r : StringTable) → is_in (first_uses used) s ≡ true → t.entries < room_of region → v ≡ offset_in (first_uses used) s
+      → r ≡ with_entry t → x ≡ placed region (places_from (length region) + t.entries) (v ∷ []) → PutIs b x used s r (Some v)
+  put_again f x s v r e room o is q =
+      let old = put_known (first_uses used) s e in
+      put_noted b region x t r used s v f (k.entries f) room (rw old (k.held f)) (rw old (k.size f)) (kept_within f) (k.places f) o is q
 
-    -- there are no more rows than entries
-    pub kept_rows : t.count ≤ t.entries
-    kept_rows = omega (arith, (k.held f).count, k.entries f, length_first_uses used)
+  longer : t.over ≡ false → (p : Place) → Inside b p → is_in (first_uses used) (bytes_at b p) ≡ false → length (str_of (put (first_uses used) (bytes_at b p))) ≡ t.size + p.size + 1
+  longer f p fits new = rw (put_new (first_uses used) (bytes_at b p) new) (length_str_of_snoc (first_uses used) (bytes_at b p) ∙ omega (arith, k.size f, length_bytes_at b p fits))
 
-    -- a place in str is far below 32 bits
-    pub place_small : (s : List ℕ) (o : ℕ) → o ≡ offset_in (first_uses used) s → o ≤ 8388607
-    place_small s o e = omega (arith, offset_le (first_uses used) s, k.size f, kept_within f)
+-- ---- what get_or_insert does: nothing, where the section is over
+pub put_nothing : (b region : List ℕ) (t : StringTable) (s : List ℕ) (used : List (List ℕ)) → Kept b region t used → t.over ≡ true → PutIs b region used s t None
+put_nothing b region t s used k f = record { kept = kept_over b region t used k region s f; stands = f }
 
-    -- a known string: its place is noted
-    pub put_again : (x s : List ℕ) (v : ℕ) (r : StringTable) → is_in (first_uses used) s ≡ true → t.entries < room_of region → v ≡ offset_in (first_uses used) s
-        → r ≡ with_entry t → x ≡ placed region (places_from (length region) + t.entries) (v ∷ []) → PutIs b x used s r v
-    put_again x s v r e room o is q =
-        let old = put_known (first_uses used) s e in
-        put_noted b region x t r used s v f (k.entries f) room (rw old (k.held f)) (rw old (k.size f)) (kept_within f) (k.places f) o is q
+-- a string that was found in a row
+module _ (b region : List ℕ) (t : StringTable) (s : List ℕ) (i : ℕ) (f : t.over ≡ false) (found : (ts : List (List ℕ)) → Held b region t.count ts → SoughtIs region t.count ts s (Ok i)) where
+  row_place_is : (used : List (List ℕ)) → Kept b region t used → get_or region (3 * i + 2) 0 ≡ offset_in (first_uses used) s
+  row_place_is used k = sought_place b region t.count (first_uses used) (k.held f) s i (found (first_uses used) (k.held f))
 
-    module _ (p : Place) (slot : ℕ) (fits : Inside b p) (new : NewAt b p region used slot) where
-      longer : length (str_of (put (first_uses used) (bytes_at b p))) ≡ t.size + p.size + 1
-      longer =
-          rw (put_new (first_uses used) (bytes_at b p) new.new)
-          (length_str_of_snoc (first_uses used) (bytes_at b p) ∙ omega (arith, k.size f, length_bytes_at b p fits))
+  pub found_row : ((used : List (List ℕ)) × Kept b region t used) → 3 * i + 2 < length region
+  found_row k = let h = k.1.held f in omega (arith, row_room b region t.count (first_uses k.0) h i (found (first_uses k.0) h).0)
 
-      -- a new string that would end above the limit
-      pub put_passes : 8388607 - t.size ≤ p.size → PutIs b region used (bytes_at b p) (record { count = t.count; size = t.size; entries = t.entries; over = true }) 0
-      put_passes h =
-          let s = bytes_at b p in
-          record {
-            kept =
-                record {
-                  few = simp length-append (omega (arith, k.few));
-                  over = sym (lt-ltb 8388607 (length (str_of (first_uses (used ++ (s ∷ []))))) (rw (first_uses_snoc used s) (omega (arith, longer, kept_within f))));
-                  size = λ g. absurd (true_false refl g);
-                  held = λ g. absurd (true_false refl g);
-                  entries = λ g. absurd (true_false refl g);
-                  places = λ g. absurd (true_false refl g);
-                };
-            stands = λ g. absurd (true_false refl g);
-          }
+  pub found_put : (x : List ℕ) (r : StringTable) (v : ℕ) (used : List (List ℕ)) → Kept b region t used → Roomy (length region) t → v ≡ get_or region (3 * i + 2) 0
+      → r ≡ with_entry t → x ≡ placed region (places_from (length region) + t.entries) (v ∷ []) → PutIs b x used s r (Some v)
+  found_put x r v used k room e is q =
+      let h = k.held f in
+      let known = sought_known b region t.count (first_uses used) h s i (found (first_uses used) h) in
+      put_again b region t used k f x s v r known (roomy_places region t room) (e ∙ row_place_is used k) is q
 
-      pub new_inside : t.entries < room_of region → slot < length region
-      new_inside room = slot_inside b region t.count (first_uses used) (k.held f) (bytes_at b p) slot (omega arith) new
+  -- its place in str is far below 32 bits
+  pub found_small : (r : StringTable) (v : ℕ) → ((used : List (List ℕ)) × Kept b region t used) → v ≡ get_or region (3 * i + 2) 0 → r ≡ with_entry t → PutSmall t r (Some v)
+  found_small r v k e is =
+      record {
+        entries = omega (arith, ap (λ (z : StringTable). z.entries) is);
+        small = omega (arith, e ∙ row_place_is k.0 k.1, offset_le (first_uses k.0) s, k.1.size f, kept_within b region t k.0 k.1 f);
+      }
 
-      -- a new string: its row behind the others, and its place
-      pub put_row : (y x : List ℕ) (r : StringTable) → p.size < 8388607 - t.size → t.entries < room_of region → y ≡ row_added region slot t p → length y ≡ length region
-          → r ≡ with_entry (record { count = t.count + 1; size = t.size + (p.size + 1); entries = t.entries; over = t.over }) → x ≡ placed y (places_from (length y) + t.entries) (t.size ∷ [])
-          → PutIs b x used (bytes_at b p) r t.size
-      unfolding room_of
-      put_row y x r h room e same is q =
-          let s = bytes_at b p in
-          let table = first_uses used in
-          let low : t.count < room_of region = omega (arith, kept_rows) in
-          let grown : put table s ≡ table ++ (s ∷ []) = put_new table s new.new in
-          let held : Held b y (t.count + 1) (put table s) = rw (grown, e) (held_more b region t table (k.held f) p slot low fits (k.size f) new) in
-          let places : places_in y (length used) ≡ places_of used =
-          ap (λ (z : List ℕ). places_in z (length used)) e
-          ∙ row_places b region t table (k.held f) p slot low fits (k.size f) new (length used) (omega (arith, k.entries f))
-          ∙ k.places f in
-          put_noted b y x (record { count = t.count + 1; size = t.size + (p.size + 1); entries = t.entries; over = t.over }) r used s t.size f (k.entries f) (rw same room) held (omega (arith, longer))
-          (omega (arith, kept_within f))
-          places
-          (k.size f ∙ sym (offset_absent table s new.new))
-          is
-          q
+-- ---- a string that is not kept yet
+module _ (b region : List ℕ) (p : Place) (slot : ℕ) (t : StringTable) (f : t.over ≡ false) (a : Insertable b p region t) where
+  -- there are no more rows than entries, and the number of a row fits a word
+  pub row_addable : ((used : List (List ℕ)) × Kept b region t used × NewAt b p region used slot) → RowAddable region slot t p
+  row_addable g =
+      let k = g.1 in
+      let room = roomy_places region t a.room in
+      let few : t.count ≤ t.entries = omega (arith, (k.held f).count, k.entries f, length_first_uses g.0) in
+      record {
+        room = omega (arith, room, few);
+        within = slot_inside b region t.count (first_uses g.0) (k.held f) (bytes_at b p) slot (omega (arith, room)) g.2;
+        start_small = omega (arith, a.fits, a.limit);
+        size_small = omega (arith, a.fits, a.limit);
+        place_small = omega (arith, kept_within b region t g.0 k f);
+        count_small = omega (arith, k.size f, kept_within b region t g.0 k f, str_of_counts (first_uses g.0), (k.held f).count);
+        words_small = a.room.small;
+      }
 
--- the string put, by its bytes
-pub put_as : (b x : List ℕ) (used : List (List ℕ)) (u s : List ℕ) (r : StringTable) (v : ℕ) → u ≡ s → PutIs b x used u r v → PutIs b x used s r v
-put_as b x used u s r v e p = rw e at p
+  module _ (used : List (List ℕ)) (k : Kept b region t used) (new : NewAt b p region used slot) where
+    -- one that would end above the limit
+    pub put_passes : (r : StringTable) → 8388607 - t.size ≤ p.size → r.entries ≡ t.entries → r.over ≡ true → PutIs b region used (bytes_at b p) r None
+    put_passes r h same over =
+        let s = bytes_at b p in
+        record {
+          kept =
+              record {
+                few = simp length-append (omega (arith, k.few));
+                over = over ∙ sym (lt-ltb 8388607 (length (str_of (first_uses (used ++ (s ∷ []))))) (rw (first_uses_snoc used s) (omega (arith, longer b region t used k f p a.fits new.new, kept_within b region t used k f))));
+                size = λ g. absurd (true_false over g);
+                held = λ g. absurd (true_false over g);
+                entries = λ g. absurd (true_false over g);
+                places = λ g. absurd (true_false over g);
+              };
+          stands = over;
+        }
+
+    -- its row behind the others, and its place
+    pub put_row : (y x : List ℕ) (r : StringTable) (v : ℕ) → p.size < 8388607 - t.size → v ≡ t.size → y ≡ row_added region slot t p → length y ≡ length region
+        → r ≡ with_entry (record { count = t.count + 1; size = t.size + (p.size + 1); entries = t.entries; over = t.over }) → x ≡ placed y (places_from (length y) + t.entries) (v ∷ [])
+        → PutIs b x used (bytes_at b p) r (Some v)
+    unfolding room_of
+    put_row y x r v h at e same is q =
+        let s = bytes_at b p in
+        let table = first_uses used in
+        let long = longer b region t used k f p a.fits new.new in
+        let room = roomy_places region t a.room in
+        let low : t.count < room_of region = omega (arith, (k.held f).count, k.entries f, length_first_uses used, room) in
+        let held : Held b y (t.count + 1) (put table s) = rw (put_new table s new.new, e) (held_more b region t table (k.held f) p slot low a.fits (k.size f) new) in
+        let places : places_in y (length used) ≡ places_of used =
+        ap (λ (z : List ℕ). places_in z (length used)) e ∙ row_places b region t table (k.held f) p slot low a.fits (k.size f) new (length used) (omega (arith, k.entries f)) ∙ k.places f in
+        put_noted b y x (record { count = t.count + 1; size = t.size + (p.size + 1); entries = t.entries; over = t.over }) r used s v f (k.entries f) (rw same room) held (omega (arith, long)) (omega (arith, kept_within b region t used k f))
+        places (at ∙ k.size f ∙ sym (offset_absent table s new.new)) is q

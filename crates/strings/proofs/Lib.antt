@@ -12,7 +12,6 @@ pub mod Hashing
 pub mod Indexing
 pub mod Holding
 pub mod Keeping
-pub mod Storing
 pub mod Remembering
 pub mod Adding
 pub mod Headed

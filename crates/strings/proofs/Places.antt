@@ -2,27 +2,19 @@
 -- Assumes nothing.
 use mathlib.Core.Path.{◌≡◌, refl, sym, ap, ap₂, ◌∙◌}
 use mathlib.Core.List.{List}
-use Prim.Native.Nat.{ℕ, ◌+◌, ◌-◌, ◌<◌, ◌≤◌}
+use Prim.Native.Nat.{ℕ, ◌+◌, ◌<◌, ◌≤◌}
 use native.Mathlib.Omega.{arith}
-use lib.ListN.{length, take, drop}
+use lib.ListN.{length}
 use Rattle.octets.specs.Octets.{part}
 use Rattle.octets.specs.Checked.{Check, pass, refuse, mapped}
 use Rattle.octets.proofs.Checks.{pass_inj, pass_refuse}
-use Rattle.octets.proofs.Parts.{part_cut, part_part, length_part}
+use Rattle.octets.proofs.Parts.{part_part, length_part}
 use Rattle.strings.specs.Strings.{string_at}
 use Rattle.strings.specs.Answers.{string_place}
 use Rattle.strings.specs.Kept.{Inside, bytes_at}
 use Rattle.strings.specs.declared.table.Place.{Place}
 use Rattle.strings.proofs.Ends.{string_at_is}
 use Rattle.strings.proofs.Headers.{place_found, place_missing}
-
--- a part as the code cuts it
-abbrev pub cut : List ℕ → Place → List ℕ
-cut b p = take (p.start + p.size - p.start) (drop p.start b)
-
-pub cut_is : (b : List ℕ) (p : Place) → cut b p ≡ bytes_at b p
-unfolding bytes_at
-cut_is b p = part_cut b p.start p.size
 
 pub length_bytes_at : (b : List ℕ) (p : Place) → Inside b p → length (bytes_at b p) ≡ p.size
 unfolding bytes_at

@@ -4,30 +4,32 @@ use mathlib.Core.Path.{◌≡◌, refl, sym, ap, ap₂, ◌∙◌}
 use mathlib.Core.Logic.{⊎_elim}
 use mathlib.Core.Bool.{true, false}
 use mathlib.Core.List.{List, [], ◌∷◌, ◌++◌}
-use Prim.Native.Nat.{ℕ, zero, suc, ◌+◌, ◌-◌, ◌<◌, ◌≤◌}
+use Prim.Native.Nat.{ℕ, zero, suc, ◌+◌, ◌-◌, ◌<◌, ◌≤◌, ◌^◌}
 use native.Mathlib.Decide.{dec_le, ℕ_discrete}
 use native.Mathlib.Nat.{not-suc-le-zero, le_of_suc-le-suc}
 use native.Mathlib.Omega.{arith}
+use Rattle.std.specs.Prelude.{Some, None}
 use lib.Dec.{eqb}
 use lib.ListN.{length, take, drop, get_or, length-drop}
 use lib.Seq.{get_or-drop, length-take-le}
 use borrow.Author.Tests.{eqb-true, eqb-false}
 use Rattle.octets.specs.Octets.{placed, zeros}
-use Rattle.octets.specs.Checked.{Check, pass, refuse}
-use Rattle.octets.proofs.Checks.{known, then_pass, pass_inj}
+use Rattle.octets.specs.Checked.{Check, pass, refuse, mapped}
+use Rattle.octets.proofs.Checks.{known, then_pass, pass_inj, true_false}
 use Rattle.octets.proofs.Placed.{length_zeros, get_d_zeros}
 use Rattle.octets.proofs.Regions.{get_d_placed, get_d_before, get_d_behind}
 use Rattle.strings.specs.Strings.{up_to_zero, string_at, put, first_uses, offset_in}
 use Rattle.strings.specs.Kept.{bytes_at, Inside, places_from, with_entry, Kept, PutIs}
 use Rattle.strings.specs.Remembered.{Remembered, place_is, Putting, LastZero}
-use Rattle.strings.specs.Objects.{Roomy}
+use Rattle.strings.specs.Answers.{string_place}
+use Rattle.strings.specs.Objects.{Insertable, Addable}
 use Rattle.strings.specs.declared.table.Place.{Place}
 use Rattle.strings.specs.declared.table.StringTable.{StringTable}
 use Rattle.strings.proofs.FirstUses.{is_in, put_has, put_keeps, first_uses_snoc}
 use Rattle.strings.proofs.Offsets.{offset_keeps}
 use Rattle.strings.proofs.Ends.{up_to_zero_law, up_to_more, string_at_is, string_at_refused}
-use Rattle.strings.proofs.Places.{length_bytes_at}
-use Rattle.strings.proofs.Keeping.{put_again, roomy_places}
+use Rattle.strings.proofs.Places.{length_bytes_at, Named, string_named, string_there, string_bytes, string_within}
+use Rattle.strings.proofs.Keeping.{kept_over, put_again, roomy_places}
 
 -- ---- memory
 -- the part that is cleared
@@ -94,30 +96,62 @@ known_place str table s memo o v m e q u =
     let place : v - 1 ≡ offset_in table k.0 = omega (arith, k.2.1) in
     (rw same at k.2.0, rw same at place)
 
--- what putting one string leaves: y and x are the table and the memory after that
-module _ (b : List ℕ) (strings : Place) (region memo : List ℕ) (t : StringTable) (used : List (List ℕ)) (s : List ℕ) (o : ℕ) (f : t.over ≡ false)
-    (p : Putting b strings region memo t used) (e : string_at 9 (bytes_at b strings) o ≡ pass s) (y : List ℕ) where
-  grown : Remembered (bytes_at b strings) (place_is (first_uses (used ++ (s ∷ [])))) memo
-  grown = rw (first_uses_snoc used s) (remembered_put (bytes_at b strings) (first_uses used) s memo (p.memory f))
+-- ---- one string put, at an offset of str: y and x are the table and the memory after that
+-- nothing, where the section is over
+pub string_passed : (b : List ℕ) (strings : Place) (region memo : List ℕ) (t : StringTable) (used : List (List ℕ)) (s : List ℕ) → Putting b strings region memo t used → t.over ≡ true
+    → Putting b strings region memo t (used ++ (s ∷ []))
+string_passed b strings region memo t used s p over = record { kept = kept_over b region t used p.kept region s over; memory = λ g. absurd (true_false over g) }
 
-  -- a string that is remembered: its place is noted
-  pub known_noted : (v : ℕ) (r : StringTable) → Roomy (length region) t → v ≡ get_or memo o 0 → (v ≡ 0 → ⊥) → y ≡ placed region (places_from (length region) + t.entries) ((v - 1) ∷ [])
-      → r ≡ with_entry t → Putting b strings y memo r (used ++ (s ∷ []))
-  known_noted v r room q u g is =
-      let k = known_place (bytes_at b strings) (first_uses used) s memo o v (p.memory f) e q u in
-      let put = put_again b region t used p.kept f y s (v - 1) r k.0 (roomy_places region t room) k.1 is g in
-      record { kept = put.kept; memory = λ _. grown }
+module _ (b : List ℕ) (strings : Place) (region memo : List ℕ) (t : StringTable) (o : ℕ) (a : Addable b strings o (length region) (length memo) t) where
+  -- its memory is at hand
+  pub string_reached : (o < length memo) × (o < 2 ^ 32)
+  string_reached =
+      let h = string_within b strings o a.string strings.size a.inside (omega arith) a.starts in
+      (omega (arith, h, a.enough), omega (arith, h, a.inside, a.limit))
 
-  -- one that was sought: its place is remembered
-  pub put_stored : (x : List ℕ) (r : StringTable) (v : ℕ) → o < length memo → PutIs b y used s r v → x ≡ placed memo o ((v + 1) ∷ []) → Putting b strings y x r (used ++ (s ∷ []))
-  unfolding place_is
-  put_stored x r v h put g =
-      let table = first_uses (used ++ (s ∷ [])) in
-      let has : is_in table s ≡ true = rw (first_uses_snoc used s) (put_has (first_uses used) s) in
-      record {
-        kept = put.kept;
-        memory = λ z. remembered_more memo x o (v + 1) h g (bytes_at b strings) (place_is table) s grown e (has, ap (λ (n : ℕ). n + 1) (put.stands z));
-      }
+  -- the string found there
+  module _ (p : Place) (found : pass p ≡ mapped (string_place (strings.start + o)) (string_at 9 (bytes_at b strings) o)) where
+    named : Named b strings o p
+    named = string_named b strings o p a.inside found
+
+    pub string_room : ((used : List (List ℕ)) × Putting b strings region memo t used) → Insertable b p region t × ((used : List (List ℕ)) × Kept b region t used)
+    string_room k = (record { limit = a.limit; fits = named.fits; room = a.room }, (k.0, k.1.kept))
+
+  pub string_none : refuse 9 ≡ mapped (string_place (strings.start + o)) (string_at 9 (bytes_at b strings) o) → ⊥
+  string_none e = string_there b strings o a.string a.starts e
+
+  module _ (f : t.over ≡ false) (used : List (List ℕ)) (s : List ℕ) (k : Putting b strings region memo t used) (e : string_at 9 (bytes_at b strings) o ≡ pass s) (y : List ℕ) where
+    grown : Remembered (bytes_at b strings) (place_is (first_uses (used ++ (s ∷ [])))) memo
+    grown = rw (first_uses_snoc used s) (remembered_put (bytes_at b strings) (first_uses used) s memo (k.memory f))
+
+    -- one that is remembered: its place is noted
+    pub known_noted : (v : ℕ) (r : StringTable) → v ≡ get_or memo o 0 → (v ≡ 0 → ⊥) → y ≡ placed region (places_from (length region) + t.entries) ((v - 1) ∷ []) → r ≡ with_entry t
+        → Putting b strings y memo r (used ++ (s ∷ []))
+    known_noted v r q u g is =
+        let m = known_place (bytes_at b strings) (first_uses used) s memo o v (k.memory f) e q u in
+        let put = put_again b region t used k.kept f y s (v - 1) r m.0 (roomy_places region t a.room) m.1 is g in
+        record { kept = put.kept; memory = λ _. grown }
+
+    module _ (p : Place) (found : pass p ≡ mapped (string_place (strings.start + o)) (string_at 9 (bytes_at b strings) o)) (r : StringTable) where
+      bytes : bytes_at b p ≡ s
+      bytes = string_bytes b strings o s p e (named p found)
+
+      -- one that was sought: its place is remembered
+      pub put_stored : (x : List ℕ) (v : ℕ) → ((ts : List (List ℕ)) → Kept b region t ts → PutIs b y ts (bytes_at b p) r (Some v)) → x ≡ placed memo o ((v + 1) ∷ [])
+          → Putting b strings y x r (used ++ (s ∷ []))
+      unfolding place_is
+      put_stored x v is g =
+          let put = rw bytes at (is used k.kept) in
+          let table = first_uses (used ++ (s ∷ [])) in
+          let has : is_in table s ≡ true = rw (first_uses_snoc used s) (put_has (first_uses used) s) in
+          record {
+            kept = put.kept;
+            memory = λ _. remembered_more memo x o (v + 1) string_reached.0 g (bytes_at b strings) (place_is table) s grown e (has, ap (λ (n : ℕ). n + 1) put.stands.1);
+          }
+
+      -- nothing is remembered where the section gets over
+      pub put_over : ((ts : List (List ℕ)) → Kept b region t ts → PutIs b y ts (bytes_at b p) r None) → Putting b strings y memo r (used ++ (s ∷ []))
+      put_over is = let put = rw bytes at (is used k.kept) in record { kept = put.kept; memory = λ g. absurd (true_false put.stands g) }
 
 -- ---- strings start up to the last zero byte, and nowhere behind it
 up_to_has : (n : ℕ) (s : List ℕ) (i : ℕ) → i < length s → get_or s i 0 ≡ 0 → (t : List ℕ) × (up_to_zero n s ≡ pass t)

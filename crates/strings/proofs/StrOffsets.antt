@@ -19,7 +19,7 @@ use Rattle.bundle.specs.Encoding.{Encoding}
 use Rattle.bundle.specs.Encoded.{four, encoding_is}
 use Rattle.bundle.specs.InitialLength.{marked, length_field, length_stated}
 use Rattle.bundle.specs.declared.encoding.ObjectEncoding.{ObjectEncoding}
-use Rattle.bundle.proofs.InitialLengths.{field_narrow, field_wide, field_most}
+use Rattle.bundle.proofs.InitialLengths.{field_narrow, field_wide}
 use Rattle.strings.specs.Strings.{header_size, header_true, entries_in, entries_of}
 
 -- ---- the width of what the code holds
@@ -74,14 +74,6 @@ header_most : (e : Encoding) → Sound e → e.version ≡ 5 → header_size e �
 header_most e w v =
     let h = header_five e v in
     ⊎_elim (λ n. omega (arith, eqb-true e.width 4 n, field_narrow e n)) (λ n. omega (arith, field_wide e n, w.high)) (known (eqb e.width 4))
-
-pub field_within : (e : ObjectEncoding) → (encoding_is e).version ≡ 5 → length_field (encoding_is e) ≤ header_size (encoding_is e)
-field_within e v =
-    let h = header_five (encoding_is e) v in
-    ⊎_elim
-    (λ w. omega (arith, field_narrow (encoding_is e) (eq-eqb (encoding_is e).width 4 w)))
-    (λ w. omega (arith, field_most (encoding_is e)))
-    (width_cases e)
 
 -- a true header lies in the section
 pub header_within : (e : Encoding) (s : List ℕ) → Sound e → header_true e s ≡ true → header_size e ≤ length s

@@ -11,9 +11,8 @@ use Rattle.bundle.specs.Encoding.{Encoding}
 use Rattle.bundle.specs.InitialLength.{length_field, length_stated}
 use Rattle.bundle.specs.Encoded.{encoding_is}
 use Rattle.strings.specs.Strings.{header_size, entries_in, entries_of, strings_at, remapped}
-use Rattle.strings.specs.Kept.{Inside, bytes_at, AddedIs}
+use Rattle.strings.specs.Kept.{Inside, bytes_at, Kept, AddedIs}
 use Rattle.strings.specs.Remembered.{LastZero, Putting}
-use Rattle.strings.specs.Objects.{table_in, KeptIn}
 use Rattle.strings.specs.declared.table.StrOffsets.{StrOffsets}
 use Rattle.strings.specs.declared.table.StringTable.{StringTable}
 
@@ -49,16 +48,20 @@ pub record PiecesAddable (b : List ℕ) (o : StrOffsets) (words memory : ℕ) (t
 abbrev pub PiecesAdded : List ℕ → StrOffsets → List ℕ → List (List ℕ) → List (List ℕ) → StringTable → Result (Unit {0}) Refusal → Type 0
 PiecesAdded b o x used ps u r = AddedIs b x used (strings_of_all (encoding_is o.encoding) (bytes_at b o.strings) ps) u r
 
--- the same for all strings that were used before, with memory and without; x and u are the table, or the store, and the state after that
+-- the same for all strings that were used before, with memory and without; x and u are the table and the state after that
 abbrev pub PiecesPut : List ℕ → StrOffsets → List ℕ → List ℕ → StringTable → List ℕ → StringTable → Result (Unit {0}) Refusal → Type 0
 PiecesPut b o region memory t x u r =
     (ts ps : List (List ℕ)) → Putting b o.strings region memory t ts → HeadedOf o b ps → PiecesAdded b o x ts ps u r
 
-abbrev pub PiecesKept : List ℕ → StrOffsets → ℕ → List ℕ → StringTable → List ℕ → StringTable → Result (Unit {0}) Refusal → Type 0
-PiecesKept b o words store t x u r =
-    (ts ps : List (List ℕ)) → KeptIn b words store t ts → HeadedOf o b ps → PiecesAdded b o (table_in words x) ts ps u r
+abbrev pub PiecesKept : List ℕ → StrOffsets → List ℕ → StringTable → List ℕ → StringTable → Result (Unit {0}) Refusal → Type 0
+PiecesKept b o region t x u r = (ts ps : List (List ℕ)) → Kept b region t ts → HeadedOf o b ps → PiecesAdded b o x ts ps u r
 
--- what putting them takes: room, where the last string of str ends, a table that is being put, and pieces
+-- what putting them takes: room, strings that are kept, and pieces
+abbrev pub PiecesAsked : List ℕ → StrOffsets → List ℕ → List ℕ → StringTable → Type 0
+PiecesAsked b o region memory t =
+    PiecesAddable b o (length region) (length memory) t × ((ts : List (List ℕ)) × Kept b region t ts) × ((ps : List (List ℕ)) × HeadedOf o b ps)
+
+-- and what it takes once the memory is cleared: room, where the last string of str ends, a table that is being put, and pieces
 abbrev pub PiecesPutAsked : List ℕ → StrOffsets → ℕ → List ℕ → List ℕ → StringTable → Type 0
 PiecesPutAsked b o last region memory t =
     PiecesAddable b o (length region) (length memory) t × LastZero (bytes_at b o.strings) last × ((ts : List (List ℕ)) × Putting b o.strings region memory t ts)

@@ -1,6 +1,6 @@
 -- The table of kept strings as the code holds it: words of a lent region, and a state by value. Nothing here need be believed.
 -- Assumes nothing.
-use Rattle.std.specs.Prelude.{◌≡◌, false, List, [], ◌∷◌, ◌++◌, map, ℕ, ◌+◌, ◌*◌, ◌/◌, ◌^◌, ◌<◌, ◌≤◌, ltb, length, take, get_or, Result, Ok, Err}
+use Rattle.std.specs.Prelude.{◌≡◌, true, false, List, [], ◌∷◌, ◌++◌, map, ℕ, ◌+◌, ◌*◌, ◌/◌, ◌^◌, ◌<◌, ◌≤◌, ltb, length, take, get_or, Option, Some, None, Result, Ok, Err}
 use Rattle.numbers.specs.Limits.{section_limit, string_words}
 use Rattle.numbers.specs.Refused.{number_of}
 use Rattle.numbers.specs.declared.refusals.Refusal.{Refusal}
@@ -95,18 +95,28 @@ pub record RowAddable (region : List ℕ) (slot : ℕ) (t : StringTable) (p : Pl
 abbrev pub NewAt : List ℕ → Place → List ℕ → List (List ℕ) → ℕ → Type 0
 NewAt b p region used slot = EndsFree region (first_uses used) (bytes_at b p) slot
 
+-- a place in str, where there is one, fits a word
+abbrev pub SmallPlace : Option ℕ → Type 0
+SmallPlace (Some n) = n ≤ section_limit
+SmallPlace None = Unit {0}
+
 -- what a caller may store after that; u is the state after it
-pub record PutSmall (t u : StringTable) (place : ℕ) : Type 0 where
+pub record PutSmall (t u : StringTable) (place : Option ℕ) : Type 0 where
   pub entries : u.entries ≤ t.entries + 1
-  pub small : place ≤ section_limit
+  pub small : SmallPlace place
+
+-- where the last of the strings used stands in str; none where that is over
+abbrev pub StandsAt : StringTable → List (List ℕ) → List ℕ → Option ℕ → Type 0
+StandsAt u used s (Some n) = (u.over ≡ false) × (n ≡ offset_in (first_uses used) s)
+StandsAt u used s None = u.over ≡ true
 
 -- a string is put behind those used before, and where it stands in str
-pub record PutIs (b region : List ℕ) (used : List (List ℕ)) (s : List ℕ) (u : StringTable) (place : ℕ) : Type 0 where
+pub record PutIs (b region : List ℕ) (used : List (List ℕ)) (s : List ℕ) (u : StringTable) (place : Option ℕ) : Type 0 where
   pub kept : Kept b region u (used ++ (s ∷ []))
-  pub stands : u.over ≡ false → place ≡ offset_in (first_uses (used ++ (s ∷ []))) s
+  pub stands : StandsAt u (used ++ (s ∷ [])) s place
 
 -- a string that is not kept yet is put; region and x are the words before and after that, t and u the states
-abbrev pub PutsNew : List ℕ → Place → ℕ → List ℕ → StringTable → List ℕ → StringTable → ℕ → Type 0
+abbrev pub PutsNew : List ℕ → Place → ℕ → List ℕ → StringTable → List ℕ → StringTable → Option ℕ → Type 0
 PutsNew b p slot region t x u place = (used : List (List ℕ)) → Kept b region t used → NewAt b p region used slot → PutIs b x used (bytes_at b p) u place
 
 -- the strings of an object put behind those used before, or why not; t is the state after that

@@ -1,6 +1,6 @@
 -- An object's str_offsets and str as the code is handed them, and what callers have lent. Nothing here need be believed.
 -- Assumes nothing.
-use Rattle.std.specs.Prelude.{◌≡◌, List, [], ◌∷◌, ◌++◌, ℕ, ◌+◌, ◌*◌, ◌<◌, ◌≤◌, ◌^◌, length, take, Result, Ok, Err}
+use Rattle.std.specs.Prelude.{◌≡◌, List, [], ◌∷◌, ◌++◌, ℕ, ◌+◌, ◌*◌, ◌<◌, ◌≤◌, ◌^◌, length, Result, Ok, Err}
 use Rattle.numbers.specs.Limits.{string_words}
 use Rattle.octets.specs.Checked.{Check, pass, refuse}
 use Rattle.numbers.specs.Refusals.{no_string}
@@ -8,7 +8,7 @@ use Rattle.numbers.specs.Refused.{number_of}
 use Rattle.numbers.specs.declared.refusals.Refusal.{Refusal}
 use Rattle.bundle.specs.Encoded.{encoding_is}
 use Rattle.strings.specs.Strings.{entries_in, string_at, strings_at}
-use Rattle.strings.specs.Kept.{Kept, AddedIs, Inside, bytes_at}
+use Rattle.strings.specs.Kept.{AddedIs, Inside, bytes_at}
 use Rattle.strings.specs.Remembered.{Putting}
 use Rattle.strings.specs.declared.table.Place.{Place}
 use Rattle.strings.specs.declared.table.StrOffsets.{StrOffsets}
@@ -24,14 +24,6 @@ strings_of o b = strings_at (bytes_at b o.strings) (entries_at o b)
 -- the strings that an object's entries name are put behind those used before, or 9
 abbrev pub AddedOf : List ℕ → StrOffsets → List ℕ → List (List ℕ) → StringTable → Result (Unit {0}) Refusal → Type 0
 AddedOf b o region used t r = AddedIs b region used (strings_of o b) t r
-
--- what is lent to put an object's strings: the words of the table, and behind them a word of memory for each byte of its str
-unfoldable pub table_in : ℕ → List ℕ → List ℕ
-table_in words store = take words store
-
--- the strings used are kept there
-abbrev pub KeptIn : List ℕ → ℕ → List ℕ → StringTable → List (List ℕ) → Type 0
-KeptIn b words store t used = Kept b (table_in words store) t used
 
 -- room for the place of one entry more, and for a row
 pub record Roomy (words : ℕ) (t : StringTable) : Type 0 where

@@ -32,6 +32,7 @@ pub struct Section<'a> {
 }
 
 impl Section<'_> {
+    #[tactic(auto, using(crate::proofs::Headers::header_sizes))]
     pub fn header_size(self) -> usize
         ensures { result ≡ header_size (encoding_is self.entry.encoding) }
     {
@@ -53,6 +54,7 @@ impl Section<'_> {
     }
 
     // A length of 8 bytes stands behind FFFFFFFF.
+    #[tactic(auto, using(bundle::proofs::InitialLengths::is_wide, bundle::proofs::InitialLengths::is_narrow))]
     fn mark_true(self) -> bool
         ensures { result ≡ (eqb (encoding_is self.entry.encoding).width 4 || marked self.entry.encoding.big self.entry.bytes.now) }
     {
@@ -60,6 +62,7 @@ impl Section<'_> {
     }
 
     // In version 5: the length of the rest, 5, 0.
+    #[tactic(auto, using(crate::proofs::Headers::header_tests))]
     fn header_true(self) -> bool
         ensures { result ≡ header_true (encoding_is self.entry.encoding) self.entry.bytes.now }
     {
@@ -76,6 +79,7 @@ impl Section<'_> {
     }
 
     // 8: the header is true and whole entries follow. How many there are.
+    #[tactic(auto, using(crate::proofs::Headers::entry_tests))]
     pub fn check_entries(self) -> Result<usize, Refusal>
         ensures { told result ≡ mapped length (entries_of (encoding_is self.entry.encoding) self.entry.bytes.now) }
     {
@@ -92,6 +96,7 @@ impl Section<'_> {
     }
 
     // How many whole entries a section has.
+    #[tactic(auto, using(crate::proofs::StrOffsets::sound, crate::proofs::Headers::count_is))]
     pub fn entry_count(self) -> usize
         ensures { result ≡ length (entries_in (encoding_is self.entry.encoding) self.entry.bytes.now) }
     {
@@ -99,6 +104,7 @@ impl Section<'_> {
     }
 
     // Entry k, which the caller knows to be one of them.
+    #[tactic(auto, using(crate::proofs::Headers::entry_reads), unfolding(bundle::specs::Encoded::encoding_is))]
     pub fn entry_at(self, k: usize) -> u64
         requires { k < length (entries_in (encoding_is self.encoding) self.bytes.now) }
         ensures { result ≡ get_or (entries_in (encoding_is self.entry.encoding) self.entry.bytes.now) k 0 }
@@ -110,6 +116,7 @@ impl Section<'_> {
 }
 
 // 9: the bytes from an offset up to a zero byte.
+#[tactic(auto, using(crate::proofs::Headers::string_reads))]
 pub fn string_at(s: &[u8], offset: u64) -> Option<Place>
     ensures { (n : ℕ) → place_check n result ≡ mapped (string_place offset) (string_at n s.now offset) }
 {

@@ -2,13 +2,11 @@
 ghost use Rattle.std.specs.Prelude.{◌≡◌, List, ℕ, ◌-◌, ◌≤◌, length};
 ghost use Rattle.bundle.specs.Encoded.{encoding_is};
 ghost use Rattle.strings.specs.Strings.{header_size};
-ghost use Rattle.strings.specs.Objects.{KeptIn};
 ghost use Rattle.strings.specs.Headed.{
   piece_size,
-  HeadedOf,
-  PiecesAddable,
   PiecesPutAsked,
   PiecesPut,
+  PiecesAsked,
   PiecesKept,
   PiecesWritable,
   PiecesWritten,
@@ -21,6 +19,7 @@ use numbers::refusals::Refusal;
 
 impl Section<'_> {
     // How long the piece at the front of a section is. The caller knows that its header is true.
+    #[tactic(auto, using(crate::proofs::Headed::sizes))]
     pub fn piece_size(self) -> usize
         requires { (header_size (encoding_is self.encoding) ≤ length self.bytes.now) × (piece_size (encoding_is self.encoding) self.bytes.now ≤ length self.bytes.now) }
         ensures { result ≡ piece_size (encoding_is self.entry.encoding) self.entry.bytes.now }
@@ -34,6 +33,7 @@ impl Section<'_> {
     }
 
     // Writes a section with other numbers for its entries, piece by piece: each header as it was, and the next numbers behind it. Says how many entries the section has.
+    #[tactic(auto, using(crate::proofs::HeadedWriting::pieces_written))]
     pub fn write_pieces(self, numbers: &[u32], d: &mut [u8], at: usize) -> usize
         requires { PiecesWritable (encoding_is self.encoding) self.bytes.now numbers.now (length d.old) at }
         ensures { PiecesWritten (encoding_is self.entry.encoding) self.entry.bytes.now numbers.now at d.old d.new result }
@@ -60,6 +60,7 @@ impl Section<'_> {
 
 impl StringTable {
     // Puts the strings of all pieces. ended says where the last string of str ends.
+    #[tactic(auto, using(crate::proofs::Headed::pieces_none))]
     fn put_pieces(
         &mut self,
         o: StrOffsets,
@@ -85,20 +86,20 @@ impl StringTable {
         Ok(())
     }
 
-    // Puts the strings that the entries of all pieces name, each of which check_entries let pass. What is remembered of str serves all of them. The store holds the
-    // table in its first words, with a row for each entry, and behind them a word of memory for each byte of str; what the memory holds after the call is not promised.
+    // Puts the strings that the entries of all pieces name, each of which check_entries let pass. What is remembered of str serves all of them. The table has room
+    // for a row for each entry, and the memory a word for each byte of str; what the memory holds after the call is not promised.
     // Beside `add_strings`, and not one with it: what is read between, and so what is asked and promised, is another.
+    #[tactic(auto, using(crate::proofs::Remembering::begun))]
     pub fn add_pieces(
         &mut self,
         o: StrOffsets,
         b: &[u8],
-        store: &mut [u32],
-        words: usize,
+        table: &mut [u32],
+        memory: &mut [u32],
     ) -> Result<(), Refusal>
-        requires { (words ≤ length store.old) × PiecesAddable b.now o words (length store.old - words) self.old × ((used : List (List ℕ)) × KeptIn b.now words store.old self.old used) × ((ps : List (List ℕ)) × HeadedOf o b.now ps) }
-        ensures { PiecesKept b.now o words store.old self.old store.new self.new result }
+        requires { PiecesAsked b.now o table.old memory.old self.old }
+        ensures { PiecesKept b.now o table.old self.old table.new self.new result }
     {
-        let (table, memory) = store.split_at_mut(words);
         let ended = entries::last_zero(o.strings.of(b));
         crate::table::forget(memory, o.strings.size);
         self.put_pieces(o, b, ended, table, memory)

@@ -11,6 +11,7 @@ use crate::table::{Place, row_place};
 
 impl Section<'_> {
     // Writes a piece with other numbers for its entries: the header as it was, and the numbers behind it.
+    #[tactic(auto, using(crate::proofs::StrOffsets::sound, crate::proofs::HeadedWriting::piece_put), unfolding(bundle::specs::Encoded::encoding_is))]
     pub fn write_piece(self, numbers: &[u32], d: &mut [u8], at: usize)
         requires { (header_size (encoding_is self.encoding) ≤ length self.bytes.now) × (at + header_size (encoding_is self.encoding) + (encoding_is self.encoding).width * length numbers.now ≤ length d.old) }
         ensures { d.new ≡ placed d.old at (piece_with (encoding_is self.entry.encoding) self.entry.bytes.now numbers.now) }
@@ -23,6 +24,7 @@ impl Section<'_> {
 }
 
 // A string as it is put, with a zero.
+#[tactic(auto, using(crate::proofs::Places::length_bytes_at, crate::proofs::Writing::ended_is))]
 fn put_string(b: &[u8], p: Place, d: &mut [u8], at: usize)
     requires { Inside b.now p × (at + p.size + 1 ≤ length d.old) }
     ensures { d.new ≡ placed d.old at (ended (bytes_at b.now p)) }
@@ -32,6 +34,7 @@ fn put_string(b: &[u8], p: Place, d: &mut [u8], at: usize)
 }
 
 // Writes str: the kept strings in order of first use.
+#[tactic(auto, using(crate::proofs::Writing::written_all))]
 pub fn write_strings(b: &[u8], table: &[u32], count: usize, d: &mut [u8], at: usize)
     requires { (ts : List (List ℕ)) × Held b.now table.now count ts × (at + length (str_of ts) ≤ length d.old) }
     ensures { (ts : List (List ℕ)) → Held b.now table.now count ts → d.new ≡ placed d.old at (str_of ts) }

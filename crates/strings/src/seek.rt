@@ -24,6 +24,7 @@ const HIGH: u64 = 982_451_653;
 const HALF: u64 = 0x1_0000_0000;
 
 // Eight bytes more.
+#[tactic(auto, unfolding(crate::specs::Indexed::mixed, crate::specs::Indexed::product))]
 fn mixed(h: u64, w: u64) -> u64
     requires { h < 2 ^ 32 }
     ensures { result ≡ mixed h w }
@@ -33,6 +34,7 @@ fn mixed(h: u64, w: u64) -> u64
 }
 
 // So many bytes as one number, fewer than eight.
+#[tactic(auto, using(crate::proofs::Hashing::hash_short))]
 fn short_hash(s: &[u8]) -> u64
     requires { length s.now < 8 }
     ensures { result ≡ hash_of s.now }
@@ -41,6 +43,7 @@ fn short_hash(s: &[u8]) -> u64
 }
 
 // Eight bytes or more, in groups of eight: the last group ends where the string does.
+#[tactic(auto, using(crate::proofs::Hashing::long_turns))]
 fn long_hash(s: &[u8]) -> u64
     requires { 8 ≤ length s.now }
     ensures { result ≡ hash_of s.now }
@@ -64,6 +67,7 @@ fn hash_of(s: &[u8]) -> u64
 }
 
 // Where the search for a string starts, in a region with room for so many rows.
+#[tactic(auto, using(crate::proofs::Hashing::hash_lt), unfolding(crate::specs::Indexed::root_of))]
 fn root_of(room: usize, s: &[u8]) -> usize
     requires { room < 2 ^ 31 }
     ensures { result ≡ root_of room s.now }
@@ -73,6 +77,7 @@ fn root_of(room: usize, s: &[u8]) -> usize
 }
 
 // The side on which the search for a string goes on after so many steps.
+#[tactic(auto, using(crate::proofs::Hashing::side_behind, crate::proofs::Hashing::side_is))]
 fn side(s: &[u8], step: usize) -> usize
     ensures { result ≡ side s.now step }
 {
@@ -83,6 +88,7 @@ fn side(s: &[u8], step: usize) -> usize
 }
 
 // The link of the row with a number, on a side.
+#[tactic(auto, unfolding(crate::specs::Indexed::link_of))]
 fn link_of(room: usize, number: usize, on: usize) -> usize
     requires { (room < 2 ^ 31) × (1 ≤ number) × (number < 2 ^ 32) × (on < 2) }
     ensures { result ≡ link_of room number on }
@@ -91,6 +97,7 @@ fn link_of(room: usize, number: usize, on: usize) -> usize
 }
 
 // Whether row i is a string. Lengths are compared before bytes.
+#[tactic(auto, using(crate::proofs::Holding::other_row))]
 fn row_same(b: &[u8], table: &[u32], i: usize, s: &[u8]) -> bool
     requires { (3 * i + 3 ≤ length table.now) × Inside b.now (row_place table.now i) }
     ensures { result ≡ same s.now (bytes_at b.now (row_place table.now i)) }
@@ -100,6 +107,7 @@ fn row_same(b: &[u8], table: &[u32], i: usize, s: &[u8]) -> bool
 }
 
 // Seeks a string of the bundle through the index of count rows: its row, or else the free word where its number would stand. The caller has room for a row more.
+#[tactic(auto, using(crate::proofs::Holding::root_inside))]
 pub fn seek_string(b: &[u8], table: &[u32], count: usize, at: Place) -> Result<usize, usize>
     requires { Seekable b.now at table.now × ((ts : List (List ℕ)) × Held b.now table.now count ts) }
     ensures { (ts : List (List ℕ)) → Held b.now table.now count ts → SoughtIs table.now count ts (bytes_at b.now at) result }

@@ -25,8 +25,6 @@ ghost use Rattle.strings.specs.Kept.{
 };
 ghost use Rattle.strings.specs.Remembered.{LastZero, Putting};
 ghost use Rattle.strings.specs.Objects.{
-  table_in,
-  KeptIn,
   AddedOf,
   Roomy,
   Insertable,
@@ -84,6 +82,7 @@ impl StrOffsets {
 
 // How many strings are kept, how long their str section is, how many entries named them, and whether the section would be above 8,388,607
 // bytes (19). From then on nothing is stored: the package is refused, whatever the new offsets are, and the sum of lengths stays within 32 bits.
+// `over` stays a flag: 19 is due only once all objects are read, and until then the other three say what is stored, whether it is set or not.
 #[derive(Clone, Copy)]
 pub struct StringTable {
     pub count: usize,
@@ -103,6 +102,7 @@ pub fn row_place(table: &[u32], i: usize) -> Place
     }
 }
 
+#[tactic(auto, using(octets::proofs::Placed::placed_three))]
 fn set_row(table: &mut [u32], i: usize, p: Place, offset: usize)
     requires { (3 * i + 3 ≤ length table.old) × (p.start < 2 ^ 32) × (p.size < 2 ^ 32) × (offset < 2 ^ 32) }
     ensures { table.new ≡ placed table.old (3 * i) (p.start ∷ p.size ∷ offset ∷ []) }
@@ -122,6 +122,7 @@ pub fn places_from(words: usize) -> usize
 }
 
 // The string at an offset of an object's str, by its place in the bundle.
+#[tactic(auto, using(crate::proofs::Places::none_moved, crate::proofs::Places::place_moved))]
 pub fn string_in(b: &[u8], strings: Place, offset: usize) -> Option<Place>
     requires { Inside b.now strings }
     ensures { place_check no_string result ≡ mapped (string_place (strings.start + offset)) (string_at no_string (bytes_at b.now strings) offset) }
@@ -133,8 +134,10 @@ pub fn string_in(b: &[u8], strings: Place, offset: usize) -> Option<Place>
     })
 }
 
+// The table and the memory stay two parameters: put in a struct, the halves of a `split_at_mut` come back to the caller without what was written.
 impl StringTable {
     // A row behind the others, which leads nowhere yet, and its number in the word where the search for its string ended.
+    #[tactic(auto, using(crate::proofs::Keeping::row_stored), unfolding(crate::specs::Indexed::room_of))]
     fn add_row(self, table: &mut [u32], slot: usize, p: Place)
         requires { RowAddable table.old slot self p }
         ensures { table.new ≡ row_added table.old slot self p }
@@ -159,8 +162,8 @@ impl StringTable {
         self.entries += 1;
     }
 
-    // Puts a string that is not kept yet, where the search for it ended. Answers its place in str; 0 where that is over.
-    fn insert_string(&mut self, b: &[u8], p: Place, slot: usize, table: &mut [u32]) -> usize
+    // Puts a string that is not kept yet, where the search for it ended. Answers its place in str; none where that is over.
+    fn insert_string(&mut self, b: &[u8], p: Place, slot: usize, table: &mut [u32]) -> Option<usize>
         requires { (self.old.over ≡ false) × Insertable b.now p table.old self.old × ((used : List (List ℕ)) × Kept b.now table.old self.old used × NewAt b.now p table.old used slot) }
         ensures puts_new { PutsNew b.now p slot table.old self.old table.new self.new result }
         ensures put_small { PutSmall self.old self.new result }
@@ -168,30 +171,30 @@ impl StringTable {
         let place = self.size;
         if SECTION_LIMIT - place <= p.size {
             self.over = true;
-            return 0;
+            return None;
         }
         self.add_row(table, slot, p);
         self.count += 1;
         self.size += p.size + 1;
         self.note_place(table, place);
-        place
+        Some(place)
     }
 
     // Puts a string of the bundle: where no equal one is kept, its row goes behind the others; and its place is that of one entry more. The caller
-    // has room for both. Answers its place in str; 0 where that is over.
-    pub fn get_or_insert(&mut self, b: &[u8], p: Place, table: &mut [u32]) -> usize
+    // has room for both. Answers its place in str; none where that is over.
+    pub fn get_or_insert(&mut self, b: &[u8], p: Place, table: &mut [u32]) -> Option<usize>
         requires { Insertable b.now p table.old self.old × ((used : List (List ℕ)) × Kept b.now table.old self.old used) }
         ensures by_index { (used : List (List ℕ)) → Kept b.now table.old self.old used → PutIs b.now table.new used (bytes_at b.now p) self.new result }
         ensures put_small { PutSmall self.old self.new result }
     {
         if self.over {
-            return 0;
+            return None;
         }
         match crate::seek::seek_string(b, table, self.count, p) {
             Ok(i) => {
                 let place = table[3 * i + 2] as usize;
                 self.note_place(table, place);
-                place
+                Some(place)
             }
             Err(slot) => self.insert_string(b, p, slot, table),
         }
@@ -218,12 +221,14 @@ impl StringTable {
         if known != 0 {
             self.note_place(table, known - 1);
         } else if let Some(p) = string_in(b, strings, offset) {
-            let place = self.get_or_insert(b, p, table);
-            octets::set_word(memory, offset, place + 1);
+            if let Some(place) = self.get_or_insert(b, p, table) {
+                octets::set_word(memory, offset, place + 1);
+            }
         }
     }
 
     // Puts the strings of all entries. ended says where the last string of str ends. What is remembered of str may come from other entries.
+    #[tactic(auto, using(crate::proofs::Adding::section_entries, crate::proofs::Adding::adding_none, crate::proofs::Adding::adding_all))]
     pub fn add_entries(
         &mut self,
         o: StrOffsets,
@@ -246,20 +251,19 @@ impl StringTable {
         Ok(())
     }
 
-    // Puts the strings that an object's entries name, whose section check_entries let pass. The store holds the table in its first
-    // words, with a row for each entry, and behind them a word of memory for each byte of str; what the memory holds after the call is
-    // not promised.
+    // Puts the strings that an object's entries name, whose section check_entries let pass. The table has room for a row for each entry, and the memory
+    // a word for each byte of str; what the memory holds after the call is not promised.
+    #[tactic(auto, using(crate::proofs::Remembering::begun))]
     pub fn add_strings(
         &mut self,
         o: StrOffsets,
         b: &[u8],
-        store: &mut [u32],
-        words: usize,
+        table: &mut [u32],
+        memory: &mut [u32],
     ) -> Result<(), Refusal>
-        requires { (words ≤ length store.old) × AllAddable b.now o words (length store.old - words) self.old × ((used : List (List ℕ)) × KeptIn b.now words store.old self.old used) }
-        ensures { (used : List (List ℕ)) → KeptIn b.now words store.old self.old used → AddedOf b.now o (table_in words store.new) used self.new result }
+        requires { AllAddable b.now o (length table.old) (length memory.old) self.old × ((used : List (List ℕ)) × Kept b.now table.old self.old used) }
+        ensures { (used : List (List ℕ)) → Kept b.now table.old self.old used → AddedOf b.now o table.new used self.new result }
     {
-        let (table, memory) = store.split_at_mut(words);
         let ended = entries::last_zero(o.strings.of(b));
         forget(memory, o.strings.size);
         self.add_entries(o, b, ended, table, memory)
@@ -267,6 +271,7 @@ impl StringTable {
 }
 
 // Forgets what was remembered of the first n offsets.
+#[tactic(auto, using(crate::proofs::Remembering::cleared), unfolding(octets::specs::Octets::zeros))]
 pub fn forget(memory: &mut [u32], n: usize)
     requires { n ≤ length memory.old }
     ensures { memory.new ≡ placed memory.old 0 (zeros n) }

@@ -2,7 +2,7 @@
 // first as hexadecimal digits and the second as text with a dot for each zero, or the refusal.
 #![tactic(auto)]
 
-ghost use Rattle.std.specs.Prelude.{◌≡◌, false, List, ℕ, ◌+◌, ◌-◌, ◌≤◌, ◌<◌, ◌^◌, length};
+ghost use Rattle.std.specs.Prelude.{◌≡◌, false, List, ℕ, ◌+◌, ◌≤◌, ◌<◌, ◌^◌, length};
 ghost use Rattle.octets.specs.Checked.{pass};
 ghost use Rattle.bundle.specs.Encoded.{encoding_is};
 ghost use Rattle.strings.specs.Strings.{entries_of};
@@ -61,41 +61,41 @@ fn write_sections(
 fn remap_entries(
     o: StrOffsets,
     b: &[u8],
-    store: &mut [u32],
-    words: usize,
+    table: &mut [u32],
+    memory: &mut [u32],
     output: &mut [u8],
 ) -> Result<(usize, usize), Failure>
-    requires { (words ≤ length store.old) × AllAddable b.now o words (length store.old - words) none × (entries_of (encoding_is o.encoding) (bytes_at b.now o.offsets) ≡ pass (entries_at o b.now)) }
+    requires { AllAddable b.now o (length table.old) (length memory.old) none × (entries_of (encoding_is o.encoding) (bytes_at b.now o.offsets) ≡ pass (entries_at o b.now)) }
 {
-    store.fill(0);
+    table.fill(0);
     let mut kept = StringTable {
         count: 0,
         size: 0,
         entries: 0,
         over: false,
     };
-    kept.add_strings(o, b, store, words)?;
+    kept.add_strings(o, b, table, memory)?;
     if kept.over {
         return Err(Failure::Refused(Refusal::SectionTooLong));
     }
-    write_sections(o, b, &store[..words], kept, output)
+    write_sections(o, b, table, kept, output)
 }
 
-// The table stands in the first words of the store, and the memory behind them.
+// The same where neither was judged yet, in a table and a memory that may be too short.
 fn remap(
     o: StrOffsets,
     b: &[u8],
-    store: &mut [u32],
-    words: usize,
+    table: &mut [u32],
+    memory: &mut [u32],
     output: &mut [u8],
 ) -> Result<(usize, usize), Failure>
-    requires { (length b.now < 2 ^ 32) × Inside b.now o.offsets × Inside b.now o.strings × (words ≤ length store.old) × (words < 2 ^ 32) }
+    requires { (length b.now < 2 ^ 32) × Inside b.now o.offsets × Inside b.now o.strings × (length table.old < 2 ^ 32) }
 {
     let n = o.section(b).check_entries()?;
-    if words / STRING_WORDS < n || store.len() - words < o.strings.size {
+    if table.len() / STRING_WORDS < n || memory.len() < o.strings.size {
         return Err(Failure::Short);
     }
-    remap_entries(o, b, store, words, output)
+    remap_entries(o, b, table, memory, output)
 }
 
 fn write_hexadecimal(rt: &impl Print, s: &[u8]) -> io::Result<()> {
@@ -124,9 +124,10 @@ fn write_both(rt: &impl Print, output: &[u8], at: usize, end: usize) -> io::Resu
 fn tell(rt: &impl Print, o: StrOffsets, b: &[u8]) -> io::Result<()>
     requires { (length b.now < 2 ^ 32) × Inside b.now o.offsets × Inside b.now o.strings }
 {
-    let mut store = [0u32; 176];
+    let mut table = [0u32; 112];
+    let mut memory = [0u32; 64];
     let mut output = [0u8; 256];
-    match remap(o, b, &mut store, 112, &mut output) {
+    match remap(o, b, &mut table, &mut memory, &mut output) {
         Ok((at, end)) => write_both(rt, &output, at, end)?,
         Err(Failure::Refused(refusal)) => print!(rt; "refused {}", refusal.number())?,
         Err(Failure::Short) => print!(rt; "short")?,

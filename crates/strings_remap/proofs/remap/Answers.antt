@@ -8,14 +8,13 @@ remap_entries-requires c =
     let a = c.requires in
     let s = c.section.ensures in
     let n = section_counted c.args.o c.args.b.now _ _ s.encoding s.bytes _ c.in_ok-n.ensures in (
-      a.3,
       record {
         limit = a.0;
         offsets_inside = a.1;
         strings_inside = a.2;
-        enough = c.if-store-words.false;
-        room = omega (arith, n.0, c.if-words-n.false);
-        small = a.4;
+        enough = c.if-memory-o.false;
+        room = omega (arith, n.0, c.if-table-n.false);
+        small = a.3;
       },
       n.1,
     )

@@ -9,7 +9,7 @@ use Rattle.strings.specs.Strings.{ended}
 use Rattle.strings.specs.Kept.{bytes_at}
 use Rattle.strings.specs.declared.table.Place.{Place}
 use Rattle.strings.proofs.Holding.{row_room, row_fits}
-use Rattle.strings.proofs.Writing.{held_unique, written_room, written_more, written_none, written_all}
+use Rattle.strings.proofs.Writing.{held_unique, written_room, written_more, written_none}
 use Rattle.strings.proofs.sections.write_strings.Goals as goal
 
 pub loop-i-init : goal.loop-i-init
@@ -33,6 +33,3 @@ loop-i-preserved c =
     let p = c.requires in
     let written = λ (s : Place). placed c.loop-i.d (c.args.at + get_or c.args.table.now (3 * c.loop-i.i + 2) 0) (ended (bytes_at c.args.b.now s)) in
     λ ts k. written_more _ _ _ ts k _ c.loop-i-test.true _ _ (rw (held_unique _ _ _ p.0 ts p.1 k) at p.2) _ _ (c.loop-i.invariant ts k) (c.put_string.ensures ∙ ap written c.row_place.ensures)
-
-pub returns : goal.returns
-returns c = λ ts k. c.loop-i.invariant ts k ∙ written_all _ _ _ ts _ _ _ k c.loop-i-test.false

@@ -7,7 +7,7 @@ use native.Mathlib.Omega.{arith}
 use lib.ListN.{length, get_or}
 use Rattle.strings.specs.Objects.{entries_at}
 use Rattle.strings.proofs.Remembering.{last_starts, last_behind}
-use Rattle.strings.proofs.Adding.{section_entries, adding_none, adding_more, adding_all, adding_missing}
+use Rattle.strings.proofs.Adding.{section_entries, adding_more, adding_missing}
 use Rattle.strings.proofs.table.StringTable.add_entries.Goals as goal
 use Rattle.strings.proofs.table.StringTable.add_entries.Goals.{After-entry_at-offset, After-entry_count-k-end}
 
@@ -20,9 +20,6 @@ entry : (c : After-entry_at-offset) → c.entry_at-offset.result ≡ get_or (ent
 entry c =
     let s = c.section-section in
     c.entry_at-offset.ensures ∙ ap (λ (l : List ℕ). get_or l c.loop-k.k 0) (section_entries c.args.o c.args.b.now _ _ s.ensures.encoding s.ensures.bytes)
-
-pub loop-k-init : goal.loop-k-init
-loop-k-init c = (omega arith, λ used p. adding_none _ _ _ _ _ used _ p)
 
 pub returns-then-ended-offset : goal.returns-then-ended-offset
 returns-then-ended-offset c =
@@ -56,8 +53,3 @@ loop-k-preserved c =
       omega (arith, c.add_string.ensures.entries_bound, c.loop-k.invariant.0),
       λ used p. adding_more _ _ _ _ _ used _ _ (c.loop-k.invariant.1 used p) _ _ _ s.0 _ (omega (arith, n, c.loop-k-test.true)) (entry (goal.at.loop-k-preserved c).After-entry_at-offset) s.1 c.add_string.ensures.puts_string,
     )
-
-pub returns : goal.returns
-returns c =
-    let n = count (goal.at.returns c).After-entry_count-k-end in
-    λ used p. (adding_all _ _ _ _ _ used _ _ (c.loop-k.invariant.1 used p) (omega (arith, n, c.loop-k-test.false)), omega (arith, n, c.loop-k.invariant.0, c.loop-k.auto.k-end))

@@ -6,7 +6,7 @@ use mathlib.Core.List.{◌++◌}
 use Rattle.std.proofs.lemmas.Result.{err_from_is_err_and}
 use Rattle.bundle.specs.Encoded.{encoding_is}
 use Rattle.strings.proofs.StrOffsets.{sound}
-use Rattle.strings.proofs.Headed.{PiecesPut, headed_cut, walk_asks, walk_some, walk_within, pieces_none, pieces_more, pieces_missing, pieces_all, piece_few}
+use Rattle.strings.proofs.Headed.{PiecesPut, headed_cut, walk_asks, walk_some, walk_within, pieces_more, pieces_missing, pieces_all, piece_few}
 use Rattle.strings.proofs.table.StringTable.put_pieces.Goals as goal
 use Rattle.strings.proofs.table.StringTable.put_pieces.Goals.{After-piece_size-size, In-loop-at}
 
@@ -24,9 +24,6 @@ some : (c : After-piece_size-size) → 1 ≤ c.piece_size-size.result
 some c =
     let p = c.loop-at.invariant.3 c.requires.2.0 c.requires.3.0 c.requires.2.1 (headed_cut _ _ c.args.o.offsets _ c.requires.3.1) in
     walk_some _ (sound _) _ _ _ c.requires.0.offsets_inside _ p.headed c.loop-at-test.true _ c.piece_size-size.ensures
-
-pub loop-at-init : goal.loop-at-init
-loop-at-init c = (omega arith, omega arith, omega arith, λ ts ps p h. pieces_none _ _ _ _ _ _ ts ps _ _ p h)
 
 pub piece_size-size-requires : goal.piece_size-size-requires
 piece_size-size-requires c = walk_asks _ (sound _) _ _ _ c.requires.0.offsets_inside _ (known (goal.at.piece_size-size-requires c).In-loop-at).headed c.loop-at-test.true
