@@ -1,9 +1,9 @@
 // The columns of both forms, and the cell of a row.
-ghost use Rattle.std.specs.Prelude.{◌≡◌, map, ◌<◌, ◌≤◌, length, get_or};
+ghost use Rattle.std.specs.Prelude.{◌≡◌, map, ◌<◌, ◌≤◌, length, slice_get};
 ghost use Rattle.octets.specs.Options.{found};
 ghost use Rattle.index.specs.Columns.{columns_of, column_in};
 ghost use Rattle.index.specs.Index.{place_of, cell_of};
-ghost use Rattle.index.specs.Cells.{column_place, no_column, cell_found};
+ghost use Rattle.index.specs.Cells.{column_place, cell_found};
 
 use crate::reading::Index;
 use numbers::sections;
@@ -94,7 +94,8 @@ const FIVE: [ColumnPlace; COLUMNS_FIVE] = [
     },
 ];
 
-// The columns that an index of a version may have. The version is the index's own, 2 or 5, or that of DWARF, 4 or 5.
+// The columns that an index of a version may have. The version is the index's own, 2 or 5, or that of DWARF, 4 or 5. It stays a
+// number: both kinds come here, and a narrower type would ask more of callers.
 #[tactic(auto, unfolding(crate::specs::Columns::columns_of, crate::specs::Columns::columns_four, crate::specs::Columns::columns_five, crate::specs::Cells::column_place))]
 pub fn columns(version: u32) -> &'static [ColumnPlace]
     ensures { result.now ≡ map column_place (columns_of version) }
@@ -108,15 +109,11 @@ pub fn columns_count(version: u32) -> usize
     columns(version).len()
 }
 
-// Column k. Section and code are 0 where there is no column k.
-pub fn column_at(version: u32, k: usize) -> ColumnPlace
-    ensures { result ≡ get_or (map column_place (columns_of version)) k no_column }
+// Column k, where there is one.
+pub fn column_at(version: u32, k: usize) -> Option<ColumnPlace>
+    ensures { result ≡ slice_get (map column_place (columns_of version)) k }
 {
-    let none = ColumnPlace {
-        section: 0,
-        column: 0,
-    };
-    columns(version).get(k).copied().unwrap_or(none)
+    columns(version).get(k).copied()
 }
 
 // The code of a section's column.
