@@ -197,7 +197,7 @@ module _ (big : Bool) (s : List ℕ) (h : IndexHead) {i : Index} (v : index_in b
   cells_held = rw (← v) (codes_length big s h, offsets_length big s h, sizes_length big s h, refl)
 
   module _ {k : ℕ} where
-    pub identity_read : k < length i.identities → (k < h.slots) × (number_at big 8 s (16 + 8 * k) ≡ get_or i.identities k 0)
+    identity_read : k < length i.identities → (k < h.slots) × (number_at big 8 s (16 + 8 * k) ≡ get_or i.identities k 0)
     identity_read l = let g : k < h.slots = rw identities_length at (rw (← v) at l) in (g, rw (← v) (identity_is big s h k g))
 
     row_read : k < length i.rows → (k < h.slots) × (number_at big 4 s (16 + 8 * h.slots + 4 * k) ≡ get_or i.rows k 0)
@@ -216,6 +216,12 @@ module _ (big : Bool) (s : List ℕ) (h : IndexHead) {i : Index} (v : index_in b
 
     -- the same as the code asks for them: number k of those that begin at a place
     module _ (z : Sized s h) where
+      pub identity_inside : k < length i.identities → 16 + 8 * k + 8 ≤ length s
+      identity_inside l = omega (arith, z.is, (identity_read l).0)
+
+      pub identity_here : {r : ℕ} → k < length i.identities → r ≡ number_at big 8 s (16 + 8 * k) → r ≡ get_or i.identities k 0
+      identity_here l e = e ∙ (identity_read l).1
+
       pub row_inside : k < length i.rows → 16 + 8 * h.slots + 4 * k + 4 ≤ length s
       row_inside l = omega (arith, z.is, (row_read l).0)
 
@@ -241,6 +247,8 @@ module _ (big : Bool) (s : List ℕ) (h : IndexHead) {i : Index} (v : index_in b
       size_here l e = e ∙ (size_read l).1
 
 -- what the proofs of the reads of single numbers cite
+pub ruleset identities_here = (identity_inside, identity_here)
+
 pub ruleset rows_here = (row_inside, row_here)
 
 pub ruleset codes_here = (code_inside, code_here)

@@ -10,7 +10,7 @@ use Prim.Native.Nat.{ℕ, zero, suc, ◌+◌, ◌*◌, ◌-◌, ◌<◌, ◌≤�
 use native.Mathlib.Nat.{mul-suc, mul_comm, mul-le-mul_right}
 use native.Mathlib.Omega.{arith}
 use lib.Dec.{eqb}
-use lib.ListN.{length, get_or}
+use lib.ListN.{length}
 use Rattle.octets.proofs.Checks.{known}
 use Rattle.index.specs.Columns.{Column, columns_of, column_in}
 use Rattle.index.specs.Index.{Index, place_of, cell_at, cell_of}
@@ -18,7 +18,6 @@ use Rattle.std.specs.Prelude.{Some, None, find}
 use Rattle.std.specs.Option.{option_map}
 use Rattle.octets.specs.Options.{found}
 use Rattle.index.specs.Cells.{column_place, cell_found}
-use Rattle.index.specs.declared.cells.ColumnPlace.{ColumnPlace}
 
 -- a search for a section's column
 pub column_finds : (cs : List Column) (section : ℕ)

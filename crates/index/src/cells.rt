@@ -1,8 +1,9 @@
 // The columns of both forms, and the cell of a row.
-ghost use Rattle.std.specs.Prelude.{◌≡◌, map, ◌<◌, ◌≤◌, length, slice_get};
+ghost use Rattle.std.specs.Prelude.{Some, ◌≡◌, map, ◌<◌, ◌≤◌, length, slice_get};
+ghost use Rattle.std.proofs.Math.Option.{some};
 ghost use Rattle.octets.specs.Options.{found};
 ghost use Rattle.index.specs.Columns.{columns_of, column_in};
-ghost use Rattle.index.specs.Index.{place_of, cell_of};
+ghost use Rattle.index.specs.Index.{place_of, cell_at, cell_of};
 ghost use Rattle.index.specs.Cells.{column_place, cell_found};
 
 use crate::reading::Index;
@@ -141,5 +142,30 @@ impl<'a> Index<'a> {
         let code = column_of(self.head().version, section)?;
         let k = self.place_of(code)?;
         Some(self.cell_at(row, k))
+    }
+}
+
+// A row of an index, by its number. Rows count from 1.
+#[derive(Clone, Copy)]
+pub struct Row<'i, 'a> {
+    pub index: &'i Index<'a>,
+    pub number: usize,
+    ghost counted: { 0 < number },
+    ghost within: { number ≤ index.now.units },
+}
+
+impl<'i, 'a> Row<'i, 'a> {
+    pub fn cell(self, section: usize) -> Option<Contribution>
+        ensures { result ≡ cell_found (cell_of self.entry.index.now self.entry.number section) }
+    {
+        self.index.cell_of(self.number, section)
+    }
+
+    // In column k.
+    pub fn cell_at(self, k: usize) -> Contribution
+        requires { k < length self.index.now.codes }
+        ensures { Some result ≡ cell_found (cell_at self.entry.index.now self.entry.number (some k)) }
+    {
+        self.index.cell_at(self.number, k)
     }
 }

@@ -75,6 +75,7 @@ impl<'a> Index<'a> {
         }
     }
 
+    #[tactic(auto, using(crate::proofs::Heads::head_held))]
     pub fn head(&self) -> IndexHead
         ensures { result ≡ head_of self.now }
     {
@@ -82,6 +83,7 @@ impl<'a> Index<'a> {
     }
 
     // ---- the numbers that it holds
+    #[tactic(auto, using(crate::proofs::Heads::identities_here))]
     pub fn identity_at(&self, k: usize) -> u64
         requires { k < length self.now.identities }
         ensures { result ≡ get_or self.now.identities k 0 }
