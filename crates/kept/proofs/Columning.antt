@@ -1,26 +1,32 @@
 -- The columns of a version as the code reads them, and those that some row has.
 -- Assumes nothing.
-use mathlib.Core.Path.{◌≡◌, refl, sym, ap₂, ◌∙◌}
+use mathlib.Core.Path.{◌≡◌, refl, sym, ap, ap₂, ◌∙◌}
 use mathlib.Core.Bool.{Bool, true, false, ◌||◌}
 use mathlib.Core.List.{List, [], ◌∷◌, ◌++◌, map}
-use Prim.Native.Nat.{ℕ, zero, suc, ◌≤◌, ◌<◌}
+use Prim.Native.Nat.{ℕ, zero, suc, ◌+◌, ◌^◌, ◌≤◌, ◌<◌}
 use native.Mathlib.Omega.{arith}
-use native.Mathlib.Decide.{dec_lt}
+use native.Mathlib.Decide.{ℕ_discrete, dec_lt}
+use lib.Seq.{get_or-set_same, get_or-set_other}
 use borrow.Author.Rules.{rules}
 use Rattle.std.specs.Prelude.{All}
 use Rattle.std.proofs.lemmas.List.Elements.{All-get_or}
 use Rattle.kept.proofs.Moved.{get_d_past}
-use lib.ListN.{length, get_or}
+use lib.ListN.{length, get_or, set, length-map, length-set}
 use Rattle.octets.specs.Lists.{any}
 use Rattle.octets.proofs.Lists.{any_append}
-use Rattle.index.specs.Cells.{column_place, no_column}
+use Rattle.index.specs.Cells.{column_place}
+use Rattle.index.specs.declared.cells.ColumnPlace.{ColumnPlace}
+use Rattle.std.specs.List.{slice_get}
+use Rattle.std.specs.Option.{option_and_then}
+use Rattle.std.proofs.lemmas.Option.{get_or_from_slice_get}
+use Rattle.std.specs.Prelude.{Option, Some, None}
 use Rattle.index.specs.Columns.{Column, columns_of, columns_four, columns_five}
-use Rattle.index.specs.Contributed.{ContributionsAre}
+use Rattle.index.specs.Contributed.{ContributionsAre, cell_held, has_cell, stated}
 use Rattle.index.proofs.CellsHeld.{has_is}
 use Rattle.index.specs.Rows.{is_some}
 use Rattle.index.specs.Written.{Row}
 use Rattle.index.specs.declared.judging.Contributions.{Contributions}
-use Rattle.kept.specs.Columns.{version_for, columns_for, section_at, ColumnsHeld, Marked}
+use Rattle.kept.specs.Columns.{version_for, columns_for, section_of, column_cell, section_at, code_at, CellsFit, ColumnsHeld, Marked}
 
 -- ---- columns
 pub columns_are : (five : Bool) → length (columns_for five) ≤ 8
@@ -40,17 +46,104 @@ section_lt true k = below (map (λ c. c.section) (columns_for true)) k (search r
 section_lt false k = below (map (λ c. c.section) (columns_for false)) k (search rules)
 
 -- column k of the code's table
-pub section_of : (cs : List Column) (k : ℕ) → (get_or (map column_place cs) k no_column).section ≡ get_or (map (λ c. c.section) cs) k 0
-unfolding column_place
-section_of [] k = refl
-section_of (c ∷ cs) zero = refl
-section_of (c ∷ cs) (suc k) = section_of cs k
+module _ (five : Bool) (k : ℕ) where
+  pub section_none : None ≡ slice_get (map column_place (columns_for five)) k → None ≡ section_of five k
+  unfolding section_of
+  section_none e = go (columns_for five) k e
+    where
+      go : (cs : List Column) (k : ℕ) → None ≡ slice_get (map column_place cs) k → None ≡ slice_get (map (λ c. c.section) cs) k
+      go [] k e = refl
+      go (c ∷ cs) zero e = absurd (let z : ◌≡◌ {A = ℕ} 0 1 = cc in omega arith)
+      go (c ∷ cs) (suc k) e = go cs k e
 
-pub code_of : (cs : List Column) (k : ℕ) → (get_or (map column_place cs) k no_column).column ≡ get_or (map (λ c. c.column) cs) k 0
-unfolding column_place
-code_of [] k = refl
-code_of (c ∷ cs) zero = refl
-code_of (c ∷ cs) (suc k) = code_of cs k
+  pub section_some : {c : ColumnPlace} → Some c ≡ slice_get (map column_place (columns_for five)) k → Some c.section ≡ section_of five k
+  unfolding section_of column_place
+  section_some {c} e = go (columns_for five) k e
+    where
+      go : (cs : List Column) (k : ℕ) → Some c ≡ slice_get (map column_place cs) k → Some c.section ≡ slice_get (map (λ d. d.section) cs) k
+      go [] k e = absurd (let z : ◌≡◌ {A = ℕ} 0 1 = cc in omega arith)
+      go (d ∷ cs) zero e = let q : c ≡ column_place d = cc in ap (λ (z : ColumnPlace). Some z.section) q
+      go (d ∷ cs) (suc k) e = go cs k e
+
+  pub section_there_lt : {s : ℕ} → Some s ≡ section_of five k → s < 14
+  unfolding section_of section_at
+  section_there_lt {s} e =
+      let q : s ≡ section_at five k = sym (get_or_from_slice_get (map (λ c. c.section) (columns_for five)) k s 0 (sym e)) in
+      rw q (section_lt five k)
+
+-- what a unit has of it
+module _ (five : Bool) (cells : Contributions) (k : ℕ) where
+  pub cell_none : None ≡ section_of five k → None ≡ column_cell five cells k
+  unfolding column_cell
+  cell_none e = ap (option_and_then (cell_held cells)) e
+
+  pub cell_some : {s : ℕ} → Some s ≡ section_of five k → cell_held cells s ≡ column_cell five cells k
+  unfolding column_cell
+  cell_some {s} e = ap (option_and_then (cell_held cells)) e
+
+  module _ (f : CellsFit cells) where
+    pub column_offset : (stated (column_cell five cells k)).offset < 2 ^ 32
+    unfolding column_cell
+    column_offset = go (section_of five k)
+      where
+        go : (o : Option ℕ) → (stated (option_and_then (cell_held cells) o)).offset < 2 ^ 32
+        go None = omega arith
+        go (Some s) = f.offset s
+
+    pub column_size : (stated (column_cell five cells k)).size < 2 ^ 32
+    unfolding column_cell
+    column_size = go (section_of five k)
+      where
+        go : (o : Option ℕ) → (stated (option_and_then (cell_held cells) o)).size < 2 ^ 32
+        go None = omega arith
+        go (Some s) = f.size s
+
+pub ruleset column_cells = (section_there_lt, cell_none, cell_some)
+
+abbrev no_place : ColumnPlace
+no_place = record { section = 0; column = 0 }
+
+module _ (five : Bool) (k : ℕ) where
+  pub place_section : (get_or (map column_place (columns_for five)) k no_place).section ≡ section_at five k
+  unfolding column_place section_at
+  place_section = go (columns_for five) k
+    where
+      go : (cs : List Column) (k : ℕ) → (get_or (map column_place cs) k no_place).section ≡ get_or (map (λ c. c.section) cs) k 0
+      go [] k = refl
+      go (c ∷ cs) zero = refl
+      go (c ∷ cs) (suc k) = go cs k
+
+  pub place_code : (get_or (map column_place (columns_for five)) k no_place).column ≡ code_at five k
+  unfolding column_place code_at
+  place_code = go (columns_for five) k
+    where
+      go : (cs : List Column) (k : ℕ) → (get_or (map column_place cs) k no_place).column ≡ get_or (map (λ c. c.column) cs) k 0
+      go [] k = refl
+      go (c ∷ cs) zero = refl
+      go (c ∷ cs) (suc k) = go cs k
+
+  pub place_lt : (get_or (map column_place (columns_for five)) k no_place).section < 14
+  place_lt = rw place_section (section_lt five k)
+
+pub places_many : (five : Bool) → length (map column_place (columns_for five)) ≡ length (columns_for five)
+places_many five = length-map (columns_for five) column_place
+
+-- as a loop reads them
+module _ (five : Bool) {xs : List ColumnPlace} (e : xs ≡ map column_place (columns_for five)) where
+  pub columns_end : length xs ≡ length (columns_for five)
+  columns_end = ap length e ∙ places_many five
+
+  pub column_few : (k : ℕ) → k < length xs → k < 8
+  column_few k h = omega (arith, columns_end, columns_are five)
+
+  pub column_section : (k : ℕ) → (get_or xs k no_place).section ≡ section_at five k
+  column_section k = ap (λ (c : List ColumnPlace). (get_or c k no_place).section) e ∙ place_section five k
+
+  pub column_code : (k : ℕ) → (get_or xs k no_place).column ≡ code_at five k
+  column_code k = ap (λ (c : List ColumnPlace). (get_or c k no_place).column) e ∙ place_code five k
+
+-- what the proofs of loops over the columns cite
+pub ruleset columns_passed = (place_section, place_code, place_lt, places_many, columns_are)
 
 -- ---- columns that are there
 -- the columns before k are marked, the others as they were
@@ -58,6 +151,17 @@ pub record Marking (five : Bool) (has marked : List Bool) (cells : Contributions
   pub same : length marked ≡ length has
   pub done : Marked five has marked cells k
   pub rest : (j : ℕ) → k ≤ j → get_or marked j false ≡ get_or has j false
+
+module _ {five : Bool} {has marked : List Bool} {cells : Contributions} {k : ℕ} (a : Marking five has marked cells k) (h : k < length marked) where
+  pub marking_more : {t : Bool} → t ≡ has_cell cells (section_at five k) → Marking five has (set marked k (get_or marked k false || t)) cells (k + 1)
+  marking_more {t} e = record {
+    same = length-set marked k (get_or marked k false || t) ∙ a.same;
+    done = record { column = λ j l. elim (ℕ_discrete j k) [
+      | yes q ↦ rw q (get_or-set_same marked k (get_or marked k false || t) false h ∙ ap₂ (λ (p r : Bool). p || r) (a.rest k (omega arith)) e)
+      | no q ↦ get_or-set_other marked k j (get_or marked k false || t) false q ∙ a.done.column j (omega arith)
+    ] };
+    rest = λ j l. get_or-set_other marked k j (get_or marked k false || t) false (λ q. omega arith) ∙ a.rest j (omega arith);
+  }
 
 pub columns_none : (five : Bool) (has : List Bool) → ((k : ℕ) → get_or has k false ≡ false) → ColumnsHeld five has []
 unfolding any

@@ -3,7 +3,7 @@
 ghost use Rattle.std.specs.Prelude.{◌≡◌, [], ◌∷◌, ℕ, ◌+◌, ◌*◌, ◌<◌, ◌≤◌, ◌^◌, length, get_or};
 ghost use Rattle.octets.specs.Octets.{placed};
 ghost use Rattle.kept.specs.Regions.{record_words};
-ghost use Rattle.kept.specs.Columns.{CellsFit};
+ghost use Rattle.kept.specs.Columns.{column_cell, CellsFit};
 ghost use Rattle.kept.specs.Records.{
   cell_words,
   cells_of,
@@ -36,14 +36,14 @@ pub const SIZE: usize = 6;
 
 pub const CELLS: usize = 7;
 
-const WORD: u64 = 0x1_0000_0000;
-
 // A kept unit without its cells.
 #[derive(Clone, Copy)]
 pub struct Unit {
+    // 1 or 2. A number, as a record's words hold it: an enum would be turned back at each store and each comparison.
     pub table: usize,
     pub row: usize,
     pub identity: u64,
+    // A section's code. A number, as a record's words hold it and as cells are indexed by it.
     pub home: usize,
     pub start: usize,
     pub size: usize,
@@ -52,15 +52,23 @@ pub struct Unit {
 // What an index has where a unit has nothing of a section.
 const NOTHING: Contribution = Contribution { offset: 0, size: 0 };
 
+// What a unit has of column k.
+#[tactic(auto, using(crate::proofs::Columning::column_cells))]
+fn cell_in(five: bool, k: usize, cells: &Contributions) -> Option<Contribution>
+    ensures { result ≡ column_cell five cells.now k }
+{
+    cells.cells[crate::columns::section_at(five, k)?]
+}
+
 // ---- stored. Callers keep room, and numbers of 32 bits.
 // Offset and size for each column.
-#[tactic(auto, using(crate::proofs::Columning::section_lt))]
+#[tactic(auto, using(crate::proofs::Columning::column_offset, crate::proofs::Columning::column_size))]
 fn store_cells(five: bool, words: &mut [u32], at: usize, cells: Contributions)
     requires { (at + cell_words ≤ length words.old) × CellsFit cells }
     ensures { words.new ≡ placed words.old at (cells_of five cells) }
 {
     for k in 0..COLUMNS {
-        let part = cells.cells[crate::columns::section_at(five, k)].unwrap_or(NOTHING);
+        let part = cell_in(five, k, &cells).unwrap_or(NOTHING);
         octets::set_word(words, at + 2 * k, part.offset);
         octets::set_word(words, at + 2 * k + 1, part.size);
     }
@@ -71,11 +79,12 @@ pub fn store_unit(words: &mut [u32], at: usize, unit: Unit, five: bool, cells: C
     requires { (at + record_words ≤ length words.old) × UnitFits unit × CellsFit cells }
     ensures { words.new ≡ placed words.old at (words_of (unit_of unit five cells)) }
 {
+    let [low, high] = octets::words_of(unit.identity);
     let head = [
         unit.table as u32,
         unit.row as u32,
-        (unit.identity % WORD) as u32,
-        (unit.identity / WORD) as u32,
+        low,
+        high,
         unit.home as u32,
         unit.start as u32,
         unit.size as u32,
@@ -98,7 +107,7 @@ pub fn identity_at(records: &[u32], i: usize) -> u64
     requires { record_words * i + record_words ≤ length records.now }
     ensures { result ≡ (record_at records.now i).identity }
 {
-    u64::from(records[RECORD * i + LOW]) + WORD * u64::from(records[RECORD * i + HIGH])
+    octets::number_of(records[RECORD * i + LOW], records[RECORD * i + HIGH])
 }
 
 // The identity that a slot names by the number of a record, from 1, and 0 for a slot that names none.

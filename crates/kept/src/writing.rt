@@ -146,15 +146,15 @@ impl IndexForm {
 
     // ---- columns
     // The codes of the columns that are there; the place behind them.
+    #[tactic(auto, using(crate::proofs::Columning::columns_passed))]
     fn put_codes(self, out: &mut [u8], at: usize) -> usize
         requires { at + 4 * length (codes_in self.five self.has) ≤ length out.old }
         ensures out { out.new ≡ placed out.old at (numbers_of self.big 4 (codes_in self.five self.has)) }
         ensures next { result ≡ at + 4 * length (codes_in self.five self.has) }
     {
         let mut o = at;
-        for k in 0..crate::columns::column_count(self.five) {
-            let code = crate::columns::code_at(self.five, k);
-            o = put_if(self.has[k], self.big, code, out, o);
+        for (k, column) in crate::columns::columns(self.five).iter().enumerate() {
+            o = put_if(self.has[k], self.big, column.column, out, o);
         }
         o
     }
