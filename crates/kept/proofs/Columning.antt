@@ -156,10 +156,12 @@ module _ {five : Bool} {has marked : List Bool} {cells : Contributions} {k : ℕ
   pub marking_more : {t : Bool} → t ≡ has_cell cells (section_at five k) → Marking five has (set marked k (get_or marked k false || t)) cells (k + 1)
   marking_more {t} e = record {
     same = length-set marked k (get_or marked k false || t) ∙ a.same;
-    done = record { column = λ j l. elim (ℕ_discrete j k) [
-      | yes q ↦ rw q (get_or-set_same marked k (get_or marked k false || t) false h ∙ ap₂ (λ (p r : Bool). p || r) (a.rest k (omega arith)) e)
-      | no q ↦ get_or-set_other marked k j (get_or marked k false || t) false q ∙ a.done.column j (omega arith)
-    ] };
+    done = record {
+      column = λ j l. elim (ℕ_discrete j k) [
+        | yes q ↦ rw q (get_or-set_same marked k (get_or marked k false || t) false h ∙ ap₂ (λ (p r : Bool). p || r) (a.rest k (omega arith)) e)
+        | no q ↦ get_or-set_other marked k j (get_or marked k false || t) false q ∙ a.done.column j (omega arith)
+      ];
+    };
     rest = λ j l. get_or-set_other marked k j (get_or marked k false || t) false (λ q. omega arith) ∙ a.rest j (omega arith);
   }
 

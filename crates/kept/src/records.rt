@@ -2,7 +2,8 @@
 // offset and size for each column.
 ghost use Rattle.std.specs.Prelude.{◌≡◌, [], ◌∷◌, ℕ, ◌+◌, ◌*◌, ◌<◌, ◌≤◌, ◌^◌, length, get_or};
 ghost use Rattle.octets.specs.Octets.{placed};
-ghost use Rattle.kept.specs.Regions.{record_words};
+ghost use Rattle.numbers.specs.Limits.{work_for_word};
+ghost use Rattle.kept.specs.Regions.{record_words, records_region, region};
 ghost use Rattle.kept.specs.Columns.{column_cell, CellsFit};
 ghost use Rattle.kept.specs.Records.{
   cell_words,
@@ -15,7 +16,7 @@ ghost use Rattle.kept.specs.Records.{
   UnitFits,
 };
 
-use crate::regions::RECORD;
+use crate::regions::{RECORD, RECORDS};
 use index::cells::{COLUMNS, Contribution};
 use index::judging::Contributions;
 
@@ -93,39 +94,66 @@ pub fn store_unit(words: &mut [u32], at: usize, unit: Unit, five: bool, cells: C
     store_cells(five, words, at + CELLS, cells);
 }
 
-// ---- read. Callers have stored record i.
-#[tactic(auto, unfolding(crate::specs::Records::record_at))]
-pub fn table_at(records: &[u32], i: usize) -> usize
-    requires { record_words * i + record_words ≤ length records.now }
-    ensures { result ≡ (record_at records.now i).table }
-{
-    records[RECORD * i + TABLE] as usize
+// ---- read
+// The records of so many units, in words one behind the other. Callers have stored them.
+#[derive(Clone, Copy)]
+pub struct Records<'a> {
+    pub words: &'a [u32],
+    pub count: usize,
+    ghost room: { record_words * count ≤ length words.now },
 }
 
-#[tactic(auto, unfolding(crate::specs::Records::record_at))]
-pub fn identity_at(records: &[u32], i: usize) -> u64
-    requires { record_words * i + record_words ≤ length records.now }
-    ensures { result ≡ (record_at records.now i).identity }
-{
-    octets::number_of(records[RECORD * i + LOW], records[RECORD * i + HIGH])
-}
+impl<'a> Records<'a> {
+    // Those that work has for a bundle of so many words.
+    #[tactic(auto, using(crate::proofs::RegionStores::length_records))]
+    pub fn of_work(work: &'a [u32], words: usize, count: usize) -> Records<'a>
+        requires { (words < 2 ^ 32) × (work_for_word * words ≤ length work.now) × (record_words * count ≤ records_region.words * words) }
+        ensures are { result.words.now ≡ region work.now words records_region }
+        ensures many { result.count ≡ count }
+    {
+        Records {
+            words: RECORDS.part(work, words),
+            count,
+        }
+    }
 
-// The identity that a slot names by the number of a record, from 1, and 0 for a slot that names none.
-#[tactic(auto, unfolding(crate::specs::Records::identity_for))]
-pub fn identity_for(records: &[u32], number: usize) -> u64
-    requires { record_words * number ≤ length records.now }
-    ensures { result ≡ identity_for records.now number }
-{
-    number.checked_sub(1).map_or(0, |i| identity_at(records, i))
-}
+    #[tactic(auto, unfolding(crate::specs::Records::record_at))]
+    pub fn table_at(self, i: usize) -> usize
+        requires { i < self.count }
+        ensures { result ≡ (record_at self.entry.words.now i).table }
+    {
+        self.words[RECORD * i + TABLE] as usize
+    }
 
-// The same for its row number.
-#[tactic(auto, unfolding(crate::specs::Records::row_for, crate::specs::Records::record_at))]
-pub fn row_for(records: &[u32], number: usize) -> usize
-    requires { record_words * number ≤ length records.now }
-    ensures { result ≡ row_for records.now number }
-{
-    number
-        .checked_sub(1)
-        .map_or(0, |i| records[RECORD * i + ROW] as usize)
+    #[tactic(auto, unfolding(crate::specs::Records::record_at))]
+    pub fn identity_at(self, i: usize) -> u64
+        requires { i < self.count }
+        ensures { result ≡ (record_at self.entry.words.now i).identity }
+    {
+        octets::number_of(self.words[RECORD * i + LOW], self.words[RECORD * i + HIGH])
+    }
+
+    // The identity that a slot names by the number of a record, from 1, and 0 for a slot that names none.
+    #[tactic(auto, using(crate::proofs::Recording::identity_none, crate::proofs::Recording::identity_some))]
+    pub fn identity_for(self, number: usize) -> u64
+        requires { number ≤ self.count }
+        ensures { result ≡ identity_for self.entry.words.now number }
+    {
+        match number.checked_sub(1) {
+            Some(i) => self.identity_at(i),
+            None => 0,
+        }
+    }
+
+    // The same for its row number.
+    #[tactic(auto, using(crate::proofs::Recording::row_none, crate::proofs::Recording::row_some), unfolding(crate::specs::Records::record_at))]
+    pub fn row_for(self, number: usize) -> usize
+        requires { number ≤ self.count }
+        ensures { result ≡ row_for self.entry.words.now number }
+    {
+        match number.checked_sub(1) {
+            Some(i) => self.words[RECORD * i + ROW] as usize,
+            None => 0,
+        }
+    }
 }
