@@ -17,8 +17,9 @@ use Rattle.octets.proofs.Lists.{any_append}
 use Rattle.index.specs.Cells.{column_place}
 use Rattle.index.specs.declared.cells.ColumnPlace.{ColumnPlace}
 use Rattle.std.specs.List.{slice_get}
-use Rattle.std.specs.Option.{option_and_then}
+use Rattle.std.specs.Option.{option_and_then, option_map}
 use Rattle.std.proofs.lemmas.Option.{get_or_from_slice_get}
+use Rattle.std.proofs.Math.ListN.{get_or-map}
 use Rattle.std.specs.Prelude.{Option, Some, None}
 use Rattle.index.specs.Columns.{Column, columns_of, columns_four, columns_five}
 use Rattle.index.specs.Contributed.{ContributionsAre, cell_held, has_cell, stated}
@@ -47,23 +48,20 @@ section_lt false k = below (map (λ c. c.section) (columns_for false)) k (search
 
 -- column k of the code's table
 module _ (five : Bool) (k : ℕ) where
-  pub section_none : None ≡ slice_get (map column_place (columns_for five)) k → None ≡ section_of five k
-  unfolding section_of
-  section_none e = go (columns_for five) k e
+  section_told : {o : Option ColumnPlace} → o ≡ slice_get (map column_place (columns_for five)) k → option_map (λ (c : ColumnPlace). c.section) o ≡ section_of five k
+  unfolding section_of column_place
+  section_told e = ap (option_map (λ (c : ColumnPlace). c.section)) e ∙ go (columns_for five) k
     where
-      go : (cs : List Column) (k : ℕ) → None ≡ slice_get (map column_place cs) k → None ≡ slice_get (map (λ c. c.section) cs) k
-      go [] k e = refl
-      go (c ∷ cs) zero e = absurd (let z : ◌≡◌ {A = ℕ} 0 1 = cc in omega arith)
-      go (c ∷ cs) (suc k) e = go cs k e
+      go : (cs : List Column) (k : ℕ) → option_map (λ (c : ColumnPlace). c.section) (slice_get (map column_place cs) k) ≡ slice_get (map (λ c. c.section) cs) k
+      go [] k = refl
+      go (c ∷ cs) zero = refl
+      go (c ∷ cs) (suc k) = go cs k
+
+  pub section_none : None ≡ slice_get (map column_place (columns_for five)) k → None ≡ section_of five k
+  section_none e = section_told e
 
   pub section_some : {c : ColumnPlace} → Some c ≡ slice_get (map column_place (columns_for five)) k → Some c.section ≡ section_of five k
-  unfolding section_of column_place
-  section_some {c} e = go (columns_for five) k e
-    where
-      go : (cs : List Column) (k : ℕ) → Some c ≡ slice_get (map column_place cs) k → Some c.section ≡ slice_get (map (λ d. d.section) cs) k
-      go [] k e = absurd (let z : ◌≡◌ {A = ℕ} 0 1 = cc in omega arith)
-      go (d ∷ cs) zero e = let q : c ≡ column_place d = cc in ap (λ (z : ColumnPlace). Some z.section) q
-      go (d ∷ cs) (suc k) e = go cs k e
+  section_some e = section_told e
 
   pub section_there_lt : {s : ℕ} → Some s ≡ section_of five k → s < 14
   unfolding section_of section_at
@@ -100,27 +98,21 @@ module _ (five : Bool) (cells : Contributions) (k : ℕ) where
 
 pub ruleset column_cells = (section_there_lt, cell_none, cell_some)
 
+-- as a loop over the columns reads them
 abbrev no_place : ColumnPlace
 no_place = record { section = 0; column = 0 }
+
+abbrev no_column : Column
+no_column = record { section = 0; column = 0 }
 
 module _ (five : Bool) (k : ℕ) where
   pub place_section : (get_or (map column_place (columns_for five)) k no_place).section ≡ section_at five k
   unfolding column_place section_at
-  place_section = go (columns_for five) k
-    where
-      go : (cs : List Column) (k : ℕ) → (get_or (map column_place cs) k no_place).section ≡ get_or (map (λ c. c.section) cs) k 0
-      go [] k = refl
-      go (c ∷ cs) zero = refl
-      go (c ∷ cs) (suc k) = go cs k
+  place_section = ap (λ (c : ColumnPlace). c.section) (get_or-map column_place (columns_for five) k no_column) ∙ sym (get_or-map (λ (c : Column). c.section) (columns_for five) k no_column)
 
   pub place_code : (get_or (map column_place (columns_for five)) k no_place).column ≡ code_at five k
   unfolding column_place code_at
-  place_code = go (columns_for five) k
-    where
-      go : (cs : List Column) (k : ℕ) → (get_or (map column_place cs) k no_place).column ≡ get_or (map (λ c. c.column) cs) k 0
-      go [] k = refl
-      go (c ∷ cs) zero = refl
-      go (c ∷ cs) (suc k) = go cs k
+  place_code = ap (λ (c : ColumnPlace). c.column) (get_or-map column_place (columns_for five) k no_column) ∙ sym (get_or-map (λ (c : Column). c.column) (columns_for five) k no_column)
 
   pub place_lt : (get_or (map column_place (columns_for five)) k no_place).section < 14
   place_lt = rw place_section (section_lt five k)
@@ -128,22 +120,8 @@ module _ (five : Bool) (k : ℕ) where
 pub places_many : (five : Bool) → length (map column_place (columns_for five)) ≡ length (columns_for five)
 places_many five = length-map (columns_for five) column_place
 
--- as a loop reads them
-module _ (five : Bool) {xs : List ColumnPlace} (e : xs ≡ map column_place (columns_for five)) where
-  pub columns_end : length xs ≡ length (columns_for five)
-  columns_end = ap length e ∙ places_many five
-
-  pub column_few : (k : ℕ) → k < length xs → k < 8
-  column_few k h = omega (arith, columns_end, columns_are five)
-
-  pub column_section : (k : ℕ) → (get_or xs k no_place).section ≡ section_at five k
-  column_section k = ap (λ (c : List ColumnPlace). (get_or c k no_place).section) e ∙ place_section five k
-
-  pub column_code : (k : ℕ) → (get_or xs k no_place).column ≡ code_at five k
-  column_code k = ap (λ (c : List ColumnPlace). (get_or c k no_place).column) e ∙ place_code five k
-
--- what the proofs of loops over the columns cite
-pub ruleset columns_passed = (place_section, place_code, place_lt, places_many, columns_are)
+-- what the proofs of such loops cite
+pub ruleset columns_passed = (place_section, place_lt, places_many, columns_are)
 
 -- ---- columns that are there
 -- the columns before k are marked, the others as they were
