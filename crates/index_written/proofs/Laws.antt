@@ -2,22 +2,21 @@
 -- Assumes nothing.
 use mathlib.Core.Path.{◌≡◌, sym, ap, ◌∙◌}
 use mathlib.Core.List.{List}
-use Prim.Native.Nat.{ℕ, ◌+◌, ◌*◌, ◌≤◌}
+use Prim.Native.Nat.{ℕ, ◌+◌, ◌≤◌}
 use native.Mathlib.Nat.{mul-le-mul_right}
 use native.Mathlib.Omega.{arith}
 use lib.ListN.{length}
 use Rattle.octets.proofs.Lists.{length_those}
 use Rattle.index.specs.Probing.{slots_for}
 use Rattle.index.proofs.Slots.{slots_for_power}
-use Rattle.kept.specs.Regions.{records_region, record_words, region}
 use Rattle.kept.specs.Columns.{codes_in}
 use Rattle.kept.specs.Records.{in_table, records_from, of_table}
-use Rattle.kept.specs.Slots.{Within, slots_in, Placeable, Seekable}
+use Rattle.kept.specs.Slots.{slots_in, Placeable, Seekable}
 use Rattle.kept.specs.Indexed.{index_size, index_in}
 use Rattle.kept.specs.declared.writing.IndexForm.{IndexForm}
 use Rattle.kept.proofs.Recording.{records_many}
 use Rattle.kept.proofs.Pieces.{pieces, length_grid}
-use Rattle.kept.proofs.Placing.{slots_long, records_long}
+use Rattle.kept.proofs.Placing.{slots_long}
 
 -- ---- slots
 pub can_place : (room n k : ℕ) → n ≤ 16 → room ≡ 1600 → k ≡ slots_for n → k ≤ 32 → Placeable 80 room 1 n k

@@ -3,26 +3,25 @@
 use mathlib.Core.Path.{◌≡◌, refl, sym, ap, ap₂, ◌∙◌}
 use mathlib.Core.Bool.{Bool, true, false, ◌||◌}
 use mathlib.Core.List.{List, [], ◌∷◌, ◌++◌, map}
-use Prim.Native.Nat.{ℕ, zero, suc, ◌+◌, ◌^◌, ◌≤◌, ◌<◌}
+use Prim.Native.Nat.{ℕ, zero, suc, ◌^◌, ◌≤◌, ◌<◌}
 use native.Mathlib.Omega.{arith}
-use native.Mathlib.Decide.{ℕ_discrete, dec_lt}
-use lib.Seq.{get_or-set_same, get_or-set_other}
+use native.Mathlib.Decide.{dec_lt}
 use borrow.Author.Rules.{rules}
 use Rattle.std.specs.Prelude.{All}
 use Rattle.std.proofs.lemmas.List.Elements.{All-get_or}
 use Rattle.kept.proofs.Moved.{get_d_past}
-use lib.ListN.{length, get_or, set, length-map, length-set}
+use lib.ListN.{length, get_or, length-map}
 use Rattle.octets.specs.Lists.{any}
 use Rattle.octets.proofs.Lists.{any_append}
 use Rattle.index.specs.Cells.{column_place}
 use Rattle.index.specs.declared.cells.ColumnPlace.{ColumnPlace}
 use Rattle.std.specs.List.{slice_get}
-use Rattle.std.specs.Option.{option_and_then, option_map}
-use Rattle.std.proofs.lemmas.Option.{get_or_from_slice_get}
+use Rattle.std.specs.Option.{option_and_then, option_map, is_some as there}
+use Rattle.std.proofs.lemmas.Option.{get_or_from_slice_get, slice_get-get_or}
 use Rattle.std.proofs.Math.ListN.{get_or-map}
 use Rattle.std.specs.Prelude.{Option, Some, None}
 use Rattle.index.specs.Columns.{Column, columns_of, columns_four, columns_five}
-use Rattle.index.specs.Contributed.{ContributionsAre, cell_held, has_cell, stated}
+use Rattle.index.specs.Contributed.{ContributionsAre, cell_held, stated}
 use Rattle.index.proofs.CellsHeld.{has_is}
 use Rattle.index.specs.Rows.{is_some}
 use Rattle.index.specs.Written.{Row}
@@ -96,6 +95,11 @@ module _ (five : Bool) (cells : Contributions) (k : ℕ) where
         go None = omega arith
         go (Some s) = f.size s
 
+-- a column that is there
+pub column_there : (five : Bool) (cells : Contributions) (c : ℕ) → c < length (columns_for five) → column_cell five cells c ≡ cell_held cells (section_at five c)
+unfolding column_cell section_of section_at
+column_there five cells c h = ap (option_and_then (cell_held cells)) (slice_get-get_or (map (λ z. z.section) (columns_for five)) c 0 (rw (length-map (columns_for five)) h))
+
 pub ruleset column_cells = (section_there_lt, cell_none, cell_some)
 
 -- as a loop over the columns reads them
@@ -106,22 +110,12 @@ abbrev no_column : Column
 no_column = record { section = 0; column = 0 }
 
 module _ (five : Bool) (k : ℕ) where
-  pub place_section : (get_or (map column_place (columns_for five)) k no_place).section ≡ section_at five k
-  unfolding column_place section_at
-  place_section = ap (λ (c : ColumnPlace). c.section) (get_or-map column_place (columns_for five) k no_column) ∙ sym (get_or-map (λ (c : Column). c.section) (columns_for five) k no_column)
-
   pub place_code : (get_or (map column_place (columns_for five)) k no_place).column ≡ code_at five k
   unfolding column_place code_at
   place_code = ap (λ (c : ColumnPlace). c.column) (get_or-map column_place (columns_for five) k no_column) ∙ sym (get_or-map (λ (c : Column). c.column) (columns_for five) k no_column)
 
-  pub place_lt : (get_or (map column_place (columns_for five)) k no_place).section < 14
-  place_lt = rw place_section (section_lt five k)
-
 pub places_many : (five : Bool) → length (map column_place (columns_for five)) ≡ length (columns_for five)
 places_many five = length-map (columns_for five) column_place
-
--- what the proofs of such loops cite
-pub ruleset columns_passed = (place_section, place_lt, places_many, columns_are)
 
 -- ---- columns that are there
 -- the columns before k are marked, the others as they were
@@ -129,19 +123,6 @@ pub record Marking (five : Bool) (has marked : List Bool) (cells : Contributions
   pub same : length marked ≡ length has
   pub done : Marked five has marked cells k
   pub rest : (j : ℕ) → k ≤ j → get_or marked j false ≡ get_or has j false
-
-module _ {five : Bool} {has marked : List Bool} {cells : Contributions} {k : ℕ} (a : Marking five has marked cells k) (h : k < length marked) where
-  pub marking_more : {t : Bool} → t ≡ has_cell cells (section_at five k) → Marking five has (set marked k (get_or marked k false || t)) cells (k + 1)
-  marking_more {t} e = record {
-    same = length-set marked k (get_or marked k false || t) ∙ a.same;
-    done = record {
-      column = λ j l. elim (ℕ_discrete j k) [
-        | yes q ↦ rw q (get_or-set_same marked k (get_or marked k false || t) false h ∙ ap₂ (λ (p r : Bool). p || r) (a.rest k (omega arith)) e)
-        | no q ↦ get_or-set_other marked k j (get_or marked k false || t) false q ∙ a.done.column j (omega arith)
-      ];
-    };
-    rest = λ j l. get_or-set_other marked k j (get_or marked k false || t) false (λ q. omega arith) ∙ a.rest j (omega arith);
-  }
 
 pub columns_none : (five : Bool) (has : List Bool) → ((k : ℕ) → get_or has k false ≡ false) → ColumnsHeld five has []
 unfolding any
@@ -163,6 +144,6 @@ columns_more five has more rs r cells a c e =
       there =
           λ k h.
           e.column k h
-          ∙ ap₂ (λ (p q : Bool). p || q) (a.there k h) (has_is cells r.cells c (section_at five k) ∙ sym (any_one (λ (q : Row). is_some (q.cells (section_at five k))) r))
+          ∙ ap₂ (λ (p q : Bool). p || q) (a.there k h) (ap there (column_there five cells k h) ∙ has_is cells r.cells c (section_at five k) ∙ sym (any_one (λ (q : Row). is_some (q.cells (section_at five k))) r))
           ∙ sym (any_append (λ (q : Row). is_some (q.cells (section_at five k))) rs (r ∷ []));
     }

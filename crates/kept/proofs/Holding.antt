@@ -9,7 +9,7 @@ use Prim.Native.Nat.{ℕ, zero, suc, ◌+◌, ◌*◌, ◌-◌, ◌<◌, ◌≤�
 use native.Mathlib.Nat.{not-suc-le-zero}
 use native.Mathlib.Omega.{arith}
 use native.Mathlib.Decide.{ℕ_discrete, dec_lt}
-use lib.ListN.{length, get_or, set, length-append, length-map}
+use lib.ListN.{length, get_or, set, length-append}
 use lib.Seq.{get_or-set_same, get_or-set_other}
 use borrow.Author.Tests.{eq-eqb, ne_eqb}
 use Rattle.octets.specs.Octets.{part, placed}
@@ -18,7 +18,7 @@ use Rattle.octets.proofs.Joined.{map-append}
 use Rattle.index.specs.Index.{Contribution}
 use Rattle.index.specs.Rows.{BySection}
 use Rattle.index.specs.Written.{Row}
-use Rattle.index.specs.Contributed.{Cell, ContributionsAre, cell_held, stated}
+use Rattle.index.specs.Contributed.{Cell, ContributionsAre, stated}
 use Rattle.index.proofs.CellsHeld.{offset_is, size_is}
 use Rattle.index.specs.Held.{PowerOfTwo}
 use Rattle.index.specs.declared.judging.Contributions.{Contributions}
@@ -26,9 +26,7 @@ use Rattle.kept.specs.Regions.{record_words}
 use Rattle.package.specs.Filing.{Filed}
 use Rattle.package.specs.Pack.{cells, rows_of, unit_bytes, entries_from}
 use Rattle.package.proofs.Rows.{behind_all, behind_at, rows_from, row_at, rows_are, rows_append, rows_later, row_stands, nothing_before, unit_append, unit_here, unit_later}
-use Rattle.std.specs.Option.{option_and_then}
-use Rattle.std.proofs.lemmas.Option.{slice_get-get_or}
-use Rattle.kept.specs.Columns.{columns_for, section_of, column_cell, section_at, ColumnsHeld, Marked}
+use Rattle.kept.specs.Columns.{columns_for, column_cell, section_at, ColumnsHeld, Marked}
 use Rattle.kept.specs.Cells.{cells_by}
 use Rattle.kept.specs.Records.{KeptUnit, cell_words, words_of, cells_left, cells_of, unit_of, record_at, records_from, of_table, bytes_of, bytes_from}
 use Rattle.kept.specs.Slots.{free_for, SeenHeld}
@@ -36,7 +34,7 @@ use Rattle.kept.specs.Held.{identities_of, RowIs, RowsAre, none, more, TableHeld
 use Rattle.kept.specs.declared.records.Unit.{Unit as UnitHead}
 use Rattle.kept.specs.declared.Table.{Table}
 use Rattle.kept.specs.declared.Units.{Units}
-use Rattle.kept.proofs.Columning.{columns_are, columns_more}
+use Rattle.kept.proofs.Columning.{columns_are, column_there, columns_more}
 use Rattle.kept.proofs.Recording.{cells_many, stored, stored_before, stored_all, stored_own, stored_other, stored_table, stored_bytes, stored_elsewhere, stored_identity, stored_row, record_stored}
 use Rattle.kept.proofs.Seen.{seen_kept, seen_more}
 
@@ -113,11 +111,6 @@ cell_at five cells k (suc m) (suc c) h =
     let a : 2 * suc c ≡ suc (suc (2 * c)) = omega arith in
     let b : 2 * suc c + 1 ≡ suc (suc (2 * c + 1)) = omega arith in
     rw (e, b, a) (cell_at five cells (k + 1) m c (omega arith))
-
--- a column that is there
-column_there : (five : Bool) (cells : Contributions) (c : ℕ) → c < length (columns_for five) → column_cell five cells c ≡ cell_held cells (section_at five c)
-unfolding column_cell section_of section_at
-column_there five cells c h = ap (option_and_then (cell_held cells)) (slice_get-get_or (map (λ z. z.section) (columns_for five)) c 0 (rw (length-map (columns_for five)) h))
 
 pub unit_row : (five : Bool) (u : UnitHead) (cells : Contributions) (f : BySection (Option Contribution)) → ContributionsAre cells f
     → RowIs five (unit_of u five cells) (record { identity = u.identity; cells = f })

@@ -1,10 +1,10 @@
 // The columns of a version in order: a section's code, and the code of its column.
 ghost use Rattle.std.specs.Prelude.{◌≡◌, map, ◌<◌, ◌≤◌, ◌^◌, length};
 ghost use Rattle.index.specs.Cells.{column_place};
-ghost use Rattle.kept.specs.Columns.{version_for, columns_for, section_of, Marked, codes_in};
+ghost use Rattle.kept.specs.Columns.{version_for, columns_for, section_of, column_cell, Marked, codes_in};
 ghost use Rattle.kept.specs.Indexed.{index_size};
 
-use index::cells::{COLUMNS, ColumnPlace};
+use index::cells::{COLUMNS, ColumnPlace, Contribution};
 use index::judging::Contributions;
 use numbers::tables::{DWARF_4, DWARF_5};
 
@@ -39,14 +39,21 @@ pub fn section_at(five: bool, k: usize) -> Option<usize>
     Some(index::cells::column_at(version_for(five), k)?.section)
 }
 
+// What a unit has of column k.
+#[tactic(auto, using(crate::proofs::Columning::column_cells))]
+pub fn cell_at(five: bool, k: usize, cells: &Contributions) -> Option<Contribution>
+    ensures { result ≡ column_cell five cells.now k }
+{
+    cells.cells[section_at(five, k)?]
+}
+
 // ---- the columns that are there
 // The columns that were there, and those of one row more.
-#[tactic(auto, using(crate::proofs::Columning::columns_passed))]
 pub fn mark_columns(five: bool, mut has: [bool; COLUMNS], cells: Contributions) -> [bool; COLUMNS]
     ensures { Marked five has result cells (length (columns_for five)) }
 {
-    for (k, column) in columns(five).iter().enumerate() {
-        has[k] |= cells.cells[column.section].is_some();
+    for k in 0..column_count(five) {
+        has[k] |= cell_at(five, k, &cells).is_some();
     }
     has
 }

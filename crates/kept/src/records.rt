@@ -4,7 +4,7 @@ ghost use Rattle.std.specs.Prelude.{◌≡◌, [], ◌∷◌, ℕ, ◌+◌, ◌*
 ghost use Rattle.octets.specs.Octets.{placed};
 ghost use Rattle.numbers.specs.Limits.{work_for_word};
 ghost use Rattle.kept.specs.Regions.{record_words, records_region, region};
-ghost use Rattle.kept.specs.Columns.{column_cell, CellsFit};
+ghost use Rattle.kept.specs.Columns.{CellsFit};
 ghost use Rattle.kept.specs.Records.{
   cell_words,
   cells_of,
@@ -53,14 +53,6 @@ pub struct Unit {
 // What an index has where a unit has nothing of a section.
 const NOTHING: Contribution = Contribution { offset: 0, size: 0 };
 
-// What a unit has of column k.
-#[tactic(auto, using(crate::proofs::Columning::column_cells))]
-fn cell_in(five: bool, k: usize, cells: &Contributions) -> Option<Contribution>
-    ensures { result ≡ column_cell five cells.now k }
-{
-    cells.cells[crate::columns::section_at(five, k)?]
-}
-
 // ---- stored. Callers keep room, and numbers of 32 bits.
 // Offset and size for each column.
 #[tactic(auto, using(crate::proofs::Columning::column_offset, crate::proofs::Columning::column_size))]
@@ -69,7 +61,7 @@ fn store_cells(five: bool, words: &mut [u32], at: usize, cells: Contributions)
     ensures { words.new ≡ placed words.old at (cells_of five cells) }
 {
     for k in 0..COLUMNS {
-        let part = cell_in(five, k, &cells).unwrap_or(NOTHING);
+        let part = crate::columns::cell_at(five, k, &cells).unwrap_or(NOTHING);
         octets::set_word(words, at + 2 * k, part.offset);
         octets::set_word(words, at + 2 * k + 1, part.size);
     }

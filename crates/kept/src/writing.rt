@@ -137,7 +137,7 @@ impl IndexForm {
 
     // ---- columns
     // The codes of the columns that are there; the place behind them.
-    #[tactic(auto, using(crate::proofs::Columning::columns_passed))]
+    #[tactic(auto, using(crate::proofs::Columning::places_many, crate::proofs::Columning::columns_are))]
     fn put_codes(self, out: &mut [u8], at: usize) -> usize
         requires { at + 4 * length (codes_in self.five self.has) ≤ length out.old }
         ensures out { out.new ≡ placed out.old at (numbers_of self.big 4 (codes_in self.five self.has)) }
