@@ -197,19 +197,62 @@ module _ (big : Bool) (s : List ℕ) (h : IndexHead) {i : Index} (v : index_in b
   cells_held = rw (← v) (codes_length big s h, offsets_length big s h, sizes_length big s h, refl)
 
   module _ {k : ℕ} where
-    pub identity_read : k < length i.identities → (k < h.slots) × (number_at big 8 s (16 + 8 * k) ≡ get_or i.identities k 0)
+    identity_read : k < length i.identities → (k < h.slots) × (number_at big 8 s (16 + 8 * k) ≡ get_or i.identities k 0)
     identity_read l = let g : k < h.slots = rw identities_length at (rw (← v) at l) in (g, rw (← v) (identity_is big s h k g))
 
-    pub row_read : k < length i.rows → (k < h.slots) × (number_at big 4 s (16 + 8 * h.slots + 4 * k) ≡ get_or i.rows k 0)
+    row_read : k < length i.rows → (k < h.slots) × (number_at big 4 s (16 + 8 * h.slots + 4 * k) ≡ get_or i.rows k 0)
     row_read l = let g : k < h.slots = rw rows_length at (rw (← v) at l) in (g, rw (← v) (row_is big s h k g))
 
-    pub code_read : k < length i.codes → (k < h.columns) × (number_at big 4 s (16 + 12 * h.slots + 4 * k) ≡ get_or i.codes k 0)
+    code_read : k < length i.codes → (k < h.columns) × (number_at big 4 s (16 + 12 * h.slots + 4 * k) ≡ get_or i.codes k 0)
     code_read l = let g : k < h.columns = rw codes_length at (rw (← v) at l) in (g, rw (← v) (code_is big s h k g))
 
-    pub offset_read : k < length i.offsets
+    offset_read : k < length i.offsets
         → (k < h.units * h.columns) × (number_at big 4 s (16 + 12 * h.slots + 4 * h.columns + 4 * k) ≡ get_or i.offsets k 0)
     offset_read l = let g : k < h.units * h.columns = rw offsets_length at (rw (← v) at l) in (g, rw (← v) (offset_is big s h k g))
 
-    pub size_read : k < length i.sizes
+    size_read : k < length i.sizes
         → (k < h.units * h.columns) × (number_at big 4 s (16 + 12 * h.slots + 4 * h.columns + 4 * (h.units * h.columns) + 4 * k) ≡ get_or i.sizes k 0)
     size_read l = let g : k < h.units * h.columns = rw sizes_length at (rw (← v) at l) in (g, rw (← v) (size_is big s h k g))
+
+    -- the same as the code asks for them: number k of those that begin at a place
+    module _ (z : Sized s h) where
+      pub identity_inside : k < length i.identities → 16 + 8 * k + 8 ≤ length s
+      identity_inside l = omega (arith, z.is, (identity_read l).0)
+
+      pub identity_here : {r : ℕ} → k < length i.identities → r ≡ number_at big 8 s (16 + 8 * k) → r ≡ get_or i.identities k 0
+      identity_here l e = e ∙ (identity_read l).1
+
+      pub row_inside : k < length i.rows → 16 + 8 * h.slots + 4 * k + 4 ≤ length s
+      row_inside l = omega (arith, z.is, (row_read l).0)
+
+      pub row_here : {r : ℕ} → k < length i.rows → r ≡ number_at big 4 s (16 + 8 * h.slots + 4 * k) → r ≡ get_or i.rows k 0
+      row_here l e = e ∙ (row_read l).1
+
+      pub code_inside : k < length i.codes → 16 + 12 * h.slots + 4 * k + 4 ≤ length s
+      code_inside l = omega (arith, z.is, (code_read l).0)
+
+      pub code_here : {r : ℕ} → k < length i.codes → r ≡ number_at big 4 s (16 + 12 * h.slots + 4 * k) → r ≡ get_or i.codes k 0
+      code_here l e = e ∙ (code_read l).1
+
+      pub offset_inside : k < length i.offsets → 16 + 12 * h.slots + 4 * h.columns + 4 * k + 4 ≤ length s
+      offset_inside l = omega (arith, z.is, (offset_read l).0)
+
+      pub offset_here : {r : ℕ} → k < length i.offsets → r ≡ number_at big 4 s (16 + 12 * h.slots + 4 * h.columns + 4 * k) → r ≡ get_or i.offsets k 0
+      offset_here l e = e ∙ (offset_read l).1
+
+      pub size_inside : k < length i.sizes → 16 + 12 * h.slots + 4 * h.columns + 4 * (h.units * h.columns) + 4 * k + 4 ≤ length s
+      size_inside l = omega (arith, z.is, (size_read l).0)
+
+      pub size_here : {r : ℕ} → k < length i.sizes → r ≡ number_at big 4 s (16 + 12 * h.slots + 4 * h.columns + 4 * (h.units * h.columns) + 4 * k) → r ≡ get_or i.sizes k 0
+      size_here l e = e ∙ (size_read l).1
+
+-- what the proofs of the reads of single numbers cite
+pub ruleset identities_here = (identity_inside, identity_here)
+
+pub ruleset rows_here = (row_inside, row_here)
+
+pub ruleset codes_here = (code_inside, code_here)
+
+pub ruleset offsets_here = (offset_inside, offset_here)
+
+pub ruleset sizes_here = (size_inside, size_here)

@@ -10,27 +10,14 @@ use Prim.Native.Nat.{ℕ, zero, suc, ◌+◌, ◌*◌, ◌-◌, ◌<◌, ◌≤�
 use native.Mathlib.Nat.{mul-suc, mul_comm, mul-le-mul_right}
 use native.Mathlib.Omega.{arith}
 use lib.Dec.{eqb}
-use lib.ListN.{length, get_or}
+use lib.ListN.{length}
 use Rattle.octets.proofs.Checks.{known}
 use Rattle.index.specs.Columns.{Column, columns_of, column_in}
 use Rattle.index.specs.Index.{Index, place_of, cell_at, cell_of}
 use Rattle.std.specs.Prelude.{Some, None, find}
 use Rattle.std.specs.Option.{option_map}
 use Rattle.octets.specs.Options.{found}
-use Rattle.index.specs.Cells.{column_place, no_column, cell_found}
-use Rattle.index.specs.declared.cells.ColumnPlace.{ColumnPlace}
-
-abbrev pub nothing : Column
-nothing = record { section = 0; column = 0 }
-
-pub get_d_map : {A B : Type 0} (f : A → B) (d : A) (xs : List A) (k : ℕ) → get_or (map f xs) k (f d) ≡ f (get_or xs k d)
-get_d_map f d [] k = refl
-get_d_map f d (x ∷ xs) zero = refl
-get_d_map f d (x ∷ xs) (suc k) = get_d_map f d xs k
-
-pub column_is : (cs : List Column) (k : ℕ) → get_or (map column_place cs) k no_column ≡ column_place (get_or cs k nothing)
-unfolding column_place
-column_is cs k = get_d_map column_place nothing cs k
+use Rattle.index.specs.Cells.{column_place, cell_found}
 
 -- a search for a section's column
 pub column_finds : (cs : List Column) (section : ℕ)
@@ -110,16 +97,6 @@ module _ (i : Index) (row section : ℕ) where
 
       pub cell_there : cell_of i row section ≡ cell_at i row (some k)
       cell_there = cell_by_place ∙ ap (cell_at i row) place_is
-
--- a column that was read from the table
-module _ (cs : List Column) (k : ℕ) (r : ColumnPlace) (e : r ≡ get_or (map column_place cs) k no_column) where
-  pub column_section : r.section ≡ (get_or cs k nothing).section
-  unfolding column_place
-  column_section = ap (λ (z : ColumnPlace). z.section) (e ∙ column_is cs k)
-
-  pub column_code : r.column ≡ (get_or cs k nothing).column
-  unfolding column_place
-  column_code = ap (λ (z : ColumnPlace). z.column) (e ∙ column_is cs k)
 
 -- what the proof of a row's cell cites
 pub ruleset cell_cases = (cell_no_column, cell_no_place, cell_there, place_is, place_lt)

@@ -1,6 +1,5 @@
 -- The code's forms of a column and of a cell.
 -- Assumes nothing.
-use Rattle.std.specs.Prelude.{ℕ}
 use Rattle.std.specs.Prelude as std
 use Rattle.std.proofs.Math.Option.{Option, some, none}
 use Rattle.index.specs.Columns.{Column}
@@ -10,9 +9,6 @@ use Rattle.index.specs.declared.cells.Contribution.{Contribution}
 
 unfoldable pub column_place : Column → ColumnPlace
 column_place c = record { section = c.section; column = c.column }
-
-abbrev pub no_column : ColumnPlace
-no_column = record { section = 0; column = 0 }
 
 unfoldable pub cell_found : Option definition.Contribution → std.Option Contribution
 cell_found (some c) = std.Some (record { offset = c.offset; size = c.size })

@@ -1,9 +1,10 @@
 // The columns of both forms, and the cell of a row.
-ghost use Rattle.std.specs.Prelude.{◌≡◌, map, ◌<◌, ◌≤◌, length, get_or};
+ghost use Rattle.std.specs.Prelude.{Some, ◌≡◌, map, ◌<◌, ◌≤◌, length, slice_get};
+ghost use Rattle.std.proofs.Math.Option.{some};
 ghost use Rattle.octets.specs.Options.{found};
 ghost use Rattle.index.specs.Columns.{columns_of, column_in};
-ghost use Rattle.index.specs.Index.{place_of, cell_of};
-ghost use Rattle.index.specs.Cells.{column_place, no_column, cell_found};
+ghost use Rattle.index.specs.Index.{place_of, cell_at, cell_of};
+ghost use Rattle.index.specs.Cells.{column_place, cell_found};
 
 use crate::reading::Index;
 use numbers::sections;
@@ -94,7 +95,8 @@ const FIVE: [ColumnPlace; COLUMNS_FIVE] = [
     },
 ];
 
-// The columns that an index of a version may have. The version is the index's own, 2 or 5, or that of DWARF, 4 or 5.
+// The columns that an index of a version may have. The version is the index's own, 2 or 5, or that of DWARF, 4 or 5. It stays a
+// number: both kinds come here, and a narrower type would ask more of callers.
 #[tactic(auto, unfolding(crate::specs::Columns::columns_of, crate::specs::Columns::columns_four, crate::specs::Columns::columns_five, crate::specs::Cells::column_place))]
 pub fn columns(version: u32) -> &'static [ColumnPlace]
     ensures { result.now ≡ map column_place (columns_of version) }
@@ -108,15 +110,11 @@ pub fn columns_count(version: u32) -> usize
     columns(version).len()
 }
 
-// Column k. Section and code are 0 where there is no column k.
-pub fn column_at(version: u32, k: usize) -> ColumnPlace
-    ensures { result ≡ get_or (map column_place (columns_of version)) k no_column }
+// Column k, where there is one.
+pub fn column_at(version: u32, k: usize) -> Option<ColumnPlace>
+    ensures { result ≡ slice_get (map column_place (columns_of version)) k }
 {
-    let none = ColumnPlace {
-        section: 0,
-        column: 0,
-    };
-    columns(version).get(k).copied().unwrap_or(none)
+    columns(version).get(k).copied()
 }
 
 // The code of a section's column.
@@ -144,5 +142,30 @@ impl<'a> Index<'a> {
         let code = column_of(self.head().version, section)?;
         let k = self.place_of(code)?;
         Some(self.cell_at(row, k))
+    }
+}
+
+// A row of an index, by its number. Rows count from 1.
+#[derive(Clone, Copy)]
+pub struct Row<'i, 'a> {
+    pub index: &'i Index<'a>,
+    pub number: usize,
+    ghost counted: { 0 < number },
+    ghost within: { number ≤ index.now.units },
+}
+
+impl<'i, 'a> Row<'i, 'a> {
+    pub fn cell(self, section: usize) -> Option<Contribution>
+        ensures { result ≡ cell_found (cell_of self.entry.index.now self.entry.number section) }
+    {
+        self.index.cell_of(self.number, section)
+    }
+
+    // In column k.
+    pub fn cell_at(self, k: usize) -> Contribution
+        requires { k < length self.index.now.codes }
+        ensures { Some result ≡ cell_found (cell_at self.entry.index.now self.entry.number (some k)) }
+    {
+        self.index.cell_at(self.number, k)
     }
 }

@@ -1,5 +1,5 @@
 // A kept unit's row judged: 15 before 16, over all columns that are needed. Lengths of sections are by their code.
-ghost use Rattle.std.specs.Prelude.{Some, ◌≡◌, ◌||◌, ◌<◌, ◌≤◌, eqb};
+ghost use Rattle.std.specs.Prelude.{Some, ◌≡◌, ◌||◌, ◌<◌, eqb};
 ghost use Rattle.std.proofs.Math.Option.{none};
 ghost use Rattle.numbers.specs.Sections.{section_codes};
 ghost use Rattle.octets.specs.Lists.{all};
@@ -24,7 +24,7 @@ ghost use Rattle.index.specs.Contributed.{
   judged_row,
 };
 
-use crate::cells::Contribution;
+use crate::cells::{Contribution, Row};
 use crate::reading::Index;
 use numbers::refusals::Refusal;
 use numbers::sections::{CODES, FIRST_SHARED, LAST_SHARED, STR_OFFSETS};
@@ -153,19 +153,18 @@ pub fn whole_contributions(lengths: [usize; CODES]) -> Contributions
     k
 }
 
-impl<'a> Index<'a> {
-    // The cells of a row, each read once, of the sections that aren't empty.
-    fn row_cells(&self, row: usize, lengths: &[usize; CODES]) -> Contributions
-        requires { (0 < row) × (row ≤ self.now.units) }
-        ensures { ContributionsAre result (chosen (by_code lengths.now) (cell_of self.now row)) }
-    {
-        let mut k = Contributions::none();
-        for c in FIRST_SHARED..SHARED_END {
-            k.take(c, lengths[c], self.cell_of(row, c));
-        }
-        k
+// The cells of a row, each read once, of the sections that aren't empty.
+fn row_cells(row: Row, lengths: &[usize; CODES]) -> Contributions
+    ensures { ContributionsAre result (chosen (by_code lengths.now) (cell_of row.entry.index.now row.entry.number)) }
+{
+    let mut k = Contributions::none();
+    for c in FIRST_SHARED..SHARED_END {
+        k.take(c, lengths[c], row.cell(c));
     }
+    k
+}
 
+impl<'a> Index<'a> {
     // The row of a unit. Callers have read the index well.
     pub fn judge_row(&self, m: Measures, u: OwnUnit) -> Result<Contributions, Refusal>
         requires { (Well self.now) × (0 < m.width) }
@@ -174,11 +173,14 @@ impl<'a> Index<'a> {
         let Some(slot) = self.find(u.identity).slot else {
             return Err(Refusal::NoRow);
         };
-        let row = self.row_at(slot);
-        let Some(own) = self.cell_of(row, u.home) else {
+        let row = Row {
+            index: self,
+            number: self.row_at(slot),
+        };
+        let Some(own) = row.cell(u.home) else {
             return Err(Refusal::NoRow);
         };
-        let cells = self.row_cells(row, &m.lengths);
+        let cells = row_cells(row, &m.lengths);
         if !cells.all_there(&m.lengths) {
             return Err(Refusal::NoRow);
         }

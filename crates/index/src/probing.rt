@@ -6,7 +6,7 @@ ghost use Rattle.index.specs.Held.{PowerOfTwo, Well, probed_of};
 use crate::reading::Index;
 
 // Callers hold a number of slots that was judged, or chosen, to be a power of two.
-#[tactic(auto, unfolding(crate::specs::Probing::first_slot))]
+#[tactic(auto, using(crate::proofs::Masks::positive), unfolding(crate::specs::Probing::first_slot))]
 pub fn first_slot(x: u64, slots: usize) -> usize
     requires { PowerOfTwo slots }
     ensures { result ≡ first_slot x slots }
@@ -15,7 +15,7 @@ pub fn first_slot(x: u64, slots: usize) -> usize
 }
 
 // Odd, so that a search visits every slot.
-#[tactic(auto, unfolding(crate::specs::Probing::stride))]
+#[tactic(auto, using(crate::proofs::Masks::positive), unfolding(crate::specs::Probing::stride))]
 pub fn stride(x: u64, slots: usize) -> usize
     requires { PowerOfTwo slots }
     ensures { result ≡ stride x slots }
@@ -24,6 +24,7 @@ pub fn stride(x: u64, slots: usize) -> usize
 }
 
 // The slot behind one, as many slots on as the stride says.
+#[tactic(auto, using(crate::proofs::Masks::positive, crate::proofs::Masks::masked))]
 pub fn next_slot(at: usize, by: usize, slots: usize) -> usize
     requires { PowerOfTwo slots × (at + «by» < 2 ^ 64) }
     ensures { result ≡ (at + «by») % slots }

@@ -3,6 +3,7 @@ ghost use Rattle.std.specs.Prelude.{Some, ◌≡◌, ◌+◌, ◌*◌, ◌^◌, 
 ghost use Rattle.std.proofs.Math.Option.{some};
 ghost use Rattle.numbers.specs.Refused.{told};
 ghost use Rattle.octets.specs.Lists.{all, has, distinct, zero_together};
+ghost use Rattle.octets.specs.Octets.{number_at};
 ghost use Rattle.index.specs.Columns.{columns_of};
 ghost use Rattle.index.specs.Index.{cell_at, code_good, least_power, slots_good, index_of};
 ghost use Rattle.index.specs.Cells.{cell_found};
@@ -24,7 +25,7 @@ const MOST_SLOTS: usize = 0x1_0000_0000;
 
 #[derive(Clone, Copy, Debug, PartialEq, Eq)]
 pub struct IndexHead {
-    // 2 or 5
+    // 2 or 5. A number, as the format and C callers have it: an enum would be turned back wherever it is compared or answered.
     pub version: u32,
     pub columns: usize,
     pub units: usize,
@@ -74,6 +75,7 @@ impl<'a> Index<'a> {
         }
     }
 
+    #[tactic(auto, using(crate::proofs::Heads::head_held))]
     pub fn head(&self) -> IndexHead
         ensures { result ≡ head_of self.now }
     {
@@ -81,6 +83,7 @@ impl<'a> Index<'a> {
     }
 
     // ---- the numbers that it holds
+    #[tactic(auto, using(crate::proofs::Heads::identities_here))]
     pub fn identity_at(&self, k: usize) -> u64
         requires { k < length self.now.identities }
         ensures { result ≡ get_or self.now.identities k 0 }
@@ -88,36 +91,40 @@ impl<'a> Index<'a> {
         octets::u64_at(self.big, self.bytes, FRONT + 8 * k)
     }
 
+    #[tactic(auto, using(crate::proofs::Heads::rows_here))]
     pub fn row_at(&self, k: usize) -> usize
         requires { k < length self.now.rows }
         ensures { result ≡ get_or self.now.rows k 0 }
     {
-        octets::u32_at(self.big, self.bytes, FRONT + 8 * self.head.slots + 4 * k) as usize
+        word_at(self.big, self.bytes, FRONT + 8 * self.head.slots, k)
     }
 
+    #[tactic(auto, using(crate::proofs::Heads::codes_here))]
     pub fn code_at(&self, k: usize) -> usize
         requires { k < length self.now.codes }
         ensures { result ≡ get_or self.now.codes k 0 }
     {
-        octets::u32_at(self.big, self.bytes, FRONT + 12 * self.head.slots + 4 * k) as usize
+        word_at(self.big, self.bytes, FRONT + 12 * self.head.slots, k)
     }
 
     // Number k of the offsets, and of the sizes, row by row.
+    #[tactic(auto, using(crate::proofs::Heads::offsets_here))]
     pub fn offset_at(&self, k: usize) -> usize
         requires { k < length self.now.offsets }
         ensures { result ≡ get_or self.now.offsets k 0 }
     {
-        let offsets = FRONT + 12 * self.head.slots + 4 * self.head.columns;
-        octets::u32_at(self.big, self.bytes, offsets + 4 * k) as usize
+        let start = FRONT + 12 * self.head.slots + 4 * self.head.columns;
+        word_at(self.big, self.bytes, start, k)
     }
 
+    #[tactic(auto, using(crate::proofs::Heads::sizes_here))]
     pub fn size_at(&self, k: usize) -> usize
         requires { k < length self.now.sizes }
         ensures { result ≡ get_or self.now.sizes k 0 }
     {
         let cells = self.head.units * self.head.columns;
-        let offsets = FRONT + 12 * self.head.slots + 4 * self.head.columns;
-        octets::u32_at(self.big, self.bytes, offsets + 4 * cells + 4 * k) as usize
+        let start = FRONT + 12 * self.head.slots + 4 * self.head.columns + 4 * cells;
+        word_at(self.big, self.bytes, start, k)
     }
 
     // The cell of a row, counted from 1, in column k.
@@ -171,6 +178,14 @@ impl<'a> Index<'a> {
         }
         true
     }
+}
+
+// Number k of 4 bytes, of those that begin at a place. Clauses of an index see no bytes, so it is asked of the bytes alone.
+fn word_at(big: bool, s: &[u8], start: usize, k: usize) -> usize
+    requires { start + 4 * k + 4 ≤ length s.now }
+    ensures { result ≡ number_at big 4 s.now (start + 4 * k) }
+{
+    octets::u32_at(big, s, start + 4 * k) as usize
 }
 
 // The least power of two not below n, for an n of 32 bits.

@@ -3,9 +3,7 @@
 // the answer is its row, the number of looks and the cells of the sections 1 to 10, or "absent" and the number of looks.
 #![tactic(auto)]
 
-ghost use Rattle.std.specs.Prelude.{◌<◌, ◌≤◌};
-
-use index::cells::Contribution;
+use index::cells::{Contribution, Row};
 use index::probing::Probed;
 use index::reading::Index;
 use std::io;
@@ -37,11 +35,9 @@ fn write_cell(rt: &impl Print, cell: Option<Contribution>) -> io::Result<()> {
     }
 }
 
-fn write_cells(rt: &impl Print, index: &Index, row: usize) -> io::Result<()>
-    requires { (0 < row) × (row ≤ index.now.units) }
-{
+fn write_cells(rt: &impl Print, row: Row) -> io::Result<()> {
     for section in 1..11 {
-        write_cell(rt, index.cell_of(row, section))?;
+        write_cell(rt, row.cell(section))?;
     }
     Ok(())
 }
@@ -53,9 +49,13 @@ fn answer_search(rt: &impl Print, big: bool, s: &[u8], x: u64) -> io::Result<()>
     let Probed { slot, looks } = index.find(x);
     match slot {
         Some(slot) => {
-            let row = index.row_at(slot);
-            print!(rt; "row {row} {looks}")?;
-            write_cells(rt, &index, row)?;
+            let number = index.row_at(slot);
+            print!(rt; "row {number} {looks}")?;
+            let row = Row {
+                index: &index,
+                number,
+            };
+            write_cells(rt, row)?;
         }
         None => print!(rt; "absent {looks}")?,
     }

@@ -12,6 +12,7 @@ ghost use Rattle.kept.specs.Slots.{Seekable, Placeable};
 use index::cells::{COLUMNS, Contribution};
 use index::judging::Contributions;
 use kept::regions::{COMPILATION, RECORD, RECORDS};
+use kept::slots::Slots;
 use kept::writing::IndexForm;
 use numbers::sections::{CODES, INFO};
 use std::io;
@@ -140,9 +141,8 @@ fn show_index(rt: &impl Print, f: IndexForm, work: &[u32], count: usize) -> io::
     if 2048 < length {
         return Ok(());
     }
-    let records = RECORDS.part(work, WORDS);
-    let slots = kept::regions::slots(COMPILATION).part(work, WORDS);
-    f.write_index(records, f.rows, &slots[..count], &mut out, 0);
+    let slots = Slots::of_work(work, WORDS, COMPILATION, f.rows, count);
+    f.write_index(slots, &mut out, 0);
     write_words(rt, f.big, &out[..length])
 }
 

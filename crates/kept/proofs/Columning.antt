@@ -1,26 +1,32 @@
 -- The columns of a version as the code reads them, and those that some row has.
 -- Assumes nothing.
-use mathlib.Core.Path.{◌≡◌, refl, sym, ap₂, ◌∙◌}
+use mathlib.Core.Path.{◌≡◌, refl, sym, ap, ap₂, ◌∙◌}
 use mathlib.Core.Bool.{Bool, true, false, ◌||◌}
 use mathlib.Core.List.{List, [], ◌∷◌, ◌++◌, map}
-use Prim.Native.Nat.{ℕ, zero, suc, ◌≤◌, ◌<◌}
+use Prim.Native.Nat.{ℕ, zero, suc, ◌^◌, ◌≤◌, ◌<◌}
 use native.Mathlib.Omega.{arith}
 use native.Mathlib.Decide.{dec_lt}
 use borrow.Author.Rules.{rules}
 use Rattle.std.specs.Prelude.{All}
 use Rattle.std.proofs.lemmas.List.Elements.{All-get_or}
 use Rattle.kept.proofs.Moved.{get_d_past}
-use lib.ListN.{length, get_or}
+use lib.ListN.{length, get_or, length-map}
 use Rattle.octets.specs.Lists.{any}
 use Rattle.octets.proofs.Lists.{any_append}
-use Rattle.index.specs.Cells.{column_place, no_column}
+use Rattle.index.specs.Cells.{column_place}
+use Rattle.index.specs.declared.cells.ColumnPlace.{ColumnPlace}
+use Rattle.std.specs.List.{slice_get}
+use Rattle.std.specs.Option.{option_and_then, option_map, is_some as there}
+use Rattle.std.proofs.lemmas.Option.{get_or_from_slice_get, slice_get-get_or}
+use Rattle.std.proofs.Math.ListN.{get_or-map}
+use Rattle.std.specs.Prelude.{Option, Some, None}
 use Rattle.index.specs.Columns.{Column, columns_of, columns_four, columns_five}
-use Rattle.index.specs.Contributed.{ContributionsAre}
+use Rattle.index.specs.Contributed.{ContributionsAre, cell_held, stated}
 use Rattle.index.proofs.CellsHeld.{has_is}
 use Rattle.index.specs.Rows.{is_some}
 use Rattle.index.specs.Written.{Row}
 use Rattle.index.specs.declared.judging.Contributions.{Contributions}
-use Rattle.kept.specs.Columns.{version_for, columns_for, section_at, ColumnsHeld, Marked}
+use Rattle.kept.specs.Columns.{version_for, columns_for, section_of, column_cell, section_at, code_at, CellsFit, ColumnsHeld, Marked}
 
 -- ---- columns
 pub columns_are : (five : Bool) → length (columns_for five) ≤ 8
@@ -40,17 +46,76 @@ section_lt true k = below (map (λ c. c.section) (columns_for true)) k (search r
 section_lt false k = below (map (λ c. c.section) (columns_for false)) k (search rules)
 
 -- column k of the code's table
-pub section_of : (cs : List Column) (k : ℕ) → (get_or (map column_place cs) k no_column).section ≡ get_or (map (λ c. c.section) cs) k 0
-unfolding column_place
-section_of [] k = refl
-section_of (c ∷ cs) zero = refl
-section_of (c ∷ cs) (suc k) = section_of cs k
+module _ (five : Bool) (k : ℕ) where
+  section_told : {o : Option ColumnPlace} → o ≡ slice_get (map column_place (columns_for five)) k → option_map (λ (c : ColumnPlace). c.section) o ≡ section_of five k
+  unfolding section_of column_place
+  section_told e = ap (option_map (λ (c : ColumnPlace). c.section)) e ∙ go (columns_for five) k
+    where
+      go : (cs : List Column) (k : ℕ) → option_map (λ (c : ColumnPlace). c.section) (slice_get (map column_place cs) k) ≡ slice_get (map (λ c. c.section) cs) k
+      go [] k = refl
+      go (c ∷ cs) zero = refl
+      go (c ∷ cs) (suc k) = go cs k
 
-pub code_of : (cs : List Column) (k : ℕ) → (get_or (map column_place cs) k no_column).column ≡ get_or (map (λ c. c.column) cs) k 0
-unfolding column_place
-code_of [] k = refl
-code_of (c ∷ cs) zero = refl
-code_of (c ∷ cs) (suc k) = code_of cs k
+  pub section_none : None ≡ slice_get (map column_place (columns_for five)) k → None ≡ section_of five k
+  section_none e = section_told e
+
+  pub section_some : {c : ColumnPlace} → Some c ≡ slice_get (map column_place (columns_for five)) k → Some c.section ≡ section_of five k
+  section_some e = section_told e
+
+  pub section_there_lt : {s : ℕ} → Some s ≡ section_of five k → s < 14
+  unfolding section_of section_at
+  section_there_lt {s} e =
+      let q : s ≡ section_at five k = sym (get_or_from_slice_get (map (λ c. c.section) (columns_for five)) k s 0 (sym e)) in
+      rw q (section_lt five k)
+
+-- what a unit has of it
+module _ (five : Bool) (cells : Contributions) (k : ℕ) where
+  pub cell_none : None ≡ section_of five k → None ≡ column_cell five cells k
+  unfolding column_cell
+  cell_none e = ap (option_and_then (cell_held cells)) e
+
+  pub cell_some : {s : ℕ} → Some s ≡ section_of five k → cell_held cells s ≡ column_cell five cells k
+  unfolding column_cell
+  cell_some {s} e = ap (option_and_then (cell_held cells)) e
+
+  module _ (f : CellsFit cells) where
+    pub column_offset : (stated (column_cell five cells k)).offset < 2 ^ 32
+    unfolding column_cell
+    column_offset = go (section_of five k)
+      where
+        go : (o : Option ℕ) → (stated (option_and_then (cell_held cells) o)).offset < 2 ^ 32
+        go None = omega arith
+        go (Some s) = f.offset s
+
+    pub column_size : (stated (column_cell five cells k)).size < 2 ^ 32
+    unfolding column_cell
+    column_size = go (section_of five k)
+      where
+        go : (o : Option ℕ) → (stated (option_and_then (cell_held cells) o)).size < 2 ^ 32
+        go None = omega arith
+        go (Some s) = f.size s
+
+-- a column that is there
+pub column_there : (five : Bool) (cells : Contributions) (c : ℕ) → c < length (columns_for five) → column_cell five cells c ≡ cell_held cells (section_at five c)
+unfolding column_cell section_of section_at
+column_there five cells c h = ap (option_and_then (cell_held cells)) (slice_get-get_or (map (λ z. z.section) (columns_for five)) c 0 (rw (length-map (columns_for five)) h))
+
+pub ruleset column_cells = (section_there_lt, cell_none, cell_some)
+
+-- as a loop over the columns reads them
+abbrev no_place : ColumnPlace
+no_place = record { section = 0; column = 0 }
+
+abbrev no_column : Column
+no_column = record { section = 0; column = 0 }
+
+module _ (five : Bool) (k : ℕ) where
+  pub place_code : (get_or (map column_place (columns_for five)) k no_place).column ≡ code_at five k
+  unfolding column_place code_at
+  place_code = ap (λ (c : ColumnPlace). c.column) (get_or-map column_place (columns_for five) k no_column) ∙ sym (get_or-map (λ (c : Column). c.column) (columns_for five) k no_column)
+
+pub places_many : (five : Bool) → length (map column_place (columns_for five)) ≡ length (columns_for five)
+places_many five = length-map (columns_for five) column_place
 
 -- ---- columns that are there
 -- the columns before k are marked, the others as they were
@@ -79,6 +144,6 @@ columns_more five has more rs r cells a c e =
       there =
           λ k h.
           e.column k h
-          ∙ ap₂ (λ (p q : Bool). p || q) (a.there k h) (has_is cells r.cells c (section_at five k) ∙ sym (any_one (λ (q : Row). is_some (q.cells (section_at five k))) r))
+          ∙ ap₂ (λ (p q : Bool). p || q) (a.there k h) (ap there (column_there five cells k h) ∙ has_is cells r.cells c (section_at five k) ∙ sym (any_one (λ (q : Row). is_some (q.cells (section_at five k))) r))
           ∙ sym (any_append (λ (q : Row). is_some (q.cells (section_at five k))) rs (r ∷ []));
     }

@@ -13,9 +13,9 @@ use Rattle.octets.proofs.Lists.{those_append, those_keeps, those_skips}
 use Rattle.octets.proofs.Joined.{map-append, joined_append}
 use Rattle.octets.proofs.Placed.{placed_placed, placed_none, length_placed}
 use Rattle.kept.specs.Regions.{record_words}
-use Rattle.index.specs.Contributed.{cell_held, stated}
+use Rattle.index.specs.Contributed.{stated}
 use Rattle.index.specs.declared.judging.Contributions.{Contributions}
-use Rattle.kept.specs.Columns.{section_at}
+use Rattle.kept.specs.Columns.{column_cell}
 use Rattle.kept.specs.declared.records.Unit.{Unit as UnitHead}
 use Rattle.kept.specs.Records.{cells_place, cell_words, words_of, cells_left, cells_of, unit_of, UnitFits, KeptUnit, record_at, records_from, in_home, bytes_of, bytes_from, UnitsInside}
 use Rattle.kept.proofs.Recording.{records_turn, records_end, cells_many}
@@ -95,12 +95,12 @@ module _ (b w : List ℕ) (home i n : ℕ) {d₀ d : List ℕ} {at o : ℕ} {all
   bytes_more p q = copying_more c room (bytes_from b w home i 1) (bytes_from b w home (i + 1) (n - (i + 1))) (bytes_turn b w home i n h) _ _ p q
 
 -- ---- numbers stored one by one
-pub cells_one : (five : Bool) (cells : Contributions) (k o z s : ℕ) → k < 8 → s ≡ section_at five k → o ≡ (stated (cell_held cells s)).offset → z ≡ (stated (cell_held cells s)).size
+pub cells_one : (five : Bool) (cells : Contributions) (k o z : ℕ) → k < 8 → o ≡ (stated (column_cell five cells k)).offset → z ≡ (stated (column_cell five cells k)).size
     → cells_left five cells k (8 - k) ≡ (o ∷ z ∷ []) ++ cells_left five cells (k + 1) (8 - (k + 1))
 unfolding cells_left
-cells_one five cells k o z s h e p q =
+cells_one five cells k o z h p q =
     let m : 8 - k ≡ suc (8 - (k + 1)) = omega arith in
-    rw (m, p, q, e)
+    rw (m, p, q)
 
 pub cells_none : (five : Bool) (cells : Contributions) (k : ℕ) → 8 ≤ k → cells_left five cells k (8 - k) ≡ []
 unfolding cells_left

@@ -18,7 +18,7 @@ use Rattle.octets.proofs.Joined.{map-append}
 use Rattle.index.specs.Index.{Contribution}
 use Rattle.index.specs.Rows.{BySection}
 use Rattle.index.specs.Written.{Row}
-use Rattle.index.specs.Contributed.{ContributionsAre, cell_held, stated}
+use Rattle.index.specs.Contributed.{Cell, ContributionsAre, stated}
 use Rattle.index.proofs.CellsHeld.{offset_is, size_is}
 use Rattle.index.specs.Held.{PowerOfTwo}
 use Rattle.index.specs.declared.judging.Contributions.{Contributions}
@@ -26,7 +26,7 @@ use Rattle.kept.specs.Regions.{record_words}
 use Rattle.package.specs.Filing.{Filed}
 use Rattle.package.specs.Pack.{cells, rows_of, unit_bytes, entries_from}
 use Rattle.package.proofs.Rows.{behind_all, behind_at, rows_from, row_at, rows_are, rows_append, rows_later, row_stands, nothing_before, unit_append, unit_here, unit_later}
-use Rattle.kept.specs.Columns.{columns_for, section_at, ColumnsHeld, Marked}
+use Rattle.kept.specs.Columns.{columns_for, column_cell, section_at, ColumnsHeld, Marked}
 use Rattle.kept.specs.Cells.{cells_by}
 use Rattle.kept.specs.Records.{KeptUnit, cell_words, words_of, cells_left, cells_of, unit_of, record_at, records_from, of_table, bytes_of, bytes_from}
 use Rattle.kept.specs.Slots.{free_for, SeenHeld}
@@ -34,7 +34,7 @@ use Rattle.kept.specs.Held.{identities_of, RowIs, RowsAre, none, more, TableHeld
 use Rattle.kept.specs.declared.records.Unit.{Unit as UnitHead}
 use Rattle.kept.specs.declared.Table.{Table}
 use Rattle.kept.specs.declared.Units.{Units}
-use Rattle.kept.proofs.Columning.{columns_are, columns_more}
+use Rattle.kept.proofs.Columning.{columns_are, column_there, columns_more}
 use Rattle.kept.proofs.Recording.{cells_many, stored, stored_before, stored_all, stored_own, stored_other, stored_table, stored_bytes, stored_elsewhere, stored_identity, stored_row, record_stored}
 use Rattle.kept.proofs.Seen.{seen_kept, seen_more}
 
@@ -102,7 +102,7 @@ each_snoc b (x ∷ ks) (y ∷ us) k u (one_record a m) h = one_record a (each_sn
 
 -- cells by value are those of the record
 cell_at : (five : Bool) (cells : Contributions) (k m c : ℕ) → c < m
-    → (get_or (cells_left five cells k m) (2 * c) 0 ≡ (stated (cell_held cells (section_at five (k + c)))).offset) × (get_or (cells_left five cells k m) (2 * c + 1) 0 ≡ (stated (cell_held cells (section_at five (k + c)))).size)
+    → (get_or (cells_left five cells k m) (2 * c) 0 ≡ (stated (column_cell five cells (k + c))).offset) × (get_or (cells_left five cells k m) (2 * c + 1) 0 ≡ (stated (column_cell five cells (k + c))).size)
 unfolding cells_left
 cell_at five cells k zero c h = absurd (not-suc-le-zero h)
 cell_at five cells k (suc m) zero h = let e : k + 0 ≡ k = omega arith in rw e (refl, refl)
@@ -117,8 +117,8 @@ pub unit_row : (five : Bool) (u : UnitHead) (cells : Contributions) (f : BySecti
 unfolding unit_of cells_of
 unit_row five u cells f a = record {
   identity = refl;
-  offset = λ c h. let z : 0 + c ≡ c = omega arith in let q = (cell_at five cells 0 8 c (omega (arith, columns_are five))).0 in rw z at q ∙ offset_is cells f a (section_at five c);
-  size = λ c h. let z : 0 + c ≡ c = omega arith in let q = (cell_at five cells 0 8 c (omega (arith, columns_are five))).1 in rw z at q ∙ size_is cells f a (section_at five c);
+  offset = λ c h. let z : 0 + c ≡ c = omega arith in let q = (cell_at five cells 0 8 c (omega (arith, columns_are five))).0 in rw z at q ∙ ap (λ (x : Cell). (stated x).offset) (column_there five cells c h) ∙ offset_is cells f a (section_at five c);
+  size = λ c h. let z : 0 + c ≡ c = omega arith in let q = (cell_at five cells 0 8 c (omega (arith, columns_are five))).1 in rw z at q ∙ ap (λ (x : Cell). (stated x).size) (column_there five cells c h) ∙ size_is cells f a (section_at five c);
 }
 
 -- ---- a table with one record more behind n

@@ -97,6 +97,9 @@ slots_are table = ⊎_elim (λ (e : eqb table 1 ≡ true). inl (rw (slots_region
 pub records_within : Within records_region
 records_within = record { ends = omega arith }
 
+pub length_records : (n : ℕ) (w : List ℕ) → work_for_word * n ≤ length w → length (region w n records_region) ≡ records_region.words * n
+length_records n w room = length_region records_region records_within n w room
+
 pub strings_within : Within strings_region
 strings_within = record { ends = omega arith }
 

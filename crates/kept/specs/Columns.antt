@@ -1,12 +1,14 @@
 -- The columns of a version, those that are there, and a unit's cells by column.
 -- Assumes nothing.
-use Rattle.std.specs.Prelude.{◌≡◌, Bool, true, false, ◌||◌, List, [], ◌∷◌, map, ℕ, zero, suc, ◌+◌, ◌*◌, ◌^◌, ◌<◌, length, get_or}
+use Rattle.std.specs.Prelude.{◌≡◌, Option, Bool, true, false, ◌||◌, List, [], ◌∷◌, map, ℕ, zero, suc, ◌+◌, ◌*◌, ◌^◌, ◌<◌, length, get_or}
+use Rattle.std.specs.List.{slice_get}
+use Rattle.std.specs.Option.{option_and_then, is_some as there}
 use Rattle.octets.specs.Lists.{any}
 use Rattle.numbers.specs.Tables.{dwarf4, dwarf5}
 use Rattle.index.specs.Columns.{Column, columns_of}
 use Rattle.index.specs.Rows.{is_some}
 use Rattle.index.specs.Written.{Row}
-use Rattle.index.specs.Contributed.{cell_held, has_cell, stated}
+use Rattle.index.specs.Contributed.{Cell, cell_held, stated}
 use Rattle.index.specs.declared.judging.Contributions.{Contributions}
 
 -- the DWARF version that a flag names
@@ -16,6 +18,14 @@ version_for false = dwarf4
 
 unfoldable pub columns_for : Bool → List Column
 columns_for five = columns_of (version_for five)
+
+-- column k's section, where there is one
+unfoldable pub section_of : Bool → ℕ → Option ℕ
+section_of five k = slice_get (map (λ c. c.section) (columns_for five)) k
+
+-- what a unit has of it
+unfoldable pub column_cell : Bool → Contributions → ℕ → Cell
+column_cell five cells k = option_and_then (cell_held cells) (section_of five k)
 
 -- column k's section and code, 0 where there is no column k
 unfoldable pub section_at : Bool → ℕ → ℕ
@@ -53,4 +63,4 @@ pub record ColumnsHeld (five : Bool) (has : List Bool) (rs : List Row) : Type 0 
 
 -- the first m columns marked, where they were or where a row has them
 pub record Marked (five : Bool) (has more : List Bool) (cells : Contributions) (m : ℕ) : Type 0 where
-  pub column : (k : ℕ) → k < m → get_or more k false ≡ (get_or has k false || has_cell cells (section_at five k))
+  pub column : (k : ℕ) → k < m → get_or more k false ≡ (get_or has k false || there (column_cell five cells k))

@@ -4,10 +4,10 @@ use Rattle.std.specs.Prelude.{Bool, true, false, List, [], ◌∷◌, map, ℕ, 
 use Rattle.numbers.specs.Tables.{columns2}
 use Rattle.octets.specs.Octets.{part}
 use Rattle.octets.specs.Lists.{joined, those}
-use Rattle.index.specs.Contributed.{cell_held, stated}
+use Rattle.index.specs.Contributed.{stated}
 use Rattle.index.specs.declared.judging.Contributions.{Contributions}
 use Rattle.kept.specs.Regions.{record_words}
-use Rattle.kept.specs.Columns.{section_at}
+use Rattle.kept.specs.Columns.{column_cell}
 use Rattle.kept.specs.declared.records.Unit.{Unit as UnitHead}
 
 -- a record, as words state it: its cells are offset and size for each of 8 columns
@@ -31,10 +31,10 @@ cell_words = 16
 unfoldable pub words_of : KeptUnit → List ℕ
 words_of k = k.table ∷ k.row ∷ (k.identity % 2 ^ 32) ∷ (k.identity / 2 ^ 32) ∷ k.home ∷ k.start ∷ k.size ∷ k.cells
 
--- the cells of so many columns from column k on
+-- the cells of so many columns from column k on, 0 and 0 where a unit has nothing of a section, or there is no such column
 unfoldable pub cells_left : Bool → Contributions → ℕ → ℕ → List ℕ
 cells_left five cells k zero = []
-cells_left five cells k (suc m) = (stated (cell_held cells (section_at five k))).offset ∷ (stated (cell_held cells (section_at five k))).size ∷ cells_left five cells (k + 1) m
+cells_left five cells k (suc m) = (stated (column_cell five cells k)).offset ∷ (stated (column_cell five cells k)).size ∷ cells_left five cells (k + 1) m
 
 unfoldable pub cells_of : Bool → Contributions → List ℕ
 cells_of five cells = cells_left five cells 0 columns2

@@ -1,17 +1,10 @@
 // The columns of a version in order: a section's code, and the code of its column.
-ghost use Rattle.std.specs.Prelude.{◌≡◌, ◌||◌, ℕ, ◌<◌, ◌≤◌, ◌^◌, length};
-ghost use Rattle.kept.specs.Columns.{
-  version_for,
-  columns_for,
-  section_at,
-  code_at,
-  Marked,
-  numbers_if,
-  codes_in,
-};
+ghost use Rattle.std.specs.Prelude.{◌≡◌, map, ◌<◌, ◌≤◌, ◌^◌, length};
+ghost use Rattle.index.specs.Cells.{column_place};
+ghost use Rattle.kept.specs.Columns.{version_for, columns_for, section_of, column_cell, Marked, codes_in};
 ghost use Rattle.kept.specs.Indexed.{index_size};
 
-use index::cells::COLUMNS;
+use index::cells::{COLUMNS, ColumnPlace, Contribution};
 use index::judging::Contributions;
 use numbers::tables::{DWARF_4, DWARF_5};
 
@@ -23,6 +16,13 @@ fn version_for(five: bool) -> u32
     if five { DWARF_5 } else { DWARF_4 }
 }
 
+#[tactic(auto, unfolding(crate::specs::Columns::columns_for))]
+pub fn columns(five: bool) -> &'static [ColumnPlace]
+    ensures { result.now ≡ map column_place (columns_for five) }
+{
+    index::cells::columns(version_for(five))
+}
+
 #[tactic(auto, using(crate::proofs::Columning::columns_are), unfolding(crate::specs::Columns::columns_for))]
 pub fn column_count(five: bool) -> usize
     ensures is { result ≡ length (columns_for five) }
@@ -31,30 +31,29 @@ pub fn column_count(five: bool) -> usize
     index::cells::columns_count(version_for(five))
 }
 
-// 0 where there is no column k.
-#[tactic(auto, using(crate::proofs::Columning::section_of), unfolding(crate::specs::Columns::section_at, crate::specs::Columns::columns_for))]
-pub fn section_at(five: bool, k: usize) -> usize
-    ensures { result ≡ section_at five k }
+// The section of column k, where there is one.
+#[tactic(auto, using(crate::proofs::Columning::section_none, crate::proofs::Columning::section_some), unfolding(crate::specs::Columns::columns_for))]
+pub fn section_at(five: bool, k: usize) -> Option<usize>
+    ensures { result ≡ section_of five k }
 {
-    index::cells::column_at(version_for(five), k).section
+    Some(index::cells::column_at(version_for(five), k)?.section)
 }
 
-// Its column's code. Each caller wants one of the two alone.
-#[tactic(auto, using(crate::proofs::Columning::code_of), unfolding(crate::specs::Columns::code_at, crate::specs::Columns::columns_for))]
-pub fn code_at(five: bool, k: usize) -> usize
-    ensures { result ≡ code_at five k }
+// What a unit has of column k.
+#[tactic(auto, using(crate::proofs::Columning::column_cells))]
+pub fn cell_at(five: bool, k: usize, cells: &Contributions) -> Option<Contribution>
+    ensures { result ≡ column_cell five cells.now k }
 {
-    index::cells::column_at(version_for(five), k).column
+    cells.cells[section_at(five, k)?]
 }
 
 // ---- the columns that are there
 // The columns that were there, and those of one row more.
-#[tactic(auto, using(crate::proofs::Columning::section_lt))]
 pub fn mark_columns(five: bool, mut has: [bool; COLUMNS], cells: Contributions) -> [bool; COLUMNS]
     ensures { Marked five has result cells (length (columns_for five)) }
 {
     for k in 0..column_count(five) {
-        has[k] |= cells.cells[section_at(five, k)].is_some();
+        has[k] |= cell_at(five, k, &cells).is_some();
     }
     has
 }

@@ -2,7 +2,8 @@
 // offset and size for each column.
 ghost use Rattle.std.specs.Prelude.{◌≡◌, [], ◌∷◌, ℕ, ◌+◌, ◌*◌, ◌<◌, ◌≤◌, ◌^◌, length, get_or};
 ghost use Rattle.octets.specs.Octets.{placed};
-ghost use Rattle.kept.specs.Regions.{record_words};
+ghost use Rattle.numbers.specs.Limits.{work_for_word};
+ghost use Rattle.kept.specs.Regions.{record_words, records_region, region};
 ghost use Rattle.kept.specs.Columns.{CellsFit};
 ghost use Rattle.kept.specs.Records.{
   cell_words,
@@ -15,7 +16,7 @@ ghost use Rattle.kept.specs.Records.{
   UnitFits,
 };
 
-use crate::regions::RECORD;
+use crate::regions::{RECORD, RECORDS};
 use index::cells::{COLUMNS, Contribution};
 use index::judging::Contributions;
 
@@ -36,14 +37,14 @@ pub const SIZE: usize = 6;
 
 pub const CELLS: usize = 7;
 
-const WORD: u64 = 0x1_0000_0000;
-
 // A kept unit without its cells.
 #[derive(Clone, Copy)]
 pub struct Unit {
+    // 1 or 2. A number, as a record's words hold it: an enum would be turned back at each store and each comparison.
     pub table: usize,
     pub row: usize,
     pub identity: u64,
+    // A section's code. A number, as a record's words hold it and as cells are indexed by it.
     pub home: usize,
     pub start: usize,
     pub size: usize,
@@ -54,13 +55,13 @@ const NOTHING: Contribution = Contribution { offset: 0, size: 0 };
 
 // ---- stored. Callers keep room, and numbers of 32 bits.
 // Offset and size for each column.
-#[tactic(auto, using(crate::proofs::Columning::section_lt))]
+#[tactic(auto, using(crate::proofs::Columning::column_offset, crate::proofs::Columning::column_size))]
 fn store_cells(five: bool, words: &mut [u32], at: usize, cells: Contributions)
     requires { (at + cell_words ≤ length words.old) × CellsFit cells }
     ensures { words.new ≡ placed words.old at (cells_of five cells) }
 {
     for k in 0..COLUMNS {
-        let part = cells.cells[crate::columns::section_at(five, k)].unwrap_or(NOTHING);
+        let part = crate::columns::cell_at(five, k, &cells).unwrap_or(NOTHING);
         octets::set_word(words, at + 2 * k, part.offset);
         octets::set_word(words, at + 2 * k + 1, part.size);
     }
@@ -71,11 +72,12 @@ pub fn store_unit(words: &mut [u32], at: usize, unit: Unit, five: bool, cells: C
     requires { (at + record_words ≤ length words.old) × UnitFits unit × CellsFit cells }
     ensures { words.new ≡ placed words.old at (words_of (unit_of unit five cells)) }
 {
+    let [low, high] = octets::words_of(unit.identity);
     let head = [
         unit.table as u32,
         unit.row as u32,
-        (unit.identity % WORD) as u32,
-        (unit.identity / WORD) as u32,
+        low,
+        high,
         unit.home as u32,
         unit.start as u32,
         unit.size as u32,
@@ -84,39 +86,66 @@ pub fn store_unit(words: &mut [u32], at: usize, unit: Unit, five: bool, cells: C
     store_cells(five, words, at + CELLS, cells);
 }
 
-// ---- read. Callers have stored record i.
-#[tactic(auto, unfolding(crate::specs::Records::record_at))]
-pub fn table_at(records: &[u32], i: usize) -> usize
-    requires { record_words * i + record_words ≤ length records.now }
-    ensures { result ≡ (record_at records.now i).table }
-{
-    records[RECORD * i + TABLE] as usize
+// ---- read
+// The records of so many units, in words one behind the other. Callers have stored them.
+#[derive(Clone, Copy)]
+pub struct Records<'a> {
+    pub words: &'a [u32],
+    pub count: usize,
+    ghost room: { record_words * count ≤ length words.now },
 }
 
-#[tactic(auto, unfolding(crate::specs::Records::record_at))]
-pub fn identity_at(records: &[u32], i: usize) -> u64
-    requires { record_words * i + record_words ≤ length records.now }
-    ensures { result ≡ (record_at records.now i).identity }
-{
-    u64::from(records[RECORD * i + LOW]) + WORD * u64::from(records[RECORD * i + HIGH])
-}
+impl<'a> Records<'a> {
+    // Those that work has for a bundle of so many words.
+    #[tactic(auto, using(crate::proofs::RegionStores::length_records))]
+    pub fn of_work(work: &'a [u32], words: usize, count: usize) -> Records<'a>
+        requires { (words < 2 ^ 32) × (work_for_word * words ≤ length work.now) × (record_words * count ≤ records_region.words * words) }
+        ensures are { result.words.now ≡ region work.now words records_region }
+        ensures many { result.count ≡ count }
+    {
+        Records {
+            words: RECORDS.part(work, words),
+            count,
+        }
+    }
 
-// The identity that a slot names by the number of a record, from 1, and 0 for a slot that names none.
-#[tactic(auto, unfolding(crate::specs::Records::identity_for))]
-pub fn identity_for(records: &[u32], number: usize) -> u64
-    requires { record_words * number ≤ length records.now }
-    ensures { result ≡ identity_for records.now number }
-{
-    number.checked_sub(1).map_or(0, |i| identity_at(records, i))
-}
+    #[tactic(auto, unfolding(crate::specs::Records::record_at))]
+    pub fn table_at(self, i: usize) -> usize
+        requires { i < self.count }
+        ensures { result ≡ (record_at self.entry.words.now i).table }
+    {
+        self.words[RECORD * i + TABLE] as usize
+    }
 
-// The same for its row number.
-#[tactic(auto, unfolding(crate::specs::Records::row_for, crate::specs::Records::record_at))]
-pub fn row_for(records: &[u32], number: usize) -> usize
-    requires { record_words * number ≤ length records.now }
-    ensures { result ≡ row_for records.now number }
-{
-    number
-        .checked_sub(1)
-        .map_or(0, |i| records[RECORD * i + ROW] as usize)
+    #[tactic(auto, unfolding(crate::specs::Records::record_at))]
+    pub fn identity_at(self, i: usize) -> u64
+        requires { i < self.count }
+        ensures { result ≡ (record_at self.entry.words.now i).identity }
+    {
+        octets::number_of(self.words[RECORD * i + LOW], self.words[RECORD * i + HIGH])
+    }
+
+    // The identity that a slot names by the number of a record, from 1, and 0 for a slot that names none.
+    #[tactic(auto, using(crate::proofs::Recording::identity_none, crate::proofs::Recording::identity_some))]
+    pub fn identity_for(self, number: usize) -> u64
+        requires { number ≤ self.count }
+        ensures { result ≡ identity_for self.entry.words.now number }
+    {
+        match number.checked_sub(1) {
+            Some(i) => self.identity_at(i),
+            None => 0,
+        }
+    }
+
+    // The same for its row number.
+    #[tactic(auto, using(crate::proofs::Recording::row_none, crate::proofs::Recording::row_some), unfolding(crate::specs::Records::record_at))]
+    pub fn row_for(self, number: usize) -> usize
+        requires { number ≤ self.count }
+        ensures { result ≡ row_for self.entry.words.now number }
+    {
+        match number.checked_sub(1) {
+            Some(i) => self.words[RECORD * i + ROW] as usize,
+            None => 0,
+        }
+    }
 }

@@ -19,29 +19,53 @@ ghost use Rattle.kept.specs.Slots.{
   PlacedAll,
 };
 
-use crate::records::Unit;
+use crate::records::{Records, Unit};
 use crate::regions::{RECORD, RECORDS};
 use index::judging::Contributions;
 
-// Where a walk ends: at the number of a record of the identity, or else at a free slot. Callers have slots of records that are stored.
-pub fn seek(records: &[u32], slots: &[u32], n: usize, x: u64) -> Result<usize, usize>
-    requires { PowerOfTwo (length slots.now) × Within slots.now n × (record_words * n ≤ length records.now) }
-    ensures { result ≡ sought_in records.now slots.now x }
-{
-    let count = slots.len();
-    let by = index::probing::stride(x, count);
-    let mut at = index::probing::first_slot(x, count);
-    for _looks in 0..count {
-        let number = slots[at] as usize;
-        if number == 0 {
-            return Err(at);
+// The slots of a table: each number in them is that of one of the records.
+#[derive(Clone, Copy)]
+pub struct Slots<'a> {
+    pub records: Records<'a>,
+    pub slots: &'a [u32],
+    ghost within: { Within slots.now records.count },
+}
+
+impl<'a> Slots<'a> {
+    // The first count slots of a table in work for a bundle of so many words, over n records.
+    pub fn of_work(work: &'a [u32], words: usize, table: usize, n: usize, count: usize) -> Slots<'a>
+        requires { Seekable words work.now table n count }
+        ensures records { result.records.words.now ≡ region work.now words records_region }
+        ensures many { result.records.count ≡ n }
+        ensures slots { result.slots.now ≡ slots_in work.now words table count }
+    {
+        let region = crate::regions::slots(table).part(work, words);
+        Slots {
+            records: Records::of_work(work, words, n),
+            slots: &region[..count],
         }
-        if crate::records::identity_for(records, number) == x {
-            return Ok(number);
-        }
-        at = index::probing::next_slot(at, by, count);
     }
-    Err(at)
+
+    // Where a walk ends: at the number of a record of the identity, or else at a free slot.
+    pub fn seek(self, x: u64) -> Result<usize, usize>
+        requires { PowerOfTwo (length self.slots.now) }
+        ensures { result ≡ sought_in self.entry.records.words.now self.entry.slots.now x }
+    {
+        let count = self.slots.len();
+        let by = index::probing::stride(x, count);
+        let mut at = index::probing::first_slot(x, count);
+        for _looks in 0..count {
+            let number = self.slots[at] as usize;
+            if number == 0 {
+                return Err(at);
+            }
+            if self.records.identity_for(number) == x {
+                return Ok(number);
+            }
+            at = index::probing::next_slot(at, by, count);
+        }
+        Err(at)
+    }
 }
 
 // The slots of an index of n rows.
@@ -79,8 +103,7 @@ pub fn seek_in(
     requires { Seekable words work.now table n count }
     ensures { result ≡ sought_in (region work.now words records_region) (part work.now ((slots_region table).start * words) count) x }
 {
-    let slots = crate::regions::slots(table).part(work, words);
-    seek(RECORDS.part(work, words), &slots[..count], n, x)
+    Slots::of_work(work, words, table, n, count).seek(x)
 }
 
 // Places record i where it is one of the table.
@@ -88,11 +111,11 @@ fn place_unit(work: &mut [u32], words: usize, table: usize, i: usize, count: usi
     requires { Seekable words work.old table i count × (record_words * i + record_words ≤ records_region.words * words) }
     ensures { Placed words table i count work.old work.new }
 {
-    let records = RECORDS.part(work, words);
-    if crate::records::table_at(records, i) != table {
+    let records = Records::of_work(work, words, i + 1);
+    if records.table_at(i) != table {
         return;
     }
-    let x = crate::records::identity_at(records, i);
+    let x = records.identity_at(i);
     if let Err(at) = seek_in(work, words, table, i, count, x) {
         let slots = crate::regions::slots(table).of(words);
         octets::set_word(work, slots.start + at, i + 1);

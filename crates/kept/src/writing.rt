@@ -2,13 +2,12 @@
 ghost use Rattle.std.specs.Prelude.{◌≡◌, [], ◌∷◌, ◌++◌, map, ℕ, ◌+◌, ◌*◌, ◌<◌, ◌≤◌, ◌^◌, length};
 ghost use Rattle.octets.specs.Octets.{numbers_of, placed};
 ghost use Rattle.index.specs.Written.{start_bytes};
-ghost use Rattle.kept.specs.Regions.{record_words};
 ghost use Rattle.kept.specs.Columns.{version_for, columns_for, numbers_if, cells_from, codes_in};
-ghost use Rattle.kept.specs.Slots.{Within};
 ghost use Rattle.kept.specs.Indexed.{grid_from, place_of, slot_number, slot_width, front_in, index_in};
 
-use crate::records::CELLS;
+use crate::records::{CELLS, Records};
 use crate::regions::RECORD;
+use crate::slots::Slots;
 use index::cells::COLUMNS;
 use numbers::tables::INDEX_2;
 
@@ -50,13 +49,13 @@ enum SlotNumbers {
 impl SlotNumbers {
     // The one that a slot names by the number of a record, 0 where it is unused.
     #[tactic(auto, unfolding(crate::specs::Indexed::slot_number))]
-    fn of(self, records: &[u32], number: usize) -> u64
-        requires { record_words * number ≤ length records.now }
-        ensures { result ≡ slot_number self records.now number }
+    fn of(self, records: Records, number: usize) -> u64
+        requires { number ≤ records.count }
+        ensures { result ≡ slot_number self records.entry.words.now number }
     {
         match self {
-            SlotNumbers::Identities => crate::records::identity_for(records, number),
-            SlotNumbers::Rows => crate::records::row_for(records, number) as u64,
+            SlotNumbers::Identities => records.identity_for(number),
+            SlotNumbers::Rows => records.row_for(number) as u64,
         }
     }
 
@@ -122,23 +121,15 @@ impl IndexForm {
     }
 
     // ---- slots
-    // One number for each slot. The caller has slots of n records that are stored.
-    fn put_slots(
-        self,
-        numbers: SlotNumbers,
-        records: &[u32],
-        n: usize,
-        slots: &[u32],
-        out: &mut [u8],
-        at: usize,
-    )
-        requires { Within slots.now n × (record_words * n ≤ length records.now) × (at + slot_width numbers * length slots.now ≤ length out.old) }
-        ensures { out.new ≡ placed out.old at (numbers_of self.big (slot_width numbers) (map (slot_number numbers records.now) slots.now)) }
+    // One number for each slot.
+    fn put_slots(self, numbers: SlotNumbers, slots: Slots, out: &mut [u8], at: usize)
+        requires { at + slot_width numbers * length slots.slots.now ≤ length out.old }
+        ensures { out.new ≡ placed out.old at (numbers_of self.big (slot_width numbers) (map (slot_number numbers slots.entry.records.words.now) slots.entry.slots.now)) }
     {
         let width = numbers.width();
         let mut o = at;
-        for slot in slots {
-            let x = numbers.of(records, *slot as usize);
+        for slot in slots.slots {
+            let x = numbers.of(slots.records, *slot as usize);
             octets::put_number(self.big, width, x, out, o);
             o += width;
         }
@@ -146,15 +137,15 @@ impl IndexForm {
 
     // ---- columns
     // The codes of the columns that are there; the place behind them.
+    #[tactic(auto, using(crate::proofs::Columning::places_many, crate::proofs::Columning::columns_are))]
     fn put_codes(self, out: &mut [u8], at: usize) -> usize
         requires { at + 4 * length (codes_in self.five self.has) ≤ length out.old }
         ensures out { out.new ≡ placed out.old at (numbers_of self.big 4 (codes_in self.five self.has)) }
         ensures next { result ≡ at + 4 * length (codes_in self.five self.has) }
     {
         let mut o = at;
-        for k in 0..crate::columns::column_count(self.five) {
-            let code = crate::columns::code_at(self.five, k);
-            o = put_if(self.has[k], self.big, code, out, o);
+        for (k, column) in crate::columns::columns(self.five).iter().enumerate() {
+            o = put_if(self.has[k], self.big, column.column, out, o);
         }
         o
     }
@@ -175,25 +166,25 @@ impl IndexForm {
     }
 
     // Record i, where it is one of the table. The place behind it.
-    fn put_row(self, records: &[u32], i: usize, which: Figures, out: &mut [u8], at: usize) -> usize
-        requires { (record_words * i + record_words ≤ length records.now) × (at + 4 * length (grid_from self records.now (place_of which) i 1) ≤ length out.old) }
-        ensures out { out.new ≡ placed out.old at (numbers_of self.big 4 (grid_from self records.now (place_of which) i 1)) }
-        ensures next { result ≡ at + 4 * length (grid_from self records.now (place_of which) i 1) }
+    fn put_row(self, records: Records, i: usize, which: Figures, out: &mut [u8], at: usize) -> usize
+        requires { (i < records.count) × (at + 4 * length (grid_from self records.words.now (place_of which) i 1) ≤ length out.old) }
+        ensures out { out.new ≡ placed out.old at (numbers_of self.big 4 (grid_from self records.entry.words.now (place_of which) i 1)) }
+        ensures next { result ≡ at + 4 * length (grid_from self records.entry.words.now (place_of which) i 1) }
     {
-        if crate::records::table_at(records, i) != self.table {
+        if records.table_at(i) != self.table {
             return at;
         }
-        self.put_cells(records, RECORD * i + CELLS + which.place(), out, at)
+        self.put_cells(records.words, RECORD * i + CELLS + which.place(), out, at)
     }
 
-    // All n records.
-    fn put_grid(self, records: &[u32], n: usize, which: Figures, out: &mut [u8], at: usize) -> usize
-        requires { (record_words * n ≤ length records.now) × (at + 4 * length (grid_from self records.now (place_of which) 0 n) ≤ length out.old) }
-        ensures out { out.new ≡ placed out.old at (numbers_of self.big 4 (grid_from self records.now (place_of which) 0 n)) }
-        ensures next { result ≡ at + 4 * length (grid_from self records.now (place_of which) 0 n) }
+    // All records.
+    fn put_grid(self, records: Records, which: Figures, out: &mut [u8], at: usize) -> usize
+        requires { at + 4 * length (grid_from self records.words.now (place_of which) 0 records.count) ≤ length out.old }
+        ensures out { out.new ≡ placed out.old at (numbers_of self.big 4 (grid_from self records.entry.words.now (place_of which) 0 records.entry.count)) }
+        ensures next { result ≡ at + 4 * length (grid_from self records.entry.words.now (place_of which) 0 records.entry.count) }
     {
         let mut o = at;
-        for i in 0..n {
+        for i in 0..records.count {
             o = self.put_row(records, i, which, out, o);
         }
         o
@@ -201,34 +192,26 @@ impl IndexForm {
 
     // ---- the index
     // Head and slots.
-    fn put_front(
-        self,
-        columns: usize,
-        records: &[u32],
-        n: usize,
-        slots: &[u32],
-        out: &mut [u8],
-        at: usize,
-    )
-        requires { Within slots.now n × (record_words * n ≤ length records.now) × (at + 16 + 12 * length slots.now ≤ length out.old) }
-        ensures { out.new ≡ placed out.old at (front_in self columns records.now slots.now) }
+    fn put_front(self, columns: usize, slots: Slots, out: &mut [u8], at: usize)
+        requires { at + 16 + 12 * length slots.slots.now ≤ length out.old }
+        ensures { out.new ≡ placed out.old at (front_in self columns slots.entry.records.words.now slots.entry.slots.now) }
     {
-        let rows = at + 16 + 8 * slots.len();
-        self.put_head(columns, slots.len(), out, at);
-        self.put_slots(SlotNumbers::Identities, records, n, slots, out, at + 16);
-        self.put_slots(SlotNumbers::Rows, records, n, slots, out, rows);
+        let rows = at + 16 + 8 * slots.slots.len();
+        self.put_head(columns, slots.slots.len(), out, at);
+        self.put_slots(SlotNumbers::Identities, slots, out, at + 16);
+        self.put_slots(SlotNumbers::Rows, slots, out, rows);
     }
 
-    // The caller keeps room for it, and has placed the records of the table, among n that are stored.
-    pub fn write_index(self, records: &[u32], n: usize, slots: &[u32], out: &mut [u8], at: usize)
-        requires { Within slots.now n × (record_words * n ≤ length records.now) × (at + length (index_in self records.now n slots.now) ≤ length out.old) }
-        ensures { out.new ≡ placed out.old at (index_in self records.now n slots.now) }
+    // The caller keeps room for it, and has placed the records of the table, among those that are stored.
+    pub fn write_index(self, slots: Slots, out: &mut [u8], at: usize)
+        requires { at + length (index_in self slots.records.words.now slots.records.count slots.slots.now) ≤ length out.old }
+        ensures { out.new ≡ placed out.old at (index_in self slots.entry.records.words.now slots.entry.records.count slots.entry.slots.now) }
     {
         let columns = crate::columns::columns_present(self.five, self.has);
-        let codes = at + 16 + 12 * slots.len();
-        self.put_front(columns, records, n, slots, out, at);
+        let codes = at + 16 + 12 * slots.slots.len();
+        self.put_front(columns, slots, out, at);
         let offsets = self.put_codes(out, codes);
-        let sizes = self.put_grid(records, n, Figures::Offsets, out, offsets);
-        self.put_grid(records, n, Figures::Sizes, out, sizes);
+        let sizes = self.put_grid(slots.records, Figures::Offsets, out, offsets);
+        self.put_grid(slots.records, Figures::Sizes, out, sizes);
     }
 }

@@ -7,12 +7,13 @@ ghost use Rattle.index.specs.Index.{cell_of};
 ghost use Rattle.index.specs.Rows.{naming, the_one, cell_is, own_place};
 ghost use Rattle.places.specs.Chains.{Chained, with_cell};
 
-use index::cells::Contribution;
+use index::cells::{Contribution, Row};
 use index::reading::Index;
 use numbers::refusals::Refusal;
 use numbers::sections::INFO;
 
-// The lender has one region for heads and rows alike, so how many of the words are heads stands beside them.
+// The words, and how many of them are heads, stay two parameters here and in the following: other parts of the same work are lent between two calls, so a struct
+// of both would be made anew for each call, and be taken apart in it.
 // Puts a row before those of its word. One that names no place of the section is in no chain.
 #[tactic(auto, using(crate::proofs::Chaining::put_none, crate::proofs::Chaining::put_outside, crate::proofs::Chaining::put_inside))]
 fn chain_row(words: &mut [u32], heads: usize, row: usize, cell: Option<Contribution>)
@@ -44,11 +45,10 @@ pub fn chain_rows(index: &Index, section: usize, heads: usize, words: &mut [u32]
 
 // Whether a row names a place of info.
 #[tactic(auto, using(crate::proofs::Chaining::names_none, crate::proofs::Chaining::names_some))]
-fn names(index: &Index, row: usize, at: usize, size: usize) -> bool
-    requires { (0 < row) × (row ≤ index.now.units) }
-    ensures { result ≡ cell_is (own_place at size) (cell_of index.now row info_code) }
+fn names(row: Row, at: usize, size: usize) -> bool
+    ensures { result ≡ cell_is (own_place at size) (cell_of row.entry.index.now row.entry.number info_code) }
 {
-    match index.cell_of(row, INFO) {
+    match row.cell(INFO) {
         Some(place) => place.offset == at && place.size == size,
         None => false,
     }
@@ -71,7 +71,7 @@ pub fn row_at(
         if row == 0 {
             break;
         }
-        if names(index, row, at, size) {
+        if names(Row { index, number: row }, at, size) {
             if found.is_some() {
                 return Err(Refusal::NoRow);
             }

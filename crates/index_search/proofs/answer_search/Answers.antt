@@ -7,13 +7,13 @@ use Rattle.index_search.proofs.answer_search.Goals as goal
 pub find-slot-requires : goal.find-slot-requires
 find-slot-requires g c = record { big = c.args.big; bytes = c.args.s.now; is = sym c.in-Ok.ensures }
 
-pub row_at-row-requires : goal.row_at-row-requires
-row_at-row-requires g c =
+pub row_at-number-requires : goal.row_at-number-requires
+row_at-number-requires g c =
     let read : Well c.in-Ok.index = record { big = c.args.big; bytes = c.args.s.now; is = sym c.in-Ok.ensures } in
     (found_row _ read _ _ _ (probed_found _ _ c.find-slot.ensures _ c.in-Some.is)).inside
 
-pub write_cells-requires : goal.write_cells-requires
-write_cells-requires g c =
+pub invariant_of-row : goal.invariant_of-row
+invariant_of-row g c =
     let read : Well c.in-Ok.index = record { big = c.args.big; bytes = c.args.s.now; is = sym c.in-Ok.ensures } in
     let p = found_row _ read _ _ _ (probed_found _ _ c.find-slot.ensures _ c.in-Some.is) in
-    rw c.row_at-row.ensures (p.counted, p.within)
+    rw c.row_at-number.ensures (record { counted = p.counted; within = p.within })

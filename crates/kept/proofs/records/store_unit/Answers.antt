@@ -1,7 +1,9 @@
 -- `kept::records::store_unit` meets its contract: the head, and behind it the cells.
 -- Assumes nothing.
-use mathlib.Core.Path.{refl, ap, ◌∙◌}
-use Prim.Native.Nat.{◌+◌, ◌-◌}
+use mathlib.Core.Path.{ap, ◌∙◌}
+use mathlib.Core.List.{List}
+use Prim.Native.Nat.{ℕ, ◌+◌, ◌-◌}
+use lib.ListN.{get_or}
 use native.Mathlib.Omega.{arith}
 use borrow.Rule.Slice.PartMut.{put_mid}
 use Rattle.octets.proofs.Regions.{placed_whole}
@@ -13,4 +15,4 @@ returns c =
     let w = c.args.words.now in
     let at = c.args.at in
     let head = ap (put_mid at (at + 7 - at) w) c.copy_from_slice.ensures.after ∙ placed_whole w at (at + 7 - at) _ (omega arith) in
-    unit_stored _ _ _ _ _ _ _ _ _ c.requires.0 refl refl head c.store_cells.ensures
+    unit_stored _ _ _ _ _ _ _ _ _ c.requires.0 (ap (λ (l : List ℕ). get_or l 0 0) c.words_of.ensures) (ap (λ (l : List ℕ). get_or l 1 0) c.words_of.ensures) head c.store_cells.ensures

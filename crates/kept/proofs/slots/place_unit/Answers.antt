@@ -2,27 +2,23 @@
 -- Assumes nothing.
 use mathlib.Core.Path.{◌≡◌, sym, ap, ◌∙◌}
 use mathlib.Core.List.{List, [], ◌∷◌}
-use Prim.Native.Nat.{ℕ, ◌+◌, ◌*◌, ◌<◌}
+use Prim.Native.Nat.{ℕ, ◌+◌, ◌<◌}
 use native.Mathlib.Omega.{arith}
-use lib.ListN.{length}
 use Rattle.std.specs.Prelude.{Err}
 use Rattle.octets.specs.Octets.{placed}
 use Rattle.kept.specs.Regions.{records_region, region}
 use Rattle.kept.specs.Records.{record_at}
 use Rattle.kept.specs.Slots.{sought_in, slots_in}
-use Rattle.kept.proofs.Placing.{records_long, slots_start, slots_fit, placed_other, placed_known, free_inside, placed_free}
+use Rattle.kept.proofs.Placing.{slots_start, slots_fit, placed_other, placed_known, free_inside, placed_free}
 use Rattle.kept.proofs.slots.place_unit.Goals as goal
-use Rattle.kept.proofs.slots.place_unit.Goals.{Else-table_at-table, After-identity_at-x, In-Err, After-part-records}
-
-long : (c : After-part-records) → length c.part-records.result.now ≡ records_region.words * c.args.words
-long c = ap length c.part-records.ensures ∙ records_long _ c.args.work.now _ _ _ c.requires.0.can
+use Rattle.kept.proofs.slots.place_unit.Goals.{Else-table_at-table, After-identity_at-x, In-Err}
 
 -- the record is one of the table, and its identity was read
 own : (c : Else-table_at-table) → (record_at (region c.args.work.now c.args.words records_region) c.args.i).table ≡ c.args.table
-own c = sym (c.table_at.ensures ∙ ap (λ (l : List ℕ). (record_at l c.args.i).table) c.part-records.ensures) ∙ c.if-table_at-table.false
+own c = sym (c.table_at.ensures ∙ ap (λ (l : List ℕ). (record_at l c.args.i).table) c.of_work-records.ensures.are) ∙ c.if-table_at-table.false
 
 identity : (c : After-identity_at-x) → c.identity_at-x.result ≡ (record_at (region c.args.work.now c.args.words records_region) c.args.i).identity
-identity c = c.identity_at-x.ensures ∙ ap (λ (l : List ℕ). (record_at l c.args.i).identity) c.part-records.ensures
+identity c = c.identity_at-x.ensures ∙ ap (λ (l : List ℕ). (record_at l c.args.i).identity) c.of_work-records.ensures.are
 
 -- the walk ended at a free slot
 free : (c : In-Err) → Err c.in-Err.at ≡ sought_in (region c.args.work.now c.args.words records_region) (slots_in c.args.work.now c.args.words c.args.table c.args.count) c.identity_at-x.result
@@ -32,17 +28,11 @@ free c = c.in-Err.ensures
 inside : (c : In-Err) → c.in-Err.at < c.args.count
 inside c =
     free_inside _ _ _ _ _ c.requires.0 _
-    (sym (c.table_at.ensures ∙ ap (λ (l : List ℕ). (record_at l c.args.i).table) c.part-records.ensures) ∙ c.if-table_at-table.false)
-    (c.identity_at-x.ensures ∙ ap (λ (l : List ℕ). (record_at l c.args.i).identity) c.part-records.ensures) _ (free c)
-
-pub table_at-requires : goal.table_at-requires
-table_at-requires c = rw (long (goal.at.table_at-requires c).After-part-records) c.requires.1
+    (sym (c.table_at.ensures ∙ ap (λ (l : List ℕ). (record_at l c.args.i).table) c.of_work-records.ensures.are) ∙ c.if-table_at-table.false)
+    (c.identity_at-x.ensures ∙ ap (λ (l : List ℕ). (record_at l c.args.i).identity) c.of_work-records.ensures.are) _ (free c)
 
 pub returns-then-table_at-table : goal.returns-then-table_at-table
-returns-then-table_at-table c = placed_other _ _ _ _ _ c.requires.0 (λ z. c.if-table_at-table.true ((c.table_at.ensures ∙ ap (λ (l : List ℕ). (record_at l c.args.i).table) c.part-records.ensures) ∙ z))
-
-pub identity_at-x-requires : goal.identity_at-x-requires
-identity_at-x-requires c = rw (long (goal.at.identity_at-x-requires c).After-part-records) c.requires.1
+returns-then-table_at-table c = placed_other _ _ _ _ _ c.requires.0 (λ z. c.if-table_at-table.true ((c.table_at.ensures ∙ ap (λ (l : List ℕ). (record_at l c.args.i).table) c.of_work-records.ensures.are) ∙ z))
 
 pub overflow_add-slots : goal.overflow_add-slots
 overflow_add-slots c =

@@ -11,8 +11,8 @@ use Rattle.places.proofs.by_place.row_at.Goals.{then-names+else-is_some, else-na
 pub loop-passed-init : goal.loop-passed-init
 loop-passed-init c = walk_starts _ _ _ _ _ _ c.requires.1 c.requires.0 refl
 
-pub names-requires : goal.names-requires
-names-requires c = let t = walk_step _ _ _ _ _ _ _ _ c.loop-passed.invariant c.if-row-eq0.false in (t.low, t.high)
+pub invariant_of-names : goal.invariant_of-names
+invariant_of-names c = let t = walk_step _ _ _ _ _ _ _ _ c.loop-passed.invariant c.if-row-eq0.false in record { counted = t.low; within = t.high }
 
 pub returns-then-is_some : goal.returns-then-is_some
 returns-then-is_some c =

@@ -8,11 +8,11 @@ use Rattle.kept.proofs.writing.IndexForm.put_front.Goals as goal
 
 pub put_slots-requires : goal.put_slots-requires
 unfolding slot_width
-put_slots-requires c = (c.requires.0, c.requires.1, omega (arith, c.requires.2))
+put_slots-requires c = omega (arith, c.requires)
 
 pub put_slots-requires-2 : goal.put_slots-requires-2
 unfolding slot_width
-put_slots-requires-2 c = (c.requires.0, c.requires.1, omega (arith, c.requires.2))
+put_slots-requires-2 c = omega (arith, c.requires)
 
 pub returns : goal.returns
-returns c = front_written c.args.self c.args.records.now c.args.n c.args.slots.now c.args.columns _ _ refl c.requires.2 c.put_head.ensures c.put_slots.ensures c.put_slots-2.ensures
+returns c = front_written c.args.self c.args.slots.records.words.now c.args.slots.records.count c.args.slots.slots.now c.args.columns _ _ refl c.requires c.put_head.ensures c.put_slots.ensures c.put_slots-2.ensures

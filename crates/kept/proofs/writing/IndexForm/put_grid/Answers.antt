@@ -1,12 +1,11 @@
 -- `kept::writing::put_grid` meets its contract: records that are left are still to be put.
 -- Assumes nothing.
-use native.Mathlib.Omega.{arith}
 use Rattle.kept.proofs.Numbering.{writing_end}
 use Rattle.kept.proofs.Pieces.{grid_room, grid_more, grid_end}
 use Rattle.kept.proofs.writing.IndexForm.put_grid.Goals as goal
 
 pub put_row-o-requires : goal.put_row-o-requires
-put_row-o-requires c = (omega (arith, c.requires.0), grid_room _ _ _ _ _ c.loop-i.invariant c.loop-i-test.true)
+put_row-o-requires c = (c.loop-i-test.true, grid_room _ _ _ _ _ c.loop-i.invariant c.loop-i-test.true)
 
 pub loop-i-preserved : goal.loop-i-preserved
 loop-i-preserved c = grid_more _ _ _ _ _ c.loop-i.invariant c.loop-i-test.true c.put_row-o.ensures.out c.put_row-o.ensures.next

@@ -6,4 +6,4 @@ use Rattle.kept.proofs.Numbering.{Writing}
 use Rattle.kept.proofs.writing.IndexForm.put_grid.Given as goal
 
 abbrev pub invariant-loop-i : goal.invariant-loop-i
-invariant-loop-i l = Writing l.self.big 4 l.initial.out l.out l.at l.o (grid_from l.self l.records (place_of l.which) l.i (l.n - l.i)) (grid_from l.self l.records (place_of l.which) 0 l.n)
+invariant-loop-i l = Writing l.self.big 4 l.initial.out l.out l.at l.o (grid_from l.self l.records.words.now (place_of l.which) l.i (l.records.count - l.i)) (grid_from l.self l.records.words.now (place_of l.which) 0 l.records.count)

@@ -1,7 +1,0 @@
--- `kept::slots::seek` meets its contract: the looks that are left decide the walk.
--- Assumes nothing.
-use Rattle.kept.proofs.Seeking.{Seeking}
-use Rattle.kept.proofs.slots.seek.Given as goal
-
-abbrev pub invariant-loop-looks : goal.invariant-loop-looks
-invariant-loop-looks l = Seeking l.records l.slots l.x l.at l.by l._looks

@@ -1,9 +1,0 @@
--- `kept::unit_bytes::copy_units` meets its contract: records that are left are still to be copied.
--- Assumes nothing.
-use Prim.Native.Nat.{◌-◌}
-use Rattle.kept.specs.Records.{bytes_from}
-use Rattle.kept.proofs.Copying.{Copying}
-use Rattle.kept.proofs.unit_bytes.copy_units.Given as goal
-
-abbrev pub invariant-loop-i : goal.invariant-loop-i
-invariant-loop-i l = Copying l.initial.out l.out l.at l.o (bytes_from l.b l.records l.home l.i (l.n - l.i)) (bytes_from l.b l.records l.home 0 l.n)
