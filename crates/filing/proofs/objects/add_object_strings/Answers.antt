@@ -4,13 +4,11 @@ use native.Mathlib.Omega.{arith}
 use mathlib.Core.Path.{refl}
 use borrow.Author.Tests.{le-leb}
 use Rattle.kept.specs.Regions.{store_region}
-use Rattle.kept.proofs.RegionStores.{store_within}
-use Rattle.kept.proofs.RegionLending.{only_same, only_lent}
-use Rattle.kept.proofs.Storing.{store_kept, store_memory}
+use Rattle.kept.proofs.RegionLending.{only_same}
 use Rattle.strings.proofs.Callers.{section_counted, section_ill}
-use Rattle.filing.specs.State.{words_in}
 use Rattle.filing.proofs.Telling.{tells_exit}
-use Rattle.filing.proofs.Stringing.{strings_none, strings_ill, strings_put}
+use Rattle.filing.proofs.Storing.{cut_fits, cut_table, cut_lengths, cut_left, cut_only}
+use Rattle.filing.proofs.Stringing.{strings_none, strings_ill, strings_addable, strings_put}
 use Rattle.filing.proofs.objects.add_object_strings.Goals as goal
 
 pub returns-then-count-eq0 : goal.returns-then-count-eq0
@@ -22,29 +20,25 @@ returns-in_err-check_entries c = record {
   frame = only_same store_region _ _;
 }
 
+pub split_at_mut-table-requires : goal.split_at_mut-table-requires
+split_at_mut-table-requires c = let p = c.requires in cut_fits _ _ _ _ _ p.room.room c.of-store.ensures.start c.of-store.ensures.size c.of-strings.ensures.size
+
 pub add_strings-requires : goal.add_strings-requires
 add_strings-requires c =
-    let a = c.args in
     let p = c.requires in
-    let memory = store_memory (words_in a.b.now) c.of-store.result.start c.of-store.result.size c.of-table.result.size a.work.now p.room.room c.of-store.ensures.start c.of-store.ensures.size c.of-table.ensures.size a.o.strings.size (omega (arith, p.room.strings_inside, p.room.whole)) in (
-      omega (arith, memory),
-      record {
-        limit = omega (arith, p.room.limit);
-        offsets_inside = p.room.offsets_inside;
-        strings_inside = p.room.strings_inside;
-        enough = omega (arith, memory);
-        room = omega (arith, p.room.fits, c.of-table.ensures.size);
-        small = omega (arith, p.room.limit, p.room.whole, c.of-table.ensures.size);
-      },
-      (p.strings, store_kept (words_in a.b.now) c.of-store.result.start c.of-store.result.size c.of-table.result.size a.work.now p.room.room c.of-store.ensures.start c.of-store.ensures.size c.of-table.ensures.size _ _ _ p.kept),
+    let halves = c.split_at_mut-table.ensures in (
+      strings_addable _ _ p.room (cut_lengths _ _ _ _ _ p.room.room c.of-store.ensures.start c.of-store.ensures.size c.of-strings.ensures.size _ _ halves.front_len halves.back_len),
+      (p.strings, rw (cut_table _ _ _ _ _ p.room.room c.of-store.ensures.start c.of-store.ensures.size c.of-strings.ensures.size _ halves.front) p.kept),
     )
 
 pub returns : goal.returns
 returns c =
-    let a = c.args in
-    let p = c.requires in record {
-      put = λ ts k. strings_put (words_in a.b.now) c.of-store.result.start c.of-store.result.size c.of-table.result.size a.work.now p.room.room c.of-store.ensures.start c.of-store.ensures.size c.of-table.ensures.size _ _ c.add_strings.auto.store refl _ refl _ _ _ _ (le-leb 1 a.count (omega arith))
-          (section_counted a.o _ _ _ c.section.ensures.encoding c.section.ensures.bytes _ c.in_ok-check_entries.ensures).1 ts _ _
-          (c.add_strings.ensures ts (store_kept (words_in a.b.now) c.of-store.result.start c.of-store.result.size c.of-table.result.size a.work.now p.room.room c.of-store.ensures.start c.of-store.ensures.size c.of-table.ensures.size _ _ _ k));
-      frame = only_lent store_region store_within (words_in a.b.now) c.of-store.result.start c.of-store.result.size a.work.now p.room.room c.of-store.ensures.start c.of-store.ensures.size c.add_strings.new.store _ c.add_strings.auto.store refl;
+    let p = c.requires in
+    let halves = c.split_at_mut-table.ensures in
+    record {
+      put = λ ts k. strings_put _ _ _ _ (le-leb 1 c.args.count (omega arith))
+          (section_counted c.args.o _ _ _ c.section.ensures.encoding c.section.ensures.bytes _ c.in_ok-check_entries.ensures).1 _ _ ts _ _
+          (rw (cut_left _ _ _ _ _ p.room.room c.of-store.ensures.start c.of-store.ensures.size c.of-strings.ensures.size _ _ halves.front_len halves.back_len _ _ _ c.add_strings.auto.table c.add_strings.auto.memory refl) at
+          (c.add_strings.ensures ts (rw (cut_table _ _ _ _ _ p.room.room c.of-store.ensures.start c.of-store.ensures.size c.of-strings.ensures.size _ halves.front) k)));
+      frame = cut_only _ _ _ _ _ p.room.room c.of-store.ensures.start c.of-store.ensures.size c.of-strings.ensures.size _ _ halves.front_len halves.back_len _ _ _ c.add_strings.auto.table c.add_strings.auto.memory refl;
     }
