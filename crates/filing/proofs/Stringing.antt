@@ -32,14 +32,14 @@ store_beside = record { records = store_records; slots = store_slots }
 
 -- ---- the strings put
 pub strings_addable : {b : List ℕ} {o : StrOffsets} {words : ℕ} {t : StringTable} (table memory : List ℕ) → StringsRoom b o words t
-    → (length table ≡ strings_region.words * words_in b) × (length memory ≡ 4 * words_in b) → AllAddable b o (length table) (length memory) t
-strings_addable table memory p l = record {
+    → length table ≡ strings_region.words * words_in b → length memory ≡ 4 * words_in b → AllAddable b o (length table) (length memory) t
+strings_addable table memory p l m = record {
   limit = omega (arith, p.limit);
   offsets_inside = p.offsets_inside;
   strings_inside = p.strings_inside;
-  enough = omega (arith, p.strings_inside, p.whole, l.1);
-  room = omega (arith, p.fits, l.0);
-  small = omega (arith, p.limit, p.whole, l.0);
+  enough = omega (arith, p.strings_inside, p.whole, m);
+  room = omega (arith, p.fits, l);
+  small = omega (arith, p.limit, p.whole, l);
 }
 
 module _ (e : Encoding) (there : Bool) (o s : List ℕ) (yes-there : there ≡ true) (counted : entries_of e o ≡ pass (entries_in e o)) where

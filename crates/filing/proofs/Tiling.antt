@@ -177,16 +177,16 @@ module _ (b : List ℕ) (o : StrOffsets) (inside : Inside b o.offsets) (good : �
     good_headed = subst (λ (z : StrOffsets). HeadedOf z b before_parts) (sym ey) (subst (λ (l : List ℕ). Headed e l before_parts) front ending.headed)
 
     pub good_addable : (n : ℕ) (t : StringTable) (table memory : List ℕ) → length b ≤ bundle_limit → length b ≡ 4 * n → Inside b o.strings
-        → 7 * (t.entries + o.offsets.size / 4) ≤ strings_region.words * n → (length table ≡ strings_region.words * n) × (length memory ≡ 4 * n) → PiecesAddable b y (length table) (length memory) t
-    good_addable n t table memory limit whole strings room l =
+        → 7 * (t.entries + o.offsets.size / 4) ≤ strings_region.words * n → length table ≡ strings_region.words * n → length memory ≡ 4 * n → PiecesAddable b y (length table) (length memory) t
+    good_addable n t table memory limit whole strings room l m =
         subst (λ (z : StrOffsets). PiecesAddable b z (length table) (length memory) t) (sym ey)
         record {
           limit = omega (arith, limit);
           offsets_inside = omega (arith, good_within, inside);
           strings_inside = strings;
-          enough = omega (arith, strings, whole, l.1);
-          room = omega (arith, good_within, room, l.0);
-          small = omega (arith, limit, whole, l.0);
+          enough = omega (arith, strings, whole, m);
+          room = omega (arith, good_within, room, l);
+          small = omega (arith, limit, whole, l);
         }
 
     -- the parts put

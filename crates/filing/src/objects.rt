@@ -38,11 +38,11 @@ pub fn add_object_strings(
     }
     o.section(b).check_entries()?;
     let n = b.len() / 4;
-    let strings = kept::regions::STRINGS.of(n);
     let store = kept::regions::STORE.of(n);
-    let from = store.start;
-    let to = from + store.size;
-    let (table, memory) = work[from..to].split_at_mut(strings.size);
+    let strings = kept::regions::STRINGS.of(n);
+    let (_, behind) = work.split_at_mut(store.start);
+    let (lent, _) = behind.split_at_mut(store.size);
+    let (table, memory) = lent.split_at_mut(strings.size);
     t.add_strings(o, b, table, memory)
 }
 

@@ -1,13 +1,12 @@
 -- `add_object_strings` meets its contract.
 -- Assumes nothing.
 use native.Mathlib.Omega.{arith}
-use mathlib.Core.Path.{refl}
 use borrow.Author.Tests.{le-leb}
 use Rattle.kept.specs.Regions.{store_region}
 use Rattle.kept.proofs.RegionLending.{only_same}
 use Rattle.strings.proofs.Callers.{section_counted, section_ill}
 use Rattle.filing.proofs.Telling.{tells_exit}
-use Rattle.filing.proofs.Storing.{cut_fits, cut_table, cut_lengths, cut_left, cut_only}
+use Rattle.filing.proofs.Storing.{cut_of, cut_table, cut_left, cut_only}
 use Rattle.filing.proofs.Stringing.{strings_none, strings_ill, strings_addable, strings_put}
 use Rattle.filing.proofs.objects.add_object_strings.Goals as goal
 
@@ -20,25 +19,18 @@ returns-in_err-check_entries c = record {
   frame = only_same store_region _ _;
 }
 
-pub split_at_mut-table-requires : goal.split_at_mut-table-requires
-split_at_mut-table-requires c = let p = c.requires in cut_fits _ _ _ _ _ p.room.room c.of-store.ensures.start c.of-store.ensures.size c.of-strings.ensures.size
-
 pub add_strings-requires : goal.add_strings-requires
 add_strings-requires c =
     let p = c.requires in
-    let halves = c.split_at_mut-table.ensures in (
-      strings_addable _ _ p.room (cut_lengths _ _ _ _ _ p.room.room c.of-store.ensures.start c.of-store.ensures.size c.of-strings.ensures.size _ _ halves.front_len halves.back_len),
-      (p.strings, rw (cut_table _ _ _ _ _ p.room.room c.of-store.ensures.start c.of-store.ensures.size c.of-strings.ensures.size _ halves.front) p.kept),
-    )
+    let k = cut_of c.of-store.ensures.start c.of-store.ensures.size c.of-strings.ensures.size c.split_at_mut-behind.ensures.value c.split_at_mut-behind.ensures.front_len c.split_at_mut-lent.ensures.value c.split_at_mut-lent.ensures.front_len c.split_at_mut-table.ensures.value c.split_at_mut-table.ensures.front_len in
+    (strings_addable _ _ p.room k.table_long k.memory_long, (p.strings, rw (cut_table k) p.kept))
 
 pub returns : goal.returns
 returns c =
-    let p = c.requires in
-    let halves = c.split_at_mut-table.ensures in
+    let k = cut_of c.of-store.ensures.start c.of-store.ensures.size c.of-strings.ensures.size c.split_at_mut-behind.ensures.value c.split_at_mut-behind.ensures.front_len c.split_at_mut-lent.ensures.value c.split_at_mut-lent.ensures.front_len c.split_at_mut-table.ensures.value c.split_at_mut-table.ensures.front_len in
     record {
-      put = λ ts k. strings_put _ _ _ _ (le-leb 1 c.args.count (omega arith))
+      put = λ ts h. strings_put _ _ _ _ (le-leb 1 c.args.count (omega arith))
           (section_counted c.args.o _ _ _ c.section.ensures.encoding c.section.ensures.bytes _ c.in_ok-check_entries.ensures).1 _ _ ts _ _
-          (rw (cut_left _ _ _ _ _ p.room.room c.of-store.ensures.start c.of-store.ensures.size c.of-strings.ensures.size _ _ halves.front_len halves.back_len _ _ _ c.add_strings.auto.table c.add_strings.auto.memory refl) at
-          (c.add_strings.ensures ts (rw (cut_table _ _ _ _ _ p.room.room c.of-store.ensures.start c.of-store.ensures.size c.of-strings.ensures.size _ halves.front) k)));
-      frame = cut_only _ _ _ _ _ p.room.room c.of-store.ensures.start c.of-store.ensures.size c.of-strings.ensures.size _ _ halves.front_len halves.back_len _ _ _ c.add_strings.auto.table c.add_strings.auto.memory refl;
+          (rw (cut_left k _ _ c.add_strings.auto.table c.add_strings.auto.memory) at (c.add_strings.ensures ts (rw (cut_table k) h)));
+      frame = cut_only k _ _ c.add_strings.auto.table c.add_strings.auto.memory c.requires.room.room;
     }
