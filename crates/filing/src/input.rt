@@ -28,6 +28,8 @@ use numbers::tables::{INDEX_2, INDEX_5};
 
 // An object that passed: where the first section of each code lies in the bundle, 0 and 0 where there is none.
 // Two arrays and none of pairs: a scan hands over both whole, and the sizes alone are measured by and added to the bases.
+// Bundle and object stay two parameters where `InputIs` is asked of both: a struct with that fact could be made only once both indexes are judged, and
+// sections are read before, so there would be two types of an object.
 #[derive(Clone, Copy)]
 pub struct InputObject {
     pub encoding: ObjectEncoding,

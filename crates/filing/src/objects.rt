@@ -22,6 +22,7 @@ use numbers::sections::{CU_INDEX, STR, STR_OFFSETS, TU_INDEX};
 use strings::table::{Place, StrOffsets, StringTable};
 
 // 8 and 9, where the object has str_offsets: count says how often.
+// Table and memory are cut out of work here and in `add_parts` alike: one function for both got no proof, since the check follows a single cut back to work.
 pub fn add_object_strings(
     b: &[u8],
     o: StrOffsets,
