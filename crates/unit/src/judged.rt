@@ -40,7 +40,7 @@ pub struct JudgedTable {
 }
 
 // The table that was asked for last, how many tables the directory has, and the first word behind theirs.
-#[derive(Clone, Copy)]
+#[derive(Clone, Copy, Default)]
 pub struct Judged {
     pub last: Option<JudgedTable>,
     pub tables: usize,
@@ -62,11 +62,7 @@ impl Judged {
     pub fn nothing() -> Judged
         ensures { (b w : List ℕ) → Remembers b w result }
     {
-        Judged {
-            last: None,
-            tables: 0,
-            free: 0,
-        }
+        Judged::default()
     }
 
     // The word where a new table starts, among n: behind the directory and its tables. None where the directory is full, or no word is left.
