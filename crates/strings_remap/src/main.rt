@@ -93,6 +93,7 @@ fn remap(
     remap_entries(o, b, table, memory, output)
 }
 
+// Its twin in package_search writes small letters, and says why both stand.
 fn write_hexadecimal(rt: &impl Print, s: &[u8]) -> io::Result<()> {
     for b in s {
         print!(rt; "{b:02X}")?;
