@@ -197,6 +197,7 @@ fn heading_at(s: &[u8]) -> Option<Heading>
 }
 
 // The declaration of a code, in a table that was judged.
+#[tactic(auto, using(crate::proofs::Finding::found_inside))]
 pub fn find_in(s: &[u8], codes: CodeTree<'_>, code: u64) -> Option<Heading>
     requires { TableHeld s.now codes.words.now codes.count }
     ensures { Finds s.now code result }

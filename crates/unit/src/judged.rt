@@ -97,7 +97,7 @@ impl Judged {
     }
 
     // With all the words for this table, which suffice: the others are forgotten.
-    #[tactic(auto, using(crate::proofs::Recalling::recalled_alone, crate::proofs::Recalling::unheld_bad, crate::proofs::Cuts::between_length), unfolding(crate::specs::TableTrees::Recalls))]
+    #[tactic(auto, using(crate::proofs::Recalling::unheld_bad, crate::proofs::Cuts::between_length))]
     fn judge_alone(
         &mut self,
         b: &[u8],
@@ -148,6 +148,7 @@ impl Judged {
     }
 
     // The table of a place, judged now or before. It is the last one then.
+    #[tactic(auto, using(crate::proofs::Recalling::sought_none, crate::proofs::Recalling::sought_within, crate::proofs::Holding::tables_rising, crate::proofs::Holding::remembers_tables))]
     pub fn recall(
         &mut self,
         b: &[u8],

@@ -185,7 +185,7 @@ fn root_in(e: ObjectEncoding, table: &[u8], codes: CodeTree<'_>, s: &[u8]) -> Re
 }
 
 // The table is what stands in abbrev from the header's offset on, at a place of the bundle. s is the unit behind its header.
-#[tactic(auto, using(crate::proofs::Rooted::root_table, crate::proofs::Recalling::known_held, crate::proofs::Finding::held_rising), unfolding(crate::specs::TableTrees::Recalls))]
+#[tactic(auto, using(crate::proofs::Rooted::root_table, crate::proofs::Recalling::known_held, crate::proofs::Recalling::known_rising))]
 pub fn root_identity(
     e: ObjectEncoding,
     b: &[u8],
