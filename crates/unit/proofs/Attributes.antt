@@ -233,3 +233,8 @@ unfolding attributes_size
 size_within s n e =
     let p = bind_pass (attributes_of s) _ n e in
     omega (arith, (attributes_within s p.0 p.1).1, pass_inj p.2)
+
+-- ---- as functions name them
+pub ruleset attribute_cases = (attribute_none, attribute_half, attribute_apart, attribute_bad, attribute_good)
+
+pub ruleset walk_cases = (attribute_some, attribute_ends, walk_refused, walk_end, walk_on, further_none)

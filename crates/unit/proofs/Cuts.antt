@@ -84,3 +84,8 @@ module _ (e : Encoding) (home : ℕ) (a b : List ℕ) (at size : ℕ) (h : at + 
 
     pub unit_done : (t x : ℕ) → identity_good e home a (part b at n) ≡ pass (record { table = t; identity = x }) → unit_of e home a own ≡ pass (record { size = n; table = t; identity = x })
     unit_done t x c = unit_whole ∙ then_pass _ _ _ c
+
+-- ---- as functions name them
+pub ruleset unit_cases = (unit_none, own_within, own_common, unit_not, unit_done)
+
+pub ruleset answer_cases = (answer_short, answer_not, answer_zero, answer_is)

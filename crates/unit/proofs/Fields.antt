@@ -188,3 +188,10 @@ module _ (e : Encoding) (home : ℕ) (u : List ℕ) where
   pub kind_types : is_five e ≡ false → (home ≡ 1 → ⊥) → Signature ≡ kind_of e home u
   unfolding kind_of
   kind_types h g = rw (kind_of, h, ne_eqb home 1 g)
+
+-- ---- as functions name them
+pub ruleset five_or_four = (is_five_law, is_four, place_five, place_four, common_five, common_four)
+
+pub ruleset kind_cases = (is_five_law, is_four, kind_five, kind_root, kind_types)
+
+pub ruleset inside_cases = (inside_short, inside_bad, inside_out, inside_in)

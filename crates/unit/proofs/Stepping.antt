@@ -244,3 +244,8 @@ unfolding Skips
 skips_at t a n l h =
     let k : Skips (drop a t) n = rw (rest a t) at h in
     (omega (arith, k.0, length-drop a t, l), λ e s seen. ap (λ (x : List ℕ). identity_from e x s seen) (sym (drop-drop n a t)) ∙ k.1 e s seen)
+
+-- ---- as functions name them
+pub ruleset identity_cases = (identity_seen, identity_other, identity_form, identity_stated)
+
+pub ruleset step_cases = (step_none, step_end, step_value, step_not, step_on)
