@@ -42,10 +42,6 @@ module _ (a b : ℕ) where
       go false true h = refl
       go false false h = sym h
 
-  pub neither_zero : (a ≡ 0 → ⊥) → (b ≡ 0 → ⊥) → zero_together a b ≡ true
-  unfolding zero_together
-  neither_zero h g = rw (zero_together, ne_eqb a 0 h, ne_eqb b 0 g)
-
 -- ---- as the code reads it
 module _ (s : List ℕ) where
   pub attribute_none : (k : ℕ) → short s ≡ refuse k → attribute_at s ≡ refuse k

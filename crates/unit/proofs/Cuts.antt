@@ -89,3 +89,5 @@ module _ (e : Encoding) (home : ℕ) (a b : List ℕ) (at size : ℕ) (h : at + 
 pub ruleset unit_cases = (unit_none, own_within, own_common, unit_not, unit_done)
 
 pub ruleset answer_cases = (answer_short, answer_not, answer_zero, answer_is)
+
+pub ruleset table_parts = (between_length, between_drop)

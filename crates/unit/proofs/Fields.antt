@@ -17,7 +17,7 @@ use Rattle.bundle.specs.declared.encoding.ObjectEncoding.{ObjectEncoding}
 use Rattle.bundle.specs.InitialLength.{marked, length_field, length_stated}
 use Rattle.unit.specs.UnitRead.{length_good, unit_size, is_five, address_place, common_size}
 use Rattle.unit.specs.Headers.{fits, unit_inside, five_kind, kind_of}
-use Rattle.bundle.proofs.InitialLengths.{field_least, marked_same, stated_same}
+use Rattle.bundle.proofs.InitialLengths.{is_wide, is_narrow, field_least, marked_same, stated_same}
 use Rattle.unit.specs.declared.header.Kind.TheVariants.{Compilation, Signature, Root, Other}
 
 -- ---- by the flags of an encoding
@@ -195,3 +195,7 @@ pub ruleset five_or_four = (is_five_law, is_four, place_five, place_four, common
 pub ruleset kind_cases = (is_five_law, is_four, kind_five, kind_root, kind_types)
 
 pub ruleset inside_cases = (inside_short, inside_bad, inside_out, inside_in)
+
+pub ruleset field_sizes = (width_le, big_is, common_ge)
+
+pub ruleset length_cases = (is_wide, is_narrow, good_wide, good_narrow)

@@ -23,8 +23,7 @@ use Rattle.unit.specs.Abbreviations.{Attribute, attribute_at, attributes_of}
 use Rattle.unit.specs.Root.{needed, Value, value_of, identity_at, identity_in}
 use Rattle.unit.specs.Roots.{Move, attribute_step, identity_from, Skips}
 use Rattle.unit.proofs.Sizes.{rest}
-use Rattle.unit.proofs.Steps.{goes, goes_past}
-use Rattle.unit.proofs.Attributes.{before, neither_zero, attribute_at_taken, only_attribute_at, attributes_is, attributes_end, attributes_more, only_attributes_from}
+use Rattle.unit.proofs.Attributes.{before, attribute_good, attribute_at_taken, only_attribute_at, attributes_is, attributes_end, attributes_more, only_attributes_from}
 use Rattle.unit.proofs.Values.{value_within, value_flag, only_value_of, only_needed}
 
 -- ---- what an attribute states
@@ -227,8 +226,7 @@ module _ (t : List ℕ) where
     form_read = rw (drop-drop 1 i t) (sym (short_one (drop (i + 1) t) 0x19 (λ h. omega (arith, h, length-drop (i + 1) t)) (rw (get_or-drop, add-zero (i + 1), f)) (omega arith)))
 
     flag_read : attribute_at (drop i t) ≡ pass (record { name = get_or t i 0; form = 0x19 }, 2)
-    unfolding attribute_at
-    flag_read = sym (goes _ (sym name_read) (goes _ (sym form_read) (goes_past _ _ (neither_zero (get_or t i 0) 0x19 z (λ h. omega (arith, h))) (goes_past _ _ refl refl))))
+    flag_read = attribute_good (drop i t) (get_or t i 0) 1 name_read 0x19 1 form_read (rw (ne_eqb (get_or t i 0) 0 z) refl) (λ h. omega (arith, h))
 
     flag_step : (e : Encoding) (s : List ℕ) (seen : Option ℕ) → attribute_step e (drop i t) s seen ≡ pass (some (record { taken = 2; passed = 0; seen = seen }))
     flag_step e s seen = step_on e (drop i t) s seen _ 0x19 2 flag_read z _ (value_flag e 0x19 s refl) seen (identity_same e _ _ s seen (λ h. omega (arith, h, o)))

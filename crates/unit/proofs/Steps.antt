@@ -1,7 +1,6 @@
 -- One step of a definition that checks in a row, as the code takes it: from what a call answers to what all of it answers.
 -- Assumes nothing.
-use mathlib.Core.Path.{◌≡◌, refl, sym, ap, ◌∙◌}
-use mathlib.Core.Bool.{Bool, true}
+use mathlib.Core.Path.{◌≡◌, refl, sym, ap}
 use mathlib.Core.Option.{some, none}
 use mathlib.Core.Option as math
 use Prim.Native.Nat.{ℕ}
@@ -12,21 +11,9 @@ use Rattle.std.specs.Result.{IsErrAnd}
 use Rattle.std.proofs.lemmas.Option.{none-some, same_Some}
 use Rattle.std.proofs.lemmas.Result.{err_from_is_err_and}
 use Rattle.octets.specs.Options.{found}
-use Rattle.octets.specs.Checked.{Check, pass, refuse, ◌>>=◌, require}
-use Rattle.octets.proofs.Checks.{passes, then_pass, then_refuse}
+use Rattle.octets.specs.Checked.{Check, refuse}
 use Rattle.numbers.specs.Refused.{told, number_of}
 use Rattle.numbers.specs.declared.refusals.Refusal.{Refusal}
-
-module _ {A B : Type 0} {m : Check A} (f : A → Check B) where
-  pub stops : {k : ℕ} → refuse k ≡ m → refuse k ≡ (m >>= f)
-  stops e = sym (then_refuse m f _ (sym e))
-
-  pub goes : {a : A} {r : Check B} → pass a ≡ m → r ≡ f a → r ≡ (m >>= f)
-  goes e g = g ∙ sym (then_pass m f _ (sym e))
-
-module _ {B : Type 0} {t : Bool} (n : ℕ) (f : Unit {0} → Check B) where
-  pub goes_past : {r : Check B} → t ≡ true → r ≡ f tt → r ≡ (require t n >>= f)
-  goes_past e g = g ∙ sym (passes t n f e)
 
 -- what a `?` that leaves answers
 pub leaves : {A : Type 0} {m : Check A} (r : Result A Refusal) (e : Refusal) → IsErrAnd r (λ y. y ≡ e) → refuse (number_of e) ≡ m → told r ≡ m

@@ -115,7 +115,7 @@ impl<'a> Unit<'a> {
     }
 
     // Whether a length starts as the width wants it. It states this number.
-    #[tactic(auto, using(crate::proofs::Fields::good_wide, crate::proofs::Fields::good_narrow, bundle::proofs::InitialLengths::is_wide, bundle::proofs::InitialLengths::is_narrow), unfolding(bundle::specs::Encoded::encoding_is))]
+    #[tactic(auto, using(crate::proofs::Fields::length_cases), unfolding(bundle::specs::Encoded::encoding_is))]
     fn length_good(self, stated: u64) -> bool
         requires { stated ≡ length_stated (encoding_is self.e) self.bytes.now }
         ensures { result ≡ length_good (encoding_is self.entry.e) self.entry.bytes.now }
@@ -204,7 +204,7 @@ impl<'a> Unit<'a> {
     }
 
     // What the root states. The common fields are there.
-    #[tactic(auto, using(crate::proofs::Cuts::between_length, crate::proofs::Cuts::between_drop, crate::proofs::Fields::width_le, crate::proofs::Fields::big_is, crate::proofs::Fields::common_ge, crate::proofs::Rooted::root_past, crate::proofs::Sizes::rest, bundle::proofs::InitialLengths::field_most), unfolding(crate::specs::Headers::table_at))]
+    #[tactic(auto, using(crate::proofs::Cuts::table_parts, crate::proofs::Fields::field_sizes, crate::proofs::Rooted::root_past, crate::proofs::Sizes::rest, bundle::proofs::InitialLengths::field_most), unfolding(crate::specs::Headers::table_at))]
     fn root_stated(
         self,
         b: &[u8],
