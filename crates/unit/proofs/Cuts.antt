@@ -15,6 +15,8 @@ use Rattle.unit.specs.TableTrees.{between}
 use Rattle.unit.specs.UnitRead.{common_size, unit_of}
 use Rattle.unit.specs.Headers.{kind_of, header_size, identity_by, head_of, non_zero, identity_good}
 use Rattle.unit.specs.declared.header.Kind.{Kind}
+use Rattle.unit.proofs.Rooted.{root_past}
+use Rattle.unit.proofs.Sizes.{rest}
 use Rattle.unit.proofs.Heads.{good_short, good_whole, head_within, unit_with, unit_headless, unit_headed, zero_refused, zero_not}
 
 -- ---- parts
@@ -90,4 +92,4 @@ pub ruleset unit_cases = (unit_none, own_within, own_common, unit_not, unit_done
 
 pub ruleset answer_cases = (answer_short, answer_not, answer_zero, answer_is)
 
-pub ruleset table_parts = (between_length, between_drop)
+pub ruleset table_parts = (between_length, between_drop, root_past, rest)

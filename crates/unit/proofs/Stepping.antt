@@ -235,13 +235,47 @@ module _ (t : List ℕ) where
     unfolding Skips
     skips_more h = (omega arith, λ e s seen. from_turn e t s i 0 seen _ (flag_step e s seen) ∙ h.1 e s seen)
 
--- the same behind a place of the table
-pub skips_at : (t : List ℕ) (a n : ℕ) → a ≤ length t → Skips (take (length t - a) (drop a t)) n
-    → (a + n ≤ length t) × ((e : Encoding) (s : List ℕ) (seen : Option ℕ) → identity_from e (drop (a + n) t) s seen ≡ identity_from e (drop a t) s seen)
-unfolding Skips
-skips_at t a n l h =
-    let k : Skips (drop a t) n = rw (rest a t) at h in
-    (omega (arith, k.0, length-drop a t, l), λ e s seen. ap (λ (x : List ℕ). identity_from e x s seen) (sym (drop-drop n a t)) ∙ k.1 e s seen)
+-- ---- the walk, as the code takes it
+pub record Walked (e : Encoding) (t s : List ℕ) (a at : ℕ) (seen : Option ℕ) : Type 0 where
+  pub table : a ≤ length t
+  pub unit : at ≤ length s
+  pub same : identity_from e (drop a t) (drop at s) seen ≡ identity_from e t s none
+
+module _ (e : Encoding) (t s : List ℕ) (a at : ℕ) (seen : Option ℕ) (w : Walked e t s a at seen) where
+  pub walked_past : (n : ℕ) → Skips (take (length t - a) (drop a t)) n → Walked e t s (a + n) at seen
+  unfolding Skips
+  walked_past n h =
+      let k : Skips (drop a t) n = rw (rest a t) at h in
+      record {
+        table = omega (arith, k.0, length-drop a t, w.table);
+        unit = w.unit;
+        same = ap (λ (x : List ℕ). identity_from e x (drop at s) seen) (sym (drop-drop n a t)) ∙ k.1 e (drop at s) seen ∙ w.same;
+      }
+
+  abbrev step : Check (Option Move)
+  step = attribute_step e (take (length t - a) (drop a t)) (take (length s - at) (drop at s)) seen
+
+  whole : step ≡ attribute_step e (drop a t) (drop at s) seen
+  whole = ap₂ (λ (x y : List ℕ). attribute_step e x y seen) (rest a t) (rest at s)
+
+  pub walked_not : (k : ℕ) → refuse k ≡ step → refuse k ≡ identity_from e t s none
+  walked_not k h =
+      let g = sym (h ∙ whole) in
+      ap refuse ((only_step e (drop a t) (drop at s) seen).is k g) ∙ unread e (drop a t) (drop at s) seen (from_not e (drop a t) (drop at s) seen k g) ∙ w.same
+
+  pub walked_end : pass none ≡ step → needed seen ≡ identity_from e t s none
+  walked_end h = sym (from_end e (drop a t) (drop at s) seen (sym (h ∙ whole))) ∙ w.same
+
+  module _ (m : Move) (h : pass (some m) ≡ step) where
+    pub walked_taken : (1 ≤ m.taken) × (m.taken ≤ length (drop a t)) × (m.passed ≤ length (drop at s))
+    walked_taken = stepped_within e (drop a t) (drop at s) seen m (sym (h ∙ whole))
+
+    pub walked_on : Walked e t s (a + m.taken) (at + m.passed) m.seen
+    walked_on = record {
+      table = omega (arith, walked_taken, length-drop a t, w.table);
+      unit = omega (arith, walked_taken, length-drop at s, w.unit);
+      same = from_turn e t s a at seen m (sym (h ∙ whole)) ∙ w.same;
+    }
 
 -- ---- as functions name them
 pub ruleset identity_cases = (identity_seen, identity_other, identity_form, identity_stated)

@@ -1,4 +1,4 @@
--- One step of a definition that checks in a row, as the code takes it: from what a call answers to what all of it answers.
+-- What the code answers, and what a definition says: of an option, and of a refusal that leaves.
 -- Assumes nothing.
 use mathlib.Core.Path.{◌≡◌, refl, sym, ap}
 use mathlib.Core.Option.{some, none}

@@ -81,7 +81,7 @@ struct Unit<'a> {
     bytes: &'a [u8],
 }
 
-#[tactic(auto, using(crate::proofs::Fields::kind_compilation, crate::proofs::Fields::kind_signature, crate::proofs::Fields::kind_other))]
+#[tactic(auto, unfolding(crate::specs::Headers::five_kind))]
 fn five_kind(unit_type: u8) -> Kind
     ensures { result ≡ five_kind unit_type }
 {
@@ -204,7 +204,7 @@ impl<'a> Unit<'a> {
     }
 
     // What the root states. The common fields are there.
-    #[tactic(auto, using(crate::proofs::Cuts::table_parts, crate::proofs::Fields::field_sizes, crate::proofs::Rooted::root_past, crate::proofs::Sizes::rest, bundle::proofs::InitialLengths::field_most), unfolding(crate::specs::Headers::table_at))]
+    #[tactic(auto, using(crate::proofs::Cuts::table_parts, crate::proofs::Fields::field_sizes, bundle::proofs::InitialLengths::field_most), unfolding(crate::specs::Headers::table_at))]
     fn root_stated(
         self,
         b: &[u8],
