@@ -94,9 +94,9 @@ compilation_five : (e : Encoding) (home : ℕ) (u : List ℕ) → kind_of e home
 compilation_five e home u q = elim (known (is_five e)) [
   | inl h ↦ h
   | inr h ↦ elim (ℕ_discrete home 1) [
-      | yes z ↦ absurd (let g : Root ≡ Compilation = kind_root e home u h z ∙ q in cc)
-      | no z ↦ absurd (let g : Signature ≡ Compilation = kind_types e home u h z ∙ q in cc)
-    ]
+    | yes z ↦ absurd (let g : Root ≡ Compilation = kind_root e home u h z ∙ q in cc)
+    | no z ↦ absurd (let g : Signature ≡ Compilation = kind_types e home u h z ∙ q in cc)
+  ]
 ]
 
 kind_ge : (e : ObjectEncoding) (a u : List ℕ) (i : Identity) (k : Kind) → (k ≡ Compilation → is_five (encoding_is e) ≡ true) → by_kind (encoding_is e) k a u ≡ pass i → 20 ≤ length u

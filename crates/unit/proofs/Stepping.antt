@@ -1,9 +1,9 @@
 -- One attribute of the root, and the walk over all of them.
 -- Assumes nothing.
-use mathlib.Core.Path.{◌≡◌, refl, sym, ap, ap₂, ◌∙◌}
+use mathlib.Core.Path.{◌≡◌, refl, sym, ap, ap₂, subst, ◌∙◌}
 use mathlib.Core.List.{List, [], ◌∷◌}
 use mathlib.Core.Option.{Option, some, none}
-use Prim.Native.Nat.{ℕ, ◌+◌, ◌-◌, ◌≤◌, ◌<◌}
+use Prim.Native.Nat.{ℕ, ◌+◌, ◌*◌, ◌-◌, ◌≤◌, ◌<◌}
 use native.Mathlib.Omega.{arith}
 use native.Mathlib.Nat.{add-zero}
 use native.Mathlib.Decide.{ℕ_discrete}
@@ -234,6 +234,11 @@ module _ (t : List ℕ) where
     pub skips_more : Skips t i → Skips t (i + 2)
     unfolding Skips
     skips_more h = (omega arith, λ e s seen. from_turn e t s i 0 seen _ (flag_step e s seen) ∙ h.1 e s seen)
+
+  -- as pairs are counted
+  pub skips_pair : (i : ℕ) → 2 * i + 1 < length t → (get_or t (2 * i) 0 ≡ 0 → ⊥) → get_or t (2 * i) 0 ≤ 0x7f → get_or t (2 * i + 1) 0 ≡ 0x19 → Skips t (2 * i)
+      → Skips t (2 * (i + 1))
+  skips_pair i l z o f h = let next : 2 * i + 2 ≡ 2 * (i + 1) = omega arith in subst (Skips t) next (skips_more (2 * i) l z o f h)
 
 -- ---- the walk, as the code takes it
 pub record Walked (e : Encoding) (t s : List ℕ) (a at : ℕ) (seen : Option ℕ) : Type 0 where

@@ -91,6 +91,7 @@ pub fn attribute_at(s: &[u8]) -> Result<Attribute, Refusal>
 }
 
 // Whether the pair of zeros that ends attributes is in front.
+#[tactic(auto, using(crate::proofs::Attributes::size_none, std::proofs::lemmas::Bool::Decides::nat_tests))]
 fn has_none(s: &[u8]) -> bool
     ensures { result ≡ true → attributes_size s.now ≡ pass 2 }
 {

@@ -119,6 +119,7 @@ impl Judged {
     }
 
     // A table that was not judged before: its tree stands behind those of the others, or alone where the words that are left do not suffice.
+    #[tactic(auto, using(crate::proofs::Holding::tables_room, crate::proofs::Holding::remembers_tables, crate::proofs::Recalling::judged_bad))]
     fn judge_new(
         &mut self,
         b: &[u8],

@@ -132,6 +132,7 @@ fn attribute_step(
 
 // How many bytes at the front of t are flags that are present, of one byte for the name and one for the form. One byte can't name 2131 hexadecimal,
 // and no such flag has bytes in the unit, so that they change nothing. A root may have very many: this loop passes them faster than steps do.
+#[tactic(auto, using(crate::proofs::Stepping::skips_none, crate::proofs::Stepping::skips_pair))]
 fn skip_flags(t: &[u8]) -> usize
     ensures { Skips t.now result }
 {
