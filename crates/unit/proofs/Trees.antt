@@ -14,8 +14,8 @@ use Rattle.octets.specs.Lists.{has}
 use Rattle.octets.proofs.Placed.{length_placed}
 use Rattle.octets.proofs.Regions.{get_d_placed, get_d_before, get_d_behind}
 use Rattle.octets.proofs.Elements.{has_at, not_has}
-use Rattle.unit.specs.Trees.{code_at, carried_at, next_at, node_of, Reaches, Reached, Rising, Linked, Tree, EndsFree, Ends, Fresh, Sought, Seeks, Grown, Added}
-use Rattle.std.specs.Prelude.{Option, Some, None, Result, Ok, Err}
+use Rattle.unit.specs.Trees.{code_at, carried_at, next_at, node_of, Reaches, Reached, Rising, Linked, Tree, EndsFree, Ends, Fresh, Seeks, Grown, Added}
+use Rattle.std.specs.Prelude.{Some, None, Result, Ok, Err}
 
 -- ---- walks
 -- where links stay, so do walks
@@ -88,11 +88,11 @@ module _ (w cs : List ℕ) (t : Tree w cs) (code : ℕ) where
 -- ---- a search
 module _ (w : List ℕ) (n code : ℕ) where
   pub seeks_none : n ≡ 0 → Seeks w n code None
-  unfolding Seeks Fresh
+  unfolding Fresh
   seeks_none z = λ cs l t. not_has cs code (λ k h g. absurd (omega arith))
 
   pub seeks_free : (link : ℕ) (r : Result ℕ ℕ) → r ≡ Err link → Ends w n code r → Seeks w n code None
-  unfolding Seeks Fresh Ends
+  unfolding Fresh Ends
   seeks_free link r i e = λ cs l t. free_not w cs t code link (rw (i, ← l) at e)
 
   module _ (k : ℕ) (r : Result ℕ ℕ) (i : r ≡ Ok k) (e : Ends w n code r) where
@@ -104,17 +104,7 @@ module _ (w : List ℕ) (n code : ℕ) where
     ends_room r = omega (arith, ends_at.0, r.room)
 
     pub seeks_at : (at : ℕ) → at ≡ carried_at w k → Seeks w n code (Some at)
-    unfolding Seeks
     seeks_at at s = record { node = k; inside = ends_at.0; is = ends_at.1; carries = sym s }
-
-  -- what a search answered
-  pub sought : (at : ℕ) (r : Option ℕ) → r ≡ Some at → Seeks w n code r → Sought w n code at
-  unfolding Seeks
-  sought at r i s = rw i at s
-
-  pub not_sought : (r : Option ℕ) → r ≡ None → Seeks w n code r → Fresh w n code
-  unfolding Seeks
-  not_sought r i s = rw i at s
 
 -- ---- one code more
 -- the words of the new node

@@ -101,6 +101,7 @@ fn store_node(codes: &mut [u32], node: usize, carried: usize, code: u64)
 }
 
 // One code more behind count others, or false where it is one of them. Callers keep room for a node.
+#[tactic(auto, using(crate::proofs::Trees::added_first, crate::proofs::Trees::added_not, crate::proofs::Trees::ends_within))]
 pub fn add_code(codes: &mut [u32], count: usize, carried: usize, code: u64) -> bool
     requires { Rising codes.old count × (node_words * count + node_words ≤ length codes.old) × (count < 2 ^ 32) × (carried < 2 ^ 32) }
     ensures { (cs : List ℕ) → length cs ≡ count → Tree codes.old cs → Added codes.old codes.new cs carried code result }
