@@ -64,8 +64,7 @@ put_all_grows table (s ∷ ss) =
     (p.0 ++ q.0, q.1 ∙ ap (λ (z : List (List ℕ)). z ++ q.0) p.1 ∙ append_assoc table p.0 q.0)
 
 pub length_put : (table : List (List ℕ)) (s : List ℕ) → length (put table s) ≤ length table + 1
-length_put table s =
-    ⊎_elim (λ p. rw (put_known table s p) (omega arith)) (λ p. rw (put_new table s p, length-append table (s ∷ [])) (omega arith)) (known (is_in table s))
+length_put table s = grind (arith, put_known, put_new, length-append)
 
 pub length_put_all : (table used : List (List ℕ)) → length (put_all table used) ≤ length table + length used
 unfolding put_all
@@ -78,8 +77,7 @@ length_first_uses used = omega (arith, length_put_all [] used)
 
 -- ---- every used string is in the table
 pub put_has : (table : List (List ℕ)) (s : List ℕ) → is_in (put table s) s ≡ true
-put_has table s =
-    ⊎_elim (λ p. rw (put_known table s p) p) (λ p. rw (put_new table s p) (in_behind table (s ∷ []) s (in_one s))) (known (is_in table s))
+put_has table s = grind (arith, put_known, put_new, in_behind, in_one)
 
 pub put_keeps : (table : List (List ℕ)) (s t : List ℕ) → is_in table t ≡ true → is_in (put table s) t ≡ true
 put_keeps table s t e = let p = put_grows table s in rw p.1 (in_append table p.0 t e)
@@ -107,8 +105,7 @@ distinct_snoc (t ∷ ts) s d e =
     (any_append (same t) ts (s ∷ []) ∙ or_neither (is_in ts t) (is_in (s ∷ []) t) d.0 (any_cons (same t) s [] back), distinct_snoc ts s d.1 (any_none_tail (same s) t ts e))
 
 pub put_distinct : (table : List (List ℕ)) (s : List ℕ) → Distinct table → Distinct (put table s)
-put_distinct table s d =
-    ⊎_elim (λ p. rw (put_known table s p) d) (λ p. rw (put_new table s p) (distinct_snoc table s d p)) (known (is_in table s))
+put_distinct table s d = grind (arith, put_known, put_new, distinct_snoc)
 
 pub put_all_distinct : (table used : List (List ℕ)) → Distinct table → Distinct (put_all table used)
 unfolding put_all

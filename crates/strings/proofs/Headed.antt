@@ -124,9 +124,7 @@ module _ (e : Encoding) (ok : Sound e) (b : List ℕ) (at end : ℕ) (inside : e
           subst (λ (l : List ℕ). Headed e l walk_front.others) (sym rest) walk_front.on
 
   pub walk_end : end ≤ at → ps ≡ []
-  walk_end g =
-      let z : end - at ≡ 0 = omega arith in
-      headed_end e (part b at (end - at)) ps h (ap (λ (n : ℕ). length (part b at n)) z ∙ ap length (part_none b at))
+  walk_end g = grind (arith, headed_end, part_none)
 
 -- ---- the strings of pieces
 module _ (e : Encoding) (str : List ℕ) where

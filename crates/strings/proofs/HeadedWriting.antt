@@ -38,9 +38,7 @@ piece_put e s ns d x y at h w g v within room p q =
 -- as long as the piece that it stands for
 length_piece_with : (e : Encoding) (s ns : List ℕ) → Sound e → Whole e s → length ns ≡ length (entries_in e s) → length (piece_with e s ns) ≡ length s
 unfolding piece_with
-length_piece_with e s ns ok whole count =
-    length-append (take (header_size e) s) (numbers_of e.big e.width ns)
-    ∙ rw (length-take-le (header_size e) s (header_within e s ok whole.header), length_numbers_of e.big e.width ns, count) (whole_length e s ok whole)
+length_piece_with e s ns ok whole count = grind (arith, length-append, length-take-le, header_within, whole, length_numbers_of, whole_length)
 
 -- ---- all pieces: those ahead of a place are to be written still, with the numbers that are left
 pub record PiecesAhead (e : Encoding) (s ns : List ℕ) (ps : List (List ℕ)) (from first : ℕ) (d₀ d : List ℕ) (at : ℕ) : Type 0 where
@@ -176,9 +174,7 @@ pieces_with_used e table str (p ∷ ps) used rest q =
 -- where strings of later sections follow, and whatever else
 pub pieces_with_more : (e : Encoding) (table : List (List ℕ)) (str : List ℕ) (ps used later : List (List ℕ)) (rest : List ℕ) → strings_of_all e str ps ≡ pass used
     → pieces_with e ps (map (offset_in table) (used ++ later) ++ rest) ≡ remapped_pieces e table str ps
-pieces_with_more e table str ps used later rest q =
-    ap (pieces_with e ps) (ap (λ (l : List ℕ). l ++ rest) (map-append (offset_in table) used later) ∙ append_assoc (map (offset_in table) used) (map (offset_in table) later) rest)
-    ∙ pieces_with_used e table str ps used (map (offset_in table) later ++ rest) q
+pieces_with_more e table str ps used later rest q = grind (arith, map-append, append_assoc, pieces_with_used)
 
 -- four bytes or more for each entry
 pub entries_all_few : (e : Encoding) (ps : List (List ℕ)) → Sound e → 4 * entries_all e ps ≤ length (joined ps)
@@ -190,9 +186,7 @@ entries_all_few e (p ∷ ps) ok = omega (arith, entries_few e p ok, entries_all_
 module _ (region : List ℕ) (used : List (List ℕ)) (p : places_in region (length used) ≡ places_of used) where
   pub places_within : places_from (length region) + length used ≤ length region
   unfolding places_in places_of places_from part
-  places_within =
-      let l = ap length p ∙ length-map (offset_in (first_uses used)) used in
-      omega (arith, simp (length-take, length-drop) at l)
+  places_within = grind (arith, length-map, length-take, length-drop)
 
   -- behind those of the strings in front
   pub places_behind : (before more : List (List ℕ)) (first : ℕ) → used ≡ before ++ more → first ≡ places_from (length region) + length before

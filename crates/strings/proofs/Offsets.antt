@@ -160,6 +160,4 @@ offset_behind (t ∷ ts) s =
 
 -- a string that is put stands where the table says before that: at its place, or behind all
 pub offset_put : (table : List (List ℕ)) (s : List ℕ) → offset_in (put table s) s ≡ offset_in table s
-offset_put table s =
-    ⊎_elim (λ p. ap (λ (z : List (List ℕ)). offset_in z s) (put_known table s p))
-    (λ p. ap (λ (z : List (List ℕ)). offset_in z s) (put_new table s p) ∙ offset_behind table s) (known (is_in table s))
+offset_put table s = grind (arith, put_known, put_new, offset_behind, is_in)

@@ -77,10 +77,7 @@ header_most e w v =
 
 -- a true header lies in the section
 pub header_within : (e : Encoding) (s : List ℕ) → Sound e → header_true e s ≡ true → header_size e ≤ length s
-header_within e s w t = ⊎_elim
-    (λ v. let five = eqb-true e.version 5 v in omega (arith, header_most e w five, true_there e s five t))
-    (λ v. omega (arith, header_four e (eqb-false e.version 5 v)))
-    (known (eqb e.version 5))
+header_within e s w t = grind (arith, eqb-true, header_most, true_there, header_four, eqb-false)
 
 -- ---- entries
 pub length_entries_in : (e : Encoding) (s : List ℕ) → length (entries_in e s) ≡ (length s - header_size e) / e.width
@@ -89,9 +86,7 @@ length_entries_in e s = length_numbers_in e.big e.width ((length s - header_size
 
 pub entries_in_at : (e : Encoding) (s : List ℕ) (k : ℕ) → k < length (entries_in e s) → get_or (entries_in e s) k 0 ≡ number_at e.big e.width s (header_size e + e.width * k)
 unfolding entries_in
-entries_in_at e s k h =
-    numbers_in_at e.big e.width ((length s - header_size e) / e.width) (drop (header_size e) s) k (omega (arith, length_entries_in e s))
-    ∙ number_at_drop e.big e.width s (header_size e) (e.width * k)
+entries_in_at e s k h = grind (arith, numbers_in_at, length_entries_in, number_at_drop)
 
 -- whole entries lie in the section
 pub entries_within : (e : Encoding) (s : List ℕ) → e.width * length (entries_in e s) ≤ length s - header_size e
@@ -129,9 +124,7 @@ entries_false e s h = fails (header_true e s) 8 (λ _. require (eqb ((length s -
 
 pub entries_odd : (e : Encoding) (s : List ℕ) → header_true e s ≡ true → ((length s - header_size e) % e.width ≡ 0 → ⊥) → entries_of e s ≡ refuse 8
 unfolding entries_of
-entries_odd e s h g =
-    passes (header_true e s) 8 (λ _. require (eqb ((length s - header_size e) % e.width) 0) 8 >>= (λ _. pass (entries_in e s))) h
-    ∙ fails (eqb ((length s - header_size e) % e.width) 0) 8 (λ _. pass (entries_in e s)) (ne_eqb _ _ g)
+entries_odd e s h g = grind (arith, passes, fails, ne_eqb)
 
 pub entries_refused : (e : Encoding) (s : List ℕ) (n : ℕ) → entries_of e s ≡ refuse n → n ≡ 8
 entries_refused e s n p =

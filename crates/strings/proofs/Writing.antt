@@ -1,7 +1,7 @@
 -- The str section written from the table of kept strings.
 -- Assumes nothing.
 use mathlib.Core.Path.{◌≡◌, sym, ap, ap₂, ◌∙◌}
-use mathlib.Core.List.{List, [], ◌∷◌, ◌++◌}
+use mathlib.Core.List.{List, [], ◌∷◌}
 use Prim.Native.Nat.{ℕ, ◌+◌, ◌*◌, ◌<◌, ◌≤◌}
 use native.Mathlib.Omega.{arith}
 use lib.ListN.{length, take, get_or}
@@ -40,14 +40,7 @@ module _ (b region : List ℕ) (n : ℕ) (table : List (List ℕ)) (k : Held b r
 
   pub written_more : (d x : List ℕ) → d ≡ placed d₀ at (str_of (take i table)) → x ≡ placed d (at + get_or region (3 * i + 2) 0) (ended (bytes_at b (row_place region i)))
       → x ≡ placed d₀ at (str_of (take (i + 1) table))
-  written_more d x e f =
-      let r = k.rows i h in
-      let front = str_of (take i table) in
-      let row = ended (bytes_at b (row_place region i)) in
-      let s : row ≡ ended (get_or table i []) = ap ended r.bytes in
-      f ∙ ap₂ (λ (z : List ℕ) (m : ℕ). placed z (at + m) row) e r.place
-      ∙ placed_placed d₀ at front row (omega (arith, length_str_of_take_le table i))
-      ∙ ap (placed d₀ at) (ap (λ (z : List ℕ). front ++ z) s ∙ sym (str_of_take table i here))
+  written_more d x e f = grind (arith, placed_placed, length_str_of_take_le, str_of_take)
 
 pub written_none : (table : List (List ℕ)) (d : List ℕ) (at : ℕ) → d ≡ placed d at (str_of (take 0 table))
 written_none table d at = sym (ap (placed d at) str_of_none ∙ placed_none d at)
