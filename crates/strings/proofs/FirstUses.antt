@@ -99,10 +99,7 @@ used_in_law used i h = put_all_has [] used i h
 pub distinct_snoc : (table : List (List ℕ)) (s : List ℕ) → Distinct table → is_in table s ≡ false → Distinct (table ++ (s ∷ []))
 unfolding any Distinct
 distinct_snoc [] s d e = (refl, tt)
-distinct_snoc (t ∷ ts) s d e =
-    let new : same s t ≡ false = any_none_head (same s) t ts e in
-    let back : same t s ≡ false = same_sym t s ∙ new in
-    (any_append (same t) ts (s ∷ []) ∙ or_neither (is_in ts t) (is_in (s ∷ []) t) d.0 (any_cons (same t) s [] back), distinct_snoc ts s d.1 (any_none_tail (same s) t ts e))
+distinct_snoc (t ∷ ts) s d e = grind (arith, any_none_head, same_sym, any_append, or_neither, any_cons, any_none_tail, distinct_snoc ts s d.1 (any_none_tail (same s) t ts e))
 
 pub put_distinct : (table : List (List ℕ)) (s : List ℕ) → Distinct table → Distinct (put table s)
 put_distinct table s d = grind (arith, put_known, put_new, distinct_snoc)

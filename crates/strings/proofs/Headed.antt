@@ -222,9 +222,7 @@ module _ (b : List ℕ) (e : Encoding) (ok : Sound e) (strings : Place) (region 
 
     -- one is missing
     pub pieces_missing : (n : ℕ) → strings_at (bytes_at b strings) (entries_in e (bytes_at b piece)) ≡ refuse n → strings_of_all e (bytes_at b strings) ps ≡ refuse n
-    pieces_missing n g =
-        ap (strings_of_all e (bytes_at b strings)) (p.all ∙ ap (λ (l : List (List ℕ)). p.done ++ l) front.parts)
-        ∙ all_refused e (bytes_at b strings) p.done front.piece front.others p.used n p.are (entries_own ∙ g)
+    pieces_missing n g = grind (arith, all_refused, entries_own)
 
   -- none is left
   pub pieces_all : end ≤ at → (more : List (List ℕ)) × (strings_of_all e (bytes_at b strings) ps ≡ pass more) × Kept b region t (ts ++ more)

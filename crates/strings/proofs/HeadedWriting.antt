@@ -1,5 +1,6 @@
 -- Pieces written one behind the other, each with the next of the numbers; and what comes out where the numbers are the places of the strings that their entries name.
 -- Assumes nothing.
+use Rattle.std.proofs.lemmas.Grind.{common_steps}
 use mathlib.Core.Path.{◌≡◌, refl, sym, ap, ap₂, ◌∙◌}
 use mathlib.Core.List.{List, [], ◌∷◌, ◌++◌, map, append_assoc}
 use Prim.Native.Nat.{ℕ, ◌+◌, ◌*◌, ◌-◌, ◌<◌, ◌≤◌}
@@ -28,12 +29,7 @@ use Rattle.strings.proofs.Headed.{Front, walk_front, walk_asks, walk_some, walk_
 pub piece_put : (e : Encoding) (s ns d x y : List ℕ) (at h w : ℕ) → h ≡ header_size e → w ≡ e.width → header_size e ≤ length s → at + header_size e ≤ length d → x ≡ placed d at (take h s)
     → y ≡ placed x (at + h) (numbers_of e.big w ns) → y ≡ placed d at (piece_with e s ns)
 unfolding piece_with
-piece_put e s ns d x y at h w g v within room p q =
-    let front = take (header_size e) s in
-    let l : length front ≡ header_size e = length-take-le (header_size e) s within in
-    q ∙ ap (λ (n : ℕ). placed x (at + h) (numbers_of e.big n ns)) v
-    ∙ ap₂ (λ (z : List ℕ) (n : ℕ). placed z (at + n) (numbers_of e.big e.width ns)) (p ∙ ap (λ (n : ℕ). placed d at (take n s)) g) (g ∙ sym l)
-    ∙ placed_placed d at front (numbers_of e.big e.width ns) (omega arith)
+piece_put e s ns d x y at h w g v within room p q = grind (arith, common_steps, length-take-le, within, e.big, e.width, placed_placed)
 
 -- as long as the piece that it stands for
 length_piece_with : (e : Encoding) (s ns : List ℕ) → Sound e → Whole e s → length ns ≡ length (entries_in e s) → length (piece_with e s ns) ≡ length s

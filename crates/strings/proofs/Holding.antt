@@ -68,9 +68,7 @@ module _ {b region : List ℕ} {n : ℕ} {s : List ℕ} {steps at number : ℕ} 
 
   module _ (used : number ≡ 0 → ⊥) where
     met : (ts : List (List ℕ)) → Held b region n ts → (steps < number) × (number ≤ n)
-    met ts k =
-        let p = g.passing ts k in
-        (rw g.says (passing_rises (room_of region) region ts s steps at p n k.index (λ z. used (g.says ∙ z))), rw g.says (number_among (room_of region) region n ts k.index at (passing_stands (room_of region) region ts s steps at p n k.index)))
+    met ts k = grind (arith, g.passing, g.says, passing_rises, k.index, number_among, passing_stands)
 
     -- there are no more steps than rows
     pub few_steps : ((ts : List (List ℕ)) × Held b region n ts) → (steps < n) × (number ≤ length region / 7)

@@ -1,5 +1,6 @@
 -- The state of the table of kept strings: what putting one string leaves.
 -- Assumes nothing.
+use Rattle.std.proofs.Common.{rules}
 use mathlib.Core.Path.{◌≡◌, sym, ap, ap₂, ◌∙◌}
 use mathlib.Core.Bool.{true, false}
 use mathlib.Core.List.{List, [], ◌∷◌, ◌++◌}
@@ -93,9 +94,7 @@ module _ (b region : List ℕ) (t : StringTable) (used : List (List ℕ)) (k : K
   -- a known string: its place is noted
   pub put_again : t.over ≡ false → (x s : List ℕ) (v : ℕ) (r : StringTable) → is_in (first_uses used) s ≡ true → t.entries < room_of region → v ≡ offset_in (first_uses used) s
       → r ≡ with_entry t → x ≡ placed region (places_from (length region) + t.entries) (v ∷ []) → PutIs b x used s r (Some v)
-  put_again f x s v r e room o is q =
-      let old = put_known (first_uses used) s e in
-      put_noted b region x t r used s v f (k.entries f) room (rw old (k.held f)) (rw old (k.size f)) (kept_within f) (k.places f) o is q
+  put_again f x s v r e room o is q = search (rules, put_known, put_noted, k.entries, k.held, k.size, kept_within, k.places)
 
   longer : t.over ≡ false → (p : Place) → Inside b p → is_in (first_uses used) (bytes_at b p) ≡ false → length (str_of (put (first_uses used) (bytes_at b p))) ≡ t.size + p.size + 1
   longer f p fits new = rw (put_new (first_uses used) (bytes_at b p) new) (length_str_of_snoc (first_uses used) (bytes_at b p) ∙ omega (arith, k.size f, length_bytes_at b p fits))

@@ -48,10 +48,6 @@ pub begun : (b : List ℕ) (strings : Place) (region memo x : List ℕ) (t : Str
     → Kept b region t used → Putting b strings region x t used
 begun b strings region memo x t used h e k = grind (arith, forgotten, length_bytes_at)
 
--- what is told of a word
-told_of : (str : List ℕ) (told : List ℕ → ℕ → Type 0) (s : List ℕ) (o v w : ℕ) → string_at 9 str o ≡ pass s → told s v → w ≡ v → (s : List ℕ) × (string_at 9 str o ≡ pass s) × told s w
-told_of str told s o v w g t e = (s, g, rw e t)
-
 module _ (memo x : List ℕ) (at v : ℕ) (h : at < length memo) (e : x ≡ placed memo at (v ∷ [])) where
   word_new : (o : ℕ) → o ≡ at → get_or x o 0 ≡ v
   word_new o p =

@@ -71,9 +71,7 @@ module _ (e : Encoding) (s : List ℕ) (v : e.version ≡ 5) (t : header_true e 
 
 -- the length field and 4 bytes behind it; just these in width 4 and 8
 header_most : (e : Encoding) → Sound e → e.version ≡ 5 → header_size e ≤ length_field e + 4
-header_most e w v =
-    let h = header_five e v in
-    ⊎_elim (λ n. omega (arith, eqb-true e.width 4 n, field_narrow e n)) (λ n. omega (arith, field_wide e n, w.high)) (known (eqb e.width 4))
+header_most e w v = grind (arith, header_five, eqb-true, e.width, field_narrow, field_wide, w.high, known)
 
 -- a true header lies in the section
 pub header_within : (e : Encoding) (s : List ℕ) → Sound e → header_true e s ≡ true → header_size e ≤ length s
@@ -114,9 +112,7 @@ entries_whole e s ns p =
 
 pub whole_entries : (e : Encoding) (s : List ℕ) → Whole e s → entries_of e s ≡ pass (entries_in e s)
 unfolding entries_of
-whole_entries e s w =
-    passes (header_true e s) 8 (λ _. require (eqb ((length s - header_size e) % e.width) 0) 8 >>= (λ _. pass (entries_in e s))) w.header
-    ∙ passes (eqb ((length s - header_size e) % e.width) 0) 8 (λ _. pass (entries_in e s)) (eq-eqb _ _ w.even)
+whole_entries e s w = grind (arith, passes, e.width, w.header, eq-eqb, w.even)
 
 pub entries_false : (e : Encoding) (s : List ℕ) → header_true e s ≡ false → entries_of e s ≡ refuse 8
 unfolding entries_of
@@ -136,6 +132,4 @@ entries_refused e s n p =
 
 -- header and entries are the section
 pub whole_length : (e : Encoding) (s : List ℕ) → Sound e → Whole e s → header_size e + e.width * length (entries_in e s) ≡ length s
-whole_length e s w k =
-    let h = header_within e s w k.header in
-    rw (length_entries_in e s) (omega (arith, h, k.even, div-add-mod (length s - header_size e) e.width))
+whole_length e s w k = grind (arith, header_within, k.header, length_entries_in, k.even, div-add-mod, e.width)

@@ -1,5 +1,6 @@
 -- The str section written from the table of kept strings.
 -- Assumes nothing.
+use Rattle.std.proofs.lemmas.Grind.{common_steps}
 use mathlib.Core.Path.{◌≡◌, sym, ap, ap₂, ◌∙◌}
 use mathlib.Core.List.{List, [], ◌∷◌}
 use Prim.Native.Nat.{ℕ, ◌+◌, ◌*◌, ◌<◌, ◌≤◌}
@@ -24,9 +25,7 @@ held_unique b region n ts us p q =
 pub ended_is : (b : List ℕ) (s : Place) (d x y : List ℕ) (at : ℕ) → Inside b s → at + s.size + 1 ≤ length d
     → x ≡ placed d at (bytes_at b s) → y ≡ placed x (at + s.size) (0 ∷ []) → y ≡ placed d at (ended (bytes_at b s))
 unfolding ended
-ended_is b s d x y at h g p q =
-    let l : length (bytes_at b s) ≡ s.size = length_bytes_at b s h in
-    q ∙ ap₂ (λ (z : List ℕ) (n : ℕ). placed z (at + n) (0 ∷ [])) p (sym l) ∙ placed_placed d at (bytes_at b s) (0 ∷ []) (omega arith)
+ended_is b s d x y at h g p q = grind (arith, common_steps, s.size, length_bytes_at, placed_placed)
 
 module _ (b region : List ℕ) (n : ℕ) (table : List (List ℕ)) (k : Held b region n table) (i : ℕ) (h : i < n) (d₀ : List ℕ) (at : ℕ) (room : at + length (str_of table) ≤ length d₀) where
   here : i < length table
