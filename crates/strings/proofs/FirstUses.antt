@@ -9,8 +9,8 @@ use native.Mathlib.Nat.{not-suc-le-zero, le_of_suc-le-suc}
 use native.Mathlib.Omega.{arith}
 use lib.ListN.{length, get_or, length-append}
 use Rattle.octets.specs.Lists.{any, same}
-use Rattle.octets.proofs.Checks.{known, or_left, or_right, or_neither}
-use Rattle.octets.proofs.Lists.{same_refl, same_sym, any_cons, any_stops, any_append, any_none_head, any_none_tail}
+use Rattle.octets.proofs.Checks.{known, or_left, or_right}
+use Rattle.octets.proofs.Lists.{same_refl, same_sym, any_stops, any_append, any_none_tail}
 use Rattle.strings.specs.Strings.{put, put_all, first_uses}
 use Rattle.strings.specs.Indexed.{Distinct}
 
@@ -99,7 +99,7 @@ used_in_law used i h = put_all_has [] used i h
 pub distinct_snoc : (table : List (List ℕ)) (s : List ℕ) → Distinct table → is_in table s ≡ false → Distinct (table ++ (s ∷ []))
 unfolding any Distinct
 distinct_snoc [] s d e = (refl, tt)
-distinct_snoc (t ∷ ts) s d e = grind (arith, any_none_head, same_sym, any_append, or_neither, any_cons, any_none_tail, distinct_snoc ts s d.1 (any_none_tail (same s) t ts e))
+distinct_snoc (t ∷ ts) s d e = grind (arith, same_sym, any_append, distinct_snoc ts s d.1 (any_none_tail (same s) t ts e))
 
 pub put_distinct : (table : List (List ℕ)) (s : List ℕ) → Distinct table → Distinct (put table s)
 put_distinct table s d = grind (arith, put_known, put_new, distinct_snoc)

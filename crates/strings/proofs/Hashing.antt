@@ -4,8 +4,7 @@ use mathlib.Core.Path.{◌≡◌}
 use mathlib.Core.Bool.{false}
 use mathlib.Core.List.{List}
 use Prim.Native.Nat.{ℕ, suc, ◌+◌, ◌*◌, ◌-◌, ◌/◌, ◌%◌, ◌<◌, ◌≤◌, ◌^◌}
-use native.Mathlib.Nat.{sub-zero, add-zero, zero-div, mod-lt, mul-lt-mul_of_pos_right, div-lt_iff_lt-mul}
-use native.Mathlib.Decide.{dec_le}
+use native.Mathlib.Nat.{sub-zero, add-zero, zero-div, mod-lt}
 use native.Mathlib.Omega.{arith}
 use lib.ListN.{length, drop, get_or, get_or-eq_default}
 use lib.Seq.{drop-drop}
@@ -28,7 +27,7 @@ unfolding hash_of
 hash_long s h = rw (hash_of, le-ltb (length s) 8 h)
 
 pub hash_lt : (s : List ℕ) → hash_of s < 2 ^ 32
-hash_lt s = grind (arith, dec_le, hash_long, mixed_lt, hash_short)
+hash_lt s = grind (arith, hash_long, mixed_lt, hash_short)
 
 -- ---- the groups of a long string: those that are left from a place on
 unfoldable pub left : ℕ → ℕ → ℕ
@@ -49,6 +48,7 @@ pub groups_end : (h : ℕ) (s : List ℕ) (at : ℕ) → length s - 8 ≤ at →
 unfolding groups_from left
 groups_end h s at l = let e : (length s - 1 - at) / 8 ≡ 0 = omega arith in rw e
 
+-- what the check of `long_hash` is given
 pub ruleset long_turns = (mixed_lt, hash_long, groups_start, groups_turn, groups_end)
 
 -- ---- where a search starts
@@ -58,7 +58,7 @@ root_low room s = omega arith
 
 pub root_high : (room : ℕ) (s : List ℕ) → 1 ≤ room → root_of room s < 7 * room
 unfolding root_of
-root_high room s h = grind (arith, div-lt_iff_lt-mul, mul-lt-mul_of_pos_right, hash_lt)
+root_high room s h = grind (arith, hash_lt)
 
 -- ---- the side on which a search goes on
 pub side_lt : (s : List ℕ) (step : ℕ) → side s step < 2

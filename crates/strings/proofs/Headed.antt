@@ -32,6 +32,7 @@ module _ (e : Encoding) (s : List ℕ) where
   unfolding piece_size
   size_four v = rw (piece_size, ne_eqb e.version 5 v)
 
+-- what the check of `piece_size` is given
 pub ruleset sizes = (is_five_law, not_five, size_five, size_four)
 
 -- ---- the piece at the front

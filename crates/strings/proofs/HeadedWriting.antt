@@ -29,12 +29,12 @@ use Rattle.strings.proofs.Headed.{Front, walk_front, walk_asks, walk_some, walk_
 pub piece_put : (e : Encoding) (s ns d x y : List ℕ) (at h w : ℕ) → h ≡ header_size e → w ≡ e.width → header_size e ≤ length s → at + header_size e ≤ length d → x ≡ placed d at (take h s)
     → y ≡ placed x (at + h) (numbers_of e.big w ns) → y ≡ placed d at (piece_with e s ns)
 unfolding piece_with
-piece_put e s ns d x y at h w g v within room p q = grind (arith, common_steps, length-take-le, within, e.big, e.width, placed_placed)
+piece_put e s ns d x y at h w g v within room p q = grind (arith, common_steps, length-take-le, placed_placed)
 
 -- as long as the piece that it stands for
 length_piece_with : (e : Encoding) (s ns : List ℕ) → Sound e → Whole e s → length ns ≡ length (entries_in e s) → length (piece_with e s ns) ≡ length s
 unfolding piece_with
-length_piece_with e s ns ok whole count = grind (arith, length-append, length-take-le, header_within, whole, length_numbers_of, whole_length)
+length_piece_with e s ns ok whole count = grind (arith, length-append, length-take-le, length_numbers_of, whole_length)
 
 -- ---- all pieces: those ahead of a place are to be written still, with the numbers that are left
 pub record PiecesAhead (e : Encoding) (s ns : List ℕ) (ps : List (List ℕ)) (from first : ℕ) (d₀ d : List ℕ) (at : ℕ) : Type 0 where
@@ -119,6 +119,7 @@ module _ (e : Encoding) (ok : Sound e) (s ns : List ℕ) (ps : List (List ℕ)) 
     unfolding pieces_with
     ahead_none = sym (placed_none d (at + from)) ∙ ap (λ (l : List (List ℕ)). placed d (at + from) (pieces_with e l (drop first ns))) (sym none) ∙ p.left
 
+-- what the check of `write_pieces` is given
 pub ruleset pieces_written =
     (part_cut, length_part, sound, walk_asks, walk_some, ahead_all, ahead_header, ahead_size, ahead_count, ahead_more, ahead_counted, ahead_none)
 

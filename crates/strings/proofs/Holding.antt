@@ -4,7 +4,7 @@ use mathlib.Core.Path.{◌≡◌, refl, sym, ap, ◌∙◌}
 use mathlib.Core.Logic.{◌⊎◌, inl, inr, ⊎_elim}
 use mathlib.Core.Bool.{Bool, true, false}
 use mathlib.Core.List.{List, [], ◌∷◌, ◌++◌}
-use Prim.Native.Nat.{ℕ, zero, suc, ◌+◌, ◌*◌, ◌-◌, ◌/◌, ◌<◌, ◌≤◌}
+use Prim.Native.Nat.{ℕ, suc, ◌+◌, ◌*◌, ◌-◌, ◌/◌, ◌<◌, ◌≤◌}
 use native.Mathlib.Decide.{dec_le}
 use native.Mathlib.Omega.{arith}
 use Rattle.std.specs.Prelude.{Ok, Err}
@@ -25,7 +25,7 @@ use Rattle.strings.proofs.FirstUses.{is_in, distinct_snoc}
 use Rattle.strings.proofs.Offsets.{row_offset}
 use Rattle.strings.proofs.Places.{length_bytes_at}
 use Rattle.strings.proofs.Hashing.{root_high, side_lt}
-use Rattle.strings.proofs.Indexing.{Stands, Passing, passing_none, indexed_none, indexed_same, number_among, comes_inside, passing_more, passing_stands, passing_rises, passing_free, walk_stands, indexed_more}
+use Rattle.strings.proofs.Indexing.{Stands, Passing, passing_none, indexed_same, number_among, comes_inside, passing_more, passing_stands, passing_rises, passing_free, walk_stands, indexed_more}
 
 -- ---- a search
 -- what the row where it ended says of the string
@@ -68,7 +68,7 @@ module _ {b region : List ℕ} {n : ℕ} {s : List ℕ} {steps at number : ℕ} 
 
   module _ (used : number ≡ 0 → ⊥) where
     met : (ts : List (List ℕ)) → Held b region n ts → (steps < number) × (number ≤ n)
-    met ts k = grind (arith, g.passing, g.says, passing_rises, k.index, number_among, passing_stands)
+    met ts k = grind (arith, passing_rises, number_among, passing_stands)
 
     -- there are no more steps than rows
     pub few_steps : ((ts : List (List ℕ)) × Held b region n ts) → (steps < n) × (number ≤ length region / 7)
@@ -104,7 +104,7 @@ other_row b s p h d = sym (ne_same s (bytes_at b p) (λ e. d (sym (length_bytes_
 -- ---- one row more
 pub held_none : (b region : List ℕ) → ((j : ℕ) → 6 * room_of region ≤ j → get_or region j 0 ≡ 0) → Held b region 0 []
 unfolding Distinct
-held_none b region z = grind (arith, indexed_none)
+held_none b region z = grind arith
 
 pub slot_inside : (b region : List ℕ) (n : ℕ) (table : List (List ℕ)) → Held b region n table → (s : List ℕ) (slot : ℕ) → 1 ≤ room_of region → EndsFree region table s slot → slot < length region
 unfolding room_of
@@ -112,7 +112,7 @@ slot_inside b region n table k s slot some f = grind (arith, comes_inside)
 
 -- an element where nothing was placed
 apart : (w : List ℕ) (at : ℕ) (x : List ℕ) (j : ℕ) → (at ≤ j → j < at + length x → ⊥) → at ≤ length w → get_or (placed w at x) j 0 ≡ get_or w j 0
-apart w at x j h l = grind (arith, dec_le, get_d_behind, get_d_before)
+apart w at x j h l = grind (arith, get_d_behind, get_d_before)
 
 -- words of the index: behind the rows, and none of the places of entries
 stands_apart : (room n j : ℕ) → n ≤ room → Stands room n j → (3 * room ≤ j) × ((j < 3 * room + 2 * n) ⊎ (6 * room ≤ j))
@@ -173,30 +173,25 @@ module _ (b region : List ℕ) (t : StringTable) (table : List (List ℕ)) (k : 
 
   in_row : (j : ℕ) → j < 3 * room_of region → get_or stored j 0 ≡ get_or words j 0
   unfolding linked
-  in_row j h = grind (arith, not_slot, slot_apart, apart, words, enough, same_words)
+  in_row j h = grind (arith, not_slot, slot_apart, apart, enough, same_words)
 
   old_word : (j : ℕ) → Stands (room_of region) t.count j → (j ≡ slot → ⊥) → get_or stored j 0 ≡ get_or region j 0
   unfolding linked words row
-  old_word j p h = grind (arith, stands_apart, not_slot, apart, words, enough, same_words, row)
+  old_word j p h = grind (arith, stands_apart, not_slot, apart, enough, same_words)
 
   new_number : get_or stored slot 0 ≡ t.count + 1
   unfolding stored
   new_number =
       ap (λ (j : ℕ). get_or stored j 0) (omega arith) ∙ get_d_placed linked slot ((t.count + 1) ∷ []) 0 (omega arith) (omega (arith, slot_within, same_linked))
 
-  no_link : (on : ℕ) → on < 2 → ◌≡◌ {A = ℕ} (get_or (0 ∷ 0 ∷ []) on 0) 0
-  no_link zero h = refl
-  no_link (suc zero) h = refl
-  no_link (suc (suc on)) h = absurd (omega arith)
-
   new_links : (on : ℕ) → on < 2 → get_or stored (3 * room_of region + 2 * t.count + on) 0 ≡ 0
   unfolding linked
-  new_links on h = grind (arith, not_slot, slot_apart, get_d_placed, words, enough, same_words, no_link)
+  new_links on h = grind (arith, not_slot, slot_apart, get_d_placed, enough, same_words)
 
   -- ---- rows
   old_row : (i : ℕ) → i < t.count → RowHeld b stored new i
   unfolding new words row
-  old_row i h = grind (arith, stored, in_row, get_d_before, row, enough, get_or-append, take-append-le)
+  old_row i h = grind (arith, in_row, get_d_before, enough, get_or-append, take-append-le)
 
   new_row : RowHeld b stored new t.count
   unfolding new words row
@@ -228,7 +223,7 @@ module _ (b region : List ℕ) (t : StringTable) (table : List (List ℕ)) (k : 
   -- the places of entries stay
   pub row_places : (m : ℕ) → m ≤ room_of region → places_in (row_added region slot t p) m ≡ places_in region m
   unfolding row_added words row linked stored places_in places_from room_of
-  row_places m h = grind (arith, stored, same_length, linked, part_behind, slot_within, same_linked, part_before, slot_apart, words, enough, same_words, row)
+  row_places m h = grind (arith, same_length, part_behind, slot_within, same_linked, part_before, slot_apart, same_words)
 
 -- ---- the place of one entry more
 module _ (b region : List ℕ) (n : ℕ) (table : List (List ℕ)) (k : Held b region n table) (i v : ℕ) (h : i < room_of region) where
@@ -248,9 +243,6 @@ module _ (b region : List ℕ) (n : ℕ) (table : List (List ℕ)) (k : Held b r
   unfolding noted
   not_noted j d = grind (arith, apart, note)
 
-  row_noted : (i : ℕ) → i < n → RowHeld b noted table i
-  row_noted i l = grind (arith, not_noted)
-
   pub held_noted : Held b (placed region (places_from (length region) + i) (v ∷ [])) n table
   unfolding noted
-  held_noted = grind (arith, same_noted, row_noted, indexed_same, not_noted, stands_apart)
+  held_noted = grind (arith, same_noted, indexed_same, not_noted, stands_apart)

@@ -44,7 +44,7 @@ module _ (room : ℕ) (w : List ℕ) (n : ℕ) (table : List (List ℕ)) (k : In
   -- a word of the index holds the number of a row
   pub number_among : (j : ℕ) → Stands room n j → get_or w j 0 ≤ n
   unfolding Stands
-  number_among j p = grind (arith, k.roots, k.among)
+  number_among j p = grind arith
 
   module _ (s : List ℕ) where
     -- the words before lead on

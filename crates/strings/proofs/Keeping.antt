@@ -8,7 +8,7 @@ use Prim.Native.Nat.{ℕ, ◌+◌, ◌*◌, ◌-◌, ◌<◌, ◌≤◌}
 use native.Mathlib.Omega.{arith}
 use Rattle.std.specs.Prelude.{Some, None, Ok}
 use lib.ListN.{length, get_or, length-append}
-use borrow.Author.Tests.{ltb-true, ltb-false, lt-ltb, le-ltb}
+use borrow.Author.Tests.{ltb-false, lt-ltb, le-ltb}
 use Rattle.octets.specs.Octets.{placed, zeros}
 use Rattle.octets.proofs.Checks.{true_false}
 use Rattle.octets.proofs.Joined.{map-append}
@@ -46,7 +46,7 @@ roomy_places region t r = omega (arith, r.more)
 -- no strings: the roots are free
 pub kept_none : (b region : List ℕ) → ((j : ℕ) → 6 * room_of region ≤ j → get_or region j 0 ≡ 0) → Kept b region none []
 unfolding first_uses put_all places_in places_of
-kept_none b region z = grind (arith, le-ltb, str_of_none, held_none, part_none)
+kept_none b region z = grind (arith, str_of_none, held_none, part_none)
 
 pub kept_cleared : (b region : List ℕ) → region ≡ zeros (length region) → Kept b region none []
 kept_cleared b region e = kept_none b region (λ j _. ap (λ (z : List ℕ). get_or z j 0) e ∙ get_d_zeros (length region) j)
@@ -89,7 +89,7 @@ module _ (b region : List ℕ) (t : StringTable) (used : List (List ℕ)) (k : K
 
   -- behind the limit nothing is stored, whatever the region holds
   pub kept_over : (x s : List ℕ) → t.over ≡ true → Kept b x t (used ++ (s ∷ []))
-  kept_over x s f = grind (arith, ltb-true, first_uses_snoc, length-append, lt-ltb, put_longer, true_false)
+  kept_over x s f = grind (arith, first_uses_snoc, length-append, put_longer)
 
   -- a known string: its place is noted
   pub put_again : t.over ≡ false → (x s : List ℕ) (v : ℕ) (r : StringTable) → is_in (first_uses used) s ≡ true → t.entries < room_of region → v ≡ offset_in (first_uses used) s

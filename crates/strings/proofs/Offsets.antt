@@ -153,8 +153,8 @@ offsets_keep table s (u ∷ us) f =
 offset_behind : (table : List (List ℕ)) (s : List ℕ) → offset_in (table ++ (s ∷ [])) s ≡ offset_in table s
 unfolding offset_in
 offset_behind [] s = offset_here s [] s (same_refl s)
-offset_behind (t ∷ ts) s = grind (arith, offset_here, offset_next, known, offset_behind ts s)
+offset_behind (t ∷ ts) s = grind (arith, offset_behind ts s)
 
 -- a string that is put stands where the table says before that: at its place, or behind all
 pub offset_put : (table : List (List ℕ)) (s : List ℕ) → offset_in (put table s) s ≡ offset_in table s
-offset_put table s = grind (arith, put_known, put_new, offset_behind, is_in)
+offset_put table s = grind (arith, put_known, put_new, offset_behind)

@@ -24,7 +24,7 @@ length_bytes_at b p h = length_part b p.start p.size h
 place_on : (start offset : ℕ) (p : Place) (m : Check (List ℕ)) → pass p ≡ mapped (string_place offset) m
     → pass (record { start = start + p.start; size = p.size }) ≡ mapped (string_place (start + offset)) m
 unfolding mapped
-place_on start offset p m e = grind (arith, place_found)
+place_on start offset p m e = grind arith
 
 module _ (b : List ℕ) (strings : Place) (offset : ℕ) where
   pub place_moved : (p : Place) → pass p ≡ mapped (string_place offset) (string_at 9 (bytes_at b strings) offset)

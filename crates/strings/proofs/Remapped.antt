@@ -2,13 +2,13 @@
 -- Assumes nothing.
 use Rattle.std.proofs.lemmas.Grind.{common_steps}
 use Rattle.std.proofs.Common.{rules}
-use mathlib.Core.Path.{◌≡◌, refl, sym, ap}
+use mathlib.Core.Path.{◌≡◌, refl, ap}
 use mathlib.Core.List.{List, [], ◌∷◌, map}
-use Prim.Native.Nat.{ℕ, zero, suc, ◌-◌, ◌/◌, ◌^◌, ◌<◌, ◌≤◌}
-use native.Mathlib.Nat.{not-suc-le-zero, le_of_suc-le-suc, lt_of_le_of_lt}
+use Prim.Native.Nat.{ℕ, zero, suc, ◌^◌, ◌<◌, ◌≤◌}
+use native.Mathlib.Nat.{not-suc-le-zero, le_of_suc-le-suc}
 use native.Mathlib.Omega.{arith}
 use lib.ListN.{length, take, get_or, length-append}
-use lib.Seq.{length-take-le, drop_at, take_at}
+use lib.Seq.{length-take-le, take_at}
 use Rattle.octets.specs.Octets.{numbers_of}
 use Rattle.octets.proofs.Tables.{length_numbers_of, numbers_in_numbers_of}
 use Rattle.bundle.specs.Encoding.{Encoding}
@@ -46,4 +46,4 @@ module _ (e : Encoding) (table : List (List ℕ)) (s : List ℕ) (used : List (L
   -- the entries are the strings' places in the table
   pub remapped_entries : length (str_of table) < 256 ^ e.width → entries_in e (remapped e table s used) ≡ map (offset_in table) used
   unfolding remapped entries_in
-  remapped_entries small = grind (arith, common_steps, e.width, length_remapped, length_entries_in, length-map, drop_at, e.big, numbers_in_numbers_of, lt_of_le_of_lt, offsets_le)
+  remapped_entries small = grind (arith, common_steps, length_remapped, length_entries_in, numbers_in_numbers_of, offsets_le)

@@ -5,7 +5,6 @@ use mathlib.Core.Logic.{⊎_elim}
 use mathlib.Core.Bool.{true, false}
 use mathlib.Core.List.{List, [], ◌∷◌, ◌++◌}
 use Prim.Native.Nat.{ℕ, zero, suc, ◌+◌, ◌-◌, ◌<◌, ◌≤◌, ◌^◌}
-use native.Mathlib.Decide.{dec_le, ℕ_discrete}
 use native.Mathlib.Nat.{not-suc-le-zero, le_of_suc-le-suc}
 use native.Mathlib.Omega.{arith}
 use Rattle.std.specs.Prelude.{Some, None}
@@ -54,11 +53,11 @@ module _ (memo x : List ℕ) (at v : ℕ) (h : at < length memo) (e : x ≡ plac
       ap (λ (z : List ℕ). get_or z o 0) e ∙ ap (λ (i : ℕ). get_or (placed memo at (v ∷ [])) i 0) (omega arith) ∙ get_d_placed memo at (v ∷ []) 0 (omega arith) (omega arith)
 
   word_old : (o : ℕ) → (o ≡ at → ⊥) → get_or x o 0 ≡ get_or memo o 0
-  word_old o p = grind (arith, dec_le, get_d_before, get_d_behind)
+  word_old o p = grind (arith, get_d_before, get_d_behind)
 
   -- one word more
   remembered_more : (str : List ℕ) (told : List ℕ → ℕ → Type 0) (s : List ℕ) → Remembered str told memo → string_at 9 str at ≡ pass s → told s v → Remembered str told x
-  remembered_more str told s r g t = grind (arith, ℕ_discrete, word_new, word_old)
+  remembered_more str told s r g t = grind (arith, word_new, word_old)
 
 -- a table that grows keeps what it has
 remembered_put : (str : List ℕ) (table : List (List ℕ)) (s memo : List ℕ) → Remembered str (place_is table) memo → Remembered str (place_is (put table s)) memo

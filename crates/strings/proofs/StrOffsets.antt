@@ -5,7 +5,7 @@ use mathlib.Core.Logic.{◌⊎◌, inl, inr, ⊎_elim}
 use mathlib.Core.Bool.{Bool, true, false, ◌&&◌, ◌||◌}
 use mathlib.Core.List.{List}
 use Prim.Native.Nat.{ℕ, ◌+◌, ◌*◌, ◌-◌, ◌/◌, ◌%◌, ◌<◌, ◌≤◌}
-use native.Mathlib.Nat.{mul-suc, mul-div-le, mul-le-mul_left, mul-le-mul_right, div-add-mod}
+use native.Mathlib.Nat.{mul-suc, mul-div-le, mul-le-mul_left, mul-le-mul_right}
 use native.Mathlib.Omega.{arith}
 use lib.Dec.{eqb, leb}
 use lib.ListN.{length, drop, get_or}
@@ -71,11 +71,11 @@ module _ (e : Encoding) (s : List ℕ) (v : e.version ≡ 5) (t : header_true e 
 
 -- the length field and 4 bytes behind it; just these in width 4 and 8
 header_most : (e : Encoding) → Sound e → e.version ≡ 5 → header_size e ≤ length_field e + 4
-header_most e w v = grind (arith, header_five, eqb-true, e.width, field_narrow, field_wide, w.high, known)
+header_most e w v = grind (arith, header_five, field_narrow, field_wide)
 
 -- a true header lies in the section
 pub header_within : (e : Encoding) (s : List ℕ) → Sound e → header_true e s ≡ true → header_size e ≤ length s
-header_within e s w t = grind (arith, eqb-true, header_most, true_there, header_four, eqb-false)
+header_within e s w t = grind (arith, header_most, true_there, header_four)
 
 -- ---- entries
 pub length_entries_in : (e : Encoding) (s : List ℕ) → length (entries_in e s) ≡ (length s - header_size e) / e.width
@@ -112,7 +112,7 @@ entries_whole e s ns p =
 
 pub whole_entries : (e : Encoding) (s : List ℕ) → Whole e s → entries_of e s ≡ pass (entries_in e s)
 unfolding entries_of
-whole_entries e s w = grind (arith, passes, e.width, w.header, eq-eqb, w.even)
+whole_entries e s w = grind (arith, passes)
 
 pub entries_false : (e : Encoding) (s : List ℕ) → header_true e s ≡ false → entries_of e s ≡ refuse 8
 unfolding entries_of
@@ -120,7 +120,7 @@ entries_false e s h = fails (header_true e s) 8 (λ _. require (eqb ((length s -
 
 pub entries_odd : (e : Encoding) (s : List ℕ) → header_true e s ≡ true → ((length s - header_size e) % e.width ≡ 0 → ⊥) → entries_of e s ≡ refuse 8
 unfolding entries_of
-entries_odd e s h g = grind (arith, passes, fails, ne_eqb)
+entries_odd e s h g = grind (arith, passes, fails)
 
 pub entries_refused : (e : Encoding) (s : List ℕ) (n : ℕ) → entries_of e s ≡ refuse n → n ≡ 8
 entries_refused e s n p =
@@ -132,4 +132,4 @@ entries_refused e s n p =
 
 -- header and entries are the section
 pub whole_length : (e : Encoding) (s : List ℕ) → Sound e → Whole e s → header_size e + e.width * length (entries_in e s) ≡ length s
-whole_length e s w k = grind (arith, header_within, k.header, length_entries_in, k.even, div-add-mod, e.width)
+whole_length e s w k = grind (arith, header_within, length_entries_in)

@@ -1,7 +1,7 @@
 -- The str section written from the table of kept strings.
 -- Assumes nothing.
 use Rattle.std.proofs.lemmas.Grind.{common_steps}
-use mathlib.Core.Path.{◌≡◌, sym, ap, ap₂, ◌∙◌}
+use mathlib.Core.Path.{◌≡◌, sym, ap, ◌∙◌}
 use mathlib.Core.List.{List, [], ◌∷◌}
 use Prim.Native.Nat.{ℕ, ◌+◌, ◌*◌, ◌<◌, ◌≤◌}
 use native.Mathlib.Omega.{arith}
@@ -25,7 +25,7 @@ held_unique b region n ts us p q =
 pub ended_is : (b : List ℕ) (s : Place) (d x y : List ℕ) (at : ℕ) → Inside b s → at + s.size + 1 ≤ length d
     → x ≡ placed d at (bytes_at b s) → y ≡ placed x (at + s.size) (0 ∷ []) → y ≡ placed d at (ended (bytes_at b s))
 unfolding ended
-ended_is b s d x y at h g p q = grind (arith, common_steps, s.size, length_bytes_at, placed_placed)
+ended_is b s d x y at h g p q = grind (arith, common_steps, length_bytes_at, placed_placed)
 
 module _ (b region : List ℕ) (n : ℕ) (table : List (List ℕ)) (k : Held b region n table) (i : ℕ) (h : i < n) (d₀ : List ℕ) (at : ℕ) (room : at + length (str_of table) ≤ length d₀) where
   here : i < length table
