@@ -44,12 +44,6 @@ put_new table s e = rw (put, e)
 pub in_append : (table more : List (List ℕ)) (s : List ℕ) → is_in table s ≡ true → is_in (table ++ more) s ≡ true
 in_append table more s e = any_append (same s) table more ∙ or_left (is_in table s) (is_in more s) e
 
-pub in_behind : (table more : List (List ℕ)) (s : List ℕ) → is_in more s ≡ true → is_in (table ++ more) s ≡ true
-in_behind table more s e = any_append (same s) table more ∙ or_right (is_in table s) (is_in more s) e
-
-pub in_one : (s : List ℕ) → is_in (s ∷ []) s ≡ true
-in_one s = any_stops (same s) s [] (same_refl s)
-
 -- the table grows only at its end
 pub put_grows : (table : List (List ℕ)) (s : List ℕ) → (more : List (List ℕ)) × (put table s ≡ table ++ more)
 put_grows table s =
@@ -77,7 +71,7 @@ length_first_uses used = omega (arith, length_put_all [] used)
 
 -- ---- every used string is in the table
 pub put_has : (table : List (List ℕ)) (s : List ℕ) → is_in (put table s) s ≡ true
-put_has table s = grind (arith, put_known, put_new, in_behind, in_one)
+put_has table s = grind (arith, put_known, put_new, any_append, or_right, any_stops, same_refl)
 
 pub put_keeps : (table : List (List ℕ)) (s t : List ℕ) → is_in table t ≡ true → is_in (put table s) t ≡ true
 put_keeps table s t e = let p = put_grows table s in rw p.1 (in_append table p.0 t e)

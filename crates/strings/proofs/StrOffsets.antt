@@ -69,13 +69,9 @@ module _ (e : Encoding) (s : List ℕ) (v : e.version ≡ 5) (t : header_true e 
   pub true_states : length_stated e s ≡ length s - length_field e
   true_states = eqb-true (length_stated e s) (length s - length_field e) (and_right (leb (length_field e + 4) (length s) && (eqb e.width 4 || marked e.big s)) _ first_three)
 
--- the length field and 4 bytes behind it; just these in width 4 and 8
-header_most : (e : Encoding) → Sound e → e.version ≡ 5 → header_size e ≤ length_field e + 4
-header_most e w v = grind (arith, header_five, field_narrow, field_wide)
-
 -- a true header lies in the section
 pub header_within : (e : Encoding) (s : List ℕ) → Sound e → header_true e s ≡ true → header_size e ≤ length s
-header_within e s w t = grind (arith, header_most, true_there, header_four)
+header_within e s w t = grind (arith, header_five, field_narrow, field_wide, true_there, header_four)
 
 -- ---- entries
 pub length_entries_in : (e : Encoding) (s : List ℕ) → length (entries_in e s) ≡ (length s - header_size e) / e.width
