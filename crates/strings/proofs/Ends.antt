@@ -125,8 +125,7 @@ strings_at_none str = refl
 pub strings_at_cons : (str : List ℕ) (o : ℕ) (os : List ℕ) (s : List ℕ) (ss : List (List ℕ)) → string_at 9 str o ≡ pass s → strings_at str os ≡ pass ss
     → strings_at str (o ∷ os) ≡ pass (s ∷ ss)
 unfolding strings_at
-strings_at_cons str o os s ss e g =
-    then_pass (string_at 9 str o) (λ t. strings_at str os >>= λ ts. pass (t ∷ ts)) s e ∙ then_pass (strings_at str os) (λ ts. pass (s ∷ ts)) ss g
+strings_at_cons str o os s ss e g = grind (arith, then_pass)
 
 -- an entry with its string, and those behind it with theirs
 pub record Split (str : List ℕ) (o : ℕ) (os : List ℕ) (all : List (List ℕ)) : Type 0 where

@@ -44,8 +44,7 @@ module _ (room : ℕ) (w : List ℕ) (n : ℕ) (table : List (List ℕ)) (k : In
   -- a word of the index holds the number of a row
   pub number_among : (j : ℕ) → Stands room n j → get_or w j 0 ≤ n
   unfolding Stands
-  number_among j p =
-      ⊎_elim (λ h. k.roots j h) (λ l. rw l.is (k.among l.row l.on l.within l.two)) p
+  number_among j p = grind arith
 
   module _ (s : List ℕ) where
     -- the words before lead on
@@ -66,9 +65,7 @@ module _ (room : ℕ) (w : List ℕ) (n : ℕ) (table : List (List ℕ)) (k : In
     pub comes_inside : 1 ≤ room → n ≤ room → (m : ℕ) → Led m → comes_to room w s m < 7 * room
     unfolding comes_to link_of
     comes_inside some fits zero u = root_high room s some
-    comes_inside some fits (suc m) u =
-        let used = u m (omega arith) in
-        omega (arith, number_among (comes_to room w s m) (stands m (λ j h. u j (omega arith))), side_lt s m)
+    comes_inside some fits (suc m) u = grind (arith, number_among, stands, side_lt)
 
     -- and the numbers there rise
     pub rises : (m : ℕ) → Led m → (get_or w (comes_to room w s m) 0 ≡ 0 → ⊥) → m < get_or w (comes_to room w s m) 0

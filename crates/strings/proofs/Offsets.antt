@@ -61,8 +61,7 @@ length_str_of_take table i h = rw (add-one, take-suc table i [] h) (length_str_o
 pub length_str_of_take_le : (table : List (List ℕ)) (i : ℕ) → length (str_of (take i table)) ≤ length (str_of table)
 length_str_of_take_le table zero = rw str_of_none (omega arith)
 length_str_of_take_le [] (suc i) = omega arith
-length_str_of_take_le (s ∷ table) (suc i) =
-    rw (length_str_of_cons s (take i table), length_str_of_cons s table) (omega (arith, length_str_of_take_le table i))
+length_str_of_take_le (s ∷ table) (suc i) = grind (arith, length_str_of_cons, length_str_of_take_le table i)
 
 -- a table that grows only at its end never gets a shorter section
 pub put_longer : (table : List (List ℕ)) (s : List ℕ) → length (str_of table) ≤ length (str_of (put table s))
@@ -154,12 +153,8 @@ offsets_keep table s (u ∷ us) f =
 offset_behind : (table : List (List ℕ)) (s : List ℕ) → offset_in (table ++ (s ∷ [])) s ≡ offset_in table s
 unfolding offset_in
 offset_behind [] s = offset_here s [] s (same_refl s)
-offset_behind (t ∷ ts) s =
-    ⊎_elim (λ p. offset_here t (ts ++ (s ∷ [])) s p ∙ sym (offset_here t ts s p))
-    (λ p. offset_next t (ts ++ (s ∷ [])) s p ∙ ap (λ (k : ℕ). length t + 1 + k) (offset_behind ts s) ∙ sym (offset_next t ts s p)) (known (same s t))
+offset_behind (t ∷ ts) s = grind (arith, offset_behind ts s)
 
 -- a string that is put stands where the table says before that: at its place, or behind all
 pub offset_put : (table : List (List ℕ)) (s : List ℕ) → offset_in (put table s) s ≡ offset_in table s
-offset_put table s =
-    ⊎_elim (λ p. ap (λ (z : List (List ℕ)). offset_in z s) (put_known table s p))
-    (λ p. ap (λ (z : List (List ℕ)). offset_in z s) (put_new table s p) ∙ offset_behind table s) (known (is_in table s))
+offset_put table s = grind (arith, put_known, put_new, offset_behind)

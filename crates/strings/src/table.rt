@@ -202,6 +202,7 @@ impl StringTable {
 
     // Puts the string at an offset of an object's str. It is sought once for each offset: its place is remembered. Nothing is read for a table that is
     // over. The caller knows that a string starts there, and has room for one more row.
+    // A word of memory is 0 where nothing is known, and otherwise the place and 1 more: the work area has words, and an Option takes more than one.
     fn add_string(
         &mut self,
         b: &[u8],
