@@ -138,9 +138,6 @@ module _ (big : Bool) (s : List ℕ) (h : IndexHead) (r : ReadWell big s h) wher
   pub read_sized : Sized s h
   read_sized = record { is = (well big s h r).sized }
 
-  pub read_power : PowerOfTwo h.slots
-  read_power = rw (well big s h r).power at (least_power_law h.slots)
-
   pub read_is : index_of big s ≡ pass (index_in big s h)
   read_is = (well big s h r).is
 
@@ -168,20 +165,6 @@ well_facts {i} r =
       identities = identities_length r.big r.bytes h ∙ sym l;
       slots = w.slots_good_law;
     })
-
--- the same as bounds
-module _ (big : Bool) (s : List ℕ) (h : IndexHead) {i : ℕ} where
-  pub in_codes : i < h.columns → i < length (index_in big s h).codes
-  in_codes g = rw (codes_length big s h) g
-
-  pub past_codes : h.columns ≤ i → length (index_in big s h).codes ≤ i
-  past_codes g = rw (codes_length big s h) g
-
-  pub in_rows : i < h.slots → i < length (index_in big s h).rows
-  in_rows g = rw (rows_length big s h) g
-
-  pub in_identities : i < h.slots → i < length (index_in big s h).identities
-  in_identities g = rw (identities_length big s h) g
 
 -- ---- the numbers of an index that a section holds, as the code reads them
 module _ (big : Bool) (s : List ℕ) (h : IndexHead) {i : Index} (v : index_in big s h ≡ i) where
