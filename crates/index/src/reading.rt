@@ -189,6 +189,7 @@ fn word_at(big: bool, s: &[u8], start: usize, k: usize) -> usize
 }
 
 // The least power of two not below n, for an n of 32 bits.
+#[tactic(auto, using(crate::proofs::Slots::next_power_is))]
 pub fn least_power(n: usize) -> usize
     ensures { result ≡ least_power n }
 {

@@ -112,6 +112,7 @@ impl IndexForm {
         }
     }
 
+    #[tactic(auto, using(crate::proofs::Pieces::head_written))]
     fn put_head(self, columns: usize, slots: usize, out: &mut [u8], at: usize)
         requires { at + 16 ≤ length out.old }
         ensures { out.new ≡ placed out.old at (start_bytes self.big (version_for self.five) ++ numbers_of self.big 4 (columns ∷ self.rows ∷ slots ∷ [])) }
