@@ -52,3 +52,6 @@ unfolding look probed_of
 search_end rows ids x slots at by looks p h e =
     let z : slots - looks ≡ 0 = omega arith in
     rw h (ap probed_of (rw z at e))
+
+-- what the proof of the search cites
+pub ruleset search_ends = (search_unused, search_found, search_end)

@@ -282,6 +282,8 @@ row_room f w which i at room e h = rw e at h
 pub row_some : (big : Bool) (d v : List ℕ) (at next : ℕ) (x y : List ℕ) → x ≡ y → (v ≡ placed d at (numbers_of big 4 y)) × (next ≡ at + 4 * length y) → (v ≡ placed d at (numbers_of big 4 x)) × (next ≡ at + 4 * length x)
 row_some big d v at next x y e h = rw e h
 
+pub ruleset grid_rows = (grid_other, grid_own, place_few, placed_none)
+
 -- how much room there is for each piece
 module _ (f : IndexForm) (w : List ℕ) (n : ℕ) (slots : List ℕ) (columns at room : ℕ) (fits : at + length (index_in f w n slots) ≤ room) where
   pub piece_room : at + 16 + 12 * length slots + 4 * length (codes_in f.five f.has) + 4 * length (grid_from f w 0 0 n) + 4 * length (grid_from f w 1 0 n) ≤ room

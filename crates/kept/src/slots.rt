@@ -47,6 +47,7 @@ impl<'a> Slots<'a> {
     }
 
     // Where a walk ends: at the number of a record of the identity, or else at a free slot.
+    #[tactic(auto, using(crate::proofs::Seeking::seek_ends))]
     pub fn seek(self, x: u64) -> Result<usize, usize>
         requires { PowerOfTwo (length self.slots.now) }
         ensures { result ≡ sought_in self.entry.records.words.now self.entry.slots.now x }

@@ -167,6 +167,7 @@ impl IndexForm {
     }
 
     // Record i, where it is one of the table. The place behind it.
+    #[tactic(auto, using(crate::proofs::Pieces::grid_rows), unfolding(octets::specs::Octets::numbers_of))]
     fn put_row(self, records: Records, i: usize, which: Figures, out: &mut [u8], at: usize) -> usize
         requires { (i < records.count) × (at + 4 * length (grid_from self records.words.now (place_of which) i 1) ≤ length out.old) }
         ensures out { out.new ≡ placed out.old at (numbers_of self.big 4 (grid_from self records.entry.words.now (place_of which) i 1)) }
