@@ -30,7 +30,7 @@ use Rattle.kept.specs.declared.writing.SlotNumbers.TheVariants.{Identities, Rows
 use Rattle.kept.specs.Regions.{record_words}
 use Rattle.kept.proofs.Columning.{columns_are}
 use Rattle.kept.proofs.Recording.{records_turn, records_end}
-use Rattle.kept.proofs.Numbering.{Writing, writing_room, writing_more, codes_suc, cells_suc, if_le}
+use Rattle.kept.proofs.Numbering.{Writing, writing_out, writing_next, writing_room, writing_more, codes_suc, cells_suc, if_le}
 
 -- one piece behind another
 pub placed_then : (d x y : List ℕ) (at o : ℕ) {u v : List ℕ} → at + length x ≤ length d → o ≡ at + length x → u ≡ placed d at x → v ≡ placed u o y → v ≡ placed d at (x ++ y)
@@ -271,16 +271,8 @@ module _ (f : IndexForm) (w : List ℕ) (which i n : ℕ) {d₀ d : List ℕ} {a
       → Writing f.big 4 d₀ v at next (grid_from f w which (i + 1) (n - (i + 1))) all
   grid_more p q = writing_more a (grid_from f w which i 1) (grid_from f w which (i + 1) (n - (i + 1))) (grid_turn f w which i n h) p q
 
--- one record, where it is one of another table or of this one
-pub row_none : (big : Bool) (d : List ℕ) (at : ℕ) (x : List ℕ) → x ≡ [] → (d ≡ placed d at (numbers_of big 4 x)) × (at ≡ at + 4 * length x)
-unfolding numbers_of
-row_none big d at x e = rw e (sym (placed_none d at), omega arith)
-
-pub row_room : (f : IndexForm) (w : List ℕ) (which i at room : ℕ) {x : List ℕ} → grid_from f w which i 1 ≡ x → at + 4 * length (grid_from f w which i 1) ≤ room → at + 4 * length x ≤ room
-row_room f w which i at room e h = rw e at h
-
-pub row_some : (big : Bool) (d v : List ℕ) (at next : ℕ) (x y : List ℕ) → x ≡ y → (v ≡ placed d at (numbers_of big 4 y)) × (next ≡ at + 4 * length y) → (v ≡ placed d at (numbers_of big 4 x)) × (next ≡ at + 4 * length x)
-row_some big d v at next x y e h = rw e h
+-- what the proofs of one row and of all cite
+pub ruleset grid_put = (writing_out, writing_next, grid_end, grid_room)
 
 pub ruleset grid_rows = (grid_other, grid_own, place_few, placed_none)
 
