@@ -276,7 +276,9 @@ pub ruleset grid_put = (writing_out, writing_next, grid_end, grid_room)
 
 pub ruleset grid_rows = (grid_other, grid_own, place_few, placed_none)
 
--- how much room there is for each piece
-module _ (f : IndexForm) (w : List ℕ) (n : ℕ) (slots : List ℕ) (columns at room : ℕ) (fits : at + length (index_in f w n slots) ≤ room) where
-  pub piece_room : at + 16 + 12 * length slots + 4 * length (codes_in f.five f.has) + 4 * length (grid_from f w 0 0 n) + 4 * length (grid_from f w 1 0 n) ≤ room
-  piece_room = omega (arith, (pieces f w n slots columns).all_many)
+pub index_many : (f : IndexForm) (w : List ℕ) (n : ℕ) (slots : List ℕ)
+    → length (index_in f w n slots) ≡ 16 + 12 * length slots + 4 * length (codes_in f.five f.has) + 4 * length (grid_from f w 0 0 n) + 4 * length (grid_from f w 1 0 n)
+index_many f w n slots = (pieces f w n slots 0).all_many
+
+-- what the proof of the whole cites
+pub ruleset index_put = (index_many, index_written)

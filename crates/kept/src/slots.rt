@@ -93,6 +93,7 @@ pub fn seen_slots(words: usize) -> usize
 
 // The same walk in work, for a bundle of so many words; count slots of the table are at hand, and n records.
 // Work and words stay parameters here and in the following: a struct of both would hold lent work, and callers lend other parts of it between two calls.
+#[tactic(auto, unfolding(crate::specs::Slots::slots_in))]
 pub fn seek_in(
     work: &[u32],
     words: usize,

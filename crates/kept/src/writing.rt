@@ -139,7 +139,7 @@ impl IndexForm {
 
     // ---- columns
     // The codes of the columns that are there; the place behind them.
-    #[tactic(auto, using(crate::proofs::Columning::places_many, crate::proofs::Columning::columns_are, crate::proofs::Numbering::codes_put))]
+    #[tactic(auto, using(crate::proofs::Columning::columns_passed, crate::proofs::Numbering::codes_put))]
     fn put_codes(self, out: &mut [u8], at: usize) -> usize
         requires { at + 4 * length (codes_in self.five self.has) ≤ length out.old }
         ensures out { out.new ≡ placed out.old at (numbers_of self.big 4 (codes_in self.five self.has)) }
@@ -208,6 +208,7 @@ impl IndexForm {
     }
 
     // The caller keeps room for it, and has placed the records of the table, among those that are stored.
+    #[tactic(auto, using(crate::proofs::Pieces::index_put))]
     pub fn write_index(self, slots: Slots, out: &mut [u8], at: usize)
         requires { at + length (index_in self slots.records.words.now slots.records.count slots.slots.now) ≤ length out.old }
         ensures { out.new ≡ placed out.old at (index_in self slots.entry.records.words.now slots.entry.records.count slots.entry.slots.now) }

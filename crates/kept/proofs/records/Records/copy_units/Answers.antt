@@ -9,6 +9,3 @@ copy_unit-o-requires c = (c.loop-i-test.true, record { is = λ j h. c.requires.0
 
 pub loop-i-preserved : goal.loop-i-preserved
 loop-i-preserved c = bytes_more _ _ _ _ _ c.loop-i.invariant c.requires.1 c.loop-i-test.true c.copy_unit-o.ensures.out c.copy_unit-o.ensures.next
-
-pub returns : goal.returns
-returns c = copying_end c.loop-i.invariant c.requires.1 (bytes_end _ _ _ _ _ c.loop-i-test.false)

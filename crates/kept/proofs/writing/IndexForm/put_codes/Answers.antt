@@ -9,8 +9,5 @@ use Rattle.kept.proofs.writing.IndexForm.put_codes.Goals as goal
 pub loop-k-init : goal.loop-k-init
 loop-k-init c = writing_start _ _ _ _ (codes_all _ _ _ (ap length c.columns-column-items.ensures ∙ places_many _)) c.requires
 
-pub put_if-o-requires : goal.put_if-o-requires
-put_if-o-requires c = codes_room _ _ _ _ _ c.loop-k.invariant c.loop-k-test.true (rw c.columns-column-items.ensures (place_code _ _))
-
 pub loop-k-preserved : goal.loop-k-preserved
 loop-k-preserved c = codes_more _ _ _ _ _ c.loop-k.invariant c.loop-k-test.true (rw c.columns-column-items.ensures (place_code _ _)) c.put_if-o.ensures.out c.put_if-o.ensures.next
