@@ -230,7 +230,7 @@ module _ (f : IndexForm) (w : List ℕ) (n : ℕ) (slots : List ℕ) (columns : 
         all_many = simp length-append (omega (arith, simp length-append at front));
       }
 
-  pub front_written : (d : List ℕ) (at : ℕ) {a b c : List ℕ} {rows : ℕ} → rows ≡ at + 16 + 8 * length slots → at + 16 + 12 * length slots ≤ length d
+  front_written : (d : List ℕ) (at : ℕ) {a b c : List ℕ} {rows : ℕ} → rows ≡ at + 16 + 8 * length slots → at + 16 + 12 * length slots ≤ length d
       → a ≡ placed d at H → b ≡ placed a (at + 16) (S Identities) → c ≡ placed b rows (S Rows) → c ≡ placed d at (front_in f columns w slots)
   unfolding front_in
   front_written d at {rows = rows} o room p₁ p₂ p₃ =
@@ -261,6 +261,13 @@ module _ (f : IndexForm) (w : List ℕ) (n : ℕ) (slots : List ℕ) (columns : 
       let s₅ = placed_then d (X ++ C) (G 0) at offsets (omega (arith, z.all_many)) (omega arith) s₄ p₅ in
       let s₆ = placed_then d (X ++ C ++ G 0) (G 1) at sizes (omega (arith, z.all_many)) (omega arith) s₅ p₆ in
       s₆ ∙ ap (λ (m : ℕ). placed d at (front_in f m w slots ++ C ++ G 0 ++ G 1)) q
+
+-- head and slots, of however many records
+pub front_put : (f : IndexForm) (w slots : List ℕ) (columns : ℕ) (d : List ℕ) (at : ℕ) {a b c : List ℕ} {rows : ℕ} → rows ≡ at + 16 + 8 * length slots → at + 16 + 12 * length slots ≤ length d
+    → a ≡ placed d at (start_bytes f.big (version_for f.five) ++ numbers_of f.big 4 (columns ∷ f.rows ∷ length slots ∷ []))
+    → b ≡ placed a (at + 16) (numbers_of f.big (slot_width Identities) (map (slot_number Identities w) slots))
+    → c ≡ placed b rows (numbers_of f.big (slot_width Rows) (map (slot_number Rows w) slots)) → c ≡ placed d at (front_in f columns w slots)
+front_put f w slots columns d at = front_written f w 0 slots columns d at
 
 -- ---- turns of the loops
 module _ (f : IndexForm) (w : List ℕ) (which i n : ℕ) {d₀ d : List ℕ} {at o : ℕ} {all : List ℕ} (a : Writing f.big 4 d₀ d at o (grid_from f w which i (n - i)) all) (h : i < n) where

@@ -197,6 +197,7 @@ impl IndexForm {
 
     // ---- the index
     // Head and slots.
+    #[tactic(auto, using(crate::proofs::Pieces::front_put), unfolding(crate::specs::Indexed::slot_width))]
     fn put_front(self, columns: usize, slots: Slots, out: &mut [u8], at: usize)
         requires { at + 16 + 12 * length slots.slots.now ≤ length out.old }
         ensures { out.new ≡ placed out.old at (front_in self columns slots.entry.records.words.now slots.entry.slots.now) }
