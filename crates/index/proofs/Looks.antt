@@ -8,7 +8,7 @@ use native.Mathlib.Nat.{sub-zero}
 use lib.ListN.{length, get_or}
 use Rattle.std.specs.Prelude.{Some, None}
 use Rattle.index.specs.Index.{Index}
-use Rattle.index.specs.Probing.{Probe, found, absent, first_slot, stride, look, search, probe}
+use Rattle.index.specs.Probing.{Probe, first_slot, stride, look, search, probe}
 use Rattle.index.specs.Held.{probed_of}
 use Rattle.index.specs.declared.probing.Probed.{Probed}
 use Rattle.index.proofs.LawLooks.{look_unused, look_found, look_on}

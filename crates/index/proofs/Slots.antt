@@ -3,7 +3,7 @@
 use mathlib.Core.Path.{◌≡◌, refl, sym, ap, ◌∙◌}
 use mathlib.Core.Logic.{◌⊎◌, inl, inr, ⊎_elim}
 use Prim.Native.Nat.{ℕ, zero, suc, ◌+◌, ◌*◌, ◌-◌, ◌/◌, ◌%◌, ◌^◌, min, max, ◌<◌, ◌≤◌}
-use native.Mathlib.Nat.{pow-le-pow_right, one-mul, mul-one, mul_assoc, mul_left_comm, mul-le-mul_right, pow-succ', not-suc-le-zero, le_of_suc-le-suc}
+use native.Mathlib.Nat.{pow-le-pow_right, one-mul, mul-one, mul-le-mul_right, pow-succ', not-suc-le-zero, le_of_suc-le-suc}
 use native.Mathlib.Omega.{arith}
 use native.Mathlib.Decide.{dec_le, dec_lt}
 use lib.Bits.{bit_and}

@@ -147,6 +147,7 @@ pub fn place_units(work: &mut [u32], words: usize, table: usize, n: usize, count
 }
 
 // The record of a unit behind count others, and its number in a free slot of its table. Callers have sought the slot.
+#[tactic(auto, using(crate::proofs::Placing::kept_by), unfolding(crate::specs::Records::unit_of))]
 pub fn keep(
     work: &mut [u32],
     words: usize,

@@ -6,7 +6,7 @@ use native.Mathlib.Omega.{arith}
 use Rattle.index.specs.declared.cells.Contribution.{Contribution}
 use Rattle.kept.specs.Records.{cells_of}
 use Rattle.kept.proofs.Recording.{cells_room}
-use Rattle.kept.proofs.Copying.{copying_start, copying_end, copying_more, cells_one, cells_none, two_words}
+use Rattle.kept.proofs.Copying.{copying_start, copying_more, cells_one, two_words}
 use Rattle.kept.proofs.records.store_cells.Goals as goal
 
 pub loop-k-init : goal.loop-k-init

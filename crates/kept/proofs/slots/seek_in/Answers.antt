@@ -1,7 +1,5 @@
 -- `kept::slots::seek_in` meets its contract.
 -- Assumes nothing.
-use mathlib.Core.Path.{ap₂, ◌∙◌}
-use Rattle.kept.specs.Slots.{sought_in, slots_in}
 use Rattle.kept.proofs.Placing.{slots_power}
 use Rattle.kept.proofs.slots.seek_in.Goals as goal
 

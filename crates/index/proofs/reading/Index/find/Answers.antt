@@ -5,7 +5,7 @@ use native.Mathlib.Omega.{arith}
 use native.Mathlib.Nat.{mod-lt}
 use Rattle.index.specs.Held.{PowerOfTwo}
 use Rattle.index.specs.declared.reading.IndexHead.{IndexHead}
-use Rattle.index.proofs.Looks.{probe_start, search_unused, search_found, search_on, search_end}
+use Rattle.index.proofs.Looks.{probe_start, search_on}
 use Rattle.index.proofs.Heads.{well_facts}
 use Rattle.index.proofs.Masks.{first_slot_lt, stride_le}
 use Rattle.index.proofs.reading.Index.find.Goals as goal

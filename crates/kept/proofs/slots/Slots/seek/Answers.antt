@@ -1,9 +1,7 @@
 -- `kept::slots::Slots::seek` meets its contract: the looks that are left decide the walk.
 -- Assumes nothing.
 use mathlib.Core.Path.{refl}
-use native.Mathlib.Omega.{arith}
-use Rattle.index.proofs.Masks.{stride_le}
-use Rattle.kept.proofs.Seeking.{seek_start, seek_last, seek_free, seek_known, seek_on}
+use Rattle.kept.proofs.Seeking.{seek_start, seek_on}
 use Rattle.kept.proofs.slots.Slots.seek.Goals as goal
 
 pub loop-looks-init : goal.loop-looks-init

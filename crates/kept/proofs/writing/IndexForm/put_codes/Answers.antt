@@ -1,6 +1,6 @@
 -- `kept::writing::put_codes` meets its contract: codes that are left are still to be put.
 -- Assumes nothing.
-use Rattle.kept.proofs.Numbering.{writing_start, codes_all, codes_room, codes_more}
+use Rattle.kept.proofs.Numbering.{writing_start, codes_all, codes_more}
 use mathlib.Core.Path.{ap, ◌∙◌}
 use lib.ListN.{length}
 use Rattle.kept.proofs.Columning.{places_many, place_code}
