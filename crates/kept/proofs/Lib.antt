@@ -16,5 +16,4 @@ pub mod Placing
 pub mod Copying
 pub mod Holding
 pub mod Naming
-pub mod Comparing
 pub mod SeenSlots
