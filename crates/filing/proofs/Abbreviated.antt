@@ -20,7 +20,7 @@ use Rattle.unit.specs.UnitRead as read
 use Rattle.unit.specs.Headers.{head_of, identity_good, identity_is, unit_is}
 use Rattle.unit.specs.declared.header.Identity as code
 use Rattle.unit.specs.declared.header.UnitPlace.{UnitPlace}
-use Rattle.unit.specs.TableTrees.{Remembers, Lent, between, abbreviations_bytes, unit_bytes}
+use Rattle.unit.specs.TableTrees.{Remembers, Lent, span_bytes, abbreviations_bytes, unit_bytes}
 use Rattle.unit.specs.declared.judged.Judged.{Judged}
 use Rattle.unit.proofs.Heads.{head_within, unit_parts, unit_with}
 use Rattle.index.specs.Index.{Index, Contribution, cell_of}
@@ -39,7 +39,7 @@ use Rattle.numbers.specs.Refused.{number_of, told}
 use Rattle.numbers.specs.declared.refusals.Refusal.{Refusal}
 use Rattle.numbers.specs.declared.refusals.Refusal.TheVariants.{NoRow, BadRow}
 use Rattle.filing.proofs.Telling.{tells_pass, tells_refuse, tells_same}
-use Rattle.filing.specs.declared.reading.Abbreviations.{Abbreviations}
+use Rattle.unit.specs.declared.judged.Span.{Span}
 use Rattle.filing.specs.declared.units.HomeSection.{HomeSection}
 use Rattle.filing.specs.declared.units.Reading.{Reading}
 use Rattle.filing.specs.Judged.{section_of, InputIs}
@@ -81,12 +81,12 @@ module _ (i : Index) (row : ℕ) where
     many : length (part b start size) ≡ size
     many = length_part b start size fits
 
-    pub abbrev_empty : size ≡ 0 → AbbreviationsAre b (abbrev_part i row (part b start size)) (Ok (record { first = start; last = start }))
+    pub abbrev_empty : size ≡ 0 → AbbreviationsAre b (abbrev_part i row (part b start size)) (Ok (record { at = start; end = start }))
     unfolding abbrev_part
     abbrev_empty z =
         let e : part b start size ≡ [] = ap (part b start) z ∙ part_none b start in
         let n : start - start ≡ 0 = omega arith in
-        tells_pass _ [] (ap (abbrev_part i row) e) (record { is = ap (λ (k : ℕ). take k (drop start b)) n; order = omega arith; within = omega arith })
+        tells_pass _ [] (ap (abbrev_part i row) e) (record { is = ap (λ (k : ℕ). take k (drop start b)) n; lies = (omega arith, omega arith) })
 
     module _ (some_bytes : size ≡ 0 → ⊥) where
       pub abbrev_missing : None ≡ cell_found (cell_of i row 3) → AbbreviationsAre b (abbrev_part i row (part b start size)) (Err NoRow)
@@ -99,11 +99,11 @@ module _ (i : Index) (row : ℕ) where
         pub abbrev_outside : size < v.offset + v.size → AbbreviationsAre b (abbrev_part i row (part b start size)) (Err BadRow)
         abbrev_outside l = tells_refuse BadRow (part_outside part_named (part b start size) (omega (arith, many)) (cell_some _ v m) (omega (arith, many)))
 
-        pub abbrev_inside : v.offset + v.size ≤ size → AbbreviationsAre b (abbrev_part i row (part b start size)) (Ok (record { first = start + v.offset; last = start + v.offset + v.size }))
+        pub abbrev_inside : v.offset + v.size ≤ size → AbbreviationsAre b (abbrev_part i row (part b start size)) (Ok (record { at = start + v.offset; end = start + v.offset + v.size }))
         abbrev_inside l =
             tells_pass _ (part (part b start size) v.offset v.size)
             (part_inside part_named (part b start size) (omega (arith, many)) (cell_some _ v m) (omega (arith, many)))
-            (record { is = part_cut b (start + v.offset) v.size ∙ sym (part_part b start size v.offset v.size l); order = omega arith; within = omega arith })
+            (record { is = part_cut b (start + v.offset) v.size ∙ sym (part_part b start size v.offset v.size l); lies = (omega arith, omega arith) })
 
 -- ---- the abbreviations of a unit
 module _ (b : List ℕ) (x : InputObject) (i : Input) (is : InputIs b x i) (home at size : ℕ) where
@@ -112,12 +112,12 @@ module _ (b : List ℕ) (x : InputObject) (i : Input) (is : InputIs b x i) (home
 
   -- in the whole section
   pub given_whole : None ≡ found (index_by_place i home)
-      → AbbreviationsAre b (abbreviations_for i home at size) (Ok (record { first = get_or x.start 3 0; last = get_or x.start 3 0 + get_or x.size 3 0 }))
+      → AbbreviationsAre b (abbreviations_for i home at size) (Ok (record { at = get_or x.start 3 0; end = get_or x.start 3 0 + get_or x.size 3 0 }))
   unfolding abbreviations_for section_of
   given_whole e =
       let q : index_by_place i home ≡ none = sym (found_none _ e) in
       tells_pass _ (i.bytes 3) (rw (abbreviations_for, q))
-      (record { is = part_cut b (get_or x.start 3 0) (get_or x.size 3 0) ∙ sym (is.bytes 3 (omega arith)); order = omega arith; within = is.within 3 })
+      (record { is = part_cut b (get_or x.start 3 0) (get_or x.size 3 0) ∙ sym (is.bytes 3 (omega arith)); lies = (omega arith, is.within 3) })
 
   module _ (idx : Index) (e : Some idx ≡ found (index_by_place i home)) where
     by_row : abbreviations_for i home at size ≡ (the_one (naming idx at size) >>= λ k. abbrev_part idx k (i.bytes 3))
@@ -127,7 +127,7 @@ module _ (b : List ℕ) (x : InputObject) (i : Input) (is : InputIs b x i) (home
     pub given_none : (r : Refusal) → refuse (number_of r) ≡ the_one (naming idx at size) → AbbreviationsAre b (abbreviations_for i home at size) (Err r)
     given_none r z = tells_refuse r (by_row ∙ then_refuse _ _ (number_of r) (sym z))
 
-    pub given_part : (row : ℕ) → pass row ≡ the_one (naming idx at size) → (r : Result Abbreviations Refusal) → AbbreviationsAre b (abbrev_part idx row section) r → AbbreviationsAre b (abbreviations_for i home at size) r
+    pub given_part : (row : ℕ) → pass row ≡ the_one (naming idx at size) → (r : Result Span Refusal) → AbbreviationsAre b (abbrev_part idx row section) r → AbbreviationsAre b (abbreviations_for i home at size) r
     unfolding section_of
     given_part row z r k = tells_same (sym (by_row ∙ then_pass _ _ row (sym z) ∙ ap (abbrev_part idx row) (is.bytes 3 (omega arith)))) k
 
@@ -173,7 +173,7 @@ module _ {r : Reading} {at : ℕ} {w : List ℕ} (p : PlaceAsked r at w) where
     pub read_unabbreviated : (n : Refusal) (i : Input) → InputIs b x i → AbbreviationsAre b (abbreviations_for i h.home (at - h.start) size) (Err n) → Refuses i n
     read_unabbreviated n i is k = sym (parts_are i is ∙ then_pass _ _ size e ∙ then_refuse _ _ (number_of n) (k.refuses n refl))
 
-    module _ (a : Abbreviations) (i : Input) (is : InputIs b x i) (k : AbbreviationsAre b (abbreviations_for i h.home (at - h.start) size) (Ok a)) (u : UnitPlace) (eu : u ≡ record { at = at; size = size; first = a.first; last = a.last }) where
+    module _ (a : Span) (i : Input) (is : InputIs b x i) (k : AbbreviationsAre b (abbreviations_for i h.home (at - h.start) size) (Ok a)) (u : UnitPlace) (eu : u ≡ record { at = at; size = size; abbreviations = a }) where
       -- its identity, and the definition's
       abbrev Identified : Result code.Identity Refusal → Type 0
       Identified z = mapped identity_is (told z) ≡ identity_good (encoding_is x.encoding) h.home (abbreviations_bytes b u) (unit_bytes b u)
@@ -183,14 +183,14 @@ module _ {r : Reading} {at : ℕ} {w : List ℕ} (p : PlaceAsked r at w) where
       unfolding part
       read_on =
           let l = k.passes a refl in
-          parts_are i is ∙ then_pass _ _ size e ∙ then_pass _ _ (between b a.first a.last) (l.1 ∙ ap pass (sym l.2.is))
+          parts_are i is ∙ then_pass _ _ size e ∙ then_pass _ _ (span_bytes b a) (l.1 ∙ ap pass (sym l.2.is))
           ∙ rw (eu, take-take size (h.stop - at) (drop at b) size_within.1)
 
       pub read_unidentified : (n : Refusal) → Identified (Err n) → Refuses i n
       unfolding mapped
       read_unidentified n t = sym (read_on ∙ then_refuse _ _ (number_of n) (sym t))
 
-      pub read_whole : (d : code.Identity) → Identified (Ok d) → mapped unit_is (told (Ok (record { size = size; table = d.table; identity = d.identity }))) ≡ checked i
+      pub read_whole : (d : code.Identity) → Identified (Ok d) → mapped unit_is (told (Ok (record { size = size; handed_in = d }))) ≡ checked i
       unfolding mapped
       read_whole d t = sym (read_on ∙ then_pass _ _ (identity_is d) (sym t))
 

@@ -37,7 +37,7 @@ use Rattle.filing.specs.State.{words_in}
 use Rattle.filing.specs.ByPlace.{heads_for, ChainsHeld}
 use Rattle.filing.specs.Asked.{RowsChained, ChainAsked, PlaceAsked}
 use Rattle.filing.proofs.Entering.{five_is}
-use Rattle.kept.proofs.RegionLending.{lent_is, lent_length, lent_left}
+use Rattle.kept.proofs.RegionLending.{lent_length, lent_left}
 
 -- ---- the one row
 one_refuses : (rs : List ℕ) (n : ℕ) → the_one rs ≡ refuse n → n ≡ 15
@@ -124,15 +124,7 @@ module _ {r : Reading} {w : List ℕ} (p : ChainAsked r w) (idx : Index) (e : (i
       (subst (λ (l : List ℕ). Chained idx info_code heads l) (sym (lent_left rows_region rows_within n from many w p.work.room ef em words v same is)) c)
 
 -- ---- a place in them
-module _ {r : Reading} {at : ℕ} {w : List ℕ} (p : PlaceAsked r at w) (c : RowsChained r w) (idx : Index) (e : Some idx ≡ found (index_by_place p.input r.section.home))
-    (from many : ℕ) (ef : from ≡ rows_region.start * words_in r.bundle.now) (em : many ≡ rows_region.words * words_in r.bundle.now) where
-  chained_here : Chained idx info_code (heads_for r.section) (region w (words_in r.bundle.now) rows_region)
-  unfolding ChainsHeld
-  chained_here = subst (ChainsHeld (heads_for r.section) (region w (words_in r.bundle.now) rows_region)) (sym (found_some idx _ e)) (c p.input p.is)
-
-  pub row_asks : ((at - r.section.start) / 4 < heads_for r.section) × Chained idx info_code (heads_for r.section) (take (from + many - from) (drop from w))
-  unfolding heads_for
-  row_asks = (
-    omega (arith, p.from, p.low),
-    subst (λ (l : List ℕ). Chained idx info_code (heads_for r.section) l) (sym (lent_is rows_region rows_within (words_in r.bundle.now) from many w p.work.room ef em)) chained_here,
-  )
+module _ {r : Reading} {at : ℕ} {w : List ℕ} (p : PlaceAsked r at w) (c : RowsChained r w) (idx : Index) (e : Some idx ≡ found (index_by_place p.input r.section.home)) where
+  pub row_asks : ((at - r.section.start) / 4 < heads_for r.section) × Chained idx info_code (heads_for r.section) (region w (words_in r.bundle.now) rows_region)
+  unfolding heads_for ChainsHeld
+  row_asks = (omega (arith, p.from, p.low), subst (ChainsHeld (heads_for r.section) (region w (words_in r.bundle.now) rows_region)) (sym (found_some idx _ e)) (c p.input p.is))

@@ -1,6 +1,6 @@
 -- What is held with one unit more, kept or skipped.
 -- Assumes nothing.
-use mathlib.Core.Path.{◌≡◌, refl, sym, ap, ◌∙◌, subst}
+use mathlib.Core.Path.{◌≡◌, refl, sym, ap, ap₂, ◌∙◌, subst}
 use mathlib.Core.Bool.{Bool, true, false}
 use mathlib.Core.Logic.{⊎_elim}
 use mathlib.Core.List.{List, [], ◌∷◌, ◌++◌}
@@ -92,22 +92,23 @@ module _ {five : Bool} {b : List ℕ} {n place : ℕ} {w : List ℕ} {st : InPro
     few : length xs < length S
     few = omega (arith, few_rows, length_identities (rows_of (kept us) table))
 
-    pub known_is : (number : ℕ) → Ok number ≡ sought_in R S identity → KnownUnit b R (kept us) st.units.count table identity number
-    known_is number e = known_unit h.held table o identity number e
+    -- as code asks, by the table's number and how many slots there are
+    module _ (t m : ℕ) (et : t ≡ table) (em : m ≡ seen_slots n) where
+      pub seek_asks : Seekable n w t st.units.count m
+      seek_asks = rw (et, em) seekable
 
-    pub free_is : (at : ℕ) → Err at ≡ sought_in R S identity → (any (is_under table identity) us ≡ false) × (free_for S identity ≡ at) × (at < seen_slots n)
-    free_is at e =
-        let f = sought_free seen power few (rows_distinct us table) identity at e in
-        (sym (rows_known us table identity) ∙ f.0, f.1, omega (arith, sought_inside R S identity at power e, long))
+      module _ (z : Result ℕ ℕ) (q : z ≡ sought_in R (part w ((slots_region t).start * n) m) identity) where
+        sought : z ≡ sought_in R S identity
+        unfolding slots_in
+        sought = q ∙ ap₂ (λ (j k : ℕ). sought_in R (part w ((slots_region j).start * n) k) identity) et em
 
-    -- as code asks, of so many slots
-    module _ (m : ℕ) (e : m ≡ seen_slots n) where
-      pub seek_asks : Seekable n w table st.units.count m
-      seek_asks = rw e seekable
+        pub known_is : (number : ℕ) → z ≡ Ok number → KnownUnit b R (kept us) st.units.count table identity number
+        known_is number e = known_unit h.held table o identity number (sym e ∙ sought)
 
-      pub sought_is : (z : Result ℕ ℕ) → z ≡ sought_in R (part w ((slots_region table).start * n) m) identity → z ≡ sought_in R S identity
-      unfolding slots_in
-      sought_is z q = q ∙ ap (λ (k : ℕ). sought_in R (part w ((slots_region table).start * n) k) identity) e
+        pub free_is : (at : ℕ) → z ≡ Err at → (any (is_under table identity) us ≡ false) × (free_for S identity ≡ at) × (at < seen_slots n)
+        free_is at e =
+            let f = sought_free seen power few (rows_distinct us table) identity at (sym e ∙ sought) in
+            (sym (rows_known us table identity) ∙ f.0, f.1, omega (arith, sought_inside R S identity at power (sym e ∙ sought), long))
 
   -- ---- skipped, and compared with the kept one
   pub held_skip : (size : ℕ) (u v : Filed) → any (is_under u.table u.identity) us ≡ true → First u.table u.identity (kept us) v → UnitGood u → 20 ≤ size → place + size ≤ length b

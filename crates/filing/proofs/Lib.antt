@@ -15,6 +15,7 @@ pub mod Lending
 pub mod Transients
 pub mod ByPlace
 pub mod Abbreviated
+pub mod Storing
 pub mod Stringing
 pub mod Inputting
 pub mod InputLaws

@@ -47,7 +47,7 @@ module _ (b : List ℕ) (x : InputObject) (i : Input) (is : InputIs b x i) (home
     size = u.size
 
     abbrev read : UnitRead
-    read = record { size = u.size; table = u.table; identity = u.identity }
+    read = unit_is u
 
     passed : unit_by i.encoding home (abbreviations_for i home from) s ≡ pass read
     unfolding mapped
@@ -63,7 +63,7 @@ module _ (b : List ℕ) (x : InputObject) (i : Input) (is : InputIs b x i) (home
     facts : UnitFacts s read
     facts = unit_facts i.encoding home by.abbreviations s read bytes_s by.read
 
-    pub read_at : ReadAt i home from u.size u.table u.identity s
+    pub read_at : ReadAt i home from read.size read.table read.identity s
     read_at = record {
       is = passed;
       tables = facts.tables;

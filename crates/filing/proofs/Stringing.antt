@@ -1,27 +1,26 @@
--- The strings of an object put into their store in work: nothing else changes, and the answers by the definition.
+-- The strings of an object put: the answers by the definition.
 -- Assumes nothing.
 use mathlib.Core.Path.{◌≡◌, ◌∙◌}
 use mathlib.Core.Bool.{Bool, true}
 use mathlib.Core.List.{List, [], append-nil}
-use Prim.Native.Nat.{ℕ, ◌+◌, ◌*◌, ◌-◌, ◌≤◌}
+use Prim.Native.Nat.{ℕ, ◌*◌, ◌≤◌}
+use native.Mathlib.Omega.{arith}
 use lib.Dec.{leb}
-use lib.ListN.{length, take, drop}
-use borrow.Rule.Slice.PartMut.{put_mid}
+use lib.ListN.{length}
 use borrow.Author.Tests.{le-leb}
 use Rattle.octets.specs.Checked.{pass, refuse}
 use Rattle.octets.proofs.Checks.{then_pass, then_refuse}
 use Rattle.bundle.specs.Encoding.{Encoding}
 use Rattle.strings.specs.Strings.{entries_in, entries_of, strings_at}
 use Rattle.strings.specs.Kept.{AddedIs}
-use Rattle.strings.specs.Objects.{table_in}
+use Rattle.strings.specs.Objects.{AllAddable}
+use Rattle.strings.specs.declared.table.StrOffsets.{StrOffsets}
 use Rattle.strings.specs.declared.table.StringTable.{StringTable}
-use Rattle.numbers.specs.Limits.{work_for_word}
 use Rattle.kept.specs.Regions.{strings_region, store_region, region}
 use Rattle.kept.proofs.RegionStores.{store_records, store_slots}
-use Rattle.kept.proofs.Storing.{store_left}
 use Rattle.filing.specs.State.{words_in}
 use Rattle.filing.proofs.Lending.{Beside}
-use Rattle.filing.specs.ByObject.{strings_check, StringsIn, StringsAre}
+use Rattle.filing.specs.ByObject.{strings_check, StringsRoom, StringsIn, StringsAre}
 use Rattle.std.specs.Prelude.{Result, Ok, Err}
 use Rattle.numbers.specs.Refused.{number_of}
 use Rattle.numbers.specs.declared.refusals.Refusal.{Refusal}
@@ -31,24 +30,26 @@ use Rattle.filing.proofs.Telling.{tells_pass, tells_refuse}
 pub store_beside : Beside store_region
 store_beside = record { records = store_records; slots = store_slots }
 
--- ---- the store as it is lent: the strings in its first words
-module _ (n from many words : ℕ) (w : List ℕ) (room : work_for_word * n ≤ length w) (ef : from ≡ store_region.start * n) (em : many ≡ store_region.words * n)
-    (et : words ≡ strings_region.words * n) where
-  abbrev lent : List ℕ
-  lent = take (from + many - from) (drop from w)
+-- ---- the strings put
+pub strings_addable : {b : List ℕ} {o : StrOffsets} {words : ℕ} {t : StringTable} (table memory : List ℕ) → StringsRoom b o words t
+    → length table ≡ strings_region.words * words_in b → length memory ≡ 4 * words_in b → AllAddable b o (length table) (length memory) t
+strings_addable table memory p l m = record {
+  limit = omega (arith, p.limit);
+  offsets_inside = p.offsets_inside;
+  strings_inside = p.strings_inside;
+  enough = omega (arith, p.strings_inside, p.whole, m);
+  room = omega (arith, p.fits, l);
+  small = omega (arith, p.limit, p.whole, l);
+}
 
-  module _ (store v : List ℕ) (same : length store ≡ length lent) (is : v ≡ put_mid from (from + many - from) w store) where
-    region_part : region v n strings_region ≡ table_in words store
-    region_part = store_left n from many words w room ef em et store v same is
+module _ (e : Encoding) (there : Bool) (o s : List ℕ) (yes-there : there ≡ true) (counted : entries_of e o ≡ pass (entries_in e o)) where
+  all_is : strings_check e there o s ≡ strings_at s (entries_in e o)
+  unfolding strings_check
+  all_is = rw (strings_check, yes-there) (then_pass _ _ _ counted)
 
-    module _ (b : List ℕ) (wide : n ≡ words_in b) (e : Encoding) (there : Bool) (o s : List ℕ) (yes-there : there ≡ true) (counted : entries_of e o ≡ pass (entries_in e o)) (ts : List (List ℕ)) (k : StringTable) where
-      all_is : strings_check e there o s ≡ strings_at s (entries_in e o)
-      unfolding strings_check
-      all_is = rw (strings_check, yes-there) (then_pass _ _ _ counted)
-
-      pub strings_put : (r : Result (Unit {0}) Refusal) → AddedIs b (table_in words store) ts (strings_at s (entries_in e o)) k r → StringsAre b v ts k (strings_check e there o s) r
-      strings_put (Ok u) a = tells_pass u a.0 (all_is ∙ a.1) (rw (← wide, region_part) a.2)
-      strings_put (Err q) a = tells_refuse q (all_is ∙ a)
+  pub strings_put : (b v : List ℕ) (ts : List (List ℕ)) (k : StringTable) (r : Result (Unit {0}) Refusal) → AddedIs b (region v (words_in b) strings_region) ts (strings_at s (entries_in e o)) k r → StringsAre b v ts k (strings_check e there o s) r
+  strings_put b v ts k (Ok u) a = tells_pass u a.0 (all_is ∙ a.1) a.2
+  strings_put b v ts k (Err q) a = tells_refuse q (all_is ∙ a)
 
 module _ (b w : List ℕ) (ts : List (List ℕ)) (e : Encoding) (o s : List ℕ) (t : StringTable) where
   pub strings_none : (count : ℕ) → count ≡ 0 → StringsIn b w t ts → StringsAre b w ts t (strings_check e (leb 1 count) o s) (Ok tt)

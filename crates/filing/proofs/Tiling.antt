@@ -7,8 +7,7 @@ use mathlib.Core.Option.{Option, some}
 use Prim.Native.Nat.{ℕ, ◌+◌, ◌*◌, ◌-◌, ◌/◌, ◌^◌, ◌<◌, ◌≤◌}
 use native.Mathlib.Omega.{arith}
 use native.Mathlib.Decide.{dec_lt}
-use lib.ListN.{length, take, drop, get_or}
-use borrow.Rule.Slice.PartMut.{put_mid}
+use lib.ListN.{length, get_or}
 use Rattle.octets.specs.Octets.{part, zeros}
 use Rattle.octets.specs.Checked.{pass, ◌>>=◌}
 use Rattle.octets.proofs.Checks.{then_pass, then_refuse, true_false}
@@ -16,9 +15,8 @@ use Rattle.octets.proofs.Parts.{part_part, length_part}
 use Rattle.octets.proofs.Placed.{length_zeros}
 use Rattle.bundle.specs.Encoding.{Encoding}
 use Rattle.bundle.specs.Encoded.{encoding_is}
-use Rattle.numbers.specs.Limits.{work_for_word}
+use Rattle.numbers.specs.Limits.{bundle_limit}
 use Rattle.strings.specs.Kept.{Inside, bytes_at}
-use Rattle.strings.specs.Objects.{table_in}
 use Rattle.strings.specs.Headed.{Headed, HeadedOf, PiecesAddable, PiecesAdded}
 use Rattle.strings.specs.declared.table.StrOffsets.{StrOffsets}
 use Rattle.strings.specs.declared.table.StringTable.{StringTable}
@@ -29,8 +27,7 @@ use Rattle.places.specs.Marks.{Marks, Clash, Marked, marks_good, TiledBy, good_e
 use Rattle.places.proofs.Marking.{marks_none}
 use Rattle.places.proofs.Walking.{good_tiles, good_pass, bad_refused, clash_refused}
 use Rattle.places.proofs.Parts.{tiles_marked}
-use Rattle.kept.specs.Regions.{strings_region, store_region}
-use Rattle.kept.proofs.Storing.{store_left}
+use Rattle.kept.specs.Regions.{strings_region, region}
 use Rattle.package.specs.Pieces.{used_in, pieces_of}
 use Rattle.std.specs.Prelude.{Some, None}
 use Rattle.filing.specs.declared.input.InputObject.{InputObject}
@@ -179,32 +176,31 @@ module _ (b : List ℕ) (o : StrOffsets) (inside : Inside b o.offsets) (good : �
     pub good_headed : HeadedOf y b before_parts
     good_headed = subst (λ (z : StrOffsets). HeadedOf z b before_parts) (sym ey) (subst (λ (l : List ℕ). Headed e l before_parts) front ending.headed)
 
-    pub good_addable : (words : ℕ) (store : List ℕ) (t : StringTable) → length b < 2 ^ 32 → Inside b o.strings → words + o.strings.size ≤ length store
-        → 7 * (t.entries + o.offsets.size / 4) ≤ words → words < 2 ^ 32 → PiecesAddable b y words (length store - words) t
-    good_addable words store t limit strings memory room small =
-        subst (λ (z : StrOffsets). PiecesAddable b z words (length store - words) t) (sym ey)
+    pub good_addable : (n : ℕ) (t : StringTable) (table memory : List ℕ) → length b ≤ bundle_limit → length b ≡ 4 * n → Inside b o.strings
+        → 7 * (t.entries + o.offsets.size / 4) ≤ strings_region.words * n → length table ≡ strings_region.words * n → length memory ≡ 4 * n → PiecesAddable b y (length table) (length memory) t
+    good_addable n t table memory limit whole strings room l m =
+        subst (λ (z : StrOffsets). PiecesAddable b z (length table) (length memory) t) (sym ey)
         record {
-          limit = limit;
+          limit = omega (arith, limit);
           offsets_inside = omega (arith, good_within, inside);
           strings_inside = strings;
-          enough = omega (arith, memory);
-          room = omega (arith, good_within);
-          small = small;
+          enough = omega (arith, strings, whole, m);
+          room = omega (arith, good_within, room, l);
+          small = omega (arith, limit, whole, l);
         }
 
-    -- the store as it is lent
-    module _ (n from many words : ℕ) (w : List ℕ) (room : work_for_word * n ≤ length w) (ef : from ≡ store_region.start * n) (em : many ≡ store_region.words * n) (et : words ≡ strings_region.words * n)
-        (store v : List ℕ) (same : length store ≡ length (take (from + many - from) (drop from w))) (is : v ≡ put_mid from (from + many - from) w store) (wide : n ≡ words_in b)
-        (ts : List (List ℕ)) (k : StringTable) where
-      own : (r : Result (Unit {0}) Refusal) → PiecesAdded b y (table_in words store) ts before_parts k r → PiecesAdded b (offsets_before o good) (table_in words store) ts before_parts k r
-      own r added = subst (λ (z : StrOffsets). PiecesAdded b z (table_in words store) ts before_parts k r) ey added
+    -- the parts put
+    module _ (v : List ℕ) (ts : List (List ℕ)) (k : StringTable) where
+      abbrev Put : Result (Unit {0}) Refusal → Type 0
+      Put r = PiecesAdded b y (region v (words_in b) strings_region) ts before_parts k r
 
-      pub parts_missing : (r : Refusal) → PiecesAdded b y (table_in words store) ts before_parts k (Err r) → StringsAre b v ts k (pieces_of e str s ps >>= λ q. pass (used_in q)) (Err r)
-      parts_missing r added =
-          let n = judged.missing (number_of r) (own (Err r) added) in
-          tells_refuse r (then_refuse (pieces_of e str s ps) (λ z. pass (used_in z)) (number_of r) n)
+      own : (r : Result (Unit {0}) Refusal) → Put r → PiecesAdded b (offsets_before o good) (region v (words_in b) strings_region) ts before_parts k r
+      own r added = subst (λ (z : StrOffsets). PiecesAdded b z (region v (words_in b) strings_region) ts before_parts k r) ey added
 
-      module _ (added : PiecesAdded b y (table_in words store) ts before_parts k (Ok tt)) where
+      pub parts_missing : (r : Refusal) → Put (Err r) → StringsAre b v ts k (pieces_of e str s ps >>= λ q. pass (used_in q)) (Err r)
+      parts_missing r added = tells_refuse r (then_refuse (pieces_of e str s ps) (λ z. pass (used_in z)) (number_of r) (judged.missing (number_of r) (own (Err r) added)))
+
+      module _ (added : Put (Ok tt)) where
         pub parts_ill : good < o.offsets.size → StringsAre b v ts k (pieces_of e str s ps >>= λ z. pass (used_in z)) (Err BadStrOffsets)
         parts_ill h =
             let a = own (Ok tt) added in
@@ -214,4 +210,4 @@ module _ (b : List ℕ) (o : StrOffsets) (inside : Inside b o.offsets) (good : �
         parts_put h =
             let a = own (Ok tt) added in
             let j = judged.all a.0 a.1 (all_good h) in
-            tells_pass tt (used_in j.0) (then_pass (pieces_of e str s ps) (λ z. pass (used_in z)) j.0 j.1) (rw (← wide, store_left n from many words w room ef em et store v same is, j.2) a.2)
+            tells_pass tt (used_in j.0) (then_pass (pieces_of e str s ps) (λ z. pass (used_in z)) j.0 j.1) (rw j.2 a.2)

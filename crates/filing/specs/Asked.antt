@@ -3,6 +3,7 @@
 use Rattle.std.specs.Prelude.{◌≡◌, Bool, List, [], ◌∷◌, ◌++◌, ℕ, suc, ◌+◌, ◌-◌, ◌<◌, ◌≤◌, length, take, drop, Result}
 use Rattle.octets.specs.Checked.{mapped}
 use Rattle.numbers.specs.Refused.{told}
+use Rattle.numbers.specs.Tabled.{table_number}
 use Rattle.numbers.specs.declared.refusals.Refusal.{Refusal}
 use Rattle.octets.specs.Octets.{part}
 use Rattle.bundle.specs.Bundle.{items}
@@ -26,7 +27,7 @@ use Rattle.kept.specs.declared.state.InProgress.{InProgress}
 use Rattle.filing.specs.declared.input.InputObject.{InputObject}
 use Rattle.filing.specs.declared.units.Reading.{Reading}
 use Rattle.filing.specs.Judged.{InputIs}
-use Rattle.filing.specs.declared.reading.Abbreviations.{Abbreviations}
+use Rattle.unit.specs.declared.judged.Span.{Span}
 use Rattle.filing.specs.State.{words_in, Remembered}
 use Rattle.kept.specs.Regions.{rows_region, region}
 use Rattle.filing.specs.Answers.{AtUnit, UnitIs, UnitsAre}
@@ -63,13 +64,13 @@ pub record ReadAsked (r : Reading) (at : ℕ) (u : UnitRead) (st : InProgress) (
   pub fits : at + u.size ≤ length r.bundle.now
   pub ready : Ready r.bundle.now r.object.now at w st
   pub bytes : List ℕ
-  pub read : ReadAt ready.input r.section.home (at - r.section.start) u.size u.table u.identity bytes
+  pub read : ReadAt ready.input r.section.home (at - r.section.start) u.size (table_number u.handed_in.table) u.handed_in.identity bytes
   pub same : take u.size bytes ≡ part r.bundle.now at u.size
 
 abbrev pub ReadFiled : Reading → ℕ → UnitRead → InProgress → InProgress → List ℕ → List ℕ → Result ℕ Refusal → Type 0
 ReadFiled r at u st next w v z =
     (i : Input) (bases : BySection ℕ) (earlier here : List Filed) (s : List ℕ) → AtUnit r.bundle.now r.object.now i at w st bases earlier here
-    → ReadAt i r.section.home (at - r.section.start) u.size u.table u.identity s → take u.size s ≡ part r.bundle.now at u.size
+    → ReadAt i r.section.home (at - r.section.start) u.size (table_number u.handed_in.table) u.handed_in.identity s → take u.size s ≡ part r.bundle.now at u.size
     → UnitIs r.bundle.now r.object.now i at w v st next bases earlier here (unit_at i bases earlier here r.section.home (at - r.section.start) s) z
 
 -- ---- the unit at a place is read
@@ -95,7 +96,7 @@ pub record PlaceAsked (r : Reading) (at : ℕ) (w : List ℕ) : Type 0 where
   pub is : InputIs r.bundle.now r.object.now input
   pub work : WorkFor r.bundle.now w
 
-abbrev pub AbbreviationsGiven : Reading → ℕ → ℕ → Result Abbreviations Refusal → Type 0
+abbrev pub AbbreviationsGiven : Reading → ℕ → ℕ → Result Span Refusal → Type 0
 AbbreviationsGiven r at size z =
     (i : Input) → InputIs r.bundle.now r.object.now i → AbbreviationsAre r.bundle.now (abbreviations_for i r.section.home (at - r.section.start) size) z
 

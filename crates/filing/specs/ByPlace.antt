@@ -5,11 +5,11 @@ use Rattle.numbers.specs.declared.refusals.Refusal.{Refusal}
 use Rattle.octets.specs.Checked.{Check}
 use Rattle.numbers.specs.Limits.{bundle_limit, work_for_word}
 use Rattle.numbers.specs.Sections.{info_code}
-use Rattle.unit.specs.TableTrees.{between}
+use Rattle.unit.specs.TableTrees.{span_bytes, Lies}
+use Rattle.unit.specs.declared.judged.Span.{Span}
 use Rattle.std.proofs.Math.Option.{Option, some, none}
 use Rattle.index.specs.Index.{Index}
 use Rattle.places.specs.Chains.{Chained}
-use Rattle.filing.specs.declared.reading.Abbreviations.{Abbreviations}
 use Rattle.filing.specs.declared.units.HomeSection.{HomeSection}
 use Rattle.filing.specs.State.{words_in}
 use Rattle.filing.specs.Tells.{Tells}
@@ -32,10 +32,9 @@ ChainsHeld heads w none = Unit {0}
 
 -- ---- abbreviations
 -- where they lie
-pub record LieAt (b : List ℕ) (a : Abbreviations) (l : List ℕ) : Type 0 where
-  pub is : between b a.first a.last ≡ l
-  pub order : a.first ≤ a.last
-  pub within : a.last ≤ length b
+pub record LieAt (b : List ℕ) (p : Span) (l : List ℕ) : Type 0 where
+  pub is : span_bytes b p ≡ l
+  pub lies : Lies b p
 
-abbrev pub AbbreviationsAre : List ℕ → Check (List ℕ) → Result Abbreviations Refusal → Type 0
+abbrev pub AbbreviationsAre : List ℕ → Check (List ℕ) → Result Span Refusal → Type 0
 AbbreviationsAre b c r = Tells (LieAt b) c r

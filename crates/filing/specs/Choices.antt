@@ -2,6 +2,7 @@
 -- Assumes nothing.
 use Rattle.std.specs.Prelude.{◌≡◌, Bool, false, List, ℕ, ◌+◌, ◌-◌, ◌^◌, ◌<◌, ◌≤◌, length, Result, Ok, Err}
 use Rattle.numbers.specs.Tables.{compilation_table}
+use Rattle.numbers.specs.Tabled.{table_number}
 use Rattle.numbers.specs.declared.refusals.Refusal.{Refusal}
 use Rattle.numbers.specs.declared.refusals.Refusal.TheVariants.{IdentitySeen}
 use Rattle.octets.specs.Octets.{part}
@@ -51,7 +52,8 @@ pub record KnownIs (b : List ℕ) (number at table size : ℕ) (st next : InProg
 -- what is stored of a unit that was read at a place
 abbrev pub unit_for : Units → ℕ → ℕ → UnitRead → UnitHead
 unit_for us home at u =
-    record { table = u.table; row = (pick u.table us.cu us.tu).rows + 1; identity = u.identity; home = home; start = at; size = u.size }
+    let table = table_number u.handed_in.table in
+    record { table = table; row = (pick table us.cu us.tu).rows + 1; identity = u.handed_in.identity; home = home; start = at; size = u.size }
 
 -- u is stored of y, which contributes k; no unit of its table and identity is filed, and a slot is free for it
 pub record NewUnit (b : List ℕ) (n slot : ℕ) (u : UnitHead) (k : Contributions) (st : InProgress) (w : List ℕ) (bases : BySection ℕ) (us : List Filed) (y : Filed) : Type 0 where

@@ -14,6 +14,7 @@ use Rattle.index.specs.declared.judging.OwnUnit.{OwnUnit}
 use Rattle.package.specs.Input.{Input}
 use Rattle.package.specs.Filing.{contributions_of}
 use Rattle.filing.specs.declared.input.InputObject.{InputObject}
+use Rattle.unit.specs.Headers.{unit_is}
 use Rattle.unit.specs.declared.header.UnitRead.{UnitRead}
 use Rattle.filing.specs.Tells.{Tells}
 use Rattle.filing.specs.Judged.{InputIs}
@@ -37,4 +38,4 @@ GivenBy packed o m u r = GivenIs (contributions_by packed o m.width (by_code m.l
 -- of a unit that was read, for any object
 abbrev pub ContributionsGiven : List ℕ → InputObject → ℕ → ℕ → UnitRead → Result Contributions Refusal → Type 0
 ContributionsGiven b x home at u r =
-    (i : Input) → InputIs b x i → GivenIs (contributions_of i home at (record { size = u.size; table = u.table; identity = u.identity })) r
+    (i : Input) → InputIs b x i → GivenIs (contributions_of i home at (unit_is u)) r

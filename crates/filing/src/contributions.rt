@@ -1,6 +1,7 @@
 // 15 and 16: what a unit that is kept contributes of its object's shared sections.
 ghost use Rattle.std.specs.Prelude.{◌≡◌, ◌<◌, IfSome};
 ghost use Rattle.octets.specs.Options.{found};
+ghost use Rattle.numbers.specs.Tabled.{table_number};
 ghost use Rattle.std.proofs.Math.Option.{Option};
 ghost use Rattle.index.specs.Index.{Index};
 ghost use Rattle.package.specs.Input.{Input};
@@ -15,7 +16,7 @@ use index::judging::{Contributions, Measures, OwnUnit};
 use index::reading::Index;
 use numbers::refusals::Refusal;
 use numbers::sections::{CODES, CU_INDEX, TU_INDEX};
-use numbers::tables::COMPILATION;
+use numbers::tables::Table;
 use unit::header::UnitRead;
 
 // Without an index for the unit's table: its object's sections as a whole, but 15 in a package.
@@ -48,16 +49,15 @@ fn indexed_contributions(
 
 impl InputObject {
     // The index of a table, where the object has it.
-    fn index_for<'a>(&self, b: &'a [u8], table: u32) -> Option<Index<'a>>
+    fn index_for<'a>(&self, b: &'a [u8], table: Table) -> Option<Index<'a>>
         requires { (i : Input) × InputIs b.now self.now i }
-        ensures is { (i : Input) → InputIs b.now self.now i → result ≡ found (index_for i table) }
+        ensures is { (i : Input) → InputIs b.now self.now i → result ≡ found (index_for i (table_number table)) }
         ensures well { IfSome result Well }
     {
         let big = self.encoding.big;
-        if table == COMPILATION {
-            held(big, self.section(b, CU_INDEX), self.cu)
-        } else {
-            held(big, self.section(b, TU_INDEX), self.tu)
+        match table {
+            Table::Compilation => held(big, self.section(b, CU_INDEX), self.cu),
+            Table::Type => held(big, self.section(b, TU_INDEX), self.tu),
         }
     }
 
@@ -77,11 +77,11 @@ impl InputObject {
             lengths: self.size,
         };
         let u = OwnUnit {
-            identity: read.identity,
+            identity: read.handed_in.identity,
             home,
             at,
             size: read.size,
         };
-        indexed_contributions(self.index_for(b, read.table), self.is_package(), m, u)
+        indexed_contributions(self.index_for(b, read.handed_in.table), self.is_package(), m, u)
     }
 }

@@ -38,11 +38,12 @@ pub fn add_object_strings(
     }
     o.section(b).check_entries()?;
     let n = b.len() / 4;
-    let table = kept::regions::STRINGS.of(n);
     let store = kept::regions::STORE.of(n);
-    let from = store.start;
-    let to = from + store.size;
-    t.add_strings(o, b, &mut work[from..to], table.size)
+    let strings = kept::regions::STRINGS.of(n);
+    let (_, behind) = work.split_at_mut(store.start);
+    let (lent, _) = behind.split_at_mut(store.size);
+    let (table, memory) = lent.split_at_mut(strings.size);
+    t.add_strings(o, b, table, memory)
 }
 
 // 10, of both indexes, and the object with them: that of the type units is judged where that of the compilation units passed.

@@ -90,12 +90,12 @@ pub fn add_parts(
     ensures frame { OnlyStore (words_in b.now) work.old work.new }
 {
     let n = b.len() / 4;
-    let table = kept::regions::STRINGS.of(n);
     let store = kept::regions::STORE.of(n);
-    let from = store.start;
-    let to = from + store.size;
-    let before = offsets_before(o, good);
-    t.add_pieces(before, b, &mut work[from..to], table.size)?;
+    let strings = kept::regions::STRINGS.of(n);
+    let (_, behind) = work.split_at_mut(store.start);
+    let (lent, _) = behind.split_at_mut(store.size);
+    let (table, memory) = lent.split_at_mut(strings.size);
+    t.add_pieces(offsets_before(o, good), b, table, memory)?;
     if good < o.offsets.size {
         return Err(Refusal::BadStrOffsets);
     }

@@ -23,45 +23,34 @@ ghost use Rattle.filing.specs.Asked.{
 
 use crate::input::held;
 use crate::units::Reading;
+use index::cells::Row;
 use index::reading::Index;
 use numbers::refusals::Refusal;
 use numbers::sections::{ABBREV, CU_INDEX, INFO};
 use unit::header::{Identity, UnitPlace, UnitRead};
-use unit::judged::Judged;
-
-// The bytes of the bundle in which a unit's abbreviation table is read: where they lie.
-#[derive(Clone, Copy)]
-pub struct Abbreviations {
-    pub first: usize,
-    pub last: usize,
-}
+use unit::judged::{Judged, Span};
 
 // The abbrev part of a row, of the object's abbrev that lies at start.
-fn abbrev_part(
-    index: &Index,
-    row: usize,
-    start: usize,
-    size: usize,
-) -> Result<Abbreviations, Refusal>
-    requires { (0 < row) × (row ≤ index.now.units) × (start + size < 2 ^ 32) }
-    ensures { (b : List ℕ) → start + size ≤ length b → AbbreviationsAre b (abbrev_part index.now row (part b start size)) result }
+fn abbrev_part(row: Row, start: usize, size: usize) -> Result<Span, Refusal>
+    requires { start + size < 2 ^ 32 }
+    ensures { (b : List ℕ) → start + size ≤ length b → AbbreviationsAre b (abbrev_part row.entry.index.now row.entry.number (part b start size)) result }
 {
     if size == 0 {
-        return Ok(Abbreviations {
-            first: start,
-            last: start,
+        return Ok(Span {
+            at: start,
+            end: start,
         });
     }
-    let Some(cell) = index.cell_of(row, ABBREV) else {
+    let Some(cell) = row.cell(ABBREV) else {
         return Err(Refusal::NoRow);
     };
     if cell.offset > size || cell.size > size - cell.offset {
         return Err(Refusal::BadRow);
     }
-    let first = start + cell.offset;
-    Ok(Abbreviations {
-        first,
-        last: first + cell.size,
+    let at = start + cell.offset;
+    Ok(Span {
+        at,
+        end: at + cell.size,
     })
 }
 
@@ -95,25 +84,27 @@ impl<'a> Reading<'a> {
     }
 
     // The abbreviations of the unit of so many bytes at a place: a row's part, where its units are read by their place, else the object's whole abbrev.
-    fn abbreviations(&self, at: usize, size: usize, work: &[u32]) -> Result<Abbreviations, Refusal>
+    fn abbreviations(&self, at: usize, size: usize, work: &[u32]) -> Result<Span, Refusal>
         requires { PlaceAsked self.now at work.now × RowsChained self.now work.now }
         ensures { AbbreviationsGiven self.now at size result }
     {
         let start = self.object.start[ABBREV];
         let many = self.object.size[ABBREV];
         let Some(index) = self.index_by_place() else {
-            return Ok(Abbreviations {
-                first: start,
-                last: start + many,
+            return Ok(Span {
+                at: start,
+                end: start + many,
             });
         };
         let heads = self.section.heads();
-        let region = kept::regions::ROWS_BY_PLACE.of(self.bundle.len() / 4);
-        let from = region.start;
-        let to = from + region.size;
+        let chains = kept::regions::ROWS_BY_PLACE.part(work, self.bundle.len() / 4);
         let place = at - self.section.start;
-        let row = places::by_place::row_at(&index, heads, &work[from..to], place, size)?;
-        abbrev_part(&index, row, start, many)
+        let number = places::by_place::row_at(&index, heads, chains, place, size)?;
+        let row = Row {
+            index: &index,
+            number,
+        };
+        abbrev_part(row, start, many)
     }
 
     // The identity of a unit whose head was read, and its table. The tables that were judged are remembered in the region of codes.
@@ -150,18 +141,13 @@ impl<'a> Reading<'a> {
     {
         let e = self.object.encoding;
         let size = unit::header::unit_head(e, &self.bundle[at..self.section.stop])?;
-        let theirs = self.abbreviations(at, size, work)?;
+        let abbreviations = self.abbreviations(at, size, work)?;
         let place = UnitPlace {
             at,
             size,
-            first: theirs.first,
-            last: theirs.last,
+            abbreviations,
         };
-        let read = self.identity(place, judged, work)?;
-        Ok(UnitRead {
-            size,
-            table: read.table,
-            identity: read.identity,
-        })
+        let handed_in = self.identity(place, judged, work)?;
+        Ok(UnitRead { size, handed_in })
     }
 }

@@ -1,5 +1,6 @@
 // One unit read and filed: 11 to 16.
 ghost use Rattle.std.specs.Prelude.{◌≡◌, ◌<◌, ◌^◌};
+ghost use Rattle.numbers.specs.Tabled.{table_number};
 ghost use Rattle.kept.specs.Held.{pick};
 ghost use Rattle.filing.specs.State.{words_in, TransientStay};
 ghost use Rattle.filing.specs.Choices.{KnownAsked, KnownIs, unit_for};
@@ -16,7 +17,7 @@ use kept::Units;
 use kept::records::Unit;
 use kept::state::InProgress;
 use numbers::refusals::Refusal;
-use numbers::tables::COMPILATION;
+use numbers::tables::Table;
 use unit::header::UnitRead;
 use unit::judged::Judged;
 
@@ -30,9 +31,9 @@ fn file_known(
     work: &[u32],
 ) -> Result<usize, Refusal>
     requires { KnownAsked b.now number at read.size st.old work.now }
-    ensures { KnownIs b.now number at read.table read.size st.old st.new work.now result }
+    ensures { KnownIs b.now number at (table_number read.handed_in.table) read.size st.old st.new work.now result }
 {
-    if read.table == COMPILATION {
+    if read.handed_in.table == Table::Compilation {
         return Err(Refusal::IdentitySeen);
     }
     let agrees = kept::unit_bytes::same_as_kept(b, work, number, at, read.size);
@@ -42,14 +43,14 @@ fn file_known(
 
 // What is stored of a unit that was read at a place of the bundle. Callers have few rows.
 fn unit_for(units: Units, home: usize, at: usize, read: UnitRead) -> Unit
-    requires { (pick read.table units.cu units.tu).rows < 2 ^ 32 }
+    requires { (pick (table_number read.handed_in.table) units.cu units.tu).rows < 2 ^ 32 }
     ensures { result ≡ unit_for units home at read }
 {
-    let table = read.table as usize;
+    let table = read.handed_in.table.number() as usize;
     Unit {
         table,
         row: units.table_of(table).rows + 1,
-        identity: read.identity,
+        identity: read.handed_in.identity,
         home,
         start: at,
         size: read.size,
@@ -73,10 +74,11 @@ impl<'a> Reading<'a> {
         let x = self.object;
         let home = self.section.home;
         let n = b.len() / 4;
-        let table = read.table as usize;
+        let table = read.handed_in.table.number() as usize;
+        let identity = read.handed_in.identity;
         let count = st.units.count;
         let slots = kept::slots::seen_slots(n);
-        let slot = match kept::slots::seek_in(work, n, table, count, slots, read.identity) {
+        let slot = match kept::slots::seek_in(work, n, table, count, slots, identity) {
             Ok(number) => return file_known(b, number, at, read, st, work),
             Err(slot) => slot,
         };

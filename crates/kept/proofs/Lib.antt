@@ -9,7 +9,6 @@ pub mod Moved
 pub mod Numbering
 pub mod Seeking
 pub mod Seen
-pub mod Storing
 pub mod Pieces
 pub mod Indexing
 pub mod Placing
