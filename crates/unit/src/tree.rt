@@ -54,7 +54,7 @@ impl<'a> CodeTree<'a> {
 
     // Where the walk of a code ends, answered as a search of a sorted slice is: its node; or else the word of the empty link that its node would hang from.
     // A loop, since it follows links and has no index.
-    #[tactic(auto, using(crate::proofs::Trees::walking_at, crate::proofs::Trees::walking_on, crate::proofs::Trees::walking_free))]
+    #[tactic(auto, using(crate::proofs::Trees::walking_free))]
     pub fn walk(self, code: u64) -> Result<usize, usize>
         requires { 0 < self.count }
         ensures { Ends self.entry.words.now self.entry.count code result }
