@@ -12,12 +12,14 @@ use Rattle.octets.specs.Checked.{Check, pass, refuse, ◌>>=◌}
 use Rattle.octets.proofs.Checks.{then_pass, then_refuse, bind_pass, pass_inj}
 use Rattle.octets.proofs.Parts.{part_add, part_is, part_none, length_part}
 use Rattle.bundle.specs.Encoding.{Encoding}
+use Rattle.bundle.specs.Encoded.{encoding_is}
 use Rattle.bundle.specs.InitialLength.{length_field, length_stated}
 use Rattle.strings.specs.Strings.{header_size, entries_in, entries_of, strings_at}
 use Rattle.strings.specs.Kept.{bytes_at, Kept}
 use Rattle.strings.specs.Remembered.{Putting}
-use Rattle.strings.specs.Headed.{piece_size, Headed, strings_of_all}
+use Rattle.strings.specs.Headed.{piece_size, Headed, HeadedOf, strings_of_all}
 use Rattle.strings.specs.declared.table.Place.{Place}
+use Rattle.strings.specs.declared.table.StrOffsets.{StrOffsets}
 use Rattle.strings.specs.declared.table.StringTable.{StringTable}
 use Rattle.strings.proofs.Headers.{is_five_law, not_five}
 use Rattle.strings.proofs.StrOffsets.{Sound, entries_whole, header_within, entries_few}
@@ -154,19 +156,14 @@ pub record PiecesPut (b : List ℕ) (e : Encoding) (strings : Place) (region mem
   pub are : strings_of_all e (bytes_at b strings) done ≡ pass used
   pub putting : Putting b strings region memo t (ts ++ used)
 
--- a section as the walk over it begins
-pub headed_cut : (e : Encoding) (b : List ℕ) (offsets : Place) (ps : List (List ℕ)) → Headed e (bytes_at b offsets) ps
-    → Headed e (part b offsets.start (offsets.start + offsets.size - offsets.start)) ps
-unfolding bytes_at
-headed_cut e b offsets ps h =
-    let z : offsets.size ≡ offsets.start + offsets.size - offsets.start = omega arith in
-    subst (λ (n : ℕ). Headed e (part b offsets.start n) ps) z h
-
-pub pieces_none : (b : List ℕ) (e : Encoding) (strings : Place) (region memo : List ℕ) (t : StringTable) (ts ps : List (List ℕ)) (at end : ℕ)
-    → Putting b strings region memo t ts → Headed e (part b at (end - at)) ps → PiecesPut b e strings region memo t ts ps at end
-unfolding strings_of_all
-pieces_none b e strings region memo t ts ps at end p h =
-    record { done = []; ahead = ps; all = refl; headed = h; used = []; are = refl; putting = rw (append-nil ts) p }
+-- as the walk over a section begins
+pub pieces_none : (b : List ℕ) (o : StrOffsets) (region memo : List ℕ) (t : StringTable) (ts ps : List (List ℕ)) → Putting b o.strings region memo t ts → HeadedOf o b ps
+    → PiecesPut b (encoding_is o.encoding) o.strings region memo t ts ps o.offsets.start (o.offsets.start + o.offsets.size)
+unfolding strings_of_all bytes_at
+pieces_none b o region memo t ts ps p h =
+    let z : o.offsets.size ≡ o.offsets.start + o.offsets.size - o.offsets.start = omega arith in
+    let headed = subst (λ (n : ℕ). Headed (encoding_is o.encoding) (part b o.offsets.start n) ps) z h in
+    record { done = []; ahead = ps; all = refl; headed = headed; used = []; are = refl; putting = rw (append-nil ts) p }
 
 module _ (b : List ℕ) (e : Encoding) (ok : Sound e) (strings : Place) (region memo : List ℕ) (t : StringTable) (ts ps : List (List ℕ)) (at end : ℕ) (inside : end ≤ length b)
     (p : PiecesPut b e strings region memo t ts ps at end) where
