@@ -85,11 +85,7 @@ up_to_is n (b ∷ s) t e =
 -- a refusal has the number that was handed in
 pub up_to_refused : (n m : ℕ) (s : List ℕ) → up_to_zero n s ≡ refuse m → n ≡ m
 up_to_refused n m [] e = refuse_inj (sym (up_to_none n) ∙ e)
-up_to_refused n m (b ∷ s) e =
-    ⊎_elim (λ p. absurd (pass_refuse [] m (sym (up_to_zero_law n b s (eqb-true b 0 p)) ∙ e)))
-    (λ p.
-    ⊎_elim (λ r. up_to_refused n m s r) (λ r. absurd (pass_refuse (b ∷ r.0) m r.2))
-    (bind_refuse (up_to_zero n s) (λ u. pass (b ∷ u)) m (sym (up_to_more n b s (eqb-false b 0 p)) ∙ e))) (known (eqb b 0))
+up_to_refused n m (b ∷ s) e = grind (arith, up_to_zero_law, up_to_more, bind_refuse, eqb-true, eqb-false, up_to_refused n m s)
 
 -- ---- at an offset
 pub record StringIs (s : List ℕ) (offset : ℕ) (t : List ℕ) : Type 0 where

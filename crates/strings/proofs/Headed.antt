@@ -103,9 +103,7 @@ module _ (e : Encoding) (ok : Sound e) (b : List ℕ) (at end : ℕ) (inside : e
       walk_own = sym (take_at (part b at size) rest size own_long) ∙ ap (take size) split ∙ take_at walk_front.piece walk_front.rest size (sym size_is)
 
       pub walk_on : Headed e rest walk_front.others
-      walk_on =
-          let same : rest ≡ walk_front.rest = sym (drop_at (part b at size) rest size own_long) ∙ ap (drop size) split ∙ drop_at walk_front.piece walk_front.rest size (sym size_is) in
-          rw same walk_front.on
+      walk_on = rw (sym (drop_at (part b at size) rest size own_long) ∙ ap (drop size) split ∙ drop_at walk_front.piece walk_front.rest size (sym size_is)) walk_front.on
 
   pub walk_end : end ≤ at → ps ≡ []
   walk_end g = grind (arith, headed_end, part_none)

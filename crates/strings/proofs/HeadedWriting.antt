@@ -148,9 +148,7 @@ named e str p ps used q =
 pub entries_all_used : (e : Encoding) (str : List ℕ) (ps used : List (List ℕ)) → strings_of_all e str ps ≡ pass used → entries_all e ps ≡ length used
 unfolding entries_all strings_of_all
 entries_all_used e str [] used q = ap length (pass_inj q)
-entries_all_used e str (p ∷ ps) used q =
-    let k = named e str p ps used q in
-    ap₂ (λ (m n : ℕ). m + n) k.count (entries_all_used e str ps k.vs k.others) ∙ sym (length-append k.us k.vs) ∙ ap length k.are
+entries_all_used e str (p ∷ ps) used q = let k = named e str p ps used q in grind (arith, k.count, k.are, length-append, entries_all_used e str ps k.vs k.others)
 
 pub pieces_with_used : (e : Encoding) (table : List (List ℕ)) (str : List ℕ) (ps used : List (List ℕ)) (rest : List ℕ) → strings_of_all e str ps ≡ pass used
     → pieces_with e ps (map (offset_in table) used ++ rest) ≡ remapped_pieces e table str ps
