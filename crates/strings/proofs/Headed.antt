@@ -135,9 +135,7 @@ module _ (e : Encoding) (str : List ℕ) where
   all_more : (done : List (List ℕ)) (p : List ℕ) (used us : List (List ℕ)) → strings_of_all e str done ≡ pass used → strings_at str (entries_in e p) ≡ pass us
       → strings_of_all e str (done ++ (p ∷ [])) ≡ pass (used ++ us)
   unfolding strings_of_all ◌>>=◌
-  all_more done p used us d q =
-      all_behind done (p ∷ []) used d
-      ∙ then_pass (strings_of_all e str (p ∷ [])) _ us (then_pass (strings_at str (entries_in e p)) _ us q ∙ ap pass (append-nil us))
+  all_more done p used us d q = grind (arith, all_behind done (p ∷ []) used d, then_pass, append-nil)
 
   all_refused : (done : List (List ℕ)) (p : List ℕ) (ps used : List (List ℕ)) (n : ℕ) → strings_of_all e str done ≡ pass used → strings_at str (entries_in e p) ≡ refuse n
       → strings_of_all e str (done ++ (p ∷ ps)) ≡ refuse n

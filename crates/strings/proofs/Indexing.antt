@@ -32,13 +32,7 @@ Stands room n j = (6 * room ≤ j) ⊎ LinkAt room n j
 
 -- free roots are the index of no strings
 pub indexed_none : (room : ℕ) (region : List ℕ) → ((j : ℕ) → 6 * room ≤ j → get_or region j 0 ≡ 0) → Indexed room region 0 []
-indexed_none room region z =
-    record {
-      reached = λ i h. absurd (omega arith);
-      roots = λ j h. omega (arith, z j h);
-      among = λ i on h g. absurd (omega arith);
-      later = λ i on h g. absurd (omega arith);
-    }
+indexed_none room region z = grind (arith, z)
 
 module _ (room : ℕ) (w : List ℕ) (n : ℕ) (table : List (List ℕ)) (k : Indexed room w n table) where
   -- a word of the index holds the number of a row
@@ -71,12 +65,7 @@ module _ (room : ℕ) (w : List ℕ) (n : ℕ) (table : List (List ℕ)) (k : In
     pub rises : (m : ℕ) → Led m → (get_or w (comes_to room w s m) 0 ≡ 0 → ⊥) → m < get_or w (comes_to room w s m) 0
     unfolding comes_to link_of
     rises zero u z = omega arith
-    rises (suc m) u z =
-        let c = comes_to room w s m in
-        let used = u m (omega arith) in
-        let le = number_among c (stands m (λ j h. u j (omega arith))) in
-        let low : m < get_or w c 0 = rises m (λ j h. u j (omega arith)) used in
-        omega (arith, k.later (get_or w c 0 - 1) (side s m) (omega arith) (side_lt s m) z)
+    rises (suc m) u z = grind (arith, number_among, stands, k.later, side_lt, rises m (λ j h. u j (omega arith)), u m)
 
     -- over words that say the same wherever they lead on
     module _ (x : List ℕ) (agree : (j : ℕ) → Stands room n j → (get_or w j 0 ≡ 0 → ⊥) → get_or x j 0 ≡ get_or w j 0) where
