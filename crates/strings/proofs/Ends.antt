@@ -146,9 +146,7 @@ length_strings_at str (o ∷ os) all e = let k = strings_at_split str o os all e
 pub strings_at_at : (str os : List ℕ) (all : List (List ℕ)) (i : ℕ) → strings_at str os ≡ pass all → i < length os → string_at 9 str (get_or os i 0) ≡ pass (get_or all i [])
 strings_at_at str [] all i e h = absurd (not-suc-le-zero h)
 strings_at_at str (o ∷ os) all zero e h = let k = strings_at_split str o os all e in rw (← k.whole) k.first_is
-strings_at_at str (o ∷ os) all (suc i) e h =
-    let k = strings_at_split str o os all e in
-    rw (← k.whole) (strings_at_at str os k.others i k.others_are (le_of_suc-le-suc h))
+strings_at_at str (o ∷ os) all (suc i) e h = let k = strings_at_split str o os all e in grind (arith, k.whole, strings_at_at str os k.others i k.others_are (le_of_suc-le-suc h))
 
 -- the only refusal is 9, and one entry without a string gives it
 pub strings_at_refused : (str os : List ℕ) (n : ℕ) → strings_at str os ≡ refuse n → n ≡ 9

@@ -201,7 +201,4 @@ module _ (b : List ℕ) (e : Encoding) (ok : Sound e) (strings : Place) (region 
 
   -- none is left
   pub pieces_all : end ≤ at → (more : List (List ℕ)) × (strings_of_all e (bytes_at b strings) ps ≡ pass more) × Kept b region t (ts ++ more)
-  pieces_all h =
-      let none : p.ahead ≡ [] = walk_end e ok b at end inside p.ahead p.headed h in
-      let are : strings_of_all e (bytes_at b strings) ps ≡ pass p.used = ap (strings_of_all e (bytes_at b strings)) (p.all ∙ ap (λ (l : List (List ℕ)). p.done ++ l) none ∙ append-nil p.done) ∙ p.are in
-      (p.used, are, p.putting.kept)
+  pieces_all h = let none = walk_end e ok b at end inside p.ahead p.headed h in (p.used, grind (arith, p.all, p.are, none, append-nil), p.putting.kept)

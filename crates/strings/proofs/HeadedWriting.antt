@@ -139,10 +139,7 @@ record Named (e : Encoding) (str p : List ℕ) (ps used : List (List ℕ)) : Typ
 
 named : (e : Encoding) (str p : List ℕ) (ps used : List (List ℕ)) → strings_of_all e str (p ∷ ps) ≡ pass used → Named e str p ps used
 unfolding strings_of_all
-named e str p ps used q =
-    let x = bind_pass (strings_at str (entries_in e p)) _ used q in
-    let y = bind_pass (strings_of_all e str ps) _ used x.2 in
-    record { us = x.0; vs = y.0; own = x.1; others = y.1; are = pass_inj y.2; count = sym (length_strings_at str (entries_in e p) x.0 x.1) }
+named e str p ps used q = grind (arith, bind_pass, length_strings_at)
 
 -- each entry names a string
 pub entries_all_used : (e : Encoding) (str : List ℕ) (ps used : List (List ℕ)) → strings_of_all e str ps ≡ pass used → entries_all e ps ≡ length used
