@@ -46,8 +46,7 @@ in_append table more s e = any_append (same s) table more ∙ or_left (is_in tab
 
 -- the table grows only at its end
 pub put_grows : (table : List (List ℕ)) (s : List ℕ) → (more : List (List ℕ)) × (put table s ≡ table ++ more)
-put_grows table s =
-    ⊎_elim (λ p. ([], put_known table s p ∙ sym (append-nil table))) (λ p. (s ∷ [], put_new table s p)) (known (is_in table s))
+put_grows table s = ⊎_elim (λ p. ([], put_known table s p ∙ sym (append-nil table))) (λ p. (s ∷ [], put_new table s p)) (known (is_in table s))
 
 pub put_all_grows : (table used : List (List ℕ)) → (more : List (List ℕ)) × (put_all table used ≡ table ++ more)
 unfolding put_all

@@ -12,12 +12,14 @@ use Rattle.octets.specs.Checked.{Check, pass, refuse, ◌>>=◌}
 use Rattle.octets.proofs.Checks.{then_pass, then_refuse, bind_pass, pass_inj}
 use Rattle.octets.proofs.Parts.{part_add, part_is, part_none, length_part}
 use Rattle.bundle.specs.Encoding.{Encoding}
+use Rattle.bundle.specs.Encoded.{encoding_is}
 use Rattle.bundle.specs.InitialLength.{length_field, length_stated}
 use Rattle.strings.specs.Strings.{header_size, entries_in, entries_of, strings_at}
 use Rattle.strings.specs.Kept.{bytes_at, Kept}
 use Rattle.strings.specs.Remembered.{Putting}
-use Rattle.strings.specs.Headed.{piece_size, Headed, strings_of_all}
+use Rattle.strings.specs.Headed.{piece_size, Headed, HeadedOf, strings_of_all}
 use Rattle.strings.specs.declared.table.Place.{Place}
+use Rattle.strings.specs.declared.table.StrOffsets.{StrOffsets}
 use Rattle.strings.specs.declared.table.StringTable.{StringTable}
 use Rattle.strings.proofs.Headers.{is_five_law, not_five}
 use Rattle.strings.proofs.StrOffsets.{Sound, entries_whole, header_within, entries_few}
@@ -101,9 +103,7 @@ module _ (e : Encoding) (ok : Sound e) (b : List ℕ) (at end : ℕ) (inside : e
       walk_own = sym (take_at (part b at size) rest size own_long) ∙ ap (take size) split ∙ take_at walk_front.piece walk_front.rest size (sym size_is)
 
       pub walk_on : Headed e rest walk_front.others
-      walk_on =
-          let same : rest ≡ walk_front.rest = sym (drop_at (part b at size) rest size own_long) ∙ ap (drop size) split ∙ drop_at walk_front.piece walk_front.rest size (sym size_is) in
-          rw same walk_front.on
+      walk_on = rw (sym (drop_at (part b at size) rest size own_long) ∙ ap (drop size) split ∙ drop_at walk_front.piece walk_front.rest size (sym size_is)) walk_front.on
 
   pub walk_end : end ≤ at → ps ≡ []
   walk_end g = grind (arith, headed_end, part_none)
@@ -135,9 +135,7 @@ module _ (e : Encoding) (str : List ℕ) where
   all_more : (done : List (List ℕ)) (p : List ℕ) (used us : List (List ℕ)) → strings_of_all e str done ≡ pass used → strings_at str (entries_in e p) ≡ pass us
       → strings_of_all e str (done ++ (p ∷ [])) ≡ pass (used ++ us)
   unfolding strings_of_all ◌>>=◌
-  all_more done p used us d q =
-      all_behind done (p ∷ []) used d
-      ∙ then_pass (strings_of_all e str (p ∷ [])) _ us (then_pass (strings_at str (entries_in e p)) _ us q ∙ ap pass (append-nil us))
+  all_more done p used us d q = grind (arith, all_behind done (p ∷ []) used d, then_pass, append-nil)
 
   all_refused : (done : List (List ℕ)) (p : List ℕ) (ps used : List (List ℕ)) (n : ℕ) → strings_of_all e str done ≡ pass used → strings_at str (entries_in e p) ≡ refuse n
       → strings_of_all e str (done ++ (p ∷ ps)) ≡ refuse n
@@ -154,19 +152,14 @@ pub record PiecesPut (b : List ℕ) (e : Encoding) (strings : Place) (region mem
   pub are : strings_of_all e (bytes_at b strings) done ≡ pass used
   pub putting : Putting b strings region memo t (ts ++ used)
 
--- a section as the walk over it begins
-pub headed_cut : (e : Encoding) (b : List ℕ) (offsets : Place) (ps : List (List ℕ)) → Headed e (bytes_at b offsets) ps
-    → Headed e (part b offsets.start (offsets.start + offsets.size - offsets.start)) ps
-unfolding bytes_at
-headed_cut e b offsets ps h =
-    let z : offsets.size ≡ offsets.start + offsets.size - offsets.start = omega arith in
-    subst (λ (n : ℕ). Headed e (part b offsets.start n) ps) z h
-
-pub pieces_none : (b : List ℕ) (e : Encoding) (strings : Place) (region memo : List ℕ) (t : StringTable) (ts ps : List (List ℕ)) (at end : ℕ)
-    → Putting b strings region memo t ts → Headed e (part b at (end - at)) ps → PiecesPut b e strings region memo t ts ps at end
-unfolding strings_of_all
-pieces_none b e strings region memo t ts ps at end p h =
-    record { done = []; ahead = ps; all = refl; headed = h; used = []; are = refl; putting = rw (append-nil ts) p }
+-- as the walk over a section begins
+pub pieces_none : (b : List ℕ) (o : StrOffsets) (region memo : List ℕ) (t : StringTable) (ts ps : List (List ℕ)) → Putting b o.strings region memo t ts → HeadedOf o b ps
+    → PiecesPut b (encoding_is o.encoding) o.strings region memo t ts ps o.offsets.start (o.offsets.start + o.offsets.size)
+unfolding strings_of_all bytes_at
+pieces_none b o region memo t ts ps p h =
+    let z : o.offsets.size ≡ o.offsets.start + o.offsets.size - o.offsets.start = omega arith in
+    let headed = subst (λ (n : ℕ). Headed (encoding_is o.encoding) (part b o.offsets.start n) ps) z h in
+    record { done = []; ahead = ps; all = refl; headed = headed; used = []; are = refl; putting = rw (append-nil ts) p }
 
 module _ (b : List ℕ) (e : Encoding) (ok : Sound e) (strings : Place) (region memo : List ℕ) (t : StringTable) (ts ps : List (List ℕ)) (at end : ℕ) (inside : end ≤ length b)
     (p : PiecesPut b e strings region memo t ts ps at end) where
@@ -208,7 +201,4 @@ module _ (b : List ℕ) (e : Encoding) (ok : Sound e) (strings : Place) (region 
 
   -- none is left
   pub pieces_all : end ≤ at → (more : List (List ℕ)) × (strings_of_all e (bytes_at b strings) ps ≡ pass more) × Kept b region t (ts ++ more)
-  pieces_all h =
-      let none : p.ahead ≡ [] = walk_end e ok b at end inside p.ahead p.headed h in
-      let are : strings_of_all e (bytes_at b strings) ps ≡ pass p.used = ap (strings_of_all e (bytes_at b strings)) (p.all ∙ ap (λ (l : List (List ℕ)). p.done ++ l) none ∙ append-nil p.done) ∙ p.are in
-      (p.used, are, p.putting.kept)
+  pieces_all h = let none = walk_end e ok b at end inside p.ahead p.headed h in (p.used, grind (arith, p.all, p.are, none, append-nil), p.putting.kept)

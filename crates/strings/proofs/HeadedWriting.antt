@@ -139,18 +139,13 @@ record Named (e : Encoding) (str p : List ℕ) (ps used : List (List ℕ)) : Typ
 
 named : (e : Encoding) (str p : List ℕ) (ps used : List (List ℕ)) → strings_of_all e str (p ∷ ps) ≡ pass used → Named e str p ps used
 unfolding strings_of_all
-named e str p ps used q =
-    let x = bind_pass (strings_at str (entries_in e p)) _ used q in
-    let y = bind_pass (strings_of_all e str ps) _ used x.2 in
-    record { us = x.0; vs = y.0; own = x.1; others = y.1; are = pass_inj y.2; count = sym (length_strings_at str (entries_in e p) x.0 x.1) }
+named e str p ps used q = grind (arith, bind_pass, length_strings_at)
 
 -- each entry names a string
 pub entries_all_used : (e : Encoding) (str : List ℕ) (ps used : List (List ℕ)) → strings_of_all e str ps ≡ pass used → entries_all e ps ≡ length used
 unfolding entries_all strings_of_all
 entries_all_used e str [] used q = ap length (pass_inj q)
-entries_all_used e str (p ∷ ps) used q =
-    let k = named e str p ps used q in
-    ap₂ (λ (m n : ℕ). m + n) k.count (entries_all_used e str ps k.vs k.others) ∙ sym (length-append k.us k.vs) ∙ ap length k.are
+entries_all_used e str (p ∷ ps) used q = let k = named e str p ps used q in grind (arith, k.count, k.are, length-append, entries_all_used e str ps k.vs k.others)
 
 pub pieces_with_used : (e : Encoding) (table : List (List ℕ)) (str : List ℕ) (ps used : List (List ℕ)) (rest : List ℕ) → strings_of_all e str ps ≡ pass used
     → pieces_with e ps (map (offset_in table) used ++ rest) ≡ remapped_pieces e table str ps

@@ -79,9 +79,7 @@ module _ (e : Encoding) (s : List ℕ) where
 
     pub well_formed : header_true e s ≡ true → (length s - h) % w ≡ 0 → pass ((length s - h) / w) ≡ mapped length (entries_of e s)
     unfolding mapped
-    well_formed t g =
-        rw (p, q)
-        (ap pass (sym (length_entries_in e s)) ∙ sym (ap (mapped length) (whole_entries e s (record { header = t; even = rw (p, q) at g }))))
+    well_formed t g = rw (p, q) (grind (arith, length_entries_in, whole_entries))
 
     -- how many there are
     pub count_is : (length s - h) / w ≡ length (entries_in e s)

@@ -196,16 +196,8 @@ module _ (b region : List ℕ) (t : StringTable) (table : List (List ℕ)) (k : 
   new_row : RowHeld b stored new t.count
   unfolding new words row
   new_row =
-      let e : (j : ℕ) → j < 3 → get_or stored (3 * t.count + j) 0 ≡ get_or row j 0 =
-      (λ j g. in_row (3 * t.count + j) (omega (arith, more)) ∙ get_d_placed region (3 * t.count) row j g (omega (arith, more, enough))) in
-      let e₀ : get_or stored (3 * t.count) 0 ≡ p.start = ap (λ (j : ℕ). get_or stored j 0) (omega arith) ∙ e 0 (omega arith) in
-      let e₁ : get_or stored (3 * t.count + 1) 0 ≡ p.size = e 1 (omega arith) in
-      let e₂ : get_or stored (3 * t.count + 2) 0 ≡ t.size = e 2 (omega arith) in
-      record {
-        fits = rw (e₀, e₁) fits;
-        bytes = rw (e₀, e₁) (sym (get_or_at table (bytes_at b p) [] [] t.count (sym k.count)));
-        place = e₂ ∙ at_end ∙ ap (λ (z : List (List ℕ)). length (str_of z)) (sym (take_at table (bytes_at b p ∷ []) t.count (sym k.count)));
-      }
+      let at : (j : ℕ) → j < 3 → get_or stored (3 * t.count + j) 0 ≡ get_or row j 0 = (λ j g. grind (arith, in_row, get_d_placed, enough)) in
+      grind (arith, at 0, at 1, at 2, get_or_at, take_at)
 
   pub held_more : Held b (row_added region slot t p) (t.count + 1) (table ++ (bytes_at b p ∷ []))
   unfolding row_added new words row linked stored

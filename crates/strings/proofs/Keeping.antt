@@ -8,9 +8,8 @@ use Prim.Native.Nat.{ℕ, ◌+◌, ◌*◌, ◌-◌, ◌<◌, ◌≤◌}
 use native.Mathlib.Omega.{arith}
 use Rattle.std.specs.Prelude.{Some, None, Ok}
 use lib.ListN.{length, get_or, length-append}
-use borrow.Author.Tests.{ltb-false, lt-ltb, le-ltb}
+use borrow.Author.Tests.{ltb-false, le-ltb}
 use Rattle.octets.specs.Octets.{placed, zeros}
-use Rattle.octets.proofs.Checks.{true_false}
 use Rattle.octets.proofs.Joined.{map-append}
 use Rattle.octets.proofs.Parts.{part_none, part_add}
 use Rattle.octets.proofs.Placed.{get_d_zeros, length_placed, placed_placed}
@@ -147,20 +146,7 @@ module _ (b region : List ℕ) (p : Place) (slot : ℕ) (t : StringTable) (f : t
   module _ (used : List (List ℕ)) (k : Kept b region t used) (new : NewAt b p region used slot) where
     -- one that would end above the limit
     pub put_passes : (r : StringTable) → 8388607 - t.size ≤ p.size → r.entries ≡ t.entries → r.over ≡ true → PutIs b region used (bytes_at b p) r None
-    put_passes r h same over =
-        let s = bytes_at b p in
-        record {
-          kept =
-              record {
-                few = simp length-append (omega (arith, k.few));
-                over = over ∙ sym (lt-ltb 8388607 (length (str_of (first_uses (used ++ (s ∷ []))))) (rw (first_uses_snoc used s) (omega (arith, longer b region t used k f p a.fits new.new, kept_within b region t used k f))));
-                size = λ g. absurd (true_false over g);
-                held = λ g. absurd (true_false over g);
-                entries = λ g. absurd (true_false over g);
-                places = λ g. absurd (true_false over g);
-              };
-          stands = over;
-        }
+    put_passes r h same over = grind (arith, first_uses_snoc, length-append, longer b region t used k f p a.fits new.new, kept_within b region t used k f)
 
     -- its row behind the others, and its place
     pub put_row : (y x : List ℕ) (r : StringTable) (v : ℕ) → p.size < 8388607 - t.size → v ≡ t.size → y ≡ row_added region slot t p → length y ≡ length region

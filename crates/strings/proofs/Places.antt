@@ -37,10 +37,7 @@ module _ (b : List ℕ) (strings : Place) (offset : ℕ) where
   none_moved e = rw (place_missing 9 offset (string_at 9 (bytes_at b strings) offset) e) refl
 
   pub string_start : (p : Place) → Inside b strings → pass p ≡ mapped (string_place offset) (string_at 9 (bytes_at b strings) offset) → strings.start + p.start ≤ length b
-  string_start p h g =
-      let t = place_found p offset (string_at 9 (bytes_at b strings) offset) g in
-      let w = string_at_is 9 (bytes_at b strings) offset t.0 t.1 in
-      omega (arith, w.within, length_bytes_at b strings h, t.2)
+  string_start p h g = let t = place_found p offset (string_at 9 (bytes_at b strings) offset) g in omega (arith, (string_at_is 9 (bytes_at b strings) offset t.0 t.1).within, length_bytes_at b strings h, t.2)
 
   -- what an answer says of the string
   pub record Named (p : Place) : Type 0 where

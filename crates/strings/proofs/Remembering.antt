@@ -83,9 +83,7 @@ string_passed b strings region memo t used s p over = record { kept = kept_over 
 module _ (b : List ℕ) (strings : Place) (region memo : List ℕ) (t : StringTable) (o : ℕ) (a : Addable b strings o (length region) (length memo) t) where
   -- its memory is at hand
   pub string_reached : (o < length memo) × (o < 2 ^ 32)
-  string_reached =
-      let h = string_within b strings o a.string strings.size a.inside (omega arith) a.starts in
-      (omega (arith, h, a.enough), omega (arith, h, a.inside, a.limit))
+  string_reached = omega (arith, string_within b strings o a.string strings.size a.inside (omega arith) a.starts, a.enough, a.inside, a.limit)
 
   -- the string found there
   module _ (p : Place) (found : pass p ≡ mapped (string_place (strings.start + o)) (string_at 9 (bytes_at b strings) o)) where

@@ -12,7 +12,7 @@ use lib.ListN.{length, drop, get_or}
 use borrow.Author.Tests.{leb-true, eqb-true, eq-eqb, ne_eqb, eqb-false}
 use Rattle.octets.specs.Octets.{number_at}
 use Rattle.octets.specs.Checked.{pass, refuse, ◌>>=◌, require}
-use Rattle.octets.proofs.Checks.{pass_refuse, pass_inj, refuse_inj, known, fails, passes, require_pass, and_left, and_right}
+use Rattle.octets.proofs.Checks.{pass_inj, fails, passes, require_pass, and_left, and_right}
 use Rattle.octets.proofs.Numbers.{number_at_drop}
 use Rattle.octets.proofs.Tables.{length_numbers_in, numbers_in_at}
 use Rattle.bundle.specs.Encoding.{Encoding}
@@ -87,8 +87,7 @@ pub entries_within : (e : Encoding) (s : List ℕ) → e.width * length (entries
 entries_within e s = rw (length_entries_in e s) (mul-div-le (length s - header_size e) e.width)
 
 pub entry_within : (e : Encoding) (s : List ℕ) (k : ℕ) → Sound e → k < length (entries_in e s) → header_size e + e.width * k + e.width ≤ length s
-entry_within e s k w h =
-    omega (arith, w.low, entries_within e s, mul-suc e.width k, mul-le-mul_left e.width h)
+entry_within e s k w h = omega (arith, w.low, entries_within e s, mul-suc e.width k, mul-le-mul_left e.width h)
 
 -- four bytes or more for each entry: so many strings at most are kept of a section
 pub entries_few : (e : Encoding) (s : List ℕ) → Sound e → 4 * length (entries_in e s) ≤ length s
@@ -119,12 +118,7 @@ unfolding entries_of
 entries_odd e s h g = grind (arith, passes, fails)
 
 pub entries_refused : (e : Encoding) (s : List ℕ) (n : ℕ) → entries_of e s ≡ refuse n → n ≡ 8
-entries_refused e s n p =
-    ⊎_elim
-    (λ h.
-    ⊎_elim (λ g. absurd (pass_refuse _ n (sym (whole_entries e s (record { header = h; even = eqb-true _ _ g })) ∙ p)))
-    (λ g. refuse_inj (sym p ∙ entries_odd e s h (eqb-false _ _ g))) (known (eqb ((length s - header_size e) % e.width) 0)))
-    (λ h. refuse_inj (sym p ∙ entries_false e s h)) (known (header_true e s))
+entries_refused e s n p = grind (arith, whole_entries, entries_odd, entries_false, eqb-true, eqb-false)
 
 -- header and entries are the section
 pub whole_length : (e : Encoding) (s : List ℕ) → Sound e → Whole e s → header_size e + e.width * length (entries_in e s) ≡ length s

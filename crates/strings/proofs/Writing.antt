@@ -28,14 +28,8 @@ unfolding ended
 ended_is b s d x y at h g p q = grind (arith, common_steps, length_bytes_at, placed_placed)
 
 module _ (b region : List ℕ) (n : ℕ) (table : List (List ℕ)) (k : Held b region n table) (i : ℕ) (h : i < n) (d₀ : List ℕ) (at : ℕ) (room : at + length (str_of table) ≤ length d₀) where
-  here : i < length table
-  here = omega (arith, k.count)
-
   pub written_room : at + get_or region (3 * i + 2) 0 + get_or region (3 * i + 1) 0 + 1 ≤ length d₀
-  written_room =
-      let r = k.rows i h in
-      let l = ap length (sym r.bytes) ∙ length_bytes_at b (row_place region i) r.fits in
-      omega (arith, r.place, l, length_str_of_take table i here, length_str_of_take_le table (i + 1))
+  written_room = grind (arith, k.rows i h, length_bytes_at, length_str_of_take, length_str_of_take_le table (i + 1))
 
   pub written_more : (d x : List ℕ) → d ≡ placed d₀ at (str_of (take i table)) → x ≡ placed d (at + get_or region (3 * i + 2) 0) (ended (bytes_at b (row_place region i)))
       → x ≡ placed d₀ at (str_of (take (i + 1) table))
