@@ -43,4 +43,3 @@ loop-passed-preserved c =
       mod-lt _ (omega arith),
       search_on _ _ _ _ _ _ _ _ _ (sym l) c.loop-passed-test.true c.row_at.ensures c.loop-passed.invariant.1 c.if-row_at-eq0.false _ c.identity_at.ensures c.if-identity_at-x.false,
     )
-

@@ -9,4 +9,3 @@ loop-looks-init c = seek_start _ _ _ _ _ c.requires c.first_slot-at.ensures c.st
 
 pub loop-looks-preserved : goal.loop-looks-preserved
 loop-looks-preserved c = seek_on c.loop-looks.invariant c.loop-looks-test.true refl c.if-number-eq0.false c.identity_for.ensures c.if-identity_for-x.false c.next_slot-at.ensures
-
