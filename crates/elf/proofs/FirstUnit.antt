@@ -23,6 +23,7 @@ use Rattle.bundle.specs.Encoding.{Encoding}
 use Rattle.bundle.specs.Encoded.{encoding_is, four}
 use Rattle.bundle.specs.declared.encoding.ObjectEncoding.{ObjectEncoding}
 use Rattle.bundle.specs.InitialLength.{marked, length_field}
+use Rattle.bundle.proofs.InitialLengths.{field_most}
 use Rattle.unit.specs.UnitRead.{unit_size, is_five, address_place, header_passes}
 use Rattle.unit.specs.Headers.{fits, unit_inside, with_address, stated_address, address_of}
 use Rattle.unit.proofs.Fields.{common_ge}
@@ -189,3 +190,6 @@ version_most e = go e.five
     go : (t : Bool) → four t 5 ≤ 5
     go true = omega arith
     go false = omega arith
+
+-- what `first_unit` cites
+pub ruleset stated_cases = (field_most, no_version, field_is, stated_four, stated_five, stated_neither)

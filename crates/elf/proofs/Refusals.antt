@@ -12,6 +12,7 @@ use Rattle.octets.specs.Checked.{Check, pass, refuse, mapped}
 use Rattle.octets.proofs.Checks.{pass_refuse, pass_inj, refuse_inj, passes, fails, then_pass, then_refuse, and_left, and_right, and_fails, known}
 use Rattle.bundle.specs.Written.{Section}
 use Rattle.answers.specs.declared.Written.{Written}
+use Rattle.answers.proofs.Answering.{refused_written, refused_output}
 use Rattle.numbers.specs.Refusals.{not_elf, unreadable_section, section_too_long}
 use Rattle.numbers.specs.Limits.{package_limit}
 use Rattle.elf.specs.File.{File, inside, ended, wanted_of, file_of, elf_of}
@@ -97,3 +98,6 @@ module _ (f : List ℕ) (e : File) (word : ℕ) where
 -- the same code with an equal length
 pub written_length : (code k m : ℕ) → k ≡ m → ◌≡◌ {A = Written} (record { code = code; length = k }) (record { code = code; length = m })
 written_length code k m e = λ i. record { code = code; length = e i }
+
+-- what `read_elf` cites
+pub ruleset read_cases = (refused_written, refused_output, read_refused, read_from)

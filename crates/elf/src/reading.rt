@@ -50,7 +50,7 @@ fn read_accepted(a: &Accepted, out: &mut [u8]) -> Result<usize, Unwritten>
 }
 
 // The same from any bytes.
-#[tactic(auto, using(answers::proofs::Answering::refused_written, answers::proofs::Answering::refused_output, crate::proofs::Refusals::read_refused, crate::proofs::Refusals::read_from), unfolding(crate::specs::Reader::elf_read, octets::specs::Checked::mapped))]
+#[tactic(auto, using(crate::proofs::Refusals::read_cases), unfolding(crate::specs::Reader::elf_read, octets::specs::Checked::mapped))]
 fn read_into(f: &[u8], out: &mut [u8]) -> Result<usize, Unwritten>
     requires { out.old ≡ zeros (length out.old) }
     ensures answer { written_as result ≡ written_of (elf_read f.now (length out.old)) }

@@ -53,7 +53,7 @@ fn word_stated(e: ObjectEncoding, s: &[u8]) -> Result<u32, Refusal>
 }
 
 // 33
-#[tactic(auto, using(bundle::proofs::InitialLengths::field_most, crate::proofs::FirstUnit::no_version, crate::proofs::FirstUnit::field_is, crate::proofs::FirstUnit::stated_four, crate::proofs::FirstUnit::stated_five, crate::proofs::FirstUnit::stated_neither))]
+#[tactic(auto, using(crate::proofs::FirstUnit::stated_cases))]
 pub fn first_unit(big: bool, s: &[u8]) -> Result<u32, Refusal>
     ensures { told result ≡ mapped object_word (unit_stated big s.now) }
 {

@@ -3,7 +3,7 @@
 use mathlib.Core.Path.{◌≡◌, sym, ap, ◌∙◌}
 use mathlib.Core.Logic.{inl, inr}
 use mathlib.Core.List.{List}
-use Prim.Native.Nat.{ℕ, ◌+◌, ◌*◌, ◌≤◌}
+use Prim.Native.Nat.{ℕ, ◌+◌, ◌*◌, ◌^◌, ◌<◌, ◌≤◌}
 use native.Mathlib.Omega.{arith}
 use native.Mathlib.Decide.{ℕ_discrete}
 use lib.ListN.{length}
@@ -13,7 +13,8 @@ use Rattle.bundle.specs.declared.encoding.ObjectEncoding.{ObjectEncoding}
 use Rattle.strings.specs.Strings.{first_uses}
 use Rattle.strings.proofs.StrOffsets.{sound}
 use Rattle.kept.specs.Regions.{records_region, record_words, region}
-use Rattle.kept.proofs.RegionStores.{length_region, records_within}
+use Rattle.numbers.specs.Limits.{work_for_word}
+use Rattle.kept.specs.declared.records.Records.{Records}
 use Rattle.kept.specs.Records.{bytes_from, UnitsInside}
 use Rattle.kept.specs.Held.{OneOrTwo}
 use Rattle.kept.specs.declared.state.InProgress.{InProgress}
@@ -28,15 +29,18 @@ use Rattle.finish.specs.declared.writing.Package.{Package}
 pub first_codes : (c : ℕ) → 1 ≤ c → c ≤ 2 → OneOrTwo c
 first_codes c h g = elim (ℕ_discrete c 1) [ yes e ↦ inl e | no f ↦ inr (omega arith) ]
 
--- cut is the region of work as the code cuts it
-pub units_asks : (code : ℕ) (p : Package) (n at : ℕ) (r : SectionWritable code p n at) (cut : List ℕ) → cut ≡ region p.work.now (words_of p) records_region → code ≤ 2
-    → (record_words * p.state.units.count ≤ length cut) × UnitsInside p.bundle.now cut p.state.units.count
-    × (at + length (bytes_from p.bundle.now cut code 0 p.state.units.count) ≤ n)
-units_asks code p n at r cut q z = rw q (
-  omega (arith, length_region records_region records_within (words_of p) p.work.now r.ready.room, r.ready.few),
-  r.ready.inside,
-  omega (arith, r.room, ap length (r.ready.units_are code (first_codes code r.least z))),
-)
+-- they lie in work
+pub units_few : (code : ℕ) (p : Package) (n at : ℕ) (r : SectionWritable code p n at)
+    → (words_of p < 2 ^ 32) × (work_for_word * words_of p ≤ length p.work.now) × (record_words * p.state.units.count ≤ records_region.words * words_of p)
+units_few code p n at r = (omega (arith, r.ready.limit), r.ready.room, r.ready.few)
+
+-- R is the records as the code has them
+module _ (code : ℕ) (p : Package) (n at : ℕ) (r : SectionWritable code p n at) (R : Records) (e : R.words.now ≡ region p.work.now (words_of p) records_region) (m : R.count ≡ p.state.units.count) (z : code ≤ 2) where
+  pub units_asks : UnitsInside p.bundle.now R.words.now R.count × (at + length (bytes_from p.bundle.now R.words.now code 0 R.count) ≤ n)
+  units_asks = rw (e, m) (r.ready.inside, omega (arith, r.room, ap length (r.ready.units_are code (first_codes code r.least z))))
+
+  pub units_put : (d x : List ℕ) → x ≡ placed d at (bytes_from p.bundle.now R.words.now code 0 R.count) → SectionPut code p at d x
+  units_put d x f s y = f ∙ ap (placed d at) (rw (e, m) (sym (y.units_are code (first_codes code r.least z))))
 
 -- ---- the shared sections
 pub ready_long : (e : ObjectEncoding) (b : List ℕ) (st : InProgress) (w : List ℕ) (s : ℕ → List ℕ) (r : Ready e b st w s) (code : ℕ) → 3 ≤ code → code ≤ 10

@@ -15,11 +15,10 @@ use Rattle.bundle.proofs.Next.{filled_up_le}
 use Rattle.bundle.proofs.Putting.{length_head, placed_behind, head_put, end_put}
 use Rattle.bundle.proofs.Sizes.{written_size}
 use Rattle.index.specs.Probing.{slots_for}
-use Rattle.kept.specs.Regions.{records_region, record_words, region}
-use Rattle.kept.specs.Slots.{Within, slots_in}
+use Rattle.kept.specs.Regions.{records_region, region}
+use Rattle.kept.specs.Slots.{Seekable, slots_in}
 use Rattle.kept.specs.Indexed.{index_in}
 use Rattle.kept.specs.declared.writing.IndexForm.{IndexForm}
-use Rattle.kept.proofs.Placing.{records_long}
 use Rattle.finish.specs.Writing.{Writing}
 use Rattle.finish.proofs.SectionSizes.{framed_some, size_good}
 use Rattle.finish.proofs.BeingWritten.{writing_frame_room}
@@ -36,17 +35,16 @@ module _ (f : IndexForm) (words n : ℕ) (w : List ℕ) where
   pub index_few : (s : List ℕ) → IndexHeld f words n w s → f.rows ≤ 1_048_576
   index_few s h = omega (arith, h.many, table_few (region w words records_region) n f.table, h.can.units, h.can.limit)
 
-  -- R and S are records and slots as the code cuts them
+  pub index_seekable : (k : ℕ) → k ≡ slots_for f.rows → (s : List ℕ) → IndexHeld f words n w s → Seekable words w f.table n k
+  index_seekable k q s h = rw q (record { can = h.can; within = h.within })
+
+  -- R and S are records and slots as the code has them
   module _ (k : ℕ) (q : k ≡ slots_for f.rows) (g : f.rows ≡ 0 → ⊥) (R S : List ℕ) (e : R ≡ region w words records_region) (o : S ≡ slots_in w words f.table k) where
     stands : (s : List ℕ) → IndexHeld f words n w s → s ≡ index_in f R n S
     stands s h = h.some g ∙ sym (ap₂ (λ (r l : List ℕ). index_in f r n l) e (o ∙ ap (slots_in w words f.table) q))
 
-    pub index_asks : (long at : ℕ) → IndexWritable f words n w long at → Within S n × (record_words * n ≤ length R) × (at + length (index_in f R n S) ≤ long)
-    index_asks long at i = (
-      rw (o, q) i.held.within,
-      omega (arith, ap length e, records_long words w f.table n (slots_for f.rows) i.held.can, i.held.can.units),
-      rw (sym (stands i.bytes i.held)) i.room,
-    )
+    pub index_asks : (long at : ℕ) → IndexWritable f words n w long at → at + length (index_in f R n S) ≤ long
+    index_asks long at i = rw (sym (stands i.bytes i.held)) i.room
 
     pub index_leaves : (s d x : List ℕ) (at : ℕ) → IndexHeld f words n w s → x ≡ placed d at (index_in f R n S) → x ≡ placed d at s
     index_leaves s d x at h p = p ∙ ap (placed d at) (sym (stands s h))

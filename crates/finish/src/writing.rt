@@ -5,7 +5,9 @@ ghost use Rattle.numbers.specs.Limits.{bundle_limit, work_for_word};
 use crate::joining::SharedSections;
 use bundle::encoding::ObjectEncoding;
 use kept::Table;
-use kept::regions::{COMPILATION, RECORDS, STRINGS, Share, TYPE};
+use kept::records::Records;
+use kept::regions::{COMPILATION, STRINGS, TYPE};
+use kept::slots::Slots;
 use kept::state::InProgress;
 use kept::writing::IndexForm;
 use numbers::sections::{CODES, CU_INDEX, INFO, STR, TU_INDEX, TYPES};
@@ -29,7 +31,7 @@ pub struct Package<'a> {
 impl Package<'_> {
     ghost use Rattle.std.specs.Prelude.{◌+◌, get_or, List, ℕ};
     ghost use Rattle.octets.specs.Octets.{placed};
-    ghost use Rattle.kept.specs.Regions.{region};
+    ghost use Rattle.kept.specs.Regions.{region, strings_region};
     ghost use Rattle.finish.specs.Sections.{framed_size};
     ghost use Rattle.finish.specs.Ready.{
       form_of,
@@ -47,12 +49,11 @@ impl Package<'_> {
       PackagePut,
     };
 
-    // The words of a region of work.
-    fn region(&self, share: Share) -> &[u32]
-        requires { share.start + share.words ≤ work_for_word }
-        ensures { result.now ≡ region self.now.work.now (words_of self.now) share }
+    // The words that hold the strings.
+    fn strings(&self) -> &[u32]
+        ensures { result.now ≡ region self.now.work.now (words_of self.now) strings_region }
     {
-        share.part(self.work, self.bundle.len() / WORD)
+        STRINGS.part(self.work, self.bundle.len() / WORD)
     }
 
     // A table's index, nothing without rows.
@@ -72,14 +73,9 @@ impl Package<'_> {
             has,
         };
         let count = kept::slots::slots_for(t.rows);
-        let slots = self.region(kept::regions::slots(table));
-        form.write_index(
-            self.region(RECORDS),
-            self.state.units.count,
-            &slots[..count],
-            out,
-            at,
-        );
+        let words = self.bundle.len() / WORD;
+        let slots = Slots::of_work(self.work, words, table, self.state.units.count, count);
+        form.write_index(slots, out, at);
     }
 
     // What is joined of all objects.
@@ -89,7 +85,7 @@ impl Package<'_> {
         SharedSections {
             encoding: self.encoding,
             bundle: self.bundle,
-            table: self.region(STRINGS),
+            table: self.strings(),
         }
     }
 
@@ -101,12 +97,12 @@ impl Package<'_> {
         let units = self.state.units;
         match code {
             INFO | TYPES => {
-                let records = self.region(RECORDS);
-                kept::unit_bytes::copy_units(self.bundle, records, units.count, code, out, at);
+                let words = self.bundle.len() / WORD;
+                Records::of_work(self.work, words, units.count).copy_units(self.bundle, code, out, at);
             }
             STR => {
                 let count = self.state.strings.count;
-                strings::sections::write_strings(self.bundle, self.region(STRINGS), count, out, at);
+                strings::sections::write_strings(self.bundle, self.strings(), count, out, at);
             }
             CU_INDEX => self.write_index(COMPILATION, units.cu, out, at),
             TU_INDEX => self.write_index(TYPE, units.tu, out, at),

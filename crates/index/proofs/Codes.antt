@@ -48,3 +48,6 @@ module _ (units : ℕ) (ids rows : List ℕ) (i : ℕ) where
   pub slots_end : length ids ≤ i → true ≡ slots_good units (drop i ids) (drop i rows)
   unfolding slots_good
   slots_end h = rw (drop_of_length-le ids h)
+
+-- what the proof of the loop over the slots cites
+pub ruleset slots_turns = (slots_turn, slots_above, slots_apart, slots_end)

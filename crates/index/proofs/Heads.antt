@@ -4,7 +4,7 @@
 use mathlib.Core.Path.{◌≡◌, refl, sym, ap, ◌∙◌}
 use mathlib.Core.Bool.{Bool, true, ◌||◌}
 use mathlib.Core.List.{List}
-use Prim.Native.Nat.{ℕ, ◌+◌, ◌*◌, ◌^◌, ◌<◌, ◌≤◌}
+use Prim.Native.Nat.{ℕ, ◌+◌, ◌*◌, ◌-◌, ◌^◌, ◌<◌, ◌≤◌}
 use native.Mathlib.Omega.{arith}
 use lib.Dec.{eqb, ltb}
 use lib.ListN.{length, drop, get_or}
@@ -19,6 +19,7 @@ use Rattle.index.specs.Index.{Index, index_of, layout, version_of, columns_most,
 use Rattle.index.specs.Held.{PowerOfTwo, Sized, Well, ReadWell, head_of, stated, index_in}
 use Rattle.index.specs.declared.reading.IndexHead.{IndexHead}
 use Rattle.index.proofs.Masks.{least_power_law, least_power_most}
+use Rattle.index.proofs.Places.{cell_lt}
 
 pub table_at : (big : Bool) (w n : ℕ) (s : List ℕ) (a k : ℕ) → k < n → number_at big w s (a + w * k) ≡ get_or (numbers_in big w n (drop a s)) k 0
 table_at big w n s a k h = sym (numbers_in_at big w n (drop a s) k h ∙ number_at_drop big w s a (w * k))
@@ -138,9 +139,6 @@ module _ (big : Bool) (s : List ℕ) (h : IndexHead) (r : ReadWell big s h) wher
   pub read_sized : Sized s h
   read_sized = record { is = (well big s h r).sized }
 
-  pub read_power : PowerOfTwo h.slots
-  read_power = rw (well big s h r).power at (least_power_law h.slots)
-
   pub read_is : index_of big s ≡ pass (index_in big s h)
   read_is = (well big s h r).is
 
@@ -169,32 +167,29 @@ well_facts {i} r =
       slots = w.slots_good_law;
     })
 
--- the same as bounds
-module _ (big : Bool) (s : List ℕ) (h : IndexHead) {i : ℕ} where
-  pub in_codes : i < h.columns → i < length (index_in big s h).codes
-  in_codes g = rw (codes_length big s h) g
-
-  pub past_codes : h.columns ≤ i → length (index_in big s h).codes ≤ i
-  past_codes g = rw (codes_length big s h) g
-
-  pub in_rows : i < h.slots → i < length (index_in big s h).rows
-  in_rows g = rw (rows_length big s h) g
-
-  pub in_identities : i < h.slots → i < length (index_in big s h).identities
-  in_identities g = rw (identities_length big s h) g
-
 -- ---- the numbers of an index that a section holds, as the code reads them
 module _ (big : Bool) (s : List ℕ) (h : IndexHead) {i : Index} (v : index_in big s h ≡ i) where
   pub head_held : h ≡ head_of i
   unfolding index_in layout
   head_held = rw (← v) (rw (codes_length big s h, rows_length big s h))
 
-  pub slots_held : (length i.identities ≡ h.slots) × (length i.rows ≡ h.slots)
-  slots_held = rw (← v) (identities_length big s h, rows_length big s h)
+  pub identities_held : length i.identities ≡ h.slots
+  identities_held = rw (← v) (identities_length big s h)
 
-  pub cells_held : (length i.codes ≡ h.columns) × (length i.offsets ≡ h.units * h.columns) × (length i.sizes ≡ h.units * h.columns) × (i.units ≡ h.units)
-  unfolding index_in layout
-  cells_held = rw (← v) (codes_length big s h, offsets_length big s h, sizes_length big s h, refl)
+  pub rows_held : length i.rows ≡ h.slots
+  rows_held = rw (← v) (rows_length big s h)
+
+  pub codes_held : length i.codes ≡ h.columns
+  codes_held = rw (← v) (codes_length big s h)
+
+  pub offsets_held : length i.offsets ≡ h.units * h.columns
+  offsets_held = rw (← v) (offsets_length big s h)
+
+  pub sizes_held : length i.sizes ≡ h.units * h.columns
+  sizes_held = rw (← v) (sizes_length big s h)
+
+  pub units_held : i.units ≡ h.units
+  units_held = rw (← v) (units_are big s h)
 
   module _ {k : ℕ} where
     identity_read : k < length i.identities → (k < h.slots) × (number_at big 8 s (16 + 8 * k) ≡ get_or i.identities k 0)
@@ -256,3 +251,13 @@ pub ruleset codes_here = (code_inside, code_here)
 pub ruleset offsets_here = (offset_inside, offset_here)
 
 pub ruleset sizes_here = (size_inside, size_here)
+
+-- the cell of a row in column k is one of the cells
+pub cell_inside : (big : Bool) (s : List ℕ) (h : IndexHead) {i : Index} → index_in big s h ≡ i → (row k : ℕ) → (0 < row) × (row ≤ i.units) × (k < length i.codes)
+    → (row - 1) * h.columns + k < h.units * h.columns
+cell_inside big s h v row k r = cell_lt row h.units h.columns k r.0 (omega (arith, units_held big s h v, r.1)) (omega (arith, codes_held big s h v, r.2))
+
+-- what the proofs of the reads of a cell and of all slots cite
+pub ruleset cells_held = (codes_held, offsets_held, sizes_held, units_held)
+
+pub ruleset slots_held = (identities_held, rows_held, units_held)

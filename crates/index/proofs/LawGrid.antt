@@ -1,6 +1,6 @@
 -- A grid of numbers, one for each row and column: its length, its entries, and bounds of numbers in lists.
 -- Assumes nothing.
-use mathlib.Core.Path.{◌≡◌, refl, ◌∙◌}
+use mathlib.Core.Path.{◌≡◌, ◌∙◌}
 use mathlib.Core.List.{List, [], ◌∷◌, ◌++◌, map}
 use mathlib.Core.Option.{Option, none}
 use Prim.Native.Nat.{ℕ, zero, suc, ◌+◌, ◌*◌, ◌<◌}
@@ -8,6 +8,7 @@ use native.Mathlib.Nat.{not-suc-le-zero, le_of_suc-le-suc, suc-mul, zero-mul, mu
 use native.Mathlib.Omega.{arith}
 use lib.ListN.{length, get_or, length-map, get_or-append}
 use lib.Seq.{get_or-append-add}
+use Rattle.std.proofs.lemmas.List.{get_or-map}
 use Rattle.octets.specs.Lists.{joined}
 use Rattle.octets.proofs.Joined.{length_joined_even}
 use Rattle.index.specs.Columns.{Column}
@@ -23,9 +24,7 @@ abbrev pub identities_of : List Row → List ℕ
 identities_of rs = map (λ q. q.identity) rs
 
 pub get_d_map : {A : Type 0} (f : A → ℕ) (xs : List A) (i : ℕ) (d : A) → i < length xs → get_or (map f xs) i 0 ≡ f (get_or xs i d)
-get_d_map f [] i d h = absurd (not-suc-le-zero h)
-get_d_map f (x ∷ xs) zero d h = refl
-get_d_map f (x ∷ xs) (suc i) d h = get_d_map f xs i d (le_of_suc-le-suc h)
+get_d_map f xs i d h = get_or-map f xs i d 0 h
 
 -- ---- bounds
 abbrev pub Below : ℕ → List ℕ → Type 0

@@ -14,7 +14,7 @@ use Rattle.octets.specs.Lists.{those, has, distinct}
 use Rattle.octets.proofs.Checks.{true_false, known}
 use Rattle.octets.proofs.Lists.{those_keeps, those_skips}
 use Rattle.octets.proofs.Elements.{has_cons, has_skips, distinct_head, distinct_tail}
-use Rattle.octets.proofs.Options.{some_none}
+use Rattle.octets.proofs.Options.{some_inj, some_none}
 use Rattle.index.specs.Columns.{Column, column_in}
 use Rattle.index.specs.Index.{place_of}
 use Rattle.index.proofs.LawColumns.{codes_of, codes_without}
@@ -48,15 +48,12 @@ pub column_in_on : (k : Column) (ks : List Column) (s : ℕ) → (k.section ≡ 
 unfolding column_in
 column_in_on k ks s g = rw (column_in, ne_eqb k.section s g)
 
-some_same : {a b : ℕ} → some a ≡ some b → a ≡ b
-some_same e = cc
-
 pub column_in_has : (ks : List Column) (s c : ℕ) → column_in ks s ≡ some c → has (codes_of ks) c ≡ true
 unfolding column_in
 column_in_has [] s c e = some_none (sym e)
 column_in_has (k ∷ ks) s c e =
     elim (ℕ_discrete k.section s) [
-      | yes q ↦ has_cons c k.column (codes_of ks) (sym (some_same (sym (column_in_here k ks s q) ∙ e)))
+      | yes q ↦ has_cons c k.column (codes_of ks) (sym (some_inj (sym (column_in_here k ks s q) ∙ e)))
       | no q ↦ elim (ℕ_discrete c k.column) [
         | yes r ↦ has_cons c k.column (codes_of ks) r
         | no r ↦ has_skips c k.column (codes_of ks) r ∙ column_in_has ks s c (sym (column_in_on k ks s q) ∙ e)
@@ -92,7 +89,7 @@ module _ (g : ℕ → Bool) (s : ℕ) where
   column_there (k ∷ ks) c t d e =
       elim (ℕ_discrete k.section s) [
         | yes q ↦
-            let r : k.column ≡ c = some_same (sym (column_in_here k ks s q) ∙ e) in
+            let r : k.column ≡ c = some_inj (sym (column_in_here k ks s q) ∙ e) in
             rw (those_keeps f k ks (ap g q ∙ t)) (record { place = 0; within = omega arith; section_there = q; is = place_of_here k.column (codes_of (there ks)) c r })
         | no q ↦
             let e' : column_in ks s ≡ some c = sym (column_in_on k ks s q) ∙ e in
@@ -111,7 +108,7 @@ module _ (g : ℕ → Bool) (s : ℕ) where
   column_missing (k ∷ ks) c t d e =
       elim (ℕ_discrete k.section s) [
         | yes q ↦
-            let r : k.column ≡ c = some_same (sym (column_in_here k ks s q) ∙ e) in
+            let r : k.column ≡ c = some_inj (sym (column_in_here k ks s q) ∙ e) in
             rw (those_skips f k ks (ap g q ∙ t))
             (place_of_none (codes_of (there ks)) c (codes_without f c ks (ap (has (codes_of ks)) (sym r) ∙ distinct_head k.column (codes_of ks) d)))
         | no q ↦

@@ -1,4 +1,4 @@
--- A law for each case of a look, and for where a search ends.
+-- Where the search of the code ends.
 -- Assumes nothing.
 use mathlib.Core.Path.{◌≡◌, sym, ap, ◌∙◌}
 use mathlib.Core.List.{List}
@@ -7,25 +7,11 @@ use native.Mathlib.Omega.{arith}
 use native.Mathlib.Nat.{sub-zero}
 use lib.ListN.{length, get_or}
 use Rattle.std.specs.Prelude.{Some, None}
-use borrow.Author.Tests.{eq-eqb, ne_eqb}
 use Rattle.index.specs.Index.{Index}
-use Rattle.index.specs.Probing.{Probe, found, absent, first_slot, stride, look, search, probe}
+use Rattle.index.specs.Probing.{Probe, first_slot, stride, look, search, probe}
 use Rattle.index.specs.Held.{probed_of}
 use Rattle.index.specs.declared.probing.Probed.{Probed}
-
-module _ (rows ids : List ℕ) (x at by n k : ℕ) where
-  pub look_unused : get_or rows at 0 ≡ 0 → absent (n + 1) ≡ look (suc k) rows ids x at by n
-  unfolding look
-  look_unused h = rw (look, eq-eqb (get_or rows at 0) 0 h)
-
-  pub look_found : (get_or rows at 0 ≡ 0 → ⊥) → get_or ids at 0 ≡ x → found at (n + 1) ≡ look (suc k) rows ids x at by n
-  unfolding look
-  look_found h g = rw (look, ne_eqb (get_or rows at 0) 0 h, eq-eqb (get_or ids at 0) x g)
-
-  pub look_on : (get_or rows at 0 ≡ 0 → ⊥) → (get_or ids at 0 ≡ x → ⊥)
-      → look k rows ids x ((at + by) % length rows) by (n + 1) ≡ look (suc k) rows ids x at by n
-  unfolding look
-  look_on h g = rw (look, ne_eqb (get_or rows at 0) 0 h, ne_eqb (get_or ids at 0) x g)
+use Rattle.index.proofs.LawLooks.{look_unused, look_found, look_on}
 
 -- the looks that are left, as the definition counts them
 pub one : (n looks : ℕ) → looks < n → n - looks ≡ suc (n - (looks + 1))
@@ -66,3 +52,6 @@ unfolding look probed_of
 search_end rows ids x slots at by looks p h e =
     let z : slots - looks ≡ 0 = omega arith in
     rw h (ap probed_of (rw z at e))
+
+-- what the proof of the search cites
+pub ruleset search_ends = (search_unused, search_found, search_end)

@@ -2,7 +2,7 @@
 -- Assumes nothing.
 use mathlib.Core.Path.{◌≡◌, refl, sym, ap, ◌∙◌}
 use Prim.Native.Nat.{ℕ, zero, suc, ◌+◌, ◌*◌, ◌-◌, ◌/◌, ◌%◌, ◌^◌, ◌<◌, ◌≤◌}
-use native.Mathlib.Nat.{mod-lt, pow-succ', one-mul, mul_assoc, mul_left_comm, mul-le-mul_right}
+use native.Mathlib.Nat.{mod-lt, pow-succ', pow-le-pow_right, one-mul, mul-one, mul_assoc, mul_left_comm}
 use native.Mathlib.Omega.{arith}
 use native.Mathlib.Decide.{dec_le}
 use lib.Bits.{bit_and, bit_or, and_mask, or_step, or_zero_r}
@@ -45,32 +45,33 @@ pub power_more : (k p n : ℕ) → p < n → power_from (suc k) p n ≡ power_fr
 unfolding power_from
 power_more k p n h = rw (power_from, lt-leb n p h)
 
-doubled : {n : ℕ} → PowerOfTwo n → PowerOfTwo (2 * n)
-doubled p = record { power = suc p.power; is = rw (p.is, pow-succ') }
+pub doubled : (j p : ℕ) → 2 ^ j * (2 * p) ≡ 2 ^ suc j * p
+doubled j p = mul_left_comm (2 ^ j) 2 p ∙ sym (mul_assoc 2 (2 ^ j) p) ∙ ap (λ (z : ℕ). z * p) (sym (pow-succ' 2 j))
 
-pub power_from_law : (k p n : ℕ) → PowerOfTwo p → PowerOfTwo (power_from k p n)
+-- some doublings, and no more than asked for
+pub record Doubled (k p m : ℕ) : Type 0 where
+  pub times : ℕ
+  pub within : times ≤ k
+  pub is : m ≡ 2 ^ times * p
+
+once_more : (k p m : ℕ) → Doubled k (2 * p) m → Doubled (suc k) p m
+once_more k p m d = record { times = suc d.times; within = omega (arith, d.within); is = d.is ∙ doubled d.times p }
+
+pub doublings : (k p n : ℕ) → Doubled k p (power_from k p n)
 unfolding power_from
-power_from_law zero p n h = h
-power_from_law (suc k) p n h =
+doublings zero p n = record { times = 0; within = omega arith; is = sym (one-mul p) }
+doublings (suc k) p n =
     elim (dec_le n p) [
-      | yes g ↦ rw (power_stop (suc k) p n g) h
-      | no g ↦ rw (power_more k p n (omega arith)) (power_from_law k (2 * p) n (doubled h))
+      | yes h ↦ record { times = 0; within = omega arith; is = power_stop (suc k) p n h ∙ sym (one-mul p) }
+      | no h ↦ rw (power_more k p n (omega arith)) (once_more k p (power_from k (2 * p) n) (doublings k (2 * p) n))
     ]
 
 pub least_power_law : (n : ℕ) → PowerOfTwo (least_power n)
 unfolding least_power
-least_power_law n = power_from_law 32 1 n (record { power = 0; is = refl })
-
-power_from_most : (k p n : ℕ) → power_from k p n ≤ 2 ^ k * p
-unfolding power_from
-power_from_most zero p n = omega (arith, one-mul p)
-power_from_most (suc k) p n =
-    let more : 2 ^ k * (2 * p) ≡ 2 ^ suc k * p = mul_left_comm (2 ^ k) 2 p ∙ sym (mul_assoc 2 (2 ^ k) p) ∙ ap (λ (z : ℕ). z * p) (sym (pow-succ' 2 k)) in
-    elim (dec_le n p) [
-      | yes g ↦ rw (power_stop (suc k) p n g) (omega (arith, mul-le-mul_right p (pow_pos (suc k)), one-mul p))
-      | no g ↦ rw (power_more k p n (omega arith)) (rw more at (power_from_most k (2 * p) n))
-    ]
+least_power_law n = let d = doublings 32 1 n in record { power = d.times; is = d.is ∙ mul-one (2 ^ d.times) }
 
 pub least_power_most : (n : ℕ) → least_power n ≤ 2 ^ 32
 unfolding least_power
-least_power_most n = omega (arith, power_from_most 32 1 n)
+least_power_most n =
+    let d = doublings 32 1 n in
+    omega (arith, d.is, mul-one (2 ^ d.times), pow-le-pow_right {n = 2} (omega arith) {i = d.times} {j = 32} d.within)

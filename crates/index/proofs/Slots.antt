@@ -3,17 +3,17 @@
 use mathlib.Core.Path.{◌≡◌, refl, sym, ap, ◌∙◌}
 use mathlib.Core.Logic.{◌⊎◌, inl, inr, ⊎_elim}
 use Prim.Native.Nat.{ℕ, zero, suc, ◌+◌, ◌*◌, ◌-◌, ◌/◌, ◌%◌, ◌^◌, min, max, ◌<◌, ◌≤◌}
-use native.Mathlib.Nat.{pow-le-pow_right, one-mul, mul-one, mul_assoc, mul_left_comm, mul-le-mul_right, pow-succ', not-suc-le-zero, le_of_suc-le-suc}
+use native.Mathlib.Nat.{pow-le-pow_right, one-mul, mul-one, mul-le-mul_right, pow-succ', not-suc-le-zero, le_of_suc-le-suc}
 use native.Mathlib.Omega.{arith}
 use native.Mathlib.Decide.{dec_le, dec_lt}
 use lib.Bits.{bit_and}
 use lib.Pow.{pow_pos}
-use borrow.Author.Tests.{le-leb, lt-leb, lt-ltb, le-ltb}
+use borrow.Author.Tests.{lt-ltb, le-ltb}
 use Rattle.std.specs.Int.{IsPowerOfTwo}
 use Rattle.index.specs.Index.{power_from, least_power}
 use Rattle.index.specs.Probing.{stride, slots_for}
 use Rattle.index.specs.Held.{PowerOfTwo}
-use Rattle.index.proofs.Masks.{odd_or, least_power_law}
+use Rattle.index.proofs.Masks.{odd_or, power_stop, power_more, doubled, doublings, least_power_law}
 
 -- ---- masks
 pub stride_odd : (x n : ℕ) → stride x n % 2 ≡ 1
@@ -21,43 +21,13 @@ unfolding stride
 stride_odd x n = rw (odd_or (bit_and (x / 2 ^ 32) (n - 1))) (omega arith)
 
 -- ---- the least power of two, doubling by doubling
-module _ (k p n : ℕ) where
-  pub power_here : n ≤ p → power_from (suc k) p n ≡ p
-  unfolding power_from
-  power_here h = rw (power_from, le-leb n p h)
-
-  pub power_on : p < n → power_from (suc k) p n ≡ power_from k (2 * p) n
-  unfolding power_from
-  power_on h = rw (power_from, lt-leb n p h)
-
-doubled : (j p : ℕ) → 2 ^ j * (2 * p) ≡ 2 ^ suc j * p
-doubled j p = mul_left_comm (2 ^ j) 2 p ∙ sym (mul_assoc 2 (2 ^ j) p) ∙ ap (λ (z : ℕ). z * p) (sym (pow-succ' 2 j))
-
--- some doublings, and no more than asked for
-record Doubled (k p m : ℕ) : Type 0 where
-  times : ℕ
-  within : times ≤ k
-  is : m ≡ 2 ^ times * p
-
-once_more : (k p m : ℕ) → Doubled k (2 * p) m → Doubled (suc k) p m
-once_more k p m d = record { times = suc d.times; within = omega (arith, d.within); is = d.is ∙ doubled d.times p }
-
-doublings : (k p n : ℕ) → Doubled k p (power_from k p n)
-unfolding power_from
-doublings zero p n = record { times = 0; within = omega arith; is = sym (one-mul p) }
-doublings (suc k) p n =
-    elim (dec_le n p) [
-      | yes h ↦ record { times = 0; within = omega arith; is = power_here k p n h ∙ sym (one-mul p) }
-      | no h ↦ rw (power_on k p n (omega arith)) (once_more k p (power_from k (2 * p) n) (doublings k (2 * p) n))
-    ]
-
 reaches : (k p n : ℕ) → n ≤ 2 ^ k * p → n ≤ power_from k p n
 unfolding power_from
 reaches zero p n h = omega (arith, one-mul p)
 reaches (suc k) p n h =
     elim (dec_le n p) [
-      | yes g ↦ rw (power_here k p n g) g
-      | no g ↦ rw (power_on k p n (omega arith)) (reaches k (2 * p) n (rw (doubled k p) h))
+      | yes g ↦ rw (power_stop (suc k) p n g) g
+      | no g ↦ rw (power_more k p n (omega arith)) (reaches k (2 * p) n (rw (doubled k p) h))
     ]
 
 below : (k p n : ℕ) → (power_from k p n ≡ p) ⊎ (power_from k p n + 2 ≤ 2 * n)
@@ -65,18 +35,18 @@ unfolding power_from
 below zero p n = inl refl
 below (suc k) p n =
     elim (dec_le n p) [
-      | yes g ↦ inl (power_here k p n g)
-      | no g ↦ rw (power_on k p n (omega arith)) (⊎_elim (λ e. inr (omega arith)) (λ e. inr e) (below k (2 * p) n))
+      | yes g ↦ inl (power_stop (suc k) p n g)
+      | no g ↦ rw (power_more k p n (omega arith)) (⊎_elim (λ e. inr (omega arith)) (λ e. inr e) (below k (2 * p) n))
     ]
 
 kept : (k j p : ℕ) → j ≤ k → 0 < p → power_from k p (2 ^ j * p) ≡ 2 ^ j * p
 unfolding power_from
 kept zero zero p h g = sym (one-mul p)
 kept zero (suc j) p h g = absurd (not-suc-le-zero h)
-kept (suc k) zero p h g = power_here k p (2 ^ 0 * p) (omega (arith, one-mul p)) ∙ sym (one-mul p)
+kept (suc k) zero p h g = power_stop (suc k) p (2 ^ 0 * p) (omega (arith, one-mul p)) ∙ sym (one-mul p)
 kept (suc k) (suc j) p h g =
     let more : p < 2 ^ suc j * p = omega (arith, doubled j p, mul-le-mul_right (2 * p) (pow_pos j), one-mul (2 * p)) in
-    power_on k p (2 ^ suc j * p) more ∙ ap (power_from k (2 * p)) (sym (doubled j p)) ∙ kept k j (2 * p) (le_of_suc-le-suc h) (omega arith) ∙ doubled j p
+    power_more k p (2 ^ suc j * p) more ∙ ap (power_from k (2 * p)) (sym (doubled j p)) ∙ kept k j (2 * p) (le_of_suc-le-suc h) (omega arith) ∙ doubled j p
 
 -- ---- the least power of two
 pub least_power_ge : (n : ℕ) → n ≤ 2 ^ 32 → n ≤ least_power n
@@ -110,7 +80,7 @@ unfolding power_from
 full zero p n h g = sym (one-mul p)
 full (suc k) p n h g =
     let more : p < n = omega (arith, doubled k p, mul-le-mul_right (2 * p) (pow_pos k), one-mul (2 * p)) in
-    power_on k p n more ∙ full k (2 * p) n (omega arith) (rw (sym (doubled k p)) at g) ∙ doubled k p
+    power_more k p n more ∙ full k (2 * p) n (omega arith) (rw (sym (doubled k p)) at g) ∙ doubled k p
 
 -- the library's next power of two is the least one
 record Next (m p : ℕ) : Type 0 where
@@ -129,7 +99,7 @@ next_power n =
     half h =
         elim (dec_lt 1 n) [
           | yes g ↦ omega (arith, least_power_le n g)
-          | no g ↦ let e = power_here 31 1 n (omega arith) in omega (arith, e)
+          | no g ↦ let e = power_stop 32 1 n (omega arith) in omega (arith, e)
         ]
 
 pub next_power_is : (n p : ℕ) → IsPowerOfTwo p → min n (2 ^ 32) ≤ p → p / 2 < max 1 (min n (2 ^ 32)) → p ≡ least_power n

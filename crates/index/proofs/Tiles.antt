@@ -18,7 +18,7 @@ use Rattle.octets.proofs.Checks.{bind_pass, require_pass, passes, then_pass, pas
 use Rattle.octets.proofs.Lists.{all_head, all_tail, all_cons, any_stops, any_more, any_cases}
 use Rattle.octets.proofs.Parts.{length_part, drop_part}
 use Rattle.octets.proofs.Refusals.{Only, only_pass, only_refuse, only_require, only_bind}
-use Rattle.octets.proofs.Options.{some_inj}
+use Rattle.octets.proofs.Options.{some_inj, some_none}
 use Rattle.index.specs.Index.{Index, Contribution, cell_of}
 use Rattle.index.specs.Rows.{row_numbers}
 use Rattle.index.specs.Tiles.{not_empty, named_in, named_by, named, same_parts, starts_at, tiles_from, tiles}
@@ -89,12 +89,9 @@ pub starts_later : (c : Contribution) (cs : List Contribution) (at : ℕ) → (c
 unfolding starts_at
 starts_later c cs at e = rw (starts_at, ne_eqb c.offset at e)
 
-some_none : {A P : Type 0} {a : A} → none ≡ some a → P
-some_none e = let z : ◌≡◌ {A = ℕ} 0 1 = cc in absurd (omega arith)
-
 pub starts_one : (cs : List Contribution) (at n : ℕ) → starts_at cs at ≡ some n → is_one cs (record { offset = at; size = n }) ≡ true
 unfolding starts_at
-starts_one [] at n e = some_none e
+starts_one [] at n e = some_none (sym e)
 starts_one (c ∷ cs) at n e = ⊎_elim
     (λ (t : eqb c.offset at ≡ true).
     let o = eqb-true c.offset at t in

@@ -41,6 +41,7 @@ pub struct Probed {
 
 impl<'a> Index<'a> {
     // A slot of row number 0 is unused, whatever identity it holds. Callers have read the index well.
+    #[tactic(auto, using(crate::proofs::Looks::search_ends))]
     pub fn find(&self, x: u64) -> Probed
         requires { Well self.now }
         ensures { result ≡ probed_of (probe self.now x) }

@@ -128,6 +128,7 @@ impl<'a> Index<'a> {
     }
 
     // The cell of a row, counted from 1, in column k.
+    #[tactic(auto, using(crate::proofs::Heads::cells_held), unfolding(crate::specs::Index::cell_at, crate::specs::Cells::cell_found))]
     pub fn cell_at(&self, row: usize, k: usize) -> Contribution
         requires { (0 < row) × (row ≤ self.now.units) × (k < length self.now.codes) }
         ensures { Some result ≡ cell_found (cell_at self.now row (some k)) }
@@ -167,6 +168,7 @@ impl<'a> Index<'a> {
         true
     }
 
+    #[tactic(auto, using(crate::proofs::Heads::slots_held, crate::proofs::Codes::slots_turns))]
     fn slots_good(&self) -> bool
         ensures { result ≡ slots_good self.now.units self.now.identities self.now.rows }
     {
@@ -189,6 +191,7 @@ fn word_at(big: bool, s: &[u8], start: usize, k: usize) -> usize
 }
 
 // The least power of two not below n, for an n of 32 bits.
+#[tactic(auto, using(crate::proofs::Slots::next_power_is))]
 pub fn least_power(n: usize) -> usize
     ensures { result ≡ least_power n }
 {

@@ -117,6 +117,9 @@ module _ (five : Bool) (k : ℕ) where
 pub places_many : (five : Bool) → length (map column_place (columns_for five)) ≡ length (columns_for five)
 places_many five = length-map (columns_for five) column_place
 
+-- what the proof of such a loop cites
+pub ruleset columns_passed = (place_code, places_many, columns_are)
+
 -- ---- columns that are there
 -- the columns before k are marked, the others as they were
 pub record Marking (five : Bool) (has marked : List Bool) (cells : Contributions) (k : ℕ) : Type 0 where

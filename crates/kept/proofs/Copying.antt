@@ -18,7 +18,7 @@ use Rattle.index.specs.declared.judging.Contributions.{Contributions}
 use Rattle.kept.specs.Columns.{column_cell}
 use Rattle.kept.specs.declared.records.Unit.{Unit as UnitHead}
 use Rattle.kept.specs.Records.{cells_place, cell_words, words_of, cells_left, cells_of, unit_of, UnitFits, KeptUnit, record_at, records_from, in_home, bytes_of, bytes_from, UnitsInside}
-use Rattle.kept.proofs.Recording.{records_turn, records_end, cells_many}
+use Rattle.kept.proofs.Recording.{records_turn, records_end, cells_many, cells_room}
 
 -- ---- record i
 -- its unit lies in the bundle, as its words say
@@ -105,6 +105,9 @@ cells_one five cells k o z h p q =
 pub cells_none : (five : Bool) (cells : Contributions) (k : ℕ) → 8 ≤ k → cells_left five cells k (8 - k) ≡ []
 unfolding cells_left
 cells_none five cells k h = let m : 8 - k ≡ 0 = omega arith in rw m
+
+-- what the proof of the loop cites at its end
+pub ruleset cells_stored = (copying_end, cells_none, cells_room)
 
 pub two_words : (w v u : List ℕ) (at a b : ℕ) {o : ℕ} → at + 2 ≤ length w → v ≡ placed w at (a ∷ []) → o ≡ at + 1 → u ≡ placed v o (b ∷ []) → u ≡ placed w at (a ∷ b ∷ [])
 two_words w v u at a b h e q f = f ∙ ap₂ (λ (z : List ℕ) (k : ℕ). placed z k (b ∷ [])) e q ∙ placed_placed w at (a ∷ []) (b ∷ []) (omega arith)

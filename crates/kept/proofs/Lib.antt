@@ -15,5 +15,4 @@ pub mod Placing
 pub mod Copying
 pub mod Holding
 pub mod Naming
-pub mod Comparing
 pub mod SeenSlots

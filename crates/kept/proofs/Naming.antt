@@ -3,13 +3,12 @@
 use mathlib.Core.Path.{◌≡◌, refl, sym, ap, ◌∙◌, subst}
 use mathlib.Core.Bool.{Bool, true}
 use mathlib.Core.List.{List, [], ◌∷◌, ◌++◌, map}
-use Prim.Native.Nat.{ℕ, zero, suc, ◌+◌, ◌-◌, ◌%◌, ◌<◌, ◌≤◌}
+use Prim.Native.Nat.{ℕ, zero, suc, ◌+◌, ◌-◌, ◌<◌, ◌≤◌}
 use native.Mathlib.Nat.{not-suc-le-zero, le_of_suc-le-suc}
 use native.Mathlib.Omega.{arith}
-use native.Mathlib.Decide.{ℕ_discrete}
 use lib.ListN.{length, get_or}
-use Rattle.index.specs.Probing.{Probe, found, absent, first_slot, stride, look, search}
-use Rattle.index.proofs.LawLooks.{look_unused, look_found, look_on}
+use Rattle.index.specs.Probing.{Probe, found, absent, search}
+use Rattle.index.proofs.Ends.{search_used}
 use Rattle.package.specs.Filing.{Filed, is_under}
 use Rattle.package.proofs.Kept.{under_own}
 use Rattle.kept.specs.Records.{KeptUnit, record_at, records_from, bytes_of, identity_for}
@@ -19,23 +18,6 @@ use Rattle.std.specs.Prelude.{Ok}
 use Rattle.kept.specs.declared.Units.{Units}
 use Rattle.kept.proofs.Recording.{identity_none, identity_some}
 use Rattle.kept.proofs.Seen.{map_at}
-
--- ---- where a search ends, a row of the identity stands
-look_ends : (k : ℕ) (rows ids : List ℕ) (x at by n s m : ℕ) → look k rows ids x at by n ≡ found s m → (get_or rows s 0 ≡ 0 → ⊥) × (get_or ids s 0 ≡ x)
-unfolding look
-look_ends zero rows ids x at by n s m e = absurd (let z : ◌≡◌ {A = ℕ} 0 1 = cc in omega arith)
-look_ends (suc k) rows ids x at by n s m e =
-    elim (ℕ_discrete (get_or rows at 0) 0) [
-      | yes h ↦ absurd (let f = look_unused rows ids x at by n k h ∙ e in let z : ◌≡◌ {A = ℕ} 0 1 = cc in omega arith)
-      | no h ↦ elim (ℕ_discrete (get_or ids at 0) x) [
-        | yes g ↦ let f = look_found rows ids x at by n k h g ∙ e in let z : at ≡ s = cc in (λ q. h (ap (λ (i : ℕ). get_or rows i 0) z ∙ q), ap (λ (i : ℕ). get_or ids i 0) (sym z) ∙ g)
-        | no g ↦ look_ends k rows ids x ((at + by) % length rows) by (n + 1) s m (look_on rows ids x at by n k h g ∙ e)
-      ]
-    ]
-
-search_ends : (rows ids : List ℕ) (x s m : ℕ) → search rows ids x ≡ found s m → (get_or rows s 0 ≡ 0 → ⊥) × (get_or ids s 0 ≡ x)
-unfolding search
-search_ends rows ids x s m e = look_ends (length rows) rows ids x (first_slot x (length rows)) (stride x (length rows)) 0 s m e
 
 -- ---- the number that is known stands in a slot, and its record has the identity
 pub record Named (w slots : List ℕ) (x number : ℕ) : Type 0 where
@@ -50,14 +32,14 @@ sought_names w slots x number e = go (search slots (map (identity_for w) slots) 
   where
     go : (z : Probe) → search slots (map (identity_for w) slots) x ≡ z → Ok number ≡ sought_as slots z (free_for slots x) → Named w slots x number
     go (found at m) q f =
-        let r = search_ends slots (map (identity_for w) slots) x at m q in
+        let r = search_used slots (map (identity_for w) slots) x at m q in
         let y : number ≡ get_or slots at 0 = cc in
-        let u : number ≡ 0 → ⊥ = λ z. r.0 (sym y ∙ z) in
+        let u : number ≡ 0 → ⊥ = λ z. r.used (sym y ∙ z) in
         record {
           slot = at;
           there = y;
           used = u;
-          identity = identity_some w number (record_at w (number - 1)).identity u refl ∙ ap (identity_for w) y ∙ sym (map_at (identity_for w) slots at (sym (identity_none w 0 refl))) ∙ r.1;
+          identity = identity_some w number (record_at w (number - 1)).identity u refl ∙ ap (identity_for w) y ∙ sym (map_at (identity_for w) slots at (sym (identity_none w 0 refl))) ∙ r.identity;
         }
     go (absent m) q f = absurd (let z : ◌≡◌ {A = ℕ} 0 1 = cc in omega arith)
 

@@ -27,11 +27,14 @@ pub writing_start : (big : Bool) (w : ℕ) (d : List ℕ) (at : ℕ) {left all :
 writing_start big w d at {left} {all} e h = rw e (record { same = refl; room = h; ends = refl; is = refl })
 
 module _ {big : Bool} {w : ℕ} {d₀ d : List ℕ} {at o : ℕ} {left all : List ℕ} (a : Writing big w d₀ d at o left all) where
-  pub writing_end : left ≡ [] → (d ≡ placed d₀ at (numbers_of big w all)) × (o ≡ at + w * length all)
+  pub writing_out : left ≡ [] → d ≡ placed d₀ at (numbers_of big w all)
   unfolding numbers_of
-  writing_end e =
+  writing_out e = sym (placed_none d o) ∙ ap (λ (l : List ℕ). placed d o (numbers_of big w l)) (sym e) ∙ a.is
+
+  pub writing_next : left ≡ [] → o ≡ at + w * length all
+  writing_next e =
       let z : w * length left ≡ 0 = ap (λ (l : List ℕ). w * length l) e ∙ mul-zero w in
-      (sym (placed_none d o) ∙ ap (λ (l : List ℕ). placed d o (numbers_of big w l)) (sym e) ∙ a.is, omega (arith, a.ends))
+      omega (arith, a.ends)
 
   module _ (xs ys : List ℕ) (e : left ≡ xs ++ ys) where
     lengths : w * length left ≡ w * length xs + w * length ys
@@ -157,3 +160,10 @@ module _ (has : List Bool) (w : List ℕ) (first k n number : ℕ) {big : Bool} 
   pub cells_more : {v : List ℕ} {next : ℕ} → v ≡ placed d o (numbers_of big 4 (numbers_if (get_or has k false) number)) → next ≡ o + 4 * length (numbers_if (get_or has k false) number)
       → Writing big 4 d₀ v at next (cells_from has w first (k + 1) (n - (k + 1))) all
   cells_more p q = writing_more a (numbers_if (get_or has k false) number) (cells_from has w first (k + 1) (n - (k + 1))) (cells_turn has w first k n h e) p q
+
+-- what the proofs of the loops cite
+pub ruleset codes_put = (writing_out, writing_next, codes_end, codes_room)
+
+pub ruleset cells_put = (writing_out, writing_next, cells_end, cells_room)
+
+pub ruleset map_put = (writing_out, map_end)

@@ -30,7 +30,7 @@ use Rattle.kept.specs.declared.writing.SlotNumbers.TheVariants.{Identities, Rows
 use Rattle.kept.specs.Regions.{record_words}
 use Rattle.kept.proofs.Columning.{columns_are}
 use Rattle.kept.proofs.Recording.{records_turn, records_end}
-use Rattle.kept.proofs.Numbering.{Writing, writing_room, writing_more, codes_suc, cells_suc, if_le}
+use Rattle.kept.proofs.Numbering.{Writing, writing_out, writing_next, writing_room, writing_more, codes_suc, cells_suc, if_le}
 
 -- one piece behind another
 pub placed_then : (d x y : List ℕ) (at o : ℕ) {u v : List ℕ} → at + length x ≤ length d → o ≡ at + length x → u ≡ placed d at x → v ≡ placed u o y → v ≡ placed d at (x ++ y)
@@ -230,7 +230,7 @@ module _ (f : IndexForm) (w : List ℕ) (n : ℕ) (slots : List ℕ) (columns : 
         all_many = simp length-append (omega (arith, simp length-append at front));
       }
 
-  pub front_written : (d : List ℕ) (at : ℕ) {a b c : List ℕ} {rows : ℕ} → rows ≡ at + 16 + 8 * length slots → at + 16 + 12 * length slots ≤ length d
+  front_written : (d : List ℕ) (at : ℕ) {a b c : List ℕ} {rows : ℕ} → rows ≡ at + 16 + 8 * length slots → at + 16 + 12 * length slots ≤ length d
       → a ≡ placed d at H → b ≡ placed a (at + 16) (S Identities) → c ≡ placed b rows (S Rows) → c ≡ placed d at (front_in f columns w slots)
   unfolding front_in
   front_written d at {rows = rows} o room p₁ p₂ p₃ =
@@ -262,6 +262,13 @@ module _ (f : IndexForm) (w : List ℕ) (n : ℕ) (slots : List ℕ) (columns : 
       let s₆ = placed_then d (X ++ C ++ G 0) (G 1) at sizes (omega (arith, z.all_many)) (omega arith) s₅ p₆ in
       s₆ ∙ ap (λ (m : ℕ). placed d at (front_in f m w slots ++ C ++ G 0 ++ G 1)) q
 
+-- head and slots, of however many records
+pub front_put : (f : IndexForm) (w slots : List ℕ) (columns : ℕ) (d : List ℕ) (at : ℕ) {a b c : List ℕ} {rows : ℕ} → rows ≡ at + 16 + 8 * length slots → at + 16 + 12 * length slots ≤ length d
+    → a ≡ placed d at (start_bytes f.big (version_for f.five) ++ numbers_of f.big 4 (columns ∷ f.rows ∷ length slots ∷ []))
+    → b ≡ placed a (at + 16) (numbers_of f.big (slot_width Identities) (map (slot_number Identities w) slots))
+    → c ≡ placed b rows (numbers_of f.big (slot_width Rows) (map (slot_number Rows w) slots)) → c ≡ placed d at (front_in f columns w slots)
+front_put f w slots columns d at = front_written f w 0 slots columns d at
+
 -- ---- turns of the loops
 module _ (f : IndexForm) (w : List ℕ) (which i n : ℕ) {d₀ d : List ℕ} {at o : ℕ} {all : List ℕ} (a : Writing f.big 4 d₀ d at o (grid_from f w which i (n - i)) all) (h : i < n) where
   pub grid_room : o + 4 * length (grid_from f w which i 1) ≤ length d
@@ -271,18 +278,14 @@ module _ (f : IndexForm) (w : List ℕ) (which i n : ℕ) {d₀ d : List ℕ} {a
       → Writing f.big 4 d₀ v at next (grid_from f w which (i + 1) (n - (i + 1))) all
   grid_more p q = writing_more a (grid_from f w which i 1) (grid_from f w which (i + 1) (n - (i + 1))) (grid_turn f w which i n h) p q
 
--- one record, where it is one of another table or of this one
-pub row_none : (big : Bool) (d : List ℕ) (at : ℕ) (x : List ℕ) → x ≡ [] → (d ≡ placed d at (numbers_of big 4 x)) × (at ≡ at + 4 * length x)
-unfolding numbers_of
-row_none big d at x e = rw e (sym (placed_none d at), omega arith)
+-- what the proofs of one row and of all cite
+pub ruleset grid_put = (writing_out, writing_next, grid_end, grid_room)
 
-pub row_room : (f : IndexForm) (w : List ℕ) (which i at room : ℕ) {x : List ℕ} → grid_from f w which i 1 ≡ x → at + 4 * length (grid_from f w which i 1) ≤ room → at + 4 * length x ≤ room
-row_room f w which i at room e h = rw e at h
+pub ruleset grid_rows = (grid_other, grid_own, place_few, placed_none)
 
-pub row_some : (big : Bool) (d v : List ℕ) (at next : ℕ) (x y : List ℕ) → x ≡ y → (v ≡ placed d at (numbers_of big 4 y)) × (next ≡ at + 4 * length y) → (v ≡ placed d at (numbers_of big 4 x)) × (next ≡ at + 4 * length x)
-row_some big d v at next x y e h = rw e h
+pub index_many : (f : IndexForm) (w : List ℕ) (n : ℕ) (slots : List ℕ)
+    → length (index_in f w n slots) ≡ 16 + 12 * length slots + 4 * length (codes_in f.five f.has) + 4 * length (grid_from f w 0 0 n) + 4 * length (grid_from f w 1 0 n)
+index_many f w n slots = (pieces f w n slots 0).all_many
 
--- how much room there is for each piece
-module _ (f : IndexForm) (w : List ℕ) (n : ℕ) (slots : List ℕ) (columns at room : ℕ) (fits : at + length (index_in f w n slots) ≤ room) where
-  pub piece_room : at + 16 + 12 * length slots + 4 * length (codes_in f.five f.has) + 4 * length (grid_from f w 0 0 n) + 4 * length (grid_from f w 1 0 n) ≤ room
-  piece_room = omega (arith, (pieces f w n slots columns).all_many)
+-- what the proof of the whole cites
+pub ruleset index_put = (index_many, index_written)

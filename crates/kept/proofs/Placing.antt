@@ -22,7 +22,7 @@ use Rattle.kept.specs.Regions.{Layout, records_region, slots_region, record_word
 use Rattle.kept.proofs.RegionStores.{part_stored, region_room, region_fits, length_region, store_length, others_stay, own_stored, records_within, slots_within, records_slots, slots_records, one_word}
 use Rattle.numbers.specs.Limits.{work_for_word}
 use Rattle.kept.specs.Records.{KeptUnit, cell_words, words_of, record_at, of_table, identities_in, records_from}
-use Rattle.kept.specs.Slots.{Within, sought_in, SeenHeld, slots_in, Placeable, Seekable, SlotsLeft, Fitting, Placed, PlacedAll, Keepable, kept_in}
+use Rattle.kept.specs.Slots.{sought_in, SeenHeld, slots_in, Placeable, Seekable, SlotsLeft, Fitting, Placed, PlacedAll, Keepable, kept_in}
 use Rattle.std.specs.Prelude.{Ok, Err}
 use Rattle.kept.proofs.Recording.{words_long, identities_snoc, identities_other, identities_many}
 use Rattle.kept.proofs.Seeking.{sought_inside}
@@ -54,10 +54,6 @@ module _ (words : ℕ) (w : List ℕ) (table n count : ℕ) (can : Placeable wor
 
   pub slots_end : (from : ℕ) → from ≡ (slots_region table).start * words → from + count ≤ length w
   slots_end from e = omega (arith, slots_fit)
-
-  pub seek_asks : (r s : List ℕ) → r ≡ region w words records_region → s ≡ slots_in w words table count → Within (slots_in w words table count) n
-      → PowerOfTwo (length s) × Within s n × (record_words * n ≤ length r)
-  seek_asks r s e f i = rw (e, f) (slots_power, i, omega (arith, records_long, can.units))
 
   -- one slot stored
   module _ (at number : ℕ) (inside : at < count) where

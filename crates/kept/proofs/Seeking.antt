@@ -8,7 +8,7 @@ use native.Mathlib.Omega.{arith}
 use lib.ListN.{length, get_or}
 use Rattle.index.specs.Probing.{Probe, found, absent, first_slot, stride, look, search, free_from}
 use Rattle.index.specs.Held.{PowerOfTwo}
-use Rattle.index.proofs.Masks.{first_slot_lt}
+use Rattle.index.proofs.Masks.{first_slot_lt, stride_le}
 use Rattle.index.proofs.LawGrid.{get_d_map}
 use Rattle.index.proofs.LawLooks.{look_unused, look_found, look_on}
 use Rattle.index.proofs.Placing.{free_here, free_on, free_inside}
@@ -80,7 +80,9 @@ module _ {w slots : List ℕ} {x at by looks : ℕ} (s : Seeking w slots x at by
             free = sym (free_on slots by (length slots - (looks + 1)) at (λ u. used (r ∙ u))) ∙ free_left;
           })
 
--- a number in the slots is that of a record that is stored
+-- what the proof of the walk cites
+pub ruleset seek_ends = (seek_last, seek_free, seek_known, stride_le)
+
 -- ---- a free slot is one of the slots
 pub sought_inside : (w slots : List ℕ) (x at : ℕ) → PowerOfTwo (length slots) → Err at ≡ sought_in w slots x → at < length slots
 unfolding sought_in sought_as free_for

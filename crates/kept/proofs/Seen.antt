@@ -5,16 +5,17 @@ use mathlib.Core.Bool.{Bool, true, false}
 use mathlib.Core.List.{List, [], ◌∷◌, ◌++◌, map}
 use Prim.Native.Nat.{ℕ, zero, suc, ◌+◌, ◌-◌, ◌<◌, ◌≤◌}
 use native.Mathlib.Omega.{arith}
-use native.Mathlib.Decide.{ℕ_discrete, dec_lt}
+use native.Mathlib.Decide.{ℕ_discrete}
 use lib.ListN.{length, get_or, set, length-set, length-map}
 use lib.Seq.{get_or-set_same, get_or-set_other}
+use Rattle.std.proofs.Math.ListN.{get_or-map}
+use Rattle.std.proofs.lemmas.List.{map-set}
 use Rattle.octets.specs.Octets.{zeros}
 use Rattle.octets.specs.Lists.{has, distinct}
 use Rattle.octets.proofs.Placed.{length_zeros, get_d_zeros}
 use Rattle.octets.proofs.Elements.{at_has, has_not_at}
 use Rattle.index.specs.Probing.{Probe, found, absent, first_slot, stride, free_from, search, Slots, place, place_all, unused}
 use Rattle.index.specs.Held.{PowerOfTwo}
-use Rattle.index.proofs.LawGrid.{get_d_map}
 use Rattle.index.proofs.Placing.{put, place_put}
 use Rattle.index.proofs.LawPlaced.{distinct_is, Placed}
 use Rattle.index.proofs.Found.{placed_found, placed_absent}
@@ -24,14 +25,8 @@ use Rattle.kept.specs.Records.{record_at, identity_for, row_for}
 use Rattle.kept.specs.Slots.{free_for, sought_as, sought_in, SeenHeld}
 use Rattle.std.specs.Prelude.{Ok, Err}
 use Rattle.kept.proofs.Recording.{identity_none, identity_some, row_none, row_some}
-use Rattle.kept.proofs.Moved.{get_d_past}
 
 -- ---- lists of numbers by a function
-map_set : (f : ℕ → ℕ) (l : List ℕ) (i v : ℕ) → map f (set l i v) ≡ set (map f l) i (f v)
-map_set f [] i v = refl
-map_set f (x ∷ l) zero v = refl
-map_set f (x ∷ l) (suc i) v = ap (λ (z : List ℕ). f x ∷ z) (map_set f l i v)
-
 map_same : (f g : ℕ → ℕ) (l : List ℕ) → ((k : ℕ) → f (get_or l k 0) ≡ g (get_or l k 0)) → map f l ≡ map g l
 map_same f g [] e = refl
 map_same f g (x ∷ l) e = let r = map_same f g l (λ k. e (suc k)) in rw (e 0, r)
@@ -42,10 +37,7 @@ map_zeros f zero e = refl
 map_zeros f (suc n) e = let r = map_zeros f n e in rw (e, r)
 
 pub map_at : (f : ℕ → ℕ) (l : List ℕ) (k : ℕ) → f 0 ≡ 0 → get_or (map f l) k 0 ≡ f (get_or l k 0)
-map_at f l k e = elim (dec_lt k (length l)) [
-  | yes h ↦ get_d_map f l k 0 h
-  | no h ↦ get_d_past (map f l) 0 k (omega (arith, length-map l f)) ∙ sym e ∙ ap f (sym (get_d_past l 0 k (omega arith)))
-]
+map_at f l k e = ap (get_or (map f l) k) (sym e) ∙ get_or-map f l k 0
 
 -- ---- none
 pub seen_none : (w : List ℕ) (n m : ℕ) → SeenHeld w (zeros m) n []
@@ -136,8 +128,8 @@ module _ {w slots : List ℕ} {n : ℕ} {xs : List ℕ} (s : SeenHeld w slots n 
                 let there = get_or-set_other slots at k (n + 1) 0 f in
                 there ∙ s.used k (ap (row_for w) (sym there) ∙ z)
           ];
-          rows = map_set (row_for w) slots at (n + 1) ∙ rw (number_row, s.rows, ← q) refl;
-          identities = map_set (identity_for w) slots at (n + 1) ∙ rw (number_identity, s.identities, ← q) refl;
+          rows = map-set (row_for w) slots at (n + 1) ∙ rw (number_row, s.rows, ← q) refl;
+          identities = map-set (identity_for w) slots at (n + 1) ∙ rw (number_identity, s.identities, ← q) refl;
         }
 
     -- ---- known or not

@@ -55,7 +55,7 @@ const NOTHING: Contribution = Contribution { offset: 0, size: 0 };
 
 // ---- stored. Callers keep room, and numbers of 32 bits.
 // Offset and size for each column.
-#[tactic(auto, using(crate::proofs::Columning::column_offset, crate::proofs::Columning::column_size))]
+#[tactic(auto, using(crate::proofs::Columning::column_offset, crate::proofs::Columning::column_size, crate::proofs::Copying::cells_stored))]
 fn store_cells(five: bool, words: &mut [u32], at: usize, cells: Contributions)
     requires { (at + cell_words ≤ length words.old) × CellsFit cells }
     ensures { words.new ≡ placed words.old at (cells_of five cells) }

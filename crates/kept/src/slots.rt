@@ -47,6 +47,7 @@ impl<'a> Slots<'a> {
     }
 
     // Where a walk ends: at the number of a record of the identity, or else at a free slot.
+    #[tactic(auto, using(crate::proofs::Seeking::seek_ends))]
     pub fn seek(self, x: u64) -> Result<usize, usize>
         requires { PowerOfTwo (length self.slots.now) }
         ensures { result ≡ sought_in self.entry.records.words.now self.entry.slots.now x }
@@ -92,6 +93,7 @@ pub fn seen_slots(words: usize) -> usize
 
 // The same walk in work, for a bundle of so many words; count slots of the table are at hand, and n records.
 // Work and words stay parameters here and in the following: a struct of both would hold lent work, and callers lend other parts of it between two calls.
+#[tactic(auto, unfolding(crate::specs::Slots::slots_in))]
 pub fn seek_in(
     work: &[u32],
     words: usize,
@@ -145,6 +147,7 @@ pub fn place_units(work: &mut [u32], words: usize, table: usize, n: usize, count
 }
 
 // The record of a unit behind count others, and its number in a free slot of its table. Callers have sought the slot.
+#[tactic(auto, using(crate::proofs::Placing::kept_by), unfolding(crate::specs::Records::unit_of))]
 pub fn keep(
     work: &mut [u32],
     words: usize,

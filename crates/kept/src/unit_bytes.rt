@@ -37,6 +37,7 @@ impl Records<'_> {
     }
 
     // Of all units. The caller has filed them, and has room for all.
+    #[tactic(auto, using(crate::proofs::Copying::copying_end, crate::proofs::Copying::bytes_end))]
     pub fn copy_units(self, b: &[u8], home: usize, out: &mut [u8], at: usize)
         requires { UnitsInside b.now self.words.now self.count × (at + length (bytes_from b.now self.words.now home 0 self.count) ≤ length out.old) }
         ensures { out.new ≡ placed out.old at (bytes_from b.now self.entry.words.now home 0 self.entry.count) }

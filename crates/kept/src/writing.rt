@@ -112,6 +112,7 @@ impl IndexForm {
         }
     }
 
+    #[tactic(auto, using(crate::proofs::Pieces::head_written))]
     fn put_head(self, columns: usize, slots: usize, out: &mut [u8], at: usize)
         requires { at + 16 ≤ length out.old }
         ensures { out.new ≡ placed out.old at (start_bytes self.big (version_for self.five) ++ numbers_of self.big 4 (columns ∷ self.rows ∷ slots ∷ [])) }
@@ -122,6 +123,7 @@ impl IndexForm {
 
     // ---- slots
     // One number for each slot.
+    #[tactic(auto, using(crate::proofs::Numbering::map_put))]
     fn put_slots(self, numbers: SlotNumbers, slots: Slots, out: &mut [u8], at: usize)
         requires { at + slot_width numbers * length slots.slots.now ≤ length out.old }
         ensures { out.new ≡ placed out.old at (numbers_of self.big (slot_width numbers) (map (slot_number numbers slots.entry.records.words.now) slots.entry.slots.now)) }
@@ -137,7 +139,7 @@ impl IndexForm {
 
     // ---- columns
     // The codes of the columns that are there; the place behind them.
-    #[tactic(auto, using(crate::proofs::Columning::places_many, crate::proofs::Columning::columns_are))]
+    #[tactic(auto, using(crate::proofs::Columning::columns_passed, crate::proofs::Numbering::codes_put))]
     fn put_codes(self, out: &mut [u8], at: usize) -> usize
         requires { at + 4 * length (codes_in self.five self.has) ≤ length out.old }
         ensures out { out.new ≡ placed out.old at (numbers_of self.big 4 (codes_in self.five self.has)) }
@@ -152,6 +154,7 @@ impl IndexForm {
 
     // ---- a number for each row and column
     // One record: the words from a place on, two apart. The place behind them.
+    #[tactic(auto, using(crate::proofs::Numbering::cells_put))]
     fn put_cells(self, records: &[u32], first: usize, out: &mut [u8], at: usize) -> usize
         requires { (first + 15 ≤ length records.now) × (at + 4 * length (cells_from self.has records.now first 0 (length (columns_for self.five))) ≤ length out.old) }
         ensures out { out.new ≡ placed out.old at (numbers_of self.big 4 (cells_from self.has records.now first 0 (length (columns_for self.five)))) }
@@ -166,6 +169,7 @@ impl IndexForm {
     }
 
     // Record i, where it is one of the table. The place behind it.
+    #[tactic(auto, using(crate::proofs::Pieces::grid_rows), unfolding(octets::specs::Octets::numbers_of))]
     fn put_row(self, records: Records, i: usize, which: Figures, out: &mut [u8], at: usize) -> usize
         requires { (i < records.count) × (at + 4 * length (grid_from self records.words.now (place_of which) i 1) ≤ length out.old) }
         ensures out { out.new ≡ placed out.old at (numbers_of self.big 4 (grid_from self records.entry.words.now (place_of which) i 1)) }
@@ -178,6 +182,7 @@ impl IndexForm {
     }
 
     // All records.
+    #[tactic(auto, using(crate::proofs::Pieces::grid_put))]
     fn put_grid(self, records: Records, which: Figures, out: &mut [u8], at: usize) -> usize
         requires { at + 4 * length (grid_from self records.words.now (place_of which) 0 records.count) ≤ length out.old }
         ensures out { out.new ≡ placed out.old at (numbers_of self.big 4 (grid_from self records.entry.words.now (place_of which) 0 records.entry.count)) }
@@ -192,6 +197,7 @@ impl IndexForm {
 
     // ---- the index
     // Head and slots.
+    #[tactic(auto, using(crate::proofs::Pieces::front_put), unfolding(crate::specs::Indexed::slot_width))]
     fn put_front(self, columns: usize, slots: Slots, out: &mut [u8], at: usize)
         requires { at + 16 + 12 * length slots.slots.now ≤ length out.old }
         ensures { out.new ≡ placed out.old at (front_in self columns slots.entry.records.words.now slots.entry.slots.now) }
@@ -203,6 +209,7 @@ impl IndexForm {
     }
 
     // The caller keeps room for it, and has placed the records of the table, among those that are stored.
+    #[tactic(auto, using(crate::proofs::Pieces::index_put))]
     pub fn write_index(self, slots: Slots, out: &mut [u8], at: usize)
         requires { at + length (index_in self slots.records.words.now slots.records.count slots.slots.now) ≤ length out.old }
         ensures { out.new ≡ placed out.old at (index_in self slots.entry.records.words.now slots.entry.records.count slots.entry.slots.now) }

@@ -8,9 +8,6 @@ use Prim.Native.Nat.{ℕ, ◌+◌, ◌≤◌, ◌<◌}
 use native.Mathlib.Omega.{arith}
 use lib.Dec.{eqb}
 use borrow.Author.Tests.{le-leb, lt-leb}
-use Rattle.numbers.specs.Tabled.{table_number}
-use Rattle.numbers.specs.declared.tables.Table.{Table}
-use Rattle.numbers.specs.declared.tables.Table.TheVariants.{Compilation, «Type»}
 use Rattle.octets.specs.Checked.{pass, refuse}
 use Rattle.octets.proofs.Checks.{fails, passes}
 use Rattle.bundle.specs.Bundle.{Part as BundlePart, count, first_part}

@@ -14,7 +14,6 @@ use Rattle.octets.proofs.Parts.{part_cut}
 use Rattle.std.specs.Prelude.{Some, None, Result, Ok, Err}
 use Rattle.numbers.specs.Refused.{told, number_of}
 use Rattle.numbers.specs.declared.refusals.Refusal.{Refusal}
-use Rattle.numbers.specs.declared.tables.Table.{Table}
 use Rattle.bundle.specs.Bundle.{count, first_part, body}
 use Rattle.bundle.specs.Scan.{start_of, size_of, scan_of}
 use Rattle.bundle.proofs.Sections.{body_part}

@@ -10,8 +10,6 @@ use Rattle.numbers.specs.Sections.{str_offsets_code, str_code, cu_index_code, tu
 use Rattle.numbers.specs.Refusals.{bad_package, no_string_there}
 use Rattle.numbers.specs.Refused.{number_of}
 use Rattle.numbers.specs.declared.refusals.Refusal.{Refusal}
-use Rattle.numbers.specs.declared.tables.Table.{Table}
-use Rattle.numbers.specs.declared.tables.Table.TheVariants.{Compilation, «Type»}
 use Rattle.octets.specs.Octets.{part as cut}
 use Rattle.octets.specs.Checked.{Check, pass, refuse, ◌>>=◌, mapped, renumbered}
 use Rattle.bundle.specs.Encoding.{Encoding, encoding_of}

@@ -30,7 +30,7 @@ ghost use Rattle.lookup.specs.Answers.{
 
 use crate::opening::PackageHead;
 use crate::package::Package;
-use index::cells::Contribution;
+use index::cells::{Contribution, Row};
 use index::probing::Probed;
 use index::reading::{Index, IndexHead};
 use numbers::refusals::Refusal;
@@ -136,11 +136,11 @@ impl<'a> Package<'a> {
 
     // The part of a section in a row of an index.
     #[tactic(auto, using(crate::proofs::Searches::row_placed, crate::proofs::Searches::row_missing), unfolding(octets::specs::Checked::mapped))]
-    fn row_part(&self, index: &Index, row: usize, section: usize) -> Result<Place, Refusal>
-        requires { (section < section_codes) × (0 < row) × (row ≤ index.now.units) }
-        ensures { mapped placed (told result) ≡ part_place (package_in self.now.bytes.now) index.now row section }
+    fn row_part(&self, row: Row, section: usize) -> Result<Place, Refusal>
+        requires { section < section_codes }
+        ensures { mapped placed (told result) ≡ part_place (package_in self.now.bytes.now) row.entry.index.now row.entry.number section }
     {
-        match index.cell_of(row, section) {
+        match row.cell(section) {
             Some(cell) => self.place_in(section, cell),
             None => Ok(Place { start: 0, size: 0 }),
         }
@@ -162,7 +162,11 @@ impl<'a> Package<'a> {
         let Some(slot) = slot else {
             return Ok(Located { place: None, looks });
         };
-        let place = self.row_part(&index, index.row_at(slot), section)?;
+        let row = Row {
+            index: &index,
+            number: index.row_at(slot),
+        };
+        let place = self.row_part(row, section)?;
         Ok(Located {
             place: Some(place),
             looks,

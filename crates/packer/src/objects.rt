@@ -14,12 +14,8 @@ ghost use Rattle.packer.specs.Objects.{
 
 use bundle::{Item, Scan};
 use filing::input::InputObject;
-use index::cells::COLUMNS;
-use kept::state::{InProgress, Skipped};
-use kept::{Table, Units};
+use kept::state::InProgress;
 use numbers::refusals::Refusal;
-use numbers::sections::CODES;
-use strings::table::StringTable;
 
 // The object at hand: the byte order, the first object's word and its own, and where its sections start.
 #[derive(Clone, Copy)]
@@ -82,32 +78,7 @@ pub fn add_input_object(
 fn nothing_filed() -> InProgress
     ensures { result ≡ none_filed }
 {
-    InProgress {
-        units: Units {
-            count: 0,
-            cu: Table {
-                rows: 0,
-                has: [false; COLUMNS],
-            },
-            tu: Table {
-                rows: 0,
-                has: [false; COLUMNS],
-            },
-            info: 0,
-            types: 0,
-        },
-        bases: [0; CODES],
-        strings: StringTable {
-            count: 0,
-            size: 0,
-            entries: 0,
-            over: false,
-        },
-        skipped: Skipped {
-            repeats: 0,
-            namesakes: 0,
-        },
-    }
+    InProgress::default()
 }
 
 // All objects, into work whose slots are cleared, and what is held after them. The caller has checked 1 to 3.

@@ -26,9 +26,6 @@ pub record PartsAhead (e : Encoding) (s ms : List ℕ) (ts : List Contribution) 
   pub sizes : (c : Contribution) → is_one ahead c ≡ true → get_or ms c.offset 0 ≡ c.size
   pub same : good_end e s ts ≡ good_end e s ahead
 
-pub parts_all : (e : Encoding) (s ms : List ℕ) (ts : List Contribution) → TiledBy ms ts → PartsAhead e s ms ts 0
-parts_all e s ms ts t = record { ahead = ts; tiling = t.tiling; sizes = t.sizes; same = refl }
-
 -- the part there
 pub record PartHere (e : Encoding) (s ms : List ℕ) (ts : List Contribution) (at : ℕ) : Type 0 where
   pub some : 1 ≤ get_or ms at 0

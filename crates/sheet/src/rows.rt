@@ -107,7 +107,7 @@ impl<'a> IndexTable<'a> {
         LINE * head.columns * head.units
     }
 
-    // The line of a row, counted from 1, in column k.
+    // The line of a row, counted from 1, in column k. By its number: a `Row` of this index would hold the index again, and that it is this one had to be said.
     fn line_of(&self, row: usize, identity: u64, k: usize) -> Line
         requires { (0 < row) × (row ≤ self.now.index.units) × (k < length self.now.index.codes) }
         ensures { CellLine self.now.letter self.now.index identity k ((row - 1) * length self.now.index.codes + k) result }

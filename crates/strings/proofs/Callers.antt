@@ -1,6 +1,7 @@
 -- What callers read from the answers of the code.
 -- Assumes nothing.
-use mathlib.Core.Path.{◌≡◌, refl, ap, ◌∙◌}
+use native.Mathlib.Omega.{arith}
+use mathlib.Core.Path.{◌≡◌, refl}
 use mathlib.Core.List.{List}
 use Prim.Native.Nat.{ℕ}
 use lib.ListN.{length}
@@ -12,7 +13,7 @@ use Rattle.strings.specs.Strings.{entries_in, entries_of}
 use Rattle.strings.specs.Kept.{bytes_at}
 use Rattle.strings.specs.Objects.{entries_at}
 use Rattle.strings.specs.declared.table.StrOffsets.{StrOffsets}
-use Rattle.strings.proofs.StrOffsets.{entries_whole, whole_entries}
+use Rattle.strings.proofs.StrOffsets.{entries_whole}
 
 -- what check_entries answers
 read_count : (n : ℕ) (m : Check (List ℕ)) → pass n ≡ mapped length m → (ns : List ℕ) × (m ≡ pass ns) × (n ≡ length ns)
@@ -26,10 +27,7 @@ read_ill n (pass ns) e = cc
 read_ill n (refuse k) e = cc
 
 pub entries_counted : (e : Encoding) (s : List ℕ) (n : ℕ) → pass n ≡ mapped length (entries_of e s) → (n ≡ length (entries_in e s)) × (entries_of e s ≡ pass (entries_in e s))
-entries_counted e s n p =
-    let r = read_count n (entries_of e s) p in
-    let w = entries_whole e s r.0 r.1 in
-    (r.2 ∙ ap length w.1, whole_entries e s w.0)
+entries_counted e s n p = grind (arith, read_count, entries_whole)
 
 -- of an object's section, as StrOffsets cuts it out
 pub section_counted : (o : StrOffsets) (b : List ℕ) (e : ObjectEncoding) (s : List ℕ) → e ≡ o.encoding → s ≡ bytes_at b o.offsets

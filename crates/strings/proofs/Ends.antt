@@ -85,11 +85,7 @@ up_to_is n (b ∷ s) t e =
 -- a refusal has the number that was handed in
 pub up_to_refused : (n m : ℕ) (s : List ℕ) → up_to_zero n s ≡ refuse m → n ≡ m
 up_to_refused n m [] e = refuse_inj (sym (up_to_none n) ∙ e)
-up_to_refused n m (b ∷ s) e =
-    ⊎_elim (λ p. absurd (pass_refuse [] m (sym (up_to_zero_law n b s (eqb-true b 0 p)) ∙ e)))
-    (λ p.
-    ⊎_elim (λ r. up_to_refused n m s r) (λ r. absurd (pass_refuse (b ∷ r.0) m r.2))
-    (bind_refuse (up_to_zero n s) (λ u. pass (b ∷ u)) m (sym (up_to_more n b s (eqb-false b 0 p)) ∙ e))) (known (eqb b 0))
+up_to_refused n m (b ∷ s) e = grind (arith, up_to_zero_law, up_to_more, bind_refuse, eqb-true, eqb-false, up_to_refused n m s)
 
 -- ---- at an offset
 pub record StringIs (s : List ℕ) (offset : ℕ) (t : List ℕ) : Type 0 where
@@ -125,8 +121,7 @@ strings_at_none str = refl
 pub strings_at_cons : (str : List ℕ) (o : ℕ) (os : List ℕ) (s : List ℕ) (ss : List (List ℕ)) → string_at 9 str o ≡ pass s → strings_at str os ≡ pass ss
     → strings_at str (o ∷ os) ≡ pass (s ∷ ss)
 unfolding strings_at
-strings_at_cons str o os s ss e g =
-    then_pass (string_at 9 str o) (λ t. strings_at str os >>= λ ts. pass (t ∷ ts)) s e ∙ then_pass (strings_at str os) (λ ts. pass (s ∷ ts)) ss g
+strings_at_cons str o os s ss e g = grind (arith, then_pass)
 
 -- an entry with its string, and those behind it with theirs
 pub record Split (str : List ℕ) (o : ℕ) (os : List ℕ) (all : List (List ℕ)) : Type 0 where
@@ -145,28 +140,19 @@ strings_at_split str o os all e =
 
 pub length_strings_at : (str os : List ℕ) (all : List (List ℕ)) → strings_at str os ≡ pass all → length all ≡ length os
 length_strings_at str [] all e = ap length (sym (pass_inj (sym (strings_at_none str) ∙ e)))
-length_strings_at str (o ∷ os) all e =
-    let k = strings_at_split str o os all e in
-    rw (← k.whole) (ap suc (length_strings_at str os k.others k.others_are))
+length_strings_at str (o ∷ os) all e = let k = strings_at_split str o os all e in grind (arith, k.whole, length_strings_at str os k.others k.others_are)
 
 -- entry k names string k
 pub strings_at_at : (str os : List ℕ) (all : List (List ℕ)) (i : ℕ) → strings_at str os ≡ pass all → i < length os → string_at 9 str (get_or os i 0) ≡ pass (get_or all i [])
 strings_at_at str [] all i e h = absurd (not-suc-le-zero h)
 strings_at_at str (o ∷ os) all zero e h = let k = strings_at_split str o os all e in rw (← k.whole) k.first_is
-strings_at_at str (o ∷ os) all (suc i) e h =
-    let k = strings_at_split str o os all e in
-    rw (← k.whole) (strings_at_at str os k.others i k.others_are (le_of_suc-le-suc h))
+strings_at_at str (o ∷ os) all (suc i) e h = let k = strings_at_split str o os all e in grind (arith, k.whole, strings_at_at str os k.others i k.others_are (le_of_suc-le-suc h))
 
 -- the only refusal is 9, and one entry without a string gives it
 pub strings_at_refused : (str os : List ℕ) (n : ℕ) → strings_at str os ≡ refuse n → n ≡ 9
 unfolding strings_at
 strings_at_refused str [] n e = absurd (pass_refuse [] n e)
-strings_at_refused str (o ∷ os) n e =
-    ⊎_elim (λ p. sym (string_at_refused 9 n str o p))
-    (λ p.
-    ⊎_elim (λ q. strings_at_refused str os n q) (λ q. absurd (pass_refuse (p.0 ∷ q.0) n q.2))
-    (bind_refuse (strings_at str os) (λ ts. pass (p.0 ∷ ts)) n p.2))
-    (bind_refuse (string_at 9 str o) (λ t. strings_at str os >>= λ ts. pass (t ∷ ts)) n e)
+strings_at_refused str (o ∷ os) n e = grind (arith, bind_refuse, string_at_refused, strings_at_refused str os)
 
 pub judged : {A : Type 0} (m : Check A) → ((a : A) × (m ≡ pass a)) ⊎ ((n : ℕ) × (m ≡ refuse n))
 judged (pass a) = inl (a, refl)
@@ -182,9 +168,7 @@ pub strings_at_snoc : (str os : List ℕ) (o : ℕ) (ss : List (List ℕ)) (s : 
     → strings_at str (os ++ (o ∷ [])) ≡ pass (ss ++ (s ∷ []))
 strings_at_snoc str [] o ss s e g =
     rw (← pass_inj (sym (strings_at_none str) ∙ e)) (strings_at_cons str o [] s [] g (strings_at_none str))
-strings_at_snoc str (p ∷ os) o ss s e g =
-    let k = strings_at_split str p os ss e in
-    rw (← k.whole) (strings_at_cons str p (os ++ (o ∷ [])) k.first (k.others ++ (s ∷ [])) k.first_is (strings_at_snoc str os o k.others s k.others_are g))
+strings_at_snoc str (p ∷ os) o ss s e g = let k = strings_at_split str p os ss e in grind (arith, k.whole, k.first_is, strings_at_cons, strings_at_snoc str os o k.others s k.others_are g)
 
 -- a turn of a loop over the entries
 pub strings_at_turn : (str os : List ℕ) (i : ℕ) (ss : List (List ℕ)) (s : List ℕ) → i < length os → strings_at str (take i os) ≡ pass ss

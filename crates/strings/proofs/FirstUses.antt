@@ -9,8 +9,8 @@ use native.Mathlib.Nat.{not-suc-le-zero, le_of_suc-le-suc}
 use native.Mathlib.Omega.{arith}
 use lib.ListN.{length, get_or, length-append}
 use Rattle.octets.specs.Lists.{any, same}
-use Rattle.octets.proofs.Checks.{known, or_left, or_right, or_neither}
-use Rattle.octets.proofs.Lists.{same_refl, same_sym, any_cons, any_stops, any_append, any_none_head, any_none_tail}
+use Rattle.octets.proofs.Checks.{known, or_left, or_right}
+use Rattle.octets.proofs.Lists.{same_refl, same_sym, any_stops, any_append, any_none_tail}
 use Rattle.strings.specs.Strings.{put, put_all, first_uses}
 use Rattle.strings.specs.Indexed.{Distinct}
 
@@ -44,16 +44,9 @@ put_new table s e = rw (put, e)
 pub in_append : (table more : List (List ℕ)) (s : List ℕ) → is_in table s ≡ true → is_in (table ++ more) s ≡ true
 in_append table more s e = any_append (same s) table more ∙ or_left (is_in table s) (is_in more s) e
 
-pub in_behind : (table more : List (List ℕ)) (s : List ℕ) → is_in more s ≡ true → is_in (table ++ more) s ≡ true
-in_behind table more s e = any_append (same s) table more ∙ or_right (is_in table s) (is_in more s) e
-
-pub in_one : (s : List ℕ) → is_in (s ∷ []) s ≡ true
-in_one s = any_stops (same s) s [] (same_refl s)
-
 -- the table grows only at its end
 pub put_grows : (table : List (List ℕ)) (s : List ℕ) → (more : List (List ℕ)) × (put table s ≡ table ++ more)
-put_grows table s =
-    ⊎_elim (λ p. ([], put_known table s p ∙ sym (append-nil table))) (λ p. (s ∷ [], put_new table s p)) (known (is_in table s))
+put_grows table s = ⊎_elim (λ p. ([], put_known table s p ∙ sym (append-nil table))) (λ p. (s ∷ [], put_new table s p)) (known (is_in table s))
 
 pub put_all_grows : (table used : List (List ℕ)) → (more : List (List ℕ)) × (put_all table used ≡ table ++ more)
 unfolding put_all
@@ -64,8 +57,7 @@ put_all_grows table (s ∷ ss) =
     (p.0 ++ q.0, q.1 ∙ ap (λ (z : List (List ℕ)). z ++ q.0) p.1 ∙ append_assoc table p.0 q.0)
 
 pub length_put : (table : List (List ℕ)) (s : List ℕ) → length (put table s) ≤ length table + 1
-length_put table s =
-    ⊎_elim (λ p. rw (put_known table s p) (omega arith)) (λ p. rw (put_new table s p, length-append table (s ∷ [])) (omega arith)) (known (is_in table s))
+length_put table s = grind (arith, put_known, put_new, length-append)
 
 pub length_put_all : (table used : List (List ℕ)) → length (put_all table used) ≤ length table + length used
 unfolding put_all
@@ -78,8 +70,7 @@ length_first_uses used = omega (arith, length_put_all [] used)
 
 -- ---- every used string is in the table
 pub put_has : (table : List (List ℕ)) (s : List ℕ) → is_in (put table s) s ≡ true
-put_has table s =
-    ⊎_elim (λ p. rw (put_known table s p) p) (λ p. rw (put_new table s p) (in_behind table (s ∷ []) s (in_one s))) (known (is_in table s))
+put_has table s = grind (arith, put_known, put_new, any_append, or_right, any_stops, same_refl)
 
 pub put_keeps : (table : List (List ℕ)) (s t : List ℕ) → is_in table t ≡ true → is_in (put table s) t ≡ true
 put_keeps table s t e = let p = put_grows table s in rw p.1 (in_append table p.0 t e)
@@ -101,14 +92,10 @@ used_in_law used i h = put_all_has [] used i h
 pub distinct_snoc : (table : List (List ℕ)) (s : List ℕ) → Distinct table → is_in table s ≡ false → Distinct (table ++ (s ∷ []))
 unfolding any Distinct
 distinct_snoc [] s d e = (refl, tt)
-distinct_snoc (t ∷ ts) s d e =
-    let new : same s t ≡ false = any_none_head (same s) t ts e in
-    let back : same t s ≡ false = same_sym t s ∙ new in
-    (any_append (same t) ts (s ∷ []) ∙ or_neither (is_in ts t) (is_in (s ∷ []) t) d.0 (any_cons (same t) s [] back), distinct_snoc ts s d.1 (any_none_tail (same s) t ts e))
+distinct_snoc (t ∷ ts) s d e = grind (arith, same_sym, any_append, distinct_snoc ts s d.1 (any_none_tail (same s) t ts e))
 
 pub put_distinct : (table : List (List ℕ)) (s : List ℕ) → Distinct table → Distinct (put table s)
-put_distinct table s d =
-    ⊎_elim (λ p. rw (put_known table s p) d) (λ p. rw (put_new table s p) (distinct_snoc table s d p)) (known (is_in table s))
+put_distinct table s d = grind (arith, put_known, put_new, distinct_snoc)
 
 pub put_all_distinct : (table used : List (List ℕ)) → Distinct table → Distinct (put_all table used)
 unfolding put_all

@@ -4,8 +4,7 @@ use mathlib.Core.Path.{◌≡◌}
 use mathlib.Core.Bool.{false}
 use mathlib.Core.List.{List}
 use Prim.Native.Nat.{ℕ, suc, ◌+◌, ◌*◌, ◌-◌, ◌/◌, ◌%◌, ◌<◌, ◌≤◌, ◌^◌}
-use native.Mathlib.Nat.{sub-zero, add-zero, zero-div, mod-lt, mul-lt-mul_of_pos_right, div-lt_iff_lt-mul}
-use native.Mathlib.Decide.{dec_le}
+use native.Mathlib.Nat.{sub-zero, add-zero, zero-div, mod-lt}
 use native.Mathlib.Omega.{arith}
 use lib.ListN.{length, drop, get_or, get_or-eq_default}
 use lib.Seq.{drop-drop}
@@ -28,11 +27,7 @@ unfolding hash_of
 hash_long s h = rw (hash_of, le-ltb (length s) 8 h)
 
 pub hash_lt : (s : List ℕ) → hash_of s < 2 ^ 32
-hash_lt s =
-    elim (dec_le 8 (length s)) [
-      | yes h ↦ rw (hash_long s h) (mixed_lt (groups_from ((length s - 1) / 8) 0 s) (number_at false 8 s (length s - 8)))
-      | no h ↦ rw (hash_short s (omega arith)) (mixed_lt 0 (number_at false (length s) s 0))
-    ]
+hash_lt s = grind (arith, hash_long, mixed_lt, hash_short)
 
 -- ---- the groups of a long string: those that are left from a place on
 unfoldable pub left : ℕ → ℕ → ℕ
@@ -53,6 +48,7 @@ pub groups_end : (h : ℕ) (s : List ℕ) (at : ℕ) → length s - 8 ≤ at →
 unfolding groups_from left
 groups_end h s at l = let e : (length s - 1 - at) / 8 ≡ 0 = omega arith in rw e
 
+-- what the check of `long_hash` is given
 pub ruleset long_turns = (mixed_lt, hash_long, groups_start, groups_turn, groups_end)
 
 -- ---- where a search starts
@@ -62,9 +58,7 @@ root_low room s = omega arith
 
 pub root_high : (room : ℕ) (s : List ℕ) → 1 ≤ room → root_of room s < 7 * room
 unfolding root_of
-root_high room s h =
-    let less : hash_of s * room / 2 ^ 32 < room = (div-lt_iff_lt-mul {k = 2 ^ 32} {x = hash_of s * room} {y = room} (omega arith)).1 (omega (arith, mul-lt-mul_of_pos_right (hash_lt s) h)) in
-    omega arith
+root_high room s h = grind (arith, hash_lt)
 
 -- ---- the side on which a search goes on
 pub side_lt : (s : List ℕ) (step : ℕ) → side s step < 2

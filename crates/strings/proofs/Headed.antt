@@ -12,12 +12,14 @@ use Rattle.octets.specs.Checked.{Check, pass, refuse, ◌>>=◌}
 use Rattle.octets.proofs.Checks.{then_pass, then_refuse, bind_pass, pass_inj}
 use Rattle.octets.proofs.Parts.{part_add, part_is, part_none, length_part}
 use Rattle.bundle.specs.Encoding.{Encoding}
+use Rattle.bundle.specs.Encoded.{encoding_is}
 use Rattle.bundle.specs.InitialLength.{length_field, length_stated}
 use Rattle.strings.specs.Strings.{header_size, entries_in, entries_of, strings_at}
 use Rattle.strings.specs.Kept.{bytes_at, Kept}
 use Rattle.strings.specs.Remembered.{Putting}
-use Rattle.strings.specs.Headed.{piece_size, Headed, strings_of_all}
+use Rattle.strings.specs.Headed.{piece_size, Headed, HeadedOf, strings_of_all}
 use Rattle.strings.specs.declared.table.Place.{Place}
+use Rattle.strings.specs.declared.table.StrOffsets.{StrOffsets}
 use Rattle.strings.specs.declared.table.StringTable.{StringTable}
 use Rattle.strings.proofs.Headers.{is_five_law, not_five}
 use Rattle.strings.proofs.StrOffsets.{Sound, entries_whole, header_within, entries_few}
@@ -32,6 +34,7 @@ module _ (e : Encoding) (s : List ℕ) where
   unfolding piece_size
   size_four v = rw (piece_size, ne_eqb e.version 5 v)
 
+-- what the check of `piece_size` is given
 pub ruleset sizes = (is_five_law, not_five, size_five, size_four)
 
 -- ---- the piece at the front
@@ -56,50 +59,23 @@ unfolding Headed
 headed_end e s [] h l = refl
 headed_end e s (p ∷ ps) h l = absurd (omega (arith, ap length h.1 ∙ length-append p h.0, h.2))
 
--- in the bytes of a bundle from a place on
-module _ (e : Encoding) (ok : Sound e) (b : List ℕ) (at n : ℕ) (fits : at + n ≤ length b) (ps : List (List ℕ)) (f : Front e (part b at n) ps) where
-  long : length f.piece + length f.rest ≡ n
-  long = sym (length-append f.piece f.rest) ∙ ap length (sym f.shape) ∙ length_part b at n fits
-
-  front_within : length f.piece ≤ n
-  front_within = omega (arith, long)
-
-  front_header : header_size e ≤ length (part b at n)
-  front_header = omega (arith, header_within e f.piece ok (entries_whole e f.piece (entries_in e f.piece) f.entries).0.header, length_part b at n fits, front_within)
-
-  front_size : piece_size e (part b at n) ≤ length (part b at n)
-  front_size = omega (arith, f.size, front_within, length_part b at n fits)
-
-  module _ (size : ℕ) (is : size ≡ length f.piece) where
-    split : part b at size ++ part b (at + size) (n - size) ≡ f.piece ++ f.rest
-    split = let z : size + (n - size) ≡ n = omega (arith, front_within) in sym (part_add b at size (n - size)) ∙ ap (part b at) z ∙ f.shape
-
-    own_long : length (part b at size) ≡ size
-    own_long = length_part b at size (omega (arith, front_within))
-
-    front_piece : part b at size ≡ f.piece
-    front_piece =
-        sym (take_at (part b at size) (part b (at + size) (n - size)) size own_long) ∙ ap (take size) split ∙ take_at f.piece f.rest size (sym is)
-
-    front_rest : part b (at + size) (n - size) ≡ f.rest
-    front_rest =
-        sym (drop_at (part b at size) (part b (at + size) (n - size)) size own_long) ∙ ap (drop size) split ∙ drop_at f.piece f.rest size (sym is)
-
-    front_few : 4 * length (entries_in e (part b at size)) ≤ size
-    front_few = omega (arith, entries_few e (part b at size) ok, own_long)
-
 -- ---- a walk over pieces that has come to a place of the bundle and goes on to an end
 module _ (e : Encoding) (ok : Sound e) (b : List ℕ) (at end : ℕ) (inside : end ≤ length b) (ps : List (List ℕ)) (h : Headed e (part b at (end - at)) ps) where
   module _ (more : at < end) where
-    fits : at + (end - at) ≤ length b
-    fits = omega arith
+    long : length (part b at (end - at)) ≡ end - at
+    long = length_part b at (end - at) (omega arith)
 
     pub walk_front : Front e (part b at (end - at)) ps
-    walk_front = headed_front e (part b at (end - at)) ps h (omega (arith, length_part b at (end - at) fits))
+    walk_front = headed_front e (part b at (end - at)) ps h (omega (arith, long))
+
+    whole : length walk_front.piece + length walk_front.rest ≡ end - at
+    whole = sym (length-append walk_front.piece walk_front.rest) ∙ ap length (sym walk_front.shape) ∙ long
 
     -- as the code cuts it
     pub walk_asks : (header_size e ≤ length (take (end - at) (drop at b))) × (piece_size e (take (end - at) (drop at b)) ≤ length (take (end - at) (drop at b)))
-    walk_asks = rw (part_is b at (end - at)) (front_header e ok b at (end - at) fits ps walk_front, front_size e ok b at (end - at) fits ps walk_front)
+    walk_asks =
+        let header = header_within e walk_front.piece ok (entries_whole e walk_front.piece (entries_in e walk_front.piece) walk_front.entries).0.header in
+        rw (part_is b at (end - at)) (omega (arith, header, long, whole), omega (arith, walk_front.size, long, whole))
 
     module _ (size : ℕ) (q : size ≡ piece_size e (take (end - at) (drop at b))) where
       size_is : size ≡ length walk_front.piece
@@ -109,24 +85,28 @@ module _ (e : Encoding) (ok : Sound e) (b : List ℕ) (at end : ℕ) (inside : e
       walk_some = omega (arith, size_is, walk_front.some)
 
       pub walk_within : at + size ≤ end
-      walk_within = omega (arith, size_is, front_within e ok b at (end - at) fits ps walk_front)
+      walk_within = omega (arith, size_is, whole)
+
+      own_long : length (part b at size) ≡ size
+      own_long = length_part b at size (omega (arith, walk_within))
 
       walk_few : 4 * length (entries_in e (part b at size)) ≤ size
-      walk_few = front_few e ok b at (end - at) fits ps walk_front size size_is
+      walk_few = omega (arith, entries_few e (part b at size) ok, own_long)
+
+      abbrev rest : List ℕ
+      rest = part b (at + size) (end - (at + size))
+
+      split : part b at size ++ rest ≡ walk_front.piece ++ walk_front.rest
+      split = let z : size + (end - (at + size)) ≡ end - at = omega (arith, walk_within) in sym (part_add b at size (end - (at + size))) ∙ ap (part b at) z ∙ walk_front.shape
 
       pub walk_own : part b at size ≡ walk_front.piece
-      walk_own = front_piece e ok b at (end - at) fits ps walk_front size size_is
+      walk_own = sym (take_at (part b at size) rest size own_long) ∙ ap (take size) split ∙ take_at walk_front.piece walk_front.rest size (sym size_is)
 
-      pub walk_on : Headed e (part b (at + size) (end - (at + size))) walk_front.others
-      walk_on =
-          let n : end - at - size ≡ end - (at + size) = omega arith in
-          let rest : part b (at + size) (end - (at + size)) ≡ walk_front.rest = ap (part b (at + size)) (sym n) ∙ front_rest e ok b at (end - at) fits ps walk_front size size_is in
-          subst (λ (l : List ℕ). Headed e l walk_front.others) (sym rest) walk_front.on
+      pub walk_on : Headed e rest walk_front.others
+      walk_on = rw (sym (drop_at (part b at size) rest size own_long) ∙ ap (drop size) split ∙ drop_at walk_front.piece walk_front.rest size (sym size_is)) walk_front.on
 
   pub walk_end : end ≤ at → ps ≡ []
-  walk_end g =
-      let z : end - at ≡ 0 = omega arith in
-      headed_end e (part b at (end - at)) ps h (ap (λ (n : ℕ). length (part b at n)) z ∙ ap length (part_none b at))
+  walk_end g = grind (arith, headed_end, part_none)
 
 -- ---- the strings of pieces
 module _ (e : Encoding) (str : List ℕ) where
@@ -155,9 +135,7 @@ module _ (e : Encoding) (str : List ℕ) where
   all_more : (done : List (List ℕ)) (p : List ℕ) (used us : List (List ℕ)) → strings_of_all e str done ≡ pass used → strings_at str (entries_in e p) ≡ pass us
       → strings_of_all e str (done ++ (p ∷ [])) ≡ pass (used ++ us)
   unfolding strings_of_all ◌>>=◌
-  all_more done p used us d q =
-      all_behind done (p ∷ []) used d
-      ∙ then_pass (strings_of_all e str (p ∷ [])) _ us (then_pass (strings_at str (entries_in e p)) _ us q ∙ ap pass (append-nil us))
+  all_more done p used us d q = grind (arith, all_behind done (p ∷ []) used d, then_pass, append-nil)
 
   all_refused : (done : List (List ℕ)) (p : List ℕ) (ps used : List (List ℕ)) (n : ℕ) → strings_of_all e str done ≡ pass used → strings_at str (entries_in e p) ≡ refuse n
       → strings_of_all e str (done ++ (p ∷ ps)) ≡ refuse n
@@ -174,19 +152,14 @@ pub record PiecesPut (b : List ℕ) (e : Encoding) (strings : Place) (region mem
   pub are : strings_of_all e (bytes_at b strings) done ≡ pass used
   pub putting : Putting b strings region memo t (ts ++ used)
 
--- a section as the walk over it begins
-pub headed_cut : (e : Encoding) (b : List ℕ) (offsets : Place) (ps : List (List ℕ)) → Headed e (bytes_at b offsets) ps
-    → Headed e (part b offsets.start (offsets.start + offsets.size - offsets.start)) ps
-unfolding bytes_at
-headed_cut e b offsets ps h =
-    let z : offsets.size ≡ offsets.start + offsets.size - offsets.start = omega arith in
-    subst (λ (n : ℕ). Headed e (part b offsets.start n) ps) z h
-
-pub pieces_none : (b : List ℕ) (e : Encoding) (strings : Place) (region memo : List ℕ) (t : StringTable) (ts ps : List (List ℕ)) (at end : ℕ)
-    → Putting b strings region memo t ts → Headed e (part b at (end - at)) ps → PiecesPut b e strings region memo t ts ps at end
-unfolding strings_of_all
-pieces_none b e strings region memo t ts ps at end p h =
-    record { done = []; ahead = ps; all = refl; headed = h; used = []; are = refl; putting = rw (append-nil ts) p }
+-- as the walk over a section begins
+pub pieces_none : (b : List ℕ) (o : StrOffsets) (region memo : List ℕ) (t : StringTable) (ts ps : List (List ℕ)) → Putting b o.strings region memo t ts → HeadedOf o b ps
+    → PiecesPut b (encoding_is o.encoding) o.strings region memo t ts ps o.offsets.start (o.offsets.start + o.offsets.size)
+unfolding strings_of_all bytes_at
+pieces_none b o region memo t ts ps p h =
+    let z : o.offsets.size ≡ o.offsets.start + o.offsets.size - o.offsets.start = omega arith in
+    let headed = subst (λ (n : ℕ). Headed (encoding_is o.encoding) (part b o.offsets.start n) ps) z h in
+    record { done = []; ahead = ps; all = refl; headed = headed; used = []; are = refl; putting = rw (append-nil ts) p }
 
 module _ (b : List ℕ) (e : Encoding) (ok : Sound e) (strings : Place) (region memo : List ℕ) (t : StringTable) (ts ps : List (List ℕ)) (at end : ℕ) (inside : end ≤ length b)
     (p : PiecesPut b e strings region memo t ts ps at end) where
@@ -224,13 +197,8 @@ module _ (b : List ℕ) (e : Encoding) (ok : Sound e) (strings : Place) (region 
 
     -- one is missing
     pub pieces_missing : (n : ℕ) → strings_at (bytes_at b strings) (entries_in e (bytes_at b piece)) ≡ refuse n → strings_of_all e (bytes_at b strings) ps ≡ refuse n
-    pieces_missing n g =
-        ap (strings_of_all e (bytes_at b strings)) (p.all ∙ ap (λ (l : List (List ℕ)). p.done ++ l) front.parts)
-        ∙ all_refused e (bytes_at b strings) p.done front.piece front.others p.used n p.are (entries_own ∙ g)
+    pieces_missing n g = grind (arith, all_refused, entries_own)
 
   -- none is left
   pub pieces_all : end ≤ at → (more : List (List ℕ)) × (strings_of_all e (bytes_at b strings) ps ≡ pass more) × Kept b region t (ts ++ more)
-  pieces_all h =
-      let none : p.ahead ≡ [] = walk_end e ok b at end inside p.ahead p.headed h in
-      let are : strings_of_all e (bytes_at b strings) ps ≡ pass p.used = ap (strings_of_all e (bytes_at b strings)) (p.all ∙ ap (λ (l : List (List ℕ)). p.done ++ l) none ∙ append-nil p.done) ∙ p.are in
-      (p.used, are, p.putting.kept)
+  pieces_all h = let none = walk_end e ok b at end inside p.ahead p.headed h in (p.used, grind (arith, p.all, p.are, none, append-nil), p.putting.kept)

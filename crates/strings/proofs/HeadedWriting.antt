@@ -1,5 +1,6 @@
 -- Pieces written one behind the other, each with the next of the numbers; and what comes out where the numbers are the places of the strings that their entries name.
 -- Assumes nothing.
+use Rattle.std.proofs.lemmas.Grind.{common_steps}
 use mathlib.Core.Path.{◌≡◌, refl, sym, ap, ap₂, ◌∙◌}
 use mathlib.Core.List.{List, [], ◌∷◌, ◌++◌, map, append_assoc}
 use Prim.Native.Nat.{ℕ, ◌+◌, ◌*◌, ◌-◌, ◌<◌, ◌≤◌}
@@ -28,19 +29,12 @@ use Rattle.strings.proofs.Headed.{Front, walk_front, walk_asks, walk_some, walk_
 pub piece_put : (e : Encoding) (s ns d x y : List ℕ) (at h w : ℕ) → h ≡ header_size e → w ≡ e.width → header_size e ≤ length s → at + header_size e ≤ length d → x ≡ placed d at (take h s)
     → y ≡ placed x (at + h) (numbers_of e.big w ns) → y ≡ placed d at (piece_with e s ns)
 unfolding piece_with
-piece_put e s ns d x y at h w g v within room p q =
-    let front = take (header_size e) s in
-    let l : length front ≡ header_size e = length-take-le (header_size e) s within in
-    q ∙ ap (λ (n : ℕ). placed x (at + h) (numbers_of e.big n ns)) v
-    ∙ ap₂ (λ (z : List ℕ) (n : ℕ). placed z (at + n) (numbers_of e.big e.width ns)) (p ∙ ap (λ (n : ℕ). placed d at (take n s)) g) (g ∙ sym l)
-    ∙ placed_placed d at front (numbers_of e.big e.width ns) (omega arith)
+piece_put e s ns d x y at h w g v within room p q = grind (arith, common_steps, length-take-le, placed_placed)
 
 -- as long as the piece that it stands for
 length_piece_with : (e : Encoding) (s ns : List ℕ) → Sound e → Whole e s → length ns ≡ length (entries_in e s) → length (piece_with e s ns) ≡ length s
 unfolding piece_with
-length_piece_with e s ns ok whole count =
-    length-append (take (header_size e) s) (numbers_of e.big e.width ns)
-    ∙ rw (length-take-le (header_size e) s (header_within e s ok whole.header), length_numbers_of e.big e.width ns, count) (whole_length e s ok whole)
+length_piece_with e s ns ok whole count = grind (arith, length-append, length-take-le, length_numbers_of, whole_length)
 
 -- ---- all pieces: those ahead of a place are to be written still, with the numbers that are left
 pub record PiecesAhead (e : Encoding) (s ns : List ℕ) (ps : List (List ℕ)) (from first : ℕ) (d₀ d : List ℕ) (at : ℕ) : Type 0 where
@@ -125,6 +119,7 @@ module _ (e : Encoding) (ok : Sound e) (s ns : List ℕ) (ps : List (List ℕ)) 
     unfolding pieces_with
     ahead_none = sym (placed_none d (at + from)) ∙ ap (λ (l : List (List ℕ)). placed d (at + from) (pieces_with e l (drop first ns))) (sym none) ∙ p.left
 
+-- what the check of `write_pieces` is given
 pub ruleset pieces_written =
     (part_cut, length_part, sound, walk_asks, walk_some, ahead_all, ahead_header, ahead_size, ahead_count, ahead_more, ahead_counted, ahead_none)
 
@@ -144,18 +139,13 @@ record Named (e : Encoding) (str p : List ℕ) (ps used : List (List ℕ)) : Typ
 
 named : (e : Encoding) (str p : List ℕ) (ps used : List (List ℕ)) → strings_of_all e str (p ∷ ps) ≡ pass used → Named e str p ps used
 unfolding strings_of_all
-named e str p ps used q =
-    let x = bind_pass (strings_at str (entries_in e p)) _ used q in
-    let y = bind_pass (strings_of_all e str ps) _ used x.2 in
-    record { us = x.0; vs = y.0; own = x.1; others = y.1; are = pass_inj y.2; count = sym (length_strings_at str (entries_in e p) x.0 x.1) }
+named e str p ps used q = grind (arith, bind_pass, length_strings_at)
 
 -- each entry names a string
 pub entries_all_used : (e : Encoding) (str : List ℕ) (ps used : List (List ℕ)) → strings_of_all e str ps ≡ pass used → entries_all e ps ≡ length used
 unfolding entries_all strings_of_all
 entries_all_used e str [] used q = ap length (pass_inj q)
-entries_all_used e str (p ∷ ps) used q =
-    let k = named e str p ps used q in
-    ap₂ (λ (m n : ℕ). m + n) k.count (entries_all_used e str ps k.vs k.others) ∙ sym (length-append k.us k.vs) ∙ ap length k.are
+entries_all_used e str (p ∷ ps) used q = let k = named e str p ps used q in grind (arith, k.count, k.are, length-append, entries_all_used e str ps k.vs k.others)
 
 pub pieces_with_used : (e : Encoding) (table : List (List ℕ)) (str : List ℕ) (ps used : List (List ℕ)) (rest : List ℕ) → strings_of_all e str ps ≡ pass used
     → pieces_with e ps (map (offset_in table) used ++ rest) ≡ remapped_pieces e table str ps
@@ -176,9 +166,7 @@ pieces_with_used e table str (p ∷ ps) used rest q =
 -- where strings of later sections follow, and whatever else
 pub pieces_with_more : (e : Encoding) (table : List (List ℕ)) (str : List ℕ) (ps used later : List (List ℕ)) (rest : List ℕ) → strings_of_all e str ps ≡ pass used
     → pieces_with e ps (map (offset_in table) (used ++ later) ++ rest) ≡ remapped_pieces e table str ps
-pieces_with_more e table str ps used later rest q =
-    ap (pieces_with e ps) (ap (λ (l : List ℕ). l ++ rest) (map-append (offset_in table) used later) ∙ append_assoc (map (offset_in table) used) (map (offset_in table) later) rest)
-    ∙ pieces_with_used e table str ps used (map (offset_in table) later ++ rest) q
+pieces_with_more e table str ps used later rest q = grind (arith, map-append, append_assoc, pieces_with_used)
 
 -- four bytes or more for each entry
 pub entries_all_few : (e : Encoding) (ps : List (List ℕ)) → Sound e → 4 * entries_all e ps ≤ length (joined ps)
@@ -190,9 +178,7 @@ entries_all_few e (p ∷ ps) ok = omega (arith, entries_few e p ok, entries_all_
 module _ (region : List ℕ) (used : List (List ℕ)) (p : places_in region (length used) ≡ places_of used) where
   pub places_within : places_from (length region) + length used ≤ length region
   unfolding places_in places_of places_from part
-  places_within =
-      let l = ap length p ∙ length-map (offset_in (first_uses used)) used in
-      omega (arith, simp (length-take, length-drop) at l)
+  places_within = grind (arith, length-map, length-take, length-drop)
 
   -- behind those of the strings in front
   pub places_behind : (before more : List (List ℕ)) (first : ℕ) → used ≡ before ++ more → first ≡ places_from (length region) + length before

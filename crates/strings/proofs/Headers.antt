@@ -8,7 +8,7 @@ use native.Mathlib.Omega.{arith}
 use lib.Dec.{eqb, leb}
 use lib.ListN.{length, drop, get_or, length-drop}
 use lib.Seq.{drop-cons, get_or-drop}
-use borrow.Author.Tests.{lt-leb, le-leb, eq-eqb, ne_eqb}
+use borrow.Author.Tests.{lt-leb}
 use Rattle.octets.specs.Octets.{part, number_at}
 use Rattle.octets.specs.Lists.{FirstZero}
 use Rattle.octets.specs.Checked.{Check, pass, refuse, mapped}
@@ -53,17 +53,14 @@ module _ (e : ObjectEncoding) where
 
     module _ (n : ℕ) (q : n ≡ length_stated (encoding_is e) s) where
       pub header_rest : (n ≡ length s - field → ⊥) → false ≡ header_true (encoding_is e) s
-      header_rest h =
-          sym (true_five (encoding_is e) s (is_five_law five) ∙ not_left _ _ (not_left _ _ (not_right (leb (length_field (encoding_is e) + 4) (length s) && (eqb (encoding_is e).width 4 || marked (encoding_is e).big s)) _ (ne_eqb (length_stated (encoding_is e) s) (length s - length_field (encoding_is e)) (λ z. h (omega arith))))))
+      header_rest h = grind (arith, true_five, is_five_law)
 
       pub header_all : (r : Bool) → field + 4 ≤ length s → (eqb (encoding_is e).width 4 || marked e.big s) ≡ true → n ≡ length s - field
           → r ≡ (eqb (number_at e.big 2 s field) 5 && eqb (number_at e.big 2 s (field + 2)) 0) → r ≡ header_true (encoding_is e) s
       unfolding encoding_is
-      header_all r l m h g =
-          let there = le-leb (length_field (encoding_is e) + 4) (length s) (omega arith) in
-          let states = eq-eqb (length_stated (encoding_is e) s) (length s - length_field (encoding_is e)) (omega arith) in
-          rw p at g ∙ sym (true_five (encoding_is e) s (is_five_law five) ∙ rw (there, m, states))
+      header_all r l m h g = grind (arith, true_five, is_five_law)
 
+-- what the checks of `header_true` and `header_size` are given
 pub ruleset header_tests = (field_most, true_four, not_five, header_short, header_unmarked, header_rest, header_all)
 
 pub ruleset header_sizes = (sound, size_five, size_four)
@@ -82,9 +79,7 @@ module _ (e : Encoding) (s : List ℕ) where
 
     pub well_formed : header_true e s ≡ true → (length s - h) % w ≡ 0 → pass ((length s - h) / w) ≡ mapped length (entries_of e s)
     unfolding mapped
-    well_formed t g =
-        rw (p, q)
-        (ap pass (sym (length_entries_in e s)) ∙ sym (ap (mapped length) (whole_entries e s (record { header = t; even = rw (p, q) at g }))))
+    well_formed t g = rw (p, q) (grind (arith, length_entries_in, whole_entries))
 
     -- how many there are
     pub count_is : (length s - h) / w ≡ length (entries_in e s)
@@ -97,6 +92,7 @@ module _ (e : Encoding) (s : List ℕ) where
     pub entry_is : (k n : ℕ) → k < length (entries_in e s) → n ≡ number_at e.big w s (h + w * k) → n ≡ get_or (entries_in e s) k 0
     entry_is k n l g = g ∙ rw (p, q) (sym (entries_in_at e s k l))
 
+-- those of `check_entries` and `entry_at`
 pub ruleset entry_tests = (sound, header_within, ill_header, ill_rest, well_formed)
 
 pub ruleset entry_reads = (sound, entry_ends, entry_is)
@@ -124,11 +120,9 @@ module _ (n : ℕ) (s : List ℕ) (start end : ℕ) (f : FirstZero s start end) 
 
   pub read_none : length s ≤ end → refuse n ≡ mapped (string_place start) (string_at n s start)
   unfolding string_at mapped
-  read_none h =
-      let clean : NoZero (drop start s) =
-      not_has (drop start s) 0 (λ i g z. f.before (start + i) (omega arith) (omega (arith, length-drop start s)) (sym (get_or-drop start s i 0) ∙ z)) in
-      sym (ap (mapped (string_place start)) (up_to_never n (drop start s) clean))
+  read_none h = grind (arith, not_has, length-drop, get_or-drop, up_to_never)
 
+-- that of `string_at`
 pub ruleset string_reads = (read_beyond, read_found, read_none)
 
 -- ---- what callers read from it

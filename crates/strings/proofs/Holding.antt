@@ -4,13 +4,13 @@ use mathlib.Core.Path.{◌≡◌, refl, sym, ap, ◌∙◌}
 use mathlib.Core.Logic.{◌⊎◌, inl, inr, ⊎_elim}
 use mathlib.Core.Bool.{Bool, true, false}
 use mathlib.Core.List.{List, [], ◌∷◌, ◌++◌}
-use Prim.Native.Nat.{ℕ, zero, suc, ◌+◌, ◌*◌, ◌-◌, ◌/◌, ◌<◌, ◌≤◌}
+use Prim.Native.Nat.{ℕ, suc, ◌+◌, ◌*◌, ◌-◌, ◌/◌, ◌<◌, ◌≤◌}
 use native.Mathlib.Decide.{dec_le}
 use native.Mathlib.Omega.{arith}
 use Rattle.std.specs.Prelude.{Ok, Err}
 use lib.ListN.{length, get_or, length-append, get_or-append}
 use lib.Seq.{take-append-le, get_or_at, take_at}
-use Rattle.octets.specs.Octets.{part, placed}
+use Rattle.octets.specs.Octets.{placed}
 use Rattle.octets.specs.Lists.{same}
 use Rattle.octets.proofs.Lists.{same_eq, same_refl, ne_same}
 use Rattle.octets.proofs.Elements.{any_at}
@@ -25,7 +25,7 @@ use Rattle.strings.proofs.FirstUses.{is_in, distinct_snoc}
 use Rattle.strings.proofs.Offsets.{row_offset}
 use Rattle.strings.proofs.Places.{length_bytes_at}
 use Rattle.strings.proofs.Hashing.{root_high, side_lt}
-use Rattle.strings.proofs.Indexing.{Stands, Passing, passing_none, indexed_none, indexed_same, number_among, comes_inside, passing_more, passing_stands, passing_rises, passing_free, walk_stands, indexed_more}
+use Rattle.strings.proofs.Indexing.{Stands, Passing, passing_none, indexed_same, number_among, comes_inside, passing_more, passing_stands, passing_rises, passing_free, walk_stands, indexed_more}
 
 -- ---- a search
 -- what the row where it ended says of the string
@@ -34,9 +34,7 @@ module _ (b region : List ℕ) (n : ℕ) (table : List (List ℕ)) (k : Held b r
   sought_known = any_at (same s) [] table i (omega (arith, k.count, f.0)) (rw f.1 (same_refl s))
 
   pub sought_place : get_or region (3 * i + 2) 0 ≡ offset_in table s
-  sought_place =
-      let h : i < length table = omega (arith, k.count, f.0) in
-      (k.rows i f.0).place ∙ sym (row_offset table i k.distinct h) ∙ ap (offset_in table) f.1
+  sought_place = grind (arith, row_offset)
 
 -- where a row stands, and that its string lies in the bundle
 module _ (b region : List ℕ) (n : ℕ) (table : List (List ℕ)) (k : Held b region n table) (i : ℕ) (h : i < n) where
@@ -70,9 +68,7 @@ module _ {b region : List ℕ} {n : ℕ} {s : List ℕ} {steps at number : ℕ} 
 
   module _ (used : number ≡ 0 → ⊥) where
     met : (ts : List (List ℕ)) → Held b region n ts → (steps < number) × (number ≤ n)
-    met ts k =
-        let p = g.passing ts k in
-        (rw g.says (passing_rises (room_of region) region ts s steps at p n k.index (λ z. used (g.says ∙ z))), rw g.says (number_among (room_of region) region n ts k.index at (passing_stands (room_of region) region ts s steps at p n k.index)))
+    met ts k = grind (arith, passing_rises, number_among, passing_stands)
 
     -- there are no more steps than rows
     pub few_steps : ((ts : List (List ℕ)) × Held b region n ts) → (steps < n) × (number ≤ length region / 7)
@@ -108,27 +104,15 @@ other_row b s p h d = sym (ne_same s (bytes_at b p) (λ e. d (sym (length_bytes_
 -- ---- one row more
 pub held_none : (b region : List ℕ) → ((j : ℕ) → 6 * room_of region ≤ j → get_or region j 0 ≡ 0) → Held b region 0 []
 unfolding Distinct
-held_none b region z =
-    record {
-      count = refl;
-      room = omega arith;
-      rows = λ i h. absurd (omega arith);
-      distinct = tt;
-      index = indexed_none (room_of region) region z;
-    }
+held_none b region z = grind arith
 
 pub slot_inside : (b region : List ℕ) (n : ℕ) (table : List (List ℕ)) → Held b region n table → (s : List ℕ) (slot : ℕ) → 1 ≤ room_of region → EndsFree region table s slot → slot < length region
 unfolding room_of
-slot_inside b region n table k s slot some f =
-    omega (arith, comes_inside (room_of region) region n table k.index s some k.room f.steps f.walk.used, f.walk.is)
+slot_inside b region n table k s slot some f = grind (arith, comes_inside)
 
 -- an element where nothing was placed
 apart : (w : List ℕ) (at : ℕ) (x : List ℕ) (j : ℕ) → (at ≤ j → j < at + length x → ⊥) → at ≤ length w → get_or (placed w at x) j 0 ≡ get_or w j 0
-apart w at x j h l =
-    elim (dec_le at j) [
-      | yes p ↦ get_d_behind w at x j (elim (dec_le (at + length x) j) [ yes q ↦ q | no q ↦ absurd (h p (omega arith)) ]) l
-      | no p ↦ get_d_before w at x j (omega arith) l
-    ]
+apart w at x j h l = grind (arith, get_d_behind, get_d_before)
 
 -- words of the index: behind the rows, and none of the places of entries
 stands_apart : (room n j : ℕ) → n ≤ room → Stands room n j → (3 * room ≤ j) × ((j < 3 * room + 2 * n) ⊎ (6 * room ≤ j))
@@ -189,65 +173,31 @@ module _ (b region : List ℕ) (t : StringTable) (table : List (List ℕ)) (k : 
 
   in_row : (j : ℕ) → j < 3 * room_of region → get_or stored j 0 ≡ get_or words j 0
   unfolding linked
-  in_row j h =
-      not_slot j (λ e. omega (arith, slot_apart.0))
-      ∙ apart words (3 * room_of region + 2 * t.count) (0 ∷ 0 ∷ []) j (λ p q. omega arith) (omega (arith, more, enough, same_words))
+  in_row j h = grind (arith, not_slot, slot_apart, apart, enough, same_words)
 
   old_word : (j : ℕ) → Stands (room_of region) t.count j → (j ≡ slot → ⊥) → get_or stored j 0 ≡ get_or region j 0
   unfolding linked words row
-  old_word j p h =
-      let a = stands_apart (room_of region) t.count j k.room p in
-      not_slot j h
-      ∙ apart words (3 * room_of region + 2 * t.count) (0 ∷ 0 ∷ []) j (λ f g. ⊎_elim (λ l. omega arith) (λ l. omega (arith, more)) a.1) (omega (arith, more, enough, same_words))
-      ∙ apart region (3 * t.count) row j (λ f g. omega (arith, a.0, more)) (omega (arith, more, enough))
+  old_word j p h = grind (arith, stands_apart, not_slot, apart, enough, same_words)
 
   new_number : get_or stored slot 0 ≡ t.count + 1
   unfolding stored
   new_number =
       ap (λ (j : ℕ). get_or stored j 0) (omega arith) ∙ get_d_placed linked slot ((t.count + 1) ∷ []) 0 (omega arith) (omega (arith, slot_within, same_linked))
 
-  no_link : (on : ℕ) → on < 2 → ◌≡◌ {A = ℕ} (get_or (0 ∷ 0 ∷ []) on 0) 0
-  no_link zero h = refl
-  no_link (suc zero) h = refl
-  no_link (suc (suc on)) h = absurd (omega arith)
-
   new_links : (on : ℕ) → on < 2 → get_or stored (3 * room_of region + 2 * t.count + on) 0 ≡ 0
   unfolding linked
-  new_links on h =
-      not_slot (3 * room_of region + 2 * t.count + on) (λ e. ⊎_elim (λ l. omega arith) (λ l. omega (arith, more)) slot_apart.1)
-      ∙ get_d_placed words (3 * room_of region + 2 * t.count) (0 ∷ 0 ∷ []) on (omega arith) (omega (arith, more, enough, same_words))
-      ∙ no_link on h
+  new_links on h = grind (arith, not_slot, slot_apart, get_d_placed, enough, same_words)
 
   -- ---- rows
   old_row : (i : ℕ) → i < t.count → RowHeld b stored new i
   unfolding new words row
-  old_row i h =
-      let r = k.rows i h in
-      let e : (j : ℕ) → j < 3 * t.count → get_or stored j 0 ≡ get_or region j 0 =
-      (λ j g. in_row j (omega (arith, more)) ∙ get_d_before region (3 * t.count) row j g (omega (arith, more, enough))) in
-      let e₀ = e (3 * i) (omega arith) in
-      let e₁ = e (3 * i + 1) (omega arith) in
-      let e₂ = e (3 * i + 2) (omega arith) in
-      let l : i < length table = omega (arith, k.count) in
-      record {
-        fits = rw (e₀, e₁) r.fits;
-        bytes = rw (e₀, e₁) (r.bytes ∙ sym (get_or-append table (bytes_at b p ∷ []) [] i l));
-        place = rw e₂ (r.place ∙ ap (λ (z : List (List ℕ)). length (str_of z)) (sym (take-append-le i table (bytes_at b p ∷ []) (omega arith))));
-      }
+  old_row i h = grind (arith, in_row, get_d_before, enough, get_or-append, take-append-le)
 
   new_row : RowHeld b stored new t.count
   unfolding new words row
   new_row =
-      let e : (j : ℕ) → j < 3 → get_or stored (3 * t.count + j) 0 ≡ get_or row j 0 =
-      (λ j g. in_row (3 * t.count + j) (omega (arith, more)) ∙ get_d_placed region (3 * t.count) row j g (omega (arith, more, enough))) in
-      let e₀ : get_or stored (3 * t.count) 0 ≡ p.start = ap (λ (j : ℕ). get_or stored j 0) (omega arith) ∙ e 0 (omega arith) in
-      let e₁ : get_or stored (3 * t.count + 1) 0 ≡ p.size = e 1 (omega arith) in
-      let e₂ : get_or stored (3 * t.count + 2) 0 ≡ t.size = e 2 (omega arith) in
-      record {
-        fits = rw (e₀, e₁) fits;
-        bytes = rw (e₀, e₁) (sym (get_or_at table (bytes_at b p) [] [] t.count (sym k.count)));
-        place = e₂ ∙ at_end ∙ ap (λ (z : List (List ℕ)). length (str_of z)) (sym (take_at table (bytes_at b p ∷ []) t.count (sym k.count)));
-      }
+      let at : (j : ℕ) → j < 3 → get_or stored (3 * t.count + j) 0 ≡ get_or row j 0 = (λ j g. grind (arith, in_row, get_d_placed, enough)) in
+      grind (arith, at 0, at 1, at 2, get_or_at, take_at)
 
   pub held_more : Held b (row_added region slot t p) (t.count + 1) (table ++ (bytes_at b p ∷ []))
   unfolding row_added new words row linked stored
@@ -265,15 +215,7 @@ module _ (b region : List ℕ) (t : StringTable) (table : List (List ℕ)) (k : 
   -- the places of entries stay
   pub row_places : (m : ℕ) → m ≤ room_of region → places_in (row_added region slot t p) m ≡ places_in region m
   unfolding row_added words row linked stored places_in places_from room_of
-  row_places m h =
-      let from = 5 * (length region / 7) in
-      let e : 5 * (length stored / 7) ≡ from = ap (λ (l : ℕ). 5 * (l / 7)) same_length in
-      let e₀ : part stored from m ≡ part linked from m =
-      ⊎_elim (λ l. part_behind linked slot ((t.count + 1) ∷ []) from m (omega (arith, more)) (omega (arith, slot_within, same_linked)))
-      (λ l. part_before linked slot ((t.count + 1) ∷ []) from m (omega arith) (omega (arith, slot_within, same_linked))) slot_apart.1 in
-      ap (λ (a : ℕ). part stored a m) e ∙ e₀
-      ∙ part_behind words (3 * room_of region + 2 * t.count) (0 ∷ 0 ∷ []) from m (omega (arith, more)) (omega (arith, more, enough, same_words))
-      ∙ part_behind region (3 * t.count) row from m (omega (arith, more)) (omega (arith, more, enough))
+  row_places m h = grind (arith, same_length, part_behind, slot_within, same_linked, part_before, slot_apart, same_words)
 
 -- ---- the place of one entry more
 module _ (b region : List ℕ) (n : ℕ) (table : List (List ℕ)) (k : Held b region n table) (i v : ℕ) (h : i < room_of region) where
@@ -291,27 +233,8 @@ module _ (b region : List ℕ) (n : ℕ) (table : List (List ℕ)) (k : Held b r
   -- no row, link or root is there
   not_noted : (j : ℕ) → (j < 5 * room_of region) ⊎ (6 * room_of region ≤ j) → get_or noted j 0 ≡ get_or region j 0
   unfolding noted
-  not_noted j d =
-      apart region (places_from (length region) + i) (v ∷ []) j (λ p q. ⊎_elim (λ l. omega (arith, note.0)) (λ l. omega (arith, note.0)) d) (omega (arith, note.0, note.1))
-
-  row_noted : (i : ℕ) → i < n → RowHeld b noted table i
-  row_noted i l =
-      let r = k.rows i l in
-      let e₀ = not_noted (3 * i) (inl (omega (arith, k.room))) in
-      let e₁ = not_noted (3 * i + 1) (inl (omega (arith, k.room))) in
-      let e₂ = not_noted (3 * i + 2) (inl (omega (arith, k.room))) in
-      record { fits = rw (e₀, e₁) r.fits; bytes = rw (e₀, e₁) r.bytes; place = rw e₂ r.place }
+  not_noted j d = grind (arith, apart, note)
 
   pub held_noted : Held b (placed region (places_from (length region) + i) (v ∷ [])) n table
   unfolding noted
-  held_noted =
-      record {
-        count = k.count;
-        room = rw same_noted k.room;
-        rows = row_noted;
-        distinct = k.distinct;
-        index =
-            rw same_noted
-            (indexed_same (room_of region) region n table k.index noted
-            (λ j p. not_noted j (⊎_elim (λ l. inl (omega (arith, k.room))) (λ l. inr l) (stands_apart (room_of region) n j k.room p).1)));
-      }
+  held_noted = grind (arith, same_noted, indexed_same, not_noted, stands_apart)

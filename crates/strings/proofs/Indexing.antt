@@ -30,22 +30,11 @@ pub record LinkAt (room n j : ℕ) : Type 0 where
 unfoldable pub Stands : ℕ → ℕ → ℕ → Type 0
 Stands room n j = (6 * room ≤ j) ⊎ LinkAt room n j
 
--- free roots are the index of no strings
-pub indexed_none : (room : ℕ) (region : List ℕ) → ((j : ℕ) → 6 * room ≤ j → get_or region j 0 ≡ 0) → Indexed room region 0 []
-indexed_none room region z =
-    record {
-      reached = λ i h. absurd (omega arith);
-      roots = λ j h. omega (arith, z j h);
-      among = λ i on h g. absurd (omega arith);
-      later = λ i on h g. absurd (omega arith);
-    }
-
 module _ (room : ℕ) (w : List ℕ) (n : ℕ) (table : List (List ℕ)) (k : Indexed room w n table) where
   -- a word of the index holds the number of a row
   pub number_among : (j : ℕ) → Stands room n j → get_or w j 0 ≤ n
   unfolding Stands
-  number_among j p =
-      ⊎_elim (λ h. k.roots j h) (λ l. rw l.is (k.among l.row l.on l.within l.two)) p
+  number_among j p = grind arith
 
   module _ (s : List ℕ) where
     -- the words before lead on
@@ -66,30 +55,20 @@ module _ (room : ℕ) (w : List ℕ) (n : ℕ) (table : List (List ℕ)) (k : In
     pub comes_inside : 1 ≤ room → n ≤ room → (m : ℕ) → Led m → comes_to room w s m < 7 * room
     unfolding comes_to link_of
     comes_inside some fits zero u = root_high room s some
-    comes_inside some fits (suc m) u =
-        let used = u m (omega arith) in
-        omega (arith, number_among (comes_to room w s m) (stands m (λ j h. u j (omega arith))), side_lt s m)
+    comes_inside some fits (suc m) u = grind (arith, number_among, stands, side_lt)
 
     -- and the numbers there rise
     pub rises : (m : ℕ) → Led m → (get_or w (comes_to room w s m) 0 ≡ 0 → ⊥) → m < get_or w (comes_to room w s m) 0
     unfolding comes_to link_of
     rises zero u z = omega arith
-    rises (suc m) u z =
-        let c = comes_to room w s m in
-        let used = u m (omega arith) in
-        let le = number_among c (stands m (λ j h. u j (omega arith))) in
-        let low : m < get_or w c 0 = rises m (λ j h. u j (omega arith)) used in
-        omega (arith, k.later (get_or w c 0 - 1) (side s m) (omega arith) (side_lt s m) z)
+    rises (suc m) u z = grind (arith, number_among, stands, k.later, side_lt, rises m (λ j h. u j (omega arith)), u m)
 
     -- over words that say the same wherever they lead on
     module _ (x : List ℕ) (agree : (j : ℕ) → Stands room n j → (get_or w j 0 ≡ 0 → ⊥) → get_or x j 0 ≡ get_or w j 0) where
       pub comes_same : (m : ℕ) → Led m → comes_to room x s m ≡ comes_to room w s m
       unfolding comes_to
       comes_same zero u = refl
-      comes_same (suc m) u =
-          let v : Led m = λ j h. u j (omega arith) in
-          let e : get_or x (comes_to room x s m) 0 ≡ get_or w (comes_to room w s m) 0 = ap (λ (c : ℕ). get_or x c 0) (comes_same m v) ∙ agree (comes_to room w s m) (stands m v) (u m (omega arith)) in
-          ap (λ (number : ℕ). link_of room number (side s m)) e
+      comes_same (suc m) u = grind (arith, agree, stands, comes_same m (λ j h. u j (omega arith)), u m)
 
       pub walk_same : (steps at : ℕ) → Walk room w s steps at → Walk room x s steps at
       walk_same steps at v =
@@ -101,14 +80,7 @@ module _ (room : ℕ) (w : List ℕ) (n : ℕ) (table : List (List ℕ)) (k : In
           }
 
       pub reached_same : (number : ℕ) → Reached room w s (number + 1) → Reached room x s (number + 1)
-      reached_same number r =
-          let m = stands r.steps r.walk.used in
-          record {
-            steps = r.steps;
-            at = r.at;
-            walk = walk_same r.steps r.at r.walk;
-            holds = agree r.at (rw r.walk.is at m) (λ z. omega (arith, r.holds, z)) ∙ r.holds;
-          }
+      reached_same number r = record { steps = r.steps; at = r.at; walk = walk_same r.steps r.at r.walk; holds = grind (arith, agree, stands, r.walk.used, r.walk.is, r.holds) }
 
 -- what stores elsewhere leave
 pub indexed_same : (room : ℕ) (w : List ℕ) (n : ℕ) (table : List (List ℕ)) → Indexed room w n table

@@ -1,15 +1,15 @@
 -- The state of the table of kept strings: what putting one string leaves.
 -- Assumes nothing.
-use mathlib.Core.Path.{◌≡◌, refl, sym, ap, ap₂, ◌∙◌}
+use Rattle.std.proofs.Common.{rules}
+use mathlib.Core.Path.{◌≡◌, sym, ap, ap₂, ◌∙◌}
 use mathlib.Core.Bool.{true, false}
-use mathlib.Core.List.{List, [], ◌∷◌, ◌++◌, map}
+use mathlib.Core.List.{List, [], ◌∷◌, ◌++◌}
 use Prim.Native.Nat.{ℕ, ◌+◌, ◌*◌, ◌-◌, ◌<◌, ◌≤◌}
 use native.Mathlib.Omega.{arith}
 use Rattle.std.specs.Prelude.{Some, None, Ok}
 use lib.ListN.{length, get_or, length-append}
-use borrow.Author.Tests.{ltb-true, ltb-false, lt-ltb, le-ltb}
-use Rattle.octets.specs.Octets.{part, placed, zeros}
-use Rattle.octets.proofs.Checks.{true_false}
+use borrow.Author.Tests.{ltb-false, le-ltb}
+use Rattle.octets.specs.Octets.{placed, zeros}
 use Rattle.octets.proofs.Joined.{map-append}
 use Rattle.octets.proofs.Parts.{part_none, part_add}
 use Rattle.octets.proofs.Placed.{get_d_zeros, length_placed, placed_placed}
@@ -29,22 +29,12 @@ use Rattle.strings.proofs.Holding.{sought_known, sought_place, row_room, held_no
 -- one place more in the region
 places_more : (region : List ℕ) (m v : ℕ) → m < room_of region → places_in (placed region (places_from (length region) + m) (v ∷ [])) (m + 1) ≡ places_in region m ++ (v ∷ [])
 unfolding places_in places_from room_of
-places_more region m v h =
-    let from = places_from (length region) in
-    let at = from + m in
-    let x = placed region at (v ∷ []) in
-    let within : at + 1 ≤ length region = omega arith in
-    let same : length x ≡ length region = length_placed region at (v ∷ []) within in
-    ap (λ (n : ℕ). part x (places_from n) (m + 1)) same ∙ part_add x from m 1
-    ∙ ap₂ (λ (p q : List ℕ). p ++ q) (part_before region at (v ∷ []) from m (omega arith) within) (part_placed region at (v ∷ []) (omega arith))
+places_more region m v h = grind (arith, length_placed, part_add, part_before, part_placed)
 
 -- and for the strings used: those before keep theirs
 places_snoc : (used : List (List ℕ)) (s : List ℕ) → places_of (used ++ (s ∷ [])) ≡ places_of used ++ (offset_in (first_uses used) s ∷ [])
 unfolding places_of
-places_snoc used s =
-    let table = first_uses used in
-    ap (λ (z : List (List ℕ)). map (offset_in z) (used ++ (s ∷ []))) (first_uses_snoc used s) ∙ map-append (offset_in (put table s)) used (s ∷ [])
-    ∙ ap₂ (λ (p q : List ℕ). p ++ q) (offsets_keep table s used (used_in_law used)) (ap (λ (o : ℕ). o ∷ []) (offset_put table s))
+places_snoc used s = grind (arith, first_uses_snoc, map-append, offsets_keep, used_in_law, offset_put)
 
 -- ---- the state
 -- room for the place of one entry more
@@ -55,15 +45,7 @@ roomy_places region t r = omega (arith, r.more)
 -- no strings: the roots are free
 pub kept_none : (b region : List ℕ) → ((j : ℕ) → 6 * room_of region ≤ j → get_or region j 0 ≡ 0) → Kept b region none []
 unfolding first_uses put_all places_in places_of
-kept_none b region z =
-    record {
-      few = omega arith;
-      over = sym (le-ltb 8388607 (length (str_of [])) (rw str_of_none (omega arith)));
-      size = λ _. sym (ap length str_of_none);
-      held = λ _. held_none b region z;
-      entries = λ _. refl;
-      places = λ _. part_none region (places_from (length region));
-    }
+kept_none b region z = grind (arith, str_of_none, held_none, part_none)
 
 pub kept_cleared : (b region : List ℕ) → region ≡ zeros (length region) → Kept b region none []
 kept_cleared b region e = kept_none b region (λ j _. ap (λ (z : List ℕ). get_or z j 0) e ∙ get_d_zeros (length region) j)
@@ -73,10 +55,7 @@ pub row_stored : (region r l m x : List ℕ) (slot links : ℕ) (t : StringTable
     → r ≡ placed region (3 * t.count) (p.start ∷ p.size ∷ t.size ∷ []) → l ≡ placed r links (0 ∷ []) → m ≡ placed l (links + 1) (0 ∷ []) → x ≡ placed m slot ((t.count + 1) ∷ [])
     → x ≡ row_added region slot t p
 unfolding row_added room_of
-row_stored region r l m x slot links t p h e er el em ex =
-    let long : length r ≡ length region = ap length er ∙ length_placed region (3 * t.count) (p.start ∷ p.size ∷ t.size ∷ []) (omega arith) in
-    let two : m ≡ placed r links (0 ∷ 0 ∷ []) = em ∙ ap (λ (z : List ℕ). placed z (links + 1) (0 ∷ [])) el ∙ placed_placed r links (0 ∷ []) (0 ∷ []) (omega arith) in
-    ex ∙ ap (λ (z : List ℕ). placed z slot ((t.count + 1) ∷ [])) (two ∙ ap₂ (λ (z : List ℕ) (n : ℕ). placed z n (0 ∷ 0 ∷ [])) er e)
+row_stored region r l m x slot links t p h e er el em ex = grind (arith, length_placed, placed_placed)
 
 -- a string whose place is noted, in a region that holds the table with it
 put_noted : (b y x : List ℕ) (u r : StringTable) (used : List (List ℕ)) (s : List ℕ) (v : ℕ) → u.over ≡ false → u.entries ≡ length used → u.entries < room_of y
@@ -109,24 +88,12 @@ module _ (b region : List ℕ) (t : StringTable) (used : List (List ℕ)) (k : K
 
   -- behind the limit nothing is stored, whatever the region holds
   pub kept_over : (x s : List ℕ) → t.over ≡ true → Kept b x t (used ++ (s ∷ []))
-  kept_over x s f =
-      let far = ltb-true 8388607 (length (str_of (first_uses used))) (sym k.over ∙ f) in
-      let new = first_uses_snoc used s in
-      record {
-        few = simp length-append (omega (arith, k.few));
-        over = f ∙ sym (lt-ltb 8388607 (length (str_of (first_uses (used ++ (s ∷ []))))) (rw new (omega (arith, put_longer (first_uses used) s))));
-        size = λ g. absurd (true_false f g);
-        held = λ g. absurd (true_false f g);
-        entries = λ g. absurd (true_false f g);
-        places = λ g. absurd (true_false f g);
-      }
+  kept_over x s f = grind (arith, first_uses_snoc, length-append, put_longer)
 
   -- a known string: its place is noted
   pub put_again : t.over ≡ false → (x s : List ℕ) (v : ℕ) (r : StringTable) → is_in (first_uses used) s ≡ true → t.entries < room_of region → v ≡ offset_in (first_uses used) s
       → r ≡ with_entry t → x ≡ placed region (places_from (length region) + t.entries) (v ∷ []) → PutIs b x used s r (Some v)
-  put_again f x s v r e room o is q =
-      let old = put_known (first_uses used) s e in
-      put_noted b region x t r used s v f (k.entries f) room (rw old (k.held f)) (rw old (k.size f)) (kept_within f) (k.places f) o is q
+  put_again f x s v r e room o is q = search (rules, put_known, put_noted, k.entries, k.held, k.size, kept_within, k.places)
 
   longer : t.over ≡ false → (p : Place) → Inside b p → is_in (first_uses used) (bytes_at b p) ≡ false → length (str_of (put (first_uses used) (bytes_at b p))) ≡ t.size + p.size + 1
   longer f p fits new = rw (put_new (first_uses used) (bytes_at b p) new) (length_str_of_snoc (first_uses used) (bytes_at b p) ∙ omega (arith, k.size f, length_bytes_at b p fits))
@@ -140,8 +107,8 @@ module _ (b region : List ℕ) (t : StringTable) (s : List ℕ) (i : ℕ) (f : t
   row_place_is : (used : List (List ℕ)) → Kept b region t used → get_or region (3 * i + 2) 0 ≡ offset_in (first_uses used) s
   row_place_is used k = sought_place b region t.count (first_uses used) (k.held f) s i (found (first_uses used) (k.held f))
 
-  pub found_row : ((used : List (List ℕ)) × Kept b region t used) → 3 * i + 2 < length region
-  found_row k = let h = k.1.held f in omega (arith, row_room b region t.count (first_uses k.0) h i (found (first_uses k.0) h).0)
+  pub found_row : ((used : List (List ℕ)) × Kept b region t used) → 3 * i + 3 ≤ length region
+  found_row k = let h = k.1.held f in row_room b region t.count (first_uses k.0) h i (found (first_uses k.0) h).0
 
   pub found_put : (x : List ℕ) (r : StringTable) (v : ℕ) (used : List (List ℕ)) → Kept b region t used → Roomy (length region) t → v ≡ get_or region (3 * i + 2) 0
       → r ≡ with_entry t → x ≡ placed region (places_from (length region) + t.entries) (v ∷ []) → PutIs b x used s r (Some v)
@@ -179,20 +146,7 @@ module _ (b region : List ℕ) (p : Place) (slot : ℕ) (t : StringTable) (f : t
   module _ (used : List (List ℕ)) (k : Kept b region t used) (new : NewAt b p region used slot) where
     -- one that would end above the limit
     pub put_passes : (r : StringTable) → 8388607 - t.size ≤ p.size → r.entries ≡ t.entries → r.over ≡ true → PutIs b region used (bytes_at b p) r None
-    put_passes r h same over =
-        let s = bytes_at b p in
-        record {
-          kept =
-              record {
-                few = simp length-append (omega (arith, k.few));
-                over = over ∙ sym (lt-ltb 8388607 (length (str_of (first_uses (used ++ (s ∷ []))))) (rw (first_uses_snoc used s) (omega (arith, longer b region t used k f p a.fits new.new, kept_within b region t used k f))));
-                size = λ g. absurd (true_false over g);
-                held = λ g. absurd (true_false over g);
-                entries = λ g. absurd (true_false over g);
-                places = λ g. absurd (true_false over g);
-              };
-          stands = over;
-        }
+    put_passes r h same over = grind (arith, first_uses_snoc, length-append, longer b region t used k f p a.fits new.new, kept_within b region t used k f)
 
     -- its row behind the others, and its place
     pub put_row : (y x : List ℕ) (r : StringTable) (v : ℕ) → p.size < 8388607 - t.size → v ≡ t.size → y ≡ row_added region slot t p → length y ≡ length region

@@ -61,8 +61,7 @@ length_str_of_take table i h = rw (add-one, take-suc table i [] h) (length_str_o
 pub length_str_of_take_le : (table : List (List ℕ)) (i : ℕ) → length (str_of (take i table)) ≤ length (str_of table)
 length_str_of_take_le table zero = rw str_of_none (omega arith)
 length_str_of_take_le [] (suc i) = omega arith
-length_str_of_take_le (s ∷ table) (suc i) =
-    rw (length_str_of_cons s (take i table), length_str_of_cons s table) (omega (arith, length_str_of_take_le table i))
+length_str_of_take_le (s ∷ table) (suc i) = grind (arith, length_str_of_cons, length_str_of_take_le table i)
 
 -- a table that grows only at its end never gets a shorter section
 pub put_longer : (table : List (List ℕ)) (s : List ℕ) → length (str_of table) ≤ length (str_of (put table s))
@@ -81,11 +80,7 @@ offset_next t ts s e = rw (offset_in, e)
 pub offset_absent : (table : List (List ℕ)) (s : List ℕ) → is_in table s ≡ false → offset_in table s ≡ length (str_of table)
 unfolding offset_in any
 offset_absent [] s e = rw str_of_none
-offset_absent (t ∷ ts) s e =
-    ⊎_elim (λ p. absurd (true_false (any_stops (same s) t ts p) e))
-    (λ p.
-    offset_next t ts s p ∙ ap (λ (k : ℕ). length t + 1 + k) (offset_absent ts s (sym (any_cons (same s) t ts p) ∙ e)) ∙ sym (length_str_of_cons t ts))
-    (known (same s t))
+offset_absent (t ∷ ts) s e = grind (arith, any_stops, any_cons, offset_next, length_str_of_cons, offset_absent ts s)
 
 -- a string that is there ends, with its zero, in the section
 pub offset_fits : (table : List (List ℕ)) (s : List ℕ) → is_in table s ≡ true → offset_in table s + length s + 1 ≤ length (str_of table)
@@ -117,11 +112,7 @@ pub row_offset : (table : List (List ℕ)) (i : ℕ) → Distinct table → i < 
 unfolding Distinct
 row_offset [] i d h = absurd (not-suc-le-zero h)
 row_offset (t ∷ ts) zero d h = offset_here t ts t (same_refl t) ∙ sym (ap length str_of_none)
-row_offset (t ∷ ts) (suc i) d h =
-    let l : i < length ts = le_of_suc-le-suc h in
-    let s = get_or ts i [] in
-    let e : same s t ≡ false = same_sym s t ∙ none_at (same t) [] ts i d.0 l in
-    offset_next t ts s e ∙ ap (λ (k : ℕ). length t + 1 + k) (row_offset ts i d.1 l) ∙ sym (length_str_of_cons t (take i ts))
+row_offset (t ∷ ts) (suc i) d h = grind (arith, same_sym, none_at, offset_next, length_str_of_cons, row_offset ts i d.1 (le_of_suc-le-suc h))
 
 -- there are no more strings than bytes
 pub str_of_counts : (table : List (List ℕ)) → length table ≤ length (str_of table)
@@ -132,16 +123,10 @@ str_of_counts (s ∷ table) = rw (length_str_of_cons s table) (omega (arith, str
 offset_append : (table more : List (List ℕ)) (s : List ℕ) → is_in table s ≡ true → offset_in (table ++ more) s ≡ offset_in table s
 unfolding any
 offset_append [] more s e = absurd (true_false e refl)
-offset_append (t ∷ ts) more s e =
-    ⊎_elim (λ p. offset_here t (ts ++ more) s p ∙ sym (offset_here t ts s p))
-    (λ p.
-    offset_next t (ts ++ more) s p ∙ ap (λ (k : ℕ). length t + 1 + k) (offset_append ts more s (sym (any_cons (same s) t ts p) ∙ e)) ∙ sym (offset_next t ts s p))
-    (known (same s t))
+offset_append (t ∷ ts) more s e = grind (arith, offset_here, offset_next, any_cons, offset_append ts more s)
 
 pub offset_keeps : (table : List (List ℕ)) (s t : List ℕ) → is_in table t ≡ true → offset_in (put table s) t ≡ offset_in table t
-offset_keeps table s t e =
-    let p = put_grows table s in
-    ap (λ (z : List (List ℕ)). offset_in z t) p.1 ∙ offset_append table p.0 t e
+offset_keeps table s t e = grind (arith, offset_append, put_grows table s)
 
 -- of all strings that a table has
 pub offsets_keep : (table : List (List ℕ)) (s : List ℕ) (used : List (List ℕ)) → ((i : ℕ) → i < length used → is_in table (get_or used i []) ≡ true)
@@ -154,12 +139,8 @@ offsets_keep table s (u ∷ us) f =
 offset_behind : (table : List (List ℕ)) (s : List ℕ) → offset_in (table ++ (s ∷ [])) s ≡ offset_in table s
 unfolding offset_in
 offset_behind [] s = offset_here s [] s (same_refl s)
-offset_behind (t ∷ ts) s =
-    ⊎_elim (λ p. offset_here t (ts ++ (s ∷ [])) s p ∙ sym (offset_here t ts s p))
-    (λ p. offset_next t (ts ++ (s ∷ [])) s p ∙ ap (λ (k : ℕ). length t + 1 + k) (offset_behind ts s) ∙ sym (offset_next t ts s p)) (known (same s t))
+offset_behind (t ∷ ts) s = grind (arith, offset_behind ts s)
 
 -- a string that is put stands where the table says before that: at its place, or behind all
 pub offset_put : (table : List (List ℕ)) (s : List ℕ) → offset_in (put table s) s ≡ offset_in table s
-offset_put table s =
-    ⊎_elim (λ p. ap (λ (z : List (List ℕ)). offset_in z s) (put_known table s p))
-    (λ p. ap (λ (z : List (List ℕ)). offset_in z s) (put_new table s p) ∙ offset_behind table s) (known (is_in table s))
+offset_put table s = grind (arith, put_known, put_new, offset_behind)

@@ -38,11 +38,7 @@ module _ (e : Encoding) (ok : Sound e) (s : List ℕ) (m size : ℕ) (fits : e.w
         omega (arith, length_entries_in e s, (le-div_iff_mul-le w).1 far)
 
     pub part_entry : get_or (entries_in e (part s (e.width * m) size)) j 0 ≡ get_or (entries_in e s) (m + j) 0
-    part_entry =
-        entries_in_at e (part s (e.width * m) size) j h
-        ∙ number_at_part e.big e.width s (e.width * m) size (header_size e + e.width * j) entry_ends
-        ∙ ap (number_at e.big e.width s) place
-        ∙ sym (entries_in_at e s (m + j) part_entry_within)
+    part_entry = grind (arith, entries_in_at, number_at_part, entry_ends, part_entry_within)
 
 -- ---- the section written
 module _ (e : Encoding) (ok : Sound e) (table : List (List ℕ)) (s str : List ℕ) (used : List (List ℕ)) (whole : Whole e s) (q : strings_at str (entries_in e s) ≡ pass used)

@@ -1,6 +1,6 @@
 -- Strings of entries by their places in the bundle.
 -- Assumes nothing.
-use mathlib.Core.Path.{◌≡◌, refl, sym, ap, ap₂, ◌∙◌}
+use mathlib.Core.Path.{◌≡◌, refl, sym, ap₂, ◌∙◌}
 use mathlib.Core.List.{List}
 use Prim.Native.Nat.{ℕ, ◌+◌, ◌<◌, ◌≤◌}
 use native.Mathlib.Omega.{arith}
@@ -24,10 +24,7 @@ length_bytes_at b p h = length_part b p.start p.size h
 place_on : (start offset : ℕ) (p : Place) (m : Check (List ℕ)) → pass p ≡ mapped (string_place offset) m
     → pass (record { start = start + p.start; size = p.size }) ≡ mapped (string_place (start + offset)) m
 unfolding mapped
-place_on start offset p m e =
-    let r = place_found p offset m e in
-    let place : ℕ → ℕ → Place = λ (s n : ℕ). record { start = start + s; size = n } in
-    rw r.1 (ap pass (ap₂ place r.2 r.3))
+place_on start offset p m e = grind arith
 
 module _ (b : List ℕ) (strings : Place) (offset : ℕ) where
   pub place_moved : (p : Place) → pass p ≡ mapped (string_place offset) (string_at 9 (bytes_at b strings) offset)
@@ -40,10 +37,7 @@ module _ (b : List ℕ) (strings : Place) (offset : ℕ) where
   none_moved e = rw (place_missing 9 offset (string_at 9 (bytes_at b strings) offset) e) refl
 
   pub string_start : (p : Place) → Inside b strings → pass p ≡ mapped (string_place offset) (string_at 9 (bytes_at b strings) offset) → strings.start + p.start ≤ length b
-  string_start p h g =
-      let t = place_found p offset (string_at 9 (bytes_at b strings) offset) g in
-      let w = string_at_is 9 (bytes_at b strings) offset t.0 t.1 in
-      omega (arith, w.within, length_bytes_at b strings h, t.2)
+  string_start p h g = let t = place_found p offset (string_at 9 (bytes_at b strings) offset) g in omega (arith, (string_at_is 9 (bytes_at b strings) offset t.0 t.1).within, length_bytes_at b strings h, t.2)
 
   -- what an answer says of the string
   pub record Named (p : Place) : Type 0 where

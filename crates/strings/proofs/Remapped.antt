@@ -1,12 +1,14 @@
 -- Laws of the str_offsets section that is written: as long as the one it stands for, and its entries are the new offsets.
 -- Assumes nothing.
-use mathlib.Core.Path.{◌≡◌, refl, sym, ap, ◌∙◌}
+use Rattle.std.proofs.lemmas.Grind.{common_steps}
+use Rattle.std.proofs.Common.{rules}
+use mathlib.Core.Path.{◌≡◌, refl, ap}
 use mathlib.Core.List.{List, [], ◌∷◌, map}
-use Prim.Native.Nat.{ℕ, zero, suc, ◌-◌, ◌/◌, ◌^◌, ◌<◌, ◌≤◌}
-use native.Mathlib.Nat.{not-suc-le-zero, le_of_suc-le-suc, lt_of_le_of_lt}
+use Prim.Native.Nat.{ℕ, zero, suc, ◌^◌, ◌<◌, ◌≤◌}
+use native.Mathlib.Nat.{not-suc-le-zero, le_of_suc-le-suc}
 use native.Mathlib.Omega.{arith}
 use lib.ListN.{length, take, get_or, length-append}
-use lib.Seq.{length-take-le, drop_at, take_at}
+use lib.Seq.{length-take-le, take_at}
 use Rattle.octets.specs.Octets.{numbers_of}
 use Rattle.octets.proofs.Tables.{length_numbers_of, numbers_in_numbers_of}
 use Rattle.bundle.specs.Encoding.{Encoding}
@@ -35,9 +37,7 @@ module _ (e : Encoding) (table : List (List ℕ)) (s : List ℕ) (used : List (L
 
   pub length_remapped : length (remapped e table s used) ≡ length s
   unfolding remapped
-  length_remapped =
-      length-append (take (header_size e) s) (numbers_of e.big e.width (map (offset_in table) used))
-      ∙ rw (header_is, length_numbers_of e.big e.width (map (offset_in table) used), length-map (offset_in table) used, count) (whole_length e s ok whole)
+  length_remapped = search (rules, length-append, e.big, e.width, length_numbers_of, length-map, whole_length)
 
   pub remapped_header : take (header_size e) (remapped e table s used) ≡ take (header_size e) s
   unfolding remapped
@@ -46,10 +46,4 @@ module _ (e : Encoding) (table : List (List ℕ)) (s : List ℕ) (used : List (L
   -- the entries are the strings' places in the table
   pub remapped_entries : length (str_of table) < 256 ^ e.width → entries_in e (remapped e table s used) ≡ map (offset_in table) used
   unfolding remapped entries_in
-  remapped_entries small =
-      let ns = map (offset_in table) used in
-      let r = remapped e table s used in
-      let n : (length r - header_size e) / e.width ≡ length ns =
-      rw (length_remapped, ← length_entries_in e s, ← count) (sym (length-map (offset_in table) used)) in
-      rw (n, drop_at (take (header_size e) s) (numbers_of e.big e.width ns) (header_size e) header_is)
-      (numbers_in_numbers_of e.big e.width ns (λ i. lt_of_le_of_lt (offsets_le table used i) small))
+  remapped_entries small = grind (arith, common_steps, length_remapped, length_entries_in, numbers_in_numbers_of, offsets_le)

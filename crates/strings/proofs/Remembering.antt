@@ -1,11 +1,10 @@
 -- What is remembered of an object's str by a string's start: nothing at first, and one place more.
 -- Assumes nothing.
-use mathlib.Core.Path.{◌≡◌, refl, sym, ap, ap₂, ◌∙◌}
+use mathlib.Core.Path.{◌≡◌, refl, sym, ap, ◌∙◌}
 use mathlib.Core.Logic.{⊎_elim}
 use mathlib.Core.Bool.{true, false}
 use mathlib.Core.List.{List, [], ◌∷◌, ◌++◌}
 use Prim.Native.Nat.{ℕ, zero, suc, ◌+◌, ◌-◌, ◌<◌, ◌≤◌, ◌^◌}
-use native.Mathlib.Decide.{dec_le, ℕ_discrete}
 use native.Mathlib.Nat.{not-suc-le-zero, le_of_suc-le-suc}
 use native.Mathlib.Omega.{arith}
 use Rattle.std.specs.Prelude.{Some, None}
@@ -35,9 +34,7 @@ use Rattle.strings.proofs.Keeping.{kept_over, put_again, roomy_places}
 -- the part that is cleared
 pub cleared : (memo x : List ℕ) (n : ℕ) → n ≤ length memo → x ≡ zeros (length (take n memo)) → x ++ drop n memo ≡ placed memo 0 (zeros n)
 unfolding placed
-cleared memo x n h e =
-    let q : x ≡ zeros n = e ∙ ap zeros (length-take-le n memo h) in
-    ap₂ (λ (z : List ℕ) (k : ℕ). z ++ drop k memo) q (sym (length_zeros n) ∙ omega arith)
+cleared memo x n h e = grind (arith, length-take-le, length_zeros)
 
 pub forgotten : (str : List ℕ) (told : List ℕ → ℕ → Type 0) (memo x : List ℕ) (n : ℕ) → x ≡ placed memo 0 (zeros n) → length str ≤ n → Remembered str told x
 forgotten str told memo x n e h =
@@ -48,15 +45,7 @@ forgotten str told memo x n e h =
 -- what is kept before the memory is cleared is kept after that
 pub begun : (b : List ℕ) (strings : Place) (region memo x : List ℕ) (t : StringTable) (used : List (List ℕ)) → Inside b strings → x ≡ placed memo 0 (zeros strings.size)
     → Kept b region t used → Putting b strings region x t used
-begun b strings region memo x t used h e k =
-    record {
-      kept = k;
-      memory = λ _. forgotten (bytes_at b strings) (place_is (first_uses used)) memo x strings.size e (omega (arith, length_bytes_at b strings h));
-    }
-
--- what is told of a word
-told_of : (str : List ℕ) (told : List ℕ → ℕ → Type 0) (s : List ℕ) (o v w : ℕ) → string_at 9 str o ≡ pass s → told s v → w ≡ v → (s : List ℕ) × (string_at 9 str o ≡ pass s) × told s w
-told_of str told s o v w g t e = (s, g, rw e t)
+begun b strings region memo x t used h e k = grind (arith, forgotten, length_bytes_at)
 
 module _ (memo x : List ℕ) (at v : ℕ) (h : at < length memo) (e : x ≡ placed memo at (v ∷ [])) where
   word_new : (o : ℕ) → o ≡ at → get_or x o 0 ≡ v
@@ -64,27 +53,16 @@ module _ (memo x : List ℕ) (at v : ℕ) (h : at < length memo) (e : x ≡ plac
       ap (λ (z : List ℕ). get_or z o 0) e ∙ ap (λ (i : ℕ). get_or (placed memo at (v ∷ [])) i 0) (omega arith) ∙ get_d_placed memo at (v ∷ []) 0 (omega arith) (omega arith)
 
   word_old : (o : ℕ) → (o ≡ at → ⊥) → get_or x o 0 ≡ get_or memo o 0
-  word_old o p =
-      ap (λ (z : List ℕ). get_or z o 0) e
-      ∙ elim (dec_le (suc o) at) [ yes q ↦ get_d_before memo at (v ∷ []) o q (omega arith) | no q ↦ get_d_behind memo at (v ∷ []) o (omega arith) (omega arith) ]
+  word_old o p = grind (arith, get_d_before, get_d_behind)
 
   -- one word more
   remembered_more : (str : List ℕ) (told : List ℕ → ℕ → Type 0) (s : List ℕ) → Remembered str told memo → string_at 9 str at ≡ pass s → told s v → Remembered str told x
-  remembered_more str told s r g t =
-      record {
-        known = λ o l u. elim (ℕ_discrete o at) [
-          | yes p ↦ told_of str told s o v (get_or x o 0) (rw p g) t (word_new o p)
-          | no p ↦ (let k = r.known o l (λ z. u (word_old o p ∙ z)) in told_of str told k.0 o (get_or memo o 0) (get_or x o 0) k.1 k.2 (word_old o p))
-        ];
-      }
+  remembered_more str told s r g t = grind (arith, word_new, word_old)
 
 -- a table that grows keeps what it has
 remembered_put : (str : List ℕ) (table : List (List ℕ)) (s memo : List ℕ) → Remembered str (place_is table) memo → Remembered str (place_is (put table s)) memo
 unfolding place_is
-remembered_put str table s memo r =
-    record {
-      known = λ o l u. (let k = r.known o l u in (k.0, k.1, (put_keeps table s k.0 k.2.0, k.2.1 ∙ ap (λ (n : ℕ). n + 1) (sym (offset_keeps table s k.0 k.2.0)))));
-    }
+remembered_put str table s memo r = grind (arith, put_keeps, offset_keeps)
 
 -- what a word that is not 0 tells of the string that starts there
 pub known_place : (str : List ℕ) (table : List (List ℕ)) (s memo : List ℕ) (o v : ℕ) → Remembered str (place_is table) memo → string_at 9 str o ≡ pass s → v ≡ get_or memo o 0 → (v ≡ 0 → ⊥)
@@ -105,9 +83,7 @@ string_passed b strings region memo t used s p over = record { kept = kept_over 
 module _ (b : List ℕ) (strings : Place) (region memo : List ℕ) (t : StringTable) (o : ℕ) (a : Addable b strings o (length region) (length memo) t) where
   -- its memory is at hand
   pub string_reached : (o < length memo) × (o < 2 ^ 32)
-  string_reached =
-      let h = string_within b strings o a.string strings.size a.inside (omega arith) a.starts in
-      (omega (arith, h, a.enough), omega (arith, h, a.inside, a.limit))
+  string_reached = omega (arith, string_within b strings o a.string strings.size a.inside (omega arith) a.starts, a.enough, a.inside, a.limit)
 
   -- the string found there
   module _ (p : Place) (found : pass p ≡ mapped (string_place (strings.start + o)) (string_at 9 (bytes_at b strings) o)) where

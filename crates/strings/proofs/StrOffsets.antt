@@ -5,14 +5,14 @@ use mathlib.Core.Logic.{◌⊎◌, inl, inr, ⊎_elim}
 use mathlib.Core.Bool.{Bool, true, false, ◌&&◌, ◌||◌}
 use mathlib.Core.List.{List}
 use Prim.Native.Nat.{ℕ, ◌+◌, ◌*◌, ◌-◌, ◌/◌, ◌%◌, ◌<◌, ◌≤◌}
-use native.Mathlib.Nat.{mul-suc, mul-div-le, mul-le-mul_left, mul-le-mul_right, div-add-mod}
+use native.Mathlib.Nat.{mul-suc, mul-div-le, mul-le-mul_left, mul-le-mul_right}
 use native.Mathlib.Omega.{arith}
 use lib.Dec.{eqb, leb}
 use lib.ListN.{length, drop, get_or}
 use borrow.Author.Tests.{leb-true, eqb-true, eq-eqb, ne_eqb, eqb-false}
 use Rattle.octets.specs.Octets.{number_at}
 use Rattle.octets.specs.Checked.{pass, refuse, ◌>>=◌, require}
-use Rattle.octets.proofs.Checks.{pass_refuse, pass_inj, refuse_inj, known, fails, passes, require_pass, and_left, and_right}
+use Rattle.octets.proofs.Checks.{pass_inj, fails, passes, require_pass, and_left, and_right}
 use Rattle.octets.proofs.Numbers.{number_at_drop}
 use Rattle.octets.proofs.Tables.{length_numbers_in, numbers_in_at}
 use Rattle.bundle.specs.Encoding.{Encoding}
@@ -69,18 +69,9 @@ module _ (e : Encoding) (s : List ℕ) (v : e.version ≡ 5) (t : header_true e 
   pub true_states : length_stated e s ≡ length s - length_field e
   true_states = eqb-true (length_stated e s) (length s - length_field e) (and_right (leb (length_field e + 4) (length s) && (eqb e.width 4 || marked e.big s)) _ first_three)
 
--- the length field and 4 bytes behind it; just these in width 4 and 8
-header_most : (e : Encoding) → Sound e → e.version ≡ 5 → header_size e ≤ length_field e + 4
-header_most e w v =
-    let h = header_five e v in
-    ⊎_elim (λ n. omega (arith, eqb-true e.width 4 n, field_narrow e n)) (λ n. omega (arith, field_wide e n, w.high)) (known (eqb e.width 4))
-
 -- a true header lies in the section
 pub header_within : (e : Encoding) (s : List ℕ) → Sound e → header_true e s ≡ true → header_size e ≤ length s
-header_within e s w t = ⊎_elim
-    (λ v. let five = eqb-true e.version 5 v in omega (arith, header_most e w five, true_there e s five t))
-    (λ v. omega (arith, header_four e (eqb-false e.version 5 v)))
-    (known (eqb e.version 5))
+header_within e s w t = grind (arith, header_five, field_narrow, field_wide, true_there, header_four)
 
 -- ---- entries
 pub length_entries_in : (e : Encoding) (s : List ℕ) → length (entries_in e s) ≡ (length s - header_size e) / e.width
@@ -89,17 +80,14 @@ length_entries_in e s = length_numbers_in e.big e.width ((length s - header_size
 
 pub entries_in_at : (e : Encoding) (s : List ℕ) (k : ℕ) → k < length (entries_in e s) → get_or (entries_in e s) k 0 ≡ number_at e.big e.width s (header_size e + e.width * k)
 unfolding entries_in
-entries_in_at e s k h =
-    numbers_in_at e.big e.width ((length s - header_size e) / e.width) (drop (header_size e) s) k (omega (arith, length_entries_in e s))
-    ∙ number_at_drop e.big e.width s (header_size e) (e.width * k)
+entries_in_at e s k h = grind (arith, numbers_in_at, length_entries_in, number_at_drop)
 
 -- whole entries lie in the section
 pub entries_within : (e : Encoding) (s : List ℕ) → e.width * length (entries_in e s) ≤ length s - header_size e
 entries_within e s = rw (length_entries_in e s) (mul-div-le (length s - header_size e) e.width)
 
 pub entry_within : (e : Encoding) (s : List ℕ) (k : ℕ) → Sound e → k < length (entries_in e s) → header_size e + e.width * k + e.width ≤ length s
-entry_within e s k w h =
-    omega (arith, w.low, entries_within e s, mul-suc e.width k, mul-le-mul_left e.width h)
+entry_within e s k w h = omega (arith, w.low, entries_within e s, mul-suc e.width k, mul-le-mul_left e.width h)
 
 -- four bytes or more for each entry: so many strings at most are kept of a section
 pub entries_few : (e : Encoding) (s : List ℕ) → Sound e → 4 * length (entries_in e s) ≤ length s
@@ -119,9 +107,7 @@ entries_whole e s ns p =
 
 pub whole_entries : (e : Encoding) (s : List ℕ) → Whole e s → entries_of e s ≡ pass (entries_in e s)
 unfolding entries_of
-whole_entries e s w =
-    passes (header_true e s) 8 (λ _. require (eqb ((length s - header_size e) % e.width) 0) 8 >>= (λ _. pass (entries_in e s))) w.header
-    ∙ passes (eqb ((length s - header_size e) % e.width) 0) 8 (λ _. pass (entries_in e s)) (eq-eqb _ _ w.even)
+whole_entries e s w = grind (arith, passes)
 
 pub entries_false : (e : Encoding) (s : List ℕ) → header_true e s ≡ false → entries_of e s ≡ refuse 8
 unfolding entries_of
@@ -129,20 +115,11 @@ entries_false e s h = fails (header_true e s) 8 (λ _. require (eqb ((length s -
 
 pub entries_odd : (e : Encoding) (s : List ℕ) → header_true e s ≡ true → ((length s - header_size e) % e.width ≡ 0 → ⊥) → entries_of e s ≡ refuse 8
 unfolding entries_of
-entries_odd e s h g =
-    passes (header_true e s) 8 (λ _. require (eqb ((length s - header_size e) % e.width) 0) 8 >>= (λ _. pass (entries_in e s))) h
-    ∙ fails (eqb ((length s - header_size e) % e.width) 0) 8 (λ _. pass (entries_in e s)) (ne_eqb _ _ g)
+entries_odd e s h g = grind (arith, passes, fails)
 
 pub entries_refused : (e : Encoding) (s : List ℕ) (n : ℕ) → entries_of e s ≡ refuse n → n ≡ 8
-entries_refused e s n p =
-    ⊎_elim
-    (λ h.
-    ⊎_elim (λ g. absurd (pass_refuse _ n (sym (whole_entries e s (record { header = h; even = eqb-true _ _ g })) ∙ p)))
-    (λ g. refuse_inj (sym p ∙ entries_odd e s h (eqb-false _ _ g))) (known (eqb ((length s - header_size e) % e.width) 0)))
-    (λ h. refuse_inj (sym p ∙ entries_false e s h)) (known (header_true e s))
+entries_refused e s n p = grind (arith, whole_entries, entries_odd, entries_false, eqb-true, eqb-false)
 
 -- header and entries are the section
 pub whole_length : (e : Encoding) (s : List ℕ) → Sound e → Whole e s → header_size e + e.width * length (entries_in e s) ≡ length s
-whole_length e s w k =
-    let h = header_within e s w k.header in
-    rw (length_entries_in e s) (omega (arith, h, k.even, div-add-mod (length s - header_size e) e.width))
+whole_length e s w k = grind (arith, header_within, length_entries_in)

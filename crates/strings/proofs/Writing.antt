@@ -1,7 +1,8 @@
 -- The str section written from the table of kept strings.
 -- Assumes nothing.
-use mathlib.Core.Path.{◌≡◌, sym, ap, ap₂, ◌∙◌}
-use mathlib.Core.List.{List, [], ◌∷◌, ◌++◌}
+use Rattle.std.proofs.lemmas.Grind.{common_steps}
+use mathlib.Core.Path.{◌≡◌, sym, ap, ◌∙◌}
+use mathlib.Core.List.{List, [], ◌∷◌}
 use Prim.Native.Nat.{ℕ, ◌+◌, ◌*◌, ◌<◌, ◌≤◌}
 use native.Mathlib.Omega.{arith}
 use lib.ListN.{length, take, get_or}
@@ -24,30 +25,15 @@ held_unique b region n ts us p q =
 pub ended_is : (b : List ℕ) (s : Place) (d x y : List ℕ) (at : ℕ) → Inside b s → at + s.size + 1 ≤ length d
     → x ≡ placed d at (bytes_at b s) → y ≡ placed x (at + s.size) (0 ∷ []) → y ≡ placed d at (ended (bytes_at b s))
 unfolding ended
-ended_is b s d x y at h g p q =
-    let l : length (bytes_at b s) ≡ s.size = length_bytes_at b s h in
-    q ∙ ap₂ (λ (z : List ℕ) (n : ℕ). placed z (at + n) (0 ∷ [])) p (sym l) ∙ placed_placed d at (bytes_at b s) (0 ∷ []) (omega arith)
+ended_is b s d x y at h g p q = grind (arith, common_steps, length_bytes_at, placed_placed)
 
 module _ (b region : List ℕ) (n : ℕ) (table : List (List ℕ)) (k : Held b region n table) (i : ℕ) (h : i < n) (d₀ : List ℕ) (at : ℕ) (room : at + length (str_of table) ≤ length d₀) where
-  here : i < length table
-  here = omega (arith, k.count)
-
   pub written_room : at + get_or region (3 * i + 2) 0 + get_or region (3 * i + 1) 0 + 1 ≤ length d₀
-  written_room =
-      let r = k.rows i h in
-      let l = ap length (sym r.bytes) ∙ length_bytes_at b (row_place region i) r.fits in
-      omega (arith, r.place, l, length_str_of_take table i here, length_str_of_take_le table (i + 1))
+  written_room = grind (arith, k.rows i h, length_bytes_at, length_str_of_take, length_str_of_take_le table (i + 1))
 
   pub written_more : (d x : List ℕ) → d ≡ placed d₀ at (str_of (take i table)) → x ≡ placed d (at + get_or region (3 * i + 2) 0) (ended (bytes_at b (row_place region i)))
       → x ≡ placed d₀ at (str_of (take (i + 1) table))
-  written_more d x e f =
-      let r = k.rows i h in
-      let front = str_of (take i table) in
-      let row = ended (bytes_at b (row_place region i)) in
-      let s : row ≡ ended (get_or table i []) = ap ended r.bytes in
-      f ∙ ap₂ (λ (z : List ℕ) (m : ℕ). placed z (at + m) row) e r.place
-      ∙ placed_placed d₀ at front row (omega (arith, length_str_of_take_le table i))
-      ∙ ap (placed d₀ at) (ap (λ (z : List ℕ). front ++ z) s ∙ sym (str_of_take table i here))
+  written_more d x e f = grind (arith, placed_placed, length_str_of_take_le, str_of_take)
 
 pub written_none : (table : List (List ℕ)) (d : List ℕ) (at : ℕ) → d ≡ placed d at (str_of (take 0 table))
 written_none table d at = sym (ap (placed d at) str_of_none ∙ placed_none d at)

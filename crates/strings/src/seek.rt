@@ -118,6 +118,7 @@ pub fn seek_string(b: &[u8], table: &[u32], count: usize, at: Place) -> Result<u
     let mut number = table[word] as usize;
     let mut step = 0;
     // By links: each string that is met says where the next one is, and each step has a bit of its own.
+    // A root or link of 0 leads nowhere: the work area has words, and an Option takes more than one.
     while number != 0 {
         if row_same(b, table, number - 1, s) {
             return Ok(number - 1);

@@ -83,7 +83,7 @@ impl StrOffsets {
 // How many strings are kept, how long their str section is, how many entries named them, and whether the section would be above 8,388,607
 // bytes (19). From then on nothing is stored: the package is refused, whatever the new offsets are, and the sum of lengths stays within 32 bits.
 // `over` stays a flag: 19 is due only once all objects are read, and until then the other three say what is stored, whether it is set or not.
-#[derive(Clone, Copy)]
+#[derive(Clone, Copy, Default)]
 pub struct StringTable {
     pub count: usize,
     pub size: usize,
@@ -202,6 +202,7 @@ impl StringTable {
 
     // Puts the string at an offset of an object's str. It is sought once for each offset: its place is remembered. Nothing is read for a table that is
     // over. The caller knows that a string starts there, and has room for one more row.
+    // A word of memory is 0 where nothing is known, and otherwise the place and 1 more: the work area has words, and an Option takes more than one.
     fn add_string(
         &mut self,
         b: &[u8],

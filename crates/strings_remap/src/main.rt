@@ -68,12 +68,7 @@ fn remap_entries(
     requires { AllAddable b.now o (length table.old) (length memory.old) none × (entries_of (encoding_is o.encoding) (bytes_at b.now o.offsets) ≡ pass (entries_at o b.now)) }
 {
     table.fill(0);
-    let mut kept = StringTable {
-        count: 0,
-        size: 0,
-        entries: 0,
-        over: false,
-    };
+    let mut kept = StringTable::default();
     kept.add_strings(o, b, table, memory)?;
     if kept.over {
         return Err(Failure::Refused(Refusal::SectionTooLong));
@@ -98,6 +93,7 @@ fn remap(
     remap_entries(o, b, table, memory, output)
 }
 
+// Its twin in package_search writes small letters, and says why both stand.
 fn write_hexadecimal(rt: &impl Print, s: &[u8]) -> io::Result<()> {
     for b in s {
         print!(rt; "{b:02X}")?;

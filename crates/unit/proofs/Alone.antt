@@ -1,25 +1,26 @@
 -- A unit read alone, from its own bytes, is the unit that is read from its section; and it is for the type table exactly if it is a type unit.
 -- Assumes nothing.
-use mathlib.Core.Path.{◌≡◌, refl, sym, ap, ◌∙◌, subst}
+use mathlib.Core.Path.{◌≡◌, sym, ap, ◌∙◌, subst}
 use mathlib.Core.Logic.{◌⊎◌, ◌↔◌, inl, inr, ⊎_elim}
-use mathlib.Core.Bool.{true, false, not, ◌||◌}
+use mathlib.Core.Bool.{true, false, ◌||◌}
 use mathlib.Core.List.{List}
 use Prim.Native.Nat.{ℕ, ◌+◌, ◌≤◌}
 use native.Mathlib.Omega.{arith}
 use lib.Dec.{eqb, leb}
-use lib.ListN.{length, take, get_or}
+use lib.ListN.{length, take}
 use lib.Seq.{length-take-le, take-take}
-use borrow.Author.Tests.{eqb-true, eqb-false, leb-true, le-leb}
-use Rattle.octets.specs.Octets.{number_at}
-use Rattle.octets.specs.Checked.{Check, pass, ◌>>=◌, require}
-use Rattle.octets.proofs.Checks.{bind_pass, require_pass, pass_inj, pass_refuse, passes, then_pass, known, or_cases}
+use borrow.Author.Tests.{eqb-true, eqb-false}
+use Rattle.octets.specs.Checked.{pass, ◌>>=◌}
+use Rattle.octets.proofs.Checks.{bind_pass, require_pass, pass_inj, pass_refuse, then_pass, known, or_cases}
 use Rattle.bundle.specs.Encoding.{Encoding}
 use Rattle.unit.specs.Root.{root_identity}
 use Rattle.bundle.specs.InitialLength.{length_field}
-use Rattle.unit.specs.UnitRead.{Identity, UnitRead, is_five, unit_size, address_place, common_size, behind_common, identity_five, identity_four, identity_of, unit_of}
+use Rattle.unit.specs.UnitRead.{Identity, UnitRead, is_five, unit_size, common_size, behind_common, identity_five, identity_four, identity_of, unit_of}
 use Rattle.bundle.proofs.InitialLengths.{field_least}
-use Rattle.unit.proofs.Fields.{size_same}
-use Rattle.unit.proofs.Plain.{plain, unit_plain}
+use Rattle.unit.proofs.Fields.{size_same, fits_in}
+use Rattle.unit.specs.Headers.{unit_inside}
+use Rattle.unit.proofs.Plain.{Read, unit_read}
+use Rattle.unit.proofs.Units.{unit_is, behind_size}
 use Rattle.unit.specs.TypeUnits.{unit_type, IsTypeUnit}
 
 -- ---- read alone
@@ -31,67 +32,34 @@ size_alone : (e : Encoding) (s : List ℕ) (n : ℕ) → length_field e ≤ n �
 size_alone e s n h l q =
     size_same e n s (take n s) (sym (take-take n n s (omega arith))) h n (rw (length-take-le n s l) h) q
 
--- what follows the size, of the unit's own bytes
-unfoldable behind_size : Encoding → ℕ → List ℕ → ℕ → List ℕ → Check UnitRead
-behind_size e home abbreviations size u = do
-  _ ← require (leb (common_size e) (length u)) 11
-  _ ← require (eqb (number_at e.big 2 u (length_field e)) e.version) 11
-  _ ← require (eqb (get_or u (address_place e) 0) e.address) 11
-  i ← identity_of e home abbreviations u
-  _ ← require (not (eqb i.identity 0)) 13
-  pass (record { size = size; table = i.table; identity = i.identity })
+own_inside : (e : Encoding) (s : List ℕ) (n : ℕ) → n ≤ length s → unit_size e s ≡ pass n → unit_inside e s ≡ pass n
+unfolding unit_inside
+own_inside e s n l z = then_pass _ _ _ z ∙ fits_in s n l
 
--- what is known of it
-pub record Headed (e : Encoding) (home : ℕ) (abbreviations : List ℕ) (size : ℕ) (u : List ℕ) (r : UnitRead) : Type 0 where
-  pub identity : Identity
-  pub read : identity_of e home abbreviations u ≡ pass identity
-  pub table : r.table ≡ identity.table
-  pub size_is : r.size ≡ size
-  pub header : common_size e ≤ length u
-
-headed : (e : Encoding) (home : ℕ) (abbreviations : List ℕ) (size : ℕ) (u : List ℕ) (r : UnitRead) → behind_size e home abbreviations size u ≡ pass r → Headed e home abbreviations size u r
+own_behind : (e : Encoding) (home : ℕ) (a s : List ℕ) (n : ℕ) → behind_size e home a (take n s) n ≡ behind_size e home a s n
 unfolding behind_size
-headed e home abbreviations size u r q =
-    let a = require_pass (leb (common_size e) (length u)) 11 _ r q in
-    let b = require_pass (eqb (number_at e.big 2 u (length_field e)) e.version) 11 _ r a.1 in
-    let c = require_pass (eqb (get_or u (address_place e) 0) e.address) 11 _ r b.1 in
-    let i = bind_pass (identity_of e home abbreviations u) _ r c.1 in
-    let z = require_pass (not (eqb i.0.identity 0)) 13 _ r i.2 in
-    subst (Headed e home abbreviations size u) (pass_inj z.1)
-    (record { identity = i.0; read = i.1; table = refl; size_is = refl; header = leb-true (common_size e) (length u) a.0 })
+own_behind e home a s n = rw (take-take n n s (omega arith))
 
 -- a unit from the front of a section
 pub record Alone (e : Encoding) (home : ℕ) (abbreviations s : List ℕ) (r : UnitRead) : Type 0 where
   pub some : 4 ≤ r.size
   pub within : r.size ≤ length s
   pub alone : unit_of e home abbreviations (take r.size s) ≡ pass r
-  pub headed : Headed e home abbreviations r.size (take r.size s) r
+  pub headed : Read e home abbreviations s r
 
 pub unit_alone : (e : Encoding) (home : ℕ) (abbreviations s : List ℕ) (r : UnitRead) → unit_of e home abbreviations s ≡ pass r → Alone e home abbreviations s r
-unfolding plain behind_size
 unit_alone e home abbreviations s r q =
-    let size = bind_pass (unit_size e s) _ r (sym (unit_plain e home abbreviations s) ∙ q) in
-    let n = size.0 in
-    let a = require_pass (leb n (length s)) 11 _ r size.2 in
-    let h = headed e home abbreviations n (take n s) r a.1 in
-    from n size.1 (leb-true n (length s) a.0) a.1 h
-  where
-    from : (n : ℕ) → unit_size e s ≡ pass n → n ≤ length s → behind_size e home abbreviations n (take n s) ≡ pass r → Headed e home abbreviations n (take n s) r → Alone e home abbreviations s r
-    from n z l b h =
-        let long : length (take n s) ≡ n = length-take-le n s l in
-        let least : length_field e ≤ n = omega (arith, common_least e, h.header, long) in
-        let same : n ≡ r.size = sym h.size_is in
-        let alone : unit_of e home abbreviations (take n s) ≡ pass r =
-        unit_plain e home abbreviations (take n s)
-        ∙ then_pass (unit_size e (take n s)) _ n (size_alone e s n least l z)
-        ∙ passes (leb n (length (take n s))) 11 _ (le-leb n (length (take n s)) (omega (arith, long)))
-        ∙ ap (behind_size e home abbreviations n) (take-take n n s (omega arith)) ∙ b in
-        record {
-          some = omega (arith, field_least e, least, same);
-          within = omega (arith, l, same);
-          alone = subst (λ (m : ℕ). unit_of e home abbreviations (take m s) ≡ pass r) same alone;
-          headed = subst (λ (m : ℕ). Headed e home abbreviations m (take m s) r) same h;
-        }
+    let k = unit_read e home abbreviations s r q in
+    let n = r.size in
+    let long : length (take n s) ≡ n = length-take-le n s k.within in
+    let least : length_field e ≤ n = omega (arith, common_least e, k.header, long) in
+    record {
+      some = omega (arith, field_least e, least);
+      within = k.within;
+      alone = unit_is e home abbreviations (take n s) ∙ then_pass _ _ _ (own_inside e (take n s) n (omega (arith, long)) (size_alone e s n least k.within k.size))
+          ∙ own_behind e home abbreviations s n ∙ sym (then_pass _ _ _ (own_inside e s n k.within k.size)) ∙ sym (unit_is e home abbreviations s) ∙ q;
+      headed = k;
+    }
 
 -- ---- the type table
 behind_table : (e : Encoding) (table n : ℕ) (u : List ℕ) (i : Identity) → behind_common e table n u ≡ pass i → i.table ≡ table

@@ -42,10 +42,6 @@ module _ (a b : ℕ) where
       go false true h = refl
       go false false h = sym h
 
-  pub neither_zero : (a ≡ 0 → ⊥) → (b ≡ 0 → ⊥) → zero_together a b ≡ true
-  unfolding zero_together
-  neither_zero h g = rw (zero_together, ne_eqb a 0 h, ne_eqb b 0 g)
-
 -- ---- as the code reads it
 module _ (s : List ℕ) where
   pub attribute_none : (k : ℕ) → short s ≡ refuse k → attribute_at s ≡ refuse k
@@ -233,3 +229,8 @@ unfolding attributes_size
 size_within s n e =
     let p = bind_pass (attributes_of s) _ n e in
     omega (arith, (attributes_within s p.0 p.1).1, pass_inj p.2)
+
+-- ---- as functions name them
+pub ruleset attribute_cases = (attribute_none, attribute_half, attribute_apart, attribute_bad, attribute_good)
+
+pub ruleset walk_cases = (attribute_some, attribute_ends, walk_refused, walk_end, walk_on, further_none)

@@ -15,6 +15,8 @@ use Rattle.unit.specs.TableTrees.{between}
 use Rattle.unit.specs.UnitRead.{common_size, unit_of}
 use Rattle.unit.specs.Headers.{kind_of, header_size, identity_by, head_of, non_zero, identity_good}
 use Rattle.unit.specs.declared.header.Kind.{Kind}
+use Rattle.unit.proofs.Rooted.{root_past}
+use Rattle.unit.proofs.Sizes.{rest}
 use Rattle.unit.proofs.Heads.{good_short, good_whole, head_within, unit_with, unit_headless, unit_headed, zero_refused, zero_not}
 
 -- ---- parts
@@ -84,3 +86,10 @@ module _ (e : Encoding) (home : ℕ) (a b : List ℕ) (at size : ℕ) (h : at + 
 
     pub unit_done : (t x : ℕ) → identity_good e home a (part b at n) ≡ pass (record { table = t; identity = x }) → unit_of e home a own ≡ pass (record { size = n; table = t; identity = x })
     unit_done t x c = unit_whole ∙ then_pass _ _ _ c
+
+-- ---- as functions name them
+pub ruleset unit_cases = (unit_none, own_within, own_common, unit_not, unit_done)
+
+pub ruleset answer_cases = (answer_short, answer_not, answer_zero, answer_is)
+
+pub ruleset table_parts = (between_length, between_drop, root_past, rest)

@@ -177,6 +177,6 @@ module _ (b w x : List ℕ) (j : Judged) (start : ℕ) (p : Span) (count : ℕ) 
 
   pub behind_requires : Enterable (put_mid (start + 1) n w x) (length b / 5) start table j
   behind_requires =
-      let r : 5 * count ≤ length x = (held_rising (span_bytes b p) x count 0 t).room in
+      let r : 5 * count ≤ length x = (held_rising (span_bytes b p) x count t).room in
       let small = m.small in
       (omega arith, omega arith, omega (arith, x_length), omega arith, refl, s.1, new.inside, s.2, tables_rising b (put_mid (start + 1) n w x) j.tables j.free others)

@@ -2,7 +2,7 @@
 -- Assumes nothing.
 use mathlib.Core.Path.{◌≡◌, refl, sym, ap, ◌∙◌}
 use mathlib.Core.Bool.{Bool, true, false}
-use mathlib.Core.Logic.{◌⊎◌, inl, inr, ⊎_elim}
+use mathlib.Core.Logic.{inl, inr, ⊎_elim}
 use mathlib.Core.List.{List}
 use Prim.Native.Nat.{ℕ, ◌+◌, ◌≤◌, ◌<◌}
 use native.Mathlib.Omega.{arith}
@@ -17,8 +17,8 @@ use Rattle.bundle.specs.declared.encoding.ObjectEncoding.{ObjectEncoding}
 use Rattle.bundle.specs.InitialLength.{marked, length_field, length_stated}
 use Rattle.unit.specs.UnitRead.{length_good, unit_size, is_five, address_place, common_size}
 use Rattle.unit.specs.Headers.{fits, unit_inside, five_kind, kind_of}
-use Rattle.bundle.proofs.InitialLengths.{field_least, marked_same, stated_same}
-use Rattle.unit.specs.declared.header.Kind.TheVariants.{Compilation, Signature, Root, Other}
+use Rattle.bundle.proofs.InitialLengths.{is_wide, is_narrow, field_least, marked_same, stated_same}
+use Rattle.unit.specs.declared.header.Kind.TheVariants.{Signature, Root}
 
 -- ---- by the flags of an encoding
 module _ (e : ObjectEncoding) where
@@ -161,21 +161,6 @@ module _ (e : Encoding) (n : ℕ) (s t : List ℕ) (same : take n s ≡ take n t
       ∙ ap pass (size_is e s m q)
 
 -- ---- where the identity stands
-module _ (t : ℕ) where
-  pub kind_compilation : (t ≡ 4) ⊎ (t ≡ 5) → Compilation ≡ five_kind t
-  unfolding five_kind
-  kind_compilation (inl h) = rw h
-  kind_compilation (inr h) = rw h
-
-  pub kind_signature : (t ≡ 2) ⊎ (t ≡ 6) → Signature ≡ five_kind t
-  unfolding five_kind
-  kind_signature (inl h) = rw h
-  kind_signature (inr h) = rw h
-
-  pub kind_other : (t ≡ 4 → ⊥) → (t ≡ 5 → ⊥) → (t ≡ 2 → ⊥) → (t ≡ 6 → ⊥) → Other ≡ five_kind t
-  unfolding five_kind
-  kind_other a b c d = rw (five_kind, ne_eqb t 4 a, ne_eqb t 5 b, ne_eqb t 2 c, ne_eqb t 6 d)
-
 module _ (e : Encoding) (home : ℕ) (u : List ℕ) where
   pub kind_five : is_five e ≡ true → five_kind (get_or u (length_field e + 2) 0) ≡ kind_of e home u
   unfolding kind_of
@@ -188,3 +173,14 @@ module _ (e : Encoding) (home : ℕ) (u : List ℕ) where
   pub kind_types : is_five e ≡ false → (home ≡ 1 → ⊥) → Signature ≡ kind_of e home u
   unfolding kind_of
   kind_types h g = rw (kind_of, h, ne_eqb home 1 g)
+
+-- ---- as functions name them
+pub ruleset five_or_four = (is_five_law, is_four, place_five, place_four, common_five, common_four)
+
+pub ruleset kind_cases = (is_five_law, is_four, kind_five, kind_root, kind_types)
+
+pub ruleset inside_cases = (inside_short, inside_bad, inside_out, inside_in)
+
+pub ruleset field_sizes = (width_le, big_is, common_ge)
+
+pub ruleset length_cases = (is_wide, is_narrow, good_wide, good_narrow)

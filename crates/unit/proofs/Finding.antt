@@ -5,10 +5,10 @@ use mathlib.Core.Bool.{true, false}
 use mathlib.Core.List.{List, [], ◌∷◌}
 use mathlib.Core.Option.{some, none}
 use Rattle.std.specs.Prelude.{Option, Some, None}
-use Prim.Native.Nat.{ℕ, zero, suc, ◌+◌, ◌<◌, ◌≤◌}
+use Prim.Native.Nat.{ℕ, zero, suc, ◌-◌, ◌+◌, ◌<◌, ◌≤◌}
 use native.Mathlib.Nat.{not-suc-le-zero, le_of_suc-le-suc}
 use native.Mathlib.Omega.{arith}
-use lib.ListN.{length, drop, get_or, length-map}
+use lib.ListN.{length, take, drop, get_or, length-map}
 use Rattle.std.proofs.lemmas.Option.{none-some, same_Some}
 use borrow.Author.Tests.{eq-eqb, ne_eqb}
 use Rattle.octets.specs.Lists.{has, distinct}
@@ -16,10 +16,11 @@ use Rattle.octets.specs.Checked.{pass}
 use Rattle.octets.proofs.Checks.{pass_inj, bind_pass, require_pass, true_false}
 use Rattle.octets.proofs.Elements.{has_at, has_cons, has_skips, distinct_head, distinct_tail}
 use Rattle.unit.specs.Abbreviations.{Declaration, declarations_of, declaration_of}
-use Rattle.unit.specs.Tables.{declarations, Headed, Located, Finds}
+use Rattle.unit.specs.Tables.{declared_at, declarations, Headed, Located, Finds}
 use Rattle.unit.specs.Trees.{Rising, Fresh, Sought, Seeks}
 use Rattle.unit.specs.TableTrees.{codes_of, no_declaration, Declares, TableHeld}
 use Rattle.unit.specs.declared.abbreviations.Heading.{Heading}
+use Rattle.unit.proofs.Sizes.{rest}
 
 -- ---- the first declaration of a code, where codes differ
 matched : (d : Declaration) (es : List Declaration) (code : ℕ) → d.code ≡ code → declaration_of (d ∷ es) code ≡ some d
@@ -58,61 +59,67 @@ read_distinct s ds e =
     let q = require_pass _ _ _ _ p.2 in
     ap (λ (x : List Declaration). distinct (codes_of x)) (sym (pass_inj q.1)) ∙ q.0
 
--- ---- what stands where a declaration does
-module _ (s : List ℕ) (at : ℕ) (d : Declaration) (h : Declares s at d) (r : Option Heading) (f : Headed (drop at s) r) where
-  heading : r ≡ Some (record { tag = h.coded.place.tag; start = h.coded.place.start })
-  unfolding Headed
-  heading = f h.coded h.is
-
-  pub declares_some : r ≡ None → ⊥
-  declares_some g = none-some _ (sym g ∙ heading)
-
-  pub same_heading : (g : Heading) → r ≡ Some g → record { tag = h.coded.place.tag; start = h.coded.place.start } ≡ g
-  same_heading g i = same_Some _ _ (sym heading ∙ i)
-
-  pub declares_inside : (g : Heading) → r ≡ Some g → at + g.start ≤ length s
-  declares_inside g i = omega (arith, h.inside, ap (λ (x : Heading). x.start) (same_heading g i))
-
 -- ---- in the tree
+counted : (s w : List ℕ) (n : ℕ) (t : TableHeld s w n) → length (codes_of t.declared) ≡ n
+counted s w n t = length-map t.declared (λ d. d.code) ∙ t.counted
+
+pub held_rising : (s w : List ℕ) (n : ℕ) → TableHeld s w n → Rising w n
+held_rising s w n t = rw (← counted s w n t) t.held.tree.rising
+
 module _ (s w : List ℕ) (n code : ℕ) (t : TableHeld s w n) where
-  codes_count : length (codes_of t.declared) ≡ n
-  codes_count = length-map t.declared (λ d. d.code) ∙ t.counted
-
-  pub held_rising : Rising w n
-  held_rising = rw (← codes_count) t.held.tree.rising
-
   module _ (ds : List Declaration) (e : declarations_of s ≡ pass ds) where
     same : ds ≡ t.declared
     same = pass_inj (sym e ∙ t.read)
 
     located_not : Fresh w n code → Located s ds code None
     unfolding Located Fresh
-    located_not f = ap (λ (x : List Declaration). declaration_of x code) same ∙ no_declaration_law t.declared code (f (codes_of t.declared) codes_count t.held.tree)
+    located_not f = ap (λ (x : List Declaration). declaration_of x code) same ∙ no_declaration_law t.declared code (f (codes_of t.declared) (counted s w n t) t.held.tree)
 
   pub finds_none : Seeks w n code None → Finds s code None
-  unfolding Finds Seeks
+  unfolding Finds
   finds_none f ds e = located_not ds e f
 
-  -- a code that was found
-  module _ (at : ℕ) (f : Sought w n code at) where
+  -- a code that was found, as the code finds it
+  module _ (at : ℕ) (o : Option ℕ) (i : o ≡ Some at) (q : Seeks w n code o) where
+    f : Sought w n code at
+    f = rw i at q
+
     abbrev d : Declaration
     d = get_or t.declared f.node no_declaration
 
     inside : f.node < length t.declared
     inside = omega (arith, t.counted, f.inside)
 
-    pub found_declares : Declares s at d
-    found_declares = subst (λ (x : ℕ). Declares s x d) f.carries (t.held.declares f.node inside)
+    stands : Declares s at d
+    stands = subst (λ (x : ℕ). Declares s x d) f.carries (t.held.declares f.node inside)
 
-    pub finds_at : (o : Option Heading) → Headed (drop at s) o → (g : Heading) → o ≡ Some g → Finds s code (Some (record { tag = g.tag; start = at + g.start }))
-    unfolding Finds Located
-    finds_at o v g j ds e =
-        let h = found_declares in
-        let its : d.code ≡ code = sym (code_at_law t.declared f.node inside) ∙ sym (t.held.tree.codes f.node (rw codes_count f.inside)) ∙ f.is in
-        rw (← same_heading s at d h o v g j) (
-          d,
-          ap (λ (x : List Declaration). declaration_of x code) (same ds e) ∙ the_declaration t.declared f.node code (read_distinct s t.declared t.read) inside its,
-          h.tag,
-          h.inside,
-          (h.size, h.read),
-        )
+    pub found_inside : at ≤ length s
+    found_inside = omega (arith, stands.inside)
+
+    module _ (r : Option Heading) (v : Headed (take (length s - at) (drop at s)) r) where
+      heading : r ≡ Some (record { tag = stands.coded.place.tag; start = stands.coded.place.start })
+      unfolding Headed
+      heading = v stands.coded (ap declared_at (rest at s) ∙ stands.is)
+
+      pub heads : r ≡ None → ⊥
+      heads g = none-some _ (sym g ∙ heading)
+
+      module _ (g : Heading) (j : r ≡ Some g) where
+        same_heading : record { tag = stands.coded.place.tag; start = stands.coded.place.start } ≡ g
+        same_heading = same_Some _ _ (sym heading ∙ j)
+
+        pub start_inside : at + g.start ≤ length s
+        start_inside = omega (arith, stands.inside, ap (λ (x : Heading). x.start) same_heading)
+
+        pub finds_at : Finds s code (Some (record { tag = g.tag; start = at + g.start }))
+        unfolding Finds Located
+        finds_at ds e =
+            let h = stands in
+            let its : d.code ≡ code = sym (code_at_law t.declared f.node inside) ∙ sym (t.held.tree.codes f.node (rw (counted s w n t) f.inside)) ∙ f.is in
+            rw (← same_heading) (
+              d,
+              ap (λ (x : List Declaration). declaration_of x code) (same ds e) ∙ the_declaration t.declared f.node code (read_distinct s t.declared t.read) inside its,
+              h.tag,
+              h.inside,
+              (h.size, h.read),
+            )

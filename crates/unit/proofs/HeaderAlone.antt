@@ -150,3 +150,6 @@ module _ (e : Encoding) (s : List ℕ) where
         pub alone_whole : pass (stated_address e s) ≡ address_of e s
         unfolding address_of header_passes
         alone_whole = rw (address_of, header_passes, read _ refl)
+
+-- ---- as functions name them
+pub ruleset alone_cases = (alone_not, alone_fields, fields_there, alone_header, alone_whole, address_there)

@@ -62,7 +62,7 @@ held_kept b w v t l same h =
 pub held_in : (b v x : List ℕ) (p : Span) (from n : ℕ) → TableHeld (span_bytes b p) x n → from + length x ≤ length v → ((q : ℕ) → q < length x → get_or v (from + q) 0 ≡ get_or x q 0)
     → Held b v (record { place = p; from = from; count = n })
 held_in b v x p from n t room same =
-    let r : 5 * n ≤ length x = (held_rising (span_bytes b p) x n 0 t).room in
+    let r : 5 * n ≤ length x = (held_rising (span_bytes b p) x n t).room in
     let inside : from + 5 * n ≤ length v = omega arith in
     record {
       inside = inside;

@@ -128,3 +128,10 @@ module _ (s : List ℕ) where
         let q = placed d e in
         let f = place_front (drop n s) q.0 tag m g q.1 in
         ap₂ (λ (x y : ℕ). Some (record { tag = x; start = y })) (f.0 ∙ q.2) (omega (arith, f.1, q.3))
+
+-- ---- as functions name them
+pub ruleset place_cases = (place_untagged, place_zero, place_ends, place_bad, place_not, place_is, size_ends)
+
+pub ruleset declared_cases = (declared_not, end_is, unplaced, declared_law, end_within, start_within)
+
+pub ruleset heading_cases = (heading_none, heading_untagged, heading_is)

@@ -1,17 +1,18 @@
 -- A unit read with abbreviations that are known, in one chain of tests; and one whose abbreviations go by its size.
 -- Assumes nothing.
-use mathlib.Core.Path.{◌≡◌, refl, sym, ap, ◌∙◌}
+use mathlib.Core.Path.{◌≡◌, refl, sym, ap, subst, ◌∙◌}
 use mathlib.Core.Bool.{true, not}
 use mathlib.Core.List.{List}
-use Prim.Native.Nat.{ℕ}
+use Prim.Native.Nat.{ℕ, ◌≤◌}
 use lib.Dec.{eqb, leb}
 use lib.ListN.{length, take, get_or}
+use borrow.Author.Tests.{eqb-false, leb-true, not-true}
 use Rattle.octets.specs.Octets.{number_at}
 use Rattle.octets.specs.Checked.{Check, pass, ◌>>=◌, require}
 use Rattle.octets.proofs.Checks.{bind_pass, require_pass, pass_inj, passes, then_pass}
 use Rattle.bundle.specs.Encoding.{Encoding}
 use Rattle.bundle.specs.InitialLength.{length_field}
-use Rattle.unit.specs.UnitRead.{UnitRead, unit_size, address_place, common_size, identity_of, unit_by, unit_of}
+use Rattle.unit.specs.UnitRead.{Identity, UnitRead, unit_size, address_place, common_size, identity_of, unit_by, unit_of}
 
 unfoldable pub plain : Encoding → ℕ → List ℕ → List ℕ → Check UnitRead
 plain e home abbreviations s = do
@@ -28,6 +29,41 @@ plain e home abbreviations s = do
 pub unit_plain : (e : Encoding) (home : ℕ) (abbreviations s : List ℕ) → unit_of e home abbreviations s ≡ plain e home abbreviations s
 unfolding unit_of unit_by plain ◌>>=◌
 unit_plain e home abbreviations s = refl
+
+-- what is known of a unit that was read
+pub record Read (e : Encoding) (home : ℕ) (abbreviations s : List ℕ) (r : UnitRead) : Type 0 where
+  pub identity : Identity
+  pub size : unit_size e s ≡ pass r.size
+  pub within : r.size ≤ length s
+  pub header : common_size e ≤ length (take r.size s)
+  pub read : identity_of e home abbreviations (take r.size s) ≡ pass identity
+  pub table : r.table ≡ identity.table
+  pub is : r.identity ≡ identity.identity
+  pub not_zero : r.identity ≡ 0 → ⊥
+
+pub unit_read : (e : Encoding) (home : ℕ) (abbreviations s : List ℕ) (r : UnitRead) → unit_of e home abbreviations s ≡ pass r → Read e home abbreviations s r
+unfolding plain
+unit_read e home abbreviations s r q =
+    let size = bind_pass (unit_size e s) _ r (sym (unit_plain e home abbreviations s) ∙ q) in
+    let n = size.0 in
+    let u = take n s in
+    let a = require_pass (leb n (length s)) 11 _ r size.2 in
+    let b = require_pass (leb (common_size e) (length u)) 11 _ r a.1 in
+    let c = require_pass (eqb (number_at e.big 2 u (length_field e)) e.version) 11 _ r b.1 in
+    let d = require_pass (eqb (get_or u (address_place e) 0) e.address) 11 _ r c.1 in
+    let i = bind_pass (identity_of e home abbreviations u) _ r d.1 in
+    let z = require_pass (not (eqb i.0.identity 0)) 13 _ r i.2 in
+    subst (Read e home abbreviations s) (pass_inj z.1)
+    (record {
+      identity = i.0;
+      size = size.1;
+      within = leb-true n (length s) a.0;
+      header = leb-true (common_size e) (length u) b.0;
+      read = i.1;
+      table = refl;
+      is = refl;
+      not_zero = eqb-false i.0.identity 0 (not-true _ z.0);
+    })
 
 -- a unit that was read has been read with the abbreviations of its size
 pub record ReadBy (e : Encoding) (home : ℕ) (f : ℕ → Check (List ℕ)) (s : List ℕ) (r : UnitRead) : Type 0 where

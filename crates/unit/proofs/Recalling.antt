@@ -8,14 +8,15 @@ use native.Mathlib.Omega.{arith}
 use lib.ListN.{length, take, drop, get_or}
 use Rattle.octets.proofs.Parts.{part_cut}
 use Rattle.unit.specs.Tables.{table_good}
-use Rattle.unit.specs.Trees.{Sought}
-use Rattle.unit.specs.TableTrees.{TableHeld, Judges, span_bytes, Held, directory, key_of, table_from, Stored, Tables, Remembers, Knows}
+use Rattle.unit.specs.Trees.{Rising, Sought, Seeks, Fresh}
+use Rattle.unit.specs.TableTrees.{TableHeld, Judges, span_bytes, Held, directory, key_of, table_from, Stored, Tables, Remembers, Knows, Lies, Lent}
 use Rattle.unit.specs.declared.judged.Span.{Span}
 use Rattle.unit.specs.declared.judged.JudgedTable.{JudgedTable}
 use Rattle.unit.specs.declared.judged.Judged.{Judged}
-use Rattle.std.specs.Prelude.{IfSome, Some, Result, Ok, Err}
+use Rattle.std.specs.Prelude.{IfSome, Option, Some, None, Result, Ok, Err}
 use Rattle.unit.specs.declared.abbreviations.Unheld.{Unheld}
 use Rattle.unit.specs.declared.abbreviations.Unheld.TheVariants.{Bad, Full}
+use Rattle.unit.proofs.Finding.{held_rising}
 use Rattle.unit.proofs.Holding.{key_at, key_end, held_alone, remembers_tables}
 
 -- ---- what is recalled
@@ -46,6 +47,21 @@ stored_held b w free p start count h s e =
     (ap₂ (λ (x y : ℕ). record { place = record { at = x; end = y }; from = start + 1; count = get_or w start 0 }) (key_at p h) (key_end p h)
     ∙ ap (λ (n : ℕ). record { place = p; from = start + 1; count = n }) (sym e)) s.held
 
+-- a search for a place, as the code asks for it
+module _ (b w : List ℕ) (j : Judged) (m : Lent b w j) (p : Span) (l : Lies b p) (key : ℕ) (e : key ≡ key_of p) (o : Option ℕ) (q : Seeks (directory b w) j.tables key o) where
+  pub sought_none : o ≡ None → Fresh (directory b w) j.tables (key_of p)
+  sought_none i = rw (i, e) at q
+
+  module _ (start : ℕ) (i : o ≡ Some start) where
+    stored : Stored b w j.free start (key_of p)
+    stored = found_stored b w j.tables j.free (key_of p) start (rw (i, e) at q) (remembers_tables b w j m.memory)
+
+    pub sought_within : start < length w
+    sought_within = stored_within b w j.free start (key_of p) stored
+
+    pub recalled_found : Knows b w p (record { last = Some (record { place = p; from = start + 1; count = get_or w start 0 }); tables = j.tables; free = j.free }) (record { place = p; from = start + 1; count = get_or w start 0 })
+    recalled_found = recalled b w _ j.tables j.free (stored_held b w j.free p start _ (omega (arith, l, m.small)) stored refl) (remembers_tables b w j m.memory)
+
 -- ---- a table that was judged
 module _ (s w : List ℕ) (r : Result ℕ Unheld) (j : Judges s w r) where
   pub judged_good : (n : ℕ) → r ≡ Ok n → TableHeld s w n
@@ -70,3 +86,6 @@ recalled_alone b w p j r n m g i = recalled b w _ j.tables j.free (held_alone b 
 -- ---- the table that was recalled, in the part of the words that the code lends
 pub known_held : (b w : List ℕ) (p : Span) (j : Judged) (t : JudgedTable) → Knows b w p j t → TableHeld (span_bytes b p) (take (t.from + 5 * t.count - t.from) (drop t.from w)) t.count
 known_held b w p j t k = rw (part_cut w t.from (5 * t.count), ← k.place) k.held.is
+
+pub known_rising : (b w : List ℕ) (p : Span) (j : Judged) (t : JudgedTable) → Knows b w p j t → Rising (take (t.from + 5 * t.count - t.from) (drop t.from w)) t.count
+known_rising b w p j t k = held_rising _ _ _ (known_held b w p j t k)

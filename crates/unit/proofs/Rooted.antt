@@ -79,3 +79,6 @@ pub root_past : (e : Encoding) (abbreviations u s : List ℕ) (at : ℕ) → at 
     → refuse 12 ≡ root_identity e (table_at e abbreviations u) s
 unfolding table_at root_identity declarations_of declarations_from ◌>>=◌
 root_past e abbreviations u s at h g = let l : length abbreviations ≤ at = omega arith in rw (← h, drop_of_length-le abbreviations l)
+
+-- ---- as functions name them
+pub ruleset root_cases = (root_code, root_missing, found_within, root_tag_law, root_is)

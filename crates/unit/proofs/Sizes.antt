@@ -188,3 +188,8 @@ only_value_size e string s = only_zero_ended s
 only_value_size e indirect s = only_refuse 12
 only_value_size e (block n) s = only_bind 12 _ _ (only_require _ 12) (λ _. only_pass 12 _)
 only_value_size e uleb_block s = only_bind 12 _ _ (only_unsigned s) (λ r. only_pass 12 _)
+
+-- ---- as functions name them
+pub ruleset behind_number = (rest, short_within, unsigned_within)
+
+pub ruleset width_cases = (size_fixed, size_address, size_offset, size_uleb, size_sleb, size_string, size_indirect, size_block, size_uleb_block)

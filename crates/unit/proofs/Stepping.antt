@@ -1,9 +1,9 @@
 -- One attribute of the root, and the walk over all of them.
 -- Assumes nothing.
-use mathlib.Core.Path.{◌≡◌, refl, sym, ap, ap₂, ◌∙◌}
+use mathlib.Core.Path.{◌≡◌, refl, sym, ap, ap₂, subst, ◌∙◌}
 use mathlib.Core.List.{List, [], ◌∷◌}
 use mathlib.Core.Option.{Option, some, none}
-use Prim.Native.Nat.{ℕ, ◌+◌, ◌-◌, ◌≤◌, ◌<◌}
+use Prim.Native.Nat.{ℕ, ◌+◌, ◌*◌, ◌-◌, ◌≤◌, ◌<◌}
 use native.Mathlib.Omega.{arith}
 use native.Mathlib.Nat.{add-zero}
 use native.Mathlib.Decide.{ℕ_discrete}
@@ -23,8 +23,7 @@ use Rattle.unit.specs.Abbreviations.{Attribute, attribute_at, attributes_of}
 use Rattle.unit.specs.Root.{needed, Value, value_of, identity_at, identity_in}
 use Rattle.unit.specs.Roots.{Move, attribute_step, identity_from, Skips}
 use Rattle.unit.proofs.Sizes.{rest}
-use Rattle.unit.proofs.Steps.{goes, goes_past}
-use Rattle.unit.proofs.Attributes.{before, neither_zero, attribute_at_taken, only_attribute_at, attributes_is, attributes_end, attributes_more, only_attributes_from}
+use Rattle.unit.proofs.Attributes.{before, attribute_good, attribute_at_taken, only_attribute_at, attributes_is, attributes_end, attributes_more, only_attributes_from}
 use Rattle.unit.proofs.Values.{value_within, value_flag, only_value_of, only_needed}
 
 -- ---- what an attribute states
@@ -227,8 +226,7 @@ module _ (t : List ℕ) where
     form_read = rw (drop-drop 1 i t) (sym (short_one (drop (i + 1) t) 0x19 (λ h. omega (arith, h, length-drop (i + 1) t)) (rw (get_or-drop, add-zero (i + 1), f)) (omega arith)))
 
     flag_read : attribute_at (drop i t) ≡ pass (record { name = get_or t i 0; form = 0x19 }, 2)
-    unfolding attribute_at
-    flag_read = sym (goes _ (sym name_read) (goes _ (sym form_read) (goes_past _ _ (neither_zero (get_or t i 0) 0x19 z (λ h. omega (arith, h))) (goes_past _ _ refl refl))))
+    flag_read = attribute_good (drop i t) (get_or t i 0) 1 name_read 0x19 1 form_read (rw (ne_eqb (get_or t i 0) 0 z) refl) (λ h. omega (arith, h))
 
     flag_step : (e : Encoding) (s : List ℕ) (seen : Option ℕ) → attribute_step e (drop i t) s seen ≡ pass (some (record { taken = 2; passed = 0; seen = seen }))
     flag_step e s seen = step_on e (drop i t) s seen _ 0x19 2 flag_read z _ (value_flag e 0x19 s refl) seen (identity_same e _ _ s seen (λ h. omega (arith, h, o)))
@@ -237,10 +235,54 @@ module _ (t : List ℕ) where
     unfolding Skips
     skips_more h = (omega arith, λ e s seen. from_turn e t s i 0 seen _ (flag_step e s seen) ∙ h.1 e s seen)
 
--- the same behind a place of the table
-pub skips_at : (t : List ℕ) (a n : ℕ) → a ≤ length t → Skips (take (length t - a) (drop a t)) n
-    → (a + n ≤ length t) × ((e : Encoding) (s : List ℕ) (seen : Option ℕ) → identity_from e (drop (a + n) t) s seen ≡ identity_from e (drop a t) s seen)
-unfolding Skips
-skips_at t a n l h =
-    let k : Skips (drop a t) n = rw (rest a t) at h in
-    (omega (arith, k.0, length-drop a t, l), λ e s seen. ap (λ (x : List ℕ). identity_from e x s seen) (sym (drop-drop n a t)) ∙ k.1 e s seen)
+  -- as pairs are counted
+  pub skips_pair : (i : ℕ) → 2 * i + 1 < length t → (get_or t (2 * i) 0 ≡ 0 → ⊥) → get_or t (2 * i) 0 ≤ 0x7f → get_or t (2 * i + 1) 0 ≡ 0x19 → Skips t (2 * i)
+      → Skips t (2 * (i + 1))
+  skips_pair i l z o f h = let next : 2 * i + 2 ≡ 2 * (i + 1) = omega arith in subst (Skips t) next (skips_more (2 * i) l z o f h)
+
+-- ---- the walk, as the code takes it
+pub record Walked (e : Encoding) (t s : List ℕ) (a at : ℕ) (seen : Option ℕ) : Type 0 where
+  pub table : a ≤ length t
+  pub unit : at ≤ length s
+  pub same : identity_from e (drop a t) (drop at s) seen ≡ identity_from e t s none
+
+module _ (e : Encoding) (t s : List ℕ) (a at : ℕ) (seen : Option ℕ) (w : Walked e t s a at seen) where
+  pub walked_past : (n : ℕ) → Skips (take (length t - a) (drop a t)) n → Walked e t s (a + n) at seen
+  unfolding Skips
+  walked_past n h =
+      let k : Skips (drop a t) n = rw (rest a t) at h in
+      record {
+        table = omega (arith, k.0, length-drop a t, w.table);
+        unit = w.unit;
+        same = ap (λ (x : List ℕ). identity_from e x (drop at s) seen) (sym (drop-drop n a t)) ∙ k.1 e (drop at s) seen ∙ w.same;
+      }
+
+  abbrev step : Check (Option Move)
+  step = attribute_step e (take (length t - a) (drop a t)) (take (length s - at) (drop at s)) seen
+
+  whole : step ≡ attribute_step e (drop a t) (drop at s) seen
+  whole = ap₂ (λ (x y : List ℕ). attribute_step e x y seen) (rest a t) (rest at s)
+
+  pub walked_not : (k : ℕ) → refuse k ≡ step → refuse k ≡ identity_from e t s none
+  walked_not k h =
+      let g = sym (h ∙ whole) in
+      ap refuse ((only_step e (drop a t) (drop at s) seen).is k g) ∙ unread e (drop a t) (drop at s) seen (from_not e (drop a t) (drop at s) seen k g) ∙ w.same
+
+  pub walked_end : pass none ≡ step → needed seen ≡ identity_from e t s none
+  walked_end h = sym (from_end e (drop a t) (drop at s) seen (sym (h ∙ whole))) ∙ w.same
+
+  module _ (m : Move) (h : pass (some m) ≡ step) where
+    pub walked_taken : (1 ≤ m.taken) × (m.taken ≤ length (drop a t)) × (m.passed ≤ length (drop at s))
+    walked_taken = stepped_within e (drop a t) (drop at s) seen m (sym (h ∙ whole))
+
+    pub walked_on : Walked e t s (a + m.taken) (at + m.passed) m.seen
+    walked_on = record {
+      table = omega (arith, walked_taken, length-drop a t, w.table);
+      unit = omega (arith, walked_taken, length-drop at s, w.unit);
+      same = from_turn e t s a at seen m (sym (h ∙ whole)) ∙ w.same;
+    }
+
+-- ---- as functions name them
+pub ruleset identity_cases = (identity_seen, identity_other, identity_form, identity_stated)
+
+pub ruleset step_cases = (step_none, step_end, step_value, step_not, step_on)

@@ -1,52 +1,23 @@
--- One step of a definition that checks in a row, as the code takes it: from what a call answers to what all of it answers.
+-- What the code answers, and what a definition says: of an option, and of a refusal that leaves.
 -- Assumes nothing.
-use mathlib.Core.Path.{◌≡◌, refl, sym, ap, ◌∙◌}
-use mathlib.Core.Bool.{Bool, true, false}
+use mathlib.Core.Path.{◌≡◌, refl, sym, ap}
 use mathlib.Core.Option.{some, none}
 use mathlib.Core.Option as math
 use Prim.Native.Nat.{ℕ}
 use native.Mathlib.Omega.{arith}
-use Rattle.std.specs.Prelude.{Option, Some, None, Result, Ok, Err}
+use Rattle.std.specs.Prelude.{Option, Some, None, Result, Err}
 use Rattle.std.specs.Option.{ok_or}
-use Rattle.std.specs.Result.{IsErrAnd, result_ok}
+use Rattle.std.specs.Result.{IsErrAnd}
 use Rattle.std.proofs.lemmas.Option.{none-some, same_Some}
 use Rattle.std.proofs.lemmas.Result.{err_from_is_err_and}
 use Rattle.octets.specs.Options.{found}
-use Rattle.octets.specs.Checked.{Check, pass, refuse, ◌>>=◌, require, mapped}
-use Rattle.octets.proofs.Checks.{passes, fails, then_pass, then_refuse}
+use Rattle.octets.specs.Checked.{Check, refuse}
 use Rattle.numbers.specs.Refused.{told, number_of}
 use Rattle.numbers.specs.declared.refusals.Refusal.{Refusal}
-
-module _ {A B : Type 0} {m : Check A} (f : A → Check B) where
-  pub stops : {k : ℕ} → refuse k ≡ m → refuse k ≡ (m >>= f)
-  stops e = sym (then_refuse m f _ (sym e))
-
-  pub goes : {a : A} {r : Check B} → pass a ≡ m → r ≡ f a → r ≡ (m >>= f)
-  goes e g = g ∙ sym (then_pass m f _ (sym e))
-
-module _ {B : Type 0} {t : Bool} (n : ℕ) (f : Unit {0} → Check B) where
-  pub stops_at : t ≡ false → refuse n ≡ (require t n >>= f)
-  stops_at e = sym (fails t n f e)
-
-  pub goes_past : {r : Check B} → t ≡ true → r ≡ f tt → r ≡ (require t n >>= f)
-  goes_past e g = g ∙ sym (passes t n f e)
 
 -- what a `?` that leaves answers
 pub leaves : {A : Type 0} {m : Check A} (r : Result A Refusal) (e : Refusal) → IsErrAnd r (λ y. y ≡ e) → refuse (number_of e) ≡ m → told r ≡ m
 leaves r e h g = let p = err_from_is_err_and r h in rw (p.1, p.2) g
-
-pub leaves_as : {A B : Type 0} {m : Check B} (f : A → B) (r : Result A Refusal) (e : Refusal) → IsErrAnd r (λ y. y ≡ e) → refuse (number_of e) ≡ m → mapped f (told r) ≡ m
-unfolding mapped
-leaves_as f r e h g = let p = err_from_is_err_and r h in rw (p.1, p.2) g
-
--- what `ok()` says of what was answered
-pub ok_some : {A E : Type 0} (r : Result A E) (a : A) → Some a ≡ result_ok r → r ≡ Ok a
-ok_some (Ok b) a e = ap Ok (sym (same_Some a b e))
-ok_some (Err k) a e = absurd (none-some a (sym e))
-
-pub ok_none : {A E : Type 0} (r : Result A E) → None ≡ result_ok r → (k : E) × (r ≡ Err k)
-ok_none (Ok b) e = absurd (none-some b e)
-ok_none (Err k) e = (k, refl)
 
 -- what a definition finds, by what the code answers
 pub found_some : {A : Type 0} (m : math.Option A) (a : A) → found m ≡ Some a → m ≡ some a

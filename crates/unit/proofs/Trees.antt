@@ -7,6 +7,7 @@ use Prim.Native.Nat.{ℕ, zero, suc, ◌+◌, ◌*◌, ◌/◌, ◌%◌, ◌^◌
 use native.Mathlib.Omega.{arith}
 use native.Mathlib.Nat.{add-zero}
 use native.Mathlib.Decide.{ℕ_discrete, dec_le}
+use borrow.Author.Count.{below_more}
 use lib.ListN.{length, get_or, length-append, get_or-append}
 use lib.Seq.{get_or-append_seam}
 use Rattle.octets.specs.Octets.{placed}
@@ -14,8 +15,8 @@ use Rattle.octets.specs.Lists.{has}
 use Rattle.octets.proofs.Placed.{length_placed}
 use Rattle.octets.proofs.Regions.{get_d_placed, get_d_before, get_d_behind}
 use Rattle.octets.proofs.Elements.{has_at, not_has}
-use Rattle.unit.specs.Trees.{code_at, carried_at, next_at, node_of, Reaches, Reached, Rising, Linked, Tree, EndsFree, Ends, Fresh, Sought, Seeks, Grown, Added}
-use Rattle.std.specs.Prelude.{Option, Some, None, Result, Ok, Err}
+use Rattle.unit.specs.Trees.{code_at, carried_at, next_at, node_of, Reaches, Reached, Rising, Linked, Tree, EndsFree, Ends, Fresh, Seeks, Grown, Added}
+use Rattle.std.specs.Prelude.{Some, None, Result, Ok, Err}
 
 -- ---- walks
 -- where links stay, so do walks
@@ -88,11 +89,11 @@ module _ (w cs : List ℕ) (t : Tree w cs) (code : ℕ) where
 -- ---- a search
 module _ (w : List ℕ) (n code : ℕ) where
   pub seeks_none : n ≡ 0 → Seeks w n code None
-  unfolding Seeks Fresh
+  unfolding Fresh
   seeks_none z = λ cs l t. not_has cs code (λ k h g. absurd (omega arith))
 
   pub seeks_free : (link : ℕ) (r : Result ℕ ℕ) → r ≡ Err link → Ends w n code r → Seeks w n code None
-  unfolding Seeks Fresh Ends
+  unfolding Fresh Ends
   seeks_free link r i e = λ cs l t. free_not w cs t code link (rw (i, ← l) at e)
 
   module _ (k : ℕ) (r : Result ℕ ℕ) (i : r ≡ Ok k) (e : Ends w n code r) where
@@ -104,17 +105,7 @@ module _ (w : List ℕ) (n code : ℕ) where
     ends_room r = omega (arith, ends_at.0, r.room)
 
     pub seeks_at : (at : ℕ) → at ≡ carried_at w k → Seeks w n code (Some at)
-    unfolding Seeks
     seeks_at at s = record { node = k; inside = ends_at.0; is = ends_at.1; carries = sym s }
-
-  -- what a search answered
-  pub sought : (at : ℕ) (r : Option ℕ) → r ≡ Some at → Seeks w n code r → Sought w n code at
-  unfolding Seeks
-  sought at r i s = rw i at s
-
-  pub not_sought : (r : Option ℕ) → r ≡ None → Seeks w n code r → Fresh w n code
-  unfolding Seeks
-  not_sought r i s = rw i at s
 
 -- ---- one code more
 -- the words of the new node
@@ -223,34 +214,21 @@ module _ (w cs : List ℕ) (t : Tree w cs) (carried code link : ℕ) (e : EndsFr
         rw i (omega (arith, t.rising.among k b l m), λ z. t.rising.later k b l m z)
   ]
 
-  last : (k : ℕ) → k < n + 1 → (k < n → ⊥) → k ≡ n
-  last k l z = omega arith
-
   count : length (cs ++ (code ∷ [])) ≡ n + 1
   count = length-append cs (code ∷ [])
 
-  grown_later : (k b : ℕ) → k < n + 1 → b < 2 → (get_or v (5 * k + b) 0 ≡ 0 → ⊥) → k < get_or v (5 * k + b) 0
-  grown_later k b l m z = elim (dec_le (k + 1) n) [
-    | yes g ↦ (links k b (omega arith) m).1 z
-    | no g ↦ absurd (z (ap (λ (x : ℕ). get_or v (5 * x + b) 0) (last k l (λ y. g (omega arith))) ∙ new_links u n carried code u_room b m))
-  ]
-
-  grown_among : (k b : ℕ) → k < n + 1 → b < 2 → get_or v (5 * k + b) 0 < n + 1
-  grown_among k b l m = elim (dec_le (k + 1) n) [
-    | yes g ↦ (links k b (omega arith) m).0
-    | no g ↦
-        let i : get_or v (5 * k + b) 0 ≡ 0 = ap (λ (x : ℕ). get_or v (5 * x + b) 0) (last k l (λ y. g (omega arith))) ∙ new_links u n carried code u_room b m in
-        omega (arith, i)
-  ]
+  grown_links : (k : ℕ) → k < n + 1 → (b : ℕ) → b < 2 → (get_or v (5 * k + b) 0 < n + 1) × ((get_or v (5 * k + b) 0 ≡ 0 → ⊥) → k < get_or v (5 * k + b) 0)
+  grown_links =
+      below_more (λ (k : ℕ). (b : ℕ) → b < 2 → (get_or v (5 * k + b) 0 < n + 1) × ((get_or v (5 * k + b) 0 ≡ 0 → ⊥) → k < get_or v (5 * k + b) 0)) n
+      (λ k l b m. links k b l m) (λ b m. let e = new_links u n carried code u_room b m in (omega (arith, e), λ z. absurd (z e)))
 
   grown_rising : Rising v (n + 1)
-  grown_rising = record { room = omega (arith, v_length); later = grown_later; among = grown_among }
+  grown_rising = record { room = omega (arith, v_length); later = λ k b l m z. (grown_links k l b m).1 z; among = λ k b l m. (grown_links k l b m).0 }
 
   grown_codes : (k : ℕ) → k < n + 1 → code_at v k ≡ get_or (cs ++ (code ∷ [])) k 0
-  grown_codes k l = elim (dec_le (k + 1) n) [
-    | yes g ↦ let m : k < n = omega arith in kept_code k m ∙ t.codes k m ∙ sym (get_or-append cs (code ∷ []) 0 k m)
-    | no g ↦ rw (last k l (λ y. g (omega arith))) (new_code u n carried code u_room ∙ sym (get_or-append_seam cs code [] 0))
-  ]
+  grown_codes =
+      below_more (λ (k : ℕ). code_at v k ≡ get_or (cs ++ (code ∷ [])) k 0) n (λ k m. kept_code k m ∙ t.codes k m ∙ sym (get_or-append cs (code ∷ []) 0 k m))
+      (new_code u n carried code u_room ∙ sym (get_or-append_seam cs code [] 0))
 
   old_reached : (k : ℕ) → k < n → Reached v (get_or cs k 0) k
   old_reached k m = let r = t.reached k m in record { steps = r.steps; is = reaches_linked w v n t.rising linked r.steps (get_or cs k 0) 0 k (omega arith) r.is }
@@ -259,10 +237,9 @@ module _ (w cs : List ℕ) (t : Tree w cs) (carried code link : ℕ) (e : EndsFr
   new_reached = subst (λ (x : ℕ). Reached v code x) at_link (e.hangs v linked (λ z. absurd (omega (arith, at_link, e.inside))))
 
   grown_reached : (k : ℕ) → k < n + 1 → Reached v (get_or (cs ++ (code ∷ [])) k 0) k
-  grown_reached k l = elim (dec_le (k + 1) n) [
-    | yes g ↦ let m : k < n = omega arith in rw (get_or-append cs (code ∷ []) 0 k m) (old_reached k m)
-    | no g ↦ rw (last k l (λ y. g (omega arith)), get_or-append_seam cs code [] 0) new_reached
-  ]
+  grown_reached =
+      below_more (λ (k : ℕ). Reached v (get_or (cs ++ (code ∷ [])) k 0) k) n (λ k m. rw (get_or-append cs (code ∷ []) 0 k m) (old_reached k m))
+      (rw (get_or-append_seam cs code [] 0) new_reached)
 
   pub tree_more : Grown w v cs carried code
   unfolding carried_at

@@ -2,14 +2,13 @@
 -- Assumes nothing.
 use mathlib.Core.Path.{◌≡◌, refl, sym, subst, ◌∙◌}
 use mathlib.Core.Logic.{◌⊎◌, inl, inr, ⊎_elim}
-use mathlib.Core.Bool.{true, false, not, ◌||◌}
+use mathlib.Core.Bool.{true, false}
 use mathlib.Core.List.{List, [], ◌∷◌}
 use mathlib.Core.Option.{Option, some, none}
 use Prim.Native.Nat.{ℕ, ◌+◌, ◌^◌, ◌<◌, ◌≤◌}
 use native.Mathlib.Omega.{arith}
 use lib.Dec.{eqb, leb}
-use lib.ListN.{length, take, drop, get_or}
-use borrow.Author.Tests.{eqb-false, leb-true, not-true}
+use lib.ListN.{length, take, drop}
 use Rattle.octets.specs.Octets.{number_at}
 use Rattle.octets.specs.Checked.{pass, ◌>>=◌, require}
 use Rattle.octets.proofs.Checks.{bind_pass, require_pass, pass_inj, pass_refuse, known}
@@ -18,11 +17,14 @@ use Rattle.bundle.specs.Encoding.{Encoding}
 use Rattle.leb128.specs.Leb128.{unsigned}
 use Rattle.unit.specs.Abbreviations.{Attribute, declarations_of, declaration_of}
 use Rattle.unit.specs.Root.{Value, needed, value_of, identity_at, identity_in, root_tag, root_identity}
-use Rattle.bundle.specs.InitialLength.{length_field}
 use Rattle.bundle.proofs.InitialLengths.{field_least}
 use Rattle.unit.proofs.Fields.{size_field}
-use Rattle.unit.specs.UnitRead.{Identity, UnitRead, is_five, unit_size, address_place, common_size, behind_common, identity_five, identity_four, identity_of, unit_of}
-use Rattle.unit.proofs.Plain.{plain, unit_plain}
+use Rattle.unit.specs.UnitRead.{Identity, UnitRead, unit_size, common_size, behind_common, unit_of}
+use Rattle.unit.specs.Headers.{kind_of, table_at, identity_by}
+use Rattle.unit.specs.declared.header.Kind.{Kind}
+use Rattle.unit.specs.declared.header.Kind.TheVariants.{Compilation, Signature, Root, Other}
+use Rattle.unit.proofs.Plain.{unit_read}
+use Rattle.unit.proofs.Units.{by_kind, kinds}
 
 -- ---- the root's identity has 64 bits
 abbrev Small : Option ℕ → Type 0
@@ -73,35 +75,18 @@ facts_behind e table n u i h t q =
     let r = require_pass (leb (common_size e + n) (length u)) 11 _ i q in
     subst IdentityFacts (pass_inj r.1) (record { tables = t; small = number_at_lt e.big 8 u (common_size e) h })
 
-facts_five : (e : Encoding) (type : ℕ) (u : List ℕ) (i : Identity) → Bytes u → identity_five e type u ≡ pass i → IdentityFacts i
-unfolding identity_five
-facts_five e type u i h q = ⊎_elim
-    (λ (t : (eqb type 4 || eqb type 5) ≡ true). facts_behind e 1 8 u i h (inl refl) (rw (identity_five, t) at q))
-    (λ (t : (eqb type 4 || eqb type 5) ≡ false). ⊎_elim
-    (λ (t2 : (eqb type 2 || eqb type 6) ≡ true). facts_behind e 2 (8 + e.width) u i h (inr refl) (rw (identity_five, t, t2) at q))
-    (λ (t2 : (eqb type 2 || eqb type 6) ≡ false). absurd (pass_refuse i 12 (sym (rw (identity_five, t, t2) at q))))
-    (known (eqb type 2 || eqb type 6)))
-    (known (eqb type 4 || eqb type 5))
-
 facts_root : (e : Encoding) (table s : List ℕ) (i : Identity) → Bytes s
     → (root_identity e table s >>= λ x. pass (record { table = 1; identity = x })) ≡ pass i → IdentityFacts i
 facts_root e table s i h q =
     let r = bind_pass (root_identity e table s) (λ x. pass (record { table = 1; identity = x })) i q in
     subst IdentityFacts (pass_inj r.2) (record { tables = inl refl; small = root_small e table s r.0 h r.1 })
 
-facts_four : (e : Encoding) (home : ℕ) (abbreviations u : List ℕ) (i : Identity) → Bytes u → identity_four e home abbreviations u ≡ pass i → IdentityFacts i
-unfolding identity_four
-facts_four e home abbreviations u i h q = ⊎_elim
-    (λ (t : eqb home 1 ≡ true). facts_root e (drop (number_at e.big e.width u (length_field e + 2)) abbreviations) (drop (common_size e) u) i (bytes_drop (common_size e) u h) (rw (identity_four, t) at q))
-    (λ (t : eqb home 1 ≡ false). facts_behind e 2 (8 + e.width) u i h (inr refl) (rw (identity_four, t) at q))
-    (known (eqb home 1))
-
-pub facts_identity : (e : Encoding) (home : ℕ) (abbreviations u : List ℕ) (i : Identity) → Bytes u → identity_of e home abbreviations u ≡ pass i → IdentityFacts i
-unfolding identity_of
-facts_identity e home abbreviations u i h q = ⊎_elim
-    (λ (t : is_five e ≡ true). facts_five e (get_or u (length_field e + 2) 0) u i h (rw (identity_of, t) at q))
-    (λ (t : is_five e ≡ false). facts_four e home abbreviations u i h (rw (identity_of, t) at q))
-    (known (is_five e))
+facts_kind : (e : Encoding) (a u : List ℕ) (i : Identity) (k : Kind) → Bytes u → by_kind e k a u ≡ pass i → IdentityFacts i
+unfolding by_kind identity_by
+facts_kind e a u i Compilation h q = facts_behind e 1 8 u i h (inl refl) q
+facts_kind e a u i Signature h q = facts_behind e 2 (8 + e.width) u i h (inr refl) q
+facts_kind e a u i Root h q = facts_root e (table_at e a u) (drop (common_size e) u) i (bytes_drop (common_size e) u h) q
+facts_kind e a u i Other h q = absurd (pass_refuse i 12 (sym q))
 
 -- ---- the unit
 pub size_some : (e : Encoding) (s : List ℕ) (n : ℕ) → unit_size e s ≡ pass n → 4 ≤ n
@@ -115,22 +100,14 @@ pub record UnitFacts (s : List ℕ) (u : UnitRead) : Type 0 where
   pub not_zero : u.identity ≡ 0 → ⊥
 
 pub unit_facts : (e : Encoding) (home : ℕ) (abbreviations s : List ℕ) (u : UnitRead) → Bytes s → unit_of e home abbreviations s ≡ pass u → UnitFacts s u
-unfolding plain
 unit_facts e home abbreviations s u h q =
-    let size = bind_pass (unit_size e s) _ u (sym (unit_plain e home abbreviations s) ∙ q) in
-    let n = size.0 in
-    let a = require_pass (leb n (length s)) 11 _ u size.2 in
-    let b = require_pass (leb (common_size e) (length (take n s))) 11 _ u a.1 in
-    let c = require_pass (eqb (number_at e.big 2 (take n s) (length_field e)) e.version) 11 _ u b.1 in
-    let d = require_pass (eqb (get_or (take n s) (address_place e) 0) e.address) 11 _ u c.1 in
-    let i = bind_pass (identity_of e home abbreviations (take n s)) _ u d.1 in
-    let f = facts_identity e home abbreviations (take n s) i.0 (bytes_take n s h) i.1 in
-    let z = require_pass (not (eqb i.0.identity 0)) 13 _ u i.2 in
-    subst (UnitFacts s) (pass_inj z.1)
-    (record {
-      some = size_some e s n size.1;
-      within = leb-true n (length s) a.0;
-      tables = f.tables;
-      small = f.small;
-      not_zero = eqb-false i.0.identity 0 (not-true _ z.0);
-    })
+    let k = unit_read e home abbreviations s u q in
+    let v = take u.size s in
+    let f = facts_kind e abbreviations v k.identity (kind_of e home v) (bytes_take u.size s h) (sym (kinds e home abbreviations v) ∙ k.read) in
+    record {
+      some = size_some e s u.size k.size;
+      within = k.within;
+      tables = rw k.table f.tables;
+      small = rw k.is f.small;
+      not_zero = k.not_zero;
+    }

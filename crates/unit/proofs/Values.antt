@@ -149,3 +149,6 @@ only_value_of e form s = elim (ℕ_discrete form 0x16) [
   | yes z ↦ rw (indirect_is e form s z) (only_bind 12 _ _ (only_short s) (λ r. only_bind 12 _ _ (only_plain_value e _ _) (λ v. only_pass 12 _)))
   | no z ↦ rw (value_plain e form s z) (only_plain_value e form s)
 ]
+
+-- ---- as functions name them
+pub ruleset value_cases = (value_plain, indirect_none, indirect_not, indirect_value)

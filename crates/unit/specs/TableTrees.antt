@@ -124,7 +124,7 @@ pub record Knows (b w : List ℕ) (p : Span) (j : Judged) (t : JudgedTable) : Ty
   pub held : Held b w t
 
 -- or it is bad, and what is remembered is remembered rightly
-unfoldable pub Recalls : List ℕ → List ℕ → Span → Judged → Result JudgedTable Refusal → Type 0
+abbrev pub Recalls : List ℕ → List ℕ → Span → Judged → Result JudgedTable Refusal → Type 0
 Recalls b w p j (Ok t) = Knows b w p j t
 Recalls b w p j (Err r) = (r ≡ NoIdentity) × Remembers b w j × (table_good (span_bytes b p) ≡ false)
 

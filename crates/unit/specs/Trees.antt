@@ -76,7 +76,7 @@ pub record Sought (w : List ℕ) (n code at : ℕ) : Type 0 where
   pub is : code_at w node ≡ code
   pub carries : carried_at w node ≡ at
 
-unfoldable pub Seeks : List ℕ → ℕ → ℕ → Option ℕ → Type 0
+abbrev pub Seeks : List ℕ → ℕ → ℕ → Option ℕ → Type 0
 Seeks w n code (Some at) = Sought w n code at
 Seeks w n code None = Fresh w n code
 

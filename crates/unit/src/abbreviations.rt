@@ -74,7 +74,7 @@ impl From<Unheld> for Refusal {
 }
 
 // A name and a form, zero together; form 21 hexadecimal is refused.
-#[tactic(auto, using(crate::proofs::Attributes::attribute_none, crate::proofs::Attributes::attribute_half, crate::proofs::Attributes::attribute_apart, crate::proofs::Attributes::attribute_bad, crate::proofs::Attributes::attribute_good, crate::proofs::Sizes::rest, crate::proofs::Sizes::short_within, crate::proofs::Sizes::short_most), unfolding(octets::specs::Checked::mapped))]
+#[tactic(auto, using(crate::proofs::Attributes::attribute_cases, crate::proofs::Sizes::behind_number, crate::proofs::Sizes::short_most), unfolding(octets::specs::Checked::mapped))]
 pub fn attribute_at(s: &[u8]) -> Result<Attribute, Refusal>
     ensures { mapped attribute_is (told result) ≡ attribute_at s.now }
 {
@@ -91,6 +91,7 @@ pub fn attribute_at(s: &[u8]) -> Result<Attribute, Refusal>
 }
 
 // Whether the pair of zeros that ends attributes is in front.
+#[tactic(auto, using(crate::proofs::Attributes::size_none, std::proofs::lemmas::Bool::Decides::nat_tests))]
 fn has_none(s: &[u8]) -> bool
     ensures { result ≡ true → attributes_size s.now ≡ pass 2 }
 {
@@ -98,7 +99,7 @@ fn has_none(s: &[u8]) -> bool
 }
 
 // The bytes of a declaration's attributes, with the pair of zeros that ends them. A loop, since each attribute says where the next starts.
-#[tactic(auto, using(crate::proofs::Attributes::attribute_some, crate::proofs::Attributes::attribute_ends, crate::proofs::Attributes::walk_refused, crate::proofs::Attributes::walk_end, crate::proofs::Attributes::walk_on, crate::proofs::Sizes::rest, crate::proofs::Sizes::further_none), unfolding(octets::specs::Checked::mapped))]
+#[tactic(auto, using(crate::proofs::Attributes::walk_cases, crate::proofs::Sizes::rest), unfolding(octets::specs::Checked::mapped))]
 fn walk_attributes(s: &[u8]) -> Result<usize, Refusal>
     ensures { told result ≡ attributes_size s.now }
 {
@@ -123,7 +124,7 @@ fn attributes_size(s: &[u8]) -> Result<usize, Refusal>
     }
 }
 
-#[tactic(auto, using(crate::proofs::Places::place_untagged, crate::proofs::Places::place_zero, crate::proofs::Places::place_ends, crate::proofs::Places::place_bad, crate::proofs::Places::place_not, crate::proofs::Places::place_is, crate::proofs::Places::size_ends, crate::proofs::Sizes::rest, crate::proofs::Sizes::short_within, crate::proofs::Sizes::short_most), unfolding(octets::specs::Checked::mapped))]
+#[tactic(auto, using(crate::proofs::Places::place_cases, crate::proofs::Sizes::behind_number, crate::proofs::Sizes::short_most), unfolding(octets::specs::Checked::mapped))]
 fn place_at(s: &[u8]) -> Result<Place, Refusal>
     ensures { mapped place_is (told result) ≡ place_at s.now }
 {
@@ -141,7 +142,7 @@ fn place_at(s: &[u8]) -> Result<Place, Refusal>
 }
 
 // The declaration at the front of s, or none where the zero code ends the table.
-#[tactic(auto, using(crate::proofs::Places::declared_not, crate::proofs::Places::end_is, crate::proofs::Places::unplaced, crate::proofs::Places::declared_law, crate::proofs::Places::end_within, crate::proofs::Places::start_within, crate::proofs::Sizes::rest, crate::proofs::Sizes::unsigned_within), unfolding(octets::specs::Checked::mapped))]
+#[tactic(auto, using(crate::proofs::Places::declared_cases, crate::proofs::Sizes::behind_number), unfolding(octets::specs::Checked::mapped))]
 fn declared_at(s: &[u8]) -> Result<Option<Declaration>, Refusal>
     ensures { mapped declared_is (told result) ≡ declared_at s.now }
 {
@@ -184,7 +185,7 @@ pub fn judge_table(s: &[u8], codes: &mut [u32]) -> Result<usize, Unheld>
 
 // The tag of the declaration at the front of s, and where its attributes start behind the children byte. They were read as the table was judged,
 // and may be very many, so that they are not read here.
-#[tactic(auto, using(crate::proofs::Places::heading_none, crate::proofs::Places::heading_untagged, crate::proofs::Places::heading_is, crate::proofs::Sizes::rest, crate::proofs::Sizes::short_within, crate::proofs::Sizes::unsigned_within))]
+#[tactic(auto, using(crate::proofs::Places::heading_cases, crate::proofs::Sizes::behind_number))]
 fn heading_at(s: &[u8]) -> Option<Heading>
     ensures { Headed s.now result }
 {
@@ -197,6 +198,7 @@ fn heading_at(s: &[u8]) -> Option<Heading>
 }
 
 // The declaration of a code, in a table that was judged.
+#[tactic(auto, using(crate::proofs::Finding::found_inside))]
 pub fn find_in(s: &[u8], codes: CodeTree<'_>, code: u64) -> Option<Heading>
     requires { TableHeld s.now codes.words.now codes.count }
     ensures { Finds s.now code result }

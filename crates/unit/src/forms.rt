@@ -233,7 +233,7 @@ fn uleb_size(s: &[u8]) -> Result<usize, Refusal>
 }
 
 // How many bytes a value takes that ends in s.
-#[tactic(auto, using(crate::proofs::Sizes::size_fixed, crate::proofs::Sizes::size_address, crate::proofs::Sizes::size_offset, crate::proofs::Sizes::size_uleb, crate::proofs::Sizes::size_sleb, crate::proofs::Sizes::size_string, crate::proofs::Sizes::size_indirect, crate::proofs::Sizes::size_block, crate::proofs::Sizes::size_uleb_block, crate::proofs::Fields::big_is), unfolding(crate::specs::Widths::width_is))]
+#[tactic(auto, using(crate::proofs::Sizes::width_cases, crate::proofs::Fields::big_is), unfolding(crate::specs::Widths::width_is))]
 pub fn value_size(e: ObjectEncoding, w: Width, s: &[u8]) -> Result<usize, Refusal>
     ensures { told result ≡ size_within (encoding_is e) (width_is w) s.now }
 {

@@ -81,7 +81,7 @@ struct Unit<'a> {
     bytes: &'a [u8],
 }
 
-#[tactic(auto, using(crate::proofs::Fields::kind_compilation, crate::proofs::Fields::kind_signature, crate::proofs::Fields::kind_other))]
+#[tactic(auto, unfolding(crate::specs::Headers::five_kind))]
 fn five_kind(unit_type: u8) -> Kind
     ensures { result ≡ five_kind unit_type }
 {
@@ -93,7 +93,7 @@ fn five_kind(unit_type: u8) -> Kind
 }
 
 impl<'a> Unit<'a> {
-    #[tactic(auto, using(crate::proofs::Fields::width_le, crate::proofs::Fields::is_five_law, crate::proofs::Fields::is_four, crate::proofs::Fields::place_five, crate::proofs::Fields::place_four, bundle::proofs::InitialLengths::field_most))]
+    #[tactic(auto, using(crate::proofs::Fields::five_or_four, crate::proofs::Fields::width_le, bundle::proofs::InitialLengths::field_most))]
     fn address_place(self) -> usize
         ensures { result ≡ address_place (encoding_is self.entry.e) }
     {
@@ -106,7 +106,7 @@ impl<'a> Unit<'a> {
     }
 
     // The header fields that all types have.
-    #[tactic(auto, using(crate::proofs::Fields::width_le, crate::proofs::Fields::is_five_law, crate::proofs::Fields::is_four, crate::proofs::Fields::common_five, crate::proofs::Fields::common_four, bundle::proofs::InitialLengths::field_most))]
+    #[tactic(auto, using(crate::proofs::Fields::five_or_four, crate::proofs::Fields::width_le, bundle::proofs::InitialLengths::field_most))]
     fn common_size(self) -> usize
         ensures { result ≡ common_size (encoding_is self.entry.e) }
     {
@@ -115,7 +115,7 @@ impl<'a> Unit<'a> {
     }
 
     // Whether a length starts as the width wants it. It states this number.
-    #[tactic(auto, using(crate::proofs::Fields::good_wide, crate::proofs::Fields::good_narrow, bundle::proofs::InitialLengths::is_wide, bundle::proofs::InitialLengths::is_narrow), unfolding(bundle::specs::Encoded::encoding_is))]
+    #[tactic(auto, using(crate::proofs::Fields::length_cases), unfolding(bundle::specs::Encoded::encoding_is))]
     fn length_good(self, stated: u64) -> bool
         requires { stated ≡ length_stated (encoding_is self.e) self.bytes.now }
         ensures { result ≡ length_good (encoding_is self.entry.e) self.entry.bytes.now }
@@ -128,7 +128,7 @@ impl<'a> Unit<'a> {
     }
 
     // The size of a unit that ends in the bytes.
-    #[tactic(auto, using(crate::proofs::Fields::inside_short, crate::proofs::Fields::inside_bad, crate::proofs::Fields::inside_out, crate::proofs::Fields::inside_in))]
+    #[tactic(auto, using(crate::proofs::Fields::inside_cases))]
     fn size(self) -> Result<usize, Refusal>
         ensures { told result ≡ unit_inside (encoding_is self.entry.e) self.entry.bytes.now }
     {
@@ -168,7 +168,7 @@ impl<'a> Unit<'a> {
     }
 
     // Home is the code of the unit's section. The common fields are there: `unit_head` has tested it.
-    #[tactic(auto, using(crate::proofs::Fields::common_ge, crate::proofs::Fields::is_five_law, crate::proofs::Fields::is_four, crate::proofs::Fields::kind_five, crate::proofs::Fields::kind_root, crate::proofs::Fields::kind_types, bundle::proofs::InitialLengths::field_most))]
+    #[tactic(auto, using(crate::proofs::Fields::kind_cases, crate::proofs::Fields::common_ge, bundle::proofs::InitialLengths::field_most))]
     fn kind(self, home: u32) -> Kind
         requires { common_size (encoding_is self.e) ≤ length self.bytes.now }
         ensures { result ≡ kind_of (encoding_is self.entry.e) home self.entry.bytes.now }
@@ -204,7 +204,7 @@ impl<'a> Unit<'a> {
     }
 
     // What the root states. The common fields are there.
-    #[tactic(auto, using(crate::proofs::Cuts::between_length, crate::proofs::Cuts::between_drop, crate::proofs::Fields::width_le, crate::proofs::Fields::big_is, crate::proofs::Fields::common_ge, crate::proofs::Rooted::root_past, crate::proofs::Sizes::rest, bundle::proofs::InitialLengths::field_most), unfolding(crate::specs::Headers::table_at))]
+    #[tactic(auto, using(crate::proofs::Cuts::table_parts, crate::proofs::Fields::field_sizes, bundle::proofs::InitialLengths::field_most), unfolding(crate::specs::Headers::table_at))]
     fn root_stated(
         self,
         b: &[u8],
@@ -281,7 +281,7 @@ pub fn unit_head(e: ObjectEncoding, s: &[u8]) -> Result<usize, Refusal>
 
 // The identity of a unit whose head was read, and the table that it is handed in for. Home is the code of its section. An identity of 0 is refused.
 // Bundle, words and memory of the tables stay parameters: a clause speaks of all three, and the words are lent for one call, out of a larger slice.
-#[tactic(auto, using(crate::proofs::Cuts::answer_short, crate::proofs::Cuts::answer_not, crate::proofs::Cuts::answer_zero, crate::proofs::Cuts::answer_is), unfolding(octets::specs::Checked::mapped))]
+#[tactic(auto, using(crate::proofs::Cuts::answer_cases), unfolding(octets::specs::Checked::mapped))]
 pub fn unit_identity(
     e: ObjectEncoding,
     home: u32,
@@ -310,7 +310,7 @@ pub fn unit_identity(
 }
 
 // A whole unit, whose section goes on to the end of the place's bytes.
-#[tactic(auto, using(crate::proofs::Cuts::unit_none, crate::proofs::Cuts::own_within, crate::proofs::Cuts::own_common, crate::proofs::Cuts::unit_not, crate::proofs::Cuts::unit_done), unfolding(octets::specs::Checked::mapped))]
+#[tactic(auto, using(crate::proofs::Cuts::unit_cases), unfolding(octets::specs::Checked::mapped))]
 pub fn read_unit(
     e: ObjectEncoding,
     home: u32,
@@ -331,7 +331,7 @@ pub fn read_unit(
 
 // The address size that the header of a unit in info states, whatever it is, where the header passes 11 otherwise. Of e it takes the byte order,
 // the version and the width.
-#[tactic(auto, using(crate::proofs::Heads::own_length, crate::proofs::HeaderAlone::alone_not, crate::proofs::HeaderAlone::alone_fields, crate::proofs::HeaderAlone::fields_there, crate::proofs::HeaderAlone::alone_header, crate::proofs::HeaderAlone::alone_whole, crate::proofs::HeaderAlone::address_there, crate::proofs::Fields::place_lt))]
+#[tactic(auto, using(crate::proofs::HeaderAlone::alone_cases, crate::proofs::Heads::own_length, crate::proofs::Fields::place_lt))]
 pub fn stated_address(e: ObjectEncoding, s: &[u8]) -> Result<u8, Refusal>
     ensures { told result ≡ address_of (encoding_is e) s.now }
 {

@@ -40,7 +40,7 @@ pub struct JudgedTable {
 }
 
 // The table that was asked for last, how many tables the directory has, and the first word behind theirs.
-#[derive(Clone, Copy)]
+#[derive(Clone, Copy, Default)]
 pub struct Judged {
     pub last: Option<JudgedTable>,
     pub tables: usize,
@@ -62,11 +62,7 @@ impl Judged {
     pub fn nothing() -> Judged
         ensures { (b w : List ℕ) → Remembers b w result }
     {
-        Judged {
-            last: None,
-            tables: 0,
-            free: 0,
-        }
+        Judged::default()
     }
 
     // The word where a new table starts, among n: behind the directory and its tables. None where the directory is full, or no word is left.
@@ -97,7 +93,7 @@ impl Judged {
     }
 
     // With all the words for this table, which suffice: the others are forgotten.
-    #[tactic(auto, using(crate::proofs::Recalling::recalled_alone, crate::proofs::Recalling::unheld_bad, crate::proofs::Cuts::between_length), unfolding(crate::specs::TableTrees::Recalls))]
+    #[tactic(auto, using(crate::proofs::Recalling::unheld_bad, crate::proofs::Cuts::between_length))]
     fn judge_alone(
         &mut self,
         b: &[u8],
@@ -119,6 +115,7 @@ impl Judged {
     }
 
     // A table that was not judged before: its tree stands behind those of the others, or alone where the words that are left do not suffice.
+    #[tactic(auto, using(crate::proofs::Holding::tables_room, crate::proofs::Holding::remembers_tables, crate::proofs::Recalling::judged_bad))]
     fn judge_new(
         &mut self,
         b: &[u8],
@@ -148,6 +145,7 @@ impl Judged {
     }
 
     // The table of a place, judged now or before. It is the last one then.
+    #[tactic(auto, using(crate::proofs::Recalling::sought_none, crate::proofs::Recalling::sought_within, crate::proofs::Holding::tables_rising, crate::proofs::Holding::remembers_tables))]
     pub fn recall(
         &mut self,
         b: &[u8],

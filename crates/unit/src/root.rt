@@ -60,7 +60,7 @@ fn plain_value(e: ObjectEncoding, form: u64, s: &[u8]) -> Result<Value, Refusal>
 }
 
 // Indirect, 16 hexadecimal, only once.
-#[tactic(auto, using(crate::proofs::Values::value_plain, crate::proofs::Values::indirect_none, crate::proofs::Values::indirect_not, crate::proofs::Values::indirect_value, crate::proofs::Sizes::rest, crate::proofs::Sizes::short_within), unfolding(octets::specs::Checked::mapped))]
+#[tactic(auto, using(crate::proofs::Values::value_cases, crate::proofs::Sizes::behind_number), unfolding(octets::specs::Checked::mapped))]
 fn value_of(e: ObjectEncoding, form: u64, s: &[u8]) -> Result<Value, Refusal>
     ensures { mapped value_is (told result) ≡ value_of (encoding_is e) form s.now }
 {
@@ -88,7 +88,7 @@ fn attribute_value(e: ObjectEncoding, form: u64, s: &[u8]) -> Result<Value, Refu
 }
 
 // What is stated once an attribute is passed: only the first 2131 hexadecimal states it, and its form is data8.
-#[tactic(auto, using(crate::proofs::Stepping::identity_seen, crate::proofs::Stepping::identity_other, crate::proofs::Stepping::identity_form, crate::proofs::Stepping::identity_stated), unfolding(octets::specs::Checked::mapped, bundle::specs::Encoded::encoding_is))]
+#[tactic(auto, using(crate::proofs::Stepping::identity_cases), unfolding(octets::specs::Checked::mapped, bundle::specs::Encoded::encoding_is))]
 fn identity_at(
     e: ObjectEncoding,
     name: u64,
@@ -108,7 +108,7 @@ fn identity_at(
 }
 
 // One attribute: t is the table from it on, and s the unit from its value on. None at the pair of zeros that ends attributes.
-#[tactic(auto, using(crate::proofs::Stepping::step_none, crate::proofs::Stepping::step_end, crate::proofs::Stepping::step_value, crate::proofs::Stepping::step_not, crate::proofs::Stepping::step_on, crate::proofs::Values::value_ends, crate::proofs::Values::value_eight), unfolding(octets::specs::Checked::mapped))]
+#[tactic(auto, using(crate::proofs::Stepping::step_cases, crate::proofs::Values::value_ends, crate::proofs::Values::value_eight), unfolding(octets::specs::Checked::mapped))]
 fn attribute_step(
     e: ObjectEncoding,
     t: &[u8],
@@ -132,6 +132,7 @@ fn attribute_step(
 
 // How many bytes at the front of t are flags that are present, of one byte for the name and one for the form. One byte can't name 2131 hexadecimal,
 // and no such flag has bytes in the unit, so that they change nothing. A root may have very many: this loop passes them faster than steps do.
+#[tactic(auto, using(crate::proofs::Stepping::skips_none, crate::proofs::Stepping::skips_pair))]
 fn skip_flags(t: &[u8]) -> usize
     ensures { Skips t.now result }
 {
@@ -172,7 +173,7 @@ fn root_tag(tag: u64) -> bool
 }
 
 // In a table that was judged, whose declarations codes hold. s is the unit behind its header.
-#[tactic(auto, using(crate::proofs::Rooted::root_code, crate::proofs::Rooted::root_missing, crate::proofs::Rooted::found_within, crate::proofs::Rooted::root_tag_law, crate::proofs::Rooted::root_is, crate::proofs::Sizes::rest, crate::proofs::Sizes::unsigned_within))]
+#[tactic(auto, using(crate::proofs::Rooted::root_cases, crate::proofs::Sizes::behind_number))]
 fn root_in(e: ObjectEncoding, table: &[u8], codes: CodeTree<'_>, s: &[u8]) -> Result<u64, Refusal>
     requires { TableHeld table.now codes.words.now codes.count }
     ensures { told result ≡ root_identity (encoding_is e) table.now s.now }
@@ -185,7 +186,7 @@ fn root_in(e: ObjectEncoding, table: &[u8], codes: CodeTree<'_>, s: &[u8]) -> Re
 }
 
 // The table is what stands in abbrev from the header's offset on, at a place of the bundle. s is the unit behind its header.
-#[tactic(auto, using(crate::proofs::Rooted::root_table, crate::proofs::Recalling::known_held, crate::proofs::Finding::held_rising), unfolding(crate::specs::TableTrees::Recalls))]
+#[tactic(auto, using(crate::proofs::Rooted::root_table, crate::proofs::Recalling::known_held, crate::proofs::Recalling::known_rising))]
 pub fn root_identity(
     e: ObjectEncoding,
     b: &[u8],

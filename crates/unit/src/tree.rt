@@ -54,7 +54,7 @@ impl<'a> CodeTree<'a> {
 
     // Where the walk of a code ends, answered as a search of a sorted slice is: its node; or else the word of the empty link that its node would hang from.
     // A loop, since it follows links and has no index.
-    #[tactic(auto, using(crate::proofs::Trees::walking_at, crate::proofs::Trees::walking_on, crate::proofs::Trees::walking_free))]
+    #[tactic(auto, using(crate::proofs::Trees::walking_free))]
     pub fn walk(self, code: u64) -> Result<usize, usize>
         requires { 0 < self.count }
         ensures { Ends self.entry.words.now self.entry.count code result }
@@ -101,6 +101,7 @@ fn store_node(codes: &mut [u32], node: usize, carried: usize, code: u64)
 }
 
 // One code more behind count others, or false where it is one of them. Callers keep room for a node.
+#[tactic(auto, using(crate::proofs::Trees::added_first, crate::proofs::Trees::added_not, crate::proofs::Trees::ends_within))]
 pub fn add_code(codes: &mut [u32], count: usize, carried: usize, code: u64) -> bool
     requires { Rising codes.old count × (node_words * count + node_words ≤ length codes.old) × (count < 2 ^ 32) × (carried < 2 ^ 32) }
     ensures { (cs : List ℕ) → length cs ≡ count → Tree codes.old cs → Added codes.old codes.new cs carried code result }

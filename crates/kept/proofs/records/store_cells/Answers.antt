@@ -6,7 +6,7 @@ use native.Mathlib.Omega.{arith}
 use Rattle.index.specs.declared.cells.Contribution.{Contribution}
 use Rattle.kept.specs.Records.{cells_of}
 use Rattle.kept.proofs.Recording.{cells_room}
-use Rattle.kept.proofs.Copying.{copying_start, copying_end, copying_more, cells_one, cells_none, two_words}
+use Rattle.kept.proofs.Copying.{copying_start, copying_more, cells_one, two_words}
 use Rattle.kept.proofs.records.store_cells.Goals as goal
 
 pub loop-k-init : goal.loop-k-init
@@ -15,6 +15,3 @@ loop-k-init c = copying_start _ _ _ _ _ (omega arith) refl
 
 pub loop-k-preserved : goal.loop-k-preserved
 loop-k-preserved c = copying_more c.loop-k.invariant (cells_room _ _ _ _ c.requires.0) _ _ (cells_one _ _ _ _ _ c.loop-k-test.true (ap (λ (z : Contribution). z.offset) (c.unwrap_or-part.ensures ∙ ap stated c.cell_at.ensures)) (ap (λ (z : Contribution). z.size) (c.unwrap_or-part.ensures ∙ ap stated c.cell_at.ensures))) _ _ (two_words _ _ _ _ _ _ (omega (arith, c.loop-k.invariant.same, c.requires.0)) c.set_word.ensures refl c.set_word-in-loop-k.ensures) (omega arith)
-
-pub returns : goal.returns
-returns c = copying_end c.loop-k.invariant (cells_room _ _ _ _ c.requires.0) (cells_none _ _ _ c.loop-k-test.false)

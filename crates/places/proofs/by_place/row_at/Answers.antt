@@ -19,15 +19,6 @@ returns-then-is_some c =
     let t = walk_step _ _ _ _ _ _ _ _ c.loop-passed.invariant c.if-row-eq0.false in
     walk_second _ _ _ _ _ _ _ _ t c.if-names.ensures (is_there _ c.if-is_some.ensures)
 
-pub overflow_add-row : goal.overflow_add-row
-overflow_add-row c = let t = walk_step _ _ _ _ _ _ _ _ c.loop-passed.invariant c.if-row-eq0.false in omega (arith, t.low, t.high, c.requires.1.room)
-
-pub offset_bounds-words-heads : goal.offset_bounds-words-heads
-offset_bounds-words-heads c = let t = walk_step _ _ _ _ _ _ _ _ c.loop-passed.invariant c.if-row-eq0.false in omega (arith, t.low, t.high, c.requires.1.room)
-
-pub bounds-words-heads : goal.bounds-words-heads
-bounds-words-heads c = let t = walk_step _ _ _ _ _ _ _ _ c.loop-passed.invariant c.if-row-eq0.false in omega (arith, t.low, t.high, c.requires.1.room)
-
 pub loop-passed-preserved : goal.loop-passed-preserved
 loop-passed-preserved c =
     let t = walk_step _ _ _ _ _ _ _ _ c.loop-passed.invariant c.if-row-eq0.false in

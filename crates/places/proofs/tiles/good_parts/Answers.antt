@@ -10,7 +10,7 @@ use Rattle.strings.specs.Strings.{entries_of}
 use Rattle.index.specs.Index.{Contribution}
 use Rattle.strings.proofs.Callers.{read_ill}
 use Rattle.places.specs.Marks.{TiledBy}
-use Rattle.places.proofs.Parts.{PartHere, parts_all, part_here, parts_end, read_count, cut_part}
+use Rattle.places.proofs.Parts.{PartHere, part_here, parts_end, read_count, cut_part}
 use Rattle.places.proofs.tiles.good_parts.Goals as goal
 use Rattle.places.proofs.tiles.good_parts.Goals.{In-loop-at}
 
@@ -25,9 +25,6 @@ known c = here c c.requires.1.0 c.requires.1.1
 
 within : (c : In-loop-at) → (c.loop-at.at + get_or c.args.marks.now c.loop-at.at 0 ≤ length c.args.s.now)
 within c = omega (arith, (known c).within, c.requires.0)
-
-pub loop-at-init : goal.loop-at-init
-loop-at-init c = (omega arith, λ ts t. parts_all _ _ _ ts t)
 
 pub slice_bounds-part-end : goal.slice_bounds-part-end
 slice_bounds-part-end c = within (goal.at.slice_bounds-part-end c).In-loop-at

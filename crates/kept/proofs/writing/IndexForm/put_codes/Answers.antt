@@ -1,6 +1,6 @@
 -- `kept::writing::put_codes` meets its contract: codes that are left are still to be put.
 -- Assumes nothing.
-use Rattle.kept.proofs.Numbering.{writing_start, writing_end, codes_all, codes_end, codes_room, codes_more}
+use Rattle.kept.proofs.Numbering.{writing_start, codes_all, codes_more}
 use mathlib.Core.Path.{ap, ◌∙◌}
 use lib.ListN.{length}
 use Rattle.kept.proofs.Columning.{places_many, place_code}
@@ -9,11 +9,5 @@ use Rattle.kept.proofs.writing.IndexForm.put_codes.Goals as goal
 pub loop-k-init : goal.loop-k-init
 loop-k-init c = writing_start _ _ _ _ (codes_all _ _ _ (ap length c.columns-column-items.ensures ∙ places_many _)) c.requires
 
-pub put_if-o-requires : goal.put_if-o-requires
-put_if-o-requires c = codes_room _ _ _ _ _ c.loop-k.invariant c.loop-k-test.true (rw c.columns-column-items.ensures (place_code _ _))
-
 pub loop-k-preserved : goal.loop-k-preserved
 loop-k-preserved c = codes_more _ _ _ _ _ c.loop-k.invariant c.loop-k-test.true (rw c.columns-column-items.ensures (place_code _ _)) c.put_if-o.ensures.out c.put_if-o.ensures.next
-
-pub returns : goal.returns
-returns c = record { out = (writing_end c.loop-k.invariant (codes_end _ _ _ _ c.loop-k-test.false)).0; next = (writing_end c.loop-k.invariant (codes_end _ _ _ _ c.loop-k-test.false)).1 }

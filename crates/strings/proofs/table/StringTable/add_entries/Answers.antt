@@ -1,25 +1,20 @@
 -- `add_entries` meets its contract. The loop: the strings of the entries passed are put, and remembered.
 -- Assumes nothing.
-use mathlib.Core.Path.{◌≡◌, ap, ◌∙◌}
-use mathlib.Core.List.{List, ◌++◌}
-use Prim.Native.Nat.{ℕ}
+use mathlib.Core.Path.{◌≡◌}
+use mathlib.Core.List.{◌++◌}
 use native.Mathlib.Omega.{arith}
 use lib.ListN.{length, get_or}
 use Rattle.strings.specs.Objects.{entries_at}
 use Rattle.strings.proofs.Remembering.{last_starts, last_behind}
-use Rattle.strings.proofs.Adding.{section_entries, adding_more, adding_missing}
+use Rattle.strings.proofs.Adding.{adding_more, adding_missing}
 use Rattle.strings.proofs.table.StringTable.add_entries.Goals as goal
 use Rattle.strings.proofs.table.StringTable.add_entries.Goals.{After-entry_at-offset, After-entry_count-k-end}
 
 count : (c : After-entry_count-k-end) → c.entry_count-k-end.result ≡ length (entries_at c.args.o c.args.b.now)
-count c =
-    let s = c.section-section in
-    c.entry_count-k-end.ensures ∙ ap length (section_entries c.args.o c.args.b.now _ _ s.ensures.encoding s.ensures.bytes)
+count c = rw (c.section-section.ensures.encoding, c.section-section.ensures.bytes) at c.entry_count-k-end.ensures
 
 entry : (c : After-entry_at-offset) → c.entry_at-offset.result ≡ get_or (entries_at c.args.o c.args.b.now) c.loop-k.k 0
-entry c =
-    let s = c.section-section in
-    c.entry_at-offset.ensures ∙ ap (λ (l : List ℕ). get_or l c.loop-k.k 0) (section_entries c.args.o c.args.b.now _ _ s.ensures.encoding s.ensures.bytes)
+entry c = rw (c.section-section.ensures.encoding, c.section-section.ensures.bytes) at c.entry_at-offset.ensures
 
 pub returns-then-ended-offset : goal.returns-then-ended-offset
 returns-then-ended-offset c =

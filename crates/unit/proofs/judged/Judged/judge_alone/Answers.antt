@@ -1,9 +1,7 @@
 -- `unit::judged::Judged::judge_alone` meets its contract.
 -- Assumes nothing.
-use Rattle.unit.specs.TableTrees.{Recalls}
 use Rattle.unit.proofs.Recalling.{recalled_alone}
 use Rattle.unit.proofs.judged.Judged.judge_alone.Goals as goal
 
 pub returns : goal.returns
-unfolding Recalls
 returns c = recalled_alone _ _ _ _ _ _ (c.nothing.ensures _ _) c.judge_table.ensures c.in_ok-count.was
