@@ -11,8 +11,8 @@ use lib.Dec.{eqb}
 use lib.ListN.{length, take, drop, get_or}
 use borrow.Rule.Slice.PartMut.{put_mid}
 use Rattle.octets.specs.Lists.{those}
-use Rattle.octets.specs.Checked.{pass, refuse}
-use Rattle.octets.proofs.Checks.{known, pass_inj, refuse_inj, pass_refuse}
+use Rattle.octets.specs.Checked.{pass}
+use Rattle.octets.proofs.Checks.{known, pass_inj, pass_refuse}
 use Rattle.octets.proofs.Lists.{those_keeps, those_skips}
 use Rattle.octets.proofs.Parts.{length_part}
 use Rattle.numbers.specs.Sections.{info_code}
@@ -40,12 +40,6 @@ use Rattle.filing.proofs.Entering.{five_is}
 use Rattle.kept.proofs.RegionLending.{lent_length, lent_left}
 
 -- ---- the one row
-one_refuses : (rs : List ℕ) (n : ℕ) → the_one rs ≡ refuse n → n ≡ 15
-unfolding the_one
-one_refuses [] n e = sym (refuse_inj e)
-one_refuses (r ∷ []) n e = absurd (pass_refuse r n e)
-one_refuses (r ∷ q ∷ rs) n e = sym (refuse_inj e)
-
 one_above : (f : ℕ → Bool) (n r : ℕ) → the_one (those f (row_numbers n)) ≡ pass r → (0 < r) × (r ≤ n)
 unfolding row_numbers the_one those
 one_above f zero r e = absurd (pass_refuse r 15 (sym e))
@@ -59,9 +53,6 @@ one_above f (suc n) r e = ⊎_elim
     first (x ∷ rs) q = absurd (pass_refuse r 15 (sym q))
 
 module _ (i : Index) (at size : ℕ) where
-  pub row_none : (n : ℕ) → refuse n ≡ the_one (naming i at size) → the_one (naming i at size) ≡ refuse 15
-  row_none n e = sym e ∙ ap (λ (k : ℕ). refuse k) (one_refuses (naming i at size) n (sym e))
-
   pub row_counted : (row : ℕ) → pass row ≡ the_one (naming i at size) → (0 < row) × (row ≤ i.units)
   unfolding naming
   row_counted row e = one_above _ i.units row (sym e)

@@ -2,21 +2,19 @@
 -- Assumes nothing.
 use mathlib.Core.Path.{◌≡◌, refl, sym, ap, ap₂, ◌∙◌, subst}
 use mathlib.Core.Bool.{Bool, true, false, not, ◌&&◌, ◌||◌}
-use mathlib.Core.Logic.{⊎_elim}
 use mathlib.Core.List.{List, [], ◌∷◌}
 use mathlib.Core.Option.{Option, some, none}
 use Prim.Native.Nat.{ℕ, ◌<◌}
 use native.Mathlib.Omega.{arith}
 use lib.Dec.{eqb, ltb}
 use lib.ListN.{length, get_or}
-use borrow.Author.Tests.{eqb-true, eq-eqb, ne_eqb, ltb-true}
-use Rattle.octets.specs.Lists.{all, any, those, has}
+use borrow.Author.Tests.{eq-eqb, ltb-true}
+use Rattle.octets.specs.Lists.{all, those, has}
 use Rattle.std.specs.Prelude.{Result, Ok, Err}
 use Rattle.numbers.specs.declared.refusals.Refusal.{Refusal}
 use Rattle.numbers.specs.declared.refusals.Refusal.TheVariants.{NoRow}
 use Rattle.octets.specs.Checked.{Check, pass, refuse, ◌>>=◌, require}
-use Rattle.octets.proofs.Checks.{true_false}
-use Rattle.octets.proofs.Lists.{any_cases, any_stops, any_more, all_head, all_tail, those_keeps, those_skips}
+use Rattle.octets.proofs.Lists.{any_stops, any_more}
 use Rattle.octets.proofs.Parts.{length_part}
 use Rattle.bundle.specs.Encoded.{four, encoding_is}
 use Rattle.bundle.specs.declared.encoding.ObjectEncoding.{ObjectEncoding}
@@ -27,7 +25,7 @@ use Rattle.index.specs.Held.{ReadWell, index_in}
 use Rattle.index.specs.Contributed.{by_code, ContributionsAre}
 use Rattle.index.specs.declared.reading.IndexHead.{IndexHead}
 use Rattle.index.specs.declared.judging.Contributions.{Contributions}
-use Rattle.index.proofs.Contributions.{needed_shared}
+use Rattle.index.proofs.Contributions.{all_has, needed_shared}
 use Rattle.unit.specs.UnitRead.{is_five}
 use Rattle.package.specs.Input.{Input}
 use Rattle.package.specs.Filing.{index_for, lengths, is_package, contributions_of}
@@ -92,58 +90,38 @@ unfolding whole_given require ◌>>=◌
 whole_passes packed ls k e h = rw e (tells_pass k (whole_contributions ls) refl h)
 
 -- ---- only shared codes count
-among : (c : ℕ) (xs : List ℕ) → all (λ d. ltb d 14) xs ≡ true → has xs c ≡ true → c < 14
-unfolding has any
-among c [] a h = absurd (true_false h refl)
-among c (x ∷ xs) a h = ⊎_elim
-    (λ (e : eqb c x ≡ true). rw (eqb-true c x e) (ltb-true x 14 (all_head (λ d. ltb d 14) x xs a)))
-    (λ e. among c xs (all_tail (λ d. ltb d 14) x xs a) e)
-    (any_cases (eqb c) x xs h)
-
 pub shared_below : (c : ℕ) → has shared c ≡ true → c < 14
 unfolding shared all
-shared_below c h = among c shared refl h
+shared_below c h = ltb-true c 14 (all_has (λ d. ltb d 14) shared c refl h)
+
+all_same : (p q : ℕ → Bool) (xs : List ℕ) → ((c : ℕ) → has xs c ≡ true → p c ≡ q c) → all p xs ≡ all q xs
+unfolding all has
+all_same p q [] e = refl
+all_same p q (x ∷ xs) e =
+    ap₂ (λ (t r : Bool). elim t as (λ _. Bool) [ true ↦ r | false ↦ false ]) (e x (any_stops (eqb x) x xs (eq-eqb x x refl))) (all_same p q xs (λ c h. e c (any_more (eqb c) x xs h)))
+
+those_same : (p q : ℕ → Bool) (xs : List ℕ) → ((c : ℕ) → has xs c ≡ true → p c ≡ q c) → those p xs ≡ those q xs
+unfolding those has
+those_same p q [] e = refl
+those_same p q (x ∷ xs) e =
+    ap₂ (λ (t : Bool) (r : List ℕ). elim t as (λ _. List ℕ) [ true ↦ x ∷ r | false ↦ r ]) (e x (any_stops (eqb x) x xs (eq-eqb x x refl))) (those_same p q xs (λ c h. e c (any_more (eqb c) x xs h)))
 
 module _ (f g : BySection ℕ) (same : (c : ℕ) → c < 14 → f c ≡ g c) where
-  those_same : (xs : List ℕ) → ((c : ℕ) → has xs c ≡ true → c < 14) → those (λ c. not (eqb (f c) 0)) xs ≡ those (λ c. not (eqb (g c) 0)) xs
-  unfolding those has
-  those_same [] b = refl
-  those_same (x ∷ xs) b =
-      let e : f x ≡ g x = same x (b x (any_stops (eqb x) x xs (eq-eqb x x refl))) in
-      let rest = those_same xs (λ c h. b c (any_more (eqb c) x xs h)) in
-      go (not (eqb (g x) 0)) refl e rest
-    where
-      go : (t : Bool) → not (eqb (g x) 0) ≡ t → f x ≡ g x → those (λ c. not (eqb (f c) 0)) xs ≡ those (λ c. not (eqb (g c) 0)) xs
-          → those (λ c. not (eqb (f c) 0)) (x ∷ xs) ≡ those (λ c. not (eqb (g c) 0)) (x ∷ xs)
-      go true t e r = those_keeps (λ c. not (eqb (f c) 0)) x xs (rw e t) ∙ ap (λ (l : List ℕ). x ∷ l) r ∙ sym (those_keeps (λ c. not (eqb (g c) 0)) x xs t)
-      go false t e r = those_skips (λ c. not (eqb (f c) 0)) x xs (rw e t) ∙ r ∙ sym (those_skips (λ c. not (eqb (g c) 0)) x xs t)
-
-  pub needed_same : needed_codes f ≡ needed_codes g
+  needed_same : needed_codes f ≡ needed_codes g
   unfolding needed_codes
-  needed_same = those_same shared shared_below
+  needed_same = those_same _ _ shared (λ c h. ap (λ (k : ℕ). not (eqb k 0)) (same c (shared_below c h)))
 
-  pub whole_same : (c : ℕ) → whole_contributions f c ≡ whole_contributions g c
+  needed_is : (c : ℕ) → has (needed_codes g) c ≡ true → f c ≡ g c
+  needed_is c t = same c (shared_below c (needed_shared g c t).0)
+
+  whole_same : (c : ℕ) → whole_contributions f c ≡ whole_contributions g c
   unfolding whole_contributions
-  whole_same c = go (has (needed_codes g) c) refl
-    where
-      go : (t : Bool) → has (needed_codes g) c ≡ t → whole_contributions f c ≡ whole_contributions g c
-      go true t = rw (whole_contributions, needed_same, t, same c (shared_below c (needed_shared g c t).0))
-      go false t = rw (whole_contributions, needed_same, t)
+  whole_same c = elim (has (needed_codes g) c) as (λ t. has (needed_codes g) c ≡ t → whole_contributions f c ≡ whole_contributions g c) [
+    | true ↦ λ t. rw (whole_contributions, needed_same, t, needed_is c t)
+    | false ↦ λ t. rw (whole_contributions, needed_same, t)
+  ] refl
 
-module _ (f g : BySection ℕ) (same : (c : ℕ) → c < 14 → f c ≡ g c) (i : Index) (width : ℕ) where
-  step_same : (row x : ℕ) → x < 14 → cell_is (part_good width f x) (cell_of i row x) ≡ cell_is (part_good width g x) (cell_of i row x)
-  unfolding part_good
-  step_same row x h = rw (part_good, same x h)
-
-  steps_same : (row : ℕ) (xs : List ℕ) → ((c : ℕ) → has xs c ≡ true → c < 14)
-      → all (λ s. cell_is (part_good width f s) (cell_of i row s)) xs ≡ all (λ s. cell_is (part_good width g s) (cell_of i row s)) xs
-  unfolding all has
-  steps_same row [] b = refl
-  steps_same row (x ∷ xs) b =
-      let h = b x (any_stops (eqb x) x xs (eq-eqb x x refl)) in
-      ap₂ (λ (t r : Bool). elim t as (λ _. Bool) [ true ↦ r | false ↦ false ]) (step_same row x h) (steps_same row xs (λ c h. b c (any_more (eqb c) x xs h)))
-
-  module _ (x home at size : ℕ) where
+  module _ (i : Index) (width x home at size : ℕ) where
     abbrev body : List ℕ → (ℕ → Bool) → Check (BySection (Option Contribution))
     body needed steps =
         row_of i (probe i x) >>= λ row.
@@ -151,11 +129,11 @@ module _ (f g : BySection ℕ) (same : (c : ℕ) → c < 14 → f c ≡ g c) (i 
         (require (cell_is (own_place at size) (cell_of i row home)) 16 >>= λ _.
         (require (steps row) 16 >>= λ _. pass (λ s. elim (has needed s) [ true ↦ cell_of i row s | false ↦ none ]))))
 
-    pub row_same : row_contributions i width f x home at size ≡ row_contributions i width g x home at size
-    unfolding row_contributions
+    row_same : row_contributions i width f x home at size ≡ row_contributions i width g x home at size
+    unfolding row_contributions part_good
     row_same =
-        ap (λ (l : List ℕ). body l (λ row. all (λ s. cell_is (part_good width f s) (cell_of i row s)) l)) (needed_same f g same)
-        ∙ ap (body (needed_codes g)) (λ j row. steps_same row (needed_codes g) (λ c h. shared_below c (needed_shared g c h).0) j)
+        ap (λ (l : List ℕ). body l (λ row. all (λ s. cell_is (part_good width f s) (cell_of i row s)) l)) needed_same
+        ∙ ap (body (needed_codes g)) (λ j row. all_same (λ s. cell_is (part_good width f s) (cell_of i row s)) (λ s. cell_is (part_good width g s) (cell_of i row s)) (needed_codes g) (λ c h. rw (part_good, needed_is c h)) j)
 
 -- ---- the definition
 module _ (b : List ℕ) (x : InputObject) (i : Input) (is : InputIs b x i) where
@@ -201,15 +179,6 @@ module _ (b : List ℕ) (x : InputObject) (i : Input) (is : InputIs b x i) where
         given_width o e
         (subst (λ (t : Bool). GivenIs (contributions_by t o (encoding_is x.encoding).width (by_code x.size) identity home at size) r) p
         (subst (λ (z : ℕ). GivenIs (contributions_by packed o z (by_code x.size) identity home at size) r) q a))
-
--- the index of a table
-pub index_first : (i : Input) (table : ℕ) → table ≡ 1 → index_for i table ≡ i.cu_index
-unfolding index_for
-index_first i table e = rw (index_for, eq-eqb table 1 e)
-
-pub index_second : (i : Input) (table : ℕ) → (table ≡ 1 → ⊥) → index_for i table ≡ i.tu_index
-unfolding index_for
-index_second i table e = rw (index_for, ne_eqb table 1 e)
 
 pub width_some : (e : ObjectEncoding) → 0 < (encoding_is e).width
 unfolding encoding_is four

@@ -4,11 +4,13 @@ use mathlib.Core.Path.{◌≡◌, refl, sym, ap, ◌∙◌}
 use mathlib.Core.Bool.{Bool, true, false}
 use mathlib.Core.List.{List}
 use mathlib.Core.Option.{some, none}
-use Rattle.std.specs.Prelude.{Some, None, Ok, Err}
+use Rattle.std.specs.Prelude.{Some, None, Result, Ok, Err}
+use Rattle.std.specs.Result.{IsErrAnd}
 use Rattle.numbers.specs.declared.refusals.Refusal.TheVariants.{OtherEncoding, WrongEdition, SectionMissing, BadIndex}
 use Prim.Native.Nat.{ℕ}
-use lib.Dec.{eqb}
-use borrow.Author.Tests.{eq-eqb, ne_eqb}
+use lib.Dec.{eqb, leb}
+use native.Mathlib.Omega.{arith}
+use borrow.Author.Tests.{eq-eqb, ne_eqb, le-leb}
 use Rattle.numbers.specs.Refused.{number_of, told}
 use Rattle.numbers.specs.declared.refusals.Refusal.{Refusal}
 use Rattle.octets.specs.Checked.{pass, refuse, ◌>>=◌, mapped}
@@ -29,8 +31,8 @@ use Rattle.unit.proofs.Fields.{is_five_law, is_four}
 use Rattle.package.specs.Input.{edition_good, complete, form_of}
 use Rattle.filing.specs.Counted.{edition_by, complete_by}
 use Rattle.filing.proofs.Counts.{edition_is, complete_is}
-use Rattle.filing.specs.Judged.{IndexedIs, object_check, JudgedIs, index_check, JudgedIndexIs}
-use Rattle.filing.proofs.Telling.{tells_pass, tells_refuse}
+use Rattle.filing.specs.Judged.{Indexed, IndexedIs, object_check, JudgedIs, index_check, JudgedIndexIs}
+use Rattle.filing.proofs.Telling.{tells_pass, tells_refuse, tells_exit}
 
 -- ---- the cases of 4 to 7
 module _ (big : Bool) (first word : ℕ) (ps : List Part) where
@@ -86,15 +88,18 @@ pub form_four : (x : ObjectEncoding) → x.five ≡ false → 2 ≡ form_of (enc
 unfolding form_of is_five
 form_four x h = let f : eqb (encoding_is x).version 5 ≡ false = is_four x h in rw (form_of, f)
 
-module _ (big : Bool) (form : ℕ) (s : List ℕ) where
-  pub index_none : (there : Bool) → there ≡ false → JudgedIndexIs big s (index_check big form there s) (Ok None)
+module _ (big : Bool) (form : ℕ) (s : List ℕ) (count : ℕ) where
+  pub index_none : count ≡ 0 → JudgedIndexIs big s (index_check big form (leb 1 count) s) (Ok None)
   unfolding index_check IndexedIs
-  index_none there e = tells_pass None none (rw (index_check, e)) tt
+  index_none e = tells_pass None none (rw (index_check, e)) tt
 
-  module _ (there : Bool) (e : there ≡ true) where
-    pub index_bad : (r : Refusal) → refuse (number_of r) ≡ index_of big s → JudgedIndexIs big s (index_check big form there s) (Err r)
+  module _ (some-there : count ≡ 0 → ⊥) where
+    there : leb 1 count ≡ true
+    there = le-leb 1 count (omega arith)
+
+    pub index_bad : (z : Result Indexed Refusal) (r : Refusal) → IsErrAnd z (λ q. q ≡ r) → refuse (number_of r) ≡ index_of big s → JudgedIndexIs big s (index_check big form (leb 1 count) s) z
     unfolding index_check ◌>>=◌
-    index_bad r h = tells_refuse r (rw (index_check, e, ← h))
+    index_bad z r x h = tells_exit z r x (tells_refuse r (rw (index_check, there, ← h)))
 
     module _ (i : Index) (h : pass i ≡ index_of big s) (head : IndexHead) (of : head ≡ head_of i) (version : ℕ) (is : version ≡ form) where
       well_read : ReadWell big s head
@@ -104,16 +109,18 @@ module _ (big : Bool) (form : ℕ) (s : List ℕ) where
       index_there : index_of big s ≡ pass (index_in big s head)
       index_there = read_is big s head well_read
 
-      pub index_other : (head.version ≡ version → ⊥) → JudgedIndexIs big s (index_check big form there s) (Err BadIndex)
+      pub index_other : (head.version ≡ version → ⊥) → JudgedIndexIs big s (index_check big form (leb 1 count) s) (Err BadIndex)
       unfolding index_check index_in layout ◌>>=◌
       index_other v =
           tells_refuse BadIndex
-          (rw (index_check, e, index_there)
+          (rw (index_check, there, index_there)
           (fails (eqb head.version form) 10 (λ _. pass (some (index_in big s head))) (ne_eqb _ _ (λ z. v (z ∙ sym is)))))
 
-      pub index_good_law : head.version ≡ version → JudgedIndexIs big s (index_check big form there s) (Ok (Some head))
+      pub index_good_law : head.version ≡ version → JudgedIndexIs big s (index_check big form (leb 1 count) s) (Ok (Some head))
       unfolding index_check IndexedIs index_in layout ◌>>=◌
       index_good_law v =
           tells_pass (Some head) (some (index_in big s head))
-          (rw (index_check, e, index_there) (passes (eqb head.version form) 10 (λ _. pass (some (index_in big s head))) (eq-eqb _ _ (v ∙ is))))
+          (rw (index_check, there, index_there) (passes (eqb head.version form) 10 (λ _. pass (some (index_in big s head))) (eq-eqb _ _ (v ∙ is))))
           (well_read, refl)
+
+pub ruleset index_judged = (index_none, index_bad, index_other, index_good_law)

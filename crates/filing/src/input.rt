@@ -100,6 +100,7 @@ fn form(e: ObjectEncoding) -> u32
 }
 
 // 10, of a section by its bytes, where there is one: count says how often.
+#[tactic(auto, using(crate::proofs::Judging::index_judged))]
 pub fn judge_index(s: &[u8], e: ObjectEncoding, count: usize) -> Result<Option<IndexHead>, Refusal>
     ensures { JudgedIndexIs e.big s.now (index_check e.big (form_of (encoding_is e)) (leb 1 count) s.now) result }
 {
