@@ -105,6 +105,8 @@ module _ (i : Index) (row : ℕ) where
             (part_inside part_named (part b start size) (omega (arith, many)) (cell_some _ v m) (omega (arith, many)))
             (record { is = part_cut b (start + v.offset) v.size ∙ sym (part_part b start size v.offset v.size l); lies = (omega arith, omega arith) })
 
+pub ruleset abbrev_cases = (abbrev_empty, abbrev_missing, abbrev_outside, abbrev_inside)
+
 -- ---- the abbreviations of a unit
 module _ (b : List ℕ) (x : InputObject) (i : Input) (is : InputIs b x i) (home at size : ℕ) where
   abbrev section : List ℕ

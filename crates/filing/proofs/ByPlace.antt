@@ -88,6 +88,8 @@ module _ (b : List ℕ) (x : InputObject) (i : Input) (is : InputIs b x i) (home
         let w = well x.encoding.big (section_of b x 12) h.0 h.1 in
         omega (arith, w.sized, w.above, ap (λ (y : Index). y.units) h.2, units_are x.encoding.big (section_of b x 12) h.0, length_part b (get_or x.start 12 0) (get_or x.size 12 0) (is.within 12), is.within 12)
 
+pub ruleset by_place_cases = (by_place_cu, by_place_none)
+
 -- ---- their chains
 pub chained_nowhere : (r : Reading) (w : List ℕ) → ((i : Input) → InputIs r.bundle.now r.object.now i → None ≡ found (index_by_place i r.section.home)) → RowsChained r w
 unfolding ChainsHeld

@@ -21,10 +21,11 @@ use Rattle.bundle.specs.declared.encoding.ObjectEncoding.{ObjectEncoding}
 use Rattle.index.specs.Index.{Index, Contribution, cell_of}
 use Rattle.index.specs.Probing.{probe}
 use Rattle.index.specs.Rows.{BySection, shared, needed_codes, is_some, row_of, cell_is, own_place, part_good, row_contributions, whole_contributions}
-use Rattle.index.specs.Held.{ReadWell, index_in}
+use Rattle.index.specs.Held.{ReadWell, Sized, Well, index_in}
 use Rattle.index.specs.Contributed.{by_code, ContributionsAre}
 use Rattle.index.specs.declared.reading.IndexHead.{IndexHead}
 use Rattle.index.specs.declared.judging.Contributions.{Contributions}
+use Rattle.index.proofs.Heads.{read_sized, read_well}
 use Rattle.index.proofs.Contributions.{all_has, needed_shared}
 use Rattle.unit.specs.UnitRead.{is_five}
 use Rattle.package.specs.Input.{Input}
@@ -62,6 +63,14 @@ module _ (big : Bool) (s : List ℕ) (indexed : Indexed) (o : Option Index) (is 
 
   pub held_some : (head : IndexHead) → indexed ≡ Some head → Some (index_in big s head) ≡ found o
   held_some head e = ap found (sym (index_well head e).1)
+
+  pub held_sized : (head : IndexHead) → indexed ≡ Some head → Sized s head
+  held_sized head e = read_sized big s head (index_well head e).0
+
+  pub held_well : (head : IndexHead) → indexed ≡ Some head → Well (index_in big s head)
+  held_well head e = read_well big s head (index_well head e).0
+
+pub ruleset held_cases = (held_none, held_some, held_sized, held_well)
 
 -- ---- an answer by an index
 answers_given : (m : Check (BySection (Option Contribution))) (r : Result Contributions Refusal) → Answers r m → GivenIs m r

@@ -49,6 +49,7 @@ fn indexed_contributions(
 
 impl InputObject {
     // The index of a table, where the object has it.
+    #[tactic(auto, unfolding(package::specs::Filing::index_for))]
     fn index_for<'a>(&self, b: &'a [u8], table: Table) -> Option<Index<'a>>
         requires { (i : Input) × InputIs b.now self.now i }
         ensures is { (i : Input) → InputIs b.now self.now i → result ≡ found (index_for i (table_number table)) }

@@ -60,6 +60,7 @@ impl InputObject {
 }
 
 // An index of the object, as its section's bytes hold it, where it has one.
+#[tactic(auto, using(crate::proofs::Contributing::held_cases))]
 pub fn held<'a>(big: bool, s: &'a [u8], indexed: Option<IndexHead>) -> Option<Index<'a>>
     requires { (o : Option Index) × IndexedIs big s.now indexed o }
     ensures is { (o : Option Index) → IndexedIs big s.now indexed o → result ≡ found o }

@@ -31,6 +31,7 @@ use unit::header::{Identity, UnitPlace, UnitRead};
 use unit::judged::{Judged, Span};
 
 // The abbrev part of a row, of the object's abbrev that lies at start.
+#[tactic(auto, using(crate::proofs::Abbreviated::abbrev_cases))]
 fn abbrev_part(row: Row, start: usize, size: usize) -> Result<Span, Refusal>
     requires { start + size < 2 ^ 32 }
     ensures { (b : List ℕ) → start + size ≤ length b → AbbreviationsAre b (abbrev_part row.entry.index.now row.entry.number (part b start size)) result }
@@ -56,6 +57,7 @@ fn abbrev_part(row: Row, start: usize, size: usize) -> Result<Span, Refusal>
 
 impl<'a> Reading<'a> {
     // The index whose rows name the units of the section by their place: cu_index, for info of version 4.
+    #[tactic(auto, using(crate::proofs::ByPlace::by_place_cases))]
     fn index_by_place(&self) -> Option<Index<'a>>
         requires { (i : Input) × InputIs self.now.bundle.now self.now.object.now i }
         ensures { (i : Input) → InputIs self.now.bundle.now self.now.object.now i → result ≡ found (index_by_place i self.now.section.home) }
