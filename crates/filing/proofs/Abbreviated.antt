@@ -38,6 +38,7 @@ use Rattle.std.specs.Prelude.{Some, None, Result, Ok, Err}
 use Rattle.numbers.specs.Refused.{number_of, told}
 use Rattle.numbers.specs.declared.refusals.Refusal.{Refusal}
 use Rattle.numbers.specs.declared.refusals.Refusal.TheVariants.{NoRow, BadRow}
+use Rattle.filing.proofs.ByPlace.{row_asks, row_counted}
 use Rattle.filing.proofs.Telling.{tells_pass, tells_refuse, tells_same}
 use Rattle.unit.specs.declared.judged.Span.{Span}
 use Rattle.filing.specs.declared.units.HomeSection.{HomeSection}
@@ -132,6 +133,8 @@ module _ (b : List ℕ) (x : InputObject) (i : Input) (is : InputIs b x i) (home
     pub given_part : (row : ℕ) → pass row ≡ the_one (naming idx at size) → (r : Result Span Refusal) → AbbreviationsAre b (abbrev_part idx row section) r → AbbreviationsAre b (abbreviations_for i home at size) r
     unfolding section_of
     given_part row z r k = tells_same (sym (by_row ∙ then_pass _ _ row (sym z) ∙ ap (abbrev_part idx row) (is.bytes 3 (omega arith)))) k
+
+pub ruleset abbreviations_cases = (row_asks, row_counted, given_whole, given_none, given_part)
 
 -- ---- a unit at a place; its section's bytes from there as code cuts them
 module _ {r : Reading} {at : ℕ} {w : List ℕ} (p : PlaceAsked r at w) where

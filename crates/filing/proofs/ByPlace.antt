@@ -118,6 +118,6 @@ module _ {r : Reading} {w : List ℕ} (p : ChainAsked r w) (idx : Index) (e : (i
 
 -- ---- a place in them
 module _ {r : Reading} {at : ℕ} {w : List ℕ} (p : PlaceAsked r at w) (c : RowsChained r w) (idx : Index) (e : Some idx ≡ found (index_by_place p.input r.section.home)) where
-  pub row_asks : ((at - r.section.start) / 4 < heads_for r.section) × Chained idx info_code (heads_for r.section) (region w (words_in r.bundle.now) rows_region)
+  pub row_asks : (n : ℕ) (rows : List ℕ) → n ≡ heads_for r.section → rows ≡ region w (words_in r.bundle.now) rows_region → ((at - r.section.start) / 4 < n) × Chained idx info_code n rows
   unfolding heads_for ChainsHeld
-  row_asks = (omega (arith, p.from, p.low), subst (ChainsHeld (heads_for r.section) (region w (words_in r.bundle.now) rows_region)) (sym (found_some idx _ e)) (c p.input p.is))
+  row_asks n rows many are = rw (many, are) (omega (arith, p.from, p.low), subst (ChainsHeld (heads_for r.section) (region w (words_in r.bundle.now) rows_region)) (sym (found_some idx _ e)) (c p.input p.is))

@@ -189,10 +189,12 @@ module _ (b : List ℕ) (x : InputObject) (i : Input) (is : InputIs b x i) where
         (subst (λ (t : Bool). GivenIs (contributions_by t o (encoding_is x.encoding).width (by_code x.size) identity home at size) r) p
         (subst (λ (z : ℕ). GivenIs (contributions_by packed o z (by_code x.size) identity home at size) r) q a))
 
-pub width_some : (e : ObjectEncoding) → 0 < (encoding_is e).width
+pub width_some : (e : ObjectEncoding) (n : ℕ) → n ≡ (encoding_is e).width → 0 < n
 unfolding encoding_is four
-width_some e = go e.wide
+width_some e n q = rw q (go e.wide)
   where
     go : (t : Bool) → 0 < four t 8
     go true = omega arith
     go false = omega arith
+
+pub ruleset given_cases = (width_some, given_is)

@@ -63,6 +63,7 @@ impl InputObject {
     }
 
     // A unit that was read at a place of the section home.
+    #[tactic(auto, using(crate::proofs::Contributing::given_cases))]
     pub fn contributions(
         &self,
         b: &[u8],

@@ -71,6 +71,7 @@ pub fn held<'a>(big: bool, s: &'a [u8], indexed: Option<IndexHead>) -> Option<In
 }
 
 // 4 to 7, of an object by its word and how many sections of each code it has; first is the first object's word.
+#[tactic(auto, using(crate::proofs::Judging::object_judged))]
 pub fn judge_object(
     big: bool,
     first: u32,

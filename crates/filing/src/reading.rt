@@ -86,6 +86,7 @@ impl<'a> Reading<'a> {
     }
 
     // The abbreviations of the unit of so many bytes at a place: a row's part, where its units are read by their place, else the object's whole abbrev.
+    #[tactic(auto, using(crate::proofs::Abbreviated::abbreviations_cases))]
     fn abbreviations(&self, at: usize, size: usize, work: &[u32]) -> Result<Span, Refusal>
         requires { PlaceAsked self.now at work.now × RowsChained self.now work.now }
         ensures { AbbreviationsGiven self.now at size result }
@@ -130,6 +131,7 @@ impl<'a> Reading<'a> {
     }
 
     // The unit at a place of the section: its head, its abbreviations, its identity.
+    #[tactic(auto, using(crate::proofs::Transients::transient_coded, kept::proofs::RegionLending::only_same))]
     pub fn read_at(
         &self,
         at: usize,
