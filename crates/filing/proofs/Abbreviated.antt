@@ -29,7 +29,7 @@ use Rattle.index.specs.Cells.{cell_found}
 use Rattle.index.specs.declared.cells.Contribution as cell
 use Rattle.octets.specs.Options.{found}
 use Rattle.bundle.proofs.Units.{found_some, found_none}
-use Rattle.kept.specs.Regions.{codes_region}
+use Rattle.kept.specs.Regions.{codes_region, Only}
 use Rattle.kept.proofs.RegionStores.{codes_within}
 use Rattle.package.specs.Input.{Input}
 use Rattle.package.specs.Filing.{index_by_place, abbreviations_for}
@@ -47,7 +47,7 @@ use Rattle.filing.specs.Judged.{section_of, InputIs}
 use Rattle.filing.specs.State.{words_in, Remembered}
 use Rattle.filing.specs.ByPlace.{WorkFor, AbbreviationsAre}
 use Rattle.filing.specs.Asked.{PlaceAsked}
-use Rattle.kept.proofs.RegionLending.{lent_is, lent_length, lent_left}
+use Rattle.kept.proofs.RegionLending.{only_lent, lent_is, lent_length, lent_left}
 
 -- ---- a row's abbrev part
 cell_none : (o : Option Contribution) → None ≡ cell_found o → o ≡ none
@@ -200,14 +200,23 @@ module _ {r : Reading} {at : ℕ} {w : List ℕ} (p : PlaceAsked r at w) where
       read_whole d t = sym (read_on ∙ then_pass _ _ (identity_is d) (sym t))
 
 -- ---- the region of codes, as it is lent
-module _ {b w : List ℕ} (k : WorkFor b w) (j : Judged) (from many : ℕ) (ef : from ≡ codes_region.start * words_in b) (em : many ≡ codes_region.words * words_in b) where
-  pub codes_lent : Remembered b w j → Lent b (take (from + many - from) (drop from w)) j
-  codes_lent m = record {
+module _ {b w : List ℕ} (k : WorkFor b w) (from many : ℕ) (ef : from ≡ codes_region.start * words_in b) (em : many ≡ codes_region.words * words_in b) where
+  abbrev lent : List ℕ
+  lent = take (from + many - from) (drop from w)
+
+  pub codes_lent : (j : Judged) → Remembered b w j → Lent b lent j
+  codes_lent j m = record {
     room = omega (arith, k.words, lent_length codes_region codes_within (words_in b) from many w k.room ef em);
     small = omega (arith, k.limit);
     memory = subst (λ (l : List ℕ). Remembers b l j) (sym (lent_is codes_region codes_within (words_in b) from many w k.room ef em)) m;
   }
 
-  -- what was written there is remembered
-  pub codes_left : (words v : List ℕ) → length words ≡ length (take (from + many - from) (drop from w)) → v ≡ put_mid from (from + many - from) w words → Remembers b words j → Remembered b v j
-  codes_left words v same is m = subst (λ (l : List ℕ). Remembers b l j) (sym (lent_left codes_region codes_within (words_in b) from many w k.room ef em words v same is)) m
+  -- what was written there is remembered, and all else is as it was
+  module _ (words v : List ℕ) (same : length words ≡ length lent) (is : v ≡ put_mid from (from + many - from) w words) where
+    pub codes_left : (j : Judged) → Remembers b words j → Remembered b v j
+    codes_left j m = subst (λ (l : List ℕ). Remembers b l j) (sym (lent_left codes_region codes_within (words_in b) from many w k.room ef em words v same is)) m
+
+    pub codes_only : Only codes_region (words_in b) w v
+    codes_only = only_lent codes_region codes_within (words_in b) from many w k.room ef em words v same is
+
+pub ruleset codes_cases = (codes_lent, codes_left, codes_only)

@@ -37,7 +37,7 @@ use Rattle.filing.specs.State.{words_in}
 use Rattle.filing.specs.ByPlace.{heads_for, ChainsHeld}
 use Rattle.filing.specs.Asked.{RowsChained, ChainAsked, PlaceAsked}
 use Rattle.filing.proofs.Entering.{five_is}
-use Rattle.kept.proofs.RegionLending.{lent_length, lent_left}
+use Rattle.kept.proofs.RegionLending.{only_same, lent_length, lent_left}
 
 -- ---- the one row
 one_above : (f : ℕ → Bool) (n r : ℕ) → the_one (those f (row_numbers n)) ≡ pass r → (0 < r) × (r ≤ n)
@@ -121,3 +121,5 @@ module _ {r : Reading} {at : ℕ} {w : List ℕ} (p : PlaceAsked r at w) (c : Ro
   pub row_asks : (n : ℕ) (rows : List ℕ) → n ≡ heads_for r.section → rows ≡ region w (words_in r.bundle.now) rows_region → ((at - r.section.start) / 4 < n) × Chained idx info_code n rows
   unfolding heads_for ChainsHeld
   row_asks n rows many are = rw (many, are) (omega (arith, p.from, p.low), subst (ChainsHeld (heads_for r.section) (region w (words_in r.bundle.now) rows_region)) (sym (found_some idx _ e)) (c p.input p.is))
+
+pub ruleset chain_cases = (chained_nowhere, only_same)

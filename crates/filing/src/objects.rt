@@ -23,6 +23,7 @@ use strings::table::{Place, StrOffsets, StringTable};
 
 // 8 and 9, where the object has str_offsets: count says how often.
 // Table and memory are cut out of work here and in `add_parts` alike: one function for both got no proof, since the check follows a single cut back to work.
+#[tactic(auto, using(crate::proofs::Stringing::strings_cases))]
 pub fn add_object_strings(
     b: &[u8],
     o: StrOffsets,

@@ -71,6 +71,7 @@ impl<'a> Reading<'a> {
     }
 
     // Chains the rows by the places that they name in the section, where its units are read by their place.
+    #[tactic(auto, using(crate::proofs::ByPlace::chain_cases))]
     pub fn chain_rows(&self, work: &mut [u32])
         requires { ChainAsked self.now work.old }
         ensures chained { RowsChained self.now work.new }
@@ -111,6 +112,7 @@ impl<'a> Reading<'a> {
     }
 
     // The identity of a unit whose head was read, and its table. The tables that were judged are remembered in the region of codes.
+    #[tactic(auto, using(crate::proofs::Abbreviated::codes_cases))]
     fn identity(
         &self,
         place: UnitPlace,
