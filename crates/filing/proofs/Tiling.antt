@@ -6,7 +6,6 @@ use mathlib.Core.List.{List, [], ◌++◌, map, append-nil}
 use mathlib.Core.Option.{Option, some}
 use Prim.Native.Nat.{ℕ, ◌+◌, ◌*◌, ◌-◌, ◌/◌, ◌<◌, ◌≤◌}
 use native.Mathlib.Omega.{arith}
-use native.Mathlib.Decide.{dec_lt}
 use lib.ListN.{length, get_or}
 use Rattle.octets.specs.Octets.{part, zeros}
 use Rattle.octets.specs.Checked.{pass, ◌>>=◌}
@@ -143,7 +142,7 @@ module _ (b : List ℕ) (o : StrOffsets) (inside : Inside b o.offsets) (good : �
   ending = parts_ending e str s up.five 0 ps up.tiling
 
   judged : Judged e str s ps
-  judged = parts_judged e str s ps
+  judged = parts_judged e str s 0 ps up.tiling
 
   long : length s ≡ o.offsets.size
   unfolding bytes_at
@@ -158,18 +157,6 @@ module _ (b : List ℕ) (o : StrOffsets) (inside : Inside b o.offsets) (good : �
       let n : good_end e s ps - 0 ≡ good = omega (arith, up.is) in
       let z : o.offsets.start + 0 ≡ o.offsets.start = omega arith in
       ap (part s 0) n ∙ part_part b o.offsets.start o.offsets.size 0 good (omega (arith, good_within)) ∙ ap (λ (a : ℕ). part b a good) z
-
-  all_good : o.offsets.size ≤ good → length (good_parts e str s ps) ≡ length ps
-  all_good h = elim (dec_lt (length (good_parts e str s ps)) (length ps)) [
-    | yes l ↦ absurd (omega (arith, ending.short l, up.is, long))
-    | no l ↦ omega (arith, ending.few)
-  ]
-
-  some_bad : good < o.offsets.size → length (good_parts e str s ps) < length ps
-  some_bad h = elim (dec_lt (length (good_parts e str s ps)) (length ps)) [
-    | yes l ↦ l
-    | no l ↦ absurd (let q : length (good_parts e str s ps) ≡ length ps = omega (arith, ending.few) in omega (arith, ending.whole q, up.is, long))
-  ]
 
   -- the section up to there, as code hands it on
   module _ (y : StrOffsets) (ey : y ≡ offsets_before o good) where
@@ -204,10 +191,10 @@ module _ (b : List ℕ) (o : StrOffsets) (inside : Inside b o.offsets) (good : �
         pub parts_ill : good < o.offsets.size → StringsAre b v ts k (pieces_of e str s ps >>= λ z. pass (used_in z)) (Err BadStrOffsets)
         parts_ill h =
             let a = own (Ok tt) added in
-            tells_refuse BadStrOffsets (then_refuse (pieces_of e str s ps) (λ z. pass (used_in z)) 8 (judged.ill a.0 a.1 (some_bad h)))
+            tells_refuse BadStrOffsets (then_refuse (pieces_of e str s ps) (λ z. pass (used_in z)) 8 (judged.ill a.0 a.1 (omega (arith, h, up.is, long))))
 
         pub parts_put : o.offsets.size ≤ good → StringsAre b v ts k (pieces_of e str s ps >>= λ z. pass (used_in z)) (Ok tt)
         parts_put h =
             let a = own (Ok tt) added in
-            let j = judged.all a.0 a.1 (all_good h) in
+            let j = judged.all a.0 a.1 (omega (arith, h, up.is, long, ending.high)) in
             tells_pass tt (used_in j.0) (then_pass (pieces_of e str s ps) (λ z. pass (used_in z)) j.0 j.1) (rw j.2 a.2)
