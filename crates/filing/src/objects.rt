@@ -100,6 +100,7 @@ fn open_whole(
 }
 
 // 10, 34, 8, 9: a package of version 5, whose rows name the parts of str_offsets.
+#[tactic(auto, using(kept::proofs::RegionLending::only_same))]
 fn open_tiled(
     b: &[u8],
     e: ObjectEncoding,
