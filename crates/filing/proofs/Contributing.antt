@@ -169,32 +169,19 @@ module _ (b : List ℕ) (x : InputObject) (i : Input) (is : InputIs b x i) where
     whole_width true a = a
     whole_width false a = tells_value (λ k h. same_held k (whole_contributions (by_code x.size)) (whole_contributions (lengths i)) (whole_same (by_code x.size) (lengths i) lengths_are) h) a
 
-    given_width : (o : Option Index) → index_for i table ≡ o
-        → GivenIs (contributions_by (packed_by x) o (encoding_is x.encoding).width (by_code x.size) identity home at size) r
-        → GivenIs (contributions_of i home at (record { size = size; table = table; identity = identity })) r
-    unfolding contributions_of contributions_by whole_given
-    given_width (some y) e a =
-        rw (contributions_of, e)
-        (subst (λ (m : Check (BySection (Option Contribution))). GivenIs m r)
-        (row_same (by_code x.size) (lengths i) lengths_are y (encoding_is x.encoding).width identity home at size
-        ∙ ap (λ (z : _). row_contributions y z.width (lengths i) identity home at size) is.encoding) a)
-    given_width none e a =
-        rw (contributions_of, e) (subst (λ (t : Bool). GivenIs (whole_given t (lengths i)) r) packed_is (whole_width (packed_by x) a))
-
     pub given_is : (o : Option Index) → index_for i table ≡ o → (width : ℕ) → width ≡ (encoding_is x.encoding).width → (packed : Bool) → packed ≡ packed_by x
         → GivenIs (contributions_by packed o width (by_code x.size) identity home at size) r
         → GivenIs (contributions_of i home at (record { size = size; table = table; identity = identity })) r
-    given_is o e width q packed p a =
-        given_width o e
-        (subst (λ (t : Bool). GivenIs (contributions_by t o (encoding_is x.encoding).width (by_code x.size) identity home at size) r) p
-        (subst (λ (z : ℕ). GivenIs (contributions_by packed o z (by_code x.size) identity home at size) r) q a))
+    unfolding contributions_of contributions_by whole_given
+    given_is (some y) e width q packed p a =
+        rw (contributions_of, e)
+        (subst (λ (m : Check (BySection (Option Contribution))). GivenIs m r)
+        (row_same (by_code x.size) (lengths i) lengths_are y width identity home at size
+        ∙ ap (λ (z : ℕ). row_contributions y z (lengths i) identity home at size) (q ∙ ap (λ (z : _). z.width) is.encoding)) a)
+    given_is none e width q packed p a = rw (contributions_of, e) (subst (λ (t : Bool). GivenIs (whole_given t (lengths i)) r) (p ∙ packed_is) (whole_width packed a))
 
 pub width_some : (e : ObjectEncoding) (n : ℕ) → n ≡ (encoding_is e).width → 0 < n
 unfolding encoding_is four
-width_some e n q = rw q (go e.wide)
-  where
-    go : (t : Bool) → 0 < four t 8
-    go true = omega arith
-    go false = omega arith
+width_some e n q = elim e.wide as (λ t. n ≡ four t 8 → 0 < n) [ true ↦ λ z. omega arith | false ↦ λ z. omega arith ] q
 
 pub ruleset given_cases = (width_some, given_is)
