@@ -42,33 +42,27 @@ use Rattle.octets.specs.Options.{found}
 use Rattle.bundle.proofs.Units.{found_some, found_none}
 use Rattle.index.specs.Contributed.{Answers}
 
--- ---- an index by value
-module _ (big : Bool) (s : List ℕ) (indexed : Indexed) (o : Option Index) (is : IndexedIs big s indexed o) where
-  pub index_well : (head : IndexHead) → indexed ≡ Some head → ReadWell big s head × (o ≡ some (index_in big s head))
+-- ---- an index by value, as code holds it
+module _ (big : Bool) (s : List ℕ) (indexed : Indexed) where
+  index_well : (o : Option Index) → IndexedIs big s indexed o → (head : IndexHead) → indexed ≡ Some head → ReadWell big s head × (o ≡ some (index_in big s head))
   unfolding IndexedIs
-  index_well head e = go o (rw e at is)
-    where
-      go : (p : Option Index) → IndexedIs big s (Some head) p → ReadWell big s head × (p ≡ some (index_in big s head))
-      go none h = absurd h
-      go (some y) h = (h.0, ap some h.1)
+  index_well none is head e = absurd (rw e at is)
+  index_well (some y) is head e = let h : ReadWell big s head × (y ≡ index_in big s head) = rw e at is in (h.0, ap some h.1)
 
-  -- as code holds it
-  pub held_none : indexed ≡ None → None ≡ found o
+  pub held_none : (o : Option Index) → IndexedIs big s indexed o → indexed ≡ None → None ≡ found o
   unfolding IndexedIs
-  held_none e = go o (rw e at is)
-    where
-      go : (p : Option Index) → IndexedIs big s None p → None ≡ found p
-      go none h = refl
-      go (some y) h = absurd h
+  held_none none is e = refl
+  held_none (some y) is e = absurd (rw e at is)
 
-  pub held_some : (head : IndexHead) → indexed ≡ Some head → Some (index_in big s head) ≡ found o
-  held_some head e = ap found (sym (index_well head e).1)
+  module _ (o : Option Index) (is : IndexedIs big s indexed o) (head : IndexHead) (e : indexed ≡ Some head) where
+    pub held_some : Some (index_in big s head) ≡ found o
+    held_some = ap found (sym (index_well o is head e).1)
 
-  pub held_sized : (head : IndexHead) → indexed ≡ Some head → Sized s head
-  held_sized head e = read_sized big s head (index_well head e).0
+    pub held_sized : Sized s head
+    held_sized = read_sized big s head (index_well o is head e).0
 
-  pub held_well : (head : IndexHead) → indexed ≡ Some head → Well (index_in big s head)
-  held_well head e = read_well big s head (index_well head e).0
+    pub held_well : Well (index_in big s head)
+    held_well = read_well big s head (index_well o is head e).0
 
 pub ruleset held_cases = (held_none, held_some, held_sized, held_well)
 
