@@ -84,11 +84,7 @@ impl InputObject {
             at,
             size: read.size,
         };
-        indexed_contributions(
-            self.index_for(b, read.handed_in.table),
-            self.is_package(),
-            m,
-            u,
-        )
+        let index = self.index_for(b, read.handed_in.table);
+        indexed_contributions(index, self.is_package(), m, u)
     }
 }
