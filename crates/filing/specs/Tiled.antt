@@ -1,6 +1,6 @@
 -- What the functions for a package of version 5 require and ensure: 34, then 8 and 9 part by part.
 -- Assumes nothing.
-use Rattle.std.specs.Prelude.{◌≡◌, Bool, List, [], ◌++◌, ℕ, ◌+◌, ◌*◌, ◌/◌, ◌<◌, ◌≤◌, length, get_or, Result}
+use Rattle.std.specs.Prelude.{◌≡◌, Bool, List, [], ◌++◌, ℕ, ◌+◌, ◌*◌, ◌/◌, ◌≤◌, length, get_or, Result}
 use Rattle.std.specs.Prelude as code
 use Rattle.std.proofs.Math.Option.{Option}
 use Rattle.numbers.specs.Tables.{dwarf5}
