@@ -1,4 +1,4 @@
-// The objects of a bundle, one behind the other: 4 to 16, and 34.
+// The objects of a bundle, one following the other: refusals 4 to 16, and 34.
 ghost use Rattle.std.specs.Prelude.{◌≡◌};
 ghost use Rattle.packer.specs.Objects.{
   UnitsAsked,
@@ -21,6 +21,7 @@ use numbers::refusals::Refusal;
 use numbers::sections::CODES;
 use strings::table::StringTable;
 
+// The bundle, what is held and work stay parameters of the functions below: each lends what is held and work to another crate's, work in parts.
 // The object at hand: the byte order, the first object's word and its own, and where its sections start.
 #[derive(Clone, Copy)]
 pub struct ObjectHead {
