@@ -29,7 +29,7 @@ use Rattle.index.specs.Cells.{cell_found}
 use Rattle.index.specs.declared.cells.Contribution as cell
 use Rattle.octets.specs.Options.{found}
 use Rattle.bundle.proofs.Units.{found_some, found_none}
-use Rattle.kept.specs.Regions.{codes_region}
+use Rattle.kept.specs.Regions.{codes_region, Only}
 use Rattle.kept.proofs.RegionStores.{codes_within}
 use Rattle.package.specs.Input.{Input}
 use Rattle.package.specs.Filing.{index_by_place, abbreviations_for}
@@ -38,6 +38,7 @@ use Rattle.std.specs.Prelude.{Some, None, Result, Ok, Err}
 use Rattle.numbers.specs.Refused.{number_of, told}
 use Rattle.numbers.specs.declared.refusals.Refusal.{Refusal}
 use Rattle.numbers.specs.declared.refusals.Refusal.TheVariants.{NoRow, BadRow}
+use Rattle.filing.proofs.ByPlace.{row_asks, row_counted}
 use Rattle.filing.proofs.Telling.{tells_pass, tells_refuse, tells_same}
 use Rattle.unit.specs.declared.judged.Span.{Span}
 use Rattle.filing.specs.declared.units.HomeSection.{HomeSection}
@@ -46,7 +47,7 @@ use Rattle.filing.specs.Judged.{section_of, InputIs}
 use Rattle.filing.specs.State.{words_in, Remembered}
 use Rattle.filing.specs.ByPlace.{WorkFor, AbbreviationsAre}
 use Rattle.filing.specs.Asked.{PlaceAsked}
-use Rattle.kept.proofs.RegionLending.{lent_is, lent_length, lent_left}
+use Rattle.kept.proofs.RegionLending.{only_lent, lent_is, lent_length, lent_left}
 
 -- ---- a row's abbrev part
 cell_none : (o : Option Contribution) → None ≡ cell_found o → o ≡ none
@@ -105,6 +106,8 @@ module _ (i : Index) (row : ℕ) where
             (part_inside part_named (part b start size) (omega (arith, many)) (cell_some _ v m) (omega (arith, many)))
             (record { is = part_cut b (start + v.offset) v.size ∙ sym (part_part b start size v.offset v.size l); lies = (omega arith, omega arith) })
 
+pub ruleset abbrev_cases = (abbrev_empty, abbrev_missing, abbrev_outside, abbrev_inside)
+
 -- ---- the abbreviations of a unit
 module _ (b : List ℕ) (x : InputObject) (i : Input) (is : InputIs b x i) (home at size : ℕ) where
   abbrev section : List ℕ
@@ -130,6 +133,8 @@ module _ (b : List ℕ) (x : InputObject) (i : Input) (is : InputIs b x i) (home
     pub given_part : (row : ℕ) → pass row ≡ the_one (naming idx at size) → (r : Result Span Refusal) → AbbreviationsAre b (abbrev_part idx row section) r → AbbreviationsAre b (abbreviations_for i home at size) r
     unfolding section_of
     given_part row z r k = tells_same (sym (by_row ∙ then_pass _ _ row (sym z) ∙ ap (abbrev_part idx row) (is.bytes 3 (omega arith)))) k
+
+pub ruleset abbreviations_cases = (row_asks, row_counted, given_whole, given_none, given_part)
 
 -- ---- a unit at a place; its section's bytes from there as code cuts them
 module _ {r : Reading} {at : ℕ} {w : List ℕ} (p : PlaceAsked r at w) where
@@ -195,14 +200,23 @@ module _ {r : Reading} {at : ℕ} {w : List ℕ} (p : PlaceAsked r at w) where
       read_whole d t = sym (read_on ∙ then_pass _ _ (identity_is d) (sym t))
 
 -- ---- the region of codes, as it is lent
-module _ {b w : List ℕ} (k : WorkFor b w) (j : Judged) (from many : ℕ) (ef : from ≡ codes_region.start * words_in b) (em : many ≡ codes_region.words * words_in b) where
-  pub codes_lent : Remembered b w j → Lent b (take (from + many - from) (drop from w)) j
-  codes_lent m = record {
+module _ {b w : List ℕ} (k : WorkFor b w) (from many : ℕ) (ef : from ≡ codes_region.start * words_in b) (em : many ≡ codes_region.words * words_in b) where
+  abbrev lent : List ℕ
+  lent = take (from + many - from) (drop from w)
+
+  pub codes_lent : (j : Judged) → Remembered b w j → Lent b lent j
+  codes_lent j m = record {
     room = omega (arith, k.words, lent_length codes_region codes_within (words_in b) from many w k.room ef em);
     small = omega (arith, k.limit);
     memory = subst (λ (l : List ℕ). Remembers b l j) (sym (lent_is codes_region codes_within (words_in b) from many w k.room ef em)) m;
   }
 
-  -- what was written there is remembered
-  pub codes_left : (words v : List ℕ) → length words ≡ length (take (from + many - from) (drop from w)) → v ≡ put_mid from (from + many - from) w words → Remembers b words j → Remembered b v j
-  codes_left words v same is m = subst (λ (l : List ℕ). Remembers b l j) (sym (lent_left codes_region codes_within (words_in b) from many w k.room ef em words v same is)) m
+  -- what was written there is remembered, and all else is as it was
+  module _ (words v : List ℕ) (same : length words ≡ length lent) (is : v ≡ put_mid from (from + many - from) w words) where
+    pub codes_left : (j : Judged) → Remembers b words j → Remembered b v j
+    codes_left j m = subst (λ (l : List ℕ). Remembers b l j) (sym (lent_left codes_region codes_within (words_in b) from many w k.room ef em words v same is)) m
+
+    pub codes_only : Only codes_region (words_in b) w v
+    codes_only = only_lent codes_region codes_within (words_in b) from many w k.room ef em words v same is
+
+pub ruleset codes_cases = (codes_lent, codes_left, codes_only)

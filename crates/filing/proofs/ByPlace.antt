@@ -11,8 +11,8 @@ use lib.Dec.{eqb}
 use lib.ListN.{length, take, drop, get_or}
 use borrow.Rule.Slice.PartMut.{put_mid}
 use Rattle.octets.specs.Lists.{those}
-use Rattle.octets.specs.Checked.{pass, refuse}
-use Rattle.octets.proofs.Checks.{known, pass_inj, refuse_inj, pass_refuse}
+use Rattle.octets.specs.Checked.{pass}
+use Rattle.octets.proofs.Checks.{known, pass_inj, pass_refuse}
 use Rattle.octets.proofs.Lists.{those_keeps, those_skips}
 use Rattle.octets.proofs.Parts.{length_part}
 use Rattle.numbers.specs.Sections.{info_code}
@@ -37,15 +37,9 @@ use Rattle.filing.specs.State.{words_in}
 use Rattle.filing.specs.ByPlace.{heads_for, ChainsHeld}
 use Rattle.filing.specs.Asked.{RowsChained, ChainAsked, PlaceAsked}
 use Rattle.filing.proofs.Entering.{five_is}
-use Rattle.kept.proofs.RegionLending.{lent_length, lent_left}
+use Rattle.kept.proofs.RegionLending.{only_same, lent_length, lent_left}
 
 -- ---- the one row
-one_refuses : (rs : List ℕ) (n : ℕ) → the_one rs ≡ refuse n → n ≡ 15
-unfolding the_one
-one_refuses [] n e = sym (refuse_inj e)
-one_refuses (r ∷ []) n e = absurd (pass_refuse r n e)
-one_refuses (r ∷ q ∷ rs) n e = sym (refuse_inj e)
-
 one_above : (f : ℕ → Bool) (n r : ℕ) → the_one (those f (row_numbers n)) ≡ pass r → (0 < r) × (r ≤ n)
 unfolding row_numbers the_one those
 one_above f zero r e = absurd (pass_refuse r 15 (sym e))
@@ -59,9 +53,6 @@ one_above f (suc n) r e = ⊎_elim
     first (x ∷ rs) q = absurd (pass_refuse r 15 (sym q))
 
 module _ (i : Index) (at size : ℕ) where
-  pub row_none : (n : ℕ) → refuse n ≡ the_one (naming i at size) → the_one (naming i at size) ≡ refuse 15
-  row_none n e = sym e ∙ ap (λ (k : ℕ). refuse k) (one_refuses (naming i at size) n (sym e))
-
   pub row_counted : (row : ℕ) → pass row ≡ the_one (naming i at size) → (0 < row) × (row ≤ i.units)
   unfolding naming
   row_counted row e = one_above _ i.units row (sym e)
@@ -97,6 +88,8 @@ module _ (b : List ℕ) (x : InputObject) (i : Input) (is : InputIs b x i) (home
         let w = well x.encoding.big (section_of b x 12) h.0 h.1 in
         omega (arith, w.sized, w.above, ap (λ (y : Index). y.units) h.2, units_are x.encoding.big (section_of b x 12) h.0, length_part b (get_or x.start 12 0) (get_or x.size 12 0) (is.within 12), is.within 12)
 
+pub ruleset by_place_cases = (by_place_cu, by_place_none)
+
 -- ---- their chains
 pub chained_nowhere : (r : Reading) (w : List ℕ) → ((i : Input) → InputIs r.bundle.now r.object.now i → None ≡ found (index_by_place i r.section.home)) → RowsChained r w
 unfolding ChainsHeld
@@ -125,6 +118,8 @@ module _ {r : Reading} {w : List ℕ} (p : ChainAsked r w) (idx : Index) (e : (i
 
 -- ---- a place in them
 module _ {r : Reading} {at : ℕ} {w : List ℕ} (p : PlaceAsked r at w) (c : RowsChained r w) (idx : Index) (e : Some idx ≡ found (index_by_place p.input r.section.home)) where
-  pub row_asks : ((at - r.section.start) / 4 < heads_for r.section) × Chained idx info_code (heads_for r.section) (region w (words_in r.bundle.now) rows_region)
+  pub row_asks : (n : ℕ) (rows : List ℕ) → n ≡ heads_for r.section → rows ≡ region w (words_in r.bundle.now) rows_region → ((at - r.section.start) / 4 < n) × Chained idx info_code n rows
   unfolding heads_for ChainsHeld
-  row_asks = (omega (arith, p.from, p.low), subst (ChainsHeld (heads_for r.section) (region w (words_in r.bundle.now) rows_region)) (sym (found_some idx _ e)) (c p.input p.is))
+  row_asks n rows many are = rw (many, are) (omega (arith, p.from, p.low), subst (ChainsHeld (heads_for r.section) (region w (words_in r.bundle.now) rows_region)) (sym (found_some idx _ e)) (c p.input p.is))
+
+pub ruleset chain_cases = (chained_nowhere, only_same)

@@ -2,32 +2,31 @@
 -- Assumes nothing.
 use mathlib.Core.Path.{◌≡◌, refl, sym, ap, ap₂, ◌∙◌, subst}
 use mathlib.Core.Bool.{Bool, true, false, not, ◌&&◌, ◌||◌}
-use mathlib.Core.Logic.{⊎_elim}
 use mathlib.Core.List.{List, [], ◌∷◌}
 use mathlib.Core.Option.{Option, some, none}
 use Prim.Native.Nat.{ℕ, ◌<◌}
 use native.Mathlib.Omega.{arith}
 use lib.Dec.{eqb, ltb}
 use lib.ListN.{length, get_or}
-use borrow.Author.Tests.{eqb-true, eq-eqb, ne_eqb, ltb-true}
-use Rattle.octets.specs.Lists.{all, any, those, has}
+use borrow.Author.Tests.{eq-eqb, ltb-true}
+use Rattle.octets.specs.Lists.{all, those, has}
 use Rattle.std.specs.Prelude.{Result, Ok, Err}
 use Rattle.numbers.specs.declared.refusals.Refusal.{Refusal}
 use Rattle.numbers.specs.declared.refusals.Refusal.TheVariants.{NoRow}
 use Rattle.octets.specs.Checked.{Check, pass, refuse, ◌>>=◌, require}
-use Rattle.octets.proofs.Checks.{true_false}
-use Rattle.octets.proofs.Lists.{any_cases, any_stops, any_more, all_head, all_tail, those_keeps, those_skips}
+use Rattle.octets.proofs.Lists.{any_stops, any_more}
 use Rattle.octets.proofs.Parts.{length_part}
 use Rattle.bundle.specs.Encoded.{four, encoding_is}
 use Rattle.bundle.specs.declared.encoding.ObjectEncoding.{ObjectEncoding}
 use Rattle.index.specs.Index.{Index, Contribution, cell_of}
 use Rattle.index.specs.Probing.{probe}
 use Rattle.index.specs.Rows.{BySection, shared, needed_codes, is_some, row_of, cell_is, own_place, part_good, row_contributions, whole_contributions}
-use Rattle.index.specs.Held.{ReadWell, index_in}
+use Rattle.index.specs.Held.{ReadWell, Sized, Well, index_in}
 use Rattle.index.specs.Contributed.{by_code, ContributionsAre}
 use Rattle.index.specs.declared.reading.IndexHead.{IndexHead}
 use Rattle.index.specs.declared.judging.Contributions.{Contributions}
-use Rattle.index.proofs.Contributions.{needed_shared}
+use Rattle.index.proofs.Heads.{read_sized, read_well}
+use Rattle.index.proofs.Contributions.{all_has, needed_shared}
 use Rattle.unit.specs.UnitRead.{is_five}
 use Rattle.package.specs.Input.{Input}
 use Rattle.package.specs.Filing.{index_for, lengths, is_package, contributions_of}
@@ -43,27 +42,29 @@ use Rattle.octets.specs.Options.{found}
 use Rattle.bundle.proofs.Units.{found_some, found_none}
 use Rattle.index.specs.Contributed.{Answers}
 
--- ---- an index by value
-module _ (big : Bool) (s : List ℕ) (indexed : Indexed) (o : Option Index) (is : IndexedIs big s indexed o) where
-  pub index_well : (head : IndexHead) → indexed ≡ Some head → ReadWell big s head × (o ≡ some (index_in big s head))
+-- ---- an index by value, as code holds it
+module _ (big : Bool) (s : List ℕ) (indexed : Indexed) where
+  index_well : (o : Option Index) → IndexedIs big s indexed o → (head : IndexHead) → indexed ≡ Some head → ReadWell big s head × (o ≡ some (index_in big s head))
   unfolding IndexedIs
-  index_well head e = go o (rw e at is)
-    where
-      go : (p : Option Index) → IndexedIs big s (Some head) p → ReadWell big s head × (p ≡ some (index_in big s head))
-      go none h = absurd h
-      go (some y) h = (h.0, ap some h.1)
+  index_well none is head e = absurd (rw e at is)
+  index_well (some y) is head e = let h : ReadWell big s head × (y ≡ index_in big s head) = rw e at is in (h.0, ap some h.1)
 
-  -- as code holds it
-  pub held_none : indexed ≡ None → None ≡ found o
+  pub held_none : (o : Option Index) → IndexedIs big s indexed o → indexed ≡ None → None ≡ found o
   unfolding IndexedIs
-  held_none e = go o (rw e at is)
-    where
-      go : (p : Option Index) → IndexedIs big s None p → None ≡ found p
-      go none h = refl
-      go (some y) h = absurd h
+  held_none none is e = refl
+  held_none (some y) is e = absurd (rw e at is)
 
-  pub held_some : (head : IndexHead) → indexed ≡ Some head → Some (index_in big s head) ≡ found o
-  held_some head e = ap found (sym (index_well head e).1)
+  module _ (o : Option Index) (is : IndexedIs big s indexed o) (head : IndexHead) (e : indexed ≡ Some head) where
+    pub held_some : Some (index_in big s head) ≡ found o
+    held_some = ap found (sym (index_well o is head e).1)
+
+    pub held_sized : Sized s head
+    held_sized = read_sized big s head (index_well o is head e).0
+
+    pub held_well : Well (index_in big s head)
+    held_well = read_well big s head (index_well o is head e).0
+
+pub ruleset held_cases = (held_none, held_some, held_sized, held_well)
 
 -- ---- an answer by an index
 answers_given : (m : Check (BySection (Option Contribution))) (r : Result Contributions Refusal) → Answers r m → GivenIs m r
@@ -92,58 +93,38 @@ unfolding whole_given require ◌>>=◌
 whole_passes packed ls k e h = rw e (tells_pass k (whole_contributions ls) refl h)
 
 -- ---- only shared codes count
-among : (c : ℕ) (xs : List ℕ) → all (λ d. ltb d 14) xs ≡ true → has xs c ≡ true → c < 14
-unfolding has any
-among c [] a h = absurd (true_false h refl)
-among c (x ∷ xs) a h = ⊎_elim
-    (λ (e : eqb c x ≡ true). rw (eqb-true c x e) (ltb-true x 14 (all_head (λ d. ltb d 14) x xs a)))
-    (λ e. among c xs (all_tail (λ d. ltb d 14) x xs a) e)
-    (any_cases (eqb c) x xs h)
-
 pub shared_below : (c : ℕ) → has shared c ≡ true → c < 14
 unfolding shared all
-shared_below c h = among c shared refl h
+shared_below c h = ltb-true c 14 (all_has (λ d. ltb d 14) shared c refl h)
+
+all_same : (p q : ℕ → Bool) (xs : List ℕ) → ((c : ℕ) → has xs c ≡ true → p c ≡ q c) → all p xs ≡ all q xs
+unfolding all has
+all_same p q [] e = refl
+all_same p q (x ∷ xs) e =
+    ap₂ (λ (t r : Bool). elim t as (λ _. Bool) [ true ↦ r | false ↦ false ]) (e x (any_stops (eqb x) x xs (eq-eqb x x refl))) (all_same p q xs (λ c h. e c (any_more (eqb c) x xs h)))
+
+those_same : (p q : ℕ → Bool) (xs : List ℕ) → ((c : ℕ) → has xs c ≡ true → p c ≡ q c) → those p xs ≡ those q xs
+unfolding those has
+those_same p q [] e = refl
+those_same p q (x ∷ xs) e =
+    ap₂ (λ (t : Bool) (r : List ℕ). elim t as (λ _. List ℕ) [ true ↦ x ∷ r | false ↦ r ]) (e x (any_stops (eqb x) x xs (eq-eqb x x refl))) (those_same p q xs (λ c h. e c (any_more (eqb c) x xs h)))
 
 module _ (f g : BySection ℕ) (same : (c : ℕ) → c < 14 → f c ≡ g c) where
-  those_same : (xs : List ℕ) → ((c : ℕ) → has xs c ≡ true → c < 14) → those (λ c. not (eqb (f c) 0)) xs ≡ those (λ c. not (eqb (g c) 0)) xs
-  unfolding those has
-  those_same [] b = refl
-  those_same (x ∷ xs) b =
-      let e : f x ≡ g x = same x (b x (any_stops (eqb x) x xs (eq-eqb x x refl))) in
-      let rest = those_same xs (λ c h. b c (any_more (eqb c) x xs h)) in
-      go (not (eqb (g x) 0)) refl e rest
-    where
-      go : (t : Bool) → not (eqb (g x) 0) ≡ t → f x ≡ g x → those (λ c. not (eqb (f c) 0)) xs ≡ those (λ c. not (eqb (g c) 0)) xs
-          → those (λ c. not (eqb (f c) 0)) (x ∷ xs) ≡ those (λ c. not (eqb (g c) 0)) (x ∷ xs)
-      go true t e r = those_keeps (λ c. not (eqb (f c) 0)) x xs (rw e t) ∙ ap (λ (l : List ℕ). x ∷ l) r ∙ sym (those_keeps (λ c. not (eqb (g c) 0)) x xs t)
-      go false t e r = those_skips (λ c. not (eqb (f c) 0)) x xs (rw e t) ∙ r ∙ sym (those_skips (λ c. not (eqb (g c) 0)) x xs t)
-
-  pub needed_same : needed_codes f ≡ needed_codes g
+  needed_same : needed_codes f ≡ needed_codes g
   unfolding needed_codes
-  needed_same = those_same shared shared_below
+  needed_same = those_same _ _ shared (λ c h. ap (λ (k : ℕ). not (eqb k 0)) (same c (shared_below c h)))
 
-  pub whole_same : (c : ℕ) → whole_contributions f c ≡ whole_contributions g c
+  needed_is : (c : ℕ) → has (needed_codes g) c ≡ true → f c ≡ g c
+  needed_is c t = same c (shared_below c (needed_shared g c t).0)
+
+  whole_same : (c : ℕ) → whole_contributions f c ≡ whole_contributions g c
   unfolding whole_contributions
-  whole_same c = go (has (needed_codes g) c) refl
-    where
-      go : (t : Bool) → has (needed_codes g) c ≡ t → whole_contributions f c ≡ whole_contributions g c
-      go true t = rw (whole_contributions, needed_same, t, same c (shared_below c (needed_shared g c t).0))
-      go false t = rw (whole_contributions, needed_same, t)
+  whole_same c = elim (has (needed_codes g) c) as (λ t. has (needed_codes g) c ≡ t → whole_contributions f c ≡ whole_contributions g c) [
+    | true ↦ λ t. rw (whole_contributions, needed_same, t, needed_is c t)
+    | false ↦ λ t. rw (whole_contributions, needed_same, t)
+  ] refl
 
-module _ (f g : BySection ℕ) (same : (c : ℕ) → c < 14 → f c ≡ g c) (i : Index) (width : ℕ) where
-  step_same : (row x : ℕ) → x < 14 → cell_is (part_good width f x) (cell_of i row x) ≡ cell_is (part_good width g x) (cell_of i row x)
-  unfolding part_good
-  step_same row x h = rw (part_good, same x h)
-
-  steps_same : (row : ℕ) (xs : List ℕ) → ((c : ℕ) → has xs c ≡ true → c < 14)
-      → all (λ s. cell_is (part_good width f s) (cell_of i row s)) xs ≡ all (λ s. cell_is (part_good width g s) (cell_of i row s)) xs
-  unfolding all has
-  steps_same row [] b = refl
-  steps_same row (x ∷ xs) b =
-      let h = b x (any_stops (eqb x) x xs (eq-eqb x x refl)) in
-      ap₂ (λ (t r : Bool). elim t as (λ _. Bool) [ true ↦ r | false ↦ false ]) (step_same row x h) (steps_same row xs (λ c h. b c (any_more (eqb c) x xs h)))
-
-  module _ (x home at size : ℕ) where
+  module _ (i : Index) (width x home at size : ℕ) where
     abbrev body : List ℕ → (ℕ → Bool) → Check (BySection (Option Contribution))
     body needed steps =
         row_of i (probe i x) >>= λ row.
@@ -151,11 +132,11 @@ module _ (f g : BySection ℕ) (same : (c : ℕ) → c < 14 → f c ≡ g c) (i 
         (require (cell_is (own_place at size) (cell_of i row home)) 16 >>= λ _.
         (require (steps row) 16 >>= λ _. pass (λ s. elim (has needed s) [ true ↦ cell_of i row s | false ↦ none ]))))
 
-    pub row_same : row_contributions i width f x home at size ≡ row_contributions i width g x home at size
-    unfolding row_contributions
+    row_same : row_contributions i width f x home at size ≡ row_contributions i width g x home at size
+    unfolding row_contributions part_good
     row_same =
-        ap (λ (l : List ℕ). body l (λ row. all (λ s. cell_is (part_good width f s) (cell_of i row s)) l)) (needed_same f g same)
-        ∙ ap (body (needed_codes g)) (λ j row. steps_same row (needed_codes g) (λ c h. shared_below c (needed_shared g c h).0) j)
+        ap (λ (l : List ℕ). body l (λ row. all (λ s. cell_is (part_good width f s) (cell_of i row s)) l)) needed_same
+        ∙ ap (body (needed_codes g)) (λ j row. all_same (λ s. cell_is (part_good width f s) (cell_of i row s)) (λ s. cell_is (part_good width g s) (cell_of i row s)) (needed_codes g) (λ c h. rw (part_good, needed_is c h)) j)
 
 -- ---- the definition
 module _ (b : List ℕ) (x : InputObject) (i : Input) (is : InputIs b x i) where
@@ -182,39 +163,19 @@ module _ (b : List ℕ) (x : InputObject) (i : Input) (is : InputIs b x i) where
     whole_width true a = a
     whole_width false a = tells_value (λ k h. same_held k (whole_contributions (by_code x.size)) (whole_contributions (lengths i)) (whole_same (by_code x.size) (lengths i) lengths_are) h) a
 
-    given_width : (o : Option Index) → index_for i table ≡ o
-        → GivenIs (contributions_by (packed_by x) o (encoding_is x.encoding).width (by_code x.size) identity home at size) r
-        → GivenIs (contributions_of i home at (record { size = size; table = table; identity = identity })) r
-    unfolding contributions_of contributions_by whole_given
-    given_width (some y) e a =
-        rw (contributions_of, e)
-        (subst (λ (m : Check (BySection (Option Contribution))). GivenIs m r)
-        (row_same (by_code x.size) (lengths i) lengths_are y (encoding_is x.encoding).width identity home at size
-        ∙ ap (λ (z : _). row_contributions y z.width (lengths i) identity home at size) is.encoding) a)
-    given_width none e a =
-        rw (contributions_of, e) (subst (λ (t : Bool). GivenIs (whole_given t (lengths i)) r) packed_is (whole_width (packed_by x) a))
-
     pub given_is : (o : Option Index) → index_for i table ≡ o → (width : ℕ) → width ≡ (encoding_is x.encoding).width → (packed : Bool) → packed ≡ packed_by x
         → GivenIs (contributions_by packed o width (by_code x.size) identity home at size) r
         → GivenIs (contributions_of i home at (record { size = size; table = table; identity = identity })) r
-    given_is o e width q packed p a =
-        given_width o e
-        (subst (λ (t : Bool). GivenIs (contributions_by t o (encoding_is x.encoding).width (by_code x.size) identity home at size) r) p
-        (subst (λ (z : ℕ). GivenIs (contributions_by packed o z (by_code x.size) identity home at size) r) q a))
+    unfolding contributions_of contributions_by whole_given
+    given_is (some y) e width q packed p a =
+        rw (contributions_of, e)
+        (subst (λ (m : Check (BySection (Option Contribution))). GivenIs m r)
+        (row_same (by_code x.size) (lengths i) lengths_are y width identity home at size
+        ∙ ap (λ (z : ℕ). row_contributions y z (lengths i) identity home at size) (q ∙ ap (λ (z : _). z.width) is.encoding)) a)
+    given_is none e width q packed p a = rw (contributions_of, e) (subst (λ (t : Bool). GivenIs (whole_given t (lengths i)) r) (p ∙ packed_is) (whole_width packed a))
 
--- the index of a table
-pub index_first : (i : Input) (table : ℕ) → table ≡ 1 → index_for i table ≡ i.cu_index
-unfolding index_for
-index_first i table e = rw (index_for, eq-eqb table 1 e)
-
-pub index_second : (i : Input) (table : ℕ) → (table ≡ 1 → ⊥) → index_for i table ≡ i.tu_index
-unfolding index_for
-index_second i table e = rw (index_for, ne_eqb table 1 e)
-
-pub width_some : (e : ObjectEncoding) → 0 < (encoding_is e).width
+pub width_some : (e : ObjectEncoding) (n : ℕ) → n ≡ (encoding_is e).width → 0 < n
 unfolding encoding_is four
-width_some e = go e.wide
-  where
-    go : (t : Bool) → 0 < four t 8
-    go true = omega arith
-    go false = omega arith
+width_some e n q = elim e.wide as (λ t. n ≡ four t 8 → 0 < n) [ true ↦ λ z. omega arith | false ↦ λ z. omega arith ] q
+
+pub ruleset given_cases = (width_some, given_is)

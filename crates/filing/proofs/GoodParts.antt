@@ -47,8 +47,8 @@ module _ (e : Encoding) (str s : List ℕ) where
     -- a string of a part before it is missing: 9
     pub missing : (n : ℕ) → strings_of_all e str (map (part_of s) (good_parts ts)) ≡ refuse n → pieces_of e str s ts ≡ refuse n
     -- none is: 8 where a part is ill formed, else all strings
-    pub ill : (used : List (List ℕ)) → strings_of_all e str (map (part_of s) (good_parts ts)) ≡ pass used → length (good_parts ts) < length ts → pieces_of e str s ts ≡ refuse 8
-    pub all : (used : List (List ℕ)) → strings_of_all e str (map (part_of s) (good_parts ts)) ≡ pass used → length (good_parts ts) ≡ length ts
+    pub ill : (used : List (List ℕ)) → strings_of_all e str (map (part_of s) (good_parts ts)) ≡ pass used → good_end e s ts < length s → pieces_of e str s ts ≡ refuse 8
+    pub all : (used : List (List ℕ)) → strings_of_all e str (map (part_of s) (good_parts ts)) ≡ pass used → good_end e s ts ≡ length s
         → (ps : List Piece) × (pieces_of e str s ts ≡ pass ps) × (used_in ps ≡ used)
 
   -- ---- one piece
@@ -80,14 +80,14 @@ module _ (e : Encoding) (str s : List ℕ) where
   pieces_on t ts p ps q z = then_pass _ _ p q ∙ then_pass _ _ ps z
 
   -- a part that is ill formed
-  ill_here : (t : Contribution) (ts : List Contribution) (n : ℕ) → entries_of e (part_of s t) ≡ refuse n → Judged (t ∷ ts)
-  unfolding strings_of_all
-  ill_here t ts n q =
+  ill_here : (at : ℕ) (t : Contribution) (ts : List Contribution) (n : ℕ) → Tiling at (length s) (t ∷ ts) → entries_of e (part_of s t) ≡ refuse n → Judged (t ∷ ts)
+  unfolding strings_of_all Tiling
+  ill_here at t ts n r q =
       let none = good_none t ts n q in
       record {
         missing = λ m z. absurd (pass_refuse [] m (sym (ap (λ (l : List Contribution). strings_of_all e str (map (part_of s) l)) none) ∙ z));
         ill = λ used z l. pieces_stop t ts 8 (piece_ill (part_of s t) n q);
-        all = λ used z l. absurd (omega (arith, l, ap length none));
+        all = λ used z l. absurd (omega (arith, l, end_here t ts n q, r.0, r.1, tiling_end (at + t.size) (length s) ts r.2));
       }
 
   -- one whose string is missing
@@ -116,37 +116,34 @@ module _ (e : Encoding) (str s : List ℕ) where
             (λ w. pieces_later t ts p n own (j.missing n w))
             (λ w. absurd (pass_refuse (us ++ w.0) n w.2))
             (bind_refuse (strings_of_all e str (map (part_of s) g)) _ n (sym are ∙ y));
-        ill = λ used y l. let w = bind_pass (strings_of_all e str (map (part_of s) g)) _ used (sym are ∙ y) in pieces_later t ts p 8 own (j.ill w.0 w.1 (omega (arith, l, ap length cons)));
+        ill = λ used y l. let w = bind_pass (strings_of_all e str (map (part_of s) g)) _ used (sym are ∙ y) in pieces_later t ts p 8 own (j.ill w.0 w.1 (omega (arith, l, end_cons t ts ns q)));
         all = λ used y l.
             let w = bind_pass (strings_of_all e str (map (part_of s) g)) _ used (sym are ∙ y) in
-            let r = j.all w.0 w.1 (omega (arith, l, ap length cons)) in
+            let r = j.all w.0 w.1 (omega (arith, l, end_cons t ts ns q)) in
             (p ∷ r.0, pieces_on t ts p r.0 own r.1, ap (λ (vs : List (List ℕ)). us ++ vs) r.2 ∙ pass_inj w.2);
       }
 
-  pub parts_judged : (ts : List Contribution) → Judged ts
-  unfolding good_parts strings_of_all pieces_of used_in
-  parts_judged [] = record {
+  pub parts_judged : (at : ℕ) (ts : List Contribution) → Tiling at (length s) ts → Judged ts
+  unfolding good_parts good_end strings_of_all pieces_of used_in Tiling
+  parts_judged at [] r = record {
     missing = λ n z. absurd (pass_refuse [] n z);
     ill = λ used z l. absurd (omega arith);
     all = λ used z l. ([], refl, pass_inj z);
   }
-  parts_judged (t ∷ ts) = go (entries_of e (part_of s t)) refl (parts_judged ts)
+  parts_judged at (t ∷ ts) r = go (entries_of e (part_of s t)) refl (parts_judged (at + t.size) ts r.2)
     where
       on : (ns : List ℕ) → entries_of e (part_of s t) ≡ pass ns → (m : Check (List (List ℕ))) → strings_at str (entries_in e (part_of s t)) ≡ m → Judged ts → Judged (t ∷ ts)
       on ns q (pass us) z rest = good_here t ts ns us q z rest
       on ns q (refuse n) z rest = missing_here t ts ns n q z
 
       go : (m : Check (List ℕ)) → entries_of e (part_of s t) ≡ m → Judged ts → Judged (t ∷ ts)
-      go (refuse n) q rest = ill_here t ts n q
+      go (refuse n) q rest = ill_here at t ts n r q
       go (pass ns) q rest = on ns q (strings_at str (entries_in e (part_of s t))) refl rest
 
   -- ---- where they end
   pub record Ending (at : ℕ) (ts : List Contribution) : Type 0 where
     pub low : at ≤ good_end e s ts
     pub high : good_end e s ts ≤ length s
-    pub whole : length (good_parts ts) ≡ length ts → good_end e s ts ≡ length s
-    pub short : length (good_parts ts) < length ts → good_end e s ts < length s
-    pub few : length (good_parts ts) ≤ length ts
     pub headed : Headed e (part s at (good_end e s ts - at)) (map (part_of s) (good_parts ts))
 
   module _ (five : e.version ≡ 5) where
@@ -160,9 +157,6 @@ module _ (e : Encoding) (str s : List ℕ) where
         record {
           low = omega (arith, end);
           high = omega (arith, end, last);
-          whole = λ l. absurd (omega (arith, l, ap length none));
-          short = λ l. omega (arith, end, last, r.1);
-          few = omega (arith, ap length none);
           headed = subst (λ (l : List Contribution). Headed e (part s at (good_end e s (t ∷ ts) - at)) (map (part_of s) l)) (sym none) (ap (part s at) z ∙ part_none s at);
         }
 
@@ -182,9 +176,6 @@ module _ (e : Encoding) (str s : List ℕ) where
         record {
           low = omega (arith, end, j.low);
           high = omega (arith, end, j.high);
-          whole = λ l. end ∙ j.whole (omega (arith, l, ap length cons));
-          short = λ l. (let k = j.short (omega (arith, l, ap length cons)) in omega (arith, end));
-          few = omega (arith, ap length cons, j.few);
           headed = subst (λ (l : List Contribution). Headed e (part s at (good_end e s (t ∷ ts) - at)) (map (part_of s) l)) (sym cons)
               (subst (λ (l : List ℕ). Headed e l (part_of s t ∷ map (part_of s) (good_parts ts))) (sym shape)
               (rest, refl, omega (arith, long, r.1), whole_size e (part_of s t) rest five w.0.header, q ∙ ap pass w.1, j.headed));
@@ -197,9 +188,6 @@ module _ (e : Encoding) (str s : List ℕ) where
         record {
           low = omega (arith, r);
           high = omega arith;
-          whole = λ l. refl;
-          short = λ l. absurd (omega arith);
-          few = omega arith;
           headed = ap (part s at) z ∙ part_none s at;
         }
     parts_ending at (t ∷ ts) r = go (entries_of e (part_of s t)) refl (parts_ending (at + t.size) ts r.2)

@@ -7,8 +7,9 @@ use mathlib.Core.Option.{some, none}
 use Rattle.std.specs.Prelude.{Some, None, Ok, Err}
 use Rattle.numbers.specs.declared.refusals.Refusal.TheVariants.{OtherEncoding, WrongEdition, SectionMissing, BadIndex}
 use Prim.Native.Nat.{ℕ}
-use lib.Dec.{eqb}
-use borrow.Author.Tests.{eq-eqb, ne_eqb}
+use lib.Dec.{eqb, leb}
+use native.Mathlib.Omega.{arith}
+use borrow.Author.Tests.{eq-eqb, ne_eqb, le-leb}
 use Rattle.numbers.specs.Refused.{number_of, told}
 use Rattle.numbers.specs.declared.refusals.Refusal.{Refusal}
 use Rattle.octets.specs.Checked.{pass, refuse, ◌>>=◌, mapped}
@@ -32,7 +33,7 @@ use Rattle.filing.proofs.Counts.{edition_is, complete_is}
 use Rattle.filing.specs.Judged.{IndexedIs, object_check, JudgedIs, index_check, JudgedIndexIs}
 use Rattle.filing.proofs.Telling.{tells_pass, tells_refuse}
 
--- ---- the cases of 4 to 7
+-- ---- the cases of 4 to 7, of an object whose sections a scan has
 module _ (big : Bool) (first word : ℕ) (ps : List Part) where
   pub judged_word : (r : Refusal) → mapped encoding_is (told (Err r)) ≡ encoding_checked (encoding_of big word) → JudgedIs (object_check big first word ps) (Err r)
   unfolding object_check
@@ -43,38 +44,38 @@ module _ (big : Bool) (first word : ℕ) (ps : List Part) where
     unfolding object_check
     judged_first n = tells_refuse OtherEncoding (rw (object_check, passes (encoding_good (encoding_of big word)) 4 _ (word_good _ x h).0, fails (eqb word first) 5 _ (ne_eqb _ _ n)))
 
-    module _ (s : word ≡ first) where
-      pub judged_edition : edition_good (encoding_is x) ps ≡ false → JudgedIs (object_check big first word ps) (Err WrongEdition)
+    module _ (s : word ≡ first) (scan : Scan) (at : ℕ) (e : scan ≡ scan_of at ps) where
+      counts : scan.count ≡ by_code (count ps)
+      unfolding scan_of
+      counts = ap (λ (z : Scan). z.count) e
+
+      edition : (t : Bool) → edition_by x.five scan.count ≡ t → edition_good (encoding_of big word) ps ≡ t
+      edition t q = rw (← (word_good _ x h).1) (sym (edition_is x ps) ∙ ap (edition_by x.five) (sym counts) ∙ q)
+
+      whole : (t : Bool) → complete_by scan.count ≡ t → complete ps ≡ t
+      whole t q = sym (complete_is ps) ∙ ap complete_by (sym counts) ∙ q
+
+      pub judged_edition : edition_by x.five scan.count ≡ false → JudgedIs (object_check big first word ps) (Err WrongEdition)
       unfolding object_check
       judged_edition n =
           tells_refuse WrongEdition
-          (rw (object_check, passes (encoding_good (encoding_of big word)) 4 _ (word_good _ x h).0, passes (eqb word first) 5 _ (eq-eqb _ _ s), fails (edition_good (encoding_of big word) ps) 6 _ (rw (word_good _ x h).1 at n)))
+          (rw (object_check, passes (encoding_good (encoding_of big word)) 4 _ (word_good _ x h).0, passes (eqb word first) 5 _ (eq-eqb _ _ s), fails (edition_good (encoding_of big word) ps) 6 _ (edition false n)))
 
-      module _ (t : edition_good (encoding_is x) ps ≡ true) where
-        pub judged_complete : complete ps ≡ false → JudgedIs (object_check big first word ps) (Err SectionMissing)
+      module _ (t : edition_by x.five scan.count ≡ true) where
+        pub judged_complete : complete_by scan.count ≡ false → JudgedIs (object_check big first word ps) (Err SectionMissing)
         unfolding object_check
         judged_complete n =
             tells_refuse SectionMissing
-            (rw (object_check, passes (encoding_good (encoding_of big word)) 4 _ (word_good _ x h).0, passes (eqb word first) 5 _ (eq-eqb _ _ s), passes (edition_good (encoding_of big word) ps) 6 _ (rw (word_good _ x h).1 at t), fails (complete ps) 7 _ n))
+            (rw (object_check, passes (encoding_good (encoding_of big word)) 4 _ (word_good _ x h).0, passes (eqb word first) 5 _ (eq-eqb _ _ s), passes (edition_good (encoding_of big word) ps) 6 _ (edition true t), fails (complete ps) 7 _ (whole false n)))
 
-        pub judged_good : complete ps ≡ true → JudgedIs (object_check big first word ps) (Ok x)
+        pub judged_good : complete_by scan.count ≡ true → JudgedIs (object_check big first word ps) (Ok x)
         unfolding object_check
         judged_good n =
             tells_pass x (encoding_of big word)
-            (rw (object_check, passes (encoding_good (encoding_of big word)) 4 _ (word_good _ x h).0, passes (eqb word first) 5 _ (eq-eqb _ _ s), passes (edition_good (encoding_of big word) ps) 6 _ (rw (word_good _ x h).1 at t), passes (complete ps) 7 _ n))
+            (rw (object_check, passes (encoding_good (encoding_of big word)) 4 _ (word_good _ x h).0, passes (eqb word first) 5 _ (eq-eqb _ _ s), passes (edition_good (encoding_of big word) ps) 6 _ (edition true t), passes (complete ps) 7 _ (whole true n)))
             (word_good _ x h).1
 
--- 6 and 7 by the counts of a scan
-module _ (scan : Scan) (at : ℕ) (ps : List Part) (e : scan ≡ scan_of at ps) (t : Bool) where
-  counts : scan.count ≡ by_code (count ps)
-  unfolding scan_of
-  counts = ap (λ (z : Scan). z.count) e
-
-  pub edition_from : (x : ObjectEncoding) → t ≡ edition_by x.five scan.count → edition_good (encoding_is x) ps ≡ t
-  edition_from x h = sym (edition_is x ps) ∙ ap (edition_by x.five) (sym counts) ∙ sym h
-
-  pub complete_from : t ≡ complete_by scan.count → complete ps ≡ t
-  complete_from h = sym (complete_is ps) ∙ ap complete_by (sym counts) ∙ sym h
+pub ruleset object_judged = (judged_word, judged_first, judged_edition, judged_complete, judged_good)
 
 -- ---- 10
 -- the version of an object's indexes
@@ -86,17 +87,20 @@ pub form_four : (x : ObjectEncoding) → x.five ≡ false → 2 ≡ form_of (enc
 unfolding form_of is_five
 form_four x h = let f : eqb (encoding_is x).version 5 ≡ false = is_four x h in rw (form_of, f)
 
-module _ (big : Bool) (form : ℕ) (s : List ℕ) where
-  pub index_none : (there : Bool) → there ≡ false → JudgedIndexIs big s (index_check big form there s) (Ok None)
+module _ (big : Bool) (form : ℕ) (s : List ℕ) (count : ℕ) where
+  pub index_none : count ≡ 0 → JudgedIndexIs big s (index_check big form (leb 1 count) s) (Ok None)
   unfolding index_check IndexedIs
-  index_none there e = tells_pass None none (rw (index_check, e)) tt
+  index_none e = tells_pass None none (rw (index_check, e)) tt
 
-  module _ (there : Bool) (e : there ≡ true) where
-    pub index_bad : (r : Refusal) → refuse (number_of r) ≡ index_of big s → JudgedIndexIs big s (index_check big form there s) (Err r)
+  module _ (some-there : count ≡ 0 → ⊥) where
+    there : leb 1 count ≡ true
+    there = le-leb 1 count (omega arith)
+
+    pub index_bad : (r : Refusal) → refuse (number_of r) ≡ index_of big s → JudgedIndexIs big s (index_check big form (leb 1 count) s) (Err r)
     unfolding index_check ◌>>=◌
-    index_bad r h = tells_refuse r (rw (index_check, e, ← h))
+    index_bad r h = tells_refuse r (rw (index_check, there, ← h))
 
-    module _ (i : Index) (h : pass i ≡ index_of big s) (head : IndexHead) (of : head ≡ head_of i) (version : ℕ) (is : version ≡ form) where
+    module _ (head : IndexHead) (version : ℕ) (is : version ≡ form) (i : Index) (of : head ≡ head_of i) (h : pass i ≡ index_of big s) where
       well_read : ReadWell big s head
       unfolding mapped
       well_read = record { is = ap (mapped head_of) (sym h) ∙ ap pass (sym of) }
@@ -104,16 +108,18 @@ module _ (big : Bool) (form : ℕ) (s : List ℕ) where
       index_there : index_of big s ≡ pass (index_in big s head)
       index_there = read_is big s head well_read
 
-      pub index_other : (head.version ≡ version → ⊥) → JudgedIndexIs big s (index_check big form there s) (Err BadIndex)
+      pub index_other : (head.version ≡ version → ⊥) → JudgedIndexIs big s (index_check big form (leb 1 count) s) (Err BadIndex)
       unfolding index_check index_in layout ◌>>=◌
       index_other v =
           tells_refuse BadIndex
-          (rw (index_check, e, index_there)
+          (rw (index_check, there, index_there)
           (fails (eqb head.version form) 10 (λ _. pass (some (index_in big s head))) (ne_eqb _ _ (λ z. v (z ∙ sym is)))))
 
-      pub index_good_law : head.version ≡ version → JudgedIndexIs big s (index_check big form there s) (Ok (Some head))
+      pub index_good_law : head.version ≡ version → JudgedIndexIs big s (index_check big form (leb 1 count) s) (Ok (Some head))
       unfolding index_check IndexedIs index_in layout ◌>>=◌
       index_good_law v =
           tells_pass (Some head) (some (index_in big s head))
-          (rw (index_check, e, index_there) (passes (eqb head.version form) 10 (λ _. pass (some (index_in big s head))) (eq-eqb _ _ (v ∙ is))))
+          (rw (index_check, there, index_there) (passes (eqb head.version form) 10 (λ _. pass (some (index_in big s head))) (eq-eqb _ _ (v ∙ is))))
           (well_read, refl)
+
+pub ruleset index_judged = (index_none, index_bad, index_other, index_good_law)

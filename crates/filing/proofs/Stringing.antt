@@ -18,6 +18,7 @@ use Rattle.strings.specs.declared.table.StrOffsets.{StrOffsets}
 use Rattle.strings.specs.declared.table.StringTable.{StringTable}
 use Rattle.kept.specs.Regions.{strings_region, store_region, region}
 use Rattle.kept.proofs.RegionStores.{store_records, store_slots}
+use Rattle.kept.proofs.RegionLending.{only_same}
 use Rattle.filing.specs.State.{words_in}
 use Rattle.filing.proofs.Lending.{Beside}
 use Rattle.filing.specs.ByObject.{strings_check, StringsRoom, StringsIn, StringsAre}
@@ -61,3 +62,5 @@ module _ (b w : List ℕ) (ts : List (List ℕ)) (e : Encoding) (o s : List ℕ)
   pub strings_ill : (count : ℕ) → 1 ≤ count → (r : Refusal) → entries_of e o ≡ refuse (number_of r) → StringsAre b w ts t (strings_check e (leb 1 count) o s) (Err r)
   unfolding strings_check
   strings_ill count h r q = tells_refuse r (rw (strings_check, le-leb 1 count h) (then_refuse _ _ (number_of r) q))
+
+pub ruleset strings_cases = (strings_none, only_same)

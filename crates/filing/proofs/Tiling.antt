@@ -4,9 +4,8 @@ use mathlib.Core.Path.{◌≡◌, refl, sym, ap, ◌∙◌, subst}
 use mathlib.Core.Bool.{Bool, true, false}
 use mathlib.Core.List.{List, [], ◌++◌, map, append-nil}
 use mathlib.Core.Option.{Option, some}
-use Prim.Native.Nat.{ℕ, ◌+◌, ◌*◌, ◌-◌, ◌/◌, ◌^◌, ◌<◌, ◌≤◌}
+use Prim.Native.Nat.{ℕ, ◌+◌, ◌*◌, ◌-◌, ◌/◌, ◌<◌, ◌≤◌}
 use native.Mathlib.Omega.{arith}
-use native.Mathlib.Decide.{dec_lt}
 use lib.ListN.{length, get_or}
 use Rattle.octets.specs.Octets.{part, zeros}
 use Rattle.octets.specs.Checked.{pass, ◌>>=◌}
@@ -21,8 +20,8 @@ use Rattle.strings.specs.Headed.{Headed, HeadedOf, PiecesAddable, PiecesAdded}
 use Rattle.strings.specs.declared.table.StrOffsets.{StrOffsets}
 use Rattle.strings.specs.declared.table.StringTable.{StringTable}
 use Rattle.index.specs.Index.{Index, Contribution}
-use Rattle.index.specs.Tiles.{named, tiles}
-use Rattle.index.proofs.Tiles.{is_one, one_right, part_of, Tiles, tiles_facts, both_some}
+use Rattle.index.specs.Tiles.{named}
+use Rattle.index.proofs.Tiles.{one_right, part_of, Tiles, tiles_facts, both_some}
 use Rattle.places.specs.Marks.{Marks, Clash, Marked, marks_good, TiledBy, good_end}
 use Rattle.places.proofs.Marking.{marks_none}
 use Rattle.places.proofs.Walking.{good_tiles, good_pass, bad_refused, clash_refused}
@@ -41,7 +40,7 @@ use Rattle.numbers.specs.Refused.{number_of}
 use Rattle.numbers.specs.declared.refusals.Refusal.{Refusal}
 use Rattle.numbers.specs.declared.refusals.Refusal.TheVariants.{BadStrOffsets, BadParts}
 use Rattle.filing.proofs.Telling.{tells_pass, tells_refuse}
-use Rattle.filing.specs.Tiled.{PartsAsked, BothMarked, PartsAre, PartsAnswered, offsets_before, GoodUpTo}
+use Rattle.filing.specs.Tiled.{PartsAsked, BothMarked, PartsAnswered, offsets_before, GoodUpTo}
 use Rattle.filing.proofs.GoodParts.{good_parts, Judged, parts_judged, Ending, parts_ending}
 
 -- ---- the parts of one index
@@ -74,56 +73,43 @@ module _ (cs ds : List Contribution) (ms : List ℕ) where
       let q = subst (λ (z : List Contribution). Marked (cs ++ z) ls ns r) (append-nil ds) k in
       record { good = q.good; bad = λ e. subst (Clash (cs ++ ds)) l (q.bad e) }
 
--- ---- 34
-module _ (e : Encoding) (s : List ℕ) (cs : List Contribution) (some : (c : Contribution) → is_one cs c ≡ true → 1 ≤ c.size) (ms ns : List ℕ) (lm : length ms ≡ length s) (ln : length ns ≡ length ms)
-    (r : Bool) (k : Marked cs ms ns r) where
-  pub parts_clash : r ≡ false → PartsAre e s (tiles cs s) (Err BadParts)
-  parts_clash q = tells_refuse BadParts (clash_refused cs s some (subst (Clash cs) lm (k.bad q)))
-
-  module _ (q : r ≡ true) where
-    pub parts_untiled : marks_good 0 ns ≡ false → PartsAre e s (tiles cs s) (Err BadParts)
-    parts_untiled g = tells_refuse BadParts (bad_refused cs ns (k.good q) s (ln ∙ lm) g)
-
-    module _ (g : marks_good 0 ns ≡ true) where
-      pub parts_tiled : (ts : List Contribution) × TiledBy ns ts
-      parts_tiled =
-          let t = good_tiles cs ns (k.good q) g in
-          (t.0, tiles_marked cs ns (k.good q) t.0 t.1)
-
-      pub parts_good : (good : ℕ) → ((ts : List Contribution) → TiledBy ns ts → good ≡ good_end e s ts) → PartsAre e s (tiles cs s) (Ok good)
-      parts_good good h =
-          let m = k.good q in
-          let t = good_pass cs ns m s (ln ∙ lm) g in
-          let f = subst (λ (n : ℕ). Tiles cs m.some n t.0) (sym (ln ∙ lm)) (tiles_facts cs m.some s t.0 t.1) in
-          tells_pass good t.0 t.1 (h t.0 (tiles_marked cs ns m t.0 f))
-
--- the same of an object, whose marks were cleared
+-- ---- 34, of an object whose marks were cleared
 module _ (b : List ℕ) (x : InputObject) (a : PartsAsked b x) (n : ℕ) (size : n ≡ get_or x.size 6 0) (ms : List ℕ) (clear : ms ≡ zeros n) (ns : List ℕ) (r : Bool) (both : BothMarked b x ms ns r) where
-  cleared_long : length ms ≡ length (section_of b x 6)
-  unfolding section_of
-  cleared_long = ap length clear ∙ length_zeros n ∙ size ∙ sym (length_part b (get_or x.start 6 0) (get_or x.size 6 0) (a.within 6))
+  abbrev offsets : List ℕ
+  offsets = section_of b x 6
 
   cleared : Marks [] ms
   cleared = marks_none n ms clear
 
+  cleared_long : length ms ≡ length offsets
+  unfolding section_of
+  cleared_long = ap length clear ∙ length_zeros n ∙ size ∙ sym (length_part b (get_or x.start 6 0) (get_or x.size 6 0) (a.within 6))
+
+  pub tile_long : length ns ≡ length offsets
+  tile_long = (both a.cu a.tu a.cu_is a.tu_is cleared).0 ∙ cleared_long
+
   pub tile_clash : r ≡ false → PartsAnswered b x (Err BadParts)
-  tile_clash q = λ cu tu i j. (let m = both cu tu i j cleared in parts_clash (encoding_is x.encoding) (section_of b x 6) (named cu ++ named tu) (both_some cu tu) ms ns cleared_long m.0 r m.1 q)
+  tile_clash q cu tu i j =
+      let cs = named cu ++ named tu in
+      tells_refuse BadParts (clash_refused cs offsets (both_some cu tu) (subst (Clash cs) cleared_long ((both cu tu i j cleared).1.bad q)))
 
   module _ (q : r ≡ true) where
     pub tile_untiled : marks_good 0 ns ≡ false → PartsAnswered b x (Err BadParts)
-    tile_untiled g = λ cu tu i j. (let m = both cu tu i j cleared in parts_untiled (encoding_is x.encoding) (section_of b x 6) (named cu ++ named tu) (both_some cu tu) ms ns cleared_long m.0 r m.1 q g)
-
-    pub tile_long : length ns ≡ length (section_of b x 6)
-    tile_long = (both a.cu a.tu a.cu_is a.tu_is cleared).0 ∙ cleared_long
+    tile_untiled g cu tu i j = tells_refuse BadParts (bad_refused (named cu ++ named tu) ns ((both cu tu i j cleared).1.good q) offsets tile_long g)
 
     pub tile_some : marks_good 0 ns ≡ true → (ts : List Contribution) × TiledBy ns ts
     tile_some g =
-        let m = both a.cu a.tu a.cu_is a.tu_is cleared in
-        parts_tiled (encoding_is x.encoding) (section_of b x 6) (named a.cu ++ named a.tu) (both_some a.cu a.tu) ms ns cleared_long m.0 r m.1 q g
+        let m = (both a.cu a.tu a.cu_is a.tu_is cleared).1.good q in
+        let t = good_tiles (named a.cu ++ named a.tu) ns m g in
+        (t.0, tiles_marked (named a.cu ++ named a.tu) ns m t.0 t.1)
 
-    pub tile_good : marks_good 0 ns ≡ true → (good : ℕ) → ((ts : List Contribution) → TiledBy ns ts → good ≡ good_end (encoding_is x.encoding) (section_of b x 6) ts) → PartsAnswered b x (Ok good)
-    tile_good g good h = λ cu tu i j. (let m = both cu tu i j cleared in
-        parts_good (encoding_is x.encoding) (section_of b x 6) (named cu ++ named tu) (both_some cu tu) ms ns cleared_long m.0 r m.1 q g good h)
+    pub tile_good : marks_good 0 ns ≡ true → (good : ℕ) → ((ts : List Contribution) → TiledBy ns ts → good ≡ good_end (encoding_is x.encoding) offsets ts) → PartsAnswered b x (Ok good)
+    tile_good g good h cu tu i j =
+        let cs = named cu ++ named tu in
+        let m = (both cu tu i j cleared).1.good q in
+        let t = good_pass cs ns m offsets tile_long g in
+        let f = subst (λ (k : ℕ). Tiles cs m.some k t.0) (sym tile_long) (tiles_facts cs m.some offsets t.0 t.1) in
+        tells_pass good t.0 t.1 (h t.0 (tiles_marked cs ns m t.0 f))
 
 -- ---- 8 and 9: the parts before the first one that 8 refuses
 module _ (b : List ℕ) (o : StrOffsets) (inside : Inside b o.offsets) (good : ℕ) (ps : List Contribution) (up : GoodUpTo b o good ps) where
@@ -143,7 +129,7 @@ module _ (b : List ℕ) (o : StrOffsets) (inside : Inside b o.offsets) (good : �
   ending = parts_ending e str s up.five 0 ps up.tiling
 
   judged : Judged e str s ps
-  judged = parts_judged e str s ps
+  judged = parts_judged e str s 0 ps up.tiling
 
   long : length s ≡ o.offsets.size
   unfolding bytes_at
@@ -158,18 +144,6 @@ module _ (b : List ℕ) (o : StrOffsets) (inside : Inside b o.offsets) (good : �
       let n : good_end e s ps - 0 ≡ good = omega (arith, up.is) in
       let z : o.offsets.start + 0 ≡ o.offsets.start = omega arith in
       ap (part s 0) n ∙ part_part b o.offsets.start o.offsets.size 0 good (omega (arith, good_within)) ∙ ap (λ (a : ℕ). part b a good) z
-
-  all_good : o.offsets.size ≤ good → length (good_parts e str s ps) ≡ length ps
-  all_good h = elim (dec_lt (length (good_parts e str s ps)) (length ps)) [
-    | yes l ↦ absurd (omega (arith, ending.short l, up.is, long))
-    | no l ↦ omega (arith, ending.few)
-  ]
-
-  some_bad : good < o.offsets.size → length (good_parts e str s ps) < length ps
-  some_bad h = elim (dec_lt (length (good_parts e str s ps)) (length ps)) [
-    | yes l ↦ l
-    | no l ↦ absurd (let q : length (good_parts e str s ps) ≡ length ps = omega (arith, ending.few) in omega (arith, ending.whole q, up.is, long))
-  ]
 
   -- the section up to there, as code hands it on
   module _ (y : StrOffsets) (ey : y ≡ offsets_before o good) where
@@ -204,10 +178,10 @@ module _ (b : List ℕ) (o : StrOffsets) (inside : Inside b o.offsets) (good : �
         pub parts_ill : good < o.offsets.size → StringsAre b v ts k (pieces_of e str s ps >>= λ z. pass (used_in z)) (Err BadStrOffsets)
         parts_ill h =
             let a = own (Ok tt) added in
-            tells_refuse BadStrOffsets (then_refuse (pieces_of e str s ps) (λ z. pass (used_in z)) 8 (judged.ill a.0 a.1 (some_bad h)))
+            tells_refuse BadStrOffsets (then_refuse (pieces_of e str s ps) (λ z. pass (used_in z)) 8 (judged.ill a.0 a.1 (omega (arith, h, up.is, long))))
 
         pub parts_put : o.offsets.size ≤ good → StringsAre b v ts k (pieces_of e str s ps >>= λ z. pass (used_in z)) (Ok tt)
         parts_put h =
             let a = own (Ok tt) added in
-            let j = judged.all a.0 a.1 (all_good h) in
+            let j = judged.all a.0 a.1 (omega (arith, h, up.is, long, ending.high)) in
             tells_pass tt (used_in j.0) (then_pass (pieces_of e str s ps) (λ z. pass (used_in z)) j.0 j.1) (rw j.2 a.2)

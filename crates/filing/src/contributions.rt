@@ -49,6 +49,7 @@ fn indexed_contributions(
 
 impl InputObject {
     // The index of a table, where the object has it.
+    #[tactic(auto, unfolding(package::specs::Filing::index_for))]
     fn index_for<'a>(&self, b: &'a [u8], table: Table) -> Option<Index<'a>>
         requires { (i : Input) × InputIs b.now self.now i }
         ensures is { (i : Input) → InputIs b.now self.now i → result ≡ found (index_for i (table_number table)) }
@@ -62,6 +63,7 @@ impl InputObject {
     }
 
     // A unit that was read at a place of the section home.
+    #[tactic(auto, using(crate::proofs::Contributing::given_cases))]
     pub fn contributions(
         &self,
         b: &[u8],
@@ -82,6 +84,7 @@ impl InputObject {
             at,
             size: read.size,
         };
-        indexed_contributions(self.index_for(b, read.handed_in.table), self.is_package(), m, u)
+        let index = self.index_for(b, read.handed_in.table);
+        indexed_contributions(index, self.is_package(), m, u)
     }
 }

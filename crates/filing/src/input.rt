@@ -28,6 +28,8 @@ use numbers::tables::{INDEX_2, INDEX_5};
 
 // An object that passed: where the first section of each code lies in the bundle, 0 and 0 where there is none.
 // Two arrays and none of pairs: a scan hands over both whole, and the sizes alone are measured by and added to the bases.
+// Bundle and object stay two parameters where `InputIs` is asked of both: a struct with that fact could be made only once both indexes are judged, and
+// sections are read before, so there would be two types of an object.
 #[derive(Clone, Copy)]
 pub struct InputObject {
     pub encoding: ObjectEncoding,
@@ -58,6 +60,7 @@ impl InputObject {
 }
 
 // An index of the object, as its section's bytes hold it, where it has one.
+#[tactic(auto, using(crate::proofs::Contributing::held_cases))]
 pub fn held<'a>(big: bool, s: &'a [u8], indexed: Option<IndexHead>) -> Option<Index<'a>>
     requires { (o : Option Index) × IndexedIs big s.now indexed o }
     ensures is { (o : Option Index) → IndexedIs big s.now indexed o → result ≡ found o }
@@ -68,6 +71,7 @@ pub fn held<'a>(big: bool, s: &'a [u8], indexed: Option<IndexHead>) -> Option<In
 }
 
 // 4 to 7, of an object by its word and how many sections of each code it has; first is the first object's word.
+#[tactic(auto, using(crate::proofs::Judging::object_judged))]
 pub fn judge_object(
     big: bool,
     first: u32,
@@ -98,6 +102,7 @@ fn form(e: ObjectEncoding) -> u32
 }
 
 // 10, of a section by its bytes, where there is one: count says how often.
+#[tactic(auto, using(crate::proofs::Judging::index_judged))]
 pub fn judge_index(s: &[u8], e: ObjectEncoding, count: usize) -> Result<Option<IndexHead>, Refusal>
     ensures { JudgedIndexIs e.big s.now (index_check e.big (form_of (encoding_is e)) (leb 1 count) s.now) result }
 {

@@ -9,6 +9,7 @@ use kept::state::InProgress;
 
 // Its record behind the others, and its number in a slot, for a bundle of n words. Callers have sought the slot, so that no unit of its
 // table and identity is kept, and all its cells fit.
+// What is held and work stay two parameters: other parts of work are lent between two calls, so a struct of both would be made anew for each.
 pub fn keep_unit(
     five: bool,
     n: usize,

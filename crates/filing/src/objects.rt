@@ -22,6 +22,8 @@ use numbers::sections::{CU_INDEX, STR, STR_OFFSETS, TU_INDEX};
 use strings::table::{Place, StrOffsets, StringTable};
 
 // 8 and 9, where the object has str_offsets: count says how often.
+// Table and memory are cut out of work here and in `add_parts` alike: one function for both got no proof, since the check follows a single cut back to work.
+#[tactic(auto, using(crate::proofs::Stringing::strings_cases))]
 pub fn add_object_strings(
     b: &[u8],
     o: StrOffsets,
@@ -98,6 +100,7 @@ fn open_whole(
 }
 
 // 10, 34, 8, 9: a package of version 5, whose rows name the parts of str_offsets.
+#[tactic(auto, using(kept::proofs::RegionLending::only_same))]
 fn open_tiled(
     b: &[u8],
     e: ObjectEncoding,

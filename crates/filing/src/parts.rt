@@ -33,6 +33,7 @@ fn mark_index(index: Option<Index>, marks: &mut [u32]) -> bool
 }
 
 // Marks the parts that both indexes name.
+#[tactic(auto, using(crate::proofs::Tiling::both_second))]
 fn mark_indexes(b: &[u8], x: &InputObject, marks: &mut [u32]) -> bool
     requires { PartsAsked b.now x.now × (length marks.old < 2 ^ 32) }
     ensures { BothMarked b.now x.now marks.old marks.new result }

@@ -31,6 +31,7 @@ use unit::header::{Identity, UnitPlace, UnitRead};
 use unit::judged::{Judged, Span};
 
 // The abbrev part of a row, of the object's abbrev that lies at start.
+#[tactic(auto, using(crate::proofs::Abbreviated::abbrev_cases))]
 fn abbrev_part(row: Row, start: usize, size: usize) -> Result<Span, Refusal>
     requires { start + size < 2 ^ 32 }
     ensures { (b : List ℕ) → start + size ≤ length b → AbbreviationsAre b (abbrev_part row.entry.index.now row.entry.number (part b start size)) result }
@@ -56,6 +57,7 @@ fn abbrev_part(row: Row, start: usize, size: usize) -> Result<Span, Refusal>
 
 impl<'a> Reading<'a> {
     // The index whose rows name the units of the section by their place: cu_index, for info of version 4.
+    #[tactic(auto, using(crate::proofs::ByPlace::by_place_cases))]
     fn index_by_place(&self) -> Option<Index<'a>>
         requires { (i : Input) × InputIs self.now.bundle.now self.now.object.now i }
         ensures { (i : Input) → InputIs self.now.bundle.now self.now.object.now i → result ≡ found (index_by_place i self.now.section.home) }
@@ -69,6 +71,7 @@ impl<'a> Reading<'a> {
     }
 
     // Chains the rows by the places that they name in the section, where its units are read by their place.
+    #[tactic(auto, using(crate::proofs::ByPlace::chain_cases))]
     pub fn chain_rows(&self, work: &mut [u32])
         requires { ChainAsked self.now work.old }
         ensures chained { RowsChained self.now work.new }
@@ -84,6 +87,7 @@ impl<'a> Reading<'a> {
     }
 
     // The abbreviations of the unit of so many bytes at a place: a row's part, where its units are read by their place, else the object's whole abbrev.
+    #[tactic(auto, using(crate::proofs::Abbreviated::abbreviations_cases))]
     fn abbreviations(&self, at: usize, size: usize, work: &[u32]) -> Result<Span, Refusal>
         requires { PlaceAsked self.now at work.now × RowsChained self.now work.now }
         ensures { AbbreviationsGiven self.now at size result }
@@ -108,6 +112,7 @@ impl<'a> Reading<'a> {
     }
 
     // The identity of a unit whose head was read, and its table. The tables that were judged are remembered in the region of codes.
+    #[tactic(auto, using(crate::proofs::Abbreviated::codes_cases))]
     fn identity(
         &self,
         place: UnitPlace,
@@ -128,6 +133,7 @@ impl<'a> Reading<'a> {
     }
 
     // The unit at a place of the section: its head, its abbreviations, its identity.
+    #[tactic(auto, using(crate::proofs::Transients::transient_coded, kept::proofs::RegionLending::only_same))]
     pub fn read_at(
         &self,
         at: usize,

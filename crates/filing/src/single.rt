@@ -59,6 +59,7 @@ fn unit_for(units: Units, home: usize, at: usize, read: UnitRead) -> Unit
 
 impl<'a> Reading<'a> {
     // A unit that was read: 14, skipped, 15 and 16, or kept. A free slot is always found, since slots exceed units.
+    #[tactic(auto, using(crate::proofs::Transients::transient_none))]
     fn file_read(
         &self,
         at: usize,
@@ -89,6 +90,7 @@ impl<'a> Reading<'a> {
     }
 
     // The unit at a place of the section, and its size. The abbreviation tables that were judged are remembered.
+    #[tactic(auto, using(crate::proofs::Transients::transient_stays))]
     pub fn file_unit(
         &self,
         at: usize,

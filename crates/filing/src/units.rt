@@ -6,6 +6,7 @@ use crate::input::InputObject;
 // The section of units at hand: its code, and where it lies in the bundle.
 #[derive(Clone, Copy)]
 pub struct HomeSection {
+    // A number, as sections' codes are: numbers/src/sections.rt says why.
     pub home: usize,
     pub start: usize,
     pub stop: usize,

@@ -16,6 +16,7 @@ use unit::judged::Judged;
 impl<'a> Reading<'a> {
     // All units of the section. Where they are read by their place, the rows are chained first.
     // A loop, since each unit says where the next starts. What is held, the tables and work stay three parameters: each is lent alone to what is below.
+    #[tactic(auto, using(crate::proofs::Walking::walking_none, crate::proofs::Transients::transient_chained))]
     pub fn add_units(
         &self,
         st: &mut InProgress,
@@ -37,6 +38,7 @@ impl<'a> Reading<'a> {
 
 // All sections of units of one object, whose sections start at from. No table is remembered from the object before.
 // A loop, since each section says where the next starts.
+#[tactic(auto, using(crate::proofs::OverSections::sectioned_none))]
 pub fn add_sections(
     b: &[u8],
     x: &InputObject,

@@ -2,22 +2,15 @@
 -- Assumes nothing.
 use native.Mathlib.Omega.{arith}
 use borrow.Author.Tests.{le-leb}
-use Rattle.kept.specs.Regions.{store_region}
-use Rattle.kept.proofs.RegionLending.{only_same}
 use Rattle.strings.proofs.Callers.{section_counted, section_ill}
 use Rattle.filing.proofs.Telling.{tells_exit}
 use Rattle.filing.proofs.Storing.{cut_of, cut_table, cut_left, cut_only}
-use Rattle.filing.proofs.Stringing.{strings_none, strings_ill, strings_addable, strings_put}
+use Rattle.filing.proofs.Stringing.{strings_ill, strings_addable, strings_put}
 use Rattle.filing.proofs.objects.add_object_strings.Goals as goal
 
-pub returns-then-count-eq0 : goal.returns-then-count-eq0
-returns-then-count-eq0 c = record { put = λ ts k. strings_none _ _ ts _ _ _ _ _ c.if-count-eq0.true k; frame = only_same store_region _ _ }
-
-pub returns-in_err-check_entries : goal.returns-in_err-check_entries
-returns-in_err-check_entries c = record {
-  put = λ ts q. tells_exit _ _ c.from_residual.ensures.1 (strings_ill _ _ ts _ _ _ _ _ (omega arith) _ (section_ill c.args.o _ _ _ c.section.ensures.encoding c.section.ensures.bytes _ c.in_err-check_entries.ensures));
-  frame = only_same store_region _ _;
-}
+pub returns-in_err-check_entries-clause-put : goal.returns-in_err-check_entries-clause-put
+returns-in_err-check_entries-clause-put c = λ ts q. tells_exit _ _ c.from_residual.ensures.1
+    (strings_ill _ _ ts _ _ _ _ _ (omega arith) _ (section_ill c.args.o _ _ _ c.section.ensures.encoding c.section.ensures.bytes _ c.in_err-check_entries.ensures))
 
 pub add_strings-requires : goal.add_strings-requires
 add_strings-requires c =

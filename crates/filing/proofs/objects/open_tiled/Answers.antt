@@ -1,7 +1,6 @@
 -- `open_tiled` meets its contract.
 -- Assumes nothing.
 use mathlib.Core.Path.{refl}
-use Rattle.kept.proofs.RegionLending.{only_same}
 use Rattle.filing.proofs.Telling.{tells_exit}
 use Rattle.filing.proofs.InputLaws.{scan_within}
 use Rattle.filing.proofs.InputEnds.{opens_given}
@@ -11,11 +10,8 @@ use Rattle.filing.proofs.objects.open_tiled.Goals as goal
 pub indexed_input-requires : goal.indexed_input-requires
 indexed_input-requires c = let p = c.requires.0 in (scan_within _ _ p.at p.parts p.is _ _ p.room 12, scan_within _ _ p.at p.parts p.is _ _ p.room 13)
 
-pub returns-in_err-x : goal.returns-in_err-x
-returns-in_err-x c = record {
-  read = λ at ps ts e room k. tells_exit _ _ c.from_residual.ensures.1 (opens_given _ _ ts _ _ _ at ps e _ _ room _ _ (tiled_unindexed _ _ _ at ps e _ ts _ _ c.in_err-x.ensures));
-  frame = only_same _ _ _;
-}
+pub returns-in_err-x-clause-read : goal.returns-in_err-x-clause-read
+returns-in_err-x-clause-read c = λ at ps ts e room k. tells_exit _ _ c.from_residual.ensures.1 (opens_given _ _ ts _ _ _ at ps e _ _ room _ _ (tiled_unindexed _ _ _ at ps e _ ts _ _ c.in_err-x.ensures))
 
 pub judge_parts-requires : goal.judge_parts-requires
 judge_parts-requires c =

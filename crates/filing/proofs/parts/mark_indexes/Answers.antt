@@ -2,7 +2,7 @@
 -- Assumes nothing.
 use mathlib.Core.Path.{◌∙◌}
 use Rattle.index.specs.Tiles.{named}
-use Rattle.filing.proofs.Tiling.{both_first, both_second}
+use Rattle.filing.proofs.Tiling.{both_first}
 use Rattle.filing.proofs.parts.mark_indexes.Goals as goal
 
 pub returns-then-mark_index : goal.returns-then-mark_index
@@ -13,6 +13,3 @@ returns-then-mark_index c =
       both_first (named cu) (named tu) _ _ _ _ k
           (c.mark_index-then-mark_index.ensures cu _ (c.held-then-mark_index.ensures.is cu (rw c.section-then-mark_index.ensures i)) ((c.mark_index.ensures tu _ (c.held.ensures.is tu (rw c.section.ensures j)) none).good c.if-mark_index.true)),
     )
-
-pub returns-else-mark_index : goal.returns-else-mark_index
-returns-else-mark_index c = λ cu tu i j none. (c.mark_index.auto.marks, rw c.if-mark_index.false (both_second (named cu) (named tu) _ _ _ (c.mark_index.ensures tu _ (c.held.ensures.is tu (rw c.section.ensures j)) none) c.if-mark_index.false))

@@ -23,7 +23,7 @@ pub good_parts-requires : goal.good_parts-requires
 unfolding zeros
 good_parts-requires c =
     let g = sym c.tiled.ensures ∙ c.if-not-tiled.false in (
-      tile_long _ _ c.requires.0 _ c.requires.1 _ (c.fill.ensures.after (λ y e. e)) _ _ c.mark_indexes.ensures c.if-not-mark_indexes.false ∙ sym (ap length c.section-offsets.ensures),
+      tile_long _ _ c.requires.0 _ c.requires.1 _ (c.fill.ensures.after (λ y e. e)) _ _ c.mark_indexes.ensures ∙ sym (ap length c.section-offsets.ensures),
       tile_some _ _ c.requires.0 _ c.requires.1 _ (c.fill.ensures.after (λ y e. e)) _ _ c.mark_indexes.ensures c.if-not-mark_indexes.false g,
     )
 

@@ -4,11 +4,8 @@ use mathlib.Core.Path.{refl, sym, ◌∙◌}
 use native.Mathlib.Omega.{arith}
 use Rattle.bundle.proofs.Units.{found_some, found_none}
 use Rattle.filing.proofs.Telling.{tells_exit}
-use Rattle.filing.proofs.OverSections.{sectioned_none, sections_reach, section_lies, at_later, sectioned_more, sectioned_refused, sectioned_end}
+use Rattle.filing.proofs.OverSections.{sections_reach, section_lies, at_later, sectioned_more, sectioned_refused, sectioned_end}
 use Rattle.filing.proofs.walks.add_sections.Goals as goal
-
-pub loop-found-init : goal.loop-found-init
-loop-found-init c = let pre = c.requires in (sectioned_none _ _ _ _ _ pre.reaches pre.within, c.nothing-judged.ensures _ _)
 
 pub next_unit_section-requires : goal.next_unit_section-requires
 next_unit_section-requires c = sections_reach c.loop-found.invariant.0

@@ -2,12 +2,9 @@
 -- Assumes nothing.
 use native.Mathlib.Omega.{arith}
 use Rattle.filing.proofs.Telling.{tells_exit}
-use Rattle.filing.proofs.Walking.{walking_none, place_behind, walking_more, walking_refused, walking_end}
-use Rattle.filing.proofs.Transients.{rows_pass, at_lent, units_lent, transient_chained}
+use Rattle.filing.proofs.Walking.{place_behind, walking_more, walking_refused, walking_end}
+use Rattle.filing.proofs.Transients.{rows_pass, at_lent, units_lent}
 use Rattle.filing.proofs.units.Reading.add_units.Goals as goal
-
-pub loop-at-init : goal.loop-at-init
-loop-at-init c = let p = c.requires in (walking_none _ _ _ _ _ _ _ c.args.self.now.order, transient_chained _ _ _ _ c.chain_rows.ensures.frame c.chain_rows.ensures.chained p.1)
 
 pub file_unit-requires : goal.file_unit-requires
 file_unit-requires c =

@@ -4,12 +4,9 @@ use mathlib.Core.Path.{refl, sym, ◌∙◌}
 use Rattle.kept.specs.Regions.{rows_region}
 use Rattle.kept.proofs.RegionStores.{rows_within}
 use Rattle.filing.specs.State.{words_in}
-use Rattle.kept.proofs.RegionLending.{only_same, only_lent}
-use Rattle.filing.proofs.ByPlace.{chained_nowhere, chain_asks, chains_left}
+use Rattle.kept.proofs.RegionLending.{only_lent}
+use Rattle.filing.proofs.ByPlace.{chain_asks, chains_left}
 use Rattle.filing.proofs.units.Reading.chain_rows.Goals as goal
-
-pub returns-in_default : goal.returns-in_default
-returns-in_default c = record { chained = chained_nowhere c.args.self.now _ (λ i is. sym c.in_default.is ∙ c.index_by_place.ensures i is); frame = only_same rows_region _ _ }
 
 pub chain_rows-requires : goal.chain_rows-requires
 chain_rows-requires c =

@@ -4,7 +4,6 @@ use native.Mathlib.Omega.{arith}
 use Rattle.filing.proofs.Telling.{tells_exit}
 use Rattle.filing.proofs.Kept.{seek_asks, known_is, free_is, rows_held}
 use Rattle.filing.proofs.Answering.{known_asks, answer_known, answer_bad, keep_requires, answer_filed}
-use Rattle.filing.proofs.Transients.{transient_none}
 use Rattle.filing.proofs.units.Reading.file_read.Goals as goal
 
 pub seek_in-requires : goal.seek_in-requires
@@ -17,22 +16,18 @@ file_known-requires c =
     let r = p.read in
     known_asks a r p.fits _ (known_is a.held _ r.least p.fits _ _ r.tables _ _ c.number-table.ensures c.seen_slots-slots.ensures _ c.seek_in.ensures _ c.in-Ok.is)
 
-pub returns-in-Ok : goal.returns-in-Ok
-returns-in-Ok c =
-    let p = c.requires in record {
-      filed = λ i bases earlier here s a r y.
-          answer_known a r p.fits p.homes y _ (known_is a.held _ r.least p.fits _ _ r.tables _ _ c.number-table.ensures c.seen_slots-slots.ensures _ c.seek_in.ensures _ c.in-Ok.is) _ _ c.file_known.ensures;
-      transient = transient_none _ _;
-    }
+pub returns-in-Ok-clause-filed : goal.returns-in-Ok-clause-filed
+returns-in-Ok-clause-filed c =
+    let p = c.requires in
+    λ i bases earlier here s a r y.
+    answer_known a r p.fits p.homes y _ (known_is a.held _ r.least p.fits _ _ r.tables _ _ c.number-table.ensures c.seen_slots-slots.ensures _ c.seek_in.ensures _ c.in-Ok.is) _ _ c.file_known.ensures
 
-pub returns-in_err-k : goal.returns-in_err-k
-returns-in_err-k c =
-    let p = c.requires in record {
-      filed = λ i bases earlier here s a r y.
-          let f = free_is a.held _ r.least p.fits _ _ r.tables _ _ c.number-table.ensures c.seen_slots-slots.ensures _ c.seek_in.ensures _ c.in-Err.is in
-          tells_exit _ _ c.from_residual.ensures.1 (answer_bad a r p.fits p.homes y f.0 _ _ _ (c.in_err-k.ensures i a.input));
-      transient = transient_none _ _;
-    }
+pub returns-in_err-k-clause-filed : goal.returns-in_err-k-clause-filed
+returns-in_err-k-clause-filed c =
+    let p = c.requires in
+    λ i bases earlier here s a r y.
+    let f = free_is a.held _ r.least p.fits _ _ r.tables _ _ c.number-table.ensures c.seen_slots-slots.ensures _ c.seek_in.ensures _ c.in-Err.is in
+    tells_exit _ _ c.from_residual.ensures.1 (answer_bad a r p.fits p.homes y f.0 _ _ _ (c.in_err-k.ensures i a.input))
 
 pub unit_for-unit-requires : goal.unit_for-unit-requires
 unit_for-unit-requires c =
@@ -48,12 +43,9 @@ keep_unit-requires c =
     let f = free_is a.held _ r.least p.fits _ _ r.tables _ _ c.number-table.ensures c.seen_slots-slots.ensures _ c.seek_in.ensures _ c.in-Err.is in
     keep_requires a r p.fits p.homes p.same f.0 _ (c.in_ok-k.ensures p.ready.input a.input) _ f.1 f.2 _ c.unit_for-unit.ensures
 
-pub returns : goal.returns
-returns c =
+pub returns-clause-filed : goal.returns-clause-filed
+returns-clause-filed c =
     let p = c.requires in
-    record {
-      filed = λ i bases earlier here s a r y.
-          let f = free_is a.held _ r.least p.fits _ _ r.tables _ _ c.number-table.ensures c.seen_slots-slots.ensures _ c.seek_in.ensures _ c.in-Err.is in
-          answer_filed a r p.fits p.homes y f.0 _ (c.in_ok-k.ensures i a.input) _ f.1 f.2 _ c.unit_for-unit.ensures _ _ c.keep_unit.ensures.held c.keep_unit.ensures.strings;
-      transient = c.keep_unit.ensures.transient;
-    }
+    λ i bases earlier here s a r y.
+    let f = free_is a.held _ r.least p.fits _ _ r.tables _ _ c.number-table.ensures c.seen_slots-slots.ensures _ c.seek_in.ensures _ c.in-Err.is in
+    answer_filed a r p.fits p.homes y f.0 _ (c.in_ok-k.ensures i a.input) _ f.1 f.2 _ c.unit_for-unit.ensures _ _ c.keep_unit.ensures.held c.keep_unit.ensures.strings
