@@ -124,12 +124,8 @@ pub fn string_at(s: &[u8], offset: u64) -> Option<Place>
         return None;
     }
     let start = offset as usize;
-    let end = octets::first_zero(s, start);
-    if end < s.len() {
-        let size = end - start;
-        return Some(Place { start, size });
-    }
-    None
+    let size = octets::first_zero(s, start)? - start;
+    Some(Place { start, size })
 }
 
 // How many bytes stand up to the last zero byte: no string starts behind it.
