@@ -12,6 +12,7 @@ ghost use Rattle.unit.specs.Roots.{
   attribute_step,
   moved_is,
   identity_from,
+  is_flag,
   Skips,
 };
 
@@ -147,20 +148,23 @@ fn attribute_step(
     }))
 }
 
-// How many bytes at the front of t are flags that are present, of one byte for the name and one for the form. One byte can't name 2131 hexadecimal,
-// and no such flag has bytes in the unit, so that they change nothing. A root may have very many: this loop passes them faster than steps do.
-#[tactic(auto, using(crate::proofs::Stepping::skips_none, crate::proofs::Stepping::skips_pair))]
+// Whether a name and a form are a flag that is present, of one byte for each. One byte can't name 2131 hexadecimal, and such a flag has no bytes in the
+// unit.
+#[tactic(auto, unfolding(crate::specs::Roots::is_flag))]
+fn is_flag(pair: [u8; 2]) -> bool
+    ensures { result ≡ is_flag pair }
+{
+    let [name, form] = pair;
+    name != 0 && name <= ONE_BYTE && form == FLAG_BYTE
+}
+
+// How many bytes at the front of t are such flags: they change nothing. A root may have very many, and this passes them faster than steps do.
 fn skip_flags(t: &[u8]) -> usize
     ensures { Skips t.now result }
 {
-    let pairs = t.len() / 2;
-    for i in 0..pairs {
-        let name = t[2 * i];
-        if name == 0 || name > ONE_BYTE || t[2 * i + 1] != FLAG_BYTE {
-            return 2 * i;
-        }
-    }
-    2 * pairs
+    let (pairs, _) = t.as_chunks::<2>();
+    let other = pairs.iter().position(|pair| !is_flag(*pair));
+    2 * other.unwrap_or(pairs.len())
 }
 
 // The identity that the attributes at the front of t state, whose values stand at the front of s. A loop, since each attribute says where the next starts:
