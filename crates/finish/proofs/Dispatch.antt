@@ -18,7 +18,7 @@ use Rattle.kept.specs.declared.records.Records.{Records}
 use Rattle.kept.specs.Records.{bytes_from, UnitsInside}
 use Rattle.kept.specs.Held.{OneOrTwo}
 use Rattle.kept.specs.declared.state.InProgress.{InProgress}
-use Rattle.finish.specs.Joining.{sections_joined, shared_joined, StringsPlaced, SharedJoinable, SharedPut}
+use Rattle.finish.specs.Joining.{sections_joined, joined_by, shared_joined, remaps, table_lent, StringsPlaced, SharedJoinable, SharedPut}
 use Rattle.finish.proofs.Remapping.{shared_long}
 use Rattle.finish.specs.Ready.{words_of, Ready, ReadyFor, SharedOf, SectionWritable, SectionPut}
 use Rattle.finish.specs.declared.joining.SharedSections.{SharedSections}
@@ -46,24 +46,25 @@ module _ (code : ℕ) (p : Package) (n at : ℕ) (r : SectionWritable code p n a
 pub ready_long : (e : ObjectEncoding) (b : List ℕ) (st : InProgress) (w : List ℕ) (s : ℕ → List ℕ) (r : Ready e b st w s) (code : ℕ) → 3 ≤ code → code ≤ 10
     → length (s code) ≡ length (sections_joined b r.bundle.objects code)
 ready_long e b st w s r code least most =
-    ap length (r.shared code least most) ∙ shared_long (encoding_is e) (first_uses r.used) b code (sound e) r.bundle.objects r.used (λ _. r.good)
+    ap length (r.shared code least most) ∙ shared_long (encoding_is e) (first_uses r.used) b code (sound e) r.bundle.objects r.used r.good
 
 module _ (code : ℕ) (p : Package) (n at : ℕ) (r : SectionWritable code p n at) (least : 3 ≤ code) (most : code ≤ 10) (h : SharedSections) (q : SharedOf p h) where
   module _ (s : ℕ → List ℕ) (y : ReadyFor p s) where
     same_encoding : encoding_is h.encoding ≡ encoding_is p.encoding
     same_encoding = ap encoding_is q.encoding
 
-    placed_strings : StringsPlaced (encoding_is h.encoding) h.bundle.now h.table.now y.bundle.objects y.used
+    placed_strings : StringsPlaced (encoding_is h.encoding) h.bundle.now (table_lent h.table) y.bundle.objects y.used
     placed_strings = record {
       good = rw (same_encoding, q.bundle) y.good;
       places = rw q.table (y.kept.places y.small);
     }
 
-    ready_is : s code ≡ shared_joined (encoding_is h.encoding) (first_uses y.used) h.bundle.now y.bundle.objects code
-    ready_is = rw (same_encoding, q.bundle) (y.shared code least most)
+    ready_is : s code ≡ joined_by (remaps h.table code) (encoding_is h.encoding) (first_uses y.used) h.bundle.now y.bundle.objects code
+    unfolding shared_joined
+    ready_is = rw (q.remapped code, same_encoding, q.bundle) (y.shared code least most)
 
   -- what is ready can be joined
-  pub shared_asks : SharedJoinable (encoding_is h.encoding) h.bundle.now h.table.now code n at
+  pub shared_asks : SharedJoinable (encoding_is h.encoding) h.bundle.now h.table code n at
   shared_asks =
       let y = r.ready in
       let long = ready_long p.encoding p.bundle.now p.state p.work.now r.sections y code least most in
@@ -77,5 +78,5 @@ module _ (code : ℕ) (p : Package) (n at : ℕ) (r : SectionWritable code p n a
       }
 
   -- and it is what is ready
-  pub shared_put : (d x : List ℕ) → SharedPut (encoding_is h.encoding) h.bundle.now h.table.now code at d x → SectionPut code p at d x
+  pub shared_put : (d x : List ℕ) → SharedPut (encoding_is h.encoding) h.bundle.now h.table code at d x → SectionPut code p at d x
   shared_put d x f s y = f y.bundle y.used (rw q.bundle y.reads) (λ _. placed_strings s y) ∙ ap (placed d at) (sym (ready_is s y))

@@ -29,8 +29,8 @@ use Rattle.package.proofs.Filing.{FilingFacts, filing_facts}
 use Rattle.package.proofs.Kept.{distinct_kept, kept_le}
 use Rattle.package.proofs.Tables.{rows_named}
 use Rattle.package.proofs.UnitStrings.{good_versions}
-use Rattle.finish.specs.Joining.{sections_joined, shared_joined, given, remapped_in, EntriesGood, UsedBy}
-use Rattle.finish.proofs.Remapping.{shared_copied}
+use Rattle.finish.specs.Joining.{sections_joined, joined_by, shared_joined, given, remapped_in, EntriesGood, UsedBy}
+use Rattle.finish.proofs.Remapping.{shared_as_is}
 use Rattle.finish.proofs.Cutting.{input_good, input_remapped}
 use Rattle.finish.specs.Sections.{sections_from, sections_by, not_empty}
 use Rattle.numbers.specs.Tables.{compilation_table, type_table}
@@ -92,7 +92,7 @@ matched_used b e (o ∷ os) (i ∷ is) (more p m) =
 
 matched_offsets : (b : List ℕ) (e : Encoding) (table : List (List ℕ)) (os : List Object) (is : List Input) → Matched b e os is
     → shared_bytes table is 6 ≡ shared_joined e table b os 6
-unfolding shared_bytes shared_joined given joined
+unfolding shared_bytes shared_joined joined_by given joined
 matched_offsets b e table [] (i ∷ is) x'' = elim x'' [ ]
 matched_offsets b e table (o ∷ os) [] x3 = elim x3 [ ]
 matched_offsets b e table [] [] none = refl
@@ -106,7 +106,7 @@ matched_shared : (b : List ℕ) (e : Encoding) (table : List (List ℕ)) (os : L
 unfolding sections_joined
 matched_shared b e table os is m c = elim (ℕ_discrete c 6) [
   | yes z ↦ rw z (matched_offsets b e table os is m)
-  | no f ↦ shared_other table is c f ∙ matched_joined b e os is m c ∙ sym (shared_copied e table b c f os)
+  | no f ↦ shared_other table is c f ∙ matched_joined b e os is m c ∙ sym (shared_as_is e table b c f os)
 ]
 
 -- ---- rows

@@ -1,11 +1,15 @@
 -- The shared sections of objects, one behind the other. Of str_offsets the places of the strings of an object stand behind those of the objects before it.
 -- Assumes nothing.
 use mathlib.Core.Path.{◌≡◌, refl, sym, ap, ap₂, ◌∙◌, subst}
+use mathlib.Core.Bool.{Bool, true, false}
+use mathlib.Core.Logic.{⊎_elim, inl, inr, ◌⊎◌}
 use mathlib.Core.List.{List, [], ◌∷◌, ◌++◌, map, append_assoc}
 use Prim.Native.Nat.{ℕ, ◌+◌, ◌-◌, ◌≤◌}
 use native.Mathlib.Omega.{arith}
-use native.Mathlib.Decide.{ℕ_discrete}
-use borrow.Author.Tests.{eq-eqb, ne_eqb}
+use borrow.Author.Tests.{eqb-true, ne_eqb}
+use lib.Dec.{eqb}
+use Rattle.std.specs.Prelude.{Option, Some, None}
+use Rattle.std.specs.Borrow.{Bor}
 use lib.ListN.{length, take, drop, get_or, length-append, length-drop}
 use Rattle.octets.specs.Octets.{placed}
 use Rattle.octets.specs.Lists.{joined}
@@ -20,7 +24,7 @@ use Rattle.strings.specs.Kept.{places_from}
 use Rattle.strings.specs.Headed.{Headed, entries_all, pieces_with, PiecesWritable}
 use Rattle.strings.proofs.StrOffsets.{Sound, sound}
 use Rattle.strings.proofs.HeadedWriting.{entries_all_used, pieces_with_more, places_within, places_behind}
-use Rattle.finish.specs.Joining.{sections_joined, shared_joined, given, cut, remapped_in, EntriesGood, UsedBy, SharedJoinable, Givable, GivenPut}
+use Rattle.finish.specs.Joining.{sections_joined, joined_by, shared_joined, given, remaps, table_lent, cut, remapped_in, EntriesGood, UsedBy, SharedJoinable, Givable, GivenPut}
 use Rattle.finish.proofs.Cutting.{remapped_length}
 use Rattle.finish.proofs.Entering.{AtObject, scanned_body}
 use Rattle.finish.proofs.JoinedObjects.{Joining, joining_none, joining_none_done, joining_room, joining_more, joining_more_done, joining_end}
@@ -60,42 +64,46 @@ among e b (x ∷ done) one rest used g =
     }
 
 -- ---- what an object gives
-given_offsets : (e : Encoding) (ts : List (List ℕ)) (b : List ℕ) (c : ℕ) (o : Object) → c ≡ 6 → given e ts b c o ≡ remapped_in e ts (body b o.parts 6) (body b o.parts 11)
-unfolding given
-given_offsets e ts b c o z = rw (given, eq-eqb c 6 z)
+either : (r : Bool) → (r ≡ true) ⊎ (r ≡ false)
+either true = inl refl
+either false = inr refl
 
-given_other : (e : Encoding) (ts : List (List ℕ)) (b : List ℕ) (c : ℕ) (o : Object) → (c ≡ 6 → ⊥) → given e ts b c o ≡ body b o.parts c
+-- as much as its section: r says whether it is remapped, and only str_offsets is
+given_long : (r : Bool) (e : Encoding) (ts : List (List ℕ)) (b : List ℕ) (c : ℕ) → Sound e → (r ≡ true → c ≡ 6) → (o : Object)
+    → (r ≡ true → (used : List (List ℕ)) × EntriesGood e (body b o.parts 6) (body b o.parts 11) used)
+    → length (given r e ts b c o) ≡ length (body b o.parts c)
 unfolding given
-given_other e ts b c o f = rw (given, ne_eqb c 6 f)
-
--- as much as its section
-given_long : (e : Encoding) (ts : List (List ℕ)) (b : List ℕ) (c : ℕ) → Sound e → (o : Object)
-    → (c ≡ 6 → (used : List (List ℕ)) × EntriesGood e (body b o.parts 6) (body b o.parts 11) used)
-    → length (given e ts b c o) ≡ length (body b o.parts c)
-given_long e ts b c ok o g = elim (ℕ_discrete c 6) [
-  | yes z ↦
-      ap length (given_offsets e ts b c o z) ∙ remapped_length e ts (body b o.parts 6) (body b o.parts 11) (g z).0 ok (g z).1
-      ∙ ap (λ (k : ℕ). length (body b o.parts k)) (sym z)
-  | no f ↦ ap length (given_other e ts b c o f)
-]
+given_long true e ts b c ok six o g =
+    remapped_length e ts (body b o.parts 6) (body b o.parts 11) (g refl).0 ok (g refl).1 ∙ ap (λ (k : ℕ). length (body b o.parts k)) (sym (six refl))
+given_long false e ts b c ok six o g = refl
 
 -- ---- over the objects
-used_long : (e : Encoding) (ts : List (List ℕ)) (b : List ℕ) (c : ℕ) → Sound e → (os : List Object) (used : List (List ℕ)) → UsedBy e b os used
-    → length (shared_joined e ts b os c) ≡ length (sections_joined b os c)
-unfolding sections_joined shared_joined joined UsedBy
-used_long e ts b c ok [] used g = refl
-used_long e ts b c ok (o ∷ os) used g =
-    length-append (given e ts b c o) (shared_joined e ts b os c) ∙ ap₂ (λ (x y : ℕ). x + y) (given_long e ts b c ok o (λ _. (g.0, g.3))) (used_long e ts b c ok os g.1 g.4)
+pub shared_copied : (e : Encoding) (ts : List (List ℕ)) (b : List ℕ) (c : ℕ) (os : List Object) → joined_by false e ts b os c ≡ sections_joined b os c
+unfolding joined_by given sections_joined
+shared_copied e ts b c os = refl
+
+used_long : (e : Encoding) (ts : List (List ℕ)) (b : List ℕ) (c : ℕ) → Sound e → c ≡ 6 → (os : List Object) (used : List (List ℕ)) → UsedBy e b os used
+    → length (joined_by true e ts b os c) ≡ length (sections_joined b os c)
+unfolding sections_joined joined_by joined UsedBy
+used_long e ts b c ok z [] used g = refl
+used_long e ts b c ok z (o ∷ os) used g =
+    length-append (given true e ts b c o) (joined_by true e ts b os c) ∙ ap₂ (λ (x y : ℕ). x + y) (given_long true e ts b c ok (λ _. z) o (λ _. (g.0, g.3))) (used_long e ts b c ok z os g.1 g.4)
     ∙ sym (length-append (body b o.parts c) (sections_joined b os c))
 
-pub shared_copied : (e : Encoding) (ts : List (List ℕ)) (b : List ℕ) (c : ℕ) → (c ≡ 6 → ⊥) → (os : List Object) → shared_joined e ts b os c ≡ sections_joined b os c
-unfolding sections_joined shared_joined joined
-shared_copied e ts b c f [] = refl
-shared_copied e ts b c f (o ∷ os) = ap₂ (λ (x y : List ℕ). x ++ y) (given_other e ts b c o f) (shared_copied e ts b c f os)
+pub joined_long : (r : Bool) (e : Encoding) (ts : List (List ℕ)) (b : List ℕ) (c : ℕ) → Sound e → (r ≡ true → c ≡ 6) → (os : List Object) (used : List (List ℕ)) → (r ≡ true → UsedBy e b os used)
+    → length (joined_by r e ts b os c) ≡ length (sections_joined b os c)
+joined_long true e ts b c ok six os used g = used_long e ts b c ok (six refl) os used (g refl)
+joined_long false e ts b c ok six os used g = ap length (shared_copied e ts b c os)
 
-pub shared_long : (e : Encoding) (ts : List (List ℕ)) (b : List ℕ) (c : ℕ) → Sound e → (os : List Object) (used : List (List ℕ)) → (c ≡ 6 → UsedBy e b os used)
+-- of str_offsets remapped, of any other as they are
+pub shared_long : (e : Encoding) (ts : List (List ℕ)) (b : List ℕ) (c : ℕ) → Sound e → (os : List Object) (used : List (List ℕ)) → UsedBy e b os used
     → length (shared_joined e ts b os c) ≡ length (sections_joined b os c)
-shared_long e ts b c ok os used g = elim (ℕ_discrete c 6) [ yes z ↦ used_long e ts b c ok os used (g z) | no f ↦ ap length (shared_copied e ts b c f os) ]
+unfolding shared_joined
+shared_long e ts b c ok os used g = joined_long (eqb c 6) e ts b c ok (eqb-true c 6) os used (λ _. g)
+
+pub shared_as_is : (e : Encoding) (ts : List (List ℕ)) (b : List ℕ) (c : ℕ) → (c ≡ 6 → ⊥) → (os : List Object) → shared_joined e ts b os c ≡ sections_joined b os c
+unfolding shared_joined
+shared_as_is e ts b c f os = ap (λ (r : Bool). joined_by r e ts b os c) (ne_eqb c 6 f) ∙ shared_copied e ts b c os
 
 -- ---- the loop over them
 -- the places start in the table
@@ -103,24 +111,36 @@ places_from_le : (n : ℕ) → places_from n ≤ n
 unfolding places_from
 places_from_le n = omega arith
 
--- what the objects before a place give is put, and their entries are counted
-pub record Sharing (c : ObjectEncoding) (b table : List ℕ) (code at : ℕ) (d₀ : List ℕ) (a : SharedJoinable (encoding_is c) b table code (length d₀) at) (d : List ℕ) (o place first : ℕ) : Type 0 where
-  pub joining : Joining (given (encoding_is c) (first_uses a.used) b code) b a.bundle.objects d₀ d at o place
-  pub count : code ≡ 6 → first ≡ places_from (length table) + counted (encoding_is c) b joining.done
-  pub within : first ≤ length table
+-- only str_offsets is remapped
+remaps_six : (t : Option (Bor (List ℕ))) (code : ℕ) → remaps t code ≡ true → code ≡ 6
+unfolding remaps
+remaps_six (Some t) code z = eqb-true code 6 z
+remaps_six None code z = absurd (let q : ◌≡◌ {A = ℕ} 0 1 = cc in omega arith)
 
-module _ (c : ObjectEncoding) (b table : List ℕ) (code at : ℕ) (d₀ : List ℕ) (a : SharedJoinable (encoding_is c) b table code (length d₀) at) where
+-- what the objects before a place give is put, and their entries are counted
+pub record Sharing (c : ObjectEncoding) (b : List ℕ) (t : Option (Bor (List ℕ))) (code at : ℕ) (d₀ : List ℕ) (a : SharedJoinable (encoding_is c) b t code (length d₀) at) (d : List ℕ) (o place first : ℕ) : Type 0 where
+  pub joining : Joining (given (remaps t code) (encoding_is c) (first_uses a.used) b code) b a.bundle.objects d₀ d at o place
+  pub count : remaps t code ≡ true → first ≡ places_from (length (table_lent t)) + counted (encoding_is c) b joining.done
+  pub within : first ≤ length (table_lent t)
+
+module _ (c : ObjectEncoding) (b : List ℕ) (t : Option (Bor (List ℕ))) (code at : ℕ) (d₀ : List ℕ) (a : SharedJoinable (encoding_is c) b t code (length d₀) at) where
   abbrev e : Encoding
   e = encoding_is c
 
+  abbrev table : List ℕ
+  table = table_lent t
+
   abbrev f : Object → List ℕ
-  f = given e (first_uses a.used) b code
+  f = given (remaps t code) e (first_uses a.used) b code
+
+  six : remaps t code ≡ true → code ≡ 6
+  six = remaps_six t code
 
   room : at + length (joined (map f a.bundle.objects)) ≤ length d₀
-  unfolding shared_joined
-  room = omega (arith, shared_long e (first_uses a.used) b code (sound c) a.bundle.objects a.used (λ z. (a.strings z).good), a.room)
+  unfolding joined_by
+  room = omega (arith, joined_long (remaps t code) e (first_uses a.used) b code (sound c) six a.bundle.objects a.used (λ z. (a.strings z).good), a.room)
 
-  pub sharing_none : (first : ℕ) → first ≡ places_from (length table) → Sharing c b table code at d₀ a d₀ at 4 first
+  pub sharing_none : (first : ℕ) → first ≡ places_from (length table) → Sharing c b t code at d₀ a d₀ at 4 first
   unfolding counted
   sharing_none first q = record {
     joining = joining_none f b a.bundle d₀ at a.reads;
@@ -128,9 +148,9 @@ module _ (c : ObjectEncoding) (b table : List ℕ) (code at : ℕ) (d₀ : List 
     within = rw q (omega (arith, places_from_le (length table)));
   }
 
-  module _ (d : List ℕ) (o place first : ℕ) (j : Sharing c b table code at d₀ a d o place first) where
-    pub sharing_end : j.joining.done ≡ a.bundle.objects → d ≡ placed d₀ at (shared_joined e (first_uses a.used) b a.bundle.objects code)
-    unfolding shared_joined
+  module _ (d : List ℕ) (o place first : ℕ) (j : Sharing c b t code at d₀ a d o place first) where
+    pub sharing_end : j.joining.done ≡ a.bundle.objects → d ≡ placed d₀ at (joined_by (remaps t code) e (first_uses a.used) b a.bundle.objects code)
+    unfolding joined_by
     sharing_end q = joining_end f b a.bundle.objects d₀ d at o place j.joining room q
 
     module _ (next : ℕ) (scan : Scan) (s : AtObject b place next scan j.joining.done a.bundle.objects) where
@@ -147,11 +167,11 @@ module _ (c : ObjectEncoding) (b table : List ℕ) (code at : ℕ) (d₀ : List 
       section_is : section ≡ body b s.one.parts code
       section_is = part_cut b (get_or scan.start code 0) (get_or scan.size code 0) ∙ scanned_body b place next scan j.joining.done a.bundle.objects s code a.known
 
-      strings : code ≡ 6 → Among e b j.joining.done s.one a.used
+      strings : remaps t code ≡ true → Among e b j.joining.done s.one a.used
       strings z = among e b j.joining.done s.one (objects_of s.more.rest) a.used (rw s.more.is (a.strings z).good)
 
       long : length (f s.one) ≡ length section
-      long = given_long e (first_uses a.used) b code (sound c) s.one (λ z. ((strings z).own, (strings z).good)) ∙ ap length (sym section_is)
+      long = given_long (remaps t code) e (first_uses a.used) b code (sound c) six s.one (λ z. ((strings z).own, (strings z).good)) ∙ ap length (sym section_is)
 
       pub sharing_fits : o + length section ≤ length d
       sharing_fits = omega (arith, long, joining_room f b a.bundle.objects d₀ d at o place j.joining room scan.next s.one s.more)
@@ -159,12 +179,12 @@ module _ (c : ObjectEncoding) (b table : List ℕ) (code at : ℕ) (d₀ : List 
       abbrev pieces : List (List ℕ)
       pieces = cut e (body b s.one.parts 6)
 
-      module _ (z : code ≡ 6) where
+      module _ (z : remaps t code ≡ true) where
         abbrev here : Among e b j.joining.done s.one a.used
         here = strings z
 
         headed : Headed e section pieces
-        headed = subst (λ (l : List ℕ). Headed e l pieces) (sym (section_is ∙ ap (λ (k : ℕ). body b s.one.parts k) z)) here.good.headed
+        headed = subst (λ (l : List ℕ). Headed e l pieces) (sym (section_is ∙ ap (λ (k : ℕ). body b s.one.parts k) (six z))) here.good.headed
 
         -- there is a place for each
         enough : first + entries_all e pieces ≤ length table
@@ -186,29 +206,28 @@ module _ (c : ObjectEncoding) (b table : List ℕ) (code at : ℕ) (d₀ : List 
           room = sharing_fits;
         }
 
-      pub sharing_asks : Givable e code section numbers (length d) o
+      pub sharing_asks : Givable (remaps t code) e section numbers (length d) o
       sharing_asks = record { pieces = writable; room = sharing_fits }
 
-      module _ (x : List ℕ) (r : ℕ) (w : GivenPut e code section numbers o d x r) where
+      module _ (x : List ℕ) (r : ℕ) (w : GivenPut (remaps t code) e section numbers o d x r) where
         pub sharing_count : first + r ≤ length table
-        sharing_count = elim (ℕ_discrete code 6) [
-          | yes z ↦ omega (arith, enough z, (w.pieces z).count pieces (headed z))
-          | no g ↦ omega (arith, j.within, (w.bytes g).1)
-        ]
+        sharing_count = ⊎_elim
+            (λ z. omega (arith, enough z, (w.pieces z).count pieces (headed z)))
+            (λ g. omega (arith, j.within, (w.bytes g).1))
+            (either (remaps t code))
 
         put : x ≡ placed d o (f s.one)
-        unfolding remapped_in
-        put = elim (ℕ_discrete code 6) [
-          | yes z ↦
-              (w.pieces z).put pieces (headed z)
-              ∙ ap (placed d o)
-              (ap (pieces_with e pieces) (numbers_are z)
-              ∙ pieces_with_more e (first_uses a.used) (body b s.one.parts 11) pieces (strings z).own (strings z).later (drop (places_from (length table) + length a.used) table) (strings z).good.strings
-              ∙ sym (given_offsets e (first_uses a.used) b code s.one z))
-          | no g ↦ (w.bytes g).0 ∙ ap (placed d o) (section_is ∙ sym (given_other e (first_uses a.used) b code s.one g))
-        ]
+        unfolding remapped_in given
+        put = ⊎_elim
+            (λ z. (w.pieces z).put pieces (headed z)
+            ∙ ap (placed d o)
+            (ap (pieces_with e pieces) (numbers_are z)
+            ∙ pieces_with_more e (first_uses a.used) (body b s.one.parts 11) pieces (strings z).own (strings z).later (drop (places_from (length table) + length a.used) table) (strings z).good.strings
+            ∙ sym (ap (λ (r : Bool). given r e (first_uses a.used) b code s.one) z)))
+            (λ g. (w.bytes g).0 ∙ ap (placed d o) (section_is ∙ sym (ap (λ (r : Bool). given r e (first_uses a.used) b code s.one) g)))
+            (either (remaps t code))
 
-        pub sharing_more : Sharing c b table code at d₀ a x (o + length section) scan.next (first + r)
+        pub sharing_more : Sharing c b t code at d₀ a x (o + length section) scan.next (first + r)
         sharing_more =
             let done = joining_more_done f b a.bundle.objects d₀ d at o place j.joining room scan.next s.one s.more x (length section) put (sym long) in
             record {

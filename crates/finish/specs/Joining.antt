@@ -1,6 +1,7 @@
 -- The bytes of a shared section over all objects.
 -- Assumes nothing.
-use Rattle.std.specs.Prelude.{◌≡◌, true, false, List, [], ◌∷◌, ◌++◌, map, ℕ, zero, suc, ◌+◌, ◌<◌, ◌≤◌, eqb, length, take, drop}
+use Rattle.std.specs.Prelude.{◌≡◌, Bool, true, false, Option, Some, None, List, [], ◌∷◌, ◌++◌, map, ℕ, zero, suc, ◌+◌, ◌<◌, ◌≤◌, eqb, length, take, drop}
+use Rattle.std.specs.Borrow.{Bor}
 use Rattle.numbers.specs.Sections.{str_offsets_code, str_code, section_codes}
 use Rattle.octets.specs.Lists.{joined}
 use Rattle.octets.specs.Octets.{placed}
@@ -31,14 +32,18 @@ unfoldable pub remapped_in : Encoding → List (List ℕ) → List ℕ → List 
 remapped_in e table offsets str = remapped_pieces e table str (cut e offsets)
 
 -- ---- any shared section
--- what an object gives of it: its first section of the code, of str_offsets by the table
-unfoldable pub given : Encoding → List (List ℕ) → List ℕ → ℕ → Object → List ℕ
-given e table b c o =
-    elim (eqb c str_offsets_code) [ true ↦ remapped_in e table (body b o.parts str_offsets_code) (body b o.parts str_code) | false ↦ body b o.parts c ]
+-- what an object gives of it: its first section of the code, remapped by the table or as it is
+unfoldable pub given : Bool → Encoding → List (List ℕ) → List ℕ → ℕ → Object → List ℕ
+given remapped e table b c o =
+    elim remapped [ true ↦ remapped_in e table (body b o.parts str_offsets_code) (body b o.parts str_code) | false ↦ body b o.parts c ]
 
 -- each object's, one behind the other
+unfoldable pub joined_by : Bool → Encoding → List (List ℕ) → List ℕ → List Object → ℕ → List ℕ
+joined_by remapped e table b os c = joined (map (given remapped e table b c) os)
+
+-- of str_offsets remapped, of any other as they are
 unfoldable pub shared_joined : Encoding → List (List ℕ) → List ℕ → List Object → ℕ → List ℕ
-shared_joined e table b os c = joined (map (given e table b c) os)
+shared_joined e table b os c = joined_by (eqb c str_offsets_code) e table b os c
 
 -- ---- strings
 -- 8 and 9 let each piece of a str_offsets pass, and its entries name these strings; there is no piece of an empty one
@@ -58,27 +63,36 @@ pub record StringsPlaced (e : Encoding) (b table : List ℕ) (os : List Object) 
   pub places : places_in table (length used) ≡ places_of used
 
 -- ---- a section of all objects
--- a bundle that can be read, and room for the section at a place of n bytes; of str_offsets the strings' places too
-pub record SharedJoinable (e : Encoding) (b table : List ℕ) (code n at : ℕ) : Type 0 where
+-- the table that is lent, none where every section is joined as it is; and whether the entries of a section get its places
+unfoldable pub table_lent : Option (Bor (List ℕ)) → List ℕ
+table_lent (Some t) = t.now
+table_lent None = []
+
+unfoldable pub remaps : Option (Bor (List ℕ)) → ℕ → Bool
+remaps (Some t) code = eqb code str_offsets_code
+remaps None code = false
+
+-- a bundle that can be read, and room for the section at a place of n bytes; where it is remapped the strings' places too
+pub record SharedJoinable (e : Encoding) (b : List ℕ) (t : Option (Bor (List ℕ))) (code n at : ℕ) : Type 0 where
   pub bundle : Bundle
   pub reads : bundle_of b ≡ pass bundle
   pub known : code < section_codes
   pub room : at + length (sections_joined b bundle.objects code) ≤ n
   pub used : List (List ℕ)
-  pub strings : code ≡ str_offsets_code → StringsPlaced e b table bundle.objects used
+  pub strings : remaps t code ≡ true → StringsPlaced e b (table_lent t) bundle.objects used
 
 -- it is put there, whatever these strings are; d is the output before, x after
-abbrev pub SharedPut : (e : Encoding) (b table : List ℕ) (code at : ℕ) (d x : List ℕ) → Type 0
-SharedPut e b table code at d x =
-    (k : Bundle) (used : List (List ℕ)) → bundle_of b ≡ pass k → (code ≡ str_offsets_code → StringsPlaced e b table k.objects used)
-    → x ≡ placed d at (shared_joined e (first_uses used) b k.objects code)
+abbrev pub SharedPut : (e : Encoding) (b : List ℕ) (t : Option (Bor (List ℕ))) (code at : ℕ) (d x : List ℕ) → Type 0
+SharedPut e b t code at d x =
+    (k : Bundle) (used : List (List ℕ)) → bundle_of b ≡ pass k → (remaps t code ≡ true → StringsPlaced e b (table_lent t) k.objects used)
+    → x ≡ placed d at (joined_by (remaps t code) e (first_uses used) b k.objects code)
 
--- ---- one object's section s put at a place of an output of n bytes, with numbers ns for its entries where it has any
-pub record Givable (e : Encoding) (code : ℕ) (s ns : List ℕ) (n at : ℕ) : Type 0 where
-  pub pieces : code ≡ str_offsets_code → PiecesWritable e s ns n at
+-- ---- one object's section s put at a place of an output of n bytes, with numbers ns for its entries where it is remapped
+pub record Givable (remapped : Bool) (e : Encoding) (s ns : List ℕ) (n at : ℕ) : Type 0 where
+  pub pieces : remapped ≡ true → PiecesWritable e s ns n at
   pub room : at + length s ≤ n
 
--- it is put there, and so many of the numbers are used; d is the output before, x behind
-pub record GivenPut (e : Encoding) (code : ℕ) (s ns : List ℕ) (at : ℕ) (d x : List ℕ) (r : ℕ) : Type 0 where
-  pub pieces : code ≡ str_offsets_code → PiecesWritten e s ns at d x r
-  pub bytes : (code ≡ str_offsets_code → ⊥) → (x ≡ placed d at s) × (r ≡ 0)
+-- it is put there, and so many of the numbers are used; d is the output before, x after
+pub record GivenPut (remapped : Bool) (e : Encoding) (s ns : List ℕ) (at : ℕ) (d x : List ℕ) (r : ℕ) : Type 0 where
+  pub pieces : remapped ≡ true → PiecesWritten e s ns at d x r
+  pub bytes : remapped ≡ false → (x ≡ placed d at s) × (r ≡ 0)

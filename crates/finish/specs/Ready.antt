@@ -1,7 +1,7 @@
 -- What the packer has when all objects are filed and both tables are placed, towards the sections of the package by code.
 -- Assumes nothing.
 use Rattle.std.specs.Prelude.{◌≡◌, Bool, true, false, List, [], ◌∷◌, ◌++◌, ℕ, ◌+◌, ◌*◌, ◌-◌, ◌/◌, ◌<◌, ◌≤◌, eqb, length, get_or, set}
-use Rattle.numbers.specs.Sections.{info_code, types_code, str_code, cu_index_code, tu_index_code, section_codes, first_shared, last_shared}
+use Rattle.numbers.specs.Sections.{info_code, types_code, str_offsets_code, str_code, cu_index_code, tu_index_code, section_codes, first_shared, last_shared}
 use Rattle.octets.specs.Octets.{placed, padded, zeros}
 use Rattle.octets.specs.Checked.{pass}
 use Rattle.numbers.specs.Limits.{bundle_limit, work_for_word, section_limit}
@@ -23,7 +23,7 @@ use Rattle.kept.specs.declared.Table.{Table}
 use Rattle.kept.specs.declared.Units.{Units}
 use Rattle.kept.specs.declared.state.InProgress.{InProgress}
 use Rattle.kept.specs.declared.writing.IndexForm.{IndexForm}
-use Rattle.finish.specs.Joining.{sections_joined, shared_joined, UsedBy}
+use Rattle.finish.specs.Joining.{sections_joined, shared_joined, remaps, table_lent, UsedBy}
 use Rattle.finish.specs.Sections.{Sized, sections_by, sizes_good, framed_size, length_of}
 use Rattle.finish.specs.Writing.{Writing}
 use Rattle.finish.specs.declared.joining.SharedSections.{SharedSections}
@@ -127,7 +127,8 @@ words_of p = length p.bundle.now / 4
 pub record SharedOf (p : Package) (s : SharedSections) : Type 0 where
   pub encoding : s.encoding ≡ p.encoding
   pub bundle : s.bundle.now ≡ p.bundle.now
-  pub table : s.table.now ≡ region p.work.now (words_of p) strings_region
+  pub remapped : (code : ℕ) → remaps s.table code ≡ eqb code str_offsets_code
+  pub table : table_lent s.table ≡ region p.work.now (words_of p) strings_region
 
 -- one section fits at a place of n bytes
 pub record SectionWritable (code : ℕ) (p : Package) (n at : ℕ) : Type 0 where

@@ -17,6 +17,7 @@ use numbers::refusals::Refusal;
 // A package without objects: head and end.
 const EMPTY: usize = 8;
 
+// That the output is zero is asked here and of what calls this, and is in no type: the first write ends it.
 fn finish_empty(big: bool, out: &mut [u8]) -> Result<usize, Unwritten>
     requires { out.old ≡ zeros (length out.old) }
     ensures answer { outcome_as result ≡ outcome_of (answered (pass (written big [])) (length out.old)) }

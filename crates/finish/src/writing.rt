@@ -12,8 +12,10 @@ use kept::state::InProgress;
 use kept::writing::IndexForm;
 use numbers::sections::{CODES, CU_INDEX, INFO, STR, TU_INDEX, TYPES};
 
-// The bytes of a word.
+// The bytes of a word, and of head and object word.
 const WORD: usize = 4;
+
+const FRONT: usize = 2 * WORD;
 
 // What is to be written: the encoding of all objects, what is known of them, the sizes of all sections by code, and where their bytes are. Work has words
 // enough for the bundle.
@@ -24,8 +26,8 @@ pub struct Package<'a> {
     pub sizes: [usize; CODES],
     pub bundle: &'a [u8],
     pub work: &'a [u32],
-    ghost limit: { length bundle.now ≤ bundle_limit },
-    ghost room: { work_for_word * (length bundle.now / 4) ≤ length work.now },
+    pub ghost limit: { length bundle.now ≤ bundle_limit },
+    pub ghost room: { work_for_word * (length bundle.now / 4) ≤ length work.now },
 }
 
 impl Package<'_> {
@@ -79,13 +81,14 @@ impl Package<'_> {
     }
 
     // What is joined of all objects.
+    #[tactic(auto, unfolding(crate::specs::Joining::remaps, crate::specs::Joining::table_lent))]
     fn shared(&self) -> SharedSections<'_>
         ensures { SharedOf self.now result }
     {
         SharedSections {
             encoding: self.encoding,
             bundle: self.bundle,
-            table: self.strings(),
+            table: Some(self.strings()),
         }
     }
 
@@ -98,7 +101,12 @@ impl Package<'_> {
         match code {
             INFO | TYPES => {
                 let words = self.bundle.len() / WORD;
-                Records::of_work(self.work, words, units.count).copy_units(self.bundle, code, out, at);
+                Records::of_work(self.work, words, units.count).copy_units(
+                    self.bundle,
+                    code,
+                    out,
+                    at,
+                );
             }
             STR => {
                 let count = self.state.strings.count;
@@ -120,7 +128,7 @@ impl Package<'_> {
         if size == 0 {
             return at;
         }
-        let start = at + 4;
+        let start = at + WORD;
         let next = start + bundle::filled_up(size);
         bundle::put_section_word(code as u32, size, out, at);
         self.write_section(code, out, start);
@@ -132,7 +140,7 @@ impl Package<'_> {
         requires { SectionsWritable self.now out.old }
         ensures { SectionsPut self.now out.old out.new result }
     {
-        let mut at = 8;
+        let mut at = FRONT;
         for code in 1..CODES {
             at = self.write_framed(code, out, at);
         }
@@ -145,7 +153,7 @@ impl Package<'_> {
         ensures { PackagePut self.now word out.old out.new }
     {
         bundle::put_head(self.encoding.big, out);
-        bundle::put_object(word, out, 4);
+        bundle::put_object(word, out, WORD);
         let at = self.write_sections(out);
         bundle::put_end(out, at);
     }

@@ -27,6 +27,7 @@ pub mod LawExact
 pub mod LawMore
 pub mod Renamed
 pub mod WellFormed
+pub mod Refusals
 pub mod Places
 pub mod Ends
 pub mod OneRow

@@ -1,5 +1,10 @@
 -- What the code holds of an index that was read: its head, beside the section's bytes.
 -- Assumes nothing.
+use native.Mathlib.Omega.{arith}
+use native.Mathlib.Decide.{dec_lt}
+use mathlib.Core.Path.{ap, subst}
+use Rattle.std.proofs.Math.Pow.{pow-lt}
+use Rattle.std.proofs.Math.Nat.{ℕ_set}
 use Rattle.std.specs.Prelude.{◌≡◌, Option, Some, None, Bool, true, false, not, ◌&&◌, List, ℕ, ◌+◌, ◌*◌, ◌^◌, eqb, leb, ltb, length}
 use Rattle.octets.specs.Octets.{number_at}
 use Rattle.octets.specs.Checked.{pass, mapped}
@@ -11,6 +16,22 @@ use Rattle.index.specs.declared.probing.Probed.{Probed}
 pub record PowerOfTwo (n : ℕ) : Type 0 where
   pub power : ℕ
   pub is : n ≡ 2 ^ power
+
+-- a number is that of one exponent at most, so that the fact has one proof, as a ghost field asks
+same_power : {n : ℕ} (p q : PowerOfTwo n) → p.power ≡ q.power
+same_power p q =
+    elim (dec_lt p.power q.power) [
+      | yes h ↦ absurd (omega (arith, pow-lt h, p.is, q.is))
+      | no h ↦ elim (dec_lt q.power p.power) [ yes g ↦ absurd (omega (arith, pow-lt g, p.is, q.is)) | no g ↦ omega arith ]
+    ]
+
+pub one_power : (n : ℕ) → IsProp (PowerOfTwo n)
+one_power n p q = go p.power p.is q.power q.is (same_power p q)
+  where
+    go : (a : ℕ) (e : n ≡ 2 ^ a) (b : ℕ) (f : n ≡ 2 ^ b) → a ≡ b → ◌≡◌ {A = PowerOfTwo n} (record { power = a; is = e }) (record { power = b; is = f })
+    go a e b f s =
+        subst (λ (c : ℕ). (g : n ≡ 2 ^ c) → ◌≡◌ {A = PowerOfTwo n} (record { power = a; is = e }) (record { power = c; is = g })) s
+        (λ g. ap (λ (z : n ≡ 2 ^ a). record { power = a; is = z }) (ℕ_set _ _ e g)) f
 
 abbrev pub head_of : Index → IndexHead
 head_of i = record { version = i.version; columns = length i.codes; units = i.units; slots = length i.rows }

@@ -15,7 +15,6 @@ ghost use Rattle.index.specs.Contributed.{
   whole_entries,
   good_cell,
   with_cell,
-  Whole,
   chosen,
   ContributionsAre,
   has_cell,
@@ -60,7 +59,7 @@ pub struct OwnUnit {
 fn own_place(at: usize, size: usize, cell: Contribution) -> bool
     ensures { result ≡ own_cell at size (Some cell) }
 {
-    cell.offset == at && cell.size == size
+    cell == Contribution { offset: at, size }
 }
 
 // Whether both are multiples of the width, which only str_offsets asks. The width is 4 or 8.
@@ -100,7 +99,7 @@ impl Contributions {
     // One more, where the section is not empty.
     #[tactic(auto, unfolding(crate::specs::Contributed::with_cell))]
     fn take(&mut self, c: usize, length: usize, cell: Option<Contribution>)
-        requires { (Whole self.old) × (c < section_codes) }
+        requires { c < section_codes }
         ensures { self.new ≡ with_cell self.old c «length» cell }
     {
         if length != 0 {
@@ -112,7 +111,6 @@ impl Contributions {
     // Whether each section that isn't empty has a cell.
     #[tactic(auto, using(crate::proofs::Columned::code_turns))]
     fn all_there(&self, lengths: &[usize; CODES]) -> bool
-        requires { Whole self.now }
         ensures { result ≡ all (has_cell self.now) (needed_codes (by_code lengths.now)) }
     {
         for c in FIRST_SHARED..SHARED_END {
@@ -126,7 +124,7 @@ impl Contributions {
     // Whether each section that isn't empty has a part that ends in it.
     #[tactic(auto, using(crate::proofs::Columned::code_turns))]
     fn all_good(&self, m: &Measures) -> bool
-        requires { (Whole self.now) × (0 < m.now.width) }
+        requires { 0 < m.now.width }
         ensures { result ≡ all (good_held m.now.width (by_code m.now.lengths) self.now) (needed_codes (by_code m.now.lengths)) }
     {
         for c in FIRST_SHARED..SHARED_END {

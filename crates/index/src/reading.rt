@@ -25,7 +25,7 @@ const MOST_SLOTS: usize = 0x1_0000_0000;
 
 #[derive(Clone, Copy, Debug, PartialEq, Eq)]
 pub struct IndexHead {
-    // 2 or 5. A number, as the format and C callers have it: an enum would be turned back wherever it is compared or answered.
+    // 2 or 5. A number: the field is public, and callers, C and clauses read it as the number that the format has.
     pub version: u32,
     pub columns: usize,
     pub units: usize,
@@ -53,7 +53,8 @@ impl<'a> Model for Index<'a> {
 }
 
 impl<'a> Index<'a> {
-    // The index of a head that was read from these bytes before.
+    // The index of a head that was read from these bytes before. That it is well formed (`Well`) is no invariant of the type: such an index is made of a head
+    // too, of which its caller knows more than the type asks.
     pub fn of(big: bool, bytes: &'a [u8], head: IndexHead) -> Index<'a>
         requires { Sized bytes.now head }
         ensures { result ≡ index_in big bytes.now head }
@@ -61,7 +62,7 @@ impl<'a> Index<'a> {
         Self { big, bytes, head }
     }
 
-    // Refusal 10 in packing, 21 in a lookup.
+    // What is not well formed is refused with 10, always: a lookup turns it into 21 itself.
     #[tactic(auto, using(crate::proofs::WellFormed::index_cases))]
     pub fn read(big: bool, bytes: &'a [u8]) -> Result<Index<'a>, Refusal>
         ensures { told result ≡ index_of big bytes.now }

@@ -3,6 +3,8 @@
 // the answer is its row, the number of looks and the cells of the sections 1 to 10, or "absent" and the number of looks.
 #![tactic(auto)]
 
+ghost use Rattle.std.specs.Prelude.{◌≡◌, ◌<◌, ◌≤◌, length};
+
 use index::cells::{Contribution, Row};
 use index::probing::Probed;
 use index::reading::Index;
@@ -11,20 +13,37 @@ use std::io;
 // The longest section that is read.
 const SECTION: usize = 4096;
 
-// A section as a line states it.
-#[derive(Clone, Copy)]
-struct Stated<'a> {
-    big: bool,
-    digits: &'a [u8],
+// Hexadecimal digits have small letters.
+fn is_digit(b: u8) -> bool {
+    matches!(b, b'0'..=b'9' | b'a'..=b'f')
 }
 
-// The bytes that digits state, in the room that is lent for them; none where they are no digits, or too many.
-fn read_bytes<'a>(digits: &[u8], room: &'a mut [u8]) -> &'a [u8] {
-    let n = digits.len() / 2;
-    if n <= room.len() && hex::decode_to_slice(digits, &mut room[..n]).is_ok() {
-        &room[..n]
-    } else {
-        &[]
+// The bytes that the digits at the front of a text state, as many as there is room for. How many there are.
+fn read_bytes(text: &[u8], room: &mut [u8]) -> usize
+    ensures count { result ≤ length room.new }
+    ensures kept { length room.new ≡ length room.old }
+{
+    let digits = text.iter().position(|b| !is_digit(*b)).unwrap_or(text.len());
+    let n = (digits / 2).min(room.len());
+    hex::decode_to_slice(&text[..2 * n], &mut room[..n]).ok();
+    n
+}
+
+// The number of 8 bytes that they state; bytes that are not stated are zero.
+fn read_identity(text: &[u8]) -> u64 {
+    let mut identity = [0; 8];
+    read_bytes(text, &mut identity);
+    u64::from_be_bytes(identity)
+}
+
+// What stands behind the line at the front of a text.
+fn behind_line(text: &[u8]) -> &[u8]
+    requires { 0 < length text.now }
+    ensures { length result.now < length text.now }
+{
+    match text.iter().position(|b| *b == b'\n') {
+        Some(i) => &text[i + 1..],
+        None => &[],
     }
 }
 
@@ -73,29 +92,21 @@ fn answer_index(rt: &impl Print, big: bool, s: &[u8]) -> io::Result<()> {
     )
 }
 
+// Of a line, the first byte says what it is, and digits stand behind the byte that follows it, whatever that is.
 fn answer_lines(rt: &impl Print, text: &[u8]) -> io::Result<()> {
     let mut room = [0; SECTION];
-    let mut last = Stated {
-        big: false,
-        digits: &[],
-    };
-    for line in text.split(|b| *b == b'\n') {
-        match line {
-            [b's', b' ', digits @ ..] => {
-                let mut identity = [0; 8];
-                hex::decode_to_slice(digits, &mut identity).ok();
-                let section = read_bytes(last.digits, &mut room);
-                answer_search(rt, last.big, section, u64::from_be_bytes(identity))?;
-            }
-            [order, b' ', digits @ ..] => {
-                last = Stated {
-                    big: *order == b'b',
-                    digits,
-                };
-                answer_index(rt, last.big, read_bytes(digits, &mut room))?;
-            }
-            _ => {}
+    let mut big = false;
+    let mut size = 0;
+    let mut rest = text;
+    while let [kind, _, digits @ ..] = rest {
+        if *kind == b's' {
+            answer_search(rt, big, &room[..size], read_identity(digits))?;
+        } else {
+            big = *kind == b'b';
+            size = read_bytes(digits, &mut room);
+            answer_index(rt, big, &room[..size])?;
         }
+        rest = behind_line(rest);
     }
     Ok(())
 }

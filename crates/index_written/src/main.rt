@@ -30,13 +30,14 @@ struct Numbers<'a> {
 }
 
 impl Numbers<'_> {
-    // The next number, its last 16 digits; 0 where the text has ended.
+    // The next number, its last 16 digits, whose letters are small; 0 where the text has ended.
     fn next(&mut self) -> u64 {
         let mut n = 0;
         while let [b, rest @ ..] = self.text {
             self.text = rest;
-            let Some(digit) = char::from(*b).to_digit(16) else {
-                break;
+            let digit = match char::from(*b).to_digit(16) {
+                Some(digit) if !b.is_ascii_uppercase() => digit,
+                _ => break,
             };
             n = n % 0x1000_0000_0000_0000 * 16 + u64::from(digit);
         }
@@ -110,6 +111,7 @@ fn read_rows(five: bool, numbers: &mut Numbers<'_>, work: &mut [u32], n: usize) 
 {
     let mut has = [false; COLUMNS];
     for i in 0..n {
+        // Not at once: the borrow checker does not cover a call whose result is laid in an array.
         let more = read_row(five, numbers, work, i, has);
         has = more;
     }

@@ -2,6 +2,7 @@
 -- RegionStores, RegionLending: what a store in one region leaves of the others, and a region that is lent.
 -- Assumes nothing.
 pub mod RegionStores
+pub mod RegionsNamed
 pub mod RegionLending
 pub mod Columning
 pub mod Recording

@@ -9,8 +9,8 @@ use native.Mathlib.Nat.{add-mul, mul-le-mul_right}
 use native.Mathlib.Omega.{arith}
 use native.Mathlib.Decide.{dec_lt}
 use lib.Dec.{eqb}
-use lib.ListN.{length, take, drop, get_or}
-use lib.Seq.{ext_get_or, take-take}
+use lib.ListN.{length, get_or}
+use lib.Seq.{ext_get_or}
 use borrow.Author.Tests.{eq-eqb, ne_eqb}
 use Rattle.octets.specs.Octets.{part, placed}
 use Rattle.octets.proofs.Checks.{known}
@@ -116,11 +116,6 @@ strings_roots w n j h l =
     let e : strings_region.start * n + j ≡ roots_region.start * n + (j - 6 * n) = omega arith in
     get_d_part w (strings_region.start * n) (strings_region.words * n) j l ∙ ap (λ (i : ℕ). get_or w i 0) e
     ∙ sym (get_d_part w (roots_region.start * n) (roots_region.words * n) (j - 6 * n) (omega arith))
-
--- the strings are the front of the store
-pub store_strings : (w : List ℕ) (n : ℕ) → take (strings_region.words * n) (region w n store_region) ≡ region w n strings_region
-unfolding region part
-store_strings w n = take-take (strings_region.words * n) (store_region.words * n) (drop (store_region.start * n) w) (omega arith)
 
 pub slots_within : (table : ℕ) → Within (slots_region table)
 slots_within table = ⊎_elim (λ e. rw e (record { ends = omega arith })) (λ e. rw e (record { ends = omega arith })) (slots_are table)

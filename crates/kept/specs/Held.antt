@@ -43,6 +43,10 @@ pub data RecordsAre (b : List ℕ) : List KeptUnit → List Filed → Type 0 whe
   no_record : RecordsAre b [] []
   one_record : {k : KeptUnit} {ks : List KeptUnit} {u : Filed} {us : List Filed} → RecordIs b k u → RecordsAre b ks us → RecordsAre b (k ∷ ks) (u ∷ us)
 
+-- of two the one, or else the other
+unfoldable pub picked : {A : Type 0} → Bool → A → A → A
+picked one a b = elim one [ true ↦ a | false ↦ b ]
+
 -- what there is of each table and section: the first for number 1, else the second
 unfoldable pub pick : {A : Type 0} → ℕ → A → A → A
 pick k a b = elim (eqb k 1) [ true ↦ a | false ↦ b ]

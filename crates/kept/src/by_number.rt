@@ -1,45 +1,48 @@
-// What is by value of the kept units, by the number of a table or of a section, and with one unit more.
-ghost use Rattle.std.specs.Prelude.{◌≡◌, ◌<◌, ◌^◌};
-ghost use Rattle.kept.specs.Held.{pick, with_unit};
+// What is known of the kept units by value: asked by the number of a table or of a section, and with one unit more.
+ghost use Rattle.std.specs.Prelude.{◌≡◌, ◌<◌, ◌^◌, eqb};
+ghost use Rattle.kept.specs.Held.{pick, picked, with_unit};
 
+use crate::regions::COMPILATION;
 use crate::{Table, Units};
+use numbers::sections::INFO;
 
-// The first table, and the first section of units.
-const FIRST: usize = 1;
-
-// What there is of the first, or else of the second.
-#[tactic(auto, unfolding(crate::specs::Held::pick))]
-fn pick<T: Copy>(number: usize, first: T, second: T) -> T
-    ensures { result ≡ pick number first second }
+// A table and a section of units are asked by their numbers, and any number is answered: an enum would ask more of callers.
+// What there is of the kind that has a number, or else of the other.
+#[tactic(auto, unfolding(crate::specs::Held::picked))]
+fn pick<T: Copy>(number: usize, kind: usize, its: T, other: T) -> T
+    ensures { result ≡ picked (eqb number kind) its other }
 {
-    if number == FIRST { first } else { second }
+    if number == kind { its } else { other }
 }
 
 impl Units {
+    #[tactic(auto, unfolding(crate::specs::Held::pick, crate::specs::Held::picked))]
     pub fn table_of(self, table: usize) -> Table
         ensures { result ≡ pick table self.cu self.tu }
     {
-        pick(table, self.cu, self.tu)
+        pick(table, COMPILATION, self.cu, self.tu)
     }
 
     // How many bytes of info, or of types, the units have.
+    #[tactic(auto, unfolding(crate::specs::Held::pick, crate::specs::Held::picked))]
     pub fn bytes_of(self, home: usize) -> usize
         ensures { result ≡ pick home self.info self.types }
     {
-        pick(home, self.info, self.types)
+        pick(home, INFO, self.info, self.types)
     }
 
     // With one unit more, after which its table is t and its section has so many bytes. Callers have few units.
+    #[tactic(auto, unfolding(crate::specs::Held::pick, crate::specs::Held::picked))]
     pub fn with_unit(self, table: usize, t: Table, home: usize, bytes: usize) -> Units
         requires { self.count < 2 ^ 32 }
         ensures { result ≡ with_unit self table t home bytes }
     {
         Units {
             count: self.count + 1,
-            cu: pick(table, t, self.cu),
-            tu: pick(table, self.tu, t),
-            info: pick(home, bytes, self.info),
-            types: pick(home, self.types, bytes),
+            cu: pick(table, COMPILATION, t, self.cu),
+            tu: pick(table, COMPILATION, self.tu, t),
+            info: pick(home, INFO, bytes, self.info),
+            types: pick(home, INFO, self.types, bytes),
         }
     }
 }

@@ -15,14 +15,14 @@ pub mod writing;
 use index::cells::COLUMNS;
 
 // A table: how many rows it has, and which columns some row has.
-#[derive(Clone, Copy, Default)]
+#[derive(Clone, Copy)]
 pub struct Table {
     pub rows: usize,
     pub has: [bool; COLUMNS],
 }
 
 // The kept units: how many there are, both tables, and how many bytes of info and of types they have.
-#[derive(Clone, Copy, Default)]
+#[derive(Clone, Copy)]
 pub struct Units {
     pub count: usize,
     pub cu: Table,

@@ -125,7 +125,8 @@ impl<'a> Records<'a> {
         octets::number_of(self.words[RECORD * i + LOW], self.words[RECORD * i + HIGH])
     }
 
-    // The identity that a slot names by the number of a record, from 1, and 0 for a slot that names none.
+    // The identity that a slot names by the number of a record, from 1, and 0 for a slot that names none. An unused slot is 0 and no Option: slots stand in lent
+    // words, which are numbers, since there is no heap for anything else; an index has 0 there too.
     #[tactic(auto, using(crate::proofs::Recording::identity_none, crate::proofs::Recording::identity_some))]
     pub fn identity_for(self, number: usize) -> u64
         requires { number ≤ self.count }
@@ -137,7 +138,7 @@ impl<'a> Records<'a> {
         }
     }
 
-    // The same for its row number.
+    // The row number that a slot names by the number of a record, from 1, and 0 for a slot that names none.
     #[tactic(auto, using(crate::proofs::Recording::row_none, crate::proofs::Recording::row_some), unfolding(crate::specs::Records::record_at))]
     pub fn row_for(self, number: usize) -> usize
         requires { number ≤ self.count }

@@ -92,7 +92,7 @@ impl Share {
         }
     }
 
-    // The words of a region in work.
+    // The words of a region in work. No sibling lends them to be written: what is written comes back to work only where the caller itself cuts the part out.
     #[tactic(auto, using(octets::proofs::Parts::part_cut), unfolding(crate::specs::Regions::region))]
     pub fn part(self, work: &[u32], n: usize) -> &[u32]
         requires { (self.start + self.words ≤ work_for_word) × (n < 2 ^ 32) × (work_for_word * n ≤ length work.now) }

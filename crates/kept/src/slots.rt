@@ -1,4 +1,4 @@
-// Slots of record numbers: the identities seen, and the slots of an index. One walk serves both.
+// Slots of record numbers: the identities seen, and the slots of an index. Both are sought by one walk, `Slots::seek`.
 ghost use Rattle.std.specs.Prelude.{◌≡◌, ◌+◌, ◌*◌, ◌<◌, ◌≤◌, ◌^◌, length};
 ghost use Rattle.octets.specs.Octets.{part, zeros};
 ghost use Rattle.index.specs.Held.{PowerOfTwo};
@@ -22,6 +22,7 @@ ghost use Rattle.kept.specs.Slots.{
 use crate::records::{Records, Unit};
 use crate::regions::{RECORD, RECORDS};
 use index::judging::Contributions;
+use index::probing::Probing;
 
 // The slots of a table: each number in them is that of one of the records.
 #[derive(Clone, Copy)]
@@ -47,15 +48,19 @@ impl<'a> Slots<'a> {
     }
 
     // Where a walk ends: at the number of a record of the identity, or else at a free slot.
+    // `Index::find` has a loop of this form too. One walk for both would take a closure for what a slot holds and what ends the walk, and both contracts would
+    // say of that closure what they say of the slots now: no plainer.
     #[tactic(auto, using(crate::proofs::Seeking::seek_ends))]
     pub fn seek(self, x: u64) -> Result<usize, usize>
         requires { PowerOfTwo (length self.slots.now) }
         ensures { result ≡ sought_in self.entry.records.words.now self.entry.slots.now x }
     {
         let count = self.slots.len();
-        let by = index::probing::stride(x, count);
-        let mut at = index::probing::first_slot(x, count);
+        let probing = Probing { slots: count };
+        let by = probing.stride(x);
+        let mut at = probing.first(x);
         for _looks in 0..count {
+            // 0 stands for an unused slot: slots stand in lent words, which are numbers, since there is no heap for anything else.
             let number = self.slots[at] as usize;
             if number == 0 {
                 return Err(at);
@@ -63,7 +68,7 @@ impl<'a> Slots<'a> {
             if self.records.identity_for(number) == x {
                 return Ok(number);
             }
-            at = index::probing::next_slot(at, by, count);
+            at = probing.next(at, by);
         }
         Err(at)
     }
@@ -91,7 +96,7 @@ pub fn seen_slots(words: usize) -> usize
     slots_for(words / crate::regions::LEAST_UNIT)
 }
 
-// The same walk in work, for a bundle of so many words; count slots of the table are at hand, and n records.
+// Seeks an identity in the slots of a table: the first count of them in work for a bundle of so many words, over n records.
 // Work and words stay parameters here and in the following: a struct of both would hold lent work, and callers lend other parts of it between two calls.
 #[tactic(auto, unfolding(crate::specs::Slots::slots_in))]
 pub fn seek_in(
@@ -108,7 +113,7 @@ pub fn seek_in(
     Slots::of_work(work, words, table, n, count).seek(x)
 }
 
-// Places record i where it is one of the table.
+// Places record i in the slots of a table, where it is one of that table.
 fn place_unit(work: &mut [u32], words: usize, table: usize, i: usize, count: usize)
     requires { Seekable words work.old table i count × (record_words * i + record_words ≤ records_region.words * words) }
     ensures { Placed words table i count work.old work.new }
@@ -124,7 +129,7 @@ fn place_unit(work: &mut [u32], words: usize, table: usize, i: usize, count: usi
     }
 }
 
-// All records of the table among n, in slots that are cleared.
+// Places all records of a table among n, in slots that are cleared.
 fn place_all(work: &mut [u32], words: usize, table: usize, n: usize, count: usize)
     requires { Placeable words (length work.old) table n count × (slots_in work.old words table count ≡ zeros count) }
     ensures { PlacedAll words table n count work.old work.new }
@@ -134,7 +139,7 @@ fn place_all(work: &mut [u32], words: usize, table: usize, n: usize, count: usiz
     }
 }
 
-// The same in slots that are cleared first.
+// Clears the slots of a table, and places all its records among n in them.
 pub fn place_units(work: &mut [u32], words: usize, table: usize, n: usize, count: usize)
     requires { Placeable words (length work.old) table n count }
     ensures { PlacedAll words table n count work.old work.new }
@@ -146,7 +151,7 @@ pub fn place_units(work: &mut [u32], words: usize, table: usize, n: usize, count
     place_all(work, words, table, n, count);
 }
 
-// The record of a unit behind count others, and its number in a free slot of its table. Callers have sought the slot.
+// Stores the record of a unit behind count others, and its number in a free slot of its table. Callers have sought the slot.
 #[tactic(auto, using(crate::proofs::Placing::kept_by), unfolding(crate::specs::Records::unit_of))]
 pub fn keep(
     work: &mut [u32],

@@ -7,14 +7,14 @@ use numbers::sections::CODES;
 use strings::table::StringTable;
 
 // How many type units were skipped: those whose bytes agree with the kept one's, and the others.
-#[derive(Clone, Copy, Default)]
+#[derive(Clone, Copy)]
 pub struct Skipped {
     pub repeats: usize,
     pub namesakes: usize,
 }
 
 // The bases say how many bytes of each section the objects have together.
-#[derive(Clone, Copy, Default)]
+#[derive(Clone, Copy)]
 pub struct InProgress {
     pub units: Units,
     pub bases: [usize; CODES],

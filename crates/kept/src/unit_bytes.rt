@@ -21,7 +21,7 @@ impl Records<'_> {
         &b[start..start + size]
     }
 
-    // The same put, where it is a unit of the section home; the place behind it.
+    // Puts the bytes of record i's unit, where it is one of the section home; the place behind them.
     #[tactic(auto, using(crate::proofs::Copying::words_own, crate::proofs::Copying::words_other, octets::proofs::Placed::placed_none))]
     fn copy_unit(self, b: &[u8], i: usize, home: usize, out: &mut [u8], at: usize) -> usize
         requires { (i < self.count) × UnitsInside b.now self.words.now (i + 1) × (at + length (bytes_from b.now self.words.now home i 1) ≤ length out.old) }
@@ -36,7 +36,7 @@ impl Records<'_> {
         at + bytes.len()
     }
 
-    // Of all units. The caller has filed them, and has room for all.
+    // Puts the bytes of all units of the section home, one behind the other. The caller has filed the units, and has room for all.
     #[tactic(auto, using(crate::proofs::Copying::copying_end, crate::proofs::Copying::bytes_end))]
     pub fn copy_units(self, b: &[u8], home: usize, out: &mut [u8], at: usize)
         requires { UnitsInside b.now self.words.now self.count × (at + length (bytes_from b.now self.words.now home 0 self.count) ≤ length out.old) }

@@ -96,7 +96,8 @@ fn put_if(there: bool, big: bool, n: usize, out: &mut [u8], at: usize) -> usize
     at
 }
 
-// Out and a place in it stay two parameters, as octets has them for whatever is put: a struct of both would be made anew for each piece.
+// Out and a place in it stay two parameters, as octets has them for whatever is put. A writer that holds both would be no plainer: its clauses would have to say of
+// the place in it what `next` says of the result now.
 impl IndexForm {
     // ---- the head
     #[tactic(auto, using(crate::proofs::Pieces::start_five, crate::proofs::Pieces::start_four))]

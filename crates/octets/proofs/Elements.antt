@@ -4,12 +4,12 @@ use mathlib.Core.Path.{◌≡◌, refl, sym, ap, ◌∙◌}
 use mathlib.Core.Logic.{⊎_elim}
 use mathlib.Core.Bool.{Bool, true, false, ◌||◌}
 use mathlib.Core.List.{List, [], ◌∷◌, ◌++◌}
-use Prim.Native.Nat.{ℕ, zero, suc, ◌+◌, ◌<◌, ◌≤◌}
+use Prim.Native.Nat.{ℕ, zero, suc, ◌+◌, ◌<◌}
 use native.Mathlib.Nat.{not-suc-le-zero, le_of_suc-le-suc}
 use native.Mathlib.Omega.{arith}
 use native.Mathlib.Numerals.{add-one}
 use lib.Dec.{eqb}
-use lib.ListN.{length, drop, get_or, drop_of_length-le}
+use lib.ListN.{length, drop, get_or}
 use lib.Seq.{drop-cons}
 use borrow.Author.Tests.{eqb-true, eqb-false, eq-eqb, ne_eqb}
 use Rattle.octets.specs.Octets.{zeros}
@@ -58,14 +58,6 @@ module _ {A : Type 0} (f : A → Bool) (d : A) where
 
   pub any_turn_stops : (xs : List A) (i : ℕ) → i < length xs → f (get_or xs i d) ≡ true → any f (drop i xs) ≡ true
   any_turn_stops xs i h e = rw (drop-cons xs i d h) (any_stops f (get_or xs i d) (drop (suc i) xs) e)
-
-pub all_end : {A : Type 0} (f : A → Bool) (xs : List A) (i : ℕ) → length xs ≤ i → all f (drop i xs) ≡ true
-unfolding all
-all_end f xs i h = rw (drop_of_length-le xs h)
-
-pub any_end : {A : Type 0} (f : A → Bool) (xs : List A) (i : ℕ) → length xs ≤ i → any f (drop i xs) ≡ false
-unfolding any
-any_end f xs i h = rw (drop_of_length-le xs h)
 
 pub zeros_all : (n : ℕ) → all (eqb 0) (zeros n) ≡ true
 unfolding zeros all

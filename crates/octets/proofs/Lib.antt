@@ -12,6 +12,5 @@ pub mod Lists
 pub mod Elements
 pub mod Joined
 pub mod Mapped
-pub mod Stores
 pub mod Fixed
 pub mod ZeroBytes

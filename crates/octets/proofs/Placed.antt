@@ -8,7 +8,7 @@ use native.Mathlib.Omega.{arith}
 use native.Mathlib.Numerals.{add-one, add-two}
 use lib.ListN.{length, take, drop, set, get_or, length-append, length-take, length-drop, length-replicate, drop_of_length-le, take-append-drop, replicate-append-replicate}
 use lib.Seq.{append_snoc, take-suc-set, drop-set-lt, take-set-le, set_split, sets-eq, take-take, take-append-le, drop-drop, take_at, drop_at, drop-append-add, length-take-le}
-use Rattle.std.proofs.lemmas.List.{drop-replicate, take-replicate}
+use Rattle.std.proofs.lemmas.List.{drop-replicate}
 use Rattle.octets.specs.Octets.{placed, padded, zeros, little_of, big_of}
 use Rattle.octets.proofs.Numbers.{length_big_of}
 
@@ -20,10 +20,6 @@ length_zeros n = length-replicate n 0
 pub drop_zeros : (k n : ℕ) → drop k (zeros n) ≡ zeros (n - k)
 unfolding zeros
 drop_zeros k n = drop-replicate k n 0
-
-pub take_zeros : (k n : ℕ) → k ≤ n → take k (zeros n) ≡ zeros k
-unfolding zeros
-take_zeros k n h = take-replicate k n 0 h
 
 pub zeros_add : (n m : ℕ) → zeros n ++ zeros m ≡ zeros (n + m)
 unfolding zeros
@@ -48,10 +44,6 @@ length_placed d at x h = simp (length-append, length-take, length-drop) (omega a
 pub placed_byte : (d : List ℕ) (at b : ℕ) → at < length d → set d at b ≡ placed d at (b ∷ [])
 unfolding placed
 placed_byte d at b h = rw add-one (set_split d at b h ∙ sym (append_snoc (take at d) b (drop (suc at) d)))
-
-pub placed_two : (d : List ℕ) (at a b : ℕ) → at + 2 ≤ length d → set (set d at a) (at + 1) b ≡ placed d at (a ∷ b ∷ [])
-unfolding placed
-placed_two d at a b h = rw add-one (sets-eq (a ∷ b ∷ []) d at h)
 
 pub placed_three : (d : List ℕ) (at a b c : ℕ) → at + 3 ≤ length d → set (set (set d at a) (at + 1) b) (at + 2) c ≡ placed d at (a ∷ b ∷ c ∷ [])
 unfolding placed

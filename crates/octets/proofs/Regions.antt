@@ -4,32 +4,18 @@ use mathlib.Core.Path.{◌≡◌, refl, sym, ap, ◌∙◌}
 use mathlib.Core.Bool.{Bool}
 use mathlib.Core.List.{List, ◌++◌, append_assoc}
 use Prim.Native.Nat.{ℕ, suc, ◌+◌, ◌*◌, ◌<◌, ◌≤◌}
-use native.Mathlib.Nat.{add_assoc, mul-suc, mul-le-mul_left}
+use native.Mathlib.Nat.{mul-suc, mul-le-mul_left}
 use native.Mathlib.Omega.{arith}
 use native.Mathlib.Numerals.{add-one}
-use lib.ListN.{length, take, drop, get_or, length-drop, take-append-drop}
-use lib.Seq.{take-take, take-add, drop-append-le, drop-drop, drop-cons, take_at, length-take-le, get_or-take, get_or-drop}
-use borrow.Rule.Slice.PartMut.{put_mid, mid_of}
+use lib.ListN.{length, take, drop, get_or, take-append-drop}
+use lib.Seq.{drop-drop, drop-cons, take_at, length-take-le, get_or-take, get_or-drop}
+use borrow.Rule.Slice.PartMut.{put_mid}
 use Rattle.octets.specs.Octets.{placed, bytes_of, numbers_of, part}
 use Rattle.octets.proofs.Parts.{part_append_front, get_d_part}
 use Rattle.octets.proofs.Numbers.{length_bytes_of}
 use Rattle.octets.proofs.Placed.{placed_placed, take_placed, drop_placed, drop_placed_at}
 
 -- ---- a part that was lent
--- what is placed in a lent part is placed in the whole
-pub placed_mid : (w : List ℕ) (base n at : ℕ) (x : List ℕ) → base + n ≤ length w → at + length x ≤ n
-    → put_mid base n w (placed (mid_of base n w) at x) ≡ placed w (base + at) x
-unfolding placed
-placed_mid w base n at x h g =
-    let m = drop base w in
-    let room : n ≤ length m = simp length-drop (omega arith) in
-    let in-part : at + length x ≤ length (take n m) = rw (length-take-le n m room) g in
-    let rest : drop (at + length x) (take n m) ++ drop n m ≡ drop (base + at + length x) w =
-    sym (drop-append-le (at + length x) (take n m) (drop n m) in-part) ∙ ap (drop (at + length x)) (take-append-drop n m)
-    ∙ drop-drop (at + length x) base w ∙ ap (λ (k : ℕ). drop k w) (sym (add_assoc base at (length x))) in
-    let less : at ≤ n = omega arith in
-    rw (take-take at n m less, take-add base at w) (simp (append_assoc, rest))
-
 -- what a lent part is left as, is placed in the whole
 pub placed_whole : (w : List ℕ) (base n : ℕ) (x : List ℕ) → length x ≡ n → put_mid base n w x ≡ placed w base x
 unfolding placed

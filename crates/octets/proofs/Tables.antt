@@ -9,7 +9,7 @@ use native.Mathlib.Omega.{arith}
 use lib.ListN.{length, get_or, drop, length-append}
 use lib.Seq.{drop_at}
 use Rattle.octets.specs.Octets.{number_at, numbers_in, bytes_of, numbers_of}
-use Rattle.octets.proofs.Numbers.{Bytes, number_at_lt, number_at_drop, number_at_first, number_at_round, length_bytes_of}
+use Rattle.octets.proofs.Numbers.{number_at_drop, number_at_first, number_at_round, length_bytes_of}
 
 -- ---- numbers read
 pub length_numbers_in : (big : Bool) (w n : ℕ) (s : List ℕ) → length (numbers_in big w n s) ≡ n
@@ -24,9 +24,6 @@ numbers_in_at big w (suc n) s zero h = rw (mul-zero w)
 numbers_in_at big w (suc n) s (suc i) h =
     let e : w + w * i ≡ w * suc i = omega (arith, mul-suc w i) in
     numbers_in_at big w n (drop w s) i (le_of_suc-le-suc h) ∙ number_at_drop big w s w (w * i) ∙ ap (number_at big w s) e
-
-pub numbers_in_lt : (big : Bool) (w n : ℕ) (s : List ℕ) (i : ℕ) → Bytes s → i < n → get_or (numbers_in big w n s) i 0 < 256 ^ w
-numbers_in_lt big w n s i b h = rw (numbers_in_at big w n s i h) (number_at_lt big w s (w * i) b)
 
 -- ---- numbers written
 pub length_numbers_of : (big : Bool) (w : ℕ) (ns : List ℕ) → length (numbers_of big w ns) ≡ w * length ns

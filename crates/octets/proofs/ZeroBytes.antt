@@ -4,6 +4,7 @@ use mathlib.Core.Path.{◌≡◌, refl, sym, ap, ap₂, ◌∙◌}
 use mathlib.Core.Logic.{⊎_elim}
 use mathlib.Core.Bool.{Bool, true, false}
 use mathlib.Core.List.{List, [], ◌∷◌}
+use Rattle.std.specs.Prelude.{Option, Some, None}
 use Prim.Native.Nat.{ℕ, zero, suc, ◌+◌, ◌*◌, ◌-◌, ◌/◌, ◌%◌, ◌^◌, ◌<◌, ◌≤◌}
 use native.Mathlib.Nat.{pow-succ', not-suc-le-zero}
 use native.Mathlib.Decide.{ℕ_discrete, dec_le}
@@ -14,7 +15,7 @@ use lib.Count.{count_trailing_zeros, trailing_of_zero}
 use lib.ListN.{length, get_or}
 use borrow.Author.Tests.{eqb-true, eq-eqb, ne_eqb}
 use Rattle.octets.specs.Octets.{part, little, number, number_at, little_of, bytes_of, zero_marks}
-use Rattle.octets.specs.Lists.{FirstZero}
+use Rattle.octets.specs.Lists.{FirstZero, ZeroFound}
 use Rattle.octets.proofs.Checks.{true_false, known}
 use Rattle.octets.proofs.Parts.{length_part, get_d_part}
 use Rattle.octets.proofs.Numbers.{Bytes, bytes_tail, number_round, length_little_of, bytes_of_number_at}
@@ -171,16 +172,14 @@ module _ (x : ℕ) (h : x < 0x1_0000_0000_0000_0000) where
 abbrev pub Clear : List ℕ → ℕ → ℕ → Type 0
 Clear s from at = (i : ℕ) → from ≤ i → i < at → get_or s i 0 ≡ 0 → ⊥
 
-pub clear_none : (s : List ℕ) (at : ℕ) → Clear s at at
-clear_none s at i g h = absurd (omega arith)
-
 module _ (s : List ℕ) (from at : ℕ) (c : Clear s from at) where
+  before_both : (n : ℕ) → FirstZero s at n → Clear s from n
+  before_both n f i k m e = elim (dec_le at i) [ yes p ↦ f.before i p m e | no p ↦ c i k (omega arith) e ]
+
   -- the first from a place on is the first of all, where none stands before it
-  pub first_behind : (n : ℕ) → from ≤ at → FirstZero s at n → FirstZero s from n
-  first_behind n g f = record { reached = omega (arith, f.reached); within = f.within; found = f.found; before = both }
-    where
-      both : Clear s from n
-      both i k m e = elim (dec_le at i) [ yes p ↦ f.before i p m e | no p ↦ c i k (omega arith) e ]
+  pub first_behind : (r : Option ℕ) → from ≤ at → ZeroFound s at r → ZeroFound s from r
+  first_behind (Some n) g (l, f) = (l, record { reached = omega (arith, f.reached); within = f.within; found = f.found; before = before_both n f })
+  first_behind None g f = record { reached = omega (arith, f.reached); within = f.within; found = f.found; before = before_both (length s) f }
 
 module _ (s : List ℕ) (at x marks : ℕ) (h : at + 8 ≤ length s) (b : Bytes s) (p : x ≡ number_at false 8 s at) (q : marks ≡ little (zero_marks (little_of 8 x))) where
   eight : little_of 8 x ≡ part s at 8
@@ -210,7 +209,7 @@ module _ (s : List ℕ) (at x marks : ℕ) (h : at + 8 ≤ length s) (b : Bytes 
         let n : count_trailing_zeros 64 marks / 8 ≡ 8 = rw (e, trailing_of_zero 64) refl in
         further 8 (omega arith) (rw n at first.before)
 
-    pub first_found : from ≤ at → (marks ≡ 0 → ⊥) → FirstZero s from (at + count_trailing_zeros 64 marks / 8)
+    pub first_found : from ≤ at → (marks ≡ 0 → ⊥) → ZeroFound s from (Some (at + count_trailing_zeros 64 marks / 8))
     first_found g ne =
         let n = count_trailing_zeros 64 marks / 8 in
         let l = length_part s at 8 h in
@@ -218,10 +217,12 @@ module _ (s : List ℕ) (at x marks : ℕ) (h : at + 8 ≤ length s) (b : Bytes 
         elim (dec_le 8 n) [
           | yes y ↦ absurd (ne (marks_part ∙ unmarked (part s at 8) (λ i m. first.before i (omega arith) (omega arith))))
           | no y ↦ omega arith
-        ] in
-        record {
-          reached = omega arith;
-          within = omega arith;
-          found = λ m. sym (get_d_part s at 8 n short) ∙ first.found (omega arith);
-          before = further n (omega arith) first.before;
-        }
+        ] in (
+          omega arith,
+          record {
+            reached = omega arith;
+            within = omega arith;
+            found = λ m. sym (get_d_part s at 8 n short) ∙ first.found (omega arith);
+            before = further n (omega arith) first.before;
+          },
+        )

@@ -1,6 +1,6 @@
 -- Lists of anything: joined, filtered, tested, summed.
 -- Assumes nothing.
-use Rattle.std.specs.Prelude.{Bool, true, false, not, List, [], ◌∷◌, ◌++◌, ◌≡◌, ℕ, ◌+◌, ◌<◌, ◌≤◌, eqb, length, get_or}
+use Rattle.std.specs.Prelude.{Bool, true, false, not, Option, Some, None, List, [], ◌∷◌, ◌++◌, ◌≡◌, ℕ, ◌+◌, ◌<◌, ◌≤◌, eqb, length, get_or}
 
 unfoldable pub joined : List (List ℕ) → List ℕ
 joined [] = []
@@ -48,3 +48,8 @@ pub record FirstZero (s : List ℕ) (from n : ℕ) : Type 0 where
   pub within : n ≤ length s
   pub found : n < length s → get_or s n 0 ≡ 0
   pub before : (i : ℕ) → from ≤ i → i < n → get_or s i 0 ≡ 0 → ⊥
+
+-- the same, as a search answers it: none where no byte is zero
+abbrev pub ZeroFound : List ℕ → ℕ → Option ℕ → Type 0
+ZeroFound s from (Some n) = (n < length s) × FirstZero s from n
+ZeroFound s from None = FirstZero s from (length s)

@@ -14,7 +14,7 @@ ghost use Rattle.octets.specs.Octets.{
   placed,
   zero_marks,
 };
-ghost use Rattle.octets.specs.Lists.{all, same, FirstZero};
+ghost use Rattle.octets.specs.Lists.{all, same, ZeroFound};
 
 // One more than the greatest number of four bytes.
 const WORD: u64 = 0x1_0000_0000;
@@ -169,7 +169,7 @@ pub fn number_at(big_endian: bool, w: usize, s: &[u8], at: usize) -> u64
     }
 }
 
-// The names by which readers ask, one line each over the trait, so that no caller has to name a type.
+// The public names, one line each over the trait, which callers in ten crates and their proofs cite: `u32::read(..)` in their place says the same in no fewer words.
 pub fn u16_at(big_endian: bool, s: &[u8], at: usize) -> u16
     requires { at + 2 ≤ length s.now }
     ensures { result ≡ number_at big_endian 2 s.now at }
@@ -244,7 +244,7 @@ pub fn put_number(big_endian: bool, w: usize, n: u64, d: &mut [u8], at: usize)
     }
 }
 
-// The same for writers.
+// The public names of the stores, which callers and their proofs cite, as those of the readers above.
 pub fn put_u16(big_endian: bool, n: u16, d: &mut [u8], at: usize)
     requires { at + 2 ≤ length d.old }
     ensures { d.new ≡ placed d.old at (bytes_of big_endian 2 n) }
@@ -255,13 +255,6 @@ pub fn put_u16(big_endian: bool, n: u16, d: &mut [u8], at: usize)
 pub fn put_u32(big_endian: bool, n: u32, d: &mut [u8], at: usize)
     requires { at + 4 ≤ length d.old }
     ensures { d.new ≡ placed d.old at (bytes_of big_endian 4 n) }
-{
-    n.put(big_endian, d, at);
-}
-
-pub fn put_u64(big_endian: bool, n: u64, d: &mut [u8], at: usize)
-    requires { at + 8 ≤ length d.old }
-    ensures { d.new ≡ placed d.old at (bytes_of big_endian 8 n) }
 {
     n.put(big_endian, d, at);
 }
@@ -326,33 +319,34 @@ fn zero_marks(x: u64) -> u64
     u64::MAX - filled
 }
 
-// The place of the first zero byte from a place on, or the length where there is none: eight bytes at a time, and the last ones singly. The place is counted
-// by hand: `as_chunks` is no plainer, since it gives the number of a chunk, from which the place would have to be made, and the rest apart.
-pub fn first_zero(s: &[u8], from: usize) -> usize
+// The place of the first zero byte from a place on: eight bytes at a time, and the last ones singly. The place is counted by hand: `as_chunks` is no plainer,
+// since it gives the number of a chunk, from which the place would have to be made, and the rest apart.
+#[tactic(auto, using(crate::proofs::ZeroBytes::first_behind))]
+pub fn first_zero(s: &[u8], from: usize) -> Option<usize>
     requires { from ≤ length s.now }
-    ensures { FirstZero s.now from result }
+    ensures { ZeroFound s.now from result }
 {
     let mut at = from;
     while EIGHT <= s.len() - at {
         let marks = zero_marks(u64::read(false, s, at));
         if marks != 0 {
-            return at + (marks.trailing_zeros() / BITS) as usize;
+            return Some(at + (marks.trailing_zeros() / BITS) as usize);
         }
         at += EIGHT;
     }
     first_zero_singly(s, at)
 }
 
-fn first_zero_singly(s: &[u8], from: usize) -> usize
+fn first_zero_singly(s: &[u8], from: usize) -> Option<usize>
     requires { from ≤ length s.now }
-    ensures { FirstZero s.now from result }
+    ensures { ZeroFound s.now from result }
 {
     for (i, b) in s[from..].iter().enumerate() {
         if *b == 0 {
-            return from + i;
+            return Some(from + i);
         }
     }
-    s.len()
+    None
 }
 
 // ---- words of a work area

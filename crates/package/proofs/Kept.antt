@@ -270,7 +270,11 @@ kept_once us before behind u t x e p = record {
   behind = behind;
   stands = e;
   under = p;
-  alone = ⊎_elim (λ h. absurd (true_false (distinct_kept t us) (ap (λ (l : List Filed). distinct (identities_in t l)) e ∙ ap distinct split ∙ distinct_repeats (identities_in t before) (identities_in t behind) x (has_identity t x before ∙ h)))) (λ h. h) (known (any (is_under t x) before));
+  alone = ⊎_elim
+      (λ h. absurd (true_false (distinct_kept t us)
+      (ap (λ (l : List Filed). distinct (identities_in t l)) e ∙ ap distinct split ∙ distinct_repeats (identities_in t before) (identities_in t behind) x (has_identity t x before ∙ h))))
+      (λ h. h)
+      (known (any (is_under t x) before));
 }
   where
     split : identities_in t (before ++ (u ∷ behind)) ≡ identities_in t before ++ (x ∷ identities_in t behind)

@@ -76,7 +76,8 @@ held_none : (five : Bool) (b w : List ℕ) (n : ℕ) → NoneHeld n w → UnitsH
 unfolding none_filed
 held_none five b w n z =
     units_none five b (region w n records_region) (λ t. slots_in w n t (seen_slots n)) none_filed.units refl refl refl
-    (λ t o. subst (λ (x : Table). TableHeld five (region w n records_region) 0 (slots_in w n t (seen_slots n)) t x []) (same_table t o) (table_none five (region w n records_region) (slots_in w n t (seen_slots n)) t (seen_slots n) (z.slots t o)))
+    (λ t o. subst (λ (x : Table). TableHeld five (region w n records_region) 0 (slots_in w n t (seen_slots n)) t x []) (same_table t o)
+    (table_none five (region w n records_region) (slots_in w n t (seen_slots n)) t (seen_slots n) (z.slots t o)))
 
 -- the end word lies behind the head
 pub bundle_long : (b : List ℕ) (k : Bundle) → bundle_of b ≡ pass k → 4 ≤ length b

@@ -36,7 +36,7 @@ impl From<Result<Made, Unwritten>> for Packed {
                 Packed {
                     code: written.code,
                     length: written.length,
-                    repeats: 0, // 18 is a refusal
+                    repeats: 0, // no package, no counts
                     namesakes: 0,
                 }
             }

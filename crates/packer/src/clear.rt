@@ -10,7 +10,7 @@ ghost use Rattle.packer.specs.Objects.{
 
 use kept::regions::{COMPILATION, TYPE};
 
-// Those of a table, for a bundle of n words.
+// Clears the slots of identities seen of a table, for a bundle of n words.
 fn clear_table(n: usize, table: usize, work: &mut [u32])
     requires { Clearable n (length work.old) }
     ensures { SlotsCleared n table work.old work.new }

@@ -26,7 +26,7 @@ pub struct Made {
     pub skipped: Skipped,
 }
 
-// Over an output that is cleared; work may hold anything, and is not cleared after it.
+// Over an output that is cleared, which no type says since the first write ends it; work may hold anything, and is not cleared after it.
 fn pack_cleared(b: &[u8], work: &mut [u32], out: &mut [u8]) -> Result<Made, Unwritten>
     requires { out.old ≡ zeros (length out.old) }
     ensures answer { packing_as result ≡ packing_of b.now (packed b.now (length work.old) (length out.old)) }

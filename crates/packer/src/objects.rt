@@ -1,4 +1,4 @@
-// The objects of a bundle, one behind the other: 4 to 16, and 34.
+// The objects of a bundle, one following the other: refusals 4 to 16, and 34.
 ghost use Rattle.std.specs.Prelude.{◌≡◌};
 ghost use Rattle.packer.specs.Objects.{
   UnitsAsked,
@@ -14,9 +14,14 @@ ghost use Rattle.packer.specs.Objects.{
 
 use bundle::{Item, Scan};
 use filing::input::InputObject;
-use kept::state::InProgress;
+use index::cells::COLUMNS;
+use kept::state::{InProgress, Skipped};
+use kept::{Table, Units};
 use numbers::refusals::Refusal;
+use numbers::sections::CODES;
+use strings::table::StringTable;
 
+// The bundle, what is held and work stay parameters of the functions below: each lends what is held and work to another crate's, work in parts.
 // The object at hand: the byte order, the first object's word and its own, and where its sections start.
 #[derive(Clone, Copy)]
 pub struct ObjectHead {
@@ -73,12 +78,37 @@ pub fn add_input_object(
     (scan.next, add_scanned_object(b, head, &scan, st, work))
 }
 
-// Before the first object.
+// A table before its first row.
+const NO_ROWS: Table = Table {
+    rows: 0,
+    has: [false; COLUMNS],
+};
+
+// Before the first object. Not by `Default`: a derived one promises nothing outside the crate of its type.
 #[tactic(auto, unfolding(crate::specs::Objects::none_filed))]
 fn nothing_filed() -> InProgress
     ensures { result ≡ none_filed }
 {
-    InProgress::default()
+    InProgress {
+        units: Units {
+            count: 0,
+            cu: NO_ROWS,
+            tu: NO_ROWS,
+            info: 0,
+            types: 0,
+        },
+        bases: [0; CODES],
+        strings: StringTable {
+            count: 0,
+            size: 0,
+            entries: 0,
+            over: false,
+        },
+        skipped: Skipped {
+            repeats: 0,
+            namesakes: 0,
+        },
+    }
 }
 
 // All objects, into work whose slots are cleared, and what is held after them. The caller has checked 1 to 3.

@@ -7,7 +7,6 @@ use mathlib.Core.List.{List, [], ◌∷◌, ◌++◌, append-nil, append_assoc}
 use mathlib.Core.Option.{Option, some, none}
 use Prim.Native.Nat.{ℕ, zero, suc, ◌+◌, ◌-◌, ◌/◌, ◌<◌, ◌≤◌}
 use native.Mathlib.Omega.{arith}
-use native.Mathlib.Numerals.{add-one}
 use native.Mathlib.Decide.{ℕ_discrete, dec_lt}
 use lib.Dec.{eqb}
 use lib.ListN.{length, take, drop, get_or, set, length-set, length-append, length-drop, get_or-append}
@@ -349,6 +348,10 @@ module _ (i : Index) (section heads : ℕ) where
       let l : heads ≤ length w = omega arith in
       chained_none i section heads (x ++ drop heads w) (omega (arith, length_cleared w x heads l e)) (heads_cleared w x heads l e)
 
-  pub rows_on : (w v : List ℕ) (k : ℕ) (cell : Cell) → ChainedTo i section heads w k → k < i.units
-      → cell ≡ cell_found (cell_of i (k + 1) section) → v ≡ with_cell w heads (k + 1) cell → ChainedTo i section heads v (k + 1)
-  rows_on w v k cell c l is e = rw (e, add-one) (chained_more i section heads k w c l cell (rw add-one at is))
+  pub rows_on : (w v : List ℕ) (row : ℕ) (cell : Cell) → 1 ≤ row → row ≤ i.units → ChainedTo i section heads w (row - 1)
+      → cell ≡ cell_found (cell_of i row section) → v ≡ with_cell w heads row cell → ChainedTo i section heads v (row + 1 - 1)
+  rows_on w v zero cell f l c is e = absurd (omega arith)
+  rows_on w v (suc k) cell f l c is e =
+      let before : suc k - 1 ≡ k = omega arith in
+      let behind : suc k + 1 - 1 ≡ suc k = omega arith in
+      rw (e, behind) (chained_more i section heads k w (rw before at c) (omega arith) cell is)

@@ -179,11 +179,11 @@ module _ (i : Index) (k : ℕ) (cs : List Contribution) where
       ∙ sym (append_assoc (named_in (cell_of i (suc k) str_offsets_code)) (rows_named i k) cs)
 
   -- a row is marked
-  pub row_marked : (ms ns : List ℕ) (row : ℕ) (cell : Cell) (r : Bool) → row ≡ k + 1 → cell ≡ cell_found (cell_of i row str_offsets_code)
-      → Marked (parts_in cell ++ (rows_named i k ++ cs)) ms ns r → r ≡ true → Marks (rows_named i row ++ cs) ns
-  row_marked ms ns row cell r n e m t =
+  pub row_marked : (ms ns : List ℕ) (row next : ℕ) (cell : Cell) (r : Bool) → row ≡ k + 1 → next ≡ row → cell ≡ cell_found (cell_of i row str_offsets_code)
+      → Marked (parts_in cell ++ (rows_named i k ++ cs)) ms ns r → r ≡ true → Marks (rows_named i next ++ cs) ns
+  row_marked ms ns row next cell r n after e m t =
       let q : row ≡ suc k = omega arith in
-      subst (λ (j : ℕ). Marks (rows_named i j ++ cs) ns) (sym q)
+      subst (λ (j : ℕ). Marks (rows_named i j ++ cs) ns) (sym (after ∙ q))
       (subst (λ (l : List Contribution). Marks l ns) (one_more cell (e ∙ ap (λ (j : ℕ). cell_found (cell_of i j str_offsets_code)) q)) (m.good t))
 
   -- a row clashes, and so do all

@@ -1,5 +1,6 @@
 // The rows of an index by the place that they name in a section: a chain of rows for each word of the section, so that the rows of one place are found without a
 // walk over all of them. In lent words: first the heads of the chains, one for each word of the section, then for each row the next one of its chain; 0 ends it.
+// The end is a number, not an enum: the chains stand in lent words, which are numbers, since there is no heap for anything else.
 ghost use Rattle.std.specs.Prelude.{◌≡◌, ℕ, ◌+◌, ◌/◌, ◌<◌, ◌≤◌, ◌^◌, length};
 ghost use Rattle.numbers.specs.Refused.{told};
 ghost use Rattle.numbers.specs.Sections.{info_code};
@@ -36,8 +37,7 @@ pub fn chain_rows(index: &Index, section: usize, heads: usize, words: &mut [u32]
     ensures { Chained index.now section heads words.new }
 {
     words[..heads].fill(0);
-    for passed in 0..index.head().units {
-        let row = passed + 1;
+    for row in 1..index.head().units + 1 {
         let cell = index.cell_of(row, section);
         chain_row(words, heads, row, cell);
     }
@@ -48,10 +48,7 @@ pub fn chain_rows(index: &Index, section: usize, heads: usize, words: &mut [u32]
 fn names(row: Row, at: usize, size: usize) -> bool
     ensures { result ≡ cell_is (own_place at size) (cell_of row.entry.index.now row.entry.number info_code) }
 {
-    match row.cell(INFO) {
-        Some(place) => place.offset == at && place.size == size,
-        None => false,
-    }
+    row.cell(INFO) == Some(Contribution { offset: at, size })
 }
 
 // The one row that names a place of info; 15 where there is none or several. The caller has chained the rows by info, and the place lies in it.

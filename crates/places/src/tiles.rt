@@ -36,6 +36,7 @@ fn mark_part(marks: &mut [u32], cell: Option<Contribution>) -> bool
     if marks.len() <= part.offset || marks.len() - part.offset < part.size {
         return false;
     }
+    // 0 stands for no part: marks stand in lent words, which are numbers, since there is no heap for anything else.
     let known = marks[part.offset] as usize;
     if known == 0 {
         marks[part.offset] = part.size as u32;
@@ -49,8 +50,8 @@ pub fn mark_rows(index: &Index, marks: &mut [u32]) -> bool
     requires { length marks.old < 2 ^ 32 }
     ensures { (cs : List Part) → Marks cs marks.old → Marked (named (some index.now) ++ cs) marks.old marks.new result }
 {
-    for passed in 0..index.head().units {
-        let cell = index.cell_of(passed + 1, STR_OFFSETS);
+    for row in 1..=index.head().units {
+        let cell = index.cell_of(row, STR_OFFSETS);
         if !mark_part(marks, cell) {
             return false;
         }
@@ -89,6 +90,7 @@ pub fn tiled(marks: &[u32]) -> bool
 }
 
 // Where the first part starts that 8 refuses; the section's end where there is none. The caller has marked parts that tile the section.
+// The end is no value that stands for none: callers take the answer as a limit, and put the strings of what stands before it.
 pub fn good_parts(e: ObjectEncoding, s: &[u8], marks: &[u32]) -> usize
     requires { (length marks.now ≡ length s.now) × ((ts : List Part) × TiledBy marks.now ts) }
     ensures { (ts : List Part) → TiledBy marks.now ts → result ≡ good_end (encoding_is e) s.now ts }

@@ -3,6 +3,7 @@
 use mathlib.Core.Path.{◌≡◌, refl, sym, ap, ◌∙◌}
 use mathlib.Core.Bool.{Bool, true, false, ◌&&◌, ◌||◌}
 use mathlib.Core.List.{List, ◌∷◌, ◌++◌}
+use Rattle.std.specs.Prelude.{Some, None}
 use Prim.Native.Nat.{ℕ, suc, ◌+◌, ◌*◌, ◌-◌, ◌/◌, ◌%◌, ◌<◌, ◌≤◌}
 use native.Mathlib.Omega.{arith}
 use lib.Dec.{eqb, leb}
@@ -10,7 +11,7 @@ use lib.ListN.{length, drop, get_or, length-drop}
 use lib.Seq.{drop-cons, get_or-drop}
 use borrow.Author.Tests.{lt-leb}
 use Rattle.octets.specs.Octets.{part, number_at}
-use Rattle.octets.specs.Lists.{FirstZero}
+use Rattle.octets.specs.Lists.{ZeroFound}
 use Rattle.octets.specs.Checked.{Check, pass, refuse, mapped}
 use Rattle.octets.proofs.Checks.{not_left, not_right}
 use Rattle.octets.proofs.Parts.{length_part, get_d_part, drop_part}
@@ -102,10 +103,10 @@ pub read_beyond : (n : ℕ) (s : List ℕ) (offset : ℕ) → length s ≤ offse
 unfolding mapped
 read_beyond n s offset h = sym (ap (mapped (string_place offset)) (string_at_beyond n s offset h))
 
-module _ (n : ℕ) (s : List ℕ) (start end : ℕ) (f : FirstZero s start end) where
-  pub read_found : end < length s → pass (record { start = start; size = end - start }) ≡ mapped (string_place start) (string_at n s start)
+module _ (n : ℕ) (s : List ℕ) (start : ℕ) where
+  pub read_found : (end : ℕ) → ZeroFound s start (Some end) → pass (record { start = start; size = end - start }) ≡ mapped (string_place start) (string_at n s start)
   unfolding string_at mapped
-  read_found h =
+  read_found end (h, f) =
       let k = f.reached in
       let t = part s start (end - start) in
       let l : length t ≡ end - start = length_part s start (end - start) (omega arith) in
@@ -118,9 +119,9 @@ module _ (n : ℕ) (s : List ℕ) (start end : ℕ) (f : FirstZero s start end) 
       let place : ℕ → Place = λ (z : ℕ). record { start = start; size = z } in
       sym (ap (mapped (string_place start)) (ap (up_to_zero n) parts ∙ up_to_ended n t (drop (suc end) s) clean) ∙ ap (λ (z : ℕ). pass (place z)) l)
 
-  pub read_none : length s ≤ end → refuse n ≡ mapped (string_place start) (string_at n s start)
+  pub read_none : ZeroFound s start None → refuse n ≡ mapped (string_place start) (string_at n s start)
   unfolding string_at mapped
-  read_none h = grind (arith, not_has, length-drop, get_or-drop, up_to_never)
+  read_none f = grind (arith, not_has, length-drop, get_or-drop, up_to_never)
 
 -- that of `string_at`
 pub ruleset string_reads = (read_beyond, read_found, read_none)

@@ -31,16 +31,19 @@ pub struct Section<'a> {
     pub bytes: &'a [u8],
 }
 
+// The bytes of a header: none in version 4.
+#[tactic(auto, using(crate::proofs::Headers::header_sizes))]
+pub fn header_size(e: ObjectEncoding) -> usize
+    ensures { result ≡ header_size (encoding_is e) }
+{
+    if e.five { 2 * e.width() } else { 0 }
+}
+
 impl Section<'_> {
-    #[tactic(auto, using(crate::proofs::Headers::header_sizes))]
     pub fn header_size(self) -> usize
         ensures { result ≡ header_size (encoding_is self.entry.encoding) }
     {
-        if self.encoding.five {
-            2 * self.encoding.width()
-        } else {
-            0
-        }
+        header_size(self.encoding)
     }
 
     // The version and the padding, 5 and 0, behind the length of a header.
@@ -124,12 +127,8 @@ pub fn string_at(s: &[u8], offset: u64) -> Option<Place>
         return None;
     }
     let start = offset as usize;
-    let end = octets::first_zero(s, start);
-    if end < s.len() {
-        let size = end - start;
-        return Some(Place { start, size });
-    }
-    None
+    let size = octets::first_zero(s, start)? - start;
+    Some(Place { start, size })
 }
 
 // How many bytes stand up to the last zero byte: no string starts behind it.

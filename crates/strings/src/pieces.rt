@@ -12,7 +12,6 @@ ghost use Rattle.strings.specs.Headed.{
   PiecesWritten,
 };
 
-use crate::entries;
 use crate::entries::Section;
 use crate::table::{Place, StrOffsets, StringTable};
 use numbers::refusals::Refusal;
@@ -41,7 +40,7 @@ impl Section<'_> {
         let encoding = self.encoding;
         let mut from = 0;
         let mut first = 0;
-        // Each piece states how far the next one is: no range has these steps.
+        // Each piece states how far the next one is: no range has these steps, and an iterator's `next` would hold the same step, with laws of its own.
         while from < self.bytes.len() {
             let bytes = &self.bytes[from..];
             let size = Section { encoding, bytes }.piece_size();
@@ -75,7 +74,7 @@ impl StringTable {
         let encoding = o.encoding;
         let mut at = o.offsets.start;
         let end = at + o.offsets.size;
-        // Each piece states how far the next one is: no range has these steps.
+        // As in `write_pieces`: no range has these steps, and an iterator's `next` would hold the same step.
         while at < end {
             let bytes = &b[at..end];
             let size = Section { encoding, bytes }.piece_size();
@@ -88,7 +87,8 @@ impl StringTable {
 
     // Puts the strings that the entries of all pieces name, each of which check_entries let pass. What is remembered of str serves all of them. The table has room
     // for a row for each entry, and the memory a word for each byte of str; what the memory holds after the call is not promised.
-    // Beside `add_strings`, and not one with it: what is read between, and so what is asked and promised, is another.
+    // Beside `add_strings`, and not one with it: here true headers are asked for (`HeadedOf`), and room by bytes, where `add_strings` asks for no header and
+    // for room by entries; and `add_strings` takes all behind the first header for entries, so that it can't promise the strings of more pieces.
     #[tactic(auto, using(crate::proofs::Remembering::begun))]
     pub fn add_pieces(
         &mut self,
@@ -100,8 +100,7 @@ impl StringTable {
         requires { PiecesAsked b.now o table.old memory.old self.old }
         ensures { PiecesKept b.now o table.old self.old table.new self.new result }
     {
-        let ended = entries::last_zero(o.strings.of(b));
-        crate::table::forget(memory, o.strings.size);
+        let ended = o.begin(b, memory);
         self.put_pieces(o, b, ended, table, memory)
     }
 }

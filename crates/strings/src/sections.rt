@@ -7,7 +7,7 @@ ghost use Rattle.strings.specs.Headed.{piece_with};
 ghost use Rattle.strings.specs.Kept.{bytes_at, Inside, Held};
 
 use crate::entries::Section;
-use crate::table::{Place, row_place};
+use crate::table::{OFFSET, Place, ROW_WORDS, row_place};
 
 impl Section<'_> {
     // Writes a piece with other numbers for its entries: the header as it was, and the numbers behind it.
@@ -40,7 +40,7 @@ pub fn write_strings(b: &[u8], table: &[u32], count: usize, d: &mut [u8], at: us
     ensures { (ts : List (List ℕ)) → Held b.now table.now count ts → d.new ≡ placed d.old at (str_of ts) }
 {
     for i in 0..count {
-        let offset = table[3 * i + 2] as usize;
+        let offset = table[ROW_WORDS * i + OFFSET] as usize;
         put_string(b, row_place(table, i), d, at + offset);
     }
 }

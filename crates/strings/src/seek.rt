@@ -13,7 +13,7 @@ ghost use Rattle.strings.specs.Indexed.{
 };
 ghost use Rattle.strings.specs.Kept.{bytes_at, Inside, row_place, Held, Seekable};
 
-use crate::table::{Place, row_place};
+use crate::table::{LINK_WORDS, Place, ROOTS_FROM, ROW_WORDS, row_place};
 use numbers::limits::STRING_WORDS;
 
 // Two primes below 2 to the power 30, so that the sum of products stays within 64 bits.
@@ -73,7 +73,7 @@ fn root_of(room: usize, s: &[u8]) -> usize
     ensures { result ≡ root_of room s.now }
 {
     let h = hash_of(s);
-    6 * room + (h * room as u64 / HALF) as usize
+    ROOTS_FROM * room + (h * room as u64 / HALF) as usize
 }
 
 // The side on which the search for a string goes on after so many steps.
@@ -93,7 +93,7 @@ fn link_of(room: usize, number: usize, on: usize) -> usize
     requires { (room < 2 ^ 31) × (1 ≤ number) × (number < 2 ^ 32) × (on < 2) }
     ensures { result ≡ link_of room number on }
 {
-    3 * room + 2 * (number - 1) + on
+    ROW_WORDS * room + LINK_WORDS * (number - 1) + on
 }
 
 // Whether row i is a string. Lengths are compared before bytes.

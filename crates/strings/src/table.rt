@@ -40,7 +40,21 @@ use bundle::encoding::ObjectEncoding;
 use numbers::limits::{SECTION_LIMIT, STRING_WORDS};
 use numbers::refusals::Refusal;
 
-// A part of the bundle.
+// The words of a row, and where its length and its offset in str stand in it. No struct, since memory is lent as words and there is no heap.
+pub(crate) const ROW_WORDS: usize = 3;
+
+const SIZE: usize = 1;
+
+pub(crate) const OFFSET: usize = 2;
+
+// The links of a row. They stand behind all rows, the places of entries behind all links, and the roots behind the places.
+pub(crate) const LINK_WORDS: usize = 2;
+
+const PLACES_FROM: usize = ROW_WORDS + LINK_WORDS;
+
+pub(crate) const ROOTS_FROM: usize = PLACES_FROM + 1;
+
+// A part of the bytes of a bundle or of a package.
 #[derive(Clone, Copy)]
 pub struct Place {
     pub start: usize,
@@ -58,7 +72,8 @@ impl Place {
     }
 }
 
-// An object's str_offsets and str.
+// An object's str_offsets and str. The bundle `b` is no field: the table's kept strings lie in the same bundle, so that clauses and code need its bytes apart
+// from an object's.
 #[derive(Clone, Copy)]
 pub struct StrOffsets {
     pub encoding: ObjectEncoding,
@@ -78,12 +93,22 @@ impl StrOffsets {
             bytes: self.offsets.of(b),
         }
     }
+
+    // Before strings are put: nothing is remembered of str. Answers where its last string ends.
+    pub(crate) fn begin(self, b: &[u8], memory: &mut [u32]) -> usize
+        requires { Inside b.now self.strings × (self.strings.size ≤ length memory.old) }
+        ensures ended { LastZero (bytes_at b.now self.strings) result }
+        ensures forgotten { memory.new ≡ placed memory.old 0 (zeros self.strings.size) }
+    {
+        forget(memory, self.strings.size);
+        entries::last_zero(self.strings.of(b))
+    }
 }
 
 // How many strings are kept, how long their str section is, how many entries named them, and whether the section would be above 8,388,607
 // bytes (19). From then on nothing is stored: the package is refused, whatever the new offsets are, and the sum of lengths stays within 32 bits.
 // `over` stays a flag: 19 is due only once all objects are read, and until then the other three say what is stored, whether it is set or not.
-#[derive(Clone, Copy, Default)]
+#[derive(Clone, Copy)]
 pub struct StringTable {
     pub count: usize,
     pub size: usize,
@@ -97,8 +122,8 @@ pub fn row_place(table: &[u32], i: usize) -> Place
     ensures { result ≡ row_place table.now i }
 {
     Place {
-        start: table[3 * i] as usize,
-        size: table[3 * i + 1] as usize,
+        start: table[ROW_WORDS * i] as usize,
+        size: table[ROW_WORDS * i + SIZE] as usize,
     }
 }
 
@@ -107,10 +132,10 @@ fn set_row(table: &mut [u32], i: usize, p: Place, offset: usize)
     requires { (3 * i + 3 ≤ length table.old) × (p.start < 2 ^ 32) × (p.size < 2 ^ 32) × (offset < 2 ^ 32) }
     ensures { table.new ≡ placed table.old (3 * i) (p.start ∷ p.size ∷ offset ∷ []) }
 {
-    let at = 3 * i;
+    let at = ROW_WORDS * i;
     table[at] = p.start as u32;
-    table[at + 1] = p.size as u32;
-    table[at + 2] = offset as u32;
+    table[at + SIZE] = p.size as u32;
+    table[at + OFFSET] = offset as u32;
 }
 
 // Where the places of entries start, in so many words.
@@ -118,7 +143,7 @@ fn set_row(table: &mut [u32], i: usize, p: Place, offset: usize)
 pub fn places_from(words: usize) -> usize
     ensures { result ≡ places_from words }
 {
-    5 * (words / STRING_WORDS)
+    PLACES_FROM * (words / STRING_WORDS)
 }
 
 // The string at an offset of an object's str, by its place in the bundle.
@@ -143,7 +168,7 @@ impl StringTable {
         ensures { table.new ≡ row_added table.old slot self p }
     {
         let i = self.count;
-        let links = 3 * (table.len() / STRING_WORDS) + 2 * i;
+        let links = ROW_WORDS * (table.len() / STRING_WORDS) + LINK_WORDS * i;
         set_row(table, i, p, self.size);
         octets::set_word(table, links, 0);
         octets::set_word(table, links + 1, 0);
@@ -192,7 +217,7 @@ impl StringTable {
         }
         match crate::seek::seek_string(b, table, self.count, p) {
             Ok(i) => {
-                let place = table[3 * i + 2] as usize;
+                let place = table[ROW_WORDS * i + OFFSET] as usize;
                 self.note_place(table, place);
                 Some(place)
             }
@@ -265,8 +290,7 @@ impl StringTable {
         requires { AllAddable b.now o (length table.old) (length memory.old) self.old × ((used : List (List ℕ)) × Kept b.now table.old self.old used) }
         ensures { (used : List (List ℕ)) → Kept b.now table.old self.old used → AddedOf b.now o table.new used self.new result }
     {
-        let ended = entries::last_zero(o.strings.of(b));
-        forget(memory, o.strings.size);
+        let ended = o.begin(b, memory);
         self.add_entries(o, b, ended, table, memory)
     }
 }

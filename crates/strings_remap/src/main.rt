@@ -68,7 +68,12 @@ fn remap_entries(
     requires { AllAddable b.now o (length table.old) (length memory.old) none × (entries_of (encoding_is o.encoding) (bytes_at b.now o.offsets) ≡ pass (entries_at o b.now)) }
 {
     table.fill(0);
-    let mut kept = StringTable::default();
+    let mut kept = StringTable {
+        count: 0,
+        size: 0,
+        entries: 0,
+        over: false,
+    };
     kept.add_strings(o, b, table, memory)?;
     if kept.over {
         return Err(Failure::Refused(Refusal::SectionTooLong));

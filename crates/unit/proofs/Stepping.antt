@@ -1,19 +1,25 @@
 -- One attribute of the root, and the walk over all of them.
 -- Assumes nothing.
 use mathlib.Core.Path.{◌≡◌, refl, sym, ap, ap₂, subst, ◌∙◌}
+use mathlib.Core.Logic.{inl, inr}
+use mathlib.Core.Bool.{Bool, true, not}
 use mathlib.Core.List.{List, [], ◌∷◌}
 use mathlib.Core.Option.{Option, some, none}
-use Prim.Native.Nat.{ℕ, ◌+◌, ◌*◌, ◌-◌, ◌≤◌, ◌<◌}
+use Prim.Native.Nat.{ℕ, zero, suc, ◌+◌, ◌*◌, ◌/◌, ◌-◌, ◌≤◌}
 use native.Mathlib.Omega.{arith}
-use native.Mathlib.Nat.{add-zero}
-use native.Mathlib.Decide.{ℕ_discrete}
-use lib.Dec.{eqb}
-use lib.ListN.{length, take, drop, get_or, length-drop}
-use lib.Seq.{drop-drop, get_or-drop}
-use borrow.Author.Tests.{eq-eqb, ne_eqb}
+use native.Mathlib.Decide.{ℕ_discrete, dec_le}
+use lib.Dec.{eqb, ltb}
+use lib.ListN.{length, take, drop, length-drop}
+use lib.Seq.{drop-drop}
+use borrow.Author.Tests.{eq-eqb, ne_eqb, eqb-true, leb-true, le-ltb, lt-ltb}
+use Rattle.std.specs.Prelude.{Some, None, cond}
+use Rattle.std.specs.Option.{unwrap_or}
+use Rattle.std.specs.List.{position_or_len}
+use Rattle.std.specs.Simd.{first_chunks}
+use Rattle.std.proofs.lemmas.List.Sums.{prefix_len-le-length}
 use Rattle.octets.specs.Octets.{number_at}
 use Rattle.octets.specs.Checked.{Check, pass, refuse, ◌>>=◌, require}
-use Rattle.octets.proofs.Checks.{pass_refuse, pass_inj, bind_pass, then_pass, then_refuse, passes, fails}
+use Rattle.octets.proofs.Checks.{known, true_false, and_left, and_right, pass_refuse, pass_inj, bind_pass, then_pass, then_refuse, passes, fails}
 use Rattle.octets.proofs.Refusals.{Only, only_pass, only_require, only_bind, only_refuses}
 use Rattle.leb128.specs.Leb128.{short}
 use Rattle.leb128.proofs.Tenth.{short_one}
@@ -21,7 +27,7 @@ use Rattle.bundle.specs.Encoding.{Encoding}
 use Rattle.octets.proofs.Options.{some_inj, some_none}
 use Rattle.unit.specs.Abbreviations.{Attribute, attribute_at, attributes_of}
 use Rattle.unit.specs.Root.{needed, Value, value_of, identity_at, identity_in}
-use Rattle.unit.specs.Roots.{Move, attribute_step, identity_from, Skips}
+use Rattle.unit.specs.Roots.{Move, attribute_step, identity_from, is_flag, Skips}
 use Rattle.unit.proofs.Sizes.{rest}
 use Rattle.unit.proofs.Attributes.{before, attribute_good, attribute_at_taken, only_attribute_at, attributes_is, attributes_end, attributes_more, only_attributes_from}
 use Rattle.unit.proofs.Values.{value_within, value_flag, only_value_of, only_needed}
@@ -213,32 +219,59 @@ identity_same : (e : Encoding) (name : ℕ) (v : Value) (s : List ℕ) (seen : O
 identity_same e name v s (some x) h = identity_seen e name v s x
 identity_same e name v s none h = identity_other e name v s h
 
-module _ (t : List ℕ) where
-  pub skips_none : Skips t 0
+pub skips_none : (t : List ℕ) → Skips t 0
+unfolding Skips
+skips_none t = (omega arith, λ e s seen. refl)
+
+module _ (x y : ℕ) (t : List ℕ) (z : x ≡ 0 → ⊥) (o : x ≤ 0x7f) (f : y ≡ 0x19) where
+  name_read : short (x ∷ y ∷ t) ≡ pass (x, 1)
+  name_read = sym (short_one (x ∷ y ∷ t) x (λ h. omega (arith, h)) refl (omega arith))
+
+  form_read : short (y ∷ t) ≡ pass (0x19, 1)
+  form_read = sym (short_one (y ∷ t) 0x19 (λ h. omega (arith, h)) (sym f) (omega arith))
+
+  flag_read : attribute_at (x ∷ y ∷ t) ≡ pass (record { name = x; form = 0x19 }, 2)
+  flag_read = attribute_good (x ∷ y ∷ t) x 1 name_read 0x19 1 form_read (rw (ne_eqb x 0 z) refl) (λ h. omega (arith, h))
+
+  flag_step : (e : Encoding) (s : List ℕ) (seen : Option ℕ) → attribute_step e (x ∷ y ∷ t) s seen ≡ pass (some (record { taken = 2; passed = 0; seen = seen }))
+  flag_step e s seen = step_on e (x ∷ y ∷ t) s seen _ 0x19 2 flag_read z _ (value_flag e 0x19 s refl) seen (identity_same e _ _ s seen (λ h. omega (arith, h, o)))
+
+  skips_more : (n : ℕ) → Skips t n → Skips (x ∷ y ∷ t) (suc (suc n))
   unfolding Skips
-  skips_none = (omega arith, λ e s seen. refl)
+  skips_more n h = (omega (arith, h.0), λ e s seen. h.1 e s seen ∙ sym (from_on e (x ∷ y ∷ t) s seen _ (flag_step e s seen)))
 
-  module _ (i : ℕ) (l : i + 1 < length t) (z : get_or t i 0 ≡ 0 → ⊥) (o : get_or t i 0 ≤ 0x7f) (f : get_or t (i + 1) 0 ≡ 0x19) where
-    name_read : short (drop i t) ≡ pass (get_or t i 0, 1)
-    name_read = sym (short_one (drop i t) (get_or t i 0) (λ h. omega (arith, h, length-drop i t)) (rw (get_or-drop, add-zero i)) (omega arith))
+skips_flag : (x y : ℕ) (t : List ℕ) → is_flag (x ∷ y ∷ []) ≡ true → (n : ℕ) → Skips t n → Skips (x ∷ y ∷ t) (suc (suc n))
+unfolding is_flag
+skips_flag x y t g n h =
+    let named = and_left _ _ g in
+    let rest = and_right _ _ g in
+    skips_more x y t (λ z. true_false named (ap not (eq-eqb x 0 z))) (leb-true x 0x7f (and_left _ _ rest)) (eqb-true y 0x19 (and_right _ _ rest)) n h
 
-    form_read : short (drop 1 (drop i t)) ≡ pass (0x19, 1)
-    form_read = rw (drop-drop 1 i t) (sym (short_one (drop (i + 1) t) 0x19 (λ h. omega (arith, h, length-drop (i + 1) t)) (rw (get_or-drop, add-zero (i + 1), f)) (omega arith)))
+abbrev pub other : List ℕ → Bool
+other p = not (is_flag p)
 
-    flag_read : attribute_at (drop i t) ≡ pass (record { name = get_or t i 0; form = 0x19 }, 2)
-    flag_read = attribute_good (drop i t) (get_or t i 0) 1 name_read 0x19 1 form_read (rw (ne_eqb (get_or t i 0) 0 z) refl) (λ h. omega (arith, h))
+searched_is : (p l : ℕ) → p ≤ l → unwrap_or (cond (ltb p l) (Some p) None) l ≡ p
+searched_is p l h = elim (dec_le l p) [
+  | yes g ↦ rw (le-ltb p l g) (omega arith)
+  | no g ↦ rw (lt-ltb p l (omega arith)) refl
+]
 
-    flag_step : (e : Encoding) (s : List ℕ) (seen : Option ℕ) → attribute_step e (drop i t) s seen ≡ pass (some (record { taken = 2; passed = 0; seen = seen }))
-    flag_step e s seen = step_on e (drop i t) s seen _ 0x19 2 flag_read z _ (value_flag e 0x19 s refl) seen (identity_same e _ _ s seen (λ h. omega (arith, h, o)))
+-- the pairs before the first that is no flag
+pub skips_flags : (c : ℕ) (t : List ℕ) → 2 * c ≤ length t → Skips t (2 * position_or_len other (first_chunks 2 c t))
+skips_flags zero t h = skips_none t
+skips_flags (suc c) [] h = absurd (omega arith)
+skips_flags (suc c) (x ∷ []) h = absurd (omega arith)
+skips_flags (suc c) (x ∷ y ∷ t) h =
+    elim (known (is_flag (x ∷ y ∷ []))) [
+      | inl g ↦ rw g (subst (Skips (x ∷ y ∷ t)) (omega arith) (skips_flag x y t g _ (skips_flags c t (omega arith))))
+      | inr g ↦ rw g (skips_none (x ∷ y ∷ t))
+    ]
 
-    pub skips_more : Skips t i → Skips t (i + 2)
-    unfolding Skips
-    skips_more h = (omega arith, λ e s seen. from_turn e t s i 0 seen _ (flag_step e s seen) ∙ h.1 e s seen)
-
-  -- as pairs are counted
-  pub skips_pair : (i : ℕ) → 2 * i + 1 < length t → (get_or t (2 * i) 0 ≡ 0 → ⊥) → get_or t (2 * i) 0 ≤ 0x7f → get_or t (2 * i + 1) 0 ≡ 0x19 → Skips t (2 * i)
-      → Skips t (2 * (i + 1))
-  skips_pair i l z o f h = let next : 2 * i + 2 ≡ 2 * (i + 1) = omega arith in subst (Skips t) next (skips_more (2 * i) l z o f h)
+-- as the search answers it
+pub skips_searched : (t : List ℕ) (cs : List (List ℕ)) → cs ≡ first_chunks 2 (length t / 2) t
+    → Skips t (2 * unwrap_or (cond (ltb (position_or_len other cs) (length cs)) (Some (position_or_len other cs)) None) (length cs))
+skips_searched t cs e =
+    rw (searched_is (position_or_len other cs) (length cs) (prefix_len-le-length _ cs), e) (skips_flags (length t / 2) t (omega arith))
 
 -- ---- the walk, as the code takes it
 pub record Walked (e : Encoding) (t s : List ℕ) (a at : ℕ) (seen : Option ℕ) : Type 0 where

@@ -1,6 +1,6 @@
 -- The walk over a root's attributes as code takes it, and what its values are by the definition.
 -- Assumes nothing.
-use Rattle.std.specs.Prelude.{Option, Some, None, ◌≡◌, true, false, List, ℕ, ◌+◌, ◌≤◌, eqb, length, drop}
+use Rattle.std.specs.Prelude.{Option, Some, None, ◌≡◌, Bool, true, false, not, ◌&&◌, List, ℕ, ◌+◌, ◌≤◌, eqb, leb, length, drop, get_or}
 use Rattle.std.proofs.Math.Option.{some, none}
 use Rattle.std.proofs.Math.Option as math
 use Rattle.octets.specs.Checked.{Check, pass, ◌>>=◌}
@@ -39,6 +39,10 @@ moved_is None = none
 -- the identity that the attributes at the front of t state, where those before them state seen
 unfoldable pub identity_from : Encoding → List ℕ → List ℕ → math.Option ℕ → Check ℕ
 identity_from e t s seen = attributes_of t >>= λ a. (identity_in e a.0 s seen >>= needed)
+
+-- a name and a form of one byte each, of a flag that is present
+unfoldable pub is_flag : List ℕ → Bool
+is_flag p = not (eqb (get_or p 0 0) 0) && (leb (get_or p 0 0) 0x7f && eqb (get_or p 1 0) 0x19)
 
 -- without so many bytes at the front of t, the same is stated
 unfoldable pub Skips : List ℕ → ℕ → Type 0

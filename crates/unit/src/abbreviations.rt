@@ -20,6 +20,9 @@ ghost use Rattle.unit.specs.TableTrees.{TableHeld, Judges};
 use crate::tree::{CodeTree, NODE};
 use numbers::refusals::Refusal;
 
+// The form of version 5 whose value stands in the table.
+const IMPLICIT_CONST: u64 = 0x21;
+
 // A name, a form, and the bytes that they take.
 #[derive(Clone, Copy)]
 pub struct Attribute {
@@ -43,7 +46,8 @@ struct Declaration {
     place: Place,
 }
 
-// A declaration's tag, and where its attributes start. No part of a place: both would be taken apart and put together wherever a start is moved.
+// A declaration's tag, and where its attributes start. `Place` repeats both fields and does not hold a `Heading`: wherever a start is moved, two structs
+// would have to be taken apart and put together.
 #[derive(Clone, Copy)]
 pub struct Heading {
     pub tag: u64,
@@ -73,14 +77,14 @@ impl From<Unheld> for Refusal {
     }
 }
 
-// A name and a form, zero together; form 21 hexadecimal is refused.
+// A name and a form, zero together; form 21 hexadecimal, `IMPLICIT_CONST`, is refused.
 #[tactic(auto, using(crate::proofs::Attributes::attribute_cases, crate::proofs::Sizes::behind_number, crate::proofs::Sizes::short_most), unfolding(octets::specs::Checked::mapped))]
 pub fn attribute_at(s: &[u8]) -> Result<Attribute, Refusal>
     ensures { mapped attribute_is (told result) ≡ attribute_at s.now }
 {
     let (name, n) = leb128::read_short(s)?;
     let (form, m) = leb128::read_short(&s[n..])?;
-    if (name == 0) != (form == 0) || form == 0x21 {
+    if (name == 0) != (form == 0) || form == IMPLICIT_CONST {
         return Err(Refusal::NoIdentity);
     }
     Ok(Attribute {
@@ -98,7 +102,8 @@ fn has_none(s: &[u8]) -> bool
     s.len() >= 2 && s[0] == 0 && s[1] == 0
 }
 
-// The bytes of a declaration's attributes, with the pair of zeros that ends them. A loop, since each attribute says where the next starts.
+// The bytes of a declaration's attributes, with the pair of zeros that ends them. A loop, since each attribute says where the next starts: the `next` of an
+// iterator of our own would hold the same step, with laws of its own.
 #[tactic(auto, using(crate::proofs::Attributes::walk_cases, crate::proofs::Sizes::rest), unfolding(octets::specs::Checked::mapped))]
 fn walk_attributes(s: &[u8]) -> Result<usize, Refusal>
     ensures { told result ≡ attributes_size s.now }
@@ -159,9 +164,10 @@ fn declared_at(s: &[u8]) -> Result<Option<Declaration>, Refusal>
     Ok(Some(Declaration { code, place }))
 }
 
-// How many declarations the table has that ends, where no code repeats: then codes hold them, by where they stand. A word for each byte suffices: a
-// declaration takes at least five bytes, and a node five words. The bytes are read once, and each declaration takes one walk in the tree.
-// A loop, since each declaration says where the next starts.
+// Judges the table at the front of s, which is good where a zero code ends it and no code repeats. It answers how many declarations the table has, and then
+// codes hold where each of them stands. A word for each byte suffices: a declaration takes at least five bytes, and a node five words. The bytes are read
+// once, and each declaration takes one walk in the tree.
+// A loop, since each declaration says where the next starts: the `next` of an iterator of our own would hold the same step, with laws of its own.
 pub fn judge_table(s: &[u8], codes: &mut [u32]) -> Result<usize, Unheld>
     requires { length s.now < 2 ^ 32 }
     ensures { Judges s.now codes.new result }

@@ -38,7 +38,7 @@ use numbers::tables::{SKELETON_UNIT, SPLIT_TYPE_UNIT, SPLIT_UNIT, TYPE_UNIT, Tab
 // The least number of 4 bytes that is no length.
 const FIRST_RESERVED: u64 = 0xFFFF_FFF0;
 
-// The code of info, as a unit's home has it. A home is a section's code, and stays a number as those do: numbers/src/sections.rt says why.
+// The code of info, as a unit's home has it. A home is only compared with it, and stays a number of 32 bits: a narrower type would ask more of callers.
 const INFO: u32 = numbers::sections::INFO as u32;
 
 // Where a unit's identity stands.
@@ -114,7 +114,7 @@ impl<'a> Unit<'a> {
         self.e.field_size() + fields + self.e.width()
     }
 
-    // Whether a length starts as the width wants it. It states this number.
+    // Whether the length field starts as the width wants it. `stated` is the number that the field states.
     #[tactic(auto, using(crate::proofs::Fields::length_cases), unfolding(bundle::specs::Encoded::encoding_is))]
     fn length_good(self, stated: u64) -> bool
         requires { stated ≡ length_stated (encoding_is self.e) self.bytes.now }
@@ -280,7 +280,8 @@ pub fn unit_head(e: ObjectEncoding, s: &[u8]) -> Result<usize, Refusal>
 }
 
 // The identity of a unit whose head was read, and the table that it is handed in for. Home is the code of its section. An identity of 0 is refused.
-// Bundle, words and memory of the tables stay parameters: a clause speaks of all three, and the words are lent for one call, out of a larger slice.
+// Bundle, words and `Judged` stay three parameters: the words are lent for one call out of a larger slice, and put in a struct with the others they would
+// come back with nothing known of what was written, as strings/src/table.rt says of its table.
 #[tactic(auto, using(crate::proofs::Cuts::answer_cases), unfolding(octets::specs::Checked::mapped))]
 pub fn unit_identity(
     e: ObjectEncoding,

@@ -24,7 +24,8 @@ use numbers::refusals::Refusal;
 // The directory has one of so many words.
 const SHARE: usize = 5;
 
-// A part of the bundle.
+// A part of the bundle. It is another type than strings' `Place`, which has start and size: unit stands beside strings and below what uses both, and a
+// table is known by where its section ends, and compared by both ends.
 #[derive(Clone, Copy, PartialEq, Eq)]
 pub struct Span {
     pub at: usize,

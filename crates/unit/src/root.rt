@@ -12,6 +12,7 @@ ghost use Rattle.unit.specs.Roots.{
   attribute_step,
   moved_is,
   identity_from,
+  is_flag,
   Skips,
 };
 
@@ -20,11 +21,25 @@ use crate::tree::{CodeTree, NODE};
 use bundle::encoding::ObjectEncoding;
 use numbers::refusals::Refusal;
 
+// The form of a number of 8 bytes.
+const DATA8: u64 = 0x07;
+
+// The form of a value that has its real form in front.
+const INDIRECT: u64 = 0x16;
+
 // The form of a flag that is there without a value.
 const FLAG_PRESENT: u64 = 0x19;
 
 // The same as the one byte that states it.
-const FLAG_BYTE: u8 = 0x19;
+const FLAG_BYTE: u8 = FLAG_PRESENT as u8;
+
+// The name of the attribute that states the identity.
+const DWO_ID: u64 = 0x2131;
+
+// The tags of a root.
+const COMPILE_UNIT_TAG: u64 = 0x11;
+
+const TYPE_UNIT_TAG: u64 = 0x41;
 
 // The greatest name of one byte.
 const ONE_BYTE: u8 = 0x7f;
@@ -45,6 +60,9 @@ struct Move {
     seen: Option<u64>,
 }
 
+// Here and in forms.rt an encoding and bytes stay two parameters: each step cuts the bytes anew, so that a struct of both would be made at each. `Unit` of
+// header.rt is that pair where it is kept.
+
 // A value that ends in s, of a form that is not indirect.
 #[tactic(auto, using(crate::proofs::Values::plain_unknown, crate::proofs::Values::plain_not, crate::proofs::Values::plain_is, crate::proofs::Steps::ok_or_none), unfolding(octets::specs::Checked::mapped))]
 fn plain_value(e: ObjectEncoding, form: u64, s: &[u8]) -> Result<Value, Refusal>
@@ -64,7 +82,7 @@ fn plain_value(e: ObjectEncoding, form: u64, s: &[u8]) -> Result<Value, Refusal>
 fn value_of(e: ObjectEncoding, form: u64, s: &[u8]) -> Result<Value, Refusal>
     ensures { mapped value_is (told result) ≡ value_of (encoding_is e) form s.now }
 {
-    if form != 0x16 {
+    if form != INDIRECT {
         return plain_value(e, form, s);
     }
     let (real, n) = leb128::read_short(s)?;
@@ -101,8 +119,8 @@ fn identity_at(
 {
     match seen {
         Some(x) => Ok(Some(x)),
-        None if name != 0x2131 => Ok(None),
-        None if value.form != 7 => Err(Refusal::NoIdentity),
+        None if name != DWO_ID => Ok(None),
+        None if value.form != DATA8 => Err(Refusal::NoIdentity),
         None => Ok(Some(octets::u64_at(e.big, s, value.start))),
     }
 }
@@ -130,23 +148,27 @@ fn attribute_step(
     }))
 }
 
-// How many bytes at the front of t are flags that are present, of one byte for the name and one for the form. One byte can't name 2131 hexadecimal,
-// and no such flag has bytes in the unit, so that they change nothing. A root may have very many: this loop passes them faster than steps do.
-#[tactic(auto, using(crate::proofs::Stepping::skips_none, crate::proofs::Stepping::skips_pair))]
+// Whether a name and a form are a flag that is present, of one byte for each. One byte can't name 2131 hexadecimal, and such a flag has no bytes in the
+// unit.
+#[tactic(auto, unfolding(crate::specs::Roots::is_flag))]
+fn is_flag(pair: [u8; 2]) -> bool
+    ensures { result ≡ is_flag pair }
+{
+    let [name, form] = pair;
+    name != 0 && name <= ONE_BYTE && form == FLAG_BYTE
+}
+
+// How many bytes at the front of t are such flags: they change nothing. A root may have very many, and this passes them faster than steps do.
 fn skip_flags(t: &[u8]) -> usize
     ensures { Skips t.now result }
 {
-    let pairs = t.len() / 2;
-    for i in 0..pairs {
-        let name = t[2 * i];
-        if name == 0 || name > ONE_BYTE || t[2 * i + 1] != FLAG_BYTE {
-            return 2 * i;
-        }
-    }
-    2 * pairs
+    let (pairs, _) = t.as_chunks::<2>();
+    let other = pairs.iter().position(|pair| !is_flag(*pair));
+    2 * other.unwrap_or(pairs.len())
 }
 
-// The identity that the attributes at the front of t state, whose values stand at the front of s. A loop, since each attribute says where the next starts.
+// The identity that the attributes at the front of t state, whose values stand at the front of s. A loop, since each attribute says where the next starts:
+// the `next` of an iterator of our own would hold the same step, with laws of its own.
 fn identity_in(e: ObjectEncoding, t: &[u8], s: &[u8]) -> Result<u64, Refusal>
     ensures { told result ≡ identity_from (encoding_is e) t.now s.now none }
 {
@@ -169,7 +191,7 @@ fn identity_in(e: ObjectEncoding, t: &[u8], s: &[u8]) -> Result<u64, Refusal>
 fn root_tag(tag: u64) -> bool
     ensures { result ≡ root_tag tag }
 {
-    tag == 0x11 || tag == 0x41
+    tag == COMPILE_UNIT_TAG || tag == TYPE_UNIT_TAG
 }
 
 // In a table that was judged, whose declarations codes hold. s is the unit behind its header.

@@ -16,6 +16,7 @@ ghost use Rattle.unit.specs.Trees.{
 };
 
 // The words of a node: the nodes on its left and on its right, what it carries, and its code. No structs, since memory is lent as words and there is no heap.
+// A link of 0 leads nowhere: words are lent as numbers, and the root, node 0, is never a child.
 pub const NODE: usize = 5;
 
 const CARRIED: usize = 2;

@@ -32,7 +32,11 @@ returns-in_default c =
       | in_default-via-in-Ok+in_default w ↦ objects_other _ _ _ _ all _ (λ z. omega arith) w.in_default.ensures
       | in_default-via-in_default w ↦ objects_refused _ _ _ _ all _ (rw w.in_default.is at c.next_item.ensures)
     ] in
-    let p = sym (empty_package _ _ _ _ a (sym over)) in record { answer = c.finish_empty.ensures.answer ∙ ap (λ (k : Check (List ℕ)). outcome_of (answered k (length c.args.out.now))) p; output = c.finish_empty.ensures.output ∙ ap (λ (k : Check (List ℕ)). output_of (answered k (length c.args.out.now)) (length c.args.out.now)) p }
+    let p = sym (empty_package _ _ _ _ a (sym over)) in
+    record {
+      answer = c.finish_empty.ensures.answer ∙ ap (λ (k : Check (List ℕ)). outcome_of (answered k (length c.args.out.now))) p;
+      output = c.finish_empty.ensures.output ∙ ap (λ (k : Check (List ℕ)). output_of (answered k (length c.args.out.now)) (length c.args.out.now)) p;
+    }
 
 pub returns-in_err-encoding : goal.returns-in_err-encoding
 returns-in_err-encoding c = absurd (word_good _ _ _ _ c.requires.0 (λ i. (c.type_inv.b i).fits) _ _ (sym (ap pass c.in-Ok-Object.field-0-is) ∙ c.in-Ok-Object.ensures) _ c.in_err-encoding.ensures)

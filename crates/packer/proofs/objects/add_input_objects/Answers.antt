@@ -29,7 +29,8 @@ add_input_object-next-requires c =
 pub returns-in_err-added : goal.returns-in_err-added
 returns-in_err-added c k e =
     let o = c.in-Ok-Object-next_item in
-    tells_exit _ _ c.from_residual.ensures.1 (far_refused c.loop-word.invariant o.word o.from (sym (ap pass o.field-0-is) ∙ o.ensures) _ _ c.add_input_object-next.auto.work _ (rw c.in_err-added.was at c.add_input_object-next.ensures.filed) k e)
+    tells_exit _ _ c.from_residual.ensures.1
+    (far_refused c.loop-word.invariant o.word o.from (sym (ap pass o.field-0-is) ∙ o.ensures) _ _ c.add_input_object-next.auto.work _ (rw c.in_err-added.was at c.add_input_object-next.ensures.filed) k e)
 
 pub loop-word-smaller : goal.loop-word-smaller
 loop-word-smaller c =

@@ -1,6 +1,7 @@
 -- Each object's section is put behind those before it: `Sharing` is what the loop keeps.
 -- Assumes nothing.
 use mathlib.Core.Path.{◌≡◌, refl, sym, ap, ◌∙◌}
+use mathlib.Core.Bool.{true}
 use mathlib.Core.List.{List}
 use Prim.Native.Nat.{ℕ}
 use native.Mathlib.Omega.{arith}
@@ -9,7 +10,7 @@ use Rattle.bundle.specs.Bundle.{Bundle, bundle_of}
 use Rattle.octets.specs.Checked.{pass}
 use Rattle.bundle.specs.Encoded.{encoding_is}
 use Rattle.bundle.proofs.Objects.{objects_other, objects_refused}
-use Rattle.finish.specs.Joining.{sections_joined, StringsPlaced, SharedJoinable}
+use Rattle.finish.specs.Joining.{sections_joined, remaps, table_lent, StringsPlaced, SharedJoinable}
 use Rattle.finish.proofs.JoinedObjects.{read_once}
 use Rattle.finish.proofs.Entering.{AtObject, object_reaches, object_scanned}
 use Rattle.finish.proofs.Remapping.{sharing_none, sharing_end, sharing_inside, sharing_fits, sharing_asks, sharing_count, sharing_more}
@@ -18,8 +19,8 @@ use Rattle.finish.proofs.joining.SharedSections.write.Goals.{At-loop-next, After
 
 -- these strings, or any others
 abbrev any : (c : At-loop-next) (k : Bundle) (used : List (List ℕ)) → bundle_of c.args.self.now.bundle.now ≡ pass k
-    → (c.args.code ≡ 6 → StringsPlaced (encoding_is c.args.self.now.encoding) c.args.self.now.bundle.now c.args.self.now.table.now k.objects used)
-    → SharedJoinable (encoding_is c.args.self.now.encoding) c.args.self.now.bundle.now c.args.self.now.table.now c.args.code (length c.args.out.now) c.args.at
+    → (remaps c.args.self.now.table c.args.code ≡ true → StringsPlaced (encoding_is c.args.self.now.encoding) c.args.self.now.bundle.now (table_lent c.args.self.now.table) k.objects used)
+    → SharedJoinable (encoding_is c.args.self.now.encoding) c.args.self.now.bundle.now c.args.self.now.table c.args.code (length c.args.out.now) c.args.at
 any c k used e f = record {
   bundle = k;
   reads = e;
@@ -32,14 +33,14 @@ any c k used e f = record {
 
 -- the object whose sections are scanned
 at-object : (x : After-scan_object-scan)
-    (a : SharedJoinable (encoding_is x.args.self.now.encoding) x.args.self.now.bundle.now x.args.self.now.table.now x.args.code (length x.args.out.now) x.args.at)
+    (a : SharedJoinable (encoding_is x.args.self.now.encoding) x.args.self.now.bundle.now x.args.self.now.table x.args.code (length x.args.out.now) x.args.at)
     → AtObject x.args.self.now.bundle.now x.loop-next.place x.in-Ok-Object.next x.scan_object-scan.result (x.loop-next.invariant.1 a).joining.done a.bundle.objects
 at-object x a =
     let j = (x.loop-next.invariant.1 a).joining in
     object_scanned _ _ _ _ j.passed _ _ (sym (ap pass x.in-Ok-Object.field-0-is) ∙ x.in-Ok-Object.ensures) _ x.scan_object-scan.ensures
 
 pub loop-next-init : goal.loop-next-init
-loop-next-init c = (refl, λ a. sharing_none _ _ _ _ _ _ a _ c.places_from-first.ensures)
+loop-next-init c = (refl, λ a. sharing_none _ _ _ _ _ _ a _ (rw c.lent-table.ensures at c.places_from-first.ensures))
 
 pub scan_object-scan-requires : goal.scan_object-scan-requires
 scan_object-scan-requires c =
@@ -58,26 +59,26 @@ overflow_add-bytes c =
     let a = c.requires in
     omega (arith, sharing_inside _ _ _ _ _ _ a _ _ _ _ (c.loop-next.invariant.1 a) _ _ (at-object g.After-scan_object-scan a))
 
-pub offset_bounds-self-first : goal.offset_bounds-self-first
-offset_bounds-self-first c = omega (arith, (c.loop-next.invariant.1 c.requires).within)
+pub offset_bounds-table-first : goal.offset_bounds-table-first
+offset_bounds-table-first c = omega (arith, (c.loop-next.invariant.1 c.requires).within, ap length c.lent-table.ensures, c.well_formed)
 
 pub slice_bounds-put_given-count : goal.slice_bounds-put_given-count
-slice_bounds-put_given-count c = (c.loop-next.invariant.1 c.requires).within
+slice_bounds-put_given-count c = rw c.lent-table.ensures (c.loop-next.invariant.1 c.requires).within
 
 pub slice_bounds-put_given-start : goal.slice_bounds-put_given-start
-slice_bounds-put_given-start c = (c.loop-next.invariant.1 c.requires).within
+slice_bounds-put_given-start c = rw c.lent-table.ensures (c.loop-next.invariant.1 c.requires).within
 
 pub put_given-count-requires : goal.put_given-count-requires
 put_given-count-requires c =
     let g = goal.at.put_given-count-requires c in
     let a = c.requires in
-    sharing_asks _ _ _ _ _ _ a _ _ _ _ (c.loop-next.invariant.1 a) _ _ (at-object g.After-scan_object-scan a)
+    rw c.lent-table.ensures (sharing_asks _ _ _ _ _ _ a _ _ _ _ (c.loop-next.invariant.1 a) _ _ (at-object g.After-scan_object-scan a))
 
 pub overflow_add-first : goal.overflow_add-first
 overflow_add-first c =
     let g = goal.at.overflow_add-first c in
     let a = c.requires in
-    omega (arith, sharing_count _ _ _ _ _ _ a _ _ _ _ (c.loop-next.invariant.1 a) _ _ (at-object g.After-scan_object-scan a) _ _ c.put_given-count.ensures, c.well_formed)
+    omega (arith, sharing_count _ _ _ _ _ _ a _ _ _ _ (c.loop-next.invariant.1 a) _ _ (at-object g.After-scan_object-scan a) _ _ (rw c.lent-table.ensures at c.put_given-count.ensures), ap length c.lent-table.ensures, c.well_formed)
 
 pub overflow_add-o : goal.overflow_add-o
 overflow_add-o c =
@@ -95,7 +96,7 @@ pub loop-next-preserved : goal.loop-next-preserved
 loop-next-preserved c =
     let v = c.loop-next.invariant in (
       c.put_given-count.auto.out ∙ v.0,
-      λ a. sharing_more _ _ _ _ _ _ a _ _ _ _ (v.1 a) _ _ (at-object (goal.at.loop-next-preserved c).After-scan_object-scan a) _ _ c.put_given-count.ensures,
+      λ a. sharing_more _ _ _ _ _ _ a _ _ _ _ (v.1 a) _ _ (at-object (goal.at.loop-next-preserved c).After-scan_object-scan a) _ _ (rw c.lent-table.ensures at c.put_given-count.ensures),
     )
 
 pub returns-in_default : goal.returns-in_default

@@ -9,7 +9,7 @@ use Rattle.finish.proofs.joining.SharedSections.write.Given as goal
 abbrev pub invariant-loop-next : goal.invariant-loop-next
 invariant-loop-next l =
     (length l.out ≡ length l.initial.out)
-    × ((a : SharedJoinable (encoding_is l.self.encoding) l.self.bundle.now l.self.table.now l.code (length l.initial.out) l.at) → Sharing l.self.encoding l.self.bundle.now l.self.table.now l.code l.at l.initial.out a l.out l.o l.place l.first)
+    × ((a : SharedJoinable (encoding_is l.self.encoding) l.self.bundle.now l.self.table l.code (length l.initial.out) l.at) → Sharing l.self.encoding l.self.bundle.now l.self.table l.code l.at l.initial.out a l.out l.o l.place l.first)
 
 abbrev pub decreases-loop-next : goal.decreases-loop-next
 decreases-loop-next l = length l.self.bundle.now - l.place

@@ -24,4 +24,9 @@ pub write_section-requires : goal.write_section-requires
 write_section-requires c = frame_section _ _ _ _ _ c.requires c.if-size-eq0.false _ c.put_section_word.auto.d
 
 pub returns : goal.returns
-returns c = let room = frame_room _ _ _ _ _ c.requires c.if-size-eq0.false in record { next = ap (λ (k : ℕ). c.args.at + 4 + k) c.filled_up.ensures ∙ omega (arith, framed_some (get_or c.args.self.now.sizes c.args.code 0) c.if-size-eq0.false); output = λ y r q. frame_put _ _ _ _ _ _ _ c.put_section_word.ensures (c.write_section.ensures y r) (omega (arith, room)) q c.if-size-eq0.false }
+returns c =
+    let room = frame_room _ _ _ _ _ c.requires c.if-size-eq0.false in
+    record {
+      next = ap (λ (k : ℕ). c.args.at + 4 + k) c.filled_up.ensures ∙ omega (arith, framed_some (get_or c.args.self.now.sizes c.args.code 0) c.if-size-eq0.false);
+      output = λ y r q. frame_put _ _ _ _ _ _ _ c.put_section_word.ensures (c.write_section.ensures y r) (omega (arith, room)) q c.if-size-eq0.false;
+    }

@@ -1,7 +1,0 @@
--- `elf_writer::sections::measure` meets its contract.
--- Assumes nothing.
-use Rattle.elf_writer.proofs.Loops.{Measuring}
-use Rattle.elf_writer.proofs.sections.measure.Given as goal
-
-abbrev pub invariant-loop-code : goal.invariant-loop-code
-invariant-loop-code l = Measuring l.s l.e l.code
