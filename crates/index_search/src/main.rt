@@ -23,7 +23,10 @@ fn read_bytes(text: &[u8], room: &mut [u8]) -> usize
     ensures count { result ≤ length room.new }
     ensures kept { length room.new ≡ length room.old }
 {
-    let digits = text.iter().position(|b| !is_digit(*b)).unwrap_or(text.len());
+    let digits = text
+        .iter()
+        .position(|b| !is_digit(*b))
+        .unwrap_or(text.len());
     let n = (digits / 2).min(room.len());
     hex::decode_to_slice(&text[..2 * n], &mut room[..n]).ok();
     n
