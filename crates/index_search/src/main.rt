@@ -1,6 +1,7 @@
 // Reads lines of text and answers each. "l" or "b", a space and hexadecimal digits: an index section, little-endian or big-endian; the
 // answer is its version, columns, units and slots, or "bad". "s", a space and 16 digits: an identity to look for in the last section;
 // the answer is its row, the number of looks and the cells of the sections 1 to 10, or "absent" and the number of looks.
+// The last 20 lines of the stored input are odd ones: capital letters, a digit or a space missing, what is no digit, an empty line.
 #![tactic(auto)]
 
 ghost use Rattle.std.specs.Prelude.{◌≡◌, ◌<◌, ◌≤◌, length};
