@@ -26,6 +26,30 @@ ghost use Rattle.bundle.specs.Next.{next_of, ended, in_order};
 use numbers::refusals::Refusal;
 use numbers::sections::CODES;
 
+// ---- words
+// A word's kind is its bits 28 to 31: what of it is a multiple of this.
+const KIND: u32 = 0x1000_0000;
+
+const OBJECT: u32 = 1;
+
+const SECTION: u32 = 2;
+
+const END: u32 = 3;
+
+// The heads of bundles whose data is little-endian and big-endian.
+const LITTLE_HEAD: u32 = 0xF000_0000;
+
+const BIG_HEAD: u32 = 0xF000_0001;
+
+// One more than the greatest encoding that an object's word holds.
+const ENCODINGS: u32 = 0x100_0000;
+
+// One more than the greatest length that a section's word holds, whose code is a multiple of this.
+const LENGTHS: u32 = 0x80_0000;
+
+// What a bundle of one object takes besides its sections: the words of head, object and end.
+pub const FRAME: usize = 12;
+
 // The greatest code of a section, and the least that holds no units, as words have them.
 const LAST_CODE: u32 = numbers::sections::TU_INDEX as u32;
 
@@ -81,11 +105,11 @@ fn object_item(at: usize, rest: u32) -> Result<Item, Refusal>
     requires { (at + 4 < 0x1_0000_0000_0000_0000) × (rest < 0x1000_0000) }
     ensures { told result ≡ next_of at (object_step rest) }
 {
-    if 0x100_0000 <= rest {
+    if ENCODINGS <= rest {
         return Err(Refusal::BadWords);
     }
     Ok(Item::Object {
-        word: 0x1000_0000 + rest,
+        word: OBJECT * KIND + rest,
         next: at + 4,
     })
 }
@@ -133,11 +157,11 @@ pub fn next_item(b: &[u8], at: usize) -> Result<Item, Refusal>
         return Err(Refusal::BadWords);
     }
     let word = octets::word_at(b, at);
-    let rest = word % 0x1000_0000;
-    match word / 0x1000_0000 {
-        1 => object_item(at, rest),
-        2 => section_item(b, at, rest / 0x80_0000, (rest % 0x80_0000) as usize),
-        3 => end_item(b, at, rest as usize),
+    let rest = word % KIND;
+    match word / KIND {
+        OBJECT => object_item(at, rest),
+        SECTION => section_item(b, at, rest / LENGTHS, (rest % LENGTHS) as usize),
+        END => end_item(b, at, rest as usize),
         _ => Err(Refusal::BadWords),
     }
 }
@@ -148,7 +172,7 @@ fn reach_end(b: &[u8], from: usize) -> Result<(), Refusal>
     ensures { told result ≡ ended (items from (drop from b.now)) }
 {
     let mut at = from;
-    // Each item says where the next one is.
+    // By hand: each item says where the next one starts.
     loop {
         at = match next_item(b, at)? {
             Item::Object { next, .. } => next,
@@ -177,8 +201,8 @@ pub fn check_words(b: &[u8]) -> Result<bool, Refusal>
         return Err(Refusal::BadWords);
     }
     let big = match octets::word_at(b, 0) {
-        0xF000_0000 => false,
-        0xF000_0001 => true,
+        LITTLE_HEAD => false,
+        BIG_HEAD => true,
         _ => return Err(Refusal::BadWords),
     };
     check_items(b)?;
@@ -221,6 +245,7 @@ pub fn scan_object(b: &[u8], from: usize) -> Scan
     ensures { result ≡ scan_of from (sections_of (items from (drop from b.now))) }
 {
     let mut scan = no_sections(from);
+    // By hand: each section says where the next item starts.
     while let Ok(Item::Section(section)) = next_item(b, scan.next) {
         scan.note(section);
     }
@@ -234,6 +259,7 @@ pub fn next_unit_section(b: &[u8], from: usize) -> Option<Section>
     ensures { result ≡ found (unit_section_of (sections_of (items from (drop from b.now)))) }
 {
     let mut at = from;
+    // By hand: each section says where the next item starts.
     while let Ok(Item::Section(section)) = next_item(b, at) {
         if section.code < FIRST_SHARED {
             return Some(section);
@@ -249,7 +275,7 @@ pub fn put_head(big_endian: bool, d: &mut [u8])
     requires { 4 ≤ length d.old }
     ensures { d.new ≡ placed d.old 0 (head_bytes big_endian) }
 {
-    octets::put_word(if big_endian { 0xF000_0001 } else { 0xF000_0000 }, d, 0);
+    octets::put_word(if big_endian { BIG_HEAD } else { LITTLE_HEAD }, d, 0);
 }
 
 #[tactic(auto, unfolding(crate::specs::Written::word_bytes))]
@@ -266,7 +292,7 @@ pub fn put_section_word(code: u32, size: usize, d: &mut [u8], at: usize)
     requires { (code < 32) × (size < 0x80_0000) × (at + 4 ≤ length d.old) }
     ensures { d.new ≡ placed d.old at (word_bytes (0x2000_0000 + code * 0x80_0000 + size)) }
 {
-    octets::put_word(0x2000_0000 + code * 0x80_0000 + size as u32, d, at);
+    octets::put_word(SECTION * KIND + code * LENGTHS + size as u32, d, at);
 }
 
 // A section of these bytes; the zeros that fill up its last word stand there. Returns the place behind it.
@@ -287,5 +313,5 @@ pub fn put_end(d: &mut [u8], at: usize)
     requires { (at < 0x4000_0000) × (at + 4 ≤ length d.old) }
     ensures { d.new ≡ placed d.old at (end_bytes at) }
 {
-    octets::put_word(0x3000_0000 + ((at + 4) / 4) as u32, d, at);
+    octets::put_word(END * KIND + ((at + 4) / 4) as u32, d, at);
 }

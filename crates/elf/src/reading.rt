@@ -8,11 +8,9 @@ ghost use Rattle.elf.specs.Held.{file_is, bundle_from, bundle_of_word};
 
 use crate::accepted::Accepted;
 use answers::{Unwritten, Written};
+use bundle::FRAME;
 use numbers::limits::PACKAGE_LIMIT;
 use numbers::refusals::Refusal;
-
-// What a bundle of one object takes besides its sections: head, object word and end.
-const FRAME: usize = 12;
 
 // What the sections may take of the 117,440,512 bytes.
 const ROOM_LIMIT: usize = PACKAGE_LIMIT - FRAME;

@@ -3,11 +3,9 @@ ghost use Rattle.std.specs.Prelude.{◌≡◌, true, ◌≤◌};
 ghost use Rattle.numbers.specs.Limits.{section_limit};
 ghost use Rattle.finish.specs.Sections.{sizes_good, framed_size, length_of};
 
+use bundle::FRAME;
 use numbers::limits::SECTION_LIMIT;
 use numbers::sections::CODES;
-
-// What a package takes besides its sections: head, object word and end.
-const FRAME: usize = 12;
 
 // 19: whether no section is above the limit.
 pub fn sizes_good(sizes: &[usize; CODES]) -> bool

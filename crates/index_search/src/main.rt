@@ -1,6 +1,7 @@
 // Reads lines of text and answers each. "l" or "b", a space and hexadecimal digits: an index section, little-endian or big-endian; the
 // answer is its version, columns, units and slots, or "bad". "s", a space and 16 digits: an identity to look for in the last section;
 // the answer is its row, the number of looks and the cells of the sections 1 to 10, or "absent" and the number of looks.
+// The last 20 lines of the stored input are odd ones: capital letters, a digit or a space missing, what is no digit, an empty line.
 #![tactic(auto)]
 
 ghost use Rattle.std.specs.Prelude.{◌≡◌, ◌<◌, ◌≤◌, length};
@@ -23,7 +24,10 @@ fn read_bytes(text: &[u8], room: &mut [u8]) -> usize
     ensures count { result ≤ length room.new }
     ensures kept { length room.new ≡ length room.old }
 {
-    let digits = text.iter().position(|b| !is_digit(*b)).unwrap_or(text.len());
+    let digits = text
+        .iter()
+        .position(|b| !is_digit(*b))
+        .unwrap_or(text.len());
     let n = (digits / 2).min(room.len());
     hex::decode_to_slice(&text[..2 * n], &mut room[..n]).ok();
     n

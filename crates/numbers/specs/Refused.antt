@@ -4,7 +4,11 @@ use Rattle.std.specs.Prelude.{ℕ, Result, Ok, Err}
 use Rattle.octets.specs.Checked.{Check, pass, refuse}
 use Rattle.numbers.specs.Refusals as number
 use Rattle.numbers.specs.declared.refusals.Refusal.{Refusal}
-use Rattle.numbers.specs.declared.refusals.Refusal.TheVariants.{BadLength, WorkShort, BadWords, BadEncoding, OtherEncoding, WrongEdition, SectionMissing, BadStrOffsets, NoString, BadIndex, BadHeader, NoIdentity, IdentityZero, IdentitySeen, NoRow, BadRow, OutputShort, SectionTooLong, BadPackage, OtherVersion, BadQuestion, PartOutside, NoEntry, NoStringThere, NotElf, UnreadableSection, NoUnit, BadParts, PageShort, OtherMachine, FileShort, BadQuestions}
+use Rattle.numbers.specs.declared.refusals.Refusal.TheVariants.{BadLength, WorkShort, BadWords, BadEncoding, OtherEncoding, WrongEdition, SectionMissing}
+use Rattle.numbers.specs.declared.refusals.Refusal.TheVariants.{BadStrOffsets, NoString, BadIndex, BadHeader, NoIdentity, IdentityZero, IdentitySeen, NoRow}
+use Rattle.numbers.specs.declared.refusals.Refusal.TheVariants.{BadRow, OutputShort, SectionTooLong, BadPackage, OtherVersion, BadQuestion, PartOutside}
+use Rattle.numbers.specs.declared.refusals.Refusal.TheVariants.{NoEntry, NoStringThere, NotElf, UnreadableSection, NoUnit, BadParts, PageShort, OtherMachine}
+use Rattle.numbers.specs.declared.refusals.Refusal.TheVariants.{FileShort, BadQuestions}
 
 abbrev pub number_of : Refusal → ℕ
 number_of BadLength = number.bad_length

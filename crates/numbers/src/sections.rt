@@ -1,4 +1,5 @@
 // The codes of an object's sections. Numbers, and no enum: arrays are indexed by them, and the words of bundles and of work hold them.
+// Many contracts say `code < section_codes`, and no ghost field of a type does: a code indexes arrays of CODES cells, and callers count through them.
 pub const INFO: usize = 1;
 
 pub const TYPES: usize = 2;
