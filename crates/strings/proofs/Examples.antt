@@ -42,5 +42,7 @@ Examples =
     × (remapped five (first_uses used) (headed 12) ((97 ∷ []) ∷ []) ≡ numbers_of true 4 (0xFFFF_FFFF ∷ 0 ∷ 12 ∷ 0x5_0000 ∷ 0 ∷ 3 ∷ []))
 
 pub examples : Examples
-unfolding part little big_from number number_at numbers_in little_of big_of bytes_of numbers_of joined any same ◌>>=◌ require marked length_field length_stated header_size header_true entries_in entries_of up_to_zero string_at strings_at put put_all first_uses ended str_of offset_in remapped
+unfolding
+    part little big_from number number_at numbers_in little_of big_of bytes_of numbers_of joined any same ◌>>=◌ require marked length_field
+    length_stated header_size header_true entries_in entries_of up_to_zero string_at strings_at put put_all first_uses ended str_of offset_in remapped
 examples = (refl, refl, refl, refl, refl, refl)

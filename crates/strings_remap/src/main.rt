@@ -34,7 +34,7 @@ impl From<Refusal> for Failure {
 }
 
 // The new str_offsets from the front of the output, and the new str behind it: where str starts, and where it ends.
-#[tactic(auto, using(octets::proofs::Parts::part_cut, octets::proofs::Parts::length_part, strings::proofs::Ends::length_strings_at, strings::proofs::StrOffsets::sound, strings::proofs::StrOffsets::entries_whole, strings::proofs::StrOffsets::header_within, strings::proofs::StrOffsets::whole_length, strings::proofs::Places::length_bytes_at))]
+#[tactic(auto, using(crate::proofs::Sections::section_sizes))]
 fn write_sections(
     o: StrOffsets,
     b: &[u8],

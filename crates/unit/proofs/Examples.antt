@@ -119,5 +119,9 @@ Examples =
     × (unit_size wide (numbers_of false 4 (0xFFFF_FFFE ∷ 7 ∷ 0 ∷ [])) ≡ refuse 11)
 
 pub examples : Examples
-unfolding part little number number_at little_of bytes_of numbers_of joined any has distinct zero_together ◌>>=◌ require groups short unsigned signed_size attribute_at attributes_then attributes_from attributes_of declaration_at declarations_then declarations_from declarations_of declaration_of forms width_in zero_ended value_size needed plain_value value_of identity_at identity_in root_tag root_identity marked length_field length_stated length_good unit_size is_five address_place common_size behind_common identity_five identity_four identity_of unit_by unit_of
+unfolding
+    part little number number_at little_of bytes_of numbers_of joined any has distinct zero_together ◌>>=◌ require groups short unsigned signed_size
+    attribute_at attributes_then attributes_from attributes_of declaration_at declarations_then declarations_from declarations_of declaration_of forms
+    width_in zero_ended value_size needed plain_value value_of identity_at identity_in root_tag root_identity marked length_field length_stated
+    length_good unit_size is_five address_place common_size behind_common identity_five identity_four identity_of unit_by unit_of
 examples = (refl, refl, refl, refl, refl, refl, refl, refl, refl, refl, refl, refl, refl, refl, refl, refl, refl, refl, refl, refl)

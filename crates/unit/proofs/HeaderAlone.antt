@@ -21,7 +21,7 @@ use Rattle.unit.specs.Headers.{fits, unit_inside, common_good, fields_good, kind
 use Rattle.unit.specs.declared.header.Kind.{Kind}
 use Rattle.unit.specs.declared.header.Kind.TheVariants.{Compilation, Signature, Root, Other}
 use Rattle.unit.proofs.Rooted.{only_root_identity}
-use Rattle.unit.proofs.Fields.{place_lt}
+use Rattle.unit.proofs.Fields.{big_is, common_ge, place_lt}
 use Rattle.unit.proofs.Units.{unit_none, unit_common, unit_header, unit_unreadable, unit_zero, unit_read, inside_le}
 
 only_identity_by : (e : Encoding) (k : Kind) (a u : List ℕ) → Only 12 (identity_by e k a u)
@@ -153,3 +153,7 @@ module _ (e : Encoding) (s : List ℕ) where
 
 -- ---- as functions name them
 pub ruleset alone_cases = (alone_not, alone_fields, fields_there, alone_header, alone_whole, address_there)
+
+pub ruleset fields_cases = (common_ge, fields_short, fields_whole, big_is)
+
+pub ruleset common_cases = (place_lt, fields_common, good_fields, bad_fields)

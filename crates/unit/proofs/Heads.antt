@@ -112,3 +112,6 @@ module _ (e : Encoding) (home : ℕ) (a s : List ℕ) where
   pub unit_headed : (n : ℕ) → head_of e s ≡ pass n → unit_of e home a s ≡ (identity_good e home a (take n s) >>= unit_with n)
   unfolding unit_of ◌>>=◌
   unit_headed n h = unit_parts e home (λ size. pass a) s ∙ then_pass _ _ _ h
+
+-- what the check of `unit_head` is given
+pub ruleset head_cases = (own_length, head_none, head_common, head_good)

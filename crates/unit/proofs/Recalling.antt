@@ -17,7 +17,7 @@ use Rattle.std.specs.Prelude.{IfSome, Option, Some, None, Result, Ok, Err}
 use Rattle.unit.specs.declared.abbreviations.Unheld.{Unheld}
 use Rattle.unit.specs.declared.abbreviations.Unheld.TheVariants.{Bad, Full}
 use Rattle.unit.proofs.Finding.{held_rising}
-use Rattle.unit.proofs.Holding.{key_at, key_end, held_alone, remembers_tables}
+use Rattle.unit.proofs.Holding.{key_at, key_end, held_alone, tables_rising, remembers_tables}
 
 -- ---- what is recalled
 -- a table that the words hold becomes the last one
@@ -59,7 +59,10 @@ module _ (b w : List ℕ) (j : Judged) (m : Lent b w j) (p : Span) (l : Lies b p
     pub sought_within : start < length w
     sought_within = stored_within b w j.free start (key_of p) stored
 
-    pub recalled_found : Knows b w p (record { last = Some (record { place = p; from = start + 1; count = get_or w start 0 }); tables = j.tables; free = j.free }) (record { place = p; from = start + 1; count = get_or w start 0 })
+    abbrev at : JudgedTable
+    at = record { place = p; from = start + 1; count = get_or w start 0 }
+
+    pub recalled_found : Knows b w p (record { last = Some at; tables = j.tables; free = j.free }) at
     recalled_found = recalled b w _ j.tables j.free (stored_held b w j.free p start _ (omega (arith, l, m.small)) stored refl) (remembers_tables b w j m.memory)
 
 -- ---- a table that was judged
@@ -89,3 +92,6 @@ known_held b w p j t k = rw (part_cut w t.from (5 * t.count), ← k.place) k.hel
 
 pub known_rising : (b w : List ℕ) (p : Span) (j : Judged) (t : JudgedTable) → Knows b w p j t → Rising (take (t.from + 5 * t.count - t.from) (drop t.from w)) t.count
 known_rising b w p j t k = held_rising _ _ _ (known_held b w p j t k)
+
+-- what the check of `recall` is given
+pub ruleset sought_cases = (sought_none, sought_within, tables_rising, remembers_tables)

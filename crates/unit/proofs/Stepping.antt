@@ -219,7 +219,7 @@ identity_same : (e : Encoding) (name : ℕ) (v : Value) (s : List ℕ) (seen : O
 identity_same e name v s (some x) h = identity_seen e name v s x
 identity_same e name v s none h = identity_other e name v s h
 
-pub skips_none : (t : List ℕ) → Skips t 0
+skips_none : (t : List ℕ) → Skips t 0
 unfolding Skips
 skips_none t = (omega arith, λ e s seen. refl)
 
@@ -243,13 +243,13 @@ module _ (x y : ℕ) (t : List ℕ) (z : x ≡ 0 → ⊥) (o : x ≤ 0x7f) (f : 
 skips_flag : (x y : ℕ) (t : List ℕ) → is_flag (x ∷ y ∷ []) ≡ true → (n : ℕ) → Skips t n → Skips (x ∷ y ∷ t) (suc (suc n))
 unfolding is_flag
 skips_flag x y t g n h =
-    let named = and_left _ _ g in
-    let rest = and_right _ _ g in
-    skips_more x y t (λ z. true_false named (ap not (eq-eqb x 0 z))) (leb-true x 0x7f (and_left _ _ rest)) (eqb-true y 0x19 (and_right _ _ rest)) n h
+    let named = and_right _ _ g in
+    skips_more x y t (λ z. true_false (and_left _ _ named) (ap not (eq-eqb x 0 z))) (leb-true x 0x7f (and_right _ _ named)) (eqb-true y 0x19 (and_left _ _ g)) n h
 
 abbrev pub other : List ℕ → Bool
 other p = not (is_flag p)
 
+-- the place of the first, or where there is none the number of all
 searched_is : (p l : ℕ) → p ≤ l → unwrap_or (cond (ltb p l) (Some p) None) l ≡ p
 searched_is p l h = elim (dec_le l p) [
   | yes g ↦ rw (le-ltb p l g) (omega arith)
@@ -257,7 +257,7 @@ searched_is p l h = elim (dec_le l p) [
 ]
 
 -- the pairs before the first that is no flag
-pub skips_flags : (c : ℕ) (t : List ℕ) → 2 * c ≤ length t → Skips t (2 * position_or_len other (first_chunks 2 c t))
+skips_flags : (c : ℕ) (t : List ℕ) → 2 * c ≤ length t → Skips t (2 * position_or_len other (first_chunks 2 c t))
 skips_flags zero t h = skips_none t
 skips_flags (suc c) [] h = absurd (omega arith)
 skips_flags (suc c) (x ∷ []) h = absurd (omega arith)

@@ -280,3 +280,6 @@ module _ (w v cs : List ℕ) (n carried code : ℕ) (l : length cs ≡ n) (h : 5
   added_more link r i e d =
       rw d (subst (λ (m : ℕ). Grown w (placed (placed w link (m ∷ [])) (5 * m) (node_of carried code)) cs carried code) l
       (tree_more w cs t carried code link (rw (← l) at (ends_free w n code link r i e)) (omega arith)))
+
+-- what the check of `find` is given
+pub ruleset seek_cases = (seeks_none, seeks_free, ends_room, seeks_at)

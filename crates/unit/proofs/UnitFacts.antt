@@ -39,7 +39,9 @@ small_stated e v s r h q =
 small_at : (e : Encoding) (name : ℕ) (v : Value) (s : List ℕ) (seen r : Option ℕ) → Bytes s → Small seen → identity_at e name v s seen ≡ pass r → Small r
 unfolding identity_at
 small_at e name v s (some x) r h g q = subst Small (pass_inj q) g
-small_at e name v s none r h g q = ⊎_elim (λ (t : eqb name 0x2131 ≡ true). small_stated e v s r h (rw (identity_at, t) at q)) (λ (t : eqb name 0x2131 ≡ false). subst Small (pass_inj (rw (identity_at, t) at q)) tt) (known (eqb name 0x2131))
+small_at e name v s none r h g q =
+    ⊎_elim (λ (t : eqb name 0x2131 ≡ true). small_stated e v s r h (rw (identity_at, t) at q))
+    (λ (t : eqb name 0x2131 ≡ false). subst Small (pass_inj (rw (identity_at, t) at q)) tt) (known (eqb name 0x2131))
 
 small_in : (e : Encoding) (l : List Attribute) (s : List ℕ) (seen r : Option ℕ) → Bytes s → Small seen → identity_in e l s seen ≡ pass r → Small r
 unfolding identity_in

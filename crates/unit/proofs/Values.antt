@@ -23,7 +23,7 @@ use Rattle.unit.specs.Forms.{Width, fixed, forms, width_in, value_size}
 use Rattle.unit.specs.Widths.{ends, size_within}
 use Rattle.unit.specs.Root.{needed, Value, plain_value, value_of}
 use Rattle.unit.proofs.Sizes.{only_value_size}
-use Rattle.unit.proofs.Steps.{found_some, found_none}
+use Rattle.unit.proofs.Steps.{ok_or_none, found_some, found_none}
 
 abbrev plain : ℕ → ℕ → Value
 plain form n = record { form = form; start = 0; size = n }
@@ -152,3 +152,5 @@ only_value_of e form s = elim (ℕ_discrete form 0x16) [
 
 -- ---- as functions name them
 pub ruleset value_cases = (value_plain, indirect_none, indirect_not, indirect_value)
+
+pub ruleset plain_cases = (plain_unknown, plain_not, plain_is, ok_or_none)

@@ -42,7 +42,7 @@ identity_from e t s seen = attributes_of t >>= λ a. (identity_in e a.0 s seen >
 
 -- a name and a form of one byte each, of a flag that is present
 unfoldable pub is_flag : List ℕ → Bool
-is_flag p = not (eqb (get_or p 0 0) 0) && (leb (get_or p 0 0) 0x7f && eqb (get_or p 1 0) 0x19)
+is_flag p = eqb (get_or p 1 0) 0x19 && (not (eqb (get_or p 0 0) 0) && leb (get_or p 0 0) 0x7f)
 
 -- without so many bytes at the front of t, the same is stated
 unfoldable pub Skips : List ℕ → ℕ → Type 0

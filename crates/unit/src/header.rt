@@ -148,7 +148,7 @@ impl<'a> Unit<'a> {
     }
 
     // The common fields are there, and the version is the object's.
-    #[tactic(auto, using(crate::proofs::Fields::common_ge, crate::proofs::HeaderAlone::fields_short, crate::proofs::HeaderAlone::fields_whole, crate::proofs::Fields::big_is))]
+    #[tactic(auto, using(crate::proofs::HeaderAlone::fields_cases))]
     fn fields_good(self) -> bool
         ensures { result ≡ fields_good (encoding_is self.entry.e) self.entry.bytes.now }
     {
@@ -160,7 +160,7 @@ impl<'a> Unit<'a> {
     }
 
     // And the address size is the object's too.
-    #[tactic(auto, using(crate::proofs::Fields::place_lt, crate::proofs::HeaderAlone::fields_common, crate::proofs::HeaderAlone::good_fields, crate::proofs::HeaderAlone::bad_fields))]
+    #[tactic(auto, using(crate::proofs::HeaderAlone::common_cases))]
     fn common_good(self) -> bool
         ensures { result ≡ common_good (encoding_is self.entry.e) self.entry.bytes.now }
     {
@@ -263,7 +263,7 @@ impl<'a> Unit<'a> {
 }
 
 // The size of the unit at the front of s, whose common fields are good.
-#[tactic(auto, using(crate::proofs::Heads::own_length, crate::proofs::Heads::head_none, crate::proofs::Heads::head_common, crate::proofs::Heads::head_good))]
+#[tactic(auto, using(crate::proofs::Heads::head_cases))]
 pub fn unit_head(e: ObjectEncoding, s: &[u8]) -> Result<usize, Refusal>
     ensures { told result ≡ head_of (encoding_is e) s.now }
 {

@@ -146,7 +146,7 @@ impl Judged {
     }
 
     // The table of a place, judged now or before. It is the last one then.
-    #[tactic(auto, using(crate::proofs::Recalling::sought_none, crate::proofs::Recalling::sought_within, crate::proofs::Holding::tables_rising, crate::proofs::Holding::remembers_tables))]
+    #[tactic(auto, using(crate::proofs::Recalling::sought_cases))]
     pub fn recall(
         &mut self,
         b: &[u8],

@@ -64,7 +64,7 @@ struct Move {
 // header.rt is that pair where it is kept.
 
 // A value that ends in s, of a form that is not indirect.
-#[tactic(auto, using(crate::proofs::Values::plain_unknown, crate::proofs::Values::plain_not, crate::proofs::Values::plain_is, crate::proofs::Steps::ok_or_none), unfolding(octets::specs::Checked::mapped))]
+#[tactic(auto, using(crate::proofs::Values::plain_cases), unfolding(octets::specs::Checked::mapped))]
 fn plain_value(e: ObjectEncoding, form: u64, s: &[u8]) -> Result<Value, Refusal>
     ensures { mapped value_is (told result) ≡ plain_value (encoding_is e) form s.now }
 {
@@ -155,7 +155,7 @@ fn is_flag(pair: [u8; 2]) -> bool
     ensures { result ≡ is_flag pair }
 {
     let [name, form] = pair;
-    name != 0 && name <= ONE_BYTE && form == FLAG_BYTE
+    form == FLAG_BYTE && name != 0 && name <= ONE_BYTE
 }
 
 // How many bytes at the front of t are such flags: they change nothing. A root may have very many, and this passes them faster than steps do.

@@ -77,7 +77,7 @@ impl<'a> CodeTree<'a> {
     }
 
     // What the node of a code carries.
-    #[tactic(auto, using(crate::proofs::Trees::seeks_none, crate::proofs::Trees::seeks_free, crate::proofs::Trees::ends_room, crate::proofs::Trees::seeks_at))]
+    #[tactic(auto, using(crate::proofs::Trees::seek_cases))]
     pub fn find(self, code: u64) -> Option<usize>
         ensures { Seeks self.entry.words.now self.entry.count code result }
     {

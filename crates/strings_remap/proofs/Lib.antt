@@ -1,0 +1,3 @@
+-- What the checks of this program are given.
+-- Assumes nothing.
+pub mod Sections
