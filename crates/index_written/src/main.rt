@@ -12,7 +12,7 @@ ghost use Rattle.kept.specs.Slots.{Seekable, Placeable};
 use index::cells::{COLUMNS, Contribution};
 use index::judging::Contributions;
 use kept::regions::{COMPILATION, RECORD, RECORDS};
-use kept::slots::Slots;
+use kept::slots::{Slots, TableSlots};
 use kept::writing::IndexForm;
 use numbers::sections::{CODES, INFO};
 use std::io;
@@ -132,6 +132,18 @@ fn write_words(rt: &impl Print, big: bool, s: &[u8]) -> io::Result<()> {
     println!(rt)
 }
 
+// Which slots, over so many rows.
+fn slots_of(rows: usize, count: usize) -> TableSlots
+    ensures { result ≡ record { words = 80; table = 1; units = rows; count = count } }
+{
+    TableSlots {
+        words: WORDS,
+        table: COMPILATION,
+        units: rows,
+        count,
+    }
+}
+
 // So many slots hold numbers of the records.
 fn show_index(rt: &impl Print, f: IndexForm, work: &[u32], count: usize) -> io::Result<()>
     requires { Seekable 80 work.now 1 f.rows count × (f.rows ≤ 16) × (count ≤ 32) }
@@ -141,7 +153,7 @@ fn show_index(rt: &impl Print, f: IndexForm, work: &[u32], count: usize) -> io::
     if 2048 < length {
         return Ok(());
     }
-    let slots = Slots::of_work(work, WORDS, COMPILATION, f.rows, count);
+    let slots = Slots::of_work(work, slots_of(f.rows, count));
     f.write_index(slots, &mut out, 0);
     write_words(rt, f.big, &out[..length])
 }
@@ -149,7 +161,7 @@ fn show_index(rt: &impl Print, f: IndexForm, work: &[u32], count: usize) -> io::
 fn place(rt: &impl Print, f: IndexForm, work: &mut [u32], count: usize) -> io::Result<()>
     requires { Placeable 80 (length work.old) 1 f.rows count × (f.rows ≤ 16) × (count ≤ 32) }
 {
-    kept::slots::place_units(work, WORDS, COMPILATION, f.rows, count);
+    kept::slots::place_units(work, slots_of(f.rows, count));
     show_index(rt, f, work, count)
 }
 
