@@ -82,11 +82,6 @@ impl InputObject {
             at,
             size: read.size,
         };
-        indexed_contributions(
-            self.index_for(b, read.handed_in.table),
-            self.is_package(),
-            m,
-            u,
-        )
+        indexed_contributions(self.index_for(b, read.handed_in.table), self.is_package(), m, u)
     }
 }

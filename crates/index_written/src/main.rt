@@ -11,6 +11,7 @@ ghost use Rattle.kept.specs.Slots.{Seekable, Placeable};
 
 use index::cells::{COLUMNS, Contribution};
 use index::judging::Contributions;
+use kept::records::{KeptUnit, Unit};
 use kept::regions::{COMPILATION, RECORD, RECORDS};
 use kept::slots::{Slots, TableSlots};
 use kept::writing::IndexForm;
@@ -91,7 +92,7 @@ fn read_row(
 {
     let identity = numbers.next();
     let cells = read_cells(numbers);
-    let unit = kept::records::Unit {
+    let unit = Unit {
         table: COMPILATION,
         row: i + 1,
         identity,
@@ -100,7 +101,8 @@ fn read_row(
         size: 0,
     };
     let records = RECORDS.of(WORDS);
-    kept::records::store_unit(work, records.start + RECORD * i, unit, five, cells);
+    let kept = KeptUnit { unit, five, cells };
+    kept::records::store_unit(work, records.start + RECORD * i, kept);
     kept::columns::mark_columns(five, has, cells)
 }
 

@@ -4,8 +4,7 @@ ghost use Rattle.octets.specs.Octets.{part, zeros};
 ghost use Rattle.index.specs.Held.{PowerOfTwo};
 ghost use Rattle.index.specs.Probing.{slots_for};
 ghost use Rattle.kept.specs.Regions.{record_words, records_region, slots_region, region};
-ghost use Rattle.kept.specs.Columns.{CellsFit};
-ghost use Rattle.kept.specs.Records.{unit_of, UnitFits};
+ghost use Rattle.kept.specs.Records.{unit_of};
 ghost use Rattle.kept.specs.Slots.{
   seen_slots,
   Within,
@@ -19,9 +18,8 @@ ghost use Rattle.kept.specs.Slots.{
   PlacedAll,
 };
 
-use crate::records::{Records, Unit};
+use crate::records::{KeptUnit, Records};
 use crate::regions::{RECORD, RECORDS};
-use index::judging::Contributions;
 use index::probing::Probing;
 
 // Which slots: the first count of a table's, in work for a bundle of so many words. They are over the records of so many units.
@@ -155,20 +153,12 @@ pub fn place_units(work: &mut [u32], t: TableSlots)
 
 // Stores the record of a unit behind count others, and its number in a free slot of its table. Callers have sought the slot.
 #[tactic(auto, using(crate::proofs::Placing::kept_by), unfolding(crate::specs::Records::unit_of))]
-pub fn keep(
-    work: &mut [u32],
-    words: usize,
-    count: usize,
-    slot: usize,
-    unit: Unit,
-    five: bool,
-    cells: Contributions,
-)
-    requires { Keepable words (length work.old) count slot × UnitFits unit × CellsFit cells }
-    ensures { work.new ≡ kept_in work.old words count slot (unit_of unit five cells) }
+pub fn keep(work: &mut [u32], words: usize, count: usize, slot: usize, kept: KeptUnit)
+    requires { Keepable words (length work.old) count slot }
+    ensures { work.new ≡ kept_in work.old words count slot (unit_of kept.unit kept.five kept.cells) }
 {
     let records = RECORDS.of(words);
-    crate::records::store_unit(work, records.start + RECORD * count, unit, five, cells);
-    let slots = crate::regions::slots(unit.table).of(words);
+    crate::records::store_unit(work, records.start + RECORD * count, kept);
+    let slots = crate::regions::slots(kept.unit.table).of(words);
     octets::set_word(work, slots.start + slot, count + 1);
 }
