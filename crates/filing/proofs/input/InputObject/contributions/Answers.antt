@@ -7,7 +7,10 @@ use Rattle.filing.proofs.Contributing.{given_is, width_some}
 use Rattle.filing.proofs.input.InputObject.contributions.Goals as goal
 
 pub indexed_contributions-requires : goal.indexed_contributions-requires
-indexed_contributions-requires c = (rw c.width.ensures (width_some _), c.index_for.ensures.well)
+indexed_contributions-requires c = c.index_for.ensures.well
+
+pub invariant_of-m : goal.invariant_of-m
+invariant_of-m c = record { some = rw c.width.ensures (width_some _) }
 
 pub returns : goal.returns
 returns c = λ i is.
