@@ -9,7 +9,7 @@ use Rattle.index.specs.Index.{Index, Contribution}
 use Rattle.index.specs.Rows.{BySection, row_contributions, whole_contributions}
 use Rattle.index.specs.Contributed.{ContributionsAre, by_code}
 use Rattle.index.specs.declared.judging.Contributions.{Contributions}
-use Rattle.index.specs.declared.judging.Measures.{Measures}
+use Rattle.index.specs.declared.measures.Measures.{Measures}
 use Rattle.index.specs.declared.judging.OwnUnit.{OwnUnit}
 use Rattle.package.specs.Input.{Input}
 use Rattle.package.specs.Filing.{contributions_of}

@@ -38,7 +38,7 @@ fn indexed_contributions(
     m: Measures,
     u: OwnUnit,
 ) -> Result<Contributions, Refusal>
-    requires { (0 < m.width) × IfSome index Well }
+    requires { IfSome index Well }
     ensures { (o : Option Index) → index.entry ≡ found o → GivenBy packed o m u result }
 {
     match index {

@@ -4,7 +4,7 @@ ghost use Rattle.filing.specs.Asked.{KeepAsked, UnitKept};
 
 use index::judging::Contributions;
 use kept::Table;
-use kept::records::Unit;
+use kept::records::{KeptUnit, Unit};
 use kept::state::InProgress;
 
 // Its record behind the others, and its number in a slot, for a bundle of n words. Callers have sought the slot, so that no unit of its
@@ -26,7 +26,8 @@ pub fn keep_unit(
 {
     let place = st.units.bytes_of(unit.home);
     let cells = kept::cells::cells_of(k, st.bases, unit.home, place, unit.size);
-    kept::slots::keep(work, n, st.units.count, slot, unit, five, cells);
+    let kept = KeptUnit { unit, five, cells };
+    kept::slots::keep(work, n, st.units.count, slot, kept);
     let old = st.units.table_of(unit.table);
     let t = Table {
         rows: unit.row,

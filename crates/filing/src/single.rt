@@ -15,6 +15,7 @@ ghost use Rattle.filing.specs.Asked.{
 use crate::units::Reading;
 use kept::Units;
 use kept::records::Unit;
+use kept::slots::TableSlots;
 use kept::state::InProgress;
 use numbers::refusals::Refusal;
 use numbers::tables::Table;
@@ -75,11 +76,14 @@ impl<'a> Reading<'a> {
         let x = self.object;
         let home = self.section.home;
         let n = b.len() / 4;
-        let table = read.handed_in.table.number() as usize;
         let identity = read.handed_in.identity;
-        let count = st.units.count;
-        let slots = kept::slots::seen_slots(n);
-        let slot = match kept::slots::seek_in(work, n, table, count, slots, identity) {
+        let slots = TableSlots {
+            words: n,
+            table: read.handed_in.table.number() as usize,
+            units: st.units.count,
+            count: kept::slots::seen_slots(n),
+        };
+        let slot = match kept::slots::seek_in(work, slots, identity) {
             Ok(number) => return file_known(b, number, at, read, st, work),
             Err(slot) => slot,
         };

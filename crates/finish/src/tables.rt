@@ -4,7 +4,7 @@ ghost use Rattle.finish.specs.Ready.{TablesPlaceable, TablesPlaced};
 
 use kept::Units;
 use kept::regions::{COMPILATION, TYPE};
-use kept::slots::{place_units, slots_for};
+use kept::slots::{TableSlots, place_units, slots_for};
 
 // Once for each table: over an array of both numbers with their rows it is no shorter.
 // Places the units of both tables, for a bundle of so many words.
@@ -12,8 +12,17 @@ pub fn place_tables(words: usize, units: Units, work: &mut [u32])
     requires { TablesPlaceable words units (length work.old) }
     ensures { TablesPlaced words units work.old work.new }
 {
-    let cu_slots = slots_for(units.cu.rows);
-    place_units(work, words, COMPILATION, units.count, cu_slots);
-    let tu_slots = slots_for(units.tu.rows);
-    place_units(work, words, TYPE, units.count, tu_slots);
+    let cu = TableSlots {
+        words,
+        table: COMPILATION,
+        units: units.count,
+        count: slots_for(units.cu.rows),
+    };
+    place_units(work, cu);
+    let tu = TableSlots {
+        table: TYPE,
+        count: slots_for(units.tu.rows),
+        ..cu
+    };
+    place_units(work, tu);
 }

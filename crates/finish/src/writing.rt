@@ -7,7 +7,7 @@ use bundle::encoding::ObjectEncoding;
 use kept::Table;
 use kept::records::Records;
 use kept::regions::{COMPILATION, STRINGS, TYPE};
-use kept::slots::Slots;
+use kept::slots::{Slots, TableSlots};
 use kept::state::InProgress;
 use kept::writing::IndexForm;
 use numbers::sections::{CODES, CU_INDEX, INFO, STR, TU_INDEX, TYPES};
@@ -74,10 +74,13 @@ impl Package<'_> {
             rows: t.rows,
             has,
         };
-        let count = kept::slots::slots_for(t.rows);
-        let words = self.bundle.len() / WORD;
-        let slots = Slots::of_work(self.work, words, table, self.state.units.count, count);
-        form.write_index(slots, out, at);
+        let slots = TableSlots {
+            words: self.bundle.len() / WORD,
+            table,
+            units: self.state.units.count,
+            count: kept::slots::slots_for(t.rows),
+        };
+        form.write_index(Slots::of_work(self.work, slots), out, at);
     }
 
     // What is joined of all objects.

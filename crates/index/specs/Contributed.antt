@@ -15,7 +15,7 @@ use Rattle.index.specs.Rows.{BySection, needed_codes, row_contributions}
 use Rattle.index.specs.Cells.{cell_found}
 use Rattle.index.specs.declared.cells.Contribution as code
 use Rattle.index.specs.declared.judging.Contributions.{Contributions}
-use Rattle.index.specs.declared.judging.Measures.{Measures}
+use Rattle.index.specs.declared.measures.Measures.{Measures}
 use Rattle.index.specs.declared.judging.OwnUnit.{OwnUnit}
 
 -- numbers in an array, by section code

@@ -24,6 +24,7 @@ ghost use Rattle.index.specs.Contributed.{
 };
 
 use crate::cells::{Contribution, Row};
+pub use crate::measures::Measures;
 use crate::reading::Index;
 use numbers::refusals::Refusal;
 use numbers::sections::{CODES, FIRST_SHARED, LAST_SHARED, STR_OFFSETS};
@@ -35,13 +36,6 @@ const SHARED_END: usize = LAST_SHARED + 1;
 #[derive(Clone, Copy)]
 pub struct Contributions {
     pub cells: [Option<Contribution>; CODES],
-}
-
-// What a row is judged by: the width of offsets, 4 or 8, and the lengths of the object's sections by their code.
-#[derive(Clone, Copy)]
-pub struct Measures {
-    pub width: usize,
-    pub lengths: [usize; CODES],
 }
 
 // The unit: its identity, and where it stands in the section home.
@@ -62,28 +56,28 @@ fn own_place(at: usize, size: usize, cell: Contribution) -> bool
     cell == Contribution { offset: at, size }
 }
 
-// Whether both are multiples of the width, which only str_offsets asks. The width is 4 or 8.
-#[tactic(auto, unfolding(crate::specs::Contributed::whole_entries))]
-fn multiples(width: usize, section: usize, cell: Contribution) -> bool
-    requires { 0 < width }
-    ensures { result ≡ whole_entries width section cell.offset cell.size }
-{
-    section != STR_OFFSETS || cell.offset % width == 0 && cell.size % width == 0
-}
-
-// Whether a part ends in its section, where the section asks for one. It may start anywhere: rows may share parts.
-#[tactic(auto, unfolding(crate::specs::Contributed::good_cell))]
-fn part_needed(width: usize, length: usize, section: usize, cell: Option<Contribution>) -> bool
-    requires { 0 < width }
-    ensures { result ≡ (eqb «length» 0 || good_cell width «length» section cell) }
-{
-    if length == 0 {
-        return true;
+impl Measures {
+    // Whether both are multiples of the width, which only str_offsets asks.
+    #[tactic(auto, unfolding(crate::specs::Contributed::whole_entries))]
+    fn multiples(&self, section: usize, cell: Contribution) -> bool
+        ensures { result ≡ whole_entries self.now.width section cell.offset cell.size }
+    {
+        section != STR_OFFSETS || cell.offset % self.width == 0 && cell.size % self.width == 0
     }
-    let Some(part) = cell else {
-        return false;
-    };
-    part.offset <= length && part.size <= length - part.offset && multiples(width, section, part)
+
+    // Whether a part ends in its section, where the section asks for one. It may start anywhere: rows may share parts.
+    #[tactic(auto, unfolding(crate::specs::Contributed::good_cell))]
+    fn part_needed(&self, length: usize, section: usize, cell: Option<Contribution>) -> bool
+        ensures { result ≡ (eqb «length» 0 || good_cell self.now.width «length» section cell) }
+    {
+        if length == 0 {
+            return true;
+        }
+        let Some(part) = cell else {
+            return false;
+        };
+        part.offset <= length && part.size <= length - part.offset && self.multiples(section, part)
+    }
 }
 
 impl Contributions {
@@ -124,11 +118,10 @@ impl Contributions {
     // Whether each section that isn't empty has a part that ends in it.
     #[tactic(auto, using(crate::proofs::Columned::code_turns))]
     fn all_good(&self, m: &Measures) -> bool
-        requires { 0 < m.now.width }
         ensures { result ≡ all (good_held m.now.width (by_code m.now.lengths) self.now) (needed_codes (by_code m.now.lengths)) }
     {
         for c in FIRST_SHARED..SHARED_END {
-            if !part_needed(m.width, m.lengths[c], c, self.cells[c]) {
+            if !m.part_needed(m.lengths[c], c, self.cells[c]) {
                 return false;
             }
         }
@@ -165,7 +158,7 @@ fn row_cells(row: Row, lengths: &[usize; CODES]) -> Contributions
 impl<'a> Index<'a> {
     // The row of a unit. Callers have read the index well.
     pub fn judge_row(&self, m: Measures, u: OwnUnit) -> Result<Contributions, Refusal>
-        requires { (Well self.now) × (0 < m.width) }
+        requires { Well self.now }
         ensures { Answers result (judged_row self.now m u) }
     {
         let Some(slot) = self.find(u.identity).slot else {

@@ -3,5 +3,6 @@
 
 pub mod cells;
 pub mod judging;
+pub mod measures;
 pub mod probing;
 pub mod reading;

@@ -11,8 +11,9 @@ ghost use Rattle.kept.specs.Slots.{Seekable, Placeable};
 
 use index::cells::{COLUMNS, Contribution};
 use index::judging::Contributions;
+use kept::records::{KeptUnit, Unit};
 use kept::regions::{COMPILATION, RECORD, RECORDS};
-use kept::slots::Slots;
+use kept::slots::{Slots, TableSlots};
 use kept::writing::IndexForm;
 use numbers::sections::{CODES, INFO};
 use std::io;
@@ -92,7 +93,7 @@ fn read_row(
 {
     let identity = numbers.next();
     let cells = read_cells(numbers);
-    let unit = kept::records::Unit {
+    let unit = Unit {
         table: COMPILATION,
         row: i + 1,
         identity,
@@ -101,7 +102,8 @@ fn read_row(
         size: 0,
     };
     let records = RECORDS.of(WORDS);
-    kept::records::store_unit(work, records.start + RECORD * i, unit, five, cells);
+    let kept = KeptUnit { unit, five, cells };
+    kept::records::store_unit(work, records.start + RECORD * i, kept);
     kept::columns::mark_columns(five, has, cells)
 }
 
@@ -134,6 +136,18 @@ fn write_words(rt: &impl Print, big: bool, s: &[u8]) -> io::Result<()> {
     println!(rt)
 }
 
+// Which slots, over so many rows.
+fn slots_of(rows: usize, count: usize) -> TableSlots
+    ensures { result ≡ record { words = 80; table = 1; units = rows; count = count } }
+{
+    TableSlots {
+        words: WORDS,
+        table: COMPILATION,
+        units: rows,
+        count,
+    }
+}
+
 // So many slots hold numbers of the records.
 fn show_index(rt: &impl Print, f: IndexForm, work: &[u32], count: usize) -> io::Result<()>
     requires { Seekable 80 work.now 1 f.rows count × (f.rows ≤ 16) × (count ≤ 32) }
@@ -143,7 +157,7 @@ fn show_index(rt: &impl Print, f: IndexForm, work: &[u32], count: usize) -> io::
     if 2048 < length {
         return Ok(());
     }
-    let slots = Slots::of_work(work, WORDS, COMPILATION, f.rows, count);
+    let slots = Slots::of_work(work, slots_of(f.rows, count));
     f.write_index(slots, &mut out, 0);
     write_words(rt, f.big, &out[..length])
 }
@@ -151,7 +165,7 @@ fn show_index(rt: &impl Print, f: IndexForm, work: &[u32], count: usize) -> io::
 fn place(rt: &impl Print, f: IndexForm, work: &mut [u32], count: usize) -> io::Result<()>
     requires { Placeable 80 (length work.old) 1 f.rows count × (f.rows ≤ 16) × (count ≤ 32) }
 {
-    kept::slots::place_units(work, WORDS, COMPILATION, f.rows, count);
+    kept::slots::place_units(work, slots_of(f.rows, count));
     show_index(rt, f, work, count)
 }
 

@@ -117,8 +117,12 @@ pub unit_row : (five : Bool) (u : UnitHead) (cells : Contributions) (f : BySecti
 unfolding unit_of cells_of
 unit_row five u cells f a = record {
   identity = refl;
-  offset = λ c h. let z : 0 + c ≡ c = omega arith in let q = (cell_at five cells 0 8 c (omega (arith, columns_are five))).0 in rw z at q ∙ ap (λ (x : Cell). (stated x).offset) (column_there five cells c h) ∙ offset_is cells f a (section_at five c);
-  size = λ c h. let z : 0 + c ≡ c = omega arith in let q = (cell_at five cells 0 8 c (omega (arith, columns_are five))).1 in rw z at q ∙ ap (λ (x : Cell). (stated x).size) (column_there five cells c h) ∙ size_is cells f a (section_at five c);
+  offset = λ c h. let z : 0 + c ≡ c = omega arith in
+      let q = (cell_at five cells 0 8 c (omega (arith, columns_are five))).0 in
+      rw z at q ∙ ap (λ (x : Cell). (stated x).offset) (column_there five cells c h) ∙ offset_is cells f a (section_at five c);
+  size = λ c h. let z : 0 + c ≡ c = omega arith in
+      let q = (cell_at five cells 0 8 c (omega (arith, columns_are five))).1 in
+      rw z at q ∙ ap (λ (x : Cell). (stated x).size) (column_there five cells c h) ∙ size_is cells f a (section_at five c);
 }
 
 -- ---- a table with one record more behind n

@@ -98,7 +98,11 @@ identities_split w t n (suc m) =
     let e : n + suc m ≡ n + m + 1 = omega arith in
     let r = identities_split w t n m in
     elim (ℕ_discrete (record_at w (n + m)).table t) [
-      | yes q ↦ (r.0 ++ ((record_at w (n + m)).identity ∷ []), ap (λ (k : ℕ). identities_in w k t) e ∙ identities_snoc w (n + m) t q ∙ ap (λ (l : List ℕ). l ++ ((record_at w (n + m)).identity ∷ [])) r.1 ∙ append_assoc (identities_in w n t) r.0 ((record_at w (n + m)).identity ∷ []))
+      | yes q ↦ (
+        r.0 ++ ((record_at w (n + m)).identity ∷ []),
+        ap (λ (k : ℕ). identities_in w k t) e ∙ identities_snoc w (n + m) t q
+            ∙ ap (λ (l : List ℕ). l ++ ((record_at w (n + m)).identity ∷ [])) r.1 ∙ append_assoc (identities_in w n t) r.0 ((record_at w (n + m)).identity ∷ []),
+      )
       | no f ↦ (r.0, ap (λ (k : ℕ). identities_in w k t) e ∙ identities_other w (n + m) t f ∙ r.1)
     ]
 

@@ -140,7 +140,9 @@ module _ (w : List ℕ) (n : ℕ) (k : KeptUnit) (many : length k.cells ≡ cell
 
   pub stored_own : (t : ℕ) → k.table ≡ t → of_table stored (n + 1) t ≡ of_table w n t ++ (k ∷ [])
   unfolding of_table in_table those
-  stored_own t e = ap (those (in_table t)) stored_all ∙ those_append (in_table t) (records_from w 0 n) (k ∷ []) ∙ ap (λ (l : List KeptUnit). those (in_table t) (records_from w 0 n) ++ l) (those_keeps (in_table t) k [] (eq-eqb k.table t e))
+  stored_own t e =
+      ap (those (in_table t)) stored_all ∙ those_append (in_table t) (records_from w 0 n) (k ∷ [])
+      ∙ ap (λ (l : List KeptUnit). those (in_table t) (records_from w 0 n) ++ l) (those_keeps (in_table t) k [] (eq-eqb k.table t e))
 
   pub stored_other : (t : ℕ) → (k.table ≡ t → ⊥) → of_table stored (n + 1) t ≡ of_table w n t
   unfolding of_table in_table those
@@ -188,14 +190,16 @@ module _ (w : List ℕ) where
   unfolding identities_in of_table in_table those
   identities_snoc n t e =
       ap (λ (l : List KeptUnit). map (λ (k : KeptUnit). k.identity) (those (in_table t) l)) (records_more w n)
-      ∙ ap (map (λ (k : KeptUnit). k.identity)) (those_append (in_table t) (records_from w 0 n) (record_at w n ∷ []) ∙ ap (λ (l : List KeptUnit). those (in_table t) (records_from w 0 n) ++ l) (those_keeps (in_table t) (record_at w n) [] (eq-eqb (record_at w n).table t e)))
+      ∙ ap (map (λ (k : KeptUnit). k.identity)) (those_append (in_table t) (records_from w 0 n) (record_at w n ∷ [])
+      ∙ ap (λ (l : List KeptUnit). those (in_table t) (records_from w 0 n) ++ l) (those_keeps (in_table t) (record_at w n) [] (eq-eqb (record_at w n).table t e)))
       ∙ map-append (λ (k : KeptUnit). k.identity) (those (in_table t) (records_from w 0 n)) (record_at w n ∷ [])
 
   pub identities_other : (n t : ℕ) → ((record_at w n).table ≡ t → ⊥) → identities_in w (n + 1) t ≡ identities_in w n t
   unfolding identities_in of_table in_table those
   identities_other n t e =
       ap (λ (l : List KeptUnit). map (λ (k : KeptUnit). k.identity) (those (in_table t) l)) (records_more w n)
-      ∙ ap (map (λ (k : KeptUnit). k.identity)) (those_append (in_table t) (records_from w 0 n) (record_at w n ∷ []) ∙ ap (λ (l : List KeptUnit). those (in_table t) (records_from w 0 n) ++ l) (those_skips (in_table t) (record_at w n) [] (ne_eqb (record_at w n).table t e)) ∙ append-nil (those (in_table t) (records_from w 0 n)))
+      ∙ ap (map (λ (k : KeptUnit). k.identity)) (those_append (in_table t) (records_from w 0 n) (record_at w n ∷ [])
+      ∙ ap (λ (l : List KeptUnit). those (in_table t) (records_from w 0 n) ++ l) (those_skips (in_table t) (record_at w n) [] (ne_eqb (record_at w n).table t e)) ∙ append-nil (those (in_table t) (records_from w 0 n)))
 
   pub identities_many : (n t : ℕ) → length (identities_in w n t) ≡ length (of_table w n t)
   unfolding identities_in

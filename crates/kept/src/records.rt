@@ -50,10 +50,20 @@ pub struct Unit {
     pub size: usize,
 }
 
+// A kept unit with its cells, which are those of its version's columns. All its numbers fit words.
+#[derive(Clone, Copy)]
+pub struct KeptUnit {
+    pub unit: Unit,
+    pub five: bool,
+    pub cells: Contributions,
+    ghost unit_fits: { UnitFits unit },
+    ghost cells_fit: { CellsFit cells },
+}
+
 // What an index has where a unit has nothing of a section.
 const NOTHING: Contribution = Contribution { offset: 0, size: 0 };
 
-// ---- stored. Callers keep room, and numbers of 32 bits.
+// ---- stored. Callers keep room.
 // Offset and size for each column.
 #[tactic(auto, using(crate::proofs::Columning::column_offset, crate::proofs::Columning::column_size, crate::proofs::Copying::cells_stored))]
 fn store_cells(five: bool, words: &mut [u32], at: usize, cells: Contributions)
@@ -68,10 +78,11 @@ fn store_cells(five: bool, words: &mut [u32], at: usize, cells: Contributions)
 }
 
 // The record of a unit, at a place.
-pub fn store_unit(words: &mut [u32], at: usize, unit: Unit, five: bool, cells: Contributions)
-    requires { (at + record_words ≤ length words.old) × UnitFits unit × CellsFit cells }
-    ensures { words.new ≡ placed words.old at (words_of (unit_of unit five cells)) }
+pub fn store_unit(words: &mut [u32], at: usize, kept: KeptUnit)
+    requires { at + record_words ≤ length words.old }
+    ensures { words.new ≡ placed words.old at (words_of (unit_of kept.unit kept.five kept.cells)) }
 {
+    let unit = kept.unit;
     let [low, high] = octets::words_of(unit.identity);
     let head = [
         unit.table as u32,
@@ -83,7 +94,7 @@ pub fn store_unit(words: &mut [u32], at: usize, unit: Unit, five: bool, cells: C
         unit.size as u32,
     ];
     words[at..at + CELLS].copy_from_slice(&head);
-    store_cells(five, words, at + CELLS, cells);
+    store_cells(kept.five, words, at + CELLS, kept.cells);
 }
 
 // ---- read

@@ -4,8 +4,7 @@ ghost use Rattle.octets.specs.Octets.{part, zeros};
 ghost use Rattle.index.specs.Held.{PowerOfTwo};
 ghost use Rattle.index.specs.Probing.{slots_for};
 ghost use Rattle.kept.specs.Regions.{record_words, records_region, slots_region, region};
-ghost use Rattle.kept.specs.Columns.{CellsFit};
-ghost use Rattle.kept.specs.Records.{unit_of, UnitFits};
+ghost use Rattle.kept.specs.Records.{unit_of};
 ghost use Rattle.kept.specs.Slots.{
   seen_slots,
   Within,
@@ -19,10 +18,18 @@ ghost use Rattle.kept.specs.Slots.{
   PlacedAll,
 };
 
-use crate::records::{Records, Unit};
+use crate::records::{KeptUnit, Records};
 use crate::regions::{RECORD, RECORDS};
-use index::judging::Contributions;
 use index::probing::Probing;
+
+// Which slots: the first count of a table's, in work for a bundle of so many words. They are over the records of so many units.
+#[derive(Clone, Copy)]
+pub struct TableSlots {
+    pub words: usize,
+    pub table: usize,
+    pub units: usize,
+    pub count: usize,
+}
 
 // The slots of a table: each number in them is that of one of the records.
 #[derive(Clone, Copy)]
@@ -33,17 +40,17 @@ pub struct Slots<'a> {
 }
 
 impl<'a> Slots<'a> {
-    // The first count slots of a table in work for a bundle of so many words, over n records.
-    pub fn of_work(work: &'a [u32], words: usize, table: usize, n: usize, count: usize) -> Slots<'a>
-        requires { Seekable words work.now table n count }
-        ensures records { result.records.words.now ≡ region work.now words records_region }
-        ensures many { result.records.count ≡ n }
-        ensures slots { result.slots.now ≡ slots_in work.now words table count }
+    // Those that work has.
+    pub fn of_work(work: &'a [u32], t: TableSlots) -> Slots<'a>
+        requires { Seekable t.words work.now t.table t.units t.count }
+        ensures records { result.records.words.now ≡ region work.now t.words records_region }
+        ensures many { result.records.count ≡ t.units }
+        ensures slots { result.slots.now ≡ slots_in work.now t.words t.table t.count }
     {
-        let region = crate::regions::slots(table).part(work, words);
+        let region = crate::regions::slots(t.table).part(work, t.words);
         Slots {
-            records: Records::of_work(work, words, n),
-            slots: &region[..count],
+            records: Records::of_work(work, t.words, t.units),
+            slots: &region[..t.count],
         }
     }
 
@@ -96,77 +103,62 @@ pub fn seen_slots(words: usize) -> usize
     slots_for(words / crate::regions::LEAST_UNIT)
 }
 
-// Seeks an identity in the slots of a table: the first count of them in work for a bundle of so many words, over n records.
-// Work and words stay parameters here and in the following: a struct of both would hold lent work, and callers lend other parts of it between two calls.
+// Seeks an identity in slots of a table.
+// Work stays a parameter beside them here and in the following: a struct of both would hold lent work, and callers lend other parts of it between two calls.
 #[tactic(auto, unfolding(crate::specs::Slots::slots_in))]
-pub fn seek_in(
-    work: &[u32],
-    words: usize,
-    table: usize,
-    n: usize,
-    count: usize,
-    x: u64,
-) -> Result<usize, usize>
-    requires { Seekable words work.now table n count }
-    ensures { result ≡ sought_in (region work.now words records_region) (part work.now ((slots_region table).start * words) count) x }
+pub fn seek_in(work: &[u32], t: TableSlots, x: u64) -> Result<usize, usize>
+    requires { Seekable t.words work.now t.table t.units t.count }
+    ensures { result ≡ sought_in (region work.now t.words records_region) (part work.now ((slots_region t.table).start * t.words) t.count) x }
 {
-    Slots::of_work(work, words, table, n, count).seek(x)
+    Slots::of_work(work, t).seek(x)
 }
 
-// Places record i in the slots of a table, where it is one of that table.
-fn place_unit(work: &mut [u32], words: usize, table: usize, i: usize, count: usize)
-    requires { Seekable words work.old table i count × (record_words * i + record_words ≤ records_region.words * words) }
-    ensures { Placed words table i count work.old work.new }
+// Places record i in slots of a table, where it is one of that table. So many records are placed already.
+fn place_unit(work: &mut [u32], t: TableSlots, i: usize)
+    requires { Seekable t.words work.old t.table i t.count × (record_words * i + record_words ≤ records_region.words * t.words) }
+    ensures { Placed t.words t.table i t.count work.old work.new }
 {
-    let records = Records::of_work(work, words, i + 1);
-    if records.table_at(i) != table {
+    let records = Records::of_work(work, t.words, i + 1);
+    if records.table_at(i) != t.table {
         return;
     }
     let x = records.identity_at(i);
-    if let Err(at) = seek_in(work, words, table, i, count, x) {
-        let slots = crate::regions::slots(table).of(words);
+    if let Err(at) = seek_in(work, TableSlots { units: i, ..t }, x) {
+        let slots = crate::regions::slots(t.table).of(t.words);
         octets::set_word(work, slots.start + at, i + 1);
     }
 }
 
-// Places all records of a table among n, in slots that are cleared.
-fn place_all(work: &mut [u32], words: usize, table: usize, n: usize, count: usize)
-    requires { Placeable words (length work.old) table n count × (slots_in work.old words table count ≡ zeros count) }
-    ensures { PlacedAll words table n count work.old work.new }
+// Places all records of a table, in slots that are cleared.
+fn place_all(work: &mut [u32], t: TableSlots)
+    requires { Placeable t.words (length work.old) t.table t.units t.count × (slots_in work.old t.words t.table t.count ≡ zeros t.count) }
+    ensures { PlacedAll t.words t.table t.units t.count work.old work.new }
 {
-    for i in 0..n {
-        place_unit(work, words, table, i, count);
+    for i in 0..t.units {
+        place_unit(work, t, i);
     }
 }
 
-// Clears the slots of a table, and places all its records among n in them.
-pub fn place_units(work: &mut [u32], words: usize, table: usize, n: usize, count: usize)
-    requires { Placeable words (length work.old) table n count }
-    ensures { PlacedAll words table n count work.old work.new }
+// Clears the slots of a table, and places all its records in them.
+pub fn place_units(work: &mut [u32], t: TableSlots)
+    requires { Placeable t.words (length work.old) t.table t.units t.count }
+    ensures { PlacedAll t.words t.table t.units t.count work.old work.new }
 {
-    let slots = crate::regions::slots(table).of(words);
+    let slots = crate::regions::slots(t.table).of(t.words);
     let from = slots.start;
-    let to = from + count;
+    let to = from + t.count;
     work[from..to].fill(0);
-    place_all(work, words, table, n, count);
+    place_all(work, t);
 }
 
 // Stores the record of a unit behind count others, and its number in a free slot of its table. Callers have sought the slot.
 #[tactic(auto, using(crate::proofs::Placing::kept_by), unfolding(crate::specs::Records::unit_of))]
-pub fn keep(
-    work: &mut [u32],
-    words: usize,
-    count: usize,
-    slot: usize,
-    unit: Unit,
-    five: bool,
-    cells: Contributions,
-)
-    requires { Keepable words (length work.old) count slot × UnitFits unit × CellsFit cells }
-    ensures { work.new ≡ kept_in work.old words count slot (unit_of unit five cells) }
+pub fn keep(work: &mut [u32], words: usize, count: usize, slot: usize, kept: KeptUnit)
+    requires { Keepable words (length work.old) count slot }
+    ensures { work.new ≡ kept_in work.old words count slot (unit_of kept.unit kept.five kept.cells) }
 {
     let records = RECORDS.of(words);
-    crate::records::store_unit(work, records.start + RECORD * count, unit, five, cells);
-    let slots = crate::regions::slots(unit.table).of(words);
+    crate::records::store_unit(work, records.start + RECORD * count, kept);
+    let slots = crate::regions::slots(kept.unit.table).of(words);
     octets::set_word(work, slots.start + slot, count + 1);
 }

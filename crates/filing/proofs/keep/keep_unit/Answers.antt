@@ -10,8 +10,11 @@ use Rattle.filing.proofs.keep.keep_unit.Goals as goal
 pub cells_of-cells-requires : goal.cells_of-cells-requires
 cells_of-cells-requires c = let p = c.requires in cells_room p.held p.new _ c.bytes_of-place.ensures
 
+pub invariant_of-kept : goal.invariant_of-kept
+invariant_of-kept c = let p = c.requires in record { unit_fits = unit_fits p.held p.new; cells_fit = c.cells_of-cells.ensures.fit }
+
 pub keep-requires : goal.keep-requires
-keep-requires c = let p = c.requires in (keepable p.held p.new, unit_fits p.held p.new, c.cells_of-cells.ensures.fit)
+keep-requires c = let p = c.requires in keepable p.held p.new
 
 pub with_unit-st-requires : goal.with_unit-st-requires
 with_unit-st-requires c = let p = c.requires in few_units p.held p.new

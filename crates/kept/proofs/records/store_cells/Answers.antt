@@ -14,4 +14,8 @@ unfolding cells_of
 loop-k-init c = copying_start _ _ _ _ _ (omega arith) refl
 
 pub loop-k-preserved : goal.loop-k-preserved
-loop-k-preserved c = copying_more c.loop-k.invariant (cells_room _ _ _ _ c.requires.0) _ _ (cells_one _ _ _ _ _ c.loop-k-test.true (ap (λ (z : Contribution). z.offset) (c.unwrap_or-part.ensures ∙ ap stated c.cell_at.ensures)) (ap (λ (z : Contribution). z.size) (c.unwrap_or-part.ensures ∙ ap stated c.cell_at.ensures))) _ _ (two_words _ _ _ _ _ _ (omega (arith, c.loop-k.invariant.same, c.requires.0)) c.set_word.ensures refl c.set_word-in-loop-k.ensures) (omega arith)
+loop-k-preserved c =
+    let e = c.unwrap_or-part.ensures ∙ ap stated c.cell_at.ensures in
+    copying_more c.loop-k.invariant (cells_room _ _ _ _ c.requires.0) _ _
+    (cells_one _ _ _ _ _ c.loop-k-test.true (ap (λ (z : Contribution). z.offset) e) (ap (λ (z : Contribution). z.size) e)) _ _
+    (two_words _ _ _ _ _ _ (omega (arith, c.loop-k.invariant.same, c.requires.0)) c.set_word.ensures refl c.set_word-in-loop-k.ensures) (omega arith)

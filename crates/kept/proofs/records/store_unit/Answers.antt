@@ -15,4 +15,4 @@ returns c =
     let w = c.args.words.now in
     let at = c.args.at in
     let head = ap (put_mid at (at + 7 - at) w) c.copy_from_slice.ensures.after ∙ placed_whole w at (at + 7 - at) _ (omega arith) in
-    unit_stored _ _ _ _ _ _ _ _ _ c.requires.0 (ap (λ (l : List ℕ). get_or l 0 0) c.words_of.ensures) (ap (λ (l : List ℕ). get_or l 1 0) c.words_of.ensures) head c.store_cells.ensures
+    unit_stored _ _ _ _ _ _ _ _ _ c.requires (ap (λ (l : List ℕ). get_or l 0 0) c.words_of.ensures) (ap (λ (l : List ℕ). get_or l 1 0) c.words_of.ensures) head c.store_cells.ensures

@@ -4,4 +4,4 @@ use Rattle.kept.proofs.Placing.{Placing}
 use Rattle.kept.proofs.slots.place_all.Given as goal
 
 abbrev pub invariant-loop-i : goal.invariant-loop-i
-invariant-loop-i l = Placing l.words l.table l.n l.count l.initial.work l.work l.i
+invariant-loop-i l = Placing l.t.words l.t.table l.t.units l.t.count l.initial.work l.work l.i

@@ -13,10 +13,10 @@ unfolding judged_row
 returns-in_default c = answers_refuse _ _ (row_absent _ _ _ _ _ _ _ _ (probed_absent _ _ c.find.ensures c.in_default.is))
 
 pub row_at-requires : goal.row_at-requires
-row_at-requires c = (found_row _ c.requires.0 _ _ _ (probed_found _ _ c.find.ensures _ c.in-Some.is)).inside
+row_at-requires c = (found_row _ c.requires _ _ _ (probed_found _ _ c.find.ensures _ c.in-Some.is)).inside
 
 pub invariant_of-row : goal.invariant_of-row
-invariant_of-row c = let p = found_row _ c.requires.0 _ _ _ (probed_found _ _ c.find.ensures _ c.in-Some.is) in rw c.row_at.ensures (record { counted = p.counted; within = p.within })
+invariant_of-row c = let p = found_row _ c.requires _ _ _ (probed_found _ _ c.find.ensures _ c.in-Some.is) in rw c.row_at.ensures (record { counted = p.counted; within = p.within })
 
 pub returns-in_default-cell : goal.returns-in_default-cell
 unfolding judged_row

@@ -6,8 +6,8 @@ use Rattle.kept.proofs.Placing.{lent_slots, lent_count}
 use Rattle.kept.proofs.slots.Slots.of_work.Goals as goal
 use Rattle.kept.proofs.slots.Slots.of_work.Goals.{After-part-region}
 
-slots : (c : After-part-region) → c.part-region.result.now ≡ region c.args.work.now c.args.words (slots_region c.args.table)
-slots c = c.part-region.ensures ∙ ap (region c.args.work.now c.args.words) c.slots.ensures.is
+slots : (c : After-part-region) → c.part-region.result.now ≡ region c.args.work.now c.args.t.words (slots_region c.args.t.table)
+slots c = c.part-region.ensures ∙ ap (region c.args.work.now c.args.t.words) c.slots.ensures.is
 
 pub slice_bounds-result-end : goal.slice_bounds-result-end
 slice_bounds-result-end c = lent_count _ c.args.work.now _ _ _ c.requires.can _ (slots (goal.at.slice_bounds-result-end c).After-part-region)
