@@ -1,6 +1,6 @@
 -- What the code holds of a package, which need not be believed; and at the end the answers as callers are told them.
 -- Assumes nothing.
-use Rattle.std.specs.Prelude.{◌≡◌, Bool, true, false, ◌&&◌, ◌||◌, List, [], ◌∷◌, ℕ, ◌+◌, ◌≤◌, ◌<◌, eqb, nat_le, length, drop, get_or, Some, None, Result, Ok, Err}
+use Rattle.std.specs.Prelude.{◌≡◌, Bool, true, false, ◌&&◌, ◌||◌, List, [], ℕ, ◌+◌, ◌≤◌, ◌<◌, eqb, nat_le, length, drop, get_or, Some, None, Result, Ok, Err}
 use Rattle.std.specs.Prelude as code
 use Rattle.std.specs.List.{list_all}
 use Rattle.std.proofs.Math.Option.{Option, some, none}
@@ -37,7 +37,7 @@ unfoldable pub indexed : Option Index → code.Option IndexHead
 indexed (some i) = Some (head_of i)
 indexed none = None
 
--- the sections of the one object start behind the head and the object word
+-- the sections of the one object follow the head and the object word
 unfoldable pub head_in : Package → PackageHead
 head_in k = record { encoding = coded k.encoding; sections = scan_of 8 k.parts; cu = indexed k.cu_index; tu = indexed k.tu_index }
 
@@ -134,7 +134,3 @@ numbered (refused n) = record { code = n; start = 0; length = 0; looks = 0 }
 -- the bytes of the package that an answer names, none where nothing is found
 unfoldable pub bytes_in : List ℕ → Answer → List ℕ
 bytes_in p a = cut p a.start a.length
-
--- what stands beside them: the code, the place in the package, the length and the looks
-unfoldable pub beside : Answer → List ℕ
-beside a = a.code ∷ a.start ∷ a.length ∷ a.looks ∷ []

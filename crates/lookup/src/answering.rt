@@ -1,7 +1,7 @@
 // Both lookups as callers are told them: numbers, or the part of the lent package itself with the numbers beside it.
 ghost use Rattle.std.specs.Prelude.{◌≡◌, ◌+◌, ◌≤◌, length};
 ghost use Rattle.lookup.specs.Lookup.{looked_up, string_found};
-ghost use Rattle.lookup.specs.Answers.{beside, bytes_in, found_as, numbered};
+ghost use Rattle.lookup.specs.Answers.{bytes_in, found_as, numbered};
 
 use crate::searching::{Located, UnitAsked};
 use numbers::refusals::Refusal;
@@ -51,6 +51,8 @@ impl From<Result<Located, Refusal>> for Answer {
     }
 }
 
+// A section's part here and an entry's string in the following function: each is one line beside its twin. One function of both would take an enum
+// of the two questions, and its clause would have to tell them apart again. So it is with `look_up` and with `locate`.
 pub fn answer_part(package: &[u8], unit: UnitAsked, section: u32) -> Answer
     ensures { result ≡ numbered (looked_up «package».now unit.version unit.table unit.identity section) }
 {
@@ -63,49 +65,42 @@ pub fn answer_string(package: &[u8], unit: UnitAsked, entry: u64) -> Answer
     Answer::from(crate::searching::locate_string(package, unit, entry))
 }
 
-// The bytes that an answer names, and its numbers beside them. The caller has found them in the package.
-#[tactic(auto, using(octets::proofs::Parts::part_cut), unfolding(crate::specs::Answers::beside, crate::specs::Answers::bytes_in))]
-fn hand_out<'a, 'b>(package: &'a [u8], answer: Answer, told: &'b mut [u64; 4]) -> &'a [u8]
-    requires { answer.start + answer.length ≤ length «package».now }
-    ensures result_value { result.now ≡ bytes_in «package».now answer }
-    ensures told_after { told.new ≡ beside answer }
-{
-    *told = [
-        u64::from(answer.code),
-        answer.start as u64,
-        answer.length as u64,
-        answer.looks as u64,
-    ];
-    &package[answer.start..answer.start + answer.length]
+// A part of the lent package itself, and the numbers beside it. The part is empty where nothing is found.
+#[derive(Clone, Copy)]
+pub struct Handed<'a> {
+    pub part: &'a [u8],
+    pub answer: Answer,
 }
 
-// The part of the lent package itself, and beside it the code, its place in the package, its length and the looks. It is empty where nothing is
-// found.
+// The bytes that an answer names, and the answer. The caller has found them in the package.
+#[tactic(auto, using(octets::proofs::Parts::part_cut), unfolding(crate::specs::Answers::bytes_in))]
+fn hand_out(package: &[u8], answer: Answer) -> Handed<'_>
+    requires { answer.start + answer.length ≤ length «package».now }
+    ensures part { result.part.now ≡ bytes_in «package».now answer }
+    ensures answer { result.answer ≡ answer }
+{
+    Handed {
+        part: &package[answer.start..answer.start + answer.length],
+        answer,
+    }
+}
+
+// The part of a section.
 #[tactic(auto, using(crate::proofs::Bounds::part_fits))]
-pub fn look_up<'a, 'b>(
-    package: &'a [u8],
-    unit: UnitAsked,
-    section: u32,
-    told: &'b mut [u64; 4],
-) -> &'a [u8]
-    ensures result_value { result.now ≡ bytes_in «package».now (numbered (looked_up «package».now unit.version unit.table unit.identity section)) }
-    ensures told_after { told.new ≡ beside (numbered (looked_up «package».now unit.version unit.table unit.identity section)) }
+pub fn look_up(package: &[u8], unit: UnitAsked, section: u32) -> Handed<'_>
+    ensures part { result.part.now ≡ bytes_in «package».now (numbered (looked_up «package».now unit.version unit.table unit.identity section)) }
+    ensures answer { result.answer ≡ numbered (looked_up «package».now unit.version unit.table unit.identity section) }
 {
     let answer = answer_part(package, unit, section);
-    hand_out(package, answer, told)
+    hand_out(package, answer)
 }
 
-// The string in the lent package itself, without its zero, with the same beside it.
+// The string of an entry, without its zero.
 #[tactic(auto, using(crate::proofs::Bounds::string_fits))]
-pub fn look_up_string<'a, 'b>(
-    package: &'a [u8],
-    unit: UnitAsked,
-    entry: u64,
-    told: &'b mut [u64; 4],
-) -> &'a [u8]
-    ensures result_value { result.now ≡ bytes_in «package».now (numbered (string_found «package».now unit.version unit.table unit.identity entry)) }
-    ensures told_after { told.new ≡ beside (numbered (string_found «package».now unit.version unit.table unit.identity entry)) }
+pub fn look_up_string(package: &[u8], unit: UnitAsked, entry: u64) -> Handed<'_>
+    ensures part { result.part.now ≡ bytes_in «package».now (numbered (string_found «package».now unit.version unit.table unit.identity entry)) }
+    ensures answer { result.answer ≡ numbered (string_found «package».now unit.version unit.table unit.identity entry) }
 {
     let answer = answer_string(package, unit, entry);
-    hand_out(package, answer, told)
+    hand_out(package, answer)
 }

@@ -64,10 +64,8 @@ fn read_index(
     }
     let start = sections.start[code];
     let end = start + sections.size[code];
-    match Index::read(big, &package[start..end]) {
-        Ok(index) => Ok(Some(index.head())),
-        Err(_) => Err(Refusal::BadPackage),
-    }
+    let index = Index::read(big, &package[start..end]).map_err(|_| Refusal::BadPackage)?;
+    Ok(Some(index.head()))
 }
 
 // The package of one object, of that word and those sections. The caller has scanned it.
@@ -80,6 +78,7 @@ fn open_sections(
     requires { Alone «package».now big word sections }
     ensures { told result ≡ opened (package_of «package».now) }
 {
+    // no `map_err`, as the other two have it: the proof did not close with it
     let Ok(encoding) = bundle::encoding::read_word(big, word) else {
         return Err(Refusal::BadPackage);
     };
@@ -115,9 +114,7 @@ pub fn open_package(package: &[u8]) -> Result<PackageHead, Refusal>
     if !bundle::length_good(PACKAGE_LIMIT, package) {
         return Err(Refusal::BadPackage);
     }
-    let Ok(big) = bundle::check_words(package) else {
-        return Err(Refusal::BadPackage);
-    };
+    let big = bundle::check_words(package).map_err(|_| Refusal::BadPackage)?;
     match bundle::next_item(package, 4) {
         Ok(Item::Object { word, .. }) => open_object(package, big, word),
         Ok(Item::End) => Ok(without_object(big)),

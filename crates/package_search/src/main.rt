@@ -2,6 +2,7 @@
 // 0 to 2, and identity 2. For each question a line: code, start, length, looks, and the bytes of the part that the lookup hands out.
 #![tactic(auto)]
 
+use lookup::answering::{Answer, Handed};
 use lookup::searching::UnitAsked;
 use std::io;
 
@@ -13,8 +14,14 @@ fn write_hexadecimal(rt: &impl Print, s: &[u8]) -> io::Result<()> {
     Ok(())
 }
 
-fn write_answer(rt: &impl Print, told: [u64; 4], part: &[u8]) -> io::Result<()> {
-    let [code, start, length, looks] = told;
+fn write_answer(rt: &impl Print, handed: Handed) -> io::Result<()> {
+    let Handed { part, answer } = handed;
+    let Answer {
+        code,
+        start,
+        length,
+        looks,
+    } = answer;
     print!(rt; "{code} {start} {length} {looks} ")?;
     write_hexadecimal(rt, part)?;
     println!(rt)
@@ -29,15 +36,13 @@ fn unit(identity: u64) -> UnitAsked {
 }
 
 fn ask_part(rt: &impl Print, package: &[u8], identity: u64, section: u32) -> io::Result<()> {
-    let mut told = [0u64; 4];
-    let part = lookup::answering::look_up(package, unit(identity), section, &mut told);
-    write_answer(rt, told, part)
+    let handed = lookup::answering::look_up(package, unit(identity), section);
+    write_answer(rt, handed)
 }
 
 fn ask_string(rt: &impl Print, package: &[u8], entry: u64) -> io::Result<()> {
-    let mut told = [0u64; 4];
-    let part = lookup::answering::look_up_string(package, unit(1), entry, &mut told);
-    write_answer(rt, told, part)
+    let handed = lookup::answering::look_up_string(package, unit(1), entry);
+    write_answer(rt, handed)
 }
 
 fn ask_sections(rt: &impl Print, package: &[u8]) -> io::Result<()> {
