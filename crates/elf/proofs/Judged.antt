@@ -14,7 +14,9 @@ use Rattle.octets.proofs.Checks.{true_false}
 use Rattle.octets.proofs.Lists.{all_cons, all_stops, those_keeps, those_skips}
 use Rattle.octets.proofs.Elements.{all_at}
 use Rattle.elf.specs.File.{Header, body_of, inside, no_header, code_of, is_wanted, ended}
-use Rattle.elf.specs.Held.{header_good, code_found}
+use Rattle.elf.specs.Held.{file_is, header_good, code_found}
+use Rattle.elf.specs.declared.file.ElfFile.{ElfFile}
+use Rattle.elf.proofs.Headers.{length_all}
 use Rattle.std.proofs.Common.{Option, Some, None}
 use Rattle.std.specs.Option.{is_some, MatchOption}
 use denote.Bor.{Bor}
@@ -95,7 +97,7 @@ wanted_inside f names hs i a h w =
     either false u p q = absurd (true_false p refl)
 
 -- ---- a test of each header by its number
-pub all_range : {A : Type 0} (p : A → Bool) (d : A) (t : ℕ → Bool) (k : ℕ) (xs : List A) → ((i : ℕ) → i < length xs → t (k + i) ≡ p (get_or xs i d))
+all_range : {A : Type 0} (p : A → Bool) (d : A) (t : ℕ → Bool) (k : ℕ) (xs : List A) → ((i : ℕ) → i < length xs → t (k + i) ≡ p (get_or xs i d))
     → list_all t (range_with_len k (length xs)) ≡ all p xs
 unfolding all
 all_range p d t k [] h = refl
@@ -104,3 +106,13 @@ all_range p d t k (x ∷ xs) h = go (p x) refl (ap t (omega arith) ∙ h 0 (omeg
     go : (b : Bool) → p x ≡ b → t k ≡ p x → list_all t (range_with_len (k + 1) (length xs)) ≡ all p xs → list_all t (range_with_len k (length (x ∷ xs))) ≡ all p (x ∷ xs)
     go true e q more = rw (q, e) (more ∙ sym (all_cons p x xs e))
     go false e q more = rw (q, e) (sym (all_stops p x xs e))
+
+-- the numbers of the headers, each tested by its header
+abbrev pub at_number : ElfFile → (Header → Bool) → ℕ → Bool
+at_number e p i = p (get_or (file_is e).headers i no_header)
+
+pub headers_all : (e : ElfFile) (p : Header → Bool) → list_all (at_number e p) (range_with_len 0 e.count) ≡ all p (file_is e).headers
+headers_all e p =
+    let few : e.count ≡ length (file_is e).headers = omega (arith, length_all e) in
+    ap (λ (n : ℕ). list_all (at_number e p) (range_with_len 0 n)) few
+    ∙ all_range p no_header (at_number e p) 0 (file_is e).headers (λ i h. ap (at_number e p) (omega arith))

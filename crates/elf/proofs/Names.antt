@@ -4,15 +4,17 @@ use mathlib.Core.Path.{◌≡◌, refl, sym, ap, ◌∙◌}
 use mathlib.Core.Logic.{⊎_elim}
 use mathlib.Core.Bool.{Bool, true, false}
 use mathlib.Core.List.{List, [], ◌∷◌, ◌++◌}
-use Prim.Native.Nat.{ℕ, ◌+◌, ◌-◌, ◌≤◌, ◌<◌}
+use Prim.Native.Nat.{ℕ, suc, ◌+◌, ◌-◌, ◌≤◌, ◌<◌}
 use native.Mathlib.Decide.{dec_le}
 use native.Mathlib.Numerals.{add-one}
 use native.Mathlib.Omega.{arith}
 use lib.Dec.{eqb, ltb}
 use lib.ListN.{length, take, drop, get_or, length-append, length-take, length-drop, drop_of_length-le}
-use Rattle.std.specs.List.{slice_range}
-use lib.Seq.{drop-cons, take_all, take-suc, take_at, length-take-le, get_or-take, get_or-drop, get_or-append-add}
-use borrow.Author.Tests.{eq-eqb, eqb-true, lt-ltb, le-ltb}
+use Rattle.std.specs.List.{slice_range, find, range_with_len}
+use Rattle.std.specs.Prelude.{Some}
+use Rattle.elf.specs.Held.{code_found}
+use lib.Seq.{take_all, take-suc, take_at, length-take-le, get_or-take, get_or-drop, get_or-append-add}
+use borrow.Author.Tests.{eq-eqb, ne_eqb, eqb-true, lt-ltb, le-ltb}
 use Rattle.octets.specs.Lists.{any, same}
 use Rattle.octets.proofs.Checks.{known}
 use Rattle.octets.proofs.Lists.{same_both, eq_same, same_eq, ne_same}
@@ -49,18 +51,20 @@ module _ (s name : List ℕ) where
         (λ e. eq_same _ _ (sym (take_at (take (length name) s) (get_or s (length name) 0 ∷ []) (length name) long) ∙ ap (take (length name)) (sym one_more ∙ e) ∙ take_at name (0 ∷ []) (length name) refl))
 
 -- ---- the code of a name
-module _ (ns : List (List ℕ)) (i : ℕ) (s : List ℕ) where
-  pub among_here : i < length ns → starts_with s (get_or ns i []) ≡ true → i ≡ code_among (drop i ns) i s
-  unfolding code_among
-  among_here h e = rw (drop-cons ns i [] h, code_among, e)
-
-  pub among_on : i < length ns → starts_with s (get_or ns i []) ≡ false → code_among (drop (i + 1) ns) (i + 1) s ≡ code_among (drop i ns) i s
-  unfolding code_among
-  among_on h e = rw (drop-cons ns i [] h, code_among, e, add-one)
-
-  pub among_none : length ns ≤ i → 0 ≡ code_among (drop i ns) i s
-  unfolding code_among
-  among_none h = rw (drop_of_length-le ns h)
+-- a test of each name by its number, from one on
+pub among_found : (s : List ℕ) (t : ℕ → Bool) (k : ℕ) (ns : List (List ℕ)) → 0 < k → ((i : ℕ) → i < length ns → t (k + i) ≡ starts_with s (get_or ns i []))
+    → find t (range_with_len k (length ns)) ≡ code_found (code_among ns k s)
+unfolding code_among
+among_found s t k [] l h = refl
+among_found s t k (n ∷ ns) l h = go (starts_with s n) refl (ap t (omega arith) ∙ h 0 (omega arith)) (among_found s t (k + 1) ns (omega arith) (λ i m. ap t (omega arith) ∙ h (suc i) (omega arith)))
+  where
+    go : (b : Bool) → starts_with s n ≡ b → t k ≡ starts_with s n → find t (range_with_len (k + 1) (length ns)) ≡ code_found (code_among ns (k + 1) s)
+        → find t (range_with_len k (length (n ∷ ns))) ≡ code_found (code_among (n ∷ ns) k s)
+    go true e q more =
+        let is : code_among (n ∷ ns) k s ≡ k = rw (code_among, e) in
+        let found : code_found k ≡ Some k = rw (code_found, ne_eqb k 0 (λ z. omega arith)) in
+        rw (q, e) (sym (ap code_found is ∙ found))
+    go false e q more = rw (q, e, code_among) more
 
 among_nothing : (ns : List (List ℕ)) (c : ℕ) → code_among ns c [] ≡ 0
 unfolding code_among

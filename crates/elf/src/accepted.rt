@@ -17,7 +17,7 @@ pub struct Section<'a> {
 #[derive(Clone, Copy)]
 pub struct Accepted<'a> {
     pub file: ElfFile<'a>,
-    ghost wanted_inside: { WantedInside file },
+    pub ghost wanted_inside: { WantedInside file },
 }
 
 impl<'a> Accepted<'a> {
@@ -26,7 +26,7 @@ impl<'a> Accepted<'a> {
     ghost use Rattle.elf.specs.File.{elf_of};
     ghost use Rattle.elf.specs.Held.{file_is, header_sections, sections_found};
 
-    // 31, all of it.
+    // Refusal 31, all of it: the file, its names and the places of its wanted sections.
     pub fn open(f: &'a [u8]) -> Result<Accepted<'a>, Refusal>
         ensures file { mapped (λ a. file_is a.file) (told result) ≡ elf_of f.now }
         ensures bytes { IfOk result (λ a. a.file.bytes.now ≡ f.now) }

@@ -7,7 +7,7 @@ use numbers::refusals::Refusal;
 // The type of a section that has no bytes in the file.
 pub const UNSTORED: u32 = 8;
 
-// The bytes of a section header.
+// The bytes of the file's header, and of a section's header.
 pub const HEADER: usize = 64;
 
 // A section header: its number, its name's place in the name table, its type and flags, where its bytes lie, and the number of a
@@ -23,7 +23,8 @@ pub struct Header {
     pub info: usize,
 }
 
-// The byte order, where the headers stand and how many there are, and the name table. All of it is in the bytes of the file.
+// The byte order, where the headers stand, which are all in the bytes of the file, and how many there are. The names are any bytes here: that they are
+// the name table of the file is what `open` promises.
 #[derive(Clone, Copy)]
 pub struct ElfFile<'a> {
     pub bytes: &'a [u8],
@@ -31,8 +32,8 @@ pub struct ElfFile<'a> {
     pub at: usize,
     pub count: usize,
     pub names: &'a [u8],
-    ghost headers_there: { at + 64 * count ≤ length bytes.now },
-    ghost few: { count < 0x1_0000 },
+    pub ghost headers_there: { at + 64 * count ≤ length bytes.now },
+    pub ghost few: { count < 0x1_0000 },
 }
 
 impl Header {

@@ -74,7 +74,7 @@ fn header_readable(file: &ElfFile, i: usize) -> bool
     file.code_of(h).is_none() || h.kind != UNSTORED && h.flags / COMPRESSED % 2 != 1
 }
 
-// 32
+// Refusal 32: a section that is compressed, has no bytes in the file or is relocated.
 pub fn all_readable(file: &ElfFile) -> bool
     ensures { result ≡ all (readable (file_is file.now).headers) (wanted_of (file_is file.now)) }
 {

@@ -19,16 +19,10 @@ fn starts_with(s: &[u8], name: &[u8]) -> bool
 }
 
 // The code of the name that s starts with, if it is one's.
-#[tactic(auto, using(crate::proofs::Names::among_here, crate::proofs::Names::among_on, crate::proofs::Names::among_none, crate::proofs::Names::names_fourteen), unfolding(numbers::specs::Names::section_name))]
 fn code_at(s: &[u8]) -> Option<usize>
     ensures { result ≡ code_found (code_among (drop 1 section_names) 1 s.now) }
 {
-    for code in 1..CODES {
-        if starts_with(s, section_name(code)) {
-            return Some(code);
-        }
-    }
-    None
+    (1..CODES).find(|code| starts_with(s, section_name(*code)))
 }
 
 impl ElfFile<'_> {

@@ -46,13 +46,11 @@ fn word_of(e: ObjectEncoding, address: u8) -> u32
 fn word_stated(e: ObjectEncoding, s: &[u8]) -> Result<u32, Refusal>
     ensures { told result ≡ word_with (encoding_is e) (address_of (encoding_is e) s.now) }
 {
-    match unit::header::stated_address(e, s) {
-        Ok(address) => Ok(word_of(e, address)),
-        Err(_) => Err(Refusal::NoUnit),
-    }
+    let address = unit::header::stated_address(e, s).map_err(|_| Refusal::NoUnit)?;
+    Ok(word_of(e, address))
 }
 
-// 33
+// Refusal 33: no unit that states an encoding.
 #[tactic(auto, using(crate::proofs::FirstUnit::stated_cases))]
 pub fn first_unit(big: bool, s: &[u8]) -> Result<u32, Refusal>
     ensures { told result ≡ mapped object_word (unit_stated big s.now) }

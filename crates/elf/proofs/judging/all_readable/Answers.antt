@@ -1,21 +1,18 @@
 -- `elf::judging::all_readable` meets its contract.
 -- Assumes nothing.
-use Rattle.std.proofs.Common.{◌≡◌, ◌∙◌, ℕ, rules, refl, ap, arith, get_or, length}
+use Rattle.std.proofs.Common.{◌∙◌, rules, refl, arith}
 use borrow.Author.Tests.{tests}
-use Rattle.std.specs.List.{list_all, range_with_len}
 use Rattle.std.proofs.lemmas.Iterator.{YieldsList-from_range}
 use Rattle.std.proofs.lemmas.Iterator.Search.{all_from_yields_List}
-use Rattle.elf.specs.File.{no_header}
 use Rattle.elf.specs.Held.{file_is, header_readable}
-use Rattle.elf.proofs.Headers.{length_all, numbered}
-use Rattle.elf.proofs.Judged.{all_range}
+use Rattle.elf.proofs.Headers.{numbered}
+use Rattle.elf.proofs.Judged.{at_number, headers_all}
 use Rattle.elf.proofs.Targets.{readable_all}
 use Rattle.elf.proofs.judging.all_readable.Goals as goal
 
 pub returns : goal.returns
 returns c =
     let e = c.args.file.now in
-    let hs = (file_is e).headers in
-    let test = λ (i : ℕ). header_readable (file_is e) (get_or hs i no_header) in
-    let told : c.all.result ≡ list_all test (range_with_len 0 (length hs)) = all_from_yields_List test _ _ c.all.result c.all.ensures.ran (YieldsList-from_range 0 e.count (length hs) refl (omega (arith, length_all e))) (λ x b q k. search (rules, tests)) in
-    told ∙ all_range (header_readable (file_is e)) no_header test 0 hs (λ i h. ap test (omega arith)) ∙ readable_all (file_is e) (numbered e)
+    let readable = header_readable (file_is e) in
+    all_from_yields_List (at_number e readable) _ _ _ c.all.ensures.ran (YieldsList-from_range 0 e.count e.count refl (omega arith)) (λ x b q k. search (rules, tests))
+    ∙ headers_all e readable ∙ readable_all (file_is e) (numbered e)
