@@ -1,14 +1,16 @@
 -- The words of questions, read from the front three by three.
 -- Assumes nothing.
 use mathlib.Core.Path.{◌≡◌, refl, ap, sym, ◌∙◌}
-use mathlib.Core.Bool.{true, false}
+use mathlib.Core.Bool.{Bool, true, false}
 use mathlib.Core.List.{List, [], ◌∷◌}
-use Prim.Native.Nat.{ℕ, suc, ◌+◌, ◌*◌, ◌/◌, ◌%◌, ◌≤◌}
+use Prim.Native.Nat.{ℕ, zero, suc, ◌+◌, ◌*◌, ◌/◌, ◌%◌, ◌≤◌}
 use native.Mathlib.Omega.{arith}
 use native.Mathlib.Decide.{ℕ_discrete}
 use native.Mathlib.Numerals.{add-one, add-two, add-three}
 use lib.ListN.{length, get_or, drop, drop_of_length-le}
+use lib.Dec.{eqb}
 use lib.Seq.{drop-cons}
+use Rattle.std.specs.List.{list_all, range_with_len}
 use borrow.Author.Tests.{eq-eqb, ne_eqb}
 use Rattle.numbers.specs.Refusals.{bad_questions}
 use Rattle.octets.specs.Checked.{Check, pass, refuse, ◌>>=◌}
@@ -52,15 +54,15 @@ three w i h =
     ∙ ap (λ (r : List ℕ). get_or w i 0 ∷ r) (drop-cons w (suc i) 0 (omega arith) ∙ ap (λ (r : List ℕ). get_or w (suc i) 0 ∷ r) (drop-cons w (suc (suc i)) 0 (omega arith))))
 
 module _ (w : List ℕ) (i : ℕ) where
-  pub at_end : length w ≤ i → are_questions (drop i w) ≡ true
+  at_end : length w ≤ i → are_questions (drop i w) ≡ true
   unfolding are_questions questions_of is_pass
   at_end h = ap are_questions (drop_of_length-le w h)
 
   module _ (h : i + 3 ≤ length w) where
-    pub at_other : (first : ℕ) → first ≡ get_or w i 0 → (first / 256 ≡ question_kind → ⊥) → are_questions (drop i w) ≡ false
+    at_other : (first : ℕ) → first ≡ get_or w i 0 → (first / 256 ≡ question_kind → ⊥) → are_questions (drop i w) ≡ false
     at_other first s f = ap are_questions (three w i h) ∙ are_other (get_or w i 0) _ _ _ (λ z. f (ap (λ (n : ℕ). n / 256) s ∙ z))
 
-    pub at_more : (first : ℕ) → first ≡ get_or w i 0 → first / 256 ≡ question_kind → are_questions (drop i w) ≡ are_questions (drop (i + 3) w)
+    at_more : (first : ℕ) → first ≡ get_or w i 0 → first / 256 ≡ question_kind → are_questions (drop i w) ≡ are_questions (drop (i + 3) w)
     at_more first s f = ap are_questions (three w i h) ∙ are_more (get_or w i 0) _ _ _ (ap (λ (n : ℕ). n / 256) (sym s) ∙ f)
 
     -- where they have passed
@@ -86,6 +88,19 @@ counted (a ∷ b ∷ c ∷ w) e =
     let n = ap length (in_more a b c w k r) in
     omega (arith, counted w r)
 
+-- each of them by its first word: n of them from number k on
+abbrev pub kind_at : List ℕ → ℕ → Bool
+kind_at w i = eqb (get_or w (3 * i) 0 / 256) question_kind
+
+pub questions_all : (w : List ℕ) (k n : ℕ) → length w ≡ 3 * (k + n) → list_all (kind_at w) (range_with_len k n) ≡ are_questions (drop (3 * k) w)
+questions_all w k zero h = sym (at_end w (3 * k) (omega arith))
+questions_all w k (suc n) h = elim (ℕ_discrete (get_or w (3 * k) 0 / 256) question_kind) [
+  | yes e ↦
+      let next : 3 * (k + 1) ≡ 3 * k + 3 = omega arith in
+      rw (eq-eqb _ question_kind e) (questions_all w (k + 1) n (omega arith) ∙ ap (λ (j : ℕ). are_questions (drop j w)) next ∙ sym (at_more w (3 * k) (omega arith) _ refl e))
+  | no f ↦ rw (ne_eqb _ question_kind f) (sym (at_other w (3 * k) (omega arith) _ refl f))
+]
+
 pub not_whole : (w : List ℕ) → (length w % 3 ≡ 0 → ⊥) → false ≡ are_questions w
 not_whole w f = ⊎_elim (λ e. let c = counted w e in absurd (f (omega arith))) (λ e. sym e) (known (are_questions w))
 
@@ -108,5 +123,3 @@ are_not (a ∷ b ∷ c ∷ w) e =
       | yes k ↦ read a b c w k ∙ then_refuse _ _ _ (are_not w (sym (are_more a b c w k) ∙ e))
       | no f ↦ fails _ _ _ (ne_eqb (a / 256) question_kind f)
     ]
-
-pub ruleset question_cases = (not_whole, at_end, at_other, at_more)

@@ -2,6 +2,7 @@
 #![tactic(auto)]
 
 ghost use Rattle.std.specs.Prelude.{◌≡◌, length, get_or};
+ghost use Rattle.std.proofs.Props.{props};
 ghost use Rattle.octets.specs.Octets.{placed};
 ghost use Rattle.answers.specs.Answers.{output_of, written_of};
 ghost use Rattle.lookup.specs.Answers.{numbered};
@@ -25,21 +26,13 @@ use numbers::refusals::Refusal;
 // Kind 4 and the zeros of a question's first word, above its lowest 8 bits.
 const QUESTION_KIND: u32 = 0x40_0000;
 
-// ---- 38
+// ---- refusal 38: the questions are ill-formed or too many, or there are too few words for their answers
 // Each question is three words, the first of them of its kind.
-#[tactic(auto, using(crate::proofs::Questions::question_cases))]
+#[tactic(auto, using(crate::proofs::Questions::not_whole))]
 fn are_questions(words: &[u32]) -> bool
     ensures { result ≡ are_questions words.now }
 {
-    if words.len() % 3 != 0 {
-        return false;
-    }
-    for i in 0..words.len() / 3 {
-        if words[3 * i] / 256 != QUESTION_KIND {
-            return false;
-        }
-    }
-    true
+    words.len() % 3 == 0 && (0..words.len() / 3).all(|i| words[3 * i] / 256 == QUESTION_KIND)
 }
 
 #[tactic(auto, using(crate::proofs::Answering::taken_by))]
@@ -51,24 +44,6 @@ fn is_taken(words: &[u32], room: usize) -> bool
 }
 
 // ---- the answers
-// One question, of three words. The caller has opened the package, or it was refused.
-#[tactic(auto, using(crate::proofs::Answering::opened_bytes, crate::proofs::Answering::opened_refused, lookup::proofs::Lookups::looked_closed), unfolding(crate::specs::Batch::asked, crate::specs::Batch::question))]
-fn ask(package: &[u8], opened: &Result<Package, Refusal>, version: u32, words: &[u32]) -> Answer
-    requires { (OpenedAs «package».now opened.now) × (length words.now ≡ 3) }
-    ensures { result ≡ numbered (asked «package».now version (question (get_or words.now 0 0) (get_or words.now 1 0) (get_or words.now 2 0))) }
-{
-    let unit = UnitAsked {
-        version,
-        table: words[0] % 16,
-        identity: octets::number_of(words[1], words[2]),
-    };
-    let located = match opened {
-        Ok(package) => package.locate(unit, words[0] / 16 % 16),
-        Err(refusal) => Err(*refusal),
-    };
-    Answer::from(located)
-}
-
 // The four words of an answer.
 #[tactic(auto, unfolding(crate::specs::Batch::words_of))]
 fn words_of(answer: Answer) -> [u32; 4]
@@ -83,21 +58,44 @@ fn words_of(answer: Answer) -> [u32; 4]
     ]
 }
 
-// All answers, in order, from the front. The caller has judged the questions.
-#[tactic(auto, using(crate::proofs::Answering::answering_cases, crate::proofs::Sizes::asked_narrow))]
-fn put_answers(
-    package: &[u8],
-    opened: &Result<Package, Refusal>,
+// The package that all questions go to, opened or refused, and the version that they ask by.
+#[derive(Clone, Copy)]
+struct AskedPackage<'a> {
+    bytes: &'a [u8],
+    opened: Result<Package<'a>, Refusal>,
     version: u32,
-    questions: &[u32],
-    answers: &mut [u32],
-)
-    requires { (OpenedAs «package».now opened.now) × (Ready questions.now (length answers.old)) }
-    ensures { answers.new ≡ placed answers.old 0 (answers_to «package».now version (questions_in questions.now)) }
-{
-    for i in 0..questions.len() / 3 {
-        let answer = ask(package, opened, version, &questions[3 * i..3 * i + 3]);
-        answers[4 * i..4 * i + 4].copy_from_slice(&words_of(answer));
+    ghost as_opened: { OpenedAs bytes.now opened } by { Prim.hlevel props },
+}
+
+impl AskedPackage<'_> {
+    // One question, of three words.
+    #[tactic(auto, using(crate::proofs::Answering::opened_bytes, crate::proofs::Answering::opened_refused, lookup::proofs::Lookups::looked_closed), unfolding(crate::specs::Batch::asked, crate::specs::Batch::question))]
+    fn ask(&self, words: &[u32]) -> Answer
+        requires { length words.now ≡ 3 }
+        ensures { result ≡ numbered (asked self.now.bytes.now self.now.version (question (get_or words.now 0 0) (get_or words.now 1 0) (get_or words.now 2 0))) }
+    {
+        let unit = UnitAsked {
+            version: self.version,
+            table: words[0] % 16,
+            identity: octets::number_of(words[1], words[2]),
+        };
+        let located = match &self.opened {
+            Ok(package) => package.locate(unit, words[0] / 16 % 16),
+            Err(refusal) => Err(*refusal),
+        };
+        Answer::from(located)
+    }
+
+    // All answers, in order, from the front. The caller has judged the questions.
+    #[tactic(auto, using(crate::proofs::Answering::answering_cases, crate::proofs::Sizes::asked_narrow))]
+    fn put_answers(&self, questions: &[u32], answers: &mut [u32])
+        requires { Ready questions.now (length answers.old) }
+        ensures { answers.new ≡ placed answers.old 0 (answers_to self.now.bytes.now self.now.version (questions_in questions.now)) }
+    {
+        for i in 0..questions.len() / 3 {
+            let answer = self.ask(&questions[3 * i..3 * i + 3]);
+            answers[4 * i..4 * i + 4].copy_from_slice(&words_of(answer));
+        }
     }
 }
 
@@ -111,12 +109,11 @@ pub fn answer_batch(package: &[u8], version: u32, questions: &[u32], answers: &m
     if !is_taken(questions, answers.len()) {
         return Written::from(Err(Unwritten::Refused(Refusal::BadQuestions)));
     }
-    put_answers(
-        package,
-        &Package::open(package),
+    let asked = AskedPackage {
+        bytes: package,
+        opened: Package::open(package),
         version,
-        questions,
-        answers,
-    );
+    };
+    asked.put_answers(questions, answers);
     Written::from(Ok(4 * (questions.len() / 3)))
 }

@@ -1,4 +1,4 @@
--- `batch::put_answers` meets its contract.
+-- `batch::AskedPackage::put_answers` meets its contract.
 -- Assumes nothing.
 use Prim.Native.Nat.{◌+◌, ◌*◌, ◌-◌}
 use mathlib.Core.Path.{◌≡◌, refl, ap, ◌∙◌}
@@ -8,7 +8,7 @@ use Rattle.octets.specs.Octets.{placed}
 use Rattle.octets.proofs.Regions.{placed_whole}
 use Rattle.batch.specs.Batch.{answer_to, words_of}
 use Rattle.batch.proofs.Answering.{answering_more}
-use Rattle.batch.proofs.put_answers.Goals as goal
+use Rattle.batch.proofs.AskedPackage.put_answers.Goals as goal
 
 pub loop-i-preserved : goal.loop-i-preserved
 unfolding answer_to words_of

@@ -1,7 +1,7 @@
--- `batch::put_answers` meets its contract.
+-- `batch::AskedPackage::put_answers` meets its contract.
 -- Assumes nothing.
 use Rattle.batch.proofs.Answering.{Answering}
-use Rattle.batch.proofs.put_answers.Given as goal
+use Rattle.batch.proofs.AskedPackage.put_answers.Given as goal
 
 abbrev pub invariant-loop-i : goal.invariant-loop-i
-invariant-loop-i l = Answering l.package l.version l.questions l.initial.answers l.answers l.i
+invariant-loop-i l = Answering l.self.bytes.now l.self.version l.questions l.initial.answers l.answers l.i
