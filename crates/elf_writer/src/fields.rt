@@ -9,7 +9,7 @@ const AARCH64: u32 = 183;
 
 const RISCV: u32 = 243;
 
-// 36: the machines that a file can be for.
+// Refusal 36: the machines that a file can be for.
 #[tactic(auto, unfolding(elf::specs::Writer::machine_good))]
 pub fn machine_good(machine: u32) -> bool
     ensures { result ≡ machine_good machine }
@@ -17,6 +17,7 @@ pub fn machine_good(machine: u32) -> bool
     matches!(machine, AMD64 | AARCH64 | RISCV)
 }
 
+#[tactic(auto, unfolding(elf::specs::Writer::order_code))]
 fn order_code(big: bool) -> u8
     ensures { result ≡ order_code big }
 {
@@ -24,6 +25,7 @@ fn order_code(big: bool) -> u8
 }
 
 // Class 2 is 64 bits; then the byte order and version 1.
+#[tactic(auto, using(crate::proofs::Headers::identification_is))]
 fn put_identification(big: bool, d: &mut [u8])
     requires { 16 ≤ length d.old }
     ensures { d.new ≡ placed d.old 0 (identification big) }
@@ -36,6 +38,7 @@ fn put_identification(big: bool, d: &mut [u8])
 }
 
 // The file's header, where n section headers stand at a place.
+#[tactic(auto, using(crate::proofs::Headers::file_put))]
 pub fn put_file_header(big: bool, machine: u32, at: usize, n: usize, d: &mut [u8])
     requires { (at < 2 ^ 32) × (n < 2 ^ 16) × (0 < n) × (64 ≤ length d.old) }
     ensures { d.new ≡ placed d.old 0 (file_header big machine at n) }
@@ -62,6 +65,7 @@ pub struct SectionHeader {
     pub size: usize,
 }
 
+#[tactic(auto, using(crate::proofs::Headers::section_put))]
 pub fn put_section_header(big: bool, h: SectionHeader, d: &mut [u8], at: usize)
     requires { (h.name < 2 ^ 32) × (h.offset < 2 ^ 32) × (h.size < 2 ^ 32) × (at + 64 ≤ length d.old) }
     ensures { d.new ≡ placed d.old at (section_header big h.name h.kind h.offset h.size) }

@@ -7,7 +7,7 @@ ghost use Rattle.elf.specs.Writer.{elf_written};
 ghost use Rattle.elf_writer.specs.Held.{Within, Ready, headers_place, file_size, file_of};
 
 use crate::sections;
-use crate::sections::Extent;
+use crate::sections::{Extent, Sections};
 use answers::{Unwritten, Written};
 use elf::file::HEADER;
 use lookup::package::Package;
@@ -34,6 +34,7 @@ impl Extent {
 }
 
 // The file, into an output that is zero, so that the zeros in front of the headers and the null header stand there.
+#[tactic(auto, using(crate::proofs::Matched::bounded))]
 fn put_file(package: &Package, machine: u32, e: Extent, out: &mut [u8])
     requires { Ready «package».now e out.old }
     ensures { out.new ≡ padded (file_of «package».now.bytes.now machine) (length out.old - length (file_of «package».now.bytes.now machine)) }
@@ -44,10 +45,14 @@ fn put_file(package: &Package, machine: u32, e: Extent, out: &mut [u8])
     crate::fields::put_file_header(big, machine, at, e.count + 2, out);
     sections::put_bodies(package, out);
     sections::put_name_table(head.sections, out, HEADER + e.bodies);
-    sections::put_headers(big, head.sections, e.names, out, at + HEADER);
+    let all = Sections {
+        scan: head.sections,
+    };
+    all.put_headers(big, e.names, out, at + HEADER);
 }
 
 // The same, or a refusal.
+#[tactic(auto, using(crate::proofs::Matched::bounded))]
 fn write_into(package: &[u8], machine: u32, out: &mut [u8]) -> Result<usize, Unwritten>
     requires { out.old ≡ zeros (length out.old) }
     ensures answer { written_as result ≡ written_of (elf_written «package».now machine (length out.old)) }
@@ -57,7 +62,10 @@ fn write_into(package: &[u8], machine: u32, out: &mut [u8]) -> Result<usize, Unw
         return Err(Unwritten::Refused(Refusal::OtherMachine));
     }
     let opened = Package::open(package)?;
-    let e = sections::measure(opened.head.sections);
+    let all = Sections {
+        scan: opened.head.sections,
+    };
+    let e = all.measure();
     let length = e.file_size();
     if out.len() < length {
         return Err(Unwritten::Refused(Refusal::FileShort));

@@ -13,11 +13,11 @@ use Rattle.elf_writer.proofs.Names.{name_put}
 use Rattle.elf_writer.proofs.sections.put_name.Goals as goal
 use Rattle.elf_writer.proofs.sections.put_name.Goals.{After-section_name-name}
 
-is-there : (n : After-section_name-name) → here n.args.s n.args.code ≡ true
+is-there : (n : After-section_name-name) → here n.args.s.now n.args.code ≡ true
 is-there n = sym n.is_here.ensures ∙ n.if-not-is_here.false
 
-there : (n : After-section_name-name) → length (name_at n.args.s n.args.code) ≡ length n.section_name-name.result.now + 1
-there n = length_name_here n.args.s n.args.code (is-there n) ∙ ap (λ (k : ℕ). k + 1) (sym (ap length n.section_name-name.ensures))
+there : (n : After-section_name-name) → length (name_at n.args.s.now n.args.code) ≡ length n.section_name-name.result.now + 1
+there n = length_name_here n.args.s.now n.args.code (is-there n) ∙ ap (λ (k : ℕ). k + 1) (sym (ap length n.section_name-name.ensures))
 
 room : (n : After-section_name-name) → n.args.at + length n.section_name-name.result.now + 1 ≤ length n.args.d.now
 room n = omega (arith, there n, n.requires.1)
@@ -26,7 +26,7 @@ pub returns-then-not-is_here : goal.returns-then-not-is_here
 returns-then-not-is_here c =
     let a = c.args in
     let e = sym c.is_here.ensures ∙ c.if-not-is_here.true in
-    record { next = omega (arith, length_name_not a.s a.code e); output = sym (ap (placed a.d.now a.at) (name_not a.s a.code e) ∙ placed_none a.d.now a.at) }
+    record { next = omega (arith, length_name_not a.s.now a.code e); output = sym (ap (placed a.d.now a.at) (name_not a.s.now a.code e) ∙ placed_none a.d.now a.at) }
 
 pub put_bytes-requires : goal.put_bytes-requires
 put_bytes-requires c = omega (arith, room (goal.at.put_bytes-requires c).After-section_name-name)
@@ -48,4 +48,4 @@ overflow_add-result-2 c = omega (arith, room (goal.at.overflow_add-result-2 c).A
 pub returns : goal.returns
 returns c =
     let there' = is-there (goal.at.returns c).After-section_name-name in
-    record { next = omega (arith, there (goal.at.returns c).After-section_name-name); output = name_put c.args.s c.args.code _ c.args.d.now _ _ c.args.at there' c.section_name-name.ensures c.requires.1 c.put_bytes.ensures c.put_byte.ensures }
+    record { next = omega (arith, there (goal.at.returns c).After-section_name-name); output = name_put c.args.s.now c.args.code _ c.args.d.now _ _ c.args.at there' c.section_name-name.ensures c.requires.1 c.put_bytes.ensures c.put_byte.ensures }

@@ -6,7 +6,7 @@ use Rattle.elf.specs.Writer.{file_header}
 use Rattle.lookup.specs.declared.package.Package.{Package}
 use Rattle.elf_writer.specs.Held.{body_at, joined_from, headers_from, first_header, headers_place, Ready}
 use Rattle.elf_writer.specs.declared.sections.Extent.{Extent}
-use Rattle.elf_writer.proofs.Matched.{bounded, sizes_are}
+use Rattle.elf_writer.proofs.Matched.{sizes_are}
 use Rattle.elf_writer.proofs.Whole.{place_small, place_behind, size_is, file_laid}
 use Rattle.elf_writer.proofs.writing.put_file.Goals as goal
 
@@ -44,11 +44,7 @@ overflow_add-at c = omega (arith, c.headers_place-at.ensures, place_small c.args
 pub put_headers-requires : goal.put_headers-requires
 put_headers-requires c =
     let m = c.requires.measured in
-    let k = c.args.package.now in (
-      bounded k.bytes.now k.head k.opened,
-      omega (arith, m.within.brief),
-      omega (arith, c.headers_place-at.ensures, room _ _ _ c.requires, m.count, c.put_file_header.auto.d, c.put_bodies.auto.d, c.put_name_table.auto.d),
-    )
+    (omega (arith, m.within.brief), omega (arith, c.headers_place-at.ensures, room _ _ _ c.requires, m.count, c.put_file_header.auto.d, c.put_bodies.auto.d, c.put_name_table.auto.d))
 
 pub returns : goal.returns
 returns c =

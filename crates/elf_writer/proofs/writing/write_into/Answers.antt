@@ -5,7 +5,6 @@ use Rattle.std.proofs.lemmas.Result.{err_from_is_err_and}
 use Rattle.octets.specs.Checked.{mapped}
 use Rattle.elf.specs.Writer.{elf_written}
 use Rattle.elf_writer.specs.Held.{file_of, file_size}
-use Rattle.elf_writer.proofs.Matched.{bounded}
 use Rattle.elf_writer.proofs.Whole.{file_length}
 use Rattle.elf_writer.proofs.Answering.{refused_output, refused_written, made_output, made_written, written_machine, written_bad, written_short, written_made}
 use Rattle.elf_writer.proofs.writing.write_into.Goals as goal
@@ -27,9 +26,6 @@ returns-in_err-opened c =
     let p = err_from_is_err_and c.from_residual.result c.from_residual.ensures.1 in
     let e = written_bad a.package.now a.machine (length a.out.now) (sym c.machine_good.ensures ∙ c.if-not-machine_good.false) _ c.in_err-opened.ensures.head in
     record { answer = rw (p.1, p.2) (refused_written _ _ e); output = c.requires ∙ refused_output _ _ _ e }
-
-pub measure-e-requires : goal.measure-e-requires
-measure-e-requires c = let k = c.in_ok-opened.opened in bounded k.bytes.now k.head k.opened
 
 pub file_size-length-requires : goal.file_size-length-requires
 file_size-length-requires c = c.measure-e.ensures.within

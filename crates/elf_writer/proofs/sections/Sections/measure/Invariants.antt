@@ -1,7 +1,7 @@
--- `elf_writer::sections::measure` meets its contract.
+-- `elf_writer::sections::Sections::measure` meets its contract.
 -- Assumes nothing.
 use Rattle.elf_writer.proofs.Loops.{Measuring}
-use Rattle.elf_writer.proofs.sections.measure.Given as goal
+use Rattle.elf_writer.proofs.sections.Sections.measure.Given as goal
 
 abbrev pub invariant-loop-code : goal.invariant-loop-code
-invariant-loop-code l = Measuring l.s l.e l.code
+invariant-loop-code l = Measuring l.self.scan l.e l.code

@@ -1,4 +1,4 @@
--- `elf_writer::sections::put_headers` meets its contract.
+-- `elf_writer::sections::Sections::put_headers` meets its contract.
 -- Assumes nothing.
 use mathlib.Core.Path.{ap, ◌∙◌}
 use native.Mathlib.Omega.{arith}
@@ -8,20 +8,20 @@ use Rattle.octets.proofs.Placed.{length_placed}
 use Rattle.elf_writer.specs.Held.{first_header}
 use Rattle.elf_writer.proofs.Headers.{length_section}
 use Rattle.elf_writer.proofs.Headings.{heading_none, heading_room, heading_more, heading_end}
-use Rattle.elf_writer.proofs.sections.put_headers.Goals as goal
+use Rattle.elf_writer.proofs.sections.Sections.put_headers.Goals as goal
 
 pub loop-code-init : goal.loop-code-init
 unfolding first_header
-loop-code-init c = heading_none c.args.big c.args.table c.args.s c.args.d.now c.args.from c.requires.2
+loop-code-init c = heading_none c.args.big c.args.table c.args.self.now.scan c.args.d.now c.args.from c.requires.1
 
 pub put_header-h-requires : goal.put_header-h-requires
-put_header-h-requires c = let i = c.loop-code.invariant in (c.loop-code-test.true, c.requires.0, omega (arith, i.name, i.last), omega (arith, i.offset, i.last), heading_room _ _ _ _ _ _ _ _ i)
+put_header-h-requires c = let i = c.loop-code.invariant in (c.loop-code-test.true, omega (arith, i.name, i.last), omega (arith, i.offset, i.last), heading_room _ _ _ _ _ _ _ _ i)
 
 pub loop-code-preserved : goal.loop-code-preserved
-loop-code-preserved c = heading_more _ _ _ _ _ _ _ _ c.loop-code.invariant c.requires.0 c.loop-code-test.true _ _ c.put_header-h.ensures.next c.put_header-h.ensures.output
+loop-code-preserved c = heading_more _ _ _ _ _ _ _ _ c.loop-code.invariant c.args.self.now.bounded c.loop-code-test.true _ _ c.put_header-h.ensures.next c.put_header-h.ensures.output
 
 pub put_section_header-requires : goal.put_section_header-requires
-put_section_header-requires c = let i = c.loop-code.invariant in (omega (arith, i.name, i.last), omega (arith, i.offset, i.last), c.requires.1, heading_room _ _ _ _ _ _ _ _ i)
+put_section_header-requires c = let i = c.loop-code.invariant in (omega (arith, i.name, i.last), omega (arith, i.offset, i.last), c.requires.0, heading_room _ _ _ _ _ _ _ _ i)
 
 pub shape_of-d : goal.shape_of-d
 shape_of-d c =

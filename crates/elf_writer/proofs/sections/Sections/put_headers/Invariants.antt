@@ -1,7 +1,7 @@
--- `elf_writer::sections::put_headers` meets its contract.
+-- `elf_writer::sections::Sections::put_headers` meets its contract.
 -- Assumes nothing.
 use Rattle.elf_writer.proofs.Headings.{Heading}
-use Rattle.elf_writer.proofs.sections.put_headers.Given as goal
+use Rattle.elf_writer.proofs.sections.Sections.put_headers.Given as goal
 
 abbrev pub invariant-loop-code : goal.invariant-loop-code
-invariant-loop-code l = Heading l.big l.table l.s l.initial.d l.from l.d l.h l.code
+invariant-loop-code l = Heading l.big l.table l.self.scan l.initial.d l.from l.d l.h l.code
