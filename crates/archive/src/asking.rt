@@ -1,4 +1,4 @@
-// A bundle packed, and one question put to its package: demand 3 of what runs.
+// A bundle packed, and one question put to its package: what was handed in under an identity is found there, and nothing else is.
 ghost use Rattle.std.specs.Prelude.{◌≡◌, Err, length};
 ghost use Rattle.octets.specs.Octets.{zeros};
 ghost use Rattle.package.specs.Pack.{packed};
@@ -14,7 +14,7 @@ use lookup::searching::UnitAsked;
 const NOT_LOOKED_UP: u32 = 2;
 
 // Packing's answer: 0 and the package's length, 18 and the length needed, else the refusal and 0. Where it is 0, the lookup's answer,
-// else `NOT_LOOKED_UP` and zeros. Numbers, since C callers read it.
+// else `NOT_LOOKED_UP` and zeros. Numbers, since C callers read it, and flat, as the header of C has it: so `answered` copies the four of the lookup.
 #[repr(C)]
 #[derive(Clone, Copy)]
 pub struct FromBundle {
@@ -43,6 +43,7 @@ impl From<Unwritten> for FromBundle {
     }
 }
 
+// A package of that length was made, and a lookup answered.
 fn answered(packed: usize, answer: Answer) -> FromBundle
     ensures { result ≡ record { packing = 0; packed = «packed»; code = answer.code; start = answer.start; length = answer.length; looks = answer.looks } }
 {
@@ -62,8 +63,8 @@ fn answered(packed: usize, answer: Answer) -> FromBundle
     }
 }
 
-// The part of a section. This and the following one are two functions, since each promises a lookup of its own: one over any lookup would take it as a
-// function and state all of this of it.
+// The part of a section. This and the following one are two functions, since each promises a lookup of its own. One over any lookup would take it as a
+// function and state all of this of it; one over an enum of both questions would have to tell them apart again, in its body and in its clause.
 pub fn pack_and_look_up(
     b: &[u8],
     work: &mut [u32],

@@ -24,7 +24,7 @@ use lookup::answering::Answer;
 use lookup::searching::UnitAsked;
 use packer::answering::Packed;
 
-// Code 0: the package, of that length, and zeros behind it, and how many type units were skipped as repeats and as namesakes. 18: the length that the
+// Code 0: the package, of that length, and zeros following it, and how many type units were skipped as repeats and as namesakes. 18: the length that the
 // output needs. Else the refusal, with 0. But for code 0 both counts are 0.
 // But for 0 the output is zeros; work is zeros after every answer.
 #[unsafe(no_mangle)]
@@ -83,7 +83,7 @@ pub extern "C" fn barthovin_lookup_string(
     lookup::answering::answer_string(package, unit, entry)
 }
 
-// A bundle packed and the part of a section looked up in its package; the answer is demand 3 for that question.
+// A bundle packed and the part of a section looked up in its package: it is the one that was handed in with the bundle, or absent where none was.
 #[unsafe(no_mangle)]
 pub extern "C" fn barthovin_pack_and_look_up(
     bundle: &[u8],

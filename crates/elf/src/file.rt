@@ -90,7 +90,7 @@ impl<'a> ElfFile<'a> {
     ghost use Rattle.elf.specs.File.{no_header, file_of};
     ghost use Rattle.elf.specs.Held.{header_is, file_is, from_type};
 
-    // 31, but for names and wanted sections.
+    // Refusal 31, but for names and wanted sections.
     #[tactic(auto, using(crate::proofs::Opening::open_short, crate::proofs::Opening::open_other, crate::proofs::Opening::open_type), unfolding(octets::specs::Checked::mapped))]
     pub fn open(f: &'a [u8]) -> Result<ElfFile<'a>, Refusal>
         ensures file { mapped file_is (told result) ≡ file_of f.now }

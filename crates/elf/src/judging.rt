@@ -1,4 +1,4 @@
-// The headers judged one by one: 31 of names and places, 32.
+// The headers judged one by one: refusal 31 of names and places, and refusal 32 of sections that cannot be read.
 ghost use Rattle.std.specs.Prelude.{◌≡◌, ◌&&◌, ℕ, ◌<◌, eqb, ltb, drop, get_or};
 ghost use Rattle.octets.specs.Lists.{all, any};
 ghost use Rattle.elf.specs.File.{no_header, ended, inside, wanted_of};
@@ -24,7 +24,7 @@ const RELOCATIONS: u32 = 9;
 // What the flag of a compressed section counts.
 const COMPRESSED: u64 = 0x800;
 
-// 31 of one header; last is the place that follows the name table's last zero byte.
+// Refusal 31 of one header; last is the place that follows the name table's last zero byte.
 fn header_good(file: &ElfFile, last: usize, i: usize) -> bool
     requires { (i < file.now.count) × ((n : ℕ) → any (eqb 0) (drop n file.now.names.now) ≡ ltb n last) }
     ensures { result ≡ header_good file.now.bytes.now file.now.names.now (get_or (file_is file.now).headers i no_header) }
@@ -33,7 +33,7 @@ fn header_good(file: &ElfFile, last: usize, i: usize) -> bool
     h.name < last && (file.code_of(h).is_none() || h.found_in(file.bytes).is_some())
 }
 
-// 31: each name ends in the name table, and the wanted bytes are in the file.
+// Refusal 31: each name ends in the name table, and the wanted bytes are in the file.
 pub fn headers_good(file: &ElfFile) -> bool
     ensures { result ≡ (all (ended file.now.names.now) (file_is file.now).headers && all (inside file.now.bytes.now) (wanted_of (file_is file.now))) }
 {
@@ -62,7 +62,7 @@ fn relocates_wanted(file: &ElfFile, h: Header) -> bool
     is_relocation(h) && target_wanted(file, h.info)
 }
 
-// 32 of one header: it is no relocation section of a wanted one, and, where it is wanted, its bytes are stored as they are.
+// Refusal 32 of one header: it is no relocation section of a wanted one, and, where it is wanted, its bytes are stored as they are.
 fn header_readable(file: &ElfFile, i: usize) -> bool
     requires { i < file.now.count }
     ensures { result ≡ header_readable (file_is file.now) (get_or (file_is file.now).headers i no_header) }
@@ -74,7 +74,7 @@ fn header_readable(file: &ElfFile, i: usize) -> bool
     file.code_of(h).is_none() || h.kind != UNSTORED && h.flags / COMPRESSED % 2 != 1
 }
 
-// Refusal 32: a section that is compressed, has no bytes in the file or is relocated.
+// Refusal 32: each wanted section has its bytes in the file, as they are, and none is relocated.
 pub fn all_readable(file: &ElfFile) -> bool
     ensures { result ≡ all (readable (file_is file.now).headers) (wanted_of (file_is file.now)) }
 {

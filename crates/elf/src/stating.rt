@@ -1,4 +1,4 @@
-// 33: the encoding that the first unit of the first info that isn't empty states.
+// Refusal 33: the encoding that the first unit of the first info that isn't empty states.
 ghost use Rattle.std.specs.Prelude.{◌≡◌};
 ghost use Rattle.octets.specs.Checked.{mapped};
 ghost use Rattle.numbers.specs.Refused.{told};
@@ -50,7 +50,7 @@ fn word_stated(e: ObjectEncoding, s: &[u8]) -> Result<u32, Refusal>
     Ok(word_of(e, address))
 }
 
-// Refusal 33: no unit that states an encoding.
+// Refusal 33: the word of the encoding that the first unit states, if it states one.
 #[tactic(auto, using(crate::proofs::FirstUnit::stated_cases))]
 pub fn first_unit(big: bool, s: &[u8]) -> Result<u32, Refusal>
     ensures { told result ≡ mapped object_word (unit_stated big s.now) }

@@ -1,4 +1,4 @@
-// 21: a package is opened once, and the lookups go by what was found.
+// Refusal 21: a package is opened once, and the lookups go by what was found.
 ghost use Rattle.std.specs.Prelude.{◌≡◌, ◌+◌, ◌≤◌, ◌<◌, length, get_or};
 ghost use Rattle.numbers.specs.Sections.{section_codes};
 ghost use Rattle.numbers.specs.Refused.{told};

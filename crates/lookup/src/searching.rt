@@ -44,7 +44,7 @@ const LAST_SHARED: u32 = numbers::sections::LAST_SHARED as u32;
 const STR_OFFSETS: u32 = numbers::sections::STR_OFFSETS as u32;
 
 // The unit that is asked for, as callers name it: the version of the indexes, its table and its identity.
-#[derive(Clone, Copy, Debug, PartialEq, Eq)]
+#[derive(Clone, Copy)]
 pub struct UnitAsked {
     pub version: u32,
     pub table: u32,
@@ -60,7 +60,7 @@ pub struct Located {
 
 // ---- what is asked
 impl PackageHead {
-    // 22: the version is 2 or 5, and that of each index that is there.
+    // Refusal 22: the version is 2 or 5, and that of each index that is there.
     fn has_version(&self, version: u32) -> bool
         ensures { result ≡ version_by self.now version }
     {
@@ -117,7 +117,7 @@ impl<'a> Package<'a> {
         Some(Index::of(self.head.encoding.big, bytes, head))
     }
 
-    // 24: a contribution to a section.
+    // Refusal 24: a contribution to a section.
     #[tactic(auto, using(crate::proofs::Searches::place_cases), unfolding(octets::specs::Checked::mapped))]
     fn place_in(&self, section: usize, cell: Contribution) -> Result<Place, Refusal>
         requires { section < section_codes }
@@ -206,7 +206,7 @@ fn entries_start(version: u32, width: usize) -> usize
 }
 
 impl<'a> Package<'a> {
-    // 26: the string at an offset of str.
+    // Refusal 26: the string at an offset of str.
     #[tactic(auto, using(crate::proofs::Texts::text_cases), unfolding(octets::specs::Checked::mapped))]
     fn text_at(&self, offset: u64) -> Result<Place, Refusal>
         ensures { mapped placed (told result) ≡ text_place self.now.bytes.now (package_in self.now.bytes.now) offset }
@@ -220,7 +220,7 @@ impl<'a> Package<'a> {
         })
     }
 
-    // 25: the string of an entry in a part of str_offsets. The caller has found the part in the package.
+    // Refusal 25: the string of an entry in a part of str_offsets. The caller has found the part in the package.
     #[tactic(auto, using(crate::proofs::Texts::entry_cases), unfolding(octets::specs::Checked::mapped))]
     fn entry_text(&self, version: u32, entry: u64, part: Place) -> Result<Place, Refusal>
         requires { (part.start + part.size ≤ length self.now.bytes.now) × (encoding_good (package_in self.now.bytes.now).encoding ≡ true) }

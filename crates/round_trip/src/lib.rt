@@ -1,2 +1,2 @@
-// Laws alone: a file that ticket 9 writes is read back by ticket 2.
+// Laws alone: a package that `elf_writer` writes as an ELF file is read back by `elf`.
 #![tactic(auto)]

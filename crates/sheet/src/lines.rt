@@ -3,7 +3,7 @@ ghost use Rattle.std.specs.Prelude.{◌≡◌, [], ◌∷◌, ◌++◌, ◌+◌,
 ghost use Rattle.octets.specs.Octets.{placed};
 ghost use Rattle.sheet.specs.Sheet.{line_bytes, digit, hex, decimal, space, line};
 
-#[derive(Clone, Copy, Debug, PartialEq, Eq)]
+#[derive(Clone, Copy)]
 pub struct Line {
     // C or T
     pub letter: u8,
@@ -20,7 +20,7 @@ const NEWLINE: u8 = 10;
 
 pub const LINE: usize = 40;
 
-// From 10 on 39 is added, which is how far a stands from the byte that follows 9. No branch, since digits are not foreseen.
+// From 10 on 39 is added, which is how far a stands from the byte that follows 9. No branch, since the processor could not predict it.
 #[tactic(auto, using(crate::proofs::LawLines::digit_is))]
 fn digit(n: u64) -> u8
     requires { n < 16 }

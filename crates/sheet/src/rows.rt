@@ -33,7 +33,7 @@ pub struct IndexTable<'a> {
     pub ghost coded: { Sections index sections (length index.codes) },
 }
 
-// A line's number for a column of no section. An index that was read has none such.
+// A line's number for a column of no section, as the definition `section_in` has it. An index that was read has no such column.
 const NO_SECTION: usize = 0;
 
 // ---- columns
@@ -48,7 +48,7 @@ fn section_of(version: u32, code: usize) -> Option<usize>
 }
 
 // Our codes of an index's columns.
-pub(crate) fn sections_of(index: &Index) -> [usize; COLUMNS]
+fn sections_of(index: &Index) -> [usize; COLUMNS]
     requires { IndexHere index.now }
     ensures { Sections index.now result (length index.now.codes) }
 {
@@ -69,6 +69,19 @@ fn all_marked(marks: &Marks, n: usize) -> bool
 }
 
 impl<'a> IndexTable<'a> {
+    // The table of an index that was read from a section of a package.
+    pub fn of(letter: u8, index: Index<'a>) -> IndexTable<'a>
+        requires { IndexHere index }
+        ensures { (result.index ≡ index.entry) × (result.letter ≡ letter) }
+    {
+        let sections = sections_of(&index);
+        IndexTable {
+            letter,
+            index,
+            sections,
+        }
+    }
+
     // ---- one slot for each row
     // Whether no row stands in two slots; then each row in a slot is marked. From the last slot to the first.
     fn mark_rows(&self, marks: &mut Marks) -> bool
@@ -107,7 +120,7 @@ impl<'a> IndexTable<'a> {
         LINE * head.columns * head.units
     }
 
-    // The line of a row, counted from 1, in column k. By its number: a `Row` of this index would hold the index again, and that it is this one had to be said.
+    // The line of a row, counted from 1, in column k. By its number: a `Row` of this index would hold the index again, and that it is this one would have to be said.
     fn line_of(&self, row: usize, identity: u64, k: usize) -> Line
         requires { (0 < row) × (row ≤ self.now.index.units) × (k < length self.now.index.codes) }
         ensures { CellLine self.now.letter self.now.index identity k ((row - 1) * length self.now.index.codes + k) result }

@@ -27,12 +27,7 @@ fn index_of<'a>(package: &Package<'a>, table: u32) -> Option<IndexTable<'a>>
         (λ t. (index_for (package_in «package».now.bytes.now) table ≡ some t.index) × (t.letter ≡ letter_of table)) }
 {
     let index = package.index(table)?;
-    let sections = crate::rows::sections_of(&index);
-    Some(IndexTable {
-        letter: letter_of(table),
-        index,
-        sections,
-    })
+    Some(IndexTable::of(letter_of(table), index))
 }
 
 // Refused is a table with a row that has not exactly one slot.

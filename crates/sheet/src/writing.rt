@@ -21,7 +21,7 @@ fn put_sheet(package: &[u8], page: &mut [u8]) -> Result<usize, Unwritten>
     let compilations = crate::tables::measure_table(&package, COMPILATION)?;
     let types = crate::tables::measure_table(&package, TYPE)?;
     if page.len() < compilations || page.len() - compilations < types {
-        return Err(Unwritten::from(Refusal::PageShort));
+        return Err(Unwritten::Refused(Refusal::PageShort));
     }
     crate::tables::write_tables(&package, compilations, page);
     Ok(compilations + types)

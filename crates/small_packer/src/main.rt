@@ -21,7 +21,8 @@ fn digit(d: u32) -> u8
     }
 }
 
-// A word as a line. Its digits are made here, since its clause says which they are, and no clause says what `{:08X}` writes.
+// A word as a line. Its digits are made here, since its clause says which they are. No clause says what `{:08X}` writes; and of the library `hex`, the
+// function for bytes that are lent writes small letters, where document 01 has capitals, and the one that writes capitals needs a heap.
 #[tactic(auto, unfolding(crate::specs::Lines::line_of))]
 fn line(word: u32) -> [u8; 9]
     ensures { result ≡ line_of word }
