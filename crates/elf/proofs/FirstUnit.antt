@@ -180,7 +180,8 @@ module _ (big : Bool) (s : List ℕ) (wide : Bool) (w : wide ≡ marked big s) w
 
     pub stated_neither : (n ≡ 4 → ⊥) → (n ≡ 5 → ⊥) → refuse no_unit ≡ mapped object_word (unit_stated big s)
     stated_neither v w =
-        bad_version big s (or_neither (eqb (encoding_stated big s).version 4) (eqb (encoding_stated big s).version 5) (ne_eqb (encoding_stated big s).version 4 (λ z. v (stands ∙ z))) (ne_eqb (encoding_stated big s).version 5 (λ z. w (stands ∙ z))))
+        let version = (encoding_stated big s).version in
+        bad_version big s (or_neither (eqb version 4) (eqb version 5) (ne_eqb version 4 (λ z. v (stands ∙ z))) (ne_eqb version 5 (λ z. w (stands ∙ z))))
 
 -- ---- bounds
 pub version_most : (e : ObjectEncoding) → (encoding_is e).version ≤ 5

@@ -114,9 +114,12 @@ module _ (f names : List ℕ) where
 
     pub room_within : room_sum (sections_in f names (take i hs)) + room_sum (sections_in f names (get_or hs i no_header ∷ [])) ≤ room_sum (sections_in f names hs)
     room_within =
-        omega (arith, ap room_sum split, room_append (sections_in f names (take i hs) ++ sections_in f names (get_or hs i no_header ∷ [])) (sections_in f names (drop (i + 1) hs)), room_append (sections_in f names (take i hs)) (sections_in f names (get_or hs i no_header ∷ [])))
+        let front = sections_in f names (take i hs) in
+        let one = sections_in f names (get_or hs i no_header ∷ []) in
+        omega (arith, ap room_sum split, room_append (front ++ one) (sections_in f names (drop (i + 1) hs)), room_append front one)
 
-    short_split : all short_enough (sections_in f names hs) ≡ ((all short_enough (sections_in f names (take i hs)) && all short_enough (sections_in f names (get_or hs i no_header ∷ []))) && all short_enough (sections_in f names (drop (i + 1) hs)))
+    short_split : all short_enough (sections_in f names hs)
+        ≡ ((all short_enough (sections_in f names (take i hs)) && all short_enough (sections_in f names (get_or hs i no_header ∷ []))) && all short_enough (sections_in f names (drop (i + 1) hs)))
     short_split =
         ap (all short_enough) split ∙ all_append short_enough (sections_in f names (take i hs) ++ sections_in f names (get_or hs i no_header ∷ [])) (sections_in f names (drop (i + 1) hs))
         ∙ ap (λ (b : Bool). b && all short_enough (sections_in f names (drop (i + 1) hs))) (all_append short_enough (sections_in f names (take i hs)) (sections_in f names (get_or hs i no_header ∷ [])))

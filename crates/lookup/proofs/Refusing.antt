@@ -14,7 +14,8 @@ use Rattle.strings.specs.Strings.{string_at}
 use Rattle.strings.proofs.Ends.{up_to_refused}
 use Rattle.index.specs.Index.{Index, Contribution, index_of, cell_of}
 use Rattle.index.specs.Probing.{Probe, probe, found as at, absent as nowhere}
-use Rattle.lookup.specs.Lookup.{Found, refused, absent, part, Package, package_index, object_judged, objects_judged, package_of, index_for, Place, place_in, cell_place, part_place, at_row, in_table, answered, part_judged, looked_up, string_place, string_judged, string_found}
+use Rattle.lookup.specs.Lookup.{Found, refused, absent, part, Package, package_index, object_judged, objects_judged, package_of, index_for, Place, place_in}
+use Rattle.lookup.specs.Lookup.{cell_place, part_place, at_row, in_table, answered, part_judged, looked_up, string_place, string_judged, string_found}
 
 abbrev Numbered : {A : Type 0} → Check A → Type 0
 Numbered m = Between 21 26 m

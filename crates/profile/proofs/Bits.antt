@@ -1,16 +1,15 @@
 -- The bits of the conditions that fail: how a loop adds them up, and that none is set exactly where all conditions hold.
 -- Assumes nothing.
-use mathlib.Core.Path.{◌≡◌, refl, sym, ◌∙◌}
+use mathlib.Core.Path.{◌≡◌, refl, sym, ap, ◌∙◌}
 use mathlib.Core.Bool.{Bool, true, false, not}
 use mir.Val.{bool_byte}
-use mathlib.Core.List.{List, [], ◌∷◌}
-use Prim.Native.Nat.{ℕ, zero, suc, ◌+◌, ◌*◌, ◌-◌, ◌^◌, ◌≤◌, ◌<◌}
+use mathlib.Core.List.{List, [], ◌∷◌, ◌++◌, append-nil, append_assoc}
+use Prim.Native.Nat.{ℕ, zero, suc, ◌+◌, ◌*◌, ◌^◌, ◌≤◌, ◌<◌}
 use native.Mathlib.Omega.{arith}
 use native.Mathlib.Nat.{pow-succ'}
-use native.Mathlib.Numerals.{add-one}
 use lib.Dec.{eqb}
-use lib.ListN.{length, get_or, drop, length-drop, drop_of_length-le}
-use lib.Seq.{drop-cons}
+use lib.ListN.{length, length-append}
+use Rattle.std.specs.List.{push}
 use lib.Pow.{pow_pos}
 use borrow.Author.Tests.{ne_eqb}
 use Rattle.octets.specs.Lists.{all}
@@ -22,27 +21,42 @@ unfolding failed_bit
 bit_is true = refl
 bit_is false = refl
 
--- one condition more, from the last to the first
-turn : (cs : List Bool) (i : ℕ) → i < length cs → failed_bit (get_or cs i false) + 2 * failed_bits (drop (i + 1) cs) ≡ failed_bits (drop i cs)
+pub byte_small : (c : Bool) → bool_byte (not c) ≤ 1
+byte_small true = omega arith
+byte_small false = omega arith
+
+-- what a loop from the last to the first has: these are left, and the bits are those of the others
+pub record Passed (holds left : List Bool) (bits : ℕ) : Type 0 where
+  pub past : List Bool
+  pub all : left ++ past ≡ holds
+  pub told : bits ≡ failed_bits past
+
+pub passed_none : (holds left : List Bool) → left ≡ holds → Passed holds left 0
 unfolding failed_bits
-turn cs i h = rw (drop-cons cs i false h, add-one, failed_bits)
+passed_none holds left e = record { past = []; all = append-nil left ∙ e; told = refl }
 
-module _ (cs : List Bool) (i bits b : ℕ) (e : b ≡ bool_byte (not (get_or cs (i - 1) false))) (f : bits ≡ failed_bits (drop i cs)) where
-  pub failed_turn : 0 < i → i ≤ length cs → b + 2 * bits ≡ failed_bits (drop (i - 1) cs)
-  failed_turn l h =
-      let n : i - 1 + 1 ≡ i = omega arith in
-      rw (e, f, bit_is (get_or cs (i - 1) false)) (rw n at (turn cs (i - 1) (omega arith)))
+module _ (holds left : List Bool) (bits : ℕ) (p : Passed holds left bits) where
+  pub passed_more : (rest : List Bool) (c : Bool) (b : ℕ) → left ≡ push rest c → b ≡ bool_byte (not c) → Passed holds rest (b + 2 * bits)
+  unfolding failed_bits
+  passed_more rest c b e f = record {
+    past = c ∷ p.past;
+    all = sym (append_assoc rest (c ∷ []) p.past) ∙ sym (ap (λ (l : List Bool). l ++ p.past) e) ∙ p.all;
+    told = ap (λ (n : ℕ). n + 2 * bits) (f ∙ bit_is c) ∙ ap (λ (n : ℕ). failed_bit c + 2 * n) p.told;
+  }
 
-pub failed_end : (cs : List Bool) (i : ℕ) → length cs ≤ i → 0 ≡ failed_bits (drop i cs)
-unfolding failed_bits
-failed_end cs i h = rw (drop_of_length-le cs h)
+  pub passed_end : length left ≡ 0 → bits ≡ failed_bits holds
+  passed_end e = p.told ∙ ap failed_bits (sym (ap (λ (l : List Bool). l ++ p.past) (empty left e)) ∙ p.all)
+    where
+      empty : (l : List Bool) → length l ≡ 0 → l ≡ []
+      empty [] f = refl
+      empty (x ∷ l) f = absurd (omega arith)
 
-pub bit_small : (c : Bool) → failed_bit c ≤ 1
+bit_small : (c : Bool) → failed_bit c ≤ 1
 unfolding failed_bit
 bit_small true = omega arith
 bit_small false = omega arith
 
-pub failed_small : (m : ℕ) (cs : List Bool) → length cs ≤ m → failed_bits cs < 2 ^ m
+failed_small : (m : ℕ) (cs : List Bool) → length cs ≤ m → failed_bits cs < 2 ^ m
 unfolding failed_bits
 failed_small m [] h = pow_pos m
 failed_small zero (c ∷ cs) h = absurd (omega arith)
@@ -51,11 +65,8 @@ failed_small (suc m) (c ∷ cs) h =
     omega (arith, bit_small c, pow-succ' 2 m)
 
 -- eight conditions have eight bits
-pub eight_small : (cs : List Bool) (i bits b : ℕ) → length cs ≡ 8 → b ≡ bool_byte (not (get_or cs (i - 1) false)) → bits ≡ failed_bits (drop i cs) → b + 2 * bits < 512
-eight_small cs i bits b l e f =
-    let h : bits < 256 = rw f (failed_small 8 (drop i cs) (simp length-drop (omega arith))) in
-    let g : b ≤ 1 = rw (e, bit_is (get_or cs (i - 1) false)) (bit_small (get_or cs (i - 1) false)) in
-    omega arith
+pub passed_small : (holds left : List Bool) (bits : ℕ) → length holds ≡ 8 → Passed holds left bits → bits < 256
+passed_small holds left bits l p = rw p.told (failed_small 8 p.past (omega (arith, ap length p.all, length-append left p.past)))
 
 -- no bit is set exactly where all hold
 pub failed_none : (cs : List Bool) → eqb (failed_bits cs) 0 ≡ all (λ holds. holds) cs
@@ -68,4 +79,4 @@ failed_none (true ∷ cs) = rw (← failed_none cs) (go (failed_bits cs))
     go zero = refl
     go (suc n) = ne_eqb (0 + 2 * suc n) 0 (λ e. omega arith) ∙ sym (ne_eqb (suc n) 0 (λ e. omega arith))
 
-pub ruleset bit_cases = (failed_turn, failed_end, eight_small)
+pub ruleset bit_cases = (passed_none, passed_more, passed_end)

@@ -43,8 +43,8 @@ fn failed_bits(holds: [bool; 8]) -> u32
     ensures { result ≡ failed_bits holds }
 {
     let mut bits: u32 = 0;
-    for i in (0..8).rev() {
-        bits = u32::from(!holds[i]) + 2 * bits;
+    for condition in holds.iter().rev() {
+        bits = u32::from(!*condition) + 2 * bits;
     }
     bits
 }

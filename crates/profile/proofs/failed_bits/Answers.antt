@@ -1,9 +1,15 @@
 -- `profile::failed_bits` meets its contract: the bits of the conditions passed, from the last one on.
 -- Assumes nothing.
 use native.Mathlib.Omega.{arith}
-use borrow.Author.Rules.{rules}
-use Rattle.profile.proofs.Bits.{failed_end}
+use Rattle.std.proofs.Common.{rules}
+use Rattle.profile.proofs.Bits.{passed_small, byte_small}
 use Rattle.profile.proofs.failed_bits.Goals as goal
 
-pub loop-i-init : goal.loop-i-init
-loop-i-init c = (search rules, failed_end c.args.holds 8 (omega arith))
+pub overflow_mul-bits : goal.overflow_mul-bits
+overflow_mul-bits c = let s = passed_small _ _ _ (search rules) c.loop-condition.invariant in omega arith
+
+pub overflow_add-bits : goal.overflow_add-bits
+overflow_add-bits c =
+    let s = passed_small _ _ _ (search rules) c.loop-condition.invariant in
+    let b = byte_small c.in-Some.condition.now in
+    omega (arith, c.from.ensures)

@@ -1,9 +1,7 @@
 -- `profile::failed_bits` meets its contract: the bits of the conditions passed, from the last one on.
 -- Assumes nothing.
-use mathlib.Core.Path.{◌≡◌}
-use lib.ListN.{length, drop}
-use Rattle.profile.specs.Profile.{failed_bits}
+use Rattle.profile.proofs.Bits.{Passed}
 use Rattle.profile.proofs.failed_bits.Given as goal
 
-abbrev pub invariant-loop-i : goal.invariant-loop-i
-invariant-loop-i l = (length l.holds ≡ 8) × (l.bits ≡ failed_bits (drop l.i l.holds))
+abbrev pub invariant-loop-condition : goal.invariant-loop-condition
+invariant-loop-condition l = Passed l.fn.holds l.condition-iterator.iter.rest.now l.bits

@@ -14,7 +14,13 @@ pub slice_bounds-answer_string-end-in-Ok : goal.slice_bounds-answer_string-end-i
 slice_bounds-answer_string-end-in-Ok c = sym (length-take-le _ _ (package_fits _ _ _ _ (ap outcome_as (sym c.in-Ok.is) ∙ c.pack.ensures.answer) c.pack.ensures.output))
 
 pub returns-in-Ok : goal.returns-in-Ok
-returns-in-Ok c = record { answer = string_answered _ _ _ _ _ (ap outcome_as (sym c.in-Ok.is) ∙ c.pack.ensures.answer) c.pack.ensures.output (λ i. (c.type_inv.b i).fits) _ _ _ _ _ c.answered.ensures _ c.answer_string-answer.ensures; output = c.pack.ensures.output; work = c.pack.ensures.work }
+returns-in-Ok c =
+    let pack = c.pack.ensures in
+    record {
+      answer = string_answered _ _ _ _ _ (ap outcome_as (sym c.in-Ok.is) ∙ pack.answer) pack.output (λ i. (c.type_inv.b i).fits) _ _ _ _ _ c.answered.ensures _ c.answer_string-answer.ensures;
+      output = pack.output;
+      work = pack.work;
+    }
 
 pub returns-in-Err : goal.returns-in-Err
 returns-in-Err c = record { answer = unpacked_told _ _ _ _ (ap outcome_as (sym c.in-Err.is) ∙ c.pack.ensures.answer) c.from.ensures; output = c.pack.ensures.output; work = c.pack.ensures.work }

@@ -23,7 +23,12 @@ loop-i-preserved c =
     let e = c.args.a.now.file in
     let i = c.loop-i.i in
     elim c.match-section.branch [
-      | in-Some+else-s-eq-INFO w ↦ info_other e.bytes.now e.names.now (file_is e).headers i (in_headers e i c.loop-i-test.true) _ w.in-Some.ensures (λ z. elim w.else-s-eq-INFO.branch [ else-s-eq-INFO-via-then-s-eq-INFO+else-not-is_empty v ↦ eqb-true _ 0 (sym v.if-not-is_empty.ensures) | else-s-eq-INFO-via-else-s-eq-INFO v ↦ absurd (v.if-s-eq-INFO.false z) ]) ∙ c.loop-i.invariant
+      | in-Some+else-s-eq-INFO w ↦
+          info_other e.bytes.now e.names.now (file_is e).headers i (in_headers e i c.loop-i-test.true) _ w.in-Some.ensures
+          (λ z. elim w.else-s-eq-INFO.branch [
+            | else-s-eq-INFO-via-then-s-eq-INFO+else-not-is_empty v ↦ eqb-true _ 0 (sym v.if-not-is_empty.ensures)
+            | else-s-eq-INFO-via-else-s-eq-INFO v ↦ absurd (v.if-s-eq-INFO.false z)
+          ]) ∙ c.loop-i.invariant
       | in_default w ↦ info_unwanted e.bytes.now e.names.now (file_is e).headers i (in_headers e i c.loop-i-test.true) w.in_default.ensures ∙ c.loop-i.invariant
     ]
 

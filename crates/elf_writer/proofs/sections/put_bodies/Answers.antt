@@ -32,7 +32,8 @@ pub loop-code-preserved : goal.loop-code-preserved
 unfolding body_at
 loop-code-preserved c =
     let b = c.section_bytes-s.ensures in
-    putting_more (body_at c.args.package.now.bytes.now) c.args.d.now 64 c.requires _ _ _ c.loop-code.invariant c.loop-code-test.true _ _ (c.put_bytes.ensures ∙ ap (placed c.loop-code.d c.loop-code.at) b) (ap (λ (z : List ℕ). c.loop-code.at + length z) b)
+    putting_more (body_at c.args.package.now.bytes.now) c.args.d.now 64 c.requires _ _ _ c.loop-code.invariant c.loop-code-test.true _ _
+    (c.put_bytes.ensures ∙ ap (placed c.loop-code.d c.loop-code.at) b) (ap (λ (z : List ℕ). c.loop-code.at + length z) b)
 
 pub shape_of-d : goal.shape_of-d
 shape_of-d c = c.loop-code.invariant.same

@@ -47,5 +47,8 @@ overflow_add-result-2 c = omega (arith, room (goal.at.overflow_add-result-2 c).A
 
 pub returns : goal.returns
 returns c =
-    let there' = is-there (goal.at.returns c).After-section_name-name in
-    record { next = omega (arith, there (goal.at.returns c).After-section_name-name); output = name_put c.args.s.now c.args.code _ c.args.d.now _ _ c.args.at there' c.section_name-name.ensures c.requires.1 c.put_bytes.ensures c.put_byte.ensures }
+    let n = (goal.at.returns c).After-section_name-name in
+    record {
+      next = omega (arith, there n);
+      output = name_put c.args.s.now c.args.code _ c.args.d.now _ _ c.args.at (is-there n) c.section_name-name.ensures c.requires.1 c.put_bytes.ensures c.put_byte.ensures;
+    }

@@ -17,4 +17,7 @@ pub shape_of-d : goal.shape_of-d
 shape_of-d c = c.loop-code.invariant.same
 
 pub returns : goal.returns
-returns c = record { next = putting_next (name_at c.args.s.now) c.args.d.now c.args.from c.requires _ _ _ c.loop-code.invariant c.loop-code-test.false; output = putting_end (name_at c.args.s.now) c.args.d.now c.args.from c.requires _ _ _ c.loop-code.invariant c.loop-code-test.false }
+returns c = record {
+  next = putting_next (name_at c.args.s.now) c.args.d.now c.args.from c.requires _ _ _ c.loop-code.invariant c.loop-code-test.false;
+  output = putting_end (name_at c.args.s.now) c.args.d.now c.args.from c.requires _ _ _ c.loop-code.invariant c.loop-code-test.false;
+}

@@ -36,4 +36,8 @@ returns c =
     let a = c.args in
     let e = sym c.is_here.ensures ∙ c.if-not-is_here.false in
     let l = ap length c.section_name-name.ensures in
-    record { next = (λ j. record { at = a.h.at + 64; name = a.h.name + l j + 1; offset = a.h.offset + size_at a.self.now.scan a.code }) ∙ sym (after_here a.self.now.scan a.code a.h e); output = c.put_section_header.ensures ∙ ap (placed a.d.now a.h.at) (sym (header_here a.self.now.scan a.code a.big a.h e)) }
+    let s = a.self.now.scan in
+    record {
+      next = (λ j. record { at = a.h.at + 64; name = a.h.name + l j + 1; offset = a.h.offset + size_at s a.code }) ∙ sym (after_here s a.code a.h e);
+      output = c.put_section_header.ensures ∙ ap (placed a.d.now a.h.at) (sym (header_here s a.code a.big a.h e));
+    }

@@ -27,7 +27,10 @@ pub shape_of-d : goal.shape_of-d
 shape_of-d c =
     let l = c.loop-code in
     let a = c.args in
-    ap length c.put_section_header.ensures ∙ length_placed l.d l.h.at (section_header a.big l.h.name 3 l.h.offset a.table) (omega (arith, length_section a.big l.h.name 3 l.h.offset a.table, heading_room _ _ _ _ _ _ _ _ l.invariant)) ∙ l.invariant.same
+    ap length c.put_section_header.ensures
+    ∙ length_placed l.d l.h.at (section_header a.big l.h.name 3 l.h.offset a.table)
+    (omega (arith, length_section a.big l.h.name 3 l.h.offset a.table, heading_room _ _ _ _ _ _ _ _ l.invariant))
+    ∙ l.invariant.same
 
 pub returns : goal.returns
 returns c = heading_end _ _ _ _ _ _ _ _ c.loop-code.invariant c.loop-code-test.false _ c.put_section_header.ensures
