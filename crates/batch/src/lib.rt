@@ -86,7 +86,8 @@ impl AskedPackage<'_> {
         Answer::from(located)
     }
 
-    // All answers, in order, from the front. The caller has judged the questions.
+    // All answers, in order, from the front. The caller has judged the questions. By number: in a loop over `chunks_exact` and `chunks_exact_mut` the
+    // answers are no longer at hand, only the chunks to come, and its proof did not close.
     #[tactic(auto, using(crate::proofs::Answering::answering_cases, crate::proofs::Sizes::asked_narrow))]
     fn put_answers(&self, questions: &[u32], answers: &mut [u32])
         requires { Ready questions.now (length answers.old) }

@@ -29,8 +29,9 @@ fn digit(n: u64) -> u8
     (48 + n + (n + 6) / 16 * 39) as u8
 }
 
-// Stores the low w hexadecimal digits of n. The library's `hex::encode_to_slice` would be no plainer: it takes bytes, so a cell's numbers would first be proved to
-// have 32 bits and be cut into them, and the static library would stand on more than `std`.
+// Stores the low w hexadecimal digits of n, by number: with `iter_mut().rev()` the proof did not close. The library's `hex::encode_to_slice` would be no
+// plainer: it takes bytes, so a cell's numbers would first be proved to have 32 bits and be cut into them, and the static library would stand on more
+// than `std`.
 fn put_hex(w: usize, n: u64, d: &mut [u8], at: usize)
     requires { at + w ≤ length d.old }
     ensures { d.new ≡ placed d.old at (hex w n) }
