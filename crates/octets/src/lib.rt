@@ -337,7 +337,7 @@ pub fn first_zero(s: &[u8], from: usize) -> Option<usize>
     first_zero_singly(s, at)
 }
 
-// A loop, which the check proves alone: of `position` it would need laws that say for the whole what a search says of a part.
+// A loop, which the check proves from its invariant: of `position` it would need laws that say for the whole what a search says of a part.
 fn first_zero_singly(s: &[u8], from: usize) -> Option<usize>
     requires { from ≤ length s.now }
     ensures { ZeroFound s.now from result }
