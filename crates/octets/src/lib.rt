@@ -169,7 +169,7 @@ pub fn number_at(big_endian: bool, w: usize, s: &[u8], at: usize) -> u64
     }
 }
 
-// The public names, one line each over the trait, which callers in ten crates and their proofs cite: `u32::read(..)` in their place says the same in no fewer words.
+// The public names, one line each over the trait, which callers in nine crates and their proofs cite: `u32::read(..)` in their place says the same in no fewer words.
 pub fn u16_at(big_endian: bool, s: &[u8], at: usize) -> u16
     requires { at + 2 ≤ length s.now }
     ensures { result ≡ number_at big_endian 2 s.now at }
@@ -337,6 +337,7 @@ pub fn first_zero(s: &[u8], from: usize) -> Option<usize>
     first_zero_singly(s, at)
 }
 
+// A loop, which the check proves from its invariant: of `position` it would need laws that say for the whole what a search says of a part.
 fn first_zero_singly(s: &[u8], from: usize) -> Option<usize>
     requires { from ≤ length s.now }
     ensures { ZeroFound s.now from result }
