@@ -76,10 +76,11 @@ impl<'a> Reading<'a> {
         let x = self.object;
         let home = self.section.home;
         let n = b.len() / 4;
+        let table = read.handed_in.table.number() as usize;
         let identity = read.handed_in.identity;
         let slots = TableSlots {
             words: n,
-            table: read.handed_in.table.number() as usize,
+            table,
             units: st.units.count,
             count: kept::slots::seen_slots(n),
         };

@@ -99,7 +99,8 @@ row_contributed i width lengths x home at size g q c k e =
     from : (row : ℕ) → all (λ s. cell_is (part_good width lengths s) (cell_of i row s)) (needed_codes lengths) ≡ true
         → (elim (has (needed_codes lengths) c) as (λ b. Option Contribution) [ true ↦ cell_of i row c | false ↦ none ]) ≡ some k → Contributed width lengths c k
     from row a h = ⊎_elim
-        (λ (p : has (needed_codes lengths) c ≡ true). part_good_law width lengths c k p (cell_is_law (part_good width lengths c) (cell_of i row c) k (rw p at h) (all_has (λ s. cell_is (part_good width lengths s) (cell_of i row s)) (needed_codes lengths) c a p)))
+        (λ (p : has (needed_codes lengths) c ≡ true). part_good_law width lengths c k p (cell_is_law (part_good width lengths c) (cell_of i row c) k (rw p at h)
+        (all_has (λ s. cell_is (part_good width lengths s) (cell_of i row s)) (needed_codes lengths) c a p)))
         (λ (p : has (needed_codes lengths) c ≡ false). some_none (sym (rw p at h)))
         (known (has (needed_codes lengths) c))
 

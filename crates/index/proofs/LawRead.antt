@@ -126,12 +126,14 @@ module _ (big : Bool) (version : ℕ) (columns : List Column) (rs : List Row) (t
       → numbers_in big 4 (length rs * length columns) (drop (16 + 12 * n + 4 * length columns) bytes) ≡ grid offset_of columns rs
   unfolding index_with
   offsets_read b =
-      numbers_behind big 4 (length rs * length columns) (16 + 12 * n + 4 * length columns) bytes (start ++ head ++ ids ++ rows ++ codes) (grid offset_of columns rs) sizes (seven_5 start head ids rows codes offsets sizes) (simp length-append (omega (arith, la, lh, li, lr, lc)))
+      numbers_behind big 4 (length rs * length columns) (16 + 12 * n + 4 * length columns) bytes (start ++ head ++ ids ++ rows ++ codes)
+      (grid offset_of columns rs) sizes (seven_5 start head ids rows codes offsets sizes) (simp length-append (omega (arith, la, lh, li, lr, lc)))
       (length_grid offset_of columns rs) b
 
   pub sizes_read : Below (256 ^ 4) (grid size_of columns rs)
       → numbers_in big 4 (length rs * length columns) (drop (16 + 12 * n + 4 * length columns + 4 * (length rs * length columns)) bytes) ≡ grid size_of columns rs
   unfolding index_with
   sizes_read b =
-      numbers_behind big 4 (length rs * length columns) (16 + 12 * n + 4 * length columns + 4 * (length rs * length columns)) bytes (start ++ head ++ ids ++ rows ++ codes ++ offsets) (grid size_of columns rs) [] (seven_6 start head ids rows codes offsets sizes) (simp length-append (omega (arith, la, lh, li, lr, lc, lo)))
+      numbers_behind big 4 (length rs * length columns) (16 + 12 * n + 4 * length columns + 4 * (length rs * length columns)) bytes
+      (start ++ head ++ ids ++ rows ++ codes ++ offsets) (grid size_of columns rs) [] (seven_6 start head ids rows codes offsets sizes) (simp length-append (omega (arith, la, lh, li, lr, lc, lo)))
       (length_grid size_of columns rs) b

@@ -91,7 +91,8 @@ form_good : (version : ℕ) → (eqb (form_of version) 2 || eqb (form_of version
 form_good version = ⊎_elim (λ r. rw r.1) (λ r. rw r.1) (forms version)
 
 -- ---- the whole index
-module _ (big : Bool) (version : ℕ) (rs : List Row) (t : Slots) (fits : RowsFit rs) (few : length rs ≤ 2 ^ 30) (different : Distinct (identities_of rs)) (nonzero : NonZero (identities_of rs)) (e : slots_of (identities_of rs) ≡ t) where
+module _ (big : Bool) (version : ℕ) (rs : List Row) (t : Slots) (fits : RowsFit rs) (few : length rs ≤ 2 ^ 30)
+    (different : Distinct (identities_of rs)) (nonzero : NonZero (identities_of rs)) (e : slots_of (identities_of rs) ≡ t) where
   abbrev columns : List Column
   columns = present_columns version rs
 
@@ -142,7 +143,13 @@ module _ (big : Bool) (version : ℕ) (rs : List Row) (t : Slots) (fits : RowsFi
   layout_is : layout big (form_of version) (length columns) (length rs) n bytes ≡ written version rs t
   unfolding layout written
   layout_is =
-      rw (identities_read big version columns rs t n identities_are rows_are identities_fit, rows_read big version columns rs t n identities_are rows_are rows_fit, codes_read big version columns rs t n identities_are rows_are codes_fit, offsets_read big version columns rs t n identities_are rows_are offsets_fit, sizes_read big version columns rs t n identities_are rows_are sizes_fit)
+      rw (
+        identities_read big version columns rs t n identities_are rows_are identities_fit,
+        rows_read big version columns rs t n identities_are rows_are rows_fit,
+        codes_read big version columns rs t n identities_are rows_are codes_fit,
+        offsets_read big version columns rs t n identities_are rows_are offsets_fit,
+        sizes_read big version columns rs t n identities_are rows_are sizes_fit,
+      )
 
   codes_good : (all (code_good (form_of version)) (written version rs t).codes && distinct (written version rs t).codes) ≡ true
   unfolding written

@@ -142,7 +142,9 @@ module _ (big : Bool) (s : List ℕ) where
   unfolding index_of front_good head_good stated index_in
   tests =
       rw (← version_known big s)
-      (chain _ _ (leb (number_at big 4 s 4) (columns_most (version_of big s))) (ltb (number_at big 4 s 8) (number_at big 4 s 12)) (eqb (least_power (number_at big 4 s 12)) (number_at big 4 s 12)) _ (all (code_good (version_of big s)) (index_in big s (stated big s)).codes) (distinct (index_in big s (stated big s)).codes) _ _)
+      (chain _ _ (leb (number_at big 4 s 4) (columns_most (version_of big s))) (ltb (number_at big 4 s 8) (number_at big 4 s 12))
+      (eqb (least_power (number_at big 4 s 12)) (number_at big 4 s 12)) _
+      (all (code_good (version_of big s)) (index_in big s (stated big s)).codes) (distinct (index_in big s (stated big s)).codes) _ _)
 
   pub index_front : front_good big s ≡ false → refuse 10 ≡ index_of big s
   unfolding ◌>>=◌ require

@@ -7,15 +7,16 @@ use Rattle.filing.proofs.Answering.{known_asks, answer_known, answer_bad, keep_r
 use Rattle.filing.proofs.units.Reading.file_read.Goals as goal
 
 pub seek_in-requires : goal.seek_in-requires
-seek_in-requires c = let p = c.requires in seek_asks p.ready.at_unit.held _ p.read.least p.fits _ c.args.read.handed_in.identity p.read.tables _ _ c.number.ensures c.seen_slots.ensures
+seek_in-requires c = let p = c.requires in seek_asks p.ready.at_unit.held _ p.read.least p.fits _ c.args.read.handed_in.identity p.read.tables _ _ c.number-table.ensures c.seen_slots.ensures
 
 pub file_known-requires : goal.file_known-requires
 file_known-requires c =
     let p = c.requires in
     let a = p.ready.at_unit in
     let r = p.read in
-    known_asks a r p.fits _ (known_is a.held _ r.least p.fits _ _ r.tables _ _ c.number.ensures c.seen_slots.ensures _ c.seek_in.ensures _ c.in-Ok.is)
+    known_asks a r p.fits _ (known_is a.held _ r.least p.fits _ _ r.tables _ _ c.number-table.ensures c.seen_slots.ensures _ c.seek_in.ensures _ c.in-Ok.is)
 
+<<<<<<< HEAD
 pub returns-in-Ok-clause-filed : goal.returns-in-Ok-clause-filed
 returns-in-Ok-clause-filed c =
     let p = c.requires in
@@ -28,6 +29,24 @@ returns-in_err-k-clause-filed c =
     λ i bases earlier here s a r y.
     let f = free_is a.held _ r.least p.fits _ _ r.tables _ _ c.number.ensures c.seen_slots.ensures _ c.seek_in.ensures _ c.in-Err.is in
     tells_exit _ _ c.from_residual.ensures.1 (answer_bad a r p.fits p.homes y f.0 _ _ _ (c.in_err-k.ensures i a.input))
+=======
+pub returns-in-Ok : goal.returns-in-Ok
+returns-in-Ok c =
+    let p = c.requires in record {
+      filed = λ i bases earlier here s a r y.
+          answer_known a r p.fits p.homes y _ (known_is a.held _ r.least p.fits _ _ r.tables _ _ c.number-table.ensures c.seen_slots.ensures _ c.seek_in.ensures _ c.in-Ok.is) _ _ c.file_known.ensures;
+      transient = transient_none _ _;
+    }
+
+pub returns-in_err-k : goal.returns-in_err-k
+returns-in_err-k c =
+    let p = c.requires in record {
+      filed = λ i bases earlier here s a r y.
+          let f = free_is a.held _ r.least p.fits _ _ r.tables _ _ c.number-table.ensures c.seen_slots.ensures _ c.seek_in.ensures _ c.in-Err.is in
+          tells_exit _ _ c.from_residual.ensures.1 (answer_bad a r p.fits p.homes y f.0 _ _ _ (c.in_err-k.ensures i a.input));
+      transient = transient_none _ _;
+    }
+>>>>>>> a293fa9cba26d6e59e57f0a7a5081f0c219b8f27
 
 pub unit_for-unit-requires : goal.unit_for-unit-requires
 unit_for-unit-requires c =
@@ -40,12 +59,21 @@ keep_unit-requires c =
     let p = c.requires in
     let a = p.ready.at_unit in
     let r = p.read in
-    let f = free_is a.held _ r.least p.fits _ _ r.tables _ _ c.number.ensures c.seen_slots.ensures _ c.seek_in.ensures _ c.in-Err.is in
+    let f = free_is a.held _ r.least p.fits _ _ r.tables _ _ c.number-table.ensures c.seen_slots.ensures _ c.seek_in.ensures _ c.in-Err.is in
     keep_requires a r p.fits p.homes p.same f.0 _ (c.in_ok-k.ensures p.ready.input a.input) _ f.1 f.2 _ c.unit_for-unit.ensures
 
 pub returns-clause-filed : goal.returns-clause-filed
 returns-clause-filed c =
     let p = c.requires in
+<<<<<<< HEAD
     λ i bases earlier here s a r y.
     let f = free_is a.held _ r.least p.fits _ _ r.tables _ _ c.number.ensures c.seen_slots.ensures _ c.seek_in.ensures _ c.in-Err.is in
     answer_filed a r p.fits p.homes y f.0 _ (c.in_ok-k.ensures i a.input) _ f.1 f.2 _ c.unit_for-unit.ensures _ _ c.keep_unit.ensures.held c.keep_unit.ensures.strings
+=======
+    record {
+      filed = λ i bases earlier here s a r y.
+          let f = free_is a.held _ r.least p.fits _ _ r.tables _ _ c.number-table.ensures c.seen_slots.ensures _ c.seek_in.ensures _ c.in-Err.is in
+          answer_filed a r p.fits p.homes y f.0 _ (c.in_ok-k.ensures i a.input) _ f.1 f.2 _ c.unit_for-unit.ensures _ _ c.keep_unit.ensures.held c.keep_unit.ensures.strings;
+      transient = c.keep_unit.ensures.transient;
+    }
+>>>>>>> a293fa9cba26d6e59e57f0a7a5081f0c219b8f27
