@@ -16,37 +16,18 @@ file_known-requires c =
     let r = p.read in
     known_asks a r p.fits _ (known_is a.held _ r.least p.fits _ _ r.tables _ _ c.number-table.ensures c.seen_slots.ensures _ c.seek_in.ensures _ c.in-Ok.is)
 
-<<<<<<< HEAD
 pub returns-in-Ok-clause-filed : goal.returns-in-Ok-clause-filed
 returns-in-Ok-clause-filed c =
     let p = c.requires in
     λ i bases earlier here s a r y.
-    answer_known a r p.fits p.homes y _ (known_is a.held _ r.least p.fits _ _ r.tables _ _ c.number.ensures c.seen_slots.ensures _ c.seek_in.ensures _ c.in-Ok.is) _ _ c.file_known.ensures
+    answer_known a r p.fits p.homes y _ (known_is a.held _ r.least p.fits _ _ r.tables _ _ c.number-table.ensures c.seen_slots.ensures _ c.seek_in.ensures _ c.in-Ok.is) _ _ c.file_known.ensures
 
 pub returns-in_err-k-clause-filed : goal.returns-in_err-k-clause-filed
 returns-in_err-k-clause-filed c =
     let p = c.requires in
     λ i bases earlier here s a r y.
-    let f = free_is a.held _ r.least p.fits _ _ r.tables _ _ c.number.ensures c.seen_slots.ensures _ c.seek_in.ensures _ c.in-Err.is in
+    let f = free_is a.held _ r.least p.fits _ _ r.tables _ _ c.number-table.ensures c.seen_slots.ensures _ c.seek_in.ensures _ c.in-Err.is in
     tells_exit _ _ c.from_residual.ensures.1 (answer_bad a r p.fits p.homes y f.0 _ _ _ (c.in_err-k.ensures i a.input))
-=======
-pub returns-in-Ok : goal.returns-in-Ok
-returns-in-Ok c =
-    let p = c.requires in record {
-      filed = λ i bases earlier here s a r y.
-          answer_known a r p.fits p.homes y _ (known_is a.held _ r.least p.fits _ _ r.tables _ _ c.number-table.ensures c.seen_slots.ensures _ c.seek_in.ensures _ c.in-Ok.is) _ _ c.file_known.ensures;
-      transient = transient_none _ _;
-    }
-
-pub returns-in_err-k : goal.returns-in_err-k
-returns-in_err-k c =
-    let p = c.requires in record {
-      filed = λ i bases earlier here s a r y.
-          let f = free_is a.held _ r.least p.fits _ _ r.tables _ _ c.number-table.ensures c.seen_slots.ensures _ c.seek_in.ensures _ c.in-Err.is in
-          tells_exit _ _ c.from_residual.ensures.1 (answer_bad a r p.fits p.homes y f.0 _ _ _ (c.in_err-k.ensures i a.input));
-      transient = transient_none _ _;
-    }
->>>>>>> a293fa9cba26d6e59e57f0a7a5081f0c219b8f27
 
 pub unit_for-unit-requires : goal.unit_for-unit-requires
 unit_for-unit-requires c =
@@ -65,15 +46,6 @@ keep_unit-requires c =
 pub returns-clause-filed : goal.returns-clause-filed
 returns-clause-filed c =
     let p = c.requires in
-<<<<<<< HEAD
     λ i bases earlier here s a r y.
-    let f = free_is a.held _ r.least p.fits _ _ r.tables _ _ c.number.ensures c.seen_slots.ensures _ c.seek_in.ensures _ c.in-Err.is in
+    let f = free_is a.held _ r.least p.fits _ _ r.tables _ _ c.number-table.ensures c.seen_slots.ensures _ c.seek_in.ensures _ c.in-Err.is in
     answer_filed a r p.fits p.homes y f.0 _ (c.in_ok-k.ensures i a.input) _ f.1 f.2 _ c.unit_for-unit.ensures _ _ c.keep_unit.ensures.held c.keep_unit.ensures.strings
-=======
-    record {
-      filed = λ i bases earlier here s a r y.
-          let f = free_is a.held _ r.least p.fits _ _ r.tables _ _ c.number-table.ensures c.seen_slots.ensures _ c.seek_in.ensures _ c.in-Err.is in
-          answer_filed a r p.fits p.homes y f.0 _ (c.in_ok-k.ensures i a.input) _ f.1 f.2 _ c.unit_for-unit.ensures _ _ c.keep_unit.ensures.held c.keep_unit.ensures.strings;
-      transient = c.keep_unit.ensures.transient;
-    }
->>>>>>> a293fa9cba26d6e59e57f0a7a5081f0c219b8f27
