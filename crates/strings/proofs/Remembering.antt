@@ -40,7 +40,7 @@ pub forgotten : (str : List ℕ) (told : List ℕ → ℕ → Type 0) (memo x : 
 forgotten str told memo x n e h =
     record {
       known = λ o l u. absurd (u (ap (λ (z : List ℕ). get_or z o 0) e ∙ ap (λ (i : ℕ). get_or (placed memo 0 (zeros n)) i 0) (omega arith)
-        ∙ get_d_placed memo 0 (zeros n) o (omega (arith, length_zeros n)) (omega arith) ∙ get_d_zeros n o));
+          ∙ get_d_placed memo 0 (zeros n) o (omega (arith, length_zeros n)) (omega arith) ∙ get_d_zeros n o));
     }
 
 -- what is kept before the memory is cleared is kept after that

@@ -12,7 +12,7 @@ abbrev pub invariant-loop-from : goal.invariant-loop-from
 invariant-loop-from l =
     (l.from ≤ length l.self.bytes.now)
     × ((ps : List (List ℕ)) → Headed (encoding_is l.encoding) l.self.bytes.now ps
-      → PiecesAhead (encoding_is l.encoding) l.self.bytes.now l.numbers ps l.from l.first l.initial.d l.d l.at)
+    → PiecesAhead (encoding_is l.encoding) l.self.bytes.now l.numbers ps l.from l.first l.initial.d l.d l.at)
 
 abbrev pub decreases-loop-from : goal.decreases-loop-from
 decreases-loop-from l = length l.self.bytes.now - l.from
