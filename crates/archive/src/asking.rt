@@ -64,7 +64,7 @@ fn answered(packed: usize, answer: Answer) -> FromBundle
 }
 
 // The part of a section. This and the following one are two functions, since each promises a lookup of its own. One over any lookup would take it as a
-// function and state all of this of it; one over an enum of both questions would have to tell them apart again, in its body and in its clause.
+// function and speak of that function's answer; one over an enum of both questions would have to tell them apart again, in its body and in its clause.
 pub fn pack_and_look_up(
     b: &[u8],
     work: &mut [u32],

@@ -16,6 +16,7 @@ pub const HEADER: usize = 64;
 pub struct Header {
     pub number: usize,
     pub name: usize,
+    // a number: a file may have any
     pub kind: u32,
     pub flags: u64,
     pub offset: usize,

@@ -15,7 +15,8 @@ use numbers::refusals::Refusal;
 // What the sections may take of the 117,440,512 bytes.
 const ROOM_LIMIT: usize = PACKAGE_LIMIT - FRAME;
 
-// 19 and 18, and the bundle, of an object with this word. The caller has cleared the output.
+// Refusals 19 and 18, and the bundle, of an object with this word. The caller has cleared the output. That it is zero is asked of this and the following two, and is
+// in no type: the first write ends it.
 fn write_sections(a: &Accepted, word: u32, out: &mut [u8]) -> Result<usize, Unwritten>
     requires { out.old ≡ zeros (length out.old) }
     ensures answer { written_as result ≡ written_of (answered (bundle_of_word a.now.file.bytes.now (file_is a.now.file) word) (length out.old)) }

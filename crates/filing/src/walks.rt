@@ -15,7 +15,8 @@ use unit::judged::Judged;
 
 impl<'a> Reading<'a> {
     // All units of the section. Where they are read by their place, the rows are chained first.
-    // A loop, since each unit says where the next starts. What is held, the tables and work stay three parameters: each is lent alone to what is below.
+    // A loop, since each unit says where the next starts. What is held, the tables and work stay three parameters here and in what is below: each is lent
+    // alone to some of it.
     #[tactic(auto, using(crate::proofs::Walking::walking_none, crate::proofs::Transients::transient_chained))]
     pub fn add_units(
         &self,

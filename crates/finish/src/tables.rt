@@ -6,8 +6,7 @@ use kept::Units;
 use kept::regions::{COMPILATION, TYPE};
 use kept::slots::{TableSlots, place_units, slots_for};
 
-// Once for each table: over an array of both numbers with their rows it is no shorter.
-// Places the units of both tables, for a bundle of so many words.
+// Places the units of both tables, for a bundle of so many words. Once for each table: over an array of both numbers with their rows it is no shorter.
 pub fn place_tables(words: usize, units: Units, work: &mut [u32])
     requires { TablesPlaceable words units (length work.old) }
     ensures { TablesPlaced words units work.old work.new }

@@ -25,7 +25,7 @@ const MOST_SLOTS: usize = 0x1_0000_0000;
 
 #[derive(Clone, Copy, Debug, PartialEq, Eq)]
 pub struct IndexHead {
-    // 2 or 5. A number: the field is public, and callers, C and clauses read it as the number that the format has.
+    // 2 or 5. A number: callers and clauses read it as the number that the format has, and C hands in such a number to compare.
     pub version: u32,
     pub columns: usize,
     pub units: usize,

@@ -31,7 +31,7 @@ struct Numbers<'a> {
 }
 
 impl Numbers<'_> {
-    // The next number, its last 16 digits, whose letters are small; 0 where the text has ended.
+    // The next number, its last 16 digits, whose letters are small; 0 where the text has ended. A number and no Option: one that is left out counts as 0.
     fn next(&mut self) -> u64 {
         let mut n = 0;
         while let [b, rest @ ..] = self.text {

@@ -7,6 +7,7 @@ use crate::{Table, Units};
 use numbers::sections::INFO;
 
 // A table and a section of units are asked by their numbers, and any number is answered: an enum would ask more of callers.
+
 // What there is of the kind that has a number, or else of the other.
 #[tactic(auto, unfolding(crate::specs::Held::picked))]
 fn pick<T: Copy>(number: usize, kind: usize, its: T, other: T) -> T

@@ -104,7 +104,7 @@ pub fn seen_slots(words: usize) -> usize
 }
 
 // Seeks an identity in slots of a table.
-// Work stays a parameter beside them here and in the following: a struct of both would hold lent work, and callers lend other parts of it between two calls.
+// Work stays a parameter beside `TableSlots` here and in the following: a struct of both would hold lent work, and callers lend other parts of it between two calls.
 #[tactic(auto, unfolding(crate::specs::Slots::slots_in))]
 pub fn seek_in(work: &[u32], t: TableSlots, x: u64) -> Result<usize, usize>
     requires { Seekable t.words work.now t.table t.units t.count }

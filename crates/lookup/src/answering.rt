@@ -51,7 +51,7 @@ impl From<Result<Located, Refusal>> for Answer {
     }
 }
 
-// A section's part here and an entry's string in the following function: each is one line beside its twin. One function of both would take an enum
+// A section's part here and an entry's string in the following function: each is a line or two beside its twin. One function of both would take an enum
 // of the two questions, and its clause would have to tell them apart again. So it is with `look_up` and with `locate`.
 pub fn answer_part(package: &[u8], unit: UnitAsked, section: u32) -> Answer
     ensures { result ≡ numbered (looked_up «package».now unit.version unit.table unit.identity section) }

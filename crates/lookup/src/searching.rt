@@ -69,7 +69,8 @@ impl PackageHead {
             && self.tu.is_none_or(|i| i.version == version)
     }
 
-    // The index of a table, by its number: 1, or any other for the type units'.
+    // The index of a table, by its number: 1, or any other for the type units'. A number and no `Table`, here and below: it was any number, and a type of two would
+    // ask more of callers.
     #[tactic(auto, unfolding(crate::specs::Answers::table_index))]
     pub fn index_for(&self, table: u32) -> Option<IndexHead>
         ensures { result ≡ table_index self.now table }

@@ -169,7 +169,7 @@ pub fn number_at(big_endian: bool, w: usize, s: &[u8], at: usize) -> u64
     }
 }
 
-// The public names, one line each over the trait, which callers in nine crates and their proofs cite: `u32::read(..)` in their place says the same in no fewer words.
+// The public names, one line each over the trait, which callers of readers and stores in nine crates cite, and their proofs: `u32::read(..)` in their place says the same in no fewer words.
 pub fn u16_at(big_endian: bool, s: &[u8], at: usize) -> u16
     requires { at + 2 ≤ length s.now }
     ensures { result ≡ number_at big_endian 2 s.now at }

@@ -23,7 +23,7 @@ fn clear_table(n: usize, table: usize, work: &mut [u32])
 }
 
 // The roots of the strings' index, for a bundle of n words: one that is not 0 leads to a string. Beside `clear_table`, and not one with it: this is a whole
-// region, that the front of one, and what each says of work is another.
+// region, that the front of one, and each promises something else of work.
 fn clear_roots(n: usize, work: &mut [u32])
     requires { Clearable n (length work.old) }
     ensures { RootsCleared n work.old work.new }

@@ -21,7 +21,9 @@ use numbers::refusals::Refusal;
 use numbers::sections::CODES;
 use strings::table::StringTable;
 
-// The bundle, what is held and work stay parameters of the functions below: each lends what is held and work to another crate's, work in parts.
+// The bundle, what is held and work stay parameters of the functions below: filing's functions take them apart, one of them the strings' table alone, so
+// that a struct of the three would be taken apart at each call.
+
 // The object at hand: the byte order, the first object's word and its own, and where its sections start.
 #[derive(Clone, Copy)]
 pub struct ObjectHead {

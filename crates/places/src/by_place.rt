@@ -15,6 +15,7 @@ use numbers::sections::INFO;
 
 // The words, and how many of them are heads, stay two parameters here and in the following: other parts of the same work are lent between two calls, so a struct
 // of both would be made anew for each call, and be taken apart in it.
+
 // Puts a row before those of its word. One that names no place of the section is in no chain.
 #[tactic(auto, using(crate::proofs::Chaining::put_none, crate::proofs::Chaining::put_outside, crate::proofs::Chaining::put_inside))]
 fn chain_row(words: &mut [u32], heads: usize, row: usize, cell: Option<Contribution>)

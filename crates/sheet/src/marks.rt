@@ -2,7 +2,7 @@
 ghost use Rattle.std.specs.Prelude.{◌≡◌, ◌/◌, ◌<◌, length};
 ghost use Rattle.sheet.specs.Held.{marked, with_mark};
 
-// Whether a number is marked, in words that nobody lends to be written.
+// Whether a number is marked, in words that are only read; `Marks` has words that are written too.
 #[tactic(auto, unfolding(crate::specs::Held::marked))]
 pub fn is_marked(marks: &[u32], n: usize) -> bool
     requires { n / 32 < length marks.now }

@@ -69,7 +69,7 @@ fn all_marked(marks: &Marks, n: usize) -> bool
 }
 
 impl<'a> IndexTable<'a> {
-    // The table of an index that was read from a section of a package.
+    // The table of an index with as many slots as marks at most, and rows within its units.
     pub fn of(letter: u8, index: Index<'a>) -> IndexTable<'a>
         requires { IndexHere index }
         ensures { (result.index ≡ index.entry) × (result.letter ≡ letter) }

@@ -19,3 +19,4 @@ pub mod Writing
 pub mod HeadedWriting
 pub mod PartEntries
 pub mod Callers
+pub mod Refusals

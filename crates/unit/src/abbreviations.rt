@@ -23,7 +23,8 @@ use numbers::refusals::Refusal;
 // The form of version 5 whose value stands in the table.
 const IMPLICIT_CONST: u64 = 0x21;
 
-// A name, a form, and the bytes that they take.
+// A name, a form, and the bytes that they take. A name of 0 ends the attributes, as the format has it: its size is asked for too, so that an Option would be
+// no plainer.
 #[derive(Clone, Copy)]
 pub struct Attribute {
     pub name: u64,
