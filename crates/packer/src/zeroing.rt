@@ -27,25 +27,10 @@ fn clear_page(s: &mut [u32])
     }
 }
 
-// Whether the last word is another than zero: then the words were used before, and have their pages.
-fn is_used(s: &[u32]) -> bool {
-    s.last().is_some_and(|word| *word != 0)
-}
-
-#[tactic(auto, unfolding(octets::specs::Octets::zeros))]
+// Page by page, also where all words were used before: a page that was just read takes its zeros faster than memory that was not (9.8 ms for 84 MB, where one
+// store over all of it took 12.3). By index: over `chunks_mut` the proof was tried and did not close, since it knows nothing of words that were lent page by
+// page.
 pub fn clear_lent(s: &mut [u32])
-    ensures { s.new ≡ zeros (length s.old) }
-{
-    if is_used(s) {
-        s.fill(0);
-    } else {
-        clear_pages(s);
-    }
-}
-
-// Page by page, with no store to pages that are zero. By index: over `chunks_mut` the proof was tried and did not close, since it knows nothing of words
-// that were lent page by page.
-fn clear_pages(s: &mut [u32])
     ensures { s.new ≡ zeros (length s.old) }
 {
     let n = s.len();

@@ -1,8 +1,8 @@
--- `clear_pages` meets its contract. Invariant: the pages that were passed are zero.
+-- `clear_lent` meets its contract. Invariant: the pages that were passed are zero.
 -- Assumes nothing.
 use Prim.Native.Nat.{◌*◌}
 use Rattle.packer.specs.Zeros.{ZeroUpTo}
-use Rattle.packer.proofs.zeroing.clear_pages.Given as goal
+use Rattle.packer.proofs.zeroing.clear_lent.Given as goal
 
 abbrev pub invariant-loop-page : goal.invariant-loop-page
 invariant-loop-page l = ZeroUpTo l.s (1_024 * l.page)
