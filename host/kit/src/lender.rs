@@ -1,5 +1,5 @@
-//! Memory to lend to the proved functions. It is full of junk before a call, and after it every byte is judged: what was lent, and the
-//! margins around it.
+//! Memory to lend to the proved functions. It is full of junk before a call, or of zeros, as a call leaves it; and after it every byte is
+//! judged: what was lent, and the margins around it.
 
 use crate::clock;
 use crate::generate::Random;
@@ -21,8 +21,7 @@ const BESIDES: Duration = Duration::from_micros(500);
 const TRIES: usize = 3;
 
 pub struct Lender {
-    junk: Vec<u8>,
-    junk_words: Vec<u32>,
+    filling: Filling,
     input: Lent<u8>,
     work: Lent<u32>,
     output: Lent<u8>,
@@ -31,6 +30,25 @@ pub struct Lender {
     last: (usize, u32, usize),
     skipped: Skipped,
     took: Duration,
+}
+
+/// What memory is full of before a call.
+struct Filling {
+    bytes: Vec<u8>,
+    words: Vec<u32>,
+}
+
+impl Filling {
+    fn junk(random: &mut Random) -> Filling {
+        let bytes = (0..JUNK).map(|_| random.between(1, 255) as u8).collect();
+        // Small numbers too: they look like places and counts.
+        let words = (0..JUNK).map(|_| (random.any() >> random.pick(&[32, 44, 56])) as u32 | 1).collect();
+        Filling { bytes, words }
+    }
+
+    fn zeros() -> Filling {
+        Filling { bytes: vec![0; JUNK], words: vec![0; JUNK] }
+    }
 }
 
 /// An answer, with what was written where the call succeeds.
@@ -66,7 +84,7 @@ fn is_zero<T: Copy + Into<u64>>(numbers: &[T]) -> bool {
     numbers.chunks(64).all(|chunk| chunk.iter().fold(0, |all, n| all | (*n).into()) == 0)
 }
 
-/// Fills a place of such a length with junk that starts anywhere. The place grows by half at least, so that it seldom does.
+/// Fills a place of such a length with what starts anywhere. The place grows by half at least, so that it seldom does.
 fn fill<T: Number>(place: &mut Lent<T>, length: usize, junk: &[T], start: usize) {
     if place.len() < length {
         *place = Lent::zeros(length + length / 2);
@@ -98,13 +116,18 @@ struct Turn {
 
 impl Lender {
     pub fn new(seed: u64) -> Lender {
-        let mut random = Random::new(seed);
-        let junk = (0..JUNK).map(|_| random.between(1, 255) as u8).collect();
-        // Small numbers too: they look like places and counts.
-        let junk_words = (0..JUNK).map(|_| (random.any() >> random.pick(&[32, 44, 56])) as u32 | 1).collect();
+        Lender::filled(Filling::junk(&mut Random::new(seed)))
+    }
+
+    /// Lends zeros, as a call leaves them and as the system gives them.
+    pub fn of_zeros() -> Lender {
+        Lender::filled(Filling::zeros())
+    }
+
+    fn filled(filling: Filling) -> Lender {
         let (input, work, output) = (Lent::zeros(0), Lent::zeros(0), Lent::zeros(0));
         let (last, skipped) = ((MARGIN, 0, 0), Skipped::default());
-        Lender { junk, junk_words, input, work, output, calls: 0, last, skipped, took: Duration::ZERO }
+        Lender { filling, input, work, output, calls: 0, last, skipped, took: Duration::ZERO }
     }
 
     /// Calls with so many words of work and so many bytes of output; the call answers with a code and a length. An error where memory is
@@ -119,9 +142,9 @@ impl Lender {
         self.calls = (self.calls + 7_919) % JUNK;
         let front = MARGIN + self.calls % 8;
         let turn = Turn { start: self.calls, front, input: input.len(), work, output };
-        fill(&mut self.input, front + input.len() + MARGIN, &self.junk, turn.start);
-        fill(&mut self.work, MARGIN + work + MARGIN, &self.junk_words, turn.start);
-        fill(&mut self.output, front + output + MARGIN, &self.junk, turn.start);
+        fill(&mut self.input, front + input.len() + MARGIN, &self.filling.bytes, turn.start);
+        fill(&mut self.work, MARGIN + work + MARGIN, &self.filling.words, turn.start);
+        fill(&mut self.output, front + output + MARGIN, &self.filling.bytes, turn.start);
         self.input[front..front + input.len()].copy_from_slice(input);
         let lent_input = &self.input[front..front + input.len()];
         let lent_work = &mut self.work[MARGIN..MARGIN + work];
@@ -218,9 +241,9 @@ impl Lender {
         if !is_zero(&self.output[front + made..front + output]) {
             return Err(format!("output is not zero after code {code}, length {length}"));
         }
-        let kept = is_around(&self.input, front, front + input, &self.junk, start)
-            && is_around(&self.output, front, front + output, &self.junk, start)
-            && is_around(&self.work, MARGIN, MARGIN + work, &self.junk_words, start);
+        let kept = is_around(&self.input, front, front + input, &self.filling.bytes, start)
+            && is_around(&self.output, front, front + output, &self.filling.bytes, start)
+            && is_around(&self.work, MARGIN, MARGIN + work, &self.filling.words, start);
         kept.then_some(()).ok_or_else(|| format!("memory beside what was lent is changed after code {code}"))
     }
 }

@@ -33,9 +33,10 @@ const fn alone(hostile: Hostile) -> Hostile {
 /// The length at which each kind has a time of its own: a bundle so short once took no end.
 pub const SHORT: usize = 28 << 10;
 
-pub const HOSTILE: [Hostile; 21] = [
+pub const HOSTILE: [Hostile; 23] = [
     kind("units at different offsets of one run of declarations", "units", offsets_of_one_run),
     kind("units that take turns with two long tables", "units", two_tables),
+    kind("units that take turns with tables that together have no room", "units", many_tables),
     alone(kind(
         "a package as input, parts of abbrev that start with one long table and differ in length",
         "units",
@@ -49,6 +50,7 @@ pub const HOSTILE: [Hostile; 21] = [
         many_long_attributes,
     ),
     kind("units whose root names 2131 very often without a width, behind the identity", "units", many_identities),
+    kind("units whose root has many runs of attributes of no width", "units", many_runs),
     kind("one table, its codes descending", "declarations", descending_codes),
     kind("identities of one probe sequence", "units", colliding_units),
     alone(kind("a package as input, identities of one probe sequence", "units", colliding_rows)),
@@ -103,15 +105,20 @@ fn put_table(out: &mut Vec<u8>, declarations: u64) {
     out.push(0);
 }
 
-/// A unit of version 4 by its table's offset and its root's code.
-fn put_unit(out: &mut Vec<u8>, table: usize, code: u64, number: u64) {
+/// A unit of version 4 by its table's offset and its root's code, and so many bytes behind its identity.
+fn put_unit_with(out: &mut Vec<u8>, (table, code): (usize, u64), number: u64, behind: &[u8]) {
     let mut unit = vec![4, 0];
     unit.extend((table as u32).to_le_bytes());
     unit.push(8);
     put_unsigned(&mut unit, code);
     unit.extend((number + 1).wrapping_mul(0x9E37_79B9_7F4A_7C15).to_le_bytes());
+    unit.extend(behind);
     out.extend((unit.len() as u32).to_le_bytes());
     out.extend(unit);
+}
+
+fn put_unit(out: &mut Vec<u8>, table: usize, code: u64, number: u64) {
+    put_unit_with(out, (table, code), number, &[]);
 }
 
 /// So many units, each by the offset of its table and its root's code.
@@ -144,6 +151,28 @@ fn two_tables(units: u64) -> Vec<u8> {
     let second = abbrev.len();
     put_table(&mut abbrev, declarations);
     units_with(abbrev, (0..units as usize).map(|i| (i % 2 * second, declarations)))
+}
+
+/// A declaration whose code has two bytes takes six, and five words where it is remembered.
+const FIRST_OF_TWO_BYTES: u64 = 0x80;
+const MOST_OF_TWO_BYTES: u64 = 0x3F00;
+/// So many for each unit are nearly all of the bundle.
+const MANY_FOR_A_UNIT: u64 = 120;
+const FEWEST_TABLES: u64 = 8;
+
+/// At least eight tables, each as long as codes of two bytes let it be. The root's declaration is the first.
+fn many_tables(units: u64) -> Vec<u8> {
+    let all = MANY_FOR_A_UNIT * units;
+    let tables = FEWEST_TABLES.max(all.div_ceil(MOST_OF_TWO_BYTES));
+    let mut abbrev = Vec::new();
+    let mut places = Vec::new();
+    for _ in 0..tables {
+        places.push(abbrev.len());
+        put_root(&mut abbrev, 1, &[]);
+        (0..all / tables).for_each(|i| put_empty(&mut abbrev, FIRST_OF_TWO_BYTES + i));
+        abbrev.push(0);
+    }
+    units_with(abbrev, (0..units as usize).map(|i| (places[i % places.len()], 1)))
 }
 
 /// The root's declaration is the first.
@@ -186,6 +215,21 @@ fn many_identities(units: u64) -> Vec<u8> {
     abbrev.extend(IDENTITY_FLAG.repeat(7 * units as usize));
     abbrev.extend([0, 0, 0]);
     units_with(abbrev, (0..units).map(|_| (0, 1)))
+}
+
+/// An attribute of one byte.
+const BYTE: [u8; 2] = [0x3F, 0x0B];
+/// As many runs as the unit has bytes for them.
+const RUNS: usize = 40;
+
+fn many_runs(units: u64) -> Vec<u8> {
+    let run = [&BYTE[..], &LONG_FLAG.repeat(units as usize / 2)].concat();
+    let mut abbrev = vec![1, 0x11, 0, 0xB1, 0x42, 7];
+    abbrev.extend(run.repeat(RUNS));
+    abbrev.extend([0, 0, 0]);
+    let mut info = Vec::new();
+    (0..units).for_each(|i| put_unit_with(&mut info, (0, 1), i, &[0; RUNS]));
+    one_object(FOUR, vec![(1, info), (3, abbrev)])
 }
 
 fn descending_codes(declarations: u64) -> Vec<u8> {

@@ -19,6 +19,7 @@ mod why;
 
 use kit::generate::{last_of_many_strings, many_strings, sized, KINDS};
 use kit::oracle::Oracle;
+use kit::reference::WORK_FOR_A_WORD;
 use measure::{Bench, Measured};
 use paper::{Growth, Paper};
 use real::Sources;
@@ -72,6 +73,7 @@ fn measure_all(sources: &Sources) -> Result<Paper> {
     let releases = if is_real { real::bundles(sources, &mut bench)? } else { Vec::new() };
     let example = example();
     let small = (bench.measure(&example, 1)?, measure::small(&example)?);
+    let one_store = measure::one_store(LENGTHS[3] / 4 * WORK_FOR_A_WORD)?;
     let mut kinds = Vec::new();
     for kind in &KINDS {
         let bundles = LENGTHS.iter().map(|length| sized(kind, *length));
@@ -93,6 +95,7 @@ fn measure_all(sources: &Sources) -> Result<Paper> {
         elves,
         // Packing.
         small,
+        one_store,
         kinds,
         strings,
         instructions,

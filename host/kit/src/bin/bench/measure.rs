@@ -1,6 +1,7 @@
-//! One bundle measured: the proved packer with junk in what it is lent, and thorin by the oracle.
+//! One bundle measured: the proved packer with junk or zeros in what it is lent, and thorin by the oracle.
 
 use barthovin::ffi;
+use barthovin::lent::Lent;
 use kit::clock;
 use kit::lender::Lender;
 use kit::measured::{by_thorins, measure, Measure};
@@ -21,11 +22,14 @@ pub struct Measured {
     pub ours: Duration,
     /// The same call with a wrong head: it clears what was lent and refuses.
     pub clearing: Duration,
+    /// The same call where zeros are lent, as a call leaves them.
+    pub zeros: Duration,
     pub thorin: Option<Duration>,
 }
 
 pub struct Bench {
     lent: Lender,
+    zeros: Lender,
     oracle: Option<Oracle>,
 }
 
@@ -59,7 +63,8 @@ pub fn shortest(mut round: impl FnMut() -> Result<Duration>) -> Result<Duration>
 
 impl Bench {
     pub fn new(oracle: Option<&str>) -> Result<Bench> {
-        Ok(Bench { lent: Lender::new(1), oracle: oracle.map(Oracle::start).transpose()? })
+        let oracle = oracle.map(Oracle::start).transpose()?;
+        Ok(Bench { lent: Lender::new(1), zeros: Lender::of_zeros(), oracle })
     }
 
     pub fn measure(&mut self, bundle: &[u8], items: u64) -> Result<Measured> {
@@ -69,37 +74,27 @@ impl Bench {
             return Err(Error::other(format!("refused {} where a package was expected", made.code)));
         }
         let package = made.bytes.to_vec();
-        let ours = self.ours(bundle, work, package.len(), 0)?;
+        let ours = timed(&mut self.lent, bundle, package.len(), 0)?;
         let mut headless = bundle.to_vec();
         headless[0] = 2;
-        let clearing = self.ours(&headless, work, package.len(), 3)?;
+        let clearing = timed(&mut self.lent, &headless, package.len(), 3)?;
+        let zeros = timed(&mut self.zeros, bundle, package.len(), 0)?;
         let thorin = self.thorin(bundle, &package)?;
-        Ok(Measured { bundle: bundle.len(), items, package: package.len(), ours, clearing, thorin })
+        Ok(Measured { bundle: bundle.len(), items, package: package.len(), ours, clearing, zeros, thorin })
     }
 
     /// The time of an answer by this number, with as much output as the package takes, and the package.
     pub fn answered(&mut self, bundle: &[u8], code: u32) -> Result<(Duration, Vec<u8>)> {
-        let work = bundle.len() / 4 * WORK_FOR_A_WORD;
         let package = self.lent.pack_whole(bundle).map_err(Error::other)?.bytes.to_vec();
         match self.lent.took() {
             took if took > LONG => Ok((took, package)),
-            _ => self.ours(bundle, work, package.len(), code).map(|took| (took, package)),
+            _ => timed(&mut self.lent, bundle, package.len(), code).map(|took| (took, package)),
         }
     }
 
     /// thorin's time for a bundle that it takes as we do, in which nothing is looked for that says so: that would take long too.
     pub fn taken_alike(&mut self, bundle: &[u8], package: &[u8]) -> Result<Option<Duration>> {
         self.oracle.as_mut().map(|oracle| difference(oracle, bundle, package)).transpose()
-    }
-
-    fn ours(&mut self, bundle: &[u8], work: usize, output: usize, code: u32) -> Result<Duration> {
-        shortest(|| {
-            let packing = self.lent.pack(bundle, work, output).map_err(Error::other)?;
-            if packing.code != code {
-                return Err(Error::other(format!("code {} in the place of {code}", packing.code)));
-            }
-            Ok(self.lent.took())
-        })
     }
 
     /// None where thorin isn't at hand or isn't the measure of the bundle.
@@ -109,6 +104,30 @@ impl Bench {
             false => Ok(None),
         }
     }
+}
+
+/// Our time for an answer by this number, with work enough.
+fn timed(lent: &mut Lender, bundle: &[u8], output: usize, code: u32) -> Result<Duration> {
+    let work = bundle.len() / 4 * WORK_FOR_A_WORD;
+    shortest(|| {
+        let packing = lent.pack(bundle, work, output).map_err(Error::other)?;
+        if packing.code != code {
+            return Err(Error::other(format!("code {} in the place of {code}", packing.code)));
+        }
+        Ok(lent.took())
+    })
+}
+
+/// The time to clear so many words of junk at once, as a caller would.
+pub fn one_store(words: usize) -> Result<Duration> {
+    let mut memory: Lent<u32> = Lent::zeros(words);
+    shortest(|| {
+        memory.fill(u32::MAX);
+        let start = clock::thread();
+        std::hint::black_box(&mut memory[..]).fill(0);
+        std::hint::black_box(&memory[..]);
+        clock::between(start, clock::thread()).ok_or_else(|| Error::other("no clock for this thread"))
+    })
 }
 
 /// The oracle's time for an answer, less that for the same question with a wrong offset width: to that the oracle reads the bundle,

@@ -26,6 +26,8 @@ pub struct Paper {
     pub elves: Vec<Elf>,
     /// Document 01's example, and the time of the small packer for it.
     pub small: (Measured, Duration),
+    /// All work of the longest bundle cleared by one store.
+    pub one_store: Duration,
     pub kinds: Vec<Growth>,
     pub strings: Growth,
     /// Of the command for each of them; none where they were not counted.
@@ -108,6 +110,12 @@ impl Measured {
     fn ratio(&self) -> Option<f64> {
         self.thorin.and_then(|t| quotient(self.ours, t))
     }
+
+    /// The same without what clearing takes; none where that is all, as near as can be measured.
+    fn ratio_apart(&self) -> Option<f64> {
+        let apart = self.ours.saturating_sub(self.clearing);
+        self.thorin.filter(|_| !apart.is_zero()).and_then(|t| quotient(apart, t))
+    }
 }
 
 impl Growth {
@@ -169,6 +177,7 @@ impl Paper {
             ("library", other.unwrap_or_default()),
             ("sizes", self.sizes()),
             ("small", time(self.small.1)),
+            ("one_store", time(self.one_store)),
             ("elves", self.elves.iter().map(read).collect()),
             ("growth", self.kinds.iter().map(grown).collect()),
             ("verdict", self.verdict()),
@@ -343,11 +352,12 @@ fn filled(text: &str, figures: &[(&str, String)]) -> String {
 }
 
 fn row(name: &str, items: &str, one: &Measured) -> String {
-    let (ours, clearing, thorin) =
-        (time(one.ours), time(one.clearing), or_dash(one.thorin.filter(|t| !t.is_zero()), time));
+    let (ours, clearing, zeros) = (time(one.ours), time(one.clearing), time(one.zeros));
+    let thorin = or_dash(one.thorin.filter(|t| !t.is_zero()), time);
     let (bundle, package) = (grouped(one.bundle as u64), grouped(one.package as u64));
-    let (count, ratio) = (grouped(one.items), marked(one.ratio()));
-    format!("| {name} | {bundle} | {count} {items} | {package} | {ours} | {clearing} | {thorin} | {ratio} |\n")
+    let (count, ratio, apart) = (grouped(one.items), marked(one.ratio()), marked(one.ratio_apart()));
+    let cells = [format!("{count} {items}"), package, ours, clearing, zeros, thorin, ratio, apart].join(" | ");
+    format!("| {name} | {bundle} | {cells} |\n")
 }
 
 fn grown(kind: &Growth) -> String {
@@ -390,7 +400,8 @@ mod tests {
     #[test]
     fn the_text_and_the_figures_belong_together() {
         let took = Duration::from_millis(3);
-        let one = || Measured { bundle: 44, items: 1, package: 112, ours: took, clearing: took, thorin: Some(took) };
+        let (ours, half) = (took, took / 2);
+        let one = || Measured { bundle: 44, items: 1, package: 112, ours, clearing: half, zeros: half, thorin: Some(took) };
         let growth = |name| Growth { name, items: "units", measured: vec![one(), one(), one()] };
         let process = |ms| Process { time: took * ms, kilobytes: 2048 };
         let ran = |program, ms| Ran { version: 4, program, ended: Ended::Well(process(ms)), verified: Some(true) };
@@ -401,6 +412,7 @@ mod tests {
             elves: vec![Elf { name: "one", file: 9, bundle: 8, took }],
             // Packing.
             small: (one(), took),
+            one_store: took,
             kinds: vec![growth("a")],
             strings: growth("b"),
             instructions: vec![Some(1_000), Some(2_100)],
@@ -419,7 +431,8 @@ mod tests {
             sheet: Sheet { package: 9, sheet: 40, took, stored: took, by_slots: took, plain: took, copied: took },
         };
         let text = paper.to_string();
-        assert!(text.contains("| document 01's example | 44 | 1 unit | 112 | 3.00 ms |"), "{text}");
+        let row = "| document 01's example | 44 | 1 unit | 112 | 3.00 ms | 1.50 ms | 1.50 ms | 3.00 ms | 1.00 | 0.50 |\n";
+        assert!(text.contains(row), "{text}");
         assert!(text.contains("They are 1,000; 2,100: times the one before, 2.10."), "{text}");
         assert!(text.contains("| some | 12 | 3.00 ms |\n") && !text.contains("\n\n\n"), "{text}");
         assert!(text.contains("| 4 | other | 6.00 ms | 2.0 MB | verified | 1.50 |\n"), "{text}");
