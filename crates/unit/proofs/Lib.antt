@@ -15,6 +15,7 @@ pub mod Judging
 pub mod Finding
 pub mod Values
 pub mod Stepping
+pub mod Flags
 pub mod Rooted
 pub mod Units
 pub mod Heads
