@@ -10,6 +10,7 @@ pub mod Attributes
 pub mod Places
 pub mod Declarations
 pub mod Walks
+pub mod Local
 pub mod Trees
 pub mod Judging
 pub mod Finding
