@@ -21,6 +21,7 @@ pub mod Rooted
 pub mod Units
 pub mod Heads
 pub mod Cuts
+pub mod AttributeWalk
 pub mod Holding
 pub mod Entering
 pub mod Recalling

@@ -2,8 +2,9 @@
 // take turns with others. Lent words hold the tables, one word for each byte of the bundle. The first fifth is a directory, a tree by where tables lie: a table
 // and a unit that names it take more than 25 bytes, and a node five words. Behind it each table has a word with the number of its declarations, and then
 // their tree. Where the words do not suffice, all tables but the last are forgotten.
-ghost use Rattle.std.specs.Prelude.{◌≡◌, List, ℕ, ◌+◌, ◌*◌, ◌/◌, ◌≤◌, ◌<◌, ◌^◌, length, IfSome};
+ghost use Rattle.std.specs.Prelude.{◌≡◌, List, ℕ, ◌+◌, ◌*◌, ◌/◌, ◌≤◌, ◌<◌, ◌^◌, ◌-◌, length, take, drop, IfSome};
 ghost use Rattle.unit.specs.Trees.{node_words, Fresh};
+ghost use Rattle.unit.specs.Runs.{Quiet};
 ghost use Rattle.unit.specs.TableTrees.{
   directory_share,
   directory,
@@ -175,5 +176,14 @@ impl Judged {
         };
         self.last = Some(table);
         Ok(table)
+    }
+
+    // How many bytes at the front of a place are a run of flags that are present, where the identity is stated already or not.
+    pub fn pass_run(&mut self, b: &[u8], place: Span, known: bool, codes: &mut [u32]) -> usize
+        requires { Lies b.now place × Lent b.now codes.old self.old }
+        ensures run { (result ≤ place.end - place.at) × Quiet known (take result (drop place.at b.now)) }
+        ensures memory { Lent b.now codes.new self.new }
+    {
+        crate::runs::run_size(&b[place.at..place.end], known)
     }
 }
