@@ -207,8 +207,8 @@ fn root_in(e: ObjectEncoding, table: &[u8], codes: CodeTree<'_>, s: &[u8]) -> Re
     }
 }
 
-// The table is what stands in abbrev from the header's offset on, at a place of the bundle. s is the unit behind its header.
-#[tactic(auto, using(crate::proofs::Rooted::root_table, crate::proofs::Recalling::known_held, crate::proofs::Recalling::known_rising))]
+// The table stands at the front of a place of the bundle, which is abbrev from the header's offset on. s is the unit behind its header.
+#[tactic(auto, using(crate::proofs::Rooted::root_table, crate::proofs::Recalling::known_cases))]
 pub fn root_identity(
     e: ObjectEncoding,
     b: &[u8],
@@ -227,5 +227,5 @@ pub fn root_identity(
         words: &codes[table.from..to],
         count: table.count,
     };
-    root_in(e, &b[place.at..place.end], declarations, s)
+    root_in(e, &b[table.place.at..table.place.end], declarations, s)
 }
