@@ -1,19 +1,21 @@
-// The abbreviation tables that were judged, by where they lie in the bundle: units that share a table are read without judging it again, also where they
-// take turns with others. Lent words hold the tables, one word for each byte of the bundle. The first fifth is a directory, a tree by where tables lie: a table
-// and a unit that names it take more than 25 bytes, and a node five words. Behind it each table has a word with the number of its declarations, and then
-// their tree. Where the words do not suffice, all tables but the last are forgotten.
+// The abbreviation tables that were judged, by where they start in the bundle: units that share a table are read without judging it again, also where they
+// take turns with others. A table ends with its own zero code, so that parts that start together and end apart have the same one. Lent words hold the tables,
+// one word for each byte of the bundle. The first fifth is a directory, a tree by where tables start: a table and a unit that names it take more than 25 bytes,
+// and a node five words. Behind it each table has two words, the number of its declarations and that of its bytes, and then their tree. Where the words do not
+// suffice, all tables but the last are forgotten.
 ghost use Rattle.std.specs.Prelude.{◌≡◌, List, ℕ, ◌+◌, ◌*◌, ◌/◌, ◌≤◌, ◌<◌, ◌^◌, ◌-◌, length, take, drop, IfSome};
 ghost use Rattle.unit.specs.Trees.{node_words, Fresh};
 ghost use Rattle.unit.specs.Runs.{Quiet};
 ghost use Rattle.unit.specs.TableTrees.{
   directory_share,
+  head_words,
   directory,
-  key_of,
   Lies,
   Enters,
   Enterable,
   Remembers,
   Knows,
+  KnownAt,
   Recalls,
   Lent,
 };
@@ -25,15 +27,18 @@ use numbers::refusals::Refusal;
 // The directory has one of so many words.
 const SHARE: usize = 5;
 
+// The words in front of a table's tree.
+const HEAD: usize = 2;
+
 // A part of the bundle. It is another type than strings' `Place`, which has start and size: unit stands beside strings and below what uses both, and a
-// table is known by where its section ends, and compared by both ends.
-#[derive(Clone, Copy, PartialEq, Eq)]
+// table is read to an end.
+#[derive(Clone, Copy)]
 pub struct Span {
     pub at: usize,
     pub end: usize,
 }
 
-// Where a table lies in the bundle, the word from which its tree stands, and how many declarations it has.
+// Where a table lies in the bundle, up to behind its zero code, the word from which its tree stands, and how many declarations it has.
 #[derive(Clone, Copy)]
 pub struct JudgedTable {
     pub place: Span,
@@ -49,15 +54,6 @@ pub struct Judged {
     pub free: usize,
 }
 
-// Both ends are below 2 ^ 32: tables that differ in either have different keys.
-#[tactic(auto, unfolding(crate::specs::TableTrees::key_of))]
-fn key_of(place: Span) -> u64
-    requires { (place.at < 2 ^ 32) × (place.end < 2 ^ 32) }
-    ensures { result ≡ key_of place }
-{
-    octets::number_of(place.at as u32, place.end as u32)
-}
-
 impl Judged {
     // Before any table.
     #[tactic(auto, using(crate::proofs::Holding::tables_none), unfolding(crate::specs::TableTrees::Remembers))]
@@ -67,27 +63,28 @@ impl Judged {
         Judged::default()
     }
 
-    // The word where a new table starts, among n: behind the directory and its tables. None where the directory is full, or no word is left.
+    // The word where a new table starts, among n: behind the directory and its tables. None where the directory is full, or too few words are left.
     fn start(self, n: usize) -> Option<usize>
         requires { node_words * self.tables ≤ n / directory_share }
-        ensures { IfSome result (λ start. (start < n) × (self.free ≤ start) × (n / directory_share ≤ start) × (node_words * self.tables + node_words ≤ n / directory_share)) }
+        ensures { IfSome result (λ start. (start + head_words ≤ n) × (self.free ≤ start) × (n / directory_share ≤ start) × (node_words * self.tables + node_words ≤ n / directory_share)) }
     {
         let size = n / SHARE;
         let start = self.free.max(size);
-        if NODE * self.tables + NODE <= size && start < n {
+        if NODE * self.tables + NODE <= size && start <= n && HEAD <= n - start {
             Some(start)
         } else {
             None
         }
     }
 
-    // The directory has a table more, whose tree stands behind the word start already. It is the last.
+    // The directory has a table more, whose tree stands behind the two words from start on already. It is the last.
     fn enter(&mut self, codes: &mut [u32], size: usize, start: usize, table: JudgedTable)
         requires { Enterable codes.old size start table self.old }
         ensures { (b : List ℕ) → Enters b codes.old size start table self.old → Knows b codes.new table.place self.new table }
     {
-        codes[start] = table.count as u32;
-        let key = key_of(table.place);
+        let bytes = table.place.end - table.place.at;
+        codes[start..start + HEAD].copy_from_slice(&[table.count as u32, bytes as u32]);
+        let key = table.place.at as u64;
         crate::tree::add_code(&mut codes[..size], self.tables, start, key);
         self.last = Some(table);
         self.tables += 1;
@@ -95,7 +92,7 @@ impl Judged {
     }
 
     // With all the words for this table, which suffice: the others are forgotten.
-    #[tactic(auto, using(crate::proofs::Recalling::unheld_bad, crate::proofs::Cuts::between_length))]
+    #[tactic(auto, using(crate::proofs::Recalling::unheld_bad, crate::proofs::Recalling::judged_within, crate::proofs::Cuts::between_length))]
     fn judge_alone(
         &mut self,
         b: &[u8],
@@ -106,35 +103,45 @@ impl Judged {
         ensures { Recalls b.now codes.new place self.new result }
     {
         *self = Judged::nothing();
-        let count = crate::abbreviations::judge_table(&b[place.at..place.end], codes)?;
+        let extent = crate::abbreviations::judge_table(&b[place.at..place.end], codes)?;
         let table = JudgedTable {
-            place,
+            place: Span {
+                at: place.at,
+                end: place.at + extent.size,
+            },
             from: 0,
-            count,
+            count: extent.count,
         };
         self.last = Some(table);
         Ok(table)
     }
 
     // A table that was not judged before: its tree stands behind those of the others, or alone where the words that are left do not suffice.
-    #[tactic(auto, using(crate::proofs::Holding::tables_room, crate::proofs::Holding::remembers_tables, crate::proofs::Recalling::judged_bad))]
+    #[tactic(auto, using(crate::proofs::Holding::tables_room, crate::proofs::Holding::remembers_tables, crate::proofs::Recalling::judged_bad, crate::proofs::Recalling::judged_within, crate::proofs::Cuts::between_length))]
     fn judge_new(
         &mut self,
         b: &[u8],
         place: Span,
         codes: &mut [u32],
     ) -> Result<JudgedTable, Refusal>
-        requires { Lies b.now place × Lent b.now codes.old self.old × Fresh (directory b.now codes.old) self.old.tables (key_of place) }
+        requires { Lies b.now place × Lent b.now codes.old self.old × Fresh (directory b.now codes.old) self.old.tables place.at }
         ensures { Recalls b.now codes.new place self.new result }
     {
         let n = b.len();
         let Some(start) = self.start(n) else {
             return self.judge_alone(b, place, codes);
         };
-        let from = start + 1;
+        let from = start + HEAD;
         match crate::abbreviations::judge_table(&b[place.at..place.end], &mut codes[from..n]) {
-            Ok(count) => {
-                let table = JudgedTable { place, from, count };
+            Ok(extent) => {
+                let table = JudgedTable {
+                    place: Span {
+                        at: place.at,
+                        end: place.at + extent.size,
+                    },
+                    from,
+                    count: extent.count,
+                };
                 self.enter(codes, n / SHARE, start, table);
                 Ok(table)
             }
@@ -146,8 +153,34 @@ impl Judged {
         }
     }
 
-    // The table of a place, judged now or before. It is the last one then.
+    // The table that starts at a place of the bundle, if it was judged: the last one, or one of the directory.
     #[tactic(auto, using(crate::proofs::Recalling::sought_cases))]
+    fn known(self, b: &[u8], at: usize, codes: &[u32]) -> Option<JudgedTable>
+        requires { Lent b.now codes.now self }
+        ensures { KnownAt b.now codes.now self at result }
+    {
+        if let Some(last) = self.last {
+            if last.place.at == at {
+                return Some(last);
+            }
+        }
+        let directory = CodeTree {
+            words: &codes[..b.len() / SHARE],
+            count: self.tables,
+        };
+        let start = directory.find(at as u64)?;
+        Some(JudgedTable {
+            place: Span {
+                at,
+                end: at + codes[start + 1] as usize,
+            },
+            from: start + HEAD,
+            count: codes[start] as usize,
+        })
+    }
+
+    // The table at the front of a part, judged now or before. It is the last one then. A table that goes on behind the part's end is no table of the part: the
+    // part is judged for itself, which ends in a refusal.
     pub fn recall(
         &mut self,
         b: &[u8],
@@ -157,23 +190,12 @@ impl Judged {
         requires { Lies b.now place × Lent b.now codes.old self.old }
         ensures { Recalls b.now codes.new place self.new result }
     {
-        if let Some(last) = self.last {
-            if last.place == place {
-                return Ok(last);
-            }
-        }
-        let directory = CodeTree {
-            words: &codes[..b.len() / SHARE],
-            count: self.tables,
-        };
-        let Some(start) = directory.find(key_of(place)) else {
+        let Some(table) = self.known(b, place.at, codes) else {
             return self.judge_new(b, place, codes);
         };
-        let table = JudgedTable {
-            place,
-            from: start + 1,
-            count: codes[start] as usize,
-        };
+        if place.end < table.place.end {
+            return self.judge_alone(b, place, codes);
+        }
         self.last = Some(table);
         Ok(table)
     }

@@ -235,8 +235,8 @@ fn root_in(table: &[u8], codes: CodeTree<'_>, s: &[u8]) -> Result<Root, Refusal>
     }
 }
 
-// The table is what stands in abbrev from the header's offset on, at a place of the bundle. s is the unit behind its header.
-#[tactic(auto, using(crate::proofs::Rooted::root_table, crate::proofs::Recalling::known_held, crate::proofs::Recalling::known_rising))]
+// The table stands at the front of a place of the bundle, which is abbrev from the header's offset on. s is the unit behind its header.
+#[tactic(auto, using(crate::proofs::Rooted::root_table, crate::proofs::Recalling::known_cases))]
 pub fn root_identity(
     e: ObjectEncoding,
     b: &[u8],
@@ -255,10 +255,11 @@ pub fn root_identity(
         words: &codes[table.from..to],
         count: table.count,
     };
-    let root = root_in(&b[place.at..place.end], declarations, s)?;
+    let own = table.place;
+    let root = root_in(&b[own.at..own.end], declarations, s)?;
     let attributes = Span {
-        at: place.at + root.attributes,
-        end: place.end,
+        at: own.at + root.attributes,
+        end: own.end,
     };
     identity_in(e, b, attributes, &s[root.values..], codes, judged)
 }
