@@ -8,7 +8,7 @@ use lib.ListN.{length, take, get_or, length-map, length-take}
 use Rattle.octets.specs.Octets.{part}
 use Rattle.octets.proofs.Parts.{length_part, get_d_part}
 use Rattle.unit.specs.Trees.{code_at, carried_at, Rising, Linked, Tree}
-use Rattle.unit.specs.TableTrees.{codes_of, no_declaration, Declares, TableHeld, span_bytes, Held, directory_size, directory, table_from, Stored, Tables, Lies, Remembers}
+use Rattle.unit.specs.TableTrees.{codes_of, no_declaration, Declares, TableHeld, span_bytes, Held, directory_size, directory, table_from, Stored, Noted, Tables, Lies, Remembers}
 use Rattle.unit.specs.declared.judged.Span.{Span}
 use Rattle.unit.specs.declared.judged.JudgedTable.{JudgedTable}
 use Rattle.unit.specs.declared.judged.Judged.{Judged}
@@ -76,7 +76,7 @@ pub held_alone : (b w : List ℕ) (p : Span) (n : ℕ) → Lies b p → TableHel
 held_alone b w p n o t = held_in b w w p 0 n o t (omega arith) (λ q g. let e : 0 + q ≡ q = omega arith in ap (λ (m : ℕ). get_or w m 0) e)
 
 -- as the directory has it
-pub stored_kept : (b w v : List ℕ) (free more start at : ℕ) → length v ≡ length w → free ≤ more → ((i : ℕ) → directory_size b ≤ i → i < free → get_or v i 0 ≡ get_or w i 0)
+stored_kept : (b w v : List ℕ) (free more start at : ℕ) → length v ≡ length w → free ≤ more → ((i : ℕ) → directory_size b ≤ i → i < free → get_or v i 0 ≡ get_or w i 0)
     → Stored b w free start at → Stored b v more start at
 unfolding table_from
 stored_kept b w v free more start at l m same s =
@@ -90,9 +90,13 @@ stored_kept b w v free more start at l m same s =
           (held_kept b w v (table_from w start at) l (λ i g h. same i (omega (arith, s.behind)) (omega (arith, s.before))) s.held);
     }
 
+pub noted_kept : (b w v : List ℕ) (free more carried key : ℕ) → length v ≡ length w → free ≤ more → ((i : ℕ) → directory_size b ≤ i → i < free → get_or v i 0 ≡ get_or w i 0)
+    → Noted b w free carried key → Noted b v more carried key
+noted_kept b w v free more carried key l m same n = record { table = λ h. stored_kept b w v free more carried key l m same (n.table h); run = n.run }
+
 -- ---- the directory
 pub tables_none : (b w : List ℕ) (free : ℕ) → Tables b w 0 free
-tables_none b w free = record { keys = []; counted = refl; tree = tree_none (directory b w); stored = λ k l. absurd (omega arith) }
+tables_none b w free = record { keys = []; counted = refl; tree = tree_none (directory b w); noted = λ k l. absurd (omega arith) }
 
 pub tables_rising : (b w : List ℕ) (n free : ℕ) → Tables b w n free → Rising (directory b w) n
 tables_rising b w n free t = rw (← t.counted) t.tree.rising
@@ -103,7 +107,7 @@ tables_kept b w v n free start l f d same t = record {
   keys = t.keys;
   counted = t.counted;
   tree = rw d t.tree;
-  stored = λ k g. rw d (stored_kept b w v free free _ _ l (omega arith) (λ i h m. same i (omega arith)) (t.stored k g));
+  noted = λ k g. rw d (noted_kept b w v free free _ _ l (omega arith) (λ i h m. same i (omega arith)) (t.noted k g));
 }
 
 pub tables_room : (b w : List ℕ) (n free : ℕ) → Tables b w n free → 5 * n ≤ directory_size b

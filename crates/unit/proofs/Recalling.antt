@@ -10,7 +10,7 @@ use lib.Seq.{drop-drop, take-take, take-add}
 use Rattle.octets.proofs.Parts.{part_cut}
 use Rattle.unit.specs.Tables.{table_good}
 use Rattle.unit.specs.Trees.{Rising, Sought, Seeks, Fresh}
-use Rattle.unit.specs.TableTrees.{TableHeld, Judges, span_bytes, Held, directory, between, table_from, Stored, Tables, Remembers, Knows, KnownAt, Lies, Lent}
+use Rattle.unit.specs.TableTrees.{TableHeld, Judges, span_bytes, Held, directory, between, table_from, Stored, Noted, Tables, Remembers, Knows, KnownAt, Lies, Lent}
 use Rattle.unit.specs.declared.judged.Span.{Span}
 use Rattle.unit.specs.declared.judged.JudgedTable.{JudgedTable}
 use Rattle.unit.specs.declared.judged.Judged.{Judged}
@@ -42,20 +42,20 @@ pub last_held : (b w : List ℕ) (j : Judged) (t : JudgedTable) → j.last ≡ S
 unfolding Remembers
 last_held b w j t e m = let h : IfSome (Some t) (Held b w) = rw e at m.0 in h
 
--- the table that a search finds
-found_stored : (b w : List ℕ) (n free at start : ℕ) → Sought (directory b w) n at start → Tables b w n free → Stored b w free start at
-found_stored b w n free at start f t =
-    let c : get_or t.keys f.node 0 ≡ at = sym (t.tree.codes f.node (omega (arith, f.inside, t.counted))) ∙ f.is in
-    subst (λ (x : ℕ). Stored b w free start x) c (subst (λ (x : ℕ). Stored b w free x (get_or t.keys f.node 0)) f.carries (t.stored f.node f.inside))
+-- what a search finds
+pub found_noted : (b w : List ℕ) (n free key carried : ℕ) → Sought (directory b w) n key carried → Tables b w n free → Noted b w free carried key
+found_noted b w n free key carried f t =
+    let c : get_or t.keys f.node 0 ≡ key = sym (t.tree.codes f.node (omega (arith, f.inside, t.counted))) ∙ f.is in
+    subst (λ (x : ℕ). Noted b w free carried x) c (subst (λ (x : ℕ). Noted b w free x (get_or t.keys f.node 0)) f.carries (t.noted f.node f.inside))
 
 -- a search for a place, as the code asks for it
-module _ (b w : List ℕ) (j : Judged) (m : Lent b w j) (at : ℕ) (o : Option ℕ) (q : Seeks (directory b w) j.tables at o) where
+module _ (b w : List ℕ) (j : Judged) (m : Lent b w j) (at : ℕ) (l : at ≤ length b) (o : Option ℕ) (q : Seeks (directory b w) j.tables at o) where
   pub sought_none : o ≡ None → Fresh (directory b w) j.tables at
   sought_none i = rw i at q
 
   module _ (start : ℕ) (i : o ≡ Some start) where
     stored : Stored b w j.free start at
-    stored = found_stored b w j.tables j.free at start (rw i at q) (remembers_tables b w j m.memory)
+    stored = (found_noted b w j.tables j.free at start (rw i at q) (remembers_tables b w j m.memory)).table (omega (arith, m.small))
 
     pub sought_held : Held b w (record { place = record { at = at; end = at + get_or w (start + 1) 0 }; from = start + 2; count = get_or w start 0 })
     unfolding table_from

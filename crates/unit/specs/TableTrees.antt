@@ -1,12 +1,13 @@
 -- A table that was judged: its declarations in a tree of their codes, whose nodes carry where in the table they stand. What was judged is remembered.
 -- These relations say what the code keeps: no definition of reading units rests on them.
 -- Assumes nothing.
-use Rattle.std.specs.Prelude.{Option, Some, None, Result, Ok, Err, IfSome, ◌≡◌, true, false, List, [], map, ℕ, ◌+◌, ◌-◌, ◌*◌, ◌/◌, ◌^◌, ◌<◌, ◌≤◌, length, take, drop, get_or}
+use Rattle.std.specs.Prelude.{Option, Some, None, Result, Ok, Err, IfSome, ◌≡◌, Bool, true, false, List, [], map, ℕ, ◌+◌, ◌-◌, ◌*◌, ◌/◌, ◌^◌, ◌<◌, ◌≤◌, length, take, drop, get_or}
 use Rattle.std.proofs.Math.Option.{some}
 use Rattle.octets.specs.Octets.{part}
 use Rattle.octets.specs.Checked.{pass}
 use Rattle.unit.specs.Abbreviations.{Declaration, attributes_of, declarations_of}
 use Rattle.unit.specs.Tables.{Coded, declared_at, table_good}
+use Rattle.unit.specs.Runs.{Quiet}
 use Rattle.unit.specs.Trees.{node_words, carried_at, Rising, Tree, Fresh}
 use Rattle.unit.specs.declared.judged.Span.{Span}
 use Rattle.unit.specs.declared.judged.JudgedTable.{JudgedTable}
@@ -93,12 +94,21 @@ pub record Stored (b w : List ℕ) (free start at : ℕ) : Type 0 where
   pub before : start + head_words + node_words * get_or w start 0 ≤ free
   pub held : Held b w (table_from w start at)
 
--- n tables that the directory has, all before the free words
+-- the key of a run: where it starts, and whether the identity is stated before it
+unfoldable pub run_key : ℕ → Bool → ℕ
+run_key at known = at + 2 ^ 32 * elim known [ true ↦ 2 | false ↦ 1 ]
+
+-- what an entry of the directory says, which carries a number under a key: where the table stands that starts there, or how many bytes a run takes
+pub record Noted (b w : List ℕ) (free carried key : ℕ) : Type 0 where
+  pub table : key < 2 ^ 32 → Stored b w free carried key
+  pub run : (at : ℕ) (known : Bool) → at < 2 ^ 32 → key ≡ run_key at known → Quiet known (take carried (drop at b))
+
+-- n entries of the directory, the tables among them all before the free words
 pub record Tables (b w : List ℕ) (n free : ℕ) : Type 0 where
   pub keys : List ℕ
   pub counted : length keys ≡ n
   pub tree : Tree (directory b w) keys
-  pub stored : (k : ℕ) → k < n → Stored b w free (carried_at (directory b w) k) (get_or keys k 0)
+  pub noted : (k : ℕ) → k < n → Noted b w free (carried_at (directory b w) k) (get_or keys k 0)
 
 -- the last table, if there is one, is held by the words; and the tables of the directory
 unfoldable pub Remembers : List ℕ → List ℕ → Judged → Type 0
@@ -118,6 +128,17 @@ Enterable w size start t j =
     (t.place.at ≤ t.place.end) × (t.place.end < 2 ^ 32) × (t.count < 2 ^ 32) × (start < 2 ^ 32)
     × (t.from ≡ start + head_words) × (size ≤ start) × (t.from + node_words * t.count ≤ length w)
     × (node_words * j.tables + node_words ≤ size) × Rising (take size w) j.tables
+
+-- a run that the directory does not have yet takes so many bytes
+pub record Notes (b w : List ℕ) (size run key : ℕ) (j : Judged) : Type 0 where
+  pub size_is : size ≡ directory_size b
+  pub fresh : Fresh (directory b w) j.tables key
+  pub memory : Remembers b w j
+  pub noted : Noted b w j.free run key
+
+-- its number fits into a word, and the words have the directory
+abbrev pub Notable : List ℕ → ℕ → ℕ → Judged → Type 0
+Notable w size run j = (run < 2 ^ 32) × (size < 2 ^ 32) × (size ≤ length w) × Rising (take size w) j.tables
 
 -- t is the table at the front of a part, and the last one of the memory
 pub record Knows (b w : List ℕ) (p : Span) (j : Judged) (t : JudgedTable) : Type 0 where

@@ -156,7 +156,7 @@ impl Judged {
     // The table that starts at a place of the bundle, if it was judged: the last one, or one of the directory.
     #[tactic(auto, using(crate::proofs::Recalling::sought_cases))]
     fn known(self, b: &[u8], at: usize, codes: &[u32]) -> Option<JudgedTable>
-        requires { Lent b.now codes.now self }
+        requires { (at ≤ length b.now) × Lent b.now codes.now self }
         ensures { KnownAt b.now codes.now self at result }
     {
         if let Some(last) = self.last {

@@ -19,4 +19,4 @@ returns c =
     let a = c.args in
     let e = c.copy_from_slice.ensures.after in
     let u = placed_whole a.codes.now a.start _ _ (ap length e ∙ omega arith) ∙ ap (placed a.codes.now a.start) e in
-    λ b g. entered b _ _ _ _ _ _ _ g c.requires.4 u (within (goal.at.returns c).Start) c.requires.5 c.add_code.auto.codes _ _ refl c.add_code.ensures
+    λ b g. entered b _ _ _ _ _ _ _ g c.requires.4 u (within (goal.at.returns c).Start) c.requires.5 c.add_code.auto.codes (omega (arith, c.requires.0, c.requires.1)) _ _ refl c.add_code.ensures
