@@ -53,10 +53,10 @@ module _ (b w y : List ℕ) (n free size : ℕ) (e : size ≡ directory_size b) 
   grown_front : directory b grown ≡ y
   grown_front = ap (λ (m : ℕ). take m grown) (sym e) ∙ take_at y (drop size w) size y_length
 
-  grown_length : length grown ≡ length w
+  pub grown_length : length grown ≡ length w
   grown_length = omega (arith, length-append y (drop size w), length-drop size w, y_length)
 
-  grown_behind : (i : ℕ) → size ≤ i → get_or grown i 0 ≡ get_or w i 0
+  pub grown_behind : (i : ℕ) → size ≤ i → get_or grown i 0 ≡ get_or w i 0
   grown_behind i g =
       let k : length y + (i - size) ≡ i = omega (arith, y_length) in
       let m : size + (i - size) ≡ i = omega arith in
@@ -91,7 +91,7 @@ module _ (b w y : List ℕ) (n free size : ℕ) (e : size ≡ directory_size b) 
           let c : carried_at (directory b grown) k ≡ carried = ap₂ carried_at grown_front i ∙ grows.carries in
           rw (c, i, get_or-append_seam keys key [] 0) new
 
-      tables_more : Tables b grown (n + 1) more
+      pub tables_more : Tables b grown (n + 1) more
       tables_more = record {
         keys = keys ++ (key ∷ []);
         counted = length-append keys (key ∷ []) ∙ ap (λ (m : ℕ). m + 1) t.counted;

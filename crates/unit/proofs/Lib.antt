@@ -25,6 +25,7 @@ pub mod AttributeWalk
 pub mod Holding
 pub mod Entering
 pub mod Recalling
+pub mod Noting
 pub mod HeaderAlone
 pub mod Examples
 pub mod Plain

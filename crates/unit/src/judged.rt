@@ -3,7 +3,7 @@
 // one word for each byte of the bundle. The first fifth is a directory, a tree by where tables start: a table and a unit that names it take more than 25 bytes,
 // and a node five words. Behind it each table has two words, the number of its declarations and that of its bytes, and then their tree. Where the words do not
 // suffice, all tables but the last are forgotten.
-ghost use Rattle.std.specs.Prelude.{◌≡◌, List, ℕ, ◌+◌, ◌*◌, ◌/◌, ◌≤◌, ◌<◌, ◌^◌, ◌-◌, length, take, drop, IfSome};
+ghost use Rattle.std.specs.Prelude.{◌≡◌, true, List, ℕ, ◌+◌, ◌*◌, ◌/◌, ◌≤◌, ◌<◌, ◌^◌, ◌-◌, length, take, drop, IfSome};
 ghost use Rattle.unit.specs.Trees.{node_words, Fresh};
 ghost use Rattle.unit.specs.Runs.{Quiet};
 ghost use Rattle.unit.specs.TableTrees.{
@@ -18,6 +18,9 @@ ghost use Rattle.unit.specs.TableTrees.{
   KnownAt,
   Recalls,
   Lent,
+  run_key,
+  Notable,
+  Notes,
 };
 
 use crate::abbreviations::Unheld;
@@ -29,6 +32,14 @@ const SHARE: usize = 5;
 
 // The words in front of a table's tree.
 const HEAD: usize = 2;
+
+// The high words of the keys of runs before which the identity is not stated, and is.
+const UNKNOWN: u32 = 1;
+
+const KNOWN: u32 = 2;
+
+// A run of fewer bytes is walked again faster than it is found.
+const WORTH: usize = 64;
 
 // A part of the bundle. It is another type than strings' `Place`, which has start and size: unit stands beside strings and below what uses both, and a
 // table is read to an end.
@@ -52,6 +63,19 @@ pub struct Judged {
     pub last: Option<JudgedTable>,
     pub tables: usize,
     pub free: usize,
+}
+
+// A run's key in the directory. A table's is where it starts, which is below 2 ^ 32.
+#[tactic(auto, unfolding(crate::specs::TableTrees::run_key))]
+fn run_key(at: usize, known: bool) -> u64
+    requires { at < 2 ^ 32 }
+    ensures { result ≡ run_key at known }
+{
+    if known {
+        octets::number_of(at as u32, KNOWN)
+    } else {
+        octets::number_of(at as u32, UNKNOWN)
+    }
 }
 
 impl Judged {
@@ -200,12 +224,54 @@ impl Judged {
         Ok(table)
     }
 
-    // How many bytes at the front of a place are a run of flags that are present, where the identity is stated already or not.
+    // Whether the directory, of so many words, has room for one entry more. Its words are the last table's where that was judged alone.
+    fn has_room(self, size: usize) -> bool
+        requires { node_words * self.tables ≤ size }
+        ensures { result ≡ true → (node_words * self.tables + node_words ≤ size) × IfSome self.last (λ t. size ≤ t.from) }
+    {
+        if size - NODE * self.tables < NODE {
+            return false;
+        }
+        match self.last {
+            Some(table) => size <= table.from,
+            None => true,
+        }
+    }
+
+    // The directory has a run more, where there is room and the run is long enough to be worth it: so there are no more of them than bytes for their nodes.
+    fn note(&mut self, codes: &mut [u32], size: usize, run: usize, key: u64)
+        requires { Notable codes.old size run self.old }
+        ensures { (b : List ℕ) → Notes b codes.old size run key self.old → Remembers b codes.new self.new }
+    {
+        if run < WORTH || !self.has_room(size) {
+            return;
+        }
+        crate::tree::add_code(&mut codes[..size], self.tables, run, key);
+        self.tables += 1;
+    }
+
+    // How many bytes at the front of a place are a run of flags that are present, where the identity is stated already or not: as it was noted, or walked now.
+    // A run that goes on behind the place's end is walked by the caller.
+    #[tactic(auto, using(crate::proofs::Noting::run_notable, crate::proofs::Flags::quiet_none, crate::proofs::Holding::tables_rising, crate::proofs::Holding::remembers_tables))]
     pub fn pass_run(&mut self, b: &[u8], place: Span, known: bool, codes: &mut [u32]) -> usize
         requires { Lies b.now place × Lent b.now codes.old self.old }
         ensures run { (result ≤ place.end - place.at) × Quiet known (take result (drop place.at b.now)) }
         ensures memory { Lent b.now codes.new self.new }
     {
-        crate::runs::run_size(&b[place.at..place.end], known)
+        let key = run_key(place.at, known);
+        let size = b.len() / SHARE;
+        let directory = CodeTree {
+            words: &codes[..size],
+            count: self.tables,
+        };
+        match directory.find(key) {
+            Some(run) if run <= place.end - place.at => run,
+            Some(_) => 0,
+            None => {
+                let run = crate::runs::run_size(&b[place.at..place.end], known);
+                self.note(codes, size, run, key);
+                run
+            }
+        }
     }
 }
