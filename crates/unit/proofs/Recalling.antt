@@ -2,15 +2,16 @@
 -- Assumes nothing.
 use mathlib.Core.Path.{◌≡◌, refl, sym, subst, ap, ap₂, ◌∙◌}
 use mathlib.Core.Bool.{true, false}
-use mathlib.Core.List.{List, ◌++◌}
+use mathlib.Core.List.{List, [], ◌∷◌, ◌++◌}
 use Prim.Native.Nat.{ℕ, ◌+◌, ◌-◌, ◌*◌, ◌^◌, ◌<◌, ◌≤◌}
 use native.Mathlib.Omega.{arith}
 use lib.ListN.{length, take, drop, get_or}
 use lib.Seq.{drop-drop, take-take, take-add}
+use Rattle.octets.specs.Lists.{has, any}
 use Rattle.octets.proofs.Parts.{part_cut}
 use Rattle.unit.specs.Tables.{table_good}
 use Rattle.unit.specs.Trees.{Rising, Sought, Seeks, Fresh}
-use Rattle.unit.specs.TableTrees.{TableHeld, Judges, span_bytes, Held, directory, between, table_from, Stored, Noted, Tables, Remembers, Knows, KnownAt, Lies, Lent}
+use Rattle.unit.specs.TableTrees.{TableHeld, Judges, span_bytes, Held, directory, between, table_from, Stored, Noted, Tables, Remembers, Knows, KnownAt, Joins, Lies, Lent}
 use Rattle.unit.specs.declared.judged.Span.{Span}
 use Rattle.unit.specs.declared.judged.JudgedTable.{JudgedTable}
 use Rattle.unit.specs.declared.judged.Judged.{Judged}
@@ -88,9 +89,9 @@ module _ (s w : List ℕ) (r : Result Extent Unheld) (j : Judges s w r) where
   unfolding Judges
   judged_held x e = let g : (table_good s ≡ true) × (x.size ≤ length s) × TableHeld (take x.size s) w x.count = rw e at j in g.2
 
-  pub judged_bad : r ≡ Err Bad → table_good s ≡ false
+  pub judged_bad : (u : Unheld) → r ≡ Err u → u ≡ Bad → table_good s ≡ false
   unfolding Judges
-  judged_bad e = rw e at j
+  judged_bad u e i = rw (e, i) at j
 
 -- a table that is not held is bad, where the words suffice
 pub unheld_bad : (s w : List ℕ) (u : Unheld) → length s ≤ length w → Judges s w (Err u) → table_good s ≡ false
@@ -118,6 +119,20 @@ judged_own b w p r x o g i =
           (take-take x.size (p.end - p.at) (drop p.at b) l ∙ ap (λ (n : ℕ). take n (drop p.at b)) e)
           (judged_held _ w r g x i);
     }
+
+-- ---- a table that is not held
+pub joined_not : (b w : List ℕ) (p : Span) (j : Judged) (r : Result JudgedTable Unheld) (u : Unheld) → Joins b w p j r → r ≡ Err u
+    → (j.tables ≡ 0) × Remembers b w j × (u ≡ Bad → table_good (span_bytes b p) ≡ false)
+joined_not b w p j r u k e = let h : Joins b w p j (Err u) = rw e at k in h
+
+pub full_bad : Full ≡ Bad → ⊥
+full_bad e = cc
+
+-- a directory of no tables
+pub fresh_none : (w : List ℕ) (n at : ℕ) → n ≡ 0 → Fresh w n at
+unfolding Fresh has any
+fresh_none w n at e [] l t = refl
+fresh_none w n at e (c ∷ cs) l t = absurd (omega arith)
 
 -- with all the words, where the others are forgotten
 pub recalled_alone : (b w : List ℕ) (p : Span) (j : Judged) (r : Result Extent Unheld) (x : Extent) → Lies b p → Remembers b w j → Judges (span_bytes b p) w r → r ≡ Ok x

@@ -153,6 +153,11 @@ abbrev pub KnownAt : List ℕ → List ℕ → Judged → ℕ → Option JudgedT
 KnownAt b w j at (Some t) = (t.place.at ≡ at) × Held b w t
 KnownAt b w j at None = Fresh (directory b w) j.tables at
 
+-- or it is not held, and nothing is remembered
+abbrev pub Joins : List ℕ → List ℕ → Span → Judged → Result JudgedTable Unheld → Type 0
+Joins b w p j (Ok t) = Knows b w p j t
+Joins b w p j (Err u) = (j.tables ≡ 0) × Remembers b w j × (u ≡ Bad → table_good (span_bytes b p) ≡ false)
+
 -- or it is bad, and what is remembered is remembered rightly
 abbrev pub Recalls : List ℕ → List ℕ → Span → Judged → Result JudgedTable Refusal → Type 0
 Recalls b w p j (Ok t) = Knows b w p j t

@@ -1,8 +1,15 @@
 // The abbreviation tables that were judged, by where they start in the bundle: units that share a table are read without judging it again, also where they
-// take turns with others. A table ends with its own zero code, so that parts that start together and end apart have the same one. Lent words hold the tables,
-// one word for each byte of the bundle. The first fifth is a directory, a tree by where tables start: a table and a unit that names it take more than 25 bytes,
-// and a node five words. Behind it each table has two words, the number of its declarations and that of its bytes, and then their tree. Where the words do not
-// suffice, all tables but the last are forgotten.
+// take turns with others. A table ends with its own zero code, and nothing behind that is read, so that parts that start together and end apart have the same.
+//
+// Lent words hold the tables, one word for each byte of the bundle. The first fifth is a directory, a tree by where tables start. That suffices where tables
+// lie apart: a table that states an identity takes at least nine bytes, a unit that names it at least 20, and a node of the directory five words. Behind it each
+// table has two words and then the tree of its declarations. The words say how many those are, which is where the tree ends, and how many bytes the table takes,
+// so that a part that ends before its table does is told apart without a reading.
+//
+// The directory is full only where tables lie in each other, and the words behind it only where tables take most of the bundle or lie in each other. All is
+// forgotten then, and the table is judged once more, as the first of a memory started anew. Were the last table kept alone, those that take turns would be judged
+// at each unit; so each is judged once more for each time that the memory fills, and the directory has room for a table for each 25 bytes of the bundle. A table
+// that an empty memory has no room for is judged with all the words for itself.
 ghost use Rattle.std.specs.Prelude.{◌≡◌, true, List, ℕ, ◌+◌, ◌*◌, ◌/◌, ◌≤◌, ◌<◌, ◌^◌, ◌-◌, length, take, drop, IfSome};
 ghost use Rattle.unit.specs.Trees.{node_words, Fresh};
 ghost use Rattle.unit.specs.Runs.{Quiet};
@@ -16,6 +23,7 @@ ghost use Rattle.unit.specs.TableTrees.{
   Remembers,
   Knows,
   KnownAt,
+  Joins,
   Recalls,
   Lent,
   run_key,
@@ -82,7 +90,8 @@ impl Judged {
     // Before any table.
     #[tactic(auto, using(crate::proofs::Holding::tables_none), unfolding(crate::specs::TableTrees::Remembers))]
     pub fn nothing() -> Judged
-        ensures { (b w : List ℕ) → Remembers b w result }
+        ensures empty { result.tables ≡ 0 }
+        ensures memory { (b w : List ℕ) → Remembers b w result }
     {
         Judged::default()
     }
@@ -140,20 +149,22 @@ impl Judged {
         Ok(table)
     }
 
-    // A table that was not judged before: its tree stands behind those of the others, or alone where the words that are left do not suffice.
-    #[tactic(auto, using(crate::proofs::Holding::tables_room, crate::proofs::Holding::remembers_tables, crate::proofs::Recalling::judged_bad, crate::proofs::Recalling::judged_within, crate::proofs::Cuts::between_length))]
-    fn judge_new(
+    // A table that was not judged before: its tree stands behind those of the others. Where it is not held, since it is bad, the directory is full or the words
+    // that are left do not suffice, all is forgotten: some of those words are written over.
+    #[tactic(auto, using(crate::proofs::Holding::tables_room, crate::proofs::Holding::remembers_tables, crate::proofs::Recalling::judged_within, crate::proofs::Cuts::between_length))]
+    fn judge_behind(
         &mut self,
         b: &[u8],
         place: Span,
         codes: &mut [u32],
-    ) -> Result<JudgedTable, Refusal>
+    ) -> Result<JudgedTable, Unheld>
         requires { Lies b.now place × Lent b.now codes.old self.old × Fresh (directory b.now codes.old) self.old.tables place.at }
-        ensures { Recalls b.now codes.new place self.new result }
+        ensures { Joins b.now codes.new place self.new result }
     {
         let n = b.len();
         let Some(start) = self.start(n) else {
-            return self.judge_alone(b, place, codes);
+            *self = Judged::nothing();
+            return Err(Unheld::Full);
         };
         let from = start + HEAD;
         match crate::abbreviations::judge_table(&b[place.at..place.end], &mut codes[from..n]) {
@@ -169,10 +180,42 @@ impl Judged {
                 self.enter(codes, n / SHARE, start, table);
                 Ok(table)
             }
-            Err(Unheld::Bad) => {
+            Err(unheld) => {
                 *self = Judged::nothing();
-                Err(Refusal::NoIdentity)
+                Err(unheld)
             }
+        }
+    }
+
+    // The same, and once more in the memory started anew where it was full.
+    fn judge_again(
+        &mut self,
+        b: &[u8],
+        place: Span,
+        codes: &mut [u32],
+    ) -> Result<JudgedTable, Unheld>
+        requires { Lies b.now place × Lent b.now codes.old self.old × Fresh (directory b.now codes.old) self.old.tables place.at }
+        ensures { Joins b.now codes.new place self.new result }
+    {
+        match self.judge_behind(b, place, codes) {
+            Err(Unheld::Full) => self.judge_behind(b, place, codes),
+            answer => answer,
+        }
+    }
+
+    // The same, and with all the words for itself where these do not suffice either: the table takes most of the bundle, or the bundle is of few bytes.
+    fn judge_new(
+        &mut self,
+        b: &[u8],
+        place: Span,
+        codes: &mut [u32],
+    ) -> Result<JudgedTable, Refusal>
+        requires { Lies b.now place × Lent b.now codes.old self.old × Fresh (directory b.now codes.old) self.old.tables place.at }
+        ensures { Recalls b.now codes.new place self.new result }
+    {
+        match self.judge_again(b, place, codes) {
+            Ok(table) => Ok(table),
+            Err(Unheld::Bad) => Err(Refusal::NoIdentity),
             Err(Unheld::Full) => self.judge_alone(b, place, codes),
         }
     }
