@@ -2,20 +2,22 @@
 -- Assumes nothing.
 use mathlib.Core.Path.{◌≡◌, refl, sym, subst}
 use mathlib.Core.Bool.{Bool, true, false}
-use mathlib.Core.List.{List, ◌++◌}
+use mathlib.Core.List.{List, [], ◌∷◌, ◌++◌}
+use mathlib.Core.Logic.{◌⊎◌, ⊎_elim}
+use Rattle.octets.specs.Lists.{has, any}
 use Prim.Native.Nat.{ℕ, ◌+◌, ◌-◌, ◌/◌, ◌^◌, ◌<◌, ◌≤◌}
 use native.Mathlib.Omega.{arith}
 use lib.ListN.{length, take, drop}
 use lib.Seq.{take-take}
 use Rattle.std.specs.Prelude.{IfSome, Option, Some, None}
 use Rattle.unit.specs.Runs.{Quiet}
-use Rattle.unit.specs.Trees.{Tree, Seeks, Added}
+use Rattle.unit.specs.Trees.{Rising, Tree, Seeks, Fresh, Added}
 use Rattle.unit.proofs.Cuts.{between_length}
 use Rattle.unit.specs.TableTrees.{span_bytes, Held, directory, Tables, Remembers, run_key, Noted, Notes, Notable, Lies, Lent}
 use Rattle.unit.specs.declared.judged.Span.{Span}
 use Rattle.unit.specs.declared.judged.JudgedTable.{JudgedTable}
 use Rattle.unit.specs.declared.judged.Judged.{Judged}
-use Rattle.unit.proofs.Holding.{held_kept, noted_kept, tables_rising, remembers_tables}
+use Rattle.unit.proofs.Holding.{held_kept, noted_kept, tables_none, tables_rising, remembers_tables}
 use Rattle.unit.proofs.Entering.{grown_length, grown_behind, tables_more}
 use Rattle.unit.proofs.Recalling.{found_noted}
 
@@ -38,26 +40,47 @@ run_noted b w free run at known h q = record {
   run = λ a k l e. same_run (λ (x : ℕ) (y : Bool). Quiet y (take run (drop x b))) at a known k h l e q;
 }
 
+-- ---- entries that are kept, or all forgotten
+module _ (n count : ℕ) (k : (count ≡ 0) ⊎ (count ≡ n)) where
+  pub kept_rising : (w : List ℕ) → Rising w n → Rising w count
+  kept_rising w r = ⊎_elim
+      (λ z. record { room = omega (arith, z); later = λ i b l. absurd (omega (arith, l, z)); among = λ i b l. absurd (omega (arith, l, z)) })
+      (λ e. rw e r) k
+
+  kept_tables : (b w : List ℕ) (free : ℕ) → Tables b w n free → Tables b w count free
+  kept_tables b w free t = ⊎_elim (λ z. rw z (tables_none b w free)) (λ e. rw e t) k
+
+  kept_fresh : (w : List ℕ) (key : ℕ) → Fresh w n key → Fresh w count key
+  unfolding Fresh has any
+  kept_fresh w key f = ⊎_elim (λ z. rw z none) (λ e. rw e f) k
+    where
+      none : (cs : List ℕ) → length cs ≡ 0 → Tree w cs → has cs key ≡ false
+      none [] l t = refl
+      none (c ∷ cs) l t = absurd (omega (arith, l))
+
 -- ---- one run more
-module _ (b w y : List ℕ) (size run key : ℕ) (j : Judged) (n : Notes b w size run key j) (h : size ≤ length w) (ly : length y ≡ length (take size w)) where
-  abbrev t : Tables b w j.tables j.free
-  t = remembers_tables b w j n.memory
+module _ (b w y : List ℕ) (size run key : ℕ) (j : Judged) (n : Notes b w size run key j) (count : ℕ) (k : (count ≡ 0) ⊎ (count ≡ j.tables)) (h : size ≤ length w)
+    (ly : length y ≡ length (take size w)) where
+  abbrev t : Tables b w count j.free
+  t = kept_tables j.tables count k b w j.free (remembers_tables b w j n.memory)
 
   abbrev v : List ℕ
   v = y ++ drop size w
 
   last_kept : (o : Option JudgedTable) → IfSome o (Held b w) → IfSome o (λ t. size ≤ t.from) → IfSome o (Held b v)
-  last_kept (Some x) g l = held_kept b w v x (grown_length b w y j.tables j.free size n.size_is t h ly) (λ i m q. grown_behind b w y j.tables j.free size n.size_is t h ly i (omega (arith, m, l))) g
+  last_kept (Some x) g l = held_kept b w v x (grown_length b w y count j.free size n.size_is t h ly) (λ i m q. grown_behind b w y count j.free size n.size_is t h ly i (omega (arith, m, l))) g
   last_kept None g l = g
 
-  pub run_more : (added : Bool) → ((cs : List ℕ) → length cs ≡ j.tables → Tree (take size w) cs → Added (take size w) y cs run key added) → IfSome j.last (λ t. size ≤ t.from)
-      → Remembers b v (record { last = j.last; tables = j.tables + 1; free = j.free })
+  pub run_more : (added : Bool) → ((cs : List ℕ) → length cs ≡ count → Tree (take size w) cs → Added (take size w) y cs run key added) → IfSome j.last (λ t. size ≤ t.from)
+      → Remembers b v (record { last = j.last; tables = count + 1; free = j.free })
   unfolding Remembers
-  run_more added a l = (
-    last_kept j.last n.memory.0 l,
-    tables_more b w y j.tables j.free size n.size_is t h ly key run n.fresh added a j.free (omega arith)
-        (noted_kept b w v j.free j.free run key (grown_length b w y j.tables j.free size n.size_is t h ly) (omega arith) (λ i m q. grown_behind b w y j.tables j.free size n.size_is t h ly i (omega (arith, m, n.size_is))) n.noted),
-  )
+  run_more added a l =
+      (
+        last_kept j.last n.memory.0 l,
+        tables_more b w y count j.free size n.size_is t h ly key run (kept_fresh j.tables count k (directory b w) key n.fresh) added a j.free (omega arith)
+            (noted_kept b w v j.free j.free run key (grown_length b w y count j.free size n.size_is t h ly) (omega arith)
+            (λ i m q. grown_behind b w y count j.free size n.size_is t h ly i (omega (arith, m, n.size_is))) (n.noted j.free)),
+      )
 
 -- ---- a search for a run, as the code asks for it
 module _ (b w : List ℕ) (j : Judged) (m : Lent b w j) (p : Span) (l : Lies b p) (known : Bool) (key : ℕ) (e : key ≡ run_key p.at known) (o : Option ℕ) (q : Seeks (directory b w) j.tables key o) where
@@ -75,8 +98,8 @@ module _ (b w : List ℕ) (j : Judged) (m : Lent b w j) (p : Span) (l : Lies b p
         size_is = refl;
         fresh = rw i at q;
         memory = m.memory;
-        noted = subst (Noted b w j.free run) (sym e) (run_noted b w j.free run p.at known small (rw (take-take run (p.end - p.at) (drop p.at b) h) at z.1));
+        noted = λ free. subst (Noted b w free run) (sym e) (run_noted b w free run p.at known small (rw (take-take run (p.end - p.at) (drop p.at b) h) at z.1));
       }
 
   pub run_notable : (run : ℕ) → run ≤ p.end - p.at → Notable w (length b / 5) run j
-  run_notable run h = (omega (arith, h, l, m.small), omega (arith, m.small), omega (arith, m.room), tables_rising b w j.tables j.free (remembers_tables b w j m.memory))
+  run_notable run h = (omega (arith, h, l, m.small), omega (arith, m.small), omega (arith, m.room), omega (arith, h, l), tables_rising b w j.tables j.free (remembers_tables b w j m.memory))

@@ -134,11 +134,11 @@ pub record Notes (b w : List ℕ) (size run key : ℕ) (j : Judged) : Type 0 whe
   pub size_is : size ≡ directory_size b
   pub fresh : Fresh (directory b w) j.tables key
   pub memory : Remembers b w j
-  pub noted : Noted b w j.free run key
+  pub noted : (free : ℕ) → Noted b w free run key
 
--- its number fits into a word, and the words have the directory
+-- its number fits into a word, the words have the directory, and the bundle has the run
 abbrev pub Notable : List ℕ → ℕ → ℕ → Judged → Type 0
-Notable w size run j = (run < 2 ^ 32) × (size < 2 ^ 32) × (size ≤ length w) × Rising (take size w) j.tables
+Notable w size run j = (run < 2 ^ 32) × (size < 2 ^ 32) × (size ≤ length w) × (run / directory_share ≤ size) × Rising (take size w) j.tables
 
 -- t is the table at the front of a part, and the last one of the memory
 pub record Knows (b w : List ℕ) (p : Span) (j : Judged) (t : JudgedTable) : Type 0 where

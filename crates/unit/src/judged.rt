@@ -10,7 +10,7 @@
 // forgotten then, and the table is judged once more, as the first of a memory started anew. Were the last table kept alone, those that take turns would be judged
 // at each unit; so each is judged once more for each time that the memory fills, and the directory has room for a table for each 25 bytes of the bundle. A table
 // that an empty memory has no room for is judged with all the words for itself.
-ghost use Rattle.std.specs.Prelude.{◌≡◌, true, List, ℕ, ◌+◌, ◌*◌, ◌/◌, ◌≤◌, ◌<◌, ◌^◌, ◌-◌, length, take, drop, IfSome};
+ghost use Rattle.std.specs.Prelude.{◌≡◌, ◌⊎◌, true, List, ℕ, ◌+◌, ◌*◌, ◌/◌, ◌≤◌, ◌<◌, ◌^◌, ◌-◌, length, take, drop, IfSome};
 ghost use Rattle.unit.specs.Trees.{node_words, Fresh};
 ghost use Rattle.unit.specs.Runs.{Quiet};
 ghost use Rattle.unit.specs.TableTrees.{
@@ -267,30 +267,41 @@ impl Judged {
         Ok(table)
     }
 
-    // Whether the directory, of so many words, has room for one entry more. Its words are the last table's where that was judged alone.
-    fn has_room(self, size: usize) -> bool
-        requires { node_words * self.tables ≤ size }
-        ensures { result ≡ true → (node_words * self.tables + node_words ≤ size) × IfSome self.last (λ t. size ≤ t.from) }
+    // Whether the last table's tree leaves the directory alone, which has so many words. It does not where the table was judged with all the words for itself.
+    fn spares(self, size: usize) -> bool
+        ensures { result ≡ true → IfSome self.last (λ t. size ≤ t.from) }
     {
-        if size - NODE * self.tables < NODE {
-            return false;
-        }
         match self.last {
             Some(table) => size <= table.from,
             None => true,
         }
     }
 
-    // The directory has a run more, where there is room and the run is long enough to be worth it: so there are no more of them than bytes for their nodes.
+    // How many entries the directory goes on with, which has so many words: with none where it has no room for one more.
+    fn kept(self, size: usize) -> usize
+        requires { (node_words * self.tables ≤ size) × (node_words ≤ size) }
+        ensures { (node_words * result + node_words ≤ size) × ((result ≡ 0) ⊎ (result ≡ self.tables)) }
+    {
+        if size - NODE * self.tables < NODE {
+            0
+        } else {
+            self.tables
+        }
+    }
+
+    // The directory has a run more, if it is long enough to be worth it. Where the last table was judged alone it has none: that table would be judged anew at
+    // each unit.
+    #[tactic(auto, using(crate::proofs::Noting::kept_rising))]
     fn note(&mut self, codes: &mut [u32], size: usize, run: usize, key: u64)
         requires { Notable codes.old size run self.old }
         ensures { (b : List ℕ) → Notes b codes.old size run key self.old → Remembers b codes.new self.new }
     {
-        if run < WORTH || !self.has_room(size) {
+        if run < WORTH || !self.spares(size) {
             return;
         }
-        crate::tree::add_code(&mut codes[..size], self.tables, run, key);
-        self.tables += 1;
+        let count = self.kept(size);
+        crate::tree::add_code(&mut codes[..size], count, run, key);
+        self.tables = count + 1;
     }
 
     // How many bytes at the front of a place are a run of flags that are present, where the identity is stated already or not: as it was noted, or walked now.
