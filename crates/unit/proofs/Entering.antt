@@ -15,13 +15,13 @@ use Rattle.octets.proofs.Checks.{true_false}
 use Rattle.octets.proofs.Placed.{length_placed, take_placed}
 use Rattle.octets.proofs.Regions.{placed_whole, get_d_placed, get_d_before, get_d_behind}
 use Rattle.unit.specs.Trees.{carried_at, Tree, Fresh, Grown, Added}
-use Rattle.unit.specs.TableTrees.{TableHeld, span_bytes, Held, directory_size, directory, table_from, Stored, run_key, Noted, Tables, Lies, Enters, Enterable, Knows, Lent}
+use Rattle.unit.specs.TableTrees.{TableHeld, span_bytes, Held, directory_size, directory, table_from, Stored, run_key, Noted, Entries, Lies, Enters, Enterable, Knows, Lent}
 use Rattle.unit.specs.declared.judged.Span.{Span}
 use Rattle.unit.specs.declared.judged.JudgedTable.{JudgedTable}
 use Rattle.unit.specs.declared.judged.Judged.{Judged}
 use Rattle.unit.proofs.Recalling.{recalled}
 use Rattle.unit.proofs.Finding.{held_rising}
-use Rattle.unit.proofs.Holding.{held_kept, held_in, noted_kept, tables_rising, tables_kept, remembers_tables}
+use Rattle.unit.proofs.Holding.{held_kept, held_in, noted_kept, entries_rising, entries_kept, remembers_entries}
 
 -- ---- a table that was judged into the words from a place on
 module _ (b w x : List ℕ) (from n : ℕ) (l : length x ≡ n) (h : from + n ≤ length w) where
@@ -38,12 +38,12 @@ module _ (b w x : List ℕ) (from n : ℕ) (l : length x ≡ n) (h : from + n �
   left_front : (m : ℕ) → m ≤ from → take m left ≡ take m w
   left_front m g = rw left_is (take_placed w from x m g (omega arith))
 
-  left_tables : (k free : ℕ) → directory_size b ≤ from → free ≤ from → Tables b w k free → Tables b left k free
-  left_tables k free d f t =
-      rw left_is (tables_kept b w (placed w from x) k free from (length_placed w from x (omega arith)) f (take_placed w from x (directory_size b) d (omega arith)) (λ i g. get_d_before w from x i g (omega arith)) t)
+  left_entries : (k free : ℕ) → directory_size b ≤ from → free ≤ from → Entries b w k free → Entries b left k free
+  left_entries k free d f t =
+      rw left_is (entries_kept b w (placed w from x) k free from (length_placed w from x (omega arith)) f (take_placed w from x (directory_size b) d (omega arith)) (λ i g. get_d_before w from x i g (omega arith)) t)
 
 -- ---- one entry more, where y is what the directory is left as
-module _ (b w y : List ℕ) (n free size : ℕ) (e : size ≡ directory_size b) (t : Tables b w n free) (h : size ≤ length w) (ly : length y ≡ length (take size w)) where
+module _ (b w y : List ℕ) (n free size : ℕ) (e : size ≡ directory_size b) (t : Entries b w n free) (h : size ≤ length w) (ly : length y ≡ length (take size w)) where
   abbrev grown : List ℕ
   grown = y ++ drop size w
 
@@ -91,8 +91,8 @@ module _ (b w y : List ℕ) (n free size : ℕ) (e : size ≡ directory_size b) 
           let c : carried_at (directory b grown) k ≡ carried = ap₂ carried_at grown_front i ∙ grows.carries in
           rw (c, i, get_or-append_seam keys key [] 0) new
 
-      pub tables_more : Tables b grown (n + 1) more
-      tables_more = record {
+      pub entries_more : Entries b grown (n + 1) more
+      entries_more = record {
         keys = keys ++ (key ∷ []);
         counted = length-append keys (key ∷ []) ∙ ap (λ (m : ℕ). m + 1) t.counted;
         tree = rw grown_front grows.tree;
@@ -130,19 +130,19 @@ module _ (b w u y : List ℕ) (size start : ℕ) (t : JudgedTable) (j : Judged) 
     ]
   ]
 
-  u_tables : Tables b u j.tables j.free
-  u_tables =
-      tables_kept b w u j.tables j.free start u_length e.free_is (ap (λ (n : ℕ). take n u) (sym e.size_is) ∙ u_front ∙ ap (λ (n : ℕ). take n w) e.size_is)
-      (λ i l. u_other i (λ m n. omega arith)) e.tables
+  u_entries : Entries b u j.entries j.free
+  u_entries =
+      entries_kept b w u j.entries j.free start u_length e.free_is (ap (λ (n : ℕ). take n u) (sym e.size_is) ∙ u_front ∙ ap (λ (n : ℕ). take n w) e.size_is)
+      (λ i l. u_other i (λ m n. omega arith)) e.entries
 
   abbrev v : List ℕ
   v = y ++ drop size u
 
   v_length : length v ≡ length w
-  v_length = grown_length b u y j.tables j.free size e.size_is u_tables u_room ly ∙ u_length
+  v_length = grown_length b u y j.entries j.free size e.size_is u_entries u_room ly ∙ u_length
 
   v_behind : (i : ℕ) → size ≤ i → get_or v i 0 ≡ get_or u i 0
-  v_behind = grown_behind b u y j.tables j.free size e.size_is u_tables u_room ly
+  v_behind = grown_behind b u y j.entries j.free size e.size_is u_entries u_room ly
 
   -- the words in front of its tree
   stored_at : (i : ℕ) → i < 2 → get_or v (start + i) 0 ≡ get_or head i 0
@@ -166,7 +166,7 @@ module _ (b w u y : List ℕ) (size start : ℕ) (t : JudgedTable) (j : Judged) 
       }
 
   module _ (small : t.place.at < 2 ^ 32) (code : ℕ) (added : Bool) (c : code ≡ t.place.at)
-      (a : (cs : List ℕ) → length cs ≡ j.tables → Tree (take size u) cs → Added (take size u) y cs start code added) where
+      (a : (cs : List ℕ) → length cs ≡ j.entries → Tree (take size u) cs → Added (take size u) y cs start code added) where
     new_noted : Noted b v (t.from + 5 * t.count) start t.place.at
     unfolding run_key
     new_noted = record { table = λ l. new_stored; run = λ at known l i. absurd (no_run at known i) }
@@ -175,15 +175,15 @@ module _ (b w u y : List ℕ) (size start : ℕ) (t : JudgedTable) (j : Judged) 
         no_run at true i = omega (arith, i)
         no_run at false i = omega (arith, i)
 
-    pub entered : Knows b v t.place (record { last = Some t; tables = j.tables + 1; free = t.from + 5 * t.count }) t
+    pub entered : Knows b v t.place (record { last = Some t; entries = j.entries + 1; free = t.from + 5 * t.count }) t
     entered =
-        recalled b v t.place t (j.tables + 1) (t.from + 5 * t.count) refl (omega arith) new_held
-        (tables_more b u y j.tables j.free size e.size_is u_tables u_room ly t.place.at start (subst (λ (x : List ℕ). Fresh x j.tables t.place.at) (sym (ap (λ (n : ℕ). take n u) (sym e.size_is) ∙ u_front ∙ ap (λ (n : ℕ). take n w) e.size_is)) e.fresh) added
+        recalled b v t.place t (j.entries + 1) (t.from + 5 * t.count) refl (omega arith) new_held
+        (entries_more b u y j.entries j.free size e.size_is u_entries u_room ly t.place.at start (subst (λ (x : List ℕ). Fresh x j.entries t.place.at) (sym (ap (λ (n : ℕ). take n u) (sym e.size_is) ∙ u_front ∙ ap (λ (n : ℕ). take n w) e.size_is)) e.fresh) added
         (rw c at a) (t.from + 5 * t.count) (omega (arith, e.free_is)) new_noted)
 
 -- ---- behind the other tables: x is what the words behind the new one's first two are left as
 module _ (b w x : List ℕ) (j : Judged) (start : ℕ) (p : Span) (count : ℕ) (m : Lent b w j) (g : start + 2 ≤ length b)
-    (s : (j.free ≤ start) × (length b / 5 ≤ start) × (5 * j.tables + 5 ≤ length b / 5))
+    (s : (j.free ≤ start) × (length b / 5 ≤ start) × (5 * j.entries + 5 ≤ length b / 5))
     (lx : length x ≡ length (mid_of (start + 2) (length b - (start + 2)) w)) (o : Lies b p) (t : TableHeld (span_bytes b p) x count) where
   abbrev n : ℕ
   n = length b - (start + 2)
@@ -200,15 +200,15 @@ module _ (b w x : List ℕ) (j : Judged) (start : ℕ) (p : Span) (count : ℕ) 
   new : Held b (put_mid (start + 2) n w x) table
   new = left_held b w x (start + 2) n x_length room p count o t
 
-  others : Tables b (put_mid (start + 2) n w x) j.tables j.free
-  others = left_tables b w x (start + 2) n x_length room j.tables j.free (omega (arith, s)) (omega (arith, s)) (remembers_tables b w j m.memory)
+  others : Entries b (put_mid (start + 2) n w x) j.entries j.free
+  others = left_entries b w x (start + 2) n x_length room j.entries j.free (omega (arith, s)) (omega (arith, s)) (remembers_entries b w j m.memory)
 
-  pub behind_enters : Fresh (directory b w) j.tables p.at → Enters b (put_mid (start + 2) n w x) (length b / 5) start table j
+  pub behind_enters : Fresh (directory b w) j.entries p.at → Enters b (put_mid (start + 2) n w x) (length b / 5) start table j
   behind_enters f = record {
     size_is = refl;
     free_is = s.0;
-    fresh = subst (λ (d : List ℕ). Fresh d j.tables p.at) (sym (left_front b w x (start + 2) n x_length room (directory_size b) (omega (arith, s)))) f;
-    tables = others;
+    fresh = subst (λ (d : List ℕ). Fresh d j.entries p.at) (sym (left_front b w x (start + 2) n x_length room (directory_size b) (omega (arith, s)))) f;
+    entries = others;
     held = new;
   }
 
@@ -216,4 +216,4 @@ module _ (b w x : List ℕ) (j : Judged) (start : ℕ) (p : Span) (count : ℕ) 
   behind_requires =
       let r : 5 * count ≤ length x = (held_rising (span_bytes b p) x count t).room in
       let small = m.small in
-      (o.0, omega arith, omega (arith, x_length), omega arith, refl, s.1, new.inside, s.2, tables_rising b (put_mid (start + 2) n w x) j.tables j.free others)
+      (o.0, omega arith, omega (arith, x_length), omega arith, refl, s.1, new.inside, s.2, entries_rising b (put_mid (start + 2) n w x) j.entries j.free others)

@@ -8,7 +8,7 @@ use lib.ListN.{length, take, get_or, length-map, length-take}
 use Rattle.octets.specs.Octets.{part}
 use Rattle.octets.proofs.Parts.{length_part, get_d_part}
 use Rattle.unit.specs.Trees.{code_at, carried_at, Rising, Linked, Tree}
-use Rattle.unit.specs.TableTrees.{codes_of, no_declaration, Declares, TableHeld, span_bytes, Held, directory_size, directory, table_from, Stored, Noted, Tables, Lies, Remembers}
+use Rattle.unit.specs.TableTrees.{codes_of, no_declaration, Declares, TableHeld, span_bytes, Held, directory_size, directory, table_from, Stored, Noted, Entries, Lies, Remembers}
 use Rattle.unit.specs.declared.judged.Span.{Span}
 use Rattle.unit.specs.declared.judged.JudgedTable.{JudgedTable}
 use Rattle.unit.specs.declared.judged.Judged.{Judged}
@@ -95,24 +95,24 @@ pub noted_kept : (b w v : List ℕ) (free more carried key : ℕ) → length v �
 noted_kept b w v free more carried key l m same n = record { table = λ h. stored_kept b w v free more carried key l m same (n.table h); run = n.run }
 
 -- ---- the directory
-pub tables_none : (b w : List ℕ) (free : ℕ) → Tables b w 0 free
-tables_none b w free = record { keys = []; counted = refl; tree = tree_none (directory b w); noted = λ k l. absurd (omega arith) }
+pub entries_none : (b w : List ℕ) (free : ℕ) → Entries b w 0 free
+entries_none b w free = record { keys = []; counted = refl; tree = tree_none (directory b w); noted = λ k l. absurd (omega arith) }
 
-pub tables_rising : (b w : List ℕ) (n free : ℕ) → Tables b w n free → Rising (directory b w) n
-tables_rising b w n free t = rw (← t.counted) t.tree.rising
+pub entries_rising : (b w : List ℕ) (n free : ℕ) → Entries b w n free → Rising (directory b w) n
+entries_rising b w n free t = rw (← t.counted) t.tree.rising
 
-pub tables_kept : (b w v : List ℕ) (n free start : ℕ) → length v ≡ length w → free ≤ start → take (directory_size b) v ≡ take (directory_size b) w
-    → ((i : ℕ) → i < start → get_or v i 0 ≡ get_or w i 0) → Tables b w n free → Tables b v n free
-tables_kept b w v n free start l f d same t = record {
+pub entries_kept : (b w v : List ℕ) (n free start : ℕ) → length v ≡ length w → free ≤ start → take (directory_size b) v ≡ take (directory_size b) w
+    → ((i : ℕ) → i < start → get_or v i 0 ≡ get_or w i 0) → Entries b w n free → Entries b v n free
+entries_kept b w v n free start l f d same t = record {
   keys = t.keys;
   counted = t.counted;
   tree = rw d t.tree;
   noted = λ k g. rw d (noted_kept b w v free free _ _ l (omega arith) (λ i h m. same i (omega arith)) (t.noted k g));
 }
 
-pub tables_room : (b w : List ℕ) (n free : ℕ) → Tables b w n free → 5 * n ≤ directory_size b
-tables_room b w n free t = omega (arith, (tables_rising b w n free t).room, length-take (directory_size b) w)
+pub entries_room : (b w : List ℕ) (n free : ℕ) → Entries b w n free → 5 * n ≤ directory_size b
+entries_room b w n free t = omega (arith, (entries_rising b w n free t).room, length-take (directory_size b) w)
 
-pub remembers_tables : (b w : List ℕ) (j : Judged) → Remembers b w j → Tables b w j.tables j.free
+pub remembers_entries : (b w : List ℕ) (j : Judged) → Remembers b w j → Entries b w j.entries j.free
 unfolding Remembers
-remembers_tables b w j m = m.1
+remembers_entries b w j m = m.1

@@ -13,12 +13,12 @@ use Rattle.std.specs.Prelude.{IfSome, Option, Some, None}
 use Rattle.unit.specs.Runs.{Quiet}
 use Rattle.unit.specs.Trees.{Rising, Tree, Seeks, Fresh, Added}
 use Rattle.unit.proofs.Cuts.{between_length}
-use Rattle.unit.specs.TableTrees.{span_bytes, Held, directory, Tables, Remembers, run_key, Noted, Notes, Notable, Lies, Lent}
+use Rattle.unit.specs.TableTrees.{span_bytes, Held, directory, Entries, Remembers, run_key, Noted, Notes, Notable, Lies, Lent}
 use Rattle.unit.specs.declared.judged.Span.{Span}
 use Rattle.unit.specs.declared.judged.JudgedTable.{JudgedTable}
 use Rattle.unit.specs.declared.judged.Judged.{Judged}
-use Rattle.unit.proofs.Holding.{held_kept, noted_kept, tables_none, tables_rising, remembers_tables}
-use Rattle.unit.proofs.Entering.{grown_length, grown_behind, tables_more}
+use Rattle.unit.proofs.Holding.{held_kept, noted_kept, entries_none, entries_rising, remembers_entries}
+use Rattle.unit.proofs.Entering.{grown_length, grown_behind, entries_more}
 use Rattle.unit.proofs.Recalling.{found_noted}
 
 -- ---- the key of a run is no table's, and no other run's
@@ -47,8 +47,8 @@ module _ (n count : ℕ) (k : (count ≡ 0) ⊎ (count ≡ n)) where
       (λ z. record { room = omega (arith, z); later = λ i b l. absurd (omega (arith, l, z)); among = λ i b l. absurd (omega (arith, l, z)) })
       (λ e. rw e r) k
 
-  kept_tables : (b w : List ℕ) (free : ℕ) → Tables b w n free → Tables b w count free
-  kept_tables b w free t = ⊎_elim (λ z. rw z (tables_none b w free)) (λ e. rw e t) k
+  kept_entries : (b w : List ℕ) (free : ℕ) → Entries b w n free → Entries b w count free
+  kept_entries b w free t = ⊎_elim (λ z. rw z (entries_none b w free)) (λ e. rw e t) k
 
   kept_fresh : (w : List ℕ) (key : ℕ) → Fresh w n key → Fresh w count key
   unfolding Fresh has any
@@ -59,10 +59,10 @@ module _ (n count : ℕ) (k : (count ≡ 0) ⊎ (count ≡ n)) where
       none (c ∷ cs) l t = absurd (omega (arith, l))
 
 -- ---- one run more
-module _ (b w y : List ℕ) (size run key : ℕ) (j : Judged) (n : Notes b w size run key j) (count : ℕ) (k : (count ≡ 0) ⊎ (count ≡ j.tables)) (h : size ≤ length w)
+module _ (b w y : List ℕ) (size run key : ℕ) (j : Judged) (n : Notes b w size run key j) (count : ℕ) (k : (count ≡ 0) ⊎ (count ≡ j.entries)) (h : size ≤ length w)
     (ly : length y ≡ length (take size w)) where
-  abbrev t : Tables b w count j.free
-  t = kept_tables j.tables count k b w j.free (remembers_tables b w j n.memory)
+  abbrev t : Entries b w count j.free
+  t = kept_entries j.entries count k b w j.free (remembers_entries b w j n.memory)
 
   abbrev v : List ℕ
   v = y ++ drop size w
@@ -72,23 +72,23 @@ module _ (b w y : List ℕ) (size run key : ℕ) (j : Judged) (n : Notes b w siz
   last_kept None g l = g
 
   pub run_more : (added : Bool) → ((cs : List ℕ) → length cs ≡ count → Tree (take size w) cs → Added (take size w) y cs run key added) → IfSome j.last (λ t. size ≤ t.from)
-      → Remembers b v (record { last = j.last; tables = count + 1; free = j.free })
+      → Remembers b v (record { last = j.last; entries = count + 1; free = j.free })
   unfolding Remembers
   run_more added a l =
       (
         last_kept j.last n.memory.0 l,
-        tables_more b w y count j.free size n.size_is t h ly key run (kept_fresh j.tables count k (directory b w) key n.fresh) added a j.free (omega arith)
+        entries_more b w y count j.free size n.size_is t h ly key run (kept_fresh j.entries count k (directory b w) key n.fresh) added a j.free (omega arith)
             (noted_kept b w v j.free j.free run key (grown_length b w y count j.free size n.size_is t h ly) (omega arith)
             (λ i m q. grown_behind b w y count j.free size n.size_is t h ly i (omega (arith, m, n.size_is))) (n.noted j.free)),
       )
 
 -- ---- a search for a run, as the code asks for it
-module _ (b w : List ℕ) (j : Judged) (m : Lent b w j) (p : Span) (l : Lies b p) (known : Bool) (key : ℕ) (e : key ≡ run_key p.at known) (o : Option ℕ) (q : Seeks (directory b w) j.tables key o) where
+module _ (b w : List ℕ) (j : Judged) (m : Lent b w j) (p : Span) (l : Lies b p) (known : Bool) (key : ℕ) (e : key ≡ run_key p.at known) (o : Option ℕ) (q : Seeks (directory b w) j.entries key o) where
   small : p.at < 2 ^ 32
   small = omega (arith, l, m.small)
 
   pub run_found : (run : ℕ) → o ≡ Some run → Quiet known (take run (drop p.at b))
-  run_found run i = (found_noted b w j.tables j.free key run (rw i at q) (remembers_tables b w j m.memory)).run p.at known small e
+  run_found run i = (found_noted b w j.entries j.free key run (rw i at q) (remembers_entries b w j m.memory)).run p.at known small e
 
   -- as it was walked in the part
   pub run_notes : (run : ℕ) → o ≡ None → (run ≤ length (span_bytes b p)) × Quiet known (take run (span_bytes b p)) → Notes b w (length b / 5) run key j
@@ -102,4 +102,4 @@ module _ (b w : List ℕ) (j : Judged) (m : Lent b w j) (p : Span) (l : Lies b p
       }
 
   pub run_notable : (run : ℕ) → run ≤ p.end - p.at → Notable w (length b / 5) run j
-  run_notable run h = (omega (arith, h, l, m.small), omega (arith, m.small), omega (arith, m.room), omega (arith, h, l), tables_rising b w j.tables j.free (remembers_tables b w j m.memory))
+  run_notable run h = (omega (arith, h, l, m.small), omega (arith, m.small), omega (arith, m.room), omega (arith, h, l), entries_rising b w j.entries j.free (remembers_entries b w j m.memory))

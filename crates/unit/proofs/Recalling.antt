@@ -11,7 +11,7 @@ use Rattle.octets.specs.Lists.{has, any}
 use Rattle.octets.proofs.Parts.{part_cut}
 use Rattle.unit.specs.Tables.{table_good}
 use Rattle.unit.specs.Trees.{Rising, Sought, Seeks, Fresh}
-use Rattle.unit.specs.TableTrees.{TableHeld, Judges, span_bytes, Held, directory, between, table_from, Stored, Noted, Tables, Remembers, Knows, KnownAt, Joins, Lies, Lent}
+use Rattle.unit.specs.TableTrees.{TableHeld, Judges, span_bytes, Held, directory, between, table_from, Stored, Noted, Entries, Remembers, Knows, KnownAt, Joins, Lies, Lent}
 use Rattle.unit.specs.declared.judged.Span.{Span}
 use Rattle.unit.specs.declared.judged.JudgedTable.{JudgedTable}
 use Rattle.unit.specs.declared.judged.Judged.{Judged}
@@ -26,12 +26,12 @@ use Rattle.unit.specs.declared.abbreviations.Extent.{Extent}
 use Rattle.unit.specs.declared.abbreviations.Unheld.{Unheld}
 use Rattle.unit.specs.declared.abbreviations.Unheld.TheVariants.{Bad, Full}
 use Rattle.unit.proofs.Finding.{held_rising}
-use Rattle.unit.proofs.Holding.{held_alone, tables_rising, remembers_tables}
+use Rattle.unit.proofs.Holding.{held_alone, entries_rising, remembers_entries}
 
 -- ---- what is recalled
 -- a table that the words hold becomes the last one
-pub recalled : (b w : List ℕ) (p : Span) (t : JudgedTable) (n free : ℕ) → t.place.at ≡ p.at → t.place.end ≤ p.end → Held b w t → Tables b w n free
-    → Knows b w p (record { last = Some t; tables = n; free = free }) t
+pub recalled : (b w : List ℕ) (p : Span) (t : JudgedTable) (n free : ℕ) → t.place.at ≡ p.at → t.place.end ≤ p.end → Held b w t → Entries b w n free
+    → Knows b w p (record { last = Some t; entries = n; free = free }) t
 unfolding Remembers
 recalled b w p t n free e f h d = record { memory = (h, d); last = refl; starts = e; ends = f; held = h }
 
@@ -44,19 +44,19 @@ unfolding Remembers
 last_held b w j t e m = let h : IfSome (Some t) (Held b w) = rw e at m.0 in h
 
 -- what a search finds
-pub found_noted : (b w : List ℕ) (n free key carried : ℕ) → Sought (directory b w) n key carried → Tables b w n free → Noted b w free carried key
+pub found_noted : (b w : List ℕ) (n free key carried : ℕ) → Sought (directory b w) n key carried → Entries b w n free → Noted b w free carried key
 found_noted b w n free key carried f t =
     let c : get_or t.keys f.node 0 ≡ key = sym (t.tree.codes f.node (omega (arith, f.inside, t.counted))) ∙ f.is in
     subst (λ (x : ℕ). Noted b w free carried x) c (subst (λ (x : ℕ). Noted b w free x (get_or t.keys f.node 0)) f.carries (t.noted f.node f.inside))
 
 -- a search for a place, as the code asks for it
-module _ (b w : List ℕ) (j : Judged) (m : Lent b w j) (at : ℕ) (l : at ≤ length b) (o : Option ℕ) (q : Seeks (directory b w) j.tables at o) where
-  pub sought_none : o ≡ None → Fresh (directory b w) j.tables at
+module _ (b w : List ℕ) (j : Judged) (m : Lent b w j) (at : ℕ) (l : at ≤ length b) (o : Option ℕ) (q : Seeks (directory b w) j.entries at o) where
+  pub sought_none : o ≡ None → Fresh (directory b w) j.entries at
   sought_none i = rw i at q
 
   module _ (start : ℕ) (i : o ≡ Some start) where
     stored : Stored b w j.free start at
-    stored = (found_noted b w j.tables j.free at start (rw i at q) (remembers_tables b w j m.memory)).table (omega (arith, m.small))
+    stored = (found_noted b w j.entries j.free at start (rw i at q) (remembers_entries b w j m.memory)).table (omega (arith, m.small))
 
     pub sought_held : Held b w (record { place = record { at = at; end = at + get_or w (start + 1) 0 }; from = start + 2; count = get_or w start 0 })
     unfolding table_from
@@ -72,12 +72,12 @@ module _ (b w : List ℕ) (j : Judged) (m : Lent b w j) (at : ℕ) (l : at ≤ l
 known_some : (b w : List ℕ) (j : Judged) (at : ℕ) (o : Option JudgedTable) (t : JudgedTable) → KnownAt b w j at o → o ≡ Some t → (t.place.at ≡ at) × Held b w t
 known_some b w j at o t k e = let h : KnownAt b w j at (Some t) = rw e at k in h
 
-pub known_none : (b w : List ℕ) (j : Judged) (at : ℕ) (o : Option JudgedTable) → KnownAt b w j at o → o ≡ None → Fresh (directory b w) j.tables at
+pub known_none : (b w : List ℕ) (j : Judged) (at : ℕ) (o : Option JudgedTable) → KnownAt b w j at o → o ≡ None → Fresh (directory b w) j.entries at
 known_none b w j at o k e = let h : KnownAt b w j at None = rw e at k in h
 
 pub recalled_known : (b w : List ℕ) (j : Judged) (p : Span) (o : Option JudgedTable) (t : JudgedTable) → Remembers b w j → KnownAt b w j p.at o → o ≡ Some t → t.place.end ≤ p.end
-    → Knows b w p (record { last = Some t; tables = j.tables; free = j.free }) t
-recalled_known b w j p o t m k e f = let h = known_some b w j p.at o t k e in recalled b w p t j.tables j.free h.0 f h.1 (remembers_tables b w j m)
+    → Knows b w p (record { last = Some t; entries = j.entries; free = j.free }) t
+recalled_known b w j p o t m k e f = let h = known_some b w j p.at o t k e in recalled b w p t j.entries j.free h.0 f h.1 (remembers_entries b w j m)
 
 -- ---- a table that was judged
 module _ (s w : List ℕ) (r : Result Extent Unheld) (j : Judges s w r) where
@@ -122,7 +122,7 @@ judged_own b w p r x o g i =
 
 -- ---- a table that is not held
 pub joined_not : (b w : List ℕ) (p : Span) (j : Judged) (r : Result JudgedTable Unheld) (u : Unheld) → Joins b w p j r → r ≡ Err u
-    → (j.tables ≡ 0) × Remembers b w j × (u ≡ Bad → table_good (span_bytes b p) ≡ false)
+    → (j.entries ≡ 0) × Remembers b w j × (u ≡ Bad → table_good (span_bytes b p) ≡ false)
 joined_not b w p j r u k e = let h : Joins b w p j (Err u) = rw e at k in h
 
 pub full_bad : Full ≡ Bad → ⊥
@@ -136,10 +136,10 @@ fresh_none w n at e (c ∷ cs) l t = absurd (omega arith)
 
 -- with all the words, where the others are forgotten
 pub recalled_alone : (b w : List ℕ) (p : Span) (j : Judged) (r : Result Extent Unheld) (x : Extent) → Lies b p → Remembers b w j → Judges (span_bytes b p) w r → r ≡ Ok x
-    → Knows b w p (record { last = Some (record { place = own p x; from = 0; count = x.count }); tables = j.tables; free = j.free }) (record { place = own p x; from = 0; count = x.count })
+    → Knows b w p (record { last = Some (record { place = own p x; from = 0; count = x.count }); entries = j.entries; free = j.free }) (record { place = own p x; from = 0; count = x.count })
 recalled_alone b w p j r x o m g i =
     let k = judged_own b w p r x o g i in
-    recalled b w p _ j.tables j.free refl k.ends (held_alone b w (own p x) x.count k.lies k.held) (remembers_tables b w j m)
+    recalled b w p _ j.entries j.free refl k.ends (held_alone b w (own p x) x.count k.lies k.held) (remembers_entries b w j m)
 
 -- ---- the table that was recalled, in the part of the words that the code lends
 module _ (b w : List ℕ) (p : Span) (j : Judged) (t : JudgedTable) (k : Knows b w p j t) where
@@ -169,6 +169,6 @@ module _ (b w : List ℕ) (p : Span) (j : Judged) (t : JudgedTable) (k : Knows b
       then_pass _ _ _ r ∙ sym (then_pass _ _ _ (ap declarations_of part_split ∙ table_local (span_bytes b t.place) (between b t.place.end p.end) k.held.is.declared r))
 
 -- ---- as functions name them
-pub ruleset sought_cases = (last_held, sought_none, sought_held, sought_within, sought_ends, tables_rising, remembers_tables)
+pub ruleset sought_cases = (last_held, sought_none, sought_held, sought_within, sought_ends, entries_rising, remembers_entries)
 
 pub ruleset known_cases = (known_lies, known_root)

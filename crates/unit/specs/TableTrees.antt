@@ -104,7 +104,7 @@ pub record Noted (b w : List ℕ) (free carried key : ℕ) : Type 0 where
   pub run : (at : ℕ) (known : Bool) → at < 2 ^ 32 → key ≡ run_key at known → Quiet known (take carried (drop at b))
 
 -- n entries of the directory, the tables among them all before the free words
-pub record Tables (b w : List ℕ) (n free : ℕ) : Type 0 where
+pub record Entries (b w : List ℕ) (n free : ℕ) : Type 0 where
   pub keys : List ℕ
   pub counted : length keys ≡ n
   pub tree : Tree (directory b w) keys
@@ -112,14 +112,14 @@ pub record Tables (b w : List ℕ) (n free : ℕ) : Type 0 where
 
 -- the last table, if there is one, is held by the words; and the tables of the directory
 unfoldable pub Remembers : List ℕ → List ℕ → Judged → Type 0
-Remembers b w j = IfSome j.last (Held b w) × Tables b w j.tables j.free
+Remembers b w j = IfSome j.last (Held b w) × Entries b w j.entries j.free
 
 -- a table's tree stands behind the two words from start on, and the directory does not have it yet
 pub record Enters (b w : List ℕ) (size start : ℕ) (t : JudgedTable) (j : Judged) : Type 0 where
   pub size_is : size ≡ directory_size b
   pub free_is : j.free ≤ start
-  pub fresh : Fresh (directory b w) j.tables t.place.at
-  pub tables : Tables b w j.tables j.free
+  pub fresh : Fresh (directory b w) j.entries t.place.at
+  pub entries : Entries b w j.entries j.free
   pub held : Held b w t
 
 -- its numbers fit into words, and the words suffice: the directory's for one node more, the others for what stands in front of the tree, and the tree
@@ -127,18 +127,18 @@ abbrev pub Enterable : List ℕ → ℕ → ℕ → JudgedTable → Judged → T
 Enterable w size start t j =
     (t.place.at ≤ t.place.end) × (t.place.end < 2 ^ 32) × (t.count < 2 ^ 32) × (start < 2 ^ 32)
     × (t.from ≡ start + head_words) × (size ≤ start) × (t.from + node_words * t.count ≤ length w)
-    × (node_words * j.tables + node_words ≤ size) × Rising (take size w) j.tables
+    × (node_words * j.entries + node_words ≤ size) × Rising (take size w) j.entries
 
 -- a run that the directory does not have yet takes so many bytes
 pub record Notes (b w : List ℕ) (size run key : ℕ) (j : Judged) : Type 0 where
   pub size_is : size ≡ directory_size b
-  pub fresh : Fresh (directory b w) j.tables key
+  pub fresh : Fresh (directory b w) j.entries key
   pub memory : Remembers b w j
   pub noted : (free : ℕ) → Noted b w free run key
 
 -- its number fits into a word, the words have the directory, and the bundle has the run
 abbrev pub Notable : List ℕ → ℕ → ℕ → Judged → Type 0
-Notable w size run j = (run < 2 ^ 32) × (size < 2 ^ 32) × (size ≤ length w) × (run / directory_share ≤ size) × Rising (take size w) j.tables
+Notable w size run j = (run < 2 ^ 32) × (size < 2 ^ 32) × (size ≤ length w) × (run / directory_share ≤ size) × Rising (take size w) j.entries
 
 -- t is the table at the front of a part, and the last one of the memory
 pub record Knows (b w : List ℕ) (p : Span) (j : Judged) (t : JudgedTable) : Type 0 where
@@ -151,12 +151,12 @@ pub record Knows (b w : List ℕ) (p : Span) (j : Judged) (t : JudgedTable) : Ty
 -- the table that starts at a place, if it is remembered
 abbrev pub KnownAt : List ℕ → List ℕ → Judged → ℕ → Option JudgedTable → Type 0
 KnownAt b w j at (Some t) = (t.place.at ≡ at) × Held b w t
-KnownAt b w j at None = Fresh (directory b w) j.tables at
+KnownAt b w j at None = Fresh (directory b w) j.entries at
 
 -- or it is not held, and nothing is remembered
 abbrev pub Joins : List ℕ → List ℕ → Span → Judged → Result JudgedTable Unheld → Type 0
 Joins b w p j (Ok t) = Knows b w p j t
-Joins b w p j (Err u) = (j.tables ≡ 0) × Remembers b w j × (u ≡ Bad → table_good (span_bytes b p) ≡ false)
+Joins b w p j (Err u) = (j.entries ≡ 0) × Remembers b w j × (u ≡ Bad → table_good (span_bytes b p) ≡ false)
 
 -- or it is bad, and what is remembered is remembered rightly
 abbrev pub Recalls : List ℕ → List ℕ → Span → Judged → Result JudgedTable Refusal → Type 0

@@ -69,7 +69,7 @@ pub struct JudgedTable {
 #[derive(Clone, Copy, Default)]
 pub struct Judged {
     pub last: Option<JudgedTable>,
-    pub tables: usize,
+    pub entries: usize,
     pub free: usize,
 }
 
@@ -88,9 +88,9 @@ fn run_key(at: usize, known: bool) -> u64
 
 impl Judged {
     // Before any table.
-    #[tactic(auto, using(crate::proofs::Holding::tables_none), unfolding(crate::specs::TableTrees::Remembers))]
+    #[tactic(auto, using(crate::proofs::Holding::entries_none), unfolding(crate::specs::TableTrees::Remembers))]
     pub fn nothing() -> Judged
-        ensures empty { result.tables ≡ 0 }
+        ensures empty { result.entries ≡ 0 }
         ensures memory { (b w : List ℕ) → Remembers b w result }
     {
         Judged::default()
@@ -98,12 +98,12 @@ impl Judged {
 
     // The word where a new table starts, among n: behind the directory and its tables. None where the directory is full, or too few words are left.
     fn start(self, n: usize) -> Option<usize>
-        requires { node_words * self.tables ≤ n / directory_share }
-        ensures { IfSome result (λ start. (start + head_words ≤ n) × (self.free ≤ start) × (n / directory_share ≤ start) × (node_words * self.tables + node_words ≤ n / directory_share)) }
+        requires { node_words * self.entries ≤ n / directory_share }
+        ensures { IfSome result (λ start. (start + head_words ≤ n) × (self.free ≤ start) × (n / directory_share ≤ start) × (node_words * self.entries + node_words ≤ n / directory_share)) }
     {
         let size = n / SHARE;
         let start = self.free.max(size);
-        if NODE * self.tables + NODE <= size && start <= n && HEAD <= n - start {
+        if NODE * self.entries + NODE <= size && start <= n && HEAD <= n - start {
             Some(start)
         } else {
             None
@@ -118,9 +118,9 @@ impl Judged {
         let bytes = table.place.end - table.place.at;
         codes[start..start + HEAD].copy_from_slice(&[table.count as u32, bytes as u32]);
         let key = table.place.at as u64;
-        crate::tree::add_code(&mut codes[..size], self.tables, start, key);
+        crate::tree::add_code(&mut codes[..size], self.entries, start, key);
         self.last = Some(table);
-        self.tables += 1;
+        self.entries += 1;
         self.free = table.from + NODE * table.count;
     }
 
@@ -151,14 +151,14 @@ impl Judged {
 
     // A table that was not judged before: its tree stands behind those of the others. Where it is not held, since it is bad, the directory is full or the words
     // that are left do not suffice, all is forgotten: some of those words are written over.
-    #[tactic(auto, using(crate::proofs::Holding::tables_room, crate::proofs::Holding::remembers_tables, crate::proofs::Recalling::judged_within, crate::proofs::Cuts::between_length))]
+    #[tactic(auto, using(crate::proofs::Holding::entries_room, crate::proofs::Holding::remembers_entries, crate::proofs::Recalling::judged_within, crate::proofs::Cuts::between_length))]
     fn judge_behind(
         &mut self,
         b: &[u8],
         place: Span,
         codes: &mut [u32],
     ) -> Result<JudgedTable, Unheld>
-        requires { Lies b.now place × Lent b.now codes.old self.old × Fresh (directory b.now codes.old) self.old.tables place.at }
+        requires { Lies b.now place × Lent b.now codes.old self.old × Fresh (directory b.now codes.old) self.old.entries place.at }
         ensures { Joins b.now codes.new place self.new result }
     {
         let n = b.len();
@@ -194,7 +194,7 @@ impl Judged {
         place: Span,
         codes: &mut [u32],
     ) -> Result<JudgedTable, Unheld>
-        requires { Lies b.now place × Lent b.now codes.old self.old × Fresh (directory b.now codes.old) self.old.tables place.at }
+        requires { Lies b.now place × Lent b.now codes.old self.old × Fresh (directory b.now codes.old) self.old.entries place.at }
         ensures { Joins b.now codes.new place self.new result }
     {
         match self.judge_behind(b, place, codes) {
@@ -210,7 +210,7 @@ impl Judged {
         place: Span,
         codes: &mut [u32],
     ) -> Result<JudgedTable, Refusal>
-        requires { Lies b.now place × Lent b.now codes.old self.old × Fresh (directory b.now codes.old) self.old.tables place.at }
+        requires { Lies b.now place × Lent b.now codes.old self.old × Fresh (directory b.now codes.old) self.old.entries place.at }
         ensures { Recalls b.now codes.new place self.new result }
     {
         match self.judge_again(b, place, codes) {
@@ -233,7 +233,7 @@ impl Judged {
         }
         let directory = CodeTree {
             words: &codes[..b.len() / SHARE],
-            count: self.tables,
+            count: self.entries,
         };
         let start = directory.find(at as u64)?;
         Some(JudgedTable {
@@ -279,13 +279,13 @@ impl Judged {
 
     // How many entries the directory goes on with, which has so many words: with none where it has no room for one more.
     fn kept(self, size: usize) -> usize
-        requires { (node_words * self.tables ≤ size) × (node_words ≤ size) }
-        ensures { (node_words * result + node_words ≤ size) × ((result ≡ 0) ⊎ (result ≡ self.tables)) }
+        requires { (node_words * self.entries ≤ size) × (node_words ≤ size) }
+        ensures { (node_words * result + node_words ≤ size) × ((result ≡ 0) ⊎ (result ≡ self.entries)) }
     {
-        if size - NODE * self.tables < NODE {
+        if size - NODE * self.entries < NODE {
             0
         } else {
-            self.tables
+            self.entries
         }
     }
 
@@ -301,12 +301,12 @@ impl Judged {
         }
         let count = self.kept(size);
         crate::tree::add_code(&mut codes[..size], count, run, key);
-        self.tables = count + 1;
+        self.entries = count + 1;
     }
 
     // How many bytes at the front of a place are a run of flags that are present, where the identity is stated already or not: as it was noted, or walked now.
     // A run that goes on behind the place's end is walked by the caller.
-    #[tactic(auto, using(crate::proofs::Noting::run_notable, crate::proofs::Flags::quiet_none, crate::proofs::Holding::tables_rising, crate::proofs::Holding::remembers_tables))]
+    #[tactic(auto, using(crate::proofs::Noting::run_notable, crate::proofs::Flags::quiet_none, crate::proofs::Holding::entries_rising, crate::proofs::Holding::remembers_entries))]
     pub fn pass_run(&mut self, b: &[u8], place: Span, known: bool, codes: &mut [u32]) -> usize
         requires { Lies b.now place × Lent b.now codes.old self.old }
         ensures run { (result ≤ place.end - place.at) × Quiet known (take result (drop place.at b.now)) }
@@ -316,7 +316,7 @@ impl Judged {
         let size = b.len() / SHARE;
         let directory = CodeTree {
             words: &codes[..size],
-            count: self.tables,
+            count: self.entries,
         };
         match directory.find(key) {
             Some(run) if run <= place.end - place.at => run,
