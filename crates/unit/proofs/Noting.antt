@@ -74,13 +74,12 @@ module _ (b w y : List ℕ) (size run key : ℕ) (j : Judged) (n : Notes b w siz
   pub run_more : (added : Bool) → ((cs : List ℕ) → length cs ≡ count → Tree (take size w) cs → Added (take size w) y cs run key added) → IfSome j.last (λ t. size ≤ t.from)
       → Remembers b v (record { last = j.last; entries = count + 1; free = j.free })
   unfolding Remembers
-  run_more added a l =
-      (
-        last_kept j.last n.memory.0 l,
-        entries_more b w y count j.free size n.size_is t h ly key run (kept_fresh j.entries count k (directory b w) key n.fresh) added a j.free (omega arith)
-            (noted_kept b w v j.free j.free run key (grown_length b w y count j.free size n.size_is t h ly) (omega arith)
-            (λ i m q. grown_behind b w y count j.free size n.size_is t h ly i (omega (arith, m, n.size_is))) (n.noted j.free)),
-      )
+  run_more added a l = (
+    last_kept j.last n.memory.0 l,
+    entries_more b w y count j.free size n.size_is t h ly key run (kept_fresh j.entries count k (directory b w) key n.fresh) added a j.free (omega arith)
+        (noted_kept b w v j.free j.free run key (grown_length b w y count j.free size n.size_is t h ly) (omega arith)
+        (λ i m q. grown_behind b w y count j.free size n.size_is t h ly i (omega (arith, m, n.size_is))) (n.noted j.free)),
+  )
 
 -- ---- a search for a run, as the code asks for it
 module _ (b w : List ℕ) (j : Judged) (m : Lent b w j) (p : Span) (l : Lies b p) (known : Bool) (key : ℕ) (e : key ≡ run_key p.at known) (o : Option ℕ) (q : Seeks (directory b w) j.entries key o) where

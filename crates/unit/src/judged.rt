@@ -6,10 +6,15 @@
 // table has two words and then the tree of its declarations. The words say how many those are, which is where the tree ends, and how many bytes the table takes,
 // so that a part that ends before its table does is told apart without a reading.
 //
-// The directory is full only where tables lie in each other, and the words behind it only where tables take most of the bundle or lie in each other. All is
-// forgotten then, and the table is judged once more, as the first of a memory started anew. Were the last table kept alone, those that take turns would be judged
-// at each unit; so each is judged once more for each time that the memory fills, and the directory has room for a table for each 25 bytes of the bundle. A table
-// that an empty memory has no room for is judged with all the words for itself.
+// The directory is full only where tables lie in each other, and the words behind it only where tables do or take most of the bundle. All is forgotten then, and
+// the table is judged once more, as the first of a memory started anew, so that it is remembered beside those that come after it. With all the words for itself
+// it would be forgotten as soon as another is asked for, so that is left to a table that an empty memory has no room for. Long tables that take turns and have no
+// room beside each other are still judged at each turn, but few units do so: all but 127 declarations of a table take six bytes, so that such tables leave
+// about a twenty-fifth of the bundle to units.
+//
+// The directory has runs of attributes too, which the units of a root are to walk once: flags that are present take no bytes of a unit, and a root may have very
+// many of them. Their keys are above those of tables. Roots that lie apart have no more runs that are noted than a node for each 64 bytes; where the directory
+// has no room for one more, its entries are forgotten.
 ghost use Rattle.std.specs.Prelude.{◌≡◌, ◌⊎◌, true, List, ℕ, ◌+◌, ◌*◌, ◌/◌, ◌≤◌, ◌<◌, ◌^◌, ◌-◌, length, take, drop, IfSome};
 ghost use Rattle.unit.specs.Trees.{node_words, Fresh};
 ghost use Rattle.unit.specs.Runs.{Quiet};
@@ -65,7 +70,7 @@ pub struct JudgedTable {
     pub count: usize,
 }
 
-// The table that was asked for last, how many tables the directory has, and the first word behind theirs.
+// The table that was asked for last, how many entries the directory has, and the first word behind those of its tables.
 #[derive(Clone, Copy, Default)]
 pub struct Judged {
     pub last: Option<JudgedTable>,
