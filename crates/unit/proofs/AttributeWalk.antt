@@ -8,7 +8,7 @@ use mathlib.Core.Option as math
 use Prim.Native.Nat.{ℕ, ◌+◌, ◌-◌, ◌≤◌}
 use native.Mathlib.Omega.{arith}
 use lib.ListN.{length, take, drop, length-drop}
-use lib.Seq.{drop-drop, take-add}
+use lib.Seq.{drop-drop}
 use Rattle.std.specs.Prelude.{Option, Some, None, Ok}
 use Rattle.std.specs.Option.{is_some}
 use Rattle.octets.specs.Checked.{Check, pass, refuse}
@@ -23,16 +23,10 @@ use Rattle.unit.specs.TableTrees.{between, span_bytes, Lies}
 use Rattle.unit.specs.declared.judged.Span.{Span}
 use Rattle.unit.specs.declared.root.Walk.{Walk}
 use Rattle.unit.proofs.Sizes.{rest}
-use Rattle.unit.proofs.Cuts.{between_length, between_drop}
+use Rattle.unit.proofs.Cuts.{between_length, between_drop, between_split}
 use Rattle.unit.proofs.Stepping.{only_step, from_not, from_end, from_on, unread, stepped_within}
 
--- a run in front of what is left changes nothing
-between_split : (b : List ℕ) (first n last : ℕ) → first + n ≤ last → between b first last ≡ take n (drop first b) ++ between b (first + n) last
-between_split b first n last h =
-    let m : n + (last - (first + n)) ≡ last - first = omega arith in
-    ap (λ (k : ℕ). take k (drop first b)) (sym m) ∙ take-add n (last - (first + n)) (drop first b)
-    ∙ ap (λ (x : List ℕ). take n (drop first b) ++ take (last - (first + n)) x) (drop-drop n first b)
-
+-- ---- the walk, as the code takes it
 is_stated : (seen : Option ℕ) → is_some seen ≡ true → seen_is seen ≡ none → ⊥
 is_stated (Some x) h g = some_none g
 is_stated None h g = true_false refl (sym h)
@@ -56,8 +50,10 @@ module _ (e : Encoding) (b s : List ℕ) (place : Span) (w : Walk) (k : Walked e
   past : identity_from e t (drop w.at s) seen ≡ identity_from e (span_bytes b place) s none
   unfolding Quiet
   past =
+      let m : n ≡ w.left.at + n - w.left.at = omega arith in
+      let split = between_split b w.left.at (w.left.at + n) w.left.end (omega arith) (omega (arith, h, k.table)) in
       sym (q e t (drop w.at s) seen (is_stated w.seen))
-      ∙ ap (λ (x : List ℕ). identity_from e x (drop w.at s) seen) (sym (between_split b w.left.at n w.left.end (omega (arith, h, k.table)))) ∙ k.same
+      ∙ ap (λ (x : List ℕ). identity_from e x (drop w.at s) seen) (ap (λ (i : ℕ). take i (drop w.left.at b) ++ t) m ∙ sym split) ∙ k.same
 
   abbrev step : Check (math.Option Move)
   step = attribute_step e t (take (length s - w.at) (drop w.at s)) seen

@@ -1,12 +1,12 @@
 -- The search for a table in the directory, and what is recalled.
 -- Assumes nothing.
-use mathlib.Core.Path.{◌≡◌, refl, sym, subst, ap, ap₂, ◌∙◌}
+use mathlib.Core.Path.{◌≡◌, refl, sym, subst, ap, ◌∙◌}
 use mathlib.Core.Bool.{true, false}
 use mathlib.Core.List.{List, [], ◌∷◌, ◌++◌}
 use Prim.Native.Nat.{ℕ, ◌+◌, ◌-◌, ◌*◌, ◌^◌, ◌<◌, ◌≤◌}
 use native.Mathlib.Omega.{arith}
 use lib.ListN.{length, take, drop, get_or}
-use lib.Seq.{drop-drop, take-take, take-add}
+use lib.Seq.{take-take}
 use Rattle.octets.specs.Lists.{has, any}
 use Rattle.octets.proofs.Parts.{part_cut}
 use Rattle.unit.specs.Tables.{table_good}
@@ -21,7 +21,7 @@ use Rattle.octets.proofs.Checks.{then_pass}
 use Rattle.unit.specs.Abbreviations.{declarations_of}
 use Rattle.unit.specs.Root.{root_identity}
 use Rattle.unit.proofs.Local.{table_local}
-use Rattle.unit.proofs.Cuts.{between_length}
+use Rattle.unit.proofs.Cuts.{between_length, between_split}
 use Rattle.unit.specs.declared.abbreviations.Extent.{Extent}
 use Rattle.unit.specs.declared.abbreviations.Unheld.{Unheld}
 use Rattle.unit.specs.declared.abbreviations.Unheld.TheVariants.{Bad, Full}
@@ -154,13 +154,7 @@ module _ (b w : List ℕ) (p : Span) (j : Judged) (t : JudgedTable) (k : Knows b
 
   -- what stands behind it in the part changes nothing
   part_split : span_bytes b p ≡ span_bytes b t.place ++ between b t.place.end p.end
-  part_split =
-      let l = k.held.lies.0 in
-      let n : p.end - p.at ≡ t.place.end - t.place.at + (p.end - t.place.end) = omega (arith, k.starts, k.ends) in
-      let m : t.place.at + (t.place.end - t.place.at) ≡ t.place.end = omega arith in
-      ap₂ (λ (i a : ℕ). take i (drop a b)) n (sym k.starts) ∙ take-add (t.place.end - t.place.at) (p.end - t.place.end) (drop t.place.at b)
-      ∙ ap (λ (x : List ℕ). span_bytes b t.place ++ take (p.end - t.place.end) x)
-      (drop-drop (t.place.end - t.place.at) t.place.at b ∙ ap (λ (i : ℕ). drop i b) m)
+  part_split = ap (λ (at : ℕ). between b at p.end) (sym k.starts) ∙ between_split b t.place.at t.place.end p.end k.held.lies.0 k.ends
 
   pub known_root : (e : Encoding) (s : List ℕ) → root_identity e (span_bytes b t.place) s ≡ root_identity e (span_bytes b p) s
   unfolding root_identity

@@ -226,13 +226,16 @@ fn root_in(table: &[u8], codes: CodeTree<'_>, s: &[u8]) -> Result<Root, Refusal>
     ensures { RootFound table.now s.now result }
 {
     let (code, values) = leb128::read_unsigned(s)?;
-    match crate::abbreviations::find_in(table, codes, code) {
-        Some(root) if root_tag(root.tag) => Ok(Root {
-            attributes: root.start,
-            values,
-        }),
-        _ => Err(Refusal::NoIdentity),
+    let Some(root) = crate::abbreviations::find_in(table, codes, code) else {
+        return Err(Refusal::NoIdentity);
+    };
+    if !root_tag(root.tag) {
+        return Err(Refusal::NoIdentity);
     }
+    Ok(Root {
+        attributes: root.start,
+        values,
+    })
 }
 
 // The table stands at the front of a place of the bundle, which is abbrev from the header's offset on. s is the unit behind its header.

@@ -12,11 +12,11 @@ returns-in_err-code c =
     let p = err_from_is_err_and c.from_residual.result c.from_residual.ensures.1 in
     rw (p.1, p.2) (found_code _ _ _ _ c.requires _ c.in_err-code.ensures)
 
-pub returns-in-Some : goal.returns-in-Some
-returns-in-Some c = found_root _ _ _ _ c.requires _ _ (sym c.in_ok-code.ensures) _ c.in-Some.ensures (sym c.root_tag.ensures ∙ c.if-root_tag.true)
-
 pub returns-in_default : goal.returns-in_default
-returns-in_default c = found_other _ _ _ _ c.requires _ _ (sym c.in_ok-code.ensures) _ c.in-Some.ensures (sym c.root_tag.ensures ∙ c.if-root_tag.false)
+returns-in_default c = found_missing _ _ _ _ c.requires _ _ (sym c.in_ok-code.ensures) c.in_default.ensures
 
-pub returns-in_default-2 : goal.returns-in_default-2
-returns-in_default-2 c = found_missing _ _ _ _ c.requires _ _ (sym c.in_ok-code.ensures) c.in_default.ensures
+pub returns-then-not-root_tag : goal.returns-then-not-root_tag
+returns-then-not-root_tag c = found_other _ _ _ _ c.requires _ _ (sym c.in_ok-code.ensures) _ c.in-Some.ensures (sym c.root_tag.ensures ∙ c.if-not-root_tag.true)
+
+pub returns : goal.returns
+returns c = found_root _ _ _ _ c.requires _ _ (sym c.in_ok-code.ensures) _ c.in-Some.ensures (sym c.root_tag.ensures ∙ c.if-not-root_tag.false)
