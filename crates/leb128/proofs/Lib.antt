@@ -1,6 +1,7 @@
 -- Laws of LEB128 numbers, and the proofs of their readers.
 -- Assumes nothing.
 pub mod Taken
+pub mod Local
 pub mod Readers
 pub mod Tenth
 pub mod Examples

@@ -142,11 +142,11 @@ module _ (s : List ℕ) where
     unfolding attributes_then
     attributes_more h = attributes_is s ∙ then_pass _ _ _ e ∙ rw (attributes_then, ne_eqb a.name 0 h)
 
-then_end : (a : Attribute) (n : ℕ) (f : ℕ → Check (List Attribute × ℕ)) → a.name ≡ 0 → attributes_then a n f ≡ pass ([], n)
+pub then_end : (a : Attribute) (n : ℕ) (f : ℕ → Check (List Attribute × ℕ)) → a.name ≡ 0 → attributes_then a n f ≡ pass ([], n)
 unfolding attributes_then
 then_end a n f h = rw (attributes_then, eq-eqb a.name 0 h)
 
-then_more : (a : Attribute) (n : ℕ) (f : ℕ → Check (List Attribute × ℕ)) → (a.name ≡ 0 → ⊥) → attributes_then a n f ≡ (f n >>= λ r. pass (a ∷ r.0, n + r.1))
+pub then_more : (a : Attribute) (n : ℕ) (f : ℕ → Check (List Attribute × ℕ)) → (a.name ≡ 0 → ⊥) → attributes_then a n f ≡ (f n >>= λ r. pass (a ∷ r.0, n + r.1))
 unfolding attributes_then
 then_more a n f h = rw (attributes_then, ne_eqb a.name 0 h)
 

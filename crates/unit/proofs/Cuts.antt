@@ -1,11 +1,11 @@
 -- The parts of a bundle that a unit is read from.
 -- Assumes nothing.
 use mathlib.Core.Path.{◌≡◌, sym, ap, ap₂, ◌∙◌}
-use mathlib.Core.List.{List}
+use mathlib.Core.List.{List, ◌++◌}
 use Prim.Native.Nat.{ℕ, ◌+◌, ◌-◌, ◌≤◌, ◌<◌}
 use native.Mathlib.Omega.{arith}
 use lib.ListN.{length, take, drop, length-drop}
-use lib.Seq.{drop-drop, take-take, length-take-le}
+use lib.Seq.{drop-drop, take-take, take-add, length-take-le}
 use Rattle.octets.specs.Octets.{part}
 use Rattle.octets.specs.Checked.{pass, refuse, ◌>>=◌}
 use Rattle.octets.proofs.Checks.{then_pass, then_refuse}
@@ -27,6 +27,13 @@ pub between_drop : (b : List ℕ) (first last n : ℕ) → between b (first + n)
 between_drop b first last n =
     let m : last - first - n ≡ last - (first + n) = omega arith in
     sym (drop_take n (last - first) (drop first b) ∙ ap₂ (λ (k : ℕ) (x : List ℕ). take k x) m (drop-drop n first b))
+
+pub between_split : (b : List ℕ) (first middle last : ℕ) → first ≤ middle → middle ≤ last → between b first last ≡ between b first middle ++ between b middle last
+between_split b first middle last h g =
+    let n : last - first ≡ middle - first + (last - middle) = omega arith in
+    let m : first + (middle - first) ≡ middle = omega arith in
+    ap (λ (k : ℕ). take k (drop first b)) n ∙ take-add (middle - first) (last - middle) (drop first b)
+    ∙ ap (λ (x : List ℕ). between b first middle ++ take (last - middle) x) (drop-drop (middle - first) first b ∙ ap (λ (k : ℕ). drop k b) m)
 
 -- ---- a unit in its bytes: v is how the code cuts them
 module _ (e : Encoding) (home : ℕ) (a b : List ℕ) (at size : ℕ) (h : at + size ≤ length b) where

@@ -28,6 +28,7 @@ pub record Stands (s : List ℕ) (p : Place) : Type 0 where
   pub read : attributes_of (drop p.start s) ≡ pass (attributes, size)
   pub head : 2 ≤ p.start
   pub order : p.start + 2 ≤ p.end
+  pub whole : p.start + size ≡ p.end
   pub within : p.end ≤ length s
   pub is : (code : ℕ) → declaration_at code s ≡ pass (declared code p.tag attributes, p.end)
 
@@ -50,6 +51,7 @@ place_stands s p e =
       read = ap attributes_of (sym (drop-drop 1 tag.0.1 s)) ∙ read.1;
       head = omega (arith, h.some);
       order = omega (arith, w.0, m);
+      whole = omega (arith, m);
       within = omega (arith, w.1, w.0, h.within, m, length-drop tag.0.1 s, length-drop 1 (drop tag.0.1 s));
       is = λ code. then_pass _ _ _ tag.1 ∙ passes _ _ _ named.0 ∙ passes _ _ _ child.0 ∙ then_pass _ _ _ read.1
           ∙ ap (λ (k : ℕ). pass (declared code tag.0.0 read.0.0, tag.0.1 + 1 + k)) m;

@@ -15,13 +15,13 @@ use Rattle.octets.proofs.Checks.{true_false}
 use Rattle.octets.proofs.Placed.{length_placed, take_placed}
 use Rattle.octets.proofs.Regions.{placed_whole, get_d_placed, get_d_before, get_d_behind}
 use Rattle.unit.specs.Trees.{carried_at, Tree, Fresh, Grown, Added}
-use Rattle.unit.specs.TableTrees.{TableHeld, span_bytes, Held, directory_size, directory, key_of, table_from, Stored, Tables, Lies, Enters, Enterable, Knows, Lent}
+use Rattle.unit.specs.TableTrees.{TableHeld, span_bytes, Held, directory_size, directory, table_from, Stored, run_key, Noted, Entries, Lies, Enters, Enterable, Knows, Lent}
 use Rattle.unit.specs.declared.judged.Span.{Span}
 use Rattle.unit.specs.declared.judged.JudgedTable.{JudgedTable}
 use Rattle.unit.specs.declared.judged.Judged.{Judged}
 use Rattle.unit.proofs.Recalling.{recalled}
 use Rattle.unit.proofs.Finding.{held_rising}
-use Rattle.unit.proofs.Holding.{held_kept, held_in, stored_kept, key_at, key_end, tables_rising, tables_kept, remembers_tables}
+use Rattle.unit.proofs.Holding.{held_kept, held_in, noted_kept, entries_rising, entries_kept, remembers_entries}
 
 -- ---- a table that was judged into the words from a place on
 module _ (b w x : List ℕ) (from n : ℕ) (l : length x ≡ n) (h : from + n ≤ length w) where
@@ -31,152 +31,189 @@ module _ (b w x : List ℕ) (from n : ℕ) (l : length x ≡ n) (h : from + n �
   left_is : left ≡ placed w from x
   left_is = placed_whole w from n x l
 
-  left_held : (p : Span) (count : ℕ) → TableHeld (span_bytes b p) x count → Held b left (record { place = p; from = from; count = count })
-  left_held p count t =
-      rw left_is (held_in b (placed w from x) x p from count t (omega (arith, length_placed w from x (omega arith))) (λ q g. get_d_placed w from x q g (omega arith)))
+  left_held : (p : Span) (count : ℕ) → Lies b p → TableHeld (span_bytes b p) x count → Held b left (record { place = p; from = from; count = count })
+  left_held p count o t =
+      rw left_is (held_in b (placed w from x) x p from count o t (omega (arith, length_placed w from x (omega arith))) (λ q g. get_d_placed w from x q g (omega arith)))
 
   left_front : (m : ℕ) → m ≤ from → take m left ≡ take m w
   left_front m g = rw left_is (take_placed w from x m g (omega arith))
 
-  left_tables : (k free : ℕ) → directory_size b ≤ from → free ≤ from → Tables b w k free → Tables b left k free
-  left_tables k free d f t =
-      rw left_is (tables_kept b w (placed w from x) k free from (length_placed w from x (omega arith)) f (take_placed w from x (directory_size b) d (omega arith)) (λ i g. get_d_before w from x i g (omega arith)) t)
+  left_entries : (k free : ℕ) → directory_size b ≤ from → free ≤ from → Entries b w k free → Entries b left k free
+  left_entries k free d f t =
+      rw left_is (entries_kept b w (placed w from x) k free from (length_placed w from x (omega arith)) f (take_placed w from x (directory_size b) d (omega arith)) (λ i g. get_d_before w from x i g (omega arith)) t)
 
--- ---- a table that the directory has from now on
--- its count is stored
-module _ (w u : List ℕ) (size start count : ℕ) (ui : u ≡ placed w start (count ∷ [])) (h : start < length w) (d : size ≤ start) where
-  counted_front : take size u ≡ take size w
-  counted_front = ap (take size) ui ∙ take_placed w start (count ∷ []) size d (omega arith)
+-- ---- one entry more, where y is what the directory is left as
+module _ (b w y : List ℕ) (n free size : ℕ) (e : size ≡ directory_size b) (t : Entries b w n free) (h : size ≤ length w) (ly : length y ≡ length (take size w)) where
+  abbrev grown : List ℕ
+  grown = y ++ drop size w
 
-  counted_length : length u ≡ length w
-  counted_length = ap length ui ∙ length_placed w start (count ∷ []) (omega arith)
+  y_length : length y ≡ size
+  y_length = ly ∙ length-take-le size w h
 
-  pub counted_size : size ≡ length (take size u)
-  counted_size = sym (length-take-le size u (omega (arith, counted_length)))
+  grown_front : directory b grown ≡ y
+  grown_front = ap (λ (m : ℕ). take m grown) (sym e) ∙ take_at y (drop size w) size y_length
 
--- y is what the directory is left as
-module _ (b w u y : List ℕ) (size start : ℕ) (t : JudgedTable) (j : Judged) (e : Enters b w size start t j) (f : t.from ≡ start + 1) (ui : u ≡ placed w start (t.count ∷ [])) (h : start < length w) (d : size ≤ start)
-    (ly : length y ≡ length (take size u)) (small : t.place.at < 2 ^ 32) where
-  abbrev key : ℕ
-  key = key_of t.place
+  pub grown_length : length grown ≡ length w
+  grown_length = omega (arith, length-append y (drop size w), length-drop size w, y_length)
+
+  pub grown_behind : (i : ℕ) → size ≤ i → get_or grown i 0 ≡ get_or w i 0
+  grown_behind i g =
+      let k : length y + (i - size) ≡ i = omega (arith, y_length) in
+      let m : size + (i - size) ≡ i = omega arith in
+      ap (λ (q : ℕ). get_or grown q 0) (sym k) ∙ get_or-append-add y (drop size w) (i - size) 0 ∙ get_or-drop size w (i - size) 0 ∙ ap (λ (q : ℕ). get_or w q 0) m
+
+  module _ (key carried : ℕ) (f : Fresh (directory b w) n key) (added : Bool)
+      (a : (cs : List ℕ) → length cs ≡ n → Tree (take size w) cs → Added (take size w) y cs carried key added) where
+    abbrev keys : List ℕ
+    keys = t.keys
+
+    front : take size w ≡ directory b w
+    front = ap (λ (m : ℕ). take m w) e
+
+    grows : Grown (take size w) y keys carried key
+    unfolding Added Fresh
+    grows = go added (a keys t.counted (rw front t.tree))
+      where
+        go : (r : Bool) → Added (take size w) y keys carried key r → Grown (take size w) y keys carried key
+        go true g = g
+        go false g = absurd (true_false g (f keys t.counted t.tree))
+
+    module _ (more : ℕ) (l : free ≤ more) (new : Noted b grown more carried key) where
+      old_noted : (k : ℕ) → k < n → Noted b grown more (carried_at (directory b grown) k) (get_or (keys ++ (key ∷ [])) k 0)
+      old_noted k g =
+          let m : k < length keys = omega (arith, t.counted) in
+          let c : carried_at (directory b grown) k ≡ carried_at (directory b w) k = ap (λ (x : List ℕ). carried_at x k) grown_front ∙ grows.others k m ∙ ap (λ (x : List ℕ). carried_at x k) front in
+          rw (c, get_or-append keys (key ∷ []) 0 k m)
+          (noted_kept b w grown free more _ _ grown_length l (λ i g n. grown_behind i (omega (arith, e))) (t.noted k g))
+
+      last_noted : (k : ℕ) → k ≡ length keys → Noted b grown more (carried_at (directory b grown) k) (get_or (keys ++ (key ∷ [])) k 0)
+      last_noted k i =
+          let c : carried_at (directory b grown) k ≡ carried = ap₂ carried_at grown_front i ∙ grows.carries in
+          rw (c, i, get_or-append_seam keys key [] 0) new
+
+      pub entries_more : Entries b grown (n + 1) more
+      entries_more = record {
+        keys = keys ++ (key ∷ []);
+        counted = length-append keys (key ∷ []) ∙ ap (λ (m : ℕ). m + 1) t.counted;
+        tree = rw grown_front grows.tree;
+        noted = λ k g. elim (dec_le (k + 1) n) [
+          | yes m ↦ old_noted k (omega arith)
+          | no m ↦ last_noted k (omega (arith, t.counted))
+        ];
+      }
+
+-- ---- a table that the directory has from now on: u is what is left once the numbers of its declarations and bytes are stored, and y what the directory is
+-- left as behind that
+module _ (b w u y : List ℕ) (size start : ℕ) (t : JudgedTable) (j : Judged) (e : Enters b w size start t j) (f : t.from ≡ start + 2)
+    (ui : u ≡ placed w start (t.count ∷ (t.place.end - t.place.at) ∷ [])) (h : start + 2 ≤ length w) (d : size ≤ start) (ly : length y ≡ length (take size u)) where
+  abbrev bytes : ℕ
+  bytes = t.place.end - t.place.at
+
+  abbrev head : List ℕ
+  head = t.count ∷ bytes ∷ []
+
+  u_length : length u ≡ length w
+  u_length = ap length ui ∙ length_placed w start head (omega arith)
+
+  u_front : take size u ≡ take size w
+  u_front = ap (take size) ui ∙ take_placed w start head size d (omega arith)
+
+  u_room : size ≤ length u
+  u_room = omega (arith, u_length)
+
+  u_other : (i : ℕ) → (start ≤ i → i < start + 2 → ⊥) → get_or u i 0 ≡ get_or w i 0
+  u_other i z = ap (λ (x : List ℕ). get_or x i 0) ui ∙ elim (dec_le (i + 1) start) [
+    | yes m ↦ get_d_before w start head i (omega arith) (omega arith)
+    | no m ↦ elim (dec_le (start + 2) i) [
+      | yes n ↦ get_d_behind w start head i (omega arith) (omega arith)
+      | no n ↦ absurd (z (omega arith) (omega arith))
+    ]
+  ]
+
+  u_entries : Entries b u j.entries j.free
+  u_entries =
+      entries_kept b w u j.entries j.free start u_length e.free_is (ap (λ (n : ℕ). take n u) (sym e.size_is) ∙ u_front ∙ ap (λ (n : ℕ). take n w) e.size_is)
+      (λ i l. u_other i (λ m n. omega arith)) e.entries
 
   abbrev v : List ℕ
   v = y ++ drop size u
 
-  abbrev keys : List ℕ
-  keys = e.tables.keys
-
-  y_length : length y ≡ size
-  y_length = ly ∙ sym (counted_size w u size start t.count ui h d)
-
-  front : take size u ≡ directory b w
-  front = counted_front w u size start t.count ui h d ∙ ap (λ (n : ℕ). take n w) e.size_is
-
-  tree_u : Tree (take size u) keys
-  tree_u = rw front e.tables.tree
-
-  v_front : directory b v ≡ y
-  v_front = ap (λ (n : ℕ). take n v) (sym e.size_is) ∙ take_at y (drop size u) size y_length
-
   v_length : length v ≡ length w
-  v_length = omega (arith, length-append y (drop size u), length-drop size u, counted_length w u size start t.count ui h d, y_length)
+  v_length = grown_length b u y j.entries j.free size e.size_is u_entries u_room ly ∙ u_length
 
   v_behind : (i : ℕ) → size ≤ i → get_or v i 0 ≡ get_or u i 0
-  v_behind i g =
-      let k : length y + (i - size) ≡ i = omega (arith, y_length) in
-      let m : size + (i - size) ≡ i = omega arith in
-      ap (λ (n : ℕ). get_or v n 0) (sym k) ∙ get_or-append-add y (drop size u) (i - size) 0 ∙ get_or-drop size u (i - size) 0 ∙ ap (λ (n : ℕ). get_or u n 0) m
+  v_behind = grown_behind b u y j.entries j.free size e.size_is u_entries u_room ly
 
-  kept : (i : ℕ) → size ≤ i → (i ≡ start → ⊥) → get_or v i 0 ≡ get_or w i 0
-  kept i g z = v_behind i g ∙ ap (λ (x : List ℕ). get_or x i 0) ui ∙ elim (dec_le start i) [
-    | yes m ↦ get_d_behind w start (t.count ∷ []) i (omega arith) (omega arith)
-    | no m ↦ get_d_before w start (t.count ∷ []) i (omega arith) (omega arith)
-  ]
+  -- the words in front of its tree
+  stored_at : (i : ℕ) → i < 2 → get_or v (start + i) 0 ≡ get_or head i 0
+  stored_at i l = v_behind (start + i) (omega arith) ∙ ap (λ (x : List ℕ). get_or x (start + i) 0) ui ∙ get_d_placed w start head i (omega arith) (omega arith)
 
   at_start : get_or v start 0 ≡ t.count
-  at_start =
-      let z : start + 0 ≡ start = omega arith in
-      v_behind start d ∙ ap₂ (λ (x : List ℕ) (n : ℕ). get_or x n 0) ui (sym z) ∙ get_d_placed w start (t.count ∷ []) 0 (omega arith) (omega arith)
+  at_start = let z : start ≡ start + 0 = omega arith in ap (λ (n : ℕ). get_or v n 0) z ∙ stored_at 0 (omega arith)
 
   new_held : Held b v t
-  new_held = held_kept b w v t v_length (λ i g l. kept i (omega arith) (λ z. absurd (omega arith))) e.held
+  new_held = held_kept b w v t v_length (λ i g l. v_behind i (omega arith) ∙ u_other i (λ m n. absurd (omega arith))) e.held
 
-  new_stored : Stored b v (t.from + 5 * t.count) start key
+  new_stored : Stored b v (t.from + 5 * t.count) start t.place.at
   unfolding table_from
-  new_stored = record {
-    behind = omega (arith, e.size_is);
-    before = omega (arith, at_start);
-    held = rw (at_start, key_at t.place small, key_end t.place small, ← f) new_held;
-  }
+  new_stored =
+      let l = e.held.lies.0 in
+      let whole : t.place.at + bytes ≡ t.place.end = omega arith in
+      record {
+        behind = omega (arith, e.size_is);
+        before = omega (arith, at_start);
+        held = rw (at_start, stored_at 1 (omega arith), whole, ← f) new_held;
+      }
 
-  module _ (code : ℕ) (added : Bool) (c : code ≡ key) (a : (cs : List ℕ) → length cs ≡ j.tables → Tree (take size u) cs → Added (take size u) y cs start code added) where
-    grown : Grown (take size u) y keys start key
-    unfolding Added Fresh
-    grown = go added (subst (λ (x : ℕ). Added (take size u) y keys start x added) c (a keys e.tables.counted tree_u))
+  module _ (small : t.place.at < 2 ^ 32) (code : ℕ) (added : Bool) (c : code ≡ t.place.at)
+      (a : (cs : List ℕ) → length cs ≡ j.entries → Tree (take size u) cs → Added (take size u) y cs start code added) where
+    new_noted : Noted b v (t.from + 5 * t.count) start t.place.at
+    unfolding run_key
+    new_noted = record { table = λ l. new_stored; run = λ at known l i. absurd (no_run at known i) }
       where
-        go : (r : Bool) → Added (take size u) y keys start key r → Grown (take size u) y keys start key
-        go true g = g
-        go false g = absurd (true_false g (e.fresh keys e.tables.counted e.tables.tree))
+        no_run : (at : ℕ) (known : Bool) → t.place.at ≡ run_key at known → ⊥
+        no_run at true i = omega (arith, i)
+        no_run at false i = omega (arith, i)
 
-    old_stored : (k : ℕ) → k < j.tables → Stored b v (t.from + 5 * t.count) (carried_at (directory b v) k) (get_or (keys ++ (key ∷ [])) k 0)
-    old_stored k l =
-        let m : k < length keys = omega (arith, e.tables.counted) in
-        let c : carried_at (directory b v) k ≡ carried_at (directory b w) k = ap (λ (x : List ℕ). carried_at x k) v_front ∙ grown.others k m ∙ ap (λ (x : List ℕ). carried_at x k) front in
-        rw (c, get_or-append keys (key ∷ []) 0 k m)
-        (stored_kept b w v j.free (t.from + 5 * t.count) _ _ v_length (omega (arith, e.free_is)) (λ i g n. kept i (omega (arith, e.size_is)) (λ z. absurd (omega (arith, e.free_is)))) (e.tables.stored k l))
+    pub entered : Knows b v t.place (record { last = Some t; entries = j.entries + 1; free = t.from + 5 * t.count }) t
+    entered =
+        recalled b v t.place t (j.entries + 1) (t.from + 5 * t.count) refl (omega arith) new_held
+        (entries_more b u y j.entries j.free size e.size_is u_entries u_room ly t.place.at start (subst (λ (x : List ℕ). Fresh x j.entries t.place.at) (sym (ap (λ (n : ℕ). take n u) (sym e.size_is) ∙ u_front ∙ ap (λ (n : ℕ). take n w) e.size_is)) e.fresh) added
+        (rw c at a) (t.from + 5 * t.count) (omega (arith, e.free_is)) new_noted)
 
-    last_stored : (k : ℕ) → k ≡ length keys → Stored b v (t.from + 5 * t.count) (carried_at (directory b v) k) (get_or (keys ++ (key ∷ [])) k 0)
-    last_stored k i =
-        let c : carried_at (directory b v) k ≡ start = ap₂ carried_at v_front i ∙ grown.carries in
-        rw (c, i, get_or-append_seam keys key [] 0) new_stored
-
-    v_tables : Tables b v (j.tables + 1) (t.from + 5 * t.count)
-    v_tables = record {
-      keys = keys ++ (key ∷ []);
-      counted = length-append keys (key ∷ []) ∙ ap (λ (n : ℕ). n + 1) e.tables.counted;
-      tree = rw v_front grown.tree;
-      stored = λ k l. elim (dec_le (k + 1) j.tables) [
-        | yes g ↦ old_stored k (omega arith)
-        | no g ↦ last_stored k (omega (arith, e.tables.counted))
-      ];
-    }
-
-    pub entered : Knows b v t.place (record { last = Some t; tables = j.tables + 1; free = t.from + 5 * t.count }) t
-    entered = recalled b v t (j.tables + 1) (t.from + 5 * t.count) new_held v_tables
-
--- ---- behind the other tables: x is what the words behind the new one's count are left as
-module _ (b w x : List ℕ) (j : Judged) (start : ℕ) (p : Span) (count : ℕ) (m : Lent b w j) (g : start < length b)
-    (s : (j.free ≤ start) × (length b / 5 ≤ start) × (5 * j.tables + 5 ≤ length b / 5))
-    (lx : length x ≡ length (mid_of (start + 1) (length b - (start + 1)) w)) (o : Lies b p) (t : TableHeld (span_bytes b p) x count) where
+-- ---- behind the other tables: x is what the words behind the new one's first two are left as
+module _ (b w x : List ℕ) (j : Judged) (start : ℕ) (p : Span) (count : ℕ) (m : Lent b w j) (g : start + 2 ≤ length b)
+    (s : (j.free ≤ start) × (length b / 5 ≤ start) × (5 * j.entries + 5 ≤ length b / 5))
+    (lx : length x ≡ length (mid_of (start + 2) (length b - (start + 2)) w)) (o : Lies b p) (t : TableHeld (span_bytes b p) x count) where
   abbrev n : ℕ
-  n = length b - (start + 1)
+  n = length b - (start + 2)
 
   x_length : length x ≡ n
-  x_length = lx ∙ mid_len (start + 1) (length b) w m.room
+  x_length = lx ∙ mid_len (start + 2) (length b) w m.room
 
-  room : start + 1 + n ≤ length w
+  room : start + 2 + n ≤ length w
   room = omega (arith, m.room)
 
   abbrev table : JudgedTable
-  table = record { place = p; from = start + 1; count = count }
+  table = record { place = p; from = start + 2; count = count }
 
-  new : Held b (put_mid (start + 1) n w x) table
-  new = left_held b w x (start + 1) n x_length room p count t
+  new : Held b (put_mid (start + 2) n w x) table
+  new = left_held b w x (start + 2) n x_length room p count o t
 
-  others : Tables b (put_mid (start + 1) n w x) j.tables j.free
-  others = left_tables b w x (start + 1) n x_length room j.tables j.free (omega (arith, s)) (omega (arith, s)) (remembers_tables b w j m.memory)
+  others : Entries b (put_mid (start + 2) n w x) j.entries j.free
+  others = left_entries b w x (start + 2) n x_length room j.entries j.free (omega (arith, s)) (omega (arith, s)) (remembers_entries b w j m.memory)
 
-  pub behind_enters : Fresh (directory b w) j.tables (key_of p) → Enters b (put_mid (start + 1) n w x) (length b / 5) start table j
+  pub behind_enters : Fresh (directory b w) j.entries p.at → Enters b (put_mid (start + 2) n w x) (length b / 5) start table j
   behind_enters f = record {
     size_is = refl;
     free_is = s.0;
-    fresh = subst (λ (d : List ℕ). Fresh d j.tables (key_of p)) (sym (left_front b w x (start + 1) n x_length room (directory_size b) (omega (arith, s)))) f;
-    tables = others;
+    fresh = subst (λ (d : List ℕ). Fresh d j.entries p.at) (sym (left_front b w x (start + 2) n x_length room (directory_size b) (omega (arith, s)))) f;
+    entries = others;
     held = new;
   }
 
-  pub behind_requires : Enterable (put_mid (start + 1) n w x) (length b / 5) start table j
+  pub behind_requires : Enterable (put_mid (start + 2) n w x) (length b / 5) start table j
   behind_requires =
       let r : 5 * count ≤ length x = (held_rising (span_bytes b p) x count t).room in
       let small = m.small in
-      (omega arith, omega arith, omega (arith, x_length), omega arith, refl, s.1, new.inside, s.2, tables_rising b (put_mid (start + 1) n w x) j.tables j.free others)
+      (o.0, omega arith, omega (arith, x_length), omega arith, refl, s.1, new.inside, s.2, entries_rising b (put_mid (start + 2) n w x) j.entries j.free others)

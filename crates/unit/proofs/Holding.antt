@@ -2,13 +2,13 @@
 -- Assumes nothing.
 use mathlib.Core.Path.{◌≡◌, refl, sym, subst, ap, ap₂, ◌∙◌}
 use mathlib.Core.List.{List, []}
-use Prim.Native.Nat.{ℕ, ◌+◌, ◌*◌, ◌/◌, ◌%◌, ◌^◌, ◌<◌, ◌≤◌}
+use Prim.Native.Nat.{ℕ, ◌+◌, ◌*◌, ◌^◌, ◌<◌, ◌≤◌}
 use native.Mathlib.Omega.{arith}
 use lib.ListN.{length, take, get_or, length-map, length-take}
 use Rattle.octets.specs.Octets.{part}
 use Rattle.octets.proofs.Parts.{length_part, get_d_part}
 use Rattle.unit.specs.Trees.{code_at, carried_at, Rising, Linked, Tree}
-use Rattle.unit.specs.TableTrees.{codes_of, no_declaration, Declares, TableHeld, span_bytes, Held, directory_size, directory, key_of, table_from, Stored, Tables, Remembers}
+use Rattle.unit.specs.TableTrees.{codes_of, no_declaration, Declares, TableHeld, span_bytes, Held, directory_size, directory, table_from, Stored, Noted, Entries, Lies, Remembers}
 use Rattle.unit.specs.declared.judged.Span.{Span}
 use Rattle.unit.specs.declared.judged.JudgedTable.{JudgedTable}
 use Rattle.unit.specs.declared.judged.Judged.{Judged}
@@ -53,65 +53,66 @@ held_kept b w v t l same h =
     let n = 5 * t.count in
     let room : t.from + 5 * t.count ≤ length v = omega (arith, l, h.inside) in
     record {
+      lies = h.lies;
       inside = room;
       is = held_same (span_bytes b t.place) (part w t.from n) (part v t.from n) t.count h.is (omega (arith, length_part v t.from n room))
           (λ q g. get_d_part v t.from n q g ∙ same (t.from + q) (omega arith) (omega arith) ∙ sym (get_d_part w t.from n q g));
     }
 
 -- words x that hold it, in the words v
-pub held_in : (b v x : List ℕ) (p : Span) (from n : ℕ) → TableHeld (span_bytes b p) x n → from + length x ≤ length v → ((q : ℕ) → q < length x → get_or v (from + q) 0 ≡ get_or x q 0)
+pub held_in : (b v x : List ℕ) (p : Span) (from n : ℕ) → Lies b p → TableHeld (span_bytes b p) x n → from + length x ≤ length v → ((q : ℕ) → q < length x → get_or v (from + q) 0 ≡ get_or x q 0)
     → Held b v (record { place = p; from = from; count = n })
-held_in b v x p from n t room same =
+held_in b v x p from n o t room same =
     let r : 5 * n ≤ length x = (held_rising (span_bytes b p) x n t).room in
     let inside : from + 5 * n ≤ length v = omega arith in
     record {
+      lies = o;
       inside = inside;
       is = held_same (span_bytes b p) x (part v from (5 * n)) n t (omega (arith, length_part v from (5 * n) inside)) (λ q g. get_d_part v from (5 * n) q g ∙ same q (omega arith));
     }
 
 -- with all the words
-pub held_alone : (b w : List ℕ) (p : Span) (n : ℕ) → TableHeld (span_bytes b p) w n → Held b w (record { place = p; from = 0; count = n })
-held_alone b w p n t = held_in b w w p 0 n t (omega arith) (λ q g. let e : 0 + q ≡ q = omega arith in ap (λ (m : ℕ). get_or w m 0) e)
+pub held_alone : (b w : List ℕ) (p : Span) (n : ℕ) → Lies b p → TableHeld (span_bytes b p) w n → Held b w (record { place = p; from = 0; count = n })
+held_alone b w p n o t = held_in b w w p 0 n o t (omega arith) (λ q g. let e : 0 + q ≡ q = omega arith in ap (λ (m : ℕ). get_or w m 0) e)
 
-pub stored_kept : (b w v : List ℕ) (free more start key : ℕ) → length v ≡ length w → free ≤ more → ((i : ℕ) → directory_size b ≤ i → i < free → get_or v i 0 ≡ get_or w i 0)
-    → Stored b w free start key → Stored b v more start key
+-- as the directory has it
+stored_kept : (b w v : List ℕ) (free more start at : ℕ) → length v ≡ length w → free ≤ more → ((i : ℕ) → directory_size b ≤ i → i < free → get_or v i 0 ≡ get_or w i 0)
+    → Stored b w free start at → Stored b v more start at
 unfolding table_from
-stored_kept b w v free more start key l m same s =
+stored_kept b w v free more start at l m same s =
     let e : get_or v start 0 ≡ get_or w start 0 = same start s.behind (omega (arith, s.before)) in
+    let g : get_or v (start + 1) 0 ≡ get_or w (start + 1) 0 = same (start + 1) (omega (arith, s.behind)) (omega (arith, s.before)) in
     record {
       behind = s.behind;
       before = omega (arith, e, s.before);
-      held = subst (λ (n : ℕ). Held b v (record { place = record { at = key % 2 ^ 32; end = key / 2 ^ 32 }; from = start + 1; count = n })) (sym e)
-          (held_kept b w v (table_from w start key) l (λ i g h. same i (omega (arith, s.behind)) (omega (arith, s.before))) s.held);
+      held = subst (λ (t : JudgedTable). Held b v t)
+          (ap₂ (λ (x y : ℕ). record { place = record { at = at; end = at + x }; from = start + 2; count = y }) (sym g) (sym e))
+          (held_kept b w v (table_from w start at) l (λ i g h. same i (omega (arith, s.behind)) (omega (arith, s.before))) s.held);
     }
 
+pub noted_kept : (b w v : List ℕ) (free more carried key : ℕ) → length v ≡ length w → free ≤ more → ((i : ℕ) → directory_size b ≤ i → i < free → get_or v i 0 ≡ get_or w i 0)
+    → Noted b w free carried key → Noted b v more carried key
+noted_kept b w v free more carried key l m same n = record { table = λ h. stored_kept b w v free more carried key l m same (n.table h); run = n.run }
+
 -- ---- the directory
-pub key_at : (p : Span) → p.at < 2 ^ 32 → key_of p % 2 ^ 32 ≡ p.at
-unfolding key_of
-key_at p h = omega arith
+pub entries_none : (b w : List ℕ) (free : ℕ) → Entries b w 0 free
+entries_none b w free = record { keys = []; counted = refl; tree = tree_none (directory b w); noted = λ k l. absurd (omega arith) }
 
-pub key_end : (p : Span) → p.at < 2 ^ 32 → key_of p / 2 ^ 32 ≡ p.end
-unfolding key_of
-key_end p h = omega arith
+pub entries_rising : (b w : List ℕ) (n free : ℕ) → Entries b w n free → Rising (directory b w) n
+entries_rising b w n free t = rw (← t.counted) t.tree.rising
 
-pub tables_none : (b w : List ℕ) (free : ℕ) → Tables b w 0 free
-tables_none b w free = record { keys = []; counted = refl; tree = tree_none (directory b w); stored = λ k l. absurd (omega arith) }
-
-pub tables_rising : (b w : List ℕ) (n free : ℕ) → Tables b w n free → Rising (directory b w) n
-tables_rising b w n free t = rw (← t.counted) t.tree.rising
-
-pub tables_kept : (b w v : List ℕ) (n free start : ℕ) → length v ≡ length w → free ≤ start → take (directory_size b) v ≡ take (directory_size b) w
-    → ((i : ℕ) → i < start → get_or v i 0 ≡ get_or w i 0) → Tables b w n free → Tables b v n free
-tables_kept b w v n free start l f d same t = record {
+pub entries_kept : (b w v : List ℕ) (n free start : ℕ) → length v ≡ length w → free ≤ start → take (directory_size b) v ≡ take (directory_size b) w
+    → ((i : ℕ) → i < start → get_or v i 0 ≡ get_or w i 0) → Entries b w n free → Entries b v n free
+entries_kept b w v n free start l f d same t = record {
   keys = t.keys;
   counted = t.counted;
   tree = rw d t.tree;
-  stored = λ k g. rw d (stored_kept b w v free free _ _ l (omega arith) (λ i h m. same i (omega arith)) (t.stored k g));
+  noted = λ k g. rw d (noted_kept b w v free free _ _ l (omega arith) (λ i h m. same i (omega arith)) (t.noted k g));
 }
 
-pub tables_room : (b w : List ℕ) (n free : ℕ) → Tables b w n free → 5 * n ≤ directory_size b
-tables_room b w n free t = omega (arith, (tables_rising b w n free t).room, length-take (directory_size b) w)
+pub entries_room : (b w : List ℕ) (n free : ℕ) → Entries b w n free → 5 * n ≤ directory_size b
+entries_room b w n free t = omega (arith, (entries_rising b w n free t).room, length-take (directory_size b) w)
 
-pub remembers_tables : (b w : List ℕ) (j : Judged) → Remembers b w j → Tables b w j.tables j.free
+pub remembers_entries : (b w : List ℕ) (j : Judged) → Remembers b w j → Entries b w j.entries j.free
 unfolding Remembers
-remembers_tables b w j m = m.1
+remembers_entries b w j m = m.1

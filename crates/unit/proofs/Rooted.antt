@@ -4,10 +4,13 @@ use mathlib.Core.Path.{◌≡◌, refl, sym, ap, ◌∙◌}
 use mathlib.Core.Bool.{true, false}
 use mathlib.Core.List.{List}
 use mathlib.Core.Option.{none}
-use Rattle.std.specs.Prelude.{Some, None}
+use Rattle.std.specs.Prelude.{Some, None, Ok, Err}
+use Rattle.numbers.specs.Refused.{number_of}
+use Rattle.numbers.specs.declared.refusals.Refusal.{Refusal}
+use Rattle.numbers.specs.declared.refusals.Refusal.TheVariants.{NoIdentity}
 use Prim.Native.Nat.{ℕ, ◌+◌, ◌≤◌, ◌<◌}
 use native.Mathlib.Omega.{arith}
-use lib.ListN.{length, drop, drop_of_length-le}
+use lib.ListN.{length, drop_of_length-le}
 use Rattle.octets.specs.Checked.{pass, refuse, ◌>>=◌}
 use Rattle.octets.proofs.Checks.{true_false, then_pass, then_refuse, passes, fails}
 use Rattle.octets.proofs.Refusals.{Only, only_require, only_bind, only_refuses}
@@ -20,7 +23,9 @@ use Rattle.unit.specs.Root.{needed, root_tag, root_identity}
 use Rattle.octets.specs.Octets.{number_at}
 use Rattle.bundle.specs.InitialLength.{length_field}
 use Rattle.unit.specs.Headers.{table_at}
-use Rattle.unit.specs.Roots.{identity_from}
+use Rattle.unit.specs.Roots.{identity_from, RootFound}
+use Rattle.unit.specs.TableTrees.{TableHeld}
+use Rattle.unit.proofs.Sizes.{unsigned_within}
 use Rattle.unit.specs.declared.abbreviations.Heading.{Heading}
 use Rattle.unit.proofs.Declarations.{only_declarations_of}
 use Rattle.unit.proofs.Values.{only_needed}
@@ -45,34 +50,35 @@ module _ (e : Encoding) (table s : List ℕ) where
   unfolding root_identity table_good
   root_table h = sym (then_refuse _ _ 12 (bad_table table h))
 
-  module _ (ds : List Declaration) (g : declarations_of table ≡ pass ds) where
-    pub root_code : (k : ℕ) → refuse k ≡ unsigned s → refuse k ≡ root_identity e table s
-    unfolding root_identity
-    root_code k h = sym (then_pass _ _ _ g ∙ then_refuse _ _ k (sym h))
+-- ---- as the code finds it
+module _ (table s w : List ℕ) (count : ℕ) (t : TableHeld table w count) where
+  pub found_code : (x : Refusal) → refuse (number_of x) ≡ unsigned s → RootFound table s (Err x)
+  unfolding root_identity RootFound
+  found_code x h e = sym (then_pass _ _ _ t.read ∙ then_refuse _ _ _ (sym h))
 
-    module _ (code n : ℕ) (c : unsigned s ≡ pass (code, n)) where
-      pub root_missing : Finds table code None → refuse 12 ≡ root_identity e table s
-      unfolding root_identity needed Finds Located
-      root_missing h = sym (then_pass _ _ _ g ∙ then_pass _ _ _ c ∙ then_refuse _ _ 12 (ap needed (h ds g)))
+  module _ (code n : ℕ) (c : unsigned s ≡ pass (code, n)) where
+    pub found_missing : Finds table code None → RootFound table s (Err NoIdentity)
+    unfolding root_identity needed Finds Located RootFound
+    found_missing h e = sym (then_pass _ _ _ t.read ∙ then_pass _ _ _ c ∙ then_refuse _ _ 12 (ap needed (h t.declared t.read)))
 
-      module _ (f : Heading) (l : Finds table code (Some f)) where
-        located : Located table ds code (Some f)
-        unfolding Finds
-        located = l ds g
+    module _ (f : Heading) (l : Finds table code (Some f)) where
+      located : Located table t.declared code (Some f)
+      unfolding Finds
+      located = l t.declared t.read
 
-        pub found_within : f.start ≤ length table
-        unfolding Located
-        found_within = located.3
+      pub found_other : root_tag f.tag ≡ false → RootFound table s (Err NoIdentity)
+      unfolding root_identity needed Located RootFound
+      found_other h e = sym (then_pass _ _ _ t.read ∙ then_pass _ _ _ c ∙ then_pass _ _ _ (ap needed located.1) ∙ fails _ _ _ (ap root_tag located.2 ∙ h))
 
-        pub root_tag_law : root_tag f.tag ≡ false → refuse 12 ≡ root_identity e table s
-        unfolding root_identity needed Located
-        root_tag_law h = sym (then_pass _ _ _ g ∙ then_pass _ _ _ c ∙ then_pass _ _ _ (ap needed located.1) ∙ fails _ _ _ (ap root_tag located.2 ∙ h))
-
-        pub root_is : root_tag f.tag ≡ true → root_identity e table s ≡ identity_from e (drop f.start table) (drop n s) none
-        unfolding root_identity needed Located identity_from
-        root_is h =
-            then_pass _ _ _ g ∙ then_pass _ _ _ c ∙ then_pass _ _ _ (ap needed located.1) ∙ passes _ _ _ (ap root_tag located.2 ∙ h)
-            ∙ sym (then_pass _ _ _ located.4.1)
+      pub found_root : root_tag f.tag ≡ true → RootFound table s (Ok (record { attributes = f.start; values = n }))
+      unfolding root_identity needed Located identity_from RootFound
+      found_root h = (
+        located.3,
+        unsigned_within s code n c,
+        λ e.
+            then_pass _ _ _ t.read ∙ then_pass _ _ _ c ∙ then_pass _ _ _ (ap needed located.1) ∙ passes _ _ _ (ap root_tag located.2 ∙ h)
+            ∙ sym (then_pass _ _ _ located.4.1),
+      )
 
 -- an offset behind the end of abbrev: the table does not end
 pub root_past : (e : Encoding) (abbreviations u s : List ℕ) (at : ℕ) → at ≡ number_at e.big e.width u (length_field e + 2) → length abbreviations < at
@@ -81,4 +87,3 @@ unfolding table_at root_identity declarations_of declarations_from ◌>>=◌
 root_past e abbreviations u s at h g = let l : length abbreviations ≤ at = omega arith in rw (← h, drop_of_length-le abbreviations l)
 
 -- ---- as functions name them
-pub ruleset root_cases = (root_code, root_missing, found_within, root_tag_law, root_is)

@@ -1,36 +1,25 @@
 -- One attribute of the root, and the walk over all of them.
 -- Assumes nothing.
-use mathlib.Core.Path.{◌≡◌, refl, sym, ap, ap₂, subst, ◌∙◌}
-use mathlib.Core.Logic.{inl, inr}
-use mathlib.Core.Bool.{Bool, true, not}
+use mathlib.Core.Path.{◌≡◌, refl, sym, ap, ◌∙◌}
 use mathlib.Core.List.{List, [], ◌∷◌}
 use mathlib.Core.Option.{Option, some, none}
-use Prim.Native.Nat.{ℕ, zero, suc, ◌+◌, ◌*◌, ◌/◌, ◌-◌, ◌≤◌}
+use Prim.Native.Nat.{ℕ, ◌+◌, ◌≤◌}
 use native.Mathlib.Omega.{arith}
-use native.Mathlib.Decide.{ℕ_discrete, dec_le}
-use lib.Dec.{eqb, ltb}
-use lib.ListN.{length, take, drop, length-drop}
-use lib.Seq.{drop-drop}
-use borrow.Author.Tests.{eq-eqb, ne_eqb, eqb-true, leb-true, le-ltb, lt-ltb}
-use Rattle.std.specs.Prelude.{Some, None, cond}
-use Rattle.std.specs.Option.{unwrap_or}
-use Rattle.std.specs.List.{position_or_len}
-use Rattle.std.specs.Simd.{first_chunks}
-use Rattle.std.proofs.lemmas.List.Sums.{prefix_len-le-length}
+use native.Mathlib.Decide.{ℕ_discrete}
+use lib.Dec.{eqb}
+use lib.ListN.{length, drop}
+use borrow.Author.Tests.{eq-eqb, ne_eqb}
 use Rattle.octets.specs.Octets.{number_at}
 use Rattle.octets.specs.Checked.{Check, pass, refuse, ◌>>=◌, require}
-use Rattle.octets.proofs.Checks.{known, true_false, and_left, and_right, pass_refuse, pass_inj, bind_pass, then_pass, then_refuse, passes, fails}
+use Rattle.octets.proofs.Checks.{pass_refuse, pass_inj, bind_pass, then_pass, then_refuse, passes, fails}
 use Rattle.octets.proofs.Refusals.{Only, only_pass, only_require, only_bind, only_refuses}
-use Rattle.leb128.specs.Leb128.{short}
-use Rattle.leb128.proofs.Tenth.{short_one}
 use Rattle.bundle.specs.Encoding.{Encoding}
 use Rattle.octets.proofs.Options.{some_inj, some_none}
 use Rattle.unit.specs.Abbreviations.{Attribute, attribute_at, attributes_of}
 use Rattle.unit.specs.Root.{needed, Value, value_of, identity_at, identity_in}
-use Rattle.unit.specs.Roots.{Move, attribute_step, identity_from, is_flag, Skips}
-use Rattle.unit.proofs.Sizes.{rest}
-use Rattle.unit.proofs.Attributes.{before, attribute_good, attribute_at_taken, only_attribute_at, attributes_is, attributes_end, attributes_more, only_attributes_from}
-use Rattle.unit.proofs.Values.{value_within, value_flag, only_value_of, only_needed}
+use Rattle.unit.specs.Roots.{Move, attribute_step, identity_from}
+use Rattle.unit.proofs.Attributes.{before, attribute_at_taken, only_attribute_at, attributes_is, attributes_end, attributes_more, only_attributes_from}
+use Rattle.unit.proofs.Values.{value_within, only_value_of, only_needed}
 
 -- ---- what an attribute states
 module _ (e : Encoding) (name : ℕ) (v : Value) (s : List ℕ) where
@@ -205,115 +194,6 @@ unfolding identity_from attributes_of
 unread e t s seen h =
     sym (only_refuses 12 (identity_from e t s seen)
     (only_bind 12 _ _ (only_attributes_from _ t) (λ a. only_bind 12 _ _ (only_identity_in e a.0 s seen) only_needed)) h)
-
--- the same at places of the table and of the unit
-pub from_turn : (e : Encoding) (t s : List ℕ) (a at : ℕ) (seen : Option ℕ) (m : Move) → attribute_step e (drop a t) (drop at s) seen ≡ pass (some m)
-    → identity_from e (drop (a + m.taken) t) (drop (at + m.passed) s) m.seen ≡ identity_from e (drop a t) (drop at s) seen
-from_turn e t s a at seen m g =
-    ap₂ (λ (x y : List ℕ). identity_from e x y m.seen) (sym (drop-drop m.taken a t)) (sym (drop-drop m.passed at s))
-    ∙ sym (from_on e (drop a t) (drop at s) seen m g)
-
--- ---- flags that are present, with a name of one byte each
--- an attribute of another name than 2131 states nothing
-identity_same : (e : Encoding) (name : ℕ) (v : Value) (s : List ℕ) (seen : Option ℕ) → (name ≡ 0x2131 → ⊥) → identity_at e name v s seen ≡ pass seen
-identity_same e name v s (some x) h = identity_seen e name v s x
-identity_same e name v s none h = identity_other e name v s h
-
-skips_none : (t : List ℕ) → Skips t 0
-unfolding Skips
-skips_none t = (omega arith, λ e s seen. refl)
-
-module _ (x y : ℕ) (t : List ℕ) (z : x ≡ 0 → ⊥) (o : x ≤ 0x7f) (f : y ≡ 0x19) where
-  name_read : short (x ∷ y ∷ t) ≡ pass (x, 1)
-  name_read = sym (short_one (x ∷ y ∷ t) x (λ h. omega (arith, h)) refl (omega arith))
-
-  form_read : short (y ∷ t) ≡ pass (0x19, 1)
-  form_read = sym (short_one (y ∷ t) 0x19 (λ h. omega (arith, h)) (sym f) (omega arith))
-
-  flag_read : attribute_at (x ∷ y ∷ t) ≡ pass (record { name = x; form = 0x19 }, 2)
-  flag_read = attribute_good (x ∷ y ∷ t) x 1 name_read 0x19 1 form_read (rw (ne_eqb x 0 z) refl) (λ h. omega (arith, h))
-
-  flag_step : (e : Encoding) (s : List ℕ) (seen : Option ℕ) → attribute_step e (x ∷ y ∷ t) s seen ≡ pass (some (record { taken = 2; passed = 0; seen = seen }))
-  flag_step e s seen = step_on e (x ∷ y ∷ t) s seen _ 0x19 2 flag_read z _ (value_flag e 0x19 s refl) seen (identity_same e _ _ s seen (λ h. omega (arith, h, o)))
-
-  skips_more : (n : ℕ) → Skips t n → Skips (x ∷ y ∷ t) (suc (suc n))
-  unfolding Skips
-  skips_more n h = (omega (arith, h.0), λ e s seen. h.1 e s seen ∙ sym (from_on e (x ∷ y ∷ t) s seen _ (flag_step e s seen)))
-
-skips_flag : (x y : ℕ) (t : List ℕ) → is_flag (x ∷ y ∷ []) ≡ true → (n : ℕ) → Skips t n → Skips (x ∷ y ∷ t) (suc (suc n))
-unfolding is_flag
-skips_flag x y t g n h =
-    let named = and_right _ _ g in
-    skips_more x y t (λ z. true_false (and_left _ _ named) (ap not (eq-eqb x 0 z))) (leb-true x 0x7f (and_right _ _ named)) (eqb-true y 0x19 (and_left _ _ g)) n h
-
-abbrev pub other : List ℕ → Bool
-other p = not (is_flag p)
-
--- the place of the first, or where there is none the number of all
-searched_is : (p l : ℕ) → p ≤ l → unwrap_or (cond (ltb p l) (Some p) None) l ≡ p
-searched_is p l h = elim (dec_le l p) [
-  | yes g ↦ rw (le-ltb p l g) (omega arith)
-  | no g ↦ rw (lt-ltb p l (omega arith)) refl
-]
-
--- the pairs before the first that is no flag
-skips_flags : (c : ℕ) (t : List ℕ) → 2 * c ≤ length t → Skips t (2 * position_or_len other (first_chunks 2 c t))
-skips_flags zero t h = skips_none t
-skips_flags (suc c) [] h = absurd (omega arith)
-skips_flags (suc c) (x ∷ []) h = absurd (omega arith)
-skips_flags (suc c) (x ∷ y ∷ t) h =
-    elim (known (is_flag (x ∷ y ∷ []))) [
-      | inl g ↦ rw g (subst (Skips (x ∷ y ∷ t)) (omega arith) (skips_flag x y t g _ (skips_flags c t (omega arith))))
-      | inr g ↦ rw g (skips_none (x ∷ y ∷ t))
-    ]
-
--- as the search answers it
-pub skips_searched : (t : List ℕ) (cs : List (List ℕ)) → cs ≡ first_chunks 2 (length t / 2) t
-    → Skips t (2 * unwrap_or (cond (ltb (position_or_len other cs) (length cs)) (Some (position_or_len other cs)) None) (length cs))
-skips_searched t cs e =
-    rw (searched_is (position_or_len other cs) (length cs) (prefix_len-le-length _ cs), e) (skips_flags (length t / 2) t (omega arith))
-
--- ---- the walk, as the code takes it
-pub record Walked (e : Encoding) (t s : List ℕ) (a at : ℕ) (seen : Option ℕ) : Type 0 where
-  pub table : a ≤ length t
-  pub unit : at ≤ length s
-  pub same : identity_from e (drop a t) (drop at s) seen ≡ identity_from e t s none
-
-module _ (e : Encoding) (t s : List ℕ) (a at : ℕ) (seen : Option ℕ) (w : Walked e t s a at seen) where
-  pub walked_past : (n : ℕ) → Skips (take (length t - a) (drop a t)) n → Walked e t s (a + n) at seen
-  unfolding Skips
-  walked_past n h =
-      let k : Skips (drop a t) n = rw (rest a t) at h in
-      record {
-        table = omega (arith, k.0, length-drop a t, w.table);
-        unit = w.unit;
-        same = ap (λ (x : List ℕ). identity_from e x (drop at s) seen) (sym (drop-drop n a t)) ∙ k.1 e (drop at s) seen ∙ w.same;
-      }
-
-  abbrev step : Check (Option Move)
-  step = attribute_step e (take (length t - a) (drop a t)) (take (length s - at) (drop at s)) seen
-
-  whole : step ≡ attribute_step e (drop a t) (drop at s) seen
-  whole = ap₂ (λ (x y : List ℕ). attribute_step e x y seen) (rest a t) (rest at s)
-
-  pub walked_not : (k : ℕ) → refuse k ≡ step → refuse k ≡ identity_from e t s none
-  walked_not k h =
-      let g = sym (h ∙ whole) in
-      ap refuse ((only_step e (drop a t) (drop at s) seen).is k g) ∙ unread e (drop a t) (drop at s) seen (from_not e (drop a t) (drop at s) seen k g) ∙ w.same
-
-  pub walked_end : pass none ≡ step → needed seen ≡ identity_from e t s none
-  walked_end h = sym (from_end e (drop a t) (drop at s) seen (sym (h ∙ whole))) ∙ w.same
-
-  module _ (m : Move) (h : pass (some m) ≡ step) where
-    pub walked_taken : (1 ≤ m.taken) × (m.taken ≤ length (drop a t)) × (m.passed ≤ length (drop at s))
-    walked_taken = stepped_within e (drop a t) (drop at s) seen m (sym (h ∙ whole))
-
-    pub walked_on : Walked e t s (a + m.taken) (at + m.passed) m.seen
-    walked_on = record {
-      table = omega (arith, walked_taken, length-drop a t, w.table);
-      unit = omega (arith, walked_taken, length-drop at s, w.unit);
-      same = from_turn e t s a at seen m (sym (h ∙ whole)) ∙ w.same;
-    }
 
 -- ---- as functions name them
 pub ruleset identity_cases = (identity_seen, identity_other, identity_form, identity_stated)

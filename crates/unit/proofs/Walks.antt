@@ -34,6 +34,7 @@ pub record Fronts (s : List ℕ) (d : Coded) : Type 0 where
   -- a code, a tag, the children byte, and a pair of zeros
   pub least : 5 ≤ d.place.end
   pub order : d.place.start ≤ d.place.end
+  pub whole : d.place.start + size ≡ d.place.end
   pub within : d.place.end ≤ length s
   pub is : declarations s ≡ (declarations (drop d.place.end s) >>= before (declared d attributes))
 
@@ -60,6 +61,7 @@ fronted s d c p e z q i =
       read = ap attributes_of (sym (drop-drop p.start c.1 s)) ∙ st.read;
       least = omega (arith, h.some, st.head, st.order);
       order = omega (arith, st.order);
+      whole = omega (arith, st.whole);
       within = omega (arith, st.within, h.within, length-drop c.1 s);
       is = declarations_is s ∙ then_pass _ _ _ e ∙ then_more _ _ _ z ∙ then_pass _ _ _ (st.is c.0)
           ∙ ap (λ (t : List ℕ). declarations t >>= before (record { code = c.0; tag = p.tag; attributes = st.attributes })) (drop-drop p.end c.1 s);
@@ -77,7 +79,7 @@ table_more s d e =
     ]
 
 -- a table with declarations has one at its front, or its zero code
-table_front : (s : List ℕ) (ds : List Declaration) → declarations s ≡ pass ds → (x : Option Coded) × (declared_at s ≡ pass x)
+pub table_front : (s : List ℕ) (ds : List Declaration) → declarations s ≡ pass ds → (x : Option Coded) × (declared_at s ≡ pass x)
 table_front s ds e =
     let c = bind_pass (unsigned s) _ ds (sym (declarations_is s) ∙ e) in
     elim (ℕ_discrete c.0.0 0) [

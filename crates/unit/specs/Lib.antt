@@ -8,6 +8,7 @@ pub mod Trees
 pub mod TableTrees
 pub mod Root
 pub mod Roots
+pub mod Runs
 pub mod UnitRead
 pub mod TypeUnits
 pub mod Headers

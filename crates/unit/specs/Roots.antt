@@ -1,14 +1,17 @@
 -- The walk over a root's attributes as code takes it, and what its values are by the definition.
 -- Assumes nothing.
-use Rattle.std.specs.Prelude.{Option, Some, None, ◌≡◌, Bool, true, false, not, ◌&&◌, List, ℕ, ◌+◌, ◌≤◌, eqb, leb, length, drop, get_or}
+use Rattle.std.specs.Prelude.{Option, Some, None, Result, Ok, Err, ◌≡◌, true, false, List, ℕ, ◌+◌, ◌≤◌, eqb, length, drop}
 use Rattle.std.proofs.Math.Option.{some, none}
 use Rattle.std.proofs.Math.Option as math
-use Rattle.octets.specs.Checked.{Check, pass, ◌>>=◌}
+use Rattle.octets.specs.Checked.{Check, pass, refuse, ◌>>=◌}
+use Rattle.numbers.specs.Refused.{number_of}
+use Rattle.numbers.specs.declared.refusals.Refusal.{Refusal}
 use Rattle.bundle.specs.Encoding.{Encoding}
 use Rattle.unit.specs.Abbreviations.{attribute_at, attributes_of}
-use Rattle.unit.specs.Root.{needed, Value, value_of, identity_at, identity_in}
+use Rattle.unit.specs.Root.{needed, Value, value_of, identity_at, identity_in, root_identity}
 use Rattle.unit.specs.declared.root.Value as code
 use Rattle.unit.specs.declared.root.Move as moved
+use Rattle.unit.specs.declared.root.Root.{Root}
 
 abbrev pub value_is : code.Value → Value
 value_is v = record { form = v.form; start = v.start; size = v.size }
@@ -40,10 +43,9 @@ moved_is None = none
 unfoldable pub identity_from : Encoding → List ℕ → List ℕ → math.Option ℕ → Check ℕ
 identity_from e t s seen = attributes_of t >>= λ a. (identity_in e a.0 s seen >>= needed)
 
--- a name and a form of one byte each, of a flag that is present
-unfoldable pub is_flag : List ℕ → Bool
-is_flag p = eqb (get_or p 1 0) 0x19 && (not (eqb (get_or p 0 0) 0) && leb (get_or p 0 0) 0x7f)
-
--- without so many bytes at the front of t, the same is stated
-unfoldable pub Skips : List ℕ → ℕ → Type 0
-Skips t n = (n ≤ length t) × ((e : Encoding) (s : List ℕ) (seen : math.Option ℕ) → identity_from e (drop n t) s seen ≡ identity_from e t s seen)
+-- where a root that is found has its attributes in the table, and their values in the unit; and that else there is no identity
+unfoldable pub RootFound : List ℕ → List ℕ → Result Root Refusal → Type 0
+RootFound table s (Ok r) =
+    (r.attributes ≤ length table) × (r.values ≤ length s)
+    × ((e : Encoding) → root_identity e table s ≡ identity_from e (drop r.attributes table) (drop r.values s) none)
+RootFound table s (Err x) = (e : Encoding) → refuse (number_of x) ≡ root_identity e table s

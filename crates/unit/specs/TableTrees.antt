@@ -1,17 +1,19 @@
 -- A table that was judged: its declarations in a tree of their codes, whose nodes carry where in the table they stand. What was judged is remembered.
 -- These relations say what the code keeps: no definition of reading units rests on them.
 -- Assumes nothing.
-use Rattle.std.specs.Prelude.{Some, Result, Ok, Err, IfSome, ◌≡◌, true, false, List, [], map, ℕ, ◌+◌, ◌-◌, ◌*◌, ◌/◌, ◌%◌, ◌^◌, ◌<◌, ◌≤◌, length, take, drop, get_or}
+use Rattle.std.specs.Prelude.{Option, Some, None, Result, Ok, Err, IfSome, ◌≡◌, Bool, true, false, List, [], map, ℕ, ◌+◌, ◌-◌, ◌*◌, ◌/◌, ◌^◌, ◌<◌, ◌≤◌, length, take, drop, get_or}
 use Rattle.std.proofs.Math.Option.{some}
 use Rattle.octets.specs.Octets.{part}
 use Rattle.octets.specs.Checked.{pass}
 use Rattle.unit.specs.Abbreviations.{Declaration, attributes_of, declarations_of}
 use Rattle.unit.specs.Tables.{Coded, declared_at, table_good}
+use Rattle.unit.specs.Runs.{Quiet}
 use Rattle.unit.specs.Trees.{node_words, carried_at, Rising, Tree, Fresh}
 use Rattle.unit.specs.declared.judged.Span.{Span}
 use Rattle.unit.specs.declared.judged.JudgedTable.{JudgedTable}
 use Rattle.unit.specs.declared.judged.Judged.{Judged}
 use Rattle.unit.specs.declared.header.UnitPlace.{UnitPlace}
+use Rattle.unit.specs.declared.abbreviations.Extent.{Extent}
 use Rattle.unit.specs.declared.abbreviations.Unheld.{Unheld}
 use Rattle.unit.specs.declared.abbreviations.Unheld.TheVariants.{Bad, Full}
 use Rattle.numbers.specs.declared.refusals.Refusal.{Refusal}
@@ -44,9 +46,9 @@ pub record TableHeld (s w : List ℕ) (count : ℕ) : Type 0 where
   pub counted : length declared ≡ count
   pub held : TableTree s w declared
 
--- judged into the words w: they do not suffice only where they are fewer than the bytes
-unfoldable pub Judges : List ℕ → List ℕ → Result ℕ Unheld → Type 0
-Judges s w (Ok count) = (table_good s ≡ true) × TableHeld s w count
+-- judged into the words w: the table's own bytes are held, whatever stands behind them. The words do not suffice only where they are fewer than the bytes
+unfoldable pub Judges : List ℕ → List ℕ → Result Extent Unheld → Type 0
+Judges s w (Ok r) = (table_good s ≡ true) × (r.size ≤ length s) × TableHeld (take r.size s) w r.count
 Judges s w (Err Bad) = table_good s ≡ false
 Judges s w (Err Full) = length w < length s
 
@@ -62,12 +64,13 @@ span_bytes b p = between b p.at p.end
 abbrev pub Lies : List ℕ → Span → Type 0
 Lies b p = (p.at ≤ p.end) × (p.end ≤ length b)
 
--- a table's tree, among the words w
+-- a table, which is read to its end, and its tree, among the words w
 pub record Held (b w : List ℕ) (t : JudgedTable) : Type 0 where
+  pub lies : Lies b t.place
   pub inside : t.from + node_words * t.count ≤ length w
   pub is : TableHeld (span_bytes b t.place) (part w t.from (node_words * t.count)) t.count
 
--- the directory: a tree in the first words, by where the tables lie in the bundle
+-- the directory: a tree in the first words, by where the tables start in the bundle
 abbrev pub directory_share : ℕ
 directory_share = 5
 
@@ -77,51 +80,83 @@ directory_size b = length b / directory_share
 abbrev pub directory : List ℕ → List ℕ → List ℕ
 directory b w = take (directory_size b) w
 
-unfoldable pub key_of : Span → ℕ
-key_of p = p.at + 2 ^ 32 * p.end
+-- the words in front of a table's tree: how many declarations it has, and how many bytes
+abbrev pub head_words : ℕ
+head_words = 2
 
--- the table of a key, from a word on that says how many declarations it has; its tree stands behind that word
+-- the table that starts at a place of the bundle, from a word on
 unfoldable pub table_from : List ℕ → ℕ → ℕ → JudgedTable
-table_from w start key = record { place = record { at = key % 2 ^ 32; end = key / 2 ^ 32 }; from = start + 1; count = get_or w start 0 }
+table_from w start at = record { place = record { at = at; end = at + get_or w (start + 1) 0 }; from = start + head_words; count = get_or w start 0 }
 
 -- it stands behind the directory and before the free words
-pub record Stored (b w : List ℕ) (free start key : ℕ) : Type 0 where
+pub record Stored (b w : List ℕ) (free start at : ℕ) : Type 0 where
   pub behind : directory_size b ≤ start
-  pub before : start + 1 + node_words * get_or w start 0 ≤ free
-  pub held : Held b w (table_from w start key)
+  pub before : start + head_words + node_words * get_or w start 0 ≤ free
+  pub held : Held b w (table_from w start at)
 
--- n tables that the directory has, all before the free words
-pub record Tables (b w : List ℕ) (n free : ℕ) : Type 0 where
+-- the key of a run: where it starts, and whether the identity is stated before it
+unfoldable pub run_key : ℕ → Bool → ℕ
+run_key at known = at + 2 ^ 32 * elim known [ true ↦ 2 | false ↦ 1 ]
+
+-- what an entry of the directory says, which carries a number under a key: where the table stands that starts there, or how many bytes a run takes
+pub record Noted (b w : List ℕ) (free carried key : ℕ) : Type 0 where
+  pub table : key < 2 ^ 32 → Stored b w free carried key
+  pub run : (at : ℕ) (known : Bool) → at < 2 ^ 32 → key ≡ run_key at known → Quiet known (take carried (drop at b))
+
+-- n entries of the directory, the tables among them all before the free words
+pub record Entries (b w : List ℕ) (n free : ℕ) : Type 0 where
   pub keys : List ℕ
   pub counted : length keys ≡ n
   pub tree : Tree (directory b w) keys
-  pub stored : (k : ℕ) → k < n → Stored b w free (carried_at (directory b w) k) (get_or keys k 0)
+  pub noted : (k : ℕ) → k < n → Noted b w free (carried_at (directory b w) k) (get_or keys k 0)
 
 -- the last table, if there is one, is held by the words; and the tables of the directory
 unfoldable pub Remembers : List ℕ → List ℕ → Judged → Type 0
-Remembers b w j = IfSome j.last (Held b w) × Tables b w j.tables j.free
+Remembers b w j = IfSome j.last (Held b w) × Entries b w j.entries j.free
 
--- a table's tree stands behind the word start, and the directory does not have it yet
+-- a table's tree stands behind the two words from start on, and the directory does not have it yet
 pub record Enters (b w : List ℕ) (size start : ℕ) (t : JudgedTable) (j : Judged) : Type 0 where
   pub size_is : size ≡ directory_size b
   pub free_is : j.free ≤ start
-  pub fresh : Fresh (directory b w) j.tables (key_of t.place)
-  pub tables : Tables b w j.tables j.free
+  pub fresh : Fresh (directory b w) j.entries t.place.at
+  pub entries : Entries b w j.entries j.free
   pub held : Held b w t
 
--- its numbers fit into words, and the words suffice: the directory's for one node more, the others for the count and the tree
+-- its numbers fit into words, and the words suffice: the directory's for one node more, the others for what stands in front of the tree, and the tree
 abbrev pub Enterable : List ℕ → ℕ → ℕ → JudgedTable → Judged → Type 0
 Enterable w size start t j =
-    (t.place.at < 2 ^ 32) × (t.place.end < 2 ^ 32) × (t.count < 2 ^ 32) × (start < 2 ^ 32)
-    × (t.from ≡ start + 1) × (size ≤ start) × (t.from + node_words * t.count ≤ length w)
-    × (node_words * j.tables + node_words ≤ size) × Rising (take size w) j.tables
+    (t.place.at ≤ t.place.end) × (t.place.end < 2 ^ 32) × (t.count < 2 ^ 32) × (start < 2 ^ 32)
+    × (t.from ≡ start + head_words) × (size ≤ start) × (t.from + node_words * t.count ≤ length w)
+    × (node_words * j.entries + node_words ≤ size) × Rising (take size w) j.entries
 
--- t is the table of a place, and the last one of the memory
+-- a run that the directory does not have yet takes so many bytes
+pub record Notes (b w : List ℕ) (size run key : ℕ) (j : Judged) : Type 0 where
+  pub size_is : size ≡ directory_size b
+  pub fresh : Fresh (directory b w) j.entries key
+  pub memory : Remembers b w j
+  pub noted : (free : ℕ) → Noted b w free run key
+
+-- its number fits into a word, the words have the directory, and the bundle has the run
+abbrev pub Notable : List ℕ → ℕ → ℕ → Judged → Type 0
+Notable w size run j = (run < 2 ^ 32) × (size < 2 ^ 32) × (size ≤ length w) × (run / directory_share ≤ size) × Rising (take size w) j.entries
+
+-- t is the table at the front of a part, and the last one of the memory
 pub record Knows (b w : List ℕ) (p : Span) (j : Judged) (t : JudgedTable) : Type 0 where
   pub memory : Remembers b w j
   pub last : j.last ≡ Some t
-  pub place : t.place ≡ p
+  pub starts : t.place.at ≡ p.at
+  pub ends : t.place.end ≤ p.end
   pub held : Held b w t
+
+-- the table that starts at a place, if it is remembered
+abbrev pub KnownAt : List ℕ → List ℕ → Judged → ℕ → Option JudgedTable → Type 0
+KnownAt b w j at (Some t) = (t.place.at ≡ at) × Held b w t
+KnownAt b w j at None = Fresh (directory b w) j.entries at
+
+-- or it is not held, and nothing is remembered
+abbrev pub Joins : List ℕ → List ℕ → Span → Judged → Result JudgedTable Unheld → Type 0
+Joins b w p j (Ok t) = Knows b w p j t
+Joins b w p j (Err u) = (j.entries ≡ 0) × Remembers b w j × (u ≡ Bad → table_good (span_bytes b p) ≡ false)
 
 -- or it is bad, and what is remembered is remembered rightly
 abbrev pub Recalls : List ℕ → List ℕ → Span → Judged → Result JudgedTable Refusal → Type 0

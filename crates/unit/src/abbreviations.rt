@@ -1,8 +1,9 @@
 // The abbreviation table at the front of lent bytes, read to its zero code. Every fault gives 12.
-ghost use Rattle.std.specs.Prelude.{◌≡◌, true, List, ◌≤◌, ◌<◌, ◌^◌, length};
+ghost use Rattle.std.specs.Prelude.{◌≡◌, true, List, ℕ, ◌≤◌, ◌<◌, ◌^◌, length};
 ghost use Rattle.octets.specs.Checked.{pass, mapped};
 ghost use Rattle.numbers.specs.Refused.{told};
 ghost use Rattle.numbers.specs.declared.refusals.Refusal.TheVariants.{NoIdentity};
+ghost use Rattle.leb128.specs.Leb128.{unsigned};
 ghost use Rattle.unit.specs.Abbreviations.{attribute_at};
 ghost use Rattle.unit.specs.declared.abbreviations.Unheld.TheVariants.{Bad};
 ghost use Rattle.unit.specs.Tables.{
@@ -53,6 +54,13 @@ struct Declaration {
 pub struct Heading {
     pub tag: u64,
     pub start: usize,
+}
+
+// How much a table takes: so many declarations, in so many bytes with the zero code that ends it. What stands behind them is never read.
+#[derive(Clone, Copy)]
+pub struct Extent {
+    pub count: usize,
+    pub size: usize,
 }
 
 // Why a table is not held: it is bad, or the words do not suffice.
@@ -165,11 +173,22 @@ fn declared_at(s: &[u8]) -> Result<Option<Declaration>, Refusal>
     Ok(Some(Declaration { code, place }))
 }
 
-// Judges the table at the front of s, which is good where a zero code ends it and no code repeats. It answers how many declarations the table has, and then
-// codes hold where each of them stands. A word for each byte suffices: a declaration takes at least five bytes, and a node five words. The bytes are read
-// once, and each declaration takes one walk in the tree.
+// The bytes of the code at the front of s. It may be padded, so that a zero code too may take more than one.
+#[tactic(auto, using(crate::proofs::Judging::code_cases))]
+fn code_size(s: &[u8]) -> usize
+    ensures { (code n : ℕ) → unsigned s.now ≡ pass (code, n) → result ≡ n }
+{
+    match leb128::read_unsigned(s) {
+        Ok((_, n)) => n,
+        Err(_) => 0,
+    }
+}
+
+// Judges the table at the front of s, which is good where a zero code ends it and no code repeats. It answers how many declarations the table has and how
+// many bytes it takes, and then codes hold where each of them stands. A word for each byte suffices: a declaration takes at least five bytes, and a node five
+// words. The bytes are read once, but for the code that ends them, and each declaration takes one walk in the tree.
 // A loop, since each declaration says where the next starts: the `next` of an iterator of our own would hold the same step, with laws of its own.
-pub fn judge_table(s: &[u8], codes: &mut [u32]) -> Result<usize, Unheld>
+pub fn judge_table(s: &[u8], codes: &mut [u32]) -> Result<Extent, Unheld>
     requires { length s.now < 2 ^ 32 }
     ensures { Judges s.now codes.new result }
 {
@@ -177,7 +196,8 @@ pub fn judge_table(s: &[u8], codes: &mut [u32]) -> Result<usize, Unheld>
     let mut count = 0;
     loop {
         let Some(declaration) = declared_at(&s[at..])? else {
-            return Ok(count);
+            let size = at + code_size(&s[at..]);
+            return Ok(Extent { count, size });
         };
         if codes.len() < NODE * count + NODE {
             return Err(Unheld::Full);

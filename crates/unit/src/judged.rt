@@ -1,20 +1,39 @@
-// The abbreviation tables that were judged, by where they lie in the bundle: units that share a table are read without judging it again, also where they
-// take turns with others. Lent words hold the tables, one word for each byte of the bundle. The first fifth is a directory, a tree by where tables lie: a table
-// and a unit that names it take more than 25 bytes, and a node five words. Behind it each table has a word with the number of its declarations, and then
-// their tree. Where the words do not suffice, all tables but the last are forgotten.
-ghost use Rattle.std.specs.Prelude.{◌≡◌, List, ℕ, ◌+◌, ◌*◌, ◌/◌, ◌≤◌, ◌<◌, ◌^◌, length, IfSome};
+// The abbreviation tables that were judged, by where they start in the bundle: units that share a table are read without judging it again, also where they
+// take turns with others. A table ends with its own zero code, and nothing behind that is read, so that parts that start together and end apart have the same.
+//
+// Lent words hold the tables, one word for each byte of the bundle. The first fifth is a directory, a tree by where tables start. That suffices where tables
+// lie apart: a table that states an identity takes at least nine bytes, a unit that names it at least 20, and a node of the directory five words. Behind it each
+// table has two words and then the tree of its declarations. The words say how many those are, which is where the tree ends, and how many bytes the table takes,
+// so that a part that ends before its table does is told apart without a reading.
+//
+// The directory is full only where tables lie in each other, and the words behind it only where tables do or take most of the bundle. All is forgotten then, and
+// the table is judged once more, as the first of a memory started anew, so that it is remembered beside those that come after it. With all the words for itself
+// it would be forgotten as soon as another is asked for, so that is left to a table that an empty memory has no room for. Long tables that take turns and have no
+// room beside each other are still judged at each turn, but few units do so: all but 127 declarations of a table take six bytes, so that such tables leave
+// about a twenty-fifth of the bundle to units.
+//
+// The directory has runs of attributes too, which the units of a root are to walk once: flags that are present take no bytes of a unit, and a root may have very
+// many of them. Their keys are above those of tables. Roots that lie apart have no more runs that are noted than a node for each 64 bytes; where the directory
+// has no room for one more, its entries are forgotten.
+ghost use Rattle.std.specs.Prelude.{◌≡◌, ◌⊎◌, true, List, ℕ, ◌+◌, ◌*◌, ◌/◌, ◌≤◌, ◌<◌, ◌^◌, ◌-◌, length, take, drop, IfSome};
 ghost use Rattle.unit.specs.Trees.{node_words, Fresh};
+ghost use Rattle.unit.specs.Runs.{Quiet};
 ghost use Rattle.unit.specs.TableTrees.{
   directory_share,
+  head_words,
   directory,
-  key_of,
   Lies,
   Enters,
   Enterable,
   Remembers,
   Knows,
+  KnownAt,
+  Joins,
   Recalls,
   Lent,
+  run_key,
+  Notable,
+  Notes,
 };
 
 use crate::abbreviations::Unheld;
@@ -24,15 +43,26 @@ use numbers::refusals::Refusal;
 // The directory has one of so many words.
 const SHARE: usize = 5;
 
+// The words in front of a table's tree.
+const HEAD: usize = 2;
+
+// The high words of the keys of runs before which the identity is not stated, and is.
+const UNKNOWN: u32 = 1;
+
+const KNOWN: u32 = 2;
+
+// A run of fewer bytes is walked again faster than it is found.
+const WORTH: usize = 64;
+
 // A part of the bundle. It is another type than strings' `Place`, which has start and size: unit stands beside strings and below what uses both, and a
-// table is known by where its section ends, and compared by both ends.
-#[derive(Clone, Copy, PartialEq, Eq)]
+// table is read to an end.
+#[derive(Clone, Copy)]
 pub struct Span {
     pub at: usize,
     pub end: usize,
 }
 
-// Where a table lies in the bundle, the word from which its tree stands, and how many declarations it has.
+// Where a table lies in the bundle, up to behind its zero code, the word from which its tree stands, and how many declarations it has.
 #[derive(Clone, Copy)]
 pub struct JudgedTable {
     pub place: Span,
@@ -40,61 +70,67 @@ pub struct JudgedTable {
     pub count: usize,
 }
 
-// The table that was asked for last, how many tables the directory has, and the first word behind theirs.
+// The table that was asked for last, how many entries the directory has, and the first word behind those of its tables.
 #[derive(Clone, Copy, Default)]
 pub struct Judged {
     pub last: Option<JudgedTable>,
-    pub tables: usize,
+    pub entries: usize,
     pub free: usize,
 }
 
-// Both ends are below 2 ^ 32: tables that differ in either have different keys.
-#[tactic(auto, unfolding(crate::specs::TableTrees::key_of))]
-fn key_of(place: Span) -> u64
-    requires { (place.at < 2 ^ 32) × (place.end < 2 ^ 32) }
-    ensures { result ≡ key_of place }
+// A run's key in the directory. A table's is where it starts, which is below 2 ^ 32.
+#[tactic(auto, unfolding(crate::specs::TableTrees::run_key))]
+fn run_key(at: usize, known: bool) -> u64
+    requires { at < 2 ^ 32 }
+    ensures { result ≡ run_key at known }
 {
-    octets::number_of(place.at as u32, place.end as u32)
+    if known {
+        octets::number_of(at as u32, KNOWN)
+    } else {
+        octets::number_of(at as u32, UNKNOWN)
+    }
 }
 
 impl Judged {
     // Before any table.
-    #[tactic(auto, using(crate::proofs::Holding::tables_none), unfolding(crate::specs::TableTrees::Remembers))]
+    #[tactic(auto, using(crate::proofs::Holding::entries_none), unfolding(crate::specs::TableTrees::Remembers))]
     pub fn nothing() -> Judged
-        ensures { (b w : List ℕ) → Remembers b w result }
+        ensures empty { result.entries ≡ 0 }
+        ensures memory { (b w : List ℕ) → Remembers b w result }
     {
         Judged::default()
     }
 
-    // The word where a new table starts, among n: behind the directory and its tables. None where the directory is full, or no word is left.
+    // The word where a new table starts, among n: behind the directory and its tables. None where the directory is full, or too few words are left.
     fn start(self, n: usize) -> Option<usize>
-        requires { node_words * self.tables ≤ n / directory_share }
-        ensures { IfSome result (λ start. (start < n) × (self.free ≤ start) × (n / directory_share ≤ start) × (node_words * self.tables + node_words ≤ n / directory_share)) }
+        requires { node_words * self.entries ≤ n / directory_share }
+        ensures { IfSome result (λ start. (start + head_words ≤ n) × (self.free ≤ start) × (n / directory_share ≤ start) × (node_words * self.entries + node_words ≤ n / directory_share)) }
     {
         let size = n / SHARE;
         let start = self.free.max(size);
-        if NODE * self.tables + NODE <= size && start < n {
+        if NODE * self.entries + NODE <= size && start <= n && HEAD <= n - start {
             Some(start)
         } else {
             None
         }
     }
 
-    // The directory has a table more, whose tree stands behind the word start already. It is the last.
+    // The directory has a table more, whose tree stands behind the two words from start on already. It is the last.
     fn enter(&mut self, codes: &mut [u32], size: usize, start: usize, table: JudgedTable)
         requires { Enterable codes.old size start table self.old }
         ensures { (b : List ℕ) → Enters b codes.old size start table self.old → Knows b codes.new table.place self.new table }
     {
-        codes[start] = table.count as u32;
-        let key = key_of(table.place);
-        crate::tree::add_code(&mut codes[..size], self.tables, start, key);
+        let bytes = table.place.end - table.place.at;
+        codes[start..start + HEAD].copy_from_slice(&[table.count as u32, bytes as u32]);
+        let key = table.place.at as u64;
+        crate::tree::add_code(&mut codes[..size], self.entries, start, key);
         self.last = Some(table);
-        self.tables += 1;
+        self.entries += 1;
         self.free = table.from + NODE * table.count;
     }
 
     // With all the words for this table, which suffice: the others are forgotten.
-    #[tactic(auto, using(crate::proofs::Recalling::unheld_bad, crate::proofs::Cuts::between_length))]
+    #[tactic(auto, using(crate::proofs::Recalling::unheld_bad, crate::proofs::Recalling::judged_within, crate::proofs::Cuts::between_length))]
     fn judge_alone(
         &mut self,
         b: &[u8],
@@ -105,48 +141,118 @@ impl Judged {
         ensures { Recalls b.now codes.new place self.new result }
     {
         *self = Judged::nothing();
-        let count = crate::abbreviations::judge_table(&b[place.at..place.end], codes)?;
+        let extent = crate::abbreviations::judge_table(&b[place.at..place.end], codes)?;
         let table = JudgedTable {
-            place,
+            place: Span {
+                at: place.at,
+                end: place.at + extent.size,
+            },
             from: 0,
-            count,
+            count: extent.count,
         };
         self.last = Some(table);
         Ok(table)
     }
 
-    // A table that was not judged before: its tree stands behind those of the others, or alone where the words that are left do not suffice.
-    #[tactic(auto, using(crate::proofs::Holding::tables_room, crate::proofs::Holding::remembers_tables, crate::proofs::Recalling::judged_bad))]
+    // A table that was not judged before: its tree stands behind those of the others. Where it is not held, since it is bad, the directory is full or the words
+    // that are left do not suffice, all is forgotten: some of those words are written over.
+    #[tactic(auto, using(crate::proofs::Holding::entries_room, crate::proofs::Holding::remembers_entries, crate::proofs::Recalling::judged_within, crate::proofs::Cuts::between_length))]
+    fn judge_behind(
+        &mut self,
+        b: &[u8],
+        place: Span,
+        codes: &mut [u32],
+    ) -> Result<JudgedTable, Unheld>
+        requires { Lies b.now place × Lent b.now codes.old self.old × Fresh (directory b.now codes.old) self.old.entries place.at }
+        ensures { Joins b.now codes.new place self.new result }
+    {
+        let n = b.len();
+        let Some(start) = self.start(n) else {
+            *self = Judged::nothing();
+            return Err(Unheld::Full);
+        };
+        let from = start + HEAD;
+        match crate::abbreviations::judge_table(&b[place.at..place.end], &mut codes[from..n]) {
+            Ok(extent) => {
+                let table = JudgedTable {
+                    place: Span {
+                        at: place.at,
+                        end: place.at + extent.size,
+                    },
+                    from,
+                    count: extent.count,
+                };
+                self.enter(codes, n / SHARE, start, table);
+                Ok(table)
+            }
+            Err(unheld) => {
+                *self = Judged::nothing();
+                Err(unheld)
+            }
+        }
+    }
+
+    // The same, and once more in the memory started anew where it was full.
+    fn judge_again(
+        &mut self,
+        b: &[u8],
+        place: Span,
+        codes: &mut [u32],
+    ) -> Result<JudgedTable, Unheld>
+        requires { Lies b.now place × Lent b.now codes.old self.old × Fresh (directory b.now codes.old) self.old.entries place.at }
+        ensures { Joins b.now codes.new place self.new result }
+    {
+        match self.judge_behind(b, place, codes) {
+            Err(Unheld::Full) => self.judge_behind(b, place, codes),
+            answer => answer,
+        }
+    }
+
+    // The same, and with all the words for itself where these do not suffice either: the table takes most of the bundle, or the bundle is of few bytes.
     fn judge_new(
         &mut self,
         b: &[u8],
         place: Span,
         codes: &mut [u32],
     ) -> Result<JudgedTable, Refusal>
-        requires { Lies b.now place × Lent b.now codes.old self.old × Fresh (directory b.now codes.old) self.old.tables (key_of place) }
+        requires { Lies b.now place × Lent b.now codes.old self.old × Fresh (directory b.now codes.old) self.old.entries place.at }
         ensures { Recalls b.now codes.new place self.new result }
     {
-        let n = b.len();
-        let Some(start) = self.start(n) else {
-            return self.judge_alone(b, place, codes);
-        };
-        let from = start + 1;
-        match crate::abbreviations::judge_table(&b[place.at..place.end], &mut codes[from..n]) {
-            Ok(count) => {
-                let table = JudgedTable { place, from, count };
-                self.enter(codes, n / SHARE, start, table);
-                Ok(table)
-            }
-            Err(Unheld::Bad) => {
-                *self = Judged::nothing();
-                Err(Refusal::NoIdentity)
-            }
+        match self.judge_again(b, place, codes) {
+            Ok(table) => Ok(table),
+            Err(Unheld::Bad) => Err(Refusal::NoIdentity),
             Err(Unheld::Full) => self.judge_alone(b, place, codes),
         }
     }
 
-    // The table of a place, judged now or before. It is the last one then.
+    // The table that starts at a place of the bundle, if it was judged: the last one, or one of the directory.
     #[tactic(auto, using(crate::proofs::Recalling::sought_cases))]
+    fn known(self, b: &[u8], at: usize, codes: &[u32]) -> Option<JudgedTable>
+        requires { (at ≤ length b.now) × Lent b.now codes.now self }
+        ensures { KnownAt b.now codes.now self at result }
+    {
+        if let Some(last) = self.last {
+            if last.place.at == at {
+                return Some(last);
+            }
+        }
+        let directory = CodeTree {
+            words: &codes[..b.len() / SHARE],
+            count: self.entries,
+        };
+        let start = directory.find(at as u64)?;
+        Some(JudgedTable {
+            place: Span {
+                at,
+                end: at + codes[start + 1] as usize,
+            },
+            from: start + HEAD,
+            count: codes[start] as usize,
+        })
+    }
+
+    // The table at the front of a part, judged now or before. It is the last one then. A table that goes on behind the part's end is no table of the part: the
+    // part is judged for itself, which ends in a refusal.
     pub fn recall(
         &mut self,
         b: &[u8],
@@ -156,24 +262,75 @@ impl Judged {
         requires { Lies b.now place × Lent b.now codes.old self.old }
         ensures { Recalls b.now codes.new place self.new result }
     {
-        if let Some(last) = self.last {
-            if last.place == place {
-                return Ok(last);
-            }
-        }
-        let directory = CodeTree {
-            words: &codes[..b.len() / SHARE],
-            count: self.tables,
-        };
-        let Some(start) = directory.find(key_of(place)) else {
+        let Some(table) = self.known(b, place.at, codes) else {
             return self.judge_new(b, place, codes);
         };
-        let table = JudgedTable {
-            place,
-            from: start + 1,
-            count: codes[start] as usize,
-        };
+        if place.end < table.place.end {
+            return self.judge_alone(b, place, codes);
+        }
         self.last = Some(table);
         Ok(table)
+    }
+
+    // Whether the last table's tree leaves the directory alone, which has so many words. It does not where the table was judged with all the words for itself.
+    fn spares(self, size: usize) -> bool
+        ensures { result ≡ true → IfSome self.last (λ t. size ≤ t.from) }
+    {
+        match self.last {
+            Some(table) => size <= table.from,
+            None => true,
+        }
+    }
+
+    // How many entries the directory goes on with, which has so many words: with none where it has no room for one more.
+    fn kept(self, size: usize) -> usize
+        requires { (node_words * self.entries ≤ size) × (node_words ≤ size) }
+        ensures { (node_words * result + node_words ≤ size) × ((result ≡ 0) ⊎ (result ≡ self.entries)) }
+    {
+        if size - NODE * self.entries < NODE {
+            0
+        } else {
+            self.entries
+        }
+    }
+
+    // The directory has a run more, if it is long enough to be worth it. Where the last table was judged alone it has none: that table would be judged anew at
+    // each unit.
+    #[tactic(auto, using(crate::proofs::Noting::kept_rising))]
+    fn note(&mut self, codes: &mut [u32], size: usize, run: usize, key: u64)
+        requires { Notable codes.old size run self.old }
+        ensures { (b : List ℕ) → Notes b codes.old size run key self.old → Remembers b codes.new self.new }
+    {
+        if run < WORTH || !self.spares(size) {
+            return;
+        }
+        let count = self.kept(size);
+        crate::tree::add_code(&mut codes[..size], count, run, key);
+        self.entries = count + 1;
+    }
+
+    // How many bytes at the front of a place are a run of flags that are present, where the identity is stated already or not: as it was noted, or walked now.
+    // A run that goes on behind the place's end is walked by the caller.
+    #[tactic(auto, using(crate::proofs::Noting::run_notable, crate::proofs::Flags::quiet_none, crate::proofs::Holding::entries_rising, crate::proofs::Holding::remembers_entries))]
+    pub fn pass_run(&mut self, b: &[u8], place: Span, known: bool, codes: &mut [u32]) -> usize
+        requires { Lies b.now place × Lent b.now codes.old self.old }
+        ensures run { (result ≤ place.end - place.at) × Quiet known (take result (drop place.at b.now)) }
+        ensures memory { Lent b.now codes.new self.new }
+    {
+        let key = run_key(place.at, known);
+        let size = b.len() / SHARE;
+        let directory = CodeTree {
+            words: &codes[..size],
+            count: self.entries,
+        };
+        match directory.find(key) {
+            Some(run) if run <= place.end - place.at => run,
+            Some(_) => 0,
+            None => {
+                let run = crate::runs::run_size(&b[place.at..place.end], known);
+                self.note(codes, size, run, key);
+                run
+            }
+        }
     }
 }

@@ -6,4 +6,5 @@ pub mod forms;
 pub mod header;
 pub mod judged;
 pub mod root;
+pub mod runs;
 pub mod tree;

@@ -1,5 +1,6 @@
 // The root of a unit of version 4 in info: its attributes are walked to their end, and the first 2131 hexadecimal states the identity.
-ghost use Rattle.std.specs.Prelude.{◌≡◌, ◌+◌, ◌≤◌, length};
+ghost use Rattle.std.specs.Prelude.{◌≡◌, ◌+◌, ◌-◌, ◌≤◌, length, take, drop};
+ghost use Rattle.std.specs.Option.{is_some};
 ghost use Rattle.std.proofs.Math.Option.{none};
 ghost use Rattle.octets.specs.Checked.{mapped};
 ghost use Rattle.bundle.specs.Encoded.{encoding_is};
@@ -12,11 +13,12 @@ ghost use Rattle.unit.specs.Roots.{
   attribute_step,
   moved_is,
   identity_from,
-  is_flag,
-  Skips,
+  RootFound,
 };
+ghost use Rattle.unit.specs.Runs.{Quiet};
 
 use crate::judged::{Judged, Span};
+use crate::runs::{DWO_ID, FLAG_PRESENT};
 use crate::tree::{CodeTree, NODE};
 use bundle::encoding::ObjectEncoding;
 use numbers::refusals::Refusal;
@@ -27,22 +29,13 @@ const DATA8: u64 = 0x07;
 // The form of a value that has its real form in front.
 const INDIRECT: u64 = 0x16;
 
-// The form of a flag that is there without a value.
-const FLAG_PRESENT: u64 = 0x19;
-
-// The same as the one byte that states it.
-const FLAG_BYTE: u8 = FLAG_PRESENT as u8;
-
-// The name of the attribute that states the identity.
-const DWO_ID: u64 = 0x2131;
-
 // The tags of a root.
 const COMPILE_UNIT_TAG: u64 = 0x11;
 
 const TYPE_UNIT_TAG: u64 = 0x41;
 
-// The greatest name of one byte.
-const ONE_BYTE: u8 = 0x7f;
+// Before each attribute of so many the memory is asked for a run.
+const LONG: usize = 32;
 
 // An attribute's value: its form, where it starts behind an indirect form, and the bytes that it takes.
 #[derive(Clone, Copy)]
@@ -58,6 +51,23 @@ struct Move {
     taken: usize,
     passed: usize,
     seen: Option<u64>,
+}
+
+// So far in a root's attributes: where those that are left lie in the bundle, where their values start in the unit, what is stated, and how many were walked
+// one by one.
+#[derive(Clone, Copy)]
+struct Walk {
+    left: Span,
+    at: usize,
+    seen: Option<u64>,
+    count: usize,
+}
+
+// Where a root's attributes start in its table, and their values in the unit.
+#[derive(Clone, Copy)]
+struct Root {
+    attributes: usize,
+    values: usize,
 }
 
 // Here and in forms.rt an encoding and bytes stay two parameters: each step cuts the bytes anew, so that a struct of both would be made at each. `Unit` of
@@ -148,41 +158,56 @@ fn attribute_step(
     }))
 }
 
-// Whether a name and a form are a flag that is present, of one byte for each. One byte can't name 2131 hexadecimal, and such a flag has no bytes in the
-// unit.
-#[tactic(auto, unfolding(crate::specs::Roots::is_flag))]
-fn is_flag(pair: [u8; 2]) -> bool
-    ensures { result ≡ is_flag pair }
+// How many bytes at the front of what is left are passed at once: a run of flags that are present, which take no bytes of the unit. It is asked for before
+// each 32nd attribute, and the one behind a run is none of them: so a unit takes no more than 32 attributes for each of its bytes, however many its root has.
+#[tactic(auto, using(crate::proofs::Flags::quiet_none))]
+fn run_behind(walk: Walk, b: &[u8], codes: &mut [u32], judged: &mut Judged) -> usize
+    requires { Lies b.now walk.left × Lent b.now codes.old judged.old }
+    ensures run { (result ≤ walk.left.end - walk.left.at) × Quiet (is_some walk.seen) (take result (drop walk.left.at b.now)) }
+    ensures memory { Lent b.now codes.new judged.new }
 {
-    let [name, form] = pair;
-    form == FLAG_BYTE && name != 0 && name <= ONE_BYTE
+    if walk.count % LONG < LONG - 1 {
+        return 0;
+    }
+    judged.pass_run(b, walk.left, walk.seen.is_some(), codes)
 }
 
-// How many bytes at the front of t are such flags: they change nothing. A root may have very many, and this passes them faster than steps do.
-fn skip_flags(t: &[u8]) -> usize
-    ensures { Skips t.now result }
+// The identity that the attributes at a place of the bundle state, whose values stand at the front of s. A loop, since each attribute says where the next
+// starts: the `next` of an iterator of our own would hold the same step, with laws of its own.
+fn identity_in(
+    e: ObjectEncoding,
+    b: &[u8],
+    place: Span,
+    s: &[u8],
+    codes: &mut [u32],
+    judged: &mut Judged,
+) -> Result<u64, Refusal>
+    requires { Lies b.now place × Lent b.now codes.old judged.old }
+    ensures is { told result ≡ identity_from (encoding_is e) (span_bytes b.now place) s.now none }
+    ensures memory { Remembers b.now codes.new judged.new }
 {
-    let (pairs, _) = t.as_chunks::<2>();
-    let other = pairs.iter().position(|pair| !is_flag(*pair));
-    2 * other.unwrap_or(pairs.len())
-}
-
-// The identity that the attributes at the front of t state, whose values stand at the front of s. A loop, since each attribute says where the next starts:
-// the `next` of an iterator of our own would hold the same step, with laws of its own.
-fn identity_in(e: ObjectEncoding, t: &[u8], s: &[u8]) -> Result<u64, Refusal>
-    ensures { told result ≡ identity_from (encoding_is e) t.now s.now none }
-{
-    let mut a = 0;
-    let mut at = 0;
-    let mut seen = None;
+    let mut walk = Walk {
+        left: place,
+        at: 0,
+        seen: None,
+        count: 0,
+    };
     loop {
-        a += skip_flags(&t[a..]);
-        let Some(step) = attribute_step(e, &t[a..], &s[at..], seen)? else {
-            return seen.ok_or(Refusal::NoIdentity);
+        let run = run_behind(walk, b, codes, judged);
+        let start = walk.left.at + run;
+        let t = &b[start..walk.left.end];
+        let Some(step) = attribute_step(e, t, &s[walk.at..], walk.seen)? else {
+            return walk.seen.ok_or(Refusal::NoIdentity);
         };
-        a += step.taken;
-        at += step.passed;
-        seen = step.seen;
+        walk = Walk {
+            left: Span {
+                at: start + step.taken,
+                ..walk.left
+            },
+            at: walk.at + step.passed,
+            seen: step.seen,
+            count: walk.count + 1,
+        };
     }
 }
 
@@ -195,20 +220,26 @@ fn root_tag(tag: u64) -> bool
 }
 
 // In a table that was judged, whose declarations codes hold. s is the unit behind its header.
-#[tactic(auto, using(crate::proofs::Rooted::root_cases, crate::proofs::Sizes::behind_number))]
-fn root_in(e: ObjectEncoding, table: &[u8], codes: CodeTree<'_>, s: &[u8]) -> Result<u64, Refusal>
+#[tactic(auto, using(crate::proofs::Sizes::behind_number))]
+fn root_in(table: &[u8], codes: CodeTree<'_>, s: &[u8]) -> Result<Root, Refusal>
     requires { TableHeld table.now codes.words.now codes.count }
-    ensures { told result ≡ root_identity (encoding_is e) table.now s.now }
+    ensures { RootFound table.now s.now result }
 {
-    let (code, n) = leb128::read_unsigned(s)?;
-    match crate::abbreviations::find_in(table, codes, code) {
-        Some(root) if root_tag(root.tag) => identity_in(e, &table[root.start..], &s[n..]),
-        _ => Err(Refusal::NoIdentity),
+    let (code, values) = leb128::read_unsigned(s)?;
+    let Some(root) = crate::abbreviations::find_in(table, codes, code) else {
+        return Err(Refusal::NoIdentity);
+    };
+    if !root_tag(root.tag) {
+        return Err(Refusal::NoIdentity);
     }
+    Ok(Root {
+        attributes: root.start,
+        values,
+    })
 }
 
-// The table is what stands in abbrev from the header's offset on, at a place of the bundle. s is the unit behind its header.
-#[tactic(auto, using(crate::proofs::Rooted::root_table, crate::proofs::Recalling::known_held, crate::proofs::Recalling::known_rising))]
+// The table stands at the front of a place of the bundle, which is abbrev from the header's offset on. s is the unit behind its header.
+#[tactic(auto, using(crate::proofs::Rooted::root_table, crate::proofs::Recalling::known_cases))]
 pub fn root_identity(
     e: ObjectEncoding,
     b: &[u8],
@@ -227,5 +258,11 @@ pub fn root_identity(
         words: &codes[table.from..to],
         count: table.count,
     };
-    root_in(e, &b[place.at..place.end], declarations, s)
+    let own = table.place;
+    let root = root_in(&b[own.at..own.end], declarations, s)?;
+    let attributes = Span {
+        at: own.at + root.attributes,
+        end: own.end,
+    };
+    identity_in(e, b, attributes, &s[root.values..], codes, judged)
 }

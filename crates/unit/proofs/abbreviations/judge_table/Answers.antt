@@ -4,6 +4,8 @@ use mathlib.Core.Path.{◌≡◌, refl, sym, ap, ◌∙◌}
 use Prim.Native.Nat.{◌+◌, ◌≤◌}
 use native.Mathlib.Omega.{arith}
 use lib.ListN.{length, drop}
+use mathlib.Core.Option.{none}
+use Rattle.leb128.specs.Leb128.{unsigned}
 use Rattle.std.specs.Prelude.{Option, Some}
 use Rattle.std.proofs.lemmas.Result.{err_from_is_err_and}
 use Rattle.octets.specs.Checked.{pass, mapped}
@@ -12,9 +14,9 @@ use Rattle.unit.specs.TableTrees.{Judges}
 use Rattle.unit.specs.declared.abbreviations.Declaration.{Declaration}
 use Rattle.unit.proofs.Sizes.{rest}
 use Rattle.unit.proofs.Walks.{walk_within}
-use Rattle.unit.proofs.Judging.{judging_start, judging_end, judging_not, judging_stops, judging_on}
+use Rattle.unit.proofs.Judging.{judging_start, judging_rising, ended_within, judging_end, judging_not, judging_stops, judging_on}
 use Rattle.unit.proofs.abbreviations.judge_table.Goals as goal
-use Rattle.unit.proofs.abbreviations.judge_table.Goals.{In-Some}
+use Rattle.unit.proofs.abbreviations.judge_table.Goals.{In-Some, In_default}
 
 -- the declaration at the cursor
 told : (c : In-Some) → declared_at (drop c.loop-declaration.at c.args.s.now) ≡ pass (declared_is (Some c.in-Some.declaration))
@@ -39,12 +41,30 @@ returns-in_err-declaration c =
     rw (p.1, p.2)
     (judging_not _ _ _ _ c.loop-declaration.invariant.0 _ (ap declared_at (sym (rest c.loop-declaration.at c.args.s.now)) ∙ sym c.in_err-declaration.ensures))
 
-pub returns-in_default : goal.returns-in_default
+-- the zero code at the cursor
+none_there : (c : In_default) → declared_at (drop c.loop-declaration.at c.args.s.now) ≡ pass none
 unfolding mapped
+none_there c =
+    ap declared_at (sym (rest c.loop-declaration.at c.args.s.now)) ∙ sym c.in_ok-declaration.ensures
+    ∙ ap (λ (d : Option Declaration). pass (declared_is d)) c.in_default.is
+
+pub overflow_add-size : goal.overflow_add-size
+overflow_add-size c =
+    omega (
+      arith,
+      ended_within _ _ _ _ c.loop-declaration.invariant.0 (none_there (goal.at.overflow_add-size c).In_default) _
+          (λ code n h. c.code_size.ensures code n (ap unsigned (rest c.loop-declaration.at c.args.s.now) ∙ h)),
+    )
+
+pub returns-in_default : goal.returns-in_default
 returns-in_default c =
-    judging_end _ _ _ _ c.loop-declaration.invariant.0
-    (ap declared_at (sym (rest c.loop-declaration.at c.args.s.now)) ∙ sym c.in_ok-declaration.ensures
-    ∙ ap (λ (d : Option Declaration). pass (declared_is d)) c.in_default.is)
+    judging_end _ _ _ _ c.loop-declaration.invariant.0 (none_there (goal.at.returns-in_default c).In_default) _
+    (λ code n h. c.code_size.ensures code n (ap unsigned (rest c.loop-declaration.at c.args.s.now) ∙ h)) _ refl
+
+pub add_code-requires : goal.add_code-requires
+add_code-requires c =
+    let j = c.loop-declaration.invariant.0 in
+    (judging_rising _ _ _ _ j, omega (arith, c.if-codes-count.false), omega (arith, j.room, j.within, c.requires), omega (arith, j.within, c.requires))
 
 pub returns-then-codes-count : goal.returns-then-codes-count
 unfolding Judges

@@ -1,25 +1,21 @@
 -- `unit::root::identity_in` meets its contract.
 -- Assumes nothing.
 use mathlib.Core.Path.{◌≡◌, refl, sym, ap, ◌∙◌}
-use Prim.Native.Nat.{ℕ, ◌+◌, ◌≤◌}
+use Prim.Native.Nat.{ℕ, ◌+◌, ◌-◌, ◌≤◌}
 use native.Mathlib.Omega.{arith}
+use lib.ListN.{length}
 use Rattle.std.specs.Prelude.{Option, Some, None}
 use Rattle.std.specs.Option.{ok_or}
 use Rattle.octets.specs.Checked.{pass, mapped}
 use Rattle.numbers.specs.Refused.{told}
 use Rattle.numbers.specs.declared.refusals.Refusal.TheVariants.{NoIdentity}
-use Rattle.bundle.specs.Encoded.{encoding_is}
 use Rattle.unit.specs.Root.{needed}
 use Rattle.unit.specs.Roots.{seen_is, moved_is}
 use Rattle.unit.specs.declared.root.Move.{Move}
 use Rattle.unit.proofs.Steps.{leaves}
-use Rattle.unit.proofs.Stepping.{Walked, walked_past, walked_not, walked_end, walked_taken, walked_on}
+use Rattle.unit.proofs.AttributeWalk.{walked_none, walked_not, walked_end, walked_taken, walked_on}
 use Rattle.unit.proofs.root.identity_in.Goals as goal
-use Rattle.unit.proofs.root.identity_in.Goals.{After-skip_flags-a, In-Some}
-
--- behind the flags that are skipped
-past : (c : After-skip_flags-a) → Walked (encoding_is c.args.e) c.args.t.now c.args.s.now (c.loop-step.a + c.skip_flags-a.result) c.loop-step.at (seen_is c.loop-step.seen)
-past c = walked_past _ _ _ _ _ _ c.loop-step.invariant _ c.skip_flags-a.ensures
+use Rattle.unit.proofs.root.identity_in.Goals.{In-Some}
 
 -- what is stated, or 12
 told_needed : (o : Option ℕ) → told (ok_or o NoIdentity) ≡ needed (seen_is o)
@@ -28,48 +24,43 @@ told_needed (Some x) = refl
 told_needed None = refl
 
 pub loop-step-init : goal.loop-step-init
-loop-step-init c = record { table = omega arith; unit = omega arith; same = refl }
+loop-step-init c = (walked_none _ _ _ _ c.requires.0, c.requires.1)
 
-pub overflow_add-a : goal.overflow_add-a
-overflow_add-a c = omega (arith, (past (goal.at.overflow_add-a c).After-skip_flags-a).table)
-
-pub slice_bounds-attribute_step-count : goal.slice_bounds-attribute_step-count
-slice_bounds-attribute_step-count c = (past (goal.at.slice_bounds-attribute_step-count c).After-skip_flags-a).table
-
-pub slice_bounds-attribute_step-start : goal.slice_bounds-attribute_step-start
-slice_bounds-attribute_step-start c = (past (goal.at.slice_bounds-attribute_step-start c).After-skip_flags-a).table
-
-pub returns-in_err-step : goal.returns-in_err-step
+pub returns-in_err-step-clause-is : goal.returns-in_err-step-clause-is
 unfolding mapped
-returns-in_err-step c =
-    leaves c.from_residual.result _ c.from_residual.ensures.1 (walked_not _ _ _ _ _ _ (past (goal.at.returns-in_err-step c).After-skip_flags-a) _ c.in_err-step.ensures)
+returns-in_err-step-clause-is c =
+    leaves c.from_residual.result _ c.from_residual.ensures.1
+    (walked_not _ _ _ _ _ c.loop-step.invariant.0 _ c.run_behind-run.ensures.run.0 c.run_behind-run.ensures.run.1 _ c.in_err-step.ensures)
 
-pub returns-in_default : goal.returns-in_default
+pub returns-in_default-clause-is : goal.returns-in_default-clause-is
 unfolding mapped
-returns-in_default c =
-    ap told c.ok_or.ensures.value ∙ told_needed c.loop-step.seen
-    ∙ walked_end _ _ _ _ _ _ (past (goal.at.returns-in_default c).After-skip_flags-a)
+returns-in_default-clause-is c =
+    ap told c.ok_or.ensures.value ∙ told_needed c.loop-step.walk.seen
+    ∙ walked_end _ _ _ _ _ c.loop-step.invariant.0 _ c.run_behind-run.ensures.run.0 c.run_behind-run.ensures.run.1
     (sym (ap (λ (m : Option Move). pass (moved_is m)) c.in_default.is) ∙ c.in_ok-step.ensures)
 
--- past the step behind them
-on : (c : In-Some) → Walked (encoding_is c.args.e) c.args.t.now c.args.s.now (c.loop-step.a + c.skip_flags-a.result) c.loop-step.at (seen_is c.loop-step.seen)
-    → (1 ≤ c.in-Some.step.taken) × Walked (encoding_is c.args.e) c.args.t.now c.args.s.now (c.loop-step.a + c.skip_flags-a.result + c.in-Some.step.taken) (c.loop-step.at + c.in-Some.step.passed) (seen_is c.in-Some.step.seen)
+-- what the step behind the run takes
+taken : (c : In-Some) → (1 ≤ c.in-Some.step.taken)
+    × (c.run_behind-run.result + c.in-Some.step.taken ≤ c.loop-step.walk.left.end - c.loop-step.walk.left.at)
+    × (c.loop-step.walk.at + c.in-Some.step.passed ≤ length c.args.s.now)
 unfolding mapped
-on c w =
-    let h = sym (ap (λ (m : Option Move). pass (moved_is m)) c.in-Some.is) ∙ c.in_ok-step.ensures in
-    ((walked_taken _ _ _ _ _ _ w _ h).0, walked_on _ _ _ _ _ _ w _ h)
+taken c =
+    walked_taken _ _ _ _ _ c.loop-step.invariant.0 _ c.run_behind-run.ensures.run.0 c.run_behind-run.ensures.run.1 _
+    (sym (ap (λ (m : Option Move). pass (moved_is m)) c.in-Some.is) ∙ c.in_ok-step.ensures)
 
-pub overflow_add-a-in-loop-step : goal.overflow_add-a-in-loop-step
-overflow_add-a-in-loop-step c = let g = goal.at.overflow_add-a-in-loop-step c in omega (arith, (on g.In-Some (past g.After-skip_flags-a)).1.table)
+pub overflow_add-walk : goal.overflow_add-walk
+overflow_add-walk c = omega (arith, taken (goal.at.overflow_add-walk c).In-Some, c.loop-step.invariant.0.table)
 
-pub overflow_add-at : goal.overflow_add-at
-overflow_add-at c = let g = goal.at.overflow_add-at c in omega (arith, (on g.In-Some (past g.After-skip_flags-a)).1.unit)
+pub overflow_add-walk-in-loop-step : goal.overflow_add-walk-in-loop-step
+overflow_add-walk-in-loop-step c = omega (arith, taken (goal.at.overflow_add-walk-in-loop-step c).In-Some)
 
 pub loop-step-smaller : goal.loop-step-smaller
-loop-step-smaller c =
-    let g = goal.at.loop-step-smaller c in
-    let w = on g.In-Some (past g.After-skip_flags-a) in
-    omega (arith, w.0, w.1.table)
+loop-step-smaller c = omega (arith, taken (goal.at.loop-step-smaller c).In-Some)
 
 pub loop-step-preserved : goal.loop-step-preserved
-loop-step-preserved c = let g = goal.at.loop-step-preserved c in (on g.In-Some (past g.After-skip_flags-a)).1
+unfolding mapped
+loop-step-preserved c = (
+  walked_on _ _ _ _ _ c.loop-step.invariant.0 _ c.run_behind-run.ensures.run.0 c.run_behind-run.ensures.run.1 _
+      (sym (ap (λ (m : Option Move). pass (moved_is m)) c.in-Some.is) ∙ c.in_ok-step.ensures) _ refl refl refl refl refl,
+  c.run_behind-run.ensures.memory,
+)

@@ -1,18 +1,25 @@
 -- `unit::judged::Judged::enter` meets its contract.
 -- Assumes nothing.
-use Prim.Native.Nat.{◌<◌}
+use mathlib.Core.Path.{refl, ap, ◌∙◌}
+use Prim.Native.Nat.{◌+◌, ◌^◌, ◌<◌, ◌≤◌}
 use native.Mathlib.Omega.{arith}
 use lib.ListN.{length}
-use Rattle.octets.proofs.Placed.{placed_byte}
+use Rattle.octets.specs.Octets.{placed}
+use Rattle.octets.proofs.Regions.{placed_whole}
 use Rattle.unit.proofs.Entering.{entered}
 use Rattle.unit.proofs.judged.Judged.enter.Goals as goal
 use Rattle.unit.proofs.judged.Judged.enter.Goals.{Start}
 
--- the word of the count is one of the words
-within : (c : Start) → c.args.start < length c.args.codes.now
+-- the words in front of the tree are among the words
+within : (c : Start) → c.args.start + 2 ≤ length c.args.codes.now
 within c = omega (arith, c.requires.4, c.requires.6)
+
+small : (c : Start) → c.args.table.place.at < 2 ^ 32
+small c = omega (arith, c.requires.0, c.requires.1)
 
 pub returns : goal.returns
 returns c =
-    let w = within (goal.at.returns c).Start in
-    λ b e. entered b _ _ _ _ _ _ _ e c.requires.4 (placed_byte _ _ _ w) w c.requires.5 c.add_code.auto.codes c.requires.0 _ _ c.key_of-key.ensures c.add_code.ensures
+    let a = c.args in
+    let e = c.copy_from_slice.ensures.after in
+    let u = placed_whole a.codes.now a.start _ _ (ap length e ∙ omega arith) ∙ ap (placed a.codes.now a.start) e in
+    λ b g. entered b _ _ _ _ _ _ _ g c.requires.4 u (within (goal.at.returns c).Start) c.requires.5 c.add_code.auto.codes (small (goal.at.returns c).Start) _ _ refl c.add_code.ensures

@@ -1,11 +1,11 @@
 -- `unit::judged::Judged::recall` meets its contract.
 -- Assumes nothing.
-use Rattle.std.proofs.Common.{rules}
-use Rattle.unit.proofs.Recalling.{recalled_last, recalled_found}
+use native.Mathlib.Omega.{arith}
+use Rattle.unit.proofs.Recalling.{known_none, recalled_known}
 use Rattle.unit.proofs.judged.Judged.recall.Goals as goal
 
-pub returns-then-eq : goal.returns-then-eq
-returns-then-eq c = recalled_last _ _ c.args.self.now _ _ c.in-Some.is (search (rules, c.if-eq.true, c.eq.ensures)) c.requires.1.memory
+pub judge_new-requires : goal.judge_new-requires
+judge_new-requires c = (c.requires.0, c.requires.1, known_none _ _ c.args.self.now _ _ c.known.ensures c.in_default.is)
 
 pub returns : goal.returns
-returns c = recalled_found _ _ c.args.self.now c.requires.1 _ c.requires.0 _ c.key_of.ensures _ c.find.ensures _ c.in-Some-find.is
+returns c = recalled_known _ _ c.args.self.now _ _ _ c.requires.1.memory c.known.ensures c.in-Some.is (omega (arith, c.if-place-table.false))
