@@ -183,7 +183,7 @@ module _ (b w u y : List ℕ) (size start : ℕ) (t : JudgedTable) (j : Judged) 
 
 -- ---- behind the other tables: x is what the words behind the new one's first two are left as
 module _ (b w x : List ℕ) (j : Judged) (start : ℕ) (p : Span) (count : ℕ) (m : Lent b w j) (g : start + 2 ≤ length b)
-    (s : (j.free ≤ start) × (length b / 5 ≤ start) × (5 * j.entries + 5 ≤ length b / 5))
+    (s : (j.free ≤ start) × (length b / 25 ≤ start) × (5 * j.entries + 5 ≤ length b / 25))
     (lx : length x ≡ length (mid_of (start + 2) (length b - (start + 2)) w)) (o : Lies b p) (t : TableHeld (span_bytes b p) x count) where
   abbrev n : ℕ
   n = length b - (start + 2)
@@ -203,7 +203,7 @@ module _ (b w x : List ℕ) (j : Judged) (start : ℕ) (p : Span) (count : ℕ) 
   others : Entries b (put_mid (start + 2) n w x) j.entries j.free
   others = left_entries b w x (start + 2) n x_length room j.entries j.free (omega (arith, s)) (omega (arith, s)) (remembers_entries b w j m.memory)
 
-  pub behind_enters : Fresh (directory b w) j.entries p.at → Enters b (put_mid (start + 2) n w x) (length b / 5) start table j
+  pub behind_enters : Fresh (directory b w) j.entries p.at → Enters b (put_mid (start + 2) n w x) (length b / 25) start table j
   behind_enters f = record {
     size_is = refl;
     free_is = s.0;
@@ -212,7 +212,7 @@ module _ (b w x : List ℕ) (j : Judged) (start : ℕ) (p : Span) (count : ℕ) 
     held = new;
   }
 
-  pub behind_requires : Enterable (put_mid (start + 2) n w x) (length b / 5) start table j
+  pub behind_requires : Enterable (put_mid (start + 2) n w x) (length b / 25) start table j
   behind_requires =
       let r : 5 * count ≤ length x = (held_rising (span_bytes b p) x count t).room in
       let small = m.small in

@@ -90,7 +90,7 @@ module _ (b w : List ℕ) (j : Judged) (m : Lent b w j) (p : Span) (l : Lies b p
   run_found run i = (found_noted b w j.entries j.free key run (rw i at q) (remembers_entries b w j m.memory)).run p.at known small e
 
   -- as it was walked in the part
-  pub run_notes : (run : ℕ) → o ≡ None → (run ≤ length (span_bytes b p)) × Quiet known (take run (span_bytes b p)) → Notes b w (length b / 5) run key j
+  pub run_notes : (run : ℕ) → o ≡ None → (run ≤ length (span_bytes b p)) × Quiet known (take run (span_bytes b p)) → Notes b w (length b / 25) run key j
   run_notes run i z =
       let h : run ≤ p.end - p.at = omega (arith, z.0, between_length b p.at p.end l.0 l.1) in
       record {
@@ -100,5 +100,5 @@ module _ (b w : List ℕ) (j : Judged) (m : Lent b w j) (p : Span) (l : Lies b p
         noted = λ free. subst (Noted b w free run) (sym e) (run_noted b w free run p.at known small (rw (take-take run (p.end - p.at) (drop p.at b) h) at z.1));
       }
 
-  pub run_notable : (run : ℕ) → run ≤ p.end - p.at → Notable w (length b / 5) run j
+  pub run_notable : (run : ℕ) → run ≤ p.end - p.at → Notable w (length b / 25) run j
   run_notable run h = (omega (arith, h, l, m.small), omega (arith, m.small), omega (arith, m.room), omega (arith, h, l), entries_rising b w j.entries j.free (remembers_entries b w j m.memory))

@@ -72,7 +72,7 @@ pub record Held (b w : List ℕ) (t : JudgedTable) : Type 0 where
 
 -- the directory: a tree in the first words, by where the tables start in the bundle
 abbrev pub directory_share : ℕ
-directory_share = 5
+directory_share = 25
 
 abbrev pub directory_size : List ℕ → ℕ
 directory_size b = length b / directory_share

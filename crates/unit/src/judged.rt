@@ -1,20 +1,17 @@
 // The abbreviation tables that were judged, by where they start in the bundle: units that share a table are read without judging it again, also where they
 // take turns with others. A table ends with its own zero code, and nothing behind that is read, so that parts that start together and end apart have the same.
 //
-// Lent words hold the tables, one word for each byte of the bundle. The first fifth is a directory, a tree by where tables start. That suffices where tables
-// lie apart: a table that states an identity takes at least nine bytes, a unit that names it at least 20, and a node of the directory five words. Behind it each
-// table has two words and then the tree of its declarations. The words say how many those are, which is where the tree ends, and how many bytes the table takes,
-// so that a part that ends before its table does is told apart without a reading.
+// Lent words hold the tables, one word for each byte of the bundle. The first twenty-fifth is a directory, a tree by where tables start, and a node of it takes
+// five words. Behind it each table has two words and then the tree of its declarations. The words say how many those are, which is where the tree ends, and how
+// many bytes the table takes, so that a part that ends before its table does is told apart without a reading.
 //
-// The directory is full only where tables lie in each other, and the words behind it only where tables do or take most of the bundle. All is forgotten then, and
-// the table is judged once more, as the first of a memory started anew, so that it is remembered beside those that come after it. With all the words for itself
-// it would be forgotten as soon as another is asked for, so that is left to a table that an empty memory has no room for. Long tables that take turns and have no
-// room beside each other are still judged at each turn, but few units do so: all but 127 declarations of a table take six bytes, so that such tables leave
-// about a twenty-fifth of the bundle to units.
+// Where the directory is full, or the words behind it are, all is forgotten and the table at hand is judged as the first of a memory started anew. The directory
+// has a node for each 125 bytes of the bundle, and a unit takes at least 20: tables are forgotten for it at most six times, and each is judged once more then.
+// The words behind it suffice wherever long tables lie apart: all but 127 declarations of a table take at least six bytes, and five words. A table that has no
+// room there even so is judged with all the words for itself.
 //
 // The directory has runs of attributes too, which the units of a root are to walk once: flags that are present take no bytes of a unit, and a root may have very
-// many of them. Their keys are above those of tables. Roots that lie apart have no more runs that are noted than a node for each 64 bytes; where the directory
-// has no room for one more, its entries are forgotten.
+// many of them. Their keys are above those of tables. Where the directory has no room for one more, its entries are forgotten.
 ghost use Rattle.std.specs.Prelude.{◌≡◌, ◌⊎◌, true, List, ℕ, ◌+◌, ◌*◌, ◌/◌, ◌≤◌, ◌<◌, ◌^◌, ◌-◌, length, take, drop, IfSome};
 ghost use Rattle.unit.specs.Trees.{node_words, Fresh};
 ghost use Rattle.unit.specs.Runs.{Quiet};
@@ -41,7 +38,7 @@ use crate::tree::{CodeTree, NODE};
 use numbers::refusals::Refusal;
 
 // The directory has one of so many words.
-const SHARE: usize = 5;
+const SHARE: usize = 25;
 
 // The words in front of a table's tree.
 const HEAD: usize = 2;
@@ -51,8 +48,8 @@ const UNKNOWN: u32 = 1;
 
 const KNOWN: u32 = 2;
 
-// A run of fewer bytes is walked again faster than it is found.
-const WORTH: usize = 64;
+// A run of fewer bytes is walked again about as fast as it is found. In a bundle that has a longer one the directory has room for a node.
+const WORTH: usize = 128;
 
 // A part of the bundle. It is another type than strings' `Place`, which has start and size: unit stands beside strings and below what uses both, and a
 // table is read to an end.
