@@ -17,7 +17,7 @@ use Rattle.octets.proofs.Checks.{known}
 use Rattle.octets.proofs.Parts.{length_part, get_d_part}
 use Rattle.octets.proofs.Placed.{length_placed}
 use Rattle.octets.proofs.Regions.{part_before, part_behind, get_d_placed, get_d_before, get_d_behind}
-use Rattle.numbers.specs.Limits.{work_for_word}
+use Rattle.numbers.specs.Limits.{work_for_word, string_words}
 use Rattle.kept.specs.Regions.{Layout, records_region, strings_region, roots_region, compilation_slots, type_slots, slots_region, rows_region, codes_region, store_region, region, Apart}
 
 -- what is stored in a part of a list is stored in that part's own words
@@ -102,6 +102,10 @@ length_records n w room = length_region records_region records_within n w room
 
 pub strings_within : Within strings_region
 strings_within = record { ends = omega arith }
+
+-- a table's words lie in their region
+pub table_inside : (w : List ℕ) (n room : ℕ) → work_for_word * n ≤ length w → room ≤ n → string_words * room ≤ length (region w n strings_region)
+table_inside w n room h few = omega (arith, few, length_region strings_region strings_within n w h)
 
 pub store_within : Within store_region
 store_within = record { ends = omega arith }

@@ -1,7 +1,7 @@
 // The regions of lent work, in words for each word of the bundle. No other file knows where a region starts.
 ghost use Rattle.std.specs.Prelude.{◌≡◌, ◌+◌, ◌*◌, ◌≤◌, ◌<◌, ◌^◌, length};
 ghost use Rattle.numbers.specs.Limits.{work_for_word};
-ghost use Rattle.kept.specs.Regions.{slots_region, region};
+ghost use Rattle.kept.specs.Regions.{slots_region, region, table_words};
 
 use numbers::limits::STRING_WORDS;
 
@@ -101,4 +101,14 @@ impl Share {
         let region = self.of(n);
         &work[region.start..region.start + region.size]
     }
+}
+
+// The words of the strings that their table has, with room for so many. They are cut by what the table says of itself, so that all that is used of them stands
+// close together: the region has words for more entries than a bundle has.
+#[tactic(auto, unfolding(crate::specs::Regions::table_words))]
+pub fn table_words(work: &[u32], n: usize, room: usize) -> &[u32]
+    requires { (n < 2 ^ 32) × (work_for_word * n ≤ length work.now) × (room ≤ n) }
+    ensures { result.now ≡ table_words work.now n room }
+{
+    &STRINGS.part(work, n)[..STRING_WORDS * room]
 }

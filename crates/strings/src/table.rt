@@ -108,12 +108,15 @@ impl StrOffsets {
 // How many strings are kept, how long their str section is, how many entries named them, and whether the section would be above 8,388,607
 // bytes (19). From then on nothing is stored: the package is refused, whatever the new offsets are, and the sum of lengths stays within 32 bits.
 // `over` stays a flag: 19 is due only once all objects are read, and until then the other three say what is stored, whether it is set or not.
+// `room` says how many strings, and how many entries, there is room for: the table's words are STRING_WORDS for each, and no more, so that all that is used
+// stands close together. Whoever lends the words cuts them by it.
 #[derive(Clone, Copy)]
 pub struct StringTable {
     pub count: usize,
     pub size: usize,
     pub entries: usize,
     pub over: bool,
+    pub room: usize,
 }
 
 // Where the string of row i lies in the bundle.
