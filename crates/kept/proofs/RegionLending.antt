@@ -21,7 +21,7 @@ module _ (r : Layout) (i : Within r) (n at from many : ℕ) (w : List ℕ) (room
   cut_fits : from + many ≤ length w
   cut_fits = omega (arith, region_fits r i n w room)
 
-  cut_length : length (take (from + many - from) (drop from w)) ≡ many
+  pub cut_length : length (take (from + many - from) (drop from w)) ≡ many
   cut_length = ap length (part_cut w from many) ∙ length_part w from many cut_fits
 
   module _ (words v : List ℕ) (same : length words ≡ length (take (from + many - from) (drop from w))) (is : v ≡ put_mid from (from + many - from) w words) where
