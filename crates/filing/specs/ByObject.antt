@@ -18,8 +18,8 @@ use Rattle.strings.specs.Kept.{Kept, Inside, bytes_at}
 use Rattle.strings.specs.Objects.{entries_at}
 use Rattle.strings.specs.declared.table.StrOffsets.{StrOffsets}
 use Rattle.strings.specs.declared.table.StringTable.{StringTable}
-use Rattle.numbers.specs.Limits.{bundle_limit, work_for_word, string_words}
-use Rattle.kept.specs.Regions.{strings_region, region}
+use Rattle.numbers.specs.Limits.{bundle_limit, work_for_word}
+use Rattle.kept.specs.Regions.{table_words}
 use Rattle.kept.specs.State.{Held}
 use Rattle.kept.specs.declared.state.InProgress.{InProgress}
 use Rattle.index.specs.Index.{Index}
@@ -38,9 +38,10 @@ use Rattle.filing.specs.Tells.{Tells}
 unfoldable pub strings_check : Encoding → Bool → List ℕ → List ℕ → Check (List (List ℕ))
 strings_check e there offsets text = elim there [ true ↦ entries_of e offsets >>= strings_at text | false ↦ pass [] ]
 
--- the region of strings holds the strings used so far, in work w for the bundle b
-abbrev pub StringsIn : List ℕ → List ℕ → StringTable → List (List ℕ) → Type 0
-StringsIn b w t ts = Kept b (region w (words_in b) strings_region) t ts
+-- the words of the table, at the front of the strings' region, hold the strings used so far, in work w for the bundle b
+pub record StringsIn (b w : List ℕ) (t : StringTable) (ts : List (List ℕ)) : Type 0 where
+  pub few : t.room ≤ words_in b
+  pub kept : Kept b (table_words w (words_in b) t.room) t ts
 
 -- what it takes to put them
 pub record StringsRoom (b : List ℕ) (o : StrOffsets) (words : ℕ) (t : StringTable) : Type 0 where
@@ -49,7 +50,7 @@ pub record StringsRoom (b : List ℕ) (o : StrOffsets) (words : ℕ) (t : String
   pub whole : length b ≡ 4 * words_in b
   pub offsets_inside : Inside b o.offsets
   pub strings_inside : Inside b o.strings
-  pub fits : string_words * (t.entries + length (entries_at o b)) ≤ strings_region.words * words_in b
+  pub fits : t.entries + length (entries_at o b) ≤ t.room
 
 pub record StringsAsked (b : List ℕ) (o : StrOffsets) (t : StringTable) (w : List ℕ) : Type 0 where
   pub room : StringsRoom b o (length w) t
@@ -122,7 +123,7 @@ pub record InputRoom (b : List ℕ) (ps : List Part) (words : ℕ) (t : StringTa
   pub limit : length b ≤ bundle_limit
   pub whole : length b ≡ 4 * words_in b
   pub inside : (c : ℕ) → start_of ps c + size_of ps c ≤ length b
-  pub fits : string_words * (t.entries + size_of ps str_offsets_code / 4) ≤ strings_region.words * words_in b
+  pub fits : t.entries + size_of ps str_offsets_code / 4 ≤ t.room
 
 pub record InputAsked (b : List ℕ) (scan : Scan) (t : StringTable) (w : List ℕ) : Type 0 where
   pub at : ℕ
