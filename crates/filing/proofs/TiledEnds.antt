@@ -5,9 +5,9 @@ use mathlib.Core.Logic.{inl, inr, ⊎_elim}
 use mathlib.Core.Bool.{true}
 use mathlib.Core.List.{List, ◌++◌}
 use mathlib.Core.Option.{Option}
-use Prim.Native.Nat.{ℕ, ◌*◌}
+use Prim.Native.Nat.{ℕ}
 use native.Mathlib.Omega.{arith}
-use lib.ListN.{length, take}
+use lib.ListN.{length}
 use Rattle.std.specs.Prelude.{Result, Ok, Err}
 use Rattle.numbers.specs.declared.refusals.Refusal.{Refusal}
 use Rattle.octets.specs.Checked.{Check, pass, ◌>>=◌}
@@ -19,7 +19,7 @@ use Rattle.bundle.specs.Scan.{scan_of}
 use Rattle.bundle.specs.declared.Scan.{Scan}
 use Rattle.bundle.specs.declared.encoding.ObjectEncoding.{ObjectEncoding}
 use Rattle.bundle.proofs.ScanFacts.{scan_body, scan_size}
-use Rattle.strings.specs.Kept.{Kept, bytes_at}
+use Rattle.strings.specs.Kept.{bytes_at}
 use Rattle.strings.specs.declared.table.StrOffsets.{StrOffsets}
 use Rattle.strings.specs.declared.table.StringTable.{StringTable}
 use Rattle.strings.proofs.Headers.{is_five_law}
@@ -27,8 +27,8 @@ use Rattle.index.specs.Index.{Index, Contribution}
 use Rattle.index.specs.Tiles.{named, tiles}
 use Rattle.index.proofs.Tiles.{Tiling, tiles_facts, both_some}
 use Rattle.places.specs.Marks.{good_end}
-use Rattle.numbers.specs.Limits.{string_words}
-use Rattle.kept.specs.Regions.{Layout, strings_region, store_region, codes_region, table_words, Apart, Only}
+use Rattle.kept.specs.Regions.{Layout, strings_region, store_region, codes_region, Apart, Only}
+use Rattle.kept.proofs.RegionStores.{table_same}
 use Rattle.package.specs.Pieces.{Piece, pieces_of, used_in}
 use Rattle.package.specs.Input.{tiled_pieces, opened_tiled}
 use Rattle.filing.specs.declared.input.InputObject.{InputObject}
@@ -59,8 +59,7 @@ unfolding Apart
 codes_strings = inr (omega arith)
 
 pub strings_after : (b w u : List ℕ) (t : StringTable) (ts : List (List ℕ)) → Only codes_region (words_in b) w u → StringsIn b w t ts → StringsIn b u t ts
-unfolding table_words
-strings_after b w u t ts c k = record { few = k.few; kept = subst (λ (l : List ℕ). Kept b (take (string_words * t.room) l) t ts) (sym (c.others strings_region codes_strings)) k.kept }
+strings_after b w u t ts c k = record { few = k.few; kept = rw (table_same w u (words_in b) t.room (c.others strings_region codes_strings)) k.kept }
 
 pub work_asks : (b w : List ℕ) (ps : List Part) (t : StringTable) → InputRoom b ps (length w) t → WorkFor b w
 work_asks b w ps t room = record { room = room.room; words = room.whole; limit = room.limit }

@@ -9,7 +9,7 @@ use native.Mathlib.Nat.{add-mul, mul-le-mul_right}
 use native.Mathlib.Omega.{arith}
 use native.Mathlib.Decide.{dec_lt}
 use lib.Dec.{eqb}
-use lib.ListN.{length, get_or}
+use lib.ListN.{length, take, get_or}
 use lib.Seq.{ext_get_or}
 use borrow.Author.Tests.{eq-eqb, ne_eqb}
 use Rattle.octets.specs.Octets.{part, placed}
@@ -18,7 +18,7 @@ use Rattle.octets.proofs.Parts.{length_part, get_d_part}
 use Rattle.octets.proofs.Placed.{length_placed}
 use Rattle.octets.proofs.Regions.{part_before, part_behind, get_d_placed, get_d_before, get_d_behind}
 use Rattle.numbers.specs.Limits.{work_for_word, string_words}
-use Rattle.kept.specs.Regions.{Layout, records_region, strings_region, compilation_slots, type_slots, slots_region, rows_region, codes_region, store_region, region, Apart}
+use Rattle.kept.specs.Regions.{Layout, records_region, strings_region, compilation_slots, type_slots, slots_region, rows_region, codes_region, store_region, region, table_words, Apart}
 
 -- what is stored in a part of a list is stored in that part's own words
 module _ (w : List ℕ) (base size at : ℕ) (x : List ℕ) (fits : base + size ≤ length w) (inside : at + length x ≤ size) where
@@ -103,7 +103,12 @@ length_records n w room = length_region records_region records_within n w room
 pub strings_within : Within strings_region
 strings_within = record { ends = omega arith }
 
--- a table's words lie in their region
+-- a table's words stay where their region does
+pub table_same : (w v : List ℕ) (n room : ℕ) → region v n strings_region ≡ region w n strings_region → table_words v n room ≡ table_words w n room
+unfolding table_words
+table_same w v n room e = ap (take (string_words * room)) e
+
+-- they lie in it
 pub table_inside : (w : List ℕ) (n room : ℕ) → work_for_word * n ≤ length w → room ≤ n → string_words * room ≤ length (region w n strings_region)
 table_inside w n room h few = omega (arith, few, length_region strings_region strings_within n w h)
 
