@@ -136,7 +136,8 @@ module _ {b : List ℕ} {big : Bool} {first at : ℕ} {w₀ w : List ℕ} {st : 
         bases = s.bases;
         based = λ c l g. s.based c;
         held = subst (λ (five : Bool). Held five b (words_in b) (length b) w st s.bases s.units) v (held_later at (length b) s.held.held s.held.held.within (omega arith));
-        strings = s.held.strings;
+        few = s.held.strings.few;
+        strings = s.held.strings.kept;
       })
 
   pub far_other : (x : Answered) → (tag_of the_type x ≡ 0 → ⊥) → pass x ≡ next_of at (step_at at (drop at b))

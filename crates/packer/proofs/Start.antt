@@ -124,6 +124,6 @@ at_start {big} {b} {w} {room} first c =
         repeated = refl;
         named = refl;
       };
-      strings = rw used_none (strings_none b w room c.can c.room c.none);
-      used = rw used_none (omega (arith, c.room.enough));
+      strings = rw used_none (strings_none b w room c.can c.strings c.none);
+      used = rw used_none (omega (arith, c.strings.enough));
     }

@@ -150,7 +150,7 @@ pub record Cleared (big : Bool) (b : List ℕ) (room : ℕ) (w : List ℕ) : Typ
   pub order : bundle.big ≡ big
   pub whole : length b % 4 ≡ 0
   pub can : Clearable (words_in b) (length w)
-  pub room : StringRoom b room
+  pub strings : StringRoom b room
   pub none : NoneHeld (words_in b) room w
 
 -- the refusal, or that all is filed

@@ -88,8 +88,8 @@ const NO_ROWS: Table = Table {
     has: [false; COLUMNS],
 };
 
-// As many strings as a bundle has at most, and as many entries. An entry takes at least 4 bytes of a str_offsets section, so that these sections have so many
-// words; and one more, so that a table has a root also where the bundle names no string. The caller has checked the words of the bundle.
+// As many strings as a bundle has at most, and as many entries: each entry takes 4 bytes of a str_offsets section, or more. One more, since these sections may
+// hold no whole words. The caller has checked the words of the bundle.
 pub fn string_room(b: &[u8]) -> usize
     requires { Reaches b.now 4 }
     ensures { StringRoom b.now result }
