@@ -3,6 +3,7 @@
 use mathlib.Core.Path.{◌≡◌, sym, ap, ◌∙◌}
 use mathlib.Core.List.{List, [], ◌∷◌, ◌++◌, append-nil, append_assoc}
 use Prim.Native.Nat.{ℕ}
+use Rattle.kept.proofs.RegionStores.{table_same}
 use Rattle.filing.specs.ByObject.{StringsIn}
 use Rattle.package.specs.Pieces.{used_in}
 use Rattle.package.specs.Input.{Input}
@@ -18,4 +19,4 @@ used_snoc (k ∷ is) i = ap (λ (l : List (List ℕ)). used_in k.pieces ++ l) (u
 -- they stay while units are filed
 pub strings_stay : (b w v : List ℕ) (st next : InProgress) (is : List Input) (i : Input) → StringsIn b w st.strings (all_used is ++ used_in i.pieces) → StringsKept (words_in b) w v st next
     → StringsIn b v next.strings (all_used (is ++ (i ∷ [])))
-strings_stay b w v st next is i k s = rw (s.strings, s.table, used_snoc is i) k
+strings_stay b w v st next is i k s = record { few = rw s.table k.few; kept = rw (s.table, used_snoc is i, table_same w v (words_in b) st.strings.room s.strings) k.kept }

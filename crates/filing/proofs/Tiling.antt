@@ -14,8 +14,8 @@ use Rattle.octets.proofs.Parts.{part_part, length_part}
 use Rattle.octets.proofs.Placed.{length_zeros}
 use Rattle.bundle.specs.Encoding.{Encoding}
 use Rattle.bundle.specs.Encoded.{encoding_is}
-use Rattle.numbers.specs.Limits.{bundle_limit}
-use Rattle.strings.specs.Kept.{Inside, bytes_at}
+use Rattle.numbers.specs.Limits.{bundle_limit, string_words}
+use Rattle.strings.specs.Kept.{Inside, bytes_at, Kept}
 use Rattle.strings.specs.Headed.{Headed, HeadedOf, PiecesAddable, PiecesAdded}
 use Rattle.strings.specs.declared.table.StrOffsets.{StrOffsets}
 use Rattle.strings.specs.declared.table.StringTable.{StringTable}
@@ -26,13 +26,11 @@ use Rattle.places.specs.Marks.{Marks, Clash, Marked, marks_good, TiledBy, good_e
 use Rattle.places.proofs.Marking.{marks_none}
 use Rattle.places.proofs.Walking.{good_tiles, good_pass, bad_refused, clash_refused}
 use Rattle.places.proofs.Parts.{tiles_marked}
-use Rattle.kept.specs.Regions.{strings_region, region}
 use Rattle.package.specs.Pieces.{used_in, pieces_of}
 use Rattle.std.specs.Prelude.{Some, None}
 use Rattle.filing.specs.declared.input.InputObject.{InputObject}
 use Rattle.filing.specs.Judged.{section_of}
-use Rattle.filing.specs.State.{words_in}
-use Rattle.filing.specs.ByObject.{StringsAre}
+use Rattle.filing.specs.ByObject.{StringsPut, StringsAre}
 use Rattle.std.specs.Prelude.{Result, Ok, Err}
 use Rattle.octets.specs.Options.{found}
 use Rattle.bundle.proofs.Units.{found_some, found_none}
@@ -151,8 +149,8 @@ module _ (b : List ℕ) (o : StrOffsets) (inside : Inside b o.offsets) (good : �
     good_headed = subst (λ (z : StrOffsets). HeadedOf z b before_parts) (sym ey) (subst (λ (l : List ℕ). Headed e l before_parts) front ending.headed)
 
     pub good_addable : (n : ℕ) (t : StringTable) (table memory : List ℕ) → length b ≤ bundle_limit → length b ≡ 4 * n → Inside b o.strings
-        → 7 * (t.entries + o.offsets.size / 4) ≤ strings_region.words * n → length table ≡ strings_region.words * n → length memory ≡ 4 * n → PiecesAddable b y (length table) (length memory) t
-    good_addable n t table memory limit whole strings room l m =
+        → t.entries + o.offsets.size / 4 ≤ t.room → t.room ≤ n → length table ≡ string_words * t.room → length memory ≡ 4 * n → PiecesAddable b y (length table) (length memory) t
+    good_addable n t table memory limit whole strings room few l m =
         subst (λ (z : StrOffsets). PiecesAddable b z (length table) (length memory) t) (sym ey)
         record {
           limit = omega (arith, limit);
@@ -160,28 +158,26 @@ module _ (b : List ℕ) (o : StrOffsets) (inside : Inside b o.offsets) (good : �
           strings_inside = strings;
           enough = omega (arith, strings, whole, m);
           room = omega (arith, good_within, room, l);
-          small = omega (arith, limit, whole, l);
+          small = omega (arith, limit, whole, few, l);
         }
 
-    -- the parts put
-    module _ (v : List ℕ) (ts : List (List ℕ)) (k : StringTable) where
-      abbrev Put : Result (Unit {0}) Refusal → Type 0
-      Put r = PiecesAdded b y (region v (words_in b) strings_region) ts before_parts k r
+    -- the parts put; x is what the table's words hold after that, v what work does
+    module _ (v : List ℕ) (ts : List (List ℕ)) (many : ℕ) (k : StringTable) where
+      own : (x : List ℕ) (r : Result (Unit {0}) Refusal) → PiecesAdded b y x ts before_parts k r → PiecesAdded b (offsets_before o good) x ts before_parts k r
+      own x r added = subst (λ (z : StrOffsets). PiecesAdded b z x ts before_parts k r) ey added
 
-      own : (r : Result (Unit {0}) Refusal) → Put r → PiecesAdded b (offsets_before o good) (region v (words_in b) strings_region) ts before_parts k r
-      own r added = subst (λ (z : StrOffsets). PiecesAdded b z (region v (words_in b) strings_region) ts before_parts k r) ey added
+      -- where 9 refuses, it doesn't count what they hold
+      pub parts_missing : (r : Refusal) → PiecesAdded b y [] ts before_parts k (Err r) → StringsAre b v ts many k (pieces_of e str s ps >>= λ q. pass (used_in q)) (Err r)
+      parts_missing r added = tells_refuse r (then_refuse (pieces_of e str s ps) (λ z. pass (used_in z)) (number_of r) (judged.missing (number_of r) (own [] (Err r) added)))
 
-      pub parts_missing : (r : Refusal) → Put (Err r) → StringsAre b v ts k (pieces_of e str s ps >>= λ q. pass (used_in q)) (Err r)
-      parts_missing r added = tells_refuse r (then_refuse (pieces_of e str s ps) (λ z. pass (used_in z)) (number_of r) (judged.missing (number_of r) (own (Err r) added)))
-
-      module _ (added : Put (Ok tt)) where
-        pub parts_ill : good < o.offsets.size → StringsAre b v ts k (pieces_of e str s ps >>= λ z. pass (used_in z)) (Err BadStrOffsets)
+      module _ (x : List ℕ) (added : PiecesAdded b y x ts before_parts k (Ok tt)) where
+        pub parts_ill : good < o.offsets.size → StringsAre b v ts many k (pieces_of e str s ps >>= λ z. pass (used_in z)) (Err BadStrOffsets)
         parts_ill h =
-            let a = own (Ok tt) added in
+            let a = own x (Ok tt) added in
             tells_refuse BadStrOffsets (then_refuse (pieces_of e str s ps) (λ z. pass (used_in z)) 8 (judged.ill a.0 a.1 (omega (arith, h, up.is, long))))
 
-        pub parts_put : o.offsets.size ≤ good → StringsAre b v ts k (pieces_of e str s ps >>= λ z. pass (used_in z)) (Ok tt)
-        parts_put h =
-            let a = own (Ok tt) added in
+        pub parts_put : ((us : List (List ℕ)) → Kept b x k us → StringsPut b v many k us) → o.offsets.size ≤ good → StringsAre b v ts many k (pieces_of e str s ps >>= λ z. pass (used_in z)) (Ok tt)
+        parts_put back h =
+            let a = own x (Ok tt) added in
             let j = judged.all a.0 a.1 (omega (arith, h, up.is, long, ending.high)) in
-            tells_pass tt (used_in j.0) (then_pass (pieces_of e str s ps) (λ z. pass (used_in z)) j.0 j.1) (rw j.2 a.2)
+            tells_pass tt (used_in j.0) (then_pass (pieces_of e str s ps) (λ z. pass (used_in z)) j.0 j.1) (rw j.2 (back _ a.2))

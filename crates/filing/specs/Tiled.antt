@@ -9,7 +9,7 @@ use Rattle.numbers.specs.declared.refusals.Refusal.{Refusal}
 use Rattle.octets.specs.Checked.{Check, pass, ◌>>=◌}
 use Rattle.bundle.specs.Encoding.{Encoding}
 use Rattle.bundle.specs.Encoded.{encoding_is}
-use Rattle.numbers.specs.Limits.{bundle_limit, work_for_word, string_words}
+use Rattle.numbers.specs.Limits.{bundle_limit, work_for_word}
 use Rattle.strings.specs.Kept.{Inside, bytes_at}
 use Rattle.strings.specs.declared.table.StrOffsets.{StrOffsets}
 use Rattle.strings.specs.declared.table.StringTable.{StringTable}
@@ -18,7 +18,6 @@ use Rattle.index.specs.Tiles.{named, tiles}
 use Rattle.index.proofs.Tiles.{Tiling}
 use Rattle.places.specs.Marks.{Marks, Marked, good_end}
 use Rattle.package.specs.Pieces.{used_in, pieces_of}
-use Rattle.kept.specs.Regions.{strings_region}
 use Rattle.filing.specs.declared.input.InputObject.{InputObject}
 use Rattle.octets.specs.Options.{found}
 use Rattle.filing.specs.Judged.{section_of, IndexedIs}
@@ -72,7 +71,7 @@ pub record PartsPutAsked (b : List ℕ) (o : StrOffsets) (good : ℕ) (t : Strin
   pub whole : length b ≡ 4 * words_in b
   pub offsets_inside : Inside b o.offsets
   pub strings_inside : Inside b o.strings
-  pub fits : string_words * (t.entries + o.offsets.size / 4) ≤ strings_region.words * words_in b
+  pub fits : t.entries + o.offsets.size / 4 ≤ t.room
   pub strings : List (List ℕ)
   pub kept : StringsIn b w t strings
   pub parts : List Contribution
@@ -81,4 +80,4 @@ pub record PartsPutAsked (b : List ℕ) (o : StrOffsets) (good : ℕ) (t : Strin
 abbrev pub PartsPut : List ℕ → StrOffsets → ℕ → StringTable → StringTable → List ℕ → List ℕ → Result (Unit {0}) Refusal → Type 0
 PartsPut b o good t next w v r =
     (ts : List (List ℕ)) (ps : List Contribution) → StringsIn b w t ts → GoodUpTo b o good ps
-    → StringsAre b v ts next (pieces_of (encoding_is o.encoding) (bytes_at b o.strings) (bytes_at b o.offsets) ps >>= λ q. pass (used_in q)) r
+    → StringsAre b v ts t.room next (pieces_of (encoding_is o.encoding) (bytes_at b o.strings) (bytes_at b o.offsets) ps >>= λ q. pass (used_in q)) r

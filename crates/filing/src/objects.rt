@@ -17,11 +17,13 @@ ghost use Rattle.filing.specs.ByObject.{
 use crate::input::InputObject;
 use bundle::Scan;
 use bundle::encoding::ObjectEncoding;
+use numbers::limits::STRING_WORDS;
 use numbers::refusals::Refusal;
 use numbers::sections::{CU_INDEX, STR, STR_OFFSETS, TU_INDEX};
 use strings::table::{Place, StrOffsets, StringTable};
 
-// 8 and 9, where the object has str_offsets: count says how often.
+// 8 and 9, where the object has str_offsets: count says how often. The table has the words that it has room for, at the front of their region: a bundle has
+// far fewer entries than words.
 // Table and memory are cut out of work here and in `add_parts` alike: one function for both got no proof, since the check follows a single cut back to work.
 #[tactic(auto, using(crate::proofs::Stringing::strings_cases))]
 pub fn add_object_strings(
@@ -44,7 +46,8 @@ pub fn add_object_strings(
     let strings = kept::regions::STRINGS.of(n);
     let (_, behind) = work.split_at_mut(store.start);
     let (lent, _) = behind.split_at_mut(store.size);
-    let (table, memory) = lent.split_at_mut(strings.size);
+    let (region, memory) = lent.split_at_mut(strings.size);
+    let (table, _) = region.split_at_mut(STRING_WORDS * t.room);
     t.add_strings(o, b, table, memory)
 }
 

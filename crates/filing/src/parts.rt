@@ -16,6 +16,7 @@ ghost use Rattle.filing.specs.Tiled.{
 
 use crate::input::{InputObject, held};
 use index::reading::Index;
+use numbers::limits::STRING_WORDS;
 use numbers::refusals::Refusal;
 use numbers::sections::{CU_INDEX, STR_OFFSETS, TU_INDEX};
 use strings::table::{Place, StrOffsets, StringTable};
@@ -95,7 +96,8 @@ pub fn add_parts(
     let strings = kept::regions::STRINGS.of(n);
     let (_, behind) = work.split_at_mut(store.start);
     let (lent, _) = behind.split_at_mut(store.size);
-    let (table, memory) = lent.split_at_mut(strings.size);
+    let (region, memory) = lent.split_at_mut(strings.size);
+    let (table, _) = region.split_at_mut(STRING_WORDS * t.room);
     t.add_pieces(offsets_before(o, good), b, table, memory)?;
     if good < o.offsets.size {
         return Err(Refusal::BadStrOffsets);

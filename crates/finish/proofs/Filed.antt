@@ -36,7 +36,7 @@ use Rattle.finish.specs.Sections.{sections_from, sections_by, not_empty}
 use Rattle.numbers.specs.Tables.{compilation_table, type_table}
 use Rattle.index.specs.Probing.{slots_for}
 use Rattle.kept.specs.Regions.{records_region, strings_region, region}
-use Rattle.kept.proofs.RegionStores.{slots_records, slots_strings}
+use Rattle.kept.proofs.RegionStores.{slots_records, slots_strings, table_same}
 use Rattle.kept.specs.Columns.{version_for}
 use Rattle.kept.specs.Slots.{Placeable, Fitting, seen_slots, slots_in}
 use Rattle.kept.specs.Records.{bytes_from}
@@ -254,7 +254,7 @@ module _ (big : Bool) (b : List ℕ) (st : InProgress) (w : List ℕ) (a : AllFi
           based = λ c h g. a.held.based c (omega arith) ∙ a.based c h g ∙ ap length (matched_joined b E a.bundle.objects a.filing.inputs matched c);
           shared = λ c h g. shared_section a.filing cu tu c h g ∙ rw encoding (matched_shared b E (string_table a.filing.inputs) a.bundle.objects a.filing.inputs matched c);
           used = all_used a.filing.inputs;
-          kept = rw (p.others strings_region (slots_strings compilation_table) (slots_strings type_table)) a.strings;
+          kept = rw (table_same w v n st.strings.room (p.others strings_region (slots_strings compilation_table) (slots_strings type_table))) a.strings;
           small = small;
           str_is = refl;
           good = rw encoding (matched_used b E a.bundle.objects a.filing.inputs matched);

@@ -18,7 +18,7 @@ use Rattle.answers.specs.Outcome.{outcome_of, outcome_as}
 use Rattle.answers.specs.declared.Unwritten.{Unwritten}
 use Rattle.package.specs.Pack.{package_sections, package_objects, all_used}
 use Rattle.finish.specs.Sections.{Sized, sections_by}
-use Rattle.kept.specs.Regions.{strings_region, region}
+use Rattle.kept.specs.Regions.{table_words}
 use Rattle.kept.specs.State.{Held}
 use Rattle.kept.specs.declared.state.InProgress.{InProgress}
 use Rattle.finish.specs.Ready.{ReadyFor}
@@ -56,7 +56,8 @@ pub record AllFiled (big : Bool) (b : List ℕ) (st : InProgress) (w : List ℕ)
   pub bases : BySection ℕ
   pub based : (c : ℕ) → first_shared ≤ c → c ≤ last_shared → bases c ≡ length (joined (map (λ i. i.bytes c) filing.inputs))
   pub held : Held (eqb (first_word bundle.objects % 256) dwarf5) b (length b / 4) (length b) w st bases filing.units
-  pub strings : Kept b (region w (length b / 4) strings_region) st.strings (all_used filing.inputs)
+  pub few : st.strings.room ≤ length b / 4
+  pub strings : Kept b (table_words w (length b / 4) st.strings.room) st.strings (all_used filing.inputs)
 
 -- the sections are ready to be written into an output that is zero
 pub record Writable (p : Package) (d : List ℕ) : Type 0 where

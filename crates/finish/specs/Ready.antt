@@ -13,7 +13,7 @@ use Rattle.bundle.specs.declared.encoding.ObjectEncoding.{ObjectEncoding}
 use Rattle.strings.specs.Strings.{first_uses, str_of}
 use Rattle.strings.specs.Kept.{Kept}
 use Rattle.index.specs.Probing.{slots_for}
-use Rattle.kept.specs.Regions.{Layout, records_region, strings_region, slots_region, least_unit, record_words, region, Apart}
+use Rattle.kept.specs.Regions.{Layout, records_region, slots_region, least_unit, record_words, region, table_words, Apart}
 use Rattle.kept.specs.Columns.{codes_in}
 use Rattle.kept.specs.Records.{of_table, identities_in, bytes_from, UnitsInside}
 use Rattle.kept.specs.Slots.{Within, SeenHeld, slots_in, Placeable, Fitting}
@@ -104,7 +104,7 @@ pub record Ready (e : ObjectEncoding) (b : List ℕ) (st : InProgress) (w : List
   pub types_many : st.units.types ≡ length (s types_code)
   -- strings
   pub used : List (List ℕ)
-  pub kept : Kept b (region w (length b / 4) strings_region) st.strings used
+  pub kept : Kept b (table_words w (length b / 4) st.strings.room) st.strings used
   pub small : st.strings.over ≡ false
   pub str_is : s str_code ≡ str_of (first_uses used)
   pub good : UsedBy (encoding_is e) b bundle.objects used
@@ -128,7 +128,7 @@ pub record SharedOf (p : Package) (s : SharedSections) : Type 0 where
   pub encoding : s.encoding ≡ p.encoding
   pub bundle : s.bundle.now ≡ p.bundle.now
   pub remapped : (code : ℕ) → remaps s.table code ≡ eqb code str_offsets_code
-  pub table : table_lent s.table ≡ region p.work.now (words_of p) strings_region
+  pub table : table_lent s.table ≡ table_words p.work.now (words_of p) p.state.strings.room
 
 -- one section fits at a place of n bytes
 pub record SectionWritable (code : ℕ) (p : Package) (n at : ℕ) : Type 0 where

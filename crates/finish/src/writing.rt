@@ -6,7 +6,7 @@ use crate::joining::SharedSections;
 use bundle::encoding::ObjectEncoding;
 use kept::Table;
 use kept::records::Records;
-use kept::regions::{COMPILATION, STRINGS, TYPE};
+use kept::regions::{COMPILATION, TYPE};
 use kept::slots::{Slots, TableSlots};
 use kept::state::InProgress;
 use kept::writing::IndexForm;
@@ -18,7 +18,7 @@ const WORD: usize = 4;
 const FRONT: usize = 2 * WORD;
 
 // What is to be written: the encoding of all objects, what is known of them, the sizes of all sections by code, and where their bytes are. Work has words
-// enough for the bundle.
+// enough for the bundle, and the region of the strings has enough for their table.
 #[derive(Clone, Copy)]
 pub struct Package<'a> {
     pub encoding: ObjectEncoding,
@@ -28,12 +28,13 @@ pub struct Package<'a> {
     pub work: &'a [u32],
     pub ghost limit: { length bundle.now ≤ bundle_limit },
     pub ghost room: { work_for_word * (length bundle.now / 4) ≤ length work.now },
+    pub ghost few: { state.strings.room ≤ length bundle.now / 4 },
 }
 
 impl Package<'_> {
     ghost use Rattle.std.specs.Prelude.{◌+◌, get_or, List, ℕ};
     ghost use Rattle.octets.specs.Octets.{placed};
-    ghost use Rattle.kept.specs.Regions.{region, strings_region};
+    ghost use Rattle.kept.specs.Regions.{table_words};
     ghost use Rattle.finish.specs.Sections.{framed_size};
     ghost use Rattle.finish.specs.Ready.{
       form_of,
@@ -51,11 +52,11 @@ impl Package<'_> {
       PackagePut,
     };
 
-    // The words that hold the strings.
+    // The words of the table of the strings.
     fn strings(&self) -> &[u32]
-        ensures { result.now ≡ region self.now.work.now (words_of self.now) strings_region }
+        ensures { result.now ≡ table_words self.now.work.now (words_of self.now) self.now.state.strings.room }
     {
-        STRINGS.part(self.work, self.bundle.len() / WORD)
+        kept::regions::table_words(self.work, self.bundle.len() / WORD, self.state.strings.room)
     }
 
     // A table's index, nothing without rows.

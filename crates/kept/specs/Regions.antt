@@ -3,8 +3,10 @@
 -- What is remembered of an object's str by a string's start stands
 -- where the codes do, a word for each byte: codes count while units are filed, memory while strings are put or written. So that both can be lent as one
 -- store, the codes stand behind the strings.
+-- The table of the strings has the front of its region, as many words as its room asks for: a bundle has far fewer entries than words, so that all it uses stands
+-- close together.
 -- Assumes nothing.
-use Rattle.std.specs.Prelude.{◌≡◌, true, false, ◌⊎◌, List, ℕ, ◌+◌, ◌*◌, ◌≤◌, eqb, length}
+use Rattle.std.specs.Prelude.{◌≡◌, true, false, ◌⊎◌, List, ℕ, ◌+◌, ◌*◌, ◌≤◌, eqb, length, take}
 use Rattle.numbers.specs.Limits.{string_words}
 use Rattle.octets.specs.Octets.{part}
 use Rattle.numbers.specs.Tables.{compilation_table}
@@ -29,10 +31,6 @@ slots_region table = elim (eqb table compilation_table) [ true ↦ compilation_s
 abbrev pub strings_region : Layout
 strings_region = record { start = 7; words = string_words }
 
--- the last words of the strings: the roots of their index
-abbrev pub roots_region : Layout
-roots_region = record { start = 13; words = 1 }
-
 abbrev pub codes_region : Layout
 codes_region = record { start = 14; words = 4 }
 
@@ -53,6 +51,10 @@ least_unit = 5
 -- the words of a region, in work for a bundle of n words
 unfoldable pub region : List ℕ → ℕ → Layout → List ℕ
 region w n r = part w (r.start * n) (r.words * n)
+
+-- the words of a table of the strings with so much room, which is no more than the bundle has words: the front of their region
+unfoldable pub table_words : List ℕ → ℕ → ℕ → List ℕ
+table_words w n room = take (string_words * room) (region w n strings_region)
 
 -- a region lies before or behind another
 unfoldable pub Apart : Layout → Layout → Type 0

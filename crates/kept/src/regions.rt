@@ -1,7 +1,7 @@
 // The regions of lent work, in words for each word of the bundle. No other file knows where a region starts.
 ghost use Rattle.std.specs.Prelude.{◌≡◌, ◌+◌, ◌*◌, ◌≤◌, ◌<◌, ◌^◌, length};
 ghost use Rattle.numbers.specs.Limits.{work_for_word};
-ghost use Rattle.kept.specs.Regions.{slots_region, region};
+ghost use Rattle.kept.specs.Regions.{slots_region, region, table_words};
 
 use numbers::limits::STRING_WORDS;
 
@@ -28,15 +28,10 @@ const COMPILATION_SLOTS: Share = Share { start: 5, words: 1 };
 
 const TYPE_SLOTS: Share = Share { start: 6, words: 1 };
 
+// Words for a table of the strings with as many entries as the bundle has words. The table takes the front of them, by its room: see `table_words`.
 pub const STRINGS: Share = Share {
     start: 7,
     words: STRING_WORDS,
-};
-
-// The roots of the strings' index, the last words of the strings.
-pub const ROOTS: Share = Share {
-    start: 13,
-    words: 1,
 };
 
 // The codes of an object's abbreviation tables; what stands there counts for that object alone.
@@ -101,4 +96,14 @@ impl Share {
         let region = self.of(n);
         &work[region.start..region.start + region.size]
     }
+}
+
+// The words of the strings' table, to be read, by its room: a bundle has far fewer entries than the region has words for, and what is used stands close
+// together. Those who write the table cut it out of work themselves, as `Share::part` says.
+#[tactic(auto, unfolding(crate::specs::Regions::table_words))]
+pub fn table_words(work: &[u32], n: usize, room: usize) -> &[u32]
+    requires { (n < 2 ^ 32) × (work_for_word * n ≤ length work.now) × (room ≤ n) }
+    ensures { result.now ≡ table_words work.now n room }
+{
+    &STRINGS.part(work, n)[..STRING_WORDS * room]
 }

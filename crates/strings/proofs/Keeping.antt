@@ -9,6 +9,7 @@ use native.Mathlib.Omega.{arith}
 use Rattle.std.specs.Prelude.{Some, None, Ok}
 use lib.ListN.{length, get_or, length-append}
 use borrow.Author.Tests.{ltb-false, le-ltb}
+use Rattle.numbers.specs.Limits.{string_words}
 use Rattle.octets.specs.Octets.{placed, zeros}
 use Rattle.octets.proofs.Joined.{map-append}
 use Rattle.octets.proofs.Parts.{part_none, part_add}
@@ -43,12 +44,14 @@ unfolding room_of
 roomy_places region t r = omega (arith, r.more)
 
 -- no strings: the roots are free
-pub kept_none : (b region : List ℕ) → ((j : ℕ) → 6 * room_of region ≤ j → get_or region j 0 ≡ 0) → Kept b region none []
-unfolding first_uses put_all places_in places_of
-kept_none b region z = grind (arith, str_of_none, held_none, part_none)
+pub kept_none : (b region : List ℕ) (room : ℕ) → string_words * room ≡ length region → ((j : ℕ) → 6 * room ≤ j → get_or region j 0 ≡ 0) → Kept b region (none room) []
+unfolding first_uses put_all places_in places_of room_of
+kept_none b region room l z =
+    let free : (j : ℕ) → 6 * room_of region ≤ j → get_or region j 0 ≡ 0 = λ j h. z j (omega (arith, l)) in
+    grind (arith, l, str_of_none, held_none b region free, part_none)
 
-pub kept_cleared : (b region : List ℕ) → region ≡ zeros (length region) → Kept b region none []
-kept_cleared b region e = kept_none b region (λ j _. ap (λ (z : List ℕ). get_or z j 0) e ∙ get_d_zeros (length region) j)
+pub kept_cleared : (b region : List ℕ) (room : ℕ) → string_words * room ≡ length region → region ≡ zeros (length region) → Kept b region (none room) []
+kept_cleared b region room l e = kept_none b region room l (λ j _. ap (λ (z : List ℕ). get_or z j 0) e ∙ get_d_zeros (length region) j)
 
 -- a row as the code stores it, word by word
 pub row_stored : (region r l m x : List ℕ) (slot links : ℕ) (t : StringTable) (p : Place) → t.count < room_of region → links ≡ 3 * room_of region + 2 * t.count
@@ -60,8 +63,9 @@ row_stored region r l m x slot links t p h e er el em ex = grind (arith, length_
 -- a string whose place is noted, in a region that holds the table with it
 put_noted : (b y x : List ℕ) (u r : StringTable) (used : List (List ℕ)) (s : List ℕ) (v : ℕ) → u.over ≡ false → u.entries ≡ length used → u.entries < room_of y
     → Held b y u.count (put (first_uses used) s) → u.size ≡ length (str_of (put (first_uses used) s)) → u.size ≤ 8388607 → places_in y (length used) ≡ places_of used
-    → v ≡ offset_in (first_uses used) s → r ≡ with_entry u → x ≡ placed y (places_from (length y) + u.entries) (v ∷ []) → PutIs b x used s r (Some v)
-put_noted b y x u r used s v f n room k size low places o q e =
+    → string_words * u.room ≡ length y → v ≡ offset_in (first_uses used) s → r ≡ with_entry u → x ≡ placed y (places_from (length y) + u.entries) (v ∷ []) → PutIs b x used s r (Some v)
+unfolding room_of places_from
+put_noted b y x u r used s v f n room k size low places full o q e =
     let new = first_uses_snoc used s in
     let count : length (used ++ (s ∷ [])) ≡ length used + 1 = length-append used (s ∷ []) in
     let grown : places_in (placed y (places_from (length y) + u.entries) (v ∷ [])) (length (used ++ (s ∷ []))) ≡ places_of (used ++ (s ∷ [])) =
@@ -71,6 +75,7 @@ put_noted b y x u r used s v f n room k size low places o q e =
       kept =
           rw (q, e)
           record {
+            full = full ∙ sym (length_placed y (places_from (length y) + u.entries) (v ∷ []) (omega (arith, room)));
             few = omega (arith, count);
             over = f ∙ sym (le-ltb 8388607 (length (str_of (first_uses (used ++ (s ∷ []))))) (rw new (omega arith)));
             size = λ _. rw new size;
@@ -86,21 +91,21 @@ module _ (b region : List ℕ) (t : StringTable) (used : List (List ℕ)) (k : K
   kept_within : t.over ≡ false → t.size ≤ 8388607
   kept_within f = omega (arith, k.size f, ltb-false 8388607 (length (str_of (first_uses used))) (sym k.over ∙ f))
 
-  -- behind the limit nothing is stored, whatever the region holds
-  pub kept_over : (x s : List ℕ) → t.over ≡ true → Kept b x t (used ++ (s ∷ []))
-  kept_over x s f = grind (arith, first_uses_snoc, length-append, put_longer)
+  -- behind the limit nothing is stored
+  pub kept_over : (s : List ℕ) → t.over ≡ true → Kept b region t (used ++ (s ∷ []))
+  kept_over s f = grind (arith, first_uses_snoc, length-append, put_longer)
 
   -- a known string: its place is noted
   pub put_again : t.over ≡ false → (x s : List ℕ) (v : ℕ) (r : StringTable) → is_in (first_uses used) s ≡ true → t.entries < room_of region → v ≡ offset_in (first_uses used) s
       → r ≡ with_entry t → x ≡ placed region (places_from (length region) + t.entries) (v ∷ []) → PutIs b x used s r (Some v)
-  put_again f x s v r e room o is q = search (rules, put_known, put_noted, k.entries, k.held, k.size, kept_within, k.places)
+  put_again f x s v r e room o is q = search (rules, put_known, put_noted, k.full, k.entries, k.held, k.size, kept_within, k.places)
 
   longer : t.over ≡ false → (p : Place) → Inside b p → is_in (first_uses used) (bytes_at b p) ≡ false → length (str_of (put (first_uses used) (bytes_at b p))) ≡ t.size + p.size + 1
   longer f p fits new = rw (put_new (first_uses used) (bytes_at b p) new) (length_str_of_snoc (first_uses used) (bytes_at b p) ∙ omega (arith, k.size f, length_bytes_at b p fits))
 
 -- ---- what get_or_insert does: nothing, where the section is over
 pub put_nothing : (b region : List ℕ) (t : StringTable) (s : List ℕ) (used : List (List ℕ)) → Kept b region t used → t.over ≡ true → PutIs b region used s t None
-put_nothing b region t s used k f = record { kept = kept_over b region t used k region s f; stands = f }
+put_nothing b region t s used k f = record { kept = kept_over b region t used k s f; stands = f }
 
 -- a string that was found in a row
 module _ (b region : List ℕ) (t : StringTable) (s : List ℕ) (i : ℕ) (f : t.over ≡ false) (found : (ts : List (List ℕ)) → Held b region t.count ts → SoughtIs region t.count ts s (Ok i)) where
@@ -145,12 +150,12 @@ module _ (b region : List ℕ) (p : Place) (slot : ℕ) (t : StringTable) (f : t
 
   module _ (used : List (List ℕ)) (k : Kept b region t used) (new : NewAt b p region used slot) where
     -- one that would end above the limit
-    pub put_passes : (r : StringTable) → 8388607 - t.size ≤ p.size → r.entries ≡ t.entries → r.over ≡ true → PutIs b region used (bytes_at b p) r None
-    put_passes r h same over = grind (arith, first_uses_snoc, length-append, longer b region t used k f p a.fits new.new, kept_within b region t used k f)
+    pub put_passes : (r : StringTable) → 8388607 - t.size ≤ p.size → r.entries ≡ t.entries → r.room ≡ t.room → r.over ≡ true → PutIs b region used (bytes_at b p) r None
+    put_passes r h same room over = grind (arith, first_uses_snoc, length-append, longer b region t used k f p a.fits new.new, kept_within b region t used k f)
 
     -- its row behind the others, and its place
     pub put_row : (y x : List ℕ) (r : StringTable) (v : ℕ) → p.size < 8388607 - t.size → v ≡ t.size → y ≡ row_added region slot t p → length y ≡ length region
-        → r ≡ with_entry (record { count = t.count + 1; size = t.size + (p.size + 1); entries = t.entries; over = t.over }) → x ≡ placed y (places_from (length y) + t.entries) (v ∷ [])
+        → r ≡ with_entry (record { count = t.count + 1; size = t.size + (p.size + 1); entries = t.entries; over = t.over; room = t.room }) → x ≡ placed y (places_from (length y) + t.entries) (v ∷ [])
         → PutIs b x used (bytes_at b p) r (Some v)
     unfolding room_of
     put_row y x r v h at e same is q =
@@ -162,5 +167,5 @@ module _ (b region : List ℕ) (p : Place) (slot : ℕ) (t : StringTable) (f : t
         let held : Held b y (t.count + 1) (put table s) = rw (put_new table s new.new, e) (held_more b region t table (k.held f) p slot low a.fits (k.size f) new) in
         let places : places_in y (length used) ≡ places_of used =
         ap (λ (z : List ℕ). places_in z (length used)) e ∙ row_places b region t table (k.held f) p slot low a.fits (k.size f) new (length used) (omega (arith, k.entries f)) ∙ k.places f in
-        put_noted b y x (record { count = t.count + 1; size = t.size + (p.size + 1); entries = t.entries; over = t.over }) r used s v f (k.entries f) (rw same room) held (omega (arith, long)) (omega (arith, kept_within b region t used k f))
-        places (at ∙ k.size f ∙ sym (offset_absent table s new.new)) is q
+        put_noted b y x (record { count = t.count + 1; size = t.size + (p.size + 1); entries = t.entries; over = t.over; room = t.room }) r used s v f (k.entries f) (rw same room) held (omega (arith, long)) (omega (arith, kept_within b region t used k f))
+        places (k.full ∙ sym same) (at ∙ k.size f ∙ sym (offset_absent table s new.new)) is q

@@ -79,7 +79,7 @@ known_place str table s memo o v m e q u =
 -- nothing, where the section is over
 pub string_passed : (b : List ℕ) (strings : Place) (region memo : List ℕ) (t : StringTable) (used : List (List ℕ)) (s : List ℕ) → Putting b strings region memo t used → t.over ≡ true
     → Putting b strings region memo t (used ++ (s ∷ []))
-string_passed b strings region memo t used s p over = record { kept = kept_over b region t used p.kept region s over; memory = λ g. absurd (true_false over g) }
+string_passed b strings region memo t used s p over = record { kept = kept_over b region t used p.kept s over; memory = λ g. absurd (true_false over g) }
 
 module _ (b : List ℕ) (strings : Place) (region memo : List ℕ) (t : StringTable) (o : ℕ) (a : Addable b strings o (length region) (length memo) t) where
   -- its memory is at hand

@@ -56,8 +56,9 @@ unfoldable pub places_of : List (List ℕ) → List ℕ
 places_of used = map (offset_in (first_uses used)) used
 
 -- the state for the strings used so far, in order: whether the str section of their table is above 8,388,607 bytes (19), and where it is not, how long it is, the table
--- itself, and for each of them its place in str
+-- itself, and for each of them its place in str. The region is as long as the state says, so that whoever lends it knows from the state where it ends
 pub record Kept (b region : List ℕ) (t : StringTable) (used : List (List ℕ)) : Type 0 where
+  pub full : string_words * t.room ≡ length region
   pub few : t.entries ≤ length used
   pub over : t.over ≡ ltb section_limit (length (str_of (first_uses used)))
   pub size : t.over ≡ false → t.size ≡ length (str_of (first_uses used))
@@ -65,14 +66,14 @@ pub record Kept (b region : List ℕ) (t : StringTable) (used : List (List ℕ))
   pub entries : t.over ≡ false → t.entries ≡ length used
   pub places : t.over ≡ false → places_in region (length used) ≡ places_of used
 
--- the state for no strings
-abbrev pub none : StringTable
-none = record { count = 0; size = 0; entries = 0; over = false }
+-- the state for no strings, with so much room
+abbrev pub none : ℕ → StringTable
+none room = record { count = 0; size = 0; entries = 0; over = false; room = room }
 
 -- ---- one string more
 -- with one entry more
 abbrev pub with_entry : StringTable → StringTable
-with_entry t = record { count = t.count; size = t.size; entries = t.entries + 1; over = t.over }
+with_entry t = record { count = t.count; size = t.size; entries = t.entries + 1; over = t.over; room = t.room }
 
 -- a row without links behind the others, and its number in a word
 unfoldable pub row_added : List ℕ → ℕ → StringTable → Place → List ℕ

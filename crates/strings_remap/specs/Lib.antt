@@ -1,3 +1,3 @@
--- What the program has once the strings of an object are put.
+-- What the program has before and once the strings of an object are put.
 -- Assumes nothing.
 pub mod Strung

@@ -2,13 +2,9 @@
 // first as hexadecimal digits and the second as text with a dot for each zero, or the refusal.
 #![tactic(auto)]
 
-ghost use Rattle.std.specs.Prelude.{◌≡◌, false, List, ℕ, ◌+◌, ◌≤◌, ◌<◌, ◌^◌, length};
-ghost use Rattle.octets.specs.Checked.{pass};
-ghost use Rattle.bundle.specs.Encoded.{encoding_is};
-ghost use Rattle.strings.specs.Strings.{entries_of};
-ghost use Rattle.strings.specs.Kept.{none, Inside, bytes_at};
-ghost use Rattle.strings.specs.Objects.{entries_at, AllAddable};
-ghost use Rattle.strings_remap.specs.Strung.{Strung};
+ghost use Rattle.std.specs.Prelude.{◌≡◌, List, ℕ, ◌+◌, ◌≤◌, ◌<◌, ◌^◌, length};
+ghost use Rattle.strings.specs.Kept.{Inside};
+ghost use Rattle.strings_remap.specs.Strung.{Stringable, Strung};
 ghost use Rattle.strings_remap.specs.declared.Failure.TheVariants.{Refused};
 
 use bundle::encoding::ObjectEncoding;
@@ -57,7 +53,7 @@ fn write_sections(
     Ok((at, at + size))
 }
 
-// Puts the strings of an object whose entries were counted, in a table that is cleared, and writes its sections.
+// Puts the strings of an object whose entries were counted, in a table that is cleared, and writes its sections. The table has its words and no more.
 fn remap_entries(
     o: StrOffsets,
     b: &[u8],
@@ -65,7 +61,7 @@ fn remap_entries(
     memory: &mut [u32],
     output: &mut [u8],
 ) -> Result<(usize, usize), Failure>
-    requires { AllAddable b.now o (length table.old) (length memory.old) none × (entries_of (encoding_is o.encoding) (bytes_at b.now o.offsets) ≡ pass (entries_at o b.now)) }
+    requires { Stringable b.now o (length table.old) (length memory.old) }
 {
     table.fill(0);
     let mut kept = StringTable {
@@ -73,6 +69,7 @@ fn remap_entries(
         size: 0,
         entries: 0,
         over: false,
+        room: table.len() / STRING_WORDS,
     };
     kept.add_strings(o, b, table, memory)?;
     if kept.over {
@@ -92,10 +89,11 @@ fn remap(
     requires { (length b.now < 2 ^ 32) × Inside b.now o.offsets × Inside b.now o.strings × (length table.old < 2 ^ 32) }
 {
     let n = o.section(b).check_entries()?;
-    if table.len() / STRING_WORDS < n || memory.len() < o.strings.size {
+    let room = table.len() / STRING_WORDS;
+    if room < n || memory.len() < o.strings.size {
         return Err(Failure::Short);
     }
-    remap_entries(o, b, table, memory, output)
+    remap_entries(o, b, &mut table[..STRING_WORDS * room], memory, output)
 }
 
 // Its twin in package_search writes small letters, and says why both stand.

@@ -1,20 +1,13 @@
 -- The entries were counted, and the store has room for them.
+-- Assumes nothing.
 use Rattle.std.proofs.Common.{arith}
 use Rattle.strings.proofs.Callers.{section_counted}
+use Rattle.strings_remap.proofs.Sections.{stringable}
 use Rattle.strings_remap.proofs.remap.Goals as goal
 
 pub remap_entries-requires : goal.remap_entries-requires
 remap_entries-requires c =
     let a = c.requires in
     let s = c.section.ensures in
-    let n = section_counted c.args.o c.args.b.now _ _ s.encoding s.bytes _ c.in_ok-n.ensures in (
-      record {
-        limit = a.0;
-        offsets_inside = a.1;
-        strings_inside = a.2;
-        enough = c.if-memory-o.false;
-        room = omega (arith, n.0, c.if-table-n.false);
-        small = a.3;
-      },
-      n.1,
-    )
+    let n = section_counted c.args.o c.args.b.now _ _ s.encoding s.bytes _ c.in_ok-n.ensures in
+    stringable c.args.b.now c.args.o c.args.table.now _ c.in_ok-n.n a.0 a.1 a.2 a.3 c.if-memory-o.false (omega (arith, n.0)) (omega (arith, c.if-room-n.false)) n.1

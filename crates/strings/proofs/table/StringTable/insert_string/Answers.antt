@@ -5,7 +5,7 @@ use Rattle.strings.proofs.Keeping.{row_addable, put_passes, put_row}
 use Rattle.strings.proofs.table.StringTable.insert_string.Goals as goal
 
 pub returns-then-place-p-clause-puts_new : goal.returns-then-place-p-clause-puts_new
-returns-then-place-p-clause-puts_new c = λ used k new. put_passes _ _ _ _ _ c.requires.0 c.requires.1 used k new _ c.if-place-p.true refl refl
+returns-then-place-p-clause-puts_new c = λ used k new. put_passes _ _ _ _ _ c.requires.0 c.requires.1 used k new _ c.if-place-p.true refl refl refl
 
 pub add_row-requires : goal.add_row-requires
 add_row-requires c = row_addable _ _ _ _ _ c.requires.0 c.requires.1 c.requires.2
