@@ -56,7 +56,7 @@ least_unit = 5
 unfoldable pub region : List ℕ → ℕ → Layout → List ℕ
 region w n r = part w (r.start * n) (r.words * n)
 
--- the words of the strings that a table with so much room has, no more than the bundle has words
+-- the words of a table of the strings with so much room, which is no more than the bundle has words: the front of their region
 unfoldable pub table_words : List ℕ → ℕ → ℕ → List ℕ
 table_words w n room = take (string_words * room) (region w n strings_region)
 

@@ -28,6 +28,7 @@ const COMPILATION_SLOTS: Share = Share { start: 5, words: 1 };
 
 const TYPE_SLOTS: Share = Share { start: 6, words: 1 };
 
+// Words for a table of the strings with as many entries as the bundle has words. The table takes the front of them, by its room: see `table_words`.
 pub const STRINGS: Share = Share {
     start: 7,
     words: STRING_WORDS,
@@ -103,8 +104,8 @@ impl Share {
     }
 }
 
-// The words of the strings that their table has, with room for so many. They are cut by what the table says of itself, so that all that is used of them stands
-// close together: the region has words for more entries than a bundle has.
+// The words of the strings' table, to be read, by its room: a bundle has far fewer entries than the region has words for, and what is used stands close
+// together. Those who write the table cut it out of work themselves, as `Share::part` says.
 #[tactic(auto, unfolding(crate::specs::Regions::table_words))]
 pub fn table_words(work: &[u32], n: usize, room: usize) -> &[u32]
     requires { (n < 2 ^ 32) × (work_for_word * n ≤ length work.now) × (room ≤ n) }

@@ -1,8 +1,8 @@
-// The table of kept strings, in a region of the work area: three words for each string, which say where it lies in the
-// bundle, its length and its offset in the package's str; behind these rows the links of their index; then for each entry the place of
-// its string, in order, so that str_offsets is written without a search; and the roots of the index. A string that is known is kept
-// once; a new one goes to the end. While an object's strings are put, words lent for its str remember by a string's start where it
-// stands, so that a string named often is read once.
+// The table of kept strings, in words that are lent of the work area, STRING_WORDS for each string and entry that it has room for and no more: three
+// words for each string, which say where it lies in the bundle, its length and its offset in the package's str; behind these rows the links of
+// their index; then for each entry the place of its string, in order, so that str_offsets is written without a search; and the roots of the index.
+// A string that is known is kept once; a new one goes to the end. While an object's strings are put, words lent for its str remember by a string's
+// start where it stands, so that a string named often is read once.
 ghost use Rattle.std.specs.Prelude.{◌≡◌, true, false, List, [], ◌∷◌, ℕ, ◌+◌, ◌-◌, ◌*◌, ◌≤◌, ◌<◌, ◌^◌, length, get_or};
 ghost use Rattle.octets.specs.Octets.{part, placed, zeros};
 ghost use Rattle.octets.specs.Checked.{mapped};
@@ -107,7 +107,7 @@ impl StrOffsets {
 
 // How many strings are kept, how long their str section is, how many entries named them, and whether the section would be above 8,388,607
 // bytes (19). From then on nothing is stored: the package is refused, whatever the new offsets are, and the sum of lengths stays within 32 bits.
-// `over` stays a flag: 19 is due only once all objects are read, and until then the other three say what is stored, whether it is set or not.
+// `over` stays a flag: 19 is due only once all objects are read, and until then the first three say what is stored, whether it is set or not.
 // `room` says how many strings, and how many entries, there is room for: the table's words are STRING_WORDS for each, and no more, so that all that is used
 // stands close together. Whoever lends the words cuts them by it.
 #[derive(Clone, Copy)]
