@@ -31,7 +31,7 @@ ordered_before w (pass is) = refl
 ordered_before w (refuse n) = refl
 
 module _ (b : List ℕ) (at : ℕ) where
-  object_there : (word next : ℕ) → pass (Object word next) ≡ next_of at (step_at at (drop at b)) → here b at ≡ before (object word) (here b next)
+  pub object_there : (word next : ℕ) → pass (Object word next) ≡ next_of at (step_at at (drop at b)) → here b at ≡ before (object word) (here b next)
   object_there word next e =
       let h = object_here b at word next e in
       let place : at + 4 + 0 ≡ next = omega (arith, h.place) in

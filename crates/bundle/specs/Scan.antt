@@ -1,11 +1,11 @@
--- The sections of one object, listed by code: how many there are, and where the first lies.
+-- The sections of one object, listed by code: how many there are, and where the first lies. And how many bytes the str_offsets sections of a bundle have.
 -- Assumes nothing.
 use Rattle.std.specs.Prelude.{◌≡◌, Bool, true, false, ◌||◌, List, [], ◌∷◌, ℕ, zero, suc, ◌+◌, ◌<◌, eqb, drop, get_or, set}
 use Rattle.std.proofs.Math.Option.{Option, some, none}
-use Rattle.numbers.specs.Sections.{info_code, types_code, section_codes}
+use Rattle.numbers.specs.Sections.{info_code, types_code, str_offsets_code, section_codes}
 use Rattle.octets.specs.Lists.{those}
 use Rattle.octets.specs.Checked.{Check, pass, refuse}
-use Rattle.bundle.specs.Bundle.{Part, Item, filled_up, items, leading, count, first_part}
+use Rattle.bundle.specs.Bundle.{Part, Item, object, section, filled_up, items, leading, count, first_part}
 use Rattle.bundle.specs.Next.{section_at}
 use Rattle.bundle.specs.declared.Scan.{Scan}
 use Rattle.bundle.specs.declared.Section.{Section}
@@ -78,3 +78,22 @@ unfoldable pub unit_section_of : List Part → Option Section
 unit_section_of [] = none
 unit_section_of (p ∷ ps) =
     elim (holds_units p) [ true ↦ some (section_at p (p.start + filled_up p.size)) | false ↦ unit_section_of ps ]
+
+-- ---- the str_offsets sections of all objects
+-- how many of its bytes a section counts for: all where it is str_offsets
+unfoldable pub offsets_at : ℕ → ℕ → ℕ
+offsets_at code size = elim (eqb code str_offsets_code) [ true ↦ size | false ↦ 0 ]
+
+-- how many bytes they have together
+unfoldable pub offsets_in : List Item → ℕ
+offsets_in [] = 0
+offsets_in (object w ∷ is) = offsets_in is
+offsets_in (section p ∷ is) = offsets_at p.code p.size + offsets_in is
+
+unfoldable pub offsets_read : Check (List Item) → ℕ
+offsets_read (pass is) = offsets_in is
+offsets_read (refuse n) = 0
+
+-- from a place of a bundle on
+unfoldable pub offsets_from : List ℕ → ℕ → ℕ
+offsets_from b at = offsets_read (items at (drop at b))

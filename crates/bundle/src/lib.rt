@@ -20,7 +20,16 @@ ghost use Rattle.bundle.specs.Bundle.{
   items,
   length_good,
 };
-ghost use Rattle.bundle.specs.Scan.{Notable, Reaches, sections_of, scan_of, noted, unit_section_of};
+ghost use Rattle.bundle.specs.Scan.{
+  Notable,
+  Reaches,
+  sections_of,
+  scan_of,
+  noted,
+  unit_section_of,
+  offsets_at,
+  offsets_from,
+};
 ghost use Rattle.bundle.specs.Next.{next_of, ended, in_order};
 
 use numbers::refusals::Refusal;
@@ -50,10 +59,12 @@ const LENGTHS: u32 = 0x80_0000;
 // What a bundle of one object takes besides its sections: the words of head, object and end.
 pub const FRAME: usize = 12;
 
-// The greatest code of a section, and the least that holds no units, as words have them.
+// The greatest code of a section, the least that holds no units, and that of str_offsets, as words have them.
 const LAST_CODE: u32 = numbers::sections::TU_INDEX as u32;
 
 const FIRST_SHARED: u32 = numbers::sections::FIRST_SHARED as u32;
+
+const STR_OFFSETS: u32 = numbers::sections::STR_OFFSETS as u32;
 
 // A section: its code, where its bytes lie, and the place following it.
 #[derive(Clone, Copy)]
@@ -267,6 +278,43 @@ pub fn next_unit_section(b: &[u8], from: usize) -> Option<Section>
         at = section.next;
     }
     None
+}
+
+impl Section {
+    // How many of its bytes are those of str_offsets: all or none.
+    #[tactic(auto, unfolding(crate::specs::Scan::offsets_at))]
+    fn offsets(self) -> usize
+        ensures { result ≡ offsets_at self.code self.size }
+    {
+        if self.code == STR_OFFSETS {
+            self.size
+        } else {
+            0
+        }
+    }
+}
+
+// How many bytes the str_offsets sections of all objects have together: who files the strings makes room for so many entries. The caller has checked the
+// words of the bundle.
+#[tactic(auto, using(crate::proofs::Next::object_nearer, crate::proofs::Next::section_nearer))]
+pub fn offsets_size(b: &[u8]) -> usize
+    requires { Reaches b.now 4 }
+    ensures { result ≡ offsets_from b.now 4 }
+{
+    let mut at = 4;
+    let mut size = 0;
+    // By hand: each item says where the next one starts.
+    while let Ok(item) = next_item(b, at) {
+        at = match item {
+            Item::Object { next, .. } => next,
+            Item::Section(section) => {
+                size += section.offsets();
+                section.next
+            }
+            Item::End => return size,
+        };
+    }
+    size
 }
 
 // ---- a bundle written, into an output whose other bytes are zero. The caller has measured it, so that each part fits.

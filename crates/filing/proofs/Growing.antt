@@ -3,13 +3,13 @@
 use mathlib.Core.Path.{◌≡◌}
 use mathlib.Core.Bool.{Bool}
 use mathlib.Core.List.{List}
-use Prim.Native.Nat.{ℕ, ◌≤◌}
+use Prim.Native.Nat.{ℕ}
 use native.Mathlib.Omega.{arith}
 use lib.ListN.{length}
 use Rattle.octets.specs.Checked.{pass}
 use Rattle.bundle.specs.Bundle.{Item, leading}
 use Rattle.bundle.proofs.Passed.{here}
-use Rattle.bundle.proofs.Onward.{onward, size_behind}
+use Rattle.bundle.proofs.Offsets.{offsets_behind}
 use Rattle.bundle.proofs.Every.{Every}
 use Rattle.bundle.proofs.Lies.{Lies}
 use Rattle.bundle.proofs.ScanFacts.{first_within}
@@ -20,17 +20,13 @@ use Rattle.kept.specs.declared.state.InProgress.{InProgress}
 use Rattle.filing.specs.ByObject.{AtObject, InputRoom}
 
 -- what `read_input` requires, of the object whose sections start at from
-pub input_room : (b : List ℕ) (big : Bool) (first place : ℕ) (w : List ℕ) (st : InProgress) (bases : BySection ℕ) (is : List Input) (us : List Filed)
-    → AtObject b big first place w st bases is us → (from : ℕ) (ahead : List Item) → here b from ≡ pass ahead → place ≤ from → from ≤ length b → Every (Lies b) (leading ahead)
-    → InputRoom b (leading ahead) (length w) st.strings
-input_room b big first place w st bases is us a from ahead left low high lie =
+pub input_room : (b : List ℕ) (big : Bool) (first from : ℕ) (w : List ℕ) (st : InProgress) (bases : BySection ℕ) (is : List Input) (us : List Filed)
+    → AtObject b big first from w st bases is us → (ahead : List Item) → here b from ≡ pass ahead → Every (Lies b) (leading ahead) → InputRoom b (leading ahead) (length w) st.strings
+input_room b big first from w st bases is us a ahead left lie =
     record {
       room = a.held.room;
       limit = a.held.limit;
       whole = a.held.words;
       inside = λ c. first_within b (leading ahead) c lie;
-      fits =
-          let z = size_behind b 6 from ahead left high in
-          let o = onward b from ahead left high in
-          omega (arith, a.strings.few, a.used, z, o.within, a.held.words);
+      fits = omega (arith, a.strings.kept.few, a.used, offsets_behind b from ahead left);
     }

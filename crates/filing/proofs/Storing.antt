@@ -15,7 +15,7 @@ use Rattle.strings.specs.declared.table.StringTable.{StringTable}
 use Rattle.kept.specs.Regions.{strings_region, store_region, region, table_words}
 use Rattle.kept.proofs.RegionStores.{store_within}
 use Rattle.kept.proofs.RegionLending.{only_lent, lent_length}
-use Rattle.filing.specs.ByObject.{StringsIn}
+use Rattle.filing.specs.ByObject.{StringsPut}
 use Rattle.filing.specs.State.{words_in, OnlyStore}
 
 -- work for a bundle of n words, cut in five; the table has room for so many
@@ -73,12 +73,14 @@ module _ {n room : ℕ} {w before table rest memory after : List ℕ} (c : Cut n
         only_lent store_region store_within n a (store_region.words * n) w enough refl refl ((x ++ rest) ++ y) _
         (omega (arith, new, lent_length store_region store_within n a (store_region.words * n) w enough refl refl)) e
 
-    -- what the table's words hold then is held in work: it has as much room as before
-    pub cut_back : (b : List ℕ) (t : StringTable) (ts : List (List ℕ)) → n ≡ words_in b → room ≤ n → Kept b x t ts → StringsIn b (left x y) t ts
+    -- what the table's words hold then is held in work, and it has as much room as before
+    pub cut_back : (b : List ℕ) (t : StringTable) (ts : List (List ℕ)) → n ≡ words_in b → room ≤ n → Kept b x t ts → StringsPut b (left x y) room t ts
     cut_back b t ts en few k =
-        let same : room ≡ t.room = omega (arith, k.full, lx, c.table_long) in
-        record {
-          few = omega (arith, same, few, en);
-          kept = subst (λ (m : ℕ). Kept b (table_words (left x y) m t.room) t ts) en
-              (subst (λ (r : ℕ). Kept b (table_words (left x y) n r) t ts) same (subst (λ (z : List ℕ). Kept b z t ts) cut_left k));
-        }
+        let same : room ≡ t.room = omega (arith, k.full, lx, c.table_long) in (
+          sym same,
+          record {
+            few = omega (arith, same, few, en);
+            kept = subst (λ (m : ℕ). Kept b (table_words (left x y) m t.room) t ts) en
+                (subst (λ (r : ℕ). Kept b (table_words (left x y) n r) t ts) same (subst (λ (z : List ℕ). Kept b z t ts) cut_left k));
+          },
+        )

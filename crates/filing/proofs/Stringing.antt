@@ -1,6 +1,6 @@
 -- The strings of an object put: the answers by the definition.
 -- Assumes nothing.
-use mathlib.Core.Path.{◌≡◌, ◌∙◌}
+use mathlib.Core.Path.{◌≡◌, refl, ◌∙◌}
 use mathlib.Core.Bool.{Bool, true}
 use mathlib.Core.List.{List, [], append-nil}
 use Prim.Native.Nat.{ℕ, ◌*◌, ◌≤◌}
@@ -22,7 +22,7 @@ use Rattle.kept.proofs.RegionStores.{store_records, store_slots}
 use Rattle.kept.proofs.RegionLending.{only_same}
 use Rattle.filing.specs.State.{words_in}
 use Rattle.filing.proofs.Lending.{Beside}
-use Rattle.filing.specs.ByObject.{strings_check, StringsRoom, StringsIn, StringsAre}
+use Rattle.filing.specs.ByObject.{strings_check, StringsRoom, StringsIn, StringsPut, StringsAre}
 use Rattle.std.specs.Prelude.{Result, Ok, Err}
 use Rattle.numbers.specs.Refused.{number_of}
 use Rattle.numbers.specs.declared.refusals.Refusal.{Refusal}
@@ -49,20 +49,20 @@ module _ (e : Encoding) (there : Bool) (o s : List ℕ) (yes-there : there ≡ t
   unfolding strings_check
   all_is = rw (strings_check, yes-there) (then_pass _ _ _ counted)
 
-  pub strings_put : (b v x : List ℕ) (ts : List (List ℕ)) (k : StringTable) (r : Result (Unit {0}) Refusal) → ((us : List (List ℕ)) → Kept b x k us → StringsIn b v k us) → AddedIs b x ts (strings_at s (entries_in e o)) k r
-      → StringsAre b v ts k (strings_check e there o s) r
-  strings_put b v x ts k (Ok u) back a = tells_pass u a.0 (all_is ∙ a.1) (back _ a.2)
-  strings_put b v x ts k (Err q) back a = tells_refuse q (all_is ∙ a)
+  pub strings_put : (b v x : List ℕ) (ts : List (List ℕ)) (many : ℕ) (k : StringTable) (r : Result (Unit {0}) Refusal) → ((us : List (List ℕ)) → Kept b x k us → StringsPut b v many k us) → AddedIs b x ts (strings_at s (entries_in e o)) k r
+      → StringsAre b v ts many k (strings_check e there o s) r
+  strings_put b v x ts many k (Ok u) back a = tells_pass u a.0 (all_is ∙ a.1) (back _ a.2)
+  strings_put b v x ts many k (Err q) back a = tells_refuse q (all_is ∙ a)
 
 module _ (b w : List ℕ) (ts : List (List ℕ)) (e : Encoding) (o s : List ℕ) (t : StringTable) where
-  pub strings_none : (count : ℕ) → count ≡ 0 → StringsIn b w t ts → StringsAre b w ts t (strings_check e (leb 1 count) o s) (Ok tt)
+  pub strings_none : (count : ℕ) → count ≡ 0 → StringsIn b w t ts → StringsAre b w ts t.room t (strings_check e (leb 1 count) o s) (Ok tt)
   unfolding strings_check
   strings_none count h k =
       let z : strings_check e (leb 1 count) o s ≡ pass [] = rw (strings_check, h) in
-      tells_pass tt [] z (rw (append-nil ts) k)
+      tells_pass tt [] z (refl, rw (append-nil ts) k)
 
-  pub strings_ill : (count : ℕ) → 1 ≤ count → (r : Refusal) → entries_of e o ≡ refuse (number_of r) → StringsAre b w ts t (strings_check e (leb 1 count) o s) (Err r)
+  pub strings_ill : (many count : ℕ) → 1 ≤ count → (r : Refusal) → entries_of e o ≡ refuse (number_of r) → StringsAre b w ts many t (strings_check e (leb 1 count) o s) (Err r)
   unfolding strings_check
-  strings_ill count h r q = tells_refuse r (rw (strings_check, le-leb 1 count h) (then_refuse _ _ (number_of r) q))
+  strings_ill many count h r q = tells_refuse r (rw (strings_check, le-leb 1 count h) (then_refuse _ _ (number_of r) q))
 
 pub ruleset strings_cases = (strings_none, only_same)

@@ -36,7 +36,7 @@ use Rattle.filing.specs.Judged.{section_of}
 use Rattle.filing.specs.State.{words_in}
 use Rattle.filing.specs.Tells.{Tells}
 use Rattle.filing.specs.ByPlace.{WorkFor}
-use Rattle.filing.specs.ByObject.{StringsIn, StringsAre, str_offsets_in, scanned, IndexedObject, IndexesFound, InputRoom}
+use Rattle.filing.specs.ByObject.{StringsIn, StringsPut, StringsAre, str_offsets_in, scanned, IndexedObject, IndexesFound, InputRoom}
 use Rattle.filing.specs.Tiled.{PartsAsked, PartsAre, PartsAnswered, GoodUpTo, PartsPutAsked, PartsPut}
 use Rattle.filing.proofs.Inputting.{tiled_steps}
 use Rattle.filing.proofs.InputLaws.{scan_within}
@@ -119,40 +119,41 @@ module _ (b : List ℕ) (x : ObjectEncoding) (scan : Scan) (at : ℕ) (ps : List
 
       pub pieces_told : x.five ≡ true → (w u v : List ℕ) (ts : List (List ℕ)) (tab next : StringTable) → Only codes_region (words_in b) w u → StringsIn b w tab ts → (r : Result (Unit {0}) Refusal)
           → (o : StrOffsets) → o ≡ str_offsets_in x scan → PartsPut b o good tab next u v r
-          → Tells (λ (t : Unit {0}) q. StringsIn b v next (ts ++ used_in q)) (tiled_pieces e (body b ps) both.0 both.1) r
+          → Tells (λ (t : Unit {0}) q. StringsPut b v tab.room next (ts ++ used_in q)) (tiled_pieces e (body b ps) both.0 both.1) r
       unfolding tiled_pieces
       pieces_told f w u v ts tab next c k r o eo puts =
           tells_same (sym (then_pass (tiles named_both (body b ps 6)) (pieces_of e (body b ps 11) (body b ps 6)) us tiled))
-          (pieces_put b v ts next _ r
-          (subst (λ (m : Check (List Piece)). StringsAre b v ts next (m >>= λ y. pass (used_in y)) r) (ap₂ (λ (l s : List ℕ). pieces_of e l s us) (sym text) (sym own))
+          (pieces_put b v ts tab.room next _ r
+          (subst (λ (m : Check (List Piece)). StringsAre b v ts tab.room next (m >>= λ y. pass (used_in y)) r) (ap₂ (λ (l s : List ℕ). pieces_of e l s us) (sym text) (sym own))
           (subst (λ (y : StrOffsets). PartsPut b y good tab next u v r) eo puts ts us (strings_after b w u tab ts c k) (up_to_law f))))
 
   -- the answers of all
-  module _ (v : List ℕ) (ts : List (List ℕ)) (next : StringTable) where
+  module _ (v : List ℕ) (ts : List (List ℕ)) (many : ℕ) (next : StringTable) where
     abbrev Answer : Result InputObject Refusal → Type 0
-    Answer r = Tells (Opens b v ts next x scan at ps is) (opened_tiled e ps (body b ps)) r
+    Answer r = Tells (Opens b v ts many next x scan at ps is) (opened_tiled e ps (body b ps)) r
 
     pub tiled_unindexed : (r : Refusal) → IndexesFound b x scan (Err r) → Answer (Err r)
-    tiled_unindexed r found = tells_same (sym (tiled_steps e ps (body b ps))) (tells_first _ r (tells_same (indexes_same b v ts next x scan at ps is) found))
+    tiled_unindexed r found = tells_same (sym (tiled_steps e ps (body b ps))) (tells_first _ r (tells_same (indexes_same b v ts many next x scan at ps is) found))
 
     -- behind both indexes
     module _ (y : InputObject) (found : IndexesFound b x scan (Ok y)) where
       behind : (r : Result InputObject Refusal)
-          → ((p : Option Index × Option Index) → IndexedObject b x scan y p → Tells (Opens b v ts next x scan at ps is) (tiled_pieces e (body b ps) p.0 p.1 >>= λ q. pass (record { pieces = q; cu_index = p.0; tu_index = p.1 })) r)
+          → ((p : Option Index × Option Index) → IndexedObject b x scan y p → Tells (Opens b v ts many next x scan at ps is) (tiled_pieces e (body b ps) p.0 p.1 >>= λ q. pass (record { pieces = q; cu_index = p.0; tu_index = p.1 })) r)
           → Answer r
-      behind r k = tells_same (sym (tiled_steps e ps (body b ps))) (tells_then _ y r (tells_same (indexes_same b v ts next x scan at ps is) found) (λ p _ h. k p h))
+      behind r k = tells_same (sym (tiled_steps e ps (body b ps))) (tells_then _ y r (tells_same (indexes_same b v ts many next x scan at ps is) found) (λ p _ h. k p h))
 
       pub tiled_clashing : (r : Refusal) → PartsAnswered b y (Err r) → Answer (Err r)
       unfolding tiled_pieces
       tiled_clashing r are = behind (Err r) (λ p h. tells_first _ r (tells_first {S = λ (t : Unit {0}) (q : List Piece). Unit {0}} _ r (parts_told y p h (Err r) are)))
 
       -- and the parts
-      module _ (good : ℕ) (are : PartsAnswered b y (Ok good)) (f : x.five ≡ true) (w u : List ℕ) (tab : StringTable) (c : Only codes_region (words_in b) w u) (k : StringsIn b w tab ts) (o : StrOffsets) (eo : o ≡ str_offsets_in x scan) where
+      module _ (good : ℕ) (are : PartsAnswered b y (Ok good)) (f : x.five ≡ true) (w u : List ℕ) (tab : StringTable) (em : tab.room ≡ many) (c : Only codes_region (words_in b) w u) (k : StringsIn b w tab ts) (o : StrOffsets) (eo : o ≡ str_offsets_in x scan) where
         told_pieces : (p : Option Index × Option Index) → IndexedObject b x scan y p → (r : Result (Unit {0}) Refusal) → PartsPut b o good tab next u v r
-            → Tells (λ (t : Unit {0}) q. StringsIn b v next (ts ++ used_in q)) (tiled_pieces e (body b ps) p.0 p.1) r
+            → Tells (λ (t : Unit {0}) q. StringsPut b v many next (ts ++ used_in q)) (tiled_pieces e (body b ps) p.0 p.1) r
         told_pieces p h r puts =
             let t = (parts_told y p h (Ok good) are).passes good refl in
-            pieces_told y p h good t.0 t.1 t.2 f w u v ts tab next c k r o eo puts
+            subst (λ (n : ℕ). Tells (λ (t : Unit {0}) q. StringsPut b v n next (ts ++ used_in q)) (tiled_pieces e (body b ps) p.0 p.1) r) em
+            (pieces_told y p h good t.0 t.1 t.2 f w u v ts tab next c k r o eo puts)
 
         pub tiled_unput : (r : Refusal) → PartsPut b o good tab next u v (Err r) → Answer (Err r)
         tiled_unput r puts = behind (Err r) (λ p h. tells_first _ r (told_pieces p h (Err r) puts))

@@ -30,8 +30,7 @@ use Rattle.package.specs.Pieces.{used_in, pieces_of}
 use Rattle.std.specs.Prelude.{Some, None}
 use Rattle.filing.specs.declared.input.InputObject.{InputObject}
 use Rattle.filing.specs.Judged.{section_of}
-use Rattle.filing.specs.State.{words_in}
-use Rattle.filing.specs.ByObject.{StringsIn, StringsAre}
+use Rattle.filing.specs.ByObject.{StringsPut, StringsAre}
 use Rattle.std.specs.Prelude.{Result, Ok, Err}
 use Rattle.octets.specs.Options.{found}
 use Rattle.bundle.proofs.Units.{found_some, found_none}
@@ -163,21 +162,21 @@ module _ (b : List ℕ) (o : StrOffsets) (inside : Inside b o.offsets) (good : �
         }
 
     -- the parts put; x is what the table's words hold after that, v what work does
-    module _ (v : List ℕ) (ts : List (List ℕ)) (k : StringTable) where
+    module _ (v : List ℕ) (ts : List (List ℕ)) (many : ℕ) (k : StringTable) where
       own : (x : List ℕ) (r : Result (Unit {0}) Refusal) → PiecesAdded b y x ts before_parts k r → PiecesAdded b (offsets_before o good) x ts before_parts k r
       own x r added = subst (λ (z : StrOffsets). PiecesAdded b z x ts before_parts k r) ey added
 
       -- where 9 refuses, it doesn't count what they hold
-      pub parts_missing : (r : Refusal) → PiecesAdded b y [] ts before_parts k (Err r) → StringsAre b v ts k (pieces_of e str s ps >>= λ q. pass (used_in q)) (Err r)
+      pub parts_missing : (r : Refusal) → PiecesAdded b y [] ts before_parts k (Err r) → StringsAre b v ts many k (pieces_of e str s ps >>= λ q. pass (used_in q)) (Err r)
       parts_missing r added = tells_refuse r (then_refuse (pieces_of e str s ps) (λ z. pass (used_in z)) (number_of r) (judged.missing (number_of r) (own [] (Err r) added)))
 
       module _ (x : List ℕ) (added : PiecesAdded b y x ts before_parts k (Ok tt)) where
-        pub parts_ill : good < o.offsets.size → StringsAre b v ts k (pieces_of e str s ps >>= λ z. pass (used_in z)) (Err BadStrOffsets)
+        pub parts_ill : good < o.offsets.size → StringsAre b v ts many k (pieces_of e str s ps >>= λ z. pass (used_in z)) (Err BadStrOffsets)
         parts_ill h =
             let a = own x (Ok tt) added in
             tells_refuse BadStrOffsets (then_refuse (pieces_of e str s ps) (λ z. pass (used_in z)) 8 (judged.ill a.0 a.1 (omega (arith, h, up.is, long))))
 
-        pub parts_put : ((us : List (List ℕ)) → Kept b x k us → StringsIn b v k us) → o.offsets.size ≤ good → StringsAre b v ts k (pieces_of e str s ps >>= λ z. pass (used_in z)) (Ok tt)
+        pub parts_put : ((us : List (List ℕ)) → Kept b x k us → StringsPut b v many k us) → o.offsets.size ≤ good → StringsAre b v ts many k (pieces_of e str s ps >>= λ z. pass (used_in z)) (Ok tt)
         parts_put back h =
             let a = own x (Ok tt) added in
             let j = judged.all a.0 a.1 (omega (arith, h, up.is, long, ending.high)) in

@@ -8,7 +8,7 @@ use Rattle.octets.specs.Octets.{part}
 use Rattle.numbers.specs.declared.refusals.Refusal.{Refusal}
 use Rattle.octets.specs.Checked.{Check, pass, ◌>>=◌}
 use Rattle.bundle.specs.Bundle.{Part, body}
-use Rattle.bundle.specs.Scan.{scan_of, start_of, size_of}
+use Rattle.bundle.specs.Scan.{scan_of, start_of, size_of, offsets_from}
 use Rattle.bundle.specs.declared.Scan.{Scan}
 use Rattle.bundle.specs.Encoding.{Encoding, encoding_of}
 use Rattle.bundle.specs.Encoded.{encoding_is}
@@ -43,6 +43,10 @@ pub record StringsIn (b w : List ℕ) (t : StringTable) (ts : List (List ℕ)) :
   pub few : t.room ≤ words_in b
   pub kept : Kept b (table_words w (words_in b) t.room) t ts
 
+-- they do so after some were put, and the table has as much room as it had
+abbrev pub StringsPut : List ℕ → List ℕ → ℕ → StringTable → List (List ℕ) → Type 0
+StringsPut b v room next ts = (next.room ≡ room) × StringsIn b v next ts
+
 -- what it takes to put them
 pub record StringsRoom (b : List ℕ) (o : StrOffsets) (words : ℕ) (t : StringTable) : Type 0 where
   pub room : work_for_word * words_in b ≤ words
@@ -57,13 +61,13 @@ pub record StringsAsked (b : List ℕ) (o : StrOffsets) (t : StringTable) (w : L
   pub strings : List (List ℕ)
   pub kept : StringsIn b w t strings
 
--- the refusal, or that they are put behind those used before; v is work behind, next the table
-abbrev pub StringsAre : List ℕ → List ℕ → List (List ℕ) → StringTable → Check (List (List ℕ)) → Result (Unit {0}) Refusal → Type 0
-StringsAre b v ts next c r = Tells (λ _ used. StringsIn b v next (ts ++ used)) c r
+-- the refusal, or that they are put behind those used before; v is work behind, next the table, and room what the one before it has
+abbrev pub StringsAre : List ℕ → List ℕ → List (List ℕ) → ℕ → StringTable → Check (List (List ℕ)) → Result (Unit {0}) Refusal → Type 0
+StringsAre b v ts room next c r = Tells (λ _ used. StringsPut b v room next (ts ++ used)) c r
 
 abbrev pub StringsAnswered : List ℕ → StrOffsets → ℕ → StringTable → StringTable → List ℕ → List ℕ → Result (Unit {0}) Refusal → Type 0
 StringsAnswered b o count t next w v r =
-    (ts : List (List ℕ)) → StringsIn b w t ts → StringsAre b v ts next (strings_check (encoding_is o.encoding) (leb 1 count) (bytes_at b o.offsets) (bytes_at b o.strings)) r
+    (ts : List (List ℕ)) → StringsIn b w t ts → StringsAre b v ts t.room next (strings_check (encoding_is o.encoding) (leb 1 count) (bytes_at b o.offsets) (bytes_at b o.strings)) r
 
 -- those of the object that a scan has
 abbrev pub str_offsets_in : ObjectEncoding → Scan → StrOffsets
@@ -104,13 +108,13 @@ IndexesFound b e scan r = Tells (IndexedObject b e scan) (scanned_indexes e b sc
 pub record AtObject (b : List ℕ) (big : Bool) (first place : ℕ) (w : List ℕ) (st : InProgress) (bases : BySection ℕ) (is : List Input) (us : List Filed) : Type 0 where
   pub held : Held (eqb (encoding_of big first).version dwarf5) b (words_in b) place w st bases us
   pub strings : StringsIn b w st.strings (all_used is)
-  -- an entry takes at least 4 bytes of the bundle
-  pub used : 4 * length (all_used is) ≤ place
+  -- an entry takes at least 4 bytes of a str_offsets section: there is room for those behind the place
+  pub used : 4 * length (all_used is) + offsets_from b place ≤ 4 * st.strings.room
 
 -- ---- 4 to 10
--- the refusal, or that the object is there by value and its strings are put; v is work behind, next the table
-abbrev pub InputRead : List ℕ → List ℕ → List (List ℕ) → StringTable → Check Input → Result InputObject Refusal → Type 0
-InputRead b v ts next c r = Tells (λ x i. InputIs b x i × StringsIn b v next (ts ++ used_in i.pieces)) c r
+-- the refusal, or that the object is there by value and its strings are put; v is work behind, next the table, and room what the one before it has
+abbrev pub InputRead : List ℕ → List ℕ → List (List ℕ) → ℕ → StringTable → Check Input → Result InputObject Refusal → Type 0
+InputRead b v ts room next c r = Tells (λ x i. InputIs b x i × StringsPut b v room next (ts ++ used_in i.pieces)) c r
 
 -- an object and what is opened of it
 unfoldable pub input_given : List ℕ → Encoding → List Part → Check Opened → Check Input
@@ -137,9 +141,9 @@ pub record InputAsked (b : List ℕ) (scan : Scan) (t : StringTable) (w : List �
 abbrev pub OpenAnswered : (Encoding → List Part → BySection (List ℕ) → Check Opened) → List ℕ → ObjectEncoding → Scan → StringTable → StringTable → List ℕ → List ℕ → Result InputObject Refusal → Type 0
 OpenAnswered opens b e scan t next w v r =
     (at : ℕ) (ps : List Part) (ts : List (List ℕ)) → scan ≡ scan_of at ps → InputRoom b ps (length w) t → StringsIn b w t ts
-    → InputRead b v ts next (input_given b (encoding_is e) ps (opens (encoding_is e) ps (body b ps))) r
+    → InputRead b v ts t.room next (input_given b (encoding_is e) ps (opens (encoding_is e) ps (body b ps))) r
 
 abbrev pub InputAnswered : List ℕ → Bool → ℕ → ℕ → Scan → StringTable → StringTable → List ℕ → List ℕ → Result InputObject Refusal → Type 0
 InputAnswered b big first word scan t next w v r =
     (at : ℕ) (ps : List Part) (ts : List (List ℕ)) → scan ≡ scan_of at ps → InputRoom b ps (length w) t → StringsIn b w t ts
-    → InputRead b v ts next (input_of b big first (record { word = word; parts = ps })) r
+    → InputRead b v ts t.room next (input_of b big first (record { word = word; parts = ps })) r

@@ -80,4 +80,4 @@ pub record PartsPutAsked (b : List ℕ) (o : StrOffsets) (good : ℕ) (t : Strin
 abbrev pub PartsPut : List ℕ → StrOffsets → ℕ → StringTable → StringTable → List ℕ → List ℕ → Result (Unit {0}) Refusal → Type 0
 PartsPut b o good t next w v r =
     (ts : List (List ℕ)) (ps : List Contribution) → StringsIn b w t ts → GoodUpTo b o good ps
-    → StringsAre b v ts next (pieces_of (encoding_is o.encoding) (bytes_at b o.strings) (bytes_at b o.offsets) ps >>= λ q. pass (used_in q)) r
+    → StringsAre b v ts t.room next (pieces_of (encoding_is o.encoding) (bytes_at b o.strings) (bytes_at b o.offsets) ps >>= λ q. pass (used_in q)) r

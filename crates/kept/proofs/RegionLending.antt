@@ -16,23 +16,29 @@ use Rattle.kept.proofs.RegionStores.{Within, region_fits, length_region, store_l
 pub only_same : (r : Layout) (n : ℕ) (w : List ℕ) → Only r n w w
 only_same r n w = record { same = refl; others = λ s a. refl }
 
--- the front of a region is lent
-module _ (r : Layout) (i : Within r) (n from many : ℕ) (w : List ℕ) (room : work_for_word * n ≤ length w) (ef : from ≡ r.start * n) (em : many ≤ r.words * n) where
-  front_length : length (take (from + many - from) (drop from w)) ≡ many
-  front_length = ap length (part_cut w from many) ∙ length_part w from many (omega (arith, region_fits r i n w room))
+-- a part of a region is lent
+module _ (r : Layout) (i : Within r) (n at from many : ℕ) (w : List ℕ) (room : work_for_word * n ≤ length w) (ef : from ≡ r.start * n + at) (em : at + many ≤ r.words * n) where
+  cut_fits : from + many ≤ length w
+  cut_fits = omega (arith, region_fits r i n w room)
+
+  pub cut_length : length (take (from + many - from) (drop from w)) ≡ many
+  cut_length = ap length (part_cut w from many) ∙ length_part w from many cut_fits
 
   module _ (words v : List ℕ) (same : length words ≡ length (take (from + many - from) (drop from w))) (is : v ≡ put_mid from (from + many - from) w words) where
     stored : v ≡ placed w from words
-    stored = is ∙ placed_whole w from (from + many - from) words (same ∙ front_length ∙ omega arith)
+    stored = is ∙ placed_whole w from (from + many - from) words (same ∙ cut_length ∙ omega arith)
 
-    pub only_front : Only r n w v
-    only_front =
-        let o : from ≡ r.start * n + 0 = omega arith in
-        let p : v ≡ placed w (r.start * n + 0) words = stored ∙ ap (λ (a : ℕ). placed w a words) o in
-        let inside : 0 + length words ≤ r.words * n = omega (arith, same ∙ front_length) in
+    pub part_left : part v from many ≡ words
+    part_left =
+        ap (λ (l : List ℕ). part l from many) stored ∙ ap (part (placed w from words) from) (sym (same ∙ cut_length)) ∙ part_placed w from words (omega (arith, cut_fits))
+
+    pub only_part : Only r n w v
+    only_part =
+        let p : v ≡ placed w (r.start * n + at) words = stored ∙ ap (λ (a : ℕ). placed w a words) ef in
+        let inside : at + length words ≤ r.words * n = omega (arith, same ∙ cut_length) in
         record {
-          same = ap length p ∙ store_length r i n w room 0 words inside;
-          others = λ s a. ap (λ (l : List ℕ). region l n s) p ∙ others_stay r i n w room 0 words inside s a;
+          same = ap length p ∙ store_length r i n w room at words inside;
+          others = λ s a. ap (λ (l : List ℕ). region l n s) p ∙ others_stay r i n w room at words inside s a;
         }
 
 -- all of it
@@ -52,11 +58,8 @@ module _ (r : Layout) (i : Within r) (n from many : ℕ) (w : List ℕ) (room : 
 
   module _ (words v : List ℕ) (same : length words ≡ length lent) (is : v ≡ put_mid from (from + many - from) w words) where
     pub only_lent : Only r n w v
-    only_lent = only_front r i n from many w room ef (omega (arith, em)) words v same is
+    only_lent = only_part r i n 0 from many w room (omega (arith, ef)) (omega (arith, em)) words v same is
 
     pub lent_left : region v n r ≡ words
     unfolding region
-    lent_left =
-        let many-words = same ∙ lent_length in
-        let p = stored r i n from many w room ef (omega (arith, em)) words v same is in
-        sym (ap₂ (part v) ef many-words) ∙ ap (λ (l : List ℕ). part l from (length words)) p ∙ part_placed w from words (omega (arith, lent_fits, many-words, em))
+    lent_left = sym (ap₂ (part v) ef em) ∙ part_left r i n 0 from many w room (omega (arith, ef)) (omega (arith, em)) words v same is

@@ -18,7 +18,7 @@ use Rattle.octets.proofs.Parts.{length_part, get_d_part}
 use Rattle.octets.proofs.Placed.{length_placed}
 use Rattle.octets.proofs.Regions.{part_before, part_behind, get_d_placed, get_d_before, get_d_behind}
 use Rattle.numbers.specs.Limits.{work_for_word, string_words}
-use Rattle.kept.specs.Regions.{Layout, records_region, strings_region, roots_region, compilation_slots, type_slots, slots_region, rows_region, codes_region, store_region, region, table_words, Apart}
+use Rattle.kept.specs.Regions.{Layout, records_region, strings_region, compilation_slots, type_slots, slots_region, rows_region, codes_region, store_region, region, table_words, Apart}
 
 -- what is stored in a part of a list is stored in that part's own words
 module _ (w : List ℕ) (base size at : ℕ) (x : List ℕ) (fits : base + size ≤ length w) (inside : at + length x ≤ size) where
@@ -115,17 +115,6 @@ table_inside w n room h few = omega (arith, few, length_region strings_region st
 pub store_within : Within store_region
 store_within = record { ends = omega arith }
 
-pub roots_within : Within roots_region
-roots_within = record { ends = omega arith }
-
--- the roots are the last words of the strings
-pub strings_roots : (w : List ℕ) (n j : ℕ) → 6 * n ≤ j → j < 7 * n → get_or (region w n strings_region) j 0 ≡ get_or (region w n roots_region) (j - 6 * n) 0
-unfolding region
-strings_roots w n j h l =
-    let e : strings_region.start * n + j ≡ roots_region.start * n + (j - 6 * n) = omega arith in
-    get_d_part w (strings_region.start * n) (strings_region.words * n) j l ∙ ap (λ (i : ℕ). get_or w i 0) e
-    ∙ sym (get_d_part w (roots_region.start * n) (roots_region.words * n) (j - 6 * n) (omega arith))
-
 pub slots_within : (table : ℕ) → Within (slots_region table)
 slots_within table = ⊎_elim (λ e. rw e (record { ends = omega arith })) (λ e. rw e (record { ends = omega arith })) (slots_are table)
 
@@ -148,9 +137,9 @@ module _ (table : ℕ) where
   unfolding Apart
   records_slots = inl (⊎_elim (λ e. rw e (omega arith)) (λ e. rw e (omega arith)) (slots_are table))
 
-  pub roots_slots : Apart roots_region (slots_region table)
+  pub strings_slots : Apart strings_region (slots_region table)
   unfolding Apart
-  roots_slots = inr (omega (arith, slots_before))
+  strings_slots = inr slots_before
 
   pub store_slots : Apart store_region (slots_region table)
   unfolding Apart

@@ -2,17 +2,14 @@
 -- these laws tie the constant to it; those of the slots, that of each table, are tied by what `slots` ensures.
 -- Assumes nothing.
 use mathlib.Core.Path.{◌≡◌, refl}
-use Rattle.kept.specs.Regions.{records_region, strings_region, roots_region, codes_region, store_region, rows_region}
-use Rattle.kept.specs.declared.regions.TheConstants.{RECORDS, STRINGS, ROOTS, CODES, STORE, ROWS_BY_PLACE}
+use Rattle.kept.specs.Regions.{records_region, strings_region, codes_region, store_region, rows_region}
+use Rattle.kept.specs.declared.regions.TheConstants.{RECORDS, STRINGS, CODES, STORE, ROWS_BY_PLACE}
 
 pub records_named : RECORDS ≡ records_region
 records_named = refl
 
 pub strings_named : STRINGS ≡ strings_region
 strings_named = refl
-
-pub roots_named : ROOTS ≡ roots_region
-roots_named = refl
 
 pub codes_named : CODES ≡ codes_region
 codes_named = refl

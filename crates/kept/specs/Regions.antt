@@ -31,10 +31,6 @@ slots_region table = elim (eqb table compilation_table) [ true ↦ compilation_s
 abbrev pub strings_region : Layout
 strings_region = record { start = 7; words = string_words }
 
--- the last words of the strings: the roots of their index
-abbrev pub roots_region : Layout
-roots_region = record { start = 13; words = 1 }
-
 abbrev pub codes_region : Layout
 codes_region = record { start = 14; words = 4 }
 

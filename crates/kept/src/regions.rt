@@ -34,12 +34,6 @@ pub const STRINGS: Share = Share {
     words: STRING_WORDS,
 };
 
-// The roots of the strings' index, the last words of the strings.
-pub const ROOTS: Share = Share {
-    start: 13,
-    words: 1,
-};
-
 // The codes of an object's abbreviation tables; what stands there counts for that object alone.
 pub const CODES: Share = Share {
     start: 14,

@@ -14,12 +14,13 @@ use Rattle.octets.proofs.Parts.{length_part}
 use Rattle.bundle.specs.Bundle.{Part, Item, Object, items, leading, body}
 use Rattle.bundle.specs.Encoding.{Encoding, encoding_of}
 use Rattle.bundle.specs.Encoded.{encoding_is}
-use Rattle.bundle.specs.Scan.{sections_of, place_behind, start_of, size_of, scan_of}
+use Rattle.bundle.specs.Scan.{sections_of, place_behind, start_of, size_of, scan_of, offsets_from}
 use Rattle.bundle.specs.declared.Scan.{Scan}
 use Rattle.bundle.proofs.Passed.{here}
 use Rattle.bundle.proofs.Every.{Every}
 use Rattle.bundle.proofs.Lies.{Lies, leading_lie}
 use Rattle.bundle.proofs.Onward.{size_behind}
+use Rattle.bundle.proofs.Offsets.{offsets_behind}
 use Rattle.bundle.proofs.Sections.{body_part}
 use Rattle.bundle.proofs.ScanFacts.{left_sections, scan_next, first_within}
 use Rattle.strings.specs.Strings.{entries_in}
@@ -40,7 +41,7 @@ use Rattle.filing.specs.declared.input.InputObject.{InputObject}
 use Rattle.strings.specs.declared.table.StringTable.{StringTable}
 use Rattle.filing.specs.Tells.{Tells}
 use Rattle.filing.specs.State.{words_in, with_strings, OnlyStore}
-use Rattle.filing.specs.ByObject.{StringsIn, AtObject, InputRoom, InputRead, InputAsked, InputAnswered}
+use Rattle.filing.specs.ByObject.{StringsPut, AtObject, InputRoom, InputRead, InputAsked, InputAnswered}
 use Rattle.filing.proofs.Growing.{input_room}
 use Rattle.filing.proofs.Entering.{five_is, object_enter}
 use Rattle.filing.proofs.Snoc.{used_snoc, strings_stay}
@@ -82,9 +83,10 @@ used_few e str (p ∷ ps) ok f =
       used_few e str ps ok (each_tail f),
     )
 
-used_behind : (e : Encoding) → Sound e → (o s : List ℕ) (is : List Input) (i : Input) (from place : ℕ) → PiecesFacts e o s i.pieces
-    → 4 * length (all_used is) ≤ from → from + length o ≤ place → 4 * length (all_used (is ++ (i ∷ []))) ≤ place
-used_behind e ok o s is i from place f h g =
+-- what is ahead before it, and behind it, in words of 4 bytes
+used_behind : (e : Encoding) → Sound e → (o s : List ℕ) (is : List Input) (i : Input) (before after room : ℕ) → PiecesFacts e o s i.pieces
+    → 4 * length (all_used is) + before ≤ 4 * room → length o + after ≤ before → 4 * length (all_used (is ++ (i ∷ []))) + after ≤ 4 * room
+used_behind e ok o s is i before after room f h g =
     let a = ap length (used_snoc is i) ∙ length-append (all_used is) (used_in i.pieces) in
     omega (arith, a, used_few e s i.pieces ok f.each, ap length f.joins)
 
@@ -104,17 +106,25 @@ module _ (b : List ℕ) (from : ℕ) (h : Ahead b from) where
   lie : Every (Lies b) (leading ahead)
   lie = leading_lie b from ahead left h.whole h.far
 
+  body_long : (c : ℕ) → length (body b (leading ahead) c) ≡ size_of (leading ahead) c
+  body_long c = ap length (body_part c b (leading ahead)) ∙ length_part b (start_of (leading ahead) c) (size_of (leading ahead) c) (first_within b (leading ahead) c lie)
+
   sizes_behind : (c : ℕ) → from + length (body b (sections_from b from) c) ≤ behind_from b from
   sizes_behind c =
       subst (λ (ps : List Part). from + length (body b ps c) ≤ place_behind from ps) (sym parts_are)
-      (let l = ap length (body_part c b (leading ahead)) ∙ length_part b (start_of (leading ahead) c) (size_of (leading ahead) c) (first_within b (leading ahead) c lie) in
-      omega (arith, l, size_behind b c from ahead left h.within))
+      (omega (arith, body_long c, size_behind b c from ahead left h.within))
+
+  -- its str_offsets is one of those ahead
+  offsets_left : length (body b (sections_from b from) 6) + offsets_from b (behind_from b from) ≤ offsets_from b from
+  offsets_left =
+      subst (λ (ps : List Part). length (body b ps 6) + offsets_from b (place_behind from ps) ≤ offsets_from b from) (sym parts_are)
+      (omega (arith, body_long 6, offsets_behind b from ahead left))
 
   -- what `read_input` requires
   object_room : (big : Bool) (first : ℕ) (w : List ℕ) (st : InProgress) (bases : BySection ℕ) (is : List Input) (us : List Filed)
       → AtObject b big first from w st bases is us → InputRoom b (sections_from b from) (length w) st.strings
   object_room big first w st bases is us a =
-      subst (λ (ps : List Part). InputRoom b ps (length w) st.strings) (sym parts_are) (input_room b big first from w st bases is us a from ahead left (omega arith) h.within lie)
+      subst (λ (ps : List Part). InputRoom b ps (length w) st.strings) (sym parts_are) (input_room b big first from w st bases is us a ahead left lie)
 
   -- ---- what `scan_object` and `read_input` answer
   module _ (scan : Scan) (scanned : scan ≡ scan_of from (sections_of (items from (drop from b)))) where
@@ -147,7 +157,7 @@ module _ (b : List ℕ) (from : ℕ) (h : Ahead b from) where
         abbrev read_st : InProgress
         read_st = with_strings st t
 
-        answered : (r : Result InputObject Refusal) → InputAnswered b big first word scan st.strings t w v r → InputRead b v (all_used is) t (input_of b big first object) r
+        answered : (r : Result InputObject Refusal) → InputAnswered b big first word scan st.strings t w v r → InputRead b v (all_used is) st.strings.room t (input_of b big first object) r
         answered r read = read from (sections_from b from) (all_used is) scan_is (object_room big first w st bases is us a) a.strings
 
         -- the object is refused
@@ -160,10 +170,10 @@ module _ (b : List ℕ) (from : ℕ) (h : Ahead b from) where
           pub record ObjectRead (i : Input) : Type 0 where
             pub parts : ObjectParts b (encoding_of big first) (sections_from b from) i
             pub input : InputIs b x i
-            pub strings : StringsIn b v t (all_used is ++ used_in i.pieces)
+            pub strings : StringsPut b v st.strings.room t (all_used is ++ used_in i.pieces)
             pub ready : InputReady b x i from v read_st bases us
 
-          read_as : (i : Input) → input_of b big first object ≡ pass i → InputIs b x i × StringsIn b v t (all_used is ++ used_in i.pieces) → ObjectRead i
+          read_as : (i : Input) → input_of b big first object ≡ pass i → InputIs b x i × StringsPut b v st.strings.room t (all_used is ++ used_in i.pieces) → ObjectRead i
           read_as i e f =
               let p = object_parts b big first object i e in
               record {
@@ -188,10 +198,10 @@ module _ (b : List ℕ) (from : ℕ) (h : Ahead b from) where
                 subst (λ (place : ℕ). AtObject b big first place v' next (grown bases i) (is ++ (i ∷ [])) (us ++ here)) (sym next_is)
                 (record {
                   held = subst (λ (f : Bool). Held f b (words_in b) (behind_from b from) v' next (grown bases i) (us ++ here)) (five_is x.encoding (encoding_of big first) (d.input.encoding ∙ d.parts.encoding)) k.held;
-                  strings = strings_stay b v v' read_st next is i d.strings k.strings;
-                  used = used_behind (encoding_is x.encoding) (sound x.encoding) (i.bytes 6) (i.bytes 11) is i from _
+                  strings = strings_stay b v v' read_st next is i d.strings.1 k.strings;
+                  used = used_behind (encoding_is x.encoding) (sound x.encoding) (i.bytes 6) (i.bytes 11) is i (offsets_from b from) _ _
                       (subst (λ (e : Encoding). PiecesFacts e (i.bytes 6) (i.bytes 11) i.pieces) (sym (d.input.encoding ∙ d.parts.encoding)) d.parts.pieces)
-                      a.used (d.ready.sizes 6);
+                      (omega (arith, a.used, d.strings.0, ap (λ (t : StringTable). t.room) k.strings.table)) (omega (arith, offsets_left, ap length (d.parts.bytes 6)));
                 })
 
             -- whether a unit is refused or all are filed

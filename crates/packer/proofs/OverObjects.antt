@@ -17,7 +17,7 @@ use Rattle.octets.proofs.Checks.{pass_inj, pass_refuse, bind_pass, bind_refuse}
 use Rattle.octets.proofs.Joined.{joined_snoc}
 use Rattle.bundle.specs.Bundle.{Part, Item, Object, Bundle, step_at, leading, objects_of, bundle_of}
 use Rattle.bundle.specs.Next.{next_of}
-use Rattle.bundle.specs.Scan.{place_behind}
+use Rattle.bundle.specs.Scan.{place_behind, offsets_from}
 use Rattle.bundle.specs.Encoding.{encoding_of}
 use denote.Enum.Declared.{tag_of}
 use Rattle.bundle.specs.contracts.Item.{the_type}
@@ -26,6 +26,7 @@ use Rattle.bundle.specs.declared.Item.TheVariants.{Object as AnObject}
 use Rattle.bundle.proofs.ScanFacts.{left_sections}
 use Rattle.bundle.proofs.Passed.{here}
 use Rattle.bundle.proofs.Next.{object_here}
+use Rattle.bundle.proofs.Offsets.{offsets_object}
 use Rattle.bundle.proofs.Objects.{Objects, Entered, objects_none, objects_object, objects_other, objects_refused}
 use Rattle.index.specs.Rows.{BySection}
 use Rattle.package.specs.Input.{Input, input_of}
@@ -59,10 +60,10 @@ module _ (b : List ℕ) (k : Bundle) (e : bundle_of b ≡ pass k) where
   first_some word next h = ap first_word (objects_object b 4 [] k.objects (objects_none b k e) word next h).more.is
 
 -- ---- places
--- what is filed up to a place is filed up to a later one
+-- what is filed up to a place is filed up to a later one, where no str_offsets stands between them
 object_later : {b : List ℕ} {big : Bool} {first : ℕ} (p q : ℕ) {w : List ℕ} {st : InProgress} {bases : BySection ℕ} {is : List Input} {us : List Filed}
-    → AtObject b big first p w st bases is us → p ≤ q → q ≤ length b → AtObject b big first q w st bases is us
-object_later p q a h g = record { held = held_later p q a.held h g; strings = a.strings; used = omega (arith, a.used) }
+    → AtObject b big first p w st bases is us → p ≤ q → q ≤ length b → offsets_from b q ≡ offsets_from b p → AtObject b big first q w st bases is us
+object_later p q a h g e = record { held = held_later p q a.held h g; strings = a.strings; used = omega (arith, a.used, e) }
 
 sections_are : (b : List ℕ) (from : ℕ) (ahead : List Item) → here b from ≡ pass ahead → sections_from b from ≡ leading ahead
 unfolding here sections_from
@@ -85,8 +86,8 @@ pub record SoFar (b : List ℕ) (big : Bool) (first at : ℕ) (w₀ w : List ℕ
   pub ahead : (rest : List Object) → done ++ rest ≡ bundle.objects → ObjectsAhead b big first inputs units bases rest bundle.objects
   pub based : (c : ℕ) → bases c ≡ length (joined (map (λ i. i.bytes c) inputs))
 
-pub far_none : {big : Bool} {b w : List ℕ} (first : ℕ) → Cleared big b w → ((k : Bundle) → bundle_of b ≡ pass k → first ≡ first_word k.objects)
-    → (st : InProgress) → st ≡ none_filed → SoFar b big first 4 w w st
+pub far_none : {big : Bool} {b w : List ℕ} {room : ℕ} (first : ℕ) → Cleared big b room w → ((k : Bundle) → bundle_of b ≡ pass k → first ≡ first_word k.objects)
+    → (st : InProgress) → st ≡ none_filed room → SoFar b big first 4 w w st
 unfolding joined
 far_none {big} {b} first c f st z =
     record {
@@ -164,7 +165,7 @@ module _ {b : List ℕ} {big : Bool} {first at : ℕ} {w₀ w : List ℕ} {st : 
     }
 
     word_held : AtObject b big first next w st s.bases s.inputs s.units
-    word_held = object_later at next s.held (omega (arith, behind_word)) word_ahead.within
+    word_held = object_later at next s.held (omega (arith, behind_word)) word_ahead.within (offsets_object b at word next e)
 
     pub word_asked : HeadAsked b (record { big = big; first = first; word = word; from = next }) st w
     word_asked = record { ahead = word_ahead; bases = s.bases; inputs = s.inputs; units = s.units; held = word_held }

@@ -1,22 +1,23 @@
 -- The slots of identities seen, cleared table by table, and the roots of the strings' index.
 -- Assumes nothing.
-use mathlib.Core.Path.{◌≡◌, ap, ◌∙◌, subst}
+use mathlib.Core.Path.{◌≡◌, sym, ap, ◌∙◌, subst}
 use mathlib.Core.Logic.{⊎_elim}
 use mathlib.Core.List.{List}
-use Prim.Native.Nat.{ℕ, ◌+◌, ◌*◌, ◌-◌}
+use Prim.Native.Nat.{ℕ, ◌+◌, ◌*◌, ◌-◌, ◌≤◌}
 use native.Mathlib.Omega.{arith}
 use lib.ListN.{length, take, drop}
 use borrow.Rule.Slice.PartMut.{put_mid}
-use Rattle.kept.specs.Regions.{roots_region, slots_region}
-use Rattle.kept.proofs.RegionStores.{roots_within, roots_slots, tables_apart}
-use Rattle.kept.proofs.RegionLending.{lent_length, lent_left, only_lent}
-use Rattle.octets.specs.Octets.{zeros}
+use Rattle.kept.specs.Regions.{strings_region, slots_region, table_words, region}
+use Rattle.kept.proofs.RegionStores.{strings_within, strings_slots, tables_apart}
+use Rattle.kept.proofs.RegionLending.{cut_length, part_left, only_part}
+use Rattle.octets.specs.Octets.{part, zeros}
+use Rattle.octets.proofs.Parts.{drop_take, part_is, part_part}
 use Rattle.octets.proofs.Placed.{length_zeros}
 use Rattle.kept.specs.Held.{OneOrTwo}
 use Rattle.kept.specs.Slots.{seen_slots, slots_in, Placeable, SlotsLeft}
 use Rattle.kept.proofs.SeenSlots.{seen_power, seen_le}
 use Rattle.kept.proofs.Placing.{slots_stay, cleared_slots}
-use Rattle.packer.specs.Objects.{Clearable, SlotsCleared, RootsCleared, NoneHeld}
+use Rattle.packer.specs.Objects.{Clearable, SlotsCleared, roots_in, RootsCleared, NoneHeld}
 
 -- they lie in work
 pub clearing : (n words table count : ℕ) → count ≡ seen_slots n → Clearable n words → Placeable n words table 0 count
@@ -36,18 +37,31 @@ both_cleared n w u v k first second t o = ⊎_elim
     o
 
 -- and the roots
-pub all_cleared : (n : ℕ) (w u v x : List ℕ) → Clearable n (length w) → SlotsCleared n 1 w u → SlotsCleared n 2 u v → RootsCleared n v x → NoneHeld n x
-all_cleared n w u v x k first second third = record {
-  slots = λ t o. slots_stay n v x t (seen_slots n) (seen_le n k.some) (third.only.others (slots_region t) (roots_slots t)) ∙ both_cleared n w u v k first second t o;
+pub all_cleared : (n room : ℕ) (w u v x : List ℕ) → Clearable n (length w) → SlotsCleared n 1 w u → SlotsCleared n 2 u v → RootsCleared n room v x → NoneHeld n room x
+all_cleared n room w u v x k first second third = record {
+  slots = λ t o. slots_stay n v x t (seen_slots n) (seen_le n k.some) (third.only.others (slots_region t) (strings_slots t)) ∙ both_cleared n w u v k first second t o;
   roots = third.zero;
 }
 
 -- x stands in the place of the roots
-module _ (n from many : ℕ) (w : List ℕ) (k : Clearable n (length w)) (ef : from ≡ roots_region.start * n) (em : many ≡ roots_region.words * n) where
-  pub roots_cleared : (x v : List ℕ) → x ≡ zeros (length (take (from + many - from) (drop from w))) → v ≡ put_mid from (from + many - from) w x → RootsCleared n w v
+module _ (n room from : ℕ) (w : List ℕ) (k : Clearable n (length w)) (few : room ≤ n) (ef : from ≡ strings_region.start * n + 6 * room) where
+  -- they are words of the strings
+  roots_are : (v : List ℕ) → roots_in v n room ≡ part v from room
+  unfolding roots_in table_words region
+  roots_are v =
+      let size : 7 * room - 6 * room ≡ room = omega arith in
+      drop_take (6 * room) (7 * room) (part v (strings_region.start * n) (7 * n)) ∙ ap (λ (m : ℕ). take m (drop (6 * room) (part v (strings_region.start * n) (7 * n)))) size
+      ∙ part_is (part v (strings_region.start * n) (7 * n)) (6 * room) room ∙ part_part v (strings_region.start * n) (7 * n) (6 * room) room (omega (arith, few))
+      ∙ ap (λ (a : ℕ). part v a room) (sym ef)
+
+  lent_words : (x : List ℕ) → x ≡ zeros (length (take (from + room - from) (drop from w))) → x ≡ zeros room
+  lent_words x z = z ∙ ap zeros (cut_length strings_region strings_within n (6 * room) from room w k.room ef (omega (arith, few)))
+
+  pub roots_cleared : (x v : List ℕ) → x ≡ zeros (length (take (from + room - from) (drop from w))) → v ≡ put_mid from (from + room - from) w x → RootsCleared n room w v
   roots_cleared x v z p =
-      let same : length x ≡ length (take (from + many - from) (drop from w)) = ap length z ∙ length_zeros (length (take (from + many - from) (drop from w))) in
+      let same : length x ≡ length (take (from + room - from) (drop from w)) = ap length z ∙ length_zeros (length (take (from + room - from) (drop from w))) in
+      let inside : 6 * room + room ≤ strings_region.words * n = omega (arith, few) in
       record {
-        zero = lent_left roots_region roots_within n from many w k.room ef em x v same p ∙ z ∙ ap zeros (lent_length roots_region roots_within n from many w k.room ef em);
-        only = only_lent roots_region roots_within n from many w k.room ef em x v same p;
+        zero = roots_are v ∙ part_left strings_region strings_within n (6 * room) from room w k.room ef inside x v same p ∙ lent_words x z;
+        only = only_part strings_region strings_within n (6 * room) from room w k.room ef inside x v same p;
       }

@@ -1,26 +1,28 @@
 -- Before the first object: slots that are cleared hold nothing.
 -- Assumes nothing.
-use mathlib.Core.Path.{◌≡◌, refl, ap, ◌∙◌, subst}
+use mathlib.Core.Path.{◌≡◌, refl, sym, ap, ◌∙◌, subst}
 use mathlib.Core.Bool.{Bool, false}
 use mathlib.Core.Logic.{⊎_elim}
 use mathlib.Core.List.{List, []}
-use Prim.Native.Nat.{ℕ, zero, suc, ◌*◌, ◌-◌, ◌≤◌}
-use native.Mathlib.Decide.{dec_le}
+use Prim.Native.Nat.{ℕ, zero, suc, ◌+◌, ◌*◌, ◌-◌, ◌/◌, ◌≤◌}
 use native.Mathlib.Nat.{not-suc-le-zero}
 use native.Mathlib.Omega.{arith}
 use lib.ListN.{length, get_or, replicate}
-use Rattle.numbers.specs.Limits.{work_for_word}
+use lib.Seq.{length-take-le}
+use Rattle.std.proofs.lemmas.List.{get_or-drop}
+use Rattle.numbers.specs.Limits.{string_words}
 use Rattle.octets.specs.Octets.{zeros}
 use Rattle.octets.specs.Lists.{those, joined}
 use Rattle.octets.specs.Checked.{pass}
 use Rattle.octets.proofs.Placed.{get_d_zeros}
 use Rattle.bundle.specs.Bundle.{Bundle, bundle_of}
 use Rattle.bundle.proofs.Lies.{here_span}
+use Rattle.bundle.specs.Scan.{Reaches, offsets_from}
+use Rattle.bundle.proofs.Offsets.{offsets_within}
 use Rattle.bundle.proofs.Objects.{objects_none}
 use Rattle.strings.proofs.Keeping.{kept_none}
-use Rattle.kept.specs.Regions.{records_region, strings_region, roots_region, region}
-use Rattle.kept.proofs.RegionStores.{strings_within, length_region, strings_roots}
-use Rattle.strings.specs.Indexed.{room_of}
+use Rattle.kept.specs.Regions.{records_region, strings_region, region, table_words}
+use Rattle.kept.proofs.RegionStores.{table_inside}
 use Rattle.package.specs.Filing.{kept, keep_all, count_of, count_from}
 use Rattle.package.specs.Pack.{unit_bytes, all_used}
 use Rattle.kept.specs.Records.{records_from, of_table}
@@ -29,12 +31,11 @@ use Rattle.kept.specs.Held.{identities_of, none, TableHeld, pick, OneOrTwo, Unit
 use Rattle.kept.specs.State.{UnitsGood}
 use Rattle.kept.specs.declared.Table.{Table}
 use Rattle.kept.proofs.Columning.{columns_none}
-use Rattle.kept.proofs.Moved.{get_d_past}
 use Rattle.kept.proofs.Holding.{pick_first, pick_second, units_none}
 use Rattle.kept.proofs.Seen.{seen_none}
 use Rattle.filing.specs.State.{words_in}
-use Rattle.filing.specs.ByObject.{AtObject}
-use Rattle.packer.specs.Objects.{no_columns, none_filed, NoneHeld, Cleared}
+use Rattle.filing.specs.ByObject.{StringsIn, AtObject}
+use Rattle.packer.specs.Objects.{no_columns, none_filed, Clearable, roots_in, NoneHeld, StringRoom, Cleared}
 
 -- ---- equal elements, the default among them
 equal_at : {A : Type 0} (x : A) (n k : ℕ) → get_or (replicate n x) k x ≡ x
@@ -72,10 +73,10 @@ table_none five w slots t m e = record {
 same_table : (t : ℕ) → OneOrTwo t → no_table ≡ pick t no_table no_table
 same_table t o = ⊎_elim (λ (e : t ≡ 1). pick_first t no_table no_table e) (λ (e : t ≡ 2). pick_second t no_table no_table (λ q. omega arith)) o
 
-held_none : (five : Bool) (b w : List ℕ) (n : ℕ) → NoneHeld n w → UnitsHeld five b (region w n records_region) (λ t. slots_in w n t (seen_slots n)) none_filed.units []
+held_none : (five : Bool) (b w : List ℕ) (n room : ℕ) → NoneHeld n room w → UnitsHeld five b (region w n records_region) (λ t. slots_in w n t (seen_slots n)) (none_filed room).units []
 unfolding none_filed
-held_none five b w n z =
-    units_none five b (region w n records_region) (λ t. slots_in w n t (seen_slots n)) none_filed.units refl refl refl
+held_none five b w n room z =
+    units_none five b (region w n records_region) (λ t. slots_in w n t (seen_slots n)) (none_filed room).units refl refl refl
     (λ t o. subst (λ (x : Table). TableHeld five (region w n records_region) 0 (slots_in w n t (seen_slots n)) t x []) (same_table t o)
     (table_none five (region w n records_region) (slots_in w n t (seen_slots n)) t (seen_slots n) (z.slots t o)))
 
@@ -83,21 +84,29 @@ held_none five b w n z =
 pub bundle_long : (b : List ℕ) (k : Bundle) → bundle_of b ≡ pass k → 4 ≤ length b
 bundle_long b k e = let o = objects_none b k e in omega (arith, here_span b 4 o.rest o.left)
 
--- roots that are zero, as words of the strings
-roots_zero : (w : List ℕ) (n : ℕ) → work_for_word * n ≤ length w → region w n roots_region ≡ zeros (roots_region.words * n) → (j : ℕ) → 6 * room_of (region w n strings_region) ≤ j
-    → get_or (region w n strings_region) j 0 ≡ 0
-unfolding room_of
+-- roots that are zero, as words of the table
+roots_zero : (w : List ℕ) (n room : ℕ) → roots_in w n room ≡ zeros room → (j : ℕ) → 6 * room ≤ j → get_or (table_words w n room) j 0 ≡ 0
+unfolding roots_in
 roots_zero w n room z j h =
-    let long = length_region strings_region strings_within n w room in
-    elim (dec_le (suc j) (7 * n)) [
-      | yes l ↦ strings_roots w n j (omega (arith, long)) l ∙ ap (λ (r : List ℕ). get_or r (j - 6 * n) 0) z ∙ get_d_zeros (roots_region.words * n) (j - 6 * n)
-      | no l ↦ get_d_past (region w n strings_region) 0 j (omega (arith, long))
-    ]
+    let e : j ≡ 6 * room + (j - 6 * room) = omega arith in
+    ap (λ (k : ℕ). get_or (table_words w n room) k 0) e ∙ sym (get_or-drop (6 * room) (table_words w n room) (j - 6 * room) 0) ∙ ap (λ (r : List ℕ). get_or r (j - 6 * room) 0) z
+    ∙ get_d_zeros room (j - 6 * room)
+
+-- a table without strings
+strings_none : (b w : List ℕ) (room : ℕ) → Clearable (words_in b) (length w) → StringRoom b room → NoneHeld (words_in b) room w → StringsIn b w (none_filed room).strings []
+unfolding none_filed table_words
+strings_none b w room can r z =
+    let long = length-take-le (string_words * room) (region w (words_in b) strings_region) (table_inside w (words_in b) room can.room r.few) in
+    record { few = r.few; kept = kept_none b (table_words w (words_in b) room) room (sym long) (roots_zero w (words_in b) room z.roots) }
+
+-- room for all strings of a bundle that can be read
+pub rooms : (b : List ℕ) (n : ℕ) → Reaches b 4 → n ≡ offsets_from b 4 → StringRoom b (n / 4 + 1)
+rooms b n r e = record { few = omega (arith, e, offsets_within b 4 r); enough = omega (arith, e) }
 
 -- all that is held before the first object
-pub at_start : {big : Bool} {b w : List ℕ} (first : ℕ) → Cleared big b w → AtObject b big first 4 w none_filed (λ c. 0) [] []
+pub at_start : {big : Bool} {b w : List ℕ} {room : ℕ} (first : ℕ) → Cleared big b room w → AtObject b big first 4 w (none_filed room) (λ c. 0) [] []
 unfolding none_filed UnitsGood count_of count_from
-at_start {big} {b} {w} first c =
+at_start {big} {b} {w} {room} first c =
     let long = bundle_long b c.bundle c.reads in
     record {
       held = record {
@@ -106,7 +115,7 @@ at_start {big} {b} {w} first c =
         some = c.can.some;
         units = tt;
         spent = omega arith;
-        held = rw kept_nothing (held_none _ b w (words_in b) c.none);
+        held = rw kept_nothing (held_none _ b w (words_in b) room c.none);
         based = λ c h. equal_at 0 14 c;
         low = λ c. omega arith;
         units_low = λ h. rw (kept_nothing, bytes_none h) (omega arith);
@@ -115,6 +124,6 @@ at_start {big} {b} {w} first c =
         repeated = refl;
         named = refl;
       };
-      strings = rw used_none (kept_none b (region w (words_in b) strings_region) (λ j h. roots_zero w (words_in b) c.can.room c.none.roots j h));
-      used = rw used_none (omega arith);
+      strings = rw used_none (strings_none b w room c.can c.room c.none);
+      used = rw used_none (omega (arith, c.room.enough));
     }

@@ -6,10 +6,10 @@ use Rattle.octets.specs.Octets.{zeros}
 use Rattle.numbers.specs.declared.refusals.Refusal.{Refusal}
 use Rattle.octets.specs.Checked.{Check, pass, ◌>>=◌}
 use Rattle.bundle.specs.Bundle.{Part, Object, Bundle, items, bundle_of}
-use Rattle.bundle.specs.Scan.{Reaches, sections_of, place_behind, scan_of}
+use Rattle.bundle.specs.Scan.{Reaches, sections_of, place_behind, scan_of, offsets_from}
 use Rattle.bundle.specs.declared.Scan.{Scan}
 use Rattle.index.specs.Rows.{BySection}
-use Rattle.kept.specs.Regions.{roots_region, region, Only}
+use Rattle.kept.specs.Regions.{strings_region, table_words, Only}
 use Rattle.package.specs.Input.{Input, unit_sections, input_of}
 use Rattle.package.specs.Filing.{Filed, Filing, units_in, grown, filing_of}
 use Rattle.kept.specs.Held.{OneOrTwo}
@@ -100,8 +100,8 @@ HeadAnswered b o st next w v r =
 abbrev pub no_columns : List Bool
 no_columns = false ∷ false ∷ false ∷ false ∷ false ∷ false ∷ false ∷ false ∷ []
 
-unfoldable pub none_filed : InProgress
-none_filed = record {
+unfoldable pub none_filed : ℕ → InProgress
+none_filed room = record {
   units = record {
     count = 0;
     cu = record { rows = 0; has = no_columns };
@@ -110,7 +110,7 @@ none_filed = record {
     types = 0;
   };
   bases = no_sizes;
-  strings = record { count = 0; size = 0; entries = 0; over = false };
+  strings = record { count = 0; size = 0; entries = 0; over = false; room = room };
   skipped = record { repeats = 0; namesakes = 0 };
 }
 
@@ -124,24 +124,34 @@ pub record Clearable (n words : ℕ) : Type 0 where
 abbrev pub SlotsCleared : ℕ → ℕ → List ℕ → List ℕ → Type 0
 SlotsCleared n table w v = (slots_in v n table (seen_slots n) ≡ zeros (seen_slots n)) × SlotsLeft n table 0 (seen_slots n) w v
 
--- the roots of the strings' index are zero, and nothing else has changed
-pub record RootsCleared (n : ℕ) (w v : List ℕ) : Type 0 where
-  pub zero : region v n roots_region ≡ zeros (roots_region.words * n)
-  pub only : Only roots_region n w v
+-- the roots of the strings' index: the last words of a table with so much room
+unfoldable pub roots_in : List ℕ → ℕ → ℕ → List ℕ
+roots_in w n room = drop (6 * room) (table_words w n room)
+
+-- they are zero, and no other region has changed
+pub record RootsCleared (n room : ℕ) (w v : List ℕ) : Type 0 where
+  pub zero : roots_in v n room ≡ zeros room
+  pub only : Only strings_region n w v
 
 -- no identity is seen in either table, and no root leads to a string
-pub record NoneHeld (n : ℕ) (w : List ℕ) : Type 0 where
+pub record NoneHeld (n room : ℕ) (w : List ℕ) : Type 0 where
   pub slots : (t : ℕ) → OneOrTwo t → slots_in w n t (seen_slots n) ≡ zeros (seen_slots n)
-  pub roots : region w n roots_region ≡ zeros (roots_region.words * n)
+  pub roots : roots_in w n room ≡ zeros room
+
+-- as many strings, and entries, as a bundle has at most: an entry takes at least 4 bytes of a str_offsets section
+pub record StringRoom (b : List ℕ) (room : ℕ) : Type 0 where
+  pub few : room ≤ words_in b
+  pub enough : offsets_from b 4 ≤ 4 * room
 
 -- a bundle that can be read, and work that is long enough, with slots and roots that are cleared; the rest of work may hold anything
-pub record Cleared (big : Bool) (b w : List ℕ) : Type 0 where
+pub record Cleared (big : Bool) (b : List ℕ) (room : ℕ) (w : List ℕ) : Type 0 where
   pub bundle : Bundle
   pub reads : bundle_of b ≡ pass bundle
   pub order : bundle.big ≡ big
   pub whole : length b % 4 ≡ 0
   pub can : Clearable (words_in b) (length w)
-  pub none : NoneHeld (words_in b) w
+  pub room : StringRoom b room
+  pub none : NoneHeld (words_in b) room w
 
 -- the refusal, or that all is filed
 abbrev pub ObjectsAre : Bool → List ℕ → List ℕ → Check Filing → Result InProgress Refusal → Type 0

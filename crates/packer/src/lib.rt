@@ -39,8 +39,9 @@ fn pack_cleared(b: &[u8], work: &mut [u32], out: &mut [u8]) -> Result<Made, Unwr
         return Err(Unwritten::Refused(Refusal::WorkShort));
     }
     let big = bundle::check_words(b)?;
-    clear::clear_slots(b.len() / 4, work);
-    let st = objects::add_input_objects(b, big, work)?;
+    let room = objects::string_room(b);
+    clear::clear_slots(b.len() / 4, room, work);
+    let st = objects::add_input_objects(b, big, room, work)?;
     let length = finish::whole::finish(b, big, st, work, out)?;
     Ok(Made {
         length,

@@ -1,5 +1,6 @@
 // The objects of a bundle, one following the other: refusals 4 to 16, and 34.
 ghost use Rattle.std.specs.Prelude.{◌≡◌};
+ghost use Rattle.bundle.specs.Scan.{Reaches};
 ghost use Rattle.packer.specs.Objects.{
   UnitsAsked,
   UnitsAnswered,
@@ -7,6 +8,7 @@ ghost use Rattle.packer.specs.Objects.{
   HeadAnswered,
   ScannedFrom,
   behind_from,
+  StringRoom,
   none_filed,
   Cleared,
   ObjectsAnswered,
@@ -86,10 +88,19 @@ const NO_ROWS: Table = Table {
     has: [false; COLUMNS],
 };
 
-// Before the first object. Not by `Default`: a derived one promises nothing outside the crate of its type.
+// As many strings as a bundle has at most, and as many entries. An entry takes at least 4 bytes of a str_offsets section, so that these sections have so many
+// words; and one more, so that a table has a root also where the bundle names no string. The caller has checked the words of the bundle.
+pub fn string_room(b: &[u8]) -> usize
+    requires { Reaches b.now 4 }
+    ensures { StringRoom b.now result }
+{
+    bundle::offsets_size(b) / 4 + 1
+}
+
+// Before the first object, with room for so many strings. Not by `Default`: a derived one promises nothing outside the crate of its type.
 #[tactic(auto, unfolding(crate::specs::Objects::none_filed))]
-fn nothing_filed() -> InProgress
-    ensures { result ≡ none_filed }
+fn nothing_filed(room: usize) -> InProgress
+    ensures { result ≡ none_filed room }
 {
     InProgress {
         units: Units {
@@ -105,6 +116,7 @@ fn nothing_filed() -> InProgress
             size: 0,
             entries: 0,
             over: false,
+            room,
         },
         skipped: Skipped {
             repeats: 0,
@@ -113,13 +125,18 @@ fn nothing_filed() -> InProgress
     }
 }
 
-// All objects, into work whose slots are cleared, and what is held after them. The caller has checked 1 to 3.
+// All objects, into work whose slots are cleared, and what is held after them; room is what the table of strings has. The caller has checked 1 to 3.
 // A loop, since each object says where the next starts.
-pub fn add_input_objects(b: &[u8], big: bool, work: &mut [u32]) -> Result<InProgress, Refusal>
-    requires { Cleared big b.now work.old }
+pub fn add_input_objects(
+    b: &[u8],
+    big: bool,
+    room: usize,
+    work: &mut [u32],
+) -> Result<InProgress, Refusal>
+    requires { Cleared big b.now room work.old }
     ensures { ObjectsAnswered big b.now work.new result }
 {
-    let mut st = nothing_filed();
+    let mut st = nothing_filed(room);
     let Ok(Item::Object { word: first, .. }) = bundle::next_item(b, 4) else {
         return Ok(st);
     };

@@ -9,6 +9,7 @@ use Rattle.octets.specs.Checked.{pass}
 use Rattle.bundle.specs.Bundle.{Bundle, bundle_of, length_good}
 use Rattle.packer.specs.Objects.{Clearable}
 use Rattle.bundle.proofs.WordsAnswered.{words_readable}
+use Rattle.bundle.proofs.Offsets.{bundle_reaches}
 use Rattle.packer.proofs.Outcomes.{length_within, length_some, length_whole, answers_exit, answers_length, answers_work, answers_words, answers_filing, answers_unfinished, answers_finish}
 use Rattle.packer.proofs.pack_cleared.Goals as goal
 use Rattle.packer.proofs.pack_cleared.Goals.{Else-not-length_good, In_ok-big}
@@ -42,8 +43,11 @@ returns-in_err-big c =
     let a = answers_exit _ _ _ _ _ _ c.from_residual.ensures.1 (answers_words _ _ _ _ c.requires g c.if-work-b.false _ c.in_err-big.ensures) in
     record { answer = a.0; output = a.1 }
 
+pub string_room-requires : goal.string_room-requires
+string_room-requires c = let k = read (goal.at.string_room-requires c).In_ok-big in bundle_reaches _ k.0 k.1
+
 pub clear_slots-requires : goal.clear_slots-requires
-clear_slots-requires c = can (goal.at.clear_slots-requires c).In_ok-big
+clear_slots-requires c = (can (goal.at.clear_slots-requires c).In_ok-big, c.string_room-room.ensures.few)
 
 pub add_input_objects-requires : goal.add_input_objects-requires
 add_input_objects-requires c =
@@ -56,6 +60,7 @@ add_input_objects-requires c =
       order = k.2;
       whole = length_whole _ _ (good g.Else-not-length_good);
       can = rw c.clear_slots.auto.work h;
+      room = c.string_room-room.ensures;
       none = c.clear_slots.ensures;
     }
 

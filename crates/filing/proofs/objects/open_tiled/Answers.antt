@@ -11,7 +11,7 @@ pub indexed_input-requires : goal.indexed_input-requires
 indexed_input-requires c = let p = c.requires.0 in (scan_within _ _ p.at p.parts p.is _ _ p.room 12, scan_within _ _ p.at p.parts p.is _ _ p.room 13)
 
 pub returns-in_err-x-clause-read : goal.returns-in_err-x-clause-read
-returns-in_err-x-clause-read c = λ at ps ts e room k. tells_exit _ _ c.from_residual.ensures.1 (opens_given _ _ ts _ _ _ at ps e _ _ room _ _ (tiled_unindexed _ _ _ at ps e _ ts _ _ c.in_err-x.ensures))
+returns-in_err-x-clause-read c = λ at ps ts e room k. tells_exit _ _ c.from_residual.ensures.1 (opens_given _ _ ts _ _ _ _ at ps e _ _ room _ _ (tiled_unindexed _ _ _ at ps e _ ts _ _ _ c.in_err-x.ensures))
 
 pub judge_parts-requires : goal.judge_parts-requires
 judge_parts-requires c =
@@ -23,7 +23,7 @@ pub returns-in_err-good : goal.returns-in_err-good
 returns-in_err-good c = record {
   read = λ at ps ts e room k.
       tells_exit _ _ c.from_residual-in_err-good.ensures.1
-      (opens_given _ _ ts _ _ _ at ps e _ _ room _ _ (tiled_clashing _ _ _ at ps e _ ts _ _ c.in_ok-x.ensures _ c.in_err-good.ensures.parts_answered));
+      (opens_given _ _ ts _ _ _ _ at ps e _ _ room _ _ (tiled_clashing _ _ _ at ps e _ ts _ _ _ c.in_ok-x.ensures _ c.in_err-good.ensures.parts_answered));
   frame = codes_store _ _ _ c.judge_parts.ensures.frame;
 }
 
@@ -38,15 +38,15 @@ pub returns-in_err-add_parts : goal.returns-in_err-add_parts
 returns-in_err-add_parts c = record {
   read = λ at ps ts e room k.
       tells_exit _ _ c.from_residual-in_err-add_parts.ensures.1
-      (opens_given _ _ ts _ _ _ at ps e _ _ room _ _
-      (tiled_unput _ _ _ at ps e _ ts _ _ c.in_ok-x.ensures _ c.in_ok-good.ensures.parts_answered c.requires.1 _ _ _ c.judge_parts.ensures.frame k _ c.str_offsets_in-o.ensures _ c.in_err-add_parts.ensures.put));
+      (opens_given _ _ ts _ _ _ _ at ps e _ _ room _ _
+      (tiled_unput _ _ _ at ps e _ ts _ _ _ c.in_ok-x.ensures _ c.in_ok-good.ensures.parts_answered c.requires.1 _ _ _ refl c.judge_parts.ensures.frame k _ c.str_offsets_in-o.ensures _ c.in_err-add_parts.ensures.put));
   frame = codes_first _ _ _ _ c.judge_parts.ensures.frame c.add_parts.ensures.frame;
 }
 
 pub returns : goal.returns
 returns c = record {
   read = λ at ps ts e room k.
-      opens_given _ _ ts _ _ _ at ps e _ _ room _ _
-      (tiled_read _ _ _ at ps e _ ts _ _ c.in_ok-x.ensures _ c.in_ok-good.ensures.parts_answered c.requires.1 _ _ _ c.judge_parts.ensures.frame k _ c.str_offsets_in-o.ensures c.in_ok-add_parts.ensures.put);
+      opens_given _ _ ts _ _ _ _ at ps e _ _ room _ _
+      (tiled_read _ _ _ at ps e _ ts _ _ _ c.in_ok-x.ensures _ c.in_ok-good.ensures.parts_answered c.requires.1 _ _ _ refl c.judge_parts.ensures.frame k _ c.str_offsets_in-o.ensures c.in_ok-add_parts.ensures.put);
   frame = codes_first _ _ _ _ c.judge_parts.ensures.frame c.add_parts.ensures.frame;
 }

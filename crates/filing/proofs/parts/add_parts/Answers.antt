@@ -22,7 +22,7 @@ returns-in_err-add_pieces c =
     let y = c.offsets_before.ensures in
     let k = cut_of c.of-store.ensures.start c.of-store.ensures.size c.of-strings.ensures.size c.split_at_mut-behind.ensures.value c.split_at_mut-behind.ensures.front_len c.split_at_mut-lent.ensures.value c.split_at_mut-lent.ensures.front_len c.split_at_mut-region.ensures.value c.split_at_mut-region.ensures.front_len c.split_at_mut-table.ensures.value c.split_at_mut-table.ensures.front_len in
     record {
-      put = λ ts ps h u. tells_exit _ _ c.from_residual.ensures.1 (parts_missing _ _ p.offsets_inside _ ps u _ y _ ts _ _ (c.in_err-add_pieces.ensures ts _ (rw (cut_table k) h.kept) (good_headed _ _ p.offsets_inside _ ps u _ y)));
+      put = λ ts ps h u. tells_exit _ _ c.from_residual.ensures.1 (parts_missing _ _ p.offsets_inside _ ps u _ y _ ts _ _ _ (c.in_err-add_pieces.ensures ts _ (rw (cut_table k) h.kept) (good_headed _ _ p.offsets_inside _ ps u _ y)));
       frame = cut_only k _ _ c.add_pieces.auto.table c.add_pieces.auto.memory p.room;
     }
 
@@ -32,7 +32,7 @@ returns-then-good-o c =
     let y = c.offsets_before.ensures in
     let k = cut_of c.of-store.ensures.start c.of-store.ensures.size c.of-strings.ensures.size c.split_at_mut-behind.ensures.value c.split_at_mut-behind.ensures.front_len c.split_at_mut-lent.ensures.value c.split_at_mut-lent.ensures.front_len c.split_at_mut-region.ensures.value c.split_at_mut-region.ensures.front_len c.split_at_mut-table.ensures.value c.split_at_mut-table.ensures.front_len in
     record {
-      put = λ ts ps h u. parts_ill _ _ p.offsets_inside _ ps u _ y _ ts _ _ (c.in_ok-add_pieces.ensures ts _ (rw (cut_table k) h.kept) (good_headed _ _ p.offsets_inside _ ps u _ y)) c.if-good-o.true;
+      put = λ ts ps h u. parts_ill _ _ p.offsets_inside _ ps u _ y _ ts _ _ _ (c.in_ok-add_pieces.ensures ts _ (rw (cut_table k) h.kept) (good_headed _ _ p.offsets_inside _ ps u _ y)) c.if-good-o.true;
       frame = cut_only k _ _ c.add_pieces.auto.table c.add_pieces.auto.memory p.room;
     }
 
@@ -42,7 +42,7 @@ returns c =
     let y = c.offsets_before.ensures in
     let k = cut_of c.of-store.ensures.start c.of-store.ensures.size c.of-strings.ensures.size c.split_at_mut-behind.ensures.value c.split_at_mut-behind.ensures.front_len c.split_at_mut-lent.ensures.value c.split_at_mut-lent.ensures.front_len c.split_at_mut-region.ensures.value c.split_at_mut-region.ensures.front_len c.split_at_mut-table.ensures.value c.split_at_mut-table.ensures.front_len in
     record {
-      put = λ ts ps h u. parts_put _ _ p.offsets_inside _ ps u _ y _ ts _ _ (c.in_ok-add_pieces.ensures ts _ (rw (cut_table k) h.kept) (good_headed _ _ p.offsets_inside _ ps u _ y))
+      put = λ ts ps h u. parts_put _ _ p.offsets_inside _ ps u _ y _ ts _ _ _ (c.in_ok-add_pieces.ensures ts _ (rw (cut_table k) h.kept) (good_headed _ _ p.offsets_inside _ ps u _ y))
           (λ us g. cut_back k _ _ c.add_pieces.auto.table c.add_pieces.auto.memory _ _ us refl h.few g) c.if-good-o.false;
       frame = cut_only k _ _ c.add_pieces.auto.table c.add_pieces.auto.memory p.room;
     }
