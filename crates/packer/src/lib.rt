@@ -56,7 +56,7 @@ pub fn pack_counted(b: &[u8], work: &mut [u32], out: &mut [u8]) -> Result<Made, 
     ensures output { out.new ≡ output_of (packed b.now (length work.old) (length out.old)) (length out.old) }
     ensures work { work.new ≡ zeros (length work.old) }
 {
-    out.fill(0); // of what was lent
+    crate::zeroing::clear_bytes(out); // of what was lent
     let answer = pack_cleared(b, work, out);
     crate::zeroing::clear_lent(work); // of what was filed
     answer

@@ -6,4 +6,4 @@ use Rattle.packer.proofs.pack_counted.Goals as goal
 
 pub pack_cleared-answer-requires : goal.pack_cleared-answer-requires
 unfolding zeros
-pack_cleared-answer-requires c = cleared_again _ _ (c.fill.ensures.after (λ y e. e))
+pack_cleared-answer-requires c = cleared_again _ _ (c.clear_bytes.ensures)

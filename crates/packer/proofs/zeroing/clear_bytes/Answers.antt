@@ -1,0 +1,25 @@
+-- `clear_bytes` meets its contract.
+-- Assumes nothing.
+use mathlib.Core.Path.{refl, ap, ◌∙◌}
+use Prim.Native.Nat.{◌*◌, ◌≤◌}
+use native.Mathlib.Omega.{arith}
+use lib.ListN.{length}
+use Rattle.octets.specs.Octets.{zeros}
+use Rattle.packer.proofs.Zeros.{zero_none, zero_up_to, zero_all, zero_same, zero_more}
+use Rattle.packer.proofs.zeroing.clear_bytes.Goals as goal
+
+pub loop-page-init : goal.loop-page-init
+loop-page-init c = zero_none _
+
+pub loop-page-preserved : goal.loop-page-preserved
+loop-page-preserved c =
+    let l = c.loop-page in
+    let low : 4_096 * l.page ≤ c.min-to.result = omega (arith, c.min-to.ensures, c.div_ceil-page-end.ensures) in
+    let high : c.min-to.result ≤ length l.s = omega (arith, c.min-to.ensures) in
+    let same = zero_same l.s (4_096 * l.page) _ low high _ c.clear_byte_page.ensures in
+    zero_up_to _ c.min-to.result _ (λ k. omega (arith, same, c.min-to.ensures)) (zero_more l.s (4_096 * l.page) _ low high _ c.clear_byte_page.ensures l.invariant)
+
+pub returns : goal.returns
+returns c =
+    let l = c.loop-page in
+    zero_all l.s _ refl (zero_up_to l.s (4_096 * l.page) _ (λ k. omega (arith, c.div_ceil-page-end.ensures)) l.invariant) ∙ ap zeros l.auto.s
