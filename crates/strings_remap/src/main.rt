@@ -2,7 +2,7 @@
 // first as hexadecimal digits and the second as text with a dot for each zero, or the refusal.
 #![tactic(auto)]
 
-ghost use Rattle.std.specs.Prelude.{◌≡◌, List, ℕ, ◌+◌, ◌≤◌, ◌<◌, ◌^◌, length};
+ghost use Rattle.std.specs.Prelude.{◌≡◌, ◌+◌, ◌≤◌, ◌<◌, ◌^◌, length};
 ghost use Rattle.strings.specs.Kept.{Inside};
 ghost use Rattle.strings_remap.specs.Strung.{Stringable, Strung};
 ghost use Rattle.strings_remap.specs.declared.Failure.TheVariants.{Refused};
