@@ -23,7 +23,7 @@ use Rattle.bundle.proofs.Objects.{here_behind}
 use Rattle.bundle.proofs.Whole.{readable}
 
 -- ---- towards the definition
-pub offsets_ahead : (b : List ℕ) (at : ℕ) (is : List Item) → here b at ≡ pass is → offsets_from b at ≡ offsets_in is
+offsets_ahead : (b : List ℕ) (at : ℕ) (is : List Item) → here b at ≡ pass is → offsets_from b at ≡ offsets_in is
 unfolding here offsets_from offsets_read
 offsets_ahead b at is e = ap offsets_read e
 

@@ -1,4 +1,4 @@
--- From one object to the next: its sections lie between its word and the next one, and its strings have room.
+-- What reading an object requires: its sections lie in the bundle, and the table has room for its strings.
 -- Assumes nothing.
 use mathlib.Core.Path.{◌≡◌}
 use mathlib.Core.Bool.{Bool}
@@ -19,7 +19,7 @@ use Rattle.package.specs.Filing.{Filed}
 use Rattle.kept.specs.declared.state.InProgress.{InProgress}
 use Rattle.filing.specs.ByObject.{AtObject, InputRoom}
 
--- what `read_input` requires, of the object whose sections start at from
+-- of the object whose sections start at from: some of the str_offsets that lie ahead is its own
 pub input_room : (b : List ℕ) (big : Bool) (first from : ℕ) (w : List ℕ) (st : InProgress) (bases : BySection ℕ) (is : List Input) (us : List Filed)
     → AtObject b big first from w st bases is us → (ahead : List Item) → here b from ≡ pass ahead → Every (Lies b) (leading ahead) → InputRoom b (leading ahead) (length w) st.strings
 input_room b big first from w st bases is us a ahead left lie =

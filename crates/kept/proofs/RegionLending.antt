@@ -43,9 +43,6 @@ module _ (r : Layout) (i : Within r) (n at from many : ℕ) (w : List ℕ) (room
 
 -- all of it
 module _ (r : Layout) (i : Within r) (n from many : ℕ) (w : List ℕ) (room : work_for_word * n ≤ length w) (ef : from ≡ r.start * n) (em : many ≡ r.words * n) where
-  pub lent_fits : from + many ≤ length w
-  lent_fits = omega (arith, region_fits r i n w room)
-
   abbrev lent : List ℕ
   lent = take (from + many - from) (drop from w)
 

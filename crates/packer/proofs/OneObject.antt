@@ -83,7 +83,7 @@ used_few e str (p ∷ ps) ok f =
       used_few e str ps ok (each_tail f),
     )
 
--- what is ahead before it, and behind it, in words of 4 bytes
+-- so the room that suffices for the str_offsets ahead of it suffices for those behind it too: before and after are the bytes of these
 used_behind : (e : Encoding) → Sound e → (o s : List ℕ) (is : List Input) (i : Input) (before after room : ℕ) → PiecesFacts e o s i.pieces
     → 4 * length (all_used is) + before ≤ 4 * room → length o + after ≤ before → 4 * length (all_used (is ++ (i ∷ []))) + after ≤ 4 * room
 used_behind e ok o s is i before after room f h g =
@@ -114,7 +114,7 @@ module _ (b : List ℕ) (from : ℕ) (h : Ahead b from) where
       subst (λ (ps : List Part). from + length (body b ps c) ≤ place_behind from ps) (sym parts_are)
       (omega (arith, body_long c, size_behind b c from ahead left h.within))
 
-  -- its str_offsets is one of those ahead
+  -- its str_offsets is one of those ahead, and the others lie behind it
   offsets_left : length (body b (sections_from b from) 6) + offsets_from b (behind_from b from) ≤ offsets_from b from
   offsets_left =
       subst (λ (ps : List Part). length (body b ps 6) + offsets_from b (place_behind from ps) ≤ offsets_from b from) (sym parts_are)

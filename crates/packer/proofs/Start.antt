@@ -99,7 +99,7 @@ strings_none b w room can r z =
     let long = length-take-le (string_words * room) (region w (words_in b) strings_region) (table_inside w (words_in b) room can.room r.few) in
     record { few = r.few; kept = kept_none b (table_words w (words_in b) room) room (sym long) (roots_zero w (words_in b) room z.roots) }
 
--- room for all strings of a bundle that can be read
+-- room for all entries of a bundle that can be read
 pub rooms : (b : List ℕ) (n : ℕ) → Reaches b 4 → n ≡ offsets_from b 4 → StringRoom b (n / 4 + 1)
 rooms b n r e = record { few = omega (arith, e, offsets_within b 4 r); enough = omega (arith, e) }
 

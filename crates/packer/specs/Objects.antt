@@ -100,6 +100,7 @@ HeadAnswered b o st next w v r =
 abbrev pub no_columns : List Bool
 no_columns = false ∷ false ∷ false ∷ false ∷ false ∷ false ∷ false ∷ false ∷ []
 
+-- nothing is filed, and the table of strings has so much room
 unfoldable pub none_filed : ℕ → InProgress
 none_filed room = record {
   units = record {
@@ -124,7 +125,7 @@ pub record Clearable (n words : ℕ) : Type 0 where
 abbrev pub SlotsCleared : ℕ → ℕ → List ℕ → List ℕ → Type 0
 SlotsCleared n table w v = (slots_in v n table (seen_slots n) ≡ zeros (seen_slots n)) × SlotsLeft n table 0 (seen_slots n) w v
 
--- the roots of the strings' index: the last words of a table with so much room
+-- the roots of the strings' index: the last words of a table with so much room, of the seven that it has for each string
 unfoldable pub roots_in : List ℕ → ℕ → ℕ → List ℕ
 roots_in w n room = drop (6 * room) (table_words w n room)
 
