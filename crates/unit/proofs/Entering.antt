@@ -130,10 +130,11 @@ module _ (b w u y : List ℕ) (size start : ℕ) (t : JudgedTable) (j : Judged) 
     ]
   ]
 
+  u_directory : directory b u ≡ directory b w
+  u_directory = ap (λ (n : ℕ). take n u) (sym e.size_is) ∙ u_front ∙ ap (λ (n : ℕ). take n w) e.size_is
+
   u_entries : Entries b u j.entries j.free
-  u_entries =
-      entries_kept b w u j.entries j.free start u_length e.free_is (ap (λ (n : ℕ). take n u) (sym e.size_is) ∙ u_front ∙ ap (λ (n : ℕ). take n w) e.size_is)
-      (λ i l. u_other i (λ m n. omega arith)) e.entries
+  u_entries = entries_kept b w u j.entries j.free start u_length e.free_is u_directory (λ i l. u_other i (λ m n. omega arith)) e.entries
 
   abbrev v : List ℕ
   v = y ++ drop size u
@@ -178,7 +179,7 @@ module _ (b w u y : List ℕ) (size start : ℕ) (t : JudgedTable) (j : Judged) 
     pub entered : Knows b v t.place (record { last = Some t; entries = j.entries + 1; free = t.from + 5 * t.count }) t
     entered =
         recalled b v t.place t (j.entries + 1) (t.from + 5 * t.count) refl (omega arith) new_held
-        (entries_more b u y j.entries j.free size e.size_is u_entries u_room ly t.place.at start (subst (λ (x : List ℕ). Fresh x j.entries t.place.at) (sym (ap (λ (n : ℕ). take n u) (sym e.size_is) ∙ u_front ∙ ap (λ (n : ℕ). take n w) e.size_is)) e.fresh) added
+        (entries_more b u y j.entries j.free size e.size_is u_entries u_room ly t.place.at start (subst (λ (x : List ℕ). Fresh x j.entries t.place.at) (sym u_directory) e.fresh) added
         (rw c at a) (t.from + 5 * t.count) (omega (arith, e.free_is)) new_noted)
 
 -- ---- behind the other tables: x is what the words behind the new one's first two are left as

@@ -7,7 +7,7 @@ use mathlib.Core.List.{List, [], ◌++◌, append_assoc}
 use mathlib.Core.Option.{Option, some, none}
 use Prim.Native.Nat.{ℕ, ◌+◌, ◌-◌, ◌≤◌}
 use native.Mathlib.Omega.{arith}
-use lib.ListN.{length, take, drop}
+use lib.ListN.{length, take, drop, length-drop}
 use lib.Seq.{drop-append_seam, length-take-le, take-add}
 use borrow.Author.Tests.{eq-eqb, eqb-true}
 use Rattle.octets.specs.Lists.{zero_together}
@@ -22,7 +22,6 @@ use Rattle.unit.specs.Root.{Value, identity_at}
 use Rattle.unit.specs.Roots.{identity_from}
 use Rattle.unit.specs.Runs.{Quiet}
 use Rattle.unit.proofs.Sizes.{rest}
-use lib.ListN.{length-drop}
 use Rattle.unit.proofs.Attributes.{attribute_at_taken}
 use Rattle.unit.proofs.Values.{value_flag}
 use Rattle.unit.proofs.Stepping.{identity_seen, identity_other, step_on, from_on}
@@ -81,8 +80,8 @@ module _ (known : Bool) where
     flag_passes = let b = attribute_at_taken t _ p in (omega (arith, b.0), b.1, quiet_flag)
 
   -- behind a run and one attribute
-  run_more : (t : List ℕ) (at n : ℕ) → Quiet known (take at t) → Quiet known (take n (drop at t)) → Quiet known (take (at + n) t)
-  run_more t at n h g = rw (take-add at n t) (quiet_both (take at t) (take n (drop at t)) h g)
+  quiet_more : (t : List ℕ) (at n : ℕ) → Quiet known (take at t) → Quiet known (take n (drop at t)) → Quiet known (take (at + n) t)
+  quiet_more t at n h g = rw (take-add at n t) (quiet_both (take at t) (take n (drop at t)) h g)
 
 -- ---- the walk over them, as the code takes it
 pub record Running (known : Bool) (t : List ℕ) (at : ℕ) : Type 0 where
@@ -96,4 +95,4 @@ pub running_on : (known : Bool) (t : List ℕ) (at n : ℕ) → Running known t 
     (1 ≤ n) × (n ≤ length (take (length t - at) (drop at t))) × Quiet known (take n (take (length t - at) (drop at t))) → (1 ≤ n) × Running known t (at + n)
 running_on known t at n r f =
     let g : (1 ≤ n) × (n ≤ length (drop at t)) × Quiet known (take n (drop at t)) = rw (rest at t) at f in
-    (g.0, record { within = omega (arith, g.1, length-drop at t, r.within); quiet = run_more known t at n r.quiet g.2 })
+    (g.0, record { within = omega (arith, g.1, length-drop at t, r.within); quiet = quiet_more known t at n r.quiet g.2 })

@@ -8,7 +8,7 @@ use lib.ListN.{length, take, get_or, length-map, length-take}
 use Rattle.octets.specs.Octets.{part}
 use Rattle.octets.proofs.Parts.{length_part, get_d_part}
 use Rattle.unit.specs.Trees.{code_at, carried_at, Rising, Linked, Tree}
-use Rattle.unit.specs.TableTrees.{codes_of, no_declaration, Declares, TableHeld, span_bytes, Held, directory_size, directory, table_from, Stored, Noted, Entries, Lies, Remembers}
+use Rattle.unit.specs.TableTrees.{codes_of, no_declaration, Declares, TableHeld, span_bytes, Held, directory_size, directory, table_from, Stored, Noted, Entries, Lies, Remembers, Lent}
 use Rattle.unit.specs.declared.judged.Span.{Span}
 use Rattle.unit.specs.declared.judged.JudgedTable.{JudgedTable}
 use Rattle.unit.specs.declared.judged.Judged.{Judged}
@@ -116,3 +116,7 @@ entries_room b w n free t = omega (arith, (entries_rising b w n free t).room, le
 pub remembers_entries : (b w : List ℕ) (j : Judged) → Remembers b w j → Entries b w j.entries j.free
 unfolding Remembers
 remembers_entries b w j m = m.1
+
+-- ---- lent words, that remember something else now
+pub lent_kept : (b w v : List ℕ) (j k : Judged) → Lent b w j → length v ≡ length w → Remembers b v k → Lent b v k
+lent_kept b w v j k m l r = record { room = omega (arith, l, m.room); small = m.small; memory = r }

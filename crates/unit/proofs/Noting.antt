@@ -2,9 +2,8 @@
 -- Assumes nothing.
 use mathlib.Core.Path.{◌≡◌, refl, sym, subst}
 use mathlib.Core.Bool.{Bool, true, false}
-use mathlib.Core.List.{List, [], ◌∷◌, ◌++◌}
+use mathlib.Core.List.{List, ◌++◌}
 use mathlib.Core.Logic.{◌⊎◌, ⊎_elim}
-use Rattle.octets.specs.Lists.{has, any}
 use Prim.Native.Nat.{ℕ, ◌+◌, ◌-◌, ◌/◌, ◌^◌, ◌<◌, ◌≤◌}
 use native.Mathlib.Omega.{arith}
 use lib.ListN.{length, take, drop}
@@ -19,7 +18,8 @@ use Rattle.unit.specs.declared.judged.JudgedTable.{JudgedTable}
 use Rattle.unit.specs.declared.judged.Judged.{Judged}
 use Rattle.unit.proofs.Holding.{held_kept, noted_kept, entries_none, entries_rising, remembers_entries}
 use Rattle.unit.proofs.Entering.{grown_length, grown_behind, entries_more}
-use Rattle.unit.proofs.Recalling.{found_noted}
+use Rattle.unit.proofs.Judging.{tree_none}
+use Rattle.unit.proofs.Recalling.{found_noted, fresh_none}
 
 -- ---- the key of a run is no table's, and no other run's
 above : (at : ℕ) (known : Bool) → run_key at known < 2 ^ 32 → ⊥
@@ -43,20 +43,13 @@ run_noted b w free run at known h q = record {
 -- ---- entries that are kept, or all forgotten
 module _ (n count : ℕ) (k : (count ≡ 0) ⊎ (count ≡ n)) where
   pub kept_rising : (w : List ℕ) → Rising w n → Rising w count
-  kept_rising w r = ⊎_elim
-      (λ z. record { room = omega (arith, z); later = λ i b l. absurd (omega (arith, l, z)); among = λ i b l. absurd (omega (arith, l, z)) })
-      (λ e. rw e r) k
+  kept_rising w r = ⊎_elim (λ z. rw z (tree_none w).rising) (λ e. rw e r) k
 
   kept_entries : (b w : List ℕ) (free : ℕ) → Entries b w n free → Entries b w count free
   kept_entries b w free t = ⊎_elim (λ z. rw z (entries_none b w free)) (λ e. rw e t) k
 
   kept_fresh : (w : List ℕ) (key : ℕ) → Fresh w n key → Fresh w count key
-  unfolding Fresh has any
-  kept_fresh w key f = ⊎_elim (λ z. rw z none) (λ e. rw e f) k
-    where
-      none : (cs : List ℕ) → length cs ≡ 0 → Tree w cs → has cs key ≡ false
-      none [] l t = refl
-      none (c ∷ cs) l t = absurd (omega (arith, l))
+  kept_fresh w key f = ⊎_elim (fresh_none w count key) (λ e. rw e f) k
 
 -- ---- one run more
 module _ (b w y : List ℕ) (size run key : ℕ) (j : Judged) (n : Notes b w size run key j) (count : ℕ) (k : (count ≡ 0) ⊎ (count ≡ j.entries)) (h : size ≤ length w)

@@ -128,7 +128,7 @@ joined_not b w p j r u k e = let h : Joins b w p j (Err u) = rw e at k in h
 pub full_bad : Full ≡ Bad → ⊥
 full_bad e = cc
 
--- a directory of no tables
+-- a directory of no entries
 pub fresh_none : (w : List ℕ) (n at : ℕ) → n ≡ 0 → Fresh w n at
 unfolding Fresh has any
 fresh_none w n at e [] l t = refl

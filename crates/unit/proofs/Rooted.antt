@@ -85,5 +85,3 @@ pub root_past : (e : Encoding) (abbreviations u s : List ℕ) (at : ℕ) → at 
     → refuse 12 ≡ root_identity e (table_at e abbreviations u) s
 unfolding table_at root_identity declarations_of declarations_from ◌>>=◌
 root_past e abbreviations u s at h g = let l : length abbreviations ≤ at = omega arith in rw (← h, drop_of_length-le abbreviations l)
-
--- ---- as functions name them

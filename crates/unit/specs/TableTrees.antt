@@ -70,7 +70,7 @@ pub record Held (b w : List ℕ) (t : JudgedTable) : Type 0 where
   pub inside : t.from + node_words * t.count ≤ length w
   pub is : TableHeld (span_bytes b t.place) (part w t.from (node_words * t.count)) t.count
 
--- the directory: a tree in the first words, by where the tables start in the bundle
+-- the directory: a tree in the first words, by where tables and runs start in the bundle
 abbrev pub directory_share : ℕ
 directory_share = 25
 

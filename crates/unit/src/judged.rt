@@ -7,11 +7,14 @@
 //
 // Where the directory is full, or the words behind it are, all is forgotten and the table at hand is judged as the first of a memory started anew. The directory
 // has a node for each 125 bytes of the bundle, and a unit takes at least 20: tables are forgotten for it at most six times, and each is judged once more then.
-// The words behind it suffice wherever long tables lie apart: all but 127 declarations of a table take at least six bytes, and five words. A table that has no
-// room there even so is judged with all the words for itself.
+// The words behind it suffice wherever long tables lie apart: all but 127 declarations of a table take at least six bytes, and five words. Short tables that
+// lie apart may fill them, but a table that has a root takes more bytes than words: their units have less than a twenty-fifth of the bundle then, and each judges
+// a short table. A table that has no room even in the memory started anew is judged with all the words for itself: only in a bundle of less than 700 bytes.
 //
 // The directory has runs of attributes too, which the units of a root are to walk once: flags that are present take no bytes of a unit, and a root may have very
-// many of them. Their keys are above those of tables. Where the directory has no room for one more, its entries are forgotten.
+// many of them. Their keys are above those of tables. Runs that lie apart do not fill the directory: a run that is noted takes 128 bytes and more, and 31
+// attributes stand in front of it. Where the directory has no room for one more, its entries are forgotten, tables and runs, but for the last table: its units go
+// on without judging it again.
 ghost use Rattle.std.specs.Prelude.{◌≡◌, ◌⊎◌, true, List, ℕ, ◌+◌, ◌*◌, ◌/◌, ◌≤◌, ◌<◌, ◌^◌, ◌-◌, length, take, drop, IfSome};
 ghost use Rattle.unit.specs.Trees.{node_words, Fresh};
 ghost use Rattle.unit.specs.Runs.{Quiet};
@@ -48,7 +51,7 @@ const UNKNOWN: u32 = 1;
 
 const KNOWN: u32 = 2;
 
-// A run of fewer bytes is walked again about as fast as it is found. In a bundle that has a longer one the directory has room for a node.
+// A run of fewer bytes is walked again about as fast as it is found. In a bundle that has one so long the directory has room for a node.
 const WORTH: usize = 128;
 
 // A part of the bundle. It is another type than strings' `Place`, which has start and size: unit stands beside strings and below what uses both, and a
@@ -152,7 +155,7 @@ impl Judged {
     }
 
     // A table that was not judged before: its tree stands behind those of the others. Where it is not held, since it is bad, the directory is full or the words
-    // that are left do not suffice, all is forgotten: some of those words are written over.
+    // that are left do not suffice, all is forgotten: the last table, if it was judged alone, may have stood where words are written over now.
     #[tactic(auto, using(crate::proofs::Holding::entries_room, crate::proofs::Holding::remembers_entries, crate::proofs::Recalling::judged_within, crate::proofs::Cuts::between_length))]
     fn judge_behind(
         &mut self,
@@ -205,7 +208,7 @@ impl Judged {
         }
     }
 
-    // The same, and with all the words for itself where these do not suffice either: the table takes most of the bundle, or the bundle is of few bytes.
+    // The same, and with all the words for itself where these do not suffice either: the table takes most of a bundle of few bytes.
     fn judge_new(
         &mut self,
         b: &[u8],

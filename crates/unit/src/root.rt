@@ -159,9 +159,9 @@ fn attribute_step(
 }
 
 // How many bytes at the front of what is left are passed at once: a run of flags that are present, which take no bytes of the unit. It is asked for before
-// each 32nd attribute, and the attribute behind it is none of them. So of 32 attributes one at least takes a byte, and a unit takes no more turns than some
-// sixty for each of its bytes, however many attributes its root has: 32 for attributes, and as many for a run that is too short to be noted. Only the units
-// of a table that was judged alone walk each run anew, since the directory's words are that table's.
+// each 32nd attribute, and the attribute behind it is none of them. So of 32 attributes one at least takes a byte, and a unit takes no more steps than some
+// hundred for each of its bytes, however many attributes its root has: 32 for attributes, and up to 63 for a run that is too short to be noted. Only the units
+// of a table that was judged alone walk each run anew, since the directory's words are that table's; a bundle that has such a table is short.
 #[tactic(auto, using(crate::proofs::Flags::quiet_none))]
 fn run_behind(walk: Walk, b: &[u8], codes: &mut [u32], judged: &mut Judged) -> usize
     requires { Lies b.now walk.left × Lent b.now codes.old judged.old }

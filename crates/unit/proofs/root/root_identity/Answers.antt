@@ -5,6 +5,7 @@ use native.Mathlib.Omega.{arith}
 use Rattle.bundle.specs.Encoded.{encoding_is}
 use Rattle.unit.specs.Roots.{RootFound}
 use Rattle.unit.proofs.Steps.{leaves}
+use Rattle.unit.proofs.Holding.{lent_kept}
 use Rattle.unit.proofs.Recalling.{known_held, known_rising, known_root}
 use Rattle.unit.proofs.AttributeWalk.{root_within, root_values, root_behind}
 use Rattle.unit.proofs.root.root_identity.Goals as goal
@@ -33,7 +34,7 @@ slice_bounds-identity_in-start c = root_values c.args.b.now c.args.s.now c.in_ok
 pub identity_in-requires : goal.identity_in-requires
 identity_in-requires c =
     let k = c.in_ok-table.ensures in
-    ((root_within _ _ _ _ k.held.lies c.in_ok-root.ensures, k.held.lies.1), record { room = omega (arith, c.requires.1.room, c.recall.auto.codes); small = c.requires.1.small; memory = k.memory })
+    ((root_within _ _ _ _ k.held.lies c.in_ok-root.ensures, k.held.lies.1), lent_kept _ _ _ _ _ c.requires.1 c.recall.auto.codes k.memory)
 
 pub returns-clause-is : goal.returns-clause-is
 returns-clause-is c =
