@@ -5,13 +5,15 @@ use Rattle.octets.specs.Octets.{part, placed}
 use Rattle.octets.specs.Lists.{distinct}
 use Rattle.numbers.specs.Limits.{bundle_limit, work_for_word}
 use Rattle.index.specs.Probing.{Probe, found, absent, first_slot, stride, free_from, search, slots_for, Slots, unused, place_all}
+use Rattle.index.specs.Index.{least_power}
 use Rattle.index.specs.Held.{PowerOfTwo}
 use Rattle.kept.specs.Regions.{Layout, records_region, slots_region, record_words, least_unit, region, Apart}
 use Rattle.kept.specs.Records.{KeptUnit, words_of, record_at, of_table, identities_in, identity_for, row_for, UnitsInside}
 
--- the slots for identities seen: a unit takes at least 5 words of the bundle
+-- the slots for identities seen, a power of two above the most units that n words hold: a unit takes at least 5 words of the bundle. They are not those of an
+-- index, which would be twice as many for most bundles: they are only looked through here
 unfoldable pub seen_slots : ℕ → ℕ
-seen_slots n = slots_for (n / least_unit)
+seen_slots n = least_power (n / least_unit + 2)
 
 -- each number in the slots is that of one of n records
 pub record Within (slots : List ℕ) (n : ℕ) : Type 0 where
