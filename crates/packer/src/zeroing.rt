@@ -41,7 +41,9 @@ pub fn clear_lent(s: &mut [u32])
 }
 
 // ---- the same of bytes
-// So many are a page.
+// Functions of their own: one for both would be over a trait whose `joined` and whose zero each type gives, with the same lines twice there, and its laws over
+// lists of any type.
+// So many bytes are a page.
 const BYTE_PAGE: usize = 4_096;
 
 #[tactic(auto, using(crate::proofs::Zeros::zero_none, crate::proofs::Zeros::zero_one, crate::proofs::Zeros::zero_all))]
