@@ -12,7 +12,7 @@
 // a short table. A table that has no room even in the memory started anew is judged with all the words for itself: only in a bundle of less than 700 bytes.
 //
 // The directory has runs of attributes too, which the units of a root are to walk once: flags that are present take no bytes of a unit, and a root may have very
-// many of them. Their keys are above those of tables. Runs that lie apart do not fill the directory: a run that is noted takes 128 bytes and more, and 31
+// many of them. Their keys are above those of tables. Runs that lie apart do not fill the directory: a run that is noted takes 128 bytes and more, and seven
 // attributes stand in front of it. Where the directory has no room for one more, its entries are forgotten, tables and runs, but for the last table: its units go
 // on without judging it again.
 ghost use Rattle.std.specs.Prelude.{◌≡◌, ◌⊎◌, true, List, ℕ, ◌+◌, ◌*◌, ◌/◌, ◌≤◌, ◌<◌, ◌^◌, ◌-◌, length, take, drop, IfSome};

@@ -34,8 +34,8 @@ const COMPILE_UNIT_TAG: u64 = 0x11;
 
 const TYPE_UNIT_TAG: u64 = 0x41;
 
-// Before each attribute of so many the memory is asked for a run.
-const LONG: usize = 32;
+// Before each attribute of so many a run of flags is asked for: few enough that a unit is quick at hostile roots, and more than the roots of compilers have.
+const EACH: usize = 8;
 
 // An attribute's value: its form, where it starts behind an indirect form, and the bytes that it takes.
 #[derive(Clone, Copy)]
@@ -159,8 +159,8 @@ fn attribute_step(
 }
 
 // How many bytes at the front of what is left are passed at once: a run of flags that are present, which take no bytes of the unit. It is asked for before
-// each 32nd attribute, and the attribute behind it is none of them. So of 32 attributes one at least takes a byte, and a unit takes no more steps than some
-// hundred for each of its bytes, however many attributes its root has: 32 for attributes, and up to 63 for a run that is too short to be noted. Only the units
+// each eighth attribute, and the attribute behind it is none of them. So of eight attributes one at least takes a byte, and a unit takes no more steps than some
+// seventy for each of its bytes, however many attributes its root has: 8 for attributes, and up to 63 for a run that is too short to be noted. Only the units
 // of a table that was judged alone walk each run anew, since the directory's words are that table's; a bundle that has such a table is short.
 #[tactic(auto, using(crate::proofs::Flags::quiet_none))]
 fn run_behind(walk: Walk, b: &[u8], codes: &mut [u32], judged: &mut Judged) -> usize
@@ -168,7 +168,7 @@ fn run_behind(walk: Walk, b: &[u8], codes: &mut [u32], judged: &mut Judged) -> u
     ensures run { (result ≤ walk.left.end - walk.left.at) × Quiet (is_some walk.seen) (take result (drop walk.left.at b.now)) }
     ensures memory { Lent b.now codes.new judged.new }
 {
-    if walk.count % LONG < LONG - 1 {
+    if walk.count % EACH < EACH - 1 {
         return 0;
     }
     judged.pass_run(b, walk.left, walk.seen.is_some(), codes)
