@@ -36,14 +36,18 @@ pub struct Bench {
 /// A packing as long as this is measured once.
 const LONG: Duration = Duration::from_secs(2);
 
-/// Some rounds: at least seven, but fewer where they are long, and more where they are short.
-fn rounds(mut round: impl FnMut() -> Result<()>) -> Result<()> {
+/// What one thing is measured for at least, and what five take that take turns.
+const ALONE: Duration = Duration::from_millis(400);
+const IN_TURNS: Duration = Duration::from_millis(2_000);
+
+/// Some rounds: at least seven and for so long, but fewer where they are long, and more where they are short.
+fn rounds(least: Duration, mut round: impl FnMut() -> Result<()>) -> Result<()> {
     let start = Instant::now();
     round()?;
     for rounds in 1..2_001 {
         let passed = start.elapsed();
-        let enough = passed > Duration::from_millis(400) && rounds >= 7;
-        if enough || passed > Duration::from_secs(4) {
+        let enough = passed > least && rounds >= 7;
+        if enough || passed > 10 * least {
             break;
         }
         round()?;
@@ -54,7 +58,7 @@ fn rounds(mut round: impl FnMut() -> Result<()>) -> Result<()> {
 /// The shortest of them, since all that disturbs makes them longer.
 pub fn shortest(mut round: impl FnMut() -> Result<Duration>) -> Result<Duration> {
     let mut least = Duration::MAX;
-    rounds(|| {
+    rounds(ALONE, || {
         least = least.min(round()?);
         Ok(())
     })?;
@@ -74,12 +78,19 @@ impl Bench {
             return Err(Error::other(format!("refused {} where a package was expected", made.code)));
         }
         let package = made.bytes.to_vec();
-        let ours = timed(&mut self.lent, bundle, package.len(), 0)?;
         let mut headless = bundle.to_vec();
         headless[0] = 2;
-        let clearing = timed(&mut self.lent, &headless, package.len(), 3)?;
-        let zeros = timed(&mut self.zeros, bundle, package.len(), 0)?;
-        let thorin = self.thorin(bundle, &package)?;
+        let is_measure = Bundle::read(bundle).is_some_and(|read| measure(&read) == Measure::Thorin);
+        let mut question = self.oracle.as_mut().filter(|_| is_measure).map(|oracle| Question::new(oracle, bundle));
+        let [mut ours, mut clearing, mut zeros] = [Duration::MAX; 3];
+        // They take turns, so that what disturbs one disturbs the others.
+        rounds(IN_TURNS, || {
+            ours = ours.min(once(&mut self.lent, bundle, package.len(), 0)?);
+            clearing = clearing.min(once(&mut self.lent, &headless, package.len(), 3)?);
+            zeros = zeros.min(once(&mut self.zeros, bundle, package.len(), 0)?);
+            question.as_mut().map_or(Ok(()), |question| question.ask(&package))
+        })?;
+        let thorin = question.map(|question| question.took());
         Ok(Measured { bundle: bundle.len(), items, package: package.len(), ours, clearing, zeros, thorin })
     }
 
@@ -88,34 +99,27 @@ impl Bench {
         let package = self.lent.pack_whole(bundle).map_err(Error::other)?.bytes.to_vec();
         match self.lent.took() {
             took if took > LONG => Ok((took, package)),
-            _ => timed(&mut self.lent, bundle, package.len(), code).map(|took| (took, package)),
+            _ => shortest(|| once(&mut self.lent, bundle, package.len(), code)).map(|took| (took, package)),
         }
     }
 
     /// thorin's time for a bundle that it takes as we do, in which nothing is looked for that says so: that would take long too.
     pub fn taken_alike(&mut self, bundle: &[u8], package: &[u8]) -> Result<Option<Duration>> {
-        self.oracle.as_mut().map(|oracle| difference(oracle, bundle, package)).transpose()
-    }
-
-    /// None where thorin isn't at hand or isn't the measure of the bundle.
-    fn thorin(&mut self, bundle: &[u8], package: &[u8]) -> Result<Option<Duration>> {
-        match Bundle::read(bundle).is_some_and(|read| measure(&read) == Measure::Thorin) {
-            true => self.taken_alike(bundle, package),
-            false => Ok(None),
-        }
+        let Some(oracle) = self.oracle.as_mut() else { return Ok(None) };
+        let mut question = Question::new(oracle, bundle);
+        rounds(ALONE, || question.ask(package))?;
+        Ok(Some(question.took()))
     }
 }
 
 /// Our time for an answer by this number, with work enough.
-fn timed(lent: &mut Lender, bundle: &[u8], output: usize, code: u32) -> Result<Duration> {
+fn once(lent: &mut Lender, bundle: &[u8], output: usize, code: u32) -> Result<Duration> {
     let work = bundle.len() / 4 * WORK_FOR_A_WORD;
-    shortest(|| {
-        let packing = lent.pack(bundle, work, output).map_err(Error::other)?;
-        if packing.code != code {
-            return Err(Error::other(format!("code {} in the place of {code}", packing.code)));
-        }
-        Ok(lent.took())
-    })
+    let packing = lent.pack(bundle, work, output).map_err(Error::other)?;
+    if packing.code != code {
+        return Err(Error::other(format!("code {} in the place of {code}", packing.code)));
+    }
+    Ok(lent.took())
 }
 
 /// The time to clear so many words of junk at once, as a caller would.
@@ -131,19 +135,34 @@ pub fn one_store(words: usize) -> Result<Duration> {
 }
 
 /// The oracle's time for an answer, less that for the same question with a wrong offset width: to that the oracle reads the bundle,
-/// writes an ELF file for each object and stops before it calls thorin. The two take turns, so that what disturbs one disturbs the other.
-fn difference(oracle: &mut Oracle, bundle: &[u8], package: &[u8]) -> Result<Duration> {
-    let mut without = bundle.to_vec();
-    without[5] = 0;
-    // An index whose slots thorin counts otherwise is not compared here.
-    let right = |answer: &[u8]| by_thorins(answer, package).is_some_and(|wanted| wanted == package);
-    let (mut whole, mut before) = (Duration::MAX, Duration::MAX);
-    rounds(|| {
-        whole = whole.min(asked(oracle, bundle, 0, right)?);
-        before = before.min(asked(oracle, &without, 1, |answer| answer == b"bundle: offset width")?);
+/// writes an ELF file for each object and stops before it calls thorin. The two take turns.
+struct Question<'a> {
+    oracle: &'a mut Oracle,
+    bundle: &'a [u8],
+    without: Vec<u8>,
+    whole: Duration,
+    before: Duration,
+}
+
+impl<'a> Question<'a> {
+    fn new(oracle: &'a mut Oracle, bundle: &'a [u8]) -> Question<'a> {
+        let mut without = bundle.to_vec();
+        without[5] = 0;
+        Question { oracle, bundle, without, whole: Duration::MAX, before: Duration::MAX }
+    }
+
+    fn ask(&mut self, package: &[u8]) -> Result<()> {
+        // An index whose slots thorin counts otherwise is not compared here.
+        let right = |answer: &[u8]| by_thorins(answer, package).is_some_and(|wanted| wanted == package);
+        self.whole = self.whole.min(asked(self.oracle, self.bundle, 0, right)?);
+        let stopped = |answer: &[u8]| answer == b"bundle: offset width";
+        self.before = self.before.min(asked(self.oracle, &self.without, 1, stopped)?);
         Ok(())
-    })?;
-    Ok(whole.saturating_sub(before))
+    }
+
+    fn took(&self) -> Duration {
+        self.whole.saturating_sub(self.before)
+    }
 }
 
 /// The oracle's time for a question whose answer is known.

@@ -401,7 +401,8 @@ mod tests {
     fn the_text_and_the_figures_belong_together() {
         let took = Duration::from_millis(3);
         let (ours, half) = (took, took / 2);
-        let one = || Measured { bundle: 44, items: 1, package: 112, ours, clearing: half, zeros: half, thorin: Some(took) };
+        let one =
+            || Measured { bundle: 44, items: 1, package: 112, ours, clearing: half, zeros: half, thorin: Some(took) };
         let growth = |name| Growth { name, items: "units", measured: vec![one(), one(), one()] };
         let process = |ms| Process { time: took * ms, kilobytes: 2048 };
         let ran = |program, ms| Ran { version: 4, program, ended: Ended::Well(process(ms)), verified: Some(true) };
@@ -431,7 +432,8 @@ mod tests {
             sheet: Sheet { package: 9, sheet: 40, took, stored: took, by_slots: took, plain: took, copied: took },
         };
         let text = paper.to_string();
-        let row = "| document 01's example | 44 | 1 unit | 112 | 3.00 ms | 1.50 ms | 1.50 ms | 3.00 ms | 1.00 | 0.50 |\n";
+        let row =
+            "| document 01's example | 44 | 1 unit | 112 | 3.00 ms | 1.50 ms | 1.50 ms | 3.00 ms | 1.00 | 0.50 |\n";
         assert!(text.contains(row), "{text}");
         assert!(text.contains("They are 1,000; 2,100: times the one before, 2.10."), "{text}");
         assert!(text.contains("| some | 12 | 3.00 ms |\n") && !text.contains("\n\n\n"), "{text}");

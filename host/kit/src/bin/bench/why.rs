@@ -8,7 +8,10 @@ const WHY: [(&str, &str); 7] = [
         "a package of version 4 as input",
         "a third of the call or more is clearing what was lent; each row is read, judged and written",
     ),
-    ("many names with common prefixes", "half of the call and more is clearing; each name is read to its zero, hashed and compared"),
+    (
+        "many names with common prefixes",
+        "half of the call and more is clearing; each name is read to its zero, hashed and compared",
+    ),
     ("many different strings", "the index and the rows are spread over more memory than the caches have"),
     ("a real release, version 4", REAL),
     ("a real release, version 5", REAL),
