@@ -1,7 +1,7 @@
 //! A real release just below the limit: the bundles of its files packed in one call, and the files by whole processes, ours and others.
 
 use super::measure::{Bench, Measured};
-use super::process::{run, Ended, Process};
+use super::process::{run, Ended};
 use std::fs;
 use std::io::{Error, Result};
 use std::path::{Path, PathBuf};
@@ -84,63 +84,98 @@ fn files_of(sources: &Sources, version: u32, home: &Path) -> Result<Vec<PathBuf>
     Ok(files)
 }
 
-/// The shortest of some runs, or the first that ended otherwise.
-fn shortest(mut command: impl FnMut() -> Result<Command>) -> Result<Ended> {
-    let mut least: Option<Process> = None;
-    for _ in 0..RUNS {
-        match run(&mut command()?, PATIENCE)? {
-            Ended::Well(process) => least = Some(least.filter(|l| l.time <= process.time).unwrap_or(process)),
-            otherwise => return Ok(otherwise),
-        }
-    }
-    least.map(Ended::Well).ok_or_else(|| Error::other("no run"))
-}
-
 fn told(program: &str, version: u32, ended: &Ended) {
     let Ended::Well(process) = ended else { return println!("{program}, version {version}: no good end") };
     println!("{program}, version {version}: {:?}, {} kB", process.time, process.kilobytes);
 }
 
-/// A program that takes the files and writes a package as an ELF file.
-fn over_files(sources: &Sources, ran: (&'static str, u32), files: &[PathBuf], out: &Path) -> Result<Option<Ran>> {
-    let (program, version) = ran;
-    let ours = program == "barthovin pack";
-    let path = if ours { sources.barthovin } else { Path::new(program) };
-    let command = || {
-        let mut command = Command::new(path);
-        command.args(ours.then_some("pack")).args(files).arg("-o").arg(out);
-        Ok(command)
-    };
-    let ended = match shortest(command) {
-        Err(error) if error.kind() == std::io::ErrorKind::NotFound => {
-            println!("{program} is not at hand");
-            return Ok(None);
-        }
-        ended => ended?,
-    };
-    let verify = || Command::new(sources.barthovin).arg("verify").arg(out).args(files).output();
-    let verified = match ended {
-        Ended::Well(_) => Some(verify()?.status.success()),
-        _ => None,
-    };
-    told(program, version, &ended);
-    Ok(Some(Ran { version, program, ended, verified }))
+/// A program that is run again and again, and what came of it: the shortest run, or the first that ended otherwise.
+struct Runner {
+    program: &'static str,
+    command: Command,
+    /// What it reads, where it does.
+    question: Option<PathBuf>,
+    /// Whether its package is an ELF file that is to be verified.
+    writes: bool,
+    ended: Option<Ended>,
 }
 
-/// thorin by the oracle, over the bundle: it makes an ELF file of each object first.
-fn over_bundle(sources: &Sources, version: u32, home: &Path) -> Result<Option<Ran>> {
-    let Some(oracle) = sources.oracle else { return Ok(None) };
-    let bundle = unpacked(&sources.folder.join(format!("gcc-v{version}.bundle.xz")))?;
-    let question = home.join("question");
-    fs::write(&question, [&(bundle.len() as u32).to_le_bytes(), &bundle[..]].concat())?;
-    let ended = shortest(|| {
+impl Runner {
+    /// A program that takes the files and writes a package as an ELF file.
+    fn over_files(program: &'static str, sources: &Sources, files: &[PathBuf], out: &Path) -> Runner {
+        let ours = program == "barthovin pack";
+        let mut command = Command::new(if ours { sources.barthovin } else { Path::new(program) });
+        command.args(ours.then_some("pack")).args(files).arg("-o").arg(out);
+        Runner { program, command, question: None, writes: true, ended: None }
+    }
+
+    /// thorin by the oracle, over the bundle: it makes an ELF file of each object first.
+    fn over_bundle(oracle: &str, sources: &Sources, version: u32, home: &Path) -> Result<Runner> {
+        let bundle = unpacked(&sources.folder.join(format!("gcc-v{version}.bundle.xz")))?;
+        let question = home.join("question");
+        fs::write(&question, [&(bundle.len() as u32).to_le_bytes(), &bundle[..]].concat())?;
         let mut command = Command::new(oracle);
-        command.arg("--batch").stdin(fs::File::open(&question)?);
-        Ok(command)
-    })?;
-    let program = "thorin, by the oracle";
-    told(program, version, &ended);
-    Ok(Some(Ran { version, program, ended, verified: None }))
+        command.arg("--batch");
+        let program = "thorin, by the oracle";
+        Ok(Runner { program, command, question: Some(question), writes: false, ended: None })
+    }
+
+    /// Once more; false where it is not at hand.
+    fn run(&mut self) -> Result<bool> {
+        if let Some(question) = &self.question {
+            self.command.stdin(fs::File::open(question)?);
+        }
+        let ended = match run(&mut self.command, PATIENCE) {
+            Err(error) if error.kind() == std::io::ErrorKind::NotFound => {
+                println!("{} is not at hand", self.program);
+                return Ok(false);
+            }
+            ended => ended?,
+        };
+        self.ended = match (self.ended.take(), ended) {
+            (None | Some(Ended::Well(_)), otherwise @ (Ended::Badly | Ended::Never(_))) => Some(otherwise),
+            (Some(Ended::Well(least)), Ended::Well(process)) if least.time <= process.time => Some(Ended::Well(least)),
+            (None | Some(Ended::Well(_)), ended) => Some(ended),
+            (otherwise, _) => otherwise,
+        };
+        Ok(true)
+    }
+
+    /// Whether it has run, and is to run no more.
+    fn is_done(&self) -> bool {
+        matches!(self.ended, Some(Ended::Badly | Ended::Never(_)))
+    }
+}
+
+/// All programs over the files of a version. They take turns, so that what disturbs one disturbs the others.
+fn of_version(sources: &Sources, version: u32) -> Result<Vec<Ran>> {
+    let home = Home::new()?;
+    let files = files_of(sources, version, &home.0)?;
+    let out = |program: &str| home.0.join(format!("{program}.dwp"));
+    let programs = ["barthovin pack", "dwp", "llvm-dwp"];
+    let mut runners: Vec<Runner> =
+        programs.iter().map(|program| Runner::over_files(program, sources, &files, &out(program))).collect();
+    if let Some(oracle) = sources.oracle {
+        runners.push(Runner::over_bundle(oracle, sources, version, &home.0)?);
+    }
+    for _ in 0..RUNS {
+        let mut at_hand = Vec::new();
+        for mut runner in runners {
+            if runner.is_done() || runner.run()? {
+                at_hand.push(runner);
+            }
+        }
+        runners = at_hand;
+    }
+    let ran = |runner: Runner| {
+        let ended = runner.ended.ok_or_else(|| Error::other("no run"))?;
+        let wrote = runner.writes && matches!(ended, Ended::Well(_));
+        let verify = || Command::new(sources.barthovin).arg("verify").arg(out(runner.program)).args(&files).output();
+        let verified = if wrote { Some(verify()?.status.success()) } else { None };
+        told(runner.program, version, &ended);
+        Ok(Ran { version, program: runner.program, ended, verified })
+    };
+    runners.into_iter().map(ran).collect()
 }
 
 /// All programs over both versions. A child's memory is counted from its parent's when it starts, so that this comes before all that takes
@@ -148,12 +183,7 @@ fn over_bundle(sources: &Sources, version: u32, home: &Path) -> Result<Option<Ra
 pub fn processes(sources: &Sources) -> Result<Vec<Ran>> {
     let mut all = Vec::new();
     for version in VERSIONS {
-        let home = Home::new()?;
-        let files = files_of(sources, version, &home.0)?;
-        for program in ["barthovin pack", "dwp", "llvm-dwp"] {
-            all.extend(over_files(sources, (program, version), &files, &home.0.join("out.dwp"))?);
-        }
-        all.extend(over_bundle(sources, version, &home.0)?);
+        all.extend(of_version(sources, version)?);
     }
     Ok(all)
 }
