@@ -18,7 +18,7 @@ INSTALL ?= install
 .PHONY: help test library host pack-example real-files readers command install uninstall clean fmt oracle differential hostile string-index bench
 
 help:
-	@echo 'make pack-example   packs two .dwo files and document 01'"'"'s example, verifies, lists and looks up in their packages'
+	@echo 'make pack-example   packs two .dwo files and the example of docs/FORMAT.md, verifies, lists and looks up in their packages'
 	@echo 'make real-files     compiles small sources with gcc and clang, and reads, packs, verifies and lists the .dwo files'
 	@echo 'make readers        packs small programs and has llvm-dwarfdump, readelf, lldb and gdb open the packages, where they are at hand'
 	@echo 'make library        proves the packer and writes target/staticlib/libbarthovin.a, for C or Rust on x86-64'
@@ -78,7 +78,7 @@ host: library
 	test "$$(cat "$$out.status")" = 0 || exit 1; \
 	awk '/^test result: ok/ { passed += $$4; failed += $$6 } END { print "tests of the host: " passed " passed, " failed + 0 " failed" }' "$$out"
 
-# Packs two files of gcc, verifies the package, lists it and looks a string up in it. Then document 01's example, with the words of its package.
+# Packs two files of gcc, verifies the package, lists it and looks a string up in it. Then the example of docs/FORMAT.md, with the words of its package.
 barthovin = host/target/release/barthovin
 two-files = examples/real/files/gcc-5-main.dwo examples/real/files/gcc-5-race.dwo
 pack-example: command

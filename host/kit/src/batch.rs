@@ -1,4 +1,4 @@
-//! Document 02's ticket 12 in plain Rust: each answer is the reference's single lookup.
+//! Many questions (FORMAT 7.5) in plain Rust: each answer is the reference's single lookup.
 
 use crate::reference::{lookup, Found};
 

@@ -1,4 +1,4 @@
-//! Demand 3 on what runs: through C, everything that a bundle hands in is found in its package, and nothing else. What must be found is
+//! The theorem on what runs: through C, everything that a bundle hands in is found in its package, and nothing else. What must be found is
 //! read from the bundle as it was handed in, and the looks are counted here, so that neither packer nor lookups have a say in it.
 
 use crate::generate::Random;
@@ -14,7 +14,7 @@ const STR: u32 = 11;
 const OTHER_VERSION: u32 = 22;
 const NO_ENTRY: u32 = 25;
 
-/// The slots of one table by ticket 3's rule and document 01's placing: the identity in each, none where it is unused.
+/// The slots of one table (FORMAT 5.4): the identity in each, none where it is unused.
 pub struct Slots(pub Vec<Option<u64>>);
 
 /// The place in which an identity is looked for first, and the next ones.

@@ -1,6 +1,6 @@
-//! Document 02's ticket 2 in plain Rust: an ELF64 file read, and the bundle of its debug sections written, with every refusal.
+//! FORMAT 8.2 in plain Rust: an ELF64 file read, and the bundle of its debug sections written, with every refusal.
 //!
-//! It is written from document 02 and the readings T2-a to T2-g in docs/DECISIONS.md, and shares no code with the proved definitions.
+//! It is written from the rules alone, and shares no code with the proved definitions.
 
 use crate::reference::{number, Packed};
 

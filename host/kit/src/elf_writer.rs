@@ -1,6 +1,6 @@
-//! Document 02's ticket 9 in plain Rust: a package written as an ELF64 file, with every refusal.
+//! FORMAT 8.3 in plain Rust: a package written as an ELF64 file, with every refusal.
 //!
-//! It is written from document 02 and the reading T9, and shares no code with the proved definitions.
+//! It is written from the rule alone, and shares no code with the proved definitions.
 
 use crate::elf::NAMES;
 use crate::reference::{lookup, Bundle, Found, Packed};

@@ -1,10 +1,10 @@
 //! The kit that tests and times the verified packer from outside.
 //!
-//! `reference` says what document 01 says, in plain Rust. `vectors` reads questions with their answers, `generate` makes questions
+//! `reference` says what docs/FORMAT.md says, in plain Rust. `vectors` reads questions with their answers, `generate` makes questions
 //! without end, `lender` lends memory to the proved functions again and again and judges it after each call, and `handed_in` reads
 //! from a bundle what must be found in its package, which `claim` asks for. `oracle` asks thorin where it is at hand, `measured` says of
-//! which bundles its package is the measure, and `sample` keeps some of its answers; `clock` is for timing. `elf` reads ELF files as
-//! document 02 says, and `elf_writer` writes them. `sittings` packs in two sittings.
+//! which bundles its package is the measure, and `sample` keeps some of its answers; `clock` is for timing. `elf` reads ELF files,
+//! and `elf_writer` writes them. `sittings` packs in two sittings.
 
 pub mod batch;
 pub mod claim;

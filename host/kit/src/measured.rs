@@ -8,7 +8,7 @@
 //! bytes, headers of further parts among it, and it fails where the section is there and empty. So packages of version 5 with several
 //! parts, and those with an empty section, are measured by the standard alone.
 //!
-//! Since ticket 3 a table of 3, 11, 43, 171 and so on units has twice the slots that thorin gives it. There the reference alone judges the
+//! A table of 3, 11, 43, 171 and so on units has twice the slots that thorin gives it (FORMAT 5.4). There the reference alone judges the
 //! index; all else in the package is compared with thorin's.
 
 use crate::generate::{Draft, DraftObject};
@@ -68,7 +68,7 @@ fn is_in_step(bundle: &Bundle) -> bool {
     })
 }
 
-/// thorin's rule, which was document 01's: the least power of two not below 3n/2 rounded down, and 2 for fewer than two units.
+/// thorin's rule: the first power of two that reaches 3n/2 rounded down, and 2 for fewer than two units.
 fn thorins_slots(units: usize) -> usize {
     if units < 2 {
         2
@@ -88,7 +88,7 @@ pub fn other_slots(package: &Bundle) -> Vec<u32> {
 }
 
 /// What a package must be by thorin's: all of thorin's, but for the indexes whose slots it counts otherwise, which are taken from a package of
-/// the same bundle that was made by ticket 3's rule. None where thorin's isn't a package or lacks such an index.
+/// the same bundle that was made by the rule of FORMAT 5.4. None where thorin's isn't a package or lacks such an index.
 pub fn by_thorins(thorins: &[u8], by_the_rule: &[u8]) -> Option<Vec<u8>> {
     let (thorins_own, ours) = (Bundle::read(thorins)?, Bundle::read(by_the_rule)?);
     let others = other_slots(&ours);

@@ -1,4 +1,4 @@
-//! The archive profile in plain Rust: document 02's ticket 13, by the reference's reading of packages.
+//! The archive profile (FORMAT 10) in plain Rust, by the reference's reading of packages.
 
 use crate::reference::{lookup, number, Bundle, Found, Index};
 

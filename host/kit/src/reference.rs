@@ -1,6 +1,6 @@
-//! Document 01 in plain Rust: packing and both lookups, with every refusal.
+//! docs/FORMAT.md in plain Rust: packing and both lookups, with every refusal.
 //!
-//! It is written from document 01 and the readings in docs/DECISIONS.md and shares no code with the proved definitions;
+//! It is written from the rules, which docs/FORMAT.md has and docs/DECISIONS.md gives reasons for, and shares no code with the proved definitions;
 //! docs/PROOF.md says which of them its author had seen. It is meant to be read, not to be fast.
 
 mod abbreviations;

@@ -5,8 +5,8 @@
 //! refused NUMBER BUNDLE = package | error TEXT | panic TEXT
 //! ```
 //!
-//! Bundles and bytes are hexadecimal. A bundle that document 01 accepts has thorin's package; one that it refuses has document
-//! 01's number and what thorin did.
+//! Bundles and bytes are hexadecimal. A bundle that packing accepts has thorin's package; one that it refuses has our
+//! number and what thorin did.
 
 #[derive(Clone, Debug, PartialEq, Eq)]
 pub enum Told {

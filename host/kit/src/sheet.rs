@@ -1,4 +1,4 @@
-//! Document 02's ticket 6 in plain Rust: the index on a page, by the reference's reading of packages.
+//! The sheet (FORMAT 9) in plain Rust: the index on a page, by the reference's reading of packages.
 
 use crate::reference::{lookup, number, Bundle, Found, Index};
 

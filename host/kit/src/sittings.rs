@@ -1,5 +1,5 @@
-//! Document 02's ticket 10, packing in two sittings: if the first objects of a bundle are packed, and their package's object followed by the
-//! other objects is packed again, and both are accepted, then all objects packed together give the same package.
+//! Packing in two sittings (FORMAT 6.11): the first objects of a bundle are packed, then their package's object and the other ones. Where both are
+//! accepted, all objects at once give the second package.
 //!
 //! Generated bundles are split at every object, damaged ones too: that all objects together are accepted is what must come out. Who packs
 //! is handed in, so that a wrong packer can be tried as well.

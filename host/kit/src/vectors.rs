@@ -1,10 +1,10 @@
-//! Lines of tests/vectors: a question, and the answer that document 01 gives.
+//! Lines of tests/vectors: a question, and the answer that the rules give.
 
 use crate::reference::{Found, Packed, Skipped};
 
 #[derive(Clone, Debug, PartialEq, Eq)]
 pub enum Vector {
-    /// Since ticket 11 with what was skipped.
+    /// In some files with what was skipped.
     Pack {
         bundle: Vec<u8>,
         work: usize,
@@ -36,7 +36,7 @@ pub fn bytes(text: &str) -> Option<Vec<u8>> {
     (0..digits.len()).step_by(2).map(|i| u8::from_str_radix(digits.get(i..i + 2)?, 16).ok()).collect()
 }
 
-/// The bytes of words in hexadecimal, as document 01 writes them.
+/// The bytes of words in hexadecimal.
 pub fn words(text: &str) -> Option<Vec<u8>> {
     let word = |w| u32::from_str_radix(w, 16).ok().map(u32::to_le_bytes);
     Some(text.split_whitespace().map(word).collect::<Option<Vec<_>>>()?.concat())

@@ -7,8 +7,8 @@
 //! 3. each index has a column for each shared section that isn't empty (else 15).
 //!
 //! 2 holds where all units are kept and each object that has str_offsets has a unit, if no object is a package itself. It fails where an
-//! object's units are all skipped, and where an input package names a part only in rows that no unit needs: such a part is joined, as
-//! document 01 has it, and no row of the package names it. 3 fails where no unit of a table has a part of a section that others have.
+//! object's units are all skipped, and where an input package names a part only in rows that no unit needs: such a part is joined all
+//! the same, and no row of the package names it. 3 fails where no unit of a table has a part of a section that others have.
 
 use kit::generate::{good, Draft, Random};
 use kit::handed_in::{all, firsts, pieces};

@@ -1,4 +1,4 @@
-//! Demand 3 on what runs, where much is asked of each package; and packing with one lookup in one call.
+//! The theorem on what runs, where much is asked of each package; and packing with one lookup in one call.
 
 use barthovin::answer::Asked as Question;
 use barthovin::ffi;
@@ -93,7 +93,7 @@ fn holds_only(output: &[u8], package: &[u8]) -> bool {
     output.strip_prefix(package).is_some_and(|behind| behind.iter().all(|b| *b == 0))
 }
 
-/// One call, whose contract is demand 3 for one question, answers as two do, whatever work and output held.
+/// One call, whose contract is the theorem for one question, answers as two do, whatever work and output held.
 #[test]
 fn one_call_answers_as_two() {
     let mut random = Random::new(32);
@@ -134,9 +134,9 @@ fn crowded_tables() {
     assert!(claim.counts.most_looks > 100, "{:?}", claim.counts);
 }
 
-/// Document 01's list, with ticket 3's slots for 3 and 11: n to slots, and where 1 and 5 lie and 9 does not.
+/// The examples of FORMAT 5.4 and 5.5: slots for so many units, where 1 and 5 lie, and where 9 doesn't.
 #[test]
-fn the_counting_is_that_of_the_documents() {
+fn the_counting_is_that_of_the_page() {
     for (units, slots) in [(1, 2), (2, 4), (3, 8), (4, 8), (5, 8), (6, 16), (11, 32), (12, 32)] {
         assert_eq!(Slots::of(&(1..=units).collect::<Vec<_>>()).0.len(), slots);
     }

@@ -1,4 +1,4 @@
-//! docs/DIFFERENCES.md is true of document 01 and of the proved packer: each input with words gets its section's number, or is accepted
+//! docs/DIFFERENCES.md is true of the reference and of the proved packer: each input with words gets its section's number, or is accepted
 //! where it says so.
 
 use kit::lender::Lender;

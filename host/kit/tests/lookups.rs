@@ -83,7 +83,7 @@ fn every_short_string() {
     }
 }
 
-/// Document 01's example: one version 5 unit of identity 1, with a part of info and of abbrev.
+/// The example of FORMAT 14: one version 5 unit of identity 1, with a part of info and of abbrev.
 fn example() -> Vec<u8> {
     let bundle = [0xF000_0000, 0x1008_0405, 0x2080_0014, 0x10, 0x0805_0005, 0, 1, 0, 0x2180_0001, 0, 0x3000_000B];
     match pack(&words(&bundle), 220, 112) {

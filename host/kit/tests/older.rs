@@ -1,4 +1,4 @@
-//! Tables of the rule before ticket 3 are read as they were: 3 units in 4 slots are looked up, and their package is an input.
+//! Tables of the older rule of slots are read as they were: 3 units in 4 slots are looked up, and their package is an input.
 
 use barthovin::ffi;
 use kit::lender::Lender;
@@ -11,7 +11,7 @@ const OLDER: &str =
     "F0000000 10080404 2080003C 10 4 1080000 1 0 10 4 1080000 5 0 10 4 1080000 9 0 21800009 B1001101 742 0
     26000078 2 2 3 4 0 0 1 0 5 0 9 0 0 1 2 3 1 3 0 0 14 0 28 0 14 9 14 9 14 9 30000036";
 
-/// The identities in the slots that ticket 3 gives these units.
+/// The identities in the slots that these units get today.
 const SLOTS: [u64; 8] = [0, 1, 9, 0, 0, 5, 0, 0];
 
 #[test]
@@ -41,7 +41,7 @@ fn an_older_table_is_an_input() {
     assert_eq!((written.code, written.bytes), (0, &newer[..]));
 }
 
-/// The documents' rule, and where document 01's was another: n of which three times is one more than a power of two.
+/// The rule, and where the older one had half as many slots: n of which three times is one more than a power of two.
 #[test]
 fn slots_by_the_rule() {
     for units in 0..1 << 18 {

@@ -1,4 +1,4 @@
-//! thorin's answers, as kept in oracle/sample.txt, through the proved packer: where document 01 accepts, thorin's package byte
+//! thorin's answers, as kept in oracle/sample.txt, through the proved packer: where packing accepts, thorin's package byte
 //! for byte, but for an index whose slots thorin counts otherwise, which is the reference's; where it refuses, the number kept.
 
 use kit::lender::Lender;
@@ -83,7 +83,7 @@ fn answers_as_thorin() {
     assert!(faults.is_empty(), "{} differ; the first: {}", faults.len(), faults[0]);
 }
 
-/// Where thorin packs what document 01 refuses, that is by design; where the fault is of these kinds it never does.
+/// Where thorin packs what is refused here, that is by design; where the fault is of these kinds it never does.
 #[test]
 fn thorin_packs_no_missing_section_lost_string_or_second_unit() {
     for told in sample() {

@@ -129,7 +129,7 @@ fn replay(text: &str, lines: usize) {
 
 #[test]
 fn vectors() {
-    replay(include_str!("vectors/pack-t08.txt"), 449);
+    replay(include_str!("vectors/pack-inputs.txt"), 449);
 }
 
 #[test]
@@ -139,7 +139,7 @@ fn directed_vectors() {
 
 #[test]
 fn vectors_with_repeats_and_namesakes() {
-    replay(include_str!("vectors/pack-t11.txt"), 437);
+    replay(include_str!("vectors/pack-counted.txt"), 437);
 }
 
 /// Some length of work or output: none, one less than needed, as needed, more.
@@ -261,7 +261,7 @@ fn the_same_over_any_junk() {
     }
 }
 
-/// Document 01's example.
+/// The example of FORMAT 14.
 const EXAMPLE: &str = "F0000000 10080405 20800014 10 8050005 0 1 0 21800001 0 3000000B";
 
 /// A version 4 object that is a package: one unit, whose identity stands in its root, an abbrev of 9 bytes and an index.

@@ -1,4 +1,4 @@
-//! Demand 3 of the reference: what an accepted bundle hands in is what the lookups find in its package, and nothing else.
+//! The theorem of the reference: what an accepted bundle hands in is what the lookups find in its package, and nothing else.
 
 use kit::generate::{good, Random};
 use kit::reference::{

@@ -35,12 +35,12 @@ fn check(text: &str, lines: usize) {
 
 #[test]
 fn pack_vectors() {
-    check(include_str!("vectors/pack-t08.txt"), 449);
+    check(include_str!("vectors/pack-inputs.txt"), 449);
 }
 
 #[test]
 fn vectors_with_repeats_and_namesakes() {
-    check(include_str!("vectors/pack-t11.txt"), 437);
+    check(include_str!("vectors/pack-counted.txt"), 437);
 }
 
 #[test]

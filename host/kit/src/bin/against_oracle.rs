@@ -38,7 +38,7 @@ const ENOUGH: u64 = 1_000;
 /// Few identities that no unit has are asked for, since there are many packages.
 const TURNS: usize = 1;
 
-/// What was seen: how often thorin gave each kind of answer, by document 01's number, and for accepted bundles by their measure.
+/// What was seen: how often thorin gave each kind of answer, by our number, and for accepted bundles by their measure.
 #[derive(Default)]
 struct Tally {
     counts: BTreeMap<u32, [u64; 3]>,

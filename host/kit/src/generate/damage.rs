@@ -1,4 +1,4 @@
-//! Damage to good bundles: of the kind that document 01's refusals are about, and any.
+//! Damage to good bundles: of the kinds that refusals are about, and any.
 
 use super::objects::{Draft, DraftObject};
 use super::random::Random;

@@ -1,4 +1,4 @@
-//! "The bundle handed in": its words, and a bundle written.
+//! A bundle (FORMAT 2): its words, and a bundle written.
 
 use super::bytes::number;
 

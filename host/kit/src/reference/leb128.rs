@@ -1,4 +1,4 @@
-//! LEB128 numbers with document 01's limits. Each reader gives the value and how many bytes it took.
+//! LEB128 numbers with the limits of FORMAT 3.8. Each reader gives the value and how many bytes it took.
 
 /// The 7-bit groups, lowest first, of a number of at most `most` bytes.
 fn groups(bytes: &[u8], most: usize) -> Option<(u128, usize)> {

@@ -1,4 +1,4 @@
-//! "Units and their identities": a unit read from the part of its section that starts at it.
+//! A unit (FORMAT 3), read at the front of what is left of its section.
 
 use super::abbreviations;
 use super::bundle::Encoding;

@@ -20,7 +20,7 @@ Every command takes
   -V, --version   show the version and exit
 
 Exit status: 0 done; 1 refused, absent or not verified; 2 a wrong call, or a file that can't be read or written.
-A refusal is a number with its meaning; README.md has the list.";
+A refusal is a number with its meaning; docs/FORMAT.md has the list.";
 
 const BUNDLE: &str = "\
 Usage: barthovin bundle [OPTION]... FILE -o BUNDLE

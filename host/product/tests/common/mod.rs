@@ -8,7 +8,7 @@ use std::process::{Command, Output, Stdio};
 
 pub const EXAMPLE: &str = concat!(env!("CARGO_MANIFEST_DIR"), "/../../examples/one-unit.bundle");
 
-/// Document 01's bundle of one version 5 unit, of identity 1, and its package.
+/// The example of FORMAT 14: a bundle of one version 5 unit, of identity 1, and its package.
 pub const BUNDLE: &str =
     "F0000000 10080405 20800014 00000010 08050005 00000000 00000001 00000000 21800001 00000000 3000000B";
 pub const PACKAGE: &str =

@@ -36,7 +36,7 @@ const LAST_OF: (u64, u64) = (5_000, 100_000);
 /// What comes after a packing of this length is left out.
 const PATIENCE: Duration = Duration::from_secs(8);
 
-/// Document 01's example.
+/// The example of FORMAT 14.
 fn example() -> Vec<u8> {
     let words: [u32; 11] =
         [0xF000_0000, 0x1008_0405, 0x2080_0014, 0x10, 0x0805_0005, 0, 1, 0, 0x2180_0001, 0, 0x3000_000B];
