@@ -22,7 +22,7 @@ const SHARED: std::ops::RangeInclusive<u32> = 3..=10;
 /// Why thorin is or isn't the measure of an accepted bundle.
 #[derive(Clone, Copy, Debug, PartialEq, Eq)]
 pub enum Measure {
-    /// All rows of kept units are in step, thorin reads the same identities, and no package of version 5 is of the kinds below.
+    /// All rows of kept units are in step (FORMAT 1.3), thorin reads the same identities, and no package of version 5 is of the kinds below.
     Thorin,
     /// Some package of version 5 has several parts of str_offsets.
     SeveralParts,
