@@ -131,6 +131,48 @@ fn every_refusal_has_its_rule_and_its_definition() {
     }
 }
 
+/// The cells of the table rows in a section of the page, but for the table's head.
+fn cells(section: &str) -> Vec<Vec<String>> {
+    let page = read("docs/FORMAT.md");
+    let text = page.split(&format!("\n### {section} ")).nth(1).unwrap().split("\n#").next().unwrap();
+    let row = |line: &str| {
+        let inner = line.strip_prefix("| ")?.trim_end_matches('|').trim_end();
+        Some(inner.split('|').map(|cell| cell.trim().trim_matches('`').to_string()).collect())
+    };
+    text.lines().filter_map(row).skip(1).collect()
+}
+
+/// Sections, columns and forms, as the program `archive_tables` works them out and the gate compares them.
+#[test]
+fn the_pages_tables_are_those_that_are_printed() {
+    let printed = read("crates/archive_tables/stdout");
+    let lines: Vec<&str> = printed.lines().collect();
+    let mut sections: Vec<(u32, String)> = Vec::new();
+    for row in cells("2.2") {
+        let pairs = row.chunks(2).filter(|pair| pair.len() == 2 && !pair[0].is_empty());
+        sections.extend(pairs.map(|pair| (pair[0].parse().unwrap(), pair[1].clone())));
+    }
+    sections.sort();
+    let told: Vec<String> = sections.iter().map(|(code, name)| format!("{code} {name}")).collect();
+    assert_eq!(told, lines[..13]);
+
+    let columns = cells("5.2");
+    let of_form = |form: u32, place: usize| {
+        let has = columns.iter().filter(move |row| row.get(place).is_some_and(|column| !column.is_empty()));
+        has.map(move |row| format!("{form} {} {}", row[1], row[place])).collect::<Vec<_>>()
+    };
+    assert_eq!([of_form(2, 2), of_form(5, 3)].concat(), lines[13..28]);
+
+    let mut forms = Vec::new();
+    for row in cells("3.9") {
+        let pairs = row.chunks(2).filter(|pair| pair.len() == 2 && !pair[0].is_empty());
+        let form = |pair: &[String]| u32::from_str_radix(pair[0].split(' ').next().unwrap(), 16).unwrap();
+        forms.extend(pairs.map(|pair| format!("{:04X} {}", form(pair), pair[1])));
+    }
+    forms.sort();
+    assert_eq!(forms, lines[28..]);
+}
+
 /// Whether a line, in small letters, names a paper that isn't part of the repository. The words are written in halves, so that this file names none.
 fn names_a_paper(line: &str) -> bool {
     let behind = |word: &str, digits: &[u8]| {
