@@ -4,6 +4,7 @@ mod add;
 mod bundle;
 mod call;
 mod files;
+mod guard;
 mod help;
 mod input;
 mod list;
@@ -16,10 +17,12 @@ mod progress;
 mod sheet;
 mod show;
 mod stop;
+mod streams;
 mod verify;
 
 pub use meaning::meaning;
 pub use show::escaped;
+pub use streams::look;
 
 use std::ffi::OsString;
 use stop::Stop;

@@ -3,7 +3,7 @@
 use super::add::{self, Added, Earlier};
 use super::call::{Call, Known};
 use super::files::{join, listed, refused_call, Joined};
-use super::{input, output, progress, show, Stop, DONE};
+use super::{guard, input, output, progress, show, Stop, DONE};
 use crate::elf;
 use crate::explain::{self, Names};
 use crate::ffi::{self, Skipped};
@@ -20,10 +20,11 @@ const OTHER_MACHINE: u32 = 36;
 /// A long bundle: what its packing takes counts.
 const LONG: usize = 1 << 20;
 
-const OPTIONS: [Known; 6] = [
+const OPTIONS: [Known; 7] = [
     Known { long: "output", short: Some(b'o'), value: true },
     Known { long: "add", short: None, value: true },
     Known { long: "elf", short: None, value: false },
+    Known { long: "force", short: None, value: false },
     Known { long: "machine", short: None, value: true },
     Known { long: "namesakes", short: None, value: false },
     Known { long: "json", short: None, value: false },
@@ -38,7 +39,7 @@ pub fn run(arguments: &[OsString]) -> Result<u8, Stop> {
         return Err(call.wrong("operand FILE is missing"));
     }
     let to = call.value("output").ok_or_else(|| call.wrong("no output is named: -o PACKAGE"))?;
-    if call.has("json") && to == "-" {
+    if call.has("json") && output::is_standard(to) {
         return Err(call.wrong("option '--json' needs standard output for itself: -o PACKAGE"));
     }
     let as_elf = call.has("elf") || to.as_bytes().ends_with(b".dwp");
@@ -47,6 +48,7 @@ pub fn run(arguments: &[OsString]) -> Result<u8, Stop> {
     if names.is_empty() {
         return Err(call.wrong("the list names no file"));
     }
+    guard::judge(&call, to, &names)?;
     let earlier = add::earlier(&call)?;
     let joined = join(&call, earlier.as_ref().map(|earlier| &earlier.file), &names)?;
     let about = format!("packing {}, {} bytes", show::count(names.len(), "file"), joined.bundle.len());
@@ -56,7 +58,7 @@ pub fn run(arguments: &[OsString]) -> Result<u8, Stop> {
     let namesakes = if call.has("namesakes") { namesakes(&joined, skipped)? } else { Vec::new() };
     let file = if as_elf { elf_file(&call, to, &package, named, joined)? } else { package };
     match &earlier {
-        Some(earlier) => output::write_for(earlier.name, to, &file)?,
+        Some(earlier) => earlier.write(to, &file)?,
         None => output::write(to, &file)?,
     }
     say(&call, to, Done { length: file.len(), skipped, namesakes, added })
@@ -97,7 +99,7 @@ fn say(call: &Call, to: &OsStr, done: Done) -> Result<u8, Stop> {
     if text.is_empty() {
         return Ok(DONE);
     }
-    if to != "-" {
+    if !output::is_standard(to) {
         return output::print(&text);
     }
     // It is only a help; where it can't be written nothing is lost.
