@@ -109,7 +109,7 @@ fn put_elf(call: &Call, file: &[u8], shown: &str, bundle: &mut Lent<u8>, from: u
     }
 }
 
-/// The names, each `@LIST` replaced by those in the file LIST, a line for each; empty lines and those that start with # are left out.
+/// The names, each `@LIST` replaced by those in the file LIST.
 pub fn listed(names: &[OsString]) -> Result<Vec<OsString>, Stop> {
     let mut all = Vec::new();
     for name in names {
@@ -118,11 +118,18 @@ pub fn listed(names: &[OsString]) -> Result<Vec<OsString>, Stop> {
             continue;
         };
         let list = input::read(OsStr::from_bytes(list), LONGEST_LIST)?;
-        let lines = list.split(|b| *b == b'\n').map(|line| line.strip_suffix(b"\r").unwrap_or(line));
-        let named = lines.filter(|line| !line.is_empty() && !line.starts_with(b"#"));
-        all.extend(named.map(|line| OsStr::from_bytes(line).to_os_string()));
+        all.extend(names_in(&list).map(|name| OsStr::from_bytes(name).to_os_string()));
     }
     Ok(all)
+}
+
+/// The names in a list: with a NUL between them where there is one, as `find -print0` writes them, so that a name may hold anything; else one on
+/// each line that isn't empty and doesn't start with #.
+fn names_in(list: &[u8]) -> impl Iterator<Item = &[u8]> {
+    let end = if list.contains(&0) { 0 } else { b'\n' };
+    let names = list.split(move |b| *b == end);
+    let names = names.map(move |name| if end == 0 { name } else { name.strip_suffix(b"\r").unwrap_or(name) });
+    names.filter(move |name| !name.is_empty() && (end == 0 || !name.starts_with(b"#")))
 }
 
 /// All files as one bundle, in the order given, behind the object of the package that they are added to. A single bundle that is added to
