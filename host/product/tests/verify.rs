@@ -69,7 +69,7 @@ fn what_was_packed_is_found() {
         }
     }
     let output = run_in(&home, &["verify", "-", EXAMPLE, "--json"], &bytes(PACKAGE));
-    let told = "{\"verified\":true,\"files\":1,\"objects\":1,\"units\":1,\"repeats\":0,\"namesakes\":0,\"strings\":0,\"faults\":[]}\n";
+    let told = "{\"verified\":true,\"units\":1,\"repeats\":0,\"namesakes\":0,\"strings\":0,\"files\":1,\"objects\":1,\"faults\":[]}\n";
     assert_eq!((text(&output), status(&output)), (told.to_string(), 0));
 }
 
@@ -182,7 +182,7 @@ fn nothing_to_look_for_is_told() {
         let told = format!("barthovin: package: not verified: {read}: no unit was looked for: keep the files\n");
         assert_eq!((message(&output), text(&output), status(&output)), (told, String::new(), 1));
         let output = run_in(&home, &[&["verify", "--json", "package"], files].concat(), &[]);
-        assert!(text(&output).starts_with("{\"verified\":false,\"files\":"), "{}", text(&output));
+        assert!(text(&output).starts_with("{\"verified\":false,\"units\":0,"), "{}", text(&output));
         assert_eq!((message(&output), status(&output)), (String::new(), 1));
     };
     looked(&["empty"], "1 file, 0 objects");

@@ -94,7 +94,7 @@ fn json(report: &Report, files: usize, faults: &[(String, String)]) -> String {
     let Report { objects, units, skipped: Skipped { repeats, namesakes }, strings, .. } = report;
     let counts = format!("\"units\":{units},\"repeats\":{repeats},\"namesakes\":{namesakes},\"strings\":{strings}");
     format!(
-        "{{\"verified\":{verified},\"files\":{files},\"objects\":{objects},{counts},\"faults\":[{}]}}",
+        "{{\"verified\":{verified},{counts},\"files\":{files},\"objects\":{objects},\"faults\":[{}]}}",
         faults.join(",")
     )
 }
