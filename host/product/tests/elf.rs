@@ -94,8 +94,13 @@ fn wrong_files_are_refused_with_the_cause() {
         file[at] = value;
         file
     };
-    let not_elf = "refused 31: this is no relocatable ELF64 file, or it is cut off";
-    refused("32-bits", &changed(4, 1), &format!("{not_elf}: it is of 32 bits"));
+    let not_elf = "refused 31: this is no relocatable ELF file, or it is cut off";
+    let no_headers = format!("{not_elf}: it has no section headers, or more than their number can say");
+    // As a file of 32 bits it states none.
+    refused("32-bits", &changed(4, 1), &no_headers);
+    refused("class", &changed(4, 3), &format!("{not_elf}: its class is 3, neither 1 (32 bits) nor 2 (64 bits)"));
+    refused("order", &changed(5, 0), &format!("{not_elf}: its byte order is 0, neither 1 nor 2"));
+    refused("size", &changed(58, 40), &format!("{not_elf}: its section headers have 40 bytes, and not 64"));
     refused(
         "program",
         &changed(16, 2),
@@ -106,11 +111,7 @@ fn wrong_files_are_refused_with_the_cause() {
     let end = good.len();
     let headers = format!("its {} section headers end at byte {end}, and it has {}", good[60], end - 1);
     refused("cut", &good[..end - 1], &format!("{not_elf}: {headers}"));
-    refused(
-        "no-headers",
-        &changed(60, 0),
-        &format!("{not_elf}: it has no section headers, or more than their number can say"),
-    );
+    refused("no-headers", &changed(60, 0), &no_headers);
     let unusable = "refused 32: a debug section is compressed, relocated or without bytes";
     let (info, line) = (header_at(&good, ".debug_info.dwo"), header_at(&good, ".debug_line.dwo"));
     refused(
@@ -156,7 +157,7 @@ fn what_is_no_file_to_read_is_told() {
         assert_eq!((message(&output), status(&output)), (format!("barthovin: {wanted}\n"), code));
         assert_eq!(names(&home), ["empty", "text"]);
     };
-    let not_elf = "refused 31: this is no relocatable ELF64 file, or it is cut off: it is no ELF file";
+    let not_elf = "refused 31: this is no relocatable ELF file, or it is cut off: it is no ELF file";
     told(&["bundle", "empty", "-o", "new"], &format!("empty: {not_elf}"), 1);
     told(&["bundle", "text", "-o", "new"], &format!("text: {not_elf}"), 1);
     told(&["bundle", ".", "-o", "new"], ".: Is a directory", 2);

@@ -35,8 +35,8 @@ pub struct Joined {
     pub bundle: Lent<u8>,
     /// One for each object; none where the bundle was handed in as it is, and its objects have numbers.
     pub files: Vec<String>,
-    /// The machine of the first ELF file, if there is one.
-    pub machine: Option<u32>,
+    /// The machine of the first ELF file that names one, with how that file is called.
+    machine: Option<(u32, String)>,
 }
 
 /// A package that was read: how its file is called in messages, its bytes, and its machine where it is an ELF file.
@@ -97,10 +97,10 @@ pub fn from_elf(call: &Call, file: &[u8], shown: &str) -> Result<Lent<u8>, Stop>
 /// so much, and where that is too short it says how much is needed. The sections are copied once, to where they stay.
 fn put_elf(call: &Call, file: &[u8], shown: &str, bundle: &mut Lent<u8>, from: usize) -> Result<(), Stop> {
     bundle.extend_to(from + file.len().min(LONGEST_BUNDLE));
-    let (mut code, length) = elf::read(file, &mut bundle[from..]);
+    let (mut code, length) = elf::read_either(file, &mut bundle[from..]);
     if code == OUTPUT_TOO_SHORT {
         bundle.extend_to(from + length);
-        (code, _) = elf::read(file, &mut bundle[from..]);
+        (code, _) = elf::read_either(file, &mut bundle[from..]);
     }
     bundle.truncate(from + length);
     match code {
@@ -156,6 +156,7 @@ fn joined(call: &Call, package: Option<&Taken>, names: &[OsString]) -> Result<Jo
             let first = package.map_or_else(|| input::shown(&names[0]), |package| package.shown.clone());
             return Err(Stop::Refused(format!("{shown}: its byte order is not that of {first}")));
         }
+        joined.meet(elf::machine_of(&bytes), &shown)?;
     }
     joined.bundle.extend(&end_word(joined.bundle.len()));
     Ok(joined)
@@ -174,8 +175,23 @@ impl Joined {
     fn put_package(&mut self, call: &Call, package: &Taken) -> Result<(), Stop> {
         self.put_bundle(call, &package.bytes, &package.shown)?;
         self.files = vec![package.shown.clone()];
-        self.machine = package.machine;
-        Ok(())
+        self.meet(package.machine, &package.shown)
+    }
+
+    /// The machine of what was packed, where an ELF file names one.
+    pub fn machine(&self) -> Option<u32> {
+        self.machine.as_ref().map(|(machine, _)| *machine)
+    }
+
+    /// A file that names a machine: all that do name the same.
+    fn meet(&mut self, machine: Option<u32>, shown: &str) -> Result<(), Stop> {
+        let Some(machine) = machine else { return Ok(()) };
+        let (first, of) = self.machine.get_or_insert_with(|| (machine, shown.to_string()));
+        if *first == machine {
+            return Ok(());
+        }
+        let [machine, first] = [machine, *first].map(elf::machine_shown);
+        Err(Stop::Refused(format!("{shown}: it is for {machine}, and {of} is for {first}; pack each machine by itself")))
     }
 
     /// Puts the object of an ELF file behind those that are there, without an end; the head that it would have alone. The head stands over
@@ -189,7 +205,6 @@ impl Joined {
         place.copy_from_slice(&last.unwrap_or(head));
         self.bundle.truncate(self.bundle.len() - WORD);
         self.files.push(shown);
-        self.machine = self.machine.or(elf::machine_of(file));
         Ok(head)
     }
 

@@ -14,9 +14,6 @@ use std::ffi::{OsStr, OsString};
 use std::io::Write;
 use std::os::unix::ffi::OsStrExt;
 
-/// The refusal of a machine that packages aren't written for.
-const OTHER_MACHINE: u32 = 36;
-
 /// A long bundle: what its packing takes counts.
 const LONG: usize = 1 << 20;
 
@@ -56,45 +53,80 @@ pub fn run(arguments: &[OsString]) -> Result<u8, Stop> {
     let (package, skipped) = packed.map_err(|number| told(&call, &names, earlier.as_ref(), &joined, number))?;
     let added = earlier.as_ref().map(|earlier| earlier.added(names.len(), &package));
     let namesakes = if call.has("namesakes") { namesakes(&joined, skipped)? } else { Vec::new() };
-    let file = if as_elf { elf_file(&call, to, &package, named, joined)? } else { package };
+    let machine = as_elf.then(|| Machine::of(named, joined.machine()));
+    let file = match &machine {
+        Some(machine) => elf_file(&call, to, &package, machine.number(), joined)?,
+        None => package,
+    };
     match &earlier {
         Some(earlier) => earlier.write(to, &file)?,
         None => output::write(to, &file)?,
     }
-    say(&call, to, Done { length: file.len(), skipped, namesakes, added })
+    say(&call, to, Done { length: file.len(), machine, skipped, namesakes, added })
 }
 
-/// The package as an ELF file, for the machine that was named or that of what was packed, in whose place it is written.
-fn elf_file(call: &Call, to: &OsStr, package: &[u8], named: Option<u32>, packed: Joined) -> Result<Lent<u8>, Stop> {
-    let machine = named.or(packed.machine).unwrap_or(elf::MACHINES[0].1);
-    let why = |number| Some(format!("the machine is {machine}")).filter(|_| number == OTHER_MACHINE);
+/// The machine that an ELF file is written for.
+#[derive(Clone, Copy)]
+enum Machine {
+    /// By the call, or by a file that was packed.
+    Known(u32),
+    /// No one says: the usual one.
+    Usual,
+}
+
+impl Machine {
+    fn of(named: Option<u32>, packed: Option<u32>) -> Machine {
+        named.or(packed).map_or(Machine::Usual, Machine::Known)
+    }
+
+    fn number(self) -> u32 {
+        match self {
+            Machine::Known(number) => number,
+            Machine::Usual => elf::MACHINES[0].1,
+        }
+    }
+
+    /// What is told of one that no file says: a debugger opens no package of another machine.
+    fn line(self) -> Option<String> {
+        let Machine::Usual = self else { return None };
+        let usual = elf::machine_shown(self.number());
+        Some(format!("written for {usual}, since no file says a machine: --machine names another"))
+    }
+}
+
+/// The package as an ELF file for a machine, written in the place of what was packed.
+fn elf_file(call: &Call, to: &OsStr, package: &[u8], machine: u32, packed: Joined) -> Result<Lent<u8>, Stop> {
     let file = elf::file_in(package, machine, packed.bundle);
-    file.map_err(|number| refused_call(call, &output::shown(to), number, why(number)))
+    file.map_err(|number| refused_call(call, &output::shown(to), number, None))
 }
 
-/// What was done: the length written, what was skipped and which of it are namesakes where that is asked for, and what was added to a package.
+/// What was done: the length written, the machine of an ELF file, what was skipped and which of it are namesakes where that is asked for, and what was
+/// added to a package.
 struct Done {
     length: usize,
+    machine: Option<Machine>,
     skipped: Skipped,
     namesakes: Vec<Namesake>,
     added: Option<Added>,
 }
 
-/// Says what was added, how many type units were skipped, where there are any, and with --namesakes which of them are namesakes. It is said
+/// Says what was added, which machine was taken where no file says one, how many type units were skipped, where there are any, and with --namesakes which of them are namesakes. It is said
 /// on standard error where the package goes to standard output.
 fn say(call: &Call, to: &OsStr, done: Done) -> Result<u8, Stop> {
-    let Done { length, skipped, namesakes, added } = done;
+    let Done { length, machine, skipped, namesakes, added } = done;
     if call.has("json") {
         let listed: Vec<String> = namesakes.iter().map(Namesake::json).collect();
         let listed = call.has("namesakes").then(|| format!(",\"listed\":[{}]", listed.join(",")));
+        let machine = machine.map(|machine| format!(",\"machine\":{}", machine.number())).unwrap_or_default();
         let same = added.as_ref().map(Added::json);
         let Skipped { repeats, namesakes } = skipped;
         let counts = format!("\"repeats\":{repeats},\"namesakes\":{namesakes}");
-        let more = format!("{}{}", same.unwrap_or_default(), listed.unwrap_or_default());
+        let more = format!("{machine}{}{}", same.unwrap_or_default(), listed.unwrap_or_default());
         return output::print(&format!("{{\"length\":{length},{counts}{more}}}"));
     }
     let counts = (skipped != Skipped::default()).then(|| show::skipped(skipped));
-    let lines = added.iter().flat_map(Added::lines).chain(counts).chain(namesakes.iter().map(Namesake::line));
+    let usual = machine.and_then(Machine::line);
+    let lines = added.iter().flat_map(Added::lines).chain(usual).chain(counts).chain(namesakes.iter().map(Namesake::line));
     let text = lines.collect::<Vec<_>>().join("\n");
     if text.is_empty() {
         return Ok(DONE);
@@ -150,10 +182,12 @@ fn machine_named(call: &Call, as_elf: bool) -> Result<Option<u32>, Stop> {
     if !as_elf {
         return Err(call.wrong("option '--machine' is for ELF files: --elf, or an output that ends in .dwp"));
     }
-    match elf::MACHINES.iter().find(|(known, _)| name == *known) {
-        Some((_, machine)) => Ok(Some(*machine)),
-        None => Err(call.wrong(format!("unknown machine '{}': x86-64, aarch64 or riscv64", show::name(name)))),
-    }
+    let Some(machine) = name.to_str().and_then(elf::machine) else {
+        let known: Vec<&str> = elf::MACHINES.iter().map(|(known, _)| *known).collect();
+        let (name, known) = (show::name(name), known.join(", "));
+        return Err(call.wrong(format!("unknown machine '{name}': {known}, or a number from 1 to 65535")));
+    };
+    Ok(Some(machine))
 }
 
 /// The refusal of what was joined, by the file that it comes from where that is known.
