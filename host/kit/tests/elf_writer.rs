@@ -19,14 +19,7 @@ fn compare_for(lent: &mut Lender, package: &[u8], machine: u32, output: usize, w
 
 type Write = fn(&[u8], u32, &mut [u8]) -> (u32, usize);
 
-fn compare_by(
-    write: Write,
-    lent: &mut Lender,
-    package: &[u8],
-    machine: u32,
-    output: usize,
-    wanted: &Packed,
-) -> u32 {
+fn compare_by(write: Write, lent: &mut Lender, package: &[u8], machine: u32, output: usize, wanted: &Packed) -> u32 {
     let answer = lent.lend(package, 0, output, |package, _, output| write(package, machine, output));
     let answer = answer.unwrap_or_else(|e| panic!("{e}, for output {output}, {package:02X?}"));
     assert!(answer.agrees(wanted), "{answer:?}, not {wanted:?}, for output {output}, {package:02X?}");

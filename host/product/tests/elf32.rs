@@ -22,7 +22,11 @@ impl Fields {
     fn at(&self, at: usize, width: usize) -> usize {
         let bytes = &self.bytes[at..at + width];
         let digit = |value: usize, byte: &u8| value << 8 | *byte as usize;
-        if self.big { bytes.iter().fold(0, digit) } else { bytes.iter().rev().fold(0, digit) }
+        if self.big {
+            bytes.iter().fold(0, digit)
+        } else {
+            bytes.iter().rev().fold(0, digit)
+        }
     }
 
     fn push(&mut self, value: usize, width: usize) {
@@ -40,7 +44,7 @@ impl Fields {
 fn narrowed(file: &[u8], machine: usize) -> Vec<u8> {
     let old = Fields { bytes: file.to_vec(), big: file[5] == 2 };
     let (start, count, names) = (old.at(40, 8), old.at(60, 2), old.at(62, 2));
-    let (mut bodies, mut headers) = (Vec::new(), Fields { bytes: Vec::new(), big: old.big });
+    let (mut bodies, mut headers): (Vec<u8>, Fields) = (Vec::new(), Fields { bytes: Vec::new(), big: old.big });
     for at in (0..count).map(|i| start + 64 * i) {
         let (offset, size) = (old.at(at + 24, 8), old.at(at + 32, 8));
         let place = 52 + bodies.len();
@@ -137,23 +141,20 @@ fn wrong_files_of_32_bits_are_refused_with_the_cause() {
             let called = |i: &usize| good[table + read.at(start + 40 * i, 4)..].starts_with(name.as_bytes());
             (0..count).find(called).unwrap()
         };
-        let (info, line) = (number_of(".debug_info.dwo\0"), number_of(".debug_line.dwo\0"));
-        let [info_at, line_at] = [info, line].map(|number| start + 40 * number);
+        let (info, other) = (number_of(".debug_info.dwo\0"), number_of(".debug_abbrev.dwo\0"));
+        let [info_at, other_at] = [info, other].map(|number| start + 40 * number);
         let program = "it is a program or a shared library; its .dwo files are wanted";
         refused(&put(16, 2, 2), &format!("{not_elf}: {program}"));
         refused(&put(46, 2, 64), &format!("{not_elf}: its section headers have 64 bytes, and not 40"));
         refused(&good[..51], &format!("{not_elf}: it has 51 bytes and is cut off"));
         let (end, has) = (good.len(), good.len() - 1);
-        refused(
-            &good[..has],
-            &format!("{not_elf}: its {count} section headers end at byte {end}, and it has {has}"),
-        );
+        refused(&good[..has], &format!("{not_elf}: its {count} section headers end at byte {end}, and it has {has}"));
         let mut compressed = good.clone();
-        compressed[line_at + if read.big { 10 } else { 9 }] = 8;
-        refused(&compressed, &format!("{unusable}: .debug_line.dwo is compressed; compile without -gz"));
+        compressed[other_at + if read.big { 10 } else { 9 }] = 8;
+        refused(&compressed, &format!("{unusable}: .debug_abbrev.dwo is compressed; compile without -gz"));
         refused(&put(info_at + 4, 4, 8), &format!("{unusable}: .debug_info.dwo has no bytes in the file"));
-        let mut relocated = put(line_at + 4, 4, 9);
-        relocated[if read.big { line_at + 31 } else { line_at + 28 }] = info as u8;
+        let mut relocated = put(other_at + 4, 4, 9);
+        relocated[if read.big { other_at + 31 } else { other_at + 28 }] = info as u8;
         refused(&relocated, &format!("{unusable}: .debug_info.dwo has relocations"));
         let mut empty = good.clone();
         empty[info_at + 20..info_at + 24].fill(0);
@@ -181,7 +182,8 @@ fn the_machine_is_that_of_the_files() {
     };
     assert_eq!(done(&home, &["pack", "main.dwo", "race.dwo", "-o", "all.dwp"]), "");
     assert_eq!(machine(&home, "all.dwp"), 40);
-    let mixed = "other.dwo: it is for machine 183 (aarch64), and main.dwo is for machine 40 (arm); pack each machine by itself";
+    let mixed =
+        "other.dwo: it is for machine 183 (aarch64), and main.dwo is for machine 40 (arm); pack each machine by itself";
     refused(&["pack", "main.dwo", "other.dwo", "-o", "new.dwp"], mixed);
     refused(&["pack", "main.dwo", "other.dwo", "-o", "new"], mixed);
     // A file that names no machine goes with any.
@@ -192,7 +194,8 @@ fn the_machine_is_that_of_the_files() {
     let told = done(&home, &["pack", "--add", "week.dwp", "none.dwo", "-o", "week.dwp"]);
     assert!(told.starts_with("1 file added to week.dwp: ") && told.lines().count() == 1, "{told}");
     assert_eq!(machine(&home, "week.dwp"), 40);
-    let added = "other.dwo: it is for machine 183 (aarch64), and week.dwp is for machine 40 (arm); pack each machine by itself";
+    let added =
+        "other.dwo: it is for machine 183 (aarch64), and week.dwp is for machine 40 (arm); pack each machine by itself";
     refused(&["pack", "--add", "week.dwp", "other.dwo", "-o", "new.dwp"], added);
     assert_eq!(machine(&home, "week.dwp"), 40);
 }

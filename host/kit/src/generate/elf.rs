@@ -165,7 +165,9 @@ fn damage(class: Class, random: &mut Random, mut file: Vec<u8>, headers: usize) 
         let (at, width) = match random.below(8) {
             0 => (random.below(front), random.pick(&[1, 2, word])),
             1 => (random.pick(&[4, 5, 16, 24 + 2 * word, front - 6, front - 4, front - 2]), random.pick(&[1, 2])),
-            2 | 3 => (in_table(random) + random.pick(&[0, 4, 8, 8 + 2 * word, 8 + 3 * word, info]), random.pick(&[4, word])),
+            2 | 3 => {
+                (in_table(random) + random.pick(&[0, 4, 8, 8 + 2 * word, 8 + 3 * word, info]), random.pick(&[4, word]))
+            }
             4 => (random.below(length), 1),
             5 => {
                 file.truncate(random.below(length + 1) as usize);
@@ -243,7 +245,9 @@ pub fn long_of(class: Class, size: usize, count: usize) -> Vec<u8> {
     file.extend(vec![7; size]);
     let unit_at = names_at + names.len();
     let sections = std::iter::repeat_n((line, 1, unit_at + unit.len(), size), count);
-    for (name, kind, at, size) in [(0, 1, unit_at, unit.len()), (0, 3, names_at, names.len())].into_iter().chain(sections) {
+    for (name, kind, at, size) in
+        [(0, 1, unit_at, unit.len()), (0, 3, names_at, names.len())].into_iter().chain(sections)
+    {
         let name = if kind == 3 { names.len() - 1 } else { name };
         file.extend(Section { name, kind, flags: 0, at, size, info: 0 }.header(class, false));
     }

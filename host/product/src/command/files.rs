@@ -191,7 +191,9 @@ impl Joined {
             return Ok(());
         }
         let [machine, first] = [machine, *first].map(elf::machine_shown);
-        Err(Stop::Refused(format!("{shown}: it is for {machine}, and {of} is for {first}; pack each machine by itself")))
+        Err(Stop::Refused(format!(
+            "{shown}: it is for {machine}, and {of} is for {first}; pack each machine by itself"
+        )))
     }
 
     /// Puts the object of an ELF file behind those that are there, without an end; the head that it would have alone. The head stands over

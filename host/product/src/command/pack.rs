@@ -126,7 +126,8 @@ fn say(call: &Call, to: &OsStr, done: Done) -> Result<u8, Stop> {
     }
     let counts = (skipped != Skipped::default()).then(|| show::skipped(skipped));
     let usual = machine.and_then(Machine::line);
-    let lines = added.iter().flat_map(Added::lines).chain(usual).chain(counts).chain(namesakes.iter().map(Namesake::line));
+    let lines =
+        added.iter().flat_map(Added::lines).chain(usual).chain(counts).chain(namesakes.iter().map(Namesake::line));
     let text = lines.collect::<Vec<_>>().join("\n");
     if text.is_empty() {
         return Ok(DONE);

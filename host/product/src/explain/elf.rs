@@ -83,7 +83,8 @@ fn not_readable(file: &[u8]) -> Option<String> {
         2 | 3 => return Some("it is a program or a shared library; its .dwo files are wanted".to_string()),
         kind => return Some(format!("its type is {kind}")),
     }
-    let (start, size, count) = (file.field(class.start, class.word)?, file.field(class.header_size, 2)?, file.field(class.count, 2)?);
+    let (start, size, count) =
+        (file.field(class.start, class.word)?, file.field(class.header_size, 2)?, file.field(class.count, 2)?);
     if count == 0 || names >= count {
         return Some("it has no section headers, or more than their number can say".to_string());
     }
