@@ -1,6 +1,8 @@
 //! ELF files read and written, through the C entries.
 
 use crate::lent::Lent;
+use crate::names::INFO;
+use crate::reader::bundle::Bundle;
 
 /// Code 0: what is written has that length. 18, of reading: that length is needed. Else the refusal, with 0.
 #[repr(C)]
@@ -65,6 +67,19 @@ pub fn file_in(package: &[u8], machine: u32, mut memory: Lent<u8>) -> Result<Len
         }
         (number, _) => Err(number),
     }
+}
+
+/// Whether a package can be read back from its ELF file: the first unit of info says there what the object's word says here.
+pub fn states_version(package: &[u8]) -> bool {
+    let read = Bundle::read(package);
+    read.is_ok_and(|read| read.objects.first().is_some_and(|object| !object.bytes(INFO).is_empty()))
+}
+
+/// Whether an ELF file gives a package back, byte for byte. The reader says it.
+pub fn gives_back(file: &[u8], package: &[u8]) -> bool {
+    let mut again = Lent::zeros(package.len());
+    let read = read(file, &mut again);
+    read == (0, package.len()) && again[..] == *package
 }
 
 /// The machine that an ELF file's header names, in the byte order that it names.

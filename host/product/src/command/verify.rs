@@ -2,7 +2,7 @@
 
 use super::call::{Call, Known};
 use super::files::{good_package, join, listed, not_a_bundle};
-use super::{input, output, progress, show, Stop, DONE, NOT_DONE};
+use super::{input, output, progress, show, stop, Stop, DONE, NOT_DONE};
 use crate::ffi::Skipped;
 use crate::verify::{verify, Fault, Report};
 use std::ffi::OsString;
@@ -24,6 +24,7 @@ pub fn run(arguments: &[OsString]) -> Result<u8, Stop> {
     }
     let package = good_package(&call, name)?.bytes;
     let joined = join(&call, None, &files)?;
+    joined.notes(files.len()).iter().for_each(|note| stop::note(note));
     let about = format!("looking for {} in the package", show::count(files.len(), "file"));
     let report = progress::shown(about, || verify(&package, &joined.bundle));
     // Several files were taken apart when they were joined.
