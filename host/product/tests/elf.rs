@@ -116,7 +116,9 @@ fn wrong_files_are_refused_with_the_cause() {
     refused(
         "compressed",
         &changed(line + 9, 8),
-        &format!("{unusable}: .debug_line.dwo is compressed; compile without -gz"),
+        &format!(
+            "{unusable}: .debug_line.dwo is compressed; compile without -gz, or call objcopy --decompress-debug-sections FILE NEW"
+        ),
     );
     refused("no-bytes", &changed(info + 4, 8), &format!("{unusable}: .debug_info.dwo has no bytes in the file"));
     let mut relocated = changed(line + 4, 4);

@@ -87,11 +87,12 @@ fn says_what_was_skipped() {
         assert_eq!((status(&output), message(&output)), (0, String::new()));
         text(&output)
     };
-    let counts = "1 type unit was a repeat, 1 namesake\n";
+    let counts = "1 type unit was a repeat, 1 namesake\n\
+                  namesakes are usual: each file counts its strings and abbreviations by itself\n";
     assert_eq!(run(&[]), counts);
     let package = fs::read(home.join("package")).unwrap();
     assert_eq!(run(&["--namesakes"]), format!("{counts}namesake 0x0000000000000007: object 2: byte 24 of info\n"));
-    let json = format!("{{\"length\":{},\"repeats\":1,\"namesakes\":1", package.len());
+    let json = format!("{{\"length\":{},\"repeats\":1,\"namesakes\":1,\"can_be_added_to\":true", package.len());
     assert_eq!(run(&["--json"]), format!("{json}}}\n"));
     let listed = "{\"identity\":\"0x0000000000000007\",\"file\":\"object 2\",\"section\":\"info\",\"offset\":24}";
     assert_eq!(run(&["--json", "--namesakes"]), format!("{json},\"listed\":[{listed}]}}\n"));
