@@ -6,7 +6,8 @@ use common::*;
 use std::fs;
 use std::path::{Path, PathBuf};
 
-const WITHOUT: &str = "it has no debug information, as of a source without code, or of any source where gcc is called with -flto";
+const WITHOUT: &str =
+    "it has no debug information, as of a source without code, or of any source where gcc is called with -flto";
 const NO_UNIT: &str = "refused 33: there is no unit of DWARF version 4 or 5 to pack";
 
 /// Two real files, and two of the same compiler without any section that has to do with debugging.
@@ -57,10 +58,19 @@ fn they_are_refused_where_that_is_asked_or_nothing_is_left() {
     told(&home, &strict, &[line("bare.dwo"), line("naked.dwo"), count(3)].concat(), 1);
     told(&home, &["pack", "--strict", "naked.dwo", "gcc-5-main.dwo", "-o", "new"], &line("naked.dwo"), 1);
     told(&home, &["pack", "bare.dwo", "-o", "new"], &line("bare.dwo"), 1);
-    told(&home, &["pack", "bare.dwo", "naked.dwo", "-o", "new"], &[line("bare.dwo"), line("naked.dwo"), count(2)].concat(), 1);
+    told(
+        &home,
+        &["pack", "bare.dwo", "naked.dwo", "-o", "new"],
+        &[line("bare.dwo"), line("naked.dwo"), count(2)].concat(),
+        1,
+    );
     done(&home, &["pack", "gcc-5-main.dwo", "-o", "first"]);
     told(&home, &["pack", "--add", "first", "bare.dwo", "-o", "new"], &line("bare.dwo"), 1);
     told(&home, &["bundle", "bare.dwo", "-o", "new"], &line("bare.dwo"), 1);
+    // An object without debug information.
+    fs::copy(home.join("bare.dwo"), home.join("bare.o")).unwrap();
+    let wanted = format!("barthovin: bare.o: {NO_UNIT}: {WITHOUT}; of an object file the .dwo file is wanted\n");
+    told(&home, &["pack", "bare.o", "-o", "new"], &wanted, 1);
     assert!(!home.join("new").exists());
 }
 
@@ -100,7 +110,8 @@ fn all_are_told_at_once() {
         let all: String = wanted.iter().map(|line| format!("barthovin: {line}\n")).collect();
         all + &format!("barthovin: {} of {files} files can't be taken\n", wanted.len())
     };
-    let short = "short: refused 31: this is no relocatable ELF64 file, or it is cut off: it has 40 bytes and is cut off";
+    let short =
+        "short: refused 31: this is no relocatable ELF64 file, or it is cut off: it has 40 bytes and is cut off";
     let text = "text: refused 1: a bundle has 8 to 4,194,304 bytes, a multiple of 4: it has 10 bytes; it is a text: a list of files has @ before its name";
     let order = "big.dwo: its byte order is not that of gcc-5-main.dwo";
     let call = ["pack", "short", "gcc-5-main.dwo", "text", "gcc-5-race.dwo", "big.dwo", "-o", "new"];
@@ -120,7 +131,9 @@ fn all_are_told_at_once() {
     let output = run_in(&home, &call, &[]);
     let unit = "the unit at byte 0 of info";
     for (line, name) in message(&output).lines().zip(["gcc-5-main.dwo", "gcc-5-race.dwo"]) {
-        let start = format!("barthovin: {name}: refused 14: a compilation unit of this identity was there before: {unit}: identity 0x");
+        let start = format!(
+            "barthovin: {name}: refused 14: a compilation unit of this identity was there before: {unit}: identity 0x"
+        );
         assert!(line.starts_with(&start) && line.ends_with(&format!(" is that of {name}, {unit}")), "{line}");
     }
     assert_eq!((message(&output).lines().count(), status(&output)), (3, 1));
@@ -164,6 +177,7 @@ fn what_is_not_packed_is_told() {
     let told = message(&run_in(&home, &["pack", "lost.dwo", "more.dwo", "-o", "package"], &[]));
     assert!(told.starts_with(start) && told.ends_with(" bytes of lost.dwo and 1 more\n"), "{told}");
     // An object that has both its own sections and those of a .dwo file: what the linker takes is not lost.
-    fs::write(home.join("single.o"), renamed(&real_file("gcc-5-race"), ".debug_line.dwo", ".debug_info\0\0\0\0")).unwrap();
+    fs::write(home.join("single.o"), renamed(&real_file("gcc-5-race"), ".debug_line.dwo", ".debug_info\0\0\0\0"))
+        .unwrap();
     done(&home, &["pack", "single.o", "-o", "package"]);
 }

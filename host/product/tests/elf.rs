@@ -197,6 +197,23 @@ fn the_file_at_fault_is_named() {
     told(&many, length);
     let output = run_in(&home, &[&["pack", "-o", "new"], &many[..]].concat(), &[]);
     assert!(message(&output).contains(" too many; most take gcc-5-main.dwo "), "{}", message(&output));
+    let smaller = "; a package for each program is shorter, and so is what -g1 (gcc) or -gmlt (clang) makes of the longest files; -g3 makes more\n";
+    assert!(message(&output).ends_with(smaller), "{}", message(&output));
+}
+
+/// A machine that packages aren't written for leads on to the option.
+#[test]
+fn another_machine_can_be_named() {
+    let home = directory("machine");
+    let mut file = fs::read(format!("{FILES}/gcc-5-race.dwo")).unwrap();
+    file[18..20].fill(0);
+    fs::write(home.join("some.dwo"), file).unwrap();
+    let output = run_in(&home, &["pack", "some.dwo", "-o", "new.dwp"], &[]);
+    let told = message(&output);
+    let wanted = "; --machine names another one: x86-64, ";
+    assert!(told.contains("refused 36: ") && told.contains("the machine is 0") && told.contains(wanted), "{told}");
+    assert_eq!((status(&output), names(&home)), (1, vec!["some.dwo".to_string()]));
+    done(&home, &["pack", "some.dwo", "--machine", "x86-64", "-o", "new.dwp"]);
 }
 
 /// A package written as an ELF file, by its name or by `--elf`, has the machine of its first file, and every command takes it as the package.

@@ -109,7 +109,8 @@ fn refusals_of_an_entry() {
 #[test]
 fn forms() {
     let printed = done(&directory("everywhere-forms"), &["tables"]);
-    let forms: Vec<(&str, &str)> = printed.lines().filter_map(|line| line.split_once(' ')).filter(|(form, _)| form.len() == 4).collect();
+    let forms: Vec<(&str, &str)> =
+        printed.lines().filter_map(|line| line.split_once(' ')).filter(|(form, _)| form.len() == 4).collect();
     assert_eq!(forms.len(), 27);
     let format = read("docs/FORMAT.md");
     let table = between(&format, "\n### 3.9 ", "\n##");
@@ -120,7 +121,8 @@ fn forms() {
         .filter_map(|pair| Some((format!("{:0>4}", pair[0].split_once(' ')?.0), pair[1].to_string())))
         .filter(|(form, _)| u32::from_str_radix(form, 16).is_ok())
         .collect();
-    let wanted: BTreeSet<(String, String)> = forms.iter().map(|(form, width)| (form.to_string(), width.to_string())).collect();
+    let wanted: BTreeSet<(String, String)> =
+        forms.iter().map(|(form, width)| (form.to_string(), width.to_string())).collect();
     assert_eq!(stated, wanted, "FORMAT.md, and what `tables` prints");
     let help = help("tables");
     for letter in wanted.iter().filter_map(|(_, width)| width.chars().next()).filter(char::is_ascii_uppercase) {
@@ -131,11 +133,15 @@ fn forms() {
 #[test]
 fn sections() {
     let (format, opening, script) = (read("docs/FORMAT.md"), flat(&read("docs/OPENING.md")), read("examples/open.py"));
-    let (header, manual) = (flat(&read("host/product/include/barthovin.h")), flat(&read("host/product/man/barthovin.1")));
+    let (header, manual) =
+        (flat(&read("host/product/include/barthovin.h")), flat(&read("host/product/man/barthovin.1")));
     let lookup = help("lookup");
     for (name, code) in SECTIONS.iter().zip(1..) {
         let file = file_name(code);
-        assert!(between(&format, "\n### 2.2 ", "\n###").contains(&format!("| {code} | `{file}` ")), "FORMAT.md lacks {file}");
+        assert!(
+            between(&format, "\n### 2.2 ", "\n###").contains(&format!("| {code} | `{file}` ")),
+            "FORMAT.md lacks {file}"
+        );
         assert!(header.contains(&format!("BARTHOVIN_{} = {code}", name.to_uppercase())), "barthovin.h lacks {name}");
         assert!(has(&script.replace('_', "-"), &name.replace('_', "-")), "open.py lacks {name}");
         if code <= 10 {

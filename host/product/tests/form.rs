@@ -88,7 +88,10 @@ fn what_is_no_package_is_refused() {
     fs::write(home.join("package"), bytes(PACKAGE)).unwrap();
     let refused = |call: &[&str], wanted: &str, code: i32| {
         let output = run_in(&home, call, &[]);
-        assert_eq!((message(&output), text(&output), status(&output)), (format!("barthovin: {wanted}\n"), String::new(), code));
+        assert_eq!(
+            (message(&output), text(&output), status(&output)),
+            (format!("barthovin: {wanted}\n"), String::new(), code)
+        );
         assert_eq!(names(&home), ["package", "text"]);
     };
     refused(&["elf", "text", "-o", "new"], "text: refused 21: this is no package: it has 10 bytes", 1);

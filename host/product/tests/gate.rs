@@ -261,7 +261,8 @@ fn an_archive_has_all_that_is_installed_and_its_sums() {
     fs::create_dir_all(&unpacked).unwrap();
     shell(&unpacked, &format!("tar xzf ../target/{name}.tar.gz"));
     let unpacked = unpacked.join(&name);
-    let mut wanted: Vec<String> = INSTALLED.iter().map(|name| name.to_string()).chain(["SHA256SUMS".to_string()]).collect();
+    let mut wanted: Vec<String> =
+        INSTALLED.iter().map(|name| name.to_string()).chain(["SHA256SUMS".to_string()]).collect();
     wanted.sort();
     assert_eq!(below(&unpacked), wanted);
     assert_eq!(shell(&unpacked, "sha256sum -c SHA256SUMS").matches(": OK").count(), 11);
@@ -279,7 +280,8 @@ fn the_version_has_the_sum_of_the_sources() {
     let told = text(&run_in(&directory("version"), &["--version"], &[]));
     let lines: Vec<&str> = told.lines().collect();
     assert!(lines.len() == 3 && lines[1].starts_with("proved by "), "{told}");
-    let line = "find crates -path 'crates/*/out' -prune -o -type f -print | LC_ALL=C sort | xargs sha256sum | sha256sum";
+    let line =
+        "find crates -path 'crates/*/out' -prune -o -type f -print | LC_ALL=C sort | xargs sha256sum | sha256sum";
     let manual = fs::read_to_string(format!("{ROOT}/host/product/man/barthovin.1")).unwrap();
     assert!(manual.replace("\\-", "-").contains(line));
     let Ok(sum) = Command::new("sh").current_dir(ROOT).args(["-c", line]).output() else { return };

@@ -45,7 +45,8 @@ fn every_compilation_unit_has_its_source() {
         let json = done(&home, &["list", "-n", "--json", "package"]);
         assert_eq!(json.matches(&format!(",\"name\":\"{source}\"}}")).count(), 1, "{json}");
         let pages = done(&home, &["sheet", "--pages", "package"]);
-        let identity = units(&list)[0].split_whitespace().nth(2).unwrap().trim_start_matches("0x").trim_end_matches(':');
+        let identity =
+            units(&list)[0].split_whitespace().nth(2).unwrap().trim_start_matches("0x").trim_end_matches(':');
         let named = format!("N {identity} {source}\nC {identity} 01 00000000 ");
         assert!(pages.contains(&named) && pages.matches("\nN ").count() == 1, "{pages}");
     }
@@ -56,7 +57,8 @@ fn every_compilation_unit_has_its_source() {
 fn each_unit_has_its_own() {
     let home = directory("sources-several");
     for version in [4, 5] {
-        let files = ["gcc-V-main", "clang-V-race", "gcc-Vt-driver"].map(|name| real_file(&name.replace('V', &version.to_string())));
+        let files = ["gcc-V-main", "clang-V-race", "gcc-Vt-driver"]
+            .map(|name| real_file(&name.replace('V', &version.to_string())));
         let call = [&["pack", "-o", "package.dwp"][..], &files.each_ref().map(String::as_str)].concat();
         assert_eq!(status(&run_in(&home, &call, &[])), 0);
         let list = done(&home, &["list", "--names", "package.dwp"]);
@@ -91,7 +93,8 @@ fn a_page_has_the_files_sum() {
         assert_eq!(format!("SHA-256 {}", text(&told).split(' ').next().unwrap()), lines[1]);
         // But for the head and the names the lines are the sheet's.
         let plain = done(&home, &["sheet", to]);
-        let rest: String = lines[4..].iter().filter(|line| !line.starts_with("N ")).map(|line| format!("{line}\n")).collect();
+        let rest: String =
+            lines[4..].iter().filter(|line| !line.starts_with("N ")).map(|line| format!("{line}\n")).collect();
         assert!(plain == rest && plain.lines().all(|line| line.len() == 39));
     }
 }
@@ -104,7 +107,9 @@ fn shared_runs_are_walked_once() {
     let home = directory("sources-shared");
     let (units, declarations) = (2_000u64, 40_000u32);
     // Declarations of compilation units without an attribute, of codes that no unit has; then code 1 with an inline name.
-    let run: Vec<u8> = (0..declarations).flat_map(|n| [0x80 | n as u8, 0x80 | (n >> 7) as u8, 2 + (n >> 14) as u8, 0x34, 0, 0, 0]).collect();
+    let run: Vec<u8> = (0..declarations)
+        .flat_map(|n| [0x80 | n as u8, 0x80 | (n >> 7) as u8, 2 + (n >> 14) as u8, 0x34, 0, 0, 0])
+        .collect();
     let abbrev = [&run[..], &[1, 0x11, 0, 3, 8, 0, 0, 0]].concat();
     let unit = |identity: u64| {
         let head = [&23u32.to_le_bytes()[..], &[5, 0, 5, 8], &0u32.to_le_bytes(), &identity.to_le_bytes()].concat();
@@ -140,7 +145,8 @@ fn the_script_prints_the_sheet_again() {
     }
     let mut names: Vec<String> = Vec::new();
     for version in [4, 5] {
-        let files = ["gcc-V-main", "clang-V-race", "gcc-Vt-driver"].map(|name| real_file(&name.replace('V', &version.to_string())));
+        let files = ["gcc-V-main", "clang-V-race", "gcc-Vt-driver"]
+            .map(|name| real_file(&name.replace('V', &version.to_string())));
         for form in ["package", "dwp"] {
             names.push(format!("{version}.{form}"));
             let call = [&["pack", "-o", names.last().unwrap()][..], &files.each_ref().map(String::as_str)].concat();

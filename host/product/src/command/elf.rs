@@ -7,10 +7,8 @@ use super::{output, stop, Stop, DONE};
 use crate::elf;
 use std::ffi::OsString;
 
-const OPTIONS: [Known; 2] = [
-    Known { long: "output", short: Some(b'o'), value: true },
-    Known { long: "machine", short: None, value: true },
-];
+const OPTIONS: [Known; 2] =
+    [Known { long: "output", short: Some(b'o'), value: true }, Known { long: "machine", short: None, value: true }];
 
 pub fn run(arguments: &[OsString]) -> Result<u8, Stop> {
     let call = match Call::read("elf", &OPTIONS, arguments)? {
@@ -25,7 +23,8 @@ pub fn run(arguments: &[OsString]) -> Result<u8, Stop> {
     let (usual, machine) = elf::MACHINES[0];
     let machine = known.unwrap_or(machine);
     let file = elf::file_of(&package.bytes, machine);
-    let file = file.map_err(|number| refused_call(&call, &output::shown(to), number, other_machine(machine, number)))?;
+    let file =
+        file.map_err(|number| refused_call(&call, &output::shown(to), number, other_machine(machine, number)))?;
     // It is said before anything is written. Whoever asks for it has the package as it is too.
     if !elf::gives_back(&file, &package.bytes) {
         stop::note(&format!("{}: {NO_READER}: keep {} as it is", output::shown(to), package.shown));

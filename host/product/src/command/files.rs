@@ -63,11 +63,6 @@ pub struct Taken {
     pub machine: Option<u32>,
 }
 
-/// A refusal of one file.
-pub fn refused(file: &str, number: u32, why: Option<String>) -> Stop {
-    Stop::Refused(Refusal { file: file.to_string(), number: Some(number), why: why.unwrap_or_default() }.line())
-}
-
 /// A refusal of what a call asks about; where it asks for JSON, as an object on standard output too.
 pub fn refused_call(call: &Call, file: &str, number: u32, why: Option<String>) -> Stop {
     Refusal { file: file.to_string(), number: Some(number), why: why.unwrap_or_default() }.stop(call)
@@ -92,8 +87,8 @@ pub fn read_package_and_file(call: &Call, name: &OsStr) -> Result<(Taken, Option
 
 /// Says of a file in which no unit can be looked up that it has no index. It is help: the answer is the call's own.
 pub fn note_without_index(shown: &str, package: &[u8]) {
-    let without = Package::read(package).is_ok_and(|p| [1, 2].into_iter().all(|table| p.index(table).is_none()));
-    if without {
+    let has_none = |p: &Package| p.object.is_some() && [1, 2].into_iter().all(|table| p.index(table).is_none());
+    if Package::read(package).is_ok_and(|package| has_none(&package)) {
         stop::note(&format!("{shown}: it has no index: {WITHOUT_INDEX}"));
     }
 }
@@ -273,7 +268,7 @@ impl Joined {
     pub fn notes(&self, names: usize) -> Vec<String> {
         let left_out = match &self.left_out[..] {
             [] => None,
-            [one] => Some(format!("{one} is left out: {}", explain::WITHOUT_DEBUG)),
+            [one] => Some(format!("{one} is left out: {}", without_debug(one))),
             several => {
                 let count = format!("{} of {}", several.len(), show::count(names, "file"));
                 Some(format!("{count} are left out, without debug information: {}", several.join(", ")))
@@ -281,6 +276,12 @@ impl Joined {
         };
         left_out.into_iter().chain(self.uncarried.lines()).collect()
     }
+}
+
+/// Why a file without debug information is of no use. An object file may have it beside.
+fn without_debug(shown: &str) -> String {
+    let wanted = if shown.ends_with(".o") { "; of an object file the .dwo file is wanted" } else { "" };
+    format!("{}{wanted}", explain::WITHOUT_DEBUG)
 }
 
 /// Sections of debug information that packages have no place for, by their names: how many bytes they have, in how many files, and the first of these.
@@ -323,7 +324,7 @@ impl Refusal {
     }
 
     fn without_debug(file: String) -> Refusal {
-        Refusal { file, number: Some(NO_UNIT), why: explain::WITHOUT_DEBUG.to_string() }
+        Refusal { number: Some(NO_UNIT), why: without_debug(&file), file }
     }
 
     /// What can't be taken apart is refused as the packer refuses it alone.

@@ -23,8 +23,7 @@ pub fn run(arguments: &[OsString]) -> Result<u8, Stop> {
     let package = Package::read(&bytes).map_err(|why| Stop::Trouble(format!("{}: {why}", input::shown(name))))?;
     let names = call.has("names").then(|| sources(&package));
     let names = names.as_deref();
-    let told =
-        if call.has("json") { json(&package, bytes.len(), names) } else { text(&package, bytes.len(), names) };
+    let told = if call.has("json") { json(&package, bytes.len(), names) } else { text(&package, bytes.len(), names) };
     output::write_standard(told.as_bytes()).map(|()| DONE)
 }
 
@@ -108,7 +107,8 @@ fn json(package: &Package, length: usize, names: Names) -> String {
         format!("{{\"code\":{code},\"name\":\"{name}\",\"start\":{start},\"length\":{length}}}")
     });
     let _ = write!(out, ",\"sections\":[{}]", sections.collect::<Vec<_>>().join(","));
-    let tables = [1, 2].into_iter().filter_map(|table| package.index(table).map(|index| json_table(table, index, names)));
+    let tables =
+        [1, 2].into_iter().filter_map(|table| package.index(table).map(|index| json_table(table, index, names)));
     let _ = writeln!(out, ",\"tables\":[{}]}}", tables.collect::<Vec<_>>().join(","));
     out
 }
@@ -122,7 +122,8 @@ fn json_table(table: u32, index: &Index, names: Names) -> String {
         let identities: Vec<String> = identities.iter().map(|x| format!("\"{x:#018x}\"")).collect();
         let parts: Vec<String> = (0..index.columns.len()).map(|column| part(row, column)).collect();
         let source = source(names, table, row);
-        let source = source.map(|name| name.map_or("null".to_string(), |name| show::json(&String::from_utf8_lossy(name))));
+        let source =
+            source.map(|name| name.map_or("null".to_string(), |name| show::json(&String::from_utf8_lossy(name))));
         let source = source.map(|source| format!(",\"name\":{source}")).unwrap_or_default();
         format!("{{\"identities\":[{}],\"parts\":{{{}}}{source}}}", identities.join(","), parts.join(","))
     };

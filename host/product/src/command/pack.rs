@@ -19,7 +19,8 @@ use std::os::unix::ffi::OsStrExt;
 const OTHER_MACHINE: u32 = 36;
 
 /// What is said of a package that as an ELF file would be no package any more.
-pub const NO_READER: &str = "no reader could open it as an ELF file, since the first unit of .debug_info.dwo states the DWARF version, \
+pub const NO_READER: &str =
+    "no reader could open it as an ELF file, since the first unit of .debug_info.dwo states the DWARF version, \
                              and there is none";
 
 /// A long bundle: what its packing takes counts.
@@ -63,7 +64,8 @@ pub fn run(arguments: &[OsString]) -> Result<u8, Stop> {
     joined.notes(names.len()).iter().for_each(|note| stop::note(note));
     let added = earlier.as_ref().map(|earlier| earlier.added(names.len() - joined.left_out.len()));
     let namesakes = if call.has("namesakes") { namesakes(&joined, skipped)? } else { Vec::new() };
-    let done = Done { length: 0, skipped, namesakes, added, left_out: joined.left_out.clone(), closed: closed(&package) };
+    let done =
+        Done { length: 0, skipped, namesakes, added, left_out: joined.left_out.clone(), closed: closed(&package) };
     let file = if as_elf { elf_file(&call, to, &package, named, joined)? } else { package };
     match &earlier {
         Some(earlier) => output::write_for(earlier.name, to, &file)?,
@@ -76,7 +78,10 @@ pub fn run(arguments: &[OsString]) -> Result<u8, Stop> {
 /// refused while the files are still there.
 fn elf_file(call: &Call, to: &OsStr, package: &[u8], named: Option<u32>, packed: Joined) -> Result<Lent<u8>, Stop> {
     if !elf::states_version(package) {
-        return Err(Stop::Refused(format!("{}: {NO_READER}; name an output that does not end in .dwp", output::shown(to))));
+        return Err(Stop::Refused(format!(
+            "{}: {NO_READER}; name an output that does not end in .dwp",
+            output::shown(to)
+        )));
     }
     let machine = named.or(packed.machine).unwrap_or(elf::MACHINES[0].1);
     let file = elf::file_in(package, machine, packed.bundle);
@@ -127,7 +132,13 @@ fn say(call: &Call, to: &OsStr, done: Done) -> Result<u8, Stop> {
     let counts = (skipped != Skipped::default()).then(|| show::skipped(skipped));
     let usual = (skipped.namesakes > 0).then(|| show::NAMESAKES.to_string());
     let later = closed.map(add::not_later);
-    let lines = added.iter().map(Added::line).chain(later).chain(counts).chain(usual).chain(namesakes.iter().map(Namesake::line));
+    let lines = added
+        .iter()
+        .map(Added::line)
+        .chain(later)
+        .chain(counts)
+        .chain(usual)
+        .chain(namesakes.iter().map(Namesake::line));
     let text = lines.collect::<Vec<_>>().join("\n");
     if text.is_empty() {
         return Ok(DONE);

@@ -54,7 +54,10 @@ pub fn run(arguments: &[OsString]) -> Result<u8, Stop> {
 /// What is so instead of each condition that fails. Where there is no cu_index nothing more is said of it.
 fn causes(failed: u32) -> Vec<&'static str> {
     let fails = |at: usize| failed >> at & 1 == 1;
-    (0..CAUSES.len()).filter(|at| fails(*at) && !(ABOUT_INDEX.contains(at) && fails(HAS_INDEX))).map(|at| CAUSES[at]).collect()
+    (0..CAUSES.len())
+        .filter(|at| fails(*at) && !(ABOUT_INDEX.contains(at) && fails(HAS_INDEX)))
+        .map(|at| CAUSES[at])
+        .collect()
 }
 
 pub fn tables(arguments: &[OsString]) -> Result<u8, Stop> {

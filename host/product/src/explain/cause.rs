@@ -155,7 +155,9 @@ fn bad_index(object: &Object) -> Option<String> {
     [CU_INDEX, TU_INDEX].into_iter().find_map(|code| {
         let section = object.section(code)?;
         match Index::read(section.bytes, object.encoding.big) {
-            Err(why) => Some(format!("{}: {why}{}", section_name(code), empty_index(code, section.bytes, object.encoding.big))),
+            Err(why) => {
+                Some(format!("{}: {why}{}", section_name(code), empty_index(code, section.bytes, object.encoding.big)))
+            }
             Ok(index) if (index.version == 5) != (object.encoding.version() == 5) => {
                 Some(format!("{} has version {}", section_name(code), index.version))
             }

@@ -140,7 +140,8 @@ fn without_info(sections: &[Section]) -> String {
         return format!("its debug sections are compressed in the older way; {UNCOMPRESSED}");
     }
     if has(&|name| name.starts_with(b".gnu.debuglto_")) {
-        return "its debug information is put off until the link, as gcc -flto does it; compile without -flto".to_string();
+        return "its debug information is put off until the link, as gcc -flto does it; compile without -flto"
+            .to_string();
     }
     if has(&|name| is_debug(name) && !name.ends_with(b".dwo") && code(name).is_none()) {
         return "it is an object file, and its .dwo file is wanted, which -gsplit-dwarf writes beside it".to_string();
