@@ -14,9 +14,11 @@ mod output;
 mod pack;
 mod profile;
 mod progress;
+mod refusals;
 mod sheet;
 mod show;
 mod stop;
+mod uncarried;
 mod verify;
 
 pub use meaning::meaning;

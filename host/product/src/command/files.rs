@@ -2,17 +2,17 @@
 
 use super::call::Call;
 use super::input::Most;
-use super::pack::package_of;
-use super::{input, meaning, output, progress, show, stop, Stop};
+use super::refusals::{without_debug, Refusal, Refusals};
+use super::uncarried::Uncarried;
+use super::{input, progress, show, stop, Stop};
 use crate::answer::Found;
 use crate::elf;
-use crate::explain::{self, Names};
+use crate::explain;
 use crate::ffi;
 use crate::lent::Lent;
 use crate::names::{LONGEST_BUNDLE, LONGEST_PACKAGE, OUTPUT_TOO_SHORT};
 use crate::reader::bundle::{end_word, Bundle};
 use crate::reader::package::Package;
-use std::collections::BTreeMap;
 use std::ffi::{OsStr, OsString};
 use std::fs;
 use std::os::unix::ffi::OsStrExt;
@@ -28,12 +28,6 @@ const WORD: usize = 4;
 
 /// The refusal of what is no package.
 const NOT_A_PACKAGE: u32 = 21;
-
-/// The refusal of an ELF file without a unit.
-const NO_UNIT: u32 = 33;
-
-/// So many sections without a place are told one by one.
-const TOLD: usize = 20;
 
 /// The longest list of files.
 const LONGEST_LIST: usize = 1 << 26;
@@ -275,145 +269,6 @@ impl Joined {
             }
         };
         left_out.into_iter().chain(self.uncarried.lines()).collect()
-    }
-}
-
-/// Why a file without debug information is of no use. An object file may have it beside.
-fn without_debug(shown: &str) -> String {
-    let wanted = if shown.ends_with(".o") { "; of an object file the .dwo file is wanted" } else { "" };
-    format!("{}{wanted}", explain::WITHOUT_DEBUG)
-}
-
-/// Sections of debug information that packages have no place for, by their names: how many bytes they have, in how many files, and the first of these.
-#[derive(Debug, Default)]
-pub struct Uncarried {
-    sections: BTreeMap<String, (u64, usize, String)>,
-}
-
-impl Uncarried {
-    fn add(&mut self, shown: &str, file: &[u8]) {
-        for (section, bytes) in explain::uncarried(file) {
-            let seen = self.sections.entry(section).or_insert_with(|| (0, 0, shown.to_string()));
-            (seen.0, seen.1) = (seen.0.saturating_add(bytes), seen.1 + 1);
-        }
-    }
-
-    fn lines(&self) -> Vec<String> {
-        let line = |(section, (bytes, sections, first)): (&String, &(u64, usize, String))| {
-            let more = if *sections > 1 { format!(" and {} more", sections - 1) } else { String::new() };
-            format!("{section} is not packed, a package has no place for it: {bytes} bytes of {first}{more}")
-        };
-        let mut lines: Vec<String> = self.sections.iter().take(TOLD).map(line).collect();
-        let more = self.sections.len().saturating_sub(TOLD);
-        lines.extend((more > 0).then(|| format!("and so are {more} more sections")));
-        lines
-    }
-}
-
-/// A file that is refused: by a number, or without one for its byte order.
-struct Refusal {
-    file: String,
-    number: Option<u32>,
-    why: String,
-}
-
-impl Refusal {
-    fn of_elf(shown: &str, number: u32, file: &[u8]) -> Refusal {
-        let why = explain::reading_elf(file, number).unwrap_or_default();
-        Refusal { file: shown.to_string(), number: Some(number), why }
-    }
-
-    fn without_debug(file: String) -> Refusal {
-        Refusal { number: Some(NO_UNIT), why: without_debug(&file), file }
-    }
-
-    /// What can't be taken apart is refused as the packer refuses it alone.
-    fn of_bundle(shown: &str, bytes: &[u8]) -> Refusal {
-        let (number, names) = (package_of(bytes).err(), Names { files: &[] });
-        let why = number.map(|number| explain::packing(bytes, number, &names).map(|why| why.told(&names)));
-        let why = why.map_or_else(|| "the host can't take it apart".to_string(), Option::unwrap_or_default);
-        Refusal { file: shown.to_string(), number, why }
-    }
-
-    fn is_of_no_unit(&self) -> bool {
-        self.number == Some(NO_UNIT)
-    }
-
-    fn line(&self) -> String {
-        let Refusal { file, number, why } = self;
-        let refused = number.map(|number| format!("refused {number}: {}", meaning(number)));
-        let told = refused.into_iter().chain([why.clone()].into_iter().filter(|why| !why.is_empty()));
-        format!("{file}: {}", told.collect::<Vec<_>>().join(": "))
-    }
-
-    fn stop(self, call: &Call) -> Stop {
-        let mut refusals = Refusals::of(call, 1);
-        refusals.push(self);
-        refusals.stop()
-    }
-}
-
-/// What can't be taken of so many files: all of it is told at once, so that no file has to wait for another one's turn.
-pub struct Refusals<'c> {
-    call: &'c Call,
-    files: usize,
-    lines: Vec<String>,
-    /// The first number, which is told as JSON too.
-    number: Option<u32>,
-    is_trouble: bool,
-}
-
-impl<'c> Refusals<'c> {
-    pub fn of(call: &'c Call, files: usize) -> Refusals<'c> {
-        Refusals { call, files, lines: Vec::new(), number: None, is_trouble: false }
-    }
-
-    fn push(&mut self, refusal: Refusal) {
-        self.number = self.number.or(refusal.number);
-        self.lines.push(refusal.line());
-    }
-
-    /// The same by its parts.
-    pub fn add(&mut self, file: &str, number: u32, why: String) {
-        self.push(Refusal { file: file.to_string(), number: Some(number), why });
-    }
-
-    /// A file that can't be read; whatever else stops the command does so at once.
-    fn trouble(&mut self, stop: Stop) -> Result<(), Stop> {
-        let Stop::Trouble(message) = stop else { return Err(stop) };
-        self.lines.push(message);
-        self.is_trouble = true;
-        Ok(())
-    }
-
-    fn is_empty(&self) -> bool {
-        self.lines.is_empty()
-    }
-
-    fn told(self) -> Result<(), Stop> {
-        if self.is_empty() {
-            return Ok(());
-        }
-        Err(self.stop())
-    }
-
-    /// A line for each; as JSON the first number stands on standard output too.
-    pub fn stop(mut self) -> Stop {
-        if let Some(number) = self.number.filter(|_| self.call.has("json")) {
-            if let Err(stop) = output::print(&show::refused_json(number)) {
-                return stop;
-            }
-        }
-        if self.lines.len() > 1 {
-            let count = self.lines.len();
-            self.lines.push(format!("{count} of {} can't be taken", show::count(self.files, "file")));
-        }
-        let message = self.lines.join("\nbarthovin: ");
-        if self.is_trouble {
-            Stop::Trouble(message)
-        } else {
-            Stop::Refused(message)
-        }
     }
 }
 

@@ -2,7 +2,8 @@
 
 use super::add::{self, Added, Earlier};
 use super::call::{Call, Known};
-use super::files::{join, listed, refused_call, Joined, Refusals};
+use super::files::{join, listed, refused_call, Joined};
+use super::refusals::Refusals;
 use super::{input, output, progress, show, stop, Stop, DONE};
 use crate::closed::closed;
 use crate::elf;
