@@ -176,3 +176,22 @@ fn commands() {
         assert!(manual.contains(&format!("\n.B {name}\n")), "the manual page says nothing of {name}");
     }
 }
+
+/// What the library takes from the C library is named in the header and in the README.
+#[test]
+fn what_the_library_needs() {
+    let Ok(told) = std::process::Command::new("nm").args(["-u", env!("BARTHOVIN_STATIC_LIBRARY")]).output() else {
+        println!("nm is not at hand: the library's needs are not read");
+        return;
+    };
+    let told = text(&told);
+    let needed: BTreeSet<&str> =
+        told.lines().filter_map(|line| line.trim().strip_prefix("U ")).map(str::trim).collect();
+    assert!(needed.contains("memcpy"), "{needed:?}");
+    for page in ["host/product/include/barthovin.h", "README.md"] {
+        let text = read(page);
+        for name in &needed {
+            assert!(has(&text, name), "{page} lacks {name}");
+        }
+    }
+}

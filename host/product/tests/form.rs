@@ -69,7 +69,7 @@ fn a_file_that_no_reader_opens_is_told_before_it_is_written() {
     let why = "no reader could open it as an ELF file, since the first unit of .debug_info.dwo states the DWARF version, and there is none";
     for name in ["types", "nothing"] {
         let output = run_in(&home, &["pack", name, "-o", "out.dwp"], &[]);
-        let wanted = format!("barthovin: out.dwp: {why}; name an output that does not end in .dwp\n");
+        let wanted = format!("barthovin: out.dwp: {why}: write the package as it is, without --elf or .dwp\n");
         assert_eq!((message(&output), status(&output)), (wanted, 1));
         assert!(!home.join("out.dwp").exists());
         assert_eq!(status(&run_in(&home, &["pack", name, "-o", "package"], &[])), 0);

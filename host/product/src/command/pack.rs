@@ -80,7 +80,7 @@ pub fn run(arguments: &[OsString]) -> Result<u8, Stop> {
 fn elf_file(call: &Call, to: &OsStr, package: &[u8], named: Option<u32>, packed: Joined) -> Result<Lent<u8>, Stop> {
     if !elf::states_version(package) {
         return Err(Stop::Refused(format!(
-            "{}: {NO_READER}; name an output that does not end in .dwp",
+            "{}: {NO_READER}: write the package as it is, without --elf or .dwp",
             output::shown(to)
         )));
     }
