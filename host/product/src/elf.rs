@@ -75,12 +75,15 @@ pub fn states_version(package: &[u8]) -> bool {
     read.is_ok_and(|read| read.objects.first().is_some_and(|object| !object.bytes(INFO).is_empty()))
 }
 
-/// Whether an ELF file gives a package back, byte for byte. The reader says it.
-pub fn gives_back(file: &[u8], package: &[u8]) -> bool {
+/// Whether a package's ELF file can be opened and states what the package states. The reader says it.
+pub fn opens(file: &[u8], package: &[u8]) -> bool {
     let mut again = Lent::zeros(package.len());
-    let read = read(file, &mut again);
-    read == (0, package.len()) && again[..] == *package
+    let (code, _) = read(file, &mut again);
+    code == 0 && again[..STATED] == package[..STATED]
 }
+
+/// The bytes of the words that state byte order, version, offset width and address size.
+const STATED: usize = 8;
 
 /// The machine that an ELF file's header names, in the byte order that it names.
 pub fn machine_of(file: &[u8]) -> Option<u32> {

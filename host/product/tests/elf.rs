@@ -164,7 +164,11 @@ fn what_is_no_file_to_read_is_told() {
     told(&["bundle", ".", "-o", "new"], ".: Is a directory", 2);
     told(&["pack", ".", "-o", "new"], ".: Is a directory", 2);
     let length = "refused 1: a bundle has 8 to 4,194,304 bytes, a multiple of 4";
-    told(&["pack", "empty", "text", "-o", "new"], &format!("empty: {length}: it has 0 bytes"), 1);
+    let text = "it has 9 bytes; it is a text: a list of files has @ before its name";
+    let both = format!(
+        "empty: {length}: it has 0 bytes\nbarthovin: text: {length}: {text}\nbarthovin: 2 of 2 files can't be taken"
+    );
+    told(&["pack", "empty", "text", "-o", "new"], &both, 1);
     let hint = "Try 'barthovin bundle --help' for more information.";
     told(&["bundle", "text"], &format!("no output is named: -o BUNDLE\n{hint}"), 2);
     told(&["bundle", "text", "empty", "-onew"], &format!("extra operand 'empty'\n{hint}"), 2);

@@ -66,7 +66,8 @@ fn a_file_that_no_reader_opens_is_told_before_it_is_written() {
     let home = directory("form-unreadable");
     fs::write(home.join("types"), bytes(TYPES)).unwrap();
     fs::write(home.join("nothing"), bytes(NOTHING)).unwrap();
-    let why = "no reader could open it as an ELF file, since the first unit of .debug_info.dwo states the DWARF version, and there is none";
+    let why =
+        "no reader could open it as an ELF file, where only a unit of .debug_info.dwo says which DWARF version it has";
     for name in ["types", "nothing"] {
         let output = run_in(&home, &["pack", name, "-o", "out.dwp"], &[]);
         let wanted = format!("barthovin: out.dwp: {why}: write the package as it is, without --elf or .dwp\n");

@@ -47,7 +47,7 @@ fn every_compilation_unit_has_its_source() {
         let pages = done(&home, &["sheet", "--pages", "package"]);
         let identity =
             units(&list)[0].split_whitespace().nth(2).unwrap().trim_start_matches("0x").trim_end_matches(':');
-        let named = format!("N {identity} {source}\nC {identity} 01 00000000 ");
+        let named = format!("N {identity} {source}\nC {identity} 01 ");
         assert!(pages.contains(&named) && pages.matches("\nN ").count() == 1, "{pages}");
     }
 }

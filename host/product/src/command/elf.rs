@@ -26,7 +26,7 @@ pub fn run(arguments: &[OsString]) -> Result<u8, Stop> {
     let file =
         file.map_err(|number| refused_call(&call, &output::shown(to), number, other_machine(machine, number)))?;
     // It is said before anything is written. Whoever asks for it has the package as it is too.
-    if !elf::gives_back(&file, &package.bytes) {
+    if !elf::opens(&file, &package.bytes) {
         stop::note(&format!("{}: {NO_READER}: keep {} as it is", output::shown(to), package.shown));
     } else {
         note_without_index(&package.shown, &package.bytes);

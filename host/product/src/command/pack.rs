@@ -21,8 +21,7 @@ const OTHER_MACHINE: u32 = 36;
 
 /// What is said of a package that as an ELF file would be no package any more.
 pub const NO_READER: &str =
-    "no reader could open it as an ELF file, since the first unit of .debug_info.dwo states the DWARF version, \
-                             and there is none";
+    "no reader could open it as an ELF file, where only a unit of .debug_info.dwo says which DWARF version it has";
 
 /// A long bundle: what its packing takes counts.
 const LONG: usize = 1 << 20;

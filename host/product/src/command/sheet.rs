@@ -110,7 +110,7 @@ fn pages(head: &Head, lines: &[String]) -> String {
         let here = &lines[first..lines.len().min(first + PAGE - HEAD)];
         out += &format!("{name}, {}, page {} of {count}\n", show::count(*length, "byte"), page + 1);
         out += &format!("SHA-256 {sum}\n");
-        out += "C or T, identity, section, offset and size in it, hexadecimal but for the section; N, identity, source\n\n";
+        out += "C, T: identity, section, offset, size, hexadecimal but section; N: its source\n\n";
         here.iter().for_each(|line| out += &format!("{line}\n"));
     }
     out
