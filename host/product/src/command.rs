@@ -5,6 +5,7 @@ mod bundle;
 mod call;
 mod elf;
 mod files;
+mod guard;
 mod help;
 mod input;
 mod list;
@@ -18,11 +19,13 @@ mod refusals;
 mod sheet;
 mod show;
 mod stop;
+mod streams;
 mod uncarried;
 mod verify;
 
 pub use meaning::meaning;
 pub use show::escaped;
+pub use streams::look;
 
 use std::ffi::OsString;
 use stop::Stop;

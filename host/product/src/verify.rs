@@ -17,6 +17,9 @@ use std::ops::Range;
 /// What was found, and what was not.
 #[derive(Debug, Default)]
 pub struct Report {
+    /// Of the bundle, and those of them that have no unit: nothing was looked for there.
+    pub objects: usize,
+    pub without_units: usize,
     pub units: usize,
     /// Type units whose signature was there before, in the same bytes and in others: of each signature the package has the first.
     pub skipped: Skipped,
@@ -122,7 +125,10 @@ impl Pair<'_> {
         for (object, number) in objects.iter().zip(1..) {
             let indexes = [12, 13].map(|code| Index::read(object.bytes(code), object.encoding.big).ok());
             let identities = Identities::of(object);
-            for span in spans(object) {
+            let spans = spans(object);
+            self.report.objects += 1;
+            self.report.without_units += usize::from(spans.is_empty());
+            for span in spans {
                 self.report.units += 1;
                 let unit = match identities.identity(&span) {
                     Ok((table, identity)) => Unit { table, identity },

@@ -5,10 +5,13 @@ mod common;
 
 use common::*;
 use std::fs::{self, Permissions};
+use std::io::Write;
 use std::os::unix::fs::{chown, MetadataExt, PermissionsExt};
 use std::os::unix::process::CommandExt;
 use std::path::Path;
-use std::process::Output;
+use std::process::{Child, Output};
+use std::thread::sleep;
+use std::time::Duration;
 
 const FILES: &str = concat!(env!("CARGO_MANIFEST_DIR"), "/../../examples/real/files");
 const PACKAGES: &str = concat!(env!("CARGO_MANIFEST_DIR"), "/../../examples/real/packages");
@@ -306,4 +309,122 @@ fn a_closed_folder_keeps_the_package() {
     let wanted = "barthovin: package: it was read, and no new file can take its place: name another output\n";
     assert_eq!((message(&output).as_str(), status(&output)), (wanted, 2));
     assert!(read(&home, "package") == before);
+}
+
+/// A run that adds a file from standard input to the package: from now on until it is handed the file it holds the package, which it has read.
+fn adds_from_input(home: &Path) -> Child {
+    let run = command(home, &["pack", "--add", "package", "-", "-o", "package"]).spawn().unwrap();
+    let is_free = || fs::File::open(home.join("package")).unwrap().try_lock().is_ok();
+    let tries = (0..10_000).take_while(|_| is_free()).inspect(|_| sleep(Duration::from_millis(1))).count();
+    assert!(tries < 10_000, "it holds nothing");
+    sleep(LONG);
+    run
+}
+
+fn hand(mut child: Child, file: &str) -> Output {
+    child.stdin.take().unwrap().write_all(&fs::read(file).unwrap()).unwrap();
+    child.wait_with_output().unwrap()
+}
+
+/// Long enough for a run that nothing holds to end many times over.
+const LONG: Duration = Duration::from_millis(300);
+
+/// A package of one file, and the files that are added to it.
+fn to_be_added_to(name: &str) -> (std::path::PathBuf, [String; 3]) {
+    let home = directory(name);
+    let files = ["gcc-4-main", "gcc-4-race", "clang-4-main"].map(file);
+    done(&home, &["pack", &files[0], "-o", "package"]);
+    (home, files)
+}
+
+/// The second run waits for the first, and adds to what that one wrote; by a link too.
+#[test]
+fn the_second_run_waits() {
+    let (home, [main, race, other]) = to_be_added_to("add-waits");
+    let _link = Link::to("package", home.join("link"));
+    done(&home, &["pack", &main, &race, &other, "-o", "all"]);
+    let first = adds_from_input(&home);
+    let mut second = command(&home, &["pack", "--add", "link", &other, "-o", "package"]).spawn().unwrap();
+    sleep(LONG);
+    assert!(second.try_wait().unwrap().is_none(), "it did not wait");
+    let first = hand(first, &race);
+    assert_eq!((message(&first), status(&first)), (String::new(), 0));
+    let second = second.wait_with_output().unwrap();
+    assert_eq!((message(&second), text(&second)), (String::new(), format!("1 file added to link{SAME}")));
+    assert!(read(&home, "package") == read(&home, "all"));
+    assert_eq!(names(&home), ["all", "link", "package"]);
+}
+
+/// Who is killed holds nothing any more, and has left nothing.
+#[test]
+fn a_killed_run_holds_nothing() {
+    let (home, [main, race, other]) = to_be_added_to("add-killed");
+    let mut first = adds_from_input(&home);
+    let second = command(&home, &["pack", "--add", "package", &other, "-o", "package"]).spawn().unwrap();
+    let third = command(&home, &["pack", &main, &race, "-o", "package"]).spawn().unwrap();
+    sleep(LONG);
+    first.kill().unwrap();
+    first.wait().unwrap();
+    for output in [second.wait_with_output().unwrap(), third.wait_with_output().unwrap()] {
+        assert_eq!((message(&output), status(&output)), (String::new(), 0));
+    }
+    assert_eq!(names(&home), ["package"]);
+}
+
+/// A program that heeds no lock replaces or writes the package meanwhile: nothing of it is lost, and that is told.
+#[test]
+fn a_package_that_was_changed_is_left() {
+    let (home, [main, race, other]) = to_be_added_to("add-changed");
+    done(&home, &["pack", &main, &other, "-o", "other"]);
+    let changes: [&dyn Fn(); 2] = [&|| fs::rename(home.join("other"), home.join("package")).unwrap(), &|| {
+        let mut file = fs::OpenOptions::new().append(true).open(home.join("package")).unwrap();
+        file.write_all(b"more").unwrap();
+    }];
+    for change in changes {
+        let run = adds_from_input(&home);
+        change();
+        let before = read(&home, "package");
+        let output = hand(run, &race);
+        let told = "barthovin: package: it was changed since it was read, and is left as it is: do it again\n";
+        assert_eq!((message(&output).as_str(), text(&output).as_str(), status(&output)), (told, "", 2));
+        assert!(read(&home, "package") == before);
+        assert_eq!(names(&home), ["package"]);
+    }
+}
+
+/// Standard input was opened from a package that another run replaces before this one may add to it.
+#[test]
+fn a_replaced_package_on_standard_input_is_told() {
+    let (home, [_, race, other]) = to_be_added_to("add-input");
+    let first = adds_from_input(&home);
+    let mut second = command(&home, &["pack", "--add", "-", &other, "-o", "package"]);
+    let second = second.stdin(fs::File::open(home.join("package")).unwrap()).spawn().unwrap();
+    sleep(LONG);
+    assert_eq!(status(&hand(first, &race)), 0);
+    let after = read(&home, "package");
+    let output = second.wait_with_output().unwrap();
+    let told = "barthovin: package: it was changed since it was read, and is left as it is: do it again\n";
+    assert_eq!((message(&output).as_str(), status(&output)), (told, 2));
+    assert!(read(&home, "package") == after);
+}
+
+/// Files added at once, by two runs: all are there, each time.
+#[test]
+fn two_runs_at_once_keep_both_files() {
+    let (home, [main, race, other]) = to_be_added_to("add-at-once");
+    let first = read(&home, "package");
+    let orders = [[&race, &other], [&other, &race]];
+    let all = orders.map(|[one, two]| {
+        done(&home, &["pack", &main, one, two, "-o", "all"]);
+        read(&home, "all")
+    });
+    for _ in 0..20 {
+        fs::write(home.join("package"), &first).unwrap();
+        let add = |file: &String| command(&home, &["pack", "--add", "package", file, "-o", "package"]).spawn().unwrap();
+        for run in [add(&race), add(&other)] {
+            assert_eq!(status(&run.wait_with_output().unwrap()), 0);
+        }
+        assert!(all.contains(&read(&home, "package")));
+    }
+    assert_eq!(names(&home), ["all", "package"]);
 }

@@ -173,6 +173,13 @@ fn what_is_not_packed_is_told() {
     let start = "barthovin: .debug_lost.dwo is not packed, a package has no place for it: ";
     let told = message(&output);
     assert!(told.starts_with(start) && told.ends_with(" bytes of lost.dwo\n") && status(&output) == 0, "{told}");
+    let output = run_in(&home, &["verify", "package", "lost.dwo", "gcc-5-race.dwo"], &[]);
+    let told = message(&output);
+    assert!(
+        told.contains("lost.dwo: its .debug_lost.dwo, ") && told.ends_with("\nbarthovin: keep the files\n"),
+        "{told}"
+    );
+    assert_eq!((text(&output), status(&output)), (String::new(), 1));
     lost("more.dwo", "gcc-5-race");
     let told = message(&run_in(&home, &["pack", "lost.dwo", "more.dwo", "-o", "package"], &[]));
     assert!(told.starts_with(start) && told.ends_with(" bytes of lost.dwo and 1 more\n"), "{told}");

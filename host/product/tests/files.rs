@@ -9,6 +9,8 @@ use std::os::unix::process::CommandExt;
 use std::path::Path;
 use std::process::Output;
 
+const RACE: &str = concat!(env!("CARGO_MANIFEST_DIR"), "/../../examples/real/files/gcc-5-race.dwo");
+
 fn pack_to(home: &Path, file: &str) -> Output {
     run_in(home, &["pack", EXAMPLE, "-o", file], &[])
 }
@@ -115,4 +117,116 @@ fn a_file_is_written_where_no_other_may_stand_beside_it() {
     let output = pack_as_someone(&home, "new");
     assert_eq!((message(&output).as_str(), status(&output)), ("barthovin: new: Permission denied\n", 2));
     fs::set_permissions(&home, Permissions::from_mode(0o755)).unwrap();
+}
+
+/// A run that was killed may leave a file beside the output. In a container the next one has its process number.
+#[test]
+fn a_file_left_by_the_same_process_number_is_no_hindrance() {
+    let home = directory("same-number");
+    fs::write(home.join("old"), b"old").unwrap();
+    for name in ["new", "old"] {
+        let output = shell(&home, &format!("echo left > .barthovin.$$.part; exec $B pack {EXAMPLE} -o {name}"));
+        assert_eq!((message(&output), status(&output)), (String::new(), 0));
+        assert_eq!(fs::read(home.join(name)).unwrap(), bytes(PACKAGE));
+    }
+    let calls = "cp new package; echo left > .barthovin.$$.part; exec $B pack --add package race.dwo -o package --json";
+    fs::copy(RACE, home.join("race.dwo")).unwrap();
+    let output = shell(&home, calls);
+    assert_eq!((message(&output), status(&output)), (String::new(), 0));
+    let left: Vec<String> = names(&home).into_iter().filter(|name| name.starts_with('.')).collect();
+    assert_eq!(left.len(), 3, "{left:?}");
+    assert!(left.iter().all(|name| fs::read(home.join(name)).unwrap() == b"left\n"));
+}
+
+/// What is written to a closed stream is lost, and the package may be the only copy.
+#[test]
+fn a_closed_output_is_told() {
+    let home = directory("closed-output");
+    fs::write(home.join("package"), bytes(PACKAGE)).unwrap();
+    for call in
+        ["pack EXAMPLE -o -", "pack EXAMPLE -o /dev/stdout", "list package", "lookup -r package cu 1 section info"]
+    {
+        let output = shell(&home, &format!("exec $B {} >&-", call.replace("EXAMPLE", EXAMPLE)));
+        let told = "barthovin: standard output: it is closed\n";
+        assert_eq!((message(&output).as_str(), status(&output)), (told, 2), "{call}");
+    }
+    // A stream that leads nowhere is wanted so.
+    for stream in ["> /dev/null", "1<> /dev/null"] {
+        assert_eq!(status(&shell(&home, &format!("exec $B list package {stream}"))), 0);
+    }
+}
+
+/// A name of an open file is written to where its last byte went: nothing that was written there is lost.
+#[test]
+fn open_files_are_written_on() {
+    let home = directory("open-files");
+    let package = bytes(PACKAGE);
+    let log = |script: &str, wanted: &[u8]| {
+        let script = script.replace("PACK", &format!("$B pack {EXAMPLE} -o"));
+        let output = shell(&home, &format!("echo kept > log; {script}"));
+        assert_eq!((message(&output), status(&output)), (String::new(), 0), "{script}");
+        assert!(fs::read(home.join("log")).unwrap() == wanted, "{script}");
+        assert_eq!(names(&home), ["log", "stream"]);
+    };
+    let _link = Link::to("/dev/stdout", home.join("stream"));
+    let behind = [b"kept\n", &package[..]].concat();
+    for name in ["/dev/stdout", "/dev/fd/1", "/proc/self/fd/1", "stream", "-"] {
+        log(&format!("PACK {name} >> log"), &behind);
+        let between = [b"first\n", &package[..], b"last\n"].concat();
+        log(&format!("(echo first; PACK {name}; echo last) > log"), &between);
+    }
+    log("PACK /dev/fd/3 3>> log", &behind);
+    // One of another process.
+    log("exec 3>> log; PACK /proc/$$/fd/3", &behind);
+}
+
+/// What is said of a package isn't said in it, whatever name standard output has.
+#[test]
+fn standard_output_has_the_package_alone() {
+    let home = directory("package-alone");
+    fs::copy(RACE, home.join("race.dwo")).unwrap();
+    packed(&home, "package");
+    for name in ["/dev/stdout", "/dev/fd/1", "-"] {
+        let output = run_in(&home, &["pack", "--add", "package", "race.dwo", "-o", name], &[]);
+        assert!(message(&output).starts_with("1 file added to package: ") && status(&output) == 0);
+        assert_eq!(status(&run_in(&home, &["pack", "--add", "package", "race.dwo", "-o", "new"], &[])), 0);
+        assert!(output.stdout == fs::read(home.join("new")).unwrap(), "{name}");
+        let output = run_in(&home, &["pack", "race.dwo", "-o", name, "--json"], &[]);
+        assert!(message(&output).starts_with("barthovin: option '--json' needs standard output for itself"));
+        assert_eq!((text(&output), status(&output)), (String::new(), 2));
+    }
+}
+
+#[test]
+fn pipes_are_written_to() {
+    let home = directory("pipes");
+    let output = shell(
+        &home,
+        &format!("mkfifo pipe && {{ cat pipe > out & $B pack {EXAMPLE} -o pipe; s=$?; wait; rm pipe; exit $s; }}"),
+    );
+    assert_eq!((message(&output), status(&output)), (String::new(), 0));
+    assert_eq!(fs::read(home.join("out")).unwrap(), bytes(PACKAGE));
+    assert_eq!(names(&home), ["out"]);
+}
+
+/// As root: a new file with the old one's owner, group and mode takes its place.
+#[test]
+fn the_owner_stays() {
+    if !is_root() {
+        println!("not root: nobody else's files can be made");
+        return;
+    }
+    let home = directory("owner");
+    for (owner, group, wanted) in [(65_534, 65_534, 0o640), (65_534, 0, 0o600), (0, 65_534, 0o2755)] {
+        fs::write(home.join("old"), b"old").unwrap();
+        std::os::unix::fs::chown(home.join("old"), Some(owner), Some(group)).unwrap();
+        fs::set_permissions(home.join("old"), Permissions::from_mode(wanted)).unwrap();
+        let before = fs::metadata(home.join("old")).unwrap();
+        packed(&home, "old");
+        let after = fs::metadata(home.join("old")).unwrap();
+        assert_eq!((after.uid(), after.gid(), after.mode() & 0o7777), (owner, group, wanted));
+        assert!(after.ino() != before.ino(), "it was written in place");
+        assert_eq!(names(&home), ["old"]);
+        fs::remove_file(home.join("old")).unwrap();
+    }
 }

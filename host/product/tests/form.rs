@@ -34,7 +34,11 @@ fn a_package_becomes_the_file_that_pack_writes() {
         done(&home, &["elf", "arm.dwp", "-o", "same.dwp"]);
         assert_eq!(read(&home, "same.dwp"), read(&home, "arm.dwp"));
         assert_eq!(read(&home, "arm.dwp")[18..20], [183, 0]);
-        done(&home, &["elf", "arm.dwp", "--machine", "x86-64", "-o", "arm.dwp"]);
+        // What is read is written over only where that is asked for.
+        let over = ["elf", "arm.dwp", "--machine", "x86-64", "-o", "arm.dwp"];
+        assert_eq!(status(&run_in(&home, &over, &[])), 2);
+        assert_eq!(read(&home, "arm.dwp"), read(&home, "same.dwp"));
+        done(&home, &[&over[..], &["--force"]].concat());
         assert_eq!(read(&home, "arm.dwp"), read(&home, "wanted.dwp"));
     }
 }

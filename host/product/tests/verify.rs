@@ -57,9 +57,11 @@ fn what_was_packed_is_found() {
     ] {
         let files = files(version, big);
         let files: Vec<&str> = files.iter().map(String::as_str).collect();
+        let read = if big { "1 file, 1 object: " } else { "6 files, 6 objects: " };
+        let told = format!("{read}{told}");
         assert_eq!(status(&run_in(&home, &[&["pack", "-oout"], &files[..]].concat(), &[])), 0);
         let output = run_in(&home, &[&["verify", "out"], &files[..]].concat(), &[]);
-        assert_eq!((text(&output), message(&output), status(&output)), (told.to_string(), String::new(), 0));
+        assert_eq!((text(&output), message(&output), status(&output)), (told.clone(), String::new(), 0));
         // A package in the place of the file it was made of.
         if files.len() == 1 {
             assert_eq!(status(&run_in(&home, &["pack", "out", "-oagain"], &[])), 0);
@@ -67,7 +69,7 @@ fn what_was_packed_is_found() {
         }
     }
     let output = run_in(&home, &["verify", "-", EXAMPLE, "--json"], &bytes(PACKAGE));
-    let told = "{\"verified\":true,\"units\":1,\"repeats\":0,\"namesakes\":0,\"strings\":0,\"faults\":[]}\n";
+    let told = "{\"verified\":true,\"units\":1,\"repeats\":0,\"namesakes\":0,\"strings\":0,\"files\":1,\"objects\":1,\"faults\":[]}\n";
     assert_eq!((text(&output), status(&output)), (told.to_string(), 0));
 }
 
@@ -109,6 +111,86 @@ fn lists_of_files_are_taken() {
     );
     let empty = run_in(&home, &["pack", "@-", "-oout"], &[]);
     assert!(message(&empty).starts_with("barthovin: the list names no file\n") && status(&empty) == 2);
+}
+
+/// Names with a NUL between them, as `find -print0` writes them, may hold anything else.
+#[test]
+fn lists_with_nuls_are_taken() {
+    let home = directory("lists-nul");
+    let files = files(5, false);
+    let odd = ["#first", "with\nnewline", "ends in\r"];
+    for (name, file) in odd.iter().zip(&files) {
+        fs::copy(file, home.join(name)).unwrap();
+    }
+    fs::write(home.join("list"), format!("{}\0", odd.join("\0"))).unwrap();
+    let done = |arguments: &[&str], input: &[u8]| {
+        let output = run_in(&home, arguments, input);
+        assert_eq!((message(&output), status(&output)), (String::new(), 0), "{arguments:?}");
+        text(&output)
+    };
+    done(&["pack", &files[0], &files[1], &files[2], "-o", "wanted"], &[]);
+    done(&["pack", "@list", "-o", "out"], &[]);
+    assert!(fs::read(home.join("out")).unwrap() == fs::read(home.join("wanted")).unwrap());
+    let told = done(&["verify", "out", "@list"], &[]);
+    assert!(told.starts_with("3 files, 3 objects: ") && told.ends_with("; the files may be deleted\n"), "{told}");
+    // No NUL behind the last one, and empty names, which are none.
+    assert_eq!(done(&["verify", "out", "@-"], format!("\0\0{}", odd.join("\0")).as_bytes()), told);
+    let missing = run_in(&home, &["verify", "out", "@-"], b"#first\0#missing\0");
+    assert_eq!((message(&missing).as_str(), status(&missing)), ("barthovin: #missing: No such file or directory\n", 2));
+}
+
+/// Who verifies against all that is in a folder is not told to delete the package.
+#[test]
+fn the_package_is_no_copy_of_itself() {
+    let home = directory("itself");
+    fs::write(home.join("package"), bytes(PACKAGE)).unwrap();
+    fs::write(home.join("copy"), bytes(PACKAGE)).unwrap();
+    fs::copy(EXAMPLE, home.join("file")).unwrap();
+    fs::hard_link(home.join("package"), home.join("second")).unwrap();
+    let _link = Link::to("package", home.join("link"));
+    fs::write(home.join("list"), "file\npackage\n").unwrap();
+    let itself = "it is the package itself, which is no copy of it: name the files that were packed";
+    for (call, file) in [
+        ("package file package", "package"),
+        ("package package", "package"),
+        ("package file second", "second"),
+        ("link ./package file", "./package"),
+        ("package @list --json", "package"),
+        ("package file - < package", "standard input"),
+        ("- file package < link", "package"),
+    ] {
+        let output = shell(&home, &format!("$B verify {call}"));
+        assert_eq!((message(&output), status(&output)), (format!("barthovin: {file}: {itself}\n"), 2), "{call}");
+        assert_eq!(text(&output), "", "{call}");
+    }
+    // Another file of the same bytes is a copy.
+    let output = run_in(&home, &["verify", "package", "copy", "file"], &[]);
+    let told = "2 files, 2 objects: 2 units, 0 strings: all found; the files may be deleted\n";
+    assert_eq!((text(&output).as_str(), message(&output).as_str(), status(&output)), (told, "", 0));
+}
+
+/// Where nothing was looked for, nothing is found.
+#[test]
+fn nothing_to_look_for_is_told() {
+    let home = directory("nothing");
+    fs::write(home.join("package"), bytes(PACKAGE)).unwrap();
+    fs::write(home.join("empty"), bytes("F0000000 30000002")).unwrap();
+    fs::write(home.join("without"), bytes("F0000000 10080405 20800000 21800001 0 30000006")).unwrap();
+    fs::copy(EXAMPLE, home.join("file")).unwrap();
+    let looked = |files: &[&str], read: &str| {
+        let output = run_in(&home, &[&["verify", "package"], files].concat(), &[]);
+        let told = format!("barthovin: package: not verified: {read}: no unit was looked for: keep the files\n");
+        assert_eq!((message(&output), text(&output), status(&output)), (told, String::new(), 1));
+        let output = run_in(&home, &[&["verify", "--json", "package"], files].concat(), &[]);
+        assert!(text(&output).starts_with("{\"verified\":false,\"units\":0,"), "{}", text(&output));
+        assert_eq!((message(&output), status(&output)), (String::new(), 1));
+    };
+    looked(&["empty"], "1 file, 0 objects");
+    looked(&["without"], "1 file, 1 object (1 without a unit)");
+    looked(&["without", "empty", "without"], "3 files, 2 objects (2 without a unit)");
+    let output = run_in(&home, &["verify", "package", "without", "file"], &[]);
+    let told = "2 files, 2 objects (1 without a unit): 1 unit, 0 strings: all found; the files may be deleted\n";
+    assert_eq!((text(&output).as_str(), message(&output).as_str(), status(&output)), (told, "", 0));
 }
 
 #[test]

@@ -3,8 +3,9 @@
 
 use super::call::Call;
 use super::files::{good_package, Taken};
+use super::output::Held;
 use super::pack::package_of;
-use super::{show, Stop};
+use super::{guard, output, show, Stop};
 use crate::reader::package::Package;
 use std::ffi::OsStr;
 
@@ -12,26 +13,36 @@ use std::ffi::OsStr;
 pub const HINT: &str = "it can't be added to: pack all files at once";
 
 /// The package of an earlier sitting; none where the call adds to none.
-pub fn earlier(call: &Call) -> Result<Option<Earlier<'_>>, Stop> {
+pub fn earlier(call: &Call) -> Result<Option<Earlier>, Stop> {
     call.value("add").map(|name| Earlier::read(call, name)).transpose()
 }
 
-pub struct Earlier<'c> {
-    pub name: &'c OsStr,
+pub struct Earlier {
     pub file: Taken,
+    /// Where the output is the package itself: no other run writes it before this one has.
+    held: Option<Held>,
 }
 
-impl<'c> Earlier<'c> {
-    fn read(call: &Call, name: &'c OsStr) -> Result<Earlier<'c>, Stop> {
+impl Earlier {
+    fn read(call: &Call, name: &OsStr) -> Result<Earlier, Stop> {
+        let held = held(name, call.value("output").unwrap_or(name))?;
         let file = good_package(call, name)?;
         let shown = &file.shown;
         // The lookups take a package without units; here it is most often a file that is no package.
         match Package::read(&file.bytes).map(|package| package.index(1).or(package.index(2)).is_some()) {
-            Ok(true) => Ok(Earlier { name, file }),
+            Ok(true) => Ok(Earlier { file, held }),
             Ok(false) => Err(Stop::Refused(format!(
                 "{shown}: it has no index, so there is no package to add to; files that are added follow the package"
             ))),
             Err(why) => Err(Stop::Trouble(format!("{shown}: {why}"))),
+        }
+    }
+
+    /// Writes what was made of it; where the output is the package itself, in its place.
+    pub fn write(&self, to: &OsStr, bytes: &[u8]) -> Result<(), Stop> {
+        match &self.held {
+            Some(package) => output::write_instead(package, to, bytes),
+            None => output::write(to, bytes),
         }
     }
 
@@ -45,6 +56,19 @@ impl<'c> Earlier<'c> {
 /// What is said of a package to which nothing can be added, while the files are still there.
 pub fn not_later(number: u32) -> String {
     format!("nothing more can be added to it (refused {number}): keep all files until the last one is packed")
+}
+
+/// The package where it is the output too. Other runs wait from now on, and this one waited for them: what standard input was opened from may
+/// have been replaced meanwhile.
+fn held(package: &OsStr, to: &OsStr) -> Result<Option<Held>, Stop> {
+    if !guard::is_one_file(package, to) {
+        return Ok(None);
+    }
+    let held = output::hold(to)?;
+    match held.is_some() && !guard::is_one_file(package, to) {
+        true => Err(Stop::Trouble(format!("{}: {}", output::shown(to), output::CHANGED))),
+        false => Ok(held),
+    }
 }
 
 /// Files that were added to a package.

@@ -2,10 +2,11 @@
 
 use super::call::{Call, Known};
 use super::files::{from_elf, LONGEST_FILE};
-use super::{input, output, progress, Stop, DONE};
+use super::{guard, input, output, progress, Stop, DONE};
 use std::ffi::OsString;
 
-const OPTIONS: [Known; 1] = [Known { long: "output", short: Some(b'o'), value: true }];
+const OPTIONS: [Known; 2] =
+    [Known { long: "output", short: Some(b'o'), value: true }, Known { long: "force", short: None, value: false }];
 
 pub fn run(arguments: &[OsString]) -> Result<u8, Stop> {
     let call = match Call::read("bundle", &OPTIONS, arguments)? {
@@ -14,6 +15,7 @@ pub fn run(arguments: &[OsString]) -> Result<u8, Stop> {
     };
     let from = &call.exactly(&["FILE"])?[0];
     let to = call.value("output").ok_or_else(|| call.wrong("no output is named: -o BUNDLE"))?;
+    guard::judge(&call, to, &call.operands)?;
     let file = progress::shown("reading 1 file".to_string(), || input::read(from, LONGEST_FILE))?;
     let bundle = from_elf(&call, &file, &input::shown(from))?;
     output::write(to, &bundle).map(|()| DONE)

@@ -3,12 +3,15 @@
 use super::call::{Call, Known};
 use super::files::{good_package, note_without_index, refused_call};
 use super::pack::{machine_named, other_machine, NO_READER};
-use super::{output, stop, Stop, DONE};
+use super::{guard, output, stop, Stop, DONE};
 use crate::elf;
 use std::ffi::OsString;
 
-const OPTIONS: [Known; 2] =
-    [Known { long: "output", short: Some(b'o'), value: true }, Known { long: "machine", short: None, value: true }];
+const OPTIONS: [Known; 3] = [
+    Known { long: "output", short: Some(b'o'), value: true },
+    Known { long: "force", short: None, value: false },
+    Known { long: "machine", short: None, value: true },
+];
 
 pub fn run(arguments: &[OsString]) -> Result<u8, Stop> {
     let call = match Call::read("elf", &OPTIONS, arguments)? {
@@ -18,6 +21,7 @@ pub fn run(arguments: &[OsString]) -> Result<u8, Stop> {
     let name = &call.exactly(&["PACKAGE"])?[0];
     let to = call.value("output").ok_or_else(|| call.wrong("no output is named: -o FILE.dwp"))?;
     let named = machine_named(&call, true)?;
+    guard::judge(&call, to, &call.operands)?;
     let package = good_package(&call, name)?;
     let known = named.or(package.machine);
     let (usual, machine) = elf::MACHINES[0];
@@ -34,5 +38,5 @@ pub fn run(arguments: &[OsString]) -> Result<u8, Stop> {
     if known.is_none() {
         stop::note(&format!("{}: for {usual}; --machine names another one", output::shown(to)));
     }
-    output::write_for(name, to, &file).map(|()| DONE)
+    output::write(to, &file).map(|()| DONE)
 }

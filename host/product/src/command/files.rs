@@ -125,7 +125,7 @@ fn put_elf(file: &[u8], bundle: &mut Lent<u8>, from: usize) -> Result<(), u32> {
     }
 }
 
-/// The names, each `@LIST` replaced by those in the file LIST, a line for each; empty lines and those that start with # are left out.
+/// The names, each `@LIST` replaced by those in the file LIST.
 pub fn listed(names: &[OsString]) -> Result<Vec<OsString>, Stop> {
     let mut all = Vec::new();
     for name in names {
@@ -134,11 +134,18 @@ pub fn listed(names: &[OsString]) -> Result<Vec<OsString>, Stop> {
             continue;
         };
         let list = input::read(OsStr::from_bytes(list), LONGEST_LIST)?;
-        let lines = list.split(|b| *b == b'\n').map(|line| line.strip_suffix(b"\r").unwrap_or(line));
-        let named = lines.filter(|line| !line.is_empty() && !line.starts_with(b"#"));
-        all.extend(named.map(|line| OsStr::from_bytes(line).to_os_string()));
+        all.extend(names_in(&list).map(|name| OsStr::from_bytes(name).to_os_string()));
     }
     Ok(all)
+}
+
+/// The names in a list: with a NUL between them where there is one, as `find -print0` writes them, so that a name may hold anything; else one on
+/// each line that isn't empty and doesn't start with #.
+fn names_in(list: &[u8]) -> impl Iterator<Item = &[u8]> {
+    let end = if list.contains(&0) { 0 } else { b'\n' };
+    let names = list.split(move |b| *b == end);
+    let names = names.map(move |name| if end == 0 { name } else { name.strip_suffix(b"\r").unwrap_or(name) });
+    names.filter(move |name| !name.is_empty() && (end == 0 || !name.starts_with(b"#")))
 }
 
 /// All files as one bundle, in the order given, behind the object of the package that they are added to. A single bundle that is added to
@@ -258,9 +265,9 @@ impl Joined {
         Refusal { file: shown.to_string(), number: None, why }
     }
 
-    /// What is said of files that were taken, or left out: nothing of it is a refusal.
-    pub fn notes(&self, names: usize) -> Vec<String> {
-        let left_out = match &self.left_out[..] {
+    /// Says which files were left out, of so many.
+    pub fn note_left_out(&self, names: usize) {
+        let told = match &self.left_out[..] {
             [] => None,
             [one] => Some(format!("{one} is left out: {}", without_debug(one))),
             several => {
@@ -268,7 +275,7 @@ impl Joined {
                 Some(format!("{count} are left out, without debug information: {}", several.join(", ")))
             }
         };
-        left_out.into_iter().chain(self.uncarried.lines()).collect()
+        told.iter().for_each(|told| stop::note(told));
     }
 }
 

@@ -30,6 +30,7 @@ Write the bundle of the split-debug sections of an ELF file, or say why there is
 FILE is a relocatable ELF64 file as compilers write it for -gsplit-dwarf (.dwo), or - for standard input.
 
   -o, --output=BUNDLE    the file to write, or - for standard output
+      --force            write it over FILE itself, or over a .dwo file
   -h, --help             show this help and exit
   -V, --version          show the version and exit
 
@@ -40,11 +41,12 @@ Usage: barthovin pack [OPTION]... FILE... -o PACKAGE
 Write the package of files, in the order given, or say why there is none and write nothing.
 
 FILE is a relocatable ELF64 file (.dwo) or a bundle, told apart by their first bytes, or - for standard input; @LIST stands for the
-files that the lines of LIST name (./@NAME for a file that is called so).
+files that LIST names (./@NAME for a file that is called so), one on each line or with a NUL between them.
 
   -o, --output=PACKAGE   the file to write, or - for standard output; where its name ends in .dwp, an ELF file
       --add=PACKAGE      add the files to a package, as it is or as an ELF file; -o may name the same one. An ELF file stays one
       --elf              write an ELF file whatever its name
+      --force            write it over one of the files, or over a .dwo file
       --machine=MACHINE  of the ELF file: x86-64, aarch64 or riscv64; else that of the first ELF file read, else x86-64
       --strict           refuse files without debug information, which are left out else
       --namesakes        list the type units that were skipped though their bytes are not those of the one kept
@@ -65,11 +67,14 @@ Of gcc -g3 only -gdwarf-4 -gstrict-dwarf -g3 can be packed; -g2 leaves the macro
 With --add the package comes first and the files follow it. The result is, byte for byte, that of packing at once all files that the package was
 packed from and those added: it is proved wherever both are accepted, pack wrote the first, and all of them fit into one bundle. The command
 says so, or that the package isn't as pack writes it. Some packages can't be added to (refused 1, 7, 15 or 34), and pack says so: keep all files
-until the last one is packed. Where the output is the package itself, a new file takes its place or nothing is written.
+until the last one is packed. Where the output is the package itself, a new file takes its place or nothing is written; a second run that adds to it
+waits for the first, and adds to what that one wrote.
 
 All files together make a bundle of at most 4,194,304 bytes: a package for each program, -g1 (gcc) or -gmlt (clang) for the longest files and no -g3
-make it shorter. A file that is there keeps its mode, owner and links. It is written whole
-or not at all wherever a second file can stand beside it meanwhile.
+make it shorter. A file that is there keeps its mode, owner and links, and its bytes until the new
+ones are on the disk: then a new file takes its place. Where none can, since it has more links, another owner or a folder that takes no file,
+the new bytes are copied over it; the copy that they come from goes when that is done, and is named where it fails. Devices, pipes and what
+stands under /proc, as /dev/stdout, are written as they are. An output that is one of the files, or a .dwo file, is left alone without --force.
 
 Exit status: 0 written; 1 refused; 2 a wrong call, or a file that can't be read or written.";
 
@@ -81,6 +86,7 @@ PACKAGE is a file, as it is or as an ELF file, or - for standard input. Where no
 is said before it is written.
 
   -o, --output=FILE.dwp  the file to write, or - for standard output
+      --force            write it over PACKAGE itself, or over a .dwo file
       --machine=MACHINE  of the ELF file: x86-64, aarch64 or riscv64; else that of PACKAGE where it is an ELF file, else x86-64
   -h, --help             show this help and exit
   -V, --version          show the version and exit
@@ -92,9 +98,10 @@ Usage: barthovin verify [OPTION]... PACKAGE FILE...
 Look for every unit of the files in a package, with its parts and strings, and say whether the files may be deleted.
 
 PACKAGE is a file, as it is or as an ELF file (.dwp); FILE is what was packed into it, in the same order: ELF files (.dwo), bundles or
-@LIST. One of them may be - for standard input. Parts are compared byte for byte and strings letter for letter where the proved lookups
+@LIST, as pack takes it, and not PACKAGE itself. One of them may be - for standard input. Parts are compared byte for byte and strings letter for letter where the proved lookups
 find them. Of type units with one signature the package has the first; the others are often in other bytes, since they count strings and
-abbreviations as their own file does. Of the files only the debug sections are compared, the rest is not in the package.
+abbreviations as their own file does. Of the files only the debug sections are compared, the rest is not in the package. How many files were read is said, and how many objects
+they have; where no unit was looked for the files are to be kept.
 
       --json      write the answer as a JSON object
   -h, --help      show this help and exit

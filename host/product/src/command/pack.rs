@@ -4,7 +4,7 @@ use super::add::{self, Added, Earlier};
 use super::call::{Call, Known};
 use super::files::{join, listed, refused_call, Joined};
 use super::refusals::Refusals;
-use super::{input, output, progress, show, stop, Stop, DONE};
+use super::{guard, input, output, progress, show, stop, Stop, DONE};
 use crate::closed::closed;
 use crate::elf;
 use crate::explain::{self, Names, Refused};
@@ -26,10 +26,11 @@ pub const NO_READER: &str =
 /// A long bundle: what its packing takes counts.
 const LONG: usize = 1 << 20;
 
-const OPTIONS: [Known; 7] = [
+const OPTIONS: [Known; 8] = [
     Known { long: "output", short: Some(b'o'), value: true },
     Known { long: "add", short: None, value: true },
     Known { long: "elf", short: None, value: false },
+    Known { long: "force", short: None, value: false },
     Known { long: "machine", short: None, value: true },
     Known { long: "strict", short: None, value: false },
     Known { long: "namesakes", short: None, value: false },
@@ -45,13 +46,14 @@ pub fn run(arguments: &[OsString]) -> Result<u8, Stop> {
         return Err(call.wrong("operand FILE is missing"));
     }
     let to = call.value("output").ok_or_else(|| call.wrong("no output is named: -o PACKAGE"))?;
-    if call.has("json") && to == "-" {
+    if call.has("json") && output::is_standard(to) {
         return Err(call.wrong("option '--json' needs standard output for itself: -o PACKAGE"));
     }
     let names = listed(&call.operands)?;
     if names.is_empty() {
         return Err(call.wrong("the list names no file"));
     }
+    guard::judge(&call, to, &names)?;
     let earlier = add::earlier(&call)?;
     // What is added to keeps its form.
     let is_elf = earlier.as_ref().is_some_and(|earlier| earlier.file.machine.is_some());
@@ -61,14 +63,15 @@ pub fn run(arguments: &[OsString]) -> Result<u8, Stop> {
     let about = format!("packing {}, {} bytes", show::count(names.len(), "file"), joined.bundle.len());
     let packed = progress::shown(about, || packed(&joined.bundle));
     let (package, skipped) = packed.map_err(|number| told(&call, &names, earlier.as_ref(), &joined, number))?;
-    joined.notes(names.len()).iter().for_each(|note| stop::note(note));
+    joined.note_left_out(names.len());
+    joined.uncarried.lines().iter().for_each(|line| stop::note(line));
     let added = earlier.as_ref().map(|earlier| earlier.added(names.len() - joined.left_out.len()));
     let namesakes = if call.has("namesakes") { namesakes(&joined, skipped)? } else { Vec::new() };
     let done =
         Done { length: 0, skipped, namesakes, added, left_out: joined.left_out.clone(), closed: closed(&package) };
     let file = if as_elf { elf_file(&call, to, &package, named, joined)? } else { package };
     match &earlier {
-        Some(earlier) => output::write_for(earlier.name, to, &file)?,
+        Some(earlier) => earlier.write(to, &file)?,
         None => output::write(to, &file)?,
     }
     say(&call, to, Done { length: file.len(), ..done })
@@ -143,7 +146,7 @@ fn say(call: &Call, to: &OsStr, done: Done) -> Result<u8, Stop> {
     if text.is_empty() {
         return Ok(DONE);
     }
-    if to != "-" {
+    if !output::is_standard(to) {
         return output::print(&text);
     }
     // It is only a help; where it can't be written nothing is lost.

@@ -49,7 +49,7 @@ pub fn note(message: &str) {
 }
 
 /// An error in the system's words, without its number.
-fn reason(error: &io::Error) -> String {
+pub fn reason(error: &io::Error) -> String {
     let told = error.to_string();
     told.split(" (os error").next().unwrap_or(&told).to_string()
 }

@@ -1,8 +1,8 @@
 //! `barthovin verify`: whether a package holds all that files were packed into it, before they are deleted.
 
 use super::call::{Call, Known};
-use super::files::{good_package, join, listed, not_a_bundle};
-use super::{input, output, progress, show, stop, Stop, DONE, NOT_DONE};
+use super::files::{good_package, join, listed, not_a_bundle, Joined};
+use super::{guard, input, output, progress, show, Stop, DONE, NOT_DONE};
 use crate::ffi::Skipped;
 use crate::verify::{verify, Fault, Report};
 use std::ffi::OsString;
@@ -22,28 +22,51 @@ pub fn run(arguments: &[OsString]) -> Result<u8, Stop> {
     if files.is_empty() {
         return Err(call.wrong("operand FILE is missing"));
     }
+    if let Some(file) = files.iter().find(|file| guard::are_one_file(name, file)) {
+        let told = "it is the package itself, which is no copy of it: name the files that were packed";
+        return Err(Stop::Trouble(format!("{}: {told}", input::shown(file))));
+    }
     let package = good_package(&call, name)?.bytes;
     let joined = join(&call, None, &files)?;
-    joined.notes(files.len()).iter().for_each(|note| stop::note(note));
+    joined.note_left_out(files.len());
     let about = format!("looking for {} in the package", show::count(files.len(), "file"));
     let report = progress::shown(about, || verify(&package, &joined.bundle));
     // Several files were taken apart when they were joined.
     let report = report.map_err(|_| not_a_bundle(&call, &input::shown(&files[0]), &joined.bundle))?;
-    let named = |fault: &Fault| {
-        let file = joined.files.get(fault.object - 1).cloned();
-        let file = file.unwrap_or_else(|| format!("{}, object {}", input::shown(&files[0]), fault.object));
-        let unit = fault.unit.map(|unit| format!("{unit}: ")).unwrap_or_default();
-        (file, format!("{unit}{}", fault.what))
-    };
-    let faults: Vec<(String, String)> = report.faults.iter().map(named).collect();
+    let faults = report.faults.iter().map(|fault| named(fault, &joined, &files));
+    let faults: Vec<(String, String)> = faults.chain(joined.uncarried.faults()).collect();
+    let verified = faults.is_empty() && report.units > 0;
     if call.has("json") {
-        output::print(&json(&report, &faults))?;
-        return Ok(if faults.is_empty() { DONE } else { NOT_DONE });
+        output::print(&json(&report, files.len(), &faults))?;
+        return Ok(if verified { DONE } else { NOT_DONE });
     }
-    if faults.is_empty() {
-        return output::print(&found(&report));
+    let package = input::shown(name);
+    if !faults.is_empty() {
+        return Err(Stop::Refused(not_found(&package, &report, &faults)));
     }
-    Err(Stop::Refused(not_found(&input::shown(name), &report, &faults)))
+    let read = read(&report, files.len());
+    if !verified {
+        let told = format!("{package}: not verified: {read}: no unit was looked for: keep the files");
+        return Err(Stop::Refused(told));
+    }
+    output::print(&format!("{read}: {}", found(&report)))
+}
+
+/// A fault's file and what is wrong there.
+fn named(fault: &Fault, joined: &Joined, files: &[OsString]) -> (String, String) {
+    let file = joined.files.get(fault.object - 1).cloned();
+    let file = file.unwrap_or_else(|| format!("{}, object {}", input::shown(&files[0]), fault.object));
+    let unit = fault.unit.map(|unit| format!("{unit}: ")).unwrap_or_default();
+    (file, format!("{unit}{}", fault.what))
+}
+
+/// What was read.
+fn read(report: &Report, files: usize) -> String {
+    let without = match report.without_units {
+        0 => String::new(),
+        count => format!(" ({count} without a unit)"),
+    };
+    format!("{}, {}{without}", show::count(files, "file"), show::count(report.objects, "object"))
 }
 
 fn counts(report: &Report) -> String {
@@ -65,12 +88,15 @@ fn not_found(package: &str, report: &Report, faults: &[(String, String)]) -> Str
     told + "\nbarthovin: keep the files"
 }
 
-fn json(report: &Report, faults: &[(String, String)]) -> String {
+fn json(report: &Report, files: usize, faults: &[(String, String)]) -> String {
     let fault =
         |(file, what): &(String, String)| format!("{{\"file\":{},\"what\":{}}}", show::json(file), show::json(what));
     let faults: Vec<String> = faults.iter().map(fault).collect();
-    let Report { units, skipped: Skipped { repeats, namesakes }, strings, .. } = report;
-    let verified = faults.is_empty();
+    let verified = faults.is_empty() && report.units > 0;
+    let Report { objects, units, skipped: Skipped { repeats, namesakes }, strings, .. } = report;
     let counts = format!("\"units\":{units},\"repeats\":{repeats},\"namesakes\":{namesakes},\"strings\":{strings}");
-    format!("{{\"verified\":{verified},{counts},\"faults\":[{}]}}", faults.join(","))
+    format!(
+        "{{\"verified\":{verified},{counts},\"files\":{files},\"objects\":{objects},\"faults\":[{}]}}",
+        faults.join(",")
+    )
 }

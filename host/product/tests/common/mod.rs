@@ -3,6 +3,7 @@
 
 use std::fs;
 use std::io::Write;
+use std::os::unix::fs::MetadataExt;
 use std::path::{Path, PathBuf};
 use std::process::{Command, Output, Stdio};
 
@@ -57,6 +58,17 @@ pub fn command(directory: &Path, arguments: &[&str]) -> Command {
     command.current_dir(directory).args(arguments);
     command.stdin(Stdio::piped()).stdout(Stdio::piped()).stderr(Stdio::piped());
     command
+}
+
+/// A script for the shell in a directory; `$B` is the command.
+pub fn shell(directory: &Path, script: &str) -> Output {
+    let mut shell = Command::new("sh");
+    shell.current_dir(directory).env("B", env!("CARGO_BIN_EXE_barthovin")).args(["-c", script]).stdin(Stdio::null());
+    shell.output().unwrap()
+}
+
+pub fn is_root() -> bool {
+    fs::metadata("/proc/self").is_ok_and(|m| m.uid() == 0)
 }
 
 /// Runs the command in a directory with a standard input.

@@ -1,0 +1,398 @@
+//! The fault run: whatever goes wrong while a file is written, nothing that was there is lost, nothing half written stands under the output's
+//! name, and nothing is left that a later run trips over. Disks that are full, folders and files that may not be written, runs that are
+//! killed at any moment, and two runs at once; each over nothing, a file, one with two links, one behind a symbolic link, and one of another owner.
+//!
+//! `BARTHOVIN_FAULTS=10` makes ten times as many of what is random.
+
+mod common;
+
+use barthovin::reader::bundle::{put_end, put_section};
+use common::*;
+use std::fs::{self, Metadata, Permissions};
+use std::os::unix::fs::{chown, MetadataExt, PermissionsExt};
+use std::os::unix::process::CommandExt;
+use std::path::PathBuf;
+use std::process::{Command, Stdio};
+use std::thread::sleep;
+use std::time::Instant;
+
+const NOBODY: u32 = 65_534;
+
+/// How the output stands there.
+#[derive(Clone, Copy, Debug, PartialEq)]
+enum Shape {
+    Nothing,
+    File,
+    TwoLinks,
+    Symbolic,
+    OthersFile,
+}
+
+/// Files of others can be made as root only.
+fn shapes() -> Vec<Shape> {
+    let mut shapes = vec![Shape::Nothing, Shape::File, Shape::TwoLinks, Shape::Symbolic, Shape::OthersFile];
+    shapes.truncate(if is_root() { 5 } else { 4 });
+    shapes
+}
+
+/// How often what is random is done.
+fn times(count: usize) -> usize {
+    count * std::env::var("BARTHOVIN_FAULTS").ok().and_then(|times| times.parse().ok()).unwrap_or(1)
+}
+
+/// A bundle of one unit and so many bytes more.
+fn bundle(identity: u32, length: usize) -> Vec<u8> {
+    let mut bundle = bytes(&BUNDLE.replace("00000001 00000000 2180", &format!("{identity:08x} 00000000 2180")));
+    bundle.truncate(bundle.len() - 4);
+    put_section(&mut bundle, 4, &vec![identity as u8; length]);
+    put_end(&mut bundle);
+    bundle
+}
+
+/// What a run writes.
+#[derive(Clone, Copy, Debug, PartialEq)]
+enum Call {
+    Pack,
+    Add,
+}
+
+impl Call {
+    fn words(self) -> &'static str {
+        match self {
+            Call::Pack => "pack one two -o out",
+            Call::Add => "pack --add out two -o out",
+        }
+    }
+}
+
+/// A folder with two bundles, the output of a certain shape, and the packages before and after a call.
+struct Scene {
+    home: PathBuf,
+    shape: Shape,
+    call: Call,
+    old: Vec<u8>,
+    new: Vec<u8>,
+    before: Option<Metadata>,
+    /// Goes with it: no link stays in the checkout.
+    _link: Option<Link>,
+}
+
+impl Scene {
+    /// The packages are of the lengths given, and some more.
+    fn new(name: &str, shape: Shape, call: Call, [one, two]: [usize; 2]) -> Scene {
+        let home = directory(&format!("faults-{name}-{shape:?}-{call:?}"));
+        fs::write(home.join("one"), bundle(1, one)).unwrap();
+        fs::write(home.join("two"), bundle(2, two)).unwrap();
+        let output = shell(&home, "$B pack one -o old && $B pack one two -o new");
+        assert_eq!((message(&output), status(&output)), (String::new(), 0));
+        let [old, new] = ["old", "new"].map(|name| {
+            let bytes = fs::read(home.join(name)).unwrap();
+            fs::remove_file(home.join(name)).unwrap();
+            bytes
+        });
+        fs::create_dir(home.join("elsewhere")).unwrap();
+        let mut scene = Scene { home, shape, call, old, new, before: None, _link: None };
+        scene.lay();
+        scene
+    }
+
+    /// Where the output's bytes stand.
+    fn file(&self) -> PathBuf {
+        self.home.join(if self.shape == Shape::Symbolic { "elsewhere/file" } else { "out" })
+    }
+
+    /// The output as it was before any run.
+    fn lay(&mut self) {
+        let file = self.file();
+        let _ = fs::remove_file(self.home.join("second"));
+        let _ = fs::remove_file(&file);
+        if self.shape == Shape::Nothing {
+            return;
+        }
+        fs::write(&file, &self.old).unwrap();
+        fs::set_permissions(&file, Permissions::from_mode(0o660)).unwrap();
+        match self.shape {
+            Shape::TwoLinks => fs::hard_link(&file, self.home.join("second")).unwrap(),
+            Shape::Symbolic if self._link.is_none() => {
+                self._link = Some(Link::to("elsewhere/file", self.home.join("out")))
+            }
+            Shape::OthersFile => chown(&file, Some(NOBODY), Some(NOBODY)).unwrap(),
+            _ => (),
+        }
+        self.before = fs::metadata(&file).ok();
+    }
+
+    /// The names that a run put there.
+    fn left(&self) -> Vec<PathBuf> {
+        let mut left = Vec::new();
+        for folder in [self.home.clone(), self.home.join("elsewhere")] {
+            let known = ["one", "two", "out", "second", "elsewhere", "file"];
+            let new = names(&folder).into_iter().filter(|name| !known.contains(&name.as_str()));
+            left.extend(new.map(|name| folder.join(name)));
+        }
+        left
+    }
+
+    fn bytes(&self) -> Option<Vec<u8>> {
+        fs::read(self.file()).ok()
+    }
+
+    /// Links, owner and mode of the output are what they were.
+    fn is_as_it_was(&self) -> bool {
+        let Some(before) = &self.before else { return true };
+        let same = |told: Metadata| {
+            (told.nlink(), told.uid(), told.gid(), told.mode())
+                == (before.nlink(), before.uid(), before.gid(), before.mode())
+        };
+        let second = self.shape != Shape::TwoLinks || fs::read(self.home.join("second")).ok() == self.bytes();
+        let link = self.shape != Shape::Symbolic || fs::symlink_metadata(self.home.join("out")).unwrap().is_symlink();
+        second && link && fs::metadata(self.file()).is_ok_and(same)
+    }
+
+    /// Nothing was written, and nothing is left.
+    fn is_untouched(&self, about: &str) {
+        let old = self.before.as_ref().map(|_| self.old.clone());
+        assert!(self.bytes() == old && self.is_as_it_was(), "{about}: {:?} {:?}", self.shape, self.call);
+        assert_eq!(self.left(), [] as [PathBuf; 0], "{about}");
+    }
+
+    /// A package that is added to is never written in place, so that a second link forbids it.
+    fn is_refused(&self) -> bool {
+        (self.shape, self.call) == (Shape::TwoLinks, Call::Add)
+    }
+
+    /// The next run does what it is asked.
+    fn can_be_done(&mut self, about: &str) {
+        if self.is_refused() {
+            return;
+        }
+        if self.call == Call::Add && self.bytes().as_ref() != Some(&self.old) {
+            self.lay();
+        }
+        let output = shell(&self.home, &format!("$B {}", self.call.words()));
+        assert_eq!((message(&output), status(&output)), (String::new(), 0), "{about}");
+        assert!(self.bytes().as_ref() == Some(&self.new) && self.is_as_it_was(), "{about}: {:?}", self.shape);
+    }
+}
+
+/// A file that a run writes before it takes the output's place.
+fn is_hidden(path: &PathBuf) -> bool {
+    path.file_name().unwrap().to_string_lossy().starts_with(".barthovin.")
+}
+
+/// Each shape and each call that goes with it.
+fn scenes(name: &str, lengths: [usize; 2]) -> Vec<Scene> {
+    let both = |shape| [Call::Pack, Call::Add].map(|call| (shape, call));
+    let kinds = shapes().into_iter().flat_map(both).filter(|kind| *kind != (Shape::Nothing, Call::Add));
+    kinds.map(|(shape, call)| Scene::new(name, shape, call, lengths)).collect()
+}
+
+/// A file may only grow so long: the system refuses what is behind, or ends the run there.
+#[test]
+fn a_full_disk() {
+    for mut scene in scenes("limit", [3_000, 20_000]) {
+        for blocks in [0, 1, 8, 24, 44] {
+            for trap in ["trap '' XFSZ; ", ""] {
+                let script = format!("{trap}ulimit -c 0; ulimit -f {blocks}; exec $B {}", scene.call.words());
+                let about = format!("{blocks} blocks of 512 bytes, {trap}");
+                let output = shell(&scene.home, &script);
+                assert!(!output.status.success(), "{about}");
+                if !trap.is_empty() && !scene.is_refused() {
+                    assert_eq!((message(&output).as_str(), status(&output)), ("barthovin: out: File too large\n", 2));
+                }
+                // Who is ended by the system leaves a hidden file where there are none without a name.
+                let left = scene.left().into_iter().filter(|path| trap.is_empty() && is_hidden(path));
+                left.for_each(|path| fs::remove_file(path).unwrap());
+                scene.is_untouched(&about);
+            }
+        }
+        scene.can_be_done("a full disk");
+    }
+}
+
+/// Runs a script in a file system in memory of so many kilobytes; `$SCENE` is the scene's folder, above it. The mount goes with the script;
+/// none where mounts can't be made.
+fn on_a_small_disk(scene: &Scene, kilobytes: usize, script: &str) -> Option<String> {
+    let disk = scene.home.join("elsewhere");
+    let mount = format!("mount -t tmpfs -o size={kilobytes}k tmpfs '{}' && cd '{0}' || exit 77", disk.display());
+    let mut unshare = Command::new("unshare");
+    unshare.args(["--mount", "sh", "-c", &format!("{mount}\n{script}")]).stdin(Stdio::null());
+    let output = unshare.env("B", env!("CARGO_BIN_EXE_barthovin")).env("SCENE", &scene.home).output().ok()?;
+    let told = String::from_utf8_lossy(&[output.stdout, output.stderr].concat()).into_owned();
+    (!output.status.success()).then(|| println!("no mounts can be made here: {told}"));
+    output.status.success().then_some(told)
+}
+
+/// A disk on which there is no room beside the old file; its links and its owner stay, and it can be read.
+#[test]
+fn a_small_disk() {
+    let lay = "echo old > out; chmod 640 out; ";
+    let shapes = ["", "echo old > out; ", "echo old > out; ln out second; ", "echo old > file; ln -s file out; "];
+    let others = format!("{lay} chown {NOBODY}:{NOBODY} out; ");
+    let scene = Scene::new("small", Shape::File, Call::Pack, [3_000, 120_000]);
+    fs::write(scene.home.join("new"), &scene.new).unwrap();
+    let tell =
+        "echo status $?; test ! -e out || cksum < out; ls -A | tr '\\n' ' '; stat -c '%a %u %h %F' * 2> /dev/null; true";
+    for shape in shapes.into_iter().chain([&others[..]]) {
+        let script =
+            |call: &str| format!("{shape}{{ {}; }} > ../before; {call} 2> ../said; {tell}", tell.replace("$?", "2"));
+        let call = "$B pack $SCENE/one $SCENE/two -o out";
+        let Some(after) = on_a_small_disk(&scene, 100, &script(call)) else { return };
+        let before = fs::read_to_string(scene.home.join("before")).unwrap();
+        assert_eq!(after, before, "{shape}");
+        let said = fs::read_to_string(scene.home.join("said")).unwrap();
+        assert_eq!(said, "barthovin: out: No space left on device\n", "{shape}");
+    }
+    // Room for the copy alone: the file with two links is again what it was, and the copy stays.
+    let script =
+        "echo old > out; ln out second; $B pack $SCENE/one $SCENE/two -o out 2> ../said; echo $?; cat out second
+        cmp .barthovin.*.part $SCENE/new && ls -A | wc -l";
+    assert_eq!(on_a_small_disk(&scene, 200, script).unwrap(), "2\nold\nold\n3\n");
+    let said = fs::read_to_string(scene.home.join("said")).unwrap();
+    let told = "barthovin: out: No space left on device; what was to be written stands whole in ";
+    assert!(said.starts_with(told) && said.ends_with(".part\n"), "{said}");
+    // Room for both.
+    let script = "echo old > out; ln out second; $B pack $SCENE/one $SCENE/two -o out; cmp out $SCENE/new && cmp second out && ls -A | wc -l";
+    assert_eq!(on_a_small_disk(&scene, 400, script).unwrap(), "2\n");
+}
+
+/// Everything in a scene is nobody's but the file of another owner, which is root's, and may be written by all where others may be by their owner.
+fn hand_to_nobody(scene: &mut Scene, folders: u32, file: u32) {
+    for folder in [scene.home.clone(), scene.home.join("elsewhere")] {
+        for path in names(&folder).iter().map(|name| folder.join(name)).chain([folder.clone()]) {
+            let owner = if scene.shape == Shape::OthersFile && path == scene.file() { 0 } else { NOBODY };
+            let _ = chown(path, Some(owner), Some(owner));
+        }
+        fs::set_permissions(&folder, Permissions::from_mode(folders)).unwrap();
+    }
+    let file = if scene.shape == Shape::OthersFile && file == WRITABLE { 0o666 } else { file };
+    let _ = fs::set_permissions(scene.file(), Permissions::from_mode(file));
+    scene.before = fs::metadata(scene.file()).ok();
+}
+
+/// A call by someone who may not do everything.
+fn as_nobody(scene: &Scene) -> (String, i32) {
+    let temporary = directory("faults-temporary");
+    fs::set_permissions(&temporary, Permissions::from_mode(0o777)).unwrap();
+    let mut call = command(&scene.home, &scene.call.words().split(' ').collect::<Vec<_>>());
+    if is_root() {
+        call.uid(NOBODY).gid(NOBODY);
+    }
+    let output = call.env("TMPDIR", &temporary).output().unwrap();
+    assert_eq!(names(&temporary), [""; 0]);
+    (message(&output), status(&output))
+}
+
+const OPEN: u32 = 0o755;
+const CLOSED: u32 = 0o555;
+const WRITABLE: u32 = 0o640;
+const READABLE: u32 = 0o440;
+
+#[test]
+fn no_permission() {
+    let denied = "barthovin: out: Permission denied\n";
+    let only_copy = "barthovin: out: it was read, and no new file can take its place: name another output\n";
+    for (folders, file) in [(OPEN, WRITABLE), (CLOSED, WRITABLE), (OPEN, READABLE), (CLOSED, READABLE)] {
+        for mut scene in scenes("permission", [3_000, 20_000]) {
+            hand_to_nobody(&mut scene, folders, file);
+            let told = as_nobody(&scene);
+            let is_replaced = folders == OPEN && matches!(scene.shape, Shape::File | Shape::Symbolic);
+            let wanted = match (scene.shape, scene.call) {
+                (Shape::Nothing, _) => (folders == OPEN).then_some("").unwrap_or(denied),
+                _ if file == READABLE => denied,
+                (_, Call::Add) if !is_replaced => only_copy,
+                _ => "",
+            };
+            let about = format!("folders {folders:o}, file {file:o}: {:?} {:?}", scene.shape, scene.call);
+            assert_eq!(told, (wanted.to_string(), if wanted.is_empty() { 0 } else { 2 }), "{about}");
+            match wanted.is_empty() {
+                true => assert!(scene.bytes().as_ref() == Some(&scene.new) && scene.is_as_it_was(), "{about}"),
+                false => scene.is_untouched(&about),
+            }
+            assert_eq!(scene.left(), [] as [PathBuf; 0], "{about}");
+            hand_to_nobody(&mut scene, OPEN, WRITABLE);
+        }
+    }
+}
+
+/// Numbers that differ from run to run are no help where something fails: the same ones each time, and the clock does the rest.
+struct Random(u64);
+
+impl Random {
+    fn below(&mut self, end: u64) -> u64 {
+        self.0 ^= self.0 << 13;
+        self.0 ^= self.0 >> 7;
+        self.0 ^= self.0 << 17;
+        self.0 % end
+    }
+}
+
+#[test]
+fn runs_that_are_killed() {
+    let mut scenes = scenes("killed", [100_000, 300_000]);
+    let mut random = Random(0x9E37_79B9_7F4A_7C15);
+    let start = Instant::now();
+    scenes.iter_mut().for_each(|scene| scene.can_be_done("before"));
+    let usual = start.elapsed() / scenes.len() as u32;
+    // The output as it was, as it is to be, and with two links in the middle of the copying.
+    let mut met = [0; 3];
+    for number in 0..times(200) {
+        let count = scenes.len();
+        let scene = &mut scenes[number % count];
+        scene.lay();
+        let mut run = command(&scene.home, &scene.call.words().split(' ').collect::<Vec<_>>()).spawn().unwrap();
+        sleep(usual.mul_f64(random.below(1_000) as f64 / 800.0));
+        run.kill().unwrap();
+        run.wait().unwrap();
+        let about = format!("run {number}, {:?} {:?}", scene.shape, scene.call);
+        let old = scene.before.as_ref().map(|_| scene.old.clone());
+        let left = scene.left();
+        let is_copy = |path: &PathBuf| fs::read(path).is_ok_and(|bytes| bytes == scene.new);
+        match scene.bytes() {
+            bytes if bytes == old => met[0] += 1,
+            bytes if bytes.as_ref() == Some(&scene.new) => met[1] += 1,
+            _ if scene.shape == Shape::TwoLinks && left.iter().any(is_copy) => met[2] += 1,
+            _ => panic!("{about}: half written"),
+        }
+        assert!(scene.is_as_it_was() && left.iter().all(is_hidden), "{about}: {left:?}");
+        scene.can_be_done(&about);
+        assert_eq!(scene.left(), left, "{about}");
+    }
+    let left: usize = scenes.iter().map(|scene| scene.left().len()).sum();
+    println!(
+        "killed: {met:?} old, new and half copied over two links; {left} hidden files left; a run takes {usual:?}"
+    );
+    assert!(met[0] > 0 && met[1] > 0, "{met:?}");
+}
+
+/// Two runs that write one output: it is what one of them writes. Two that add to it: all is there.
+#[test]
+fn two_runs_at_once() {
+    for mut scene in scenes("at-once", [3_000, 20_000]) {
+        fs::write(scene.home.join("three"), bundle(3, 9_000)).unwrap();
+        let calls = [scene.call.words().to_string(), scene.call.words().replace("two", "three")];
+        let made: Vec<Vec<u8>> = ["one two", "one three", "one two three", "one three two"]
+            .iter()
+            .map(|files| {
+                let output = shell(&scene.home, &format!("$B pack {files} -o made"));
+                assert_eq!(status(&output), 0);
+                fs::read(scene.home.join("made")).unwrap()
+            })
+            .collect();
+        fs::remove_file(scene.home.join("made")).unwrap();
+        let wanted = if scene.call == Call::Pack { &made[..2] } else { &made[2..] };
+        for round in 0..times(20) {
+            scene.lay();
+            let start = |call: &String| command(&scene.home, &call.split(' ').collect::<Vec<_>>()).spawn().unwrap();
+            for run in [start(&calls[round % 2]), start(&calls[1 - round % 2])] {
+                let output = run.wait_with_output().unwrap();
+                assert!(status(&output) == 0 || scene.is_refused(), "{}", message(&output));
+            }
+            let about = format!("{:?} {:?}", scene.shape, scene.call);
+            assert!(scene.is_as_it_was(), "{about}");
+            let bytes = scene.bytes().unwrap();
+            assert!(if scene.is_refused() { bytes == scene.old } else { wanted.contains(&bytes) }, "{about}");
+            assert_eq!(scene.left(), [scene.home.join("three")], "{about}");
+        }
+    }
+}
