@@ -7,7 +7,9 @@ pub mod Targets
 pub mod FirstUnit
 pub mod Rooms
 pub mod Opening
+pub mod Opening32
 pub mod Putting
 pub mod Opened
 pub mod Refusals
 pub mod Held
+pub mod Examples32

@@ -1,4 +1,4 @@
-//! FORMAT 8.2 in plain Rust: an ELF64 file read, and the bundle of its debug sections written, with every refusal.
+//! FORMAT 8.2 and 8.4 in plain Rust: an ELF file of either class read, and the bundle of its debug sections written, with every refusal.
 //!
 //! It is written from the rules alone, and shares no code with the proved definitions.
 
@@ -21,8 +21,40 @@ pub const NAMES: [&str; 13] = [
     ".debug_tu_index",
 ];
 
-const HEADER: usize = 64;
-const SECTION_HEADER: usize = 64;
+/// The class of a file. Where things stand in it follows from the width of its addresses and sizes: what stands in front of them is the same in both.
+#[derive(Clone, Copy, Debug, PartialEq, Eq)]
+pub enum Class {
+    Elf32,
+    Elf64,
+}
+
+impl Class {
+    pub const BOTH: [Class; 2] = [Class::Elf32, Class::Elf64];
+
+    /// What the file's fifth byte says.
+    pub fn mark(self) -> u8 {
+        match self {
+            Class::Elf32 => 1,
+            Class::Elf64 => 2,
+        }
+    }
+
+    /// The bytes of an address, an offset or a size.
+    pub fn word(self) -> usize {
+        4 * self.mark() as usize
+    }
+
+    /// The bytes of the file's header: 16 that identify it, type, machine and version; three words; flags; six halves.
+    pub fn header(self) -> usize {
+        16 + 8 + 3 * self.word() + 4 + 6 * 2
+    }
+
+    /// The bytes of a section header: name and type, four words, link and info, two words.
+    pub fn section_header(self) -> usize {
+        8 + 4 * self.word() + 8 + 2 * self.word()
+    }
+}
+
 const RELOCATABLE: u64 = 1;
 const WITHOUT_BYTES: u64 = 8;
 const RELOCATIONS: [u64; 2] = [4, 9];
@@ -67,24 +99,32 @@ fn part(file: &[u8], offset: u64, size: u64) -> Option<&[u8]> {
 }
 
 /// None is 31.
-fn parse(file: &[u8]) -> Option<Elf<'_>> {
-    let ident = file.get(..HEADER)?;
+fn parse(class: Class, file: &[u8]) -> Option<Elf<'_>> {
+    let ident = file.get(..class.header())?;
     let big = match ident[5] {
         1 => false,
         2 => true,
         _ => return None,
     };
     let field = |at, width| number(file, at, width, big);
-    if !ident.starts_with(b"\x7FELF\x02") || field(16, 2)? != RELOCATABLE || field(58, 2)? != SECTION_HEADER as u64 {
+    if !ident.starts_with(b"\x7FELF") || ident[4] != class.mark() || field(16, 2)? != RELOCATABLE {
         return None;
     }
-    let (start, count, names) = (field(40, 8)?, field(60, 2)?, field(62, 2)?);
+    // The last three halves of the header.
+    let [size, count, names] = [3, 2, 1].map(|back| class.header() - 2 * back);
+    let (size, count, names) = (field(size, 2)?, field(count, 2)?, field(names, 2)?);
+    if size != class.section_header() as u64 {
+        return None;
+    }
+    // Of the three words the last.
+    let start = field(24 + 2 * class.word(), class.word())?;
     // Number 0 of headers is extended numbering too.
     if count == 0 || names == EXTENDED || names >= count {
         return None;
     }
-    let table = part(file, start, count * SECTION_HEADER as u64)?;
-    let headers: Vec<Header> = table.chunks(SECTION_HEADER).map(|h| header(h, big)).collect::<Option<_>>()?;
+    let table = part(file, start, count * size)?;
+    let headers = table.chunks(class.section_header()).map(|h| header(class, h, big));
+    let headers: Vec<Header> = headers.collect::<Option<_>>()?;
     let names = &headers[names as usize];
     let names = if names.kind == WITHOUT_BYTES { &[] } else { part(file, names.offset, names.size)? };
     let mut wanted = Vec::new();
@@ -96,15 +136,18 @@ fn parse(file: &[u8]) -> Option<Elf<'_>> {
     Some(Elf { big, headers, wanted })
 }
 
-fn header(bytes: &[u8], big: bool) -> Option<Header> {
+fn header(class: Class, bytes: &[u8], big: bool) -> Option<Header> {
     let field = |at, width| number(bytes, at, width, big);
+    // Flags, address, offset and size.
+    let word = |i: usize| field(8 + i * class.word(), class.word());
+    let link = 8 + 4 * class.word();
     Some(Header {
         name: field(0, 4)?,
         kind: field(4, 4)?,
-        flags: field(8, 8)?,
-        offset: field(24, 8)?,
-        size: field(32, 8)?,
-        info: field(44, 4)?,
+        flags: word(0)?,
+        offset: word(2)?,
+        size: word(3)?,
+        info: field(link + 4, 4)?,
     })
 }
 
@@ -150,9 +193,14 @@ fn object_word(elf: &Elf) -> Option<u32> {
     (unit.len() >= size).then_some(1 << 28 | (address as u32) << 16 | (width as u32) << 8 | version as u32)
 }
 
-/// The bundle of a file's wanted sections, in the order of their headers.
+/// The bundle of an ELF64 file's wanted sections, in the order of their headers.
 pub fn read(file: &[u8], output: usize) -> Packed {
-    let Some(elf) = parse(file) else { return Packed::Refused(31) };
+    read_of(Class::Elf64, file, output)
+}
+
+/// The same of a file of a class.
+pub fn read_of(class: Class, file: &[u8], output: usize) -> Packed {
+    let Some(elf) = parse(class, file) else { return Packed::Refused(31) };
     if is_unusable(&elf) {
         return Packed::Refused(32);
     }

@@ -1,4 +1,4 @@
-//! FORMAT 8.3 in plain Rust: a package written as an ELF64 file, with every refusal.
+//! FORMAT 8.3 and 8.5 in plain Rust: a package written as an ELF64 file, with every refusal.
 //!
 //! It is written from the rule alone, and shares no code with the proved definitions.
 
@@ -67,9 +67,17 @@ fn file(bundle: &Bundle, machine: u32) -> Vec<u8> {
     out.bytes
 }
 
-/// What writing a package into an output of so many bytes answers.
+/// What writing a package for one of three machines into an output of so many bytes answers.
 pub fn write(package: &[u8], machine: u32, output: usize) -> Packed {
-    if !MACHINES.contains(&machine) {
+    match MACHINES.contains(&machine) {
+        true => write_for(package, machine, output),
+        false => Packed::Refused(36),
+    }
+}
+
+/// The same for any machine.
+pub fn write_for(package: &[u8], machine: u32, output: usize) -> Packed {
+    if !(1..=0xFFFF).contains(&machine) {
         return Packed::Refused(36);
     }
     if lookup(package, 5, 1, 1, 1) == Found::Refused(21) {

@@ -17,7 +17,7 @@ mod rows;
 mod spoil;
 
 pub use damage::damage;
-pub use elf::{elf, hostile as hostile_elf, long as long_elf};
+pub use elf::{elf, hostile as hostile_elf, hostile_of as hostile_elf_of, long as long_elf, long_of as long_elf_of};
 pub use honest::{last_of_many_strings, many_strings, sized, Kind, KINDS};
 pub use hostile::{Hostile, HOSTILE, SHORT};
 pub use large::{long_line, many_units, strings_of, suffixes, units_of};

@@ -105,6 +105,10 @@ struct barthovin_found_from_bundle {
 struct barthovin_written barthovin_read_elf(const uint8_t *file, size_t file_length, uint8_t *output,
                                             size_t output_length);
 
+/* The same of an ELF32 file. Each of the two refuses a file of the other class by 31: byte 4 of a file is 1 for 32 bits, 2 for 64. */
+struct barthovin_written barthovin_read_elf32(const uint8_t *file, size_t file_length, uint8_t *output,
+                                              size_t output_length);
+
 /* Packs a bundle. After every answer all of work is zeros. Work that is shorter than BARTHOVIN_WORK_FOR_A_WORD words for each
  * word of the bundle is refused. */
 struct barthovin_packed barthovin_pack(const uint8_t *bundle, size_t bundle_length, uint32_t *work, size_t work_length,
@@ -140,6 +144,11 @@ struct barthovin_written barthovin_sheet(const uint8_t *package, size_t package_
  * length 0. */
 struct barthovin_written barthovin_write_elf(const uint8_t *package, size_t package_length, uint32_t machine,
                                              uint8_t *output, size_t output_length);
+
+/* The same for any machine from 1 to 65,535, by its number in ELF files: 40 is ARM, 243 RISC-V of 32 bits too. 36 is 0 or a greater
+ * number. The file is an ELF64 file for every machine: debuggers open it beside a program of 32 bits. */
+struct barthovin_written barthovin_write_elf_for(const uint8_t *package, size_t package_length, uint32_t machine,
+                                                 uint8_t *output, size_t output_length);
 
 /* Packs a bundle and looks one part up in its package. */
 struct barthovin_found_from_bundle barthovin_pack_and_look_up(const uint8_t *bundle, size_t bundle_length, uint32_t *work,

@@ -67,6 +67,14 @@ const SKIPPED: [u32; 28] = [
     0x1008_0405, 0x2080_0030, 0x14, 0x0806_0005, 0, 7, 0, 0, 0x14, 0x0806_0005, 0, 7, 0, 1, 0x2180_0001, 0, 0x3000_001C,
 ];
 
+/// Its ELF32 file.
+#[rustfmt::skip]
+const ELF32: [u32; 54] = [
+    0x464C_457F, 0x1_0101, 0, 0, 0x28_0001, 1, 0, 0, 0x60, 0, 0x34, 0x28_0000, 0x2_0003,
+    0x10, 0x405_0005, 0, 1, 0, 0x6564_2E00, 0x5F67_7562, 0x6F66_6E69, 0x6F77_642E, 0, 0,
+    0, 0, 0, 0, 0, 0, 0, 0, 0, 0, 1, 1, 0, 0, 0x34, 0x14, 0, 0, 1, 0, 0, 3, 0, 0, 0x48, 0x18, 0, 0, 1, 0,
+];
+
 fn found(name: &str, found: Found) -> String {
     let (code, start, length, looks) = match found {
         Found::Part { start, length, looks } => (0, start, length, looks),
@@ -82,6 +90,9 @@ fn by_rust() -> String {
     let (mut work, mut output) = (vec![0; 20 * 17], vec![0; 1000]);
     let (code, length) = barthovin::elf::read(&bundle, &mut output);
     let mut told = format!("read_elf {code} {length}\n");
+    let elf32: Vec<u8> = ELF32.iter().flat_map(|w| w.to_le_bytes()).collect();
+    let (code, length) = barthovin::elf::read_32(&elf32, &mut output);
+    told += &format!("read_elf32 {code} {length} {}\n", output[6]);
     for work_words in [20 * 17, 16] {
         let (code, length) = ffi::pack(&bundle, &mut work[..work_words], &mut output[..10]);
         told += &format!("pack {code} {length} 0 0\n");
@@ -104,7 +115,7 @@ fn by_rust() -> String {
     told += &format!("batch {code} {length}: {} {} {} {}, {}\n", a[0], a[1], a[2], a[3], a[4]);
     told += &found("lookup", ffi::lookup(package, 5, 2, 1, 1));
     let file = barthovin::elf::file_of(package, 62).unwrap();
-    told += &format!("write_elf 0 {} 62\n", file.len());
+    told += &format!("write_elf 0 {0} 62\nwrite_elf_for 0 {0} 40\n", file.len());
     told += "sheet 0 120 C 0000000000000001 01 00000000 00000014\n";
     told += &found("lookup_string", ffi::lookup_string(package, 5, 1, 1, 0));
     told += &found("lookup_string", ffi::lookup_string(package, 5, 1, 1, 1));
@@ -117,7 +128,7 @@ fn by_rust() -> String {
 fn c_and_rust_are_answered_alike() {
     let source = PathBuf::from(HOME).join("tests/entries.c");
     let wanted = by_rust();
-    assert!(wanted.contains(" 1 1\npack_small 0 "), "{wanted}");
+    assert!(wanted.contains(" 1 1\npack_small 0 ") && wanted.contains("\nread_elf32 0 36 4\n"), "{wanted}");
     assert!(wanted.contains("lookup_string 0 ") && wanted.contains("lookup_string 25 "), "{wanted}");
     for language in [&["-std=c99"][..], &["-std=c++17", "-x", "c++"]] {
         assert_eq!(text(&compiled(&source, language, &[])), wanted);

@@ -94,8 +94,13 @@ fn wrong_files_are_refused_with_the_cause() {
         file[at] = value;
         file
     };
-    let not_elf = "refused 31: this is no relocatable ELF64 file, or it is cut off";
-    refused("32-bits", &changed(4, 1), &format!("{not_elf}: it is of 32 bits"));
+    let not_elf = "refused 31: this is no relocatable ELF file, or it is cut off";
+    let no_headers = format!("{not_elf}: it has no section headers, or more than their number can say");
+    // As a file of 32 bits it states none.
+    refused("32-bits", &changed(4, 1), &no_headers);
+    refused("class", &changed(4, 3), &format!("{not_elf}: its class is 3, neither 1 (32 bits) nor 2 (64 bits)"));
+    refused("order", &changed(5, 0), &format!("{not_elf}: its byte order is 0, neither 1 nor 2"));
+    refused("size", &changed(58, 40), &format!("{not_elf}: its section headers have 40 bytes, and not 64"));
     refused(
         "program",
         &changed(16, 2),
@@ -106,11 +111,7 @@ fn wrong_files_are_refused_with_the_cause() {
     let end = good.len();
     let headers = format!("its {} section headers end at byte {end}, and it has {}", good[60], end - 1);
     refused("cut", &good[..end - 1], &format!("{not_elf}: {headers}"));
-    refused(
-        "no-headers",
-        &changed(60, 0),
-        &format!("{not_elf}: it has no section headers, or more than their number can say"),
-    );
+    refused("no-headers", &changed(60, 0), &no_headers);
     let unusable = "refused 32: a debug section is compressed, relocated or without bytes";
     let (info, line) = (header_at(&good, ".debug_info.dwo"), header_at(&good, ".debug_line.dwo"));
     refused(
@@ -158,7 +159,7 @@ fn what_is_no_file_to_read_is_told() {
         assert_eq!((message(&output), status(&output)), (format!("barthovin: {wanted}\n"), code));
         assert_eq!(names(&home), ["empty", "text"]);
     };
-    let not_elf = "refused 31: this is no relocatable ELF64 file, or it is cut off: it is no ELF file";
+    let not_elf = "refused 31: this is no relocatable ELF file, or it is cut off: it is no ELF file";
     told(&["bundle", "empty", "-o", "new"], &format!("empty: {not_elf}"), 1);
     told(&["bundle", "text", "-o", "new"], &format!("text: {not_elf}"), 1);
     told(&["bundle", ".", "-o", "new"], ".: Is a directory", 2);
@@ -203,21 +204,6 @@ fn the_file_at_fault_is_named() {
     assert!(message(&output).contains(" too many; most take gcc-5-main.dwo "), "{}", message(&output));
     let smaller = "; a package for each program is shorter, and so is what -g1 (gcc) or -gmlt (clang) makes of the longest files; -g3 makes more\n";
     assert!(message(&output).ends_with(smaller), "{}", message(&output));
-}
-
-/// A machine that packages aren't written for leads on to the option.
-#[test]
-fn another_machine_can_be_named() {
-    let home = directory("machine");
-    let mut file = fs::read(format!("{FILES}/gcc-5-race.dwo")).unwrap();
-    file[18..20].fill(0);
-    fs::write(home.join("some.dwo"), file).unwrap();
-    let output = run_in(&home, &["pack", "some.dwo", "-o", "new.dwp"], &[]);
-    let told = message(&output);
-    let wanted = "; --machine names another one: x86-64, ";
-    assert!(told.contains("refused 36: ") && told.contains("the machine is 0") && told.contains(wanted), "{told}");
-    assert_eq!((status(&output), names(&home)), (1, vec!["some.dwo".to_string()]));
-    done(&home, &["pack", "some.dwo", "--machine", "x86-64", "-o", "new.dwp"]);
 }
 
 /// A package written as an ELF file, by its name or by `--elf`, has the machine of its first file, and every command takes it as the package.

@@ -20,6 +20,13 @@ static const uint32_t skipped[] = {0xF0000000, 0x10080405, 0x20800018, 0x14,    
                                    0,          0x10080405, 0x20800030, 0x14,       0x08060005, 0, 7, 0, 0, 0x14,
                                    0x08060005, 0,          7,          0,          1,          0x21800001, 0, 0x3000001C};
 
+/* An ELF32 file of one unit: its header of 52 bytes, the unit at 52, the names at 72, and three section headers at 96. */
+static const uint32_t elf32[] = {0x464C457F, 0x10101, 0, 0,    0x280001,   1,          0,          0,          0x60, 0, 0x34,
+                                 0x280000,   0x20003, 0x10, 0x4050005, 0, 1, 0, 0x65642E00, 0x5F677562, 0x6F666E69, 0x6F77642E,
+                                 0,          0,       0, 0,    0,          0,          0,          0,          0,    0, 0,
+                                 0,          1,       1, 0,    0,          0x34,       0x14,       0,          0,    1, 0,
+                                 0,          3,       0, 0,    0x48,       0x18,       0,          0,          1,    0};
+
 static const uint32_t questions[] = {0x40000011, 1, 0, 0x40000012, 1, 0};
 
 static void show_batch(struct barthovin_written w, const uint32_t *a) {
@@ -44,6 +51,8 @@ int main(void) {
     struct barthovin_written read = barthovin_read_elf(bundle, sizeof words, output, 1000);
     struct barthovin_packed packed = barthovin_pack(bundle, sizeof words, work, 20 * 17, output, 10);
     printf("read_elf %u %zu\n", (unsigned)read.code, read.length);
+    read = barthovin_read_elf32((const uint8_t *)elf32, sizeof elf32, output, 1000);
+    printf("read_elf32 %u %zu %u\n", (unsigned)read.code, read.length, (unsigned)output[6]);
     show_packed("pack", packed);
     packed = barthovin_pack(bundle, sizeof words, work, 16, output, 10);
     show_packed("pack", packed);
@@ -61,6 +70,8 @@ int main(void) {
     show("lookup", barthovin_lookup(output, packed.length, 5, 2, 1, BARTHOVIN_INFO));
     struct barthovin_written file = barthovin_write_elf(output, packed.length, 62, elf, sizeof elf);
     printf("write_elf %u %zu %u\n", (unsigned)file.code, file.length, (unsigned)elf[18]);
+    file = barthovin_write_elf_for(output, packed.length, 40, elf, sizeof elf);
+    printf("write_elf_for %u %zu %u\n", (unsigned)file.code, file.length, (unsigned)elf[18]);
     read_sheet(barthovin_sheet(output, packed.length, page, sizeof page), page);
     show("lookup_string", barthovin_lookup_string(output, packed.length, 5, 1, 1, 0));
     show("lookup_string", barthovin_lookup_string(output, packed.length, 5, 1, 1, 1));

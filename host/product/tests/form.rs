@@ -12,7 +12,9 @@ fn read(home: &Path, name: &str) -> Vec<u8> {
 
 /// What is said where the package doesn't say the machine.
 fn machine(name: &str) -> String {
-    format!("barthovin: {name}: for x86-64; --machine names another one\n")
+    format!(
+        "barthovin: {name}: written for machine 62 (x86-64), since no file says a machine: --machine names another\n"
+    )
 }
 
 #[test]

@@ -103,17 +103,18 @@ fn standard_input_is_named_once() {
     assert_eq!(names(&home), [""; 0]);
 }
 
-/// A refusal names the stream.
+/// A file of a machine that has no name here too is written for it.
 #[test]
-fn refusals_name_the_stream() {
-    let home = directory("streams-refused");
+fn the_machine_of_the_file_is_taken() {
+    let home = directory("streams-machine");
     let big = concat!(env!("CARGO_MANIFEST_DIR"), "/../../examples/real/files/clang-5be-race.dwo");
-    for (to, shown) in [("-", "standard output"), ("out.dwp", "out.dwp")] {
-        let output = run_in(&home, &["pack", big, "--elf", "-o", to], &[]);
-        let told = format!(
-            "barthovin: {shown}: refused 36: machines are 62 (x86-64), 183 (AArch64) and 243 (RISC-V): the machine is "
-        );
-        assert!(message(&output).starts_with(&told), "{}", message(&output));
-        assert_eq!((status(&output), output.stdout.len(), names(&home).len()), (1, 0, 0));
+    for (machine, written) in [([0, 21], [0, 21]), ([0x12, 0x34], [0x12, 0x34]), ([0, 0], [0, 62])] {
+        let mut file = fs::read(big).unwrap();
+        file[18..20].copy_from_slice(&machine);
+        let output = run_in(&home, &["pack", "-", "--elf", "-o-"], &file);
+        assert_eq!((status(&output), &output.stdout[18..20]), (0, &written[..]));
+        let usual = "written for machine 62 (x86-64), since no file says a machine: --machine names another\n";
+        assert_eq!(message(&output), if machine == [0, 0] { usual } else { "" });
     }
+    assert_eq!(names(&home), [""; 0]);
 }

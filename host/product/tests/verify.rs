@@ -337,10 +337,10 @@ fn every_change_of_a_dwp_is_noticed() {
             let mut changed = good.to_vec();
             changed[place] ^= 1 << (place % 7);
             let mut output = vec![0; 2 * good.len()];
-            let (mut code, mut length) = elf::read(&changed, &mut output);
+            let (mut code, mut length) = elf::read_either(&changed, &mut output);
             if code == OUTPUT_TOO_SHORT {
                 output = vec![0; length];
-                (code, length) = elf::read(&changed, &mut output);
+                (code, length) = elf::read_either(&changed, &mut output);
             }
             if code != 0 {
                 refused += 1;

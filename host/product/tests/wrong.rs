@@ -8,7 +8,7 @@ use std::path::Path;
 
 const FILE: &str = concat!(env!("CARGO_MANIFEST_DIR"), "/../../examples/real/files/gcc-5-race.dwo");
 
-const NOT_ELF: &str = "refused 31: this is no relocatable ELF64 file, or it is cut off: ";
+const NOT_ELF: &str = "refused 31: this is no relocatable ELF file, or it is cut off: ";
 const UNUSABLE: &str = "refused 32: a debug section is compressed, relocated or without bytes: ";
 const NO_UNIT: &str = "refused 33: there is no unit of DWARF version 4 or 5 to pack: ";
 const UNCOMPRESSED: &str = "compile without -gz, or call objcopy --decompress-debug-sections FILE NEW";
@@ -57,7 +57,7 @@ fn wrong_files(home: &Path) -> Vec<Wrong> {
     fs::create_dir(home.join("directory")).unwrap();
     write("empty", &|file| file.clear());
     write("text", &|file| *file = b"main.dwo\n".to_vec());
-    write("elf32", &|file| file[4] = 1);
+    write("no-class", &|file| file[4] = 3);
     write("truncated", &|file| file.truncate(700));
     write("compressed", &|file| file[line + 9] |= 8);
     let first = header_at(&good, "");
@@ -72,7 +72,7 @@ fn wrong_files(home: &Path) -> Vec<Wrong> {
     vec![
         Wrong::other("empty", "it has 0 bytes", "it has 0 bytes"),
         Wrong { kind: "directory", packed: directory.clone(), opened: directory.clone(), read: directory, status: 2 },
-        Wrong::elf("elf32", format!("{NOT_ELF}it is of 32 bits")),
+        Wrong::elf("no-class", format!("{NOT_ELF}its class is 3, neither 1 (32 bits) nor 2 (64 bits)")),
         Wrong::elf("truncated", format!("{NOT_ELF}its {} section headers end at byte {end}, and it has 700", good[60])),
         Wrong::elf("compressed", format!("{UNUSABLE}.debug_line.dwo is compressed; {UNCOMPRESSED}")),
         Wrong::elf("relocated", format!("{UNUSABLE}.debug_info.dwo has relocations")),
@@ -130,7 +130,7 @@ fn json_has_the_readers_number() {
     let home = directory("wrong-json");
     wrong_files(&home);
     fs::write(home.join("package"), bytes(PACKAGE)).unwrap();
-    for (kind, number) in [("elf32", 31), ("relocated", 32), ("no-unit", 33), ("text", 21)] {
+    for (kind, number) in [("no-class", 31), ("relocated", 32), ("no-unit", 33), ("text", 21)] {
         for call in [&["list", kind][..], &["sheet", kind], &["profile", kind], &["verify", kind, FILE]] {
             let output = run_in(&home, &[call, &["--json"]].concat(), &[]);
             assert!(text(&output).starts_with(&format!("{{\"refused\":{number},\"meaning\":\"")), "{call:?}");
@@ -140,6 +140,7 @@ fn json_has_the_readers_number() {
     let output = run_in(&home, &["verify", "--json", "package", "compressed"], &[]);
     assert!(text(&output).starts_with("{\"refused\":32,"), "{}", text(&output));
     fs::write(home.join("questions"), "cu 1 section info\n").unwrap();
-    let output = run_in(&home, &["lookup", "elf32", "-qquestions"], &[]);
-    assert_eq!((message(&output), status(&output)), (format!("barthovin: elf32: {NOT_ELF}it is of 32 bits\n"), 1));
+    let output = run_in(&home, &["lookup", "no-class", "-qquestions"], &[]);
+    assert_eq!(status(&output), 1);
+    assert!(message(&output).starts_with(&format!("barthovin: no-class: {NOT_ELF}its class is 3, ")));
 }

@@ -1,8 +1,9 @@
-//! Damaged ELF files through the proved reader: damaged_elf NUMBER [SEED]
+//! Damaged ELF files of both classes through the proved readers, so many of each: damaged_elf NUMBER [SEED]
 //!
 //! Each answer and every byte of output is compared with the independent reader, in memory full of junk. It fails at the first difference.
 
 use barthovin::elf;
+use kit::elf::Class;
 use kit::generate::{elf as some_elf, Random};
 use kit::lender::Lender;
 use std::collections::BTreeMap;
@@ -17,13 +18,24 @@ fn main() -> Result<()> {
     let number = |i: usize| words.get(i).and_then(|w| w.parse::<u64>().ok());
     let wanted = number(1).ok_or_else(|| Error::other("damaged_elf NUMBER [SEED]"))?;
     let seed = number(2).unwrap_or(1);
+    for (class, name) in [(Class::Elf64, "ELF64"), (Class::Elf32, "ELF32")] {
+        damaged(class, name, wanted, seed)?;
+    }
+    Ok(())
+}
+
+fn damaged(class: Class, name: &str, wanted: u64, seed: u64) -> Result<()> {
     let (mut random, mut lent) = (Random::new(seed), Lender::new(seed));
     let mut counts = BTreeMap::new();
     let start = Instant::now();
+    let read = match class {
+        Class::Elf32 => elf::read_32,
+        Class::Elf64 => elf::read,
+    };
     for _ in 0..wanted {
-        let (file, output) = (some_elf(&mut random), random.pick(&OUTPUTS));
-        let answer = lent.lend(&file, 0, output, |file, _, output| elf::read(file, output)).map_err(Error::other)?;
-        let right = kit::elf::read(&file, output);
+        let (file, output) = (some_elf(class, &mut random), random.pick(&OUTPUTS));
+        let answer = lent.lend(&file, 0, output, |file, _, output| read(file, output)).map_err(Error::other)?;
+        let right = kit::elf::read_of(class, &file, output);
         if !answer.agrees(&right) {
             return Err(Error::other(format!("{answer:?}, but wanted {right:?}, for output {output}, {file:02X?}")));
         }
@@ -32,6 +44,6 @@ fn main() -> Result<()> {
     println!("number    count   (0 is a bundle)");
     counts.iter().for_each(|(number, count)| println!("{number:6} {count:8}"));
     let seconds = start.elapsed().as_secs_f64();
-    println!("{wanted} ELF files, each answer and every byte as the independent reader has it; {seconds:.1} seconds, seed {seed}");
+    println!("{wanted} {name} files, each answer and every byte as the independent reader has it; {seconds:.1} seconds, seed {seed}");
     Ok(())
 }

@@ -1,4 +1,4 @@
-//! Generated packages written as ELF files and read back by the proved functions: written_elf NUMBER [SEED]
+//! Generated packages written as ELF files for any machine and read back by the proved functions: written_elf NUMBER [SEED]
 //!
 //! Each answer and every byte is compared with the independent writer, in memory full of junk, and each file that is read again must give its
 //! package. It fails at the first difference.
@@ -24,10 +24,10 @@ fn main() -> Result<()> {
         let c = call(&mut random);
         let Packed::Made(package) = pack(&c.bundle, c.work, c.output) else { continue };
         packages += 1;
-        let machine = random.pick(&[62, 183, 243]);
-        let right = kit::elf_writer::write(&package, machine, usize::MAX);
+        let machine = random.between(1, 0xFFFF) as u32;
+        let right = kit::elf_writer::write_for(&package, machine, usize::MAX);
         let Packed::Made(file) = &right else { return Err(Error::other(format!("{right:?} for {package:02X?}"))) };
-        let write = |package: &[u8], _: &mut [u32], output: &mut [u8]| elf::write(package, machine, output);
+        let write = |package: &[u8], _: &mut [u32], output: &mut [u8]| elf::write_for(package, machine, output);
         let answer = lent.lend(&package, 0, file.len() + 9, write).map_err(Error::other)?;
         if !answer.agrees(&right) {
             return Err(Error::other(format!("{answer:?}, but wanted {right:?}, for {package:02X?}")));

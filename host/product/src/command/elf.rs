@@ -2,7 +2,7 @@
 
 use super::call::{Call, Known};
 use super::files::{good_package, note_without_index, refused_call};
-use super::pack::{machine_named, other_machine, NO_READER};
+use super::pack::{machine_named, Machine, NO_READER};
 use super::{guard, output, stop, Stop, DONE};
 use crate::elf;
 use std::ffi::OsString;
@@ -23,20 +23,15 @@ pub fn run(arguments: &[OsString]) -> Result<u8, Stop> {
     let named = machine_named(&call, true)?;
     guard::judge(&call, to, &call.operands)?;
     let package = good_package(&call, name)?;
-    let known = named.or(package.machine);
-    let (usual, machine) = elf::MACHINES[0];
-    let machine = known.unwrap_or(machine);
-    let file = elf::file_of(&package.bytes, machine);
-    let file =
-        file.map_err(|number| refused_call(&call, &output::shown(to), number, other_machine(machine, number)))?;
+    let machine = Machine::of(named, package.machine);
+    let file = elf::file_of(&package.bytes, machine.number());
+    let file = file.map_err(|number| refused_call(&call, &output::shown(to), number, None))?;
     // It is said before anything is written. Whoever asks for it has the package as it is too.
     if !elf::opens(&file, &package.bytes) {
         stop::note(&format!("{}: {NO_READER}: keep {} as it is", output::shown(to), package.shown));
     } else {
         note_without_index(&package.shown, &package.bytes);
     }
-    if known.is_none() {
-        stop::note(&format!("{}: for {usual}; --machine names another one", output::shown(to)));
-    }
+    machine.line().iter().for_each(|line| stop::note(&format!("{}: {line}", output::shown(to))));
     output::write(to, &file).map(|()| DONE)
 }

@@ -40,8 +40,8 @@ pub struct Joined {
     pub bundle: Lent<u8>,
     /// One for each object; none where the bundle was handed in as it is, and its objects have numbers.
     pub files: Vec<String>,
-    /// The machine of the first ELF file, if there is one.
-    pub machine: Option<u32>,
+    /// The machine of the first ELF file that names one, with how that file is called.
+    machine: Option<(u32, String)>,
     /// The files without debug information: nothing of them is in the bundle.
     pub left_out: Vec<String>,
     /// Sections of debug information that packages have no place for.
@@ -112,10 +112,10 @@ pub fn from_elf(call: &Call, file: &[u8], shown: &str) -> Result<Lent<u8>, Stop>
 /// packed: the reader is lent so much, and where that is too short it says how much is needed. The sections are copied once, to where they stay.
 fn put_elf(file: &[u8], bundle: &mut Lent<u8>, from: usize) -> Result<(), u32> {
     bundle.extend_to(from + file.len().min(LONGEST_BUNDLE));
-    let (mut code, length) = elf::read(file, &mut bundle[from..]);
+    let (mut code, length) = elf::read_either(file, &mut bundle[from..]);
     if code == OUTPUT_TOO_SHORT {
         bundle.extend_to(from + length);
-        (code, _) = elf::read(file, &mut bundle[from..]);
+        (code, _) = elf::read_either(file, &mut bundle[from..]);
     }
     bundle.truncate(from + length);
     if code == 0 {
@@ -211,8 +211,24 @@ impl Joined {
     fn put_package(&mut self, call: &Call, package: &Taken) -> Result<(), Stop> {
         self.put_bundle(&package.bytes, &package.shown).map_err(|refusal| refusal.stop(call))?;
         self.files = vec![package.shown.clone()];
-        self.machine = package.machine;
-        Ok(())
+        self.meet(package.machine, &package.shown).map_err(|refusal| refusal.stop(call))
+    }
+
+    /// The machine of what was packed, where an ELF file names one.
+    pub fn machine(&self) -> Option<u32> {
+        self.machine.as_ref().map(|(machine, _)| *machine)
+    }
+
+    /// A file that names a machine: all that do name the same.
+    fn meet(&mut self, machine: Option<u32>, shown: &str) -> Result<(), Refusal> {
+        let Some(machine) = machine else { return Ok(()) };
+        let (first, of) = self.machine.get_or_insert_with(|| (machine, shown.to_string()));
+        if *first == machine {
+            return Ok(());
+        }
+        let [machine, first] = [machine, *first].map(elf::machine_shown);
+        let why = format!("it is for {machine}, and {of} is for {first}; pack each machine by itself");
+        Err(Refusal { file: shown.to_string(), number: None, why })
     }
 
     /// Puts the object of an ELF file behind those that are there, without an end. The head that it would have alone stands over the last
@@ -232,10 +248,13 @@ impl Joined {
             self.bundle.truncate(from + WORD);
             return Err(self.other_order(shown));
         }
+        if let Err(refusal) = self.meet(elf::machine_of(file), shown) {
+            self.bundle.truncate(if last.is_some() { from + WORD } else { 0 });
+            return Err(refusal);
+        }
         self.bundle.truncate(end - WORD);
         self.took(shown);
         self.files.push(shown.to_string());
-        self.machine = self.machine.or(elf::machine_of(file));
         self.uncarried.add(shown, file);
         Ok(())
     }

@@ -27,7 +27,7 @@ const BUNDLE: &str = "\
 Usage: barthovin bundle [OPTION]... FILE -o BUNDLE
 Write the bundle of the split-debug sections of an ELF file, or say why there is none and write nothing.
 
-FILE is a relocatable ELF64 file as compilers write it for -gsplit-dwarf (.dwo), or - for standard input.
+FILE is a relocatable ELF file of 64 or 32 bits, as compilers write it for -gsplit-dwarf (.dwo), or - for standard input.
 
   -o, --output=BUNDLE    the file to write, or - for standard output
       --force            write it over FILE itself, or over a .dwo file
@@ -40,14 +40,15 @@ const PACK: &str = "\
 Usage: barthovin pack [OPTION]... FILE... -o PACKAGE
 Write the package of files, in the order given, or say why there is none and write nothing.
 
-FILE is a relocatable ELF64 file (.dwo) or a bundle, told apart by their first bytes, or - for standard input; @LIST stands for the
-files that LIST names (./@NAME for a file that is called so), one on each line or with a NUL between them.
+FILE is a relocatable ELF file (.dwo) of 64 or 32 bits or a bundle, told apart by their first bytes, or - for standard input; @LIST stands
+for the files that LIST names (./@NAME for a file that is called so), one on each line or with a NUL between them.
 
   -o, --output=PACKAGE   the file to write, or - for standard output; where its name ends in .dwp, an ELF file
       --add=PACKAGE      add the files to a package, as it is or as an ELF file; -o may name the same one. An ELF file stays one
       --elf              write an ELF file whatever its name
       --force            write it over one of the files, or over a .dwo file
-      --machine=MACHINE  of the ELF file: x86-64, aarch64 or riscv64; else that of the first ELF file read, else x86-64
+      --machine=MACHINE  of the ELF file: x86-64, aarch64, arm, riscv64, riscv32, i386, powerpc, powerpc64, mips or a number; else that
+                         of the files or of the package that is added to, else x86-64, which is said
       --strict           refuse files without debug information, which are left out else
       --namesakes        list the type units that were skipped though their bytes are not those of the one kept
       --json             write what was written and skipped as a JSON object
@@ -87,7 +88,8 @@ is said before it is written.
 
   -o, --output=FILE.dwp  the file to write, or - for standard output
       --force            write it over PACKAGE itself, or over a .dwo file
-      --machine=MACHINE  of the ELF file: x86-64, aarch64 or riscv64; else that of PACKAGE where it is an ELF file, else x86-64
+      --machine=MACHINE  of the ELF file: x86-64, aarch64, arm, riscv64, riscv32, i386, powerpc, powerpc64, mips or a number; else that
+                         of PACKAGE where it is an ELF file, else x86-64, which is said
   -h, --help             show this help and exit
   -V, --version          show the version and exit
 

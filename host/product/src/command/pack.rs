@@ -16,9 +16,6 @@ use std::ffi::{OsStr, OsString};
 use std::io::Write;
 use std::os::unix::ffi::OsStrExt;
 
-/// The refusal of a machine that packages aren't written for.
-const OTHER_MACHINE: u32 = 36;
-
 /// What is said of a package that as an ELF file would be no package any more.
 pub const NO_READER: &str =
     "no reader could open it as an ELF file, where only a unit of .debug_info.dwo says which DWARF version it has";
@@ -67,9 +64,13 @@ pub fn run(arguments: &[OsString]) -> Result<u8, Stop> {
     joined.uncarried.lines().iter().for_each(|line| stop::note(line));
     let added = earlier.as_ref().map(|earlier| earlier.added(names.len() - joined.left_out.len()));
     let namesakes = if call.has("namesakes") { namesakes(&joined, skipped)? } else { Vec::new() };
-    let done =
-        Done { length: 0, skipped, namesakes, added, left_out: joined.left_out.clone(), closed: closed(&package) };
-    let file = if as_elf { elf_file(&call, to, &package, named, joined)? } else { package };
+    let machine = as_elf.then(|| Machine::of(named, joined.machine()));
+    let (left_out, later) = (joined.left_out.clone(), closed(&package));
+    let done = Done { length: 0, machine, skipped, namesakes, added, left_out, closed: later };
+    let file = match &machine {
+        Some(machine) => elf_file(&call, to, &package, machine.number(), joined)?,
+        None => package,
+    };
     match &earlier {
         Some(earlier) => earlier.write(to, &file)?,
         None => output::write(to, &file)?,
@@ -77,31 +78,53 @@ pub fn run(arguments: &[OsString]) -> Result<u8, Stop> {
     say(&call, to, Done { length: file.len(), ..done })
 }
 
-/// The package as an ELF file, for the machine that was named or that of what was packed, in whose place it is written. One that nobody could open is
-/// refused while the files are still there.
-fn elf_file(call: &Call, to: &OsStr, package: &[u8], named: Option<u32>, packed: Joined) -> Result<Lent<u8>, Stop> {
+/// The machine that an ELF file is written for.
+#[derive(Clone, Copy)]
+pub enum Machine {
+    /// By the call, or by a file that was packed.
+    Known(u32),
+    /// No one says: the usual one.
+    Usual,
+}
+
+impl Machine {
+    pub fn of(named: Option<u32>, packed: Option<u32>) -> Machine {
+        named.or(packed).map_or(Machine::Usual, Machine::Known)
+    }
+
+    pub fn number(self) -> u32 {
+        match self {
+            Machine::Known(number) => number,
+            Machine::Usual => elf::MACHINES[0].1,
+        }
+    }
+
+    /// What is told of one that no file says: a debugger opens no package of another machine.
+    pub fn line(self) -> Option<String> {
+        let Machine::Usual = self else { return None };
+        let usual = elf::machine_shown(self.number());
+        Some(format!("written for {usual}, since no file says a machine: --machine names another"))
+    }
+}
+
+/// The package as an ELF file for a machine, written in the place of what was packed. One that nobody could open is refused while the files are still
+/// there.
+fn elf_file(call: &Call, to: &OsStr, package: &[u8], machine: u32, packed: Joined) -> Result<Lent<u8>, Stop> {
     if !elf::states_version(package) {
         return Err(Stop::Refused(format!(
             "{}: {NO_READER}: write the package as it is, without --elf or .dwp",
             output::shown(to)
         )));
     }
-    let machine = named.or(packed.machine).unwrap_or(elf::MACHINES[0].1);
     let file = elf::file_in(package, machine, packed.bundle);
-    file.map_err(|number| refused_call(call, &output::shown(to), number, other_machine(machine, number)))
+    file.map_err(|number| refused_call(call, &output::shown(to), number, None))
 }
 
-/// Why 36 refuses a machine.
-pub fn other_machine(machine: u32, number: u32) -> Option<String> {
-    let named: Vec<&str> = elf::MACHINES.iter().map(|(name, _)| *name).collect();
-    let why = || format!("the machine is {machine}; --machine names another one: {}", show::or(&named));
-    (number == OTHER_MACHINE).then(why)
-}
-
-/// What was done: the length written, what was skipped and which of it are namesakes where that is asked for, what was added to a package, what was left
-/// out, and why nothing can be added later.
+/// What was done: the length written, the machine of an ELF file, what was skipped and which of it are namesakes where that is asked for, what was
+/// added to a package, what was left out, and why nothing can be added later.
 struct Done {
     length: usize,
+    machine: Option<Machine>,
     skipped: Skipped,
     namesakes: Vec<Namesake>,
     added: Option<Added>,
@@ -115,13 +138,14 @@ impl Done {
         let Skipped { repeats, namesakes } = self.skipped;
         let listed: Vec<String> = self.namesakes.iter().map(Namesake::json).collect();
         let listed = call.has("namesakes").then(|| format!(",\"listed\":[{}]", listed.join(",")));
+        let machine = self.machine.map(|machine| format!(",\"machine\":{}", machine.number())).unwrap_or_default();
         let same = self.added.as_ref().map(Added::json).unwrap_or_default();
         let later = format!(",\"can_be_added_to\":{}", self.closed.is_none());
         let left_out: Vec<String> = self.left_out.iter().map(|file| show::json(file)).collect();
         let left_out = (!left_out.is_empty()).then(|| format!(",\"left_out\":[{}]", left_out.join(",")));
         let counts = format!("\"repeats\":{repeats},\"namesakes\":{namesakes}");
         let more = [left_out, listed].map(Option::unwrap_or_default).concat();
-        format!("{{\"length\":{},{counts}{same}{later}{more}}}", self.length)
+        format!("{{\"length\":{},{counts}{machine}{same}{later}{more}}}", self.length)
     }
 }
 
@@ -131,17 +155,13 @@ fn say(call: &Call, to: &OsStr, done: Done) -> Result<u8, Stop> {
     if call.has("json") {
         return output::print(&done.json(call));
     }
-    let Done { skipped, namesakes, added, closed, .. } = done;
+    let Done { machine, skipped, namesakes, added, closed, .. } = done;
     let counts = (skipped != Skipped::default()).then(|| show::skipped(skipped));
-    let usual = (skipped.namesakes > 0).then(|| show::NAMESAKES.to_string());
+    let usual = machine.and_then(Machine::line);
+    let namesakes_usual = (skipped.namesakes > 0).then(|| show::NAMESAKES.to_string());
     let later = closed.map(add::not_later);
-    let lines = added
-        .iter()
-        .map(Added::line)
-        .chain(later)
-        .chain(counts)
-        .chain(usual)
-        .chain(namesakes.iter().map(Namesake::line));
+    let lines = added.iter().map(Added::line).chain(later).chain(usual).chain(counts).chain(namesakes_usual);
+    let lines = lines.chain(namesakes.iter().map(Namesake::line));
     let text = lines.collect::<Vec<_>>().join("\n");
     if text.is_empty() {
         return Ok(DONE);
@@ -197,13 +217,12 @@ pub fn machine_named(call: &Call, as_elf: bool) -> Result<Option<u32>, Stop> {
     if !as_elf {
         return Err(call.wrong("option '--machine' is for ELF files: --elf, or an output that ends in .dwp"));
     }
-    match elf::MACHINES.iter().find(|(known, _)| name == *known) {
-        Some((_, machine)) => Ok(Some(*machine)),
-        None => {
-            let known: Vec<&str> = elf::MACHINES.iter().map(|(name, _)| *name).collect();
-            Err(call.wrong(format!("unknown machine '{}': {}", show::name(name), show::or(&known))))
-        }
-    }
+    let Some(machine) = name.to_str().and_then(elf::machine) else {
+        let known: Vec<&str> = elf::MACHINES.iter().map(|(known, _)| *known).collect();
+        let (name, known) = (show::name(name), known.join(", "));
+        return Err(call.wrong(format!("unknown machine '{name}': {known}, or a number from 1 to 65535")));
+    };
+    Ok(Some(machine))
 }
 
 /// Those of several files that are refused, where there are several: packing stops at the first.

@@ -50,14 +50,6 @@ pub fn count(number: usize, one: &str) -> String {
     format!("{number} {one}{}", if number == 1 { "" } else { "s" })
 }
 
-/// `a`, `a or b`, `a, b or c`.
-pub fn or(words: &[&str]) -> String {
-    match words {
-        [front @ .., last] if !front.is_empty() => format!("{} or {last}", front.join(", ")),
-        _ => words.concat(),
-    }
-}
-
 /// What is said with namesakes, which are nothing to fear: most type units that compilers repeat are such.
 pub const NAMESAKES: &str = "namesakes are usual: each file counts its strings and abbreviations by itself";
 

@@ -1,0 +1,240 @@
+//! Files of 32 bits through the command, and the machine that a package is written for.
+
+mod common;
+
+use common::*;
+use std::fs;
+use std::path::Path;
+
+const FILES: &str = concat!(env!("CARGO_MANIFEST_DIR"), "/../../examples/real/files");
+
+fn file(name: &str) -> Vec<u8> {
+    fs::read(format!("{FILES}/{name}.dwo")).unwrap()
+}
+
+/// A file of either byte order whose numbers are read and written.
+struct Fields {
+    bytes: Vec<u8>,
+    big: bool,
+}
+
+impl Fields {
+    fn at(&self, at: usize, width: usize) -> usize {
+        let bytes = &self.bytes[at..at + width];
+        let digit = |value: usize, byte: &u8| value << 8 | *byte as usize;
+        if self.big {
+            bytes.iter().fold(0, digit)
+        } else {
+            bytes.iter().rev().fold(0, digit)
+        }
+    }
+
+    fn push(&mut self, value: usize, width: usize) {
+        let bytes = value.to_be_bytes();
+        let bytes = &bytes[8 - width..];
+        if self.big {
+            self.bytes.extend(bytes);
+        } else {
+            self.bytes.extend(bytes.iter().rev());
+        }
+    }
+}
+
+/// An ELF64 file as an ELF32 file of a machine: its sections in front, then the section headers.
+fn narrowed(file: &[u8], machine: usize) -> Vec<u8> {
+    let old = Fields { bytes: file.to_vec(), big: file[5] == 2 };
+    let (start, count, names) = (old.at(40, 8), old.at(60, 2), old.at(62, 2));
+    let (mut bodies, mut headers) = (Vec::new(), Fields { bytes: Vec::new(), big: old.big });
+    for at in (0..count).map(|i| start + 64 * i) {
+        let (offset, size) = (old.at(at + 24, 8), old.at(at + 32, 8));
+        let place = 52 + bodies.len();
+        if old.at(at + 4, 4) != 8 {
+            bodies.extend(&file[offset..offset + size]);
+        }
+        [old.at(at, 4), old.at(at + 4, 4), old.at(at + 8, 8), 0, place, size].iter().for_each(|v| headers.push(*v, 4));
+        [old.at(at + 40, 4), old.at(at + 44, 4), 1, 0].iter().for_each(|v| headers.push(*v, 4));
+    }
+    let mut new = Fields { bytes: b"\x7FELF\x01".to_vec(), big: old.big };
+    new.bytes.extend([if old.big { 2 } else { 1 }, 1, 0, 0, 0, 0, 0, 0, 0, 0, 0]);
+    [old.at(16, 2), machine].iter().for_each(|v| new.push(*v, 2));
+    [1, 0, 0, 52 + bodies.len(), 0].iter().for_each(|v| new.push(*v, 4));
+    [52, 0, 0, 40, count, names].iter().for_each(|v| new.push(*v, 2));
+    new.bytes.extend(bodies);
+    new.bytes.extend(headers.bytes);
+    new.bytes
+}
+
+fn write(home: &Path, name: &str, bytes: &[u8]) {
+    fs::write(home.join(name), bytes).unwrap();
+}
+
+/// What was done, without a word on standard error.
+fn done(home: &Path, call: &[&str]) -> String {
+    let output = run_in(home, call, &[]);
+    assert_eq!((message(&output), status(&output)), (String::new(), 0), "{call:?}");
+    text(&output)
+}
+
+/// The machine of an ELF file that was written.
+fn machine(home: &Path, name: &str) -> usize {
+    let bytes = fs::read(home.join(name)).unwrap();
+    Fields { big: bytes[5] == 2, bytes }.at(18, 2)
+}
+
+/// What is in a file doesn't depend on its class: bundle, package and all that is asked of it are the same.
+#[test]
+fn a_file_of_32_bits_is_read_as_one_of_64() {
+    let home = directory("elf32-same");
+    for name in ["gcc-5-race", "gcc-4-race", "clang-5-main", "gcc-4t-driver", "clang-5t-driver", "clang-4be-race"] {
+        let long = file(name);
+        write(&home, "long.dwo", &long);
+        write(&home, "short.dwo", &narrowed(&long, 62));
+        for (command, form) in [("bundle", "bundle"), ("pack", "package")] {
+            for class in ["long", "short"] {
+                done(&home, &[command, &format!("{class}.dwo"), "-o", &format!("{class}.{form}")]);
+            }
+            let read = |class: &str| fs::read(home.join(format!("{class}.{form}"))).unwrap();
+            assert!(read("long") == read("short"), "{command} {name}");
+        }
+        let verified = done(&home, &["verify", "long.package", "short.dwo"]);
+        assert!(verified.ends_with(": all found; the files may be deleted\n"), "{verified}");
+        // As a package of another maker in an ELF32 file.
+        done(&home, &["pack", "long.dwo", "-o", "long.dwp"]);
+        let dwp = fs::read(home.join("long.dwp")).unwrap();
+        write(&home, "short.dwp", &narrowed(&dwp, 40));
+        for command in ["list", "sheet"] {
+            assert_eq!(done(&home, &[command, "long.dwp"]), done(&home, &[command, "short.dwp"]));
+        }
+        assert!(done(&home, &["verify", "short.dwp", "short.dwo"]).contains(": all found"));
+    }
+}
+
+/// Refused with the cause, which is read from headers of 40 bytes, in both byte orders.
+#[test]
+fn wrong_files_of_32_bits_are_refused_with_the_cause() {
+    let home = directory("elf32-wrong");
+    let (little, big) = (narrowed(&file("gcc-5-race"), 40), narrowed(&file("clang-5be-race"), 20));
+    let refused = |content: &[u8], wanted: &str| {
+        write(&home, "some.dwo", content);
+        for command in ["bundle", "pack"] {
+            let output = run_in(&home, &[command, "some.dwo", "-o", "new"], &[]);
+            assert_eq!((message(&output), status(&output)), (format!("barthovin: some.dwo: refused {wanted}\n"), 1));
+            assert_eq!(names(&home), ["some.dwo"]);
+        }
+    };
+    let (not_elf, unusable) = (
+        "31: this is no relocatable ELF file, or it is cut off",
+        "32: a debug section is compressed, relocated or without bytes",
+    );
+    let no_unit = "33: there is no unit of DWARF version 4 or 5 to pack";
+    for good in [&little, &big] {
+        let read = Fields { bytes: good.clone(), big: good[5] == 2 };
+        // In the last byte of a number of so many bytes.
+        let put = |at: usize, width: usize, value: u8| {
+            let mut file = good.clone();
+            file[if read.big { at + width - 1 } else { at }] = value;
+            file
+        };
+        let (start, count, names) = (read.at(32, 4), read.at(48, 2), read.at(50, 2));
+        let table = read.at(start + 40 * names + 16, 4);
+        let number_of = |name: &str| {
+            let called = |i: &usize| good[table + read.at(start + 40 * i, 4)..].starts_with(name.as_bytes());
+            (0..count).find(called).unwrap()
+        };
+        let (info, line) = (number_of(".debug_info.dwo\0"), number_of(".debug_line.dwo\0"));
+        let [info_at, line_at] = [info, line].map(|number| start + 40 * number);
+        let program = "it is a program or a shared library; its .dwo files are wanted";
+        refused(&put(16, 2, 2), &format!("{not_elf}: {program}"));
+        refused(&put(46, 2, 64), &format!("{not_elf}: its section headers have 64 bytes, and not 40"));
+        refused(&good[..51], &format!("{not_elf}: it has 51 bytes and is cut off"));
+        let (end, has) = (good.len(), good.len() - 1);
+        refused(&good[..has], &format!("{not_elf}: its {count} section headers end at byte {end}, and it has {has}"));
+        let mut compressed = good.clone();
+        compressed[line_at + if read.big { 10 } else { 9 }] = 8;
+        refused(&compressed, &format!("{unusable}: .debug_line.dwo is compressed; compile without -gz"));
+        refused(&put(info_at + 4, 4, 8), &format!("{unusable}: .debug_info.dwo has no bytes in the file"));
+        let mut relocated = put(line_at + 4, 4, 9);
+        relocated[if read.big { line_at + 31 } else { line_at + 28 }] = info as u8;
+        refused(&relocated, &format!("{unusable}: .debug_info.dwo has relocations"));
+        let mut empty = good.clone();
+        empty[info_at + 20..info_at + 24].fill(0);
+        let nothing = "it has no .debug_info.dwo, or an empty one: there is nothing to pack, leave it out";
+        refused(&empty, &format!("{no_unit}: {nothing}"));
+        let unit = read.at(info_at + 16, 4);
+        refused(&put(unit + 4, 2, 3), &format!("{no_unit}: its first unit is of version 3"));
+    }
+}
+
+/// An ELF file is written for the machine of the files; where they or the package that they are added to are of two, nothing is written.
+#[test]
+fn the_machine_is_that_of_the_files() {
+    let home = directory("machines");
+    let (main, race) = (file("gcc-5-main"), file("gcc-5-race"));
+    write(&home, "main.dwo", &narrowed(&main, 40));
+    write(&home, "race.dwo", &narrowed(&race, 40));
+    write(&home, "other.dwo", &narrowed(&race, 183));
+    write(&home, "none.dwo", &narrowed(&race, 0));
+    let refused = |call: &[&str], wanted: &str| {
+        let before = names(&home);
+        let output = run_in(&home, call, &[]);
+        assert_eq!((message(&output), status(&output)), (format!("barthovin: {wanted}\n"), 1), "{call:?}");
+        assert_eq!(names(&home), before);
+    };
+    assert_eq!(done(&home, &["pack", "main.dwo", "race.dwo", "-o", "all.dwp"]), "");
+    assert_eq!(machine(&home, "all.dwp"), 40);
+    let mixed =
+        "other.dwo: it is for machine 183 (aarch64), and main.dwo is for machine 40 (arm); pack each machine by itself";
+    refused(&["pack", "main.dwo", "other.dwo", "-o", "new.dwp"], mixed);
+    refused(&["pack", "main.dwo", "other.dwo", "-o", "new"], mixed);
+    // A file that names no machine goes with any.
+    assert_eq!(done(&home, &["pack", "none.dwo", "main.dwo", "-o", "new.dwp"]), "");
+    assert_eq!(machine(&home, "new.dwp"), 40);
+    // What is added to keeps its machine.
+    done(&home, &["pack", "main.dwo", "-o", "week.dwp"]);
+    let told = done(&home, &["pack", "--add", "week.dwp", "none.dwo", "-o", "week.dwp"]);
+    assert!(told.starts_with("1 file added to week.dwp: ") && told.lines().count() == 1, "{told}");
+    assert_eq!(machine(&home, "week.dwp"), 40);
+    let added =
+        "other.dwo: it is for machine 183 (aarch64), and week.dwp is for machine 40 (arm); pack each machine by itself";
+    refused(&["pack", "--add", "week.dwp", "other.dwo", "-o", "new.dwp"], added);
+    assert_eq!(machine(&home, "week.dwp"), 40);
+}
+
+/// Where no file says a machine, the one that was taken is told; names and numbers are taken, and nothing else.
+#[test]
+fn the_machine_is_named() {
+    let home = directory("machine-names");
+    write(&home, "none.dwo", &narrowed(&file("gcc-5-race"), 0));
+    let usual = "written for machine 62 (x86-64), since no file says a machine: --machine names another\n";
+    for name in ["none.dwo", EXAMPLE] {
+        assert_eq!(done(&home, &["pack", name, "-o", "new.dwp"]), usual);
+        assert_eq!(machine(&home, "new.dwp"), 62);
+        let json = done(&home, &["pack", name, "-o", "new.dwp", "--json"]);
+        assert!(json.contains(",\"machine\":62}"), "{json}");
+    }
+    let named = [
+        ("x86-64", 62),
+        ("aarch64", 183),
+        ("arm", 40),
+        ("riscv64", 243),
+        ("riscv32", 243),
+        ("i386", 3),
+        ("powerpc", 20),
+        ("powerpc64", 21),
+        ("mips", 8),
+        ("1", 1),
+        ("65535", 65_535),
+    ];
+    for (name, number) in named {
+        assert_eq!(done(&home, &["pack", EXAMPLE, "-o", "new.dwp", "--machine", name]), "");
+        assert_eq!(machine(&home, "new.dwp"), number);
+    }
+    for name in ["vax", "0", "65536", "-1", "4 0", "0x28", ""] {
+        let output = run_in(&home, &["pack", EXAMPLE, "-o", "other.dwp", "--machine", name], &[]);
+        let wanted = format!(
+            "barthovin: unknown machine '{name}': x86-64, aarch64, arm, riscv64, riscv32, i386, powerpc, powerpc64, mips, \
+             or a number from 1 to 65535\nTry 'barthovin pack --help' for more information.\n"
+        );
+        assert_eq!((message(&output), status(&output)), (wanted, 2));
+    }
+}
