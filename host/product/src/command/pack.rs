@@ -3,9 +3,11 @@
 use super::add::{self, Added, Earlier};
 use super::call::{Call, Known};
 use super::files::{join, listed, refused_call, Joined};
-use super::{guard, input, output, progress, show, Stop, DONE};
+use super::refusals::Refusals;
+use super::{guard, input, output, progress, show, stop, Stop, DONE};
+use crate::closed::closed;
 use crate::elf;
-use crate::explain::{self, Names};
+use crate::explain::{self, Names, Refused};
 use crate::ffi::{self, Skipped};
 use crate::lent::Lent;
 use crate::names::{section_name, OUTPUT_TOO_SHORT, WORK_FOR_A_WORD};
@@ -14,15 +16,20 @@ use std::ffi::{OsStr, OsString};
 use std::io::Write;
 use std::os::unix::ffi::OsStrExt;
 
+/// What is said of a package that as an ELF file would be no package any more.
+pub const NO_READER: &str =
+    "no reader could open it as an ELF file, where only a unit of .debug_info.dwo says which DWARF version it has";
+
 /// A long bundle: what its packing takes counts.
 const LONG: usize = 1 << 20;
 
-const OPTIONS: [Known; 7] = [
+const OPTIONS: [Known; 8] = [
     Known { long: "output", short: Some(b'o'), value: true },
     Known { long: "add", short: None, value: true },
     Known { long: "elf", short: None, value: false },
     Known { long: "force", short: None, value: false },
     Known { long: "machine", short: None, value: true },
+    Known { long: "strict", short: None, value: false },
     Known { long: "namesakes", short: None, value: false },
     Known { long: "json", short: None, value: false },
 ];
@@ -39,21 +46,27 @@ pub fn run(arguments: &[OsString]) -> Result<u8, Stop> {
     if call.has("json") && output::is_standard(to) {
         return Err(call.wrong("option '--json' needs standard output for itself: -o PACKAGE"));
     }
-    let as_elf = call.has("elf") || to.as_bytes().ends_with(b".dwp");
-    let named = machine_named(&call, as_elf)?;
     let names = listed(&call.operands)?;
     if names.is_empty() {
         return Err(call.wrong("the list names no file"));
     }
     guard::judge(&call, to, &names)?;
     let earlier = add::earlier(&call)?;
+    // What is added to keeps its form.
+    let is_elf = earlier.as_ref().is_some_and(|earlier| earlier.file.machine.is_some());
+    let as_elf = is_elf || call.has("elf") || to.as_bytes().ends_with(b".dwp");
+    let named = machine_named(&call, as_elf)?;
     let joined = join(&call, earlier.as_ref().map(|earlier| &earlier.file), &names)?;
     let about = format!("packing {}, {} bytes", show::count(names.len(), "file"), joined.bundle.len());
     let packed = progress::shown(about, || packed(&joined.bundle));
     let (package, skipped) = packed.map_err(|number| told(&call, &names, earlier.as_ref(), &joined, number))?;
-    let added = earlier.as_ref().map(|earlier| earlier.added(names.len(), &package));
+    joined.note_left_out(names.len());
+    joined.uncarried.lines().iter().for_each(|line| stop::note(line));
+    let added = earlier.as_ref().map(|earlier| earlier.added(names.len() - joined.left_out.len()));
     let namesakes = if call.has("namesakes") { namesakes(&joined, skipped)? } else { Vec::new() };
     let machine = as_elf.then(|| Machine::of(named, joined.machine()));
+    let (left_out, later) = (joined.left_out.clone(), closed(&package));
+    let done = Done { length: 0, machine, skipped, namesakes, added, left_out, closed: later };
     let file = match &machine {
         Some(machine) => elf_file(&call, to, &package, machine.number(), joined)?,
         None => package,
@@ -62,12 +75,12 @@ pub fn run(arguments: &[OsString]) -> Result<u8, Stop> {
         Some(earlier) => earlier.write(to, &file)?,
         None => output::write(to, &file)?,
     }
-    say(&call, to, Done { length: file.len(), machine, skipped, namesakes, added })
+    say(&call, to, Done { length: file.len(), ..done })
 }
 
 /// The machine that an ELF file is written for.
 #[derive(Clone, Copy)]
-enum Machine {
+pub enum Machine {
     /// By the call, or by a file that was packed.
     Known(u32),
     /// No one says: the usual one.
@@ -75,11 +88,11 @@ enum Machine {
 }
 
 impl Machine {
-    fn of(named: Option<u32>, packed: Option<u32>) -> Machine {
+    pub fn of(named: Option<u32>, packed: Option<u32>) -> Machine {
         named.or(packed).map_or(Machine::Usual, Machine::Known)
     }
 
-    fn number(self) -> u32 {
+    pub fn number(self) -> u32 {
         match self {
             Machine::Known(number) => number,
             Machine::Usual => elf::MACHINES[0].1,
@@ -87,47 +100,68 @@ impl Machine {
     }
 
     /// What is told of one that no file says: a debugger opens no package of another machine.
-    fn line(self) -> Option<String> {
+    pub fn line(self) -> Option<String> {
         let Machine::Usual = self else { return None };
         let usual = elf::machine_shown(self.number());
         Some(format!("written for {usual}, since no file says a machine: --machine names another"))
     }
 }
 
-/// The package as an ELF file for a machine, written in the place of what was packed.
+/// The package as an ELF file for a machine, written in the place of what was packed. One that nobody could open is refused while the files are still
+/// there.
 fn elf_file(call: &Call, to: &OsStr, package: &[u8], machine: u32, packed: Joined) -> Result<Lent<u8>, Stop> {
+    if !elf::states_version(package) {
+        return Err(Stop::Refused(format!(
+            "{}: {NO_READER}: write the package as it is, without --elf or .dwp",
+            output::shown(to)
+        )));
+    }
     let file = elf::file_in(package, machine, packed.bundle);
     file.map_err(|number| refused_call(call, &output::shown(to), number, None))
 }
 
-/// What was done: the length written, the machine of an ELF file, what was skipped and which of it are namesakes where that is asked for, and what was
-/// added to a package.
+/// What was done: the length written, the machine of an ELF file, what was skipped and which of it are namesakes where that is asked for, what was
+/// added to a package, what was left out, and why nothing can be added later.
 struct Done {
     length: usize,
     machine: Option<Machine>,
     skipped: Skipped,
     namesakes: Vec<Namesake>,
     added: Option<Added>,
+    left_out: Vec<String>,
+    closed: Option<u32>,
 }
 
-/// Says what was added, which machine was taken where no file says one, how many type units were skipped, where there are any, and with --namesakes which of them are namesakes. It is said
-/// on standard error where the package goes to standard output.
-fn say(call: &Call, to: &OsStr, done: Done) -> Result<u8, Stop> {
-    let Done { length, machine, skipped, namesakes, added } = done;
-    if call.has("json") {
-        let listed: Vec<String> = namesakes.iter().map(Namesake::json).collect();
+impl Done {
+    /// As a JSON object, with the namesakes where they are asked for.
+    fn json(&self, call: &Call) -> String {
+        let Skipped { repeats, namesakes } = self.skipped;
+        let listed: Vec<String> = self.namesakes.iter().map(Namesake::json).collect();
         let listed = call.has("namesakes").then(|| format!(",\"listed\":[{}]", listed.join(",")));
-        let machine = machine.map(|machine| format!(",\"machine\":{}", machine.number())).unwrap_or_default();
-        let same = added.as_ref().map(Added::json);
-        let Skipped { repeats, namesakes } = skipped;
+        let machine = self.machine.map(|machine| format!(",\"machine\":{}", machine.number())).unwrap_or_default();
+        let same = self.added.as_ref().map(Added::json).unwrap_or_default();
+        let later = format!(",\"can_be_added_to\":{}", self.closed.is_none());
+        let left_out: Vec<String> = self.left_out.iter().map(|file| show::json(file)).collect();
+        let left_out = (!left_out.is_empty()).then(|| format!(",\"left_out\":[{}]", left_out.join(",")));
         let counts = format!("\"repeats\":{repeats},\"namesakes\":{namesakes}");
-        let more = format!("{machine}{}{}", same.unwrap_or_default(), listed.unwrap_or_default());
-        return output::print(&format!("{{\"length\":{length},{counts}{more}}}"));
+        let more = [left_out, listed].map(Option::unwrap_or_default).concat();
+        format!("{{\"length\":{},{counts}{machine}{same}{later}{more}}}", self.length)
     }
+}
+
+/// Says what was added, that nothing can be added later where that is so, how many type units were skipped, where there are any, and with
+/// --namesakes which of them are namesakes. It is said on standard error where the package goes to standard output.
+fn say(call: &Call, to: &OsStr, done: Done) -> Result<u8, Stop> {
+    if call.has("json") {
+        return output::print(&done.json(call));
+    }
+    let Done { machine, skipped, namesakes, added, closed, .. } = done;
     let counts = (skipped != Skipped::default()).then(|| show::skipped(skipped));
     let usual = machine.and_then(Machine::line);
-    let lines =
-        added.iter().flat_map(Added::lines).chain(usual).chain(counts).chain(namesakes.iter().map(Namesake::line));
+    let namesakes_usual = (skipped.namesakes > 0).then(|| show::NAMESAKES.to_string());
+    let later = closed.map(add::not_later);
+    let lines = added.iter().map(Added::line).chain(later).chain(usual).chain(counts).chain(namesakes_usual);
+    let lines = lines.chain(namesakes.iter().map(Namesake::line));
     let text = lines.collect::<Vec<_>>().join("\n");
     if text.is_empty() {
         return Ok(DONE);
@@ -178,7 +212,7 @@ fn namesakes(joined: &Joined, told: Skipped) -> Result<Vec<Namesake>, Stop> {
 }
 
 /// The machine that the call names, if it names one.
-fn machine_named(call: &Call, as_elf: bool) -> Result<Option<u32>, Stop> {
+pub fn machine_named(call: &Call, as_elf: bool) -> Result<Option<u32>, Stop> {
     let Some(name) = call.value("machine") else { return Ok(None) };
     if !as_elf {
         return Err(call.wrong("option '--machine' is for ELF files: --elf, or an output that ends in .dwp"));
@@ -191,9 +225,25 @@ fn machine_named(call: &Call, as_elf: bool) -> Result<Option<u32>, Stop> {
     Ok(Some(machine))
 }
 
+/// Those of several files that are refused, where there are several: packing stops at the first.
+fn all_told(call: &Call, joined: &Joined, first: u32) -> Option<Stop> {
+    let all = explain::each(&joined.bundle, &Names { files: &joined.files });
+    if all.len() < 2 || all[0].number != first {
+        return None;
+    }
+    let mut refusals = Refusals::of(call, joined.files.len());
+    all.into_iter().for_each(|Refused { object, number, why }| refusals.add(&joined.files[object - 1], number, why));
+    Some(refusals.stop())
+}
+
 /// The refusal of what was joined, by the file that it comes from where that is known.
 fn told(call: &Call, operands: &[OsString], earlier: Option<&Earlier>, joined: &Joined, number: u32) -> Stop {
     let names = Names { files: &joined.files };
+    if matches!(number, 4..=16 | 34) && joined.files.len() > 1 {
+        if let Some(stop) = all_told(call, joined, number) {
+            return stop;
+        }
+    }
     let why = explain::packing(&joined.bundle, number, &names);
     let files = show::count(operands.len(), "file");
     let all = match (earlier, operands) {
