@@ -11,3 +11,4 @@ pub mod Putting
 pub mod Opened
 pub mod Refusals
 pub mod Held
+pub mod Examples
