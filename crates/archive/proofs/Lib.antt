@@ -13,6 +13,8 @@ pub mod Tables
 pub mod Firsts
 pub mod StrPieces
 pub mod StrStrings
+pub mod Contributing
+pub mod Rules
 pub mod Demand3
 pub mod Paper
 pub mod TwoSittings
@@ -23,3 +25,6 @@ pub mod RoundTrip
 pub mod Unread
 pub mod Refusing
 pub mod Skipped
+pub mod Clauses
+pub mod AppliedTo
+pub mod Applied
