@@ -1,4 +1,4 @@
--- What is filed for a first unit is what it contributes.
+-- What is filed for a first unit is what it contributes; and a unit that is not the first of its identity is for the type table.
 -- Assumes nothing.
 use mathlib.Core.Path.{◌≡◌, refl, sym, ap, ◌∙◌, subst}
 use mathlib.Core.Bool.{Bool, true, false, not}
@@ -23,11 +23,12 @@ use Rattle.index.specs.Rows.{BySection, shared, needed_codes, is_some, row_of, c
 use Rattle.index.proofs.Contributions.{all_has, needed_shared}
 use Rattle.index.proofs.OneRow.{those_has}
 use Rattle.package.specs.Input.{Input, input_of}
-use Rattle.package.specs.Filing.{Filed, Filing, is_under, index_for, lengths, is_package, contributions_of, unit_at, units_from, units_in, grown, filing_from, first_word, filing_of}
+use Rattle.package.specs.Filing.{Filed, Filing, is_under, index_for, lengths, is_package, contributions_of, skipped, unit_at, units_from, units_in, grown, filing_from, first_word, filing_of}
 use Rattle.package.specs.Units.{ReadAt}
 use Rattle.package.proofs.Inputs.{IndexRead, input_parts, input_cu, index_read}
 use Rattle.package.proofs.Kept.{under_table, under_identity}
 use Rattle.package.proofs.Units.{reading_of, Taken, unit_taken, read_at}
+use Rattle.package.specs.Pack.{handed_in}
 use Rattle.package.proofs.Accepted.{Accepted, handed_in_law}
 use Rattle.archive.specs.Contributing.{IsShared, StandsAt, Contributes}
 use Rattle.archive.specs.Theorem.{WhatItContributes}
@@ -50,7 +51,7 @@ eight : length shared ≡ 8
 unfolding shared
 eight = refl
 
-shared_has : (c : ℕ) → IsShared c → has shared c ≡ true
+pub shared_has : (c : ℕ) → IsShared c → has shared c ≡ true
 shared_has c s = has_at shared c (c - 3) (omega (arith, s.from, s.to, eight)) (counts (c - 3) (omega (arith, s.from, s.to)) ∙ omega (arith, s.from))
 
 needed_some : (n : BySection ℕ) (c : ℕ) → IsShared c → (n c ≡ 0 → ⊥) → has (needed_codes n) c ≡ true
@@ -171,19 +172,24 @@ module _ (u : Filed) (at : ℕ) (stands : StandsAt u at) (reads : ReadAt u at) (
       from none e c n = ap (λ (g : BySection (Option Contribution)). g c) (sym (by_whole e)) ∙ whole_not (lengths u.input) c n
 
 -- ---- all units, each behind those before it
--- behind ks each of these contributes, if none before it has its identity
+-- a unit behind ks: it contributes, if none of them has its identity; if one has, it is no compilation
+pub record Behind (ks : List Filed) (u : Filed) : Type 0 where
+  pub first : any (is_under u.table u.identity) ks ≡ false → Contributes u
+  pub again : any (is_under u.table u.identity) ks ≡ true → u.table ≡ 1 → ⊥
+
+-- each of these units, behind ks and those before it
 abbrev Each : List Filed → List Filed → Type 0
 Each ks [] = Unit {0}
-Each ks (u ∷ us) = (any (is_under u.table u.identity) ks ≡ false → Contributes u) × Each (ks ++ (u ∷ [])) us
+Each ks (u ∷ us) = Behind ks u × Each (ks ++ (u ∷ [])) us
 
 each_join : (ks us vs : List Filed) → Each ks us → Each (ks ++ us) vs → Each ks (us ++ vs)
 each_join ks [] vs e f = subst (λ (l : List Filed). Each l vs) (append-nil ks) f
 each_join ks (u ∷ us) vs e f = (e.0, each_join (ks ++ (u ∷ [])) us vs e.1 (subst (λ (l : List Filed). Each l vs) (sym (append_assoc ks (u ∷ []) us)) f))
 
-each_at : (ks before behind : List Filed) (u : Filed) → Each ks (before ++ (u ∷ behind)) → any (is_under u.table u.identity) (ks ++ before) ≡ false → Contributes u
-each_at ks [] behind u e f = e.0 (subst (λ (l : List Filed). any (is_under u.table u.identity) l ≡ false) (append-nil ks) f)
-each_at ks (k ∷ before) behind u e f =
-    each_at (ks ++ (k ∷ [])) before behind u e.1 (subst (λ (l : List Filed). any (is_under u.table u.identity) l ≡ false) (sym (append_assoc ks (k ∷ []) before)) f)
+each_at : (ks before behind : List Filed) (u : Filed) → Each ks (before ++ (u ∷ behind)) → Behind (ks ++ before) u
+each_at ks [] behind u e = subst (λ (l : List Filed). Behind l u) (sym (append-nil ks)) e.0
+each_at ks (k ∷ before) behind u e =
+    subst (λ (l : List Filed). Behind l u) (append_assoc ks (k ∷ []) before) (each_at (ks ++ (k ∷ [])) before behind u e.1)
 
 -- filed behind some of this object: these are new
 record New (earlier here us : List Filed) : Type 0 where
@@ -192,6 +198,14 @@ record New (earlier here us : List Filed) : Type 0 where
   each : Each (earlier ++ here) new
 
 module _ (i : Input) (bases : BySection ℕ) (earlier : List Filed) (good : (x : Index) → i.cu_index ≡ some x → IndexRead x) where
+  -- a unit whose identity was taken before is no compilation
+  taken_no_compilation : (here : List Filed) (home at : ℕ) (s : List ℕ) (u : Filed)
+      → Taken i bases earlier here home at s u → any (is_under u.table u.identity) (earlier ++ here) ≡ true → u.table ≡ 1 → ⊥
+  unfolding skipped
+  taken_no_compilation here home at s u t f one =
+      let filed : skipped u.table ≡ pass u.contributions = rw f at t.contributed in
+      pass_refuse u.contributions 14 (sym filed ∙ ap skipped one)
+
   -- a unit at the front of what is left of a section
   taken_contributes : (here : List Filed) (section : Section) (before behind : List Section) (front s : List ℕ) (u : Filed)
       → i.units ≡ before ++ (section ∷ behind) → section.bytes ≡ front ++ s
@@ -233,7 +247,7 @@ module _ (i : Input) (bases : BySection ℕ) (earlier : List Filed) (good : (x :
       record {
         new = u ∷ m.new;
         are = m.are ∙ append_assoc here (u ∷ []) m.new;
-        each = (taken_contributes here section before behind front (b ∷ s) u listed w t, subst (λ (l : List Filed). Each l m.new) (sym (append_assoc earlier here (u ∷ []))) m.each);
+        each = (record { first = taken_contributes here section before behind front (b ∷ s) u listed w t; again = taken_no_compilation here section.code (length front) (b ∷ s) u t }, subst (λ (l : List Filed). Each l m.new) (sym (append_assoc earlier here (u ∷ []))) m.each);
       }
 
   sections_each : (before ss : List Section) → i.units ≡ before ++ ss → (here us : List Filed) → units_in i bases earlier here ss ≡ pass us → New earlier here us
@@ -272,9 +286,12 @@ module _ (b p : List ℕ) (a : Accepted b p) where
   unfolding filing_of
   all_each = objects_each b a.bundle.big (first_word a.bundle.objects) (λ c. 0) [] a.bundle.objects a.filing a.filed
 
+  pub each_behind : (before behind : List Filed) (u : Filed) → handed_in b ≡ before ++ (u ∷ behind) → Behind before u
+  each_behind before behind u e = each_at [] before behind u (subst (Each []) (sym (handed_in_law b p a) ∙ e) all_each)
+
   pub first_contributes : WhatItContributes b
   first_contributes table x u f =
       let alone : any (is_under u.table u.identity) f.before ≡ false =
       ap (λ (t : ℕ). any (is_under t u.identity) f.before) (under_table table x u f.under)
       ∙ ap (λ (y : ℕ). any (is_under table y) f.before) (under_identity table x u f.under) ∙ f.none_before in
-      each_at [] f.before f.behind u (subst (Each []) (sym (handed_in_law b p a) ∙ f.stands) all_each) alone
+      (each_behind f.before f.behind u f.stands).first alone

@@ -3,6 +3,7 @@
 use Rattle.std.specs.Prelude.{◌≡◌, List, ℕ}
 use Rattle.package.specs.Pack.{packed, made}
 use Rattle.archive.specs.Looks.{FindingTakes, AbsenceTakes}
+use Rattle.archive.specs.NothingLost.{KeptOrSkippedType, KeptUnitsJoined, SharedSectionsWhole, StrOffsetsInLength, OneOfTheOthers}
 use Rattle.archive.specs.Theorem.{AreBytes, EveryUnitIsHandedIn, EachIsAUnit, WhatItContributes, ThePackagesTables, FoundExactlyWhenHandedIn, TheFirstUnit, TheFirstUnitInLength, ItsStrings, NoOtherString, AbsentIsAbsent, AbsentEnds, LooksAtMostSlots, UnitsCounted, EveryStringReached, EachStringOnce, FirstUsesAndNoOther, TheOtherVersion, NoSuchVersion, NeitherRefuses}
 
 abbrev pub AllOf : List ℕ → List ℕ → Type 0
@@ -10,6 +11,11 @@ AllOf b p =
     EveryUnitIsHandedIn b
     × EachIsAUnit b
     × WhatItContributes b
+    × KeptOrSkippedType b
+    × KeptUnitsJoined b p
+    × SharedSectionsWhole b p
+    × StrOffsetsInLength b p
+    × OneOfTheOthers b
     × ThePackagesTables b p
     × FoundExactlyWhenHandedIn b p
     × TheFirstUnit b p

@@ -1,4 +1,4 @@
--- Rules that the definitions keep, each in the words in which it was asked for. The definitions themselves are walks and sums; that they come to this is proved.
+-- Rules that the definitions keep, each as a user would say it. The definitions themselves are walks and sums; that they come to this is proved.
 -- Assumes nothing.
 use Rattle.std.specs.Prelude.{◌≡◌, ◌⊎◌, ◌↔◌, List, ◌∷◌, ◌++◌, ℕ, ◌+◌, ◌*◌, ◌^◌, ◌≤◌, ◌<◌, length, get_or}
 use Rattle.std.proofs.Math.Option.{Option}
@@ -15,7 +15,7 @@ use Rattle.archive.specs.Theorem.{AreBytes, slot_after}
 abbrev pub FilesAreHeld : Type 0
 FilesAreHeld = (f b : List ℕ) → AreBytes f → bundle_read f ≡ pass b → Holds f b
 
--- ---- slots: "the least power of two whose double exceeds 3n, never below 2"
+-- ---- slots: of an index of n units, the least power of two of which twice is more than 3n, and never fewer than 2
 pub record LeastSlots (n : ℕ) : Type 0 where
   pub power : ℕ
   pub is : slots_for n ≡ 2 ^ power
@@ -36,7 +36,7 @@ AlwaysFree =
     (rows : List ℕ) (x k slot : ℕ) → length rows ≡ 2 ^ k → slot < length rows → get_or rows slot 0 ≡ 0
     → get_or rows (free_from (length rows) rows (first_slot x (length rows)) (stride x (length rows))) 0 ≡ 0
 
--- ---- 34: "such a part ends outside the section, two different parts overlap or some byte is in none", and nothing else
+-- ---- 34: exactly where a part named by a row ends outside its section, two that differ overlap, or a byte is in none
 abbrev pub IsOneOf : List Contribution → Contribution → Type 0
 IsOneOf cs c = (before : List Contribution) × (behind : List Contribution) × (cs ≡ before ++ (c ∷ behind))
 

@@ -18,6 +18,7 @@ use Rattle.package.specs.Pack.{packed, made, handed_in}
 use Rattle.package.specs.Units.{FillObjects, IsUnit}
 use Rattle.lookup.specs.Lookup.{Found, refused, absent, part, Package, package_of, index_for, looked_up, string_found}
 use Rattle.archive.specs.Contributing.{Contributes}
+use Rattle.archive.specs.NothingLost.{KeptOrSkippedType, KeptUnitsJoined, SharedSectionsWhole, StrOffsetsInLength, OneOfTheOthers}
 use Rattle.archive.specs.Looks.{units_of, FindingTakes, AbsenceTakes}
 use Rattle.archive.specs.StrSection.{pieces, str_in, strings_named}
 
@@ -206,10 +207,17 @@ NeitherRefuses b p =
     (v table x code k n : ℕ) → Asked b v table → IsCode code
     → (looked_up p v table x code ≡ refused n → ⊥) × (string_found p v table x k ≡ refused n → n ≡ no_entry)
 
-pub record FromBundleToAnswer (b p : List ℕ) : Type 0 where
+pub record AnswersAsHandedIn (b p : List ℕ) : Type 0 where
   pub every_unit_is_handed_in : EveryUnitIsHandedIn b
   pub each_is_a_unit : EachIsAUnit b
   pub what_it_contributes : WhatItContributes b
+  -- nothing is lost
+  pub kept_or_skipped_type : KeptOrSkippedType b
+  pub kept_units_joined : KeptUnitsJoined b p
+  pub shared_sections_whole : SharedSectionsWhole b p
+  pub str_offsets_in_length : StrOffsetsInLength b p
+  pub one_of_the_others : OneOfTheOthers b
+  -- what the lookups answer
   pub the_packages_tables : ThePackagesTables b p
   pub found_exactly_when_handed_in : FoundExactlyWhenHandedIn b p
   pub the_first_unit : TheFirstUnit b p
@@ -233,6 +241,6 @@ pub record FromBundleToAnswer (b p : List ℕ) : Type 0 where
 abbrev pub AreBytes : List ℕ → Type 0
 AreBytes b = (i : ℕ) → get_or b i 0 < 256
 
--- demand 3
-abbrev pub Demand3 : Type 0
-Demand3 = (b : List ℕ) (w o : ℕ) (p : List ℕ) → AreBytes b → packed b w o ≡ made p → FromBundleToAnswer b p
+-- the theorem
+abbrev pub FromBundleToAnswer : Type 0
+FromBundleToAnswer = (b : List ℕ) (w o : ℕ) (p : List ℕ) → AreBytes b → packed b w o ≡ made p → AnswersAsHandedIn b p

@@ -1,6 +1,6 @@
 // The theorems, each as the contract of a function that does nothing: a check of this crate proves every one of them, and stops where one has lost its proof.
 // The statements stand in specs/.
-ghost use Rattle.archive.specs.Theorem.{Demand3};
+ghost use Rattle.archive.specs.Theorem.{FromBundleToAnswer};
 ghost use Rattle.archive.specs.TwoSittings.{TwoSittings};
 ghost use Rattle.archive.specs.RoundTrip.{RoundTrip, ElseRefused};
 ghost use Rattle.archive.specs.Many.{LooksAreFew};
@@ -13,7 +13,7 @@ ghost use Rattle.archive.specs.Rules.{FilesAreHeld, SlotsAreLeast, EverySlotVisi
 
 // Whoever holds the package of an accepted bundle finds an identity exactly when a unit was handed in under it, with that unit's bytes, parts and strings.
 pub fn from_bundle_to_answer()
-    ensures { Demand3 }
+    ensures { FromBundleToAnswer }
 {}
 
 // The theorem's clauses, each by its name: none of them can go from its record.

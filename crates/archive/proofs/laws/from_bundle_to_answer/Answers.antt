@@ -1,7 +1,7 @@
--- The law is proved in `Demand3.antt`.
+-- The law is proved in `FromBundleToAnswer.antt`.
 -- Assumes nothing.
-use Rattle.archive.proofs.Demand3 as law
+use Rattle.archive.proofs.FromBundleToAnswer as law
 use Rattle.archive.proofs.laws.from_bundle_to_answer.Goals as goal
 
 pub returns : goal.returns
-returns c = law.demand3
+returns c = law.from_bundle_to_answer

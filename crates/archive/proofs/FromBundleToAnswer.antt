@@ -1,4 +1,4 @@
--- Demand 3, proved.
+-- The theorem from bundle to answer, proved.
 -- Assumes nothing.
 use mathlib.Core.Path.{◌≡◌, refl, sym, ap, ◌∙◌, subst}
 use mathlib.Core.Logic.{◌⊎◌, inl, inr, ⊎_elim}
@@ -30,8 +30,9 @@ use Rattle.lookup.specs.Lookup.{refused, absent, part, has_version, version_good
 use Rattle.package.specs.Units.{FillObjects}
 use Rattle.package.proofs.Units.{filing_fills}
 use Rattle.archive.specs.Theorem as theorem
-use Rattle.archive.specs.Theorem.{IsHandedIn, IsFirst, slots_of_table, looks_of, looks, IsPart, Holds, FromBundleToAnswer, Demand3}
+use Rattle.archive.specs.Theorem.{IsHandedIn, IsFirst, slots_of_table, looks_of, looks, IsPart, Holds, AnswersAsHandedIn, FromBundleToAnswer}
 use Rattle.archive.proofs.Contributing.{first_contributes}
+use Rattle.archive.proofs.NothingLost.{shared_sections, str_offsets_length, one_of_others, kept_units, kept_or_skipped}
 use Rattle.archive.proofs.Read.{rows_in, version_in}
 use Rattle.archive.proofs.Judged.{part_refused, string_refused, version_form, version_wrong}
 use Rattle.archive.proofs.Absences.{no_units, some_rows, opens, absent_is, absent_ends_law}
@@ -161,11 +162,16 @@ module _ (b p : List ℕ) (a : Accepted b p) (h : Bytes b) where
         | no m ↦ refusal_number 25 n (sym (no_string b p a h v t x u.0 q u.1 k (omega arith)) ∙ z)
       ]
 
-  pub from_bundle_to_answer : FromBundleToAnswer b p
-  from_bundle_to_answer = record {
+  pub answers_as_handed_in : AnswersAsHandedIn b p
+  answers_as_handed_in = record {
     every_unit_is_handed_in = every_unit;
     each_is_a_unit = each_unit;
     what_it_contributes = first_contributes b p a;
+    kept_or_skipped_type = kept_or_skipped b p a h each_unit;
+    kept_units_joined = kept_units b p a h;
+    shared_sections_whole = shared_sections b p a h;
+    str_offsets_in_length = str_offsets_length b p a h;
+    one_of_the_others = one_of_others b p a h;
     the_packages_tables = the_tables b p a h;
     found_exactly_when_handed_in = found_exactly;
     the_first_unit = first_unit;
@@ -186,5 +192,5 @@ module _ (b p : List ℕ) (a : Accepted b p) (h : Bytes b) where
     neither_refuses = neither_refuses_law;
   }
 
-pub demand3 : Demand3
-demand3 b w o p h q = from_bundle_to_answer b p (packed_accepted b w o p q) h
+pub from_bundle_to_answer : FromBundleToAnswer
+from_bundle_to_answer b w o p h q = answers_as_handed_in b p (packed_accepted b w o p q) h
