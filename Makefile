@@ -16,7 +16,14 @@ SEED ?= 1
 PREFIX ?= /usr/local
 INSTALL ?= install
 
-.PHONY: help test library host pack-example real-files readers command install uninstall clean fmt oracle differential hostile string-index bench
+# What the pkg-config file names as the place of the library and the header.
+PC_PREFIX ?= $(PREFIX)
+
+# The archive that `make dist` writes.
+VERSION = $(shell sed -n 's/^version = "\(.*\)"$$/\1/p' host/product/Cargo.toml)
+DIST = barthovin-$(VERSION)-x86_64-linux
+
+.PHONY: help test library host pack-example real-files readers command install uninstall dist clean fmt oracle differential hostile string-index bench
 
 help:
 	@echo 'make pack-example   packs two .dwo files and the example of docs/FORMAT.md, verifies, lists and looks up in their packages'
@@ -24,8 +31,9 @@ help:
 	@echo 'make readers        packs small programs and has llvm-dwarfdump, readelf, lldb and gdb open the packages, where they are at hand'
 	@echo 'make library        proves the packer and writes target/staticlib/libbarthovin.a, for C or Rust on x86-64'
 	@echo 'make command        the same, and builds the command: host/target/release/barthovin'
-	@echo 'make install        installs command, library, barthovin.h and the manual page under DESTDIR and PREFIX ($(PREFIX))'
+	@echo 'make install        installs command, library, barthovin.h, barthovin.pc, manual page and papers under DESTDIR and PREFIX ($(PREFIX))'
 	@echo 'make uninstall      removes them'
+	@echo 'make dist           writes them into an archive, with their sums: target/$(DIST).tar.gz'
 	@echo 'make test           the gate: rt ci (layout, every proof, every edit that must fail, every program), then the tests of the host'
 	@echo 'make host           the tests of the host alone'
 	@echo 'make differential   compares with thorin itself, where it is at hand, feeds a million damaged bundles, packs in two sittings and hostile bundles; fails where packing takes too long'
@@ -72,6 +80,7 @@ $(LIBRARY): $(SOURCES)
 	/^logic=proved / && name != "archive" { printf "[%d of %d] %s proved\n", ++n, count + 1, name; fflush() }'; \
 	test "$$(cat "$$out.status")" = 0 || { cat "$$out" >&2; exit 1; }; \
 	mkdir -p target/staticlib && cp crates/archive/out/libarchive.a $@ || exit 1; \
+	rt version > target/staticlib/kit 2> /dev/null || rm -f target/staticlib/kit; \
 	echo "[$$((count + 1)) of $$((count + 1))] archive proved; its C entries are in target/staticlib"
 
 # After the tests one line counts them.
@@ -111,19 +120,37 @@ readers: command
 command: library
 	cd host && env -u BARTHOVIN_LIBRARY cargo build --release --offline --quiet --package barthovin
 
-install: command
-	$(INSTALL) -d '$(DESTDIR)$(PREFIX)/bin' '$(DESTDIR)$(PREFIX)/include' '$(DESTDIR)$(PREFIX)/lib' \
-	  '$(DESTDIR)$(PREFIX)/share/man/man1' '$(DESTDIR)$(PREFIX)/share/doc/barthovin'
-	$(INSTALL) -m 755 host/target/release/barthovin '$(DESTDIR)$(PREFIX)/bin/barthovin'
+# What is built is installed as it is, so that `sudo make install` needs neither rt nor cargo. Where something is missing, or older than what it is made of,
+# it is made first.
+doc = $(PREFIX)/share/doc/barthovin
+install:
+	@test -x $(barthovin) && $(MAKE) -q target/staticlib/libbarthovin.a && \
+	test -z "$$(find host/product/src host/product/build.rs host/product/Cargo.toml -type f -newer $(barthovin))" || \
+	$(MAKE) --no-print-directory command
+	$(INSTALL) -d '$(DESTDIR)$(PREFIX)/bin' '$(DESTDIR)$(PREFIX)/include' '$(DESTDIR)$(PREFIX)/lib/pkgconfig' \
+	  '$(DESTDIR)$(PREFIX)/share/man/man1' '$(DESTDIR)$(doc)'
+	$(INSTALL) -m 755 $(barthovin) '$(DESTDIR)$(PREFIX)/bin/barthovin'
 	$(INSTALL) -m 644 host/product/include/barthovin.h '$(DESTDIR)$(PREFIX)/include/barthovin.h'
 	$(INSTALL) -m 644 target/staticlib/libbarthovin.a '$(DESTDIR)$(PREFIX)/lib/libbarthovin.a'
+	sed -e 's|@PREFIX@|$(PC_PREFIX)|' -e 's|@VERSION@|$(VERSION)|' host/product/barthovin.pc.in > '$(DESTDIR)$(PREFIX)/lib/pkgconfig/barthovin.pc'
+	chmod 644 '$(DESTDIR)$(PREFIX)/lib/pkgconfig/barthovin.pc'
 	$(INSTALL) -m 644 host/product/man/barthovin.1 '$(DESTDIR)$(PREFIX)/share/man/man1/barthovin.1'
-	$(INSTALL) -m 644 LICENSE-MIT LICENSE-APACHE NOTICE '$(DESTDIR)$(PREFIX)/share/doc/barthovin/'
+	$(INSTALL) -m 644 LICENSE-MIT LICENSE-APACHE NOTICE docs/OPENING.md docs/FORMAT.md '$(DESTDIR)$(doc)/'
+	$(INSTALL) -m 755 examples/open.py '$(DESTDIR)$(doc)/open.py'
 
 uninstall:
-	rm -f '$(DESTDIR)$(PREFIX)/bin/barthovin' '$(DESTDIR)$(PREFIX)/include/barthovin.h' \
-	  '$(DESTDIR)$(PREFIX)/lib/libbarthovin.a' '$(DESTDIR)$(PREFIX)/share/man/man1/barthovin.1'
-	rm -rf '$(DESTDIR)$(PREFIX)/share/doc/barthovin'
+	rm -f '$(DESTDIR)$(PREFIX)/bin/barthovin' '$(DESTDIR)$(PREFIX)/include/barthovin.h' '$(DESTDIR)$(PREFIX)/lib/libbarthovin.a' \
+	  '$(DESTDIR)$(PREFIX)/lib/pkgconfig/barthovin.pc' '$(DESTDIR)$(PREFIX)/share/man/man1/barthovin.1'
+	rm -rf '$(DESTDIR)$(doc)'
+
+# The same files in an archive. Its pkg-config file goes by where it lies itself. `sha256sum -c SHA256SUMS` checks what was unpacked.
+dist:
+	rm -rf target/dist
+	$(MAKE) --no-print-directory install DESTDIR='$(CURDIR)/target/dist/$(DIST)' PREFIX= PC_PREFIX='$$$${pcfiledir}/../..'
+	cd target/dist/$(DIST) && find * -type f ! -name SHA256SUMS | LC_ALL=C sort | xargs sha256sum > SHA256SUMS
+	cd target/dist && tar --sort=name --mtime=@0 --owner=0 --group=0 --numeric-owner -cf - $(DIST) | gzip -n -9 > ../$(DIST).tar.gz
+	cd target && sha256sum $(DIST).tar.gz > $(DIST).tar.gz.sha256
+	@echo "target/$(DIST).tar.gz"
 
 clean:
 	rm -rf target host/target host/walks/target crates/*/out

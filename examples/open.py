@@ -2,6 +2,7 @@
 """Open a package of split DWARF debug information. Written from FORMAT.md, without our code.
 
     open.py PACKAGE                               list sections (code, name, length), then units (table, identity)
+    open.py PACKAGE sheet                         print its sheet again, the lines that were printed for the box
     open.py PACKAGE TABLE IDENTITY section CODE   write a unit's part of a section to standard output
     open.py PACKAGE TABLE IDENTITY string ENTRY   write one of its strings; entries count from 0
     open.py --answer < QUESTIONS                  answer lines: lookup|string PACKAGE VERSION TABLE IDENTITY CODE|ENTRY
@@ -75,7 +76,7 @@ def read_index(order, data):
     identities, rows, columns, cells = numbers[:s], numbers[s:2 * s], numbers[2 * s:2 * s + c], numbers[2 * s + c:]
     need(len(set(columns)) == c and set(columns) <= set(COLUMNS[form].values()), 21)
     need(all(row <= u and (row == 0) == (identity == 0) for row, identity in zip(rows, identities)), 21)
-    return types.SimpleNamespace(form=form, identities=identities, rows=rows, columns=columns, cells=cells)
+    return types.SimpleNamespace(form=form, units=u, identities=identities, rows=rows, columns=columns, cells=cells)
 
 def read_package(data, elf=True):
     order, width, sections = read_elf(data) if elf and data[:4] == b"\x7fELF" else read_bundle(data)
@@ -108,6 +109,16 @@ def find(package, string, version, table, identity, last):
         need(size >= 0, 26)
     return at, size, looks
 
+def sheet_lines(table, index):
+    """A line for each row and column of an index. Each row has exactly one slot."""
+    slots = sorted(slot for slot in zip(index.rows, index.identities) if slot[0])
+    need([row for row, _ in slots] == list(range(1, index.units + 1)), 21)
+    sections = {column: section for section, column in COLUMNS[index.form].items()}
+    for row, identity in slots:
+        for cell, column in enumerate(index.columns, (row - 1) * len(index.columns)):
+            part = index.cells[cell], index.cells[cell + len(index.cells) // 2]  # all offsets stand before all sizes
+            yield "%s %016x %02d %08x %08x" % (" CT"[table], identity, sections[column], *part)
+
 def number(text, names=(), base=10):  # a ValueError if the text is neither a name nor a number without a sign
     return names.index(text) if text in names or not text.isalnum() else int(text, 16 if text[:2] == "0x" else base)
 
@@ -123,21 +134,24 @@ def main(arguments):
             except Stop as stop:
                 print(stop)
         return
-    if question:
+    if question and question != ["sheet"]:
         table, identity, what, last = question
         what, table, identity = ["section", "string"].index(what), number(table, TABLES), number(identity, base=16)
         last = number(last, () if what else NAMES)
     package = read_package(open(path, "rb").read())
-    if question:
+    if question == ["sheet"]:
+        tables = sorted(package.indexes.items())
+        sys.stdout.writelines([line + "\n" for table, index in tables for line in sheet_lines(table, index)])
+    elif question:
         forms = [index.form for index in package.indexes.values()] or [5]
         start, length, _ = find(package, what, forms[0], table, identity, last)
         sys.stdout.buffer.write(package.data[start:start + length])
-        return
-    for code, (_, size) in package.sections.items():
-        print(code, NAMES[code], size)
-    for table, index in sorted(package.indexes.items()):
-        for _, identity in sorted(slot for slot in zip(index.rows, index.identities) if slot != (0, 0)):
-            print(TABLES[table], "%016x" % identity)
+    else:
+        for code, (_, size) in package.sections.items():
+            print(code, NAMES[code], size)
+        for table, index in sorted(package.indexes.items()):
+            for _, identity in sorted(slot for slot in zip(index.rows, index.identities) if slot != (0, 0)):
+                print(TABLES[table], "%016x" % identity)
 
 if __name__ == "__main__":
     try:

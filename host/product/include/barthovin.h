@@ -1,7 +1,7 @@
 /* The verified packer of split-debug packages, for C and C++.
  *
- * Link with libbarthovin.a (or libarchive.a, the same library under its older name). It needs memcpy and memset, allocates nothing,
- * keeps nothing between calls, and may be called from several threads at once.
+ * Link with libbarthovin.a (or libarchive.a, the same library under its older name). It needs memcpy, memmove and memset, allocates
+ * nothing, keeps nothing between calls, and may be called from several threads at once.
  *
  * Every entry takes any bytes and any numbers: it asks nothing of what the memory holds, and every answer is defined. What it can't
  * check, and what a caller must see to:
@@ -14,7 +14,9 @@
  *   Memory that is only read may be lent twice.
  * - The processor is an x86-64.
  *
- * What work and output held before has no part in the answer. They need not be cleared before a call.
+ * What work and output held before has no part in the answer. They need not be cleared before a call. Packing reads them before it
+ * writes them, to store to no page that is zero already: valgrind then reports a jump that depends on uninitialised memory, and the answer
+ * doesn't depend on it.
  *
  * docs/FORMAT.md says what a bundle and a package are, and what each refusal means. */
 

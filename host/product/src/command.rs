@@ -3,6 +3,7 @@
 mod add;
 mod bundle;
 mod call;
+mod elf;
 mod files;
 mod guard;
 mod help;
@@ -14,10 +15,12 @@ mod output;
 mod pack;
 mod profile;
 mod progress;
+mod refusals;
 mod sheet;
 mod show;
 mod stop;
 mod streams;
+mod uncarried;
 mod verify;
 
 pub use meaning::meaning;
@@ -34,7 +37,15 @@ const NOT_DONE: u8 = 1;
 /// A wrong call, or a file that can't be read or written.
 const TROUBLE: u8 = 2;
 
-const VERSION: &str = concat!("barthovin ", env!("CARGO_PKG_VERSION"));
+/// The command's version, the kit that proved the library in it, and the sum of the sources that were proved.
+const VERSION: &str = concat!(
+    "barthovin ",
+    env!("CARGO_PKG_VERSION"),
+    "\nproved by ",
+    env!("BARTHOVIN_KIT"),
+    "\nsum of crates ",
+    env!("BARTHOVIN_SOURCES")
+);
 
 /// Runs what the arguments ask for; the exit status.
 pub fn run(arguments: &[OsString]) -> u8 {
@@ -47,6 +58,7 @@ fn dispatch(arguments: &[OsString]) -> Result<u8, Stop> {
     match first.to_str() {
         Some("bundle") => bundle::run(rest),
         Some("pack") => pack::run(rest),
+        Some("elf") => elf::run(rest),
         Some("lookup") => lookup::run(rest),
         Some("sheet") => sheet::run(rest),
         Some("list") => list::run(rest),

@@ -1,6 +1,8 @@
 //! ELF files read and written, through the C entries.
 
 use crate::lent::Lent;
+use crate::names::INFO;
+use crate::reader::bundle::Bundle;
 
 /// Code 0: what is written has that length. 18, of reading: that length is needed. Else the refusal, with 0.
 #[repr(C)]
@@ -66,6 +68,22 @@ pub fn file_in(package: &[u8], machine: u32, mut memory: Lent<u8>) -> Result<Len
         (number, _) => Err(number),
     }
 }
+
+/// Whether a package can be read back from its ELF file: the first unit of info says there what the object's word says here.
+pub fn states_version(package: &[u8]) -> bool {
+    let read = Bundle::read(package);
+    read.is_ok_and(|read| read.objects.first().is_some_and(|object| !object.bytes(INFO).is_empty()))
+}
+
+/// Whether a package's ELF file can be opened and states what the package states. The reader says it.
+pub fn opens(file: &[u8], package: &[u8]) -> bool {
+    let mut again = Lent::zeros(package.len());
+    let (code, _) = read(file, &mut again);
+    code == 0 && again[..STATED] == package[..STATED]
+}
+
+/// The bytes of the words that state byte order, version, offset width and address size.
+const STATED: usize = 8;
 
 /// The machine that an ELF file's header names, in the byte order that it names.
 pub fn machine_of(file: &[u8]) -> Option<u32> {

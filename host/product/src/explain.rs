@@ -4,12 +4,14 @@
 //! where the host finds none.
 
 mod cause;
+mod each;
 mod elf;
 mod lookup;
 mod place;
 mod sheet;
 
-pub use elf::reading_elf;
+pub use each::{each, Refused};
+pub use elf::{has_no_debug, reading_elf, uncarried, WITHOUT_DEBUG};
 pub use lookup::{looking_up, not_a_package};
 pub use place::{place, Place};
 pub use sheet::not_a_sheet;
@@ -68,13 +70,16 @@ impl Why {
     }
 }
 
+/// What helps where all files together are too long.
+const SMALLER: &str = "a package for each program is shorter, and so is what -g1 (gcc) or -gmlt (clang) makes of the longest files; -g3 makes more";
+
 /// Why packing refuses a bundle by a number.
 pub fn packing(bytes: &[u8], number: u32, names: &Names) -> Option<Why> {
     match number {
         1 if bytes.len() > LONGEST_BUNDLE && !names.files.is_empty() => {
             let over = bytes.len() - LONGEST_BUNDLE;
             let most = longest(bytes, names).unwrap_or_default();
-            Some(Why::cause(format!("this makes {}, {over} too many{most}", bytes.len())))
+            Some(Why::cause(format!("this makes {}, {over} too many{most}; {SMALLER}", bytes.len())))
         }
         1 if bytes.len() > LONGEST_BUNDLE => Some(Why::cause("it is longer".to_string())),
         1 => Some(Why::cause(format!("it has {} bytes{}", bytes.len(), if_text(bytes)))),
@@ -94,10 +99,14 @@ pub fn packing(bytes: &[u8], number: u32, names: &Names) -> Option<Why> {
     }
 }
 
+/// What is no longer than this is too short to be called a text.
+const SHORT: usize = 3;
+
 /// A text in the place of a bundle is most often a list of files.
 fn if_text(bytes: &[u8]) -> &'static str {
     let printed = |c: char| !c.is_control() || matches!(c, '\n' | '\r' | '\t');
-    match std::str::from_utf8(bytes).is_ok_and(|text| !text.is_empty() && text.chars().all(printed)) {
+    // A few bytes are no list of files.
+    match std::str::from_utf8(bytes).is_ok_and(|text| text.len() > SHORT && text.chars().all(printed)) {
         true => "; it is a text: a list of files has @ before its name",
         false => "",
     }

@@ -7,6 +7,7 @@
 
 pub mod answer;
 pub mod batch;
+pub mod closed;
 pub mod command;
 pub mod elf;
 pub mod explain;
@@ -17,4 +18,5 @@ pub mod profile;
 pub mod reader;
 pub mod sheet;
 pub mod skipped;
+pub mod sum;
 pub mod verify;

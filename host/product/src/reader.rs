@@ -6,6 +6,7 @@ pub mod bundle;
 pub mod index;
 pub mod package;
 pub mod pieces;
+pub mod source;
 pub mod unit;
 
 /// The number that `width` bytes from `at` on hold, or none where they are not all there.

@@ -23,13 +23,6 @@ fn file(name: &str) -> String {
     format!("{FILES}/{name}.dwo")
 }
 
-/// Done without a word on standard error; what was said.
-fn done(home: &Path, arguments: &[&str]) -> String {
-    let output = run_in(home, arguments, &[]);
-    assert_eq!((message(&output), status(&output)), (String::new(), 0), "{arguments:?}");
-    text(&output)
-}
-
 fn read(home: &Path, name: &str) -> Vec<u8> {
     fs::read(home.join(name)).unwrap()
 }
@@ -53,11 +46,13 @@ fn over_a_week(version: u32) {
         let verified = done(&home, &["verify", &first, &main, &race, &other]);
         assert!(verified.ends_with(": all found; the files may be deleted\n"), "{verified}");
     }
-    // One form in, the other one out.
-    done(&home, &["pack", "--add", "second.dwp", &other, "-o", "turned.package"]);
+    // An ELF file stays one, whatever the new one is called, and a package becomes one by its name.
+    done(&home, &["pack", "--add", "second.dwp", &other, "-o", "kept"]);
     done(&home, &["pack", "--add", "second.package", &other, "-o", "turned.dwp"]);
-    assert!(read(&home, "turned.package") == read(&home, "all.package"));
+    done(&home, &["pack", "--add", "second.package", &other, "-o", "stayed"]);
+    assert!(read(&home, "kept") == read(&home, "all.dwp"));
     assert!(read(&home, "turned.dwp") == read(&home, "all.dwp"));
+    assert!(read(&home, "stayed") == read(&home, "all.package"));
 }
 
 #[test]
@@ -100,7 +95,8 @@ fn what_was_skipped_and_json() {
     fs::write(home.join("three"), with_a_type(3, "1000000")).unwrap();
     done(&home, &["pack", "one", "-o", "package"]);
     let call = ["pack", "--add", "package", "two", "three", "-o", "new"];
-    let counts = "1 type unit was a repeat, 1 namesake\n";
+    let counts = "1 type unit was a repeat, 1 namesake\n\
+                  namesakes are usual: each file counts its strings and abbreviations by itself\n";
     assert_eq!(done(&home, &call), format!("2 files added to package{SAME}{counts}"));
     let listed = done(&home, &[&call[..], &["--namesakes"]].concat());
     assert!(

@@ -116,7 +116,9 @@ fn wrong_files_are_refused_with_the_cause() {
     refused(
         "compressed",
         &changed(line + 9, 8),
-        &format!("{unusable}: .debug_line.dwo is compressed; compile without -gz"),
+        &format!(
+            "{unusable}: .debug_line.dwo is compressed; compile without -gz, or call objcopy --decompress-debug-sections FILE NEW"
+        ),
     );
     refused("no-bytes", &changed(info + 4, 8), &format!("{unusable}: .debug_info.dwo has no bytes in the file"));
     let mut relocated = changed(line + 4, 4);
@@ -162,7 +164,11 @@ fn what_is_no_file_to_read_is_told() {
     told(&["bundle", ".", "-o", "new"], ".: Is a directory", 2);
     told(&["pack", ".", "-o", "new"], ".: Is a directory", 2);
     let length = "refused 1: a bundle has 8 to 4,194,304 bytes, a multiple of 4";
-    told(&["pack", "empty", "text", "-o", "new"], &format!("empty: {length}: it has 0 bytes"), 1);
+    let text = "it has 9 bytes; it is a text: a list of files has @ before its name";
+    let both = format!(
+        "empty: {length}: it has 0 bytes\nbarthovin: text: {length}: {text}\nbarthovin: 2 of 2 files can't be taken"
+    );
+    told(&["pack", "empty", "text", "-o", "new"], &both, 1);
     let hint = "Try 'barthovin bundle --help' for more information.";
     told(&["bundle", "text"], &format!("no output is named: -o BUNDLE\n{hint}"), 2);
     told(&["bundle", "text", "empty", "-onew"], &format!("extra operand 'empty'\n{hint}"), 2);
@@ -195,6 +201,23 @@ fn the_file_at_fault_is_named() {
     told(&many, length);
     let output = run_in(&home, &[&["pack", "-o", "new"], &many[..]].concat(), &[]);
     assert!(message(&output).contains(" too many; most take gcc-5-main.dwo "), "{}", message(&output));
+    let smaller = "; a package for each program is shorter, and so is what -g1 (gcc) or -gmlt (clang) makes of the longest files; -g3 makes more\n";
+    assert!(message(&output).ends_with(smaller), "{}", message(&output));
+}
+
+/// A machine that packages aren't written for leads on to the option.
+#[test]
+fn another_machine_can_be_named() {
+    let home = directory("machine");
+    let mut file = fs::read(format!("{FILES}/gcc-5-race.dwo")).unwrap();
+    file[18..20].fill(0);
+    fs::write(home.join("some.dwo"), file).unwrap();
+    let output = run_in(&home, &["pack", "some.dwo", "-o", "new.dwp"], &[]);
+    let told = message(&output);
+    let wanted = "; --machine names another one: x86-64, ";
+    assert!(told.contains("refused 36: ") && told.contains("the machine is 0") && told.contains(wanted), "{told}");
+    assert_eq!((status(&output), names(&home)), (1, vec!["some.dwo".to_string()]));
+    done(&home, &["pack", "some.dwo", "--machine", "x86-64", "-o", "new.dwp"]);
 }
 
 /// A package written as an ELF file, by its name or by `--elf`, has the machine of its first file, and every command takes it as the package.

@@ -46,8 +46,12 @@ test ! -e ../cargo-fails
 /// The Makefile alone, with stand-ins in front of the tools.
 fn make(home: &Path, target: &str) -> Output {
     let path = format!("{}:{}", home.join("tools").display(), std::env::var("PATH").unwrap());
+    make_by(home, &[target], &path)
+}
+
+fn make_by(home: &Path, arguments: &[&str], path: &str) -> Output {
     let mut make = Command::new("make");
-    make.current_dir(home).arg(target).env("PATH", path);
+    make.current_dir(home).args(arguments).env("PATH", path);
     ["MAKEFLAGS", "MAKELEVEL", "MFLAGS"].into_iter().for_each(|name| {
         make.env_remove(name);
     });
@@ -165,6 +169,127 @@ fn the_first_command_says_how_far_it_is() {
     let output = make(&home, "library");
     assert!(status(&output) != 0 && message(&output).contains("error[unproved]: a goal is open\n"));
     assert!(!home.join("target/staticlib").exists() && !text(&output).contains("proved"));
+}
+
+/// What `make install` puts below its prefix.
+const INSTALLED: [&str; 11] = [
+    "bin/barthovin",
+    "include/barthovin.h",
+    "lib/libbarthovin.a",
+    "lib/pkgconfig/barthovin.pc",
+    "share/doc/barthovin/FORMAT.md",
+    "share/doc/barthovin/LICENSE-APACHE",
+    "share/doc/barthovin/LICENSE-MIT",
+    "share/doc/barthovin/NOTICE",
+    "share/doc/barthovin/OPENING.md",
+    "share/doc/barthovin/open.py",
+    "share/man/man1/barthovin.1",
+];
+
+/// A checkout with what is installed as it is, and with stand-ins for what is built, which are newer.
+fn built(name: &str) -> Home {
+    let home = laid_out(name);
+    let product = ["Cargo.toml", "build.rs", "barthovin.pc.in", "include/barthovin.h", "man/barthovin.1", "src/lib.rs"];
+    let papers = ["LICENSE-MIT", "LICENSE-APACHE", "NOTICE", "docs/OPENING.md", "docs/FORMAT.md", "examples/open.py"];
+    let product = product.map(|file| format!("host/product/{file}"));
+    for file in product.iter().map(String::as_str).chain(papers) {
+        fs::create_dir_all(home.join(file).parent().unwrap()).unwrap();
+        fs::copy(format!("{ROOT}/{file}"), home.join(file)).unwrap();
+    }
+    fs::create_dir_all(home.join("target/staticlib")).unwrap();
+    fs::create_dir_all(home.join("host/target/release")).unwrap();
+    for file in ["target/staticlib/libarchive.a", "target/staticlib/libbarthovin.a", "host/target/release/barthovin"] {
+        fs::write(home.join(file), file).unwrap();
+    }
+    fs::set_permissions(home.join("host/target/release/barthovin"), Permissions::from_mode(0o755)).unwrap();
+    home
+}
+
+/// The files below a folder, by their names from there on.
+fn below(folder: &Path) -> Vec<String> {
+    let found = Command::new("find").current_dir(folder).args([".", "-type", "f"]).output().unwrap();
+    let mut names: Vec<String> = text(&found).lines().map(|line| line.trim_start_matches("./").to_string()).collect();
+    names.sort();
+    names
+}
+
+/// As root, whose PATH has neither the checker nor cargo.
+const WITHOUT_TOOLS: &str = "/usr/bin:/bin";
+
+#[test]
+fn what_is_built_is_installed_without_the_tools() {
+    let home = built("install");
+    let root = home.join("root");
+    let destination = format!("DESTDIR={}", root.display());
+    let output = make_by(&home, &["install", &destination, "PREFIX=/opt/some"], WITHOUT_TOOLS);
+    assert_eq!(status(&output), 0, "{}", message(&output));
+    assert_eq!(below(&root.join("opt/some")), INSTALLED);
+    assert_eq!(fs::read(root.join("opt/some/bin/barthovin")).unwrap(), b"host/target/release/barthovin");
+    let config = fs::read_to_string(root.join("opt/some/lib/pkgconfig/barthovin.pc")).unwrap();
+    let version = format!("\nVersion: {}\n", env!("CARGO_PKG_VERSION"));
+    assert!(config.starts_with("prefix=/opt/some\n") && config.contains(&version) && !config.contains('@'), "{config}");
+    let mut asked = Command::new("pkg-config");
+    asked.args(["--cflags", "--libs", "barthovin"]).env("PKG_CONFIG_PATH", root.join("opt/some/lib/pkgconfig"));
+    if let Ok(told) = asked.output() {
+        assert_eq!(text(&told).trim(), "-I/opt/some/include -L/opt/some/lib -lbarthovin", "{}", message(&told));
+    }
+    assert_eq!(status(&make_by(&home, &["uninstall", &destination, "PREFIX=/opt/some"], WITHOUT_TOOLS)), 0);
+    assert_eq!(below(&root), [""; 0]);
+    // What is missing, or older than its sources, has to be made.
+    fs::write(home.join("host/product/src/lib.rs"), "changed").unwrap();
+    assert!(status(&make_by(&home, &["install", &destination], WITHOUT_TOOLS)) != 0);
+    fs::remove_file(home.join("host/target/release/barthovin")).unwrap();
+    assert!(status(&make_by(&home, &["install", &destination], WITHOUT_TOOLS)) != 0);
+    assert_eq!(below(&root), [""; 0]);
+}
+
+#[test]
+fn an_archive_has_all_that_is_installed_and_its_sums() {
+    let home = built("dist");
+    let output = make_by(&home, &["dist"], WITHOUT_TOOLS);
+    assert_eq!(status(&output), 0, "{}", message(&output));
+    let name = format!("barthovin-{}-x86_64-linux", env!("CARGO_PKG_VERSION"));
+    assert!(text(&output).ends_with(&format!("target/{name}.tar.gz\n")), "{}", text(&output));
+    let shell = |folder: &Path, line: &str| {
+        let output = Command::new("sh").current_dir(folder).args(["-c", line]).output().unwrap();
+        assert!(output.status.success(), "{line}: {}", message(&output));
+        text(&output)
+    };
+    let target = home.join("target");
+    shell(&target, &format!("sha256sum -c {name}.tar.gz.sha256"));
+    let unpacked = home.join("unpacked");
+    fs::create_dir_all(&unpacked).unwrap();
+    shell(&unpacked, &format!("tar xzf ../target/{name}.tar.gz"));
+    let unpacked = unpacked.join(&name);
+    let mut wanted: Vec<String> =
+        INSTALLED.iter().map(|name| name.to_string()).chain(["SHA256SUMS".to_string()]).collect();
+    wanted.sort();
+    assert_eq!(below(&unpacked), wanted);
+    assert_eq!(shell(&unpacked, "sha256sum -c SHA256SUMS").matches(": OK").count(), 11);
+    let config = fs::read_to_string(unpacked.join("lib/pkgconfig/barthovin.pc")).unwrap();
+    assert!(config.starts_with("prefix=${pcfiledir}/../..\n"), "{config}");
+    // The same files make the same archive.
+    let first = fs::read(target.join(format!("{name}.tar.gz"))).unwrap();
+    assert_eq!(status(&make_by(&home, &["dist"], WITHOUT_TOOLS)), 0);
+    assert!(first == fs::read(target.join(format!("{name}.tar.gz"))).unwrap());
+}
+
+/// The sum that `--version` has is that of the sources here, by the line that the manual page has.
+#[test]
+fn the_version_has_the_sum_of_the_sources() {
+    let told = text(&run_in(&directory("version"), &["--version"], &[]));
+    let lines: Vec<&str> = told.lines().collect();
+    assert!(lines.len() == 3 && lines[1].starts_with("proved by "), "{told}");
+    let line =
+        "find crates -path 'crates/*/out' -prune -o -type f -print | LC_ALL=C sort | xargs sha256sum | sha256sum";
+    let manual = fs::read_to_string(format!("{ROOT}/host/product/man/barthovin.1")).unwrap();
+    assert!(manual.replace("\\-", "-").contains(line));
+    let Ok(sum) = Command::new("sh").current_dir(ROOT).args(["-c", line]).output() else { return };
+    assert_eq!(lines[2], format!("sum of crates {}", text(&sum).split(' ').next().unwrap()));
+    // The kit is the one that README names, where it is recorded.
+    let kit = lines[1].trim_start_matches("proved by ");
+    let readme = fs::read_to_string(format!("{ROOT}/README.md")).unwrap();
+    assert!(kit == "a kit that is not recorded" || readme.contains(kit), "{kit}");
 }
 
 /// What papers say to call is a target, and `make help` has it.

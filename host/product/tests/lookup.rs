@@ -151,6 +151,21 @@ unit cu 0x0000000000000001: info 20 at 0, abbrev 1 at 0
                   \"tables\":[{\"table\":\"cu\",\"index_version\":5,\"slots\":2,\"units\":[{\"identities\":[\"0x0000000000000001\"],\
                   \"parts\":{\"info\":{\"offset\":0,\"size\":20},\"abbrev\":{\"offset\":0,\"size\":1}}}]}]}\n";
     assert_eq!(text(&output), wanted);
+    // What has no index is told by every command that finds nothing in it.
+    let none = "it has no index: this is no package, or one without units";
+    let list = text(&run_in(&home, &["list", "-"], &bytes(BUNDLE)));
+    assert!(list.ends_with("\nno index: this is no package, or one without units\n"), "{list}");
+    let calls = [&["sheet", "-"][..], &["sheet", "-", "--pages"], &["lookup", "-", "cu", "1", "section", "info"]];
+    for (call, code) in calls.into_iter().zip([0, 0, 1]) {
+        let output = run_in(&home, call, &bytes(BUNDLE));
+        assert_eq!((message(&output), status(&output)), (format!("barthovin: standard input: {none}\n"), code));
+    }
+    fs::write(home.join("bundle"), bytes(BUNDLE)).unwrap();
+    let output = run_in(&home, &["lookup", "bundle", "-q-"], b"cu 1 section info\n");
+    assert_eq!(
+        (message(&output), text(&output)),
+        (format!("barthovin: bundle: {none}\n"), "absent after 0 looks\n".to_string())
+    );
     let output = run_in(&home, &["list", "-"], &bytes("F0000001 30000002"));
     assert_eq!(text(&output), "package: 8 bytes, big-endian, no object\n");
 }

@@ -179,5 +179,5 @@ fn the_elf_file() {
 #[test]
 fn the_script_is_short() {
     let script = fs::read_to_string(format!("{ROOT}/examples/open.py")).unwrap();
-    assert!(script.lines().count() < 150 && page().contains("fewer than 150 lines"));
+    assert!(script.lines().count() < 170 && page().contains("fewer than 170 lines"));
 }

@@ -87,11 +87,12 @@ fn says_what_was_skipped() {
         assert_eq!((status(&output), message(&output)), (0, String::new()));
         text(&output)
     };
-    let counts = "1 type unit was a repeat, 1 namesake\n";
+    let counts = "1 type unit was a repeat, 1 namesake\n\
+                  namesakes are usual: each file counts its strings and abbreviations by itself\n";
     assert_eq!(run(&[]), counts);
     let package = fs::read(home.join("package")).unwrap();
     assert_eq!(run(&["--namesakes"]), format!("{counts}namesake 0x0000000000000007: object 2: byte 24 of info\n"));
-    let json = format!("{{\"length\":{},\"repeats\":1,\"namesakes\":1", package.len());
+    let json = format!("{{\"length\":{},\"repeats\":1,\"namesakes\":1,\"can_be_added_to\":true", package.len());
     assert_eq!(run(&["--json"]), format!("{json}}}\n"));
     let listed = "{\"identity\":\"0x0000000000000007\",\"file\":\"object 2\",\"section\":\"info\",\"offset\":24}";
     assert_eq!(run(&["--json", "--namesakes"]), format!("{json},\"listed\":[{listed}]}}\n"));
@@ -139,6 +140,8 @@ fn refuses_what_is_no_bundle() {
     let no_bundle = |why: &str| format!("refused 3: this is no bundle: {why}");
     let head = "the word at byte 0: a bundle starts with the word F0000000 or F0000001";
     let list = "it is a text: a list of files has @ before its name";
+    // A byte or two of anything are no list of files.
+    refused(&home, b"x", &format!("{length}: it has 1 bytes"));
     refused(&home, b"some text", &format!("{length}: it has 9 bytes; {list}"));
     refused(&home, b"some text...", &no_bundle(&format!("{head}; {list}")));
     refused(&home, b"some \x07 bells", &no_bundle(head));
@@ -174,6 +177,9 @@ fn refuses_objects_with_the_cause() {
         &format!("{six}: it has types, which objects of DWARF 5 don't have"),
     );
     refused(&home, &with_sections(&[(4, vec![]), (4, vec![])]), &format!("{six}: it has 2 line sections"));
+    let macros =
+        "gcc -g3 writes several: -gdwarf-4 -gstrict-dwarf -g3 writes one and keeps the macros, -g2 leaves them out";
+    refused(&home, &with_sections(&[(8, vec![]), (8, vec![])]), &format!("{six}: it has 2 macro sections; {macros}"));
     let seven = "refused 7: a section is missing: object 1";
     refused(&home, &with_sections(&[(6, vec![])]), &format!("{seven}: it has str_offsets and no str"));
     let without = bytes("F0000000 10080405 21800001 0 30000005");
@@ -237,6 +243,15 @@ fn refuses_packages_as_input_with_the_cause() {
         &changed("2 2 1 2 0", "2 2 1 3 0"),
         &format!("{ten}: 3 slots for 1 units; slots are a power of two above the units"),
     );
+    let gnu = "; GNU dwp writes such an empty one: objcopy -R .debug_tu_index FILE NEW takes it away, or pack the .dwo files themselves";
+    let empty = INPUT.replace("3000001E", "26800010 2 0 0 0 30000023");
+    let index = "0 slots for 0 units; slots are a power of two above the units";
+    refused(&home, &bytes(&empty), &format!("refused 10: an index is ill-formed: object 1: tu_index: {index}{gnu}"));
+    fs::write(home.join("gnu"), bytes(&empty)).unwrap();
+    let output = run_in(&home, &["list", "gnu"], &[]);
+    let wanted = format!("barthovin: gnu: refused 21: this is no package: tu_index is ill-formed: {index}{gnu}\n");
+    assert_eq!((message(&output), status(&output)), (wanted, 1));
+    fs::remove_file(home.join("gnu")).unwrap();
     let unit = "object 1, the unit at byte 0 of info, byte 12 of the bundle";
     let twelve = format!("refused 12: the unit's identity can't be read: {unit}");
     refused(&home, &changed("742 0", "732 0"), &format!("{twelve}: the root has no DW_AT_GNU_dwo_id"));
@@ -310,6 +325,7 @@ fn fails_without_leaving_anything() {
     fails(&["pack", "-", "-o", "missing/new"], "missing/new: No such file or directory");
     fails(&["pack", "-", "-o", "directory"], "directory: Is a directory");
     fails(&["pack", "directory", "-o", "new"], "directory: Is a directory");
+    fails(&["pack", "", "-o", "new"], "'': No such file or directory");
     fails(&["pack", "\x1B[31m", "-o", "new"], "\\x1b[31m: No such file or directory");
     if Path::new("/dev/full").exists() {
         fails(&["pack", "-", "-o", "/dev/full"], "/dev/full: No space left on device");

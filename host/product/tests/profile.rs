@@ -15,9 +15,13 @@ fn says_yes_no_and_why() {
     let told = |text: &str, status: i32| (text.to_string(), String::new(), status);
     assert_eq!(run(&[], PACKAGE), told("yes\n", 0));
     assert_eq!(run(&["--json"], PACKAGE), told("{\"in_profile\":true,\"not_true\":[]}\n", 0));
-    let no = "no; these are not true:\n  its address size is 8\n  it has no macro section\n";
+    let no = "no; its address size is not 8; it has a macro section\n";
     let with_macro = "F0000000 10040405 24000000 26000040 5 2 1 2 0 0 1 0 0 1 1 3 0 0 14 1 30000015";
     assert_eq!(run(&[], with_macro), told(no, 1));
+    // Of an index that isn't there nothing more is said.
+    let nothing = "no; its objects are not of DWARF version 5; it is big-endian; its offset width is not 4; its address size is not 8; \
+                   it has no cu_index\n";
+    assert_eq!(run(&[], "F0000001 30000002"), told(nothing, 1));
     let json = "{\"in_profile\":false,\"not_true\":[\"its address size is 8\",\"it has no macro section\"]}\n";
     assert_eq!(run(&["--json"], with_macro), told(json, 1));
     let bad = "barthovin: standard input: refused 21: this is no package: it has 4 bytes\n";

@@ -15,7 +15,9 @@ fn prints_the_example() {
     };
     assert_eq!(run(&[], PACKAGE), (SHEET.to_string(), String::new(), 0));
     let head = "standard input, 112 bytes, page 1 of 1\n\
-                C or T, identity, section, offset and size in it, hexadecimal but for the section\n\n";
+                SHA-256 SUM\n\
+                C, T: identity, section, offset, size, hexadecimal but section; N: its source\n\n";
+    let head = head.replace("SUM", &barthovin::sum::sha256(&bytes(PACKAGE)));
     assert_eq!(run(&["--pages"], PACKAGE), (format!("{head}{SHEET}"), String::new(), 0));
     assert_eq!(run(&["-p"], PACKAGE).0, format!("{head}{SHEET}"));
     assert_eq!(run(&[], "F0000000 30000002"), (String::new(), String::new(), 0));

@@ -19,8 +19,9 @@ fn says_how_it_is_used() {
     let general = told(&["--help"]);
     assert!(general.starts_with("Usage: barthovin COMMAND "));
     assert_eq!((told(&["help"]), told(&["-h"])), (general.clone(), general.clone()));
-    let version = concat!("barthovin ", env!("CARGO_PKG_VERSION"), "\n");
-    assert_eq!((told(&["--version"]), told(&["-V"])), (version.to_string(), version.to_string()));
+    let version = told(&["--version"]);
+    assert!(version.starts_with(concat!("barthovin ", env!("CARGO_PKG_VERSION"), "\n")));
+    assert_eq!(told(&["-V"]), version);
     for command in commands(&home) {
         let command = command.as_str();
         let help = told(&[command, "--help"]);

@@ -11,6 +11,7 @@ const FILE: &str = concat!(env!("CARGO_MANIFEST_DIR"), "/../../examples/real/fil
 const NOT_ELF: &str = "refused 31: this is no relocatable ELF64 file, or it is cut off: ";
 const UNUSABLE: &str = "refused 32: a debug section is compressed, relocated or without bytes: ";
 const NO_UNIT: &str = "refused 33: there is no unit of DWARF version 4 or 5 to pack: ";
+const UNCOMPRESSED: &str = "compile without -gz, or call objcopy --decompress-debug-sections FILE NEW";
 const NO_BUNDLE: &str = "refused 1: a bundle has 8 to 4,194,304 bytes, a multiple of 4: ";
 const NO_PACKAGE: &str = "refused 21: this is no package: ";
 
@@ -73,7 +74,7 @@ fn wrong_files(home: &Path) -> Vec<Wrong> {
         Wrong { kind: "directory", packed: directory.clone(), opened: directory.clone(), read: directory, status: 2 },
         Wrong::elf("elf32", format!("{NOT_ELF}it is of 32 bits")),
         Wrong::elf("truncated", format!("{NOT_ELF}its {} section headers end at byte {end}, and it has 700", good[60])),
-        Wrong::elf("compressed", format!("{UNUSABLE}.debug_line.dwo is compressed; compile without -gz")),
+        Wrong::elf("compressed", format!("{UNUSABLE}.debug_line.dwo is compressed; {UNCOMPRESSED}")),
         Wrong::elf("relocated", format!("{UNUSABLE}.debug_info.dwo has relocations")),
         Wrong::elf("executable", format!("{NOT_ELF}it is a program or a shared library; its .dwo files are wanted")),
         Wrong::other("text", "it has 9 bytes; it is a text: a list of files has @ before its name", "it has 9 bytes"),

@@ -46,11 +46,16 @@ impl Earlier {
         }
     }
 
-    /// What is told once so many files are added, and this is the package.
-    pub fn added(&self, files: usize, package: &[u8]) -> Added {
+    /// What is told once so many files are added.
+    pub fn added(&self, files: usize) -> Added {
         let as_written = package_of(&self.file.bytes).is_ok_and(|again| again[..] == self.file.bytes[..]);
-        Added { files, package: self.file.shown.clone(), as_written, closed: package_of(package).err() }
+        Added { files, package: self.file.shown.clone(), as_written }
     }
+}
+
+/// What is said of a package to which nothing can be added, while the files are still there.
+pub fn not_later(number: u32) -> String {
+    format!("nothing more can be added to it (refused {number}): keep all files until the last one is packed")
 }
 
 /// The package where it is the output too. Other runs wait from now on, and this one waited for them: what standard input was opened from may
@@ -73,25 +78,20 @@ pub struct Added {
     /// The package is as the packer writes packages: packing it again gives it. Of such a one the law on two sittings speaks, whatever it was
     /// packed from.
     as_written: bool,
-    /// Why nothing can be added to what was made now.
-    closed: Option<u32>,
 }
 
 impl Added {
-    pub fn lines(&self) -> Vec<String> {
+    pub fn line(&self) -> String {
         let added = format!("{} added to {}", show::count(self.files, "file"), self.package);
         let same = match self.as_written {
             true => ": the same package, byte for byte, as packing all files at once, where they fit into one bundle",
             false => ", which isn't as pack writes it: packing all files at once may give another package",
         };
-        let closed = |number: u32| {
-            format!("nothing more can be added to it (refused {number}): keep all files until the last one is packed")
-        };
-        [format!("{added}{same}")].into_iter().chain(self.closed.map(closed)).collect()
+        format!("{added}{same}")
     }
 
-    /// Fields of a JSON object.
+    /// A field of a JSON object.
     pub fn json(&self) -> String {
-        format!(",\"same_as_at_once\":{},\"can_be_added_to\":{}", self.as_written, self.closed.is_none())
+        format!(",\"same_as_at_once\":{}", self.as_written)
     }
 }

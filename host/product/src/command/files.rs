@@ -2,15 +2,17 @@
 
 use super::call::Call;
 use super::input::Most;
-use super::pack::package_of;
-use super::{input, meaning, output, progress, show, Stop};
+use super::refusals::{without_debug, Refusal, Refusals};
+use super::uncarried::Uncarried;
+use super::{input, progress, show, stop, Stop};
 use crate::answer::Found;
 use crate::elf;
-use crate::explain::{self, Names};
+use crate::explain;
 use crate::ffi;
 use crate::lent::Lent;
 use crate::names::{LONGEST_BUNDLE, LONGEST_PACKAGE, OUTPUT_TOO_SHORT};
 use crate::reader::bundle::{end_word, Bundle};
+use crate::reader::package::Package;
 use std::ffi::{OsStr, OsString};
 use std::fs;
 use std::os::unix::ffi::OsStrExt;
@@ -30,6 +32,9 @@ const NOT_A_PACKAGE: u32 = 21;
 /// The longest list of files.
 const LONGEST_LIST: usize = 1 << 26;
 
+/// What is said of a file in which no index is: packing or looking up finds nothing there.
+pub const WITHOUT_INDEX: &str = "this is no package, or one without units";
+
 /// What is packed: the bundle, and how each of its objects is called.
 pub struct Joined {
     pub bundle: Lent<u8>,
@@ -37,6 +42,12 @@ pub struct Joined {
     pub files: Vec<String>,
     /// The machine of the first ELF file, if there is one.
     pub machine: Option<u32>,
+    /// The files without debug information: nothing of them is in the bundle.
+    pub left_out: Vec<String>,
+    /// Sections of debug information that packages have no place for.
+    pub uncarried: Uncarried,
+    /// The first file of which something is in the bundle.
+    first: String,
 }
 
 /// A package that was read: how its file is called in messages, its bytes, and its machine where it is an ELF file.
@@ -46,30 +57,33 @@ pub struct Taken {
     pub machine: Option<u32>,
 }
 
-/// A refusal of one file.
-pub fn refused(file: &str, number: u32, why: Option<String>) -> Stop {
-    let why = why.filter(|why| !why.is_empty()).map(|why| format!(": {why}")).unwrap_or_default();
-    Stop::Refused(format!("{file}: refused {number}: {}{why}", meaning(number)))
-}
-
 /// A refusal of what a call asks about; where it asks for JSON, as an object on standard output too.
 pub fn refused_call(call: &Call, file: &str, number: u32, why: Option<String>) -> Stop {
-    if call.has("json") {
-        if let Err(stop) = output::print(&show::refused_json(number)) {
-            return stop;
-        }
-    }
-    refused(file, number, why)
+    Refusal { file: file.to_string(), number: Some(number), why: why.unwrap_or_default() }.stop(call)
 }
 
 /// Reads a package; of an ELF file (.dwp) the package that it holds, or the refusal of such a file.
 pub fn read_package(call: &Call, name: &OsStr) -> Result<Taken, Stop> {
+    read_package_and_file(call, name).map(|(package, _)| package)
+}
+
+/// The same with the file's own bytes where they aren't the package's.
+pub fn read_package_and_file(call: &Call, name: &OsStr) -> Result<(Taken, Option<Vec<u8>>), Stop> {
     let (mut bytes, shown) = (Vec::new(), input::shown(name));
     let most = Most { without: LONGEST_PACKAGE, ..BUNDLE_OR_ELF };
     progress::shown("reading the package".to_string(), || input::read_into(name, &most, &mut bytes))?;
-    match bytes.starts_with(elf::MAGIC) {
-        true => Ok(Taken { bytes: from_elf(call, &bytes, &shown)?, machine: elf::machine_of(&bytes), shown }),
-        false => Ok(Taken { bytes: bytes.into(), machine: None, shown }),
+    if !bytes.starts_with(elf::MAGIC) {
+        return Ok((Taken { bytes: bytes.into(), machine: None, shown }, None));
+    }
+    let package = Taken { bytes: from_elf(call, &bytes, &shown)?, machine: elf::machine_of(&bytes), shown };
+    Ok((package, Some(bytes)))
+}
+
+/// Says of a file in which no unit can be looked up that it has no index. It is help: the answer is the call's own.
+pub fn note_without_index(shown: &str, package: &[u8]) {
+    let has_none = |p: &Package| p.object.is_some() && [1, 2].into_iter().all(|table| p.index(table).is_none());
+    if Package::read(package).is_ok_and(|package| has_none(&package)) {
+        stop::note(&format!("{shown}: it has no index: {WITHOUT_INDEX}"));
     }
 }
 
@@ -90,12 +104,13 @@ pub fn no_package(call: &Call, name: &OsStr, bytes: &[u8]) -> Stop {
 /// The bundle of an ELF file.
 pub fn from_elf(call: &Call, file: &[u8], shown: &str) -> Result<Lent<u8>, Stop> {
     let mut bundle = Lent::zeros(0);
-    put_elf(call, file, shown, &mut bundle, 0).map(|()| bundle)
+    let read = put_elf(file, &mut bundle, 0);
+    read.map(|()| bundle).map_err(|number| refused_call(call, shown, number, explain::reading_elf(file, number)))
 }
 
-/// The same from a place of a bundle on, up to its end. Few bundles are longer than their file, or than the longest that can be packed: the reader is lent
-/// so much, and where that is too short it says how much is needed. The sections are copied once, to where they stay.
-fn put_elf(call: &Call, file: &[u8], shown: &str, bundle: &mut Lent<u8>, from: usize) -> Result<(), Stop> {
+/// The same from a place of a bundle on, up to its end, or the refusal's number. Few bundles are longer than their file, or than the longest that can be
+/// packed: the reader is lent so much, and where that is too short it says how much is needed. The sections are copied once, to where they stay.
+fn put_elf(file: &[u8], bundle: &mut Lent<u8>, from: usize) -> Result<(), u32> {
     bundle.extend_to(from + file.len().min(LONGEST_BUNDLE));
     let (mut code, length) = elf::read(file, &mut bundle[from..]);
     if code == OUTPUT_TOO_SHORT {
@@ -103,9 +118,10 @@ fn put_elf(call: &Call, file: &[u8], shown: &str, bundle: &mut Lent<u8>, from: u
         (code, _) = elf::read(file, &mut bundle[from..]);
     }
     bundle.truncate(from + length);
-    match code {
-        0 => Ok(()),
-        _ => Err(refused_call(call, shown, code, explain::reading_elf(file, code))),
+    if code == 0 {
+        Ok(())
+    } else {
+        Err(code)
     }
 }
 
@@ -139,24 +155,34 @@ pub fn join(call: &Call, package: Option<&Taken>, names: &[OsString]) -> Result<
 }
 
 fn joined(call: &Call, package: Option<&Taken>, names: &[OsString]) -> Result<Joined, Stop> {
-    let mut joined = Joined { bundle: Lent::with_room(room(package, names)), files: Vec::new(), machine: None };
+    let mut joined = Joined::with_room(room(package, names));
     if let Some(package) = package {
         joined.put_package(call, package)?;
     }
-    let mut bytes = Vec::new();
+    let (mut bytes, mut refusals, mut put) = (Vec::new(), Refusals::of(call, names.len()), 0);
     for name in names {
-        input::read_into(name, &BUNDLE_OR_ELF, &mut bytes)?;
         let shown = input::shown(name);
-        let head = match bytes.starts_with(elf::MAGIC) {
-            true => joined.put_file(call, &bytes, shown.clone())?,
-            false if package.is_none() && names.len() == 1 => return Ok(Joined { bundle: bytes.into(), ..joined }),
-            false => joined.put_bundle(call, &bytes, &shown)?,
-        };
-        if head != joined.bundle[..WORD] {
-            let first = package.map_or_else(|| input::shown(&names[0]), |package| package.shown.clone());
-            return Err(Stop::Refused(format!("{shown}: its byte order is not that of {first}")));
+        if let Err(stop) = input::read_into(name, &BUNDLE_OR_ELF, &mut bytes) {
+            refusals.trouble(stop)?;
+            continue;
+        }
+        let is_elf = bytes.starts_with(elf::MAGIC);
+        if !is_elf && package.is_none() && names.len() == 1 {
+            return Ok(Joined { bundle: bytes.into(), ..joined });
+        }
+        match if is_elf { joined.put_file(&bytes, &shown) } else { joined.put_bundle(&bytes, &shown) } {
+            Ok(()) => put += 1,
+            Err(refusal) if refusal.is_of_no_unit() && !call.has("strict") && explain::has_no_debug(&bytes) => {
+                joined.left_out.push(shown);
+            }
+            Err(refusal) => refusals.push(refusal),
         }
     }
+    // Where nothing is left, that is why.
+    if put == 0 && refusals.is_empty() {
+        joined.left_out.drain(..).for_each(|file| refusals.push(Refusal::without_debug(file)));
+    }
+    refusals.told()?;
     joined.bundle.extend(&end_word(joined.bundle.len()));
     Ok(joined)
 }
@@ -170,49 +196,94 @@ fn room(package: Option<&Taken>, names: &[OsString]) -> usize {
 }
 
 impl Joined {
+    fn with_room(room: usize) -> Joined {
+        Joined {
+            bundle: Lent::with_room(room),
+            files: Vec::new(),
+            machine: None,
+            left_out: Vec::new(),
+            uncarried: Uncarried::default(),
+            first: String::new(),
+        }
+    }
+
     /// Puts the object of a package, which is called by the package's name.
     fn put_package(&mut self, call: &Call, package: &Taken) -> Result<(), Stop> {
-        self.put_bundle(call, &package.bytes, &package.shown)?;
+        self.put_bundle(&package.bytes, &package.shown).map_err(|refusal| refusal.stop(call))?;
         self.files = vec![package.shown.clone()];
         self.machine = package.machine;
         Ok(())
     }
 
-    /// Puts the object of an ELF file behind those that are there, without an end; the head that it would have alone. The head stands over
-    /// the last word that was there, which comes back.
-    fn put_file(&mut self, call: &Call, file: &[u8], shown: String) -> Result<[u8; WORD], Stop> {
+    /// Puts the object of an ELF file behind those that are there, without an end. The head that it would have alone stands over the last
+    /// word that was there, which comes back.
+    fn put_file(&mut self, file: &[u8], shown: &str) -> Result<(), Refusal> {
         let last = self.bundle.last_chunk::<WORD>().copied();
         let from = self.bundle.len().saturating_sub(WORD);
-        put_elf(call, file, &shown, &mut self.bundle, from)?;
-        let place = &mut self.bundle[from..from + WORD];
-        let head = [place[0], place[1], place[2], place[3]];
-        place.copy_from_slice(&last.unwrap_or(head));
-        self.bundle.truncate(self.bundle.len() - WORD);
-        self.files.push(shown);
+        let read = put_elf(file, &mut self.bundle, from);
+        let end = self.bundle.len();
+        let head = self.bundle[from..].first_chunk::<WORD>().copied();
+        if let Some(last) = last {
+            self.bundle.extend_to(end.max(from + WORD));
+            self.bundle[from..from + WORD].copy_from_slice(&last);
+        }
+        read.map_err(|number| Refusal::of_elf(shown, number, file))?;
+        if last.is_some() && head != self.bundle.first_chunk::<WORD>().copied() {
+            self.bundle.truncate(from + WORD);
+            return Err(self.other_order(shown));
+        }
+        self.bundle.truncate(end - WORD);
+        self.took(shown);
+        self.files.push(shown.to_string());
         self.machine = self.machine.or(elf::machine_of(file));
-        Ok(head)
+        self.uncarried.add(shown, file);
+        Ok(())
     }
 
-    /// Puts the objects of a bundle behind those that are there, without an end; its head.
-    fn put_bundle(&mut self, call: &Call, bytes: &[u8], shown: &str) -> Result<[u8; WORD], Stop> {
-        let Ok(read) = Bundle::read(bytes) else { return Err(not_a_bundle(call, shown, bytes)) };
-        let head = [bytes[0], bytes[1], bytes[2], bytes[3]];
+    /// Puts the objects of a bundle behind those that are there, without an end.
+    fn put_bundle(&mut self, bytes: &[u8], shown: &str) -> Result<(), Refusal> {
+        let Ok(read) = Bundle::read(bytes) else { return Err(Refusal::of_bundle(shown, bytes)) };
         if self.bundle.is_empty() {
-            self.bundle.extend(&head);
+            self.bundle.extend(&bytes[..WORD]);
+        } else if bytes[..WORD] != self.bundle[..WORD] {
+            return Err(self.other_order(shown));
         }
         self.bundle.extend(&bytes[WORD..bytes.len() - WORD]);
+        self.took(shown);
         self.files.extend((1..=read.objects.len()).map(|number| format!("{shown}, object {number}")));
-        Ok(head)
+        Ok(())
+    }
+
+    fn took(&mut self, shown: &str) {
+        if self.first.is_empty() {
+            self.first = shown.to_string();
+        }
+    }
+
+    fn other_order(&self, shown: &str) -> Refusal {
+        let why = format!("its byte order is not that of {}", self.first);
+        Refusal { file: shown.to_string(), number: None, why }
+    }
+
+    /// Says which files were left out, of so many.
+    pub fn note_left_out(&self, names: usize) {
+        let told = match &self.left_out[..] {
+            [] => None,
+            [one] => Some(format!("{one} is left out: {}", without_debug(one))),
+            several => {
+                let count = format!("{} of {}", several.len(), show::count(names, "file"));
+                Some(format!("{count} are left out, without debug information: {}", several.join(", ")))
+            }
+        };
+        told.iter().for_each(|told| stop::note(told));
     }
 }
 
-/// What can't be taken apart is refused as the packer refuses it alone.
+/// The same of a bundle that was handed in alone.
 pub fn not_a_bundle(call: &Call, shown: &str, bytes: &[u8]) -> Stop {
-    match package_of(bytes) {
-        Err(number) => {
-            let names = Names { files: &[] };
-            refused_call(call, shown, number, explain::packing(bytes, number, &names).map(|why| why.told(&names)))
-        }
-        Ok(_) => Stop::Trouble(format!("{shown}: the host can't take it apart")),
+    let refusal = Refusal::of_bundle(shown, bytes);
+    match refusal.number {
+        Some(_) => refusal.stop(call),
+        None => Stop::Trouble(refusal.line()),
     }
 }

@@ -7,6 +7,7 @@ Pack split-debug sections and find them again, by proved functions.
 Commands:
   bundle    write the bundle of an ELF file's debug sections
   pack      write the package of ELF files or bundles
+  elf       write a package as an ELF file, which debuggers open
   verify    find all that files were packed into a package, before they are deleted
   lookup    find a part or a string of a unit in a package
   sheet     print the index of a package as lines for paper
@@ -17,10 +18,10 @@ Commands:
 
 Every command takes
   -h, --help      show its help and exit
-  -V, --version   show the version and exit
+  -V, --version   show the version, the kit that proved it and the sum of what was proved, and exit
 
 Exit status: 0 done; 1 refused, absent or not verified; 2 a wrong call, or a file that can't be read or written.
-A refusal is a number with its meaning; docs/FORMAT.md has the list.";
+A refusal is a number with its meaning; docs/FORMAT.md has the list, and is installed beside the licences.";
 
 const BUNDLE: &str = "\
 Usage: barthovin bundle [OPTION]... FILE -o BUNDLE
@@ -43,28 +44,52 @@ FILE is a relocatable ELF64 file (.dwo) or a bundle, told apart by their first b
 files that LIST names (./@NAME for a file that is called so), one on each line or with a NUL between them.
 
   -o, --output=PACKAGE   the file to write, or - for standard output; where its name ends in .dwp, an ELF file
-      --add=PACKAGE      add the files to a package, as it is or as an ELF file; -o may name the same one
+      --add=PACKAGE      add the files to a package, as it is or as an ELF file; -o may name the same one. An ELF file stays one
       --elf              write an ELF file whatever its name
       --force            write it over one of the files, or over a .dwo file
       --machine=MACHINE  of the ELF file: x86-64, aarch64 or riscv64; else that of the first ELF file read, else x86-64
+      --strict           refuse files without debug information, which are left out else
       --namesakes        list the type units that were skipped though their bytes are not those of the one kept
       --json             write what was written and skipped as a JSON object
   -h, --help             show this help and exit
   -V, --version          show the version and exit
 
+A file without any debug section is left out, and that is said: clang and rustc write such a .dwo file for a source without code. Where nothing is left
+it is refused. Whatever is refused is told for all files at once. Sections .debug_* that packages have no place for are told too.
+
 Of type units with one signature the first is kept. How many were skipped is said where there are any: repeats, whose bytes are those of the one
-kept, and namesakes. It is said on standard error where the package goes to standard output.
+kept, and namesakes, which are usual, since each file counts its strings and abbreviations by itself. It is said on standard error where the package
+goes to standard output.
+
+Debuggers open a package of their program's machine. gdb up to 13 crashes on DWARF 5 packages of any maker: compile with -gdwarf-4 for it, or use lldb.
+Of gcc -g3 only -gdwarf-4 -gstrict-dwarf -g3 can be packed; -g2 leaves the macros out.
 
 With --add the package comes first and the files follow it. The result is, byte for byte, that of packing at once all files that the package was
 packed from and those added: it is proved wherever both are accepted, pack wrote the first, and all of them fit into one bundle. The command
-says so, or that the package isn't as pack writes it. Some packages can't be added to (refused 7, 15 or 34): keep all files until the last one is
-packed. Where the output is the package itself, a new file takes its place or nothing is written; a second run that adds to it waits for the
-first, and adds to what that one wrote.
+says so, or that the package isn't as pack writes it. Some packages can't be added to (refused 1, 7, 15 or 34), and pack says so: keep all files
+until the last one is packed. Where the output is the package itself, a new file takes its place or nothing is written; a second run that adds to it
+waits for the first, and adds to what that one wrote.
 
-All files together make a bundle of at most 4,194,304 bytes. A file that is there keeps its mode, owner and links, and its bytes until the new
+All files together make a bundle of at most 4,194,304 bytes: a package for each program, -g1 (gcc) or -gmlt (clang) for the longest files and no -g3
+make it shorter. A file that is there keeps its mode, owner and links, and its bytes until the new
 ones are on the disk: then a new file takes its place. Where none can, since it has more links, another owner or a folder that takes no file,
 the new bytes are copied over it; the copy that they come from goes when that is done, and is named where it fails. Devices, pipes and what
 stands under /proc, as /dev/stdout, are written as they are. An output that is one of the files, or a .dwo file, is left alone without --force.
+
+Exit status: 0 written; 1 refused; 2 a wrong call, or a file that can't be read or written.";
+
+const ELF: &str = "\
+Usage: barthovin elf [OPTION]... PACKAGE -o FILE.dwp
+Write a package as an ELF file, which debuggers open. barthovin bundle FILE.dwp -o PACKAGE is the way back.
+
+PACKAGE is a file, as it is or as an ELF file, or - for standard input. Where no unit stands in .debug_info.dwo no reader could open the ELF file, and that
+is said before it is written.
+
+  -o, --output=FILE.dwp  the file to write, or - for standard output
+      --force            write it over PACKAGE itself, or over a .dwo file
+      --machine=MACHINE  of the ELF file: x86-64, aarch64 or riscv64; else that of PACKAGE where it is an ELF file, else x86-64
+  -h, --help             show this help and exit
+  -V, --version          show the version and exit
 
 Exit status: 0 written; 1 refused; 2 a wrong call, or a file that can't be read or written.";
 
@@ -117,7 +142,8 @@ code, and the offset and size of the unit's part in that section, all but the co
 
 PACKAGE is a file, as it is or as an ELF file (.dwp), or - for standard input.
 
-  -p, --pages     lay it out for paper: pages of 60 lines, each with the package's name and length and its number
+  -p, --pages     lay it out for paper: pages of 60 lines, each with the file's name, length and SHA-256 and the page's number; in front of a
+                  compilation unit a line N with the name of its source (DW_AT_name), where that can be read
       --json      write the lines as a JSON list of objects
   -h, --help      show this help and exit
   -V, --version   show the version and exit
@@ -130,6 +156,7 @@ List the sections of a package and, for each unit of its indexes, the identity a
 
 PACKAGE is a file, as it is or as an ELF file (.dwp), or - for standard input. Offsets of parts count from the front of their section.
 
+  -n, --names     add the name of its source (DW_AT_name) to each compilation unit, where it can be read
       --json      write the list as a JSON object
   -h, --help      show this help and exit
   -V, --version   show the version and exit
@@ -165,6 +192,7 @@ pub fn about(command: &str) -> &'static str {
     match command {
         "bundle" => BUNDLE,
         "pack" => PACK,
+        "elf" => ELF,
         "verify" => VERIFY,
         "lookup" => LOOKUP,
         "sheet" => SHEET,

@@ -3,7 +3,7 @@
 mod questions;
 
 use super::call::{Call, Known};
-use super::files::{read_package, refused_call};
+use super::files::{note_without_index, read_package, refused_call};
 use super::{input, output, show, Stop, DONE, NOT_DONE};
 use crate::answer::{Asked, Found};
 use crate::explain;
@@ -48,6 +48,7 @@ pub fn run(arguments: &[OsString]) -> Result<u8, Stop> {
         Asked::Section(code) => ffi::lookup(&package, version, table, identity, code),
         Asked::Entry(entry) => ffi::lookup_string(&package, version, table, identity, entry),
     };
+    note_without_index(&input::shown(&call.operands[0]), &package);
     match found {
         Found::Part { start, length, .. } if call.has("raw") => {
             output::write_standard(&package[start..start + length]).map(|()| DONE)

@@ -3,9 +3,11 @@
 use super::add::{self, Added, Earlier};
 use super::call::{Call, Known};
 use super::files::{join, listed, refused_call, Joined};
-use super::{guard, input, output, progress, show, Stop, DONE};
+use super::refusals::Refusals;
+use super::{guard, input, output, progress, show, stop, Stop, DONE};
+use crate::closed::closed;
 use crate::elf;
-use crate::explain::{self, Names};
+use crate::explain::{self, Names, Refused};
 use crate::ffi::{self, Skipped};
 use crate::lent::Lent;
 use crate::names::{section_name, OUTPUT_TOO_SHORT, WORK_FOR_A_WORD};
@@ -17,15 +19,20 @@ use std::os::unix::ffi::OsStrExt;
 /// The refusal of a machine that packages aren't written for.
 const OTHER_MACHINE: u32 = 36;
 
+/// What is said of a package that as an ELF file would be no package any more.
+pub const NO_READER: &str =
+    "no reader could open it as an ELF file, where only a unit of .debug_info.dwo says which DWARF version it has";
+
 /// A long bundle: what its packing takes counts.
 const LONG: usize = 1 << 20;
 
-const OPTIONS: [Known; 7] = [
+const OPTIONS: [Known; 8] = [
     Known { long: "output", short: Some(b'o'), value: true },
     Known { long: "add", short: None, value: true },
     Known { long: "elf", short: None, value: false },
     Known { long: "force", short: None, value: false },
     Known { long: "machine", short: None, value: true },
+    Known { long: "strict", short: None, value: false },
     Known { long: "namesakes", short: None, value: false },
     Known { long: "json", short: None, value: false },
 ];
@@ -42,59 +49,99 @@ pub fn run(arguments: &[OsString]) -> Result<u8, Stop> {
     if call.has("json") && output::is_standard(to) {
         return Err(call.wrong("option '--json' needs standard output for itself: -o PACKAGE"));
     }
-    let as_elf = call.has("elf") || to.as_bytes().ends_with(b".dwp");
-    let named = machine_named(&call, as_elf)?;
     let names = listed(&call.operands)?;
     if names.is_empty() {
         return Err(call.wrong("the list names no file"));
     }
     guard::judge(&call, to, &names)?;
     let earlier = add::earlier(&call)?;
+    // What is added to keeps its form.
+    let is_elf = earlier.as_ref().is_some_and(|earlier| earlier.file.machine.is_some());
+    let as_elf = is_elf || call.has("elf") || to.as_bytes().ends_with(b".dwp");
+    let named = machine_named(&call, as_elf)?;
     let joined = join(&call, earlier.as_ref().map(|earlier| &earlier.file), &names)?;
     let about = format!("packing {}, {} bytes", show::count(names.len(), "file"), joined.bundle.len());
     let packed = progress::shown(about, || packed(&joined.bundle));
     let (package, skipped) = packed.map_err(|number| told(&call, &names, earlier.as_ref(), &joined, number))?;
-    let added = earlier.as_ref().map(|earlier| earlier.added(names.len(), &package));
+    joined.note_left_out(names.len());
+    joined.uncarried.lines().iter().for_each(|line| stop::note(line));
+    let added = earlier.as_ref().map(|earlier| earlier.added(names.len() - joined.left_out.len()));
     let namesakes = if call.has("namesakes") { namesakes(&joined, skipped)? } else { Vec::new() };
+    let done =
+        Done { length: 0, skipped, namesakes, added, left_out: joined.left_out.clone(), closed: closed(&package) };
     let file = if as_elf { elf_file(&call, to, &package, named, joined)? } else { package };
     match &earlier {
         Some(earlier) => earlier.write(to, &file)?,
         None => output::write(to, &file)?,
     }
-    say(&call, to, Done { length: file.len(), skipped, namesakes, added })
+    say(&call, to, Done { length: file.len(), ..done })
 }
 
-/// The package as an ELF file, for the machine that was named or that of what was packed, in whose place it is written.
+/// The package as an ELF file, for the machine that was named or that of what was packed, in whose place it is written. One that nobody could open is
+/// refused while the files are still there.
 fn elf_file(call: &Call, to: &OsStr, package: &[u8], named: Option<u32>, packed: Joined) -> Result<Lent<u8>, Stop> {
+    if !elf::states_version(package) {
+        return Err(Stop::Refused(format!(
+            "{}: {NO_READER}: write the package as it is, without --elf or .dwp",
+            output::shown(to)
+        )));
+    }
     let machine = named.or(packed.machine).unwrap_or(elf::MACHINES[0].1);
-    let why = |number| Some(format!("the machine is {machine}")).filter(|_| number == OTHER_MACHINE);
     let file = elf::file_in(package, machine, packed.bundle);
-    file.map_err(|number| refused_call(call, &output::shown(to), number, why(number)))
+    file.map_err(|number| refused_call(call, &output::shown(to), number, other_machine(machine, number)))
 }
 
-/// What was done: the length written, what was skipped and which of it are namesakes where that is asked for, and what was added to a package.
+/// Why 36 refuses a machine.
+pub fn other_machine(machine: u32, number: u32) -> Option<String> {
+    let named: Vec<&str> = elf::MACHINES.iter().map(|(name, _)| *name).collect();
+    let why = || format!("the machine is {machine}; --machine names another one: {}", show::or(&named));
+    (number == OTHER_MACHINE).then(why)
+}
+
+/// What was done: the length written, what was skipped and which of it are namesakes where that is asked for, what was added to a package, what was left
+/// out, and why nothing can be added later.
 struct Done {
     length: usize,
     skipped: Skipped,
     namesakes: Vec<Namesake>,
     added: Option<Added>,
+    left_out: Vec<String>,
+    closed: Option<u32>,
 }
 
-/// Says what was added, how many type units were skipped, where there are any, and with --namesakes which of them are namesakes. It is said
-/// on standard error where the package goes to standard output.
-fn say(call: &Call, to: &OsStr, done: Done) -> Result<u8, Stop> {
-    let Done { length, skipped, namesakes, added } = done;
-    if call.has("json") {
-        let listed: Vec<String> = namesakes.iter().map(Namesake::json).collect();
+impl Done {
+    /// As a JSON object, with the namesakes where they are asked for.
+    fn json(&self, call: &Call) -> String {
+        let Skipped { repeats, namesakes } = self.skipped;
+        let listed: Vec<String> = self.namesakes.iter().map(Namesake::json).collect();
         let listed = call.has("namesakes").then(|| format!(",\"listed\":[{}]", listed.join(",")));
-        let same = added.as_ref().map(Added::json);
-        let Skipped { repeats, namesakes } = skipped;
+        let same = self.added.as_ref().map(Added::json).unwrap_or_default();
+        let later = format!(",\"can_be_added_to\":{}", self.closed.is_none());
+        let left_out: Vec<String> = self.left_out.iter().map(|file| show::json(file)).collect();
+        let left_out = (!left_out.is_empty()).then(|| format!(",\"left_out\":[{}]", left_out.join(",")));
         let counts = format!("\"repeats\":{repeats},\"namesakes\":{namesakes}");
-        let more = format!("{}{}", same.unwrap_or_default(), listed.unwrap_or_default());
-        return output::print(&format!("{{\"length\":{length},{counts}{more}}}"));
+        let more = [left_out, listed].map(Option::unwrap_or_default).concat();
+        format!("{{\"length\":{},{counts}{same}{later}{more}}}", self.length)
     }
+}
+
+/// Says what was added, that nothing can be added later where that is so, how many type units were skipped, where there are any, and with
+/// --namesakes which of them are namesakes. It is said on standard error where the package goes to standard output.
+fn say(call: &Call, to: &OsStr, done: Done) -> Result<u8, Stop> {
+    if call.has("json") {
+        return output::print(&done.json(call));
+    }
+    let Done { skipped, namesakes, added, closed, .. } = done;
     let counts = (skipped != Skipped::default()).then(|| show::skipped(skipped));
-    let lines = added.iter().flat_map(Added::lines).chain(counts).chain(namesakes.iter().map(Namesake::line));
+    let usual = (skipped.namesakes > 0).then(|| show::NAMESAKES.to_string());
+    let later = closed.map(add::not_later);
+    let lines = added
+        .iter()
+        .map(Added::line)
+        .chain(later)
+        .chain(counts)
+        .chain(usual)
+        .chain(namesakes.iter().map(Namesake::line));
     let text = lines.collect::<Vec<_>>().join("\n");
     if text.is_empty() {
         return Ok(DONE);
@@ -145,20 +192,39 @@ fn namesakes(joined: &Joined, told: Skipped) -> Result<Vec<Namesake>, Stop> {
 }
 
 /// The machine that the call names, if it names one.
-fn machine_named(call: &Call, as_elf: bool) -> Result<Option<u32>, Stop> {
+pub fn machine_named(call: &Call, as_elf: bool) -> Result<Option<u32>, Stop> {
     let Some(name) = call.value("machine") else { return Ok(None) };
     if !as_elf {
         return Err(call.wrong("option '--machine' is for ELF files: --elf, or an output that ends in .dwp"));
     }
     match elf::MACHINES.iter().find(|(known, _)| name == *known) {
         Some((_, machine)) => Ok(Some(*machine)),
-        None => Err(call.wrong(format!("unknown machine '{}': x86-64, aarch64 or riscv64", show::name(name)))),
+        None => {
+            let known: Vec<&str> = elf::MACHINES.iter().map(|(name, _)| *name).collect();
+            Err(call.wrong(format!("unknown machine '{}': {}", show::name(name), show::or(&known))))
+        }
     }
+}
+
+/// Those of several files that are refused, where there are several: packing stops at the first.
+fn all_told(call: &Call, joined: &Joined, first: u32) -> Option<Stop> {
+    let all = explain::each(&joined.bundle, &Names { files: &joined.files });
+    if all.len() < 2 || all[0].number != first {
+        return None;
+    }
+    let mut refusals = Refusals::of(call, joined.files.len());
+    all.into_iter().for_each(|Refused { object, number, why }| refusals.add(&joined.files[object - 1], number, why));
+    Some(refusals.stop())
 }
 
 /// The refusal of what was joined, by the file that it comes from where that is known.
 fn told(call: &Call, operands: &[OsString], earlier: Option<&Earlier>, joined: &Joined, number: u32) -> Stop {
     let names = Names { files: &joined.files };
+    if matches!(number, 4..=16 | 34) && joined.files.len() > 1 {
+        if let Some(stop) = all_told(call, joined, number) {
+            return stop;
+        }
+    }
     let why = explain::packing(&joined.bundle, number, &names);
     let files = show::count(operands.len(), "file");
     let all = match (earlier, operands) {

@@ -13,6 +13,21 @@ const TABLES: &str = include_str!("tables.txt");
 
 const NOT_A_PACKAGE: u32 = 21;
 
+/// What is so where a condition fails, in the order of the conditions.
+const CAUSES: [&str; CONDITIONS.len()] = [
+    "its objects are not of DWARF version 5",
+    "it is big-endian",
+    "its offset width is not 4",
+    "its address size is not 8",
+    "it has a macro section",
+    "it has no cu_index",
+    "its cu_index is not of version 5",
+    "its cu_index has no row",
+];
+/// The condition that there is a cu_index, and those that speak of it.
+const HAS_INDEX: usize = 5;
+const ABOUT_INDEX: [usize; 2] = [6, 7];
+
 pub fn run(arguments: &[OsString]) -> Result<u8, Stop> {
     let call = match Call::read("profile", &OPTIONS, arguments)? {
         Ok(call) => call,
@@ -31,9 +46,18 @@ pub fn run(arguments: &[OsString]) -> Result<u8, Stop> {
             format!("{{\"in_profile\":{is_in},\"not_true\":[{}]}}", list.join(","))
         }
         (false, true) => "yes".to_string(),
-        (false, false) => format!("no; these are not true:\n  {}", failing.join("\n  ")),
+        (false, false) => format!("no; {}", causes(failed).join("; ")),
     };
     output::print(&told).map(|_| if failing.is_empty() { DONE } else { NOT_DONE })
+}
+
+/// What is so instead of each condition that fails. Where there is no cu_index nothing more is said of it.
+fn causes(failed: u32) -> Vec<&'static str> {
+    let fails = |at: usize| failed >> at & 1 == 1;
+    (0..CAUSES.len())
+        .filter(|at| fails(*at) && !(ABOUT_INDEX.contains(at) && fails(HAS_INDEX)))
+        .map(|at| CAUSES[at])
+        .collect()
 }
 
 pub fn tables(arguments: &[OsString]) -> Result<u8, Stop> {

@@ -32,8 +32,11 @@ fn push_escaped(shown: &mut String, c: char) {
     }
 }
 
-/// A file's name, or another word of the call.
+/// A file's name, or another word of the call; one without a letter is shown by quotes.
 pub fn name(name: &OsStr) -> String {
+    if name.is_empty() {
+        return "''".to_string();
+    }
     escaped(name.as_bytes())
 }
 
@@ -46,6 +49,17 @@ pub fn hexadecimal(bytes: &[u8]) -> String {
 pub fn count(number: usize, one: &str) -> String {
     format!("{number} {one}{}", if number == 1 { "" } else { "s" })
 }
+
+/// `a`, `a or b`, `a, b or c`.
+pub fn or(words: &[&str]) -> String {
+    match words {
+        [front @ .., last] if !front.is_empty() => format!("{} or {last}", front.join(", ")),
+        _ => words.concat(),
+    }
+}
+
+/// What is said with namesakes, which are nothing to fear: most type units that compilers repeat are such.
+pub const NAMESAKES: &str = "namesakes are usual: each file counts its strings and abbreviations by itself";
 
 /// The type units that were skipped.
 pub fn skipped(Skipped { repeats, namesakes }: Skipped) -> String {

@@ -43,6 +43,11 @@ impl Stop {
     }
 }
 
+/// Says something that stops nothing. It is only a help; where it can't be written nothing is lost.
+pub fn note(message: &str) {
+    let _ = writeln!(io::stderr(), "barthovin: {message}");
+}
+
 /// An error in the system's words, without its number.
 pub fn reason(error: &io::Error) -> String {
     let told = error.to_string();

@@ -28,11 +28,13 @@ pub fn run(arguments: &[OsString]) -> Result<u8, Stop> {
     }
     let package = good_package(&call, name)?.bytes;
     let joined = join(&call, None, &files)?;
+    joined.note_left_out(files.len());
     let about = format!("looking for {} in the package", show::count(files.len(), "file"));
     let report = progress::shown(about, || verify(&package, &joined.bundle));
     // Several files were taken apart when they were joined.
     let report = report.map_err(|_| not_a_bundle(&call, &input::shown(&files[0]), &joined.bundle))?;
-    let faults: Vec<(String, String)> = report.faults.iter().map(|fault| named(fault, &joined, &files)).collect();
+    let faults = report.faults.iter().map(|fault| named(fault, &joined, &files));
+    let faults: Vec<(String, String)> = faults.chain(joined.uncarried.faults()).collect();
     let verified = faults.is_empty() && report.units > 0;
     if call.has("json") {
         output::print(&json(&report, files.len(), &faults))?;

@@ -4,10 +4,14 @@ use super::place::Place;
 use super::Names;
 use crate::names::{section_name, ABBREV, CU_INDEX, INFO, MACRO, RNGLISTS, STR, STR_OFFSETS, TU_INDEX, TYPES};
 use crate::reader::bundle::{Bundle, Object};
-use crate::reader::index::Index;
+use crate::reader::index::{empty_index, Index};
 use crate::reader::number;
 use crate::reader::pieces::{is_package_of_five, pieces, Piece};
 use crate::reader::unit::{spans, Identities, Span, Why};
+
+/// What helps where gcc wrote macros.
+const SEVERAL_MACROS: &str =
+    "; gcc -g3 writes several: -gdwarf-4 -gstrict-dwarf -g3 writes one and keeps the macros, -g2 leaves them out";
 
 /// Sections that a version doesn't have.
 const NOT_IN_VERSION_5: [u32; 3] = [2, 5, 7];
@@ -39,7 +43,7 @@ pub fn of(bundle: &Bundle, place: &Place, refusal: u32, names: &Names) -> Option
     }
 }
 
-fn other_encoding(object: &Object, first: &Object, name: &str) -> String {
+pub fn other_encoding(object: &Object, first: &Object, name: &str) -> String {
     let other = object.encoding.version() != first.encoding.version();
     let hint = if other { "; pack each DWARF version by itself" } else { "" };
     format!("it states {}, {name} {}{hint}", object.encoding, first.encoding)
@@ -52,7 +56,7 @@ fn wrong_section(object: &Object) -> Option<String> {
         return Some(format!("it has {}, which objects of DWARF {version} don't have", section_name(*code)));
     }
     if let Some(code) = (ABBREV..=TU_INDEX).find(|code| object.count(*code) > 1) {
-        let hint = if code == MACRO { "; gcc -g3 writes several: build with -g2" } else { "" };
+        let hint = if code == MACRO { SEVERAL_MACROS } else { "" };
         return Some(format!("it has {} {} sections{hint}", object.count(code), section_name(code)));
     }
     let beside = |code: u32, index: u32| object.count(code) > 1 && object.count(index) > 0;
@@ -151,7 +155,9 @@ fn bad_index(object: &Object) -> Option<String> {
     [CU_INDEX, TU_INDEX].into_iter().find_map(|code| {
         let section = object.section(code)?;
         match Index::read(section.bytes, object.encoding.big) {
-            Err(why) => Some(format!("{}: {why}", section_name(code))),
+            Err(why) => {
+                Some(format!("{}: {why}{}", section_name(code), empty_index(code, section.bytes, object.encoding.big)))
+            }
             Ok(index) if (index.version == 5) != (object.encoding.version() == 5) => {
                 Some(format!("{} has version {}", section_name(code), index.version))
             }

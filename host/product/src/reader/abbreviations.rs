@@ -4,8 +4,8 @@ use super::bundle::Encoding;
 use super::number;
 
 const DATA8: u64 = 0x07;
-const INDIRECT: u64 = 0x16;
-const IMPLICIT_CONST: u64 = 0x21;
+pub(super) const INDIRECT: u64 = 0x16;
+pub(super) const IMPLICIT_CONST: u64 = 0x21;
 const GNU_DWO_ID: u64 = 0x2131;
 const COMPILE_UNIT: u64 = 0x11;
 const TYPE_UNIT: u64 = 0x41;
@@ -17,17 +17,17 @@ struct Declaration {
 }
 
 /// Bytes that are read from the front.
-struct Front<'a>(&'a [u8]);
+pub(super) struct Front<'a>(pub(super) &'a [u8]);
 
 impl<'a> Front<'a> {
-    fn take(&mut self, count: usize) -> Option<&'a [u8]> {
+    pub(super) fn take(&mut self, count: usize) -> Option<&'a [u8]> {
         let (front, rest) = self.0.split_at_checked(count)?;
         self.0 = rest;
         Some(front)
     }
 
     /// An unsigned LEB128 number of at most so many bytes that fits 64 bits.
-    fn leb128(&mut self, most: usize) -> Option<u64> {
+    pub(super) fn leb128(&mut self, most: usize) -> Option<u64> {
         let mut value = 0u64;
         for i in 0..most {
             let byte = self.take(1)?[0];
@@ -44,7 +44,7 @@ impl<'a> Front<'a> {
     }
 
     /// A tag, name or form.
-    fn short(&mut self) -> Option<u64> {
+    pub(super) fn short(&mut self) -> Option<u64> {
         self.leb128(3).filter(|value| *value <= 0xFFFF)
     }
 }
@@ -116,7 +116,7 @@ fn root_identity(root: &Declaration, front: &mut Front, encoding: Encoding) -> R
 
 /// How many bytes a value takes following a count, which is taken. The outer none is an unknown form, the inner one a value that
 /// doesn't end.
-fn size_of(form: u64, front: &mut Front, encoding: Encoding) -> Option<Option<usize>> {
+pub(super) fn size_of(form: u64, front: &mut Front, encoding: Encoding) -> Option<Option<usize>> {
     let counted = |front: &mut Front, width: usize| {
         let count = front.take(width).and_then(|field| number(field, 0, width, encoding.big));
         count.and_then(|n| usize::try_from(n).ok())

@@ -1,6 +1,7 @@
 //! Indexes of both versions.
 
 use super::number;
+use crate::names::file_name;
 
 /// Rows count from 1.
 #[derive(Clone, Debug)]
@@ -30,6 +31,16 @@ pub fn version_named(bytes: &[u8], big: bool) -> Option<u32> {
         _ if number(bytes, 0, 2, big)? == 5 && number(bytes, 2, 2, big)? == 0 => Some(5),
         _ => None,
     }
+}
+
+/// What helps where an index has neither units nor slots; nothing of any other.
+pub fn empty_index(code: u32, bytes: &[u8], big: bool) -> String {
+    let counts = [8, 12].map(|at| number(bytes, at, 4, big));
+    if counts != [Some(0), Some(0)] {
+        return String::new();
+    }
+    let section = file_name(code);
+    format!("; GNU dwp writes such an empty one: objcopy -R {section} FILE NEW takes it away, or pack the .dwo files themselves")
 }
 
 impl Index {

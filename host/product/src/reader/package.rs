@@ -1,7 +1,7 @@
 //! A package: a bundle of at most one object whose sections are there once, with its indexes.
 
 use super::bundle::{Bundle, Object};
-use super::index::Index;
+use super::index::{empty_index, Index};
 use crate::names::{section_name, CU_INDEX, LONGEST_PACKAGE, TU_INDEX};
 
 pub struct Package<'a> {
@@ -53,6 +53,9 @@ impl<'a> Package<'a> {
 }
 
 fn index(object: &Object, code: u32, big: bool) -> Result<Option<Index>, String> {
-    let read = |bytes| Index::read(bytes, big).map_err(|why| format!("{} is ill-formed: {why}", section_name(code)));
+    let help = |bytes| empty_index(code, bytes, big);
+    let read = |bytes| {
+        Index::read(bytes, big).map_err(|why| format!("{} is ill-formed: {why}{}", section_name(code), help(bytes)))
+    };
     object.section(code).map(|section| read(section.bytes)).transpose()
 }

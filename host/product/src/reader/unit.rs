@@ -40,7 +40,7 @@ pub fn spans(object: &Object) -> Vec<Span> {
 }
 
 /// The size of the length field, which tells the offset width, and the length that follows it.
-fn initial_length(bytes: &[u8], big: bool) -> Result<(usize, u64), String> {
+pub(super) fn initial_length(bytes: &[u8], big: bool) -> Result<(usize, u64), String> {
     let short = || format!("{} bytes are left, fewer than a length takes", bytes.len());
     match number(bytes, 0, 4, big).ok_or_else(short)? {
         0xFFFF_FFFF => Ok((12, number(bytes, 4, 8, big).ok_or_else(short)?)),

@@ -90,3 +90,25 @@ pub fn message(output: &Output) -> String {
 pub fn text(output: &Output) -> String {
     String::from_utf8(output.stdout.clone()).unwrap()
 }
+
+/// A file that is stored with the examples.
+pub fn real_file(name: &str) -> String {
+    format!("{}/../../examples/real/files/{name}.dwo", env!("CARGO_MANIFEST_DIR"))
+}
+
+/// Done without a word on standard error; what was said.
+pub fn done(home: &Path, arguments: &[&str]) -> String {
+    let output = run_in(home, arguments, &[]);
+    assert_eq!((message(&output), status(&output)), (String::new(), 0), "{arguments:?}");
+    text(&output)
+}
+
+/// A real file with some names of sections changed into others of the same length.
+pub fn renamed(file: &str, from: &str, to: &str) -> Vec<u8> {
+    assert_eq!(from.len(), to.len());
+    let mut bytes = fs::read(file).unwrap();
+    let places: Vec<usize> = (0..bytes.len()).filter(|at| bytes[*at..].starts_with(from.as_bytes())).collect();
+    assert!(!places.is_empty(), "{from}");
+    places.into_iter().for_each(|at| bytes[at..at + to.len()].copy_from_slice(to.as_bytes()));
+    bytes
+}

@@ -4,7 +4,7 @@ use super::{question, Question};
 use crate::answer::{Asked, Found};
 use crate::batch;
 use crate::command::call::Call;
-use crate::command::files::read_package;
+use crate::command::files::{note_without_index, read_package};
 use crate::command::{input, meaning, output, show, Stop, DONE, NOT_DONE};
 use crate::ffi;
 use crate::reader::package::Package;
@@ -24,6 +24,7 @@ pub fn run(call: &Call, list: &OsStr) -> Result<u8, Stop> {
     let questions = read(call, list)?;
     let package = read_package(call, name)?.bytes;
     let version = Package::read(&package).map_or(5, |p| p.version());
+    note_without_index(&input::shown(name), &package);
     let answers = answers(&package, version, &questions);
     let all_found = answers.iter().all(|found| matches!(found, Found::Part { .. }));
     let line = |(question, found): (&Question, &Found)| told(call, &package, question.asked, *found) + "\n";
