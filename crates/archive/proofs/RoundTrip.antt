@@ -2,18 +2,18 @@
 -- Assumes nothing.
 use mathlib.Core.Path.{◌≡◌, refl, sym, ap, ap₂, ◌∙◌, subst}
 use mathlib.Core.Logic.{◌⊎◌, inl, inr, ⊎_elim}
-use mathlib.Core.Bool.{Bool, true, false, ◌||◌}
+use mathlib.Core.Bool.{Bool, true, false}
 use mathlib.Core.List.{List, [], ◌∷◌, map}
 use mathlib.Core.Option.{some}
 use Prim.Native.Nat.{ℕ, ◌/◌, ◌^◌, ◌≤◌, ◌<◌}
 use native.Mathlib.Omega.{arith}
-use lib.Dec.{eqb, leb}
+use lib.Dec.{leb}
 use lib.ListN.{length}
-use borrow.Author.Tests.{eqb-true, le-leb, lt-leb, leb-true, leb-false}
+use borrow.Author.Tests.{le-leb, lt-leb, leb-true, leb-false}
 use Rattle.numbers.specs.Sections.{info_code}
 use Rattle.octets.specs.Lists.{those, any, has}
 use Rattle.octets.specs.Checked.{Check, pass, mapped}
-use Rattle.octets.proofs.Checks.{true_false, known, or_cases}
+use Rattle.octets.proofs.Checks.{true_false, known, and_right}
 use Rattle.octets.proofs.Lists.{length_those}
 use Rattle.octets.proofs.Mapped.{those_map}
 use Rattle.octets.proofs.Numbers.{Bytes}
@@ -38,9 +38,9 @@ use Rattle.package.proofs.Tables.{encoding_in, facts_of}
 use Rattle.lookup.specs.Lookup.{Package, package_of, codes}
 use Rattle.lookup.specs.Answers.{package_in}
 use Rattle.elf.specs.Reader.{object_word, unit_stated, bundle_read, elf_read}
-use Rattle.elf.specs.Writer.{amd64, aarch64, riscv, machine_good, sections_here, file_bytes}
+use Rattle.elf.specs.Writer.{is_machine, sections_here, file_bytes}
 use Rattle.elf_writer.specs.Held.{file_of}
-use Rattle.elf_writer.proofs.Answering.{written_short, written_made}
+use Rattle.elf_writer.proofs.Answering.{made_short, made_whole, written_is, written_for_is}
 use Rattle.round_trip.proofs.Listed.{Named}
 use Rattle.round_trip.proofs.Stated.{unit_stated_law}
 use Rattle.round_trip.proofs.FileRead.{Writable, file_read}
@@ -51,15 +51,9 @@ use Rattle.archive.proofs.Absences.{objects_or, no_units, opens}
 use Rattle.archive.proofs.InInfo.{StartsInfo, starts_info, kept_in_info}
 
 -- ---- numbers
-pub machine_fits : (machine : ℕ) → machine_good machine ≡ true → machine < 256 ^ 2
-unfolding machine_good
-machine_fits machine g = ⊎_elim
-    (λ e. ⊎_elim
-    (λ (z : eqb machine amd64 ≡ true). let m = eqb-true machine amd64 z in omega arith)
-    (λ (z : eqb machine aarch64 ≡ true). let m = eqb-true machine aarch64 z in omega arith)
-    (or_cases (eqb machine amd64) (eqb machine aarch64) e))
-    (λ (z : eqb machine riscv ≡ true). let m = eqb-true machine riscv z in omega arith)
-    (or_cases (eqb machine amd64 || eqb machine aarch64) (eqb machine riscv) g)
+pub machine_fits : (machine : ℕ) → is_machine machine ≡ true → machine < 256 ^ 2
+unfolding is_machine
+machine_fits machine g = let m = leb-true machine 0xFFFF (and_right (leb 1 machine) _ g) in omega arith
 
 word_back : (big : Bool) (w : ℕ) → w / 0x100_0000 ≡ 16 → object_word (encoding_of big w) ≡ w
 unfolding object_word encoding_of
@@ -160,7 +154,7 @@ module _ (b p : List ℕ) (a : Accepted b p) (h : Bytes b) (o : Object) (os : Li
       ∙ ap (λ (s : List ℕ). mapped object_word (unit_stated big s)) (sym (info_is ∙ i.is))
 
   -- ---- there and back
-  module _ (machine : ℕ) (m : machine_good machine ≡ true) where
+  module _ (machine : ℕ) (m : is_machine machine ≡ true) where
     abbrev file : List ℕ
     file = file_bytes big machine ss
 
@@ -198,8 +192,9 @@ module _ (b p : List ℕ) (a : Accepted b p) (h : Bytes b) (o : Object) (os : Li
         let back = read_back t in
         record {
           file = file;
-          written = λ n l. written_made p machine n m package_in_law (omega (arith, ap length file_is)) ∙ ap made file_is;
-          no_room = λ n l. written_short p machine n m package_in_law (omega (arith, ap length file_is));
+          written = λ n l. sym (written_for_is p machine n m) ∙ made_whole p machine n package_in_law (omega (arith, ap length file_is)) ∙ ap made file_is;
+          no_room = λ n l. sym (written_for_is p machine n m) ∙ made_short p machine n package_in_law (omega (arith, ap length file_is));
+          for_three = λ t n. sym (written_is p machine n t) ∙ written_for_is p machine n m;
           read = λ n l. ap (λ (c : Check (List ℕ)). answered c n) back ∙ rw (answered, le-leb (length p) n l);
           no_room_to_read = λ n l. ap (λ (c : Check (List ℕ)). answered c n) back ∙ rw (answered, lt-leb (length p) n l);
         }

@@ -2,18 +2,20 @@
 -- Assumes nothing.
 use mathlib.Core.Path.{◌≡◌, refl, sym, ap, ◌∙◌}
 use mathlib.Core.Logic.{⊎_elim}
-use mathlib.Core.Bool.{Bool, true, false}
+use mathlib.Core.Bool.{Bool, true, false, ◌||◌}
 use mathlib.Core.List.{List, [], ◌∷◌}
 use mathlib.Core.Option.{none}
 use Prim.Native.Nat.{ℕ}
 use native.Mathlib.Decide.{dec_le}
 use native.Mathlib.Omega.{arith}
+use lib.Dec.{eqb}
 use lib.ListN.{length}
+use borrow.Author.Tests.{eqb-true}
 use Rattle.numbers.specs.Sections.{info_code}
 use Rattle.numbers.specs.Refusals.{no_unit}
 use Rattle.octets.specs.Lists.{joined, any, those}
 use Rattle.octets.specs.Checked.{Check, pass, refuse}
-use Rattle.octets.proofs.Checks.{known}
+use Rattle.octets.proofs.Checks.{known, or_cases}
 use Rattle.octets.proofs.Lists.{any_none_head, any_none_tail}
 use Rattle.octets.proofs.Numbers.{Bytes}
 use Rattle.answers.specs.Answers.{Answer, refused, made, answered}
@@ -29,9 +31,9 @@ use Rattle.package.proofs.Rows.{unit_later}
 use Rattle.lookup.specs.Lookup.{Package, package_of, codes}
 use Rattle.lookup.specs.Answers.{package_in}
 use Rattle.elf.specs.Reader.{bundle_read, elf_read}
-use Rattle.elf.specs.Writer.{machine_good, sections_here, file_bytes, elf_written}
+use Rattle.elf.specs.Writer.{amd64, aarch64, riscv, machine_good, is_machine, sections_here, file_bytes, file_made, in_output, elf_written, elf_written_for}
 use Rattle.elf_writer.specs.Held.{file_of}
-use Rattle.elf_writer.proofs.Answering.{written_machine, written_short, written_made}
+use Rattle.elf_writer.proofs.Answering.{made_short, made_whole, written_machine, written_is, written_for_machine, written_for_is}
 use Rattle.round_trip.proofs.FileRead.{file_unread}
 use Rattle.archive.specs.RoundTrip.{stands_in_info, ElseRefused}
 use Rattle.archive.proofs.Read.{nothing_read}
@@ -52,14 +54,36 @@ no_info (u ∷ us) (also z e) = unit_later u us info_code (stands_not u z) ∙ n
 other : {P : Type 0} (n : ℕ) (f : List ℕ) → ◌≡◌ {A = Answer} (refused n) (made f) → P
 other n f e = let z : ◌≡◌ {A = ℕ} 0 1 = cc in absurd (omega arith)
 
-module _ (p : List ℕ) (machine n : ℕ) (f : List ℕ) (e : elf_written p machine n ≡ made f) where
-  good_machine : machine_good machine ≡ true
-  good_machine = ⊎_elim (λ t. t) (λ t. other _ f (sym (written_machine p machine n t) ∙ e)) (known (machine_good machine))
+-- by either call the machine is one, and the file is what is written whatever the machine
+record Written (p : List ℕ) (machine n : ℕ) (f : List ℕ) : Type 0 where
+  good : is_machine machine ≡ true
+  is : in_output (file_made p machine) n ≡ made f
 
+three_are : (machine : ℕ) → machine_good machine ≡ true → is_machine machine ≡ true
+unfolding machine_good is_machine
+three_are machine g = ⊎_elim
+    (λ e. ⊎_elim
+    (λ (z : eqb machine amd64 ≡ true). rw (eqb-true machine amd64 z) refl)
+    (λ (z : eqb machine aarch64 ≡ true). rw (eqb-true machine aarch64 z) refl)
+    (or_cases (eqb machine amd64) (eqb machine aarch64) e))
+    (λ (z : eqb machine riscv ≡ true). rw (eqb-true machine riscv z) refl)
+    (or_cases (eqb machine amd64 || eqb machine aarch64) (eqb machine riscv) g)
+
+by_three : (p : List ℕ) (machine n : ℕ) (f : List ℕ) → elf_written p machine n ≡ made f → Written p machine n f
+by_three p machine n f e =
+    let g : machine_good machine ≡ true = ⊎_elim (λ t. t) (λ t. other _ f (sym (written_machine p machine n t) ∙ e)) (known (machine_good machine)) in
+    record { good = three_are machine g; is = written_is p machine n g ∙ e }
+
+by_any : (p : List ℕ) (machine n : ℕ) (f : List ℕ) → elf_written_for p machine n ≡ made f → Written p machine n f
+by_any p machine n f e =
+    let g : is_machine machine ≡ true = ⊎_elim (λ t. t) (λ t. other _ f (sym (written_for_machine p machine n t) ∙ e)) (known (is_machine machine)) in
+    record { good = g; is = written_for_is p machine n g ∙ e }
+
+module _ (p : List ℕ) (machine n : ℕ) (f : List ℕ) (w : Written p machine n f) where
   made_is : package_of p ≡ pass (package_in p) → f ≡ file_of p machine
   made_is is = elim (dec_le (length (file_of p machine)) n) [
-    | yes h ↦ let z = sym e ∙ written_made p machine n good_machine is h in same z
-    | no h ↦ other _ f (sym (written_short p machine n good_machine is (omega arith)) ∙ e)
+    | yes h ↦ let z = sym w.is ∙ made_whole p machine n is h in same z
+    | no h ↦ other _ f (sym (made_short p machine n is (omega arith)) ∙ w.is)
   ]
     where
       same : {x y : List ℕ} → made x ≡ made y → x ≡ y
@@ -82,7 +106,7 @@ module _ (p : List ℕ) (machine n : ℕ) (f : List ℕ) (e : elf_written p mach
     unfolding bytes_in
     none_unread =
         ap bundle_read (made_is nothing_in ∙ no_sections)
-        ∙ file_unread a.bundle.big machine (machine_fits machine good_machine) [] (record { named = nothing; some = nothing; short = nothing; few = omega arith }) refl
+        ∙ file_unread a.bundle.big machine (machine_fits machine w.good) [] (record { named = nothing; some = nothing; short = nothing; few = omega arith }) refl
 
   -- ---- with objects
   module _ (b : List ℕ) (a : Accepted b p) (h : Bytes b) (o : Object) (os : List Object) (q : a.bundle.objects ≡ o ∷ os) (t : any stands_in_info (handed_in b) ≡ false) where
@@ -90,15 +114,16 @@ module _ (p : List ℕ) (machine n : ℕ) (f : List ℕ) (e : elf_written p mach
     unread =
         let us = a.filing.units in
         let none = each_kept us (each_none stands_in_info us (ap (any stands_in_info) (sym (handed_in_law b p a)) ∙ t)) in
-        ap bundle_read (made_is (package_in_law b p a h o os q machine good_machine) ∙ file_is b p a h o os q machine good_machine)
-        ∙ file_unread a.bundle.big machine (machine_fits machine good_machine) _ (writable b p a h o os q) (info_is b p a h o os q ∙ no_info (kept us) none)
+        ap bundle_read (made_is (package_in_law b p a h o os q machine w.good) ∙ file_is b p a h o os q machine w.good)
+        ∙ file_unread a.bundle.big machine (machine_fits machine w.good) _ (writable b p a h o os q) (info_is b p a h o os q ∙ no_info (kept us) none)
 
 pub else_refused : ElseRefused
 unfolding elf_read answered
 else_refused b w o p machine n m f h accepted t e =
     let a = packed_accepted b w o p accepted in
+    let k = ⊎_elim (by_three p machine n f) (by_any p machine n f) e in
     ap (λ (c : Check (List ℕ)). answered c m)
     (⊎_elim
-    (λ (z : a.bundle.objects ≡ []). none_unread p machine n f e b a z)
-    (λ (z : (x : Object) × (xs : List Object) × (a.bundle.objects ≡ x ∷ xs)). unread p machine n f e b a h z.0 z.1 z.2 t)
+    (λ (z : a.bundle.objects ≡ []). none_unread p machine n f k b a z)
+    (λ (z : (x : Object) × (xs : List Object) × (a.bundle.objects ≡ x ∷ xs)). unread p machine n f k b a h z.0 z.1 z.2 t)
     (objects_or a.bundle.objects))

@@ -1,7 +1,7 @@
 -- Ticket 9: "For the package of an accepted bundle whose info holds a unit, reading the file by the rules of Ticket 2 gives the package back."
 -- So whoever holds only the .dwp file holds the package.
 -- Assumes nothing.
-use Rattle.std.specs.Prelude.{◌≡◌, Bool, true, false, List, ℕ, ◌≤◌, ◌<◌, eqb, length}
+use Rattle.std.specs.Prelude.{◌≡◌, ◌⊎◌, Bool, true, false, List, ℕ, ◌≤◌, ◌<◌, eqb, length}
 use Rattle.numbers.specs.Sections.{info_code}
 use Rattle.numbers.specs.Refusals.{no_unit, file_short}
 use Rattle.octets.specs.Lists.{any}
@@ -9,7 +9,7 @@ use Rattle.answers.specs.Answers.{refused, short, made}
 use Rattle.package.specs.Filing.{Filed}
 use Rattle.package.specs.Pack.{packed, made as packedInto, handed_in}
 use Rattle.elf.specs.Reader.{elf_read}
-use Rattle.elf.specs.Writer.{machine_good, elf_written}
+use Rattle.elf.specs.Writer.{machine_good, is_machine, elf_written, elf_written_for}
 use Rattle.archive.specs.Theorem.{AreBytes}
 
 -- Ticket 2 takes the object word from the first unit of info. Without one, as in a version 4 package that has types only, it refuses the file by 33.
@@ -22,18 +22,20 @@ InfoHoldsAUnit b = any stands_in_info (handed_in b) ≡ true
 -- the package p, written as a file for a machine, and read again; n is the length of the output lent
 pub record ThereAndBack (p : List ℕ) (machine : ℕ) : Type 0 where
   pub file : List ℕ
-  pub written : (n : ℕ) → length file ≤ n → elf_written p machine n ≡ made file
-  pub no_room : (n : ℕ) → n < length file → elf_written p machine n ≡ refused file_short
+  pub written : (n : ℕ) → length file ≤ n → elf_written_for p machine n ≡ made file
+  pub no_room : (n : ℕ) → n < length file → elf_written_for p machine n ≡ refused file_short
+  -- the call for three machines writes the same
+  pub for_three : machine_good machine ≡ true → (n : ℕ) → elf_written p machine n ≡ elf_written_for p machine n
   pub read : (n : ℕ) → length p ≤ n → elf_read file n ≡ made p
   pub no_room_to_read : (n : ℕ) → n < length p → elf_read file n ≡ short (length p)
 
 abbrev pub RoundTrip : Type 0
 RoundTrip =
-    (b : List ℕ) (w o : ℕ) (p : List ℕ) (machine : ℕ) → AreBytes b → packed b w o ≡ packedInto p → InfoHoldsAUnit b → machine_good machine ≡ true
+    (b : List ℕ) (w o : ℕ) (p : List ℕ) (machine : ℕ) → AreBytes b → packed b w o ≡ packedInto p → InfoHoldsAUnit b → is_machine machine ≡ true
     → ThereAndBack p machine
 
 -- it can't do without its premise: every file of another accepted bundle's package is refused by 33
 abbrev pub ElseRefused : Type 0
 ElseRefused =
     (b : List ℕ) (w o : ℕ) (p : List ℕ) (machine n m : ℕ) (file : List ℕ) → AreBytes b → packed b w o ≡ packedInto p → any stands_in_info (handed_in b) ≡ false
-    → elf_written p machine n ≡ made file → elf_read file m ≡ refused no_unit
+    → (elf_written p machine n ≡ made file) ⊎ (elf_written_for p machine n ≡ made file) → elf_read file m ≡ refused no_unit

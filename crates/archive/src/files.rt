@@ -2,7 +2,8 @@
 ghost use Rattle.std.specs.Prelude.{◌≡◌, length};
 ghost use Rattle.answers.specs.Answers.{written_of, output_of};
 ghost use Rattle.elf.specs.Reader.{elf_read};
-ghost use Rattle.elf.specs.Writer.{elf_written};
+ghost use Rattle.elf.specs.Elf32.{elf32_read};
+ghost use Rattle.elf.specs.Writer.{elf_written, elf_written_for};
 
 use answers::Written;
 
@@ -16,6 +17,15 @@ pub extern "C" fn barthovin_read_elf(file: &[u8], output: &mut [u8]) -> Written
     elf::reading::read_elf(file, output)
 }
 
+// The same of an ELF32 file.
+#[unsafe(no_mangle)]
+pub extern "C" fn barthovin_read_elf32(file: &[u8], output: &mut [u8]) -> Written
+    ensures answer { result ≡ written_of (elf32_read file.now (length output.old)) }
+    ensures output { output.new ≡ output_of (elf32_read file.now (length output.old)) (length output.old) }
+{
+    elf::reading::read_elf32(file, output)
+}
+
 // Code 0: the package as an ELF64 file for a machine (62, 183 or 243), of that length, and zeros following it. 36: another machine. 21: a bad package.
 // 37: an output too short. After a refusal the length is 0 and the output is zeros.
 #[unsafe(no_mangle)]
@@ -24,4 +34,17 @@ pub extern "C" fn barthovin_write_elf(package: &[u8], machine: u32, output: &mut
     ensures output { output.new ≡ output_of (elf_written «package».now machine (length output.old)) (length output.old) }
 {
     elf_writer::writing::write_elf(package, machine, output)
+}
+
+// The same for any machine from 1 to 65,535; 36: 0, or a greater number.
+#[unsafe(no_mangle)]
+pub extern "C" fn barthovin_write_elf_for(
+    package: &[u8],
+    machine: u32,
+    output: &mut [u8],
+) -> Written
+    ensures answer { result ≡ written_of (elf_written_for «package».now machine (length output.old)) }
+    ensures output { output.new ≡ output_of (elf_written_for «package».now machine (length output.old)) (length output.old) }
+{
+    elf_writer::writing::write_elf_for(package, machine, output)
 }

@@ -11,7 +11,7 @@ use lib.ListN.{length}
 use borrow.Author.Tests.{eqb-true, eqb-false, leb-true, not-true}
 use Rattle.octets.specs.Octets.{part}
 use Rattle.octets.specs.Lists.{all, those}
-use Rattle.octets.specs.Checked.{pass}
+use Rattle.octets.specs.Checked.{Check, pass}
 use Rattle.octets.proofs.Checks.{bind_pass, require_pass, pass_inj, or_cases}
 use Rattle.octets.proofs.Lists.{all_head, all_tail, those_keeps, those_skips}
 use Rattle.octets.proofs.Numbers.{Bytes, bytes_part, bytes_none}
@@ -25,8 +25,9 @@ use Rattle.numbers.specs.Sections.{info_code}
 use Rattle.numbers.specs.Limits.{section_limit, package_limit}
 use Rattle.unit.specs.UnitRead.{address_place, header_passes}
 use Rattle.elf.specs.File.{Header, unstored, body_of, File, code_of, is_wanted, wanted_of, elf_of}
-use Rattle.elf.specs.Reader.{readable, first_info, width_stated, version_stated, encoding_stated, unit_stated, object_word, sections_read, bundle_read}
-use Rattle.elf.specs.Holds.{sections_of, Holds}
+use Rattle.elf.specs.Reader.{readable, first_info, width_stated, version_stated, encoding_stated, unit_stated, object_word, sections_read, bundle_of_word, bundle_from, bundle_read}
+use Rattle.elf.specs.Elf32.{elf32_of, bundle32_read}
+use Rattle.elf.specs.Holds.{sections_of, HoldsFile, Holds, Holds32}
 use Rattle.elf.proofs.Names.{code_most}
 
 -- ---- what is stored can be written
@@ -104,32 +105,39 @@ abbrev first_sections : List Sections → List Section
 first_sections [] = []
 first_sections (o ∷ os) = o.sections
 
-written_holds : (f : List ℕ) (e : File) (word : ℕ) → elf_of f ≡ pass e → Storables (record { word = word; sections = sections_read f e })
-    → length (written e.big (record { word = word; sections = sections_read f e } ∷ [])) ≤ package_limit
-    → Holds f (written e.big (record { word = word; sections = sections_read f e } ∷ []))
-unfolding sections_of section_in object_in objects_from
-written_holds f e word i good small =
-    let os : List Sections = record { word = word; sections = sections_read f e } ∷ [] in
-    record {
-      file = e;
-      elf = i;
-      bundle = record { big = e.big; objects = objects_from 4 os };
-      read = written_bundle e.big os (also good nothing) (omega arith);
-      order = refl;
-      object = record { word = word; parts = parts_from (4 + 4) (sections_read f e) };
-      one = refl;
-      sections = ap first_sections (written_back e.big os);
-    }
+module _ (f : List ℕ) (opened : Check File) (e : File) (o : opened ≡ pass e) where
+  written_holds : (word : ℕ) → Storables (record { word = word; sections = sections_read f e }) → length (written e.big (record { word = word; sections = sections_read f e } ∷ [])) ≤ package_limit
+      → HoldsFile opened f (written e.big (record { word = word; sections = sections_read f e } ∷ []))
+  unfolding sections_of section_in object_in objects_from
+  written_holds word good small =
+      let os : List Sections = record { word = word; sections = sections_read f e } ∷ [] in
+      record {
+        file = e;
+        elf = o;
+        bundle = record { big = e.big; objects = objects_from 4 os };
+        read = written_bundle e.big os (also good nothing) (omega arith);
+        order = refl;
+        object = record { word = word; parts = parts_from (4 + 4) (sections_read f e) };
+        one = refl;
+        sections = ap first_sections (written_back e.big os);
+      }
+
+  from_holds : (b : List ℕ) → Bytes f → bundle_from f e ≡ pass b → HoldsFile opened f b
+  unfolding bundle_from bundle_of_word sections_read wanted_of
+  from_holds b g h =
+      let r = require_pass (all (readable e.headers) (wanted_of e)) 32 _ b h in
+      let u = bind_pass (unit_stated e.big (first_info f e.names (wanted_of e))) _ b r.1 in
+      let l = require_pass (all (λ s. leb (length s.bytes) section_limit) (sections_read f e)) 19 _ b u.2 in
+      let w = written e.big (record { word = object_word u.0; sections = sections_read f e } ∷ []) in
+      let m = require_pass (leb (length w) package_limit) 19 _ b l.1 in
+      let k = word_kind e.big _ u.0 (info_bytes f e.names (wanted_of e) g) u.1 in
+      let good : Storables (record { word = object_word u.0; sections = sections_read f e }) = record { kind = k; sections = storable f e.names e.headers l.0 } in
+      subst (HoldsFile opened f) (pass_inj m.1) (written_holds (object_word u.0) good (leb-true (length w) package_limit m.0))
 
 pub holds : (f b : List ℕ) → Bytes f → bundle_read f ≡ pass b → Holds f b
-unfolding bundle_read sections_read wanted_of
-holds f b g h =
-    let e = bind_pass (elf_of f) _ b h in
-    let r = require_pass (all (readable e.0.headers) (wanted_of e.0)) 32 _ b e.2 in
-    let u = bind_pass (unit_stated e.0.big (first_info f e.0.names (wanted_of e.0))) _ b r.1 in
-    let l = require_pass (all (λ s. leb (length s.bytes) section_limit) (sections_read f e.0)) 19 _ b u.2 in
-    let w = written e.0.big (record { word = object_word u.0; sections = sections_read f e.0 } ∷ []) in
-    let m = require_pass (leb (length w) package_limit) 19 _ b l.1 in
-    let k = word_kind e.0.big _ u.0 (info_bytes f e.0.names (wanted_of e.0) g) u.1 in
-    let good : Storables (record { word = object_word u.0; sections = sections_read f e.0 }) = record { kind = k; sections = storable f e.0.names e.0.headers l.0 } in
-    subst (Holds f) (pass_inj m.1) (written_holds f e.0 (object_word u.0) e.1 good (leb-true (length w) package_limit m.0))
+unfolding bundle_read
+holds f b g h = let e = bind_pass (elf_of f) _ b h in from_holds f (elf_of f) e.0 e.1 b g e.2
+
+pub holds32 : (f b : List ℕ) → Bytes f → bundle32_read f ≡ pass b → Holds32 f b
+unfolding bundle32_read
+holds32 f b g h = let e = bind_pass (elf32_of f) _ b h in from_holds f (elf32_of f) e.0 e.1 b g e.2

@@ -7,8 +7,10 @@ pub mod Targets
 pub mod FirstUnit
 pub mod Rooms
 pub mod Opening
+pub mod Opening32
 pub mod Putting
 pub mod Opened
 pub mod Refusals
 pub mod Held
 pub mod Examples
+pub mod Examples32

@@ -15,9 +15,10 @@ use Rattle.answers.specs.declared.Written.{Written}
 use Rattle.answers.proofs.Answering.{refused_written, refused_output}
 use Rattle.numbers.specs.Refusals.{not_elf, unreadable_section, section_too_long}
 use Rattle.numbers.specs.Limits.{package_limit}
-use Rattle.elf.specs.File.{File, inside, ended, wanted_of, file_of, elf_of}
-use Rattle.elf.specs.Reader.{readable, first_info, unit_stated, object_word, sections_read, bundle_read}
-use Rattle.elf.specs.Held.{section_of, sections_in, short_enough, one_object, bundle_of_word, bundle_from}
+use Rattle.elf.specs.File.{File, inside, ended, wanted_of, sections_inside, file_of, elf_of}
+use Rattle.elf.specs.Reader.{readable, first_info, unit_stated, object_word, sections_read, bundle_of_word, bundle_from, bundle_read}
+use Rattle.elf.specs.Elf32.{file32_of, elf32_of, bundle32_read}
+use Rattle.elf.specs.Held.{section_of, sections_in, short_enough, one_object}
 
 -- ---- a check of what is made of a value
 mapped_refuse : {A B : Type 0} (g : A → B) (c : Check A) (n : ℕ) → refuse n ≡ mapped g c → c ≡ refuse n
@@ -31,6 +32,21 @@ mapped_pass g (pass a) b e = (a, refl, pass_inj e)
 mapped_pass g (refuse m) b e = absurd (pass_refuse b m e)
 
 -- ---- 31
+module _ (f : List ℕ) (e : File) where
+  sections_bad : (all (ended e.names) e.headers && all (inside f) (wanted_of e)) ≡ false → refuse not_elf ≡ sections_inside f e
+  unfolding sections_inside
+  sections_bad t = ⊎_elim
+      (λ (p : all (ended e.names) e.headers ≡ true). ⊎_elim
+      (λ (q : all (ended e.names) e.headers ≡ false). sym (fails _ _ _ q))
+      (λ (q : all (inside f) (wanted_of e) ≡ false). sym (passes _ _ _ p ∙ fails _ _ _ q))
+      (and_fails _ _ t))
+      (λ (p : all (ended e.names) e.headers ≡ false). sym (fails _ _ _ p))
+      (known (all (ended e.names) e.headers))
+
+  sections_good : (all (ended e.names) e.headers && all (inside f) (wanted_of e)) ≡ true → pass e ≡ sections_inside f e
+  unfolding sections_inside
+  sections_good t = sym (passes _ _ _ (and_left _ _ t) ∙ passes _ _ _ (and_right (all (ended e.names) e.headers) _ t))
+
 module _ (f : List ℕ) where
   pub elf_refused : (n : ℕ) → refuse n ≡ file_of f → refuse n ≡ elf_of f
   unfolding elf_of
@@ -39,25 +55,42 @@ module _ (f : List ℕ) where
   module _ (e : File) (o : pass e ≡ file_of f) where
     pub elf_bad : (all (ended e.names) e.headers && all (inside f) (wanted_of e)) ≡ false → refuse not_elf ≡ elf_of f
     unfolding elf_of
-    elf_bad t = ⊎_elim
-        (λ (p : all (ended e.names) e.headers ≡ true). ⊎_elim
-        (λ (q : all (ended e.names) e.headers ≡ false). sym (then_pass (file_of f) _ e (sym o) ∙ fails _ _ _ q))
-        (λ (q : all (inside f) (wanted_of e) ≡ false). sym (then_pass (file_of f) _ e (sym o) ∙ passes _ _ _ p ∙ fails _ _ _ q))
-        (and_fails _ _ t))
-        (λ (p : all (ended e.names) e.headers ≡ false). sym (then_pass (file_of f) _ e (sym o) ∙ fails _ _ _ p))
-        (known (all (ended e.names) e.headers))
+    elf_bad t = sections_bad f e t ∙ sym (then_pass (file_of f) _ e (sym o))
 
     pub elf_good : (all (ended e.names) e.headers && all (inside f) (wanted_of e)) ≡ true → pass e ≡ elf_of f
     unfolding elf_of
-    elf_good t = sym (then_pass (file_of f) _ e (sym o) ∙ passes _ _ _ (and_left _ _ t) ∙ passes _ _ _ (and_right (all (ended e.names) e.headers) _ t))
+    elf_good t = sections_good f e t ∙ sym (then_pass (file_of f) _ e (sym o))
 
   pub read_refused : (n : ℕ) → refuse n ≡ elf_of f → bundle_read f ≡ refuse n
   unfolding bundle_read
   read_refused n e = then_refuse (elf_of f) _ n (sym e)
 
   pub read_from : (e : File) → pass e ≡ elf_of f → bundle_from f e ≡ bundle_read f
-  unfolding bundle_read bundle_from bundle_of_word
+  unfolding bundle_read
   read_from e o = sym (then_pass (elf_of f) _ e (sym o))
+
+-- ---- 31 of an ELF32 file
+module _ (f : List ℕ) where
+  pub elf32_refused : (n : ℕ) → refuse n ≡ file32_of f → refuse n ≡ elf32_of f
+  unfolding elf32_of
+  elf32_refused n e = sym (then_refuse (file32_of f) _ n (sym e))
+
+  module _ (e : File) (o : pass e ≡ file32_of f) where
+    pub elf32_bad : (all (ended e.names) e.headers && all (inside f) (wanted_of e)) ≡ false → refuse not_elf ≡ elf32_of f
+    unfolding elf32_of
+    elf32_bad t = sections_bad f e t ∙ sym (then_pass (file32_of f) _ e (sym o))
+
+    pub elf32_good : (all (ended e.names) e.headers && all (inside f) (wanted_of e)) ≡ true → pass e ≡ elf32_of f
+    unfolding elf32_of
+    elf32_good t = sections_good f e t ∙ sym (then_pass (file32_of f) _ e (sym o))
+
+  pub read32_refused : (n : ℕ) → refuse n ≡ elf32_of f → bundle32_read f ≡ refuse n
+  unfolding bundle32_read
+  read32_refused n e = then_refuse (elf32_of f) _ n (sym e)
+
+  pub read32_from : (e : File) → pass e ≡ elf32_of f → bundle_from f e ≡ bundle32_read f
+  unfolding bundle32_read
+  read32_from e o = sym (then_pass (elf32_of f) _ e (sym o))
 
 -- ---- 32 and 33
 module _ (f : List ℕ) (e : File) where
@@ -101,3 +134,6 @@ written_length code k m e = λ i. record { code = code; length = e i }
 
 -- what `read_elf` cites
 pub ruleset read_cases = (refused_written, refused_output, read_refused, read_from)
+
+-- what `read_elf32` cites
+pub ruleset read32_cases = (refused_written, refused_output, read32_refused, read32_from)

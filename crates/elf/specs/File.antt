@@ -99,10 +99,13 @@ ended names h = any (eqb 0) (drop h.name names)
 unfoldable pub wanted_of : File → List Header
 wanted_of e = those (is_wanted e.names) e.headers
 
--- 31: all of it
-unfoldable pub elf_of : List ℕ → Check File
-elf_of f = do
-  e ← file_of f
+-- 31, from the headers on
+unfoldable pub sections_inside : List ℕ → File → Check File
+sections_inside f e = do
   _ ← require (all (ended e.names) e.headers) not_elf
   _ ← require (all (inside f) (wanted_of e)) not_elf
   pass e
+
+-- 31: all of it
+unfoldable pub elf_of : List ℕ → Check File
+elf_of f = file_of f >>= sections_inside f

@@ -8,10 +8,12 @@ use Rattle.bundle.specs.Encoding.{Encoding}
 use Rattle.bundle.specs.Bundle.{filled_up}
 use Rattle.bundle.specs.Written.{Section, section_bytes, written}
 use Rattle.unit.specs.Headers.{with_address}
-use Rattle.numbers.specs.Refusals.{not_elf, unreadable_section, no_unit, section_too_long}
+use Rattle.numbers.specs.Refusals.{not_elf, no_unit, section_too_long}
 use Rattle.numbers.specs.Limits.{section_limit, package_limit}
 use Rattle.elf.specs.File.{Header, header_at, headers_at, unstored, body_of, inside, File, no_header, code_of, is_wanted, ended, wanted_of}
-use Rattle.elf.specs.Reader.{compressed, readable, first_info, unit_stated, object_word, sections_read}
+use Rattle.elf.specs.Elf32.{header32_at, headers32_at}
+use Rattle.elf.specs.Classes.{headers_of_class}
+use Rattle.elf.specs.Reader.{compressed, object_word}
 use Rattle.elf.specs.declared.file.Header as code
 use Rattle.elf.specs.declared.file.ElfFile.{ElfFile}
 use Rattle.elf.specs.declared.accepted.Section as found
@@ -22,7 +24,7 @@ header_is h =
     record { number = h.number; name = h.name; type = h.kind; flags = h.flags; offset = h.offset; size = h.size; info = h.info }
 
 abbrev pub file_is : ElfFile → File
-file_is e = record { big = e.big; headers = headers_at e.big e.bytes.now 0 e.at e.count; names = e.names.now }
+file_is e = record { big = e.big; headers = headers_of_class e.class e.big e.bytes.now e.at e.count; names = e.names.now }
 
 -- the wanted bytes are in the file
 abbrev pub WantedInside : ElfFile → Type 0
@@ -45,6 +47,24 @@ from_type f big = do
   let table = number_at big 2 f 62
   _ ← require (ltb table n) not_elf
   with_names f big at n (header_at big f table (at + 64 * table))
+
+-- `file32_of` from the name table's header on
+unfoldable pub with_names32 : List ℕ → Bool → ℕ → ℕ → Header → Check File
+with_names32 f big at n t = do
+  _ ← require (inside f t) not_elf
+  pass (record { big = big; headers = headers32_at big f 0 at n; names = body_of f t })
+
+-- `file32_of` from the type on
+unfoldable pub from_type32 : List ℕ → Bool → Check File
+from_type32 f big = do
+  _ ← require (eqb (number_at big 2 f 16) 1) not_elf
+  let at = number_at big 4 f 32
+  _ ← require (eqb (number_at big 2 f 46) 40) not_elf
+  let n = number_at big 2 f 48
+  _ ← require (leb (at + 40 * n) (length f)) not_elf
+  let table = number_at big 2 f 50
+  _ ← require (ltb table n) not_elf
+  with_names32 f big at n (header32_at big f table (at + 40 * table))
 
 -- ---- one header judged
 abbrev pub header_good : List ℕ → List ℕ → Header → Bool
@@ -125,23 +145,6 @@ filled_with b o = padded b (o - length b)
 
 unfoldable pub one_object : Bool → ℕ → List Section → List ℕ
 one_object big word ss = written big (record { word = word; sections = ss } ∷ [])
-
--- ---- `bundle_read` in its parts
--- from 19 on, with the object word
-unfoldable pub bundle_of_word : List ℕ → File → ℕ → Check (List ℕ)
-bundle_of_word f e word = do
-  let ss = sections_read f e
-  _ ← require (all (λ s. leb (length s.bytes) section_limit) ss) section_too_long
-  let b = written e.big (record { word = word; sections = ss } ∷ [])
-  _ ← require (leb (length b) package_limit) section_too_long
-  pass b
-
--- from 32 on
-unfoldable pub bundle_from : List ℕ → File → Check (List ℕ)
-bundle_from f e = do
-  _ ← require (all (readable e.headers) (wanted_of e)) unreadable_section
-  u ← unit_stated e.big (first_info f e.names (wanted_of e))
-  bundle_of_word f e (object_word u)
 
 -- ---- where names end
 -- the place of the last zero byte of the name table, if it has one

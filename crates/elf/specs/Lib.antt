@@ -2,6 +2,8 @@
 -- Assumes nothing.
 pub mod File
 pub mod Reader
+pub mod Elf32
 pub mod Holds
+pub mod Classes
 pub mod Held
 pub mod Writer

@@ -65,17 +65,24 @@ object_word e = 0x1000_0000 + e.version + 0x100 * e.width + 0x1_0000 * e.address
 unfoldable pub sections_read : List ℕ → File → List Section
 sections_read f e = map (λ h. record { code = code_of e.names h; bytes = body_of f h }) (wanted_of e)
 
--- of one object
-unfoldable pub bundle_read : List ℕ → Check (List ℕ)
-bundle_read f = do
-  e ← elf_of f
-  _ ← require (all (readable e.headers) (wanted_of e)) unreadable_section
-  u ← unit_stated e.big (first_info f e.names (wanted_of e))
+-- of one object with this word: 19
+unfoldable pub bundle_of_word : List ℕ → File → ℕ → Check (List ℕ)
+bundle_of_word f e word = do
   let ss = sections_read f e
   _ ← require (all (λ s. leb (length s.bytes) section_limit) ss) section_too_long
-  let b = written e.big (record { word = object_word u; sections = ss } ∷ [])
+  let b = written e.big (record { word = word; sections = ss } ∷ [])
   _ ← require (leb (length b) package_limit) section_too_long
   pass b
+
+-- from 32 on, of a file of either class that 31 lets pass
+unfoldable pub bundle_from : List ℕ → File → Check (List ℕ)
+bundle_from f e = do
+  _ ← require (all (readable e.headers) (wanted_of e)) unreadable_section
+  u ← unit_stated e.big (first_info f e.names (wanted_of e))
+  bundle_of_word f e (object_word u)
+
+unfoldable pub bundle_read : List ℕ → Check (List ℕ)
+bundle_read f = elf_of f >>= bundle_from f
 
 -- for an output of o bytes
 unfoldable pub elf_read : List ℕ → ℕ → Answer

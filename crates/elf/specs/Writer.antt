@@ -1,7 +1,7 @@
 -- Ticket 9: a package written as an ELF64 relocatable file: ELF header, section bytes, name table, zeros up to a multiple of 8, section headers. 36, 21 and 37,
 -- in this order.
 -- Assumes nothing.
-use Rattle.std.specs.Prelude.{Bool, true, false, ◌||◌, List, [], ◌∷◌, ◌++◌, map, ℕ, ◌+◌, ◌*◌, ◌-◌, ◌/◌, eqb, leb, length}
+use Rattle.std.specs.Prelude.{Bool, true, false, ◌&&◌, ◌||◌, List, [], ◌∷◌, ◌++◌, map, ℕ, ◌+◌, ◌*◌, ◌-◌, ◌/◌, eqb, leb, nat_le, length}
 use Rattle.numbers.specs.Names.{section_name}
 use Rattle.numbers.specs.Refusals.{other_machine, file_short}
 use Rattle.octets.specs.Octets.{bytes_of, numbers_of, zeros}
@@ -24,6 +24,10 @@ riscv = 243
 
 unfoldable pub machine_good : ℕ → Bool
 machine_good machine = eqb machine amd64 || eqb machine aarch64 || eqb machine riscv
+
+-- a file names its machine in two bytes, and 0 is none
+unfoldable pub is_machine : ℕ → Bool
+is_machine machine = nat_le 1 machine && nat_le machine 0xFFFF
 
 -- ---- sections "in order of code": every one that is there, empty ones too
 unfoldable pub sections_here : List ℕ → List Part → List Section
@@ -101,12 +105,17 @@ file_bytes big machine ss =
     let end = header_size + length inside in
     file_header big machine (aligned end) (length ss + 2) ++ inside ++ zeros (aligned end - end) ++ headers big ss
 
--- 36, then 21
-unfoldable pub file_judged : List ℕ → ℕ → Check (List ℕ)
-file_judged p machine = do
-  _ ← require (machine_good machine) other_machine
+-- 21
+unfoldable pub file_made : List ℕ → ℕ → Check (List ℕ)
+file_made p machine = do
   k ← package_of p
   pass (file_bytes k.encoding.big machine (sections_here p k.parts))
+
+-- 36 of a call that takes some machines, then 21
+unfoldable pub file_judged : (ℕ → Bool) → List ℕ → ℕ → Check (List ℕ)
+file_judged takes p machine = do
+  _ ← require (takes machine) other_machine
+  file_made p machine
 
 -- "then 37 for a short output": for an output of o bytes
 unfoldable pub in_output : Check (List ℕ) → ℕ → Answer
@@ -114,4 +123,8 @@ in_output (refuse n) o = refused n
 in_output (pass file) o = elim (leb (length file) o) [ true ↦ made file | false ↦ refused file_short ]
 
 unfoldable pub elf_written : List ℕ → ℕ → ℕ → Answer
-elf_written p machine o = in_output (file_judged p machine) o
+elf_written p machine o = in_output (file_judged machine_good p machine) o
+
+-- the same for any machine
+unfoldable pub elf_written_for : List ℕ → ℕ → ℕ → Answer
+elf_written_for p machine o = in_output (file_judged is_machine p machine) o

@@ -24,6 +24,7 @@ impl<'a> Accepted<'a> {
     ghost use Rattle.octets.specs.Checked.{mapped};
     ghost use Rattle.numbers.specs.Refused.{told};
     ghost use Rattle.elf.specs.File.{elf_of};
+    ghost use Rattle.elf.specs.Elf32.{elf32_of};
     ghost use Rattle.elf.specs.Held.{file_is, header_sections, sections_found};
 
     // Refusal 31, all of it: the file, its names and the places of its wanted sections.
@@ -32,6 +33,19 @@ impl<'a> Accepted<'a> {
         ensures bytes { IfOk result (λ a. a.file.bytes.now ≡ f.now) }
     {
         let file = ElfFile::open(f)?;
+        if judging::headers_good(&file) {
+            Ok(Accepted { file })
+        } else {
+            Err(Refusal::NotElf)
+        }
+    }
+
+    // The same of an ELF32 file.
+    pub fn open_elf32(f: &'a [u8]) -> Result<Accepted<'a>, Refusal>
+        ensures file { mapped (λ a. file_is a.file) (told result) ≡ elf32_of f.now }
+        ensures bytes { IfOk result (λ a. a.file.bytes.now ≡ f.now) }
+    {
+        let file = ElfFile::open_elf32(f)?;
         if judging::headers_good(&file) {
             Ok(Accepted { file })
         } else {

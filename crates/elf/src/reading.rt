@@ -1,10 +1,11 @@
-// An ELF64 file read into a bundle: 31, 32, 33, 19 and 18, in this order.
+// An ELF file of either class read into a bundle: 31, 32, 33, 19 and 18, in this order.
 ghost use Rattle.std.specs.Prelude.{◌≡◌, length};
 ghost use Rattle.octets.specs.Octets.{zeros};
 ghost use Rattle.answers.specs.Answers.{output_of, written_of, answered};
 ghost use Rattle.answers.specs.Written.{written_as};
-ghost use Rattle.elf.specs.Reader.{elf_read};
-ghost use Rattle.elf.specs.Held.{file_is, bundle_from, bundle_of_word};
+ghost use Rattle.elf.specs.Reader.{elf_read, bundle_from, bundle_of_word};
+ghost use Rattle.elf.specs.Elf32.{elf32_read};
+ghost use Rattle.elf.specs.Held.{file_is};
 
 use crate::accepted::Accepted;
 use answers::{Unwritten, Written};
@@ -67,4 +68,25 @@ pub fn read_elf(f: &[u8], out: &mut [u8]) -> Written
 {
     out.fill(0);
     Written::from(read_into(f, out))
+}
+
+// The same of an ELF32 file, from any bytes.
+#[tactic(auto, using(crate::proofs::Refusals::read32_cases), unfolding(crate::specs::Elf32::elf32_read, octets::specs::Checked::mapped))]
+fn read_elf32_into(f: &[u8], out: &mut [u8]) -> Result<usize, Unwritten>
+    requires { out.old ≡ zeros (length out.old) }
+    ensures answer { written_as result ≡ written_of (elf32_read f.now (length out.old)) }
+    ensures output { out.new ≡ output_of (elf32_read f.now (length out.old)) (length out.old) }
+{
+    let accepted = Accepted::open_elf32(f)?;
+    read_accepted(&accepted, out)
+}
+
+// The same for ELF32: whatever the two hold, the bundle and zeros, 18 with the length needed, or a refusal; then the output is zeros only.
+#[tactic(auto, unfolding(octets::specs::Octets::zeros))]
+pub fn read_elf32(f: &[u8], out: &mut [u8]) -> Written
+    ensures answer { result ≡ written_of (elf32_read f.now (length out.old)) }
+    ensures output { out.new ≡ output_of (elf32_read f.now (length out.old)) (length out.old) }
+{
+    out.fill(0);
+    Written::from(read_elf32_into(f, out))
 }

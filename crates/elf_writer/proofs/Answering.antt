@@ -15,7 +15,7 @@ use Rattle.answers.specs.declared.Written.{Written}
 use Rattle.lookup.specs.Lookup.{package_of}
 use Rattle.lookup.specs.Answers.{head_in, opened, package_in}
 use Rattle.lookup.proofs.Told.{of_refuse}
-use Rattle.elf.specs.Writer.{machine_good, file_judged, in_output, elf_written}
+use Rattle.elf.specs.Writer.{machine_good, is_machine, file_made, file_judged, in_output, elf_written, elf_written_for}
 use Rattle.elf_writer.specs.Held.{file_of}
 
 -- ---- what a caller is told
@@ -35,26 +35,38 @@ pub made_written : (a : Answer) (f : List ℕ) (n : ℕ) → a ≡ made f → n 
 unfolding written_of
 made_written a f n e l = (λ j. record { code = 0; length = l j }) ∙ sym (ap written_of e)
 
--- ---- 36, 21, 37
+-- ---- 21, 37
 module _ (p : List ℕ) (machine o : ℕ) where
+  pub made_bad : (n : ℕ) → refuse n ≡ opened (package_of p) → in_output (file_made p machine) o ≡ refused n
+  unfolding file_made in_output opened
+  made_bad n e = ap (λ (c : Check (List ℕ)). in_output c o) (then_refuse _ _ n (of_refuse head_in (package_of p) n e))
+
+  module _ (is : package_of p ≡ pass (package_in p)) where
+    file_is : file_made p machine ≡ pass (file_of p machine)
+    unfolding file_made file_of
+    file_is = then_pass _ _ (package_in p) is
+
+    pub made_short : o < length (file_of p machine) → in_output (file_made p machine) o ≡ refused file_short
+    unfolding in_output
+    made_short h = ap (λ (c : Check (List ℕ)). in_output c o) file_is ∙ rw (in_output, lt-leb (length (file_of p machine)) o h)
+
+    pub made_whole : length (file_of p machine) ≤ o → in_output (file_made p machine) o ≡ made (file_of p machine)
+    unfolding in_output
+    made_whole h = ap (λ (c : Check (List ℕ)). in_output c o) file_is ∙ rw (in_output, le-leb (length (file_of p machine)) o h)
+
+  -- ---- 36
   pub written_machine : machine_good machine ≡ false → elf_written p machine o ≡ refused other_machine
   unfolding elf_written file_judged in_output
   written_machine e = ap (λ (c : Check (List ℕ)). in_output c o) (fails _ _ _ e)
 
-  module _ (g : machine_good machine ≡ true) where
-    pub written_bad : (n : ℕ) → refuse n ≡ opened (package_of p) → elf_written p machine o ≡ refused n
-    unfolding elf_written file_judged in_output opened
-    written_bad n e = ap (λ (c : Check (List ℕ)). in_output c o) (passes _ _ _ g ∙ then_refuse _ _ n (of_refuse head_in (package_of p) n e))
+  pub written_is : machine_good machine ≡ true → in_output (file_made p machine) o ≡ elf_written p machine o
+  unfolding elf_written file_judged
+  written_is e = ap (λ (c : Check (List ℕ)). in_output c o) (sym (passes _ _ _ e))
 
-    module _ (is : package_of p ≡ pass (package_in p)) where
-      judged : file_judged p machine ≡ pass (file_of p machine)
-      unfolding file_judged file_of
-      judged = passes _ _ _ g ∙ then_pass _ _ (package_in p) is
+  pub written_for_machine : is_machine machine ≡ false → elf_written_for p machine o ≡ refused other_machine
+  unfolding elf_written_for file_judged in_output
+  written_for_machine e = ap (λ (c : Check (List ℕ)). in_output c o) (fails _ _ _ e)
 
-      pub written_short : o < length (file_of p machine) → elf_written p machine o ≡ refused file_short
-      unfolding elf_written in_output
-      written_short h = ap (λ (c : Check (List ℕ)). in_output c o) judged ∙ rw (in_output, lt-leb (length (file_of p machine)) o h)
-
-      pub written_made : length (file_of p machine) ≤ o → elf_written p machine o ≡ made (file_of p machine)
-      unfolding elf_written in_output
-      written_made h = ap (λ (c : Check (List ℕ)). in_output c o) judged ∙ rw (in_output, le-leb (length (file_of p machine)) o h)
+  pub written_for_is : is_machine machine ≡ true → in_output (file_made p machine) o ≡ elf_written_for p machine o
+  unfolding elf_written_for file_judged
+  written_for_is e = ap (λ (c : Check (List ℕ)). in_output c o) (sym (passes _ _ _ e))

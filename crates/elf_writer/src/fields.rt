@@ -1,7 +1,7 @@
 // The fields of the file's header and of a section's header.
 ghost use Rattle.std.specs.Prelude.{◌≡◌, ◌+◌, ◌≤◌, ◌<◌, ◌^◌, length};
 ghost use Rattle.octets.specs.Octets.{placed};
-ghost use Rattle.elf.specs.Writer.{machine_good, order_code, identification, file_header, section_header};
+ghost use Rattle.elf.specs.Writer.{machine_good, is_machine, order_code, identification, file_header, section_header};
 
 const AMD64: u32 = 62;
 
@@ -9,12 +9,23 @@ const AARCH64: u32 = 183;
 
 const RISCV: u32 = 243;
 
+// The greatest number of a machine.
+const MOST: u32 = 0xFFFF;
+
 // Refusal 36: the machines that a file can be for.
 #[tactic(auto, unfolding(elf::specs::Writer::machine_good))]
 pub fn machine_good(machine: u32) -> bool
     ensures { result ≡ machine_good machine }
 {
     matches!(machine, AMD64 | AARCH64 | RISCV)
+}
+
+// Refusal 36 of the call for any machine: a file names it in two bytes, and 0 is none.
+#[tactic(auto, unfolding(elf::specs::Writer::is_machine))]
+pub fn is_machine(machine: u32) -> bool
+    ensures { result ≡ is_machine machine }
+{
+    1 <= machine && machine <= MOST
 }
 
 #[tactic(auto, unfolding(elf::specs::Writer::order_code))]

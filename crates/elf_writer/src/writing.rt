@@ -3,7 +3,7 @@ ghost use Rattle.std.specs.Prelude.{◌≡◌, ◌-◌, length};
 ghost use Rattle.octets.specs.Octets.{padded, zeros};
 ghost use Rattle.answers.specs.Answers.{output_of, written_of};
 ghost use Rattle.answers.specs.Written.{written_as};
-ghost use Rattle.elf.specs.Writer.{elf_written};
+ghost use Rattle.elf.specs.Writer.{file_made, in_output, elf_written, elf_written_for};
 ghost use Rattle.elf_writer.specs.Held.{Within, Ready, headers_place, file_size, file_of};
 
 use crate::sections;
@@ -51,16 +51,13 @@ fn put_file(package: &Package, machine: u32, e: Extent, out: &mut [u8])
     all.put_headers(big, e.names, out, at + HEADER);
 }
 
-// The same, or a refusal.
+// The same, or 21 or 37, whatever the machine.
 #[tactic(auto, using(crate::proofs::Matched::bounded))]
-fn write_into(package: &[u8], machine: u32, out: &mut [u8]) -> Result<usize, Unwritten>
+fn write_package(package: &[u8], machine: u32, out: &mut [u8]) -> Result<usize, Unwritten>
     requires { out.old ≡ zeros (length out.old) }
-    ensures answer { written_as result ≡ written_of (elf_written «package».now machine (length out.old)) }
-    ensures output { out.new ≡ output_of (elf_written «package».now machine (length out.old)) (length out.old) }
+    ensures answer { written_as result ≡ written_of (in_output (file_made «package».now machine) (length out.old)) }
+    ensures output { out.new ≡ output_of (in_output (file_made «package».now machine) (length out.old)) (length out.old) }
 {
-    if !crate::fields::machine_good(machine) {
-        return Err(Unwritten::Refused(Refusal::OtherMachine));
-    }
     let opened = Package::open(package)?;
     let all = Sections {
         scan: opened.head.sections,
@@ -74,6 +71,30 @@ fn write_into(package: &[u8], machine: u32, out: &mut [u8]) -> Result<usize, Unw
     Ok(length)
 }
 
+// The same for one of three machines: 36 first.
+fn write_into(package: &[u8], machine: u32, out: &mut [u8]) -> Result<usize, Unwritten>
+    requires { out.old ≡ zeros (length out.old) }
+    ensures answer { written_as result ≡ written_of (elf_written «package».now machine (length out.old)) }
+    ensures output { out.new ≡ output_of (elf_written «package».now machine (length out.old)) (length out.old) }
+{
+    if !crate::fields::machine_good(machine) {
+        return Err(Unwritten::Refused(Refusal::OtherMachine));
+    }
+    write_package(package, machine, out)
+}
+
+// The same for any machine.
+fn write_into_for(package: &[u8], machine: u32, out: &mut [u8]) -> Result<usize, Unwritten>
+    requires { out.old ≡ zeros (length out.old) }
+    ensures answer { written_as result ≡ written_of (elf_written_for «package».now machine (length out.old)) }
+    ensures output { out.new ≡ output_of (elf_written_for «package».now machine (length out.old)) (length out.old) }
+{
+    if !crate::fields::is_machine(machine) {
+        return Err(Unwritten::Refused(Refusal::OtherMachine));
+    }
+    write_package(package, machine, out)
+}
+
 // Whatever the package holds: the file and zeros, or a refusal; then the output is zeros only.
 pub fn write_elf(package: &[u8], machine: u32, out: &mut [u8]) -> Written
     ensures answer { result ≡ written_of (elf_written «package».now machine (length out.old)) }
@@ -81,4 +102,13 @@ pub fn write_elf(package: &[u8], machine: u32, out: &mut [u8]) -> Written
 {
     out.fill(0);
     Written::from(write_into(package, machine, out))
+}
+
+// The same for any machine.
+pub fn write_elf_for(package: &[u8], machine: u32, out: &mut [u8]) -> Written
+    ensures answer { result ≡ written_of (elf_written_for «package».now machine (length out.old)) }
+    ensures output { out.new ≡ output_of (elf_written_for «package».now machine (length out.old)) (length out.old) }
+{
+    out.fill(0);
+    Written::from(write_into_for(package, machine, out))
 }

@@ -6,7 +6,8 @@ use Rattle.answers.specs.Answers.{answered, written_of, output_of}
 use Rattle.answers.proofs.Answering.{refused_written, refused_output}
 use Rattle.numbers.specs.Refusals.{unreadable_section}
 use Rattle.octets.specs.Checked.{Check}
-use Rattle.elf.specs.Held.{file_is, bundle_from}
+use Rattle.elf.specs.Reader.{bundle_from}
+use Rattle.elf.specs.Held.{file_is}
 use Rattle.elf.proofs.Refusals.{from_unreadable, from_unstated, from_word}
 use Rattle.elf.proofs.reading.read_accepted.Goals as goal
 

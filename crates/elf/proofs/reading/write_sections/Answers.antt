@@ -5,7 +5,8 @@ use Rattle.std.proofs.lemmas.Result.{err_from_is_err_and}
 use Rattle.answers.proofs.Answering.{refused_written, refused_output, short_written, short_output, made_written, made_output}
 use Rattle.octets.specs.Checked.{refuse}
 use Rattle.numbers.specs.Refusals.{section_too_long}
-use Rattle.elf.specs.Held.{file_is, all_sections, one_object, bundle_of_word}
+use Rattle.elf.specs.Reader.{bundle_of_word}
+use Rattle.elf.specs.Held.{file_is, all_sections, one_object}
 use Rattle.elf.proofs.Rooms.{room_is, room_not}
 use Rattle.elf.proofs.Putting.{length_one}
 use Rattle.elf.proofs.Refusals.{word_long, word_over, word_pass, written_length}

@@ -7,6 +7,7 @@ use Rattle.std.proofs.lemmas.Result.{err_from_is_err_and}
 use Rattle.numbers.specs.declared.refusals.Refusal.TheVariants.{NotElf}
 use Rattle.octets.specs.Checked.{mapped, pass}
 use Rattle.elf.specs.File.{headers_at}
+use Rattle.elf.specs.Classes.{headers_of_class}
 use Rattle.elf.specs.Held.{header_is, with_names}
 use Rattle.elf.proofs.Opening.{type_other, size_other, headers_outside, table_outside, table_there, names_there, names_outside}
 use Rattle.elf.proofs.file.ElfFile.with_headers.Goals as goal
@@ -54,7 +55,7 @@ returns-in_err-names-clause-file c =
     c.u64_at-at.ensures c.u16_at-count.ensures (omega arith) c.u16_at-table.ensures c.if-count-table.false)
 
 pub returns-clause-file : goal.returns-clause-file
-unfolding mapped
+unfolding mapped headers_of_class headers_at
 returns-clause-file c =
     let a = c.args in
     let f = a.f.now in

@@ -1,0 +1,58 @@
+-- An ELF32 file read into a bundle of one object: what an ELF64 file states, in narrower fields. From the section headers on both are read by one definition.
+-- Assumes nothing.
+use Rattle.std.specs.Prelude.{Bool, ◌||◌, List, [], ◌∷◌, ℕ, zero, suc, ◌+◌, ◌*◌, ◌==◌, nat_le, nat_lt, length, take, slice_index}
+use Rattle.octets.specs.Octets.{number_at}
+use Rattle.octets.specs.Lists.{same}
+use Rattle.octets.specs.Checked.{Check, pass, ◌>>=◌, require}
+use Rattle.answers.specs.Answers.{Answer, answered}
+use Rattle.numbers.specs.Refusals.{not_elf}
+use Rattle.elf.specs.File.{Header, File, body_of, inside, sections_inside}
+use Rattle.elf.specs.Reader.{bundle_from}
+
+-- header number i, which stands at a place of the file
+unfoldable pub header32_at : Bool → List ℕ → ℕ → ℕ → Header
+header32_at big f i at =
+    record {
+      number = i;
+      name = number_at big 4 f at;
+      type = number_at big 4 f (at + 4);
+      flags = number_at big 4 f (at + 8);
+      offset = number_at big 4 f (at + 16);
+      size = number_at big 4 f (at + 20);
+      info = number_at big 4 f (at + 28);
+    }
+
+-- n headers, of 40 bytes each, from header number i on
+unfoldable pub headers32_at : Bool → List ℕ → ℕ → ℕ → ℕ → List Header
+headers32_at big f i at zero = []
+headers32_at big f i at (suc n) = header32_at big f i at ∷ headers32_at big f (i + 1) (at + 40) n
+
+-- an ELF32 file of type 1, with its headers and its name table inside; its own header has 52 bytes
+unfoldable pub file32_of : List ℕ → Check File
+file32_of f = do
+  _ ← require (nat_le 52 (length f)) not_elf
+  _ ← require (same (take 5 f) (0x7F ∷ 0x45 ∷ 0x4C ∷ 0x46 ∷ 1 ∷ [])) not_elf
+  _ ← require (slice_index f 5 == 1 || slice_index f 5 == 2) not_elf
+  let big = slice_index f 5 == 2
+  _ ← require (number_at big 2 f 16 == 1) not_elf
+  let at = number_at big 4 f 32
+  _ ← require (number_at big 2 f 46 == 40) not_elf
+  let n = number_at big 2 f 48
+  _ ← require (nat_le (at + 40 * n) (length f)) not_elf
+  let table = number_at big 2 f 50
+  _ ← require (nat_lt table n) not_elf
+  let t = header32_at big f table (at + 40 * table)
+  _ ← require (inside f t) not_elf
+  pass (record { big = big; headers = headers32_at big f 0 at n; names = body_of f t })
+
+-- 31: all of it
+unfoldable pub elf32_of : List ℕ → Check File
+elf32_of f = file32_of f >>= sections_inside f
+
+-- of one object
+unfoldable pub bundle32_read : List ℕ → Check (List ℕ)
+bundle32_read f = elf32_of f >>= bundle_from f
+
+-- for an output of o bytes
+unfoldable pub elf32_read : List ℕ → ℕ → Answer
+elf32_read f o = answered (bundle32_read f) o
