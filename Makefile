@@ -1,5 +1,6 @@
 # `make help` lists what there is. `make test` is the gate: `rt ci`, which judges the layout of every Rattle file, every proof, must-fail edit and
-# program; then the host's tests on the proved functions. Its last line is that of `rt ci`, and it stops with an error where any step fails.
+# program; then that every law of tools/laws.txt is proved, and the host's tests on the proved functions. Its last line is that of `rt ci`, and it stops
+# with an error where any step fails.
 
 # A program that packs bundles with thorin; it is built where it is and what it needs is at hand.
 ORACLE_SOURCE ?= ../shared/oracle
@@ -42,8 +43,9 @@ help:
 	@echo 'make fmt            formats every file'
 	@echo 'make clean          removes all that was built here, kept proofs too'
 
-# An edit that could not be tried shows nothing of a contract. `rt ci` passes all the same and counts it as bad, so the gate fails there itself. The
-# library for the host's tests is made anew.
+# An edit that could not be tried shows nothing of a contract. `rt ci` passes all the same and counts it as bad, so the gate fails there itself. It
+# passes too where a law has lost its function, with its proof or without; tools/laws.txt lists the functions that there must be. The library for the
+# host's tests is made anew.
 test:
 	@out=$$(mktemp) || exit 1; trap 'rm -f "$$out" "$$out.status"' EXIT; \
 	{ rt ci 2>&1; echo $$? > "$$out.status"; } | tee "$$out"; \
@@ -52,6 +54,7 @@ test:
 	if grep -q '^rt: ok.*, [1-9][0-9]* bad' "$$out"; then echo 'some must-fail edits are bad' >&2; exit 1; fi; \
 	end=$$(tail -n 1 "$$out" | sed -n 's/^\([0-9][0-9]* passed, 0 failed\)\( (.*)\)\{0,1\}$$/\1/p'); \
 	test -n "$$end" || { echo "rt ci does not end with 'N passed, 0 failed'" >&2; exit 1; }; \
+	tools/laws-proved "$$out" || exit 1; \
 	rm -rf target/staticlib || exit 1; \
 	$(MAKE) --no-print-directory host || exit 1; \
 	echo "crates, edits and programs of rt ci:"; \

@@ -1,4 +1,4 @@
--- The worked examples, the proof of demand 3, and the numbers of refusals.
+-- The worked examples, the proofs of the laws, and the numbers of refusals.
 -- Assumes nothing.
 pub mod Examples
 pub mod Read
@@ -13,7 +13,10 @@ pub mod Tables
 pub mod Firsts
 pub mod StrPieces
 pub mod StrStrings
-pub mod Demand3
+pub mod Contributing
+pub mod NothingLost
+pub mod Rules
+pub mod FromBundleToAnswer
 pub mod Paper
 pub mod TwoSittings
 pub mod Telling
@@ -23,3 +26,9 @@ pub mod RoundTrip
 pub mod Unread
 pub mod Refusing
 pub mod Skipped
+pub mod Clauses
+pub mod Bytes
+pub mod UsedOn
+pub mod Used
+pub mod AppliedTo
+pub mod Applied

@@ -18,7 +18,7 @@ use Rattle.lookup.specs.declared.answering.Answer.{Answer as Numbers}
 use Rattle.packer.proofs.Answered.{short_is, refused_is, it, starts}
 use Rattle.archive.specs.Question.{Looked, PartTold, StringTold, unpacked, AnsweredFrom}
 use Rattle.archive.specs.declared.asking.FromBundle.{FromBundle}
-use Rattle.archive.proofs.Demand3.{demand3}
+use Rattle.archive.proofs.FromBundleToAnswer.{from_bundle_to_answer}
 use Rattle.archive.proofs.Telling.{part_told, string_told}
 
 module _ (told : List ℕ → FromBundle → Type 0) (a : Answer) (r : FromBundle) where
@@ -43,12 +43,12 @@ module _ (b : List ℕ) (w o n : ℕ) (out : List ℕ) (e : outcome_as (Ok n) �
   part_answered code l =
       let p = it (packed b w o) n o out e f in
       answered (λ z. PartTold b z v table x code)
-      (part_told b p.0 (demand3 b w o p.0 h p.1) v table x (together n y) code
+      (part_told b p.0 (from_bundle_to_answer b w o p.0 h p.1) v table x (together n y) code
       (looked n y _ (l ∙ ap (λ (s : List ℕ). numbered (looked_up s v table x code)) (starts (packed b w o) n o out e f))))
 
   pub string_answered : (k : ℕ) → y ≡ numbered (string_found (take n out) v table x k) → AnsweredFrom (λ p. StringTold b p v table x k) (packed b w o) r
   string_answered k l =
       let p = it (packed b w o) n o out e f in
       answered (λ z. StringTold b z v table x k)
-      (string_told b p.0 (demand3 b w o p.0 h p.1) v table x (together n y) k
+      (string_told b p.0 (from_bundle_to_answer b w o p.0 h p.1) v table x (together n y) k
       (looked n y _ (l ∙ ap (λ (s : List ℕ). numbered (string_found s v table x k)) (starts (packed b w o) n o out e f))))

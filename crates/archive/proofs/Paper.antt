@@ -34,7 +34,7 @@ use Rattle.archive.specs.Paper.{sections_in, found_line, lines_found, Paper}
 use Rattle.archive.proofs.Read.{rows_in, version_in, Table, empty, full}
 use Rattle.archive.proofs.Judged.{part_judged_law, ends_found, ends_refused, identities_are, no_slots}
 use Rattle.archive.proofs.Absences.{Reads, reads}
-use Rattle.archive.proofs.Demand3.{from_bundle_to_answer}
+use Rattle.archive.proofs.FromBundleToAnswer.{answers_as_handed_in}
 
 -- ---- a lookup that isn't refused answers the place that the row's cell names
 module _ (p : List ℕ) (k : Package) (r : package_of p ≡ pass k) (v : ℕ) (g : version_good k v ≡ true) (t : ℕ) (c : (t ≡ 1) ⊎ (t ≡ 2))
@@ -114,7 +114,7 @@ module _ (b p : List ℕ) (a : Accepted b p) (h : Bytes b) (v t : ℕ) (q : Aske
         let n = line_named index good apart j w in
         let code = section_in (columns_of index.version) (get_or index.codes j 0) in
         line_told p read.k read.read v read.good t q.tables index there (identity m) (1 + m) (found_row m l) code n.least n.most
-        (λ k. ((from_bundle_to_answer b p a h).neither_refuses v t (identity m) code 0 k q (record { from = n.least; to = n.most })).0) _ (line_cell index good apart j w (1 + m)) same letter
+        (λ k. ((answers_as_handed_in b p a h).neither_refuses v t (identity m) code 0 k q (record { from = n.least; to = n.most })).0) _ (line_cell index good apart j w (1 + m)) same letter
 
     row_told : (m : ℕ) → m < length (identities_of (rows_in a t)) → row_lines letter index (1 + m) (identity m) ≡ of (some index) (identity m)
     unfolding row_lines sections_in

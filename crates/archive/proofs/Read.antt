@@ -1,18 +1,20 @@
 -- The package of an accepted bundle as the lookups read it.
 -- Assumes nothing.
-use mathlib.Core.Path.{◌≡◌, refl, ap, ◌∙◌}
+use mathlib.Core.Path.{◌≡◌, refl, sym, ap, ◌∙◌}
 use mathlib.Core.Logic.{◌⊎◌, inl, inr, ⊎_elim}
 use mathlib.Core.Bool.{Bool, true, ◌&&◌}
 use mathlib.Core.List.{List, [], ◌∷◌}
 use mathlib.Core.Option.{Option, some, none}
 use Prim.Native.Nat.{ℕ, ◌%◌, ◌<◌}
 use native.Mathlib.Omega.{arith}
+use native.Mathlib.Decide.{ℕ_discrete}
 use lib.Dec.{eqb, leb}
 use lib.ListN.{length}
 use borrow.Author.Tests.{le-leb, eq-eqb}
 use Rattle.octets.specs.Lists.{all}
 use Rattle.octets.specs.Checked.{pass, renumbered}
 use Rattle.octets.proofs.Checks.{passes, then_pass, renumbered_pass, and_both}
+use Rattle.octets.proofs.Elements.{no_length}
 use Rattle.octets.proofs.Lists.{all_cons}
 use Rattle.octets.proofs.Numbers.{Bytes}
 use Rattle.bundle.specs.Bundle.{Part, Object, bundle_of, length_good, count, first_part, body}
@@ -69,6 +71,15 @@ nothing_read b p a q =
 pub body_is : (p : List ℕ) (ps : List Part) (c : ℕ) (s : List ℕ) → SectionIn p ps c s → body p ps c ≡ s
 unfolding body
 body_is p ps c s r = rw (body, r.is, r.size) r.bytes
+
+-- what the package has of a code are the bytes that were written, none where its section is missing
+pub body_written : (b p : List ℕ) (a : Accepted b p) (o : Object) (os : List Object) → a.bundle.objects ≡ o ∷ os → (c : ℕ)
+    → body p (parts_from 8 (sections_of b p a)) c ≡ bytes_in (section_list a.filing a.cu a.tu) c
+unfolding body
+body_written b p a o os q c = elim (ℕ_discrete (length (bytes_in (section_list a.filing a.cu a.tu) c)) 0) [
+  | yes z ↦ rw (body, section_missing b p a o os q c z) (sym (no_length (bytes_in (section_list a.filing a.cu a.tu) c) z))
+  | no n ↦ body_is p (parts_from 8 (sections_of b p a)) c (bytes_in (section_list a.filing a.cu a.tu) c) (section_there b p a o os q c (omega arith))
+]
 
 index_there : (big : Bool) (p : List ℕ) (ps : List Part) (c : ℕ) (s : List ℕ) (i : Index) → SectionIn p ps c s → index_of big s ≡ pass i → package_index big p ps c ≡ pass (some i)
 unfolding package_index

@@ -45,9 +45,8 @@ use Rattle.round_trip.proofs.Listed.{Named}
 use Rattle.round_trip.proofs.Stated.{unit_stated_law}
 use Rattle.round_trip.proofs.FileRead.{Writable, file_read}
 use Rattle.octets.proofs.Options.{some_none}
-use Rattle.octets.proofs.Elements.{no_length}
 use Rattle.archive.specs.RoundTrip.{stands_in_info, ThereAndBack, RoundTrip}
-use Rattle.archive.proofs.Read.{body_is}
+use Rattle.archive.proofs.Read.{body_written}
 use Rattle.archive.proofs.Absences.{objects_or, no_units, opens}
 use Rattle.archive.proofs.InInfo.{StartsInfo, starts_info, kept_in_info}
 
@@ -79,16 +78,18 @@ module _ (b p : List ℕ) (a : Accepted b p) (h : Bytes b) (o : Object) (os : Li
     there : leb 1 (count parts c) ≡ leb 1 (length (bytes_in list c))
 
   at_code : (c : ℕ) → At c
-  unfolding body
-  at_code c = ⊎_elim
-      (λ (t : leb 1 (length (bytes_in list c)) ≡ true).
-      let s = section_there b p a o os q c (leb-true 1 (length (bytes_in list c)) t) in
-      record { bytes = body_is p parts c (bytes_in list c) s; there = counted s.is (known (leb 1 (count parts c))) ∙ sym t })
-      (λ (t : leb 1 (length (bytes_in list c)) ≡ false).
-      let z : length (bytes_in list c) ≡ 0 = omega (arith, leb-false 1 (length (bytes_in list c)) t) in
-      let n = section_missing b p a o os q c z in
-      record { bytes = rw (body, n) (sym (no_length (bytes_in list c) z)); there = lt-leb 1 (count parts c) (omega (arith, counted_none c parts n)) ∙ sym t })
-      (known (leb 1 (length (bytes_in list c))))
+  at_code c = record {
+    bytes = body_written b p a o os q c;
+    there = ⊎_elim
+        (λ (t : leb 1 (length (bytes_in list c)) ≡ true).
+        let s = section_there b p a o os q c (leb-true 1 (length (bytes_in list c)) t) in
+        counted s.is (known (leb 1 (count parts c))) ∙ sym t)
+        (λ (t : leb 1 (length (bytes_in list c)) ≡ false).
+        let z : length (bytes_in list c) ≡ 0 = omega (arith, leb-false 1 (length (bytes_in list c)) t) in
+        let n = section_missing b p a o os q c z in
+        lt-leb 1 (count parts c) (omega (arith, counted_none c parts n)) ∙ sym t)
+        (known (leb 1 (length (bytes_in list c))));
+  }
     where
       counted : {x : Part} → first_part parts c ≡ some x → (leb 1 (count parts c) ≡ true) ⊎ (leb 1 (count parts c) ≡ false) → leb 1 (count parts c) ≡ true
       counted e (inl t) = t

@@ -6,7 +6,7 @@ use mathlib.Core.Bool.{true, false}
 use mathlib.Core.List.{List, [], ◌∷◌, map}
 use Prim.Native.Nat.{ℕ, ◌<◌}
 use native.Mathlib.Omega.{arith}
-use native.Mathlib.Decide.{ℕ_discrete, dec_lt}
+use native.Mathlib.Decide.{dec_lt}
 use lib.ListN.{length, get_or}
 use Rattle.octets.specs.Octets.{part as bytes_at}
 use Rattle.octets.specs.Lists.{any}
@@ -31,12 +31,12 @@ use Rattle.package.proofs.Pieces.{PieceFacts}
 use Rattle.package.proofs.Inputs.{InputFacts}
 use Rattle.package.proofs.ByCode.{str_bytes}
 use Rattle.package.proofs.Accepted.{Accepted}
-use Rattle.package.proofs.PackageRead.{sections_of, section_there, section_missing}
+use Rattle.package.proofs.PackageRead.{sections_of}
 use Rattle.package.proofs.Tables.{facts_of}
 use Rattle.lookup.specs.Lookup.{Package, package_of}
 use Rattle.archive.specs.Theorem.{IsFirst, EveryStringReached, EachStringOnce, FirstUsesAndNoOther}
 use Rattle.archive.specs.StrSection.{pieces, str_in, strings_named}
-use Rattle.archive.proofs.Read.{nothing_read, body_is}
+use Rattle.archive.proofs.Read.{nothing_read, body_written}
 use Rattle.archive.proofs.Absences.{opens, absent_is}
 use Rattle.archive.proofs.Firsts.{the_string, no_string}
 use Rattle.archive.proofs.StrPieces.{pieces_table, named_clean, first_uses_clean, listed_at, once}
@@ -68,17 +68,7 @@ module _ (b p : List ℕ) (a : Accepted b p) (h : Bytes b) where
   str_read k e = rw (str_in, e)
 
   str_body : (o : Object) (os : List Object) → a.bundle.objects ≡ o ∷ os → body p (parts_from 8 (sections_of b p a)) 11 ≡ str_of strings
-  unfolding body
-  str_body o os q =
-      let e : bytes_in (section_list a.filing a.cu a.tu) 11 ≡ str_of strings = str_bytes a.filing a.cu a.tu in
-      elim (ℕ_discrete (length (bytes_in (section_list a.filing a.cu a.tu) 11)) 0) [
-        | yes z ↦ rw (body, section_missing b p a o os q 11 z) (empty (str_of strings) (ap length (sym e) ∙ z))
-        | no n ↦ body_is p (parts_from 8 (sections_of b p a)) 11 (bytes_in (section_list a.filing a.cu a.tu) 11) (section_there b p a o os q 11 (omega arith)) ∙ e
-      ]
-    where
-      empty : (s : List ℕ) → length s ≡ 0 → [] ≡ s
-      empty [] z = refl
-      empty (x ∷ s) z = absurd (omega arith)
+  str_body o os q = body_written b p a o os q 11 ∙ str_bytes a.filing a.cu a.tu
 
   str_is : str_in p ≡ str_of strings
   unfolding string_table all_used first_uses put_all

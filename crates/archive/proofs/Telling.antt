@@ -17,7 +17,7 @@ use Rattle.package.specs.Pack.{handed_in}
 use Rattle.package.proofs.Kept.{first_stands}
 use Rattle.lookup.specs.Lookup.{Found, refused, absent, part, looked_up, string_found}
 use Rattle.lookup.specs.Answers.{numbered}
-use Rattle.archive.specs.Theorem.{Asked, IsCode, IsHandedIn, IsFirst, handed_part, slots_of_table, looks, IsPart, Holds, FromBundleToAnswer}
+use Rattle.archive.specs.Theorem.{Asked, IsCode, IsHandedIn, IsFirst, handed_part, slots_of_table, looks, IsPart, Holds, AnswersAsHandedIn}
 use Rattle.archive.specs.Question.{Looked, Told, ToldAbsent, PartTold, StringTold}
 use Rattle.archive.specs.Looks.{units_of}
 use Rattle.archive.specs.StrSection.{pieces, str_in}
@@ -55,7 +55,7 @@ module _ (p : List ℕ) (r : FromBundle) where
   few_told (absent n) u l h g = ((λ e. absurd (omega (arith, l.code))), omega (arith, l.looked, g n refl))
   few_told (refused n) u l h g = ((λ e. omega (arith, l.looked)), omega (arith, l.looked))
 
-module _ (b p : List ℕ) (t : FromBundleToAnswer b p) (v table x : ℕ) (r : FromBundle) where
+module _ (b p : List ℕ) (t : AnswersAsHandedIn b p) (v table x : ℕ) (r : FromBundle) where
   module _ (code : ℕ) (l : Looked r (looked_up p v table x code)) where
     gone : Asked b v table → IsCode code → any (is_under table x) (handed_in b) ≡ false → ToldAbsent r (looks b table x)
     gone q c e = told_absent p r _ _ l (t.absent_is_absent v table x code 0 q c e).0

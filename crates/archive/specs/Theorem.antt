@@ -17,6 +17,8 @@ use Rattle.package.specs.Filing.{Filed, is_under, first_word, kept, contributed,
 use Rattle.package.specs.Pack.{packed, made, handed_in}
 use Rattle.package.specs.Units.{FillObjects, IsUnit}
 use Rattle.lookup.specs.Lookup.{Found, refused, absent, part, Package, package_of, index_for, looked_up, string_found}
+use Rattle.archive.specs.Contributing.{Contributes}
+use Rattle.archive.specs.NothingLost.{KeptOrSkippedType, KeptUnitsJoined, SharedSectionsWhole, StrOffsetsInLength, OneOfTheOthers}
 use Rattle.archive.specs.Looks.{units_of, FindingTakes, AbsenceTakes}
 use Rattle.archive.specs.StrSection.{pieces, str_in, strings_named}
 
@@ -116,6 +118,10 @@ TableIn b p table = (k : Package) × (package_of p ≡ pass k) × TableRead b ta
 abbrev pub ThePackagesTables : List ℕ → List ℕ → Type 0
 ThePackagesTables b p = (table : ℕ) → (table ≡ compilation_table) ⊎ (table ≡ type_table) → TableIn b p table
 
+-- what the first unit under an identity contributes, of which its parts are made: by a row of its object's index for its table, or its object's whole sections
+abbrev pub WhatItContributes : List ℕ → Type 0
+WhatItContributes b = (table x : ℕ) (u : Filed) → IsFirst b table x u → Contributes u
+
 -- an identity is found in a table exactly when a unit was handed in for that table under it
 abbrev pub FoundExactlyWhenHandedIn : List ℕ → List ℕ → Type 0
 FoundExactlyWhenHandedIn b p =
@@ -189,15 +195,29 @@ TheOtherVersion b p =
     (v table x code k : ℕ) → is_index_version b v ≡ false → (handed_in b ≡ [] → ⊥)
     → (looked_up p v table x code ≡ refused other_version) × (string_found p v table x k ≡ refused other_version)
 
+-- a version that no index has, whatever was handed in
+abbrev pub NoSuchVersion : List ℕ → Type 0
+NoSuchVersion p =
+    (v table x code k : ℕ) → (v ≡ index2 → ⊥) → (v ≡ index5 → ⊥)
+    → (looked_up p v table x code ≡ refused other_version) × (string_found p v table x k ≡ refused other_version)
+
 -- neither lookup refuses, but for an entry that isn't there
 abbrev pub NeitherRefuses : List ℕ → List ℕ → Type 0
 NeitherRefuses b p =
     (v table x code k n : ℕ) → Asked b v table → IsCode code
     → (looked_up p v table x code ≡ refused n → ⊥) × (string_found p v table x k ≡ refused n → n ≡ no_entry)
 
-pub record FromBundleToAnswer (b p : List ℕ) : Type 0 where
+pub record AnswersAsHandedIn (b p : List ℕ) : Type 0 where
   pub every_unit_is_handed_in : EveryUnitIsHandedIn b
   pub each_is_a_unit : EachIsAUnit b
+  pub what_it_contributes : WhatItContributes b
+  -- nothing is lost
+  pub kept_or_skipped_type : KeptOrSkippedType b
+  pub kept_units_joined : KeptUnitsJoined b p
+  pub shared_sections_whole : SharedSectionsWhole b p
+  pub str_offsets_in_length : StrOffsetsInLength b p
+  pub one_of_the_others : OneOfTheOthers b
+  -- what the lookups answer
   pub the_packages_tables : ThePackagesTables b p
   pub found_exactly_when_handed_in : FoundExactlyWhenHandedIn b p
   pub the_first_unit : TheFirstUnit b p
@@ -214,12 +234,13 @@ pub record FromBundleToAnswer (b p : List ℕ) : Type 0 where
   pub each_string_once : EachStringOnce p
   pub first_uses_and_no_other : FirstUsesAndNoOther b p
   pub the_other_version : TheOtherVersion b p
+  pub no_such_version : NoSuchVersion p
   pub neither_refuses : NeitherRefuses b p
 
 -- the bundle is bytes, as every slice of them is
 abbrev pub AreBytes : List ℕ → Type 0
 AreBytes b = (i : ℕ) → get_or b i 0 < 256
 
--- demand 3
-abbrev pub Demand3 : Type 0
-Demand3 = (b : List ℕ) (w o : ℕ) (p : List ℕ) → AreBytes b → packed b w o ≡ made p → FromBundleToAnswer b p
+-- the theorem
+abbrev pub FromBundleToAnswer : Type 0
+FromBundleToAnswer = (b : List ℕ) (w o : ℕ) (p : List ℕ) → AreBytes b → packed b w o ≡ made p → AnswersAsHandedIn b p

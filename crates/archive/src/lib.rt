@@ -5,6 +5,7 @@
 
 pub mod asking;
 pub mod files;
+pub mod laws;
 pub mod many;
 pub mod printing;
 pub mod profiling;

@@ -16,9 +16,12 @@ unfoldable pub rising : ℕ → ℕ → List ℕ
 rising i zero = []
 rising i (suc n) = i ∷ rising (suc i) n
 
-pub record TablesAgree : Type 0 where
-  -- by code; no section has code 0
-  pub names : section_names ≡ [] ∷ map name_by_rule (rising 1 13)
-  pub columns_two : columns_of index2 ≡ columns_by_rule index2
-  pub columns_five : columns_of index5 ≡ columns_by_rule index5
-  pub forms : forms ≡ forms_by_rule
+-- by code; no section has code 0
+abbrev pub SectionNamesAgree : Type 0
+SectionNamesAgree = section_names ≡ [] ∷ map name_by_rule (rising 1 13)
+
+abbrev pub ColumnsAgree : Type 0
+ColumnsAgree = (columns_of index2 ≡ columns_by_rule index2) × (columns_of index5 ≡ columns_by_rule index5)
+
+abbrev pub FormsAgree : Type 0
+FormsAgree = forms ≡ forms_by_rule

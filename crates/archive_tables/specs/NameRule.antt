@@ -1,15 +1,39 @@
--- A section's name: `.debug_`, document 01's word, and `.dwo` up to code 11.
+-- A section's name: `.debug_`, the word of its code, and `.dwo` up to code 11. The words are spelled here, in ASCII, and not taken from the source's table.
 -- Assumes nothing.
-use Rattle.std.specs.Prelude.{true, false, List, [], ◌++◌, ℕ, ◌-◌, leb, get_or}
+use Rattle.std.specs.Prelude.{true, false, List, [], ◌∷◌, ◌++◌, ℕ, ◌-◌, leb, get_or}
 use Rattle.numbers.specs.Sections.{str_code}
-use Rattle.numbers.specs.Names.{dwo_words, index_words, name_prefix, name_suffix}
+
+-- from code 1 on: info, types, abbrev, line, loc, str_offsets, macinfo, macro, loclists, rnglists, str, cu_index, tu_index
+unfoldable pub words : List (List ℕ)
+words =
+    (0x69 ∷ 0x6E ∷ 0x66 ∷ 0x6F ∷ [])
+    ∷ (0x74 ∷ 0x79 ∷ 0x70 ∷ 0x65 ∷ 0x73 ∷ [])
+    ∷ (0x61 ∷ 0x62 ∷ 0x62 ∷ 0x72 ∷ 0x65 ∷ 0x76 ∷ [])
+    ∷ (0x6C ∷ 0x69 ∷ 0x6E ∷ 0x65 ∷ [])
+    ∷ (0x6C ∷ 0x6F ∷ 0x63 ∷ [])
+    ∷ (0x73 ∷ 0x74 ∷ 0x72 ∷ 0x5F ∷ 0x6F ∷ 0x66 ∷ 0x66 ∷ 0x73 ∷ 0x65 ∷ 0x74 ∷ 0x73 ∷ [])
+    ∷ (0x6D ∷ 0x61 ∷ 0x63 ∷ 0x69 ∷ 0x6E ∷ 0x66 ∷ 0x6F ∷ [])
+    ∷ (0x6D ∷ 0x61 ∷ 0x63 ∷ 0x72 ∷ 0x6F ∷ [])
+    ∷ (0x6C ∷ 0x6F ∷ 0x63 ∷ 0x6C ∷ 0x69 ∷ 0x73 ∷ 0x74 ∷ 0x73 ∷ [])
+    ∷ (0x72 ∷ 0x6E ∷ 0x67 ∷ 0x6C ∷ 0x69 ∷ 0x73 ∷ 0x74 ∷ 0x73 ∷ [])
+    ∷ (0x73 ∷ 0x74 ∷ 0x72 ∷ [])
+    ∷ (0x63 ∷ 0x75 ∷ 0x5F ∷ 0x69 ∷ 0x6E ∷ 0x64 ∷ 0x65 ∷ 0x78 ∷ [])
+    ∷ (0x74 ∷ 0x75 ∷ 0x5F ∷ 0x69 ∷ 0x6E ∷ 0x64 ∷ 0x65 ∷ 0x78 ∷ [])
+    ∷ []
+
+-- `.debug_` and `.dwo`
+unfoldable pub name_front : List ℕ
+name_front = 0x2E ∷ 0x64 ∷ 0x65 ∷ 0x62 ∷ 0x75 ∷ 0x67 ∷ 0x5F ∷ []
+
+unfoldable pub name_end : List ℕ
+name_end = 0x2E ∷ 0x64 ∷ 0x77 ∷ 0x6F ∷ []
 
 -- codes start at 1
 unfoldable pub word_of : ℕ → List ℕ
-word_of code = get_or (dwo_words ++ index_words) (code - 1) []
+word_of code = get_or words (code - 1) []
 
 unfoldable pub suffix_of : ℕ → List ℕ
-suffix_of code = elim (leb code str_code) [ true ↦ name_suffix | false ↦ [] ]
+suffix_of code = elim (leb code str_code) [ true ↦ name_end | false ↦ [] ]
 
 unfoldable pub name_by_rule : ℕ → List ℕ
-name_by_rule code = name_prefix ++ (word_of code ++ suffix_of code)
+name_by_rule code = name_front ++ (word_of code ++ suffix_of code)

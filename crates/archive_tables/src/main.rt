@@ -4,20 +4,12 @@
 
 mod columns;
 mod forms;
+mod laws;
 mod names;
-
-ghost use Rattle.archive_tables.specs.Agreement.{TablesAgree};
 
 use std::io;
 
-// The tables of the source are, entry for entry, what these rules work out.
-#[tactic(auto, using(crate::proofs::Agreement::tables_agree))]
-fn agree()
-    ensures { TablesAgree }
-{}
-
 fn main(rt: HostRuntime) -> io::Result<()> {
-    agree();
     names::print_names(&rt)?;
     columns::print_columns(&rt)?;
     forms::print_forms(&rt)

@@ -1,13 +1,12 @@
 // Section codes and names.
-ghost use Rattle.std.specs.Prelude.{◌≡◌, ◌++◌, ◌<◌, map};
-ghost use Rattle.numbers.specs.Names.{dwo_words, index_words};
+ghost use Rattle.std.specs.Prelude.{◌≡◌, ◌<◌, map};
 ghost use Rattle.numbers.specs.Sections.{section_codes};
-ghost use Rattle.archive_tables.specs.NameRule.{word_of, name_by_rule};
+ghost use Rattle.archive_tables.specs.NameRule.{words, word_of, name_by_rule};
 
 use numbers::sections::{CODES, STR};
 use std::io;
 
-// Document 01's words, from code 1 on.
+// The words, from code 1 on.
 const WORDS: [&[u8]; 13] = [
     b"info",
     b"types",
@@ -28,9 +27,9 @@ const WORDS: [&[u8]; 13] = [
 const NAME_LIMIT: usize = 22;
 
 // The one place that reads the words.
-#[tactic(auto, unfolding(numbers::specs::Names::dwo_words, numbers::specs::Names::index_words))]
+#[tactic(auto, unfolding(crate::specs::NameRule::words))]
 fn words() -> [&'static [u8]; 13]
-    ensures { map (λ word. word.now) result ≡ dwo_words ++ index_words }
+    ensures { map (λ word. word.now) result ≡ words }
 {
     WORDS
 }

@@ -3,3 +3,4 @@
 pub mod Questions
 pub mod Sizes
 pub mod Answering
+pub mod Examples

@@ -12,4 +12,5 @@ pub mod Putting
 pub mod Opened
 pub mod Refusals
 pub mod Held
+pub mod Examples
 pub mod Examples32

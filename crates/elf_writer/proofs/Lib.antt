@@ -9,3 +9,4 @@ pub mod Names
 pub mod Matched
 pub mod Whole
 pub mod Answering
+pub mod Examples

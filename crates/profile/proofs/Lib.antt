@@ -3,3 +3,4 @@
 pub mod Bits
 pub mod Objects
 pub mod Verdicts
+pub mod Examples

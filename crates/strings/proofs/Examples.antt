@@ -2,7 +2,7 @@
 -- Assumes nothing.
 use mathlib.Core.Path.{◌≡◌, refl}
 use mathlib.Core.Bool.{false, true}
-use mathlib.Core.List.{List, [], ◌∷◌}
+use mathlib.Core.List.{List, [], ◌∷◌, ◌++◌}
 use Prim.Native.Nat.{ℕ}
 use Rattle.octets.specs.Octets.{part, little, big_from, number, number_at, numbers_in, little_of, big_of, bytes_of, numbers_of}
 use Rattle.octets.specs.Lists.{joined, any, same}
@@ -28,6 +28,61 @@ used = (98 ∷ 99 ∷ []) ∷ (97 ∷ []) ∷ (98 ∷ 99 ∷ []) ∷ []
 abbrev pub headed : ℕ → List ℕ
 headed n = numbers_of true 4 (0xFFFF_FFFF ∷ 0 ∷ n ∷ 0x5_0000 ∷ 0 ∷ 2 ∷ [])
 
+-- of width 4 and little-endian, with a header of two words and one entry
+abbrev pub little_five : Encoding
+little_five = record { big = false; version = 5; width = 4; address = 8 }
+
+abbrev pub little_headed : ℕ → ℕ → List ℕ
+little_headed n start = numbers_of false 4 (n ∷ start ∷ 2 ∷ [])
+
+-- the wide one, by the words in front of its length, of version and padding
+abbrev pub wide_headed : ℕ → ℕ → List ℕ
+wide_headed mark start = numbers_of true 4 (mark ∷ 0 ∷ 12 ∷ start ∷ 0 ∷ 2 ∷ [])
+
+-- version 4 in width 8
+abbrev pub wide_four : Encoding
+wide_four = record { big = false; version = 4; width = 8; address = 8 }
+
+abbrev pub Headers : Type 0
+Headers =
+    -- a length of 8 for version, padding and one entry; no entry; another version; padding that isn't zero; a length that is too great or too small
+    (entries_of little_five (little_headed 8 5) ≡ pass (2 ∷ []))
+    × (entries_of little_five (numbers_of false 4 (4 ∷ 5 ∷ [])) ≡ pass [])
+    × (entries_of little_five (little_headed 8 4) ≡ refuse 8)
+    × (entries_of little_five (little_headed 8 0x1_0005) ≡ refuse 8)
+    × (entries_of little_five (little_headed 9 5) ≡ refuse 8)
+    × (entries_of little_five (little_headed 4 5) ≡ refuse 8)
+    -- the same of width 8: its length stands behind FFFFFFFF
+    × (entries_of five (wide_headed 0xFFFF_FFFF 0x5_0000) ≡ pass (2 ∷ []))
+    × (entries_of five (wide_headed 0xFFFF_FFFE 0x5_0000) ≡ refuse 8)
+    × (entries_of five (wide_headed 0xFFFF_FFFF 0x4_0000) ≡ refuse 8)
+    × (entries_of five (wide_headed 0xFFFF_FFFF 0x5_0001) ≡ refuse 8)
+    -- a header that isn't there whole
+    × (entries_of little_five [] ≡ refuse 8)
+    × (entries_of little_five (numbers_of false 4 (0 ∷ [])) ≡ refuse 8)
+    -- a part of an entry behind whole ones
+    × (entries_of little_five (numbers_of false 4 (9 ∷ 5 ∷ 2 ∷ []) ++ (0 ∷ [])) ≡ refuse 8)
+    -- version 4: no header, entries as wide as an offset, and whole
+    × (entries_of four [] ≡ pass [])
+    × (entries_of four (0 ∷ 0 ∷ []) ≡ refuse 8)
+    × (entries_of wide_four (numbers_of false 8 (2 ∷ 0 ∷ [])) ≡ pass (2 ∷ 0 ∷ []))
+    × (entries_of wide_four (numbers_of false 4 (2 ∷ 0 ∷ 0 ∷ [])) ≡ refuse 8)
+
+abbrev pub Named : Type 0
+Named =
+    -- a string goes on to its zero, from wherever the entry points; it may be empty
+    (string_at 9 str 2 ≡ pass (98 ∷ 99 ∷ []))
+    × (string_at 9 str 3 ≡ pass (99 ∷ []))
+    × (string_at 9 str 4 ≡ pass [])
+    -- none at the end of str, behind it, and where no zero follows; the number is the caller's
+    × (string_at 9 str 5 ≡ refuse 9)
+    × (string_at 9 str 6 ≡ refuse 9)
+    × (string_at 9 (97 ∷ []) 0 ≡ refuse 9)
+    × (string_at 26 [] 0 ≡ refuse 26)
+    -- one such entry is enough
+    × (strings_at str (0 ∷ 5 ∷ []) ≡ refuse 9)
+    × (strings_at str (5 ∷ 0 ∷ []) ≡ refuse 9)
+
 abbrev pub Examples : Type 0
 Examples =
     -- entries 2, 0, 2
@@ -46,3 +101,13 @@ unfolding
     part little big_from number number_at numbers_in little_of big_of bytes_of numbers_of joined any same ◌>>=◌ require marked length_field
     length_stated header_size header_true entries_in entries_of up_to_zero string_at strings_at put put_all first_uses ended str_of offset_in remapped
 examples = (refl, refl, refl, refl, refl, refl)
+
+pub headers : Headers
+unfolding
+    part little big_from number number_at numbers_in little_of big_of bytes_of numbers_of ◌>>=◌ require marked length_field
+    length_stated header_size header_true entries_in entries_of
+headers = (refl, refl, refl, refl, refl, refl, refl, refl, refl, refl, refl, refl, refl, refl, refl, refl, refl)
+
+pub named : Named
+unfolding ◌>>=◌ up_to_zero string_at strings_at
+named = (refl, refl, refl, refl, refl, refl, refl, refl, refl)

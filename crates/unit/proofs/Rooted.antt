@@ -11,7 +11,7 @@ use Rattle.numbers.specs.declared.refusals.Refusal.TheVariants.{NoIdentity}
 use Prim.Native.Nat.{ℕ, ◌+◌, ◌≤◌, ◌<◌}
 use native.Mathlib.Omega.{arith}
 use lib.ListN.{length, drop_of_length-le}
-use Rattle.octets.specs.Checked.{pass, refuse, ◌>>=◌}
+use Rattle.octets.specs.Checked.{Check, pass, refuse, ◌>>=◌}
 use Rattle.octets.proofs.Checks.{true_false, then_pass, then_refuse, passes, fails}
 use Rattle.octets.proofs.Refusals.{Only, only_require, only_bind, only_refuses}
 use Rattle.leb128.specs.Leb128.{unsigned}
@@ -36,6 +36,10 @@ unfolding root_identity
 only_root_identity e table s =
     only_bind 12 _ _ (only_declarations_of table) (λ ds. only_bind 12 _ _ (only_unsigned s) (λ c. only_bind 12 _ _ (only_needed _) (λ d.
     only_bind 12 _ _ (only_require _ 12) (λ _. only_bind 12 _ _ (only_identity_in e _ _ none) (λ x. only_needed x)))))
+
+-- whatever keeps a root's identity from being read, it is refused by 12, and with it what would be made of the identity
+pub root_refused : {B : Type 0} (e : Encoding) (table s : List ℕ) (f : ℕ → Check B) (n : ℕ) → refuse n ≡ root_identity e table s → refuse 12 ≡ (root_identity e table s >>= f)
+root_refused e table s f n h = sym (then_refuse _ f 12 (sym h ∙ ap refuse ((only_root_identity e table s).is n (sym h))))
 
 passed_false : (ds : List Declaration) → passed (pass ds) ≡ false → ⊥
 unfolding passed

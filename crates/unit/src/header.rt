@@ -230,8 +230,9 @@ impl<'a> Unit<'a> {
         crate::root::root_identity(self.e, b, table, &self.bytes[common..], codes, judged)
     }
 
-    // The identity, of a unit whose kind's header is there. A unit with a root is handed in for the compilation table.
-    #[tactic(auto, using(octets::proofs::Checks::then_pass, octets::proofs::Checks::then_refuse), unfolding(crate::specs::Headers::identity_by, crate::specs::Headers::header_size, octets::specs::Checked::mapped))]
+    // The identity, of a unit whose kind's header is there. A unit with a root is handed in for the compilation table; whatever keeps its identity from being
+    // read gives 12.
+    #[tactic(auto, using(octets::proofs::Checks::then_pass, octets::proofs::Checks::then_refuse, crate::proofs::Rooted::root_refused), unfolding(crate::specs::Headers::identity_by, crate::specs::Headers::header_size, octets::specs::Checked::mapped))]
     fn identity(
         self,
         kind: Kind,
@@ -253,10 +254,15 @@ impl<'a> Unit<'a> {
                 table: Table::Type,
                 identity: self.signature(),
             }),
-            Kind::Root => Ok(Identity {
-                table: Table::Compilation,
-                identity: self.root_stated(b, place, codes, judged)?,
-            }),
+            Kind::Root => {
+                let Ok(identity) = self.root_stated(b, place, codes, judged) else {
+                    return Err(Refusal::NoIdentity);
+                };
+                Ok(Identity {
+                    table: Table::Compilation,
+                    identity,
+                })
+            }
             Kind::Other => Err(Refusal::NoIdentity),
         }
     }

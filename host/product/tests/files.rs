@@ -32,8 +32,12 @@ fn the_mode_stays() {
         let file = home.join("old");
         fs::write(&file, vec![7; 500]).unwrap();
         fs::set_permissions(&file, Permissions::from_mode(wanted)).unwrap();
-        packed(&home, "old");
+        let output = pack_to(&home, "old");
+        assert_eq!((message(&output), status(&output)), (String::new(), 0));
         assert_eq!((mode(&file), names(&home)), (wanted, vec!["old".to_string()]));
+        // Whoever runs this can read it now.
+        fs::set_permissions(&file, Permissions::from_mode(0o600)).unwrap();
+        assert_eq!(fs::read(&file).unwrap(), bytes(PACKAGE));
     }
 }
 

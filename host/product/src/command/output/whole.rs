@@ -59,13 +59,13 @@ pub fn over(old: &Held, bytes: &[u8]) -> io::Result<()> {
     })
 }
 
-/// Copies bytes over a file. Those behind its end come first: where the disk has no room for them, it is again what it was.
+/// Copies bytes over a file. Those behind its end come first: where the disk has no room for them, it is again what it was. There is no sync in
+/// between, which would make the time longer in which it is neither the old one nor the new one.
 fn copy(file: &File, old: u64, bytes: &[u8]) -> io::Result<()> {
     let (front, behind) = bytes.split_at(bytes.len().min(old as usize));
-    let longer = file.write_all_at(behind, old).and_then(|()| file.sync_all());
-    if longer.is_err() {
+    if let Err(error) = file.write_all_at(behind, old) {
         file.set_len(old)?;
-        return longer;
+        return Err(error);
     }
     file.write_all_at(front, 0)?;
     file.set_len(bytes.len() as u64)?;

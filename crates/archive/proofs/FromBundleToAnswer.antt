@@ -1,16 +1,17 @@
--- Demand 3, proved.
+-- The theorem from bundle to answer, proved.
 -- Assumes nothing.
 use mathlib.Core.Path.{◌≡◌, refl, sym, ap, ◌∙◌, subst}
 use mathlib.Core.Logic.{◌⊎◌, inl, inr, ⊎_elim}
-use mathlib.Core.Bool.{true, false}
+use mathlib.Core.Bool.{true, false, ◌&&◌, ◌||◌}
 use mathlib.Core.List.{List, [], ◌∷◌}
 use Prim.Native.Nat.{ℕ, ◌<◌, ◌≤◌}
 use native.Mathlib.Decide.{dec_lt}
 use native.Mathlib.Omega.{arith}
 use lib.ListN.{length}
-use borrow.Author.Tests.{eqb-false}
+use lib.Dec.{eqb}
+use borrow.Author.Tests.{eqb-false, ne_eqb}
 use Rattle.octets.specs.Lists.{any}
-use Rattle.octets.proofs.Checks.{known, pass_inj}
+use Rattle.octets.proofs.Checks.{known, pass_inj, not_left, or_neither}
 use Rattle.octets.proofs.Lists.{any_stops}
 use Rattle.octets.proofs.Numbers.{Bytes}
 use Rattle.bundle.specs.Bundle.{Bundle}
@@ -25,11 +26,13 @@ use Rattle.package.proofs.Kept.{first_stands, under_own}
 use Rattle.package.proofs.Filing.{Good}
 use Rattle.package.proofs.Accepted.{Accepted, packed_accepted, handed_in_law}
 use Rattle.package.proofs.Tables.{encoding_in, facts_of}
-use Rattle.lookup.specs.Lookup.{refused, absent, part, index_for, looked_up, string_found}
+use Rattle.lookup.specs.Lookup.{refused, absent, part, has_version, version_good, index_for, looked_up, string_found}
 use Rattle.package.specs.Units.{FillObjects}
 use Rattle.package.proofs.Units.{filing_fills}
 use Rattle.archive.specs.Theorem as theorem
-use Rattle.archive.specs.Theorem.{IsHandedIn, IsFirst, slots_of_table, looks_of, looks, IsPart, Holds, FromBundleToAnswer, Demand3}
+use Rattle.archive.specs.Theorem.{IsHandedIn, IsFirst, slots_of_table, looks_of, looks, IsPart, Holds, AnswersAsHandedIn, FromBundleToAnswer}
+use Rattle.archive.proofs.Contributing.{first_contributes}
+use Rattle.archive.proofs.NothingLost.{shared_sections, str_offsets_length, one_of_others, kept_units, kept_or_skipped}
 use Rattle.archive.proofs.Read.{rows_in, version_in}
 use Rattle.archive.proofs.Judged.{part_refused, string_refused, version_form, version_wrong}
 use Rattle.archive.proofs.Absences.{no_units, some_rows, opens, absent_is, absent_ends_law}
@@ -127,6 +130,15 @@ module _ (b p : List ℕ) (a : Accepted b p) (h : Bytes b) where
           (λ (y : s.0 ≡ 1). inl (subst (λ (n : ℕ). 0 < length (rows_in a n)) y s.2))
           (λ (y : s.0 ≡ 2). inr (subst (λ (n : ℕ). 0 < length (rows_in a n)) y s.2)) s.1
 
+  no_version : theorem.NoSuchVersion p
+  unfolding version_good
+  no_version v t x code k two five =
+      let s = opens b p a h in
+      let wrong : version_good s.k v ≡ false =
+      not_left ((eqb v 2 || eqb v 5) && has_version v s.k.cu_index) (has_version v s.k.tu_index)
+      (not_left (eqb v 2 || eqb v 5) (has_version v s.k.cu_index) (or_neither (eqb v 2) (eqb v 5) (ne_eqb v 2 two) (ne_eqb v 5 five))) in
+      (part_refused p s.k s.read v wrong t x code, string_refused p s.k s.read v wrong t x k)
+
   -- ---- no refusal
   neither_refuses_law : theorem.NeitherRefuses b p
   neither_refuses_law v t x code k n q c = ⊎_elim
@@ -150,10 +162,16 @@ module _ (b p : List ℕ) (a : Accepted b p) (h : Bytes b) where
         | no m ↦ refusal_number 25 n (sym (no_string b p a h v t x u.0 q u.1 k (omega arith)) ∙ z)
       ]
 
-  pub from_bundle_to_answer : FromBundleToAnswer b p
-  from_bundle_to_answer = record {
+  pub answers_as_handed_in : AnswersAsHandedIn b p
+  answers_as_handed_in = record {
     every_unit_is_handed_in = every_unit;
     each_is_a_unit = each_unit;
+    what_it_contributes = first_contributes b p a;
+    kept_or_skipped_type = kept_or_skipped b p a h each_unit;
+    kept_units_joined = kept_units b p a h;
+    shared_sections_whole = shared_sections b p a h;
+    str_offsets_in_length = str_offsets_length b p a h;
+    one_of_the_others = one_of_others b p a h;
     the_packages_tables = the_tables b p a h;
     found_exactly_when_handed_in = found_exactly;
     the_first_unit = first_unit;
@@ -170,8 +188,9 @@ module _ (b p : List ℕ) (a : Accepted b p) (h : Bytes b) where
     each_string_once = each_once b p a h;
     first_uses_and_no_other = first_uses_law b p a h;
     the_other_version = other_version;
+    no_such_version = no_version;
     neither_refuses = neither_refuses_law;
   }
 
-pub demand3 : Demand3
-demand3 b w o p h q = from_bundle_to_answer b p (packed_accepted b w o p q) h
+pub from_bundle_to_answer : FromBundleToAnswer
+from_bundle_to_answer b w o p h q = answers_as_handed_in b p (packed_accepted b w o p q) h
