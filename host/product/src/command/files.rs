@@ -159,7 +159,7 @@ fn joined(call: &Call, package: Option<&Taken>, names: &[OsString]) -> Result<Jo
     if let Some(package) = package {
         joined.put_package(call, package)?;
     }
-    let (mut bytes, mut refusals, mut put) = (Vec::new(), Refusals::of(call, names.len()), 0);
+    let (mut bytes, mut refusals, mut put) = (Vec::new(), Refusals::of(call, show::count(names.len(), "file")), 0);
     for name in names {
         let shown = input::shown(name);
         if let Err(stop) = input::read_into(name, &BUNDLE_OR_ELF, &mut bytes) {
