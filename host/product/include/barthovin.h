@@ -105,7 +105,8 @@ struct barthovin_found_from_bundle {
 struct barthovin_written barthovin_read_elf(const uint8_t *file, size_t file_length, uint8_t *output,
                                             size_t output_length);
 
-/* The same of an ELF32 file. Each of the two refuses a file of the other class by 31: byte 4 of a file is 1 for 32 bits, 2 for 64. */
+/* The same of an ELF32 file. Each of the two refuses a file of the other class by 31: byte 4 of a file is 1 for 32 bits, 2 for 64. The other
+ * refusals are 32, 33, 19 and 18 here too. */
 struct barthovin_written barthovin_read_elf32(const uint8_t *file, size_t file_length, uint8_t *output,
                                               size_t output_length);
 
@@ -146,7 +147,7 @@ struct barthovin_written barthovin_write_elf(const uint8_t *package, size_t pack
                                              uint8_t *output, size_t output_length);
 
 /* The same for any machine from 1 to 65,535, by its number in ELF files: 40 is ARM, 243 RISC-V of 32 bits too. 36 is 0 or a greater
- * number. The file is an ELF64 file for every machine: debuggers open it beside a program of 32 bits. */
+ * number, and 21 and 37 are as above. The file is an ELF64 file for every machine: debuggers open it beside a program of 32 bits. */
 struct barthovin_written barthovin_write_elf_for(const uint8_t *package, size_t package_length, uint32_t machine,
                                                  uint8_t *output, size_t output_length);
 

@@ -5,6 +5,7 @@ mod bundle;
 mod call;
 mod elf;
 mod files;
+mod frame;
 mod guard;
 mod help;
 mod input;

@@ -106,11 +106,13 @@ fn all_are_told_at_once() {
     fs::write(home.join("short"), &fs::read(real_file("gcc-5-main")).unwrap()[..40]).unwrap();
     fs::write(home.join("text"), "int main;\n").unwrap();
     fs::copy(real_file("clang-5be-race"), home.join("big.dwo")).unwrap();
-    let lines = |wanted: &[&str], files: usize| {
-        let all: String = wanted.iter().map(|line| format!("barthovin: {line}\n")).collect();
-        all + &format!("barthovin: {} of {files} files can't be taken\n", wanted.len())
+    let lines_of = |wanted: &[&str], all: &str| {
+        let lines: String = wanted.iter().map(|line| format!("barthovin: {line}\n")).collect();
+        lines + &format!("barthovin: {} of {all} can't be taken\n", wanted.len())
     };
-    let short = "short: refused 31: this is no relocatable ELF file, or it is cut off: it has 40 bytes and is cut off";
+    let lines = |wanted: &[&str], files: usize| lines_of(wanted, &format!("{files} files"));
+    let short =
+        "short: refused 31: this is no relocatable ELF64 file, or it is cut off: it has 40 bytes and is cut off";
     let text = "text: refused 1: a bundle has 8 to 4,194,304 bytes, a multiple of 4: it has 10 bytes; it is a text: a list of files has @ before its name";
     let order = "big.dwo: its byte order is not that of gcc-5-main.dwo";
     let call = ["pack", "short", "gcc-5-main.dwo", "text", "gcc-5-race.dwo", "big.dwo", "-o", "new"];
@@ -125,7 +127,7 @@ fn all_are_told_at_once() {
         format!("{name}: refused 5: {meaning}: {states}; pack each DWARF version by itself")
     };
     let call = ["pack", "gcc-5-main.dwo", "gcc-4-main.dwo", "gcc-5-race.dwo", "gcc-4-race.dwo", "-o", "new"];
-    told(&home, &call, &lines(&[&five("gcc-4-main.dwo"), &five("gcc-4-race.dwo")], 4), 1);
+    told(&home, &call, &lines_of(&[&five("gcc-4-main.dwo"), &five("gcc-4-race.dwo")], "4 objects"), 1);
     let call = ["pack", "gcc-5-main.dwo", "gcc-5-race.dwo", "gcc-5-main.dwo", "gcc-5-race.dwo", "-o", "new"];
     let output = run_in(&home, &call, &[]);
     let unit = "the unit at byte 0 of info";
@@ -156,7 +158,7 @@ fn the_packers_refusals_are_told_at_once() {
     assert!(main.contains(": refused 6: ") && main.contains("it has 2 line sections"), "{main}");
     let call = ["pack", "gcc-5-main-twice.dwo", "clang-5-main.dwo", "gcc-5-race-twice.dwo", "-o", "new"];
     fs::copy(real_file("clang-5-main"), home.join("clang-5-main.dwo")).unwrap();
-    told(&home, &call, &[main, race, "barthovin: 2 of 3 files can't be taken\n".to_string()].concat(), 1);
+    told(&home, &call, &[main, race, "barthovin: 2 of 3 objects can't be taken\n".to_string()].concat(), 1);
 }
 
 /// Sections that no package has a place for.

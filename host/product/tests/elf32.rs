@@ -151,7 +151,7 @@ fn wrong_files_of_32_bits_are_refused_with_the_cause() {
         refused(&good[..has], &format!("{not_elf}: its {count} section headers end at byte {end}, and it has {has}"));
         let mut compressed = good.clone();
         compressed[other_at + if read.big { 10 } else { 9 }] = 8;
-        refused(&compressed, &format!("{unusable}: .debug_abbrev.dwo is compressed; compile without -gz"));
+        refused(&compressed, &format!("{unusable}: .debug_abbrev.dwo is compressed; compile without -gz, or call objcopy --decompress-debug-sections FILE NEW"));
         refused(&put(info_at + 4, 4, 8), &format!("{unusable}: .debug_info.dwo has no bytes in the file"));
         let mut relocated = put(other_at + 4, 4, 9);
         relocated[if read.big { other_at + 31 } else { other_at + 28 }] = info as u8;
@@ -210,7 +210,7 @@ fn the_machine_is_named() {
         assert_eq!(done(&home, &["pack", name, "-o", "new.dwp"]), usual);
         assert_eq!(machine(&home, "new.dwp"), 62);
         let json = done(&home, &["pack", name, "-o", "new.dwp", "--json"]);
-        assert!(json.contains(",\"machine\":62}"), "{json}");
+        assert!(json.contains(",\"machine\":62,"), "{json}");
     }
     let named = [
         ("x86-64", 62),

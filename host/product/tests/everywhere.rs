@@ -59,13 +59,20 @@ fn machines() {
         ("FORMAT.md", between(&format, "### 8.3 ", "\n##").to_string()),
         ("barthovin.h", between(&header, "The machine is", "*/").to_string()),
     ];
-    for (name, number) in MACHINES {
+    for (name, _) in MACHINES {
         for (place, text) in &names {
             assert!(has(text, name), "{place} lacks the machine {name}");
         }
+    }
+    // The call that takes three, and the one that takes any.
+    for number in [62, 183, 243] {
+        assert!(MACHINES.iter().any(|(_, known)| *known == number));
         for (place, text) in &numbers {
             assert!(has(text, &number.to_string()), "{place} lacks the machine {number}");
         }
+    }
+    for text in [between(&format, "### 8.5 ", "\n##"), between(&header, "for any machine", "*/"), meaning(36)] {
+        assert!(text.contains("from 1 to 65,535"), "{text}");
     }
 }
 
@@ -90,7 +97,9 @@ fn refusals_of_an_entry() {
     let entries = [
         ("### 13.3 ", "barthovin_lookup_batch"),
         ("### 13.4 ", "barthovin_read_elf"),
+        ("### 13.4 ", "barthovin_read_elf32"),
         ("### 13.5 ", "barthovin_write_elf"),
+        ("### 13.5 ", "barthovin_write_elf_for"),
         ("### 13.6 ", "barthovin_sheet"),
         ("### 13.7 ", "barthovin_archive_profile"),
     ];

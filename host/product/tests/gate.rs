@@ -20,6 +20,12 @@ ci)
     for file in Makefile crates.txt tools/rt crates/archive/out/kept target/kept; do test -e $file || exit 3; done
     touch checked
     echo 'rt: much is proved, 1 bad'
+    laws=$(grep -v '^#' tools/laws.txt | cut -d ' ' -f 1)
+    test ! -e law-lost || laws=$(echo \"$laws\" | tail -n +2)
+    for crate in $(echo \"$laws\" | sed 's/::.*//' | sort -u); do
+        echo \"== $crate\"
+        echo \"$laws\" | sed -n \"s/^$crate::.*/fn &: proved/p\"
+    done
     cat ok 2> /dev/null || echo 'rt: ok; handles allowed: none; must-fail edits: 17 refused; every proof and must-fail edit was done in this run'
     cat last 2> /dev/null || echo '41 passed, 0 failed'
     test ! -e checker-fails ;;
@@ -81,7 +87,7 @@ fn laid_out(name: &str) -> Home {
         fs::create_dir_all(home.join(folder)).unwrap();
     });
     ["crates/archive/out/kept", "target/kept"].into_iter().for_each(|file| fs::write(home.join(file), "").unwrap());
-    for file in ["Makefile", "crates.txt"] {
+    for file in ["Makefile", "crates.txt", "tools/laws.txt", "tools/laws-proved"] {
         fs::copy(format!("{ROOT}/{file}"), home.join(file)).unwrap();
     }
     for (tool, script) in [("rt", CHECKER), ("cargo", CARGO)] {
@@ -139,6 +145,9 @@ fn the_gate_reads_what_the_checker_says() {
         let (passes, told) = after(wrong.0, wrong.1);
         assert!(!passes && !told.contains("tests of the host: "), "{wrong:?}");
     }
+    // A law that nothing proves any more fails it too.
+    let (passes, told) = after("law-lost", "");
+    assert!(!passes && !told.contains("tests of the host: "));
     // The last line is plain also where the checker's has something behind it.
     let (passes, told) = after("last", "39 passed, 0 failed (all of them kept)");
     assert!(passes && told.ends_with("\n39 passed, 0 failed\n"));

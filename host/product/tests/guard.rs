@@ -76,7 +76,7 @@ fn nothing_is_appended_to_what_is_read() {
 #[test]
 fn a_dwo_file_is_left_alone() {
     let home = laid_out("guard-dwo");
-    let file = "it is a .dwo file, perhaps the only copy";
+    let file = "it holds debug sections to be packed, as a .dwo file does, perhaps the only copy";
     left_alone(&home, "$B pack -o *.dwo", &format!("big.dwo: {file}"));
     left_alone(&home, "$B pack race.dwo -o main.dwo", &format!("main.dwo: {file}"));
     left_alone(&home, "$B bundle race.dwo -o main.dwo", &format!("main.dwo: {file}"));

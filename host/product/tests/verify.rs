@@ -69,7 +69,7 @@ fn what_was_packed_is_found() {
         }
     }
     let output = run_in(&home, &["verify", "-", EXAMPLE, "--json"], &bytes(PACKAGE));
-    let told = "{\"verified\":true,\"units\":1,\"repeats\":0,\"namesakes\":0,\"strings\":0,\"files\":1,\"objects\":1,\"faults\":[]}\n";
+    let told = "{\"verified\":true,\"units\":1,\"repeats\":0,\"namesakes\":0,\"strings\":0,\"files\":1,\"objects\":1,\"with_code\":[],\"faults\":[]}\n";
     assert_eq!((text(&output), status(&output)), (told.to_string(), 0));
 }
 
@@ -167,6 +167,33 @@ fn the_package_is_no_copy_of_itself() {
     let output = run_in(&home, &["verify", "package", "copy", "file"], &[]);
     let told = "2 files, 2 objects: 2 units, 0 strings: all found; the files may be deleted\n";
     assert_eq!((text(&output).as_str(), message(&output).as_str(), status(&output)), (told, "", 0));
+}
+
+/// An object file that was not split, as `-gsplit-dwarf=single` makes it, has what the program is made of beside its debug sections.
+#[test]
+fn a_file_with_code_is_kept() {
+    let home = directory("with-code");
+    let files = files(5, false);
+    let mut object = fs::read(&files[0]).unwrap();
+    let field = |at: usize, width: usize| number(&object, at, width, false).unwrap() as usize;
+    // The section of the sections' names gets the flag of those that are loaded.
+    let names = field(40, 8) + 64 * field(62, 2);
+    object[names + 8] |= 2;
+    fs::write(home.join("main.o"), &object).unwrap();
+    fs::write(home.join("other.o"), &object).unwrap();
+    assert_eq!(status(&run_in(&home, &["pack", "main.o", &files[1], "-o", "package"], &[])), 0);
+    let told = |files: &[&str], wanted: &str| {
+        let output = run_in(&home, &[&["verify", "package"], files].concat(), &[]);
+        assert!(text(&output).ends_with(&format!(": all found; {wanted}\n")), "{}", text(&output));
+        assert_eq!((message(&output), status(&output)), (String::new(), 0));
+    };
+    let rest = "; the other files may be deleted";
+    told(&["main.o"], "main.o has code or data besides: keep it");
+    told(&["main.o", &files[1]], &format!("main.o has code or data besides: keep it{rest}"));
+    told(&[&files[1], "main.o", "other.o"], &format!("main.o and other.o have code or data besides: keep them{rest}"));
+    told(&[&files[1]], "the files may be deleted");
+    let json = text(&run_in(&home, &["verify", "--json", "package", "main.o", &files[1]], &[]));
+    assert!(json.contains(",\"with_code\":[\"main.o\"],\"faults\":[]}"), "{json}");
 }
 
 /// Where nothing was looked for, nothing is found.

@@ -1,6 +1,7 @@
 //! Files that are packed: ELF files and bundles, told apart by their first bytes, each made a bundle and all joined under one head.
 
 use super::call::Call;
+use super::frame::has_code;
 use super::input::Most;
 use super::refusals::{without_debug, Refusal, Refusals};
 use super::uncarried::Uncarried;
@@ -46,6 +47,8 @@ pub struct Joined {
     pub left_out: Vec<String>,
     /// Sections of debug information that packages have no place for.
     pub uncarried: Uncarried,
+    /// Files that hold code or data of the program besides.
+    pub with_code: Vec<String>,
     /// The first file of which something is in the bundle.
     first: String,
 }
@@ -159,7 +162,7 @@ fn joined(call: &Call, package: Option<&Taken>, names: &[OsString]) -> Result<Jo
     if let Some(package) = package {
         joined.put_package(call, package)?;
     }
-    let (mut bytes, mut refusals, mut put) = (Vec::new(), Refusals::of(call, names.len()), 0);
+    let (mut bytes, mut refusals, mut put) = (Vec::new(), Refusals::of(call, show::count(names.len(), "file")), 0);
     for name in names {
         let shown = input::shown(name);
         if let Err(stop) = input::read_into(name, &BUNDLE_OR_ELF, &mut bytes) {
@@ -173,6 +176,7 @@ fn joined(call: &Call, package: Option<&Taken>, names: &[OsString]) -> Result<Jo
         match if is_elf { joined.put_file(&bytes, &shown) } else { joined.put_bundle(&bytes, &shown) } {
             Ok(()) => put += 1,
             Err(refusal) if refusal.is_of_no_unit() && !call.has("strict") && explain::has_no_debug(&bytes) => {
+                joined.with_code.extend(has_code(&bytes).then(|| shown.clone()));
                 joined.left_out.push(shown);
             }
             Err(refusal) => refusals.push(refusal),
@@ -203,6 +207,7 @@ impl Joined {
             machine: None,
             left_out: Vec::new(),
             uncarried: Uncarried::default(),
+            with_code: Vec::new(),
             first: String::new(),
         }
     }
@@ -254,6 +259,7 @@ impl Joined {
         }
         self.bundle.truncate(end - WORD);
         self.took(shown);
+        self.with_code.extend(has_code(file).then(|| shown.to_string()));
         self.files.push(shown.to_string());
         self.uncarried.add(shown, file);
         Ok(())

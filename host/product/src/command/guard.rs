@@ -1,15 +1,15 @@
 //! What is not written over without `--force`: a file that is read, and a `.dwo` file. Both may be the only copy.
 
 use super::call::Call;
+use super::frame::Frame;
 use super::output::{self, descriptor, is_same, Place};
 use super::{input, Stop};
-use crate::elf;
-use crate::reader::number;
 use std::ffi::{OsStr, OsString};
 use std::fs::{self, File, Metadata};
 use std::io;
 use std::os::unix::ffi::OsStrExt;
 use std::os::unix::fs::FileExt;
+use std::path::Path;
 
 const STANDARD_INPUT: i32 = 0;
 
@@ -33,8 +33,8 @@ pub fn judge(call: &Call, to: &OsStr, files: &[OsString]) -> Result<(), Stop> {
         return refused(format!("it is the same file as {}, which is read", input::shown(name)));
     }
     match place {
-        Place::File(path) if package.is_none() && File::open(&path).and_then(|file| is_dwo(&file)).unwrap_or(false) => {
-            refused("it is a .dwo file, perhaps the only copy".to_string())
+        Place::File(path) if package.is_none() && is_dwo(&path) => {
+            refused("it holds debug sections to be packed, as a .dwo file does, perhaps the only copy".to_string())
         }
         _ => Ok(()),
     }
@@ -68,40 +68,8 @@ pub fn is_one_file(read: &OsStr, other: &OsStr) -> bool {
     read != "-" && file(read).as_ref() == Some(&path) || fs::metadata(path).is_ok_and(|there| is_file(read, &there))
 }
 
-/// The fields of an ELF file that lead to the names of its sections, as 64 and as 32 bits place them.
-struct Layout {
-    /// Of the header: where the section headers stand; from the field of their length on, that length, their number and the names' number.
-    headers: (usize, usize),
-    sizes: usize,
-    /// Of a section header: where the section stands and its length.
-    offset: (usize, usize),
-    size: (usize, usize),
-}
-
-const HEADER: usize = 64;
-const WIDE: Layout = Layout { headers: (40, 8), sizes: 58, offset: (24, 8), size: (32, 8) };
-const NARROW: Layout = Layout { headers: (32, 4), sizes: 46, offset: (16, 4), size: (20, 4) };
-
-/// The longest names that are looked at.
-const LONGEST_NAMES: u64 = 1 << 24;
-
-/// Whether a file is a relocatable ELF file with sections that are packed, and no index: compilers write such files, and packers don't.
-fn is_dwo(file: &File) -> io::Result<bool> {
-    let mut header = [0; HEADER];
-    file.read_exact_at(&mut header, 0)?;
-    let big = header[5] == 2;
-    let layout = if header[4] == 1 { NARROW } else { WIDE };
-    let field = |from: &[u8], (at, width)| number(from, at, width, big).unwrap_or(0);
-    if !header.starts_with(elf::MAGIC) || field(&header, (16, 2)) != 1 {
-        return Ok(false);
-    }
-    let (length, names) = (field(&header, (layout.sizes, 2)), field(&header, (layout.sizes + 4, 2)));
-    let mut section = [0; HEADER];
-    let section = &mut section[..HEADER.min(length as usize)];
-    file.read_exact_at(section, field(&header, layout.headers).saturating_add(length * names))?;
-    let mut names = vec![0; field(section, layout.size).min(LONGEST_NAMES) as usize];
-    file.read_exact_at(&mut names, field(section, layout.offset))?;
-    let has = |part: &str| names.windows(part.len()).any(|window| window == part.as_bytes());
-    let is_packed = |name: &[u8]| name.ends_with(b".dwo") && name.windows(6).any(|part| part == b"debug_");
-    Ok(names.split(|b| *b == 0).any(is_packed) && !has("debug_cu_index\0") && !has("debug_tu_index\0"))
+/// Whether a `.dwo` file stands there, whatever its name.
+fn is_dwo(path: &Path) -> bool {
+    let Ok(file) = File::open(path) else { return false };
+    Frame::of(&|buffer, at| file.read_exact_at(buffer, at)).is_some_and(|frame| frame.is_dwo())
 }

@@ -100,10 +100,11 @@ Usage: barthovin verify [OPTION]... PACKAGE FILE...
 Look for every unit of the files in a package, with its parts and strings, and say whether the files may be deleted.
 
 PACKAGE is a file, as it is or as an ELF file (.dwp); FILE is what was packed into it, in the same order: ELF files (.dwo), bundles or
-@LIST, as pack takes it, and not PACKAGE itself. One of them may be - for standard input. Parts are compared byte for byte and strings letter for letter where the proved lookups
-find them. Of type units with one signature the package has the first; the others are often in other bytes, since they count strings and
-abbreviations as their own file does. Of the files only the debug sections are compared, the rest is not in the package. How many files were read is said, and how many objects
-they have; where no unit was looked for the files are to be kept.
+@LIST, as pack takes it, and not PACKAGE itself. One of them may be - for standard input. Parts are compared byte for byte and strings
+letter for letter where the proved lookups find them. Of type units with one signature the package has the first; the others are often in
+other bytes, since they count strings and abbreviations as their own file does. Of the files only the debug sections are compared, the
+rest is not in the package. How many files were read is said, and how many objects they have; where no unit was looked for, or a file has
+code or data besides, that is said, and it is to be kept.
 
       --json      write the answer as a JSON object
   -h, --help      show this help and exit

@@ -32,7 +32,7 @@ pub fn meaning(number: u32) -> &'static str {
         33 => "there is no unit of DWARF version 4 or 5 to pack",
         34 => "the parts of str_offsets overlap, have gaps or end outside the section",
         35 => "the page is too short",
-        36 => "this is no machine that the file can be written for",
+        36 => "machines are 62 (x86-64), 183 (AArch64) and 243 (RISC-V), or any from 1 to 65,535 where it is asked for",
         37 => "the output is too short",
         38 => "the questions are ill-formed or more than 1,024, or the answers don't fit",
         _ => "an unknown refusal",

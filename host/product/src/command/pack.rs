@@ -231,7 +231,7 @@ fn all_told(call: &Call, joined: &Joined, first: u32) -> Option<Stop> {
     if all.len() < 2 || all[0].number != first {
         return None;
     }
-    let mut refusals = Refusals::of(call, joined.files.len());
+    let mut refusals = Refusals::of(call, show::count(joined.files.len(), "object"));
     all.into_iter().for_each(|Refused { object, number, why }| refusals.add(&joined.files[object - 1], number, why));
     Some(refusals.stop())
 }

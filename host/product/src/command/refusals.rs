@@ -51,7 +51,7 @@ impl Refusal {
     }
 
     pub fn stop(self, call: &Call) -> Stop {
-        let mut refusals = Refusals::of(call, 1);
+        let mut refusals = Refusals::of(call, String::new());
         refusals.push(self);
         refusals.stop()
     }
@@ -60,7 +60,8 @@ impl Refusal {
 /// What can't be taken of so many files: all of it is told at once, so that no file has to wait for another one's turn.
 pub struct Refusals<'c> {
     call: &'c Call,
-    files: usize,
+    /// What it is a part of: so many files, or so many objects.
+    all: String,
     lines: Vec<String>,
     /// The first number, which is told as JSON too.
     number: Option<u32>,
@@ -68,8 +69,8 @@ pub struct Refusals<'c> {
 }
 
 impl<'c> Refusals<'c> {
-    pub fn of(call: &'c Call, files: usize) -> Refusals<'c> {
-        Refusals { call, files, lines: Vec::new(), number: None, is_trouble: false }
+    pub fn of(call: &'c Call, all: String) -> Refusals<'c> {
+        Refusals { call, all, lines: Vec::new(), number: None, is_trouble: false }
     }
 
     pub fn push(&mut self, refusal: Refusal) {
@@ -110,7 +111,7 @@ impl<'c> Refusals<'c> {
         }
         if self.lines.len() > 1 {
             let count = self.lines.len();
-            self.lines.push(format!("{count} of {} can't be taken", show::count(self.files, "file")));
+            self.lines.push(format!("{count} of {} can't be taken", self.all));
         }
         let message = self.lines.join("\nbarthovin: ");
         if self.is_trouble {

@@ -37,7 +37,7 @@ pub fn run(arguments: &[OsString]) -> Result<u8, Stop> {
     let faults: Vec<(String, String)> = faults.chain(joined.uncarried.faults()).collect();
     let verified = faults.is_empty() && report.units > 0;
     if call.has("json") {
-        output::print(&json(&report, files.len(), &faults))?;
+        output::print(&json(&report, files.len(), &joined.with_code, &faults))?;
         return Ok(if verified { DONE } else { NOT_DONE });
     }
     let package = input::shown(name);
@@ -49,7 +49,7 @@ pub fn run(arguments: &[OsString]) -> Result<u8, Stop> {
         let told = format!("{package}: not verified: {read}: no unit was looked for: keep the files");
         return Err(Stop::Refused(told));
     }
-    output::print(&format!("{read}: {}", found(&report)))
+    output::print(&format!("{read}: {}; {}", found(&report), may_go(files.len(), &joined.with_code)))
 }
 
 /// A fault's file and what is wrong there.
@@ -76,7 +76,18 @@ fn counts(report: &Report) -> String {
 fn found(report: &Report) -> String {
     let skipped = Some(report.skipped).filter(|skipped| *skipped != Skipped::default());
     let skipped = skipped.map(|skipped| format!("; {}", show::skipped(skipped))).unwrap_or_default();
-    format!("{}: all found{skipped}; the files may be deleted", counts(report))
+    format!("{}: all found{skipped}", counts(report))
+}
+
+/// Which files may be deleted: an object file that was not split holds its debug sections beside the program's.
+fn may_go(files: usize, with_code: &[String]) -> String {
+    let Some((last, others)) = with_code.split_last() else { return "the files may be deleted".to_string() };
+    let names = match others {
+        [] => format!("{last} has code or data besides: keep it"),
+        _ => format!("{} and {last} have code or data besides: keep them", others.join(", ")),
+    };
+    let rest = if with_code.len() < files { "; the other files may be deleted" } else { "" };
+    format!("{names}{rest}")
 }
 
 fn not_found(package: &str, report: &Report, faults: &[(String, String)]) -> String {
@@ -88,15 +99,17 @@ fn not_found(package: &str, report: &Report, faults: &[(String, String)]) -> Str
     told + "\nbarthovin: keep the files"
 }
 
-fn json(report: &Report, files: usize, faults: &[(String, String)]) -> String {
+fn json(report: &Report, files: usize, with_code: &[String], faults: &[(String, String)]) -> String {
     let fault =
         |(file, what): &(String, String)| format!("{{\"file\":{},\"what\":{}}}", show::json(file), show::json(what));
     let faults: Vec<String> = faults.iter().map(fault).collect();
+    let with_code: Vec<String> = with_code.iter().map(|file| show::json(file)).collect();
     let verified = faults.is_empty() && report.units > 0;
     let Report { objects, units, skipped: Skipped { repeats, namesakes }, strings, .. } = report;
     let counts = format!("\"units\":{units},\"repeats\":{repeats},\"namesakes\":{namesakes},\"strings\":{strings}");
     format!(
-        "{{\"verified\":{verified},{counts},\"files\":{files},\"objects\":{objects},\"faults\":[{}]}}",
+        "{{\"verified\":{verified},{counts},\"files\":{files},\"objects\":{objects},\"with_code\":[{}],\"faults\":[{}]}}",
+        with_code.join(","),
         faults.join(",")
     )
 }

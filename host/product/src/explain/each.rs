@@ -14,6 +14,8 @@ use std::time::{Duration, Instant};
 /// After this time no more is asked, and what was found by then is told.
 const PATIENCE: Duration = Duration::from_secs(2);
 
+/// The refusals of what an object states, by itself and beside the first one.
+const ENCODING: u32 = 4;
 const OTHER_ENCODING: u32 = 5;
 const SEEN: u32 = 14;
 
@@ -34,10 +36,13 @@ pub fn each(bytes: &[u8], names: &Names) -> Vec<Refused> {
         if Instant::now() > end {
             break;
         }
-        let found = alone(bytes, object, number, names)
-            .or_else(|| differs(object, &bundle.objects[0], number, names))
-            .or_else(|| was_there(object, number, names, &mut first));
-        refused.extend(found);
+        let alone = alone(bytes, object, number, names);
+        // In the packer's order: what the object states is judged first, then whether others state the same.
+        let found = match alone {
+            Some(refused) if refused.number == ENCODING => Some(refused),
+            _ => differs(object, &bundle.objects[0], number, names).or(alone),
+        };
+        refused.extend(found.or_else(|| was_there(object, number, names, &mut first)));
     }
     refused
 }
