@@ -111,8 +111,7 @@ fn all_are_told_at_once() {
         lines + &format!("barthovin: {} of {all} can't be taken\n", wanted.len())
     };
     let lines = |wanted: &[&str], files: usize| lines_of(wanted, &format!("{files} files"));
-    let short =
-        "short: refused 31: this is no relocatable ELF64 file, or it is cut off: it has 40 bytes and is cut off";
+    let short = "short: refused 31: this is no relocatable ELF file, or it is cut off: it has 40 bytes and is cut off";
     let text = "text: refused 1: a bundle has 8 to 4,194,304 bytes, a multiple of 4: it has 10 bytes; it is a text: a list of files has @ before its name";
     let order = "big.dwo: its byte order is not that of gcc-5-main.dwo";
     let call = ["pack", "short", "gcc-5-main.dwo", "text", "gcc-5-race.dwo", "big.dwo", "-o", "new"];

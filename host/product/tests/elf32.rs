@@ -229,12 +229,11 @@ fn the_machine_is_named() {
         assert_eq!(done(&home, &["pack", EXAMPLE, "-o", "new.dwp", "--machine", name]), "");
         assert_eq!(machine(&home, "new.dwp"), number);
     }
-    for name in ["vax", "0", "65536", "-1", "4 0", "0x28", ""] {
+    let known = "x86-64, aarch64, arm, riscv64, riscv32, i386, powerpc, powerpc64, mips, or a number from 1 to 65535";
+    for name in ["vax", "0", "65536", "-1", "+1", "4 0", "0x28", ""] {
         let output = run_in(&home, &["pack", EXAMPLE, "-o", "other.dwp", "--machine", name], &[]);
-        let wanted = format!(
-            "barthovin: unknown machine '{name}': x86-64, aarch64, arm, riscv64, riscv32, i386, powerpc, powerpc64, mips, \
-             or a number from 1 to 65535\nTry 'barthovin pack --help' for more information.\n"
-        );
-        assert_eq!((message(&output), status(&output)), (wanted, 2));
+        let told = message(&output);
+        assert!(told.starts_with("barthovin: unknown machine '") && told.contains(known), "{told}");
+        assert_eq!((status(&output), home.join("other.dwp").exists()), (2, false));
     }
 }
