@@ -44,7 +44,7 @@ module _ (f names : List ℕ) where
       let c : code_of names h ≢ 0 = eqb-false (code_of names h) 0 (not-true (eqb (code_of names h) 0) w) in
       record { least = omega arith; most = code_most names h; short = omega (arith, leb-true (length (body_of f h)) section_limit s) }
 
-  pub storable : (hs : List Header) → all short (map one (those (is_wanted names) hs)) ≡ true → Every Storable (map one (those (is_wanted names) hs))
+  storable : (hs : List Header) → all short (map one (those (is_wanted names) hs)) ≡ true → Every Storable (map one (those (is_wanted names) hs))
   unfolding those
   storable [] a = nothing
   storable (h ∷ hs) a = go (is_wanted names h) refl (storable hs) a
@@ -68,7 +68,7 @@ body_bytes f h b = go (unstored h)
     go true = bytes_none
     go false = bytes_part f h.offset h.size b
 
-pub info_bytes : (f names : List ℕ) (hs : List Header) → Bytes f → Bytes (first_info f names hs)
+info_bytes : (f names : List ℕ) (hs : List Header) → Bytes f → Bytes (first_info f names hs)
 unfolding first_info
 info_bytes f names [] b = bytes_none
 info_bytes f names (h ∷ hs) b = go (eqb (code_of names h) info_code && not (eqb (length (body_of f h)) 0)) (info_bytes f names hs b)
@@ -90,7 +90,7 @@ unfolding object_word
 word_small e (inl v) w a = omega arith
 word_small e (inr v) w a = omega arith
 
-pub word_kind : (big : Bool) (s : List ℕ) (e : Encoding) → Bytes s → unit_stated big s ≡ pass e → object_word e / 0x100_0000 ≡ 16
+word_kind : (big : Bool) (s : List ℕ) (e : Encoding) → Bytes s → unit_stated big s ≡ pass e → object_word e / 0x100_0000 ≡ 16
 unfolding unit_stated encoding_stated version_stated
 word_kind big s e b h =
     let x = encoding_stated big s in

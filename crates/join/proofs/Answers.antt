@@ -7,7 +7,7 @@ use Prim.Native.Nat.{ℕ, ◌+◌, ◌-◌, ◌≤◌, ◌<◌}
 use native.Mathlib.Omega.{arith}
 use native.Mathlib.Decide.{dec_le}
 use lib.Dec.{eqb, leb}
-use lib.ListN.{length, take, drop}
+use lib.ListN.{length, take, drop, get_or}
 use lib.Seq.{take_all, length-take-le}
 use borrow.Author.Tests.{ne_eqb, le-leb, lt-leb, leb-true, leb-false}
 use Rattle.octets.specs.Octets.{padded, zeros, number, number_at}
@@ -16,12 +16,13 @@ use Rattle.octets.proofs.Parts.{part_take}
 use Rattle.octets.proofs.Placed.{padded_none}
 use Rattle.bundle.specs.Bundle.{Bundle, bundle_of}
 use Rattle.elf.specs.Reader.{bundle_read}
+use Rattle.elf.specs.Elf32.{bundle32_read}
 use Rattle.answers.proofs.Answering.{made_output}
 use Rattle.octets.proofs.Checks.{bind_pass, bind_refuse, require_pass, require_refuse, pass_inj, refuse_inj, pass_refuse, passes, fails, then_pass, then_refuse, known, true_false}
 use Rattle.numbers.specs.Limits.{package_limit}
 use Rattle.answers.specs.Answers.{Answer, refused, short, made, answered, written_of, output_of}
 use Rattle.answers.specs.declared.Written.{Written}
-use Rattle.join.specs.Join.{starts_elf, as_it_is, as_bundle, file_bundle, head_of, framed, behind, joined_with, joined_behind, joined, joining, memory_after}
+use Rattle.join.specs.Join.{starts_elf, elf_bundle, as_it_is, as_bundle, file_bundle, head_of, framed, behind, joined_with, joined_behind, joined, joining, memory_after}
 use Rattle.join.specs.Held.{file_head, answer_behind}
 use Rattle.join.proofs.Bundles.{Plain, Sized, file_sized, file_plain}
 use Rattle.join.proofs.Memory.{length_behind, lent_length}
@@ -215,9 +216,17 @@ mapped_pass g (refuse m) b e = absurd (pass_refuse b m e)
 
 -- ---- the file alone
 module _ (f : List ℕ) where
-  pub file_elf : starts_elf f ≡ true → bundle_read f ≡ file_bundle f
+  pub file_elf : starts_elf f ≡ true → elf_bundle f ≡ file_bundle f
   unfolding file_bundle
   file_elf e = sym (rw e)
+
+  pub class_32 : eqb (get_or f 4 0) 1 ≡ true → bundle32_read f ≡ elf_bundle f
+  unfolding elf_bundle
+  class_32 e = sym (rw e)
+
+  pub class_64 : eqb (get_or f 4 0) 1 ≡ false → bundle_read f ≡ elf_bundle f
+  unfolding elf_bundle
+  class_64 e = sym (rw e)
 
   pub file_other : starts_elf f ≡ false → as_bundle f ≡ file_bundle f
   unfolding file_bundle

@@ -11,7 +11,7 @@ use Rattle.answers.specs.Answers.{Answer, refused, short, made, answered}
 use Rattle.bundle.specs.Bundle.{filled_up, object_step, section_step, end_step, step_of, step_at, followed, items_from, items, leading, objects_of, object_first, bundle_of}
 use Rattle.bundle.specs.Written.{Section, word_bytes, head_bytes, section_bytes, object_bytes, end_bytes, written}
 use Rattle.bundle.proofs.Examples.{words}
-use Rattle.join.specs.Join.{as_it_is, as_bundle, file_bundle, framed, contents, behind, joined_with, joined_behind, joined, joining, memory_after, starts_elf}
+use Rattle.join.specs.Join.{elf_bundle, as_it_is, as_bundle, file_bundle, framed, contents, behind, joined_with, joined_behind, joined, joining, memory_after, starts_elf}
 
 -- a bundle of one object with one section, one of another object, and both joined
 abbrev first : List ℕ
@@ -52,7 +52,7 @@ Joins =
     × (joined (words (0xF000_0000 ∷ 0x5 ∷ 0x3000_0003 ∷ [])) none ≡ pass (words (0xF000_0000 ∷ 0x5 ∷ 0x3000_0003 ∷ [])))
 
 pub joins : Joins
-unfolding part little number number_at little_of bytes_of numbers_of zeros concat all ◌>>=◌ require filled_up object_step section_step end_step step_of step_at followed items_from items leading objects_of object_first bundle_of word_bytes end_bytes as_it_is as_bundle file_bundle framed contents behind starts_elf joined_with joined_behind joined
+unfolding elf_bundle part little number number_at little_of bytes_of numbers_of zeros concat all ◌>>=◌ require filled_up object_step section_step end_step step_of step_at followed items_from items leading objects_of object_first bundle_of word_bytes end_bytes as_it_is as_bundle file_bundle framed contents behind starts_elf joined_with joined_behind joined
 joins = (refl, refl, refl, refl, refl, refl, refl, refl, refl, refl, refl, refl)
 
 -- memory with room, without, and after refusals
@@ -68,5 +68,5 @@ Memories =
     × (joining (1 ∷ 2 ∷ []) 0 second ≡ short 20)
 
 pub memories : Memories
-unfolding part little number number_at little_of bytes_of numbers_of zeros padded concat all ◌>>=◌ require filled_up object_step section_step end_step step_of step_at followed items_from items leading objects_of object_first bundle_of word_bytes end_bytes as_it_is as_bundle file_bundle framed contents behind starts_elf joined_with joined_behind joined answered joining memory_after
+unfolding elf_bundle part little number number_at little_of bytes_of numbers_of zeros padded concat all ◌>>=◌ require filled_up object_step section_step end_step step_of step_at followed items_from items leading objects_of object_first bundle_of word_bytes end_bytes as_it_is as_bundle file_bundle framed contents behind starts_elf joined_with joined_behind joined answered joining memory_after
 memories = (refl, refl, refl, refl, refl, refl, refl, refl)

@@ -13,17 +13,16 @@ use Rattle.octets.proofs.Placed.{length_padded}
 use Rattle.answers.specs.Answers.{Answer, refused, short, made, answered, written_of, output_of}
 use Rattle.answers.specs.declared.Written.{Written}
 use Rattle.answers.proofs.Answering.{made_output}
-use Rattle.elf.specs.Reader.{bundle_read}
 use Rattle.lookup.specs.Lookup.{Package, package_of}
 use Rattle.lookup.specs.Answers as lookups
 use Rattle.lookup.specs.declared.opening.PackageHead.{PackageHead}
-use Rattle.join.specs.Join.{starts_elf}
+use Rattle.join.specs.Join.{starts_elf, elf_bundle}
 use Rattle.join.specs.Open.{words_of, made_package, judged, opened}
 use Rattle.join.proofs.Bundles.{Plain, read_plain}
 use Rattle.join.proofs.Answers.{Plainly, Fits, code_made, mapped_refuse, mapped_pass}
 
 module _ (f : List ℕ) where
-  pub words_elf : starts_elf f ≡ true → bundle_read f ≡ words_of f
+  pub words_elf : starts_elf f ≡ true → elf_bundle f ≡ words_of f
   unfolding words_of
   words_elf e = sym (rw e)
 
@@ -35,7 +34,7 @@ module _ (f : List ℕ) where
   unfolding words_of
   words_plain n = go (starts_elf f)
     where
-      go : (t : Bool) → cond t (bundle_read f) (pass f) ≡ refuse n → Plain n
+      go : (t : Bool) → cond t (elf_bundle f) (pass f) ≡ refuse n → Plain n
       go true e = read_plain f n e
       go false e = absurd (pass_refuse f n e)
 

@@ -1,5 +1,5 @@
 -- Files joined to one bundle: the objects of each file stand behind those of the files before it.
-use Rattle.std.specs.Prelude.{Bool, false, ◌&&◌, ◌||◌, List, [], ◌++◌, ℕ, ◌+◌, ◌-◌, ◌/◌, ◌%◌, ◌==◌, nat_le, if◌then◌else◌, length, take, drop}
+use Rattle.std.specs.Prelude.{Bool, false, ◌&&◌, ◌||◌, List, [], ◌++◌, ℕ, ◌+◌, ◌-◌, ◌/◌, ◌%◌, ◌==◌, nat_le, if◌then◌else◌, length, take, drop, slice_index}
 use Rattle.octets.specs.Octets.{number_at, padded}
 use Rattle.octets.specs.Checked.{Check, pass, ◌>>=◌, require}
 use Rattle.numbers.specs.Limits.{package_limit}
@@ -8,6 +8,7 @@ use Rattle.answers.specs.Answers.{Answer, refused, short, made, answered}
 use Rattle.bundle.specs.Bundle.{bundle_of}
 use Rattle.bundle.specs.Written.{end_bytes}
 use Rattle.elf.specs.Reader.{bundle_read}
+use Rattle.elf.specs.Elf32.{bundle32_read}
 
 -- the refusal of a file whose byte order is not that of the bundle
 abbrev pub other_order : ℕ
@@ -26,9 +27,12 @@ as_it_is f = require (nat_le (length f) package_limit) section_too_long >>= λ _
 unfoldable pub as_bundle : List ℕ → Check (List ℕ)
 as_bundle f = bundle_of f >>= λ _. as_it_is f
 
--- an ELF file is read into one (31 to 33, 19)
+-- an ELF file is read into one (31 to 33, 19), by its class: 1 is 32 bits
+unfoldable pub elf_bundle : List ℕ → Check (List ℕ)
+elf_bundle f = if slice_index f 4 == 1 then bundle32_read f else bundle_read f
+
 unfoldable pub file_bundle : List ℕ → Check (List ℕ)
-file_bundle f = if starts_elf f then bundle_read f else as_bundle f
+file_bundle f = if starts_elf f then elf_bundle f else as_bundle f
 
 -- ---- the bundle joined so far. Only its head word and its end word are looked at: each file was judged when it was joined
 abbrev pub head_of : List ℕ → ℕ

@@ -2,13 +2,12 @@
 use Rattle.std.specs.Prelude.{List, ℕ, if◌then◌else◌}
 use Rattle.octets.specs.Checked.{Check, pass, refuse}
 use Rattle.answers.specs.Answers.{Answer, refused, short, made, answered}
-use Rattle.elf.specs.Reader.{bundle_read}
 use Rattle.lookup.specs.Lookup.{Package, package_of}
-use Rattle.join.specs.Join.{starts_elf}
+use Rattle.join.specs.Join.{starts_elf, elf_bundle}
 
 -- an ELF file is read (31 to 33, 19), and any other taken as it is
 unfoldable pub words_of : List ℕ → Check (List ℕ)
-words_of f = if starts_elf f then bundle_read f else pass f
+words_of f = if starts_elf f then elf_bundle f else pass f
 
 -- 21: no package, though the reader made something of the file
 unfoldable pub made_package : List ℕ → Check Package → Answer

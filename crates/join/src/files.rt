@@ -1,11 +1,11 @@
 // One file as a bundle: an ELF file is read, and a bundle or a package is taken as it is.
-ghost use Rattle.std.specs.Prelude.{◌≡◌, ◌≤◌, length};
+ghost use Rattle.std.specs.Prelude.{◌≡◌, ◌==◌, ◌≤◌, length, slice_index};
 ghost use Rattle.octets.specs.Octets.{zeros};
 ghost use Rattle.octets.specs.Checked.{pass};
 ghost use Rattle.numbers.specs.Refused.{number_of};
 ghost use Rattle.numbers.specs.Refusals.{output_short};
 ghost use Rattle.answers.specs.Answers.{output_of, written_of, answered};
-ghost use Rattle.join.specs.Join.{starts_elf, as_it_is, as_bundle, file_bundle};
+ghost use Rattle.join.specs.Join.{starts_elf, elf_bundle, as_it_is, as_bundle, file_bundle};
 ghost use Rattle.join.specs.Held.{file_head};
 
 use answers::Written;
@@ -19,6 +19,11 @@ const ELF: u32 = 0x464C_457F;
 const LITTLE_HEAD: u32 = 0xF000_0000;
 
 const BIG_HEAD: u32 = 0xF000_0001;
+
+// The byte of an ELF file that states its class, and what it says of 32 bits.
+const CLASS: usize = 4;
+
+const CLASS_32: u8 = 1;
 
 // The byte of an ELF file that states its byte order, and what it says of big-endian data.
 const ORDER: usize = 5;
@@ -49,6 +54,25 @@ pub fn file_head(file: &[u8]) -> u32
         BIG_HEAD
     } else {
         LITTLE_HEAD
+    }
+}
+
+// Whether the class of an ELF file is 32 bits.
+fn is_elf32(file: &[u8]) -> bool
+    ensures { result ≡ (slice_index file.now 4 == 1) }
+{
+    file.get(CLASS) == Some(&CLASS_32)
+}
+
+// The bundle of an ELF file of either class, and zeros; else zeros only.
+pub fn read_elf(file: &[u8], output: &mut [u8]) -> Written
+    ensures answer { result ≡ written_of (answered (elf_bundle file.now) (length output.old)) }
+    ensures output { output.new ≡ output_of (answered (elf_bundle file.now) (length output.old)) (length output.old) }
+{
+    if is_elf32(file) {
+        elf::reading::read_elf32(file, output)
+    } else {
+        elf::reading::read_elf(file, output)
     }
 }
 
@@ -134,7 +158,7 @@ pub fn put_file(file: &[u8], output: &mut [u8]) -> Written
     ensures output { output.new ≡ output_of (answered (file_bundle file.now) (length output.old)) (length output.old) }
 {
     if is_elf(file) {
-        elf::reading::read_elf(file, output)
+        read_elf(file, output)
     } else {
         put_bundle(file, output)
     }

@@ -12,7 +12,7 @@ fn put_words_of(file: &[u8], output: &mut [u8]) -> Written
     ensures output { output.new ≡ output_of (answered (words_of file.now) (length output.old)) (length output.old) }
 {
     if files::is_elf(file) {
-        elf::reading::read_elf(file, output)
+        files::read_elf(file, output)
     } else {
         files::put_words(file, output)
     }

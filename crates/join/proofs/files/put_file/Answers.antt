@@ -5,12 +5,10 @@ use Prim.Native.Nat.{ℕ}
 use lib.ListN.{length}
 use Rattle.octets.specs.Checked.{Check}
 use Rattle.answers.specs.Answers.{answered, written_of, output_of}
-use Rattle.elf.specs.Reader.{elf_read}
 use Rattle.join.proofs.Answers.{file_elf, file_other}
 use Rattle.join.proofs.files.put_file.Goals as goal
 
 pub returns-then-is_elf : goal.returns-then-is_elf
-unfolding elf_read
 returns-then-is_elf c =
     let o = length c.args.output.now in
     let r = file_elf c.args.file.now (sym c.is_elf.ensures ∙ c.if-is_elf.true) in

@@ -5,12 +5,10 @@ use Prim.Native.Nat.{ℕ}
 use lib.ListN.{length}
 use Rattle.octets.specs.Checked.{Check}
 use Rattle.answers.specs.Answers.{answered, written_of, output_of}
-use Rattle.elf.specs.Reader.{elf_read}
 use Rattle.join.proofs.Opened.{words_elf, words_other}
 use Rattle.join.proofs.opening.put_words_of.Goals as goal
 
 pub returns-then-is_elf : goal.returns-then-is_elf
-unfolding elf_read
 returns-then-is_elf c =
     let o = length c.args.output.now in
     let r = words_elf c.args.file.now (sym c.is_elf.ensures ∙ c.if-is_elf.true) in
