@@ -105,6 +105,20 @@ struct barthovin_found_from_bundle {
 struct barthovin_written barthovin_read_elf(const uint8_t *file, size_t file_length, uint8_t *output,
                                             size_t output_length);
 
+/* Joins one file to a bundle, in place. The first `used` bytes of the memory are the bundle joined so far; with used 0 there is none yet. The
+ * file is a bundle, a package or a relocatable ELF64 file. Code 0: its objects stand behind those of the bundle, which is now `length`
+ * bytes long, and zeros follow it. 18: so many bytes of memory are needed. 3: no bundle in the file, no head or no end where the joined
+ * one should have them, or used is more than memory_length. 45: the file's byte order is not that of the bundle. 19: the joined bundle would
+ * pass 117,440,512 bytes. 31 to 33 and 19 as of barthovin_read_elf. But for code 0 the bundle is as it was, and zeros follow it.
+ *
+ * Of the bundle joined so far only the first and the last word are looked at, so joining many files costs what their bytes do: lend the bundle
+ * and about as much behind it as the file is long, not all memory at hand, since what is behind the bundle is cleared. */
+struct barthovin_written barthovin_join(uint8_t *bundle, size_t memory_length, size_t used, const uint8_t *file,
+                                        size_t file_length);
+
+/* The words of the package that a file is, or that an ELF64 file (.dwp) has. 21 is no package; 31 to 33, 19 and 18 as of barthovin_read_elf. */
+struct barthovin_written barthovin_open(const uint8_t *file, size_t file_length, uint8_t *output, size_t output_length);
+
 /* Packs a bundle. After every answer all of work is zeros. Work that is shorter than BARTHOVIN_WORK_FOR_A_WORD words for each
  * word of the bundle is refused. */
 struct barthovin_packed barthovin_pack(const uint8_t *bundle, size_t bundle_length, uint32_t *work, size_t work_length,
