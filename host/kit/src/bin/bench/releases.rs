@@ -254,8 +254,12 @@ fn wrote(sources: &Sources, runner: &Runner, files: &[String]) -> Result<Wrote> 
         return Ok(Wrote::Verified);
     }
     let without = package.with_extension("cut");
-    let cut = Command::new("objcopy").args(["-R", ".debug_tu_index"]).arg(package).arg(&without).status();
-    let verified = cut.is_ok_and(|status| status.success()) && is_verified(sources, &without, files)?;
+    // GNU's knows the processors alone that it was built for.
+    let cut = |tool: &&str| {
+        let told = Command::new(tool).args(["-R", ".debug_tu_index"]).arg(package).arg(&without).output();
+        told.is_ok_and(|told| told.status.success())
+    };
+    let verified = ["llvm-objcopy", "objcopy"].iter().any(cut) && is_verified(sources, &without, files)?;
     Ok(if verified { Wrote::VerifiedWithoutTypeIndex } else { Wrote::NotVerified })
 }
 
