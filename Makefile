@@ -5,8 +5,6 @@
 # A program that packs bundles with thorin; it is built where it is and what it needs is at hand.
 ORACLE_SOURCE ?= ../shared/oracle
 ORACLE = $(CURDIR)/target/oracle/release/thorin-oracle
-# The files of a real release, for the benchmark.
-REAL ?= ../shared/real
 ACCEPTED ?= 100000
 DAMAGED ?= 1000000
 SITTINGS ?= 100000
@@ -214,8 +212,8 @@ bench-ready: command
 # The page and its picture, in one run. The machine should have nothing else to do.
 bench: bench-ready
 	host/target/release/bench page=docs/PERFORMANCE.md prose=docs/performance/prose.md picture=docs/performance/times.svg \
-	  barthovin=$(barthovin) made=$(RELEASES) own="$(REAL)" strings=target/variants/string-index oracle="$(ORACLE)"
+	  barthovin=$(barthovin) made=$(RELEASES) strings=target/variants/string-index oracle="$(ORACLE)"
 
 # One row of the page again: KIND is its name, BYTES the length of a generated bundle.
 bench-one:
-	@host/target/release/bench one name='$(KIND)' $(if $(BYTES),bytes=$(BYTES)) made=$(RELEASES) own="$(REAL)" oracle="$(ORACLE)"
+	@host/target/release/bench one name='$(KIND)' $(if $(BYTES),bytes=$(BYTES)) made=$(RELEASES) oracle="$(ORACLE)"

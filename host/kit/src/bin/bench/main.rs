@@ -1,11 +1,11 @@
 //! Times the proved packer, and others where they are at hand, on the same bundles and files.
 //!
-//!     bench page=FILE prose=FILE picture=FILE barthovin=FILE made=FOLDER own=FOLDER strings=FILE [oracle=FILE]
-//!     bench one name=NAME [bytes=NUMBER] made=FOLDER own=FOLDER [oracle=FILE]
+//!     bench page=FILE prose=FILE picture=FILE barthovin=FILE made=FOLDER strings=FILE [oracle=FILE]
+//!     bench one name=NAME [bytes=NUMBER] made=FOLDER [oracle=FILE]
 //!     bench sheet
 //!
 //! The first writes the page, which is the prose with the figures of this run, and the picture. `barthovin` is the command, `made` the folder with the
-//! releases that `examples/real/make-releases` made, `own` the folder with the project's own, `strings` what `make string-index` wrote, and `oracle`
+//! releases that `examples/real/make-releases` made, `strings` what `make string-index` wrote, and `oracle`
 //! the program that packs with thorin. Every package is compared with thorin's, byte for byte, where thorin is its measure. The second measures one
 //! row again, a release or a kind of bundle by its name on the page. The third times the sheet alone.
 
@@ -85,7 +85,7 @@ fn measure_all(sources: &Sources, strings_file: Option<&str>) -> Result<Page> {
     let (start, before) = (Instant::now(), load());
     let thorin = sources.oracle.map(Oracle::version).transpose()?;
     let home = Home::new()?;
-    let (found, missing) = releases::all(sources, &home);
+    let (found, missing) = releases::all(sources);
     let floor = releases::floor()?;
     let inputs = releases::processes(sources, &found, &home)?;
     let mut bench = Bench::new(sources.oracle)?;
@@ -156,8 +156,8 @@ impl Words {
 }
 
 fn write_all(words: &Words) -> Result<()> {
-    let (made, own, barthovin) = (words.file("made")?, words.file("own")?, words.file("barthovin")?);
-    let sources = Sources { made: &made, own: &own, barthovin: &barthovin, oracle: words.oracle() };
+    let (made, barthovin) = (words.file("made")?, words.file("barthovin")?);
+    let sources = Sources { made: &made, barthovin: &barthovin, oracle: words.oracle() };
     if sources.oracle.is_none() {
         println!("thorin is not at hand: only the proved packer is measured");
     }
@@ -174,8 +174,8 @@ fn write_all(words: &Words) -> Result<()> {
 fn measure_one(words: &Words) -> Result<()> {
     let name = words.get("name").ok_or_else(|| Error::other("name= is missing"))?;
     let bytes = words.get("bytes").map_or(Ok(LENGTHS[3]), str::parse).map_err(Error::other)?;
-    let (made, own) = (words.file("made")?, words.file("own")?);
-    let sources = Sources { made: &made, own: &own, barthovin: Path::new(""), oracle: words.oracle() };
+    let made = words.file("made")?;
+    let sources = Sources { made: &made, barthovin: Path::new(""), oracle: words.oracle() };
     let mut bench = Bench::new(sources.oracle)?;
     if let Some(hostile) = HOSTILE.iter().find(|hostile| hostile.kind.name == name) {
         return hostile::grown(&mut bench, hostile).map(|grown| print!("{}", tables::hostile(&[grown])));
@@ -184,8 +184,7 @@ fn measure_one(words: &Words) -> Result<()> {
         let (bundle, count) = sized(kind, bytes);
         (kind.items, bench.measure(&bundle, count)?)
     } else {
-        let home = Home::new()?;
-        let (found, _) = releases::all(&sources, &home);
+        let (found, _) = releases::all(&sources);
         let release = found.iter().find(|release| release.name == name);
         let release = release.ok_or_else(|| Error::other(format!("nothing is called '{name}'")))?;
         ("files", releases::packed(release, &mut bench)?.measured)

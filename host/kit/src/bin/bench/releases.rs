@@ -10,30 +10,26 @@ use std::path::{Path, PathBuf};
 use std::process::Command;
 use std::time::Duration;
 
-/// What is at hand: the folder with the releases that `examples/real/make-releases` made, the one with the project's own, the command, and the
-/// program that packs with thorin.
+/// What is at hand: the folder with the releases that `examples/real/make-releases` made, the command, and the program that packs with thorin.
 pub struct Sources<'a> {
     pub made: &'a Path,
-    pub own: &'a Path,
     pub barthovin: &'a Path,
     pub oracle: Option<&'a str>,
 }
 
-/// Names and versions, fixed before anything was measured.
-const RELEASES: [(&str, u32); 8] = [
-    ("own, version 4", 4),
-    ("own, version 5", 5),
-    ("zstd", 4),
-    ("sqlite3", 4),
-    ("lwip", 4),
-    ("mbedtls", 4),
-    ("abseil", 4),
-    ("sodium", 5),
+/// Names, folders and versions, fixed before anything was measured.
+const RELEASES: [(&str, &str, u32); 8] = [
+    ("own, version 4", "race-4", 4),
+    ("own, version 5", "race-5", 5),
+    ("zstd", "zstd", 4),
+    ("sqlite3", "sqlite3", 4),
+    ("lwip", "lwip", 4),
+    ("mbedtls", "mbedtls", 4),
+    ("abseil", "abseil", 4),
+    ("sodium", "sodium", 5),
 ];
 /// The first files of this one, so many of them.
 const SMALL: (&str, [usize; 3]) = ("lwip", [1, 5, 20]);
-const OWN: &str = "lua 5.4.4, zlib 1.2.13, re2 and leveldb 1.23: gcc 12.2, x86-64, with type units";
-
 /// How often each program is run over an input.
 const RUNS: usize = 15;
 
@@ -85,35 +81,21 @@ fn files_in(folder: &Path) -> Result<Vec<PathBuf>> {
     Ok(files)
 }
 
-/// The files of the project's own release, unpacked.
-fn own(sources: &Sources, version: u32, home: &Home) -> Result<Vec<PathBuf>> {
-    let archive = sources.own.join(format!("dwo-v{version}.tar.xz"));
-    let told = Command::new("tar").arg("-xJf").arg(&archive).arg("-C").arg(&home.0).status()?;
-    if !told.success() {
-        return Err(Error::other(format!("tar -xJf {}", archive.display())));
-    }
-    files_in(&home.0.join(format!("dwo-v{version}")))
-}
-
-fn release(sources: &Sources, name: &str, version: u32, home: &Home) -> Result<Release> {
-    let (files, made_by) = match name.starts_with("own") {
-        true => (own(sources, version, home)?, OWN.to_string()),
-        false => {
-            let folder = sources.made.join(name);
-            (files_in(&folder)?, fs::read_to_string(folder.join("made-by"))?.trim().to_string())
-        }
-    };
+fn release(sources: &Sources, (name, folder, version): (&str, &str, u32)) -> Result<Release> {
+    let folder = sources.made.join(folder);
+    let (files, made_by) = (files_in(&folder)?, fs::read_to_string(folder.join("made-by"))?.trim().to_string());
     match files.is_empty() {
-        true => Err(Error::other(format!("{name} has no files"))),
+        true => Err(Error::other("it has no files")),
         false => Ok(Release { name: name.to_string(), version, files, made_by }),
     }
 }
 
 /// Those that are at hand; the names of the others.
-pub fn all(sources: &Sources, home: &Home) -> (Vec<Release>, Vec<String>) {
+pub fn all(sources: &Sources) -> (Vec<Release>, Vec<String>) {
     let (mut found, mut missing) = (Vec::new(), Vec::new());
-    for (name, version) in RELEASES {
-        match release(sources, name, version, home) {
+    for wanted in RELEASES {
+        let name = wanted.0;
+        match release(sources, wanted) {
             Ok(release) => found.push(release),
             Err(error) => {
                 println!("{name} is left out: {error}");
