@@ -5,8 +5,6 @@
 # A program that packs bundles with thorin; it is built where it is and what it needs is at hand.
 ORACLE_SOURCE ?= ../shared/oracle
 ORACLE = $(CURDIR)/target/oracle/release/thorin-oracle
-# The files of a real release, for the benchmark.
-REAL ?= ../shared/real
 ACCEPTED ?= 100000
 DAMAGED ?= 1000000
 SITTINGS ?= 100000
@@ -23,7 +21,7 @@ PC_PREFIX ?= $(PREFIX)
 VERSION = $(shell sed -n 's/^version = "\(.*\)"$$/\1/p' host/product/Cargo.toml)
 DIST = barthovin-$(VERSION)-x86_64-linux
 
-.PHONY: help test library host pack-example real-files readers command install uninstall dist clean fmt oracle differential hostile string-index bench
+.PHONY: help test library host pack-example real-files readers command install uninstall dist clean fmt oracle differential hostile string-index bench-ready bench bench-one
 
 help:
 	@echo 'make pack-example   packs two .dwo files and the example of docs/FORMAT.md, verifies, lists and looks up in their packages'
@@ -37,9 +35,11 @@ help:
 	@echo 'make test           the gate: rt ci (layout, every proof, every edit that must fail, every program), then the tests of the host'
 	@echo 'make host           the tests of the host alone'
 	@echo 'make differential   compares with thorin itself, where it is at hand, feeds a million damaged bundles, packs in two sittings and hostile bundles; fails where packing takes too long'
-	@echo 'make hostile        packs hostile bundles of 28 KB; fails where one takes more than 50 ms'
+	@echo 'make hostile        packs hostile bundles of 28 KB and says which keep 50 ms; fails where one does not that is not known to'
 	@echo 'make string-index   times the index of strings against a proved build that walks the kept strings; fails below five times'
-	@echo 'make bench          times packing and looking up and writes docs/PERFORMANCE.md'
+	@echo 'make bench-ready    builds what the benchmark wants: command, thorin, releases of real programs, the walking build'
+	@echo 'make bench          the same, then times packing and looking up and writes docs/PERFORMANCE.md and its picture'
+	@echo 'make bench-one      measures one row of that page again: KIND=NAME, and BYTES=LENGTH for a generated bundle'
 	@echo 'make fmt            formats every file'
 	@echo 'make clean          removes all that was built here, kept proofs too'
 
@@ -69,19 +69,17 @@ library: $(LIBRARY) target/staticlib/libbarthovin.a
 target/staticlib/libbarthovin.a: $(LIBRARY)
 	@cp $(LIBRARY) $@
 
-# Each crate is counted as it is proved; archive, with the theorem and the C entries, is the last. A library that an earlier check on this machine
-# proved, and that has not changed, is taken as it is and not counted.
+# Each crate is counted as it is proved; archive, with the theorem and the C entries, is the last. Crates that don't stand on each other are proved side
+# by side, so many at once. What an earlier check on this machine proved, and has not changed, takes seconds.
+PROVERS ?= $(shell echo $$((($$(nproc) + 1) / 2)))
+
 $(LIBRARY): $(SOURCES)
-	@count=$$(sed -n 's/^archive staticlib://p' crates.txt | wc -w); \
-	out=$$(mktemp) || exit 1; trap 'rm -f "$$out" "$$out.status"' EXIT; \
-	echo "proving the packer: $$count crates, then archive with the theorem"; \
-	{ (cd crates/archive && rt lib) 2>&1; echo $$? > "$$out.status"; } | tee "$$out" | \
-	awk -v count="$$count" '/^crate [^ ]*: / { name = substr($$2, 1, length($$2) - 1) } \
-	/^logic=proved / && name != "archive" { printf "[%d of %d] %s proved\n", ++n, count + 1, name; fflush() }'; \
-	test "$$(cat "$$out.status")" = 0 || { cat "$$out" >&2; exit 1; }; \
+	@count=$$(sed -n 's/^archive staticlib://p' crates.txt | wc -w); start=$$(date +%s); rm -rf target/proved; \
+	echo "proving the packer: $$count crates, then archive with the theorem, $(PROVERS) at once: some minutes in all, each line as its crate is done"; \
+	$(MAKE) --no-print-directory -j $(PROVERS) -f tools/prove.mk || exit 1; \
 	mkdir -p target/staticlib && cp crates/archive/out/libarchive.a $@ || exit 1; \
 	rt version > target/staticlib/kit 2> /dev/null || rm -f target/staticlib/kit; \
-	echo "[$$((count + 1)) of $$((count + 1))] archive proved; its C entries are in target/staticlib"
+	echo "all proved in $$(($$(date +%s) - start)) s; the C entries are in target/staticlib"
 
 # After the tests one line counts them.
 host: library
@@ -178,7 +176,7 @@ differential: oracle library
 	host/target/release/two_sittings $(SITTINGS) $(SEED)
 	host/target/release/hostile
 
-# Bundles of 28 KB that would be long at work: each must take at most 50 ms.
+# Bundles of 28 KB that would be long at work: each must take at most 50 ms, but for those that are known not to.
 hostile: library
 	cd host && cargo build --release --offline --bin hostile
 	host/target/release/hostile
@@ -193,7 +191,7 @@ $(VARIANT)/libwalk.a: host/variants/walk.patch $(SOURCES)
 	@tree=$$(mktemp -d) || exit 1; trap 'rm -rf "$$tree"' EXIT; \
 	find crates crates.txt -path 'crates/*/out' -prune -o -type f -print0 | xargs -0 cp --parents -t "$$tree" || exit 1; \
 	patch -s -p1 -d "$$tree" < host/variants/walk.patch || exit 1; \
-	(cd "$$tree/crates/archive" && rt lib) > $(VARIANT)/log 2>&1 || { cat $(VARIANT)/log >&2; exit 1; }; \
+	(cd "$$tree/crates/archive" && rt lib --cpu x86-64) > $(VARIANT)/log 2>&1 || { cat $(VARIANT)/log >&2; exit 1; }; \
 	cp "$$tree/crates/archive/out/libarchive.a" $(VARIANT)/libarchive.a
 	nm $(VARIANT)/libarchive.a | sed -n 's/.* T barthovin_\(.*\)/barthovin_\1 walk_\1/p' > $(VARIANT)/names
 	objcopy --redefine-syms=$(VARIANT)/names $(VARIANT)/libarchive.a $@
@@ -201,10 +199,21 @@ $(VARIANT)/libwalk.a: host/variants/walk.patch $(SOURCES)
 string-index: library $(VARIANT)/libwalk.a
 	cd host/walks && cargo run --release --offline --quiet -- ../../target/variants/string-index
 
-bench: command
+# The releases that are timed, compiled from Debian's sources.
+RELEASES = target/releases
+
+# What a run of the benchmark wants, as far as it is at hand.
+bench-ready: command
 	cd host && cargo build --release --offline --bin bench
-	@oracle="$(ORACLE)"; $(MAKE) --no-print-directory oracle || oracle=; \
-	host/target/release/bench docs/PERFORMANCE.md $(barthovin) "$(REAL)" "$$oracle"
-	@$(MAKE) --no-print-directory string-index
-	@awk '{ printf "\n## The index of strings\n\n20,000 different strings: %.1f ms; a proved build that walks the kept strings up to the first match (`make string-index`)\ntakes %.2f s, %.1f times as long.\n", $$1 / 1e6, $$2 / 1e9, $$2 / $$1 }' \
-	target/variants/string-index >> docs/PERFORMANCE.md
+	@$(MAKE) --no-print-directory oracle || echo 'the benchmark runs without thorin' >&2
+	@examples/real/make-releases $(RELEASES) || echo 'the benchmark runs without these releases' >&2
+	@rm -f target/variants/string-index; $(MAKE) --no-print-directory string-index || echo 'the benchmark runs without the walking build' >&2
+
+# The page and its picture, in one run. The machine should have nothing else to do.
+bench: bench-ready
+	host/target/release/bench page=docs/PERFORMANCE.md prose=docs/performance/prose.md picture=docs/performance/times.svg \
+	  barthovin=$(barthovin) made=$(RELEASES) strings=target/variants/string-index oracle="$(ORACLE)"
+
+# One row of the page again: KIND is its name, BYTES the length of a generated bundle.
+bench-one:
+	@host/target/release/bench one name='$(KIND)' $(if $(BYTES),bytes=$(BYTES)) made=$(RELEASES) oracle="$(ORACLE)"

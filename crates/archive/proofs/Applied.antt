@@ -2,6 +2,7 @@
 -- Assumes nothing.
 use mathlib.Core.Path.{◌≡◌, refl, sym, ap, ◌∙◌, subst}
 use mathlib.Core.Bool.{true, false}
+use mathlib.Core.Logic.{inl}
 use mathlib.Core.List.{List, [], ◌∷◌, ◌++◌}
 use mathlib.Core.Option.{none}
 use Prim.Native.Nat.{ℕ}
@@ -13,11 +14,11 @@ use Rattle.sittings.specs.Sittings.{Sitting}
 use Rattle.answers.specs.Answers.{refused, short, made as made_file}
 use Rattle.package.proofs.Accepted.{made_judged}
 use Rattle.elf.specs.Reader.{bundle_read, elf_read}
-use Rattle.elf.specs.Writer.{amd64, machine_good}
+use Rattle.elf.specs.Writer.{amd64, machine_good, is_machine}
 use Rattle.archive.specs.Theorem.{AreBytes}
 use Rattle.archive.specs.RoundTrip.{ThereAndBack}
 use Rattle.archive.specs.Used.{bundle, whole_package}
-use Rattle.archive.specs.Applied.{first, first_package, first_file, second, together, both, bare, bare_package, bare_file, question, answer, OfEveryCall, OfFiles, OfRules, Applied}
+use Rattle.archive.specs.Applied.{first, first_package, first_file, small_file, small_bundle, second, together, both, bare, bare_package, bare_file, question, answer, OfEveryCall, OfFiles, OfRules, Applied}
 use Rattle.archive.proofs.Paper.{paper}
 use Rattle.archive.proofs.Sums.{looks_are_few}
 use Rattle.archive.proofs.RoundTrip.{round_trip}
@@ -25,7 +26,7 @@ use Rattle.archive.proofs.Unread.{else_refused}
 use Rattle.archive.proofs.TwoSittings.{two_sittings}
 use Rattle.archive.proofs.Skipped.{tells_skipped}
 use Rattle.archive.proofs.Refusing.{refuses_by_number}
-use Rattle.archive.proofs.Rules.{files_are_held, slots_are_least, every_slot_visited, always_free_law, three_cases}
+use Rattle.archive.proofs.Rules.{files_are_held, files_of_32_are_held, slots_are_least, every_slot_visited, always_free_law, three_cases}
 use Rattle.archive.proofs.Bytes.{are_bytes}
 use Rattle.archive.proofs.AppliedTo as to
 use Rattle.archive.proofs.UsedOn.{computed}
@@ -35,9 +36,13 @@ use Rattle.archive.proofs.Used.{used}
 first_bytes : AreBytes first
 first_bytes = are_bytes first to.first_small
 
-good_machine : machine_good amd64 ≡ true
-unfolding machine_good
+good_machine : is_machine amd64 ≡ true
+unfolding is_machine
 good_machine = refl
+
+one_of_three : machine_good amd64 ≡ true
+unfolding machine_good
+one_of_three = refl
 
 one : Sitting false to.given first first_package
 one = record { are_bytes = first_bytes; holds = to.first_holds; work = 220; output = 112; accepted = to.first_packed }
@@ -86,10 +91,12 @@ files_law : OfFiles
 files_law = record {
   written_whole = to.first_written;
   no_room = there.no_room 535 (omega (arith, long));
+  by_the_other_call = there.for_three one_of_three 536 ∙ to.first_written;
   read_back = back;
   no_room_to_read = subst (λ (f : List ℕ). elf_read f 111 ≡ short 112) file_is (there.no_room_to_read 111 (omega (arith, to.asked.long)) ∙ ap short to.asked.long);
   held = files_are_held first_file first_package (are_bytes first_file to.first_file_small) reads;
-  no_unit_read = else_refused bare 120 20 bare_package amd64 400 400 bare_file (are_bytes bare to.bare_small) to.bare_packed to.bare_info to.bare_written;
+  held_of_32 = files_of_32_are_held small_file small_bundle (are_bytes small_file to.small_file_small) to.small_read;
+  no_unit_read = else_refused bare 120 20 bare_package amd64 400 400 bare_file (are_bytes bare to.bare_small) to.bare_packed to.bare_info (inl to.bare_written);
 }
 
 -- ---- of rules

@@ -1,12 +1,12 @@
 -- Nothing is lost, proved.
 -- Assumes nothing.
 use mathlib.Core.Path.{◌≡◌, refl, sym, ap, ap₂, ◌∙◌, subst}
-use mathlib.Core.Logic.{◌⊎◌, inl, inr, ⊎_elim}
+use mathlib.Core.Logic.{inl, inr, ⊎_elim}
 use mathlib.Core.Bool.{Bool, true, false, not, ◌&&◌}
 use mathlib.Core.List.{List, [], ◌∷◌, ◌++◌, map, append-nil}
 use Prim.Native.Nat.{ℕ, ◌+◌, ◌≤◌}
 use native.Mathlib.Omega.{arith}
-use lib.Dec.{eqb, leb}
+use lib.Dec.{eqb}
 use lib.ListN.{length, length-append}
 use borrow.Author.Tests.{leb-true, leb-false, not-true}
 use Rattle.numbers.specs.Sections.{str_offsets_code}
@@ -17,7 +17,7 @@ use Rattle.octets.proofs.Checks.{bind_pass, pass_inj, known, and_left, and_right
 use Rattle.octets.proofs.Elements.{has_append}
 use Rattle.octets.proofs.Lists.{those_keeps, those_skips}
 use Rattle.octets.proofs.Numbers.{Bytes}
-use Rattle.bundle.specs.Bundle.{Part, Object, Bundle, bundle_of, parts_of, count, first_part, body}
+use Rattle.bundle.specs.Bundle.{Part, Object, Bundle, parts_of, count, first_part, body}
 use Rattle.bundle.specs.Encoding.{Encoding, encoding_of}
 use Rattle.bundle.proofs.RoundTrip.{parts_from}
 use Rattle.bundle.proofs.WrittenParts.{bytes_in}
@@ -25,7 +25,7 @@ use Rattle.index.specs.Rows.{BySection, shared}
 use Rattle.index.proofs.Contributions.{all_has}
 use Rattle.package.specs.Input.{Input, present, repeated, wrong_codes, only_once, beside_info, edition_good, input_of}
 use Rattle.package.specs.Filing.{Filed, Filing, is_under, units_in, grown, filing_from, first_word, filing_of, keep_all, kept}
-use Rattle.package.specs.Pack.{handed_in, unit_bytes, shared_bytes, string_table, section_list}
+use Rattle.package.specs.Pack.{handed_in, unit_bytes, string_table, section_list}
 use Rattle.package.proofs.Accepted.{Accepted, handed_in_law}
 use Rattle.package.proofs.ByCode.{info_bytes, types_bytes, shared_bytes_law}
 use Rattle.package.proofs.Cells.{sized}
@@ -36,7 +36,7 @@ use Rattle.package.proofs.PackageRead.{sections_of, none_read, package_read, sec
 use Rattle.package.proofs.Shared.{given, given_bytes, shared_given, length_given}
 use Rattle.package.proofs.Tables.{encoding_in, facts_of}
 use Rattle.archive.specs.Contributing.{IsShared}
-use Rattle.archive.specs.NothingLost.{all_in, all_of, SharedSectionsWhole, StrOffsetsInLength, OneOfTheOthers, KeptUnitsJoined, IsKept, IsSkippedType, KeptOrSkippedType}
+use Rattle.archive.specs.NothingLost.{all_in, all_of, SharedSectionsWhole, StrOffsetsInLength, OneOfTheOthers, KeptUnitsJoined, KeptOrSkippedType}
 use Rattle.archive.specs.Theorem.{EachIsAUnit}
 use Rattle.archive.proofs.Contributing.{shared_has, each_behind}
 use Rattle.archive.proofs.Read.{body_written}

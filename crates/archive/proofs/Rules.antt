@@ -18,12 +18,15 @@ use Rattle.index.proofs.Orbit.{slot_at}
 use Rattle.index.proofs.Slots.{least_power_le, slots_for_exceeds, slots_for_few, slots_for_many, slots_for_power}
 use Rattle.index.proofs.Placing.{probed, probed_lt, probed_once, always_free}
 use Rattle.index.proofs.Tiles.{is_one, one_here, one_right, one_stands, Tiled, tiles_tiled, tiled_tiles, tiles_only, both_some}
-use Rattle.elf.proofs.Held.{holds}
+use Rattle.elf.proofs.Held.{holds, holds32}
 use Rattle.archive.specs.Theorem.{slot_after}
-use Rattle.archive.specs.Rules.{FilesAreHeld, SlotsAreLeast, EverySlotVisited, AlwaysFree, IsOneOf, NoneOfThree, parts_named, ThreeCases}
+use Rattle.archive.specs.Rules.{FilesAreHeld, FilesOf32AreHeld, SlotsAreLeast, EverySlotVisited, AlwaysFree, IsOneOf, NoneOfThree, parts_named, ThreeCases}
 
 pub files_are_held : FilesAreHeld
 files_are_held f b h q = holds f b h q
+
+pub files_of_32_are_held : FilesOf32AreHeld
+files_of_32_are_held f b h q = holds32 f b h q
 
 -- ---- slots
 least_of : (n k : ℕ) → 2 ≤ 2 ^ k → 3 * n < 2 * 2 ^ k → slots_for n ≤ 2 ^ k

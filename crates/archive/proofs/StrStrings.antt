@@ -17,7 +17,6 @@ use Rattle.bundle.specs.Bundle.{Part, Object, bundle_of, first_part, body}
 use Rattle.bundle.specs.Encoding.{Encoding}
 use Rattle.bundle.proofs.Every.{Every, nothing}
 use Rattle.bundle.proofs.RoundTrip.{parts_from}
-use Rattle.bundle.proofs.WrittenParts.{bytes_in}
 use Rattle.strings.specs.Strings.{first_uses, put_all, ended, str_of}
 use Rattle.strings.proofs.Ends.{NoZero}
 use Rattle.strings.proofs.FirstUses.{is_in, first_uses_distinct}
@@ -25,7 +24,7 @@ use Rattle.strings.proofs.Offsets.{str_of_none}
 use Rattle.package.specs.Pieces.{Piece, used_in}
 use Rattle.package.specs.Input.{Input}
 use Rattle.package.specs.Filing.{Filed, Filing, is_under, filing_of, filing_from, first_word, entries_of_unit}
-use Rattle.package.specs.Pack.{handed_in, section_list, all_used, string_table}
+use Rattle.package.specs.Pack.{handed_in, all_used, string_table}
 use Rattle.package.proofs.Each.{each_head, each_tail, each_append}
 use Rattle.package.proofs.Pieces.{PieceFacts}
 use Rattle.package.proofs.Inputs.{InputFacts}

@@ -2,21 +2,19 @@
 -- Assumes nothing.
 use mathlib.Core.Path.{◌≡◌, refl, sym, ap, ◌∙◌, subst}
 use mathlib.Core.Logic.{◌⊎◌, inl, inr}
-use mathlib.Core.Bool.{true, false}
-use mathlib.Core.List.{List, [], ◌∷◌, ◌++◌}
-use mathlib.Core.Option.{some, none}
+use mathlib.Core.List.{[], ◌∷◌}
+use mathlib.Core.Option.{some}
 use Prim.Native.Nat.{ℕ, ◌≤◌}
 use native.Mathlib.Omega.{arith}
 use native.Mathlib.Decide.{ℕ_discrete}
-use lib.ListN.{length, get_or}
+use lib.ListN.{length}
 use Rattle.octets.specs.Octets.{part as bytes_at}
 use Rattle.octets.proofs.Checks.{pass_inj}
-use Rattle.index.specs.Index.{Contribution}
 use Rattle.lookup.specs.Lookup.{absent, part, looked_up, string_found}
-use Rattle.archive.specs.Contributing.{IsShared, Contributes}
+use Rattle.archive.specs.Contributing.{Contributes, ByRow}
 use Rattle.archive.specs.StrSection.{pieces, str_in}
-use Rattle.archive.specs.Theorem.{AreBytes, Asked, IsCode, IsFirst, AnswersAsHandedIn, IsPart, Holds, slots_of_table, looks}
-use Rattle.archive.specs.Used.{bundle, whole_package, its_parts, its_object, compilation, first_type, same_type, EveryClauseUsed}
+use Rattle.archive.specs.Theorem.{Asked, IsCode, IsFirst, AnswersAsHandedIn, IsPart, Holds, slots_of_table, looks}
+use Rattle.archive.specs.Used.{bundle, whole_package, its_parts, its_object, compilation, first_type, same_type, four, its_index, row_unit, ByARow, EveryClauseUsed}
 use Rattle.archive.proofs.Bytes.{are_bytes}
 use Rattle.archive.proofs.FromBundleToAnswer.{from_bundle_to_answer}
 use Rattle.archive.proofs.UsedOn.{reading, computed}
@@ -45,6 +43,20 @@ contributes = r.what_it_contributes 1 1 compilation compilation_first
 some_abbrev : its_object.bytes 3 ≡ [] → ⊥
 some_abbrev e = omega (arith, ap length (sym computed.abbrev_bytes ∙ e))
 
+-- ---- by a row
+row_first : IsFirst four 1 1 row_unit
+row_first = record { before = []; behind = []; stands = computed.four_handed; under = computed.row_under; none_before = computed.none_before }
+
+by_row : ByRow row_unit its_index
+by_row = ((from_bundle_to_answer four 600 120 four (are_bytes four computed.four_small) computed.four_packs).what_it_contributes 1 1 row_unit row_first).by_row its_index computed.row_index
+
+by_a_row_law : ByARow
+by_a_row_law = record {
+  by_row = by_row;
+  one_row = (by_row.place, by_row.row, by_row.alone computed.row_place, by_row.ends);
+  its_cell = (by_row.row, by_row.cells 3 (record { from = omega arith; to = omega arith }) (λ e. omega (arith, computed.row_abbrev, ap length e)));
+}
+
 pub used : EveryClauseUsed
 used = record {
   every_unit = (reading, computed.reads, r.every_unit_is_handed_in reading computed.reads);
@@ -52,6 +64,7 @@ used = record {
   its_whole_section = contributes.whole computed.no_index 3 (record { from = omega arith; to = omega arith }) some_abbrev
       ∙ ap (λ (n : ℕ). some (record { offset = 0; size = n })) (ap length computed.abbrev_bytes);
   nothing_of_line = contributes.nothing 4 (record { from = omega arith; to = omega arith }) computed.no_line;
+  by_a_row = by_a_row_law;
   kept_type = r.kept_or_skipped_type (compilation ∷ []) (same_type ∷ []) first_type computed.handed;
   skipped_type = r.kept_or_skipped_type (compilation ∷ first_type ∷ []) [] same_type computed.handed;
   info = r.kept_units_joined 1 (inl refl) ∙ computed.info;

@@ -2,9 +2,8 @@
 -- Assumes nothing.
 use mathlib.Core.Path.{◌≡◌, refl}
 use mathlib.Core.Bool.{true, false}
-use mathlib.Core.List.{List, [], ◌∷◌, map}
-use mathlib.Core.Option.{none}
-use Prim.Native.Nat.{ℕ}
+use mathlib.Core.List.{[], ◌∷◌, map}
+use mathlib.Core.Option.{some, none}
 use lib.Dec.{eqb, ltb}
 use lib.ListN.{length, get_or}
 use Rattle.octets.specs.Checked
@@ -41,13 +40,13 @@ use Rattle.octets.specs.Octets.{part as bytes_at}
 use Rattle.octets.specs.Lists.{all, any, has, those, joined}
 use Rattle.bundle.specs.Bundle.{Bundle as BundleRead, Object, bundle_of}
 use Rattle.strings.specs.Strings.{string_at, ended, first_uses}
-use Rattle.package.specs.Filing.{Filed, is_under, index_for, kept, entries_of_unit}
+use Rattle.package.specs.Filing.{Filed, is_under, index_for, index_by_place, kept, entries_of_unit}
 use Rattle.package.specs.Pack.{packed, made, handed_in}
 use Rattle.lookup.specs.Lookup.{absent, part, looked_up, string_found}
 use Rattle.archive.specs.Theorem.{is_index_version, handed_part, identities_of, slots_of_table, looks}
 use Rattle.archive.specs.StrSection.{strings_named}
 use Rattle.archive.specs.NothingLost.{all_of}
-use Rattle.archive.specs.Used.{bundle, whole_package, its_parts, its_object, compilation, first_type, same_type}
+use Rattle.archive.specs.Used.{bundle, whole_package, its_parts, its_object, compilation, first_type, same_type, four, its_index, row_object, row_unit}
 
 abbrev pub reading : BundleRead
 reading = record { big = false; objects = record { word = 0x1008_0405; parts = its_parts } ∷ [] }
@@ -84,6 +83,13 @@ pub record Computed : Type 0 where
   pub info : joined (map (λ u. u.bytes) (those (λ u. eqb u.home 1) (kept (handed_in bundle)))) ≡ bytes_at bundle 12 44
   pub shared_three : all_of 3 bundle ≡ 0 ∷ []
   pub shared_six : length (all_of 6 bundle) ≡ 16
+  pub four_small : all (λ b. ltb b 256) four ≡ true
+  pub four_packs : packed four 600 120 ≡ made four
+  pub four_handed : handed_in four ≡ row_unit ∷ []
+  pub row_under : is_under 1 1 row_unit ≡ true
+  pub row_index : index_for row_object 1 ≡ some its_index
+  pub row_place : index_by_place row_object 1 ≡ some its_index
+  pub row_abbrev : length (row_object.bytes 3) ≡ 9
   pub others : has (11 ∷ 12 ∷ 13 ∷ []) 11 ≡ true
 
 pub computed : Computed
@@ -120,5 +126,12 @@ computed = record {
   info = refl;
   shared_three = refl;
   shared_six = refl;
+  four_small = refl;
+  four_packs = refl;
+  four_handed = refl;
+  row_under = refl;
+  row_index = refl;
+  row_place = refl;
+  row_abbrev = refl;
   others = refl;
 }

@@ -4,7 +4,7 @@ use Rattle.std.specs.Prelude.{◌≡◌, false, List, [], ◌∷◌, ◌++◌, �
 use Rattle.std.proofs.Math.Option.{none}
 use Rattle.numbers.specs.Refusals.{no_unit, file_short, bad_parts}
 use Rattle.numbers.specs.Tables.{compilation_table, type_table}
-use Rattle.octets.specs.Octets.{numbers_of, part}
+use Rattle.octets.specs.Octets.{numbers_of, part, zeros}
 use Rattle.octets.specs.Checked.{pass, refuse}
 use Rattle.bundle.specs.Written.{Section}
 use Rattle.index.specs.Index.{Contribution}
@@ -18,9 +18,9 @@ use Rattle.packer.specs.Told.{numbered as told}
 use Rattle.lookup.specs.Lookup.{looked_up, string_found}
 use Rattle.lookup.specs.Answers.{numbered}
 use Rattle.sheet.specs.Sheet.{letter_c, letter_t, sheet_lines}
-use Rattle.elf.specs.Holds.{Holds}
+use Rattle.elf.specs.Holds.{Holds, Holds32}
 use Rattle.elf.specs.Reader.{elf_read}
-use Rattle.elf.specs.Writer.{amd64, file_bytes, elf_written}
+use Rattle.elf.specs.Writer.{amd64, file_bytes, elf_written, elf_written_for}
 use Rattle.archive.specs.Theorem.{identities_of, slot_after}
 use Rattle.archive.specs.Looks.{units_of}
 use Rattle.archive.specs.Many.{looks_in}
@@ -75,6 +75,16 @@ first_file =
     file_bytes false amd64
     (record { code = 1; bytes = part first 12 20 } ∷ record { code = 3; bytes = 0 ∷ [] } ∷ record { code = 12; bytes = part first_package 44 64 } ∷ [])
 
+-- a file of 32 bits: a unit at byte 52, the names at 72, and at 89 the headers: the null one, info, the names
+abbrev pub small_file : List ℕ
+small_file =
+    (0x7F ∷ 0x45 ∷ 0x4C ∷ 0x46 ∷ 1 ∷ 1 ∷ 1 ∷ []) ++ zeros 9 ++ numbers_of false 2 (1 ∷ 40 ∷ []) ++ numbers_of false 4 (1 ∷ 0 ∷ 0 ∷ 89 ∷ 0 ∷ []) ++ numbers_of false 2 (52 ∷ 0 ∷ 0 ∷ 40 ∷ 3 ∷ 2 ∷ [])
+    ++ numbers_of false 4 (0x10 ∷ 0x405_0005 ∷ 0 ∷ 1 ∷ 0 ∷ []) ++ (0 ∷ 46 ∷ 100 ∷ 101 ∷ 98 ∷ 117 ∷ 103 ∷ 95 ∷ 105 ∷ 110 ∷ 102 ∷ 111 ∷ 46 ∷ 100 ∷ 119 ∷ 111 ∷ 0 ∷ [])
+    ++ zeros 40 ++ numbers_of false 4 (1 ∷ 1 ∷ 0 ∷ 0 ∷ 52 ∷ 20 ∷ 0 ∷ 0 ∷ 1 ∷ 0 ∷ []) ++ numbers_of false 4 (0 ∷ 3 ∷ 0 ∷ 0 ∷ 72 ∷ 17 ∷ 0 ∷ 0 ∷ 1 ∷ 0 ∷ [])
+
+abbrev pub small_bundle : List ℕ
+small_bundle = numbers_of false 4 (0xF000_0000 ∷ 0x1004_0405 ∷ 0x2080_0014 ∷ 0x10 ∷ 0x405_0005 ∷ 0 ∷ 1 ∷ 0 ∷ 0x3000_0009 ∷ [])
+
 -- a question: table 1, section 3, identity 1; and its answer: the byte of abbrev, after one look
 abbrev pub question : List ℕ
 question = 0x4000_0031 ∷ 1 ∷ 0 ∷ []
@@ -97,11 +107,13 @@ pub record OfEveryCall : Type 0 where
 
 -- ---- a file
 pub record OfFiles : Type 0 where
-  pub written_whole : elf_written first_package amd64 536 ≡ made_file first_file
-  pub no_room : elf_written first_package amd64 535 ≡ refused file_short
+  pub written_whole : elf_written_for first_package amd64 536 ≡ made_file first_file
+  pub no_room : elf_written_for first_package amd64 535 ≡ refused file_short
+  pub by_the_other_call : elf_written first_package amd64 536 ≡ made_file first_file
   pub read_back : elf_read first_file 112 ≡ made_file first_package
   pub no_room_to_read : elf_read first_file 111 ≡ short 112
   pub held : Holds first_file first_package
+  pub held_of_32 : Holds32 small_file small_bundle
   pub no_unit_read : elf_read bare_file 400 ≡ refused no_unit
 
 -- ---- rules

@@ -8,12 +8,17 @@ use Rattle.index.specs.Index.{Index, Contribution}
 use Rattle.index.specs.Probing.{first_slot, stride, slots_for, free_from}
 use Rattle.index.specs.Tiles.{named, tiles}
 use Rattle.elf.specs.Reader.{bundle_read}
-use Rattle.elf.specs.Holds.{Holds}
+use Rattle.elf.specs.Elf32.{bundle32_read}
+use Rattle.elf.specs.Holds.{Holds, Holds32}
 use Rattle.archive.specs.Theorem.{AreBytes, slot_after}
 
 -- ---- a file read: the bundle is one object that holds the wanted sections' bytes, unchanged and in the order of their headers, and no others
 abbrev pub FilesAreHeld : Type 0
 FilesAreHeld = (f b : List ℕ) → AreBytes f → bundle_read f ≡ pass b → Holds f b
+
+-- the same of a file of 32 bits
+abbrev pub FilesOf32AreHeld : Type 0
+FilesOf32AreHeld = (f b : List ℕ) → AreBytes f → bundle32_read f ≡ pass b → Holds32 f b
 
 -- ---- slots: of an index of n units, the least power of two of which twice is more than 3n, and never fewer than 2
 pub record LeastSlots (n : ℕ) : Type 0 where

@@ -1,23 +1,26 @@
 -- Every clause of the theorem, used of one small bundle: what it says there, worked out.
 -- Assumes nothing.
-use Rattle.std.specs.Prelude.{◌≡◌, ◌⊎◌, false, List, [], ◌∷◌, ℕ, ◌+◌, ◌≤◌, ◌<◌, length, get_or}
+use Rattle.std.specs.Prelude.{◌≡◌, ◌⊎◌, true, false, List, [], ◌∷◌, ℕ, ◌+◌, ◌≤◌, ◌<◌, length, get_or}
 use Rattle.std.proofs.Math.Option.{Option, some, none}
 use Rattle.numbers.specs.Refusals.{other_version, no_entry}
 use Rattle.octets.specs.Octets.{numbers_of, part as bytes_at}
 use Rattle.octets.specs.Checked.{pass}
-use Rattle.bundle.specs.Bundle.{Part, Object, Bundle, bundle_of, count, body}
+use Rattle.bundle.specs.Bundle.{Part, Bundle, bundle_of, count, body}
 use Rattle.bundle.specs.Encoding.{encoding_of}
-use Rattle.index.specs.Index.{Index, Contribution}
-use Rattle.index.specs.Rows.{BySection, whole_contributions}
+use Rattle.octets.specs.Lists.{has}
+use Rattle.index.specs.Index.{Index, Contribution, cell_of}
+use Rattle.index.specs.Probing.{probe}
+use Rattle.index.specs.Rows.{BySection, needed_codes, row_of, naming, the_one, whole_contributions}
 use Rattle.package.specs.Input.{Input, unit_sections}
 use Rattle.package.specs.Filing.{Filed, lengths, first_word}
 use Rattle.package.specs.Pack.{handed_in}
 use Rattle.package.specs.Units.{FillObjects, IsUnit}
 use Rattle.lookup.specs.Lookup.{refused, absent, part, looked_up, string_found}
+use Rattle.archive.specs.Contributing.{ByRow, CellOf}
 use Rattle.archive.specs.NothingLost.{all_of, IsKept, IsSkippedType}
 use Rattle.archive.specs.Looks.{units_of}
 use Rattle.archive.specs.StrSection.{pieces, str_in}
-use Rattle.archive.specs.Theorem.{IsPart, Holds, TableIn, EndsUnused, slots_of_table, looks}
+use Rattle.archive.specs.Theorem.{IsPart, Holds, TableIn, EndsUnused, slots_of_table}
 
 -- ---- a bundle and its package
 -- an object of version 5: a compilation unit of identity 1, a type unit of signature 7, the same once more; a byte of abbrev; strings "a" and "b", named in the other order
@@ -73,12 +76,60 @@ first_type = unit 2 7 32 24 (whole_contributions (lengths its_object))
 abbrev pub same_type : Filed
 same_type = unit 2 7 56 24 (λ c. none)
 
+-- ---- a package of version 4, packed again: its unit has a row, which is found by its place
+abbrev pub four : List ℕ
+four =
+    numbers_of false 4
+    (0xF000_0000 ∷ 0x1008_0404 ∷ 0x2080_0014 ∷ 0x10 ∷ 4 ∷ 0x108_0000 ∷ 1 ∷ 0 ∷ 0x2180_0009 ∷ 0xB100_1101 ∷ 0x742 ∷ 0
+    ∷ 0x2600_0040 ∷ 2 ∷ 2 ∷ 1 ∷ 2 ∷ 0 ∷ 0 ∷ 1 ∷ 0 ∷ 0 ∷ 1 ∷ 1 ∷ 3 ∷ 0 ∷ 0 ∷ 0x14 ∷ 9 ∷ 0x3000_001E ∷ [])
+
+abbrev pub its_index : Index
+its_index = record {
+  version = 2;
+  units = 1;
+  identities = 0 ∷ 1 ∷ [];
+  rows = 0 ∷ 1 ∷ [];
+  codes = 1 ∷ 3 ∷ [];
+  offsets = 0 ∷ 0 ∷ [];
+  sizes = 0x14 ∷ 9 ∷ [];
+}
+
+abbrev pub row_parts : List Part
+row_parts = at 1 12 20 ∷ at 3 36 9 ∷ at 12 52 64 ∷ []
+
+abbrev pub row_object : Input
+row_object = record {
+  encoding = encoding_of false 0x1008_0404;
+  bytes = body four row_parts;
+  units = unit_sections four row_parts;
+  pieces = [];
+  cu_index = some its_index;
+  tu_index = none;
+}
+
+abbrev pub row_unit : Filed
+row_unit = record {
+  table = 1;
+  identity = 1;
+  home = 1;
+  bytes = bytes_at four 12 20;
+  input = row_object;
+  contributions = λ s. elim (has (needed_codes (lengths row_object)) s) [ true ↦ cell_of its_index 1 s | false ↦ none ];
+  bases = λ c. 0;
+}
+
+pub record ByARow : Type 0 where
+  pub by_row : ByRow row_unit its_index
+  pub one_row : (place : ℕ) × (row : ℕ) × (the_one (naming its_index place (length row_unit.bytes)) ≡ pass row) × (row_of its_index (probe its_index 1) ≡ pass row)
+  pub its_cell : (row : ℕ) × CellOf row_unit its_index row 3
+
 -- ---- clause by clause, in the order of the theorem's record
 pub record EveryClauseUsed : Type 0 where
   pub every_unit : (k : Bundle) × (bundle_of bundle ≡ pass k) × FillObjects bundle k.big (first_word k.objects) k.objects (handed_in bundle)
   pub a_unit : IsUnit same_type
   pub its_whole_section : compilation.contributions 3 ≡ some (record { offset = 0; size = 1 })
   pub nothing_of_line : compilation.contributions 4 ≡ none
+  pub by_a_row : ByARow
   pub kept_type : IsKept bundle first_type ⊎ IsSkippedType (compilation ∷ []) first_type
   pub skipped_type : IsKept bundle same_type ⊎ IsSkippedType (compilation ∷ first_type ∷ []) same_type
   pub info : all_of 1 whole_package ≡ bytes_at bundle 12 44

@@ -9,7 +9,7 @@ ghost use Rattle.archive.specs.Skipped.{TellsSkipped};
 ghost use Rattle.archive.specs.Refusing.{RefusesByNumber};
 ghost use Rattle.archive.specs.Clauses.{EveryClause};
 ghost use Rattle.archive.specs.Applied.{Applied};
-ghost use Rattle.archive.specs.Rules.{FilesAreHeld, SlotsAreLeast, EverySlotVisited, AlwaysFree, ThreeCases};
+ghost use Rattle.archive.specs.Rules.{FilesAreHeld, FilesOf32AreHeld, SlotsAreLeast, EverySlotVisited, AlwaysFree, ThreeCases};
 
 // Whoever holds the package of an accepted bundle finds an identity exactly when a unit was handed in under it, with that unit's bytes, parts and strings.
 pub fn from_bundle_to_answer()
@@ -33,7 +33,6 @@ pub fn there_and_back()
 {}
 
 // A file without a unit in info is refused when it is read.
-#[tactic(auto, using(crate::proofs::Unread::else_refused))]
 pub fn else_refused()
     ensures { ElseRefused }
 {}
@@ -66,6 +65,12 @@ pub fn refuses_by_number()
 #[tactic(auto, using(crate::proofs::Rules::files_are_held))]
 pub fn files_are_held()
     ensures { FilesAreHeld }
+{}
+
+// The same of a file of 32 bits.
+#[tactic(auto, using(crate::proofs::Rules::files_of_32_are_held))]
+pub fn files_of_32_are_held()
+    ensures { FilesOf32AreHeld }
 {}
 
 // The slots of an index are the least power of two whose double exceeds three times the units, and never fewer than 2.

@@ -26,12 +26,6 @@ pub fn thread() -> Option<Duration> {
     read(THREAD)
 }
 
-/// The time of another process, by its number.
-pub fn process(number: u32) -> Option<Duration> {
-    // As clock_getcpuclockid makes it: the number's complement, then 2 for what the scheduler counts.
-    read(!(number as i32) << 3 | 2)
-}
-
 /// What passed between two readings.
 pub fn between(start: Option<Duration>, end: Option<Duration>) -> Option<Duration> {
     end?.checked_sub(start?)

@@ -15,6 +15,7 @@ mod questions;
 mod random;
 mod rows;
 mod spoil;
+mod tables;
 
 pub use damage::damage;
 pub use elf::{elf, hostile as hostile_elf, hostile_of as hostile_elf_of, long as long_elf, long_of as long_elf_of};

@@ -4,7 +4,8 @@
 //! without end, `lender` lends memory to the proved functions again and again and judges it after each call, and `handed_in` reads
 //! from a bundle what must be found in its package, which `claim` asks for. `oracle` asks thorin where it is at hand, `measured` says of
 //! which bundles its package is the measure, and `sample` keeps some of its answers; `clock` is for timing. `elf` reads ELF files,
-//! and `elf_writer` writes them. `sittings` packs in two sittings.
+//! and `elf_writer` writes them. `sittings` packs in two sittings, and `stack` measures
+//! how much stack a call takes.
 
 pub mod batch;
 pub mod claim;
@@ -21,4 +22,5 @@ pub mod reference;
 pub mod sample;
 pub mod sheet;
 pub mod sittings;
+pub mod stack;
 pub mod vectors;

@@ -12,7 +12,9 @@
  * - Words are aligned as uint32_t is; bytes may start anywhere.
  * - Memory that is lent for writing overlaps no other memory that is lent in the same call, and no one else touches it meanwhile.
  *   Memory that is only read may be lent twice.
- * - The processor is an x86-64.
+ * - The processor is an x86-64, of any level.
+ * - The stack has room. At most an entry takes, in bytes: barthovin_sheet 73728, barthovin_pack_small 28672, any other 8192. No entry
+ *   calls itself.
  *
  * What work and output held before has no part in the answer. They need not be cleared before a call. Packing reads them before it
  * writes them, to store to no page that is zero already: valgrind then reports a jump that depends on uninitialised memory, and the answer
@@ -109,6 +111,20 @@ struct barthovin_written barthovin_read_elf(const uint8_t *file, size_t file_len
  * refusals are 32, 33, 19 and 18 here too. */
 struct barthovin_written barthovin_read_elf32(const uint8_t *file, size_t file_length, uint8_t *output,
                                               size_t output_length);
+
+/* Joins one file to a bundle, in place. The first `used` bytes of the memory are the bundle joined so far; with used 0 there is none yet. The
+ * file is a bundle, a package or a relocatable ELF file of either class. Code 0: its objects stand behind those of the bundle, which is now `length`
+ * bytes long, and zeros follow it. 18: so many bytes of memory are needed. 3: no bundle in the file, no head or no end where the joined
+ * one should have them, or used is more than memory_length. 45: the file's byte order is not that of the bundle. 19: the joined bundle would
+ * pass 117,440,512 bytes. 31 to 33 and 19 as of the readers. But for code 0 the bundle is as it was, and zeros follow it.
+ *
+ * Of the bundle joined so far only the first and the last word are looked at, so joining many files costs what their bytes do: lend the bundle
+ * and about as much behind it as the file is long, not all memory at hand, since what is behind the bundle is cleared. */
+struct barthovin_written barthovin_join(uint8_t *bundle, size_t memory_length, size_t used, const uint8_t *file,
+                                        size_t file_length);
+
+/* The words of the package that a file is, or that an ELF file of either class (.dwp) has. 21 is no package; 31 to 33, 19 and 18 as of the readers. */
+struct barthovin_written barthovin_open(const uint8_t *file, size_t file_length, uint8_t *output, size_t output_length);
 
 /* Packs a bundle. After every answer all of work is zeros. Work that is shorter than BARTHOVIN_WORK_FOR_A_WORD words for each
  * word of the bundle is refused. */

@@ -12,6 +12,7 @@ pub mod command;
 pub mod elf;
 pub mod explain;
 pub mod ffi;
+pub mod join;
 pub mod lent;
 pub mod names;
 pub mod profile;

@@ -77,6 +77,19 @@ int main(void) {
     show("lookup_string", barthovin_lookup_string(output, packed.length, 5, 1, 1, 1));
     printf("profile %u %u\n", (unsigned)barthovin_archive_profile(output, packed.length),
            (unsigned)barthovin_archive_profile(output, packed.length - 4));
+    /* The second bundle behind the first, in memory that is too short, long enough, and of a length that it hasn't. */
+    struct barthovin_written joined = barthovin_join(output, 1000, 0, bundle, sizeof words);
+    printf("join %u %zu\n", (unsigned)joined.code, joined.length);
+    joined = barthovin_join(output, 100, joined.length, (const uint8_t *)skipped, sizeof skipped);
+    printf("join %u %zu\n", (unsigned)joined.code, joined.length);
+    joined = barthovin_join(output, 1000, sizeof words, (const uint8_t *)skipped, sizeof skipped);
+    printf("join %u %zu %u\n", (unsigned)joined.code, joined.length, (unsigned)output[joined.length - 4]);
+    joined = barthovin_join(output, 1000, 1001, bundle, sizeof words);
+    printf("join %u %zu\n", (unsigned)joined.code, joined.length);
+    joined = barthovin_open(elf, file.length, page, sizeof page);
+    printf("open %u %zu\n", (unsigned)joined.code, joined.length);
+    joined = barthovin_open(bundle, sizeof words, page, sizeof page);
+    printf("open %u %zu\n", (unsigned)joined.code, joined.length);
     printf("conditions %u\n", (unsigned)barthovin_archive_profile_conditions(bundle, sizeof words).failed);
     return 0;
 }

@@ -13,7 +13,8 @@ use std::process::{Command, Output};
 const ROOT: &str = concat!(env!("CARGO_MANIFEST_DIR"), "/../..");
 
 /// `ci` at the top, with nothing behind it and nothing of the checkout gone, tells a run; its line `rt: ok` and its last one come from files where those
-/// are there. `lib` in archive's folder tells of each crate that archive cites that it is proved, and then of archive. Each fails where a file says so.
+/// are there. `lib` in a crate's folder tells that it is proved, where all that it cites were proved before; archive's is for every x86-64. Each fails
+/// where a file says so.
 const CHECKER: &str = "#!/bin/sh
 case \"$*\" in
 ci)
@@ -29,17 +30,14 @@ ci)
     cat ok 2> /dev/null || echo 'rt: ok; handles allowed: none; must-fail edits: 17 refused; every proof and must-fail edit was done in this run'
     cat last 2> /dev/null || echo '41 passed, 0 failed'
     test ! -e checker-fails ;;
-lib)
-    test \"$(basename \"$PWD\")\" = archive || exit 3
-    for crate in $(sed -n 's/^archive staticlib://p' ../../crates.txt) archive; do
-        echo \"rt: chose --jobs 2 for $crate\"
-        echo \"fn $crate::of: proved\"
-        echo 'library std: modules loaded=3 checked=0'
-        echo \"crate $crate: modules loaded=5 checked=2\"
-        test ! -e ../../library-fails || { echo 'error[unproved]: a goal is open' >&2; exit 1; }
-        echo 'logic=proved functions=1 target=none'
-    done
-    mkdir -p out && echo library > out/libarchive.a ;;
+lib | 'lib --cpu x86-64')
+    crate=$(basename \"$PWD\")
+    test $crate != archive || test \"$*\" = 'lib --cpu x86-64' || exit 3
+    for cited in $(sed -n \"s/^$crate\\( staticlib\\)\\{0,1\\}://p\" ../../crates.txt); do test -e ../$cited/out/proved || exit 3; done
+    echo \"fn $crate::of: proved\"
+    test ! -e ../../library-fails || { echo 'error[unproved]: a goal is open' >&2; exit 1; }
+    echo 'logic=proved functions=1 target=none'
+    mkdir -p out && touch out/proved && echo library > out/lib$crate.a ;;
 *) exit 3 ;;
 esac
 ";
@@ -87,7 +85,11 @@ fn laid_out(name: &str) -> Home {
         fs::create_dir_all(home.join(folder)).unwrap();
     });
     ["crates/archive/out/kept", "target/kept"].into_iter().for_each(|file| fs::write(home.join(file), "").unwrap());
-    for file in ["Makefile", "crates.txt", "tools/laws.txt", "tools/laws-proved"] {
+    let list = fs::read_to_string(format!("{ROOT}/crates.txt")).unwrap();
+    for line in list.lines().filter_map(|line| line.split_once(':')) {
+        fs::create_dir_all(home.join("crates").join(line.0.trim_end_matches(" staticlib"))).unwrap();
+    }
+    for file in ["Makefile", "crates.txt", "tools/prove.mk", "tools/laws.txt", "tools/laws-proved"] {
         fs::copy(format!("{ROOT}/{file}"), home.join(file)).unwrap();
     }
     for (tool, script) in [("rt", CHECKER), ("cargo", CARGO)] {
@@ -153,20 +155,36 @@ fn the_gate_reads_what_the_checker_says() {
     assert!(passes && told.ends_with("\n39 passed, 0 failed\n"));
 }
 
-/// Each crate is counted as it is proved, the theorem's last.
+/// Each crate is counted as it is proved, with the time that it took, behind those that it cites; the theorem's is the last.
 #[test]
 fn the_first_command_says_how_far_it_is() {
     let home = laid_out("first-command");
     let output = make(&home, "library");
     assert_eq!(status(&output), 0, "{}", message(&output));
     let list = fs::read_to_string(format!("{ROOT}/crates.txt")).unwrap();
-    let line = list.lines().find_map(|line| line.strip_prefix("archive staticlib:")).unwrap();
-    let crates: Vec<&str> = line.split_whitespace().collect();
+    let cited = |name: &str| -> Vec<String> {
+        let line = list.lines().find_map(|line| line.strip_prefix(&format!("{name}:")));
+        line.unwrap_or_default().split_whitespace().map(str::to_string).collect()
+    };
+    let crates = cited("archive staticlib");
     let all = crates.len() + 1;
-    let mut wanted = vec![format!("proving the packer: {} crates, then archive with the theorem", crates.len())];
-    wanted.extend(crates.iter().zip(1..).map(|(name, n)| format!("[{n} of {all}] {name} proved")));
-    wanted.push(format!("[{all} of {all}] archive proved; its C entries are in target/staticlib"));
-    assert_eq!(text(&output).lines().collect::<Vec<_>>(), wanted);
+    let told = text(&output);
+    let lines: Vec<&str> = told.lines().collect();
+    assert!(lines[0].starts_with(&format!("proving the packer: {} crates, then archive", crates.len())), "{told}");
+    assert!(lines[all + 1].starts_with("all proved in ") && lines.len() == all + 2, "{told}");
+    let proved: Vec<&str> = lines[1..=all]
+        .iter()
+        .zip(1..)
+        .map(|(line, n)| {
+            let (name, took) = line.strip_prefix(&format!("[{n} of {all}] ")).unwrap().split_once(" proved, ").unwrap();
+            assert!(took.strip_suffix(" s").unwrap().parse::<u32>().is_ok(), "{line}");
+            name
+        })
+        .collect();
+    assert_eq!(proved.last(), Some(&"archive"));
+    for (place, name) in proved.iter().enumerate() {
+        assert!(cited(name).iter().all(|below| proved[..place].contains(&below.as_str())), "{name} in {told}");
+    }
     // It isn't proved twice.
     assert!(!text(&make(&home, "library")).contains("proving"));
     for name in ["archive", "barthovin"] {

@@ -111,6 +111,17 @@ pub fn one_probe_sequence(units: u32) -> Vec<u8> {
     placed_package(rows.iter().map(|(identity, _)| *identity), &rows, &slots)
 }
 
+/// So many units, whose rows have the last slots of their one probe sequence. All other slots of at least twice as many are used too: they name
+/// the first row again.
+pub fn used_slots(units: u32) -> Vec<u8> {
+    let rows: Vec<_> = (0..units).map(|i| (colliding(i.into()), (i * UNIT, UNIT))).collect();
+    let mut slots = vec![1; (2 * rows.len() + 1).next_power_of_two()];
+    let (mask, step) = (slots.len() - 1, colliding(0) >> 32 | 1);
+    let first = slots.len() - rows.len();
+    (1..rows.len()).for_each(|i| slots[(colliding(0) as usize + (first + i) * step as usize) & mask] = i as u64 + 1);
+    placed_package(rows.iter().map(|(identity, _)| *identity), &rows, &slots)
+}
+
 /// A version 5 package of one unit, of so many parts of str_offsets without entries, and of rows that name these cells of it.
 fn package_of_pieces(pieces: u32, cells: impl Iterator<Item = Cell>) -> Vec<u8> {
     let mut unit = vec![16, 0, 0, 0, 5, 0, 5, 8, 0, 0, 0, 0];

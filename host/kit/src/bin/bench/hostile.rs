@@ -1,23 +1,22 @@
-//! The hostile kinds, at parts of the greatest length and whole: how their time grows, and thorin's.
+//! The hostile kinds, from 28 KB to the greatest length: how their time grows, and thorin's.
 
 use super::measure::Bench;
-use kit::generate::{sized, Hostile, HOSTILE};
+use super::show::quotient;
+use kit::generate::{sized, Hostile, HOSTILE, SHORT};
 use kit::reference::LONGEST_BUNDLE;
 use std::io::Result;
 use std::time::Duration;
 
-/// A sixteenth, an eighth, a quarter, and all of the greatest length.
-const PARTS: [usize; 4] = [16, 8, 4, 1];
-/// Where thorin is left out at all but one of them, its growth is that of these two.
-const SHORTER: [usize; 2] = [64, 32];
-/// What would take longer, by the growth that was seen or by the square of the length, is left out.
-const PATIENCE: Duration = Duration::from_secs(20);
+/// The length of the gate's bar, a sixteenth, an eighth and a quarter of the greatest length, and all of it.
+pub const LENGTHS: [usize; 5] = [SHORT, LONGEST_BUNDLE / 16, LONGEST_BUNDLE / 8, LONGEST_BUNDLE / 4, LONGEST_BUNDLE];
+/// What would take longer, by the growth that was seen or by the square of the length, is left out: ours, and thorin's.
+const PATIENCE: Duration = Duration::from_secs(8);
+const PATIENCE_FOR_THORIN: Duration = Duration::from_secs(2);
 const SQUARE: f64 = 4.0;
 
 /// One bundle; thorin's time is none where it was left out, or thorin isn't the measure.
 pub struct One {
     pub bundle: usize,
-    pub items: u64,
     pub ours: Duration,
     pub thorin: Option<Duration>,
 }
@@ -25,53 +24,74 @@ pub struct One {
 /// One kind, each longer than the one before.
 pub struct Grown {
     pub name: &'static str,
-    pub items: &'static str,
     pub answer: u32,
     pub measured: Vec<One>,
 }
 
-/// Whether what took so long at some parts of the length is to be tried at another.
-fn is_short_enough(before: &[(usize, Duration)], part: usize) -> bool {
+/// By how much a time grew for each doubling of the length between two.
+fn at_a_doubling((shorter, before): (usize, Duration), (longer, after): (usize, Duration)) -> Option<f64> {
+    let doublings = (longer as f64 / shorter as f64).log2();
+    quotient(after, before).map(|times| times.powf(1.0 / doublings))
+}
+
+/// Whether what took so long at some lengths is to be tried at another.
+fn is_short_enough(before: &[(usize, Duration)], length: usize, patience: Duration) -> bool {
     let growth = match before {
-        [.., (_, a), (_, b)] => b.as_secs_f64() / a.as_secs_f64(),
+        [.., a, b] => at_a_doubling(*a, *b).unwrap_or(SQUARE),
         _ => SQUARE,
     };
-    let wanted = |(old, took): &(usize, Duration)| took.as_secs_f64() * growth.powi((old / part).ilog2() as i32);
-    before.last().is_none_or(|last| wanted(last) <= PATIENCE.as_secs_f64())
+    let wanted =
+        |(old, took): &(usize, Duration)| took.as_secs_f64() * growth.powf((length as f64 / *old as f64).log2());
+    before.last().is_none_or(|last| wanted(last) <= patience.as_secs_f64())
 }
 
 /// One length; thorin is asked where it is the measure.
-fn one(bench: &mut Bench, hostile: &Hostile, part: usize, ask: bool) -> Result<One> {
+fn one(bench: &mut Bench, hostile: &Hostile, length: usize, ask: bool) -> Result<One> {
     let Hostile { kind, answer, thorin } = hostile;
-    let (bundle, items) = sized(kind, LONGEST_BUNDLE / part);
+    let (bundle, items) = sized(kind, length);
     let (ours, package) = bench.answered(&bundle, *answer)?;
     // Without a package of ours there is nothing to hold thorin's to.
     let its = if ask && *thorin { bench.taken_alike(&bundle, &package)? } else { None };
-    println!("{}: {} bytes, {items}, {ours:?}, thorin {its:?}", kind.name, bundle.len());
-    Ok(One { bundle: bundle.len(), items, ours, thorin: its })
+    let thorin = its.map(|steps| steps.packing);
+    println!("{}: {} bytes, {items}, {ours:.2?}, thorin {thorin:.2?}", kind.name, bundle.len());
+    Ok(One { bundle: bundle.len(), ours, thorin })
 }
 
-fn grown(bench: &mut Bench, hostile: &Hostile) -> Result<Grown> {
+pub fn grown(bench: &mut Bench, hostile: &Hostile) -> Result<Grown> {
     let (mut our_times, mut its_times) = (Vec::new(), Vec::new());
     let mut measured = Vec::new();
-    for part in PARTS {
-        if !is_short_enough(&our_times, part) {
+    for length in LENGTHS {
+        if !is_short_enough(&our_times, length, PATIENCE) {
             break;
         }
-        let one = one(bench, hostile, part, is_short_enough(&its_times, part))?;
-        our_times.push((part, one.ours));
-        its_times.extend(one.thorin.map(|took| (part, took)));
+        let ask = is_short_enough(&its_times, length, PATIENCE_FOR_THORIN);
+        let one = one(bench, hostile, length, ask)?;
+        our_times.push((length, one.ours));
+        its_times.extend(one.thorin.map(|took| (length, took)));
         measured.push(one);
     }
-    if hostile.thorin && its_times.len() < 2 {
-        let mut shorter: Vec<One> =
-            SHORTER.iter().map(|part| one(bench, hostile, *part, true)).collect::<Result<_>>()?;
-        shorter.append(&mut measured);
-        measured = shorter;
-    }
-    Ok(Grown { name: hostile.kind.name, items: hostile.kind.items, answer: hostile.answer, measured })
+    Ok(Grown { name: hostile.kind.name, answer: hostile.answer, measured })
 }
 
 pub fn all(bench: &mut Bench) -> Result<Vec<Grown>> {
     HOSTILE.iter().map(|hostile| grown(bench, hostile)).collect()
+}
+
+impl Grown {
+    /// The one of a length, if it was measured.
+    pub fn at(&self, length: usize) -> Option<&One> {
+        LENGTHS.iter().position(|wanted| *wanted == length).and_then(|place| self.measured.get(place))
+    }
+
+    /// The greatest growth at a doubling from 256 KB on, where fixed costs count least.
+    pub fn growth(&self) -> Option<f64> {
+        let timed: Vec<(usize, Duration)> = self.measured.iter().skip(1).map(|one| (one.bundle, one.ours)).collect();
+        let factors = timed.windows(2).filter_map(|two| at_a_doubling(two[0], two[1]));
+        factors.max_by(f64::total_cmp)
+    }
+
+    /// The longest at which thorin was timed.
+    pub fn both(&self) -> Option<(&One, Duration)> {
+        self.measured.iter().rev().find_map(|one| one.thorin.map(|thorin| (one, thorin)))
+    }
 }

@@ -1,40 +1,49 @@
-//! Times the proved packer, and thorin where it is at hand, on the same bundles.
+//! Times the proved packer, and others where they are at hand, on the same bundles and files.
 //!
-//!     bench PAPER BARTHOVIN REAL [ORACLE]
-//!     bench --sheet
+//!     bench page=FILE prose=FILE picture=FILE barthovin=FILE made=FOLDER strings=FILE [oracle=FILE]
+//!     bench one name=NAME [bytes=NUMBER] made=FOLDER [oracle=FILE]
+//!     bench sheet
 //!
-//! PAPER is written anew, with the figures of this run. BARTHOVIN is the command, REAL the folder with the real bundles, ORACLE the program that
-//! packs with thorin. Every package is compared with thorin's, byte for byte, where thorin is its measure. With --sheet only the sheet is timed.
+//! The first writes the page, which is the prose with the figures of this run, and the picture. `barthovin` is the command, `made` the folder with the
+//! releases that `examples/real/make-releases` made, `strings` what `make string-index` wrote, and `oracle`
+//! the program that packs with thorin. Every package is compared with thorin's, byte for byte, where thorin is its measure. The second measures one
+//! row again, a release or a kind of bundle by its name on the page. The third times the sheet alone.
 
 mod elves;
 mod hostile;
 mod instructions;
 mod lookups;
 mod measure;
-mod paper;
+mod page;
+mod pages;
+mod picture;
 mod process;
-mod real;
+mod releases;
 mod sheets;
-mod why;
+mod show;
+mod tables;
 
-use kit::generate::{last_of_many_strings, many_strings, sized, KINDS};
+use kit::generate::{last_of_many_strings, many_strings, sized, HOSTILE, KINDS};
 use kit::oracle::Oracle;
 use kit::reference::WORK_FOR_A_WORD;
 use measure::{Bench, Measured};
-use paper::{Growth, Paper};
-use real::Sources;
+use page::Page;
+use releases::{Home, Sources};
 use std::io::{Error, Result};
-use std::path::Path;
-use std::time::Duration;
+use std::path::{Path, PathBuf};
+use std::time::{Duration, Instant};
+use tables::Growth;
 
 /// Half a megabyte, and each the double of the one before; the last is the longest bundle.
 const LENGTHS: [usize; 4] = [1 << 19, 1 << 20, 1 << 21, 1 << 22];
 /// The last are as many as the longest bundle holds.
-const STRINGS: [u64; 6] = [6_240, 12_480, 24_960, 49_930, 99_860, 199_720];
+const STRINGS: [u64; 4] = [24_960, 49_930, 99_860, 199_720];
 /// So many strings, of which the last is named so often.
 const LAST_OF: (u64, u64) = (5_000, 100_000);
-/// What comes after a packing of this length is left out.
-const PATIENCE: Duration = Duration::from_secs(8);
+
+/// The stack of each entry is that of the bundles of all kinds and of so many generated ones.
+const SEED: u64 = 1;
+const BUNDLES: usize = 500;
 
 /// The example of FORMAT 14.
 fn example() -> Vec<u8> {
@@ -43,19 +52,19 @@ fn example() -> Vec<u8> {
     words.iter().flat_map(|w| w.to_le_bytes()).collect()
 }
 
-/// The same kind, longer and longer, until one takes too long.
-fn growing(bench: &mut Bench, name: &str, bundles: impl Iterator<Item = (Vec<u8>, u64)>) -> Result<Vec<Measured>> {
+/// The same kind, longer and longer.
+fn growing(
+    bench: &mut Bench,
+    (name, items): (&'static str, &'static str),
+    bundles: impl Iterator<Item = (Vec<u8>, u64)>,
+) -> Result<Growth> {
     let mut measured: Vec<Measured> = Vec::new();
-    for (bundle, items) in bundles {
-        if measured.last().is_some_and(|m| m.ours > PATIENCE) {
-            println!("{name}: the rest is left out, it takes too long");
-            break;
-        }
-        let one = bench.measure(&bundle, items)?;
-        println!("{name}: {} bytes, {items}, {:?}, thorin {:?}", one.bundle, one.ours, one.thorin);
+    for (bundle, count) in bundles {
+        let one = bench.measure(&bundle, count)?;
+        println!("{name}: {} bytes, {count}, {:.2?}, {:.2?}", one.bundle, one.ours, one.thorin);
         measured.push(one);
     }
-    Ok(measured)
+    Ok(Growth { name, items, measured })
 }
 
 /// The machine's load in the last minute, where the system says it.
@@ -64,69 +73,135 @@ fn load() -> String {
     told.split(' ').next().filter(|number| !number.is_empty()).unwrap_or("unknown").to_string()
 }
 
-fn measure_all(sources: &Sources) -> Result<Paper> {
-    let before = load();
+/// What `make string-index` measured: two numbers of nanoseconds.
+fn string_index(file: Option<&str>) -> Option<(Duration, Duration)> {
+    let told = std::fs::read_to_string(file?).ok()?;
+    let numbers: Vec<u64> = told.split_whitespace().map_while(|word| word.parse().ok()).collect();
+    let [index, walk] = numbers[..] else { return None };
+    Some((Duration::from_nanos(index), Duration::from_nanos(walk)))
+}
+
+fn measure_all(sources: &Sources, strings_file: Option<&str>) -> Result<Page> {
+    let (start, before) = (Instant::now(), load());
     let thorin = sources.oracle.map(Oracle::version).transpose()?;
-    let is_real = real::is_at_hand(sources);
-    let processes = if is_real { real::processes(sources)? } else { Vec::new() };
+    let home = Home::new()?;
+    let (found, missing) = releases::all(sources);
+    let floor = releases::floor()?;
+    let inputs = releases::processes(sources, &found, &home)?;
     let mut bench = Bench::new(sources.oracle)?;
-    let releases = if is_real { real::bundles(sources, &mut bench)? } else { Vec::new() };
+    let packed = found.iter().map(|release| releases::packed(release, &mut bench)).collect::<Result<_>>()?;
     let example = example();
     let small = (bench.measure(&example, 1)?, measure::small(&example)?);
-    let one_store = measure::one_store(LENGTHS[3] / 4 * WORK_FOR_A_WORD)?;
-    let mut kinds = Vec::new();
-    for kind in &KINDS {
+    let kinds = KINDS.iter().map(|kind| {
         let bundles = LENGTHS.iter().map(|length| sized(kind, *length));
-        let measured = growing(&mut bench, kind.name, bundles)?;
-        kinds.push(Growth { name: kind.name, items: kind.items, measured });
-    }
-    let name = "many different strings";
-    let strings = growing(&mut bench, name, STRINGS.iter().map(|n| (many_strings(*n), *n)))?;
-    let strings = Growth { name, items: "strings", measured: strings };
-    let counted = STRINGS.iter().map(|n| instructions::of_packing(sources.barthovin, &many_strings(*n)));
-    let instructions = counted.collect::<Result<Vec<Option<u64>>>>()?;
+        growing(&mut bench, (kind.name, kind.items), bundles)
+    });
+    let kinds = kinds.collect::<Result<_>>()?;
+    let strings = STRINGS.iter().map(|n| (many_strings(*n), *n));
+    let strings = growing(&mut bench, ("many different strings", "strings"), strings)?;
+    let instructions = STRINGS.iter().map(|n| instructions::of_packing(sources.barthovin, &many_strings(*n)));
     let (name, (many, often)) = ("100,000 entries for the last of 5,000 strings", LAST_OF);
-    let measured = growing(&mut bench, name, std::iter::once((last_of_many_strings(many, often), often)))?;
-    let last_of = Growth { name, items: "entries", measured };
-    let elves = elves::all()?;
+    let last_of = std::iter::once((last_of_many_strings(many, often), often));
+    let last_of = growing(&mut bench, (name, "entries"), last_of)?;
     let hostile = hostile::all(&mut bench)?;
-    Ok(Paper {
+    Ok(Page {
         thorin,
-        elves,
-        // Packing.
         small,
-        one_store,
+        one_store: measure::one_store(LENGTHS[3] / 4 * WORK_FOR_A_WORD)?,
         kinds,
         strings,
-        instructions,
+        instructions: instructions.collect::<Result<_>>()?,
         last_of,
-        releases,
-        processes,
+        string_index: string_index(strings_file),
+        releases: packed,
+        inputs,
+        missing,
+        floor,
         hostile,
-        // Looking up.
+        elves: elves::all()?,
         batch: lookups::batch()?,
         lookups: lookups::all()?,
         sheet: sheets::measured()?,
+        stack: kit::stack::of_entries(SEED, BUNDLES),
         load: (before, load()),
+        took: start.elapsed(),
     })
+}
+
+/// Words of the form NAME=VALUE.
+struct Words(Vec<(String, String)>);
+
+impl Words {
+    fn read(words: &[String]) -> Result<Words> {
+        let pair = |word: &String| {
+            let (name, value) =
+                word.split_once('=').ok_or_else(|| Error::other(format!("'{word}' is not NAME=VALUE")))?;
+            Ok((name.to_string(), value.to_string()))
+        };
+        Ok(Words(words.iter().map(pair).collect::<Result<_>>()?))
+    }
+
+    fn get(&self, name: &str) -> Option<&str> {
+        self.0.iter().find(|(known, _)| known == name).map(|(_, value)| value.as_str())
+    }
+
+    fn file(&self, name: &str) -> Result<PathBuf> {
+        self.get(name).map(PathBuf::from).ok_or_else(|| Error::other(format!("{name}= is missing")))
+    }
+
+    /// thorin, if it is named and there.
+    fn oracle(&self) -> Option<&str> {
+        self.get("oracle").filter(|path| Path::new(path).is_file())
+    }
+}
+
+fn write_all(words: &Words) -> Result<()> {
+    let (made, barthovin) = (words.file("made")?, words.file("barthovin")?);
+    let sources = Sources { made: &made, barthovin: &barthovin, oracle: words.oracle() };
+    if sources.oracle.is_none() {
+        println!("thorin is not at hand: only the proved packer is measured");
+    }
+    let prose = std::fs::read_to_string(words.file("prose")?)?;
+    let page = measure_all(&sources, words.get("strings"))?;
+    std::fs::write(words.file("page")?, page.filled(&prose))?;
+    std::fs::write(words.file("picture")?, picture::picture(&page.releases, &page.inputs, &page.hostile))?;
+    println!("{}", page.verdict());
+    println!("{} is written", words.file("page")?.display());
+    Ok(())
+}
+
+/// One row again: a release, a kind of bundle at a length, or a hostile kind.
+fn measure_one(words: &Words) -> Result<()> {
+    let name = words.get("name").ok_or_else(|| Error::other("name= is missing"))?;
+    let bytes = words.get("bytes").map_or(Ok(LENGTHS[3]), str::parse).map_err(Error::other)?;
+    let made = words.file("made")?;
+    let sources = Sources { made: &made, barthovin: Path::new(""), oracle: words.oracle() };
+    let mut bench = Bench::new(sources.oracle)?;
+    if let Some(hostile) = HOSTILE.iter().find(|hostile| hostile.kind.name == name) {
+        return hostile::grown(&mut bench, hostile).map(|grown| print!("{}", tables::hostile(&[grown])));
+    }
+    let (items, measured) = if let Some(kind) = KINDS.iter().find(|kind| kind.name == name) {
+        let (bundle, count) = sized(kind, bytes);
+        (kind.items, bench.measure(&bundle, count)?)
+    } else {
+        let (found, _) = releases::all(&sources);
+        let release = found.iter().find(|release| release.name == name);
+        let release = release.ok_or_else(|| Error::other(format!("nothing is called '{name}'")))?;
+        ("files", releases::packed(release, &mut bench)?.measured)
+    };
+    print!("{}{}", show::head(&tables::SIZES), tables::size(name, items, &measured));
+    Ok(())
 }
 
 fn main() -> Result<()> {
     let words: Vec<String> = std::env::args().skip(1).collect();
-    if words.first().is_some_and(|word| word == "--sheet") {
-        sheets::measured()?.rows().iter().for_each(|(name, took)| println!("{name}: {took:?}"));
-        return Ok(());
+    match words.first().map(String::as_str) {
+        Some("launch") => process::launch(&words[1..]),
+        Some("one") => measure_one(&Words::read(&words[1..])?),
+        Some("sheet") => {
+            sheets::measured()?.rows().iter().for_each(|(name, took)| println!("{name}: {took:?}"));
+            Ok(())
+        }
+        _ => write_all(&Words::read(&words)?),
     }
-    let [file, barthovin, folder, rest @ ..] = &words[..] else {
-        return Err(Error::other("bench PAPER BARTHOVIN REAL [ORACLE], or bench --sheet"));
-    };
-    let oracle = rest.first().map(String::as_str).filter(|path| Path::new(path).is_file());
-    if oracle.is_none() {
-        println!("thorin is not at hand: only the proved packer is measured");
-    }
-    let paper = measure_all(&Sources { folder: Path::new(folder), barthovin: Path::new(barthovin), oracle })?;
-    std::fs::write(file, paper.to_string())?;
-    println!("{}", paper.verdict());
-    println!("{file} is written");
-    Ok(())
 }

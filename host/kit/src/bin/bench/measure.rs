@@ -1,11 +1,12 @@
-//! One bundle measured: the proved packer with junk or zeros in what it is lent, and thorin by the oracle.
+//! One bundle measured: the proved packer with junk, zeros or fresh pages in what it is lent, and thorin, which the oracle times by its steps.
 
+use super::pages::{self, Pages};
 use barthovin::ffi;
 use barthovin::lent::Lent;
 use kit::clock;
 use kit::lender::Lender;
 use kit::measured::{by_thorins, measure, Measure};
-use kit::oracle::Oracle;
+use kit::oracle::{Oracle, Steps};
 use kit::reference::{Bundle, WORK_FOR_A_WORD};
 use std::io::{Error, Result};
 use std::time::{Duration, Instant};
@@ -19,12 +20,13 @@ pub struct Measured {
     pub bundle: usize,
     pub items: u64,
     pub package: usize,
+    /// With junk in what is lent.
     pub ours: Duration,
     /// The same call with a wrong head: it clears what was lent and refuses.
     pub clearing: Duration,
     /// The same call where zeros are lent, as a call leaves them.
     pub zeros: Duration,
-    pub thorin: Option<Duration>,
+    pub thorin: Option<Steps>,
 }
 
 pub struct Bench {
@@ -34,19 +36,22 @@ pub struct Bench {
 }
 
 /// A packing as long as this is measured once.
-const LONG: Duration = Duration::from_secs(2);
+const LONG: Duration = Duration::from_secs(1);
 
-/// What one thing is measured for at least, and what five take that take turns.
-const ALONE: Duration = Duration::from_millis(400);
-const IN_TURNS: Duration = Duration::from_millis(2_000);
+/// What one thing is measured for at least, and what several take that take turns.
+const ALONE: Duration = Duration::from_millis(150);
+const IN_TURNS: Duration = Duration::from_millis(800);
+/// At least so many rounds, unless they are long, and at most so many.
+const FEWEST: usize = 7;
+const MOST: usize = 2_001;
 
 /// Some rounds: at least seven and for so long, but fewer where they are long, and more where they are short.
 fn rounds(least: Duration, mut round: impl FnMut() -> Result<()>) -> Result<()> {
     let start = Instant::now();
     round()?;
-    for rounds in 1..2_001 {
+    for rounds in 1..MOST {
         let passed = start.elapsed();
-        let enough = passed > least && rounds >= 7;
+        let enough = passed > least && rounds >= FEWEST;
         if enough || passed > 10 * least {
             break;
         }
@@ -67,7 +72,7 @@ pub fn shortest(mut round: impl FnMut() -> Result<Duration>) -> Result<Duration>
 
 impl Bench {
     pub fn new(oracle: Option<&str>) -> Result<Bench> {
-        let oracle = oracle.map(Oracle::start).transpose()?;
+        let oracle = oracle.map(Oracle::start_timed).transpose()?;
         Ok(Bench { lent: Lender::new(1), zeros: Lender::of_zeros(), oracle })
     }
 
@@ -90,7 +95,7 @@ impl Bench {
             zeros = zeros.min(once(&mut self.zeros, bundle, package.len(), 0)?);
             question.as_mut().map_or(Ok(()), |question| question.ask(&package))
         })?;
-        let thorin = question.map(|question| question.took());
+        let thorin = question.and_then(|question| question.steps);
         Ok(Measured { bundle: bundle.len(), items, package: package.len(), ours, clearing, zeros, thorin })
     }
 
@@ -103,12 +108,12 @@ impl Bench {
         }
     }
 
-    /// thorin's time for a bundle that it takes as we do, in which nothing is looked for that says so: that would take long too.
-    pub fn taken_alike(&mut self, bundle: &[u8], package: &[u8]) -> Result<Option<Duration>> {
+    /// thorin's steps for a bundle that it takes as we do, in which nothing is looked for that says so: that would take long too.
+    pub fn taken_alike(&mut self, bundle: &[u8], package: &[u8]) -> Result<Option<Steps>> {
         let Some(oracle) = self.oracle.as_mut() else { return Ok(None) };
         let mut question = Question::new(oracle, bundle);
         rounds(ALONE, || question.ask(package))?;
-        Ok(Some(question.took()))
+        Ok(question.steps)
     }
 }
 
@@ -122,6 +127,26 @@ fn once(lent: &mut Lender, bundle: &[u8], output: usize, code: u32) -> Result<Du
     Ok(lent.took())
 }
 
+/// The call where work and output are pages that the system has not given yet. What it lends is long enough to be mapped.
+pub fn fresh(bundle: &[u8], package: usize, pages: Pages) -> Result<Duration> {
+    pages::allow(pages)?;
+    let took = shortest(|| {
+        let mut work: Lent<u32> = Lent::zeros(bundle.len() / 4 * WORK_FOR_A_WORD);
+        let mut output: Lent<u8> = Lent::zeros(package);
+        let start = clock::thread();
+        let (code, length, _) = ffi::pack_counted(bundle, &mut work, &mut output);
+        let took = clock::between(start, clock::thread()).ok_or_else(no_clock)?;
+        let right = (code, length) == (0, package);
+        right.then_some(took).ok_or_else(|| Error::other(format!("code {code} over fresh pages")))
+    });
+    pages::allow(Pages::Huge)?;
+    took
+}
+
+fn no_clock() -> Error {
+    Error::other("no clock for this thread")
+}
+
 /// The time to clear so many words of junk at once, as a caller would.
 pub fn one_store(words: usize) -> Result<Duration> {
     let mut memory: Lent<u32> = Lent::zeros(words);
@@ -130,50 +155,32 @@ pub fn one_store(words: usize) -> Result<Duration> {
         let start = clock::thread();
         std::hint::black_box(&mut memory[..]).fill(0);
         std::hint::black_box(&memory[..]);
-        clock::between(start, clock::thread()).ok_or_else(|| Error::other("no clock for this thread"))
+        clock::between(start, clock::thread()).ok_or_else(no_clock)
     })
 }
 
-/// The oracle's time for an answer, less that for the same question with a wrong offset width: to that the oracle reads the bundle,
-/// writes an ELF file for each object and stops before it calls thorin. The two take turns.
+/// A bundle that thorin is asked to pack, and the least that each step took.
 struct Question<'a> {
     oracle: &'a mut Oracle,
     bundle: &'a [u8],
-    without: Vec<u8>,
-    whole: Duration,
-    before: Duration,
+    answer: Vec<u8>,
+    steps: Option<Steps>,
 }
 
 impl<'a> Question<'a> {
     fn new(oracle: &'a mut Oracle, bundle: &'a [u8]) -> Question<'a> {
-        let mut without = bundle.to_vec();
-        without[5] = 0;
-        Question { oracle, bundle, without, whole: Duration::MAX, before: Duration::MAX }
+        Question { oracle, bundle, answer: Vec::new(), steps: None }
     }
 
     fn ask(&mut self, package: &[u8]) -> Result<()> {
+        let (_, steps) = self.oracle.ask_timed(self.bundle, &mut self.answer)?;
         // An index whose slots thorin counts otherwise is not compared here.
-        let right = |answer: &[u8]| by_thorins(answer, package).is_some_and(|wanted| wanted == package);
-        self.whole = self.whole.min(asked(self.oracle, self.bundle, 0, right)?);
-        let stopped = |answer: &[u8]| answer == b"bundle: offset width";
-        self.before = self.before.min(asked(self.oracle, &self.without, 1, stopped)?);
+        let is_right = by_thorins(&self.answer, package).is_some_and(|wanted| wanted == package);
+        match steps.filter(|_| is_right) {
+            Some(steps) => self.steps = Some(self.steps.map_or(steps, |before| before.least(steps))),
+            None => return Err(Error::other(format!("thorin differs on a bundle of {} bytes", self.bundle.len()))),
+        }
         Ok(())
-    }
-
-    fn took(&self) -> Duration {
-        self.whole.saturating_sub(self.before)
-    }
-}
-
-/// The oracle's time for a question whose answer is known.
-fn asked(oracle: &mut Oracle, question: &[u8], tag: u8, right: impl Fn(&[u8]) -> bool) -> Result<Duration> {
-    let mut answer = Vec::new();
-    let start = oracle.time();
-    let told = oracle.ask(question, &mut answer)?;
-    let took = clock::between(start, oracle.time()).ok_or_else(|| Error::other("no clock for another process"))?;
-    match told == tag && right(&answer) {
-        true => Ok(took),
-        false => Err(Error::other(format!("thorin differs on a bundle of {} bytes", question.len()))),
     }
 }
 

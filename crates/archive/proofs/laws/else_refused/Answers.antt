@@ -1,0 +1,7 @@
+-- The law is proved in `Unread.antt`.
+-- Assumes nothing.
+use Rattle.archive.proofs.Unread as law
+use Rattle.archive.proofs.laws.else_refused.Goals as goal
+
+pub returns : goal.returns
+returns c = law.else_refused

@@ -1,0 +1,72 @@
+-- Files joined and opened, as the checker computes them.
+use mathlib.Core.Path.{◌≡◌, refl}
+use mathlib.Core.Bool.{true, false, not, ◌&&◌, ◌||◌}
+use mathlib.Core.List.{List, [], ◌∷◌, ◌++◌, map}
+use Prim.Native.Nat.{ℕ}
+use lib.ListN.{length}
+use Rattle.octets.specs.Octets.{part, little, big_from, number, number_at, little_of, big_of, bytes_of, numbers_of, zeros, padded}
+use Rattle.octets.specs.Lists.{joined as concat, all, any, those, same}
+use Rattle.octets.specs.Checked.{Check, pass, refuse, ◌>>=◌, require}
+use Rattle.answers.specs.Answers.{Answer, refused, short, made, answered}
+use Rattle.bundle.specs.Bundle.{filled_up, object_step, section_step, end_step, step_of, step_at, followed, items_from, items, leading, objects_of, object_first, bundle_of}
+use Rattle.bundle.specs.Written.{Section, word_bytes, head_bytes, section_bytes, object_bytes, end_bytes, written}
+use Rattle.bundle.proofs.Examples.{words}
+use Rattle.join.specs.Join.{elf_bundle, as_it_is, as_bundle, file_bundle, framed, contents, behind, joined_with, joined_behind, joined, joining, memory_after, starts_elf}
+
+-- a bundle of one object with one section, one of another object, and both joined
+abbrev first : List ℕ
+first = words (0xF000_0000 ∷ 0x1008_0405 ∷ 0x2080_0001 ∷ 0x11 ∷ 0x3000_0005 ∷ [])
+
+abbrev second : List ℕ
+second = words (0xF000_0000 ∷ 0x1008_0404 ∷ 0x2180_0002 ∷ 0x2211 ∷ 0x3000_0005 ∷ [])
+
+abbrev both : List ℕ
+both = words (0xF000_0000 ∷ 0x1008_0405 ∷ 0x2080_0001 ∷ 0x11 ∷ 0x1008_0404 ∷ 0x2180_0002 ∷ 0x2211 ∷ 0x3000_0008 ∷ [])
+
+-- the second in the other byte order, one whose end counts a word too few, and one without objects
+abbrev other : List ℕ
+other = words (0xF000_0001 ∷ 0x1008_0404 ∷ 0x2180_0002 ∷ 0x2211 ∷ 0x3000_0005 ∷ [])
+
+abbrev broken : List ℕ
+broken = words (0xF000_0000 ∷ 0x1008_0404 ∷ 0x2180_0002 ∷ 0x2211 ∷ 0x3000_0004 ∷ [])
+
+abbrev none : List ℕ
+none = words (0xF000_0000 ∷ 0x3000_0002 ∷ [])
+
+abbrev pub Joins : Type 0
+Joins =
+    -- none so far; the second behind the first; nothing behind it, and it behind nothing
+    (joined [] first ≡ pass first)
+    × (joined first second ≡ pass both)
+    × (joined first none ≡ pass first)
+    × (joined none second ≡ pass second)
+    -- a file that is no bundle, alone and behind the first; one of the other byte order
+    × (joined [] broken ≡ refuse 3)
+    × (joined first broken ≡ refuse 3)
+    × (joined first other ≡ refuse 45)
+    -- what isn't framed: an end that counts too few, a head alone, bytes that aren't words. The objects between are not looked at
+    × (joined broken second ≡ refuse 3)
+    × (joined (words (0xF000_0000 ∷ [])) second ≡ refuse 3)
+    × (joined (first ++ (0 ∷ [])) second ≡ refuse 3)
+    × (joined (words (0xF000_0002 ∷ 0x3000_0002 ∷ [])) second ≡ refuse 3)
+    × (joined (words (0xF000_0000 ∷ 0x5 ∷ 0x3000_0003 ∷ [])) none ≡ pass (words (0xF000_0000 ∷ 0x5 ∷ 0x3000_0003 ∷ [])))
+
+pub joins : Joins
+unfolding elf_bundle part little number number_at little_of bytes_of numbers_of zeros concat all ◌>>=◌ require filled_up object_step section_step end_step step_of step_at followed items_from items leading objects_of object_first bundle_of word_bytes end_bytes as_it_is as_bundle file_bundle framed contents behind starts_elf joined_with joined_behind joined
+joins = (refl, refl, refl, refl, refl, refl, refl, refl, refl, refl, refl, refl)
+
+-- memory with room, without, and after refusals
+abbrev pub Memories : Type 0
+Memories =
+    (joining (first ++ (1 ∷ 2 ∷ 3 ∷ 4 ∷ 5 ∷ 6 ∷ 7 ∷ 8 ∷ 9 ∷ 10 ∷ 11 ∷ 12 ∷ 13 ∷ [])) 20 second ≡ made both)
+    × (memory_after (made both) (first ++ (1 ∷ 2 ∷ 3 ∷ 4 ∷ 5 ∷ 6 ∷ 7 ∷ 8 ∷ 9 ∷ 10 ∷ 11 ∷ 12 ∷ 13 ∷ [])) 20 ≡ both ++ (0 ∷ []))
+    × (joining (first ++ (1 ∷ 2 ∷ [])) 20 second ≡ short 32)
+    × (memory_after (short 32) (first ++ (1 ∷ 2 ∷ [])) 20 ≡ first ++ (0 ∷ 0 ∷ []))
+    × (joining (first ++ (1 ∷ 2 ∷ [])) 20 other ≡ refused 45)
+    × (joining (first ++ (1 ∷ 2 ∷ [])) 23 second ≡ refused 3)
+    × (memory_after (refused 3) (first ++ (1 ∷ 2 ∷ [])) 23 ≡ first ++ (1 ∷ 2 ∷ []))
+    × (joining (1 ∷ 2 ∷ []) 0 second ≡ short 20)
+
+pub memories : Memories
+unfolding elf_bundle part little number number_at little_of bytes_of numbers_of zeros padded concat all ◌>>=◌ require filled_up object_step section_step end_step step_of step_at followed items_from items leading objects_of object_first bundle_of word_bytes end_bytes as_it_is as_bundle file_bundle framed contents behind starts_elf joined_with joined_behind joined answered joining memory_after
+memories = (refl, refl, refl, refl, refl, refl, refl, refl)

@@ -1,0 +1,52 @@
+-- What is joined of files holds exactly their objects, in the files' order.
+use Rattle.std.specs.Prelude.{◌≡◌, List, [], ◌∷◌, ◌++◌, map, ℕ, ◌<◌, slice_index}
+use Rattle.octets.specs.Checked.{Check, pass, refuse, ◌>>=◌}
+use Rattle.octets.specs.Octets.{part}
+use Rattle.bundle.specs.Bundle.{Part, Object, Bundle, bundle_of}
+use Rattle.bundle.specs.Written.{Section, Sections}
+use Rattle.join.specs.Join.{file_bundle, joined}
+
+-- files joined one after the other behind a bundle
+unfoldable pub joined_all : List ℕ → List (List ℕ) → Check (List ℕ)
+joined_all b [] = pass b
+joined_all b (f ∷ fs) = joined b f >>= λ c. joined_all c fs
+
+-- ---- the objects of files
+-- an object as it stands in a bundle: its word, and its sections with their bytes, in order
+unfoldable pub section_in : List ℕ → Part → Section
+section_in b p = record { code = p.code; bytes = part b p.start p.size }
+
+unfoldable pub object_in : List ℕ → Object → Sections
+object_in b o = record { word = o.word; sections = map (section_in b) o.parts }
+
+unfoldable pub objects_read : List ℕ → Check Bundle → List Sections
+objects_read b (pass u) = map (object_in b) u.objects
+objects_read b (refuse n) = []
+
+unfoldable pub objects_in : Check (List ℕ) → List Sections
+objects_in (pass b) = objects_read b (bundle_of b)
+objects_in (refuse n) = []
+
+-- those of the bundle that its reader makes of a file, with the bytes that they have there
+unfoldable pub file_objects : List ℕ → List Sections
+file_objects f = objects_in (file_bundle f)
+
+unfoldable pub all_objects : List (List ℕ) → List Sections
+all_objects [] = []
+all_objects (f ∷ fs) = file_objects f ++ all_objects fs
+
+-- ---- the law
+-- each is a list of bytes
+unfoldable pub AllBytes : List (List ℕ) → Type 0
+AllBytes [] = Unit {0}
+AllBytes (f ∷ fs) = ((i : ℕ) → slice_index f i < 256) × AllBytes fs
+
+-- the bundle can be read, and holds these objects and no others
+pub record HoldsAll (b : List ℕ) (os : List Sections) : Type 0 where
+  pub bundle : Bundle
+  pub read : bundle_of b ≡ pass bundle
+  pub objects : map (object_in b) bundle.objects ≡ os
+
+abbrev pub JoinedHolds : Type 0
+JoinedHolds =
+    (f : List ℕ) (fs : List (List ℕ)) (b : List ℕ) → AllBytes (f ∷ fs) → joined_all [] (f ∷ fs) ≡ pass b → HoldsAll b (all_objects (f ∷ fs))
