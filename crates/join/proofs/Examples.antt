@@ -11,6 +11,7 @@ use Rattle.answers.specs.Answers.{Answer, refused, short, made, answered}
 use Rattle.bundle.specs.Bundle.{filled_up, object_step, section_step, end_step, step_of, step_at, followed, items_from, items, leading, objects_of, object_first, bundle_of}
 use Rattle.bundle.specs.Written.{Section, word_bytes, head_bytes, section_bytes, object_bytes, end_bytes, written}
 use Rattle.bundle.proofs.Examples.{words}
+use Rattle.join.specs.Laws.{joined_all, section_in, object_in, objects_read, objects_in, file_objects, all_objects}
 use Rattle.join.specs.Join.{elf_bundle, as_it_is, as_bundle, file_bundle, framed, contents, behind, joined_with, joined_behind, joined, joining, memory_after, starts_elf}
 
 -- a bundle of one object with one section, one of another object, and both joined
@@ -70,3 +71,15 @@ Memories =
 pub memories : Memories
 unfolding elf_bundle part little number number_at little_of bytes_of numbers_of zeros padded concat all ◌>>=◌ require filled_up object_step section_step end_step step_of step_at followed items_from items leading objects_of object_first bundle_of word_bytes end_bytes as_it_is as_bundle file_bundle framed contents behind starts_elf joined_with joined_behind joined answered joining memory_after
 memories = (refl, refl, refl, refl, refl, refl, refl, refl)
+
+-- the law told of two files: what is joined, and the objects that it speaks of
+abbrev pub Together : Type 0
+Together =
+    (joined_all [] (first ∷ second ∷ []) ≡ pass both)
+    × (all_objects (first ∷ second ∷ [])
+    ≡ record { word = 0x1008_0405; sections = record { code = 1; bytes = 0x11 ∷ [] } ∷ [] } ∷ record { word = 0x1008_0404; sections = record { code = 3; bytes = 0x11 ∷ 0x22 ∷ [] } ∷ [] } ∷ [])
+    × (joined_all [] (first ∷ other ∷ second ∷ []) ≡ refuse 45)
+
+pub together : Together
+unfolding elf_bundle part little number number_at little_of bytes_of numbers_of zeros concat all ◌>>=◌ require filled_up object_step section_step end_step step_of step_at followed items_from items leading objects_of object_first bundle_of word_bytes end_bytes as_it_is as_bundle file_bundle framed contents behind starts_elf joined_with joined_behind joined joined_all section_in object_in objects_read objects_in file_objects all_objects
+together = (refl, refl, refl)

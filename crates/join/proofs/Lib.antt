@@ -6,3 +6,4 @@ pub mod Memory
 pub mod Answers
 pub mod Opened
 pub mod Examples
+pub mod ElfExamples

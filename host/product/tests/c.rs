@@ -39,6 +39,23 @@ fn the_example_in_c_packs_and_finds() {
     assert_eq!((refused.stderr, refused.status.code()), (b"refused 3\n".to_vec(), Some(1)));
 }
 
+/// Two ELF files joined in place and packed, as the command packs them; a file of the other byte order is refused, and told by its name.
+#[test]
+fn the_example_in_c_joins_and_packs() {
+    let source = PathBuf::from(HOME).join("../../examples/join_and_pack.c");
+    let file = |name: &str| format!("{HOME}/../../examples/real/files/{name}.dwo");
+    let [main, race, other] = [file("gcc-5-main"), file("gcc-5-race"), file("clang-5be-race")];
+    let output = compiled(&source, &["-std=c99"], &[&main, &race]);
+    let package = PathBuf::from(env!("CARGO_TARGET_TMPDIR")).join("joined-by-the-command");
+    let packed = Command::new(env!("CARGO_BIN_EXE_barthovin")).args(["pack", &main, &race, "--force", "-o"]).arg(&package).output().unwrap();
+    assert!(packed.status.success(), "{}", String::from_utf8_lossy(&packed.stderr));
+    let length = std::fs::metadata(&package).unwrap().len();
+    assert!(text(&output).ends_with(&format!(", a package of {length} bytes\n")), "{}, {length}", text(&output));
+    let refused = compiled(&source, &["-std=c11"], &[&main, &other]);
+    let wanted = format!("{other}: refused 45\n").into_bytes();
+    assert_eq!((refused.stderr, refused.status.code()), (wanted, Some(1)));
+}
+
 /// The bundle that entries.c has.
 const BUNDLE: [u32; 17] = [
     0xF000_0000,

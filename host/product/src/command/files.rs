@@ -10,9 +10,10 @@ use crate::answer::Found;
 use crate::elf;
 use crate::explain;
 use crate::ffi;
+use crate::join;
 use crate::lent::Lent;
 use crate::names::{LONGEST_BUNDLE, LONGEST_PACKAGE, OUTPUT_TOO_SHORT};
-use crate::reader::bundle::{end_word, Bundle};
+use crate::reader::bundle::Bundle;
 use crate::reader::package::Package;
 use std::ffi::{OsStr, OsString};
 use std::fs;
@@ -27,8 +28,10 @@ const BUNDLE_OR_ELF: Most = Most { magic: elf::MAGIC, with: LONGEST_FILE, withou
 /// The bytes of a word.
 const WORD: usize = 4;
 
-/// The refusal of what is no package.
+/// The refusals of what is no package, of a file of the other byte order, and of files that are too long together.
 const NOT_A_PACKAGE: u32 = 21;
+const OTHER_ORDER: u32 = 45;
+const TOO_LONG: u32 = 19;
 
 /// The longest list of files.
 const LONGEST_LIST: usize = 1 << 26;
@@ -107,20 +110,22 @@ pub fn no_package(call: &Call, name: &OsStr, bytes: &[u8]) -> Stop {
 /// The bundle of an ELF file.
 pub fn from_elf(call: &Call, file: &[u8], shown: &str) -> Result<Lent<u8>, Stop> {
     let mut bundle = Lent::zeros(0);
-    let read = put_elf(file, &mut bundle, 0);
+    let read = join_to(&mut bundle, file);
     read.map(|()| bundle).map_err(|number| refused_call(call, shown, number, explain::reading_elf(file, number)))
 }
 
-/// The same from a place of a bundle on, up to its end, or the refusal's number. Few bundles are longer than their file, or than the longest that can be
-/// packed: the reader is lent so much, and where that is too short it says how much is needed. The sections are copied once, to where they stay.
-fn put_elf(file: &[u8], bundle: &mut Lent<u8>, from: usize) -> Result<(), u32> {
-    bundle.extend_to(from + file.len().min(LONGEST_BUNDLE));
-    let (mut code, length) = elf::read_either(file, &mut bundle[from..]);
+/// Joins a file's objects to a bundle, which is empty where none was joined so far, or the refusal's number; then the bundle is as it was. Few files add
+/// more than their length, or than the longest bundle that can be packed: so much memory is lent behind the bundle, and where that is too short the
+/// answer says how much is needed.
+fn join_to(bundle: &mut Lent<u8>, file: &[u8]) -> Result<(), u32> {
+    let used = bundle.len();
+    bundle.extend_to(used + file.len().min(LONGEST_BUNDLE));
+    let (mut code, mut length) = join::join(bundle, used, file);
     if code == OUTPUT_TOO_SHORT {
-        bundle.extend_to(from + length);
-        (code, _) = elf::read_either(file, &mut bundle[from..]);
+        bundle.extend_to(length);
+        (code, length) = join::join(bundle, used, file);
     }
-    bundle.truncate(from + length);
+    bundle.truncate(if code == 0 { length } else { used });
     if code == 0 {
         Ok(())
     } else {
@@ -187,7 +192,6 @@ fn joined(call: &Call, package: Option<&Taken>, names: &[OsString]) -> Result<Jo
         joined.left_out.drain(..).for_each(|file| refusals.push(Refusal::without_debug(file)));
     }
     refusals.told()?;
-    joined.bundle.extend(&end_word(joined.bundle.len()));
     Ok(joined)
 }
 
@@ -236,28 +240,16 @@ impl Joined {
         Err(Refusal { file: shown.to_string(), number: None, why })
     }
 
-    /// Puts the object of an ELF file behind those that are there, without an end. The head that it would have alone stands over the last
-    /// word that was there, which comes back.
+    /// Puts the object of an ELF file behind those that are there.
     fn put_file(&mut self, file: &[u8], shown: &str) -> Result<(), Refusal> {
-        let last = self.bundle.last_chunk::<WORD>().copied();
-        let from = self.bundle.len().saturating_sub(WORD);
-        let read = put_elf(file, &mut self.bundle, from);
-        let end = self.bundle.len();
-        let head = self.bundle[from..].first_chunk::<WORD>().copied();
-        if let Some(last) = last {
-            self.bundle.extend_to(end.max(from + WORD));
-            self.bundle[from..from + WORD].copy_from_slice(&last);
-        }
-        read.map_err(|number| Refusal::of_elf(shown, number, file))?;
-        if last.is_some() && head != self.bundle.first_chunk::<WORD>().copied() {
-            self.bundle.truncate(from + WORD);
-            return Err(self.other_order(shown));
-        }
+        let (used, end) = (self.bundle.len(), self.bundle.last_chunk::<WORD>().copied());
+        self.put(file, shown, |number| Refusal::of_elf(shown, number, file))?;
         if let Err(refusal) = self.meet(elf::machine_of(file), shown) {
-            self.bundle.truncate(if last.is_some() { from + WORD } else { 0 });
+            // The end word of what was there comes back, and the object goes.
+            self.bundle.truncate(used);
+            end.iter().for_each(|end| self.bundle[used - WORD..].copy_from_slice(end));
             return Err(refusal);
         }
-        self.bundle.truncate(end - WORD);
         self.took(shown);
         self.with_code.extend(has_code(file).then(|| shown.to_string()));
         self.files.push(shown.to_string());
@@ -265,18 +257,26 @@ impl Joined {
         Ok(())
     }
 
-    /// Puts the objects of a bundle behind those that are there, without an end.
+    /// Puts the objects of a bundle behind those that are there.
     fn put_bundle(&mut self, bytes: &[u8], shown: &str) -> Result<(), Refusal> {
-        let Ok(read) = Bundle::read(bytes) else { return Err(Refusal::of_bundle(shown, bytes)) };
-        if self.bundle.is_empty() {
-            self.bundle.extend(&bytes[..WORD]);
-        } else if bytes[..WORD] != self.bundle[..WORD] {
-            return Err(self.other_order(shown));
-        }
-        self.bundle.extend(&bytes[WORD..bytes.len() - WORD]);
+        self.put(bytes, shown, |_| Refusal::of_bundle(shown, bytes))?;
         self.took(shown);
-        self.files.extend((1..=read.objects.len()).map(|number| format!("{shown}, object {number}")));
+        let objects = Bundle::read(bytes).map_or(0, |read| read.objects.len());
+        self.files.extend((1..=objects).map(|number| format!("{shown}, object {number}")));
         Ok(())
+    }
+
+    /// Joins a file, or says why it can't be joined; a refusal of its reader is told by `of_reader`.
+    fn put(&mut self, file: &[u8], shown: &str, of_reader: impl Fn(u32) -> Refusal) -> Result<(), Refusal> {
+        let before = self.bundle.len();
+        join_to(&mut self.bundle, file).map_err(|number| match number {
+            OTHER_ORDER => self.other_order(shown),
+            TOO_LONG if before > 0 && before + file.len() > LONGEST_PACKAGE => {
+                let why = format!("with the files before it the bundle would pass {LONGEST_PACKAGE} bytes");
+                Refusal { file: shown.to_string(), number: Some(TOO_LONG), why }
+            }
+            number => of_reader(number),
+        })
     }
 
     fn took(&mut self, shown: &str) {
