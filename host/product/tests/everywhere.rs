@@ -36,6 +36,13 @@ fn has(text: &str, word: &str) -> bool {
     text.split(|c: char| !c.is_ascii_alphanumeric() && c != '-').any(|found| found == word)
 }
 
+/// Whether a text has a number between two others, as `31 to 33`.
+fn in_range(text: &str, number: u32) -> bool {
+    let words: Vec<&str> = text.split(' ').map(|word| word.trim_end_matches(['.', ',', ';'])).collect();
+    let range = |three: &[&str]| Some((three[0].parse().ok()?, three[2].parse().ok()?)).filter(|_| three[1] == "to");
+    words.windows(3).filter_map(range).any(|(from, to): (u32, u32)| (from..=to).contains(&number))
+}
+
 /// The numbers that start the rows of tables.
 fn rows(text: &str) -> BTreeSet<u32> {
     let first = |line: &str| line.strip_prefix("| ")?.split(' ').next()?.parse().ok();
@@ -83,8 +90,11 @@ fn refusals() {
     assert!(known.len() > 30 && meaning(0) == "an unknown refusal");
     let defined = read("crates/numbers/specs/Refusals.antt");
     let number = |line: &str| line.split_once(" = ")?.1.trim().parse().ok();
-    let defined: BTreeSet<u32> = defined.lines().filter_map(number).collect();
-    assert_eq!(known, defined, "those of meaning.rs, and those of Refusals.antt");
+    let mut defined: BTreeSet<u32> = defined.lines().filter_map(number).collect();
+    // One is defined where it is used.
+    let join = read("crates/join/specs/Join.antt");
+    defined.extend(join.lines().filter(|line| line.starts_with("other_order = ")).filter_map(number));
+    assert_eq!(known, defined, "those of meaning.rs, and those of Refusals.antt and Join.antt");
     let format = read("docs/FORMAT.md");
     let tables = between(&format, "\n## 13 ", "\n## ");
     assert_eq!(known, rows(tables), "those of meaning.rs, and those of FORMAT.md");
@@ -102,6 +112,8 @@ fn refusals_of_an_entry() {
         ("### 13.5 ", "barthovin_write_elf_for"),
         ("### 13.6 ", "barthovin_sheet"),
         ("### 13.7 ", "barthovin_archive_profile"),
+        ("### 13.8 ", "barthovin_join"),
+        ("### 13.9 ", "barthovin_open"),
     ];
     for (section, entry) in entries {
         let wanted = rows(between(&format, section, "\n##"));
@@ -109,7 +121,10 @@ fn refusals_of_an_entry() {
         let before = header.split_once(&format!(" {entry}(")).unwrap_or_else(|| panic!("no {entry}")).0;
         let comment = flat(before.rsplit_once("/* ").unwrap().1);
         for number in wanted {
-            assert!(has(&comment, &number.to_string()), "barthovin.h lacks {number} for {entry}: {comment}");
+            assert!(
+                has(&comment, &number.to_string()) || in_range(&comment, number),
+                "barthovin.h lacks {number} for {entry}: {comment}"
+            );
         }
     }
 }

@@ -12,7 +12,7 @@ use std::fs::{self, Metadata, Permissions};
 use std::os::unix::fs::{chown, MetadataExt, PermissionsExt};
 use std::os::unix::process::CommandExt;
 use std::path::PathBuf;
-use std::process::{Command, Stdio};
+use std::process::{Command, Output, Stdio};
 use std::thread::sleep;
 use std::time::Instant;
 
@@ -154,6 +154,46 @@ impl Scene {
         let old = self.before.as_ref().map(|_| self.old.clone());
         assert!(self.bytes() == old && self.is_as_it_was(), "{about}: {:?} {:?}", self.shape, self.call);
         assert_eq!(self.left(), [] as [PathBuf; 0], "{about}");
+    }
+
+    /// Killed: the output is as it was, as it is to be, or with two links in the middle of the copying, the copy whole beside it. The next run
+    /// does what it is asked.
+    fn after_a_kill(&mut self, about: &str) -> usize {
+        let old = self.before.as_ref().map(|_| self.old.clone());
+        let left = self.left();
+        let met = match self.bytes() {
+            bytes if bytes == old => 0,
+            bytes if bytes.as_ref() == Some(&self.new) => 1,
+            _ if self.shape == Shape::TwoLinks && left.iter().any(|path| self.is_copy(path)) => 2,
+            _ => panic!("{about}: half written"),
+        };
+        assert!(self.is_as_it_was() && left.iter().all(is_hidden), "{about}: {left:?}");
+        self.can_be_done(about);
+        assert_eq!(self.left(), left, "{about}");
+        met
+    }
+
+    /// A system call failed: it was done all the same, or that is told and the output is as it was or as it is to be. Where it is neither, the
+    /// copy that is left is named.
+    fn after_a_failure(&self, output: &Output, about: &str) {
+        let old = self.before.as_ref().map(|_| self.old.clone());
+        let is_new = self.bytes().as_ref() == Some(&self.new);
+        let left = self.left();
+        let named = |path: &PathBuf| self.is_copy(path) && message(output).contains(&path.display().to_string());
+        match status(output) {
+            0 => assert!(is_new, "{about}"),
+            2 => assert!(
+                !message(output).is_empty() && (is_new || self.bytes() == old || left.iter().any(named)),
+                "{about}"
+            ),
+            other => panic!("{about}: {other}"),
+        }
+        assert!(self.is_as_it_was() && left.iter().all(|path| self.is_copy(path)), "{about}");
+        left.iter().for_each(|path| fs::remove_file(path).unwrap());
+    }
+
+    fn is_copy(&self, path: &PathBuf) -> bool {
+        fs::read(path).is_ok_and(|bytes| bytes == self.new)
     }
 
     /// A package that is added to is never written in place, so that a second link forbids it.
@@ -334,7 +374,6 @@ fn runs_that_are_killed() {
     let start = Instant::now();
     scenes.iter_mut().for_each(|scene| scene.can_be_done("before"));
     let usual = start.elapsed() / scenes.len() as u32;
-    // The output as it was, as it is to be, and with two links in the middle of the copying.
     let mut met = [0; 3];
     for number in 0..times(200) {
         let count = scenes.len();
@@ -345,24 +384,55 @@ fn runs_that_are_killed() {
         run.kill().unwrap();
         run.wait().unwrap();
         let about = format!("run {number}, {:?} {:?}", scene.shape, scene.call);
-        let old = scene.before.as_ref().map(|_| scene.old.clone());
-        let left = scene.left();
-        let is_copy = |path: &PathBuf| fs::read(path).is_ok_and(|bytes| bytes == scene.new);
-        match scene.bytes() {
-            bytes if bytes == old => met[0] += 1,
-            bytes if bytes.as_ref() == Some(&scene.new) => met[1] += 1,
-            _ if scene.shape == Shape::TwoLinks && left.iter().any(is_copy) => met[2] += 1,
-            _ => panic!("{about}: half written"),
-        }
-        assert!(scene.is_as_it_was() && left.iter().all(is_hidden), "{about}: {left:?}");
-        scene.can_be_done(&about);
-        assert_eq!(scene.left(), left, "{about}");
+        met[scene.after_a_kill(&about)] += 1;
     }
     let left: usize = scenes.iter().map(|scene| scene.left().len()).sum();
     println!(
         "killed: {met:?} old, new and half copied over two links; {left} hidden files left; a run takes {usual:?}"
     );
     assert!(met[0] > 0 && met[1] > 0, "{met:?}");
+}
+
+/// The system calls that change something.
+const CALLS: [&str; 9] = ["flock", "write", "fsync", "fchmod", "linkat", "rename", "pwrite64", "ftruncate", "unlink"];
+
+/// A run in which something happens at the n-th of a kind of system call; none where that is never met, or strace isn't at hand.
+fn injected(scene: &Scene, call: &str, what: &str, nth: usize) -> Option<Output> {
+    let trace = scene.home.join("trace");
+    let mut strace = Command::new("strace");
+    strace.current_dir(&scene.home).args(["-f", "-e", &format!("inject={call}:{what}:when={nth}"), "-o"]).arg(&trace);
+    strace.arg(env!("CARGO_BIN_EXE_barthovin")).args(scene.call.words().split(' ')).stdin(Stdio::null());
+    let output = strace.output().ok()?;
+    let told = fs::read_to_string(&trace).unwrap_or_default();
+    let _ = fs::remove_file(&trace);
+    let met = told.contains("(INJECTED)") || told.contains("killed by SIGKILL");
+    met.then_some(output)
+}
+
+/// Where strace is at hand: a run is killed at each system call that changes something, and each of them fails.
+#[test]
+fn each_system_call() {
+    let (mut kills, mut failures) = (0, 0);
+    for mut scene in scenes("calls", [3_000, 20_000]) {
+        if matches!(scene.shape, Shape::Symbolic | Shape::OthersFile) || scene.is_refused() {
+            continue;
+        }
+        for (call, nth) in CALLS.iter().flat_map(|call| (1..9).map(move |nth| (call, nth))) {
+            let about = format!("{call} {nth}, {:?} {:?}", scene.shape, scene.call);
+            scene.lay();
+            if injected(&scene, call, "signal=SIGKILL", nth).is_some() {
+                kills += 1;
+                scene.after_a_kill(&about);
+                scene.left().iter().for_each(|path| fs::remove_file(path).unwrap());
+            }
+            scene.lay();
+            if let Some(output) = injected(&scene, call, "error=EIO", nth) {
+                failures += 1;
+                scene.after_a_failure(&output, &about);
+            }
+        }
+    }
+    println!("{kills} runs were killed at a system call, and in {failures} one failed");
 }
 
 /// Two runs that write one output: it is what one of them writes. Two that add to it: all is there.

@@ -35,6 +35,7 @@ pub fn meaning(number: u32) -> &'static str {
         36 => "machines are 62 (x86-64), 183 (AArch64) and 243 (RISC-V), or any from 1 to 65,535 where it is asked for",
         37 => "the output is too short",
         38 => "the questions are ill-formed or more than 1,024, or the answers don't fit",
+        45 => "the file's byte order is not that of the bundle",
         _ => "an unknown refusal",
     }
 }

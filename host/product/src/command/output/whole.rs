@@ -22,7 +22,13 @@ pub fn new(path: &Path, bytes: &[u8]) -> io::Result<()> {
     let mut beside = Beside::new(folder(path), None)?;
     beside.fill(bytes)?;
     beside.take(path)?;
-    beside.sync_name()
+    settled(&beside)
+}
+
+/// Its name is on the disk too.
+fn settled(taken: &Beside) -> io::Result<()> {
+    let told = |error: io::Error| format!("it is written, but its name may not be on the disk: {}", reason(&error));
+    taken.sync_name().map_err(|error| io::Error::other(told(error)))
 }
 
 /// In the place of a file that was read, and may be the only copy of what it holds.
@@ -40,7 +46,7 @@ pub fn instead(read: &Held, bytes: &[u8]) -> io::Result<()> {
         return Err(io::Error::other(CHANGED));
     }
     beside.take(&read.path)?;
-    beside.sync_name()
+    settled(&beside)
 }
 
 /// Over a file that is there. Where no new one can take its place, since it has more links, another owner, or a folder that takes no file, the
@@ -50,7 +56,7 @@ pub fn over(old: &Held, bytes: &[u8]) -> io::Result<()> {
     let mut beside = Beside::new(folder(&old.path), there).or_else(|_| Beside::new(&env::temp_dir(), there))?;
     beside.fill(bytes)?;
     if old.told.nlink() == 1 && beside.is_like && beside.take(&old.path).is_ok() {
-        return beside.sync_name();
+        return settled(&beside);
     }
     beside.sync_name()?;
     copy(&old.file, old.told.len(), bytes).map_err(|error| {
