@@ -23,6 +23,7 @@ ghost use Rattle.archive.specs.Question.{PartAnswered, StringAnswered};
 use asking::FromBundle;
 use lookup::answering::Answer;
 use lookup::searching::UnitAsked;
+use numbers::limits::SMALL_WORK;
 use packer::answering::Packed;
 
 // Code 0: the package, of that length, and zeros following it, and how many type units were skipped as repeats and as namesakes. 18: the length that the
@@ -43,7 +44,8 @@ pub extern "C" fn barthovin_pack_small(bundle: &[u8], output: &mut [u8]) -> Pack
     ensures answer { result ≡ told bundle.now (packed_small bundle.now (length output.old)) }
     ensures output { output.new ≡ output_of (packed_small bundle.now (length output.old)) (length output.old) }
 {
-    packer::answering::answer_pack_small(bundle, output)
+    let mut work = [0u32; SMALL_WORK];
+    packer::answering::answer_pack_small(bundle, &mut work, output)
 }
 
 // Code 0: the part of a section lies at that place of the package. 1: absent. Else the refusal, with zeros.

@@ -42,6 +42,8 @@ module _ (b : List ℕ) (o : ℕ) where
     unfolding packing_of outcome_of counted output_of
     small_refused e z = let p = sym (small_is_refused e) in (ap (packing_of b) p, z ∙ ap (λ (a : Answer). output_of a o) p)
 
-    pub small_packed : length_good 1_024 b ≡ true → (r : Result Made Unwritten) → packing_as r ≡ packing_of b (packed b small_work o) → d ≡ output_of (packed b small_work o) o
+    pub small_packed : length_good 1_024 b ≡ true → (w : ℕ) → w ≡ small_work → (r : Result Made Unwritten) → packing_as r ≡ packing_of b (packed b w o) → d ≡ output_of (packed b w o) o
         → (packing_as r ≡ packing_of b (packed_small b o)) × (d ≡ output_of (packed_small b o) o)
-    small_packed e r f g = let p = sym (small_is_packed e) in (f ∙ ap (packing_of b) p, g ∙ ap (λ (a : Answer). output_of a o) p)
+    small_packed e w m r f g =
+        let p = ap (λ (n : ℕ). packed b n o) m ∙ sym (small_is_packed e) in
+        (f ∙ ap (packing_of b) p, g ∙ ap (λ (a : Answer). output_of a o) p)

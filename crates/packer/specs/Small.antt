@@ -1,5 +1,4 @@
--- Document 01, "A whole package": "The small packer (bundles up to 1,024 bytes, else 1) has 4,096 words of work and an output of 65,536 bytes"; with ticket 8
--- of document 02 it has 5,120 words of work.
+-- The small packer: bundles of at most 1,024 bytes, else 1, and 5,120 words of work.
 -- The output is lent: o is its length, and the program lends 65,536 bytes. With as many 18 is never the answer (docs/DECISIONS.md, "The small packer's output").
 -- Assumes nothing.
 use Rattle.std.specs.Prelude.{true, false, List, ℕ}

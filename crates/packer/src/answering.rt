@@ -8,6 +8,7 @@ ghost use Rattle.packer.specs.Told.{packed_as, numbered};
 
 use crate::Made;
 use answers::{Unwritten, Written};
+use numbers::limits::SMALL_WORK;
 
 // Code 0: the package, of that length, and how many type units were skipped. 18: the output is too short, with the length needed. Else the refusal and 0.
 // But for code 0 both counts are 0. Numbers and no Result, since C callers read it.
@@ -54,9 +55,10 @@ pub fn answer_pack(b: &[u8], work: &mut [u32], out: &mut [u8]) -> Packed
 }
 
 #[tactic(auto, using(crate::proofs::Counted::told_packing))]
-pub fn answer_pack_small(b: &[u8], out: &mut [u8]) -> Packed
+pub fn answer_pack_small(b: &[u8], work: &mut [u32; SMALL_WORK], out: &mut [u8]) -> Packed
     ensures answer { result ≡ numbered b.now (packed_small b.now (length out.old)) }
     ensures output { out.new ≡ output_of (packed_small b.now (length out.old)) (length out.old) }
+    ensures work { work.new ≡ zeros (length work.old) }
 {
-    Packed::from(crate::pack_small_counted(b, out))
+    Packed::from(crate::pack_small_counted(b, work, out))
 }

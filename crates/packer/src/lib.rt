@@ -71,23 +71,33 @@ pub fn pack(b: &[u8], work: &mut [u32], out: &mut [u8]) -> Result<usize, Unwritt
     Ok(pack_counted(b, work, out)?.length)
 }
 
-// The small packer: work of its own, and a lower limit.
-pub fn pack_small_counted(b: &[u8], out: &mut [u8]) -> Result<Made, Unwritten>
+// The small packer: a lower limit, and as much work as that needs, which its type asks for.
+pub fn pack_small_counted(
+    b: &[u8],
+    work: &mut [u32; SMALL_WORK],
+    out: &mut [u8],
+) -> Result<Made, Unwritten>
     ensures answer { packing_as result ≡ packing_of b.now (packed_small b.now (length out.old)) }
     ensures output { out.new ≡ output_of (packed_small b.now (length out.old)) (length out.old) }
+    ensures work { work.new ≡ zeros (length work.old) }
 {
     if !bundle::length_good(SMALL_BUNDLE, b) {
         out.fill(0);
+        work.fill(0);
         return Err(Unwritten::Refused(Refusal::BadLength));
     }
-    let mut work = [0u32; SMALL_WORK];
-    pack_counted(b, &mut work, out)
+    pack_counted(b, work, out)
 }
 
 // The same for callers that want no counts.
-pub fn pack_small(b: &[u8], out: &mut [u8]) -> Result<usize, Unwritten>
+pub fn pack_small(
+    b: &[u8],
+    work: &mut [u32; SMALL_WORK],
+    out: &mut [u8],
+) -> Result<usize, Unwritten>
     ensures answer { outcome_as result ≡ outcome_of (packed_small b.now (length out.old)) }
     ensures output { out.new ≡ output_of (packed_small b.now (length out.old)) (length out.old) }
+    ensures work { work.new ≡ zeros (length work.old) }
 {
-    Ok(pack_small_counted(b, out)?.length)
+    Ok(pack_small_counted(b, work, out)?.length)
 }

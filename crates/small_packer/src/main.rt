@@ -49,12 +49,13 @@ fn tell_package(rt: &impl Print, p: &[u8]) -> io::Result<()> {
     Ok(())
 }
 
-// One byte more than a bundle may have is enough to see that it has too many.
+// One byte more than a bundle may have is enough to see that it has too many. Both arrays that packing works in are the program's own.
 fn main(rt: HostRuntime) -> io::Result<()> {
     let mut input = [0u8; 1025];
     let got = terminal::read_full(&mut rt.stdin(), &mut input)?;
+    let mut work = [0u32; 5120];
     let mut output = [0u8; 65536];
-    match packer::pack_small(&input[..got], &mut output) {
+    match packer::pack_small(&input[..got], &mut work, &mut output) {
         Ok(length) => tell_package(&rt, &output[..length]),
         Err(unwritten) => println!(rt; "refused {}", Written::from(Err(unwritten)).code),
     }

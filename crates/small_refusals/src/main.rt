@@ -13,8 +13,9 @@ use answers::Written;
 use std::io;
 
 fn tell_bundle(rt: &impl Print, b: &[u8]) -> io::Result<()> {
+    let mut work = [0u32; 5120];
     let mut output = [0u8; 65536];
-    match packer::pack_small(b, &mut output) {
+    match packer::pack_small(b, &mut work, &mut output) {
         Ok(length) => println!(rt; "packed {length}"),
         Err(unwritten) => println!(rt; "refused {}", Written::from(Err(unwritten)).code),
     }
