@@ -25,8 +25,8 @@ DIST = barthovin-$(VERSION)-x86_64-linux
 
 help:
 	@echo 'make pack-example   packs two .dwo files and the example of docs/FORMAT.md, verifies, lists and looks up in their packages'
-	@echo 'make real-files     compiles small sources with gcc and clang, and reads, packs, verifies and lists the .dwo files'
-	@echo 'make readers        packs small programs and has llvm-dwarfdump, readelf, lldb and gdb open the packages, where they are at hand'
+	@echo 'make real-files     compiles small sources with gcc and clang, for a Cortex-M4 too, and reads, packs, verifies and lists the .dwo files'
+	@echo 'make readers        packs small programs and has llvm-dwarfdump, readelf, lldb, gdb and gdb-multiarch open the packages, where they are at hand'
 	@echo 'make library        proves the packer and writes target/staticlib/libbarthovin.a, for C or Rust on x86-64'
 	@echo 'make command        the same, and builds the command: host/target/release/barthovin'
 	@echo 'make install        installs command, library, barthovin.h, barthovin.pc, manual page and papers under DESTDIR and PREFIX ($(PREFIX))'
@@ -109,6 +109,14 @@ real-files: command
 	  $(barthovin) pack target/real-files/*-$$kind*.dwo -o target/real-files/out.package || exit 1; \
 	  $(barthovin) verify target/real-files/out.package target/real-files/*-$$kind*.dwo || exit 1; \
 	  $(barthovin) list target/real-files/out.package || exit 1; \
+	done
+	@command -v arm-none-eabi-gcc > /dev/null 2>&1 || { echo 'files of 32 bits: arm-none-eabi-gcc is not at hand'; exit 0; }; \
+	examples/real/make-files-32 target/real-files-32 || exit 1; \
+	for version in 4 5; do \
+	  echo "*-$$version-*.dwo of 32 bits"; \
+	  $(barthovin) pack target/real-files-32/*-$$version-*.dwo -o target/real-files-32/out.dwp || exit 1; \
+	  $(barthovin) verify target/real-files-32/out.dwp target/real-files-32/*-$$version-*.dwo || exit 1; \
+	  $(barthovin) list target/real-files-32/out.dwp || exit 1; \
 	done
 
 # Readers of other makers, on packages written as ELF files: each must say of a package what it says of the .dwo files.

@@ -68,13 +68,6 @@ fn write(home: &Path, name: &str, bytes: &[u8]) {
     fs::write(home.join(name), bytes).unwrap();
 }
 
-/// What was done, without a word on standard error.
-fn done(home: &Path, call: &[&str]) -> String {
-    let output = run_in(home, call, &[]);
-    assert_eq!((message(&output), status(&output)), (String::new(), 0), "{call:?}");
-    text(&output)
-}
-
 /// The machine of an ELF file that was written.
 fn machine(home: &Path, name: &str) -> usize {
     let bytes = fs::read(home.join(name)).unwrap();
@@ -106,6 +99,33 @@ fn a_file_of_32_bits_is_read_as_one_of_64() {
             assert_eq!(done(&home, &[command, "long.dwp"]), done(&home, &[command, "short.dwp"]));
         }
         assert!(done(&home, &["verify", "short.dwp", "short.dwo"]).contains(": all found"));
+    }
+}
+
+/// Files of gcc and clang for a Cortex-M4.
+#[test]
+fn real_files_are_packed_and_found() {
+    let home = directory("elf32-real");
+    let folder = concat!(env!("CARGO_MANIFEST_DIR"), "/../../examples/real/files32");
+    for version in [4, 5] {
+        let files = ["gcc", "clang"].map(|compiler| ["main", "race"].map(|stem| (compiler, stem)));
+        let files = files.concat().into_iter();
+        let files: Vec<String> =
+            files.map(|(compiler, stem)| format!("{folder}/{compiler}-{version}-{stem}.dwo")).collect();
+        let files: Vec<&str> = files.iter().map(String::as_str).collect();
+        assert_eq!(done(&home, &[&["pack", "-o", "out.dwp"], &files[..]].concat()), "");
+        assert_eq!(machine(&home, "out.dwp"), 40);
+        let verified = done(&home, &[&["verify", "out.dwp"], &files[..]].concat());
+        assert!(
+            verified.contains("4 units") && verified.ends_with(": all found; the files may be deleted\n"),
+            "{verified}"
+        );
+        let list = done(&home, &["list", "out.dwp"]);
+        assert!(
+            list.contains(&format!("little-endian, DWARF version {version}, offset width 4, address size 4")),
+            "{list}"
+        );
+        assert_eq!(list.lines().filter(|line| line.starts_with("unit cu ")).count(), 4);
     }
 }
 
