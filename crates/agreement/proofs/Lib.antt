@@ -1,0 +1,4 @@
+pub mod Located
+pub mod Tables
+pub mod Memories
+pub mod Strings
