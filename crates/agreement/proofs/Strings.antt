@@ -9,30 +9,39 @@ use lib.ListN.{length, get_or, set}
 use Rattle.std.specs.Prelude.{Option, Some, None, ◌==◌}
 use borrow.Author.Tests.{eqb-true}
 use Rattle.octets.proofs.Checks.{true_false, and_left}
-use Rattle.octets.specs.Checked.{Check, pass, refuse, ◌>>=◌}
+use Rattle.octets.specs.Checked.{Check, pass, refuse}
 use Rattle.strings.specs.declared.table.Place.{Place}
-use Rattle.lookup.specs.Lookup.{Found, refused, absent, part, Place as Held, answered, looked_up, string_found, string_place as place_named}
+use Rattle.lookup.specs.Lookup.{Found, refused, absent, part, Place as Held, looked_up, string_place as place_named}
 use Rattle.lookup.specs.Answers.{package_in}
-use Rattle.lookup.proofs.Answered.{followed}
-use Rattle.lookup.proofs.Lookups.{strung}
+use Rattle.lookup.specs.declared.searching.Located.{Located}
+use Rattle.lookup.proofs.Lookups.{strung_placed, strung_failed}
 use Rattle.agreement.specs.Agreement.{place_of, part_place, string_place, same_string, string_agrees, section_agrees, same_offsets, entries_within}
 use Rattle.agreement.specs.Memory.{Memory, StringsSame}
 use Rattle.agreement.proofs.Memories.{found_known, kept}
 
--- ---- the place of a string, whatever the looks
-placed_alike : (r : Check Held) (l m : ℕ) → place_of (answered (r >>= λ s. pass (part s.start s.size l))) ≡ place_of (answered (r >>= λ s. pass (part s.start s.size m)))
-unfolding place_of answered ◌>>=◌
-placed_alike (pass s) l m = refl
-placed_alike (refuse n) l m = refl
+-- ---- the place of a string, by the part of str_offsets alone
+abbrev placed_by : Check Held → Option Place
+placed_by (pass h) = Some (record { start = h.start; size = h.size })
+placed_by (refuse n) = None
+
+by_part : (p : List ℕ) (v table x s n l k : ℕ) → looked_up p v table x 6 ≡ part s n l
+    → string_place p v table x k ≡ placed_by (place_named p (package_in p) v k (record { start = s; size = n }))
+unfolding place_of
+by_part p v table x s n l k e = from (place_named p (package_in p) v k (record { start = s; size = n })) refl
+  where
+    place : Place
+    place = record { start = s; size = n }
+
+    located : Located
+    located = record { place = Some place; looks = l }
+
+    from : (r : Check Held) → r ≡ place_named p (package_in p) v k (record { start = s; size = n }) → string_place p v table x k ≡ placed_by r
+    from (pass h) g = sym (ap place_of (strung_placed p v table x k located (sym e) place refl h g))
+    from (refuse m) g = sym (ap place_of (strung_failed p v table x k located (sym e) place refl m g))
 
 alike : (p : List ℕ) (v table x other y s n l m k : ℕ) → looked_up p v table x 6 ≡ part s n l → looked_up p v other y 6 ≡ part s n m
     → string_place p v table x k ≡ string_place p v other y k
-unfolding followed
-alike p v table x other y s n l m k e f =
-    let named = place_named p (package_in p) v k (record { start = s; size = n }) in
-    ap place_of (strung p v table x k ∙ ap (followed p (package_in p) v k) e)
-    ∙ placed_alike named l m
-    ∙ sym (ap place_of (strung p v other y k ∙ ap (followed p (package_in p) v k) f))
+alike p v table x other y s n l m k e f = by_part p v table x s n l k e ∙ sym (by_part p v other y s n m k f)
 
 -- what is found there
 is_part : (f : Found) (a : Place) → Some a ≡ place_of f → (l : ℕ) × (f ≡ part a.start a.size l)

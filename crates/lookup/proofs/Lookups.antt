@@ -98,7 +98,7 @@ module _ (p : List ℕ) (h : PackageHead) (o : Opened p h) (version table x : �
 
 -- ---- a string, by the lookup of the part of section 6
 module _ (p : List ℕ) (version table x entry : ℕ) where
-  pub strung : string_found p version table x entry ≡ A.followed p (package_in p) version entry (looked_up p version table x 6)
+  strung : string_found p version table x entry ≡ A.followed p (package_in p) version entry (looked_up p version table x 6)
   unfolding A.followed package_in
   strung = closed_or (package_of p) refl
     where
