@@ -19,6 +19,7 @@ pub mod Rules
 pub mod FromBundleToAnswer
 pub mod Paper
 pub mod TwoSittings
+pub mod Verified
 pub mod Telling
 pub mod Packaged
 pub mod InInfo

@@ -16,3 +16,5 @@ pub mod Rules
 pub mod Clauses
 pub mod Used
 pub mod Applied
+pub mod Verified
+pub mod Compared

@@ -9,6 +9,7 @@ pub mod laws;
 pub mod many;
 pub mod printing;
 pub mod profiling;
+pub mod verifying;
 
 ghost use Rattle.std.specs.Prelude.{◌≡◌, length};
 ghost use Rattle.octets.specs.Octets.{zeros};
@@ -19,12 +20,14 @@ ghost use Rattle.packer.specs.Told.{numbered as told};
 ghost use Rattle.lookup.specs.Lookup.{looked_up, string_found};
 ghost use Rattle.lookup.specs.Answers.{numbered};
 ghost use Rattle.archive.specs.Question.{PartAnswered, StringAnswered};
+ghost use Rattle.archive.specs.Verified.{VerdictIs};
 
 use asking::FromBundle;
 use lookup::answering::Answer;
 use lookup::searching::UnitAsked;
 use numbers::limits::SMALL_WORK;
 use packer::answering::Packed;
+use verifying::Verdict;
 
 // Code 0: the package, of that length, and zeros following it, and how many type units were skipped as repeats and as namesakes. 18: the length that the
 // output needs. Else the refusal, with 0. But for code 0 both counts are 0.
@@ -130,4 +133,22 @@ pub extern "C" fn barthovin_pack_and_look_up_string(
         identity,
     };
     asking::pack_and_look_up_string(bundle, work, output, unit, entry)
+}
+
+// Whether a package, of ours or of another tool, answers with all that was handed in with a bundle, for indexes of a version. Code 0: it does. 46: it doesn't, at
+// the place that is named. 21: it is no package. Else the bundle can't be packed, and this is packing's code, with the length needed at 18. Work and output
+// are lent as for packing, and are zeros after every answer.
+#[unsafe(no_mangle)]
+pub extern "C" fn barthovin_verify(
+    bundle: &[u8],
+    work: &mut [u32],
+    output: &mut [u8],
+    package: &[u8],
+    version: u32,
+) -> Verdict
+    ensures answer { VerdictIs bundle.now (length work.old) (length output.old) «package».now version result }
+    ensures work { work.new ≡ zeros (length work.old) }
+    ensures output { output.new ≡ zeros (length output.old) }
+{
+    verifying::verify(bundle, work, output, package, version)
 }

@@ -1,0 +1,204 @@
+-- A package that answers as the package of a bundle does answers with what was handed in.
+use mathlib.Core.Path.{◌≡◌, refl, sym, ap, ◌∙◌, subst}
+use mathlib.Core.Logic.{◌⊎◌, inl, inr, ⊎_elim}
+use mathlib.Core.Bool.{true, false, ◌||◌, ◌&&◌}
+use mathlib.Core.List.{List, []}
+use mathlib.Core.Option.{some}
+use Prim.Native.Nat.{ℕ, ◌+◌, ◌-◌, ◌/◌, ◌<◌, ◌≤◌}
+use lib.Dec.{eqb}
+use native.Mathlib.Omega.{arith}
+use lib.ListN.{length, get_or}
+use borrow.Author.Tests.{eqb-true, ltb-true, ne_eqb}
+use Rattle.std.specs.Prelude.{Some, Err}
+use Rattle.numbers.specs.Refused.{number_of}
+use Rattle.answers.specs.Outcome as outcome
+use Rattle.answers.specs.Outcome.{outcome_of, outcome_as}
+use Rattle.answers.specs.declared.Unwritten.{Unwritten}
+use Rattle.answers.specs.declared.Unwritten.TheVariants.{Refused, Short}
+use Rattle.numbers.specs.Tables.{dwarf4, dwarf5}
+use Rattle.octets.specs.Octets.{part as bytes_at}
+use Rattle.octets.specs.Lists.{same}
+use Rattle.octets.specs.Checked.{Check, pass, refuse}
+use Rattle.octets.proofs.Checks.{pass_inj, true_false, require_pass, and_left, and_right, or_cases}
+use Rattle.octets.proofs.Lists.{same_eq, same_both}
+use Rattle.octets.proofs.Parts.{length_part}
+use Rattle.index.specs.Held.{Well}
+use Rattle.index.specs.Probing.{probe}
+use Rattle.index.proofs.Ends.{found_row, search_used}
+use Rattle.bundle.specs.Bundle.{Bundle, bundle_of, body}
+use Rattle.bundle.specs.Encoding.{Encoding, encoding_of, encoding_good}
+use Rattle.package.specs.Filing.{Filed, first_word}
+use Rattle.package.specs.Pack.{Answer, packed, made}
+use Rattle.lookup.specs.Lookup.{Found, refused, absent, part, Package, Place, package_of, index_for, entries_start, string_place, looked_up, string_found}
+use Rattle.lookup.specs.Answers.{coded, found_in, package_in, index_code}
+use Rattle.lookup.proofs.Known.{index_known}
+use Rattle.lookup.specs.declared.searching.Located.{Located}
+use Rattle.lookup.proofs.Bounds.{part_named, part_inside, string_inside}
+use Rattle.lookup.proofs.Lookups.{strung_encoding, strung_failed}
+use Rattle.agreement.specs.Agreement.{place_of, same_at, same_offsets, section_agrees, string_agrees, entries_within, UnitAgrees, IndexAgrees, TableAgrees, Agrees}
+use Rattle.archive.specs.Theorem.{Asked, IsCode, IsFirst, AreBytes, handed_part}
+use Rattle.agreement.proofs.Tables.{encodings_same}
+use Rattle.archive.specs.Verified.{Holding, Verified, VerifiedAnswers}
+use Rattle.package.proofs.Accepted.{packed_accepted}
+use Rattle.archive.proofs.Absences.{opens}
+use Rattle.archive.proofs.FromBundleToAnswer.{from_bundle_to_answer}
+
+-- ---- the package that was read is the one that the code has
+package_is : (q : List ℕ) (k : Package) → package_of q ≡ pass k → package_in q ≡ k
+unfolding package_in
+package_is q k e = rw (package_in, e)
+
+own_encoding : (b : List ℕ) (w o : ℕ) (q : List ℕ) → AreBytes b → packed b w o ≡ made q → (k : Bundle) → bundle_of b ≡ pass k → (k.objects ≡ [] → ⊥)
+    → coded (package_in q).encoding ≡ coded (encoding_of k.big (first_word k.objects))
+own_encoding b w o q h e k f any =
+    let a = packed_accepted b w o q e in
+    let op = opens b q a h in
+    let is : a.bundle ≡ k = pass_inj (sym a.read ∙ f) in
+    let there : package_in q ≡ op.k = package_is q op.k op.read in
+    ⊎_elim
+    (λ z. absurd (any (sym (ap (λ (y : Bundle). y.objects) is) ∙ z.0)))
+    (λ z. ap (λ (y : Package). coded y.encoding) there ∙ ap coded z.3 ∙ ap (λ (y : Bundle). coded (encoding_of y.big (first_word y.objects))) is)
+    op.objects
+
+module _ (p q : List ℕ) (v : ℕ) (g : Agrees p q v) (table x : ℕ) where
+  table_agrees : (table ≡ 1) ⊎ (table ≡ 2) → TableAgrees p q v table
+  table_agrees t = ⊎_elim
+      (λ (e : table ≡ 1). subst (TableAgrees p q v) (sym e) g.compilation)
+      (λ (e : table ≡ 2). subst (TableAgrees p q v) (sym e) g.types) t
+
+  -- what q finds in a table under x is a unit that was compared
+  compared : (table ≡ 1) ⊎ (table ≡ 2) → (a n looks code : ℕ) → looked_up q v table x code ≡ part a n looks → UnitAgrees p q v table x
+  unfolding probe
+  compared t a n looks code e =
+      let m = part_named q v table x a n looks code e in
+      let k = m.held in
+      let i = m.index in
+      let w : Well i = record { big = k.encoding.big; bytes = body q k.parts (index_code table); is = index_known q k m.opened table i m.there } in
+      let row = found_row i w x m.slot looks m.ends in
+      let end = search_used i.rows i.identities x m.slot looks m.ends in
+      let here : index_for (package_in q) table ≡ some i = rw (package_is q k m.opened) m.there in
+      subst (UnitAgrees p q v table) end.identity (table_agrees t i here m.slot row.inside end.used)
+
+-- ---- the same bytes at both places
+holding : (p q bytes : List ℕ) (f : Found) (start looks : ℕ) → ((a n l : ℕ) → f ≡ part a n l → a + n ≤ length p)
+    → bytes_at q start (length bytes) ≡ bytes → same_at p q (place_of f) (place_of (part start (length bytes) looks)) ≡ true → Holding p f bytes
+unfolding place_of
+holding p q bytes (part a n l) start looks inside h e =
+    let s : bytes_at p a n ≡ bytes = same_eq _ _ e ∙ h in
+    let len : n ≡ length bytes = sym (length_part p a n (inside a n l refl)) ∙ ap length s in
+    (a, l, ap (λ (z : ℕ). part a z l) len, subst (λ (z : ℕ). bytes_at p a z ≡ bytes) len s)
+holding p q bytes (absent l) start looks inside h e = absurd (true_false e refl)
+holding p q bytes (refused r) start looks inside h e = absurd (true_false e refl)
+
+long : (p q : List ℕ) (v : ℕ) (f : Found) (start size looks : ℕ) → same_offsets p q v (place_of f) (place_of (part start size looks)) ≡ true → (a : ℕ) × (l : ℕ) × (f ≡ part a size l)
+unfolding place_of
+long p q v (part a n l) start size looks e = (a, l, ap (λ (z : ℕ). part a z l) (eqb-true n size (and_left (eqb n size) _ e)))
+long p q v (absent l) start size looks e = absurd (true_false e refl)
+long p q v (refused r) start size looks e = absurd (true_false e refl)
+
+-- ---- one section of a unit
+section_same : (p q : List ℕ) (v table x code : ℕ) → (code ≡ 6 → ⊥) → section_agrees p q v table x code ≡ true
+    → same_at p q (place_of (looked_up p v table x code)) (place_of (looked_up q v table x code)) ≡ true
+unfolding section_agrees
+section_same p q v table x code n e = rw (section_agrees, ne_eqb code 6 n) at e
+
+section_long : (p q : List ℕ) (v table x : ℕ) → section_agrees p q v table x 6 ≡ true
+    → same_offsets p q v (place_of (looked_up p v table x 6)) (place_of (looked_up q v table x 6)) ≡ true
+unfolding section_agrees
+section_long p q v table x e = e
+
+-- ---- a string
+good_width : (e : Encoding) → encoding_good e ≡ true → (eqb e.width 4 || eqb e.width 8) ≡ true
+unfolding encoding_good
+good_width e g = and_right (eqb e.version dwarf4 || eqb e.version dwarf5) (eqb e.width 4 || eqb e.width 8)
+    (and_left ((eqb e.version dwarf4 || eqb e.version dwarf5) && (eqb e.width 4 || eqb e.width 8)) (eqb e.address 4 || eqb e.address 8) g)
+
+-- an entry that names a string lies within the part
+module _ (q : List ℕ) (v table x k start size looks : ℕ) (e : looked_up q v table x 6 ≡ part start size looks) where
+  abbrev here : Located
+  here = record { place = Some (record { start = start; size = size }); looks = looks }
+
+  held : found_in here ≡ looked_up q v table x 6
+  held = sym e
+
+  widths : (w n : ℕ) → (eqb w 4 || eqb w 8) ≡ true → k < n / w → n ≤ size → k < size / 4
+  widths w n g h f = ⊎_elim
+      (λ (z : eqb w 4 ≡ true). let t : w ≡ 4 = eqb-true w 4 z in let j : k < n / 4 = subst (λ (y : ℕ). k < n / y) t h in omega arith)
+      (λ (z : eqb w 8 ≡ true). let t : w ≡ 8 = eqb-true w 8 z in let j : k < n / 8 = subst (λ (y : ℕ). k < n / y) t h in omega arith)
+      (or_cases (eqb w 4) (eqb w 8) g)
+
+  within : (a m l : ℕ) → string_found q v table x k ≡ part a m l → k < size / 4
+  unfolding string_place
+  within a m l f = go (string_place q (package_in q) v k (record { start = start; size = size })) refl
+    where
+      good : encoding_good (package_in q).encoding ≡ true
+      good = strung_encoding q v table x k here held (record { start = start; size = size }) refl
+
+      go : (r : Check Place) → string_place q (package_in q) v k (record { start = start; size = size }) ≡ r → k < size / 4
+      go (refuse n) g = absurd (let z : refused n ≡ part a m l = strung_failed q v table x k here held (record { start = start; size = size }) refl n (sym g) ∙ f in
+          let y : ◌≡◌ {A = ℕ} 0 1 = cc in omega arith)
+      go (pass s) g =
+          let (t, u) = require_pass _ _ _ _ g in
+          let w = (package_in q).encoding.width in
+          widths w (size - entries_start v (package_in q).encoding) (good_width (package_in q).encoding good) (ltb-true _ _ t) (omega arith)
+
+entries_at : (f : Found) (start size looks k : ℕ) → f ≡ part start size looks → k < size / 4 → k < entries_within (place_of f)
+unfolding place_of
+entries_at f start size looks k e h = rw e h
+
+string_same : (p q : List ℕ) (v table x k a m l : ℕ) → string_found q v table x k ≡ part a m l → string_agrees p q v table x k ≡ true
+    → same_at p q (place_of (string_found p v table x k)) (place_of (part a m l)) ≡ true
+unfolding string_agrees place_of
+string_same p q v table x k a m l f e = rw f at e
+
+pub verified_answers : VerifiedAnswers
+verified_answers b w o q p v h e g =
+    let d = from_bundle_to_answer b w o q h e in
+    record {
+      encoding = λ k f any. encodings_same _ _ g.encoding ∙ own_encoding b w o q h e k f any;
+      parts = λ table x code u asked is first other.
+          let (start, f, bytes) = d.the_first_unit v table x code u asked is first other in
+          let unit = compared p q v g table x asked.tables _ _ _ code f in
+          let s = section_same p q v table x code other (unit.sections code is.from (let t = is.to in omega arith)) in
+          holding p q (handed_part u code) (looked_up p v table x code) start _ (λ a n l z. part_inside p v table x a n l code z) bytes (rw f at s);
+      offsets = λ table x u asked first.
+          let (start, f) = d.the_first_unit_in_length v table x u asked first in
+          let unit = compared p q v g table x asked.tables _ _ _ 6 f in
+          let s = section_long p q v table x (unit.sections 6 (omega arith) (omega arith)) in
+          long p q v (looked_up p v table x 6) start _ _ (rw f at s);
+      strings = λ table x k u asked first few.
+          let (string, is, found_there) = d.its_strings v table x k u asked first few in
+          let (start, f, bytes) = found_there in
+          let (offsets, g6) = d.the_first_unit_in_length v table x u asked first in
+          let unit = compared p q v g table x asked.tables _ _ _ 6 g6 in
+          let inside = entries_at (looked_up q v table x 6) offsets _ _ k g6 (within q v table x k offsets _ _ g6 _ _ _ f) in
+          let s = string_same p q v table x k _ _ _ f (unit.strings k inside) in
+          (string, is, holding p q string (string_found p v table x k) start _ (λ a n l z. string_inside p v table x a n l k z) bytes s);
+    }
+
+-- ---- the package of the bundle itself
+pub verified_own : (b : List ℕ) (w o : ℕ) (q : List ℕ) (v : ℕ) → AreBytes b → packed b w o ≡ made q → Verified b q v
+verified_own b w o q v h e =
+    let d = from_bundle_to_answer b w o q h e in
+    record {
+      encoding = λ k f any. own_encoding b w o q h e k f any;
+      parts = λ table x code u asked is first other.
+          let (start, f, bytes) = d.the_first_unit v table x code u asked is first other in
+          (start, _, f, bytes);
+      offsets = λ table x u asked first.
+          let (start, f) = d.the_first_unit_in_length v table x u asked first in
+          (start, _, f);
+      strings = λ table x k u asked first few.
+          let (string, is, found_there) = d.its_strings v table x k u asked first few in
+          let (start, f, bytes) = found_there in
+          (string, is, (start, _, f, bytes));
+    }
+
+pub same_own : (s t : List ℕ) → s ≡ t → same s t ≡ true
+same_own s t e = sym (same_both true s t (λ _. e) (λ _. refl))
+
+-- where packing refuses, nothing is made
+pub not_made : {P : Type 0} (u : Unwritten) (a : Answer) (p : List ℕ) → outcome_as (Err u) ≡ outcome_of a → a ≡ made p → P
+unfolding outcome_of
+not_made (Refused r) a p e f = absurd (let z : outcome.refused (number_of r) ≡ outcome.made (length p) = e ∙ ap outcome_of f in let y : ◌≡◌ {A = ℕ} 0 1 = cc in omega arith)
+not_made (Short n) a p e f = absurd (let z : outcome.short n ≡ outcome.made (length p) = e ∙ ap outcome_of f in let y : ◌≡◌ {A = ℕ} 0 1 = cc in omega arith)
