@@ -180,6 +180,25 @@ struct barthovin_found_from_bundle barthovin_pack_and_look_up_string(const uint8
                                                                      uint32_t version, uint32_t table,
                                                                      uint64_t identity, uint64_t entry);
 
+/* What verifying answers. Code 0: the package answers with all that was handed in with the bundle. 46: it answers otherwise at the place
+ * that table, section and identity name: the part of a section, 1 to 10, of a unit; or, at section 11, the string of an entry of it; at
+ * section 0 it states another byte order, version or width. 21: it is no package. Any other code is packing's for the bundle, with the
+ * length needed at 18. What isn't named is 0. */
+struct barthovin_verified {
+    uint32_t code;
+    uint32_t table;
+    uint32_t section;
+    uint64_t identity;
+    uint64_t entry;
+    size_t length;
+};
+
+/* Whether a package, whoever wrote it, answers with all that was handed in with a bundle, for indexes of a version: under each identity
+ * the bytes, the parts and the strings of the first unit. Work and output are lent as for packing, and are zeros after every answer. */
+struct barthovin_verified barthovin_verify(const uint8_t *bundle, size_t bundle_length, uint32_t *work,
+                                           size_t work_length, uint8_t *output, size_t output_length,
+                                           const uint8_t *package, size_t package_length, uint32_t version);
+
 /* Whether a package is in the archive profile: 0 yes, 1 no, 21 for a bad package. */
 uint32_t barthovin_archive_profile(const uint8_t *package, size_t package_length);
 

@@ -21,3 +21,4 @@ pub mod sheet;
 pub mod skipped;
 pub mod sum;
 pub mod verify;
+pub mod verifying;

@@ -4,6 +4,7 @@ use barthovin::answer::{Asked, Found};
 use barthovin::batch::answer_words;
 use barthovin::ffi::{self, Skipped};
 use barthovin::profile::{conditions, profile};
+use barthovin::verifying;
 use std::path::{Path, PathBuf};
 use std::process::{Command, Output};
 
@@ -152,6 +153,20 @@ fn by_rust() -> String {
     let (code, length) = barthovin::join::open(&bundle, &mut page);
     told += &format!("open {code} {length}\n");
     told += &format!("conditions {}\n", conditions(&bundle).1);
+    told + &verified_by_rust(&bundle, &output[..packed])
+}
+
+/// Its package verified: as it is, with another string, and where the bundle's package has no room.
+fn verified_by_rust(bundle: &[u8], package: &[u8]) -> String {
+    let (mut work, mut output) = (vec![0; 20 * 17], vec![0; 1000]);
+    let mut other = package.to_vec();
+    other[60] ^= 1;
+    let mut verify = |package: &[u8], room: usize| {
+        let v = verifying::verify(bundle, (&mut work, &mut output[..room]), package, 5);
+        format!("verify {} {} {} {} {} {}\n", v.code, v.table, v.section, v.identity, v.entry, v.length)
+    };
+    let told = [verify(package, 1000), verify(&other, 1000), verify(package, 10)].concat();
+    assert_eq!(told, format!("verify 0 0 0 0 0 0\nverify 46 1 11 1 0 0\nverify 18 0 0 0 0 {}\n", package.len()));
     told
 }
 

@@ -42,7 +42,13 @@ static void read_sheet(struct barthovin_written w, const uint8_t *page) {
     printf("sheet %u %zu %.39s\n", (unsigned)w.code, w.length, (const char *)page);
 }
 
+static void show_verified(struct barthovin_verified v) {
+    printf("verify %u %u %u %llu %llu %zu\n", (unsigned)v.code, (unsigned)v.table, (unsigned)v.section,
+           (unsigned long long)v.identity, (unsigned long long)v.entry, v.length);
+}
+
 int main(void) {
+    static uint8_t packed_again[1000];
     static uint8_t page[121];
     static uint8_t elf[2000];
     static uint32_t work[20 * 17];
@@ -91,5 +97,9 @@ int main(void) {
     joined = barthovin_open(bundle, sizeof words, page, sizeof page);
     printf("open %u %zu\n", (unsigned)joined.code, joined.length);
     printf("conditions %u\n", (unsigned)barthovin_archive_profile_conditions(bundle, sizeof words).failed);
+    show_verified(barthovin_verify(bundle, sizeof words, work, 20 * 17, packed_again, 1000, output, packed.length, 5));
+    output[60] ^= 1; /* a letter of its string */
+    show_verified(barthovin_verify(bundle, sizeof words, work, 20 * 17, packed_again, 1000, output, packed.length, 5));
+    show_verified(barthovin_verify(bundle, sizeof words, work, 20 * 17, packed_again, 10, output, packed.length, 5));
     return 0;
 }
