@@ -20,6 +20,7 @@ pub mod FromBundleToAnswer
 pub mod Paper
 pub mod TwoSittings
 pub mod Verified
+pub mod Verdicts
 pub mod Telling
 pub mod Packaged
 pub mod InInfo

@@ -1,5 +1,5 @@
 -- What it says of a package that it was verified: it answers with what was handed in, whoever wrote it.
-use Rattle.std.specs.Prelude.{◌≡◌, ◌⊎◌, ◌×◌, List, [], ℕ, ◌<◌, length, slice_index, ⊥}
+use Rattle.std.specs.Prelude.{◌≡◌, ◌⊎◌, List, [], ℕ, ◌<◌, length, slice_index}
 use Rattle.numbers.specs.Refusals.{no_string, bad_package, output_short}
 use Rattle.numbers.specs.Sections.{str_offsets_code, str_code}
 use Rattle.octets.specs.Octets.{part as bytes_at}

@@ -88,22 +88,31 @@ fn compare(theirs: &[u8], ours: &[u8], version: u32, memory: &mut [u32]) -> Resu
     }
 }
 
-// The bundle is packed into the output, and the package has to answer as that one does.
+// The bundle is packed into the output, and the package has to answer as that one does. Work and output are left as they are then.
+fn judge(b: &[u8], work: &mut [u32], out: &mut [u8], theirs: &[u8], version: u32) -> Verdict
+    ensures { VerdictIs b.now (length work.old) (length out.old) theirs.now version result }
+{
+    let n = match packer::pack(b, work, out) {
+        Ok(n) => n,
+        Err(unwritten) => {
+            let written = Written::from(Err(unwritten));
+            return refused(written.code, written.length);
+        }
+    };
+    match compare(theirs, &out[..n], version, work) {
+        Ok(()) => refused(0, 0),
+        Err(unverified) => Verdict::from(unverified),
+    }
+}
+
+// The same, and both are zeros afterwards.
+#[tactic(auto, unfolding(octets::specs::Octets::zeros))]
 pub fn verify(b: &[u8], work: &mut [u32], out: &mut [u8], theirs: &[u8], version: u32) -> Verdict
     ensures answer { VerdictIs b.now (length work.old) (length out.old) theirs.now version result }
     ensures work { work.new ≡ zeros (length work.old) }
     ensures output { out.new ≡ zeros (length out.old) }
 {
-    let verdict = match packer::pack(b, work, out) {
-        Ok(n) => match compare(theirs, &out[..n], version, work) {
-            Ok(()) => refused(0, 0),
-            Err(unverified) => Verdict::from(unverified),
-        },
-        Err(unwritten) => {
-            let Written { code, length } = Written::from(Err(unwritten));
-            refused(code, length)
-        }
-    };
+    let verdict = judge(b, work, out, theirs, version);
     work.fill(0);
     out.fill(0);
     verdict
