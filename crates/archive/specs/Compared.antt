@@ -7,7 +7,7 @@ use Rattle.agreement.specs.Agreement.{IsFault}
 use Rattle.archive.specs.declared.verifying.Unverified.{Unverified}
 use Rattle.archive.specs.declared.verifying.Unverified.TheVariants.{NoPackage, Otherwise}
 use Rattle.archive.specs.declared.verifying.Verdict.{Verdict}
-use Rattle.archive.specs.Verified.{refusal}
+use Rattle.archive.specs.Verified.{not_verified, refusal}
 
 -- it is a package
 abbrev pub Opens : List ℕ → Type 0
@@ -21,4 +21,4 @@ OtherwiseAt p q v (Otherwise f) = IsFault p q v f
 -- the same as an answer
 abbrev pub unverified : Unverified → Verdict
 unverified NoPackage = refusal bad_package 0
-unverified (Otherwise f) = record { code = 46; table = f.table; section = f.section; identity = f.identity; entry = f.entry; length = 0 }
+unverified (Otherwise f) = record { code = not_verified; table = f.table; section = f.section; identity = f.identity; entry = f.entry; length = 0 }

@@ -35,6 +35,10 @@ pub record Verified (b p : List ℕ) (v : ℕ) : Type 0 where
 abbrev pub VerifiedAnswers : Type 0
 VerifiedAnswers = (b : List ℕ) (w o : ℕ) (q p : List ℕ) (v : ℕ) → AreBytes b → packed b w o ≡ made q → Agrees p q v → Verified b p v
 
+-- the package answers otherwise than it should
+abbrev pub not_verified : ℕ
+not_verified = 46
+
 -- ---- the answer of the call, for b packed with w words of work into o bytes
 -- the place that an answer names
 abbrev pub fault_of : Verdict → Fault
@@ -46,7 +50,7 @@ refusal n length = record { code = n; table = 0; section = 0; identity = 0; entr
 
 -- the bundle's package was made, and this is said of p: yes; that it is no package; or at which place it answers otherwise than the bundle's package does
 abbrev pub Judged : List ℕ → List ℕ → ℕ → Verdict → Type 0
-Judged q p v r = (r ≡ refusal 0 0) ⊎ ((package_of p ≡ refuse bad_package) × (r ≡ refusal bad_package 0)) ⊎ (IsFault p q v (fault_of r) × (r.code ≡ 46) × (r.length ≡ 0))
+Judged q p v r = (r ≡ refusal 0 0) ⊎ ((package_of p ≡ refuse bad_package) × (r ≡ refusal bad_package 0)) ⊎ (IsFault p q v (fault_of r) × (r.code ≡ not_verified) × (r.length ≡ 0))
 
 pub record VerdictIs (b : List ℕ) (w o : ℕ) (p : List ℕ) (v : ℕ) (r : Verdict) : Type 0 where
   -- if it says yes, everything is there

@@ -194,7 +194,8 @@ struct barthovin_verified {
 };
 
 /* Whether a package, whoever wrote it, answers with all that was handed in with a bundle, for indexes of a version: under each identity
- * the bytes, the parts and the strings of the first unit. Work and output are lent as for packing, and are zeros after every answer. */
+ * the bytes, the parts and the strings of the first unit. 46: it doesn't, at the place that is named. 21: it is no package. Else the
+ * bundle can't be packed, and the code is packing's. Work and output are lent as for packing, and are zeros after every answer. */
 struct barthovin_verified barthovin_verify(const uint8_t *bundle, size_t bundle_length, uint32_t *work,
                                            size_t work_length, uint8_t *output, size_t output_length,
                                            const uint8_t *package, size_t package_length, uint32_t version);

@@ -91,10 +91,11 @@ fn refusals() {
     let defined = read("crates/numbers/specs/Refusals.antt");
     let number = |line: &str| line.split_once(" = ")?.1.trim().parse().ok();
     let mut defined: BTreeSet<u32> = defined.lines().filter_map(number).collect();
-    // One is defined where it is used.
-    let join = read("crates/join/specs/Join.antt");
-    defined.extend(join.lines().filter(|line| line.starts_with("other_order = ")).filter_map(number));
-    assert_eq!(known, defined, "those of meaning.rs, and those of Refusals.antt and Join.antt");
+    // Two are defined where they are used.
+    let used = read("crates/join/specs/Join.antt") + &read("crates/archive/specs/Verified.antt");
+    let is_one = |line: &&str| line.starts_with("other_order = ") || line.starts_with("not_verified = ");
+    defined.extend(used.lines().filter(is_one).filter_map(number));
+    assert_eq!(known, defined, "those of meaning.rs, and those of Refusals.antt, Join.antt and Verified.antt");
     let format = read("docs/FORMAT.md");
     let tables = between(&format, "\n## 13 ", "\n## ");
     assert_eq!(known, rows(tables), "those of meaning.rs, and those of FORMAT.md");
@@ -114,6 +115,7 @@ fn refusals_of_an_entry() {
         ("### 13.7 ", "barthovin_archive_profile"),
         ("### 13.8 ", "barthovin_join"),
         ("### 13.9 ", "barthovin_open"),
+        ("### 13.10 ", "barthovin_verify"),
     ];
     for (section, entry) in entries {
         let wanted = rows(between(&format, section, "\n##"));

@@ -36,6 +36,7 @@ pub fn meaning(number: u32) -> &'static str {
         37 => "the output is too short",
         38 => "the questions are ill-formed or more than 1,024, or the answers don't fit",
         45 => "the file's byte order is not that of the bundle",
+        46 => "the package answers otherwise than the bundle's own",
         _ => "an unknown refusal",
     }
 }
