@@ -11,7 +11,7 @@ use native.Mathlib.Decide.{dec_lt}
 use lib.ListN.{length}
 use Rattle.octets.specs.Checked.{pass}
 use Rattle.sittings.specs.Sittings.{Sitting}
-use Rattle.answers.specs.Answers.{refused, short, made as made_file}
+use Rattle.answers.specs.Answers.{short, made as made_file}
 use Rattle.package.proofs.Accepted.{made_judged}
 use Rattle.elf.specs.Reader.{bundle_read, elf_read}
 use Rattle.elf.specs.Writer.{amd64, machine_good, is_machine}

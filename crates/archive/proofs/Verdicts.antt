@@ -1,28 +1,24 @@
 -- The verdict on a package, by what packing answers and what comparing tells.
 use mathlib.Core.Path.{◌≡◌, refl, sym, ap, ◌∙◌, subst}
 use mathlib.Core.Logic.{◌⊎◌, inl, inr, ⊎_elim}
-use mathlib.Core.Bool.{true, false}
 use mathlib.Core.List.{List}
-use Prim.Native.Nat.{ℕ, ◌≤◌}
+use Prim.Native.Nat.{ℕ}
 use native.Mathlib.Omega.{arith}
 use Rattle.std.specs.Prelude.{Err}
-use Rattle.octets.specs.Checked.{pass, refuse}
-use Rattle.octets.specs.Lists.{same}
-use Rattle.octets.proofs.Lists.{same_ne}
+use Rattle.octets.specs.Checked.{refuse}
 use Rattle.answers.specs.Outcome.{outcome_of, outcome_as}
 use Rattle.answers.specs.Written.{written_as}
 use Rattle.answers.specs.declared.Unwritten.{Unwritten}
 use Rattle.answers.specs.declared.Unwritten.TheVariants.{Refused, Short}
-use Rattle.answers.specs.declared.Written.{Written}
-use Rattle.package.specs.Pack.{Answer, packed, refused, short, made}
+use Rattle.package.specs.Pack.{packed, refused, short, made}
 use Rattle.package.proofs.Accepted.{packed_accepted}
 use Rattle.package.proofs.Refusing.{packed_refuses}
 use Rattle.packer.proofs.Answered.{refused_is, short_is}
-use Rattle.lookup.specs.Lookup.{Package, package_of}
+use Rattle.lookup.specs.Lookup.{package_of}
 use Rattle.lookup.specs.Answers.{opened}
 use Rattle.lookup.proofs.Lookups.{closed}
 use Rattle.lookup.proofs.Packages.{package_refused}
-use Rattle.agreement.specs.Agreement.{Agrees, IsFault}
+use Rattle.agreement.specs.Agreement.{Agrees}
 use Rattle.archive.specs.Theorem.{AreBytes}
 use Rattle.archive.specs.Verified.{Verified, VerdictIs, Judged, refusal}
 use Rattle.archive.specs.Compared.{Opens, OtherwiseAt, unverified}

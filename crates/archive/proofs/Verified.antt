@@ -1,13 +1,13 @@
 -- A package that answers as the package of a bundle does answers with what was handed in.
 use mathlib.Core.Path.{◌≡◌, refl, sym, ap, ◌∙◌, subst}
-use mathlib.Core.Logic.{◌⊎◌, inl, inr, ⊎_elim}
-use mathlib.Core.Bool.{true, false, ◌||◌, ◌&&◌}
+use mathlib.Core.Logic.{◌⊎◌, ⊎_elim}
+use mathlib.Core.Bool.{true, ◌||◌, ◌&&◌}
 use mathlib.Core.List.{List, []}
 use mathlib.Core.Option.{some}
 use Prim.Native.Nat.{ℕ, ◌+◌, ◌-◌, ◌/◌, ◌<◌, ◌≤◌}
 use lib.Dec.{eqb}
 use native.Mathlib.Omega.{arith}
-use lib.ListN.{length, get_or}
+use lib.ListN.{length}
 use borrow.Author.Tests.{eqb-true, ltb-true, ne_eqb}
 use Rattle.std.specs.Prelude.{Some, Err}
 use Rattle.numbers.specs.Refused.{number_of}
@@ -27,7 +27,7 @@ use Rattle.index.specs.Probing.{probe}
 use Rattle.index.proofs.Ends.{found_row, search_used}
 use Rattle.bundle.specs.Bundle.{Bundle, bundle_of, body}
 use Rattle.bundle.specs.Encoding.{Encoding, encoding_of, encoding_good}
-use Rattle.package.specs.Filing.{Filed, first_word}
+use Rattle.package.specs.Filing.{first_word}
 use Rattle.package.specs.Pack.{Answer, packed, made}
 use Rattle.lookup.specs.Lookup.{Found, refused, absent, part, Package, Place, package_of, index_for, entries_start, string_place, looked_up, string_found}
 use Rattle.lookup.specs.Answers.{coded, found_in, package_in, index_code}
@@ -35,8 +35,8 @@ use Rattle.lookup.proofs.Known.{index_known}
 use Rattle.lookup.specs.declared.searching.Located.{Located}
 use Rattle.lookup.proofs.Bounds.{part_named, part_inside, string_inside}
 use Rattle.lookup.proofs.Lookups.{strung_encoding, strung_failed}
-use Rattle.agreement.specs.Agreement.{place_of, same_at, same_offsets, section_agrees, string_agrees, entries_within, UnitAgrees, IndexAgrees, TableAgrees, Agrees}
-use Rattle.archive.specs.Theorem.{Asked, IsCode, IsFirst, AreBytes, handed_part}
+use Rattle.agreement.specs.Agreement.{place_of, same_at, same_offsets, section_agrees, string_agrees, entries_within, UnitAgrees, TableAgrees, Agrees}
+use Rattle.archive.specs.Theorem.{AreBytes, handed_part}
 use Rattle.agreement.proofs.Tables.{encodings_same}
 use Rattle.archive.specs.Verified.{Holding, Verified, VerifiedAnswers}
 use Rattle.package.proofs.Accepted.{packed_accepted}

@@ -1,11 +1,11 @@
 -- `archive::verifying::compare` meets its contract.
-use mathlib.Core.Path.{◌≡◌, sym, ◌∙◌, subst}
-use mathlib.Core.Logic.{inl, inr}
+use mathlib.Core.Path.{sym, ◌∙◌, subst}
+use mathlib.Core.Logic.{inl}
 use mathlib.Core.List.{List}
 use Prim.Native.Nat.{ℕ}
 use Rattle.octets.specs.Checked.{mapped}
 use Rattle.octets.proofs.Lists.{same_eq, same_ne}
-use Rattle.agreement.specs.Agreement.{Agrees, IsFault}
+use Rattle.agreement.specs.Agreement.{IsFault}
 use Rattle.archive.proofs.Verdicts.{no_refusal, no_package}
 use Rattle.archive.proofs.verifying.compare.Goals as goal
 
