@@ -4,6 +4,7 @@
 
 use crate::generate::{call, sized, Random, HOSTILE, KINDS, SHORT};
 use crate::reference::WORK_FOR_A_WORD;
+use barthovin::answer::Asked;
 use barthovin::{batch, elf, ffi, profile, sheet};
 use std::thread;
 
@@ -12,6 +13,17 @@ const PAINTED: usize = 512 << 10;
 const PAINT: u8 = 0xC3;
 /// What the painter itself stands on is not painted: less is not told from it.
 const PAINTER: usize = 1 << 10;
+
+#[repr(C)]
+struct Written {
+    code: u32,
+    length: usize,
+}
+
+extern "C" {
+    fn barthovin_read_elf32(file: *const u8, length: usize, output: *mut u8, room: usize) -> Written;
+    fn barthovin_write_elf_for(p: *const u8, length: usize, machine: u32, output: *mut u8, room: usize) -> Written;
+}
 
 /// The bytes of stack that a call took; what Rust puts between is counted too, some hundred bytes at most.
 pub fn taken(call: impl FnOnce() + Send) -> usize {
@@ -82,6 +94,13 @@ impl Measured<'_> {
         let mut length = 0;
         self.note("barthovin_pack", || length = ffi::pack_counted(bundle, &mut work, &mut output).1);
         let mut other = vec![0; output.len()];
+        for (name, asked) in
+            [("barthovin_pack_and_look_up", Asked::Section(1)), ("barthovin_pack_and_look_up_string", Asked::Entry(0))]
+        {
+            self.note(name, || {
+                let _ = ffi::pack_and_look_up(bundle, &mut work, &mut other, 5, 1, 1, asked);
+            });
+        }
         self.note("barthovin_pack_small", || {
             ffi::pack_small(bundle, &mut other);
         });
@@ -109,12 +128,30 @@ impl Measured<'_> {
         self.note("barthovin_archive_profile", || {
             profile::profile(package);
         });
+        self.note("barthovin_archive_profile_conditions", || {
+            profile::conditions(package);
+        });
         self.note("barthovin_write_elf", || {
             elf::write(package, 62, &mut file);
         });
         let mut bundle = vec![0; file.len()];
         self.note("barthovin_read_elf", || {
             elf::read(&file, &mut bundle);
+        });
+        self.files_of_others(package, &mut file, &mut bundle);
+    }
+}
+
+impl Measured<'_> {
+    /// Files of 32 bits, and of any machine.
+    fn files_of_others(&mut self, package: &[u8], file: &mut [u8], bundle: &mut [u8]) {
+        const ARM: u32 = 40;
+        // Each entry reads and writes what it is lent, and nothing else.
+        self.note("barthovin_write_elf_for", || unsafe {
+            barthovin_write_elf_for(package.as_ptr(), package.len(), ARM, file.as_mut_ptr(), file.len());
+        });
+        self.note("barthovin_read_elf32", || unsafe {
+            barthovin_read_elf32(file.as_ptr(), file.len(), bundle.as_mut_ptr(), bundle.len());
         });
     }
 }

@@ -10,7 +10,7 @@ use std::time::Duration;
 /// The length of the gate's bar, a sixteenth, an eighth and a quarter of the greatest length, and all of it.
 pub const LENGTHS: [usize; 5] = [SHORT, LONGEST_BUNDLE / 16, LONGEST_BUNDLE / 8, LONGEST_BUNDLE / 4, LONGEST_BUNDLE];
 /// What would take longer, by the growth that was seen or by the square of the length, is left out: ours, and thorin's.
-const PATIENCE: Duration = Duration::from_secs(8);
+const PATIENCE: Duration = Duration::from_secs(14);
 const PATIENCE_FOR_THORIN: Duration = Duration::from_secs(2);
 const SQUARE: f64 = 4.0;
 
@@ -83,15 +83,16 @@ impl Grown {
         LENGTHS.iter().position(|wanted| *wanted == length).and_then(|place| self.measured.get(place))
     }
 
-    /// The greatest growth at a doubling from 256 KB on, where fixed costs count least.
+    /// The greatest growth at a doubling from 256 KB on, where fixed costs count least; from 28 KB on where there is no other.
     pub fn growth(&self) -> Option<f64> {
-        let timed: Vec<(usize, Duration)> = self.measured.iter().skip(1).map(|one| (one.bundle, one.ours)).collect();
-        let factors = timed.windows(2).filter_map(|two| at_a_doubling(two[0], two[1]));
+        let timed: Vec<(usize, Duration)> = self.measured.iter().map(|one| (one.bundle, one.ours)).collect();
+        let long = if timed.len() > 2 { &timed[1..] } else { &timed[..] };
+        let factors = long.windows(2).filter_map(|two| at_a_doubling(two[0], two[1]));
         factors.max_by(f64::total_cmp)
     }
 
-    /// The longest at which thorin was timed.
-    pub fn both(&self) -> Option<(&One, Duration)> {
-        self.measured.iter().rev().find_map(|one| one.thorin.map(|thorin| (one, thorin)))
+    /// The longest at which thorin was timed: its place among the lengths, and both.
+    pub fn both(&self) -> Option<(usize, &One, Duration)> {
+        self.measured.iter().enumerate().rev().find_map(|(place, one)| one.thorin.map(|thorin| (place, one, thorin)))
     }
 }

@@ -91,7 +91,7 @@ impl Page {
             ("one_store", time(self.one_store)),
             ("growth", tables::growths(&self.kinds)),
             ("pages", tables::pages(&self.releases)),
-            ("made_of", tables::made_of(&self.inputs)),
+            ("made_of", tables::made_of(&self.inputs_of_releases())),
             ("processes", tables::processes(&self.inputs)),
             ("floor", format!("{:.1} MB", self.floor.kilobytes as f64 / 1024.0)),
             ("floor_time", time(self.floor.time)),
@@ -131,13 +131,19 @@ impl Page {
         ]
     }
 
+    /// The releases without the small inputs.
+    fn inputs_of_releases(&self) -> Vec<&Input> {
+        let is_release = |input: &&Input| self.releases.iter().any(|one| one.name == input.name);
+        self.inputs.iter().filter(is_release).collect()
+    }
+
     /// Where we stand over the releases.
     fn summary(&self) -> Vec<(&'static str, String)> {
         let calls = |of: fn(&Measured) -> Option<f64>| {
             spread(self.releases.iter().filter_map(|one| of(&one.measured)).collect())
         };
-        let releases = || self.inputs.iter().filter(|input| self.releases.iter().any(|one| one.name == input.name));
-        let against = |program: &str| spread(releases().filter_map(|input| input.ours_times(program)).collect());
+        let releases = self.inputs_of_releases();
+        let against = |program: &str| spread(releases.iter().filter_map(|input| input.ours_times(program)).collect());
         vec![
             ("summary_zeros", calls(Measured::with_zeros)),
             ("summary_junk", calls(Measured::with_junk)),
@@ -327,7 +333,7 @@ mod tests {
             "| the one-unit example | 44 | 1 unit | 112 | 3.00 ms | 1.50 ms | 1.50 ms | 6.00 ms | 1.50 ms | 0.50 | 0.25 |\n",
             "They are 1,000; 2,100: times the one before, 2.10.",
             "| some | 12 | 3.00 ms |\n",
-            "| h | 15 | 60.0 ms | 120 ms | 360 ms | - | - | 3.00 | 3.00 ms at 0.50 MB | 120.00 (behind) |\n",
+            "| h | 15 | 60.0 ms | 120 ms | 360 ms | - | - | 3.00 | 3.00 ms at 512 KB | 120.00 (behind) |\n",
             "| r | 1.50 ms | 3.00 ms | 2.00 | 6.00 ms | 4.00 |\n",
             "| `barthovin_pack` | 1,234 |\n",
             "by the index 3.00 ms; walking 21.0 ms, 7 times as long.",

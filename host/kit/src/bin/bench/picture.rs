@@ -5,7 +5,7 @@ use super::releases::{Input, Packed, CAT, GNU, LLVM, OURS, TAR};
 use std::fmt::Write;
 use std::time::Duration;
 
-const WIDTH: f64 = 1_000.0;
+const WIDTH: f64 = 1_160.0;
 const PANEL: f64 = 440.0;
 /// Where the axes cross in a panel, and how far they go.
 const LEFT: f64 = 80.0;
@@ -67,7 +67,7 @@ fn processes(inputs: &[Input]) -> Panel {
 }
 
 /// Hostile kinds that grow by more than this at a doubling, or take more than a second somewhere, are named.
-const STEEP: f64 = 2.6;
+const STEEP: f64 = 3.5;
 const SECOND: f64 = 1e3;
 
 fn hostile(kinds: &[Grown]) -> Panel {

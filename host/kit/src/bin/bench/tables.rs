@@ -155,10 +155,14 @@ fn wrote(ran: &Ran) -> String {
     }
 }
 
-/// Whether a quotient says something: the program packs rightly, or is a limit, which packs nothing.
+/// Whether a program is a limit, which packs nothing.
+fn is_limit(program: &str) -> bool {
+    program == CAT || program == TAR
+}
+
+/// Whether a quotient says something: the program packs rightly, or is a limit.
 fn counts(ran: &Ran) -> bool {
-    let is_limit = ran.program == CAT || ran.program == TAR;
-    is_limit || matches!(ran.wrote, Wrote::Verified | Wrote::VerifiedWithoutTypeIndex)
+    is_limit(ran.program) || matches!(ran.wrote, Wrote::Verified | Wrote::VerifiedWithoutTypeIndex)
 }
 
 impl Input {
@@ -189,18 +193,18 @@ pub fn processes(inputs: &[Input]) -> String {
             or_dash(process, |p| time(p.clock)),
             or_dash(process, |p| format!("{:.1} MB", p.kilobytes as f64 / 1024.0)),
             wrote(ran),
-            marked(ratio),
+            if is_limit(ran.program) { factor(ratio) } else { marked(ratio) },
         ])
     };
     head(&names)
         + &inputs.iter().flat_map(|input| input.ran.iter().map(move |ran| line(input, ran))).collect::<String>()
 }
 
-/// What each input is made of.
-pub fn made_of(inputs: &[Input]) -> String {
-    let told = |input: &Input| {
+/// What each release is made of.
+pub fn made_of(inputs: &[&Input]) -> String {
+    let told = |input: &&Input| {
         let files = count(input.files as u64, "files");
-        format!("- {}: {files}, version {}. {}.\n", input.name, input.version, input.made_by)
+        format!("- {}: {files}, version {}: {}.\n", input.name, input.version, input.made_by)
     };
     inputs.iter().map(told).collect()
 }
@@ -223,8 +227,8 @@ pub fn hostile(kinds: &[Grown]) -> String {
         cells.extend(LENGTHS.iter().map(cell));
         cells.push(factor(kind.growth()));
         let both = kind.both();
-        cells.push(or_dash(both, |(one, thorin)| format!("{} at {}", time(thorin), megabytes(one.bundle))));
-        cells.push(marked(both.and_then(|(one, thorin)| quotient(one.ours, thorin))));
+        cells.push(or_dash(both, |(place, _, thorin)| format!("{} at {}", time(thorin), length(LENGTHS[place]))));
+        cells.push(marked(both.and_then(|(_, one, thorin)| quotient(one.ours, thorin))));
         row(&cells)
     };
     let names: Vec<&str> = names.iter().map(String::as_str).collect();
