@@ -63,6 +63,22 @@ fn a_closed_package_becomes_a_file_too() {
     assert_eq!(done(&home, &["pack", &main, "-o", "open.package"]), "");
 }
 
+/// An ELF file to which files are added stays one, also where it names no machine.
+#[test]
+fn an_elf_file_stays_one() {
+    let home = directory("form-stays");
+    let [main, race] = ["gcc-5-main", "gcc-5-race"].map(real_file);
+    done(&home, &["pack", &main, "--elf", "-o", "release"]);
+    let mut without = read(&home, "release");
+    without[18..20].fill(0);
+    fs::write(home.join("without"), without).unwrap();
+    done(&home, &["pack", &main, &race, "-o", "wanted.dwp"]);
+    for name in ["release", "without"] {
+        done(&home, &["pack", "--add", name, &race, "-o", name]);
+        assert_eq!(read(&home, name), read(&home, "wanted.dwp"));
+    }
+}
+
 /// An object of version 4 with a type unit and no other one, and a package without an object.
 const TYPES: &str = "F0000000 10080404 20800000 21000018 14 4 7080000 0 0 0 21800009 B1001101 742 0 3000000F";
 const NOTHING: &str = "F0000000 30000002";

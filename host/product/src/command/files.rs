@@ -60,6 +60,8 @@ pub struct Joined {
 pub struct Taken {
     pub shown: String,
     pub bytes: Lent<u8>,
+    /// Whether it is an ELF file, which may name no machine.
+    pub is_elf: bool,
     pub machine: Option<u32>,
 }
 
@@ -79,9 +81,10 @@ pub fn read_package_and_file(call: &Call, name: &OsStr) -> Result<(Taken, Option
     let most = Most { without: LONGEST_PACKAGE, ..BUNDLE_OR_ELF };
     progress::shown("reading the package".to_string(), || input::read_into(name, &most, &mut bytes))?;
     if !bytes.starts_with(elf::MAGIC) {
-        return Ok((Taken { bytes: bytes.into(), machine: None, shown }, None));
+        return Ok((Taken { bytes: bytes.into(), is_elf: false, machine: None, shown }, None));
     }
-    let package = Taken { bytes: from_elf(call, &bytes, &shown)?, machine: elf::machine_of(&bytes), shown };
+    let package = from_elf(call, &bytes, &shown)?;
+    let package = Taken { bytes: package, is_elf: true, machine: elf::machine_of(&bytes), shown };
     Ok((package, Some(bytes)))
 }
 

@@ -53,7 +53,7 @@ pub fn run(arguments: &[OsString]) -> Result<u8, Stop> {
     guard::judge(&call, to, &names)?;
     let earlier = add::earlier(&call)?;
     // What is added to keeps its form.
-    let is_elf = earlier.as_ref().is_some_and(|earlier| earlier.file.machine.is_some());
+    let is_elf = earlier.as_ref().is_some_and(|earlier| earlier.file.is_elf);
     let as_elf = is_elf || call.has("elf") || to.as_bytes().ends_with(b".dwp");
     let named = machine_named(&call, as_elf)?;
     let joined = join(&call, earlier.as_ref().map(|earlier| &earlier.file), &names)?;
