@@ -1,5 +1,5 @@
 // An ELF64 file: its section headers and its name table, and where the bytes of a section lie.
-ghost use Rattle.std.specs.Prelude.{◌≡◌, true, false, ◌&&◌, ◌||◌, [], ◌∷◌, ◌+◌, ◌*◌, ◌≤◌, ◌<◌, eqb, length, take, get_or, MatchOption, IfOk};
+ghost use Rattle.std.specs.Prelude.{◌≡◌, true, false, ◌&&◌, ◌||◌, [], ◌∷◌, ◌+◌, ◌*◌, ◌≤◌, ◌<◌, length, take, MatchOption, IfOk, ◌==◌, slice_index, slice_index_or};
 ghost use Rattle.octets.specs.Lists.{same};
 
 use numbers::refusals::Refusal;
@@ -80,7 +80,7 @@ impl Header {
 // The five bytes that start an ELF64 file, and one of the two byte orders.
 fn ident_good(f: &[u8]) -> bool
     requires { 64 ≤ length f.now }
-    ensures { result ≡ (same (take 5 f.now) (0x7F ∷ 0x45 ∷ 0x4C ∷ 0x46 ∷ 2 ∷ []) && (eqb (get_or f.now 5 0) 1 || eqb (get_or f.now 5 0) 2)) }
+    ensures { result ≡ (same (take 5 f.now) (0x7F ∷ 0x45 ∷ 0x4C ∷ 0x46 ∷ 2 ∷ []) && (slice_index f.now 5 == 1 || slice_index f.now 5 == 2)) }
 {
     octets::same_bytes(&f[..5], b"\x7fELF\x02") && matches!(f[5], 1 | 2)
 }
@@ -137,7 +137,7 @@ impl<'a> ElfFile<'a> {
     #[tactic(auto, using(crate::proofs::Headers::header_there))]
     pub fn header(&self, i: usize) -> Header
         requires { i < self.now.count }
-        ensures { header_is result ≡ get_or (file_is self.now).headers i no_header }
+        ensures { header_is result ≡ slice_index_or (file_is self.now).headers i no_header }
     {
         Header::read(self.big, self.bytes, i, self.at + HEADER * i)
     }
